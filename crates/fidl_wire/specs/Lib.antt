@@ -1,0 +1,12 @@
+pub mod Value
+pub mod Term
+pub mod Figure
+pub mod Typed
+pub mod Encoding
+pub mod Depth
+pub mod Message
+pub mod Text
+pub mod Standing
+pub mod Views
+pub mod Codes
+pub mod Falls

@@ -1,0 +1,21 @@
+//! The FIDL wire format, version 2: the tree of a value, the limits of a message, and the definitions and laws that
+//! every reader and writer of messages stands on (`specs/`, docs/wire.md).
+#![tactic(auto)]
+
+mod bytes;
+mod handle;
+pub mod laws;
+mod limits;
+pub mod refused;
+#[cfg(test)]
+mod tests;
+mod value;
+pub mod worked;
+
+pub use bytes::Bytes;
+pub use handle::{HandleInfo, Handles};
+pub use limits::{
+    MAX_DEPTH, MAX_INLINE_SIZE, MAX_MESSAGE_BYTES, MAX_MESSAGE_HANDLES, MAX_NEST, SAME_RIGHTS,
+    STACK_PLACES, STEPS_PER_BYTE,
+};
+pub use value::{Content, Member, Members, Value, Values};

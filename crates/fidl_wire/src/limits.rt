@@ -1,0 +1,25 @@
+//! The limits of messages and types (docs/wire.md, "Limits").
+
+/// The greatest length of a message, in bytes.
+pub const MAX_MESSAGE_BYTES: usize = 65_536;
+
+/// The greatest number of handles beside a message.
+pub const MAX_MESSAGE_HANDLES: usize = 64;
+
+/// The greatest depth of a value: how many out-of-line objects lie behind one another.
+pub const MAX_DEPTH: usize = 32;
+
+/// The greatest nest of a type: how many structs and arrays stand in one another inline.
+pub const MAX_NEST: usize = 32;
+
+/// The greatest inline size of a type, in bytes.
+pub const MAX_INLINE_SIZE: usize = 65_535;
+
+/// The places of the decoder's stack.
+pub const STACK_PLACES: usize = 2_178;
+
+/// The decoder takes at most this many steps for each byte of a message, and once more.
+pub const STEPS_PER_BYTE: u64 = 256;
+
+/// The rights of a handle type that takes whatever rights came (`ZX_RIGHT_SAME_RIGHTS`).
+pub const SAME_RIGHTS: u32 = 0x8000_0000;
