@@ -1,0 +1,10 @@
+pub mod EscapeLaws
+pub mod FaultLaws
+pub mod GapLaws
+pub mod KindLaws
+pub mod LineLaws
+pub mod NameLaws
+pub mod PieceLaws
+pub mod RunLaws
+pub mod Slices
+pub mod WordLaws

@@ -1,0 +1,20 @@
+use Rattle.std.proofs.Common.{sym, ◌∙◌, arith}
+use Rattle.std.specs.Char.{is_ascii_hexdigit}
+use Rattle.fidl_span.proofs.RunLaws.{passes_more, stops_at_byte, stops_at_end}
+use Rattle.fidl_span.proofs.escapes.hex_end.Goals as goal
+
+pub loop-to-preserved : goal.loop-to-preserved
+loop-to-preserved c = record {
+  ordered = omega arith;
+  within = omega arith;
+  passes = passes_more is_ascii_hexdigit _ _ _ c.loop-to.invariant.ordered c.loop-to-test.true c.loop-to.invariant.passes (sym c.is_ascii_hexdigit.ensures.value ∙ c.if-is_ascii_hexdigit.true);
+}
+
+pub returns-after-loop-to-clause-run : goal.returns-after-loop-to-clause-run
+returns-after-loop-to-clause-run c = record { passes = c.loop-to.invariant.passes; stops = stops_at_end is_ascii_hexdigit _ _ c.loop-to-test.false }
+
+pub returns-else-is_ascii_hexdigit-clause-run : goal.returns-else-is_ascii_hexdigit-clause-run
+returns-else-is_ascii_hexdigit-clause-run c = record {
+  passes = c.loop-to.invariant.passes;
+  stops = stops_at_byte is_ascii_hexdigit _ _ c.loop-to-test.true (sym c.is_ascii_hexdigit.ensures.value ∙ c.if-is_ascii_hexdigit.false);
+}

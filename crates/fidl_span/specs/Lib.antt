@@ -1,0 +1,9 @@
+pub mod Bytes
+pub mod FaultNames
+pub mod Faults
+pub mod Gaps
+pub mod Lines
+pub mod Names
+pub mod Strings
+pub mod Symbols
+pub mod Words

@@ -1,0 +1,4 @@
+pub mod Field
+pub mod Kind
+pub mod Section
+pub mod Terms

@@ -1,0 +1,13 @@
+//! The coding table: readers for the fields of its records, and what its entries declare (`specs/`, docs/table.md).
+#![tactic(auto)]
+
+mod field;
+mod kind;
+mod record;
+mod section;
+#[cfg(test)]
+mod tests;
+
+pub use kind::EntryKind;
+pub use record::{Entry, Header, Root, Row};
+pub use section::{HEADER_SIZE, name_bytes, read_entry, read_header, read_root, read_row};

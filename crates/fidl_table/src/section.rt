@@ -1,0 +1,96 @@
+//! Readers of the records of a table's sections.
+ghost use Rattle.std.specs.Prelude.{◌≡◌, ◌+◌, ◌*◌, ◌≤◌, length, slice_range};
+ghost use Rattle.fidl_table.specs.Section.{header_of, entry_at, row_at, root_at, entry_place, row_place, root_place, names_place, name_at};
+
+use crate::field::{u16_at, u32_at, u64_at};
+use crate::record::{Entry, Header, Root, Row};
+
+/// The length of the header, in bytes.
+pub const HEADER_SIZE: usize = 40;
+
+/// The fields of the header.
+pub fn read_header(table: &[u8]) -> Header
+    requires { HEADER_SIZE ≤ length table.now }
+    ensures { result ≡ header_of table.now }
+{
+    Header {
+        magic: u32_at(table, 0),
+        version: u16_at(table, 4),
+        reserved: u16_at(table, 6),
+        entries: u32_at(table, 8),
+        rows: u32_at(table, 12),
+        values: u32_at(table, 16),
+        roots: u32_at(table, 20),
+        protocols: u32_at(table, 24),
+        methods: u32_at(table, 28),
+        names: u32_at(table, 32),
+        reserved_end: u32_at(table, 36),
+    }
+}
+
+/// The fields of an entry, by its number.
+pub fn read_entry(table: &[u8], index: u32) -> Entry
+    requires { entry_place index + 40 ≤ length table.now }
+    ensures { result ≡ entry_at table.now index }
+{
+    let place = HEADER_SIZE + 40 * index as usize;
+    Entry {
+        kind: table[place],
+        flags: table[place + 1],
+        alignment: table[place + 2],
+        nest: table[place + 3],
+        size: u32_at(table, place + 4),
+        first: u32_at(table, place + 8),
+        count: u32_at(table, place + 12),
+        bound: u64_at(table, place + 16),
+        subtype: u32_at(table, place + 24),
+        rights: u32_at(table, place + 28),
+        name_place: u32_at(table, place + 32),
+        name_length: u32_at(table, place + 36),
+    }
+}
+
+/// The fields of a row, by its number, in a table with this header.
+pub fn read_row(table: &[u8], header: &Header, index: u32) -> Row
+    requires { row_place header.now index + 16 ≤ length table.now }
+    ensures { result ≡ row_at table.now header.now index }
+{
+    let place = HEADER_SIZE + 40 * header.entries as usize + 16 * index as usize;
+    Row {
+        key: u32_at(table, place),
+        entry: u32_at(table, place + 4),
+        name_place: u32_at(table, place + 8),
+        name_length: u32_at(table, place + 12),
+    }
+}
+
+/// The fields of a root, by its number, in a table with this header.
+pub fn read_root(table: &[u8], header: &Header, index: u32) -> Root
+    requires { root_place header.now index + 12 ≤ length table.now }
+    ensures { result ≡ root_at table.now header.now index }
+{
+    let rows = HEADER_SIZE + 40 * header.entries as usize;
+    let values = rows + 16 * header.rows as usize;
+    let roots = values + 8 * header.values as usize;
+    let place = roots + 12 * index as usize;
+    Root {
+        name_place: u32_at(table, place),
+        name_length: u32_at(table, place + 4),
+        entry: u32_at(table, place + 8),
+    }
+}
+
+/// The bytes of a name, by its place and length in the names of a table with this header.
+pub fn name_bytes<'t>(table: &'t [u8], header: &Header, place: u32, name_length: u32) -> &'t [u8]
+    requires { names_place header.now + place + name_length ≤ length table.now }
+    ensures { result.now ≡ name_at table.now header.now place name_length }
+{
+    let rows = HEADER_SIZE + 40 * header.entries as usize;
+    let values = rows + 16 * header.rows as usize;
+    let roots = values + 8 * header.values as usize;
+    let protocols = roots + 12 * header.roots as usize;
+    let methods = protocols + 16 * header.protocols as usize;
+    let names = methods + 32 * header.methods as usize;
+    let from = names + place as usize;
+    &table[from..from + name_length as usize]
+}

@@ -1,0 +1,12 @@
+pub mod Leaf
+pub mod Path
+pub mod Value
+pub mod Attribute
+pub mod Constraint
+pub mod Keyword
+pub mod ValueMember
+pub mod TypeConstructor
+pub mod Protocol
+pub mod Declaration
+pub mod File
+pub mod Brackets
