@@ -4,7 +4,7 @@ ghost use Rattle.std.specs.Int.{w16, w32, w64};
 ghost use Rattle.fidl_table.specs.Field.{number_at};
 
 /// The number of two bytes at a place.
-pub(crate) fn u16_at(bytes: &[u8], place: usize) -> u16
+pub fn u16_at(bytes: &[u8], place: usize) -> u16
     requires { place + 2 ≤ length bytes.now }
     ensures { result ≡ number_at w16 bytes.now place }
 {
@@ -15,7 +15,7 @@ pub(crate) fn u16_at(bytes: &[u8], place: usize) -> u16
 }
 
 /// The number of four bytes at a place.
-pub(crate) fn u32_at(bytes: &[u8], place: usize) -> u32
+pub fn u32_at(bytes: &[u8], place: usize) -> u32
     requires { place + 4 ≤ length bytes.now }
     ensures { result ≡ number_at w32 bytes.now place }
 {
@@ -26,7 +26,7 @@ pub(crate) fn u32_at(bytes: &[u8], place: usize) -> u32
 }
 
 /// The number of eight bytes at a place.
-pub(crate) fn u64_at(bytes: &[u8], place: usize) -> u64
+pub fn u64_at(bytes: &[u8], place: usize) -> u64
     requires { place + 8 ≤ length bytes.now }
     ensures { result ≡ number_at w64 bytes.now place }
 {

@@ -8,6 +8,7 @@ mod section;
 #[cfg(test)]
 mod tests;
 
+pub use field::{u16_at, u32_at, u64_at};
 pub use kind::EntryKind;
 pub use record::{Entry, Header, Root, Row};
 pub use section::{HEADER_SIZE, name_bytes, read_entry, read_header, read_root, read_row};

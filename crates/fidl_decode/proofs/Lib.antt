@@ -1,0 +1,10 @@
+pub mod Stand
+pub mod Rows
+pub mod Laws
+pub mod Stated
+pub mod Elements
+pub mod Visiting
+pub mod Turning
+pub mod Running
+pub mod Messages
+pub mod Bridge

@@ -1,0 +1,114 @@
+-- What a turn on a frame does.
+use Rattle.std.proofs.Common.{◌≡◌, ℕ, ◌+◌, ◌-◌, ◌*◌, ◌<◌, ◌≤◌, List, [], ◌∷◌, refl, sym, subst, ◌∙◌, arith}
+use Rattle.std.specs.Prelude.{Option, Some, None, Result, Ok, Err, OnErr, OnOk}
+use Rattle.std.proofs.Math.Nat.{mul-le-mul_left, mul-le-mul_right}
+use Rattle.fidl_wire.specs.Term.{Term, resolve, width, Kind, int8}
+use Rattle.fidl_wire.specs.Term as ty
+use Rattle.fidl_wire.specs.Figure.{Declarations, figure_of, size_of}
+use Rattle.fidl_wire.specs.Encoding.{zeros}
+use Rattle.fidl_wire.specs.Standing.{Stands}
+use Rattle.fidl_table.specs.Section.{header_of}
+use Rattle.fidl_table.specs.Terms.{declarations_of}
+use Rattle.fidl_decode.specs.Fine.{IsFine}
+use Rattle.fidl_decode.specs.declared.frame.Frame.{Frame}
+use Rattle.fidl_decode.specs.declared.frame.Left.{Left}
+use Rattle.fidl_decode.specs.Rows.{Row, RowsRise}
+use Rattle.fidl_decode.specs.State.{Message, At, Item, Members}
+use Rattle.fidl_decode.specs.Machine.{rows_left, Reads, LeftFine, FrameFine, FineIf, StateFine, Visits, Turns}
+use Rattle.fidl_decode.proofs.Rows.{rows_fit, members_end, members_more, more_members}
+
+-- what holds anyway, at an error
+pub on_err : {T E : Type 0} (r : Result T E) (P : Type 0) → P → OnErr r P
+on_err (Ok x) P h = tt
+on_err (Err e) P h = h
+
+pub on_ok_two : {T E P Q R : Type 0} (r : Result T E) → (P → Q → R) → OnOk r P → OnOk r Q → OnOk r R
+on_ok_two (Ok x) f p q = f p q
+on_ok_two (Err e) f p q = tt
+
+work_falls : (n k s g a b : ℕ) → k < n → 0 < s → b + s + g ≤ a → (2 * k + 2) * s + 1 + ((2 * n + 2) * b + 1) + (g + 1) ≤ (2 * n + 2) * a + 1
+work_falls n k s g a b lt pos le =
+    let more : 2 * k + 4 ≤ 2 * n + 2 = omega arith in
+    let one : 1 ≤ 2 * n + 2 = omega arith in
+    omega (arith, mul-le-mul_left (2 * n + 2) le, mul-le-mul_right s more, mul-le-mul_right g one)
+
+-- what a turn spends on zeros is within the frame's work
+pub spends : (n x y : ℕ) → x ≤ y → x + 1 ≤ (2 * n + 2) * y + 1
+spends n x y le = let one : 1 ≤ 2 * n + 2 = omega arith in omega (arith, mul-le-mul_right y one)
+
+fine_from : (t : List ℕ) (m : List ℕ) (h k : ℕ) (o : Option Frame) → k ≤ h → FineIf t m h o → FineIf t m k o
+fine_from t m h k None le x = tt
+fine_from t m h k (Some f) le x = (x.0, omega (arith, x.1))
+
+module _ (t : List ℕ) (fine : IsFine t) (m : Message) (f : Frame) (old : At) (ff : FrameFine t m.bytes f) (state : StateFine m old) where
+  abbrev ds : Declarations
+  ds = declarations_of t
+
+  pub done_fits : f.done ≤ f.size
+  done_fits = rows_fit ds (header_of t).entries f.nest f.size f.done (rows_left t f.done f.left) ff.rise
+
+  pub zeros_left : f.base + f.size - (f.base + f.done) ≡ f.size - f.done
+  zeros_left = let h = done_fits in omega arith
+
+  module _ (over : rows_left t f.done f.left ≡ []) where
+    at_end : (to : At) → Reads t m f old to → (old ≡ to) × Stands m.bytes (f.base + f.done) (zeros (f.size - f.done))
+    at_end to x = (members_end ds fine.laid_out m f.depth f.size f.base f.done old to ff.depth).0 (subst (λ (rs : List Row). Members ds m f.depth f.size f.base f.done rs old to) over x)
+
+    pub end_refused : (to : At) → (Stands m.bytes (f.base + f.done) (zeros (f.base + f.size - (f.base + f.done))) → ⊥) → Reads t m f old to → ⊥
+    end_refused to bad x = bad (subst (λ n. Stands m.bytes (f.base + f.done) (zeros n)) (sym zeros_left) (at_end to x).1)
+
+    pub turns_end : Stands m.bytes (f.base + f.done) (zeros (f.base + f.size - (f.base + f.done))) → Turns t m f old old (f.base + f.size - (f.base + f.done) + 1) (record { below = None; rest = None })
+    turns_end z =
+        let z' = subst (λ n. Stands m.bytes (f.base + f.done) (zeros n)) zeros_left z in
+        record {
+          same = λ to. (
+            (λ x. (old, refl, (at_end to x).0)),
+            (λ y. subst (λ (rs : List Row). Members ds m f.depth f.size f.base f.done rs old to) (sym over) ((members_end ds fine.laid_out m f.depth f.size f.base f.done old to ff.depth).1 (y.1 ∙ y.2, z'))),
+          );
+          state = state;
+          below_fine = tt;
+          rest_fine = tt;
+          less = omega (arith, zeros_left, spends f.nest (f.size - f.done) (f.size - f.done) (omega arith));
+        }
+
+  module _ (r : Row) (left : Left) (one : rows_left t f.done f.left ≡ r ∷ rows_left t (r.offset + size_of ds (ty.named r.entry)) left) where
+    abbrev rest : List Row
+    rest = rows_left t (r.offset + size_of ds (ty.named r.entry)) left
+
+    pub row_fine : RowsRise ds (header_of t).entries f.nest f.size f.done (r ∷ rows_left t (r.offset + size_of ds (ty.named r.entry)) left)
+    row_fine = subst (λ (rs : List Row). RowsRise ds (header_of t).entries f.nest f.size f.done rs) one ff.rise
+
+    pub row_room : r.offset + size_of ds (ty.named r.entry) ≤ f.size
+    row_room = rows_fit ds (header_of t).entries f.nest f.size (r.offset + size_of ds (ty.named r.entry)) rest row_fine.3
+
+    pub gap : f.base + r.offset - (f.base + f.done) ≡ r.offset - f.done
+    gap = let h = row_fine.1 in omega arith
+
+    apart : (to : At) → Reads t m f old to → Stands m.bytes (f.base + f.done) (zeros (r.offset - f.done)) × ((mid : At) × Item ds m f.depth (resolve ds.terms (ty.named r.entry)) (f.base + r.offset) old mid × Members ds m f.depth f.size f.base (r.offset + size_of ds (ty.named r.entry)) rest mid to)
+    apart to x = members_more ds fine.laid_out m f.depth (header_of t).entries f.nest f.size f.base f.done r rest old to row_fine (subst (λ (rs : List Row). Members ds m f.depth f.size f.base f.done rs old to) one x)
+
+    pub gap_refused : (to : At) → (Stands m.bytes (f.base + f.done) (zeros (f.base + r.offset - (f.base + f.done))) → ⊥) → Reads t m f old to → ⊥
+    gap_refused to bad x = bad (subst (λ n. Stands m.bytes (f.base + f.done) (zeros n)) (sym gap) (apart to x).0)
+
+    pub visit_refused : (to : At) → ((mid : At) → Item ds m f.depth (resolve ds.terms (ty.named r.entry)) (f.base + r.offset) old mid → ⊥) → Reads t m f old to → ⊥
+    visit_refused to bad x = let a = (apart to x).1 in bad a.0 a.1
+
+    pub turns_more : 0 < size_of ds (ty.named r.entry) → LeftFine t left → (below : Option Frame) (new : At) (done : ℕ) → done ≡ r.offset + size_of ds (ty.named r.entry) → Stands m.bytes (f.base + f.done) (zeros (f.base + r.offset - (f.base + f.done))) → Visits t m f.depth r.entry (f.base + r.offset) old new below
+        → Turns t m f old new (f.base + r.offset - (f.base + f.done) + 1) (record { below = below; rest = Some (record { left = left; base = f.base; done = done; size = f.size; nest = f.nest; depth = f.depth }) })
+    turns_more pos left_fine below new done done-is z v =
+        let s = size_of ds (ty.named r.entry) in
+        let n = (figure_of ds.figures (ty.named r.entry)).nest in
+        let d = r.offset + s in
+        let z' = subst (λ k. Stands m.bytes (f.base + f.done) (zeros k)) gap z in
+        let falls = work_falls f.nest n s (r.offset - f.done) (f.size - f.done) (f.size - d) row_fine.2 pos (omega (arith, row_room, row_fine.1)) in
+        let main : Turns t m f old new (f.base + r.offset - (f.base + f.done) + 1) (record { below = below; rest = Some (record { left = left; base = f.base; done = d; size = f.size; nest = f.nest; depth = f.depth }) }) = record {
+          same = λ to. (
+            (λ x. let a = (apart to x).1 in (a.0, (v.same a.0).0 a.1, a.2)),
+            (λ y. subst (λ (rs : List Row). Members ds m f.depth f.size f.base f.done rs old to) (sym one) (more_members ds fine.laid_out m f.depth (header_of t).entries f.nest f.size f.base f.done r rest old y.0 to row_fine z' ((v.same y.0).1 y.1) y.2)),
+          );
+          state = v.state;
+          below_fine = fine_from t m.bytes (f.depth * 33 + (32 - n)) (f.depth * 33 + (32 - f.nest) + 1) below (omega (arith, row_fine.2, ff.nest)) v.fine;
+          rest_fine = (record { left = left_fine; room = ff.room; nest = ff.nest; depth = ff.depth; rise = row_fine.3 }, omega arith);
+          less = omega (arith, v.less, falls, gap);
+        } in
+        subst (λ k. Turns t m f old new (f.base + r.offset - (f.base + f.done) + 1) (record { below = below; rest = Some (record { left = left; base = f.base; done = k; size = f.size; nest = f.nest; depth = f.depth }) })) (sym done-is) main

@@ -1,0 +1,66 @@
+use Rattle.std.proofs.Common.{◌≡◌, ◌++◌, ◌<◌, List, length, sym, ap, ◌∙◌, subst, arith}
+use Rattle.std.specs.Option.{option_to_list}
+use Rattle.fidl_decode.specs.declared.frame.Frame.{Frame}
+use Rattle.fidl_decode.specs.State.{At}
+use Rattle.fidl_decode.specs.Machine.{IsWhole, message_of, at_of, Finishes, StackFine, work}
+use Rattle.fidl_decode.proofs.Turning.{on_err}
+use Rattle.fidl_decode.proofs.Running.{stack_work_top, fine_top, height_room, length_if, turn_same, turn_fine, turn_less, finishes_top}
+use Rattle.fidl_decode.proofs.run.run.Goals as goal
+
+pub take_turn-requires-clause-frame : goal.take_turn-requires-clause-frame
+take_turn-requires-clause-frame c =
+    let top = fine_top c.args.table.now (message_of c.args.bytes.now c.args.handles.now) 0 c.pop.new.self.items c.in-Some.frame (subst (λ (l : List Frame). StackFine c.args.table.now c.args.bytes.now 0 l) c.in-Some.ensures.items c.loop-frame.invariant.fine) in
+    top.1
+
+pub returns-in_err-turn-clause-err : goal.returns-in_err-turn-clause-err
+returns-in_err-turn-clause-err c =
+    on_err _ ((to : At) → IsWhole (message_of c.args.bytes.now c.args.handles.now) to → Finishes c.args.table.now (message_of c.args.bytes.now c.args.handles.now) c.args.stack.now.items (at_of c.args.state.now) to → ⊥)
+    (λ to is h. let now = subst (λ (l : List Frame). Finishes c.args.table.now (message_of c.args.bytes.now c.args.handles.now) l (at_of c.loop-frame.state) to) c.in-Some.ensures.items ((c.loop-frame.invariant.same to).0 h) in
+    let top = finishes_top c.args.table.now (message_of c.args.bytes.now c.args.handles.now) c.pop.new.self.items c.in-Some.frame (at_of c.loop-frame.state) to now in
+    c.in_err-turn.ensures.err top.0 top.1)
+
+pub push_if-requires : goal.push_if-requires
+push_if-requires c =
+    let top = fine_top c.args.table.now (message_of c.args.bytes.now c.args.handles.now) 0 c.pop.new.self.items c.in-Some.frame (subst (λ (l : List Frame). StackFine c.args.table.now c.args.bytes.now 0 l) c.in-Some.ensures.items c.loop-frame.invariant.fine) in
+    omega (arith, top.2, height_room c.args.table.now (message_of c.args.bytes.now c.args.handles.now) c.in-Some.frame top.1)
+
+pub push_if-requires-in-Some : goal.push_if-requires-in-Some
+push_if-requires-in-Some c =
+    let top = fine_top c.args.table.now (message_of c.args.bytes.now c.args.handles.now) 0 c.pop.new.self.items c.in-Some.frame (subst (λ (l : List Frame). StackFine c.args.table.now c.args.bytes.now 0 l) c.in-Some.ensures.items c.loop-frame.invariant.fine) in
+    let one = ap length c.push_if.ensures in
+    omega (arith, top.2, height_room c.args.table.now (message_of c.args.bytes.now c.args.handles.now) c.in-Some.frame top.1, one, length_if c.args.table.now (message_of c.args.bytes.now c.args.handles.now) c.pop.new.self.items c.in_ok-turn.turn.rest)
+
+pub loop-frame-smaller : goal.loop-frame-smaller
+loop-frame-smaller c =
+    let popped = c.in-Some.ensures.items in
+    let after : c.push_if-in-Some.new.stack.items ≡ (c.pop.new.self.items ++ option_to_list c.in_ok-turn.turn.rest) ++ option_to_list c.in_ok-turn.turn.below = c.push_if-in-Some.ensures ∙ ap (λ (l : List Frame). l ++ option_to_list c.in_ok-turn.turn.below) c.push_if.ensures in
+    let less = turn_less c.args.table.now (message_of c.args.bytes.now c.args.handles.now) c.pop.new.self.items c.in-Some.frame (at_of c.loop-frame.state) _ _ c.in_ok-turn.turn c.in_ok-turn.ensures.ok in
+    let new = ap (λ (l : List Frame). work c.args.bytes.now l c.take_turn.new.state.next) after in
+    let old = ap (λ (l : List Frame). work c.args.bytes.now l c.loop-frame.state.next) popped in
+    let fewer : work c.args.bytes.now c.push_if-in-Some.new.stack.items c.take_turn.new.state.next < work c.args.bytes.now c.loop-frame.stack.items c.loop-frame.state.next = omega (arith, c.take_turn.ensures.rises) in
+    fewer
+
+pub loop-frame-preserved : goal.loop-frame-preserved
+loop-frame-preserved c =
+    let popped = c.in-Some.ensures.items in
+    let after : c.push_if-in-Some.new.stack.items ≡ (c.pop.new.self.items ++ option_to_list c.in_ok-turn.turn.rest) ++ option_to_list c.in_ok-turn.turn.below = c.push_if-in-Some.ensures ∙ ap (λ (l : List Frame). l ++ option_to_list c.in_ok-turn.turn.below) c.push_if.ensures in
+    let before = c.loop-frame.invariant.same in
+    record {
+      same = λ to. (
+        (λ h. subst (λ (l : List Frame). Finishes c.args.table.now (message_of c.args.bytes.now c.args.handles.now) l (at_of c.take_turn.new.state) to) (sym after) ((turn_same c.args.table.now (message_of c.args.bytes.now c.args.handles.now) c.pop.new.self.items c.in-Some.frame (at_of c.loop-frame.state) _ _ c.in_ok-turn.turn c.in_ok-turn.ensures.ok to).0 (subst (λ (l : List Frame). Finishes c.args.table.now (message_of c.args.bytes.now c.args.handles.now) l (at_of c.loop-frame.state) to) popped ((before to).0 h)))),
+        (λ h. (before to).1 (subst (λ (l : List Frame). Finishes c.args.table.now (message_of c.args.bytes.now c.args.handles.now) l (at_of c.loop-frame.state) to) (sym popped) ((turn_same c.args.table.now (message_of c.args.bytes.now c.args.handles.now) c.pop.new.self.items c.in-Some.frame (at_of c.loop-frame.state) _ _ c.in_ok-turn.turn c.in_ok-turn.ensures.ok to).1 (subst (λ (l : List Frame). Finishes c.args.table.now (message_of c.args.bytes.now c.args.handles.now) l (at_of c.take_turn.new.state) to) after h)))),
+      );
+      fine = subst (λ (l : List Frame). StackFine c.args.table.now c.args.bytes.now 0 l) (sym after) (turn_fine c.args.table.now (message_of c.args.bytes.now c.args.handles.now) c.pop.new.self.items c.in-Some.frame (at_of c.loop-frame.state) _ _ c.in_ok-turn.turn c.in_ok-turn.ensures.ok (subst (λ (l : List Frame). StackFine c.args.table.now c.args.bytes.now 0 l) popped c.loop-frame.invariant.fine));
+      steps = (let less = turn_less c.args.table.now (message_of c.args.bytes.now c.args.handles.now) c.pop.new.self.items c.in-Some.frame (at_of c.loop-frame.state) _ _ c.in_ok-turn.turn c.in_ok-turn.ensures.ok in
+          let new = ap (λ (l : List Frame). work c.args.bytes.now l c.take_turn.new.state.next) after in
+          let old = ap (λ (l : List Frame). work c.args.bytes.now l c.loop-frame.state.next) popped in
+          let so_far = c.loop-frame.invariant.steps in
+          omega (arith, c.take_turn.ensures.rises));
+      state = c.in_ok-turn.ensures.ok.state;
+    }
+
+pub returns-in_err-turn-clause-cost : goal.returns-in_err-turn-clause-cost
+returns-in_err-turn-clause-cost c =
+    let old = ap (λ (l : List Frame). work c.args.bytes.now l c.loop-frame.state.next) c.in-Some.ensures.items in
+    let so_far = c.loop-frame.invariant.steps in
+    omega (arith, c.take_turn.ensures.cost, stack_work_top c.args.table.now (message_of c.args.bytes.now c.args.handles.now) c.pop.new.self.items c.in-Some.frame)

@@ -1,0 +1,9 @@
+pub mod Breaking
+pub mod Stated
+pub mod Laying
+pub mod Ranges
+pub mod Known
+pub mod Whole
+pub mod Rising
+pub mod Declared
+pub mod Owning

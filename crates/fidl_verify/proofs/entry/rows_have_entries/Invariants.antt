@@ -1,0 +1,6 @@
+use Rattle.std.proofs.Common.{ℕ, ◌+◌, ◌<◌}
+use Rattle.fidl_table.specs.Section.{row_at}
+use Rattle.fidl_verify.proofs.entry.rows_have_entries.Given as goal
+
+abbrev pub invariant-loop-index : goal.invariant-loop-index
+invariant-loop-index l = (k : ℕ) → l.first + k < l.index → (row_at l.table.bytes.now l.table.header (l.first + k)).entry < l.table.header.entries

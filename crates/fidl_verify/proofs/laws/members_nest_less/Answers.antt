@@ -1,0 +1,8 @@
+use Rattle.fidl_table.specs.Section.{header_of, entry_at}
+use Rattle.fidl_verify.proofs.Declared.{member_nests}
+use Rattle.fidl_verify.proofs.laws.members_nest_less.Goals as goal
+
+pub returns : goal.returns
+returns c = λ bytes w index p is k q.
+    let e = w.entries index p in
+    (e.children.members is k q, member_nests bytes (header_of bytes) (entry_at bytes index) is e.nest.nest k q (e.children.members is k q))

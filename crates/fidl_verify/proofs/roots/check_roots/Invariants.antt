@@ -1,0 +1,6 @@
+use Rattle.std.proofs.Common.{ℕ, ◌<◌}
+use Rattle.fidl_verify.specs.Root.{IsRoot}
+use Rattle.fidl_verify.proofs.roots.check_roots.Given as goal
+
+abbrev pub invariant-loop-index : goal.invariant-loop-index
+invariant-loop-index l = (k : ℕ) → k < l.index → IsRoot l.table.bytes.now l.table.header k

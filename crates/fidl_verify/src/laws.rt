@@ -1,0 +1,45 @@
+//! Laws of well-formed tables: each is the contract of a function that does nothing.
+ghost use Rattle.std.specs.Prelude.{◌≡◌, ℕ, ◌+◌, ◌<◌, ◌≤◌, List, length};
+ghost use Rattle.fidl_wire.specs.Figure.{IsLaidOut, IsSound};
+ghost use Rattle.fidl_table.specs.declared.kind.EntryKind.TheVariants as EntryKind;
+ghost use Rattle.fidl_table.specs.Section.{header_of, table_length, entry_at, row_at};
+ghost use Rattle.fidl_table.specs.Terms.{declarations_of};
+ghost use Rattle.fidl_verify.specs.Entry.{IsOf, IsRowOf};
+ghost use Rattle.fidl_verify.specs.WellFormed.{WellFormed};
+
+/// The figures that the entries state are those of their types.
+pub fn tables_are_laid_out()
+    ensures { (bytes : List ℕ) → WellFormed bytes → IsLaidOut (declarations_of bytes) }
+{}
+
+/// A table's declarations are laid out, and their bounds are numbers that a count can be.
+pub fn tables_are_sound()
+    ensures { (bytes : List ℕ) → WellFormed bytes → IsSound (declarations_of bytes) }
+{}
+
+/// Sizes are at most 65,535 bytes, and nests at most 32.
+pub fn figures_are_small()
+    ensures { (bytes : List ℕ) → WellFormed bytes → (index : ℕ) → index < (header_of bytes).entries
+        → ((entry_at bytes index).size ≤ 65535) × ((entry_at bytes index).nest ≤ 32) }
+{}
+
+/// An array's elements are an entry of the table, with a lesser nest.
+pub fn elements_nest_less()
+    ensures { (bytes : List ℕ) → WellFormed bytes → (index : ℕ) → index < (header_of bytes).entries
+        → let e = entry_at bytes index in IsOf EntryKind.Array e
+        → (e.first < (header_of bytes).entries) × ((entry_at bytes e.first).nest < e.nest) }
+{}
+
+/// A struct's members are entries of the table, with a lesser nest.
+pub fn members_nest_less()
+    ensures { (bytes : List ℕ) → WellFormed bytes → (index : ℕ) → index < (header_of bytes).entries
+        → let e = entry_at bytes index in IsOf EntryKind.Struct e → (k : ℕ) → k < e.count
+        → let r = row_at bytes (header_of bytes) (e.first + k) in
+        (r.entry < (header_of bytes).entries) × ((entry_at bytes r.entry).nest < e.nest) }
+{}
+
+/// Each row is a member of a struct.
+pub fn rows_are_members()
+    ensures { (bytes : List ℕ) → WellFormed bytes → (row : ℕ) → row < (header_of bytes).rows
+        → (index : ℕ) × (index < (header_of bytes).entries) × IsRowOf (entry_at bytes index) row }
+{}

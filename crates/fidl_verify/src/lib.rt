@@ -1,0 +1,18 @@
+//! Which coding tables are accepted: `verify` answers a `Table` exactly for the well-formed ones (`specs/`, docs/table.md).
+#![tactic(auto)]
+
+mod entry;
+mod fault;
+mod figure;
+mod header;
+mod kind;
+pub mod laws;
+mod name;
+mod roots;
+mod sections;
+mod table;
+#[cfg(test)]
+mod tests;
+
+pub use fault::TableFault;
+pub use table::{Table, verify};

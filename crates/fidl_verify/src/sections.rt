@@ -1,0 +1,57 @@
+//! The sections of a table whose header is right.
+ghost use Rattle.std.specs.Prelude.{◌≡◌, ◌+◌, ◌≤◌, ◌<◌, length};
+ghost use Rattle.fidl_table.specs.Section.{header_of, table_length, entry_at, row_at, root_at, name_at};
+
+use fidl_table::{Entry, Header, Root, Row, name_bytes, read_entry, read_root, read_row};
+
+/// The bytes of a table, and its header; the sections fill the table.
+#[derive(Clone, Copy)]
+pub(crate) struct Sections<'t> {
+    pub(crate) bytes: &'t [u8],
+    pub(crate) header: Header,
+    ghost is_header: { header ≡ header_of bytes.now },
+    ghost whole: { length bytes.now ≡ table_length header },
+}
+
+impl<'t> Sections<'t> {
+    /// The entry of this number.
+    pub(crate) fn entry(&self, index: u32) -> Entry
+        requires { index < self.now.header.entries }
+        ensures { result ≡ entry_at self.now.bytes.now index }
+    {
+        read_entry(self.bytes, index)
+    }
+
+    /// The row of this number.
+    pub(crate) fn row(&self, index: u32) -> Row
+        requires { index < self.now.header.rows }
+        ensures { result ≡ row_at self.now.bytes.now self.now.header index }
+    {
+        read_row(self.bytes, &self.header, index)
+    }
+
+    /// The end of a range of rows.
+    pub(crate) fn rows_end(&self, first: u32, count: u32) -> u32
+        requires { first + count ≤ self.now.header.rows }
+        ensures { result ≡ first + count }
+    {
+        let _rows = self.header.rows;
+        first + count
+    }
+
+    /// The root of this number.
+    pub(crate) fn root(&self, index: u32) -> Root
+        requires { index < self.now.header.roots }
+        ensures { result ≡ root_at self.now.bytes.now self.now.header index }
+    {
+        read_root(self.bytes, &self.header, index)
+    }
+
+    /// The bytes of a name that lies within the names.
+    pub(crate) fn name(&self, place: u32, name_length: u32) -> &'t [u8]
+        requires { place + name_length ≤ self.now.header.names }
+        ensures { result.now ≡ name_at self.now.bytes.now self.now.header place name_length }
+    {
+        name_bytes(self.bytes, &self.header, place, name_length)
+    }
+}

@@ -1,0 +1,149 @@
+//! Tables that are verified.
+ghost use Rattle.std.specs.Prelude.{◌≡◌, ℕ, ◌+◌, ◌<◌, ◌≤◌, OnOk, OnErr, IfOk, IfErr, IfSome, IfNone};
+ghost use Rattle.fidl_table.specs.Section.{header_of, entry_at, row_at, name_at};
+ghost use Rattle.fidl_verify.specs.Entry.{rows_before};
+ghost use Rattle.fidl_verify.specs.Root.{IsRootEntry, HasNoRoot};
+ghost use Rattle.fidl_verify.specs.WellFormed.{WellFormed};
+ghost use Rattle.fidl_verify.specs.Faults.{Breaks};
+
+use crate::entry::check_entries;
+use crate::fault::TableFault;
+use crate::header::read_sections;
+use crate::roots::{check_roots, find_root};
+use crate::sections::Sections;
+use fidl_table::{Entry, Row};
+use std::marker::Model;
+
+/// The bytes of a well-formed table (docs/table.md, "Verification").
+#[derive(Drop)]
+pub struct Table<'t> {
+    sections: Sections<'t>,
+}
+
+impl<'t> Model for Table<'t> {
+    ghost use Rattle.std.specs.Prelude.{List, ℕ};
+    ghost use Rattle.fidl_verify.specs.WellFormed.{WellFormed};
+
+    ghost Value = { List ℕ };
+
+    ghost view = { λ t. t.sections.bytes.now };
+
+    ghost invariant = { λ t. WellFormed t.sections.bytes.now };
+}
+
+/// Checks that each row and value belongs to an entry.
+fn check_covered(table: &Sections<'_>, rows: u32) -> Result<(), TableFault>
+    requires rows { rows ≡ rows_before table.now.bytes.now table.now.header.entries }
+    requires room { rows ≤ table.now.header.rows }
+    ensures covered { OnOk result (rows_before table.now.bytes.now table.now.header.entries ≡ table.now.header.rows) }
+    ensures no_values { OnOk result (table.now.header.values ≡ 0) }
+    ensures err { IfErr result (Breaks table.now.bytes.now) }
+{
+    if rows < table.header.rows {
+        return Err(TableFault::BadIndex { at: rows });
+    }
+    if table.header.values != 0 {
+        return Err(TableFault::BadIndex { at: 0 });
+    }
+    Ok(())
+}
+
+/// Checks that the table has no protocols and no methods.
+fn check_methods(table: &Sections<'_>) -> Result<(), TableFault>
+    ensures no_protocols { OnOk result (table.now.header.protocols ≡ 0) }
+    ensures no_methods { OnOk result (table.now.header.methods ≡ 0) }
+    ensures err { IfErr result (Breaks table.now.bytes.now) }
+{
+    if table.header.protocols != 0 || table.header.methods != 0 {
+        return Err(TableFault::BadMethod { at: 0 });
+    }
+    Ok(())
+}
+
+/// Checks a table's rules in their order, and keeps its bytes where all hold; the fault tells the first that does not,
+/// with the number of the record.
+pub fn verify(bytes: &[u8]) -> Result<Table<'_>, TableFault>
+    ensures ok { OnOk result (WellFormed bytes.now) }
+    ensures value { IfOk result (λ table. table ≡ bytes.now) }
+    ensures err { IfErr result (Breaks bytes.now) }
+    ensures none { OnErr result (WellFormed bytes.now → ⊥) }
+{
+    let sections = read_sections(bytes)?;
+    let rows = check_entries(&sections)?;
+    check_covered(&sections, rows)?;
+    check_roots(&sections)?;
+    check_methods(&sections)?;
+    Ok(Table { sections })
+}
+
+impl<'t> Table<'t> {
+    /// The bytes that were verified.
+    pub fn bytes(&self) -> &'t [u8]
+        ensures value { result.now ≡ self.now }
+        ensures well_formed { WellFormed self.now }
+    {
+        self.sections.bytes
+    }
+
+    /// The number of entries.
+    pub fn entries(&self) -> u32
+        ensures value { result ≡ (header_of self.now).entries }
+        ensures well_formed { WellFormed self.now }
+    {
+        self.sections.header.entries
+    }
+
+    /// The number of rows.
+    pub fn rows(&self) -> u32
+        ensures value { result ≡ (header_of self.now).rows }
+        ensures well_formed { WellFormed self.now }
+    {
+        self.sections.header.rows
+    }
+
+    /// The entry that the first root of this name has, where there is one.
+    pub fn root(&self, name: &[u8]) -> Option<u32>
+        ensures found { IfSome result (IsRootEntry self.now (header_of self.now) name.now) }
+        ensures below { IfSome result (λ entry. entry < (header_of self.now).entries) }
+        ensures none { IfNone result (HasNoRoot self.now (header_of self.now) name.now) }
+    {
+        find_root(&self.sections, name)
+    }
+
+    /// The entry of this number.
+    pub fn entry(&self, index: u32) -> Entry
+        requires { index < (header_of self.now).entries }
+        ensures value { result ≡ entry_at self.now index }
+        ensures name { result.name_place + result.name_length ≤ (header_of self.now).names }
+        ensures well_formed { WellFormed self.now }
+    {
+        self.sections.entry(index)
+    }
+
+    /// The row of this number.
+    pub fn row(&self, index: u32) -> Row
+        requires { index < (header_of self.now).rows }
+        ensures value { result ≡ row_at self.now (header_of self.now) index }
+        ensures entry { result.entry < (header_of self.now).entries }
+        ensures name { result.name_place + result.name_length ≤ (header_of self.now).names }
+        ensures well_formed { WellFormed self.now }
+    {
+        self.sections.row(index)
+    }
+
+    /// The bytes of a row's name.
+    pub fn row_name(&self, row: &Row) -> &'t [u8]
+        requires { row.now.name_place + row.now.name_length ≤ (header_of self.now).names }
+        ensures { result.now ≡ name_at self.now (header_of self.now) row.now.name_place row.now.name_length }
+    {
+        self.sections.name(row.name_place, row.name_length)
+    }
+
+    /// The bytes of an entry's name.
+    pub fn entry_name(&self, entry: &Entry) -> &'t [u8]
+        requires { entry.now.name_place + entry.now.name_length ≤ (header_of self.now).names }
+        ensures { result.now ≡ name_at self.now (header_of self.now) entry.now.name_place entry.now.name_length }
+    {
+        self.sections.name(entry.name_place, entry.name_length)
+    }
+}
