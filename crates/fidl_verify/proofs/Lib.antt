@@ -7,4 +7,3 @@ pub mod Whole
 pub mod Rising
 pub mod Declared
 pub mod Owning
-pub mod Standing
