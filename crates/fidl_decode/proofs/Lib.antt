@@ -8,3 +8,4 @@ pub mod Turning
 pub mod Running
 pub mod Messages
 pub mod Bridge
+pub mod Refusing

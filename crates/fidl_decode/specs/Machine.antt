@@ -1,5 +1,5 @@
 -- What a state of the decoder still has to read, said by values and never by a run.
-use Rattle.std.specs.Prelude.{◌≡◌, ℕ, suc, ◌+◌, ◌-◌, ◌*◌, ◌≤◌, ◌↔◌, List, [], ◌∷◌, length, Option, Some, None}
+use Rattle.std.specs.Prelude.{◌≡◌, ℕ, suc, ◌+◌, ◌-◌, ◌*◌, ◌<◌, ◌≤◌, ◌↔◌, List, [], ◌∷◌, length, Option, Some, None}
 use Rattle.std.specs.Int.{next_multiple_of}
 use Rattle.fidl_wire.specs.declared.handle.HandleInfo.{HandleInfo}
 use Rattle.fidl_wire.specs.Term as ty
@@ -7,12 +7,15 @@ use Rattle.fidl_wire.specs.Term.{resolve}
 use Rattle.fidl_wire.specs.Figure.{figure_of}
 use Rattle.fidl_table.specs.Section.{header_of}
 use Rattle.fidl_table.specs.Terms.{declarations_of}
+use Rattle.fidl_decode.specs.declared.fault.DecodeFault.{DecodeFault}
+use Rattle.fidl_decode.specs.declared.fault.DecodeFault.TheVariants.{BytesLeft, HandlesLeft}
 use Rattle.fidl_decode.specs.declared.frame.Frame.{Frame}
 use Rattle.fidl_decode.specs.declared.frame.Left.{Left}
 use Rattle.fidl_decode.specs.declared.frame.Left.TheVariants.{Rows, Elements}
 use Rattle.fidl_decode.specs.declared.frame.Turn.{Turn}
 use Rattle.fidl_decode.specs.declared.frame.State.{State}
 use Rattle.fidl_decode.specs.Rows.{Row, table_rows, element_rows, RowsRise}
+use Rattle.fidl_decode.specs.Faults.{IsShown}
 use Rattle.fidl_decode.specs.State.{Message, At, Item, Members}
 
 -- the rows that a frame has left
@@ -100,6 +103,12 @@ pub record Turns (t : List ℕ) (m : Message) (f : Frame) (old new : At) (spent 
 pub record IsWhole (m : Message) (s : At) : Type 0 where
   pub bytes : s.next ≡ length m.bytes
   pub handles : s.handle ≡ length m.handles
+
+-- why a stack of frames is not read to the message's end: a byte shows it, or the frames end before bytes or handles do
+abbrev pub IsStopped : List ℕ → Message → List Frame → At → DecodeFault → Type 0
+IsStopped t m fs from (BytesLeft at) = (at < length m.bytes) × ((to : At) × Finishes t m fs from to × StateFine m to × (to.next ≡ at))
+IsStopped t m fs from (HandlesLeft at) = (at ≡ length m.bytes) × ((to : At) × Finishes t m fs from to × (to.next ≡ length m.bytes) × (to.handle < length m.handles))
+IsStopped t m fs from fault = IsShown m.bytes fault
 
 -- bytes and handles as one
 abbrev pub message_of : List ℕ → List HandleInfo → Message

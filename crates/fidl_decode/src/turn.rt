@@ -1,5 +1,5 @@
 //! The steps of the decoder: a turn reads the zeros before a member, and the member.
-ghost use Rattle.std.specs.Prelude.{◌≡◌, ℕ, ◌+◌, ◌-◌, ◌*◌, ◌^◌, ◌<◌, ◌≤◌, ◌∷◌, [], List, OnOk, OnErr, IfOk, IfErr, IfSome, IfNone, length};
+ghost use Rattle.std.specs.Prelude.{◌≡◌, ℕ, ◌+◌, ◌-◌, ◌*◌, ◌^◌, ◌<◌, ◌≤◌, ◌∷◌, [], OnOk, OnErr, IfOk, IfErr, IfSome, IfNone, length};
 ghost use Rattle.fidl_wire.specs.Term as ty;
 ghost use Rattle.fidl_wire.specs.Term.{resolve};
 ghost use Rattle.fidl_wire.specs.Figure.{size_of};
@@ -8,8 +8,7 @@ ghost use Rattle.fidl_wire.specs.Encoding.{zeros};
 ghost use Rattle.fidl_table.specs.Section.{header_of, entry_at};
 ghost use Rattle.fidl_table.specs.Terms.{declarations_of};
 ghost use Rattle.fidl_decode.specs.Fine.{IsFine};
-ghost use Rattle.fidl_wire.specs.declared.handle.HandleInfo.{HandleInfo as Handle};
-ghost use Rattle.fidl_decode.specs.Faults.{IsTold};
+ghost use Rattle.fidl_decode.specs.Faults.{IsShown};
 ghost use Rattle.fidl_decode.specs.State.{At, Item};
 ghost use Rattle.fidl_decode.specs.Machine.{rows_left, LeftFine, Reads, StateFine, FrameFine, Visits, Turns, frame_work, message_of, at_of};
 
@@ -25,7 +24,7 @@ pub(crate) fn zeros_at(bytes: &[u8], from: usize, to: usize) -> Result<(), Decod
     requires room { to ≤ length bytes.now }
     ensures ok { OnOk result (Stands bytes.now from (zeros (to - from))) }
     ensures err { OnErr result (Stands bytes.now from (zeros (to - from)) → ⊥) }
-    ensures told { IfErr result (λ f. (handles : List Handle) → IsTold bytes.now handles f) }
+    ensures told { IfErr result (IsShown bytes.now) }
 {
     for i in from..to {
         if bytes[i] != 0 {
@@ -96,7 +95,7 @@ pub(crate) fn visit(
     requires depth { depth ≤ 32 }
     ensures ok { IfOk result (λ found. Visits table.now (message_of bytes.now handles.now) depth entry place (at_of state.old) (at_of state.new) found) }
     ensures err { OnErr result ((to : At) → Item (declarations_of table.now) (message_of bytes.now handles.now) depth (resolve (declarations_of table.now).terms (ty.named entry)) place (at_of state.old) to → ⊥) }
-    ensures told { IfErr result (IsTold bytes.now handles.now) }
+    ensures told { IfErr result (IsShown bytes.now) }
     ensures steps { state.new.steps ≡ state.old.steps }
 {
     let e = table.entry(entry);
@@ -161,7 +160,7 @@ pub(crate) fn take_turn(
     ensures rises { state.old.steps < state.new.steps }
     ensures cost { state.new.steps ≤ state.old.steps + frame_work frame }
     ensures err { OnErr result ((to : At) → Reads table.now (message_of bytes.now handles.now) frame (at_of state.old) to → ⊥) }
-    ensures told { IfErr result (IsTold bytes.now handles.now) }
+    ensures told { IfErr result (IsShown bytes.now) }
 {
     let at = frame.base + frame.done;
     let Some(member) = next_member(table, frame.left, frame.done) else {

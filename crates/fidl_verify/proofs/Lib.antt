@@ -7,3 +7,4 @@ pub mod Whole
 pub mod Rising
 pub mod Declared
 pub mod Owning
+pub mod Standing

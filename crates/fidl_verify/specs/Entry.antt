@@ -58,6 +58,11 @@ pub record HasChildren (bytes : List ℕ) (h : Header) (e : Entry) : Type 0 wher
 abbrev pub Follows : (before : ℕ) → Entry → Type 0
 Follows before e = IsOf Struct e → e.first ≡ before
 
+-- the member of this place in a struct lies within it, and ends before the next begins
+pub record IsApart (bytes : List ℕ) (h : Header) (e : Entry) (k : ℕ) : Type 0 where
+  pub within : let r = row_at bytes h (e.first + k) in r.key + (entry_at bytes r.entry).size ≤ e.size
+  pub before : suc k < e.count → let r = row_at bytes h (e.first + k) in r.key + (entry_at bytes r.entry).size ≤ (row_at bytes h (e.first + suc k)).key
+
 -- the figures that the entries state
 abbrev pub figures_of : List ℕ → Header → List Figure
 figures_of bytes h = map (λ i. stated_figure (entry_at bytes i)) (below h.entries)

@@ -4,7 +4,7 @@ ghost use Rattle.fidl_wire.specs.Figure.{IsLaidOut, IsSound};
 ghost use Rattle.fidl_table.specs.declared.kind.EntryKind.TheVariants as EntryKind;
 ghost use Rattle.fidl_table.specs.Section.{header_of, table_length, entry_at, row_at};
 ghost use Rattle.fidl_table.specs.Terms.{declarations_of};
-ghost use Rattle.fidl_verify.specs.Entry.{IsOf, IsRowOf};
+ghost use Rattle.fidl_verify.specs.Entry.{IsOf, IsRowOf, IsApart};
 ghost use Rattle.fidl_verify.specs.WellFormed.{WellFormed};
 
 /// The figures that the entries state are those of their types.
@@ -42,4 +42,11 @@ pub fn members_nest_less()
 pub fn rows_are_members()
     ensures { (bytes : List ℕ) → WellFormed bytes → (row : ℕ) → row < (header_of bytes).rows
         → (index : ℕ) × (index < (header_of bytes).entries) × IsRowOf (entry_at bytes index) row }
+{}
+
+/// A struct's members lie within it, in their order and apart from one another.
+pub fn members_stand_apart()
+    ensures { (bytes : List ℕ) → WellFormed bytes → (index : ℕ) → index < (header_of bytes).entries
+        → IsOf EntryKind.Struct (entry_at bytes index) → (k : ℕ) → k < (entry_at bytes index).count
+        → IsApart bytes (header_of bytes) (entry_at bytes index) k }
 {}

@@ -35,6 +35,7 @@ impl<'t> Sections<'t> {
         requires { first + count ≤ self.now.header.rows }
         ensures { result ≡ first + count }
     {
+        // Read, so that the sum is known to be a number of 32 bits.
         let _rows = self.header.rows;
         first + count
     }

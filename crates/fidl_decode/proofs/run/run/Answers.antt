@@ -1,11 +1,15 @@
-use Rattle.std.proofs.Common.{◌≡◌, ◌++◌, ◌<◌, List, length, sym, ap, ◌∙◌, subst, arith}
+use Rattle.std.proofs.Common.{rules, refl, false, true, ◌≡◌, ◌++◌, ◌<◌, List, length, sym, ap, ◌∙◌, subst, arith}
 use Rattle.std.specs.Option.{option_to_list}
 use Rattle.fidl_decode.specs.declared.frame.Frame.{Frame}
 use Rattle.fidl_decode.specs.State.{At}
 use Rattle.fidl_decode.specs.Machine.{IsWhole, message_of, at_of, Finishes, StackFine, work}
 use Rattle.fidl_decode.proofs.Turning.{on_err}
-use Rattle.fidl_decode.proofs.Running.{stack_work_top, fine_top, height_room, length_if, turn_same, turn_fine, turn_less, finishes_top}
+use Rattle.fidl_decode.proofs.Running.{read_all, stack_work_top, fine_top, height_room, length_if, turn_same, turn_fine, turn_less, finishes_top}
+use Rattle.fidl_decode.proofs.Refusing.{shown_stopped}
 use Rattle.fidl_decode.proofs.run.run.Goals as goal
+
+no_false : false ≡ true → ⊥
+no_false e = cc
 
 pub take_turn-requires-clause-frame : goal.take_turn-requires-clause-frame
 take_turn-requires-clause-frame c =
@@ -64,3 +68,20 @@ returns-in_err-turn-clause-cost c =
     let old = ap (λ (l : List Frame). work c.args.bytes.now l c.loop-frame.state.next) c.in-Some.ensures.items in
     let so_far = c.loop-frame.invariant.steps in
     omega (arith, c.take_turn.ensures.cost, stack_work_top c.args.table.now (message_of c.args.bytes.now c.args.handles.now) c.pop.new.self.items c.in-Some.frame)
+
+pub returns-in_err-turn-clause-told : goal.returns-in_err-turn-clause-told
+returns-in_err-turn-clause-told c =
+    let h = shown_stopped c.args.table.now (message_of c.args.bytes.now c.args.handles.now) c.args.stack.now.items (at_of c.args.state.now) _ c.in_err-turn.ensures.told in search (rules, h)
+
+pub returns-then-state-bytes-clause-told : goal.returns-then-state-bytes-clause-told
+returns-then-state-bytes-clause-told c =
+    let all = read_all c.args.table.now (message_of c.args.bytes.now c.args.handles.now) c.loop-frame.stack.items (at_of c.loop-frame.state) (λ lt. no_false (c.in_default.ensures.variant.1 lt)) in
+    let state = c.loop-frame.invariant.state in
+    let next = state.next in
+    (omega (arith, next, c.if-state-bytes.true), (at_of c.loop-frame.state, (c.loop-frame.invariant.same (at_of c.loop-frame.state)).1 all, state, refl))
+
+pub returns-then-state-handles-clause-told : goal.returns-then-state-handles-clause-told
+returns-then-state-handles-clause-told c =
+    let all = read_all c.args.table.now (message_of c.args.bytes.now c.args.handles.now) c.loop-frame.stack.items (at_of c.loop-frame.state) (λ lt. no_false (c.in_default.ensures.variant.1 lt)) in
+    let handle = c.loop-frame.invariant.state.handle in
+    (refl, (at_of c.loop-frame.state, (c.loop-frame.invariant.same (at_of c.loop-frame.state)).1 all, c.if-state-bytes.false, omega (arith, handle, c.if-state-handles.true)))

@@ -1,4 +1,4 @@
-use Rattle.std.proofs.Common.{rules, ℕ, ◌≡◌, ◌+◌, ◌-◌, subst, ◌∙◌, sym, ap, arith}
+use Rattle.std.proofs.Common.{ℕ, ◌≡◌, ◌+◌, ◌-◌, subst, ◌∙◌, sym, ap, arith}
 use Rattle.std.specs.Prelude.{Some, None}
 use Rattle.fidl_wire.specs.Term as ty
 use Rattle.fidl_wire.specs.Figure.{size_of}
@@ -134,9 +134,3 @@ returns-clause-cost c =
     let g = gap c.args.table.now c.requires.table (message_of c.args.bytes.now c.args.handles.now) c.args.frame (at_of c.args.state.now) c.requires.frame c.requires.state (let x : Row = record { offset = c.in-Some.member.offset; entry = c.in-Some.member.entry } in x) c.in-Some.member.left c.in-Some.ensures.some in
     let w = spends c.args.frame.nest (c.in-Some.member.offset - c.args.frame.done) (c.args.frame.size - c.args.frame.done) (omega arith) in
     omega (arith, c.visit.ensures.steps)
-
-pub returns-in_err-zeros_at-clause-told : goal.returns-in_err-zeros_at-clause-told
-returns-in_err-zeros_at-clause-told c = let h = c.in_err-zeros_at.ensures.told c.args.handles.now in search (rules, h)
-
-pub returns-in_err-zeros_at-2-clause-told : goal.returns-in_err-zeros_at-2-clause-told
-returns-in_err-zeros_at-2-clause-told c = let h = c.in_err-zeros_at-2.ensures.told c.args.handles.now in search (rules, h)
