@@ -1,0 +1,48 @@
+//! The elements of an array, one by one.
+ghost use Rattle.std.specs.Prelude.{◌≡◌, ◌+◌, ◌*◌, ◌<◌, ◌≤◌, length};
+ghost use Rattle.fidl_wire.specs.declared.limits.TheConstants.{MAX_MESSAGE_BYTES};
+ghost use Rattle.fidl_table.specs.Section.{header_of, entry_at};
+
+use crate::view::View;
+use fidl_decode::Decoded;
+
+/// The views of an array's elements that are left, in their order (docs/views.md, "Elements").
+#[derive(Drop)]
+pub struct Elements<'v, 'm> {
+    pub(crate) decoded: &'v Decoded<'v, 'm, 'v>,
+    /// The entry of the elements' type, and the size of each, in bytes.
+    pub(crate) index: u32,
+    pub(crate) size: usize,
+    /// Where the next element stands in the message, in bytes, and how many are left.
+    pub(crate) place: usize,
+    pub(crate) left: usize,
+    ghost in_range: { index < (header_of decoded.now.table).entries },
+    ghost sized: { size ≡ (entry_at decoded.now.table index).size },
+    ghost room: { place + size * left ≤ length decoded.now.bytes },
+    ghost short: { length decoded.now.bytes ≤ MAX_MESSAGE_BYTES },
+}
+
+impl<'v, 'm> Iterator for Elements<'v, 'm> {
+    ghost use Rattle.std.specs.Iterator.{YieldsFirstBy, at_most};
+    ghost use Rattle.fidl_view.specs.Left.{part_of, parts_left};
+
+    type Item = View<'v, 'm>;
+
+    ghost next_gives = { YieldsFirstBy part_of parts_left };
+
+    ghost remaining = { λ s. at_most s.left };
+
+    fn next(&mut self) -> Option<View<'v, 'm>> {
+        if self.left == 0 {
+            return None;
+        }
+        let element = View {
+            decoded: self.decoded,
+            index: self.index,
+            place: self.place,
+        };
+        self.left -= 1;
+        self.place += self.size;
+        Some(element)
+    }
+}

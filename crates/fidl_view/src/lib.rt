@@ -1,0 +1,11 @@
+//! Views of a decoded message: each call answers the part of the value that it names, borrowed from the message.
+#![tactic(auto)]
+
+mod elements;
+mod number;
+#[cfg(test)]
+mod tests;
+mod view;
+
+pub use elements::Elements;
+pub use view::{View, Views};
