@@ -1,0 +1,4 @@
+pub mod FileParts
+pub mod Joins
+pub mod Limits
+pub mod Types

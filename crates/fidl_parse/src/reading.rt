@@ -1,0 +1,58 @@
+// From words to the tree.
+ghost use Rattle.std.specs.Prelude.{◌≡◌, ◌<◌, length, take, IfOk, IfErr};
+ghost use Rattle.fidl_tree.specs.Brackets.{IsWithinLimit};
+ghost use Rattle.fidl_tree.specs.File.{yield_of, IsProper};
+ghost use Rattle.fidl_parse.specs.Faults.{IsTrueOf};
+ghost use Rattle.fidl_parse.specs.Nesting.{IsTooDeepAt};
+
+use crate::fault::{ParseFault, Stop};
+use crate::nesting::nesting_end;
+use crate::parser::Parser;
+use fidl_span::{Span, Tokens, Word};
+use fidl_tree::File;
+use std::alloc::Global;
+
+/// Reads the words of a source as a syntax tree, which keeps the span of each of them.
+///
+/// The words may be any: those that `lex` gives of the source are its own. `Unexpected` names the
+/// first word that doesn't fit the grammar, or the end of the source, and `TooNested` the bracket
+/// with which more than 64 are open.
+pub fn parse<'s>(alloc: Global, tokens: &Tokens, src: &'s [u8]) -> Result<File<'s>, ParseFault>
+    ensures source { IfOk result (λ tree. tree.src.now ≡ src.now) }
+    ensures proper { IfOk result (λ tree. IsProper tree) }
+    ensures words { IfOk result (λ tree. yield_of tree ≡ tokens.now.words.items) }
+    ensures limit { IfOk result (λ _. IsWithinLimit tokens.now.words.items) }
+    ensures refusal { IfErr result (λ fault. IsTrueOf tokens.now.words.items src.now fault) }
+{
+    let words = tokens.as_slice();
+    let end = nesting_end(words);
+    let parser = Parser {
+        alloc,
+        words: &words[..end],
+        src,
+    };
+    let mut at = 0;
+    match parser.file(&mut at) {
+        Ok(file) if end == words.len() => Ok(file),
+        Err(Stop::Memory) => Err(ParseFault::Memory),
+        _ => Err(fault_at(words, end, at, src)),
+    }
+}
+
+/// The fault at the word number `at`, where the bracket number `end` is one too many.
+fn fault_at(words: &[Word], end: usize, at: usize, src: &[u8]) -> ParseFault
+    requires within { IsWithinLimit (take end words.now) }
+    requires deep { end < length words.now → IsTooDeepAt words.now end }
+    ensures { IsTrueOf words.now src.now result }
+{
+    match words.get(at.min(end)) {
+        Some(word) if at < end => ParseFault::Unexpected { span: word.span },
+        Some(bracket) => ParseFault::TooNested { span: bracket.span },
+        None => ParseFault::Unexpected {
+            span: Span {
+                from: src.len(),
+                to: src.len(),
+            },
+        },
+    }
+}

@@ -1,0 +1,6 @@
+pub mod Written
+pub mod Printing
+pub mod HandleText
+pub mod Numbers
+pub mod Messages
+pub mod Told

@@ -1,0 +1,51 @@
+-- What a status says of the line that goes with it, and of the roots of a table.
+use Rattle.std.proofs.Common.{◌≡◌, ◌≢◌, ℕ, List, sym, ap, subst, ◌∙◌, arith}
+use Rattle.std.specs.Prelude.{Result, Ok, Err, OnOk, is_ok, if◌then◌else◌}
+use Rattle.fidl_wire.specs.declared.handle.HandleInfo.{HandleInfo}
+use Rattle.fidl_wire.specs.Value.{Value}
+use Rattle.fidl_wire.specs.Term as ty
+use Rattle.fidl_wire.specs.Text.{Text}
+use Rattle.fidl_wire.specs.Message.{Encodes}
+use Rattle.fidl_table.specs.Section.{header_of}
+use Rattle.fidl_table.specs.Terms.{declarations_of}
+use Rattle.fidl_verify.specs.Root.{IsRootEntry, HasNoRoot}
+use Rattle.fidl_verify.specs.WellFormed.{WellFormed}
+use Rattle.fidl_decode.specs.Shown.{Shown}
+use Rattle.fidl_tool.specs.declared.status.Status.{Status}
+use Rattle.fidl_tool.specs.declared.status.Status.TheVariants.{Refused, FileFault}
+use Rattle.fidl_tool.specs.Status.{number_of}
+use Rattle.fidl_tool.specs.Decoding.{IsRootOf, LacksRoot}
+
+-- a refusal is told where its line was written
+pub told_refused : {T E P : Type 0} (w : Result T E) (r : Status) → r ≡ (if is_ok w then Refused else FileFault) → r ≡ Refused → OnOk w P → P
+told_refused (Ok x) r e q h = h
+told_refused (Err x) r e q h = let bad : number_of FileFault ≡ number_of Refused = ap number_of (sym e ∙ q) in absurd (omega (arith, bad))
+
+-- no status is told but the own one and a file fault
+pub told_never : {T E P : Type 0} (w : Result T E) (own other r : Status) → r ≡ (if is_ok w then own else FileFault) → r ≡ other → number_of own ≢ number_of other → number_of FileFault ≢ number_of other → P
+told_never (Ok x) own other r e q a b = absurd (a (ap number_of (sym e ∙ q)))
+told_never (Err x) own other r e q a b = absurd (b (ap number_of (sym e ∙ q)))
+
+pub root_of : (file table root name : List ℕ) (entry : ℕ) → table ≡ file → name ≡ root → WellFormed file → IsRootEntry table (header_of table) name entry → IsRootOf file root entry
+root_of file table root name entry t n w h = record {
+  well_formed = w;
+  root_entry = subst (λ (b : List ℕ). IsRootEntry b (header_of b) root entry) t (subst (λ (l : List ℕ). IsRootEntry table (header_of table) l entry) n h);
+}
+
+pub no_root_of : (file table root name : List ℕ) → table ≡ file → name ≡ root → WellFormed file → HasNoRoot table (header_of table) name → LacksRoot file root
+no_root_of file table root name t n w h = record {
+  well_formed = w;
+  none = subst (λ (b : List ℕ). HasNoRoot b (header_of b) root) t (subst (λ (l : List ℕ). HasNoRoot table (header_of table) l) n h);
+}
+
+-- what a decoded message stands for
+pub encodes_as : (d : Shown) (table bytes : List ℕ) (entry : ℕ) (handles : List HandleInfo) (v : Value) → d.table ≡ table → d.entry ≡ entry → d.bytes ≡ bytes → d.handles ≡ handles
+    → Encodes (declarations_of table) (ty.named entry) v bytes handles → Encodes (declarations_of d.table) (ty.named d.entry) v d.bytes d.handles
+encodes_as d table bytes entry handles v t e b h x =
+    subst (λ (l : List ℕ). Encodes (declarations_of l) (ty.named d.entry) v d.bytes d.handles) (sym t)
+    (subst (λ k. Encodes (declarations_of table) (ty.named k) v d.bytes d.handles) (sym e)
+    (subst (λ (l : List ℕ). Encodes (declarations_of table) (ty.named entry) v l d.handles) (sym b)
+    (subst (λ (l : List HandleInfo). Encodes (declarations_of table) (ty.named entry) v bytes l) (sym h) x)))
+
+pub text_as : (d : Shown) (table : List ℕ) (entry : ℕ) (v : Value) → d.table ≡ table → d.entry ≡ entry → Text (declarations_of d.table) (ty.named d.entry) v ≡ Text (declarations_of table) (ty.named entry) v
+text_as d table entry v t e = ap (λ (l : List ℕ). Text (declarations_of l) (ty.named d.entry) v) t ∙ ap (λ k. Text (declarations_of table) (ty.named k) v) e

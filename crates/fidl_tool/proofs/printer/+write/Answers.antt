@@ -1,0 +1,257 @@
+use Rattle.std.proofs.Common.{◌≡◌, ℕ, ◌+◌, ◌<◌, List, ◌++◌, refl, sym, ap, subst, ◌∙◌, arith}
+use Rattle.std.specs.Prelude.{Option, Some, IsSome, OnOk, nat_lt, codes}
+use Rattle.std.specs.Io.KnownBytes.{Appends}
+use Rattle.fidl_wire.specs.Term.{Term, resolve}
+use Rattle.fidl_wire.specs.Term as ty
+use Rattle.fidl_wire.specs.Typed.{IsTyped}
+use Rattle.fidl_wire.specs.Text.{text_of, comma_if}
+use Rattle.fidl_table.specs.declared.record.Entry.{Entry}
+use Rattle.fidl_table.specs.declared.record.Row.{Row}
+use Rattle.fidl_table.specs.declared.kind.EntryKind.{EntryKind}
+use Rattle.fidl_table.specs.declared.kind.EntryKind.TheVariants.{Bool as Boolean, Array, Struct}
+use Rattle.fidl_table.specs.Kind.{kind_of}
+use Rattle.fidl_table.specs.Section.{header_of, entry_at, row_at, name_at}
+use Rattle.fidl_table.specs.Terms.{declarations_of}
+use Rattle.fidl_verify.specs.Entry.{IsOf}
+use Rattle.fidl_verify.specs.WellFormed.{WellFormed}
+use Rattle.fidl_decode.specs.Shown.{Shown}
+use Rattle.fidl_view.specs.Parts.{element_of, field_of}
+use Rattle.fidl_tool.proofs.Written.{appends_as, appends_then, so_far_begin, so_far_more, so_far_end, so_far_as, on_ok}
+use Rattle.fidl_tool.proofs.Printing as printing
+use Rattle.fidl_tool.proofs.Printing.{parts_of, part_as}
+use Rattle.fidl_tool.proofs.printer.+write.Goals as goal
+
+pub write_elements-unwrap-part-requires : goal.write_elements-unwrap-part-requires
+write_elements-unwrap-part-requires g t c =
+    let ds = declarations_of c.args.table.now in
+    let v = c.requires.part.1.0 in
+    let p = c.requires.part.1.1 in
+    let size = printing.array_count ds (ty.named c.args.element) c.requires.part.0 v p.typed c.len.result c.unwrap-count.result (c.len.ensures v p.shown) c.unwrap-count.ensures in
+    let x = printing.array_there ds (ty.named c.args.element) c.requires.part.0 v p.typed c.loop-at.at (omega (arith, c.loop-at-test.true, size)) in
+    printing.part_some c.args.view.decoded.now (element_of v c.loop-at.at) x.0 c.element.result x.1 (c.element.ensures.part v p.shown)
+
+pub write_elements-write_value-requires : goal.write_elements-write_value-requires
+write_elements-write_value-requires g t c κs within =
+    let ds = declarations_of c.args.table.now in
+    let d = c.args.view.decoded.now in
+    let v = c.requires.part.1.0 in
+    let p = c.requires.part.1.1 in
+    let x = printing.part_shown d (element_of v c.loop-at.at) c.element.result c.unwrap-part.result c.unwrap-part.ensures (c.element.ensures.part v p.shown) in
+    let typed = printing.array_nth ds (ty.named c.args.element) c.requires.part.0 v p.typed c.loop-at.at x.0 x.1 in
+    let message = printing.same_message d c.element.result c.unwrap-part.result c.unwrap-part.ensures c.element.ensures.message in
+    (omega (arith, c.decreases), (within, (ap (λ (s : Shown). s.table) message ∙ c.requires.table, (c.requires.element, (x.0, record { shown = x.2; typed = typed.1 })))))
+
+pub write_elements-loop-at-init : goal.write_elements-loop-at-init
+write_elements-loop-at-init g t c =
+    record { left = λ n v p. so_far_begin _ _ _ _ _ c.in_ok-write_all.ensures.bytes (printing.array_text (declarations_of c.args.table.now) (ty.named c.args.element) n v p.typed) }
+
+pub write_elements-loop-at-preserved : goal.write_elements-loop-at-preserved
+write_elements-loop-at-preserved g t c = record {
+  left = λ n v p.
+      let ds = declarations_of c.args.table.now in
+      let x = printing.part_shown c.args.view.decoded.now (element_of v c.loop-at.at) c.element.result c.unwrap-part.result c.unwrap-part.ensures (c.element.ensures.part v p.shown) in
+      let typed = printing.array_nth ds (ty.named c.args.element) n v p.typed c.loop-at.at x.0 x.1 in
+      let wrote = appends_then _ _ _ _ _ c.in_ok-write_comma.ensures (c.in_ok-write_value.ensures x.0 (record { shown = x.2; typed = typed.1 })) in
+      so_far_more _ _ _ _ _ _ _ (c.loop-at.invariant.left n v p) wrote (printing.elements_at ds (resolve ds.terms (ty.named c.args.element)) (parts_of v) c.loop-at.at (c.loop-at.at + 1) x.0 (codes "]") typed.0 (omega arith));
+}
+
+pub write_elements-returns : goal.write_elements-returns
+write_elements-returns g t c n v p =
+    let ds = declarations_of c.args.table.now in
+    let size = printing.array_count ds (ty.named c.args.element) n v p.typed c.len.result c.unwrap-count.result (c.len.ensures v p.shown) c.unwrap-count.ensures in
+    let end = so_far_as _ _ _ _ (codes "]") (c.loop-at.invariant.left n v p) (printing.elements_end ds (resolve ds.terms (ty.named c.args.element)) (parts_of v) c.loop-at.at _ (codes "]") (omega (arith, c.loop-at-test.false, c.loop-at.auto.at-end, size))) in
+    on_ok c.write_all-2.result (λ h. so_far_end _ _ _ _ _ end h) c.write_all-2.ensures.bytes
+
+pub write_members-loop-at-init : goal.write_members-loop-at-init
+write_members-loop-at-init g t c = record {
+  left = λ v p. so_far_begin _ _ _ _ _ c.in_ok-write_all.ensures.bytes (printing.members_begin c.args.table.now c.entry-entry.ensures.well_formed c.args.index c.requires.index c.requires.of_struct v p.typed);
+}
+
+pub write_members-overflow_add-entry : goal.write_members-overflow_add-entry
+write_members-overflow_add-entry g t c =
+    let counted = ap (λ (e : Entry). e.count) c.entry-entry.ensures.value in
+    let begun = ap (λ (e : Entry). e.first) c.entry-entry.ensures.value in
+    let inside = printing.row_lt c.args.table.now c.entry-entry.ensures.well_formed c.args.index c.requires.index c.requires.of_struct c.loop-at.at (omega (arith, c.loop-at-test.true, counted)) in
+    record { fits = omega (arith, inside, begun, c.rows-rows.ensures.value) }
+
+pub write_members-row-row-requires : goal.write_members-row-row-requires
+write_members-row-row-requires g t c =
+    let counted = ap (λ (e : Entry). e.count) c.entry-entry.ensures.value in
+    let begun = ap (λ (e : Entry). e.first) c.entry-entry.ensures.value in
+    let inside = printing.row_lt c.args.table.now c.entry-entry.ensures.well_formed c.args.index c.requires.index c.requires.of_struct c.loop-at.at (omega (arith, c.loop-at-test.true, counted)) in
+    subst (λ k. k + c.loop-at.at < (header_of c.args.table.now).rows) (sym begun) inside
+
+pub write_members-unwrap-part-requires : goal.write_members-unwrap-part-requires
+write_members-unwrap-part-requires g t c =
+    let v = c.requires.part.0 in
+    let p = c.requires.part.1 in
+    let counted = ap (λ (e : Entry). e.count) c.entry-entry.ensures.value in
+    let x = printing.member_there c.args.table.now c.entry-entry.ensures.well_formed c.args.index c.requires.index c.requires.of_struct v p.typed c.loop-at.at (omega (arith, c.loop-at-test.true, counted)) in
+    printing.part_some c.args.view.decoded.now (field_of v c.loop-at.at) x.0 c.field.result x.1 (c.field.ensures.part v p.shown)
+
+pub write_members-write_value-requires : goal.write_members-write_value-requires
+write_members-write_value-requires g t c κs within =
+    let b = c.args.table.now in
+    let w = c.entry-entry.ensures.well_formed in
+    let i = c.args.index in
+    let lt = c.requires.index in
+    let is = c.requires.of_struct in
+    let d = c.args.view.decoded.now in
+    let v = c.requires.part.0 in
+    let p = c.requires.part.1 in
+    let counted = ap (λ (e : Entry). e.count) c.entry-entry.ensures.value in
+    let begun = ap (λ (e : Entry). e.first) c.entry-entry.ensures.value in
+    let less : c.loop-at.at < (entry_at b i).count = omega (arith, c.loop-at-test.true, counted) in
+    let here : c.row-row.result ≡ row_at b (header_of b) ((entry_at b i).first + c.loop-at.at) = c.row-row.ensures.value ∙ ap (λ k. row_at b (header_of b) (k + c.loop-at.at)) begun in
+    let entered : c.row-row.result.entry ≡ (row_at b (header_of b) ((entry_at b i).first + c.loop-at.at)).entry = ap (λ (r : Row). r.entry) here in
+    let x = printing.part_shown d (field_of v c.loop-at.at) c.field.result c.unwrap-part.result c.unwrap-part.ensures (c.field.ensures.part v p.shown) in
+    let typed = printing.member_typed b w i lt is v p.typed c.loop-at.at less x.0 x.1 in
+    let message = printing.same_message d c.field.result c.unwrap-part.result c.unwrap-part.ensures c.field.ensures.message in
+    let nest = printing.member_less b w i lt is c.loop-at.at less in
+    let lower : (entry_at b c.row-row.result.entry).nest < (entry_at b i).nest = subst (λ k. (entry_at b k).nest < (entry_at b i).nest) (sym entered) nest in (
+      omega (arith, c.decreases, lower),
+      (
+        within,
+        (
+          ap (λ (s : Shown). s.table) message ∙ c.requires.table,
+          (
+            c.row-row.ensures.entry,
+            (
+              x.0,
+              record {
+                shown = x.2;
+                typed = subst (λ k. IsTyped (declarations_of b) (resolve (declarations_of b).terms (ty.named k)) x.0) (sym entered) typed.1;
+              },
+            ),
+          ),
+        ),
+      ),
+    )
+
+pub write_members-loop-at-preserved : goal.write_members-loop-at-preserved
+write_members-loop-at-preserved g t c = record {
+  left = λ v p.
+      let b = c.args.table.now in
+      let w = c.entry-entry.ensures.well_formed in
+      let i = c.args.index in
+      let lt = c.requires.index in
+      let is = c.requires.of_struct in
+      let counted = ap (λ (e : Entry). e.count) c.entry-entry.ensures.value in
+      let begun = ap (λ (e : Entry). e.first) c.entry-entry.ensures.value in
+      let less : c.loop-at.at < (entry_at b i).count = omega (arith, c.loop-at-test.true, counted) in
+      let here : c.row-row.result ≡ row_at b (header_of b) ((entry_at b i).first + c.loop-at.at) = c.row-row.ensures.value ∙ ap (λ k. row_at b (header_of b) (k + c.loop-at.at)) begun in
+      let x = printing.part_shown c.args.view.decoded.now (field_of v c.loop-at.at) c.field.result c.unwrap-part.result c.unwrap-part.ensures (c.field.ensures.part v p.shown) in
+      let typed = printing.member_typed b w i lt is v p.typed c.loop-at.at less x.0 x.1 in
+      let own = subst (λ (r : Row). IsTyped (declarations_of b) (resolve (declarations_of b).terms (ty.named r.entry)) x.0) (sym here) typed.1 in
+      let c0 = g.W.Write.contents c.loop-at.out in
+      let c1 = g.W.Write.contents c.write_comma.new.out in
+      let c2 = g.W.Write.contents c.write_all-in-loop-at.new.self in
+      let c3 = g.W.Write.contents c.write_all-in-loop-at-2.new.self in
+      let c4 = g.W.Write.contents c.write_value.new.out in
+      let comma = comma_if (nat_lt 0 c.loop-at.at) in
+      let row = row_at b (header_of b) ((entry_at b i).first + c.loop-at.at) in
+      let name = name_at b (header_of b) row.name_place row.name_length in
+      let text = text_of (declarations_of b) (resolve (declarations_of b).terms (ty.named row.entry)) x.0 in
+      let named : c.row_name.result.now ≡ name = c.row_name.ensures ∙ ap (λ (r : Row). name_at b (header_of b) r.name_place r.name_length) here in
+      let texted = ap (λ (r : Row). text_of (declarations_of b) (resolve (declarations_of b).terms (ty.named r.entry)) x.0) here in
+      let w1 = appends_then c0 c1 c2 comma name c.in_ok-write_comma.ensures (appends_as c1 c2 c.row_name.result.now name named c.in_ok-write_all-2.ensures.bytes) in
+      let w2 = appends_then c0 c2 c3 (comma ++ name) (codes ": ") w1 c.in_ok-write_all-3.ensures.bytes in
+      let w3 = appends_then c0 c3 c4 (comma ++ name ++ codes ": ") text w2 (appends_as c3 c4 _ text texted (c.in_ok-write_value.ensures x.0 (record { shown = x.2; typed = own }))) in
+      let step = printing.members_step b w i lt is v c.loop-at.at (c.loop-at.at + 1) x.0 typed.0 less (omega arith) in
+      so_far_more _ _ _ _ _ _ _ (c.loop-at.invariant.left v p) w3 step;
+}
+
+pub write_members-returns : goal.write_members-returns
+write_members-returns g t c v p =
+    let counted = ap (λ (e : Entry). e.count) c.entry-entry.ensures.value in
+    let end = so_far_as _ _ _ _ (codes "}") (c.loop-at.invariant.left v p)
+    (printing.members_end c.args.table.now c.entry-entry.ensures.well_formed c.args.index c.requires.index c.requires.of_struct v c.loop-at.at (omega (arith, c.loop-at-test.false, c.loop-at.auto.at-end, counted))) in
+    on_ok c.write_all-2.result (λ h. so_far_end _ _ _ _ _ end h) c.write_all-2.ensures.bytes
+
+pub write_value-unwrap-kind-requires : goal.write_value-unwrap-kind-requires
+write_value-unwrap-kind-requires g t c =
+    let k = printing.kind_at c.args.table.now c.entry-entry.ensures.well_formed c.args.index c.requires.index in
+    subst (λ (o : Option EntryKind). IsSome o) (sym (c.from_number.ensures ∙ ap (λ (e : Entry). kind_of e.kind) c.entry-entry.ensures.value ∙ k.2)) refl
+
+pub write_value-write_bool-requires : goal.write_value-write_bool-requires
+write_value-write_bool-requires g t c =
+    let b = c.args.table.now in
+    let is : IsOf Boolean (entry_at b c.args.index) = sym (c.from_number.ensures ∙ ap (λ (e : Entry). kind_of e.kind) c.entry-entry.ensures.value) ∙ c.unwrap-kind.ensures ∙ ap (λ (k : EntryKind). Some k) c.in-Bool.is in
+    (declarations_of b, (c.requires.part.0, part_as _ _ _ _ _ (printing.term_at b c.entry-entry.ensures.well_formed c.args.index c.requires.index Boolean is) c.requires.part.1))
+
+pub write_value-write_elements-requires : goal.write_value-write_elements-requires
+write_value-write_elements-requires g t c κs within =
+    let b = c.args.table.now in
+    let w = c.entry-entry.ensures.well_formed in
+    let i = c.args.index in
+    let lt = c.requires.index in
+    let is : IsOf Array (entry_at b i) = sym (c.from_number.ensures ∙ ap (λ (e : Entry). kind_of e.kind) c.entry-entry.ensures.value) ∙ c.unwrap-kind.ensures ∙ ap (λ (k : EntryKind). Some k) c.in-Array.is in
+    let begun = ap (λ (e : Entry). e.first) c.entry-entry.ensures.value in
+    let lower : (entry_at b c.entry-entry.result.first).nest < (entry_at b i).nest = subst (λ k. (entry_at b k).nest < (entry_at b i).nest) (sym begun) (printing.element_less b w i lt is) in (
+      omega (arith, c.decreases, lower),
+      (
+        within,
+        (
+          c.requires.table,
+          (
+            subst (λ k. k < (header_of b).entries) (sym begun) (printing.element_lt b w i lt is),
+            (
+              (entry_at b i).count,
+              (
+                c.requires.part.0,
+                part_as _ _ _ _ _ (printing.term_at b w i lt Array is ∙ ap (λ k. ty.array (ty.named k) (entry_at b i).count) (sym begun)) c.requires.part.1,
+              ),
+            ),
+          ),
+        ),
+      ),
+    )
+
+pub write_value-write_members-requires : goal.write_value-write_members-requires
+write_value-write_members-requires g t c κs within =
+    let b = c.args.table.now in
+    let is : IsOf Struct (entry_at b c.args.index) = sym (c.from_number.ensures ∙ ap (λ (e : Entry). kind_of e.kind) c.entry-entry.ensures.value) ∙ c.unwrap-kind.ensures ∙ ap (λ (k : EntryKind). Some k) c.in-Struct.is in
+    (omega (arith, c.decreases), (within, (c.requires.table, (c.requires.index, (is, c.requires.part)))))
+
+pub write_value-write_number-requires : goal.write_value-write_number-requires
+write_value-write_number-requires g t c =
+    let b = c.args.table.now in
+    let w = c.entry-entry.ensures.well_formed in
+    let i = c.args.index in
+    let lt = c.requires.index in
+    let is : IsOf c.unwrap-kind.result (entry_at b i) = sym (c.from_number.ensures ∙ ap (λ (e : Entry). kind_of e.kind) c.entry-entry.ensures.value) ∙ c.unwrap-kind.ensures in
+    let kind = printing.plain_kind b (header_of b) (entry_at b i) c.unwrap-kind.result (printing.known_at b w i lt c.unwrap-kind.result is) c.in_default.not-Bool c.in_default.not-Array c.in_default.not-Struct in
+    record {
+      well_formed = subst (λ (t : List ℕ). WellFormed t) (sym c.requires.table) w;
+      part = (declarations_of b, kind.0, (c.requires.part.0, part_as _ _ _ _ _ (printing.term_at b w i lt c.unwrap-kind.result is ∙ kind.1) c.requires.part.1));
+    }
+
+pub write_value-returns-in-Bool : goal.write_value-returns-in-Bool
+write_value-returns-in-Bool g t c v p =
+    let b = c.args.table.now in
+    let is : IsOf Boolean (entry_at b c.args.index) = sym (c.from_number.ensures ∙ ap (λ (e : Entry). kind_of e.kind) c.entry-entry.ensures.value) ∙ c.unwrap-kind.ensures ∙ ap (λ (k : EntryKind). Some k) c.in-Bool.is in
+    let e = printing.term_at b c.entry-entry.ensures.well_formed c.args.index c.requires.index Boolean is in
+    subst (λ (u : Term). OnOk c.write_bool.result (Appends (g.W.Write.contents c.args.out.now) (g.W.Write.contents c.write_bool.new.out) (text_of (declarations_of b) u v))) (sym e) (c.write_bool.ensures (declarations_of b) v (part_as _ _ _ _ _ e p))
+
+pub write_value-returns-in-Array : goal.write_value-returns-in-Array
+write_value-returns-in-Array g t c v p =
+    let b = c.args.table.now in
+    let i = c.args.index in
+    let is : IsOf Array (entry_at b i) = sym (c.from_number.ensures ∙ ap (λ (e : Entry). kind_of e.kind) c.entry-entry.ensures.value) ∙ c.unwrap-kind.ensures ∙ ap (λ (k : EntryKind). Some k) c.in-Array.is in
+    let begun = ap (λ (e : Entry). e.first) c.entry-entry.ensures.value in
+    let e = printing.term_at b c.entry-entry.ensures.well_formed i c.requires.index Array is ∙ ap (λ k. ty.array (ty.named k) (entry_at b i).count) (sym begun) in
+    subst (λ (u : Term). OnOk c.write_elements.result (Appends (g.W.Write.contents c.args.out.now) (g.W.Write.contents c.write_elements.new.out) (text_of (declarations_of b) u v))) (sym e) (c.write_elements.ensures (entry_at b i).count v (part_as _ _ _ _ _ e p))
+
+pub write_value-returns-in-Struct : goal.write_value-returns-in-Struct
+write_value-returns-in-Struct g t c v p = c.write_members.ensures v p
+
+pub write_value-returns-in_default : goal.write_value-returns-in_default
+write_value-returns-in_default g t c v p =
+    let b = c.args.table.now in
+    let w = c.entry-entry.ensures.well_formed in
+    let i = c.args.index in
+    let lt = c.requires.index in
+    let is : IsOf c.unwrap-kind.result (entry_at b i) = sym (c.from_number.ensures ∙ ap (λ (e : Entry). kind_of e.kind) c.entry-entry.ensures.value) ∙ c.unwrap-kind.ensures in
+    let kind = printing.plain_kind b (header_of b) (entry_at b i) c.unwrap-kind.result (printing.known_at b w i lt c.unwrap-kind.result is) c.in_default.not-Bool c.in_default.not-Array c.in_default.not-Struct in
+    let e = printing.term_at b w i lt c.unwrap-kind.result is ∙ kind.1 in
+    subst (λ (u : Term). OnOk c.write_number.result (Appends (g.W.Write.contents c.args.out.now) (g.W.Write.contents c.write_number.new.out) (text_of (declarations_of b) u v))) (sym e) (c.write_number.ensures (declarations_of b) kind.0 v (part_as _ _ _ _ _ e p))

@@ -1,0 +1,29 @@
+use Rattle.std.proofs.Common.{ℤ, subst}
+use Rattle.std.specs.Prelude.{OnOk}
+use Rattle.std.specs.Int.{w64}
+use Rattle.std.specs.Fmt.{signed_decimal}
+use Rattle.std.specs.Io.KnownBytes.{Appends}
+use Rattle.std.proofs.lemmas.Int.{to_z-of_z}
+use Rattle.fidl_tool.proofs.Numbers.{wants_signed, unsigned_text, signed_text}
+use Rattle.fidl_tool.proofs.printer.write_number.Goals as goal
+
+pub unwrap-number-requires : goal.unwrap-number-requires
+unwrap-number-requires g c =
+    let p = c.requires.part.2.1 in
+    let v = c.requires.part.2.0 in
+    wants_signed c.args.view.decoded.now.table c.requires.well_formed c.args.view.index c.args.view.in_range c.requires.part.0 c.requires.part.1 v p.typed p.shown.typed
+    c.as_u64.result c.as_i64.result (c.as_u64.ensures v p.shown) c.in-None.is (c.as_i64.ensures v p.shown)
+
+pub returns-in-Some : goal.returns-in-Some
+returns-in-Some g c ds kind v p =
+    unsigned_text c.args.view.decoded.now.table c.requires.well_formed c.args.view.index c.args.view.in_range ds kind v p.typed p.shown.typed
+    c.as_u64.result c.in-Some.number (c.as_u64.ensures v p.shown) c.in-Some.is _ _ c.write.result c.write.ensures.bytes
+
+pub returns-in-None : goal.returns-in-None
+returns-in-None g c ds kind v p =
+    let old = g.W.Write.contents c.args.out.now in
+    let new = g.W.Write.contents c.write-in-None.new.self in
+    let same = to_z-of_z w64 c.unwrap-number.result (record { sfits = c.unwrap-number.type_inv }) in
+    signed_text c.args.view.decoded.now.table c.requires.well_formed c.args.view.index c.args.view.in_range ds kind v p.typed p.shown.typed
+    c.as_u64.result c.as_i64.result c.unwrap-number.result (c.as_u64.ensures v p.shown) c.in-None.is (c.as_i64.ensures v p.shown) c.unwrap-number.ensures old new c.write-in-None.result
+    (subst (λ (z : ℤ). OnOk c.write-in-None.result (Appends old new (signed_decimal z))) same c.write-in-None.ensures.bytes)

@@ -1,0 +1,4 @@
+pub mod Status
+pub mod Handles
+pub mod Parts
+pub mod Decoding

@@ -1,0 +1,93 @@
+//! The command `decode`.
+ghost use Rattle.std.specs.Prelude.{◌≡◌, ◌≢◌, ℕ, ◌++◌, List, OnOk, codes};
+ghost use Rattle.std.specs.Io.KnownBytes.{Appends};
+ghost use Rattle.fidl_wire.specs.Value.{Value};
+ghost use Rattle.fidl_wire.specs.Term as ty;
+ghost use Rattle.fidl_wire.specs.Message.{Encodes};
+ghost use Rattle.fidl_wire.specs.Text.{Text};
+ghost use Rattle.fidl_table.specs.Terms.{declarations_of};
+ghost use Rattle.fidl_tool.specs.Decoding.{HasRoot, LacksRoot, IsText, IsRefusal};
+ghost use Rattle.fidl_tool.specs.declared.status.Status.TheVariants as status;
+
+use crate::lines::{write_no_memory, write_no_output, write_no_root, write_refusal};
+use crate::printer::write_value;
+use crate::status::Status;
+use fidl_decode::{Decoded, Scratch};
+use fidl_verify::verify;
+use fidl_view::Views;
+use fidl_wire::HandleInfo;
+use std::alloc::Global;
+use std::io;
+use std::io::Write;
+
+/// A file that was read: its name on the command line, and its bytes.
+#[derive(Clone, Copy, Debug, Drop)]
+pub struct File<'f> {
+    pub name: &'f str,
+    pub bytes: &'f [u8],
+}
+
+/// Writes the line of the text of the value that a message encodes.
+fn write_text<W: Write>(decoded: &Decoded<'_, '_, '_>, out: &mut W) -> io::Result<()>
+    ensures { (v : Value) → Encodes (declarations_of decoded.now.table) (ty.named decoded.now.entry) v decoded.now.bytes decoded.now.handles
+        → OnOk result (Appends (W.contents out.old) (W.contents out.new) (Text (declarations_of decoded.now.table) (ty.named decoded.now.entry) v ++ codes "\n")) }
+{
+    write_value(decoded.table(), decoded.entry(), decoded.view(), out)?;
+    out.write_all(b"\n")?;
+    out.flush()
+}
+
+/// Prints the text of the value that bytes and handles encode, by the type of a root of a table.
+///
+/// `Done` where all of the text stands on `out`; `Refused` where the table is not accepted, or they encode no value of the
+/// type; `Usage` where the table has no such root. All but `Done` print one line on `errors`. `FileFault` comes where a
+/// writer fails, and `Memory` where there is none left.
+pub fn decode<W: Write, E: Write>(
+    alloc: Global,
+    file: &File<'_>,
+    root: &str,
+    bytes: &[u8],
+    handles: &[HandleInfo],
+    out: &mut W,
+    errors: &mut E,
+) -> Status
+    ensures done { result ≡ status.Done → (line : List ℕ) × IsText file.now.bytes.now root.now bytes.now handles.now line
+        × Appends (W.contents out.old) (W.contents out.new) line }
+    ensures refused { result ≡ status.Refused → (line : List ℕ) × IsRefusal file.now.bytes.now root.now bytes.now handles.now line
+        × Appends (E.contents errors.old) (E.contents errors.new) line }
+    ensures usage { result ≡ status.Usage → LacksRoot file.now.bytes.now root.now }
+    ensures memory { result ≡ status.Memory → HasRoot file.now.bytes.now root.now }
+    ensures out { result ≢ status.Done → result ≢ status.FileFault → W.contents out.new ≡ W.contents out.old }
+    ensures errors { result ≡ status.Done → E.contents errors.new ≡ E.contents errors.old }
+{
+    let table = match verify(file.bytes) {
+        Ok(table) => table,
+        Err(fault) => {
+            let written = write_refusal(
+                errors,
+                "table",
+                fault.number(),
+                fault.name(),
+                fault.at() as usize,
+            );
+            return Status::Refused.told(&written);
+        }
+    };
+    let Some(entry) = table.root(root.as_bytes()) else {
+        return Status::Usage.told(&write_no_root(errors, file.name, root));
+    };
+    let Ok(mut scratch) = Scratch::new(alloc) else {
+        return Status::Memory.told(&write_no_memory(errors));
+    };
+    let decoded = match fidl_decode::decode(&table, entry, bytes, handles, &mut scratch) {
+        Ok(decoded) => decoded,
+        Err(fault) => {
+            let written = write_refusal(errors, "decode", fault.number(), fault.name(), fault.at());
+            return Status::Refused.told(&written);
+        }
+    };
+    match write_text(&decoded, out) {
+        Ok(()) => Status::Done,
+        Err(error) => Status::FileFault.told(&write_no_output(errors, &error)),
+    }
+}
