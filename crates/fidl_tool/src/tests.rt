@@ -315,53 +315,62 @@ fn command_lines_are_read(rt: HostRuntime) -> Result<(), Fail> {
         }
         Err(_) => return Err(Fail::from("the line was not read")),
     }
-    let hex = "error: HEX: an even number of hexadecimal digits is wanted";
-    let handle = "error: --handle: three decimal numbers of 32 bits are wanted, as in 1:3:0";
-    let cases: [(&[&str], &str); 8] = [
-        (&["fidl", "decode", "a.fct", "Point", "012"], hex),
-        (&["fidl", "decode", "a.fct", "Point", "0g"], hex),
-        (
-            &["fidl", "decode", "--handle", "1:3", "a.fct", "Point", "00"],
-            handle,
-        ),
-        (
-            &["fidl", "encode", "a.fct", "Point", "{}"],
-            "error: unrecognized subcommand 'encode'",
-        ),
-        (
-            &["fidl", "decode", "a.fct"],
-            "error: the following required arguments were not provided: <ROOT> <HEX>",
-        ),
-        (
-            &["fidl", "decode", "a.fct", "Point", "-1"],
-            "error: unexpected argument '-1' found",
-        ),
-        (
-            &["out/fidl_tool"],
-            "error: 'fidl' requires a subcommand but one was not provided [subcommands: decode, help]",
-        ),
-        (&["fidl", "--version"], "fidl 0.1\n"),
-    ];
-    for (words, want) in cases {
-        match line_of(alloc, words) {
-            Some(line) => assert!(rt; line.as_str() == want, "{line} for {want}"),
-            None => return Err(Fail::from("the line was read")),
-        }
-    }
-    for text in [
-        "",
-        "1:2",
-        "1:2:3:4",
-        "+1:2:3",
-        "1: 2:3",
-        "1:2:4294967296",
-        "1::3",
-        "-1:2:3",
-        "1:2:0x3",
-    ] {
-        assert!(rt; read_handle(text).is_none(), "{text}");
-    }
     let missing = ["fidl", "decode", "no such file", "Point", "00"];
     assert_eq!(rt; crate::run(&rt, alloc, &missing), Status::FileFault);
     Ok(())
+}
+
+/// Reads a command line, and compares what is printed in place of arguments.
+fn expect_line(alloc: Global, words: &[&str], want: &str) -> Result<(), Fail> {
+    match line_of(alloc, words) {
+        Some(line) if line.as_str() == want => Ok(()),
+        _ => Err(Fail::from("another line")),
+    }
+}
+
+#[test]
+fn wrong_command_lines_are_told(rt: HostRuntime) -> Result<(), Fail> {
+    let alloc = rt.alloc();
+    let hex = "error: HEX: an even number of hexadecimal digits is wanted";
+    expect_line(alloc, &["fidl", "decode", "a.fct", "Point", "012"], hex)?;
+    expect_line(alloc, &["fidl", "decode", "a.fct", "Point", "0g"], hex)?;
+    expect_line(
+        alloc,
+        &["fidl", "decode", "--handle", "1:3", "a.fct", "Point", "00"],
+        "error: --handle: three decimal numbers of 32 bits are wanted, as in 1:3:0",
+    )?;
+    expect_line(
+        alloc,
+        &["fidl", "encode", "a.fct", "Point", "{}"],
+        "error: unrecognized subcommand 'encode'",
+    )?;
+    expect_line(
+        alloc,
+        &["fidl", "decode", "a.fct"],
+        "error: the following required arguments were not provided: <ROOT> <HEX>",
+    )?;
+    expect_line(
+        alloc,
+        &["fidl", "decode", "a.fct", "Point", "-1"],
+        "error: unexpected argument '-1' found",
+    )?;
+    expect_line(
+        alloc,
+        &["out/fidl_tool"],
+        "error: 'fidl' requires a subcommand but one was not provided [subcommands: decode, help]",
+    )?;
+    expect_line(alloc, &["fidl", "--version"], "fidl 0.1\n")
+}
+
+#[test]
+fn texts_that_are_no_handles(rt: HostRuntime) {
+    assert!(rt; read_handle("").is_none());
+    assert!(rt; read_handle("1:2").is_none());
+    assert!(rt; read_handle("1:2:3:4").is_none());
+    assert!(rt; read_handle("+1:2:3").is_none());
+    assert!(rt; read_handle("1: 2:3").is_none());
+    assert!(rt; read_handle("1:2:4294967296").is_none());
+    assert!(rt; read_handle("1::3").is_none());
+    assert!(rt; read_handle("-1:2:3").is_none());
+    assert!(rt; read_handle("1:2:0x3").is_none());
 }
