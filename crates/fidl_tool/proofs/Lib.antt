@@ -4,3 +4,4 @@ pub mod HandleText
 pub mod Numbers
 pub mod Messages
 pub mod Told
+mod HandleTexts

@@ -1,5 +1,6 @@
 -- What the command `decode` answers (docs/program.md, "decode").
-use Rattle.std.specs.Prelude.{ℕ, List, ◌++◌, codes, decimal}
+use Rattle.std.specs.Prelude.{ℕ, List, ◌++◌, codes, decimal, Option, Some}
+use Rattle.std.specs.Fmt.{option_append, debug_str}
 use Rattle.fidl_wire.specs.declared.handle.HandleInfo.{HandleInfo}
 use Rattle.fidl_wire.specs.Value.{Value}
 use Rattle.fidl_wire.specs.Term as ty
@@ -40,6 +41,14 @@ table_line f = refusal_line (codes "table") (table_faults.number_of f) (table_fa
 
 abbrev pub message_line : DecodeFault → List ℕ
 message_line f = refusal_line (codes "decode") (message_faults.number_of f) (message_faults.name_of f) (message_faults.place_of f)
+
+-- the line for a root that the table of a file does not have; std tells what quoted names look like where all is ASCII
+abbrev pub no_root_line : (file root : List ℕ) → Option (List ℕ)
+no_root_line file root = option_append (Some (codes "error: ROOT: no root of ")) (option_append (debug_str file) (option_append (Some (codes " has the name ")) (option_append (debug_str root) (Some (codes "\n")))))
+
+-- the line for want of memory
+abbrev pub no_memory_line : List ℕ
+no_memory_line = codes "error: out of memory\n"
 
 -- the line of the text that bytes and handles encode, as a value of the root's type
 pub data IsText (table root bytes : List ℕ) (handles : List HandleInfo) : List ℕ → Type 0 where

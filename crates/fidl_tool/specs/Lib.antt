@@ -2,3 +2,4 @@ pub mod Status
 pub mod Handles
 pub mod Parts
 pub mod Decoding
+pub mod Arguments

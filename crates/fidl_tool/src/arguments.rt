@@ -1,6 +1,9 @@
 //! The command line.
-ghost use Rattle.std.specs.Prelude.{◌≡◌, ◌⊎◌, ℕ, List, Ok, IfOk, IfErr};
+ghost use Rattle.std.specs.Prelude.{◌≡◌, ◌⊎◌, ℕ, List, Ok, IfOk, IfErr, map};
+ghost use Rattle.std.specs.List.{AllZip};
 ghost use Rattle.hex.specs.Hex.{decode_of};
+ghost use Rattle.fidl_tool.specs.Handles.{IsHandleText, HasNoHandleText};
+ghost use Rattle.fidl_tool.specs.Arguments.{IsWrong};
 ghost use Rattle.fidl_tool.specs.declared.unread.Unread.TheVariants as unread;
 
 use crate::handle::read_handle;
@@ -50,7 +53,9 @@ fn command_line<'a>(alloc: Global) -> Result<Command<'a>, AllocError> {
 }
 
 /// The line for an argument that is wrong.
-fn wrong(alloc: Global, argument: &str, why: &str) -> Unread {
+fn wrong(alloc: Global, argument: &str, why: &str) -> Unread
+    ensures { IsWrong argument.now why.now result }
+{
     match format!(in alloc; "error: {argument}: {why}") {
         Ok(line) => Unread::Wrong { line },
         Err(_) => Unread::Memory,
@@ -74,16 +79,21 @@ fn read_bytes(alloc: Global, text: &str) -> Result<Vec<u8>, Unread>
 }
 
 /// The handles of a message, from their texts.
-fn read_handles(alloc: Global, texts: &[&str]) -> Result<Vec<HandleInfo>, Unread> {
+fn read_handles(alloc: Global, texts: &[&str]) -> Result<Vec<HandleInfo>, Unread>
+    ensures ok { IfOk result (λ handles. AllZip IsHandleText (map (λ text. text.now) texts.now) handles.items) }
+    ensures wrong { IfErr result (λ e. (e ≡ unread.Memory) ⊎ HasNoHandleText (map (λ text. text.now) texts.now)) }
+{
     let mut handles = Vec::new(alloc);
     for text in texts {
-        match read_handle(*text) {
-            Some(handle) => handles.push(handle).map_err(AllocError::from)?,
-            None => return Err(wrong(
+        let Some(handle) = read_handle(*text) else {
+            return Err(wrong(
                 alloc,
                 "--handle",
                 "three decimal numbers of 32 bits are wanted, as in 1:3:0",
-            )),
+            ));
+        };
+        if handles.push(handle).is_err() {
+            return Err(Unread::Memory);
         }
     }
     Ok(handles)

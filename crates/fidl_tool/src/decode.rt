@@ -1,15 +1,16 @@
 //! The command `decode`.
-ghost use Rattle.std.specs.Prelude.{◌≡◌, ◌≢◌, ℕ, ◌++◌, List, OnOk, codes};
+ghost use Rattle.std.specs.Prelude.{◌≡◌, ◌≢◌, ℕ, ◌++◌, List, IfSome, OnOk, OnErr, IsTrue, ◌⊎◌, codes};
 ghost use Rattle.std.specs.Io.KnownBytes.{Appends};
 ghost use Rattle.fidl_wire.specs.Value.{Value};
 ghost use Rattle.fidl_wire.specs.Term as ty;
 ghost use Rattle.fidl_wire.specs.Message.{Encodes};
 ghost use Rattle.fidl_wire.specs.Text.{Text};
 ghost use Rattle.fidl_table.specs.Terms.{declarations_of};
-ghost use Rattle.fidl_tool.specs.Decoding.{HasRoot, LacksRoot, IsText, IsRefusal};
+ghost use Rattle.fidl_tool.specs.Decoding.{HasRoot, LacksRoot, IsText, IsRefusal, no_root_line, no_memory_line};
 ghost use Rattle.fidl_tool.specs.declared.status.Status.TheVariants as status;
 
 use crate::lines::{write_no_memory, write_no_output, write_no_root, write_refusal};
+use crate::output::Output;
 use crate::printer::write_value;
 use crate::status::Status;
 use fidl_decode::{Decoded, Scratch};
@@ -28,9 +29,10 @@ pub struct File<'f> {
 }
 
 /// Writes the line of the text of the value that a message encodes.
-fn write_text<W: Write>(decoded: &Decoded<'_, '_, '_>, out: &mut W) -> io::Result<()>
-    ensures { (v : Value) → Encodes (declarations_of decoded.now.table) (ty.named decoded.now.entry) v decoded.now.bytes decoded.now.handles
-        → OnOk result (Appends (W.contents out.old) (W.contents out.new) (Text (declarations_of decoded.now.table) (ty.named decoded.now.entry) v ++ codes "\n")) }
+fn write_text<W: Write>(decoded: &Decoded<'_, '_, '_>, out: &mut Output<W>) -> io::Result<()>
+    ensures text { (v : Value) → Encodes (declarations_of decoded.now.table) (ty.named decoded.now.entry) v decoded.now.bytes decoded.now.handles
+        → OnOk result (Appends (W.contents out.old.writer) (W.contents out.new.writer) (Text (declarations_of decoded.now.table) (ty.named decoded.now.entry) v ++ codes "\n")) }
+    ensures failed { OnErr result (IsTrue out.new.failed) }
 {
     write_value(decoded.table(), decoded.entry(), decoded.view(), out)?;
     out.write_all(b"\n")?;
@@ -48,17 +50,20 @@ pub fn decode<W: Write, E: Write>(
     root: &str,
     bytes: &[u8],
     handles: &[HandleInfo],
-    out: &mut W,
-    errors: &mut E,
+    out: &mut Output<W>,
+    errors: &mut Output<E>,
 ) -> Status
     ensures done { result ≡ status.Done → (line : List ℕ) × IsText file.now.bytes.now root.now bytes.now handles.now line
-        × Appends (W.contents out.old) (W.contents out.new) line }
+        × Appends (W.contents out.old.writer) (W.contents out.new.writer) line }
     ensures refused { result ≡ status.Refused → (line : List ℕ) × IsRefusal file.now.bytes.now root.now bytes.now handles.now line
-        × Appends (E.contents errors.old) (E.contents errors.new) line }
+        × Appends (E.contents errors.old.writer) (E.contents errors.new.writer) line }
     ensures usage { result ≡ status.Usage → LacksRoot file.now.bytes.now root.now }
+    ensures usage_line { result ≡ status.Usage → IfSome (no_root_line file.now.name.now root.now) (Appends (E.contents errors.old.writer) (E.contents errors.new.writer)) }
     ensures memory { result ≡ status.Memory → HasRoot file.now.bytes.now root.now }
-    ensures out { result ≢ status.Done → result ≢ status.FileFault → W.contents out.new ≡ W.contents out.old }
-    ensures errors { result ≡ status.Done → E.contents errors.new ≡ E.contents errors.old }
+    ensures memory_line { result ≡ status.Memory → Appends (E.contents errors.old.writer) (E.contents errors.new.writer) no_memory_line }
+    ensures file_fault { result ≡ status.FileFault → IsTrue out.new.failed ⊎ IsTrue errors.new.failed }
+    ensures out { result ≢ status.Done → result ≢ status.FileFault → W.contents out.new.writer ≡ W.contents out.old.writer }
+    ensures errors { result ≡ status.Done → E.contents errors.new.writer ≡ E.contents errors.old.writer }
 {
     let table = match verify(file.bytes) {
         Ok(table) => table,

@@ -1,10 +1,16 @@
 //! The program `fidl`: reads its command line and files, and runs the command on them (docs/program.md).
 #![tactic(auto)]
+ghost use Rattle.std.specs.Prelude.{◌≡◌, ◌≢◌, ◌⊎◌};
+ghost use Rattle.std.specs.IoError.{error_kind};
+ghost use Rattle.std.specs.declared.io.ErrorKind.TheVariants as error_kinds;
+ghost use Rattle.fidl_tool.specs.Arguments.{told_by};
+ghost use Rattle.fidl_tool.specs.declared.status.Status.TheVariants as status;
 
 mod arguments;
 mod decode;
 mod handle;
 mod lines;
+mod output;
 mod printer;
 mod status;
 #[cfg(test)]
@@ -13,6 +19,7 @@ mod unread;
 
 use crate::arguments::{DecodeArguments, read_arguments};
 use crate::decode::{File, decode};
+use crate::output::Output;
 use crate::status::Status;
 use crate::unread::Unread;
 use std::alloc::Global;
@@ -22,7 +29,9 @@ use std::process::ExitCode;
 use std::{env, fs, io};
 
 /// Prints why there are no arguments: help and version on standard output, all else on standard error.
-fn tell(rt: &(impl Print + Eprint), unread: &Unread) -> Status {
+fn tell(rt: &(impl Print + Eprint), unread: &Unread) -> Status
+    ensures { (result ≡ told_by unread.now) ⊎ (result ≡ status.FileFault) }
+{
     match unread {
         Unread::Asked { text } => Status::Done.told(&rt.print(text.as_str())),
         Unread::Wrong { line } => Status::Usage.told(&rt.eprintln(line.as_str())),
@@ -31,7 +40,10 @@ fn tell(rt: &(impl Print + Eprint), unread: &Unread) -> Status {
 }
 
 /// The status for an error of the system: want of memory has its own.
-fn status_of(error: &io::Error, otherwise: Status) -> Status {
+fn status_of(error: &io::Error, otherwise: Status) -> Status
+    ensures memory { error_kind error.now ≡ error_kinds.OutOfMemory → result ≡ status.Memory }
+    ensures otherwise { error_kind error.now ≢ error_kinds.OutOfMemory → result ≡ otherwise }
+{
     match error.kind() {
         io::ErrorKind::OutOfMemory => Status::Memory,
         _ => otherwise,
@@ -47,7 +59,7 @@ fn run_decode(rt: &HostRuntime, alloc: Global, arguments: &DecodeArguments<'_>) 
             "error: {name:?}: {error}"
         )),
     };
-    let mut out = match BufWriter::new(alloc, rt.stdout()) {
+    let out = match BufWriter::new(alloc, rt.stdout()) {
         Ok(out) => out,
         Err(error) => return status_of(&error, Status::FileFault).told(&eprintln!(rt;
             "error: the output: {error}"
@@ -63,8 +75,8 @@ fn run_decode(rt: &HostRuntime, alloc: Global, arguments: &DecodeArguments<'_>) 
         arguments.root,
         arguments.bytes.as_slice(),
         arguments.handles.as_slice(),
-        &mut out,
-        &mut rt.stderr(),
+        &mut Output::new(out),
+        &mut Output::new(rt.stderr()),
     )
 }
 

@@ -1,5 +1,5 @@
 //! The text of a value, as a view shows it (docs/wire.md, "The written text of a value").
-ghost use Rattle.std.specs.Prelude.{◌≡◌, ℕ, ◌<◌, OnOk};
+ghost use Rattle.std.specs.Prelude.{◌≡◌, ℕ, ◌<◌, OnOk, OnErr, IsTrue};
 ghost use Rattle.std.specs.Io.KnownBytes.{Appends};
 ghost use Rattle.fidl_wire.specs.Term as ty;
 ghost use Rattle.fidl_wire.specs.Term.{resolve};
@@ -12,6 +12,7 @@ ghost use Rattle.fidl_verify.specs.Entry.{IsOf};
 ghost use Rattle.fidl_verify.specs.WellFormed.{WellFormed};
 ghost use Rattle.fidl_tool.specs.Parts.{HasPart, Prints};
 
+use crate::output::Output;
 use fidl_table::EntryKind;
 use fidl_verify::Table;
 use fidl_view::View;
@@ -19,24 +20,27 @@ use std::io;
 use std::io::Write;
 
 /// Writes what stands between one element or member and the next.
-fn write_comma<W: Write>(out: &mut W, later: bool) -> io::Result<()>
-    ensures { OnOk result (Appends (W.contents out.old) (W.contents out.new) (comma_if later)) }
+fn write_comma<W: Write>(out: &mut Output<W>, later: bool) -> io::Result<()>
+    ensures text { OnOk result (Appends (W.contents out.old.writer) (W.contents out.new.writer) (comma_if later)) }
+    ensures failed { OnErr result (IsTrue out.new.failed) }
 {
     out.write_all(if later { b", " } else { b"" })
 }
 
-fn write_bool<W: Write>(view: View<'_, '_>, out: &mut W) -> io::Result<()>
+fn write_bool<W: Write>(view: View<'_, '_>, out: &mut Output<W>) -> io::Result<()>
     requires { (ds : Declarations) × HasPart ds ty.bool view }
-    ensures { (ds : Declarations) → Prints ds ty.bool view.entry (W.contents out.old) (W.contents out.new) result }
+    ensures text { (ds : Declarations) → Prints ds ty.bool view.entry (W.contents out.old.writer) (W.contents out.new.writer) result }
+    ensures failed { OnErr result (IsTrue out.new.failed) }
 {
     let value = view.as_bool().unwrap();
     out.write_all(if value { b"true" } else { b"false" })
 }
 
-fn write_number<W: Write>(view: View<'_, '_>, out: &mut W) -> io::Result<()>
+fn write_number<W: Write>(view: View<'_, '_>, out: &mut Output<W>) -> io::Result<()>
     requires well_formed { WellFormed view.decoded.now.table }
     requires part { (ds : Declarations) × (kind : ty.Kind) × HasPart ds (ty.number kind) view }
-    ensures { (ds : Declarations) (kind : ty.Kind) → Prints ds (ty.number kind) view.entry (W.contents out.old) (W.contents out.new) result }
+    ensures text { (ds : Declarations) (kind : ty.Kind) → Prints ds (ty.number kind) view.entry (W.contents out.old.writer) (W.contents out.new.writer) result }
+    ensures failed { OnErr result (IsTrue out.new.failed) }
 {
     match view.as_u64() {
         Some(number) => write!(out, "{number}"),
@@ -53,12 +57,13 @@ fn write_elements<W: Write>(
     table: &Table<'_>,
     element: u32,
     view: View<'_, '_>,
-    out: &mut W,
+    out: &mut Output<W>,
 ) -> io::Result<()>
     requires table { view.decoded.now.table ≡ table.now }
     requires element { element < (header_of table.now).entries }
     requires part { (count : ℕ) × HasPart (declarations_of table.now) (ty.array (ty.named element) count) view }
-    ensures { (count : ℕ) → Prints (declarations_of table.now) (ty.array (ty.named element) count) view.entry (W.contents out.old) (W.contents out.new) result }
+    ensures text { (count : ℕ) → Prints (declarations_of table.now) (ty.array (ty.named element) count) view.entry (W.contents out.old.writer) (W.contents out.new.writer) result }
+    ensures failed { OnErr result (IsTrue out.new.failed) }
 {
     out.write_all(b"[")?;
     let count = view.len().unwrap();
@@ -76,13 +81,14 @@ fn write_members<W: Write>(
     table: &Table<'_>,
     index: u32,
     view: View<'_, '_>,
-    out: &mut W,
+    out: &mut Output<W>,
 ) -> io::Result<()>
     requires table { view.decoded.now.table ≡ table.now }
     requires index { index < (header_of table.now).entries }
     requires of_struct { IsOf EntryKind.Struct (entry_at table.now index) }
     requires part { HasPart (declarations_of table.now) (resolve (declarations_of table.now).terms (ty.named index)) view }
-    ensures { Prints (declarations_of table.now) (resolve (declarations_of table.now).terms (ty.named index)) view.entry (W.contents out.old) (W.contents out.new) result }
+    ensures text { Prints (declarations_of table.now) (resolve (declarations_of table.now).terms (ty.named index)) view.entry (W.contents out.old.writer) (W.contents out.new.writer) result }
+    ensures failed { OnErr result (IsTrue out.new.failed) }
 {
     out.write_all(b"{")?;
     let entry = table.entry(index);
@@ -105,12 +111,13 @@ pub(crate) fn write_value<W: Write>(
     table: &Table<'_>,
     index: u32,
     view: View<'_, '_>,
-    out: &mut W,
+    out: &mut Output<W>,
 ) -> io::Result<()>
     requires table { view.decoded.now.table ≡ table.now }
     requires index { index < (header_of table.now).entries }
     requires part { HasPart (declarations_of table.now) (resolve (declarations_of table.now).terms (ty.named index)) view }
-    ensures { Prints (declarations_of table.now) (resolve (declarations_of table.now).terms (ty.named index)) view.entry (W.contents out.old) (W.contents out.new) result }
+    ensures text { Prints (declarations_of table.now) (resolve (declarations_of table.now).terms (ty.named index)) view.entry (W.contents out.old.writer) (W.contents out.new.writer) result }
+    ensures failed { OnErr result (IsTrue out.new.failed) }
 {
     let entry = table.entry(index);
     let kind = EntryKind::from_number(entry.kind).unwrap();

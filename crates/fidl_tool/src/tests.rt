@@ -1,6 +1,7 @@
 use crate::arguments::read_arguments;
 use crate::decode::{File, decode};
 use crate::handle::read_handle;
+use crate::output::Output;
 use crate::status::Status;
 use crate::unread::Unread;
 use fidl_wire::HandleInfo;
@@ -63,6 +64,7 @@ const SHAPES: [u8; 527] = [
 #[derive(Drop)]
 struct Ran {
     status: Status,
+    failed: bool,
     out: Vec<u8>,
     errors: Vec<u8>,
 }
@@ -78,13 +80,14 @@ fn run_decode(
         name: "a.fct",
         bytes: table,
     };
-    let mut out = Vec::new(alloc);
-    let mut errors = Vec::new(alloc);
+    let mut out = Output::new(Vec::new(alloc));
+    let mut errors = Output::new(Vec::new(alloc));
     let status = decode(alloc, &file, root, bytes, handles, &mut out, &mut errors);
     Ran {
         status,
-        out,
-        errors,
+        failed: out.has_failed() || errors.has_failed(),
+        out: out.into_writer(),
+        errors: errors.into_writer(),
     }
 }
 
@@ -197,6 +200,7 @@ fn messages_are_printed_or_refused(rt: HostRuntime) -> Result<(), Fail> {
         assert!(rt; count <= handles.len());
         let ran = run_decode(alloc, table, root, bytes, &handles[..count]);
         assert_eq!(rt; ran.status, status, "for {out}{errors}");
+        assert!(rt; !ran.failed, "for {out}{errors}");
         assert!(rt; ran.out.as_slice() == out.as_bytes(), "for {out}{errors}");
         assert!(rt;
             ran.errors.as_slice() == errors.as_bytes(),
@@ -247,8 +251,8 @@ fn writers_that_are_full_are_file_faults(rt: HostRuntime) -> Result<(), Fail> {
         bytes: &POINT,
     };
     let mut room = [0u8; 6];
-    let mut out = room.as_mut_slice();
-    let mut errors = Vec::new(alloc);
+    let mut out = Output::new(room.as_mut_slice());
+    let mut errors = Output::new(Vec::new(alloc));
     let status = decode(
         alloc,
         &file,
@@ -259,16 +263,19 @@ fn writers_that_are_full_are_file_faults(rt: HostRuntime) -> Result<(), Fail> {
         &mut errors,
     );
     assert_eq!(rt; status, Status::FileFault);
+    assert!(rt; out.has_failed() && !errors.has_failed());
     assert!(rt;
-        errors.as_slice() == b"error: the output: failed to write whole buffer\n".as_slice()
+        errors.into_writer().as_slice()
+            == b"error: the output: failed to write whole buffer\n".as_slice()
     );
     assert!(rt; room.as_slice() == b"{x: 1,".as_slice());
     let mut none = [0u8; 0];
-    let mut errors = none.as_mut_slice();
-    let mut out = Vec::new(alloc);
+    let mut errors = Output::new(none.as_mut_slice());
+    let mut out = Output::new(Vec::new(alloc));
     let status = decode(alloc, &file, "Point", &[], &[], &mut out, &mut errors);
     assert_eq!(rt; status, Status::FileFault);
-    assert!(rt; out.is_empty());
+    assert!(rt; errors.has_failed() && !out.has_failed());
+    assert!(rt; out.into_writer().is_empty());
     Ok(())
 }
 

@@ -1,4 +1,7 @@
 //! Why a command line gives no arguments.
+ghost use Rattle.std.specs.Prelude.{◌≡◌};
+ghost use Rattle.fidl_tool.specs.declared.unread.Unread.TheVariants as unread;
+
 use clap::error::ErrorKind;
 use std::alloc::{AllocError, Global};
 
@@ -14,7 +17,9 @@ pub(crate) enum Unread {
 }
 
 impl From<AllocError> for Unread {
-    fn from(_error: AllocError) -> Unread {
+    fn from(_error: AllocError) -> Unread
+        ensures { result ≡ unread.Memory }
+    {
         Unread::Memory
     }
 }

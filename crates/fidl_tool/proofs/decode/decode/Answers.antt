@@ -19,8 +19,8 @@ returns-in-Err-clause-refused g c q =
     let same = ap (λ n. refusal_line (codes "table") n c.name.result.now c.at.result) c.number.ensures
     ∙ ap (λ (l : List ℕ). refusal_line (codes "table") (table_faults.number_of f) l c.at.result) c.name.ensures
     ∙ ap (λ k. refusal_line (codes "table") (table_faults.number_of f) (table_faults.name_of f) k) c.at.ensures in
-    let written = told_refused c.write_refusal-written.result c.told.result c.told.ensures q c.write_refusal-written.ensures in
-    (table_line f, of_table f c.in-Err.ensures.none c.in-Err.ensures.err, appends_as (g.E.Write.contents c.args.errors.now) (g.E.Write.contents c.write_refusal-written.new.errors) _ (table_line f) same written)
+    let written = told_refused c.write_refusal-written.result c.told.result c.told.ensures q c.write_refusal-written.ensures.line in
+    (table_line f, of_table f c.in-Err.ensures.none c.in-Err.ensures.err, appends_as (g.E.Write.contents c.args.errors.now.writer) (g.E.Write.contents c.write_refusal-written.new.errors.writer) _ (table_line f) same written)
 
 pub returns-in_default-clause-usage : goal.returns-in_default-clause-usage
 returns-in_default-clause-usage g c q =
@@ -44,12 +44,12 @@ returns-in-Err-decode-clause-refused g c q =
     let same = ap (λ n. refusal_line (codes "decode") n c.name-in-Err-decode.result.now c.at-in-Err-decode.result) c.number-in-Err-decode.ensures
     ∙ ap (λ (l : List ℕ). refusal_line (codes "decode") (message_faults.number_of f) l c.at-in-Err-decode.result) c.name-in-Err-decode.ensures
     ∙ ap (λ k. refusal_line (codes "decode") (message_faults.number_of f) (message_faults.name_of f) k) c.at-in-Err-decode.ensures in
-    let written = told_refused c.write_refusal-written-in-Err-decode.result c.told-in-Err-decode.result c.told-in-Err-decode.ensures q c.write_refusal-written-in-Err-decode.ensures in
+    let written = told_refused c.write_refusal-written-in-Err-decode.result c.told-in-Err-decode.result c.told-in-Err-decode.ensures q c.write_refusal-written-in-Err-decode.ensures.line in
     let root = root_of file c.in-Ok.table c.args.root.now c.as_bytes.result.now entry c.in-Ok.ensures.value c.as_bytes.ensures.value c.in-Ok.ensures.ok c.in-Some.ensures.found in
     let none = λ (x : IsEncoding (declarations_of file) (ty.named entry) c.args.bytes.now c.args.handles.now).
     c.in-Err-decode.ensures.err (subst (λ (b : List ℕ). IsEncoding (declarations_of b) (ty.named entry) c.args.bytes.now c.args.handles.now) (sym c.in-Ok.ensures.value) x) in
     let told = subst (λ (b : List ℕ). IsTold (declarations_of b) (ty.named entry) c.args.bytes.now c.args.handles.now f) c.in-Ok.ensures.value c.in-Err-decode.ensures.told in
-    (message_line f, of_message entry f root none told, appends_as (g.E.Write.contents c.args.errors.now) (g.E.Write.contents c.write_refusal-written-in-Err-decode.new.errors) _ (message_line f) same written)
+    (message_line f, of_message entry f root none told, appends_as (g.E.Write.contents c.args.errors.now.writer) (g.E.Write.contents c.write_refusal-written-in-Err-decode.new.errors.writer) _ (message_line f) same written)
 
 pub returns-in-Err-decode-clause-usage : goal.returns-in-Err-decode-clause-usage
 returns-in-Err-decode-clause-usage g c q = told_never c.write_refusal-written-in-Err-decode.result status.Refused status.Usage c.told-in-Err-decode.result c.told-in-Err-decode.ensures q (λ e. omega (arith, e)) (λ e. omega (arith, e))
@@ -68,7 +68,7 @@ returns-in-Ok-write_text-clause-done g c q =
     let here = encodes_as d file c.args.bytes.now entry c.args.handles.now x.0 table c.in-Ok-decode.ensures.entry c.in-Ok-decode.ensures.bytes c.in-Ok-decode.ensures.handles x.1 in
     let same = ap (λ (l : List ℕ). l ++ codes "\n") (text_as d file entry x.0 table c.in-Ok-decode.ensures.entry) in
     let line = Text (declarations_of file) (ty.named entry) x.0 ++ codes "\n" in
-    (line, value entry x.0 root x.1, appends_as (g.W.Write.contents c.args.out.now) (g.W.Write.contents c.write_text.new.out) _ line same (c.in-Ok-write_text.ensures x.0 here))
+    (line, value entry x.0 root x.1, appends_as (g.W.Write.contents c.args.out.now.writer) (g.W.Write.contents c.write_text.new.out.writer) _ line same (c.in-Ok-write_text.ensures.text x.0 here))
 
 pub returns-clause-done : goal.returns-clause-done
 returns-clause-done g c q = told_never c.write_no_output.result status.FileFault status.Done c.told-in-Err-write_text.result c.told-in-Err-write_text.ensures q (λ e. omega (arith, e)) (λ e. omega (arith, e))

@@ -13,16 +13,16 @@ write_value-requires-clause-part g c =
     let x = c.entry.ensures.encoding in
     (x.0, message_part d x.0 x.1 c.view.result c.table.result.now c.entry.result c.view.ensures.message c.view.ensures.index c.view.ensures.place c.table.ensures c.entry.ensures.value)
 
-pub returns : goal.returns
-returns g c v e =
+pub returns-clause-text : goal.returns-clause-text
+returns-clause-text g c v e =
     let d = c.args.decoded.now in
-    let c0 = g.W.Write.contents c.args.out.now in
-    let c1 = g.W.Write.contents c.write_value.new.out in
-    let c2 = g.W.Write.contents c.write_all.new.self in
-    let c3 = g.W.Write.contents c.flush.new.self in
+    let c0 = g.W.Write.contents c.args.out.now.writer in
+    let c1 = g.W.Write.contents c.write_value.new.out.writer in
+    let c2 = g.W.Write.contents c.write_all.new.self.writer in
+    let c3 = g.W.Write.contents c.flush.new.self.writer in
     let text = Text (declarations_of d.table) (ty.named d.entry) v in
     let part = message_part d v e c.view.result c.table.result.now c.entry.result c.view.ensures.message c.view.ensures.index c.view.ensures.place c.table.ensures c.entry.ensures.value in
     let same = ap (λ (b : List ℕ). Text (declarations_of b) (ty.named c.entry.result) v) c.table.ensures ∙ ap (λ k. Text (declarations_of d.table) (ty.named k) v) c.entry.ensures.value in
-    let w1 = appends_as c0 c1 _ text same (c.in_ok-write_value.ensures v part) in
+    let w1 = appends_as c0 c1 _ text same (c.in_ok-write_value.ensures.text v part) in
     let w2 = appends_then c0 c1 c2 text (codes "\n") w1 c.in_ok-write_all.ensures.bytes in
     always c.flush.result (appends_kept c0 c2 c3 (text ++ codes "\n") w2 c.flush.ensures.bytes)

@@ -51,12 +51,12 @@ write_elements-loop-at-preserved g t c = record {
       let ds = declarations_of c.args.table.now in
       let x = printing.part_shown c.args.view.decoded.now (element_of v c.loop-at.at) c.element.result c.unwrap-part.result c.unwrap-part.ensures (c.element.ensures.part v p.shown) in
       let typed = printing.array_nth ds (ty.named c.args.element) n v p.typed c.loop-at.at x.0 x.1 in
-      let wrote = appends_then _ _ _ _ _ c.in_ok-write_comma.ensures (c.in_ok-write_value.ensures x.0 (record { shown = x.2; typed = typed.1 })) in
+      let wrote = appends_then _ _ _ _ _ c.in_ok-write_comma.ensures.text (c.in_ok-write_value.ensures.text x.0 (record { shown = x.2; typed = typed.1 })) in
       so_far_more _ _ _ _ _ _ _ (c.loop-at.invariant.left n v p) wrote (printing.elements_at ds (resolve ds.terms (ty.named c.args.element)) (parts_of v) c.loop-at.at (c.loop-at.at + 1) x.0 (codes "]") typed.0 (omega arith));
 }
 
-pub write_elements-returns : goal.write_elements-returns
-write_elements-returns g t c n v p =
+pub write_elements-returns-clause-text : goal.write_elements-returns-clause-text
+write_elements-returns-clause-text g t c n v p =
     let ds = declarations_of c.args.table.now in
     let size = printing.array_count ds (ty.named c.args.element) n v p.typed c.len.result c.unwrap-count.result (c.len.ensures v p.shown) c.unwrap-count.ensures in
     let end = so_far_as _ _ _ _ (codes "]") (c.loop-at.invariant.left n v p) (printing.elements_end ds (resolve ds.terms (ty.named c.args.element)) (parts_of v) c.loop-at.at _ (codes "]") (omega (arith, c.loop-at-test.false, c.loop-at.auto.at-end, size))) in
@@ -143,26 +143,26 @@ write_members-loop-at-preserved g t c = record {
       let x = printing.part_shown c.args.view.decoded.now (field_of v c.loop-at.at) c.field.result c.unwrap-part.result c.unwrap-part.ensures (c.field.ensures.part v p.shown) in
       let typed = printing.member_typed b w i lt is v p.typed c.loop-at.at less x.0 x.1 in
       let own = subst (λ (r : Row). IsTyped (declarations_of b) (resolve (declarations_of b).terms (ty.named r.entry)) x.0) (sym here) typed.1 in
-      let c0 = g.W.Write.contents c.loop-at.out in
-      let c1 = g.W.Write.contents c.write_comma.new.out in
-      let c2 = g.W.Write.contents c.write_all-in-loop-at.new.self in
-      let c3 = g.W.Write.contents c.write_all-in-loop-at-2.new.self in
-      let c4 = g.W.Write.contents c.write_value.new.out in
+      let c0 = g.W.Write.contents c.loop-at.out.writer in
+      let c1 = g.W.Write.contents c.write_comma.new.out.writer in
+      let c2 = g.W.Write.contents c.write_all-in-loop-at.new.self.writer in
+      let c3 = g.W.Write.contents c.write_all-in-loop-at-2.new.self.writer in
+      let c4 = g.W.Write.contents c.write_value.new.out.writer in
       let comma = comma_if (nat_lt 0 c.loop-at.at) in
       let row = row_at b (header_of b) ((entry_at b i).first + c.loop-at.at) in
       let name = name_at b (header_of b) row.name_place row.name_length in
       let text = text_of (declarations_of b) (resolve (declarations_of b).terms (ty.named row.entry)) x.0 in
       let named : c.row_name.result.now ≡ name = c.row_name.ensures ∙ ap (λ (r : Row). name_at b (header_of b) r.name_place r.name_length) here in
       let texted = ap (λ (r : Row). text_of (declarations_of b) (resolve (declarations_of b).terms (ty.named r.entry)) x.0) here in
-      let w1 = appends_then c0 c1 c2 comma name c.in_ok-write_comma.ensures (appends_as c1 c2 c.row_name.result.now name named c.in_ok-write_all-2.ensures.bytes) in
+      let w1 = appends_then c0 c1 c2 comma name c.in_ok-write_comma.ensures.text (appends_as c1 c2 c.row_name.result.now name named c.in_ok-write_all-2.ensures.bytes) in
       let w2 = appends_then c0 c2 c3 (comma ++ name) (codes ": ") w1 c.in_ok-write_all-3.ensures.bytes in
-      let w3 = appends_then c0 c3 c4 (comma ++ name ++ codes ": ") text w2 (appends_as c3 c4 _ text texted (c.in_ok-write_value.ensures x.0 (record { shown = x.2; typed = own }))) in
+      let w3 = appends_then c0 c3 c4 (comma ++ name ++ codes ": ") text w2 (appends_as c3 c4 _ text texted (c.in_ok-write_value.ensures.text x.0 (record { shown = x.2; typed = own }))) in
       let step = printing.members_step b w i lt is v c.loop-at.at (c.loop-at.at + 1) x.0 typed.0 less (omega arith) in
       so_far_more _ _ _ _ _ _ _ (c.loop-at.invariant.left v p) w3 step;
 }
 
-pub write_members-returns : goal.write_members-returns
-write_members-returns g t c v p =
+pub write_members-returns-clause-text : goal.write_members-returns-clause-text
+write_members-returns-clause-text g t c v p =
     let counted = ap (λ (e : Entry). e.count) c.entry-entry.ensures.value in
     let end = so_far_as _ _ _ _ (codes "}") (c.loop-at.invariant.left v p)
     (printing.members_end c.args.table.now c.entry-entry.ensures.well_formed c.args.index c.requires.index c.requires.of_struct v c.loop-at.at (omega (arith, c.loop-at-test.false, c.loop-at.auto.at-end, counted))) in
@@ -226,27 +226,27 @@ write_value-write_number-requires g t c =
       part = (declarations_of b, kind.0, (c.requires.part.0, part_as _ _ _ _ _ (printing.term_at b w i lt c.unwrap-kind.result is ∙ kind.1) c.requires.part.1));
     }
 
-pub write_value-returns-in-Bool : goal.write_value-returns-in-Bool
-write_value-returns-in-Bool g t c v p =
+pub write_value-returns-in-Bool-clause-text : goal.write_value-returns-in-Bool-clause-text
+write_value-returns-in-Bool-clause-text g t c v p =
     let b = c.args.table.now in
     let is : IsOf Boolean (entry_at b c.args.index) = sym (c.from_number.ensures ∙ ap (λ (e : Entry). kind_of e.kind) c.entry-entry.ensures.value) ∙ c.unwrap-kind.ensures ∙ ap (λ (k : EntryKind). Some k) c.in-Bool.is in
     let e = printing.term_at b c.entry-entry.ensures.well_formed c.args.index c.requires.index Boolean is in
-    subst (λ (u : Term). OnOk c.write_bool.result (Appends (g.W.Write.contents c.args.out.now) (g.W.Write.contents c.write_bool.new.out) (text_of (declarations_of b) u v))) (sym e) (c.write_bool.ensures (declarations_of b) v (part_as _ _ _ _ _ e p))
+    subst (λ (u : Term). OnOk c.write_bool.result (Appends (g.W.Write.contents c.args.out.now.writer) (g.W.Write.contents c.write_bool.new.out.writer) (text_of (declarations_of b) u v))) (sym e) (c.write_bool.ensures.text (declarations_of b) v (part_as _ _ _ _ _ e p))
 
-pub write_value-returns-in-Array : goal.write_value-returns-in-Array
-write_value-returns-in-Array g t c v p =
+pub write_value-returns-in-Array-clause-text : goal.write_value-returns-in-Array-clause-text
+write_value-returns-in-Array-clause-text g t c v p =
     let b = c.args.table.now in
     let i = c.args.index in
     let is : IsOf Array (entry_at b i) = sym (c.from_number.ensures ∙ ap (λ (e : Entry). kind_of e.kind) c.entry-entry.ensures.value) ∙ c.unwrap-kind.ensures ∙ ap (λ (k : EntryKind). Some k) c.in-Array.is in
     let begun = ap (λ (e : Entry). e.first) c.entry-entry.ensures.value in
     let e = printing.term_at b c.entry-entry.ensures.well_formed i c.requires.index Array is ∙ ap (λ k. ty.array (ty.named k) (entry_at b i).count) (sym begun) in
-    subst (λ (u : Term). OnOk c.write_elements.result (Appends (g.W.Write.contents c.args.out.now) (g.W.Write.contents c.write_elements.new.out) (text_of (declarations_of b) u v))) (sym e) (c.write_elements.ensures (entry_at b i).count v (part_as _ _ _ _ _ e p))
+    subst (λ (u : Term). OnOk c.write_elements.result (Appends (g.W.Write.contents c.args.out.now.writer) (g.W.Write.contents c.write_elements.new.out.writer) (text_of (declarations_of b) u v))) (sym e) (c.write_elements.ensures.text (entry_at b i).count v (part_as _ _ _ _ _ e p))
 
-pub write_value-returns-in-Struct : goal.write_value-returns-in-Struct
-write_value-returns-in-Struct g t c v p = c.write_members.ensures v p
+pub write_value-returns-in-Struct-clause-text : goal.write_value-returns-in-Struct-clause-text
+write_value-returns-in-Struct-clause-text g t c v p = c.write_members.ensures.text v p
 
-pub write_value-returns-in_default : goal.write_value-returns-in_default
-write_value-returns-in_default g t c v p =
+pub write_value-returns-in_default-clause-text : goal.write_value-returns-in_default-clause-text
+write_value-returns-in_default-clause-text g t c v p =
     let b = c.args.table.now in
     let w = c.entry-entry.ensures.well_formed in
     let i = c.args.index in
@@ -254,4 +254,4 @@ write_value-returns-in_default g t c v p =
     let is : IsOf c.unwrap-kind.result (entry_at b i) = sym (c.from_number.ensures ∙ ap (λ (e : Entry). kind_of e.kind) c.entry-entry.ensures.value) ∙ c.unwrap-kind.ensures in
     let kind = printing.plain_kind b (header_of b) (entry_at b i) c.unwrap-kind.result (printing.known_at b w i lt c.unwrap-kind.result is) c.in_default.not-Bool c.in_default.not-Array c.in_default.not-Struct in
     let e = printing.term_at b w i lt c.unwrap-kind.result is ∙ kind.1 in
-    subst (λ (u : Term). OnOk c.write_number.result (Appends (g.W.Write.contents c.args.out.now) (g.W.Write.contents c.write_number.new.out) (text_of (declarations_of b) u v))) (sym e) (c.write_number.ensures (declarations_of b) kind.0 v (part_as _ _ _ _ _ e p))
+    subst (λ (u : Term). OnOk c.write_number.result (Appends (g.W.Write.contents c.args.out.now.writer) (g.W.Write.contents c.write_number.new.out.writer) (text_of (declarations_of b) u v))) (sym e) (c.write_number.ensures.text (declarations_of b) kind.0 v (part_as _ _ _ _ _ e p))

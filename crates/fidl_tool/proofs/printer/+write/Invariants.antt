@@ -13,7 +13,7 @@ abbrev pub decreases-write_value : goal.decreases-write_value
 decreases-write_value g l = 2 * (entry_at l.table.now l.index).nest + 1
 
 abbrev pub invariant-write_elements-loop-at : goal.invariant-write_elements-loop-at
-invariant-write_elements-loop-at g l = IsElementsLeft l.fn.table l.fn.element l.at l.fn.view (g.W.Write.contents l.fn.out) (g.W.Write.contents l.out)
+invariant-write_elements-loop-at g l = IsElementsLeft l.fn.table l.fn.element l.at l.fn.view (g.W.Write.contents l.fn.out.writer) (g.W.Write.contents l.out.writer)
 
 abbrev pub invariant-write_members-loop-at : goal.invariant-write_members-loop-at
-invariant-write_members-loop-at g l = IsMembersLeft l.fn.table l.fn.index l.at l.fn.view (g.W.Write.contents l.fn.out) (g.W.Write.contents l.out)
+invariant-write_members-loop-at g l = IsMembersLeft l.fn.table l.fn.index l.at l.fn.view (g.W.Write.contents l.fn.out.writer) (g.W.Write.contents l.out.writer)

@@ -14,15 +14,15 @@ unwrap-number-requires g c =
     wants_signed c.args.view.decoded.now.table c.requires.well_formed c.args.view.index c.args.view.in_range c.requires.part.0 c.requires.part.1 v p.typed p.shown.typed
     c.as_u64.result c.as_i64.result (c.as_u64.ensures v p.shown) c.in-None.is (c.as_i64.ensures v p.shown)
 
-pub returns-in-Some : goal.returns-in-Some
-returns-in-Some g c ds kind v p =
+pub returns-in-Some-clause-text : goal.returns-in-Some-clause-text
+returns-in-Some-clause-text g c ds kind v p =
     unsigned_text c.args.view.decoded.now.table c.requires.well_formed c.args.view.index c.args.view.in_range ds kind v p.typed p.shown.typed
     c.as_u64.result c.in-Some.number (c.as_u64.ensures v p.shown) c.in-Some.is _ _ c.write.result c.write.ensures.bytes
 
-pub returns-in-None : goal.returns-in-None
-returns-in-None g c ds kind v p =
-    let old = g.W.Write.contents c.args.out.now in
-    let new = g.W.Write.contents c.write-in-None.new.self in
+pub returns-in-None-clause-text : goal.returns-in-None-clause-text
+returns-in-None-clause-text g c ds kind v p =
+    let old = g.W.Write.contents c.args.out.now.writer in
+    let new = g.W.Write.contents c.write-in-None.new.self.writer in
     let same = to_z-of_z w64 c.unwrap-number.result (record { sfits = c.unwrap-number.type_inv }) in
     signed_text c.args.view.decoded.now.table c.requires.well_formed c.args.view.index c.args.view.in_range ds kind v p.typed p.shown.typed
     c.as_u64.result c.as_i64.result c.unwrap-number.result (c.as_u64.ensures v p.shown) c.in-None.is (c.as_i64.ensures v p.shown) c.unwrap-number.ensures old new c.write-in-None.result
