@@ -1,15 +1,14 @@
 -- How many out-of-line objects lie behind one another (docs/wire.md, "Depth").
 use Rattle.std.specs.Prelude.{ℕ, suc, max, true, false, if◌then◌else◌, nat_le, Option}
 use Rattle.fidl_wire.specs.Value.{Value, absent, bool, number, text, list, fields, handle, table, union, Values, none, value, Member, known, unknown, Members, empty, member}
-use Rattle.fidl_wire.specs.Term.{Term, Fields, no_fields, field, Rows, resolve, rows_of, find}
-use Rattle.fidl_wire.specs.Term as ty
+use Rattle.fidl_wire.specs.Term.{Term, vector, box, Fields, no_fields, field, Rows, resolve, rows_of, find}
 use Rattle.fidl_wire.specs.Figure.{Declarations, size_of}
 use Rattle.fidl_wire.specs.Encoding.{element_of, content_of, term_or}
 
 -- one more behind a vector and a box
 abbrev pub below : Term → ℕ → ℕ
-below (ty.vector optional bound t) n = suc n
-below (ty.box t) n = suc n
+below (vector optional bound t) n = suc n
+below (box t) n = suc n
 below _ n = n
 
 abbrev mutual

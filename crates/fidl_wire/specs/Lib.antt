@@ -8,5 +8,3 @@ pub mod Message
 pub mod Text
 pub mod Standing
 pub mod Views
-pub mod Codes
-pub mod Falls

@@ -1,14 +1,41 @@
 //! Laws of the definitions: each is the contract of a function that does nothing.
-ghost use Rattle.std.specs.Prelude.{◌≡◌, ℕ, ◌+◌, ◌%◌, ◌↔◌, List, ◌++◌, length, map};
+ghost use Rattle.std.specs.Prelude.{◌≡◌, ℕ, ◌+◌, ◌%◌, ◌↔◌, ℤ, List, ◌++◌, length, map, Bool};
 ghost use Rattle.std.specs.List.{AllByRecursion};
 ghost use Rattle.fidl_wire.specs.declared.handle.HandleInfo.{HandleInfo};
-ghost use Rattle.fidl_wire.specs.Value.{Value};
+ghost use Rattle.fidl_wire.specs.declared.value.Value.{Value as Tree};
+ghost use Rattle.fidl_wire.specs.declared.value.Value.TheVariants as tree;
+ghost use Rattle.fidl_wire.specs.declared.value.Member.TheVariants as part;
+ghost use Rattle.fidl_wire.specs.declared.value.Values.{Values};
+ghost use Rattle.fidl_wire.specs.declared.value.Members.{Members};
+ghost use Rattle.fidl_wire.specs.declared.value.Content.{Content};
+ghost use Rattle.fidl_wire.specs.Value.{Value, absent, bool, number, text, list, fields, handle, table, union, known, unknown, values_of, members_of};
+ghost use Rattle.fidl_wire.specs.Views.{content_view, member_view, members_view, value_view, values_view};
 ghost use Rattle.fidl_wire.specs.Term.{Term, IsNoName, IsBounded};
 ghost use Rattle.fidl_wire.specs.Figure.{Declarations, Figure, figure_of, IsLaidOut, IsSound, size_of};
 ghost use Rattle.fidl_wire.specs.Typed.{Typed};
 ghost use Rattle.fidl_wire.specs.Encoding.{Enc};
 ghost use Rattle.fidl_wire.specs.Message.{Message, Encodes};
 ghost use Rattle.fidl_wire.specs.Standing.{Stands, Carries};
+
+/// A tree of each variant stands for the value of that kind, made of what the tree's parts stand for.
+pub fn trees_stand_for_values()
+    ensures absence { value_view tree.Absent ≡ absent }
+    ensures bools { (b : Bool) → value_view (tree.Bool b) ≡ bool b }
+    ensures numbers { (z : ℤ) → value_view (tree.Number z) ≡ number z }
+    ensures texts { (bytes : List ℕ) → value_view (tree.Text bytes) ≡ text bytes }
+    ensures lists { (vs : Values) → value_view (tree.List vs) ≡ list (values_of (values_view vs)) }
+    ensures structs { (vs : Values) → value_view (tree.Fields vs) ≡ fields (values_of (values_view vs)) }
+    ensures handles { (h : HandleInfo) → value_view (tree.Handle h) ≡ handle h }
+    ensures tables { (n : ℕ) (ms : Members) → value_view (tree.Table n ms) ≡ table n (members_of (members_view ms)) }
+    ensures unions { (ordinal : ℕ) (c : Content) → value_view (tree.Union ordinal c) ≡ union ordinal (content_view c) }
+{}
+
+/// So with a member: known, it stands for its value, and unknown, for its raw parts.
+pub fn trees_stand_for_members()
+    ensures known { (v : Tree) → member_view (part.Known v) ≡ known (value_view v) }
+    ensures unknown { (inline : Bool) (bytes : List ℕ) (handles : List HandleInfo)
+        → member_view (part.Unknown inline bytes handles) ≡ unknown inline bytes handles }
+{}
 
 /// The equations of the figures have at most one solution, where no declaration is a name.
 pub fn figures_are_unique()

@@ -1,12 +1,11 @@
 //! The owned tree of a value, and the small lists that it is made of.
-ghost use Rattle.std.specs.Prelude.{◌≡◌, ◌↔◌, [], ◌∷◌, ◌++◌, length, IfOk, OnErr, IsTrue};
+ghost use Rattle.std.specs.Prelude.{◌≡◌, ◌↔◌, [], ◌∷◌, ◌++◌, length, map, IfOk, OnErr, IsTrue};
 ghost use Rattle.std.specs.Slice.Iter.{iter_rest};
-ghost use Rattle.fidl_wire.specs.Views.{member_view, members_view, value_view, values_view};
+ghost use Rattle.fidl_wire.specs.Views.{content_view, entry_view, member_view, members_view, value_view, values_view};
 
 use crate::bytes::Bytes;
 use crate::handle::{HandleInfo, Handles};
 use std::alloc::{AllocError, Global};
-use std::marker::Model;
 use std::slice::Iter;
 
 /// A value of any FIDL type.
@@ -54,52 +53,11 @@ pub struct Values {
     items: Vec<Value>,
 }
 
-impl Model for Values {
-    ghost use Rattle.std.specs.Prelude.{List};
-    ghost use Rattle.fidl_wire.specs.Value.{Value as Data, values_of};
-    ghost use Rattle.fidl_wire.specs.Codes.{coded_values, code_size, values_code};
-
-    ghost Value = { List Data };
-
-    ghost coded = { coded_values };
-
-    ghost use Rattle.fidl_wire.specs.Views.{values_view};
-
-    ghost view = { λ a. values_view a.items.items };
-
-    ghost size = { λ vs. code_size (values_code (values_of vs)) };
-
-    ghost use Rattle.fidl_wire.specs.Falls.{values_fall};
-
-    ghost size_decreases = { λ a h. values_fall a.items.items };
-}
-
 /// The members of a table, by rising ordinals.
 #[cycle(value)]
 #[derive(Debug, Drop)]
 pub struct Members {
     entries: Vec<(u64, Member)>,
-}
-
-impl Model for Members {
-    ghost use Rattle.std.specs.Prelude.{ℕ, List};
-    ghost use Rattle.fidl_wire.specs.Value.{Member as Entry, members_of};
-    ghost use Rattle.fidl_wire.specs.Codes.{coded_members, code_size, members_code};
-
-    ghost Value = { List (ℕ × Entry) };
-
-    ghost coded = { coded_members };
-
-    ghost use Rattle.std.proofs.Common.{arith};
-    ghost use Rattle.fidl_wire.specs.Views.{members_view};
-
-    ghost view = { λ a. members_view a.entries.items };
-
-    ghost size = { λ ms. code_size (members_code (members_of ms)) };
-
-    ghost use Rattle.fidl_wire.specs.Falls.{members_fall};
-
-    ghost size_decreases = { λ a h. members_fall _ (λ m. Prim.omega arith) a.entries.items };
 }
 
 /// The member of a union.
@@ -109,29 +67,10 @@ pub struct Content {
     member: Box<Member>,
 }
 
-impl Model for Content {
-    ghost use Rattle.fidl_wire.specs.Value.{Member as Held};
-    ghost use Rattle.fidl_wire.specs.Codes.{coded_member, code_size, member_code};
-
-    ghost Value = { Held };
-
-    ghost coded = { coded_member };
-
-    ghost use Rattle.fidl_wire.specs.Views.{member_view};
-
-    ghost view = { λ a. member_view a.member.value };
-
-    ghost size = { λ m. code_size (member_code m) };
-
-    ghost use Rattle.fidl_wire.specs.Falls.{member_falls};
-
-    ghost size_decreases = { λ a h. member_falls a.member.value };
-}
-
 impl Values {
     /// No values; it takes no memory.
     pub fn new(alloc: Global) -> Values
-        ensures { result ≡ [] }
+        ensures { values_view result ≡ [] }
     {
         Values {
             items: Vec::new(alloc),
@@ -140,14 +79,14 @@ impl Values {
 
     /// The values of a `Vec`, which it keeps.
     pub fn from_vec(items: Vec<Value>) -> Values
-        ensures { result ≡ values_view items.items }
+        ensures { values_view result ≡ map value_view items.items }
     {
         Values { items }
     }
 
     /// The `Vec` of the values, given back.
     pub fn into_vec(self) -> Vec<Value>
-        ensures { values_view result.items ≡ self }
+        ensures { map value_view result.items ≡ values_view self }
     {
         let Values { items } = self;
         items
@@ -155,8 +94,8 @@ impl Values {
 
     /// One more value, at the end. An error is want of memory, and the values are as before.
     pub fn push(&mut self, value: Value) -> Result<(), AllocError>
-        ensures ok { IfOk result (λ _. self.new ≡ self.old ++ value_view value ∷ []) }
-        ensures err { OnErr result (self.new ≡ self.old) }
+        ensures ok { IfOk result (λ _. values_view self.new ≡ values_view self.old ++ value_view value ∷ []) }
+        ensures err { OnErr result (values_view self.new ≡ values_view self.old) }
     {
         self.items.push(value)?;
         Ok(())
@@ -164,28 +103,28 @@ impl Values {
 
     /// How many values there are.
     pub fn len(&self) -> usize
-        ensures { result ≡ length self.now }
+        ensures { result ≡ length (values_view self.now) }
     {
         self.items.len()
     }
 
     /// Whether there are none.
     pub fn is_empty(&self) -> bool
-        ensures { IsTrue result ↔ (self.now ≡ []) }
+        ensures { IsTrue result ↔ (values_view self.now ≡ []) }
     {
         self.items.is_empty()
     }
 
     /// The values, in order.
     pub fn as_slice(&self) -> &[Value]
-        ensures { values_view result.now ≡ self.now }
+        ensures { map value_view result.now ≡ values_view self.now }
     {
         &self.items
     }
 
     /// An iterator over the values.
     pub fn iter(&self) -> Iter<'_, Value>
-        ensures { values_view (iter_rest result) ≡ self.now }
+        ensures { map value_view (iter_rest result) ≡ values_view self.now }
     {
         self.items.iter()
     }
@@ -194,7 +133,7 @@ impl Values {
 impl Members {
     /// No members; it takes no memory.
     pub fn new(alloc: Global) -> Members
-        ensures { result ≡ [] }
+        ensures { members_view result ≡ [] }
     {
         Members {
             entries: Vec::new(alloc),
@@ -203,14 +142,14 @@ impl Members {
 
     /// The members of a `Vec`, which it keeps.
     pub fn from_vec(entries: Vec<(u64, Member)>) -> Members
-        ensures { result ≡ members_view entries.items }
+        ensures { members_view result ≡ map entry_view entries.items }
     {
         Members { entries }
     }
 
     /// The `Vec` of the members, given back.
     pub fn into_vec(self) -> Vec<(u64, Member)>
-        ensures { members_view result.items ≡ self }
+        ensures { map entry_view result.items ≡ members_view self }
     {
         let Members { entries } = self;
         entries
@@ -218,8 +157,8 @@ impl Members {
 
     /// One more member, at the end. An error is want of memory, and the members are as before.
     pub fn push(&mut self, ordinal: u64, member: Member) -> Result<(), AllocError>
-        ensures ok { IfOk result (λ _. self.new ≡ self.old ++ (ordinal, member_view member) ∷ []) }
-        ensures err { OnErr result (self.new ≡ self.old) }
+        ensures ok { IfOk result (λ _. members_view self.new ≡ members_view self.old ++ (ordinal, member_view member) ∷ []) }
+        ensures err { OnErr result (members_view self.new ≡ members_view self.old) }
     {
         self.entries.push((ordinal, member))?;
         Ok(())
@@ -227,28 +166,28 @@ impl Members {
 
     /// How many members there are.
     pub fn len(&self) -> usize
-        ensures { result ≡ length self.now }
+        ensures { result ≡ length (members_view self.now) }
     {
         self.entries.len()
     }
 
     /// Whether there are none.
     pub fn is_empty(&self) -> bool
-        ensures { IsTrue result ↔ (self.now ≡ []) }
+        ensures { IsTrue result ↔ (members_view self.now ≡ []) }
     {
         self.entries.is_empty()
     }
 
     /// The members with their ordinals, in order.
     pub fn as_slice(&self) -> &[(u64, Member)]
-        ensures { members_view result.now ≡ self.now }
+        ensures { map entry_view result.now ≡ members_view self.now }
     {
         &self.entries
     }
 
     /// An iterator over the members with their ordinals.
     pub fn iter(&self) -> Iter<'_, (u64, Member)>
-        ensures { members_view (iter_rest result) ≡ self.now }
+        ensures { map entry_view (iter_rest result) ≡ members_view self.now }
     {
         self.entries.iter()
     }
@@ -257,7 +196,7 @@ impl Members {
 impl Content {
     /// A union's member. An error is want of memory.
     pub fn new(alloc: Global, member: Member) -> Result<Content, AllocError>
-        ensures { IfOk result (λ c. c ≡ member_view member) }
+        ensures { IfOk result (λ c. content_view c ≡ member_view member) }
     {
         Ok(Content {
             member: Box::new(alloc, member)?,
@@ -266,14 +205,14 @@ impl Content {
 
     /// The member.
     pub fn member(&self) -> &Member
-        ensures { member_view result.now ≡ self.now }
+        ensures { member_view result.now ≡ content_view self.now }
     {
         &self.member
     }
 
     /// The member, given back.
     pub fn into_member(self) -> Member
-        ensures { member_view result ≡ self }
+        ensures { member_view result ≡ content_view self }
     {
         Box::into_inner(self.member)
     }
