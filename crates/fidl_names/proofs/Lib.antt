@@ -1,0 +1,4 @@
+pub mod Taken
+pub mod Texts
+pub mod Adding
+pub mod Files

@@ -1,0 +1,14 @@
+//! Names of the language: libraries of FIDL sources, and the one meaning of each name in them (docs/language.md, "Names").
+#![tactic(auto)]
+
+mod declarations;
+mod fault;
+mod full_name;
+mod library_set;
+mod place;
+#[cfg(test)]
+mod tests;
+
+pub use fault::NameFault;
+pub use library_set::LibrarySet;
+pub use place::Place;

@@ -1,0 +1,69 @@
+//! Libraries, as the files that belong to them.
+ghost use Rattle.std.specs.Prelude.{◌≡◌, ◌++◌, ◌∷◌, [], length, IfErr, OnOk, OnErr};
+ghost use Rattle.fidl_names.specs.Names.{all_declared, AreDistinct};
+ghost use Rattle.fidl_names.specs.Faults.{IsTrueOfAdding};
+
+use crate::declarations::declare_all;
+use crate::fault::NameFault;
+use crate::place::Position;
+use fidl_tree::File;
+use indexmap::IndexMap;
+use std::alloc::Global;
+use std::marker::Model;
+
+/// The files of libraries, in the order in which they were added. Contracts see the list of their trees.
+#[derive(Drop)]
+pub struct LibrarySet<'f, 's> {
+    alloc: Global,
+    files: Vec<&'f File<'s>>,
+    names: IndexMap<Vec<u8>, Position>,
+}
+
+impl<'f, 's> Model for LibrarySet<'f, 's> {
+    ghost use Rattle.std.specs.Prelude.{◌≡◌, List, map};
+    ghost use Rattle.fidl_tree.specs.declared.file.File.{File as Tree};
+    ghost use Rattle.fidl_names.specs.Names.{all_entries, AreDistinct};
+    ghost use Rattle.fidl_names.specs.Seen.{seen, names_of};
+    ghost use Rattle.fidl_names.specs.Stored.{files_coded};
+
+    ghost Value = { List Tree };
+
+    ghost coded = { files_coded };
+
+    ghost view = { λ s. map (λ f. f.now) s.files.items };
+
+    ghost invariant = { λ s. (seen s.names.entries ≡ all_entries (map (λ f. f.now) s.files.items) 0) × AreDistinct (names_of (seen s.names.entries)) };
+}
+
+impl<'f, 's> LibrarySet<'f, 's> {
+    /// No files; it takes no memory.
+    pub fn new(alloc: Global) -> LibrarySet<'f, 's>
+        ensures { result ≡ [] }
+    {
+        LibrarySet {
+            alloc,
+            files: Vec::new(alloc),
+            names: IndexMap::new(alloc),
+        }
+    }
+
+    /// Adds a file. It is refused where its library would declare a name twice, or where memory ran out; then the set is as before.
+    pub fn add(&mut self, file: &'f File<'s>) -> Result<(), NameFault>
+        ensures ok { OnOk result (self.new ≡ self.old ++ file.now ∷ []) }
+        ensures distinct { OnOk result (AreDistinct (all_declared (self.old ++ file.now ∷ []))) }
+        ensures err { OnErr result (self.new ≡ self.old) }
+        ensures told { IfErr result (IsTrueOfAdding (all_declared self.old) file.now (length self.old)) }
+    {
+        let before = self.names.len();
+        let number = self.files.len();
+        self.files.push(file)?;
+        match declare_all(&mut self.names, self.alloc, file, number) {
+            Ok(()) => Ok(()),
+            Err(fault) => {
+                self.names.truncate(before);
+                self.files.pop();
+                Err(fault)
+            }
+        }
+    }
+}
