@@ -1,5 +1,5 @@
 //! The command `decode`.
-ghost use Rattle.std.specs.Prelude.{◌≡◌, ◌≢◌, ℕ, ◌++◌, List, IfSome, OnOk, OnErr, IsTrue, ◌⊎◌, codes};
+ghost use Rattle.std.specs.Prelude.{◌≡◌, ◌≢◌, ℕ, ◌++◌, List, IfSome, OnOk, OnErr, IsSome, ◌⊎◌, codes};
 ghost use Rattle.std.specs.Io.KnownBytes.{Appends};
 ghost use Rattle.fidl_wire.specs.Value.{Value};
 ghost use Rattle.fidl_wire.specs.Term as ty;
@@ -10,7 +10,7 @@ ghost use Rattle.fidl_tool.specs.Decoding.{HasRoot, LacksRoot, IsText, IsRefusal
 ghost use Rattle.fidl_tool.specs.declared.status.Status.TheVariants as status;
 
 use crate::lines::{write_no_memory, write_no_output, write_no_root, write_refusal};
-use crate::output::Output;
+use crate::output::{Failed, Output};
 use crate::printer::write_value;
 use crate::status::Status;
 use fidl_decode::{Decoded, Scratch};
@@ -18,7 +18,6 @@ use fidl_verify::verify;
 use fidl_view::Views;
 use fidl_wire::HandleInfo;
 use std::alloc::Global;
-use std::io;
 use std::io::Write;
 
 /// A file that was read: its name on the command line, and its bytes.
@@ -29,10 +28,10 @@ pub struct File<'f> {
 }
 
 /// Writes the line of the text of the value that a message encodes.
-fn write_text<W: Write>(decoded: &Decoded<'_, '_, '_>, out: &mut Output<W>) -> io::Result<()>
+fn write_text<W: Write>(decoded: &Decoded<'_, '_, '_>, out: &mut Output<W>) -> Result<(), Failed>
     ensures text { (v : Value) → Encodes (declarations_of decoded.now.table) (ty.named decoded.now.entry) v decoded.now.bytes decoded.now.handles
         → OnOk result (Appends (W.contents out.old.writer) (W.contents out.new.writer) (Text (declarations_of decoded.now.table) (ty.named decoded.now.entry) v ++ codes "\n")) }
-    ensures failed { OnErr result (IsTrue out.new.failed) }
+    ensures failed { OnErr result (IsSome out.new.failure) }
 {
     write_value(decoded.table(), decoded.entry(), decoded.view(), out)?;
     out.write_all(b"\n")?;
@@ -61,7 +60,7 @@ pub fn decode<W: Write, E: Write>(
     ensures usage_line { result ≡ status.Usage → IfSome (no_root_line file.now.name.now root.now) (Appends (E.contents errors.old.writer) (E.contents errors.new.writer)) }
     ensures memory { result ≡ status.Memory → HasRoot file.now.bytes.now root.now }
     ensures memory_line { result ≡ status.Memory → Appends (E.contents errors.old.writer) (E.contents errors.new.writer) no_memory_line }
-    ensures file_fault { result ≡ status.FileFault → IsTrue out.new.failed ⊎ IsTrue errors.new.failed }
+    ensures file_fault { result ≡ status.FileFault → IsSome out.new.failure ⊎ IsSome errors.new.failure }
     ensures out { result ≢ status.Done → result ≢ status.FileFault → W.contents out.new.writer ≡ W.contents out.old.writer }
     ensures errors { result ≡ status.Done → E.contents errors.new.writer ≡ E.contents errors.old.writer }
 {
@@ -93,6 +92,6 @@ pub fn decode<W: Write, E: Write>(
     };
     match write_text(&decoded, out) {
         Ok(()) => Status::Done,
-        Err(error) => Status::FileFault.told(&write_no_output(errors, &error)),
+        Err(Failed) => Status::FileFault.told(&write_no_output(errors, out)),
     }
 }

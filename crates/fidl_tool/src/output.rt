@@ -1,5 +1,5 @@
-//! A writer that knows whether it has failed.
-ghost use Rattle.std.specs.Prelude.{◌≡◌, IfSome, OnOk, is_ok, if◌then◌else◌, true, false};
+//! A writer that keeps the error that it has failed with.
+ghost use Rattle.std.specs.Prelude.{◌≡◌, IfSome, IsSome, OnOk, OnErr, is_ok, None, option_map};
 ghost use Rattle.std.specs.Io.KnownBytes.{Appends, Keeps};
 ghost use Rattle.std.specs.Fmt.{with_newline};
 
@@ -7,22 +7,26 @@ use std::fmt::Display;
 use std::io;
 use std::io::Write;
 
-/// A writer, and whether one of its writes has failed, as C's `ferror` tells of a stream.
+/// A write has failed; the output that was written to keeps the error.
+#[derive(Clone, Copy, PartialEq, Eq, Debug, Drop)]
+pub struct Failed;
+
+/// A writer, and the error of its last write that failed, as C's streams keep an error indicator.
 #[derive(Debug, Drop)]
 pub struct Output<W> {
     writer: W,
-    failed: bool,
+    failure: Option<io::Error>,
 }
 
 impl<W: Write> Output<W> {
     /// A writer to which nothing was written.
     pub fn new(writer: W) -> Output<W>
         ensures writer { result.writer ≡ writer }
-        ensures failed { result.failed ≡ false }
+        ensures failure { result.failure ≡ None }
     {
         Output {
             writer,
-            failed: false,
+            failure: None,
         }
     }
 
@@ -33,56 +37,64 @@ impl<W: Write> Output<W> {
         self.writer
     }
 
-    /// Whether a write has failed.
-    pub fn has_failed(&self) -> bool
-        ensures { result ≡ self.now.failed }
+    /// The error that a write has failed with, if one has.
+    pub fn failure(&self) -> Option<&io::Error>
+        ensures { option_map (λ e. e.now) result ≡ self.now.failure }
     {
-        self.failed
+        self.failure.as_ref()
     }
 
-    /// Notes how a write went.
-    fn note(&mut self, written: io::Result<()>) -> io::Result<()>
+    /// Keeps the error of a write that failed.
+    fn note(&mut self, written: io::Result<()>) -> Result<(), Failed>
         ensures writer { self.new.writer ≡ self.old.writer }
-        ensures failed { self.new.failed ≡ (if is_ok written then self.old.failed else true) }
-        ensures result { result ≡ written }
+        ensures same { is_ok result ≡ is_ok written }
+        ensures kept { OnOk result (self.new.failure ≡ self.old.failure) }
+        ensures failed { OnErr result (IsSome self.new.failure) }
     {
-        if written.is_err() {
-            self.failed = true;
+        match written {
+            Ok(()) => Ok(()),
+            Err(error) => {
+                self.failure = Some(error);
+                Err(Failed)
+            }
         }
-        written
     }
 
     /// Writes all of the bytes.
-    pub fn write_all(&mut self, bytes: &[u8]) -> io::Result<()>
+    pub fn write_all(&mut self, bytes: &[u8]) -> Result<(), Failed>
         ensures bytes { OnOk result (Appends (W.contents self.old.writer) (W.contents self.new.writer) bytes.now) }
-        ensures failed { self.new.failed ≡ (if is_ok result then self.old.failed else true) }
+        ensures kept { OnOk result (self.new.failure ≡ self.old.failure) }
+        ensures failed { OnErr result (IsSome self.new.failure) }
     {
         let written = self.writer.write_all(bytes);
         self.note(written)
     }
 
     /// Writes a text, as `write!` gives it.
-    pub fn write_fmt<D: Display + Drop>(&mut self, text: D) -> io::Result<()>
+    pub fn write_fmt<D: Display + Drop>(&mut self, text: D) -> Result<(), Failed>
         ensures bytes { OnOk result (IfSome (D.output text) (Appends (W.contents self.old.writer) (W.contents self.new.writer))) }
-        ensures failed { self.new.failed ≡ (if is_ok result then self.old.failed else true) }
+        ensures kept { OnOk result (self.new.failure ≡ self.old.failure) }
+        ensures failed { OnErr result (IsSome self.new.failure) }
     {
         let written = self.writer.write_fmt(text);
         self.note(written)
     }
 
     /// Writes a text and a line feed, as `writeln!` gives them.
-    pub fn writeln<D: Display + Drop>(&mut self, text: D) -> io::Result<()>
+    pub fn writeln<D: Display + Drop>(&mut self, text: D) -> Result<(), Failed>
         ensures bytes { OnOk result (IfSome (with_newline (D.output text)) (Appends (W.contents self.old.writer) (W.contents self.new.writer))) }
-        ensures failed { self.new.failed ≡ (if is_ok result then self.old.failed else true) }
+        ensures kept { OnOk result (self.new.failure ≡ self.old.failure) }
+        ensures failed { OnErr result (IsSome self.new.failure) }
     {
         let written = self.writer.writeln(text);
         self.note(written)
     }
 
     /// Hands on what is still held back.
-    pub fn flush(&mut self) -> io::Result<()>
+    pub fn flush(&mut self) -> Result<(), Failed>
         ensures bytes { Keeps (W.contents self.old.writer) (W.contents self.new.writer) }
-        ensures failed { self.new.failed ≡ (if is_ok result then self.old.failed else true) }
+        ensures kept { OnOk result (self.new.failure ≡ self.old.failure) }
+        ensures failed { OnErr result (IsSome self.new.failure) }
     {
         let written = self.writer.flush();
         self.note(written)

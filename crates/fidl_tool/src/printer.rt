@@ -1,5 +1,5 @@
 //! The text of a value, as a view shows it (docs/wire.md, "The written text of a value").
-ghost use Rattle.std.specs.Prelude.{◌≡◌, ℕ, ◌<◌, OnOk, OnErr, IsTrue};
+ghost use Rattle.std.specs.Prelude.{◌≡◌, ℕ, ◌<◌, OnOk, OnErr, IsSome};
 ghost use Rattle.std.specs.Io.KnownBytes.{Appends};
 ghost use Rattle.fidl_wire.specs.Term as ty;
 ghost use Rattle.fidl_wire.specs.Term.{resolve};
@@ -12,35 +12,34 @@ ghost use Rattle.fidl_verify.specs.Entry.{IsOf};
 ghost use Rattle.fidl_verify.specs.WellFormed.{WellFormed};
 ghost use Rattle.fidl_tool.specs.Parts.{HasPart, Prints};
 
-use crate::output::Output;
+use crate::output::{Failed, Output};
 use fidl_table::EntryKind;
 use fidl_verify::Table;
 use fidl_view::View;
-use std::io;
 use std::io::Write;
 
 /// Writes what stands between one element or member and the next.
-fn write_comma<W: Write>(out: &mut Output<W>, later: bool) -> io::Result<()>
+fn write_comma<W: Write>(out: &mut Output<W>, later: bool) -> Result<(), Failed>
     ensures text { OnOk result (Appends (W.contents out.old.writer) (W.contents out.new.writer) (comma_if later)) }
-    ensures failed { OnErr result (IsTrue out.new.failed) }
+    ensures failed { OnErr result (IsSome out.new.failure) }
 {
     out.write_all(if later { b", " } else { b"" })
 }
 
-fn write_bool<W: Write>(view: View<'_, '_>, out: &mut Output<W>) -> io::Result<()>
+fn write_bool<W: Write>(view: View<'_, '_>, out: &mut Output<W>) -> Result<(), Failed>
     requires { (ds : Declarations) × HasPart ds ty.bool view }
     ensures text { (ds : Declarations) → Prints ds ty.bool view.entry (W.contents out.old.writer) (W.contents out.new.writer) result }
-    ensures failed { OnErr result (IsTrue out.new.failed) }
+    ensures failed { OnErr result (IsSome out.new.failure) }
 {
     let value = view.as_bool().unwrap();
     out.write_all(if value { b"true" } else { b"false" })
 }
 
-fn write_number<W: Write>(view: View<'_, '_>, out: &mut Output<W>) -> io::Result<()>
+fn write_number<W: Write>(view: View<'_, '_>, out: &mut Output<W>) -> Result<(), Failed>
     requires well_formed { WellFormed view.decoded.now.table }
     requires part { (ds : Declarations) × (kind : ty.Kind) × HasPart ds (ty.number kind) view }
     ensures text { (ds : Declarations) (kind : ty.Kind) → Prints ds (ty.number kind) view.entry (W.contents out.old.writer) (W.contents out.new.writer) result }
-    ensures failed { OnErr result (IsTrue out.new.failed) }
+    ensures failed { OnErr result (IsSome out.new.failure) }
 {
     match view.as_u64() {
         Some(number) => write!(out, "{number}"),
@@ -58,12 +57,12 @@ fn write_elements<W: Write>(
     element: u32,
     view: View<'_, '_>,
     out: &mut Output<W>,
-) -> io::Result<()>
+) -> Result<(), Failed>
     requires table { view.decoded.now.table ≡ table.now }
     requires element { element < (header_of table.now).entries }
     requires part { (count : ℕ) × HasPart (declarations_of table.now) (ty.array (ty.named element) count) view }
     ensures text { (count : ℕ) → Prints (declarations_of table.now) (ty.array (ty.named element) count) view.entry (W.contents out.old.writer) (W.contents out.new.writer) result }
-    ensures failed { OnErr result (IsTrue out.new.failed) }
+    ensures failed { OnErr result (IsSome out.new.failure) }
 {
     out.write_all(b"[")?;
     let count = view.len().unwrap();
@@ -82,13 +81,13 @@ fn write_members<W: Write>(
     index: u32,
     view: View<'_, '_>,
     out: &mut Output<W>,
-) -> io::Result<()>
+) -> Result<(), Failed>
     requires table { view.decoded.now.table ≡ table.now }
     requires index { index < (header_of table.now).entries }
     requires of_struct { IsOf EntryKind.Struct (entry_at table.now index) }
     requires part { HasPart (declarations_of table.now) (resolve (declarations_of table.now).terms (ty.named index)) view }
     ensures text { Prints (declarations_of table.now) (resolve (declarations_of table.now).terms (ty.named index)) view.entry (W.contents out.old.writer) (W.contents out.new.writer) result }
-    ensures failed { OnErr result (IsTrue out.new.failed) }
+    ensures failed { OnErr result (IsSome out.new.failure) }
 {
     out.write_all(b"{")?;
     let entry = table.entry(index);
@@ -112,12 +111,12 @@ pub(crate) fn write_value<W: Write>(
     index: u32,
     view: View<'_, '_>,
     out: &mut Output<W>,
-) -> io::Result<()>
+) -> Result<(), Failed>
     requires table { view.decoded.now.table ≡ table.now }
     requires index { index < (header_of table.now).entries }
     requires part { HasPart (declarations_of table.now) (resolve (declarations_of table.now).terms (ty.named index)) view }
     ensures text { Prints (declarations_of table.now) (resolve (declarations_of table.now).terms (ty.named index)) view.entry (W.contents out.old.writer) (W.contents out.new.writer) result }
-    ensures failed { OnErr result (IsTrue out.new.failed) }
+    ensures failed { OnErr result (IsSome out.new.failure) }
 {
     let entry = table.entry(index);
     let kind = EntryKind::from_number(entry.kind).unwrap();

@@ -2,8 +2,6 @@
 ghost use Rattle.std.specs.Prelude.{◌≡◌, is_ok, if◌then◌else◌};
 ghost use Rattle.fidl_tool.specs.declared.status.Status.TheVariants as status;
 
-use std::io;
-
 /// How a command ends (docs/program.md, "Statuses").
 #[derive(Clone, Copy, PartialEq, Eq, Debug, Drop)]
 pub enum Status {
@@ -36,7 +34,7 @@ impl Status {
     }
 
     /// This status where its line was written, and a file fault where it was not.
-    pub(crate) fn told(self, written: &io::Result<()>) -> Status
+    pub(crate) fn told<E>(self, written: &Result<(), E>) -> Status
         ensures { result ≡ (if is_ok written.now then self else status.FileFault) }
     {
         match written {

@@ -85,7 +85,7 @@ fn run_decode(
     let status = decode(alloc, &file, root, bytes, handles, &mut out, &mut errors);
     Ran {
         status,
-        failed: out.has_failed() || errors.has_failed(),
+        failed: out.failure().is_some() || errors.failure().is_some(),
         out: out.into_writer(),
         errors: errors.into_writer(),
     }
@@ -263,7 +263,7 @@ fn writers_that_are_full_are_file_faults(rt: HostRuntime) -> Result<(), Fail> {
         &mut errors,
     );
     assert_eq!(rt; status, Status::FileFault);
-    assert!(rt; out.has_failed() && !errors.has_failed());
+    assert!(rt; out.failure().is_some() && errors.failure().is_none());
     assert!(rt;
         errors.into_writer().as_slice()
             == b"error: the output: failed to write whole buffer\n".as_slice()
@@ -274,7 +274,7 @@ fn writers_that_are_full_are_file_faults(rt: HostRuntime) -> Result<(), Fail> {
     let mut out = Output::new(Vec::new(alloc));
     let status = decode(alloc, &file, "Point", &[], &[], &mut out, &mut errors);
     assert_eq!(rt; status, Status::FileFault);
-    assert!(rt; errors.has_failed() && !out.has_failed());
+    assert!(rt; errors.failure().is_some() && out.failure().is_none());
     assert!(rt; out.into_writer().is_empty());
     Ok(())
 }
