@@ -14,7 +14,7 @@ use Rattle.fidl_parse.specs.Choices.{layout_words}
 use Rattle.fidl_parse.specs.Reading.{Reads}
 use Rattle.fidl_parse.proofs.Joins.{reads_join}
 
-named_built : (path : Path) (arguments : Option TypeArguments) (constraints : Option Constraints)
+pub named_built : (path : Path) (arguments : Option TypeArguments) (constraints : Option Constraints)
     → named_leaves (roll-NamedType record { path = path; arguments = arguments; constraints = constraints })
     ≡ path_from (none_of layout_words) path ++ optional type_arguments_leaves arguments ++ optional constraints_leaves constraints
 named_built path None constraints = rw fold-roll-NamedType

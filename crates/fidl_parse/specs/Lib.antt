@@ -1,5 +1,9 @@
+pub mod Ahead
+pub mod Behind
 pub mod Choices
 pub mod FaultNames
 pub mod Faults
+pub mod Follow
 pub mod Nesting
 pub mod Reading
+pub mod Trees

@@ -3,6 +3,8 @@ ghost use Rattle.std.specs.Prelude.{◌≡◌, ℕ, ◌+◌, ◌<◌, ◌↔◌,
 ghost use Rattle.fidl_span.specs.declared.words.WordKind.TheVariants as kind;
 ghost use Rattle.fidl_tree.specs.Leaf.{symbol, name, keyword, text_at};
 ghost use Rattle.fidl_parse.specs.Reading.{Reads, IsKindAt, IsTextAt};
+ghost use Rattle.fidl_parse.specs.Ahead.{Finds};
+ghost use Rattle.fidl_parse.specs.Follow.{Anything};
 
 use crate::fault::Stop;
 use fidl_span::{Span, Word, WordKind};
@@ -49,6 +51,7 @@ impl<'w, 's> Parser<'w, 's> {
     /// A symbol, a number or a string.
     pub(crate) fn symbol(&self, at: &mut usize, kind: WordKind) -> Result<Span, Stop>
         ensures reads { IfOk result (λ span. Reads self.now at.old at.new (symbol kind span)) }
+        ensures complete { Finds self.now at.old at.new (symbol kind) Anything result }
         ensures within { OnOk result (at.old < length self.now.words.now) }
     {
         match self.words.get(*at) {
@@ -63,6 +66,7 @@ impl<'w, 's> Parser<'w, 's> {
     /// An identifier with any text.
     pub(crate) fn name(&self, at: &mut usize) -> Result<Span, Stop>
         ensures reads { IfOk result (λ span. Reads self.now at.old at.new (name span)) }
+        ensures complete { Finds self.now at.old at.new name Anything result }
         ensures within { OnOk result (at.old < length self.now.words.now) }
     {
         self.symbol(at, WordKind::Identifier)
@@ -89,6 +93,7 @@ impl<'w, 's> Parser<'w, 's> {
     /// An identifier with this text.
     pub(crate) fn keyword(&self, at: &mut usize, text: &[u8]) -> Result<Span, Stop>
         ensures reads { IfOk result (λ span. Reads self.now at.old at.new (keyword text.now span)) }
+        ensures complete { Finds self.now at.old at.new (keyword text.now) Anything result }
         ensures within { OnOk result (at.old < length self.now.words.now) }
     {
         match self.words.get(*at) {

@@ -3,6 +3,8 @@ ghost use Rattle.std.specs.Prelude.{IfOk, map};
 ghost use Rattle.fidl_tree.specs.Leaf.{joined};
 ghost use Rattle.fidl_tree.specs.Path.{path_leaves, part_leaves};
 ghost use Rattle.fidl_parse.specs.Reading.{Reads};
+ghost use Rattle.fidl_parse.specs.Ahead.{Finds, row};
+ghost use Rattle.fidl_parse.specs.Follow.{Anything, Not, extends_path};
 
 use crate::fault::Stop;
 use crate::parser::Parser;
@@ -11,7 +13,8 @@ use fidl_tree::{Path, PathPart};
 
 impl<'w, 's> Parser<'w, 's> {
     pub(crate) fn path(&self, at: &mut usize) -> Result<Path, Stop>
-        ensures { IfOk result (λ path. Reads self.now at.old at.new (path_leaves path)) }
+        ensures reads { IfOk result (λ path. Reads self.now at.old at.new (path_leaves path)) }
+        ensures complete { Finds self.now at.old at.new path_leaves (Not extends_path) result }
     {
         let first = self.name(at)?;
         let rest = self.path_parts(at)?;
@@ -20,7 +23,8 @@ impl<'w, 's> Parser<'w, 's> {
 
     /// What stands behind the first name of a path.
     pub(crate) fn path_parts(&self, at: &mut usize) -> Result<Vec<PathPart>, Stop>
-        ensures { IfOk result (λ parts. Reads self.now at.old at.new (joined (map part_leaves parts.items))) }
+        ensures reads { IfOk result (λ parts. Reads self.now at.old at.new (joined (map part_leaves parts.items))) }
+        ensures complete { Finds self.now at.old at.new (row part_leaves) (Not extends_path) result }
     {
         let mut parts = Vec::new(self.alloc);
         while self.is_next(*at, WordKind::Dot) {
@@ -30,7 +34,8 @@ impl<'w, 's> Parser<'w, 's> {
     }
 
     fn path_part(&self, at: &mut usize) -> Result<PathPart, Stop>
-        ensures { IfOk result (λ part. Reads self.now at.old at.new (part_leaves part)) }
+        ensures reads { IfOk result (λ part. Reads self.now at.old at.new (part_leaves part)) }
+        ensures complete { Finds self.now at.old at.new part_leaves Anything result }
     {
         let dot = self.symbol(at, WordKind::Dot)?;
         let name = self.name(at)?;

@@ -1,9 +1,11 @@
 // From words to the tree.
-ghost use Rattle.std.specs.Prelude.{◌≡◌, ◌<◌, length, take, IfOk, IfErr};
+ghost use Rattle.std.specs.Prelude.{◌≡◌, ◌≢◌, ◌<◌, length, take, IfOk, IfErr};
 ghost use Rattle.fidl_tree.specs.Brackets.{IsWithinLimit};
 ghost use Rattle.fidl_tree.specs.File.{yield_of, IsProper};
 ghost use Rattle.fidl_parse.specs.Faults.{IsTrueOf};
 ghost use Rattle.fidl_parse.specs.Nesting.{IsTooDeepAt};
+ghost use Rattle.fidl_parse.specs.Trees.{HasTree};
+ghost use Rattle.fidl_parse.specs.declared.fault.ParseFault.TheVariants.{Memory};
 
 use crate::fault::{ParseFault, Stop};
 use crate::nesting::nesting_end;
@@ -22,6 +24,7 @@ pub fn parse<'s>(alloc: Global, tokens: &Tokens, src: &'s [u8]) -> Result<File<'
     ensures proper { IfOk result (λ tree. IsProper tree) }
     ensures words { IfOk result (λ tree. yield_of tree ≡ tokens.now.words.items) }
     ensures limit { IfOk result (λ _. IsWithinLimit tokens.now.words.items) }
+    ensures no_tree { IfErr result (λ fault. fault ≢ Memory → ¬ HasTree tokens.now.words.items src.now) }
     ensures refusal { IfErr result (λ fault. IsTrueOf tokens.now.words.items src.now fault) }
 {
     let words = tokens.as_slice();
@@ -34,8 +37,9 @@ pub fn parse<'s>(alloc: Global, tokens: &Tokens, src: &'s [u8]) -> Result<File<'
     let mut at = 0;
     match parser.file(&mut at) {
         Ok(file) if end == words.len() => Ok(file),
+        Ok(_) => Err(fault_at(words, end, at, src)),
+        Err(Stop::Unexpected) => Err(fault_at(words, end, at, src)),
         Err(Stop::Memory) => Err(ParseFault::Memory),
-        _ => Err(fault_at(words, end, at, src)),
     }
 }
 

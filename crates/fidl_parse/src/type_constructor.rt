@@ -1,12 +1,15 @@
 // Types and layouts.
-ghost use Rattle.std.specs.Prelude.{IfOk, OnOk, IsTrue, IsFalse, ◌↔◌, ◌⊎◌, ◌<◌, length, map};
+ghost use Rattle.std.specs.Prelude.{◌+◌, IfOk, OnOk, IsTrue, IsFalse, ◌↔◌, ◌⊎◌, ◌<◌, length, map, codes, ◌≡◌, false};
 ghost use Rattle.fidl_tree.specs.Leaf.{joined, leaf, optional, none_of, Meets, text_at};
 ghost use Rattle.fidl_tree.specs.Keyword.{union_modifiers_leaves};
 ghost use Rattle.fidl_tree.specs.Path.{path_from};
 ghost use Rattle.fidl_tree.specs.TypeConstructor.{type_leaves, named_leaves, type_arguments_leaves, next_type_argument_leaves, type_argument_leaves, layout_leaves, layout_body_leaves, struct_layout_leaves, table_layout_leaves, union_layout_leaves, values_layout_leaves, underlying_leaves, member_leaves, ordinal_member_leaves, ordinal_body_leaves};
 ghost use Rattle.fidl_span.specs.declared.words.WordKind.TheVariants as kind;
 ghost use Rattle.fidl_parse.specs.Choices.{layout_words, IsLayoutWordAt};
-ghost use Rattle.fidl_parse.specs.Reading.{Reads, ReadsBehind, IsKindAt};
+ghost use Rattle.fidl_parse.specs.Reading.{Reads, ReadsBehind, IsKindAt, IsTextAt};
+ghost use Rattle.fidl_parse.specs.Ahead.{Finds, row};
+ghost use Rattle.fidl_parse.specs.Follow.{Anything, Begins, Not, extends_path, extends_name, extends_type};
+ghost use Rattle.fidl_parse.specs.Behind.{has_strictness, has_resource, block, values_block};
 
 use crate::fault::Stop;
 use crate::keyword::{without_resource, without_strictness};
@@ -21,7 +24,8 @@ use fidl_tree::{
 impl<'w, 's> Parser<'w, 's> {
     #[cycle(types)]
     pub(crate) fn type_constructor(&self, at: &mut usize) -> Result<TypeConstructor, Stop>
-        ensures { IfOk result (λ constructor. Reads self.now at.old at.new (type_leaves constructor)) }
+        ensures reads { IfOk result (λ constructor. Reads self.now at.old at.new (type_leaves constructor)) }
+        ensures complete { Finds self.now at.old at.new type_leaves (Not extends_type) result }
     {
         if !self.begins_layout(*at) {
             return Ok(TypeConstructor::Named(self.named_type(at)?));
@@ -36,7 +40,8 @@ impl<'w, 's> Parser<'w, 's> {
 
     #[cycle(types)]
     fn named_type(&self, at: &mut usize) -> Result<NamedType, Stop>
-        ensures { IfOk result (λ named. Reads self.now at.old at.new (named_leaves named)) }
+        ensures reads { IfOk result (λ named. Reads self.now at.old at.new (named_leaves named)) }
+        ensures complete { Finds self.now at.old at.new named_leaves (Not extends_type) result }
     {
         let path = self.type_path(at)?;
         let arguments = self.type_arguments(at)?;
@@ -50,7 +55,8 @@ impl<'w, 's> Parser<'w, 's> {
 
     #[cycle(types)]
     fn type_arguments(&self, at: &mut usize) -> Result<Option<TypeArguments>, Stop>
-        ensures { IfOk result (λ arguments. Reads self.now at.old at.new (optional type_arguments_leaves arguments)) }
+        ensures reads { IfOk result (λ arguments. Reads self.now at.old at.new (optional type_arguments_leaves arguments)) }
+        ensures complete { Finds self.now at.old at.new (optional type_arguments_leaves) (Not extends_name) result }
     {
         if !self.is_next(*at, WordKind::Less) {
             return Ok(None);
@@ -69,7 +75,8 @@ impl<'w, 's> Parser<'w, 's> {
 
     #[cycle(types)]
     fn next_type_arguments(&self, at: &mut usize) -> Result<Vec<NextTypeArgument>, Stop>
-        ensures { IfOk result (λ arguments. Reads self.now at.old at.new (joined (map next_type_argument_leaves arguments.items))) }
+        ensures reads { IfOk result (λ arguments. Reads self.now at.old at.new (joined (map next_type_argument_leaves arguments.items))) }
+        ensures complete { Finds self.now at.old at.new (row next_type_argument_leaves) (Begins kind.Greater) result }
     {
         let mut arguments = Vec::new(self.alloc);
         while self.is_next(*at, WordKind::Comma) {
@@ -80,7 +87,8 @@ impl<'w, 's> Parser<'w, 's> {
 
     #[cycle(types)]
     fn next_type_argument(&self, at: &mut usize) -> Result<NextTypeArgument, Stop>
-        ensures { IfOk result (λ argument. Reads self.now at.old at.new (next_type_argument_leaves argument)) }
+        ensures reads { IfOk result (λ argument. Reads self.now at.old at.new (next_type_argument_leaves argument)) }
+        ensures complete { Finds self.now at.old at.new next_type_argument_leaves (Not extends_type) result }
     {
         let comma = self.symbol(at, WordKind::Comma)?;
         let argument = self.type_argument(at)?;
@@ -89,7 +97,8 @@ impl<'w, 's> Parser<'w, 's> {
 
     #[cycle(types)]
     fn type_argument(&self, at: &mut usize) -> Result<TypeArgument, Stop>
-        ensures { IfOk result (λ argument. Reads self.now at.old at.new (type_argument_leaves argument)) }
+        ensures reads { IfOk result (λ argument. Reads self.now at.old at.new (type_argument_leaves argument)) }
+        ensures complete { Finds self.now at.old at.new type_argument_leaves (Not extends_type) result }
     {
         if self.is_next(*at, WordKind::Number) {
             return Ok(TypeArgument::Number(self.symbol(at, WordKind::Number)?));
@@ -99,7 +108,8 @@ impl<'w, 's> Parser<'w, 's> {
 
     #[cycle(types)]
     pub(crate) fn layout(&self, at: &mut usize) -> Result<Layout, Stop>
-        ensures { IfOk result (λ layout. Reads self.now at.old at.new (layout_leaves layout)) }
+        ensures reads { IfOk result (λ layout. Reads self.now at.old at.new (layout_leaves layout)) }
+        ensures complete { Finds self.now at.old at.new layout_leaves Anything result }
     {
         let attributes = self.attributes(at)?;
         let body = self.layout_body(at)?;
@@ -108,7 +118,8 @@ impl<'w, 's> Parser<'w, 's> {
 
     #[cycle(types)]
     fn layout_body(&self, at: &mut usize) -> Result<LayoutBody, Stop>
-        ensures { IfOk result (λ body. Reads self.now at.old at.new (layout_body_leaves body)) }
+        ensures reads { IfOk result (λ body. Reads self.now at.old at.new (layout_body_leaves body)) }
+        ensures complete { Finds self.now at.old at.new layout_body_leaves Anything result }
     {
         let modifiers = self.modifiers(at)?;
         if self.is_next_word(*at, b"struct") {
@@ -125,7 +136,8 @@ impl<'w, 's> Parser<'w, 's> {
 
     #[cycle(types)]
     fn struct_layout(&self, modifiers: UnionModifiers, at: &mut usize) -> Result<StructLayout, Stop>
-        ensures { IfOk result (λ layout. ReadsBehind self.now at.old at.new (union_modifiers_leaves modifiers) (struct_layout_leaves layout)) }
+        ensures reads { IfOk result (λ layout. ReadsBehind self.now at.old at.new (union_modifiers_leaves modifiers) (struct_layout_leaves layout)) }
+        ensures complete { has_strictness modifiers ≡ false → Finds self.now at.old at.new (block (codes "struct") member_leaves) Anything result }
     {
         let resource = without_strictness(modifiers)?;
         let keyword = self.keyword(at, b"struct")?;
@@ -143,7 +155,8 @@ impl<'w, 's> Parser<'w, 's> {
 
     #[cycle(types)]
     fn table_layout(&self, modifiers: UnionModifiers, at: &mut usize) -> Result<TableLayout, Stop>
-        ensures { IfOk result (λ layout. ReadsBehind self.now at.old at.new (union_modifiers_leaves modifiers) (table_layout_leaves layout)) }
+        ensures reads { IfOk result (λ layout. ReadsBehind self.now at.old at.new (union_modifiers_leaves modifiers) (table_layout_leaves layout)) }
+        ensures complete { has_strictness modifiers ≡ false → Finds self.now at.old at.new (block (codes "table") ordinal_member_leaves) Anything result }
     {
         let resource = without_strictness(modifiers)?;
         let keyword = self.keyword(at, b"table")?;
@@ -161,7 +174,8 @@ impl<'w, 's> Parser<'w, 's> {
 
     #[cycle(types)]
     fn union_layout(&self, modifiers: UnionModifiers, at: &mut usize) -> Result<UnionLayout, Stop>
-        ensures { IfOk result (λ layout. ReadsBehind self.now at.old at.new (union_modifiers_leaves modifiers) (union_layout_leaves layout)) }
+        ensures reads { IfOk result (λ layout. ReadsBehind self.now at.old at.new (union_modifiers_leaves modifiers) (union_layout_leaves layout)) }
+        ensures complete { Finds self.now at.old at.new (block (codes "union") ordinal_member_leaves) Anything result }
     {
         let keyword = self.keyword(at, b"union")?;
         let left = self.symbol(at, WordKind::LeftBrace)?;
@@ -179,7 +193,8 @@ impl<'w, 's> Parser<'w, 's> {
     /// Bits or an enum.
     #[cycle(types)]
     fn values_layout(&self, modifiers: UnionModifiers, at: &mut usize) -> Result<ValuesLayout, Stop>
-        ensures { IfOk result (λ layout. ReadsBehind self.now at.old at.new (union_modifiers_leaves modifiers) (values_layout_leaves layout)) }
+        ensures reads { IfOk result (λ layout. ReadsBehind self.now at.old at.new (union_modifiers_leaves modifiers) (values_layout_leaves layout)) }
+        ensures complete { has_resource modifiers ≡ false → Finds self.now at.old at.new values_block Anything result }
     {
         let strictness = without_resource(modifiers)?;
         let keyword = self.values_keyword(at)?;
@@ -199,7 +214,8 @@ impl<'w, 's> Parser<'w, 's> {
 
     #[cycle(types)]
     fn underlying(&self, at: &mut usize) -> Result<Option<Underlying>, Stop>
-        ensures { IfOk result (λ underlying. Reads self.now at.old at.new (optional underlying_leaves underlying)) }
+        ensures reads { IfOk result (λ underlying. Reads self.now at.old at.new (optional underlying_leaves underlying)) }
+        ensures complete { Finds self.now at.old at.new (optional underlying_leaves) (Begins kind.LeftBrace) result }
     {
         if !self.is_next(*at, WordKind::Colon) {
             return Ok(None);
@@ -212,7 +228,8 @@ impl<'w, 's> Parser<'w, 's> {
     /// The members of a struct or a service up to a closing brace.
     #[cycle(types)]
     pub(crate) fn members(&self, at: &mut usize) -> Result<Vec<Member>, Stop>
-        ensures { IfOk result (λ members. Reads self.now at.old at.new (joined (map member_leaves members.items))) }
+        ensures reads { IfOk result (λ members. Reads self.now at.old at.new (joined (map member_leaves members.items))) }
+        ensures complete { Finds self.now at.old at.new (row member_leaves) (Begins kind.RightBrace) result }
     {
         let mut members = Vec::new(self.alloc);
         while !self.is_next(*at, WordKind::RightBrace) {
@@ -224,6 +241,7 @@ impl<'w, 's> Parser<'w, 's> {
     #[cycle(types)]
     fn member(&self, at: &mut usize) -> Result<Member, Stop>
         ensures reads { IfOk result (λ member. Reads self.now at.old at.new (member_leaves member)) }
+        ensures complete { Finds self.now at.old at.new member_leaves Anything result }
         ensures forward { OnOk result (at.old < at.new) }
         ensures within { OnOk result (at.old < length self.now.words.now) }
     {
@@ -242,7 +260,8 @@ impl<'w, 's> Parser<'w, 's> {
     /// The members of a table or a union up to a closing brace.
     #[cycle(types)]
     fn ordinal_members(&self, at: &mut usize) -> Result<Vec<OrdinalMember>, Stop>
-        ensures { IfOk result (λ members. Reads self.now at.old at.new (joined (map ordinal_member_leaves members.items))) }
+        ensures reads { IfOk result (λ members. Reads self.now at.old at.new (joined (map ordinal_member_leaves members.items))) }
+        ensures complete { Finds self.now at.old at.new (row ordinal_member_leaves) (Begins kind.RightBrace) result }
     {
         let mut members = Vec::new(self.alloc);
         while !self.is_next(*at, WordKind::RightBrace) {
@@ -254,6 +273,7 @@ impl<'w, 's> Parser<'w, 's> {
     #[cycle(types)]
     fn ordinal_member(&self, at: &mut usize) -> Result<OrdinalMember, Stop>
         ensures reads { IfOk result (λ member. Reads self.now at.old at.new (ordinal_member_leaves member)) }
+        ensures complete { Finds self.now at.old at.new ordinal_member_leaves Anything result }
         ensures forward { OnOk result (at.old < at.new) }
         ensures within { OnOk result (at.old < length self.now.words.now) }
     {
@@ -271,12 +291,19 @@ impl<'w, 's> Parser<'w, 's> {
         })
     }
 
-    /// `reserved` before the end of the member is no name.
+    /// Whether `reserved` stands next, before the end of the member, where it is no name.
+    fn begins_reserved(&self, at: usize) -> bool
+        ensures { IsTrue result ↔ IsTextAt self.now at (codes "reserved") × IsKindAt self.now (at + 1) kind.Semicolon }
+    {
+        self.is_next_word(at, b"reserved") && self.is_second(at, WordKind::Semicolon)
+    }
+
     #[cycle(types)]
     fn ordinal_body(&self, at: &mut usize) -> Result<OrdinalBody, Stop>
-        ensures { IfOk result (λ body. Reads self.now at.old at.new (ordinal_body_leaves body)) }
+        ensures reads { IfOk result (λ body. Reads self.now at.old at.new (ordinal_body_leaves body)) }
+        ensures complete { Finds self.now at.old at.new ordinal_body_leaves (Begins kind.Semicolon) result }
     {
-        if self.is_next_word(*at, b"reserved") && self.is_second(*at, WordKind::Semicolon) {
+        if self.begins_reserved(*at) {
             return Ok(OrdinalBody::Reserved(self.keyword(at, b"reserved")?));
         }
         let name = self.name(at)?;
@@ -287,6 +314,7 @@ impl<'w, 's> Parser<'w, 's> {
     /// The path of a named type.
     fn type_path(&self, at: &mut usize) -> Result<Path, Stop>
         ensures reads { IfOk result (λ path. Reads self.now at.old at.new (path_from (none_of layout_words) path)) }
+        ensures complete { Finds self.now at.old at.new (path_from (none_of layout_words)) (Not extends_path) result }
         ensures within { OnOk result (at.old < length self.now.words.now) }
     {
         let first = self.type_name(at)?;
@@ -297,6 +325,7 @@ impl<'w, 's> Parser<'w, 's> {
     /// A name that begins no layout.
     fn type_name(&self, at: &mut usize) -> Result<Span, Stop>
         ensures reads { IfOk result (λ span. Reads self.now at.old at.new (leaf kind.Identifier span (none_of layout_words))) }
+        ensures complete { Finds self.now at.old at.new (λ span. leaf kind.Identifier span (none_of layout_words)) Anything result }
         ensures within { OnOk result (at.old < length self.now.words.now) }
     {
         match self.words.get(*at) {

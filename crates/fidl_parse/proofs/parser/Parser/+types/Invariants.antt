@@ -3,6 +3,9 @@ use Rattle.std.proofs.Common.{map, ◌+◌, ◌-◌, ◌*◌, length}
 use Rattle.fidl_tree.specs.Leaf.{joined}
 use Rattle.fidl_tree.specs.TypeConstructor.{next_type_argument_leaves, member_leaves, ordinal_member_leaves}
 use Rattle.fidl_parse.specs.Reading.{Reads}
+use Rattle.fidl_parse.proofs.Rows.{Left}
+use Rattle.fidl_span.specs.declared.words.WordKind.TheVariants as kind
+use Rattle.fidl_parse.specs.Follow.{Begins}
 use Rattle.fidl_parse.proofs.parser.Parser.+types.Given as goal
 
 abbrev pub decreases-layout : goal.decreases-layout
@@ -59,23 +62,32 @@ decreases-union_layout l = 7 * (length l.self.now.words.now - l.at.now) + 2
 abbrev pub decreases-values_layout : goal.decreases-values_layout
 decreases-values_layout l = 7 * (length l.self.now.words.now - l.at.now) + 2
 
--- from the start to here the arguments so far are read
+-- from the start to here the arguments so far are read, and from here what is left of any
 abbrev pub invariant-next_type_arguments-loop-arguments : goal.invariant-next_type_arguments-loop-arguments
-invariant-next_type_arguments-loop-arguments l = Reads l.self l.fn.at l.at (joined (map next_type_argument_leaves l.arguments.items))
+invariant-next_type_arguments-loop-arguments l = record {
+  reads : Reads l.self l.fn.at l.at (joined (map next_type_argument_leaves l.arguments.items));
+  left : Left next_type_argument_leaves (Begins kind.Greater) l.self l.fn.at l.at;
+}
 
 abbrev pub decreases-next_type_arguments-loop-arguments : goal.decreases-next_type_arguments-loop-arguments
 decreases-next_type_arguments-loop-arguments l = length l.self.words.now - l.at
 
--- from the start to here the members so far are read
+-- from the start to here the members so far are read, and from here what is left of any
 abbrev pub invariant-members-loop-members : goal.invariant-members-loop-members
-invariant-members-loop-members l = Reads l.self l.fn.at l.at (joined (map member_leaves l.members.items))
+invariant-members-loop-members l = record {
+  reads : Reads l.self l.fn.at l.at (joined (map member_leaves l.members.items));
+  left : Left member_leaves (Begins kind.RightBrace) l.self l.fn.at l.at;
+}
 
 abbrev pub decreases-members-loop-members : goal.decreases-members-loop-members
 decreases-members-loop-members l = length l.self.words.now - l.at
 
--- from the start to here the members so far are read
+-- from the start to here the members so far are read, and from here what is left of any
 abbrev pub invariant-ordinal_members-loop-members : goal.invariant-ordinal_members-loop-members
-invariant-ordinal_members-loop-members l = Reads l.self l.fn.at l.at (joined (map ordinal_member_leaves l.members.items))
+invariant-ordinal_members-loop-members l = record {
+  reads : Reads l.self l.fn.at l.at (joined (map ordinal_member_leaves l.members.items));
+  left : Left ordinal_member_leaves (Begins kind.RightBrace) l.self l.fn.at l.at;
+}
 
 abbrev pub decreases-ordinal_members-loop-members : goal.decreases-ordinal_members-loop-members
 decreases-ordinal_members-loop-members l = length l.self.words.now - l.at

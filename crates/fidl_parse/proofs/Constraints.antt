@@ -1,0 +1,37 @@
+-- What constraints begin with, and which of the two forms stands ahead.
+use Rattle.std.proofs.Common.{ℕ, ◌+◌, List, ◌++◌, append_assoc, refl}
+use Rattle.fidl_span.specs.declared.words.Span.{Span}
+use Rattle.fidl_span.specs.declared.words.WordKind.TheVariants as kind
+use Rattle.fidl_tree.specs.Leaf.{Leaf, symbol}
+use Rattle.fidl_tree.specs.Value.{value_leaves}
+use Rattle.fidl_tree.specs.Constraint.{constraints_leaves, next_constraint_leaves}
+use Rattle.fidl_tree.specs.declared.value.Value.{Value}
+use Rattle.fidl_tree.specs.declared.constraint.Constraints.{Constraints}
+use Rattle.fidl_tree.specs.declared.constraint.Constraints.TheVariants as constraints
+use Rattle.fidl_tree.specs.declared.constraint.NextConstraint.{NextConstraint}
+use Rattle.fidl_parse.specs.declared.parser.Parser.{Parser}
+use Rattle.fidl_parse.specs.Reading.{IsKindAt}
+use Rattle.fidl_parse.specs.Ahead.{Ahead, row}
+use Rattle.fidl_parse.specs.Follow.{Begins}
+use Rattle.fidl_parse.proofs.Ahead.{step, kind_at, begins}
+use Rattle.fidl_parse.proofs.Follow.{starts_other}
+use Rattle.fidl_parse.proofs.Values.{starts_value, value_starts}
+
+pub constraints_begin : (y : Constraints) (ls : List Leaf) → Begins kind.Colon (constraints_leaves y ++ ls)
+constraints_begin (constraints.Single colon value) ls = refl
+constraints_begin (constraints.List colon less first more greater) ls = refl
+
+pub next_constraint_begins : (y : NextConstraint) (ls : List Leaf) → Begins kind.Comma (next_constraint_leaves y ++ ls)
+next_constraint_begins y ls = refl
+
+pub single_ahead : (p : Parser) (at : ℕ) (y : Constraints) (rest : List Leaf) → (IsKindAt p (at + 1) kind.Less → ⊥) → Ahead p at (constraints_leaves y ++ rest)
+    → (colon : Span) × (value : Value) × Ahead p at (symbol kind.Colon colon ++ (value_leaves value ++ rest))
+single_ahead p at (constraints.Single colon value) rest n a = (colon, value, a)
+single_ahead p at (constraints.List colon less first more greater) rest n a = absurd (n (kind_at p (at + 1) _ _ (step p at _ _ a)))
+
+pub list_ahead : (p : Parser) (at : ℕ) (y : Constraints) (rest : List Leaf) → IsKindAt p (at + 1) kind.Less → Ahead p at (constraints_leaves y ++ rest)
+    → (colon : Span) × (less : Span) × (first : Value) × (more : List NextConstraint) × (greater : Span)
+    × Ahead p at (symbol kind.Colon colon ++ (symbol kind.Less less ++ (value_leaves first ++ (row next_constraint_leaves more ++ (symbol kind.Greater greater ++ rest)))))
+list_ahead p at (constraints.Single colon value) rest i a =
+    absurd (starts_other starts_value kind.Less (value_leaves value ++ rest) refl (value_starts value rest) (begins p (at + 1) kind.Less _ i (step p at _ _ a)))
+list_ahead p at (constraints.List colon less first more greater) rest i a = (colon, less, first, more.items, greater, simp append_assoc at a)

@@ -1,0 +1,39 @@
+use Rattle.std.proofs.Common.{rules, refl}
+use Rattle.fidl_span.specs.declared.words.WordKind.TheVariants as kind
+use Rattle.fidl_parse.specs.Follow.{extends_type}
+use Rattle.fidl_parse.proofs.Ahead.{begins_not}
+use Rattle.fidl_parse.proofs.Stops.{stops}
+use Rattle.fidl_parse.proofs.parser.Parser.alias.Goals as goal
+
+pub returns-in_err-keyword-clause-complete : goal.returns-in_err-keyword-clause-complete
+returns-in_err-keyword-clause-complete c x rest m a =
+    let h = c.in_err-keyword.ensures.complete x.keyword _ tt a in
+    search (rules, h)
+
+pub returns-in_err-name-clause-complete : goal.returns-in_err-name-clause-complete
+returns-in_err-name-clause-complete c x rest m a =
+    let b1 = c.in_ok-keyword.ensures.complete x.keyword _ tt a in
+    let h = c.in_err-name.ensures.complete x.name _ tt b1 in
+    stops _ _ _ _ c.from_residual-in_err-name.ensures (λ x g. g) h
+
+pub returns-in_err-equals-clause-complete : goal.returns-in_err-equals-clause-complete
+returns-in_err-equals-clause-complete c x rest m a =
+    let b1 = c.in_ok-keyword.ensures.complete x.keyword _ tt a in
+    let b2 = c.in_ok-name.ensures.complete x.name _ tt b1 in
+    let h = c.in_err-equals.ensures.complete x.equals _ tt b2 in
+    stops _ _ _ _ c.from_residual-in_err-equals.ensures (λ x g. g) h
+
+pub returns-in_err-constructor-clause-complete : goal.returns-in_err-constructor-clause-complete
+returns-in_err-constructor-clause-complete c x rest m a =
+    let b1 = c.in_ok-keyword.ensures.complete x.keyword _ tt a in
+    let b2 = c.in_ok-name.ensures.complete x.name _ tt b1 in
+    let b3 = c.in_ok-equals.ensures.complete x.equals _ tt b2 in
+    let h = c.in_err-constructor.ensures.complete x.constructor _ (begins_not extends_type kind.Semicolon rest refl m) b3 in
+    stops _ _ _ _ c.from_residual-in_err-constructor.ensures (λ x g. g) h
+
+pub returns-clause-complete : goal.returns-clause-complete
+returns-clause-complete c x rest m a =
+    let b1 = c.in_ok-keyword.ensures.complete x.keyword _ tt a in
+    let b2 = c.in_ok-name.ensures.complete x.name _ tt b1 in
+    let b3 = c.in_ok-equals.ensures.complete x.equals _ tt b2 in
+    c.in_ok-constructor.ensures.complete x.constructor _ (begins_not extends_type kind.Semicolon rest refl m) b3

@@ -1,0 +1,27 @@
+use Rattle.std.proofs.Common.{rules}
+use Rattle.std.proofs.lemmas.Bool.{false≢true}
+use Rattle.fidl_parse.proofs.Attributes.{named_none, named_some}
+use Rattle.fidl_parse.proofs.parser.Parser.argument_name.Goals as goal
+
+pub returns-then-not-begins_argument_name-clause-complete : goal.returns-then-not-begins_argument_name-clause-complete
+returns-then-not-begins_argument_name-clause-complete c x rest m a =
+    named_none _ _ x rest (λ e. false≢true (c.if-not-begins_argument_name.ensures.1 e)) a
+
+pub returns-in_err-name-clause-complete : goal.returns-in_err-name-clause-complete
+returns-in_err-name-clause-complete c x rest m a =
+    let y = named_some _ _ x rest m (c.begins_argument_name.ensures.0 c.if-not-begins_argument_name.false) a in
+    let h = c.in_err-name.ensures.complete y.0.name _ tt y.1 in
+    search (rules, h)
+
+pub returns-in_err-equals-clause-complete : goal.returns-in_err-equals-clause-complete
+returns-in_err-equals-clause-complete c x rest m a =
+    let y = named_some _ _ x rest m (c.begins_argument_name.ensures.0 c.if-not-begins_argument_name.false) a in
+    let b1 = c.in_ok-name.ensures.complete y.0.name _ tt y.1 in
+    let h = c.in_err-equals.ensures.complete y.0.equals _ tt b1 in
+    search (rules, h)
+
+pub returns-clause-complete : goal.returns-clause-complete
+returns-clause-complete c x rest m a =
+    let y = named_some _ _ x rest m (c.begins_argument_name.ensures.0 c.if-not-begins_argument_name.false) a in
+    let b1 = c.in_ok-name.ensures.complete y.0.name _ tt y.1 in
+    c.in_ok-equals.ensures.complete y.0.equals _ tt b1

@@ -1,0 +1,33 @@
+use Rattle.std.proofs.Common.{rules, refl, codes}
+use Rattle.std.proofs.lemmas.Bool.{false≢true}
+use Rattle.fidl_span.specs.declared.words.WordKind.TheVariants as kind
+use Rattle.fidl_tree.specs.Protocol.{error_type_leaves}
+use Rattle.fidl_parse.specs.Follow.{extends_type}
+use Rattle.fidl_parse.proofs.Ahead.{begins_not}
+use Rattle.fidl_parse.proofs.Options.{option_none, option_some}
+use Rattle.fidl_parse.proofs.Words.{text_ahead, no_text}
+use Rattle.fidl_parse.proofs.Stops.{stops}
+use Rattle.fidl_parse.proofs.parser.Parser.error_type.Goals as goal
+
+pub returns-then-not-is_next_word-clause-complete : goal.returns-then-not-is_next_word-clause-complete
+returns-then-not-is_next_word-clause-complete c x rest m a =
+    option_none error_type_leaves _ _ x rest (λ y ls b. false≢true (c.if-not-is_next_word.ensures.next.1 (text_ahead _ _ (codes "error") y.keyword _ b))) a
+
+pub returns-in_err-keyword-clause-complete : goal.returns-in_err-keyword-clause-complete
+returns-in_err-keyword-clause-complete c x rest m a =
+    let y = option_some error_type_leaves _ _ x rest (λ b. no_text _ _ (codes "error") kind.Semicolon rest m refl (c.is_next_word.ensures.next.0 c.if-not-is_next_word.false) b) a in
+    let h = c.in_err-keyword.ensures.complete y.0.keyword _ tt y.1 in
+    search (rules, h)
+
+pub returns-in_err-constructor-clause-complete : goal.returns-in_err-constructor-clause-complete
+returns-in_err-constructor-clause-complete c x rest m a =
+    let y = option_some error_type_leaves _ _ x rest (λ b. no_text _ _ (codes "error") kind.Semicolon rest m refl (c.is_next_word.ensures.next.0 c.if-not-is_next_word.false) b) a in
+    let b1 = c.in_ok-keyword.ensures.complete y.0.keyword _ tt y.1 in
+    let h = c.in_err-constructor.ensures.complete y.0.constructor _ (begins_not extends_type kind.Semicolon rest refl m) b1 in
+    stops _ _ _ _ c.from_residual-in_err-constructor.ensures (λ x g. g) h
+
+pub returns-clause-complete : goal.returns-clause-complete
+returns-clause-complete c x rest m a =
+    let y = option_some error_type_leaves _ _ x rest (λ b. no_text _ _ (codes "error") kind.Semicolon rest m refl (c.is_next_word.ensures.next.0 c.if-not-is_next_word.false) b) a in
+    let b1 = c.in_ok-keyword.ensures.complete y.0.keyword _ tt y.1 in
+    c.in_ok-constructor.ensures.complete y.0.constructor _ (begins_not extends_type kind.Semicolon rest refl m) b1
