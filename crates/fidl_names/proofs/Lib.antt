@@ -2,3 +2,11 @@ pub mod Taken
 pub mod Texts
 pub mod Adding
 pub mod Files
+pub mod Spans
+pub mod Seeing
+pub mod Positions
+pub mod Finding
+pub mod Members
+pub mod Words
+pub mod Readings
+pub mod Components

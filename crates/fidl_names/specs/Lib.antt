@@ -1,4 +1,7 @@
 pub mod Names
 pub mod Seen
+pub mod Imports
+pub mod Positions
+pub mod Meanings
 pub mod Faults
 pub mod Stored

@@ -4,15 +4,19 @@ use Rattle.std.specs.Global.{Vec}
 use Rattle.fidl_names.specs.declared.place.Place.{Place}
 use Rattle.fidl_names.specs.declared.place.Position.{Position}
 use Rattle.fidl_names.specs.declared.fault.NameFault.{NameFault}
-use Rattle.fidl_names.specs.declared.fault.NameFault.TheVariants.{DuplicateName, Memory}
+use Rattle.fidl_names.specs.declared.fault.NameFault.TheVariants.{DuplicateName, BadImport, Memory}
 use Rattle.fidl_names.specs.Names.{IsOneOf}
 
--- each full name with its declaration's position, in order
-abbrev pub seen : List (Vec ℕ × Position) → List (List ℕ × Position)
+-- each name with what stands there, in order
+abbrev pub seen : {X : Type 0} → List (Vec ℕ × X) → List (List ℕ × X)
 seen entries = map (λ e. (e.0.items, e.1)) entries
 
--- the full names alone
-abbrev pub names_of : List (List ℕ × Position) → List (List ℕ)
+-- the same where texts stand there
+abbrev pub seen_texts : List (Vec ℕ × Vec ℕ) → List (List ℕ × List ℕ)
+seen_texts entries = map (λ e. (e.0.items, e.1.items)) entries
+
+-- the names alone
+abbrev pub names_of : {X : Type 0} → List (List ℕ × X) → List (List ℕ)
 names_of entries = map (λ e. e.0) entries
 
 -- a declaration at this place cannot be added: its full name is there
@@ -20,3 +24,9 @@ abbrev pub IsTaken : List (List ℕ × Position) → List ℕ → Place → Name
 IsTaken entries name place (DuplicateName told) = (told ≡ place) × IsOneOf (names_of entries) name
 IsTaken entries name place Memory = Unit {0}
 IsTaken entries name place fault = ⊥
+
+-- an import at this place cannot stand: its name is there
+abbrev pub IsRepeated : List (List ℕ × List ℕ) → List ℕ → Place → NameFault → Type 0
+IsRepeated entries name place (BadImport told) = (told ≡ place) × IsOneOf (names_of entries) name
+IsRepeated entries name place Memory = Unit {0}
+IsRepeated entries name place fault = ⊥

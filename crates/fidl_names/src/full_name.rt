@@ -1,10 +1,10 @@
 //! The full names of declarations.
-ghost use Rattle.std.specs.Prelude.{◌≡◌, ◌++◌, IfOk, codes};
+ghost use Rattle.std.specs.Prelude.{◌≡◌, ◌++◌, IfOk, flat_map, codes};
 ghost use Rattle.fidl_tree.specs.Leaf.{text_at};
-ghost use Rattle.fidl_names.specs.Names.{path_text, library_of, name_span};
+ghost use Rattle.fidl_names.specs.Names.{path_text, part_text, name_span};
 
 use fidl_span::Span;
-use fidl_tree::{DeclarationBody, File, Path};
+use fidl_tree::{DeclarationBody, File, Path, PathPart};
 use std::alloc::{AllocError, Global};
 
 /// Where a declaration's name stands.
@@ -21,17 +21,29 @@ pub(crate) fn name_span(body: &DeclarationBody) -> Span
     }
 }
 
-/// The components of a path, with dots between.
-pub(crate) fn path_text(alloc: Global, file: &File<'_>, path: &Path) -> Result<Vec<u8>, AllocError>
-    ensures { IfOk result (λ text. text.items ≡ path_text file.now.src.now path.now) }
+/// A name and those of parts, with dots between.
+pub(crate) fn dotted_text(
+    alloc: Global,
+    file: &File<'_>,
+    first: Span,
+    parts: &[PathPart],
+) -> Result<Vec<u8>, AllocError>
+    ensures { IfOk result (λ text. text.items ≡ text_at file.now.src.now first ++ flat_map (part_text file.now.src.now) parts.now) }
 {
     let mut text = Vec::new(alloc);
-    text.extend_from_slice(file.text(path.first))?;
-    for part in &path.rest {
+    text.extend_from_slice(file.text(first))?;
+    for part in parts {
         text.push(b'.')?;
         text.extend_from_slice(file.text(part.name))?;
     }
     Ok(text)
+}
+
+/// The components of a path, with dots between.
+pub(crate) fn path_text(alloc: Global, file: &File<'_>, path: &Path) -> Result<Vec<u8>, AllocError>
+    ensures { IfOk result (λ text. text.items ≡ path_text file.now.src.now path.now) }
+{
+    dotted_text(alloc, file, path.first, &path.rest)
 }
 
 /// A name of a library, behind the library's and a slash.

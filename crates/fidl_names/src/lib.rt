@@ -4,8 +4,11 @@
 mod declarations;
 mod fault;
 mod full_name;
+mod imports;
 mod library_set;
+mod meaning;
 mod place;
+mod reading;
 #[cfg(test)]
 mod tests;
 

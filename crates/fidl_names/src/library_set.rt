@@ -1,12 +1,15 @@
 //! Libraries, as the files that belong to them.
-ghost use Rattle.std.specs.Prelude.{◌≡◌, ◌++◌, ◌∷◌, [], length, IfErr, OnOk, OnErr};
+ghost use Rattle.std.specs.Prelude.{◌≡◌, ◌++◌, ◌∷◌, [], length, IfErr, OnOk, OnErr, IfSome, IsNone};
+ghost use Rattle.fidl_tree.specs.declared.file.File.{File as Tree};
+ghost use Rattle.fidl_tree.specs.declared.declaration.Declaration.{Declaration as Node};
+ghost use Rattle.fidl_names.specs.declared.place.Position.{Position};
 ghost use Rattle.fidl_names.specs.Names.{all_declared, AreDistinct};
 ghost use Rattle.fidl_names.specs.Faults.{IsTrueOfAdding};
 
 use crate::declarations::declare_all;
 use crate::fault::NameFault;
 use crate::place::Position;
-use fidl_tree::File;
+use fidl_tree::{Declaration, File};
 use indexmap::IndexMap;
 use std::alloc::Global;
 use std::marker::Model;
@@ -35,7 +38,33 @@ impl<'f, 's> Model for LibrarySet<'f, 's> {
     ghost invariant = { λ s. (seen s.names.entries ≡ all_entries (map (λ f. f.now) s.files.items) 0) × AreDistinct (names_of (seen s.names.entries)) };
 }
 
+/// A declaration of a set, with its file.
+#[derive(Clone, Copy, Drop)]
+pub(crate) struct Found<'f, 's> {
+    pub position: Position,
+    pub file: &'f File<'s>,
+    pub declaration: &'f Declaration,
+}
+
 impl<'f, 's> LibrarySet<'f, 's> {
+    ghost use Rattle.fidl_names.specs.Positions.{IsDeclared};
+
+    /// The declaration of a full name.
+    pub(crate) fn find(&self, full: &[u8]) -> Option<Found<'f, 's>>
+        ensures found { IfSome result (λ x. IsDeclared self.now full.now x.position x.file.now x.declaration.now) }
+        ensures only { IfSome result (λ x. (p : Position) (f : Tree) (d : Node) → IsDeclared self.now full.now p f d → p ≡ x.position) }
+        ensures none { IsNone result → (p : Position) (f : Tree) (d : Node) → IsDeclared self.now full.now p f d → ⊥ }
+    {
+        let position = *self.names.get(full)?;
+        let file = self.files[position.file];
+        let declaration = &file.declarations[position.index];
+        Some(Found {
+            position,
+            file,
+            declaration,
+        })
+    }
+
     /// No files; it takes no memory.
     pub fn new(alloc: Global) -> LibrarySet<'f, 's>
         ensures { result ≡ [] }
