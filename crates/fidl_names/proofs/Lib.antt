@@ -10,3 +10,4 @@ pub mod Members
 pub mod Words
 pub mod Readings
 pub mod Components
+pub mod Differing

@@ -2,11 +2,13 @@
 #![tactic(auto)]
 
 mod declarations;
+mod differ;
 mod fault;
 mod full_name;
 mod imports;
 mod library_set;
 mod meaning;
+mod member_lists;
 mod place;
 mod reading;
 #[cfg(test)]
