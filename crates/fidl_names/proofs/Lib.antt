@@ -11,3 +11,4 @@ pub mod Words
 pub mod Readings
 pub mod Components
 pub mod Differing
+pub mod Sames

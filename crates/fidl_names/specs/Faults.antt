@@ -51,3 +51,10 @@ abbrev pub IsTrueOfAdding : List (List ℕ) → File → (number : ℕ) → Name
 IsTrueOfAdding before f number (DuplicateName place) = Repeats before f number place
 IsTrueOfAdding before f number Memory = Unit {0}
 IsTrueOfAdding before f number fault = ⊥
+
+-- what a refusal says is true of one of the files
+pub record IsTrueOfOne (files : List File) (Says : File → ℕ → NameFault → Type 0) (fault : NameFault) : Type 0 where
+  pub number : ℕ
+  pub file : File
+  pub file_at : slice_get files number ≡ Some file
+  pub says : Says file number fault

@@ -1,5 +1,5 @@
 -- What a map of full names holds.
-use Rattle.std.specs.Prelude.{ℕ, ◌≡◌, List, map}
+use Rattle.std.specs.Prelude.{ℕ, ◌≡◌, ◌↔◌, List, map}
 use Rattle.std.specs.Global.{Vec}
 use Rattle.fidl_names.specs.declared.place.Place.{Place}
 use Rattle.fidl_names.specs.declared.place.Position.{Position}
@@ -30,3 +30,7 @@ abbrev pub IsRepeated : List (List ℕ × List ℕ) → List ℕ → Place → N
 IsRepeated entries name place (BadImport told) = (told ≡ place) × IsOneOf (names_of entries) name
 IsRepeated entries name place Memory = Unit {0}
 IsRepeated entries name place fault = ⊥
+
+-- two lists have the same names
+abbrev pub HaveSame : (one other : List (List ℕ)) → Type 0
+HaveSame one other = (name : List ℕ) → IsOneOf one name ↔ IsOneOf other name

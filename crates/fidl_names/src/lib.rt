@@ -11,6 +11,7 @@ mod meaning;
 mod member_lists;
 mod place;
 mod reading;
+mod rules;
 #[cfg(test)]
 mod tests;
 

@@ -1,5 +1,5 @@
 //! Libraries, as the files that belong to them.
-ghost use Rattle.std.specs.Prelude.{◌≡◌, ◌++◌, ◌∷◌, [], length, IfErr, OnOk, OnErr, IfSome, IsNone};
+ghost use Rattle.std.specs.Prelude.{◌≡◌, ◌<◌, ◌++◌, ◌∷◌, [], length, slice_get, Some, IfErr, OnOk, OnErr, IfSome, IsNone};
 ghost use Rattle.fidl_tree.specs.declared.file.File.{File as Tree};
 ghost use Rattle.fidl_tree.specs.declared.declaration.Declaration.{Declaration as Node};
 ghost use Rattle.fidl_names.specs.declared.place.Position.{Position};
@@ -63,6 +63,21 @@ impl<'f, 's> LibrarySet<'f, 's> {
             file,
             declaration,
         })
+    }
+
+    /// How many files it has.
+    pub(crate) fn count(&self) -> usize
+        ensures { result ≡ length self.now }
+    {
+        self.files.len()
+    }
+
+    /// The file of this number.
+    pub(crate) fn file(&self, number: usize) -> &'f File<'s>
+        requires { number < length self.now }
+        ensures { slice_get self.now number ≡ Some result.now }
+    {
+        self.files[number]
     }
 
     /// No files; it takes no memory.

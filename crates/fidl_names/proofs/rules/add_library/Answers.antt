@@ -1,0 +1,21 @@
+use Rattle.std.proofs.Common.{◌≡◌, ◌++◌, ◌∷◌, [], ℕ, List, ap, sym, ◌∙◌}
+use Rattle.std.specs.Global.{Vec}
+use Rattle.std.proofs.lemmas.List.{map-append}
+use Rattle.indexmap.proofs.CallerLemmas.{insert_entry-new}
+use Rattle.fidl_names.specs.Seen.{seen, names_of}
+use Rattle.fidl_names.proofs.Taken.{taken, none_there}
+use Rattle.fidl_names.proofs.Sames.{same_there, same_as}
+use Rattle.fidl_names.proofs.rules.add_library.Goals as goal
+
+pub returns-then-contains_key : goal.returns-then-contains_key
+returns-then-contains_key c =
+    let es = c.args.libraries.now.entries in
+    let there = (taken es c.args.name.items).0 (sym c.contains_key.ensures ∙ c.if-contains_key.true) in
+    same_there (names_of (seen es)) c.args.name.items there
+
+pub returns : goal.returns
+returns c =
+    let es = c.args.libraries.now.entries in
+    let none = none_there _ (sym c.contains_key.ensures ∙ c.if-contains_key.false) in
+    let more = c.in_ok-insert.ensures.entries ∙ insert_entry-new _ c.args.libraries.now c.args.name c.len-number.result none in
+    same_as _ _ (ap (λ l. names_of (seen l)) more ∙ ap names_of (map-append (λ (e : Vec ℕ × ℕ). (e.0.items, e.1)) es ((c.args.name, c.len-number.result) ∷ [])) ∙ map-append (λ (e : List ℕ × ℕ). e.0) (seen es) _)

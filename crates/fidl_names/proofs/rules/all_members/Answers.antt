@@ -1,0 +1,25 @@
+use Rattle.std.proofs.Common.{◌≡◌, get_or, sym, arith}
+use Rattle.std.proofs.lemmas.Result.{err_from_is_err_and}
+use Rattle.std.proofs.lemmas.Option.{get_or_from_slice_get}
+use Rattle.fidl_tree.specs.declared.file.File.{File}
+use Rattle.fidl_names.specs.MemberLists.{DistinctMembers, RepeatsMember, IsRepeatedAt}
+use Rattle.fidl_names.specs.Faults.{IsTrueOfOne}
+use Rattle.fidl_names.proofs.Seeing.{all_take}
+use Rattle.fidl_names.proofs.rules.all_members.Goals as goal
+
+pub loop-number-preserved : goal.loop-number-preserved
+loop-number-preserved c =
+    let files = c.args.set.now in
+    let i = c.loop-number.number in
+    let f = c.file.result.now in
+    let lt = c.loop-number-test.true in
+    let long = c.count-number-end.ensures in
+    let is : f ≡ get_or files i f = sym (get_or_from_slice_get files i f f c.file.ensures) in
+    all_take files i f (omega arith) is DistinctMembers c.loop-number.invariant c.in_ok-see_members.ensures.differ
+
+pub returns-in_err-see_members-clause-told : goal.returns-in_err-see_members-clause-told
+returns-in_err-see_members-clause-told c =
+    let h : IsTrueOfOne c.args.set.now (λ (f : File). IsRepeatedAt (RepeatsMember f)) c.in_err-see_members.field-0.0 =
+    record { number = c.loop-number.number; file = c.file.result.now; file_at = c.file.ensures; says = c.in_err-see_members.ensures.told } in
+    let p = err_from_is_err_and c.from_residual.result c.from_residual.ensures.1 in
+    rw (p.1, p.2) h
