@@ -12,3 +12,4 @@ pub mod Readings
 pub mod Components
 pub mod Differing
 pub mod Sames
+pub mod Trails

@@ -4,5 +4,6 @@ pub mod Imports
 pub mod Positions
 pub mod Meanings
 pub mod MemberLists
+pub mod Cycles
 pub mod Faults
 pub mod Stored

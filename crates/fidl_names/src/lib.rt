@@ -1,6 +1,7 @@
 //! Names of the language: libraries of FIDL sources, and the one meaning of each name in them (docs/language.md, "Names").
 #![tactic(auto)]
 
+mod cycles;
 mod declarations;
 mod differ;
 mod fault;

@@ -1,4 +1,4 @@
-use Rattle.std.proofs.Common.{◌≡◌, ◌++◌, ◌∷◌, [], ℕ, List, ap, sym, ◌∙◌}
+use Rattle.std.proofs.Common.{◌∷◌, [], ℕ, List, ap, sym, ◌∙◌}
 use Rattle.std.specs.Global.{Vec}
 use Rattle.std.proofs.lemmas.List.{map-append}
 use Rattle.indexmap.proofs.CallerLemmas.{insert_entry-new}
