@@ -13,3 +13,4 @@ pub mod Components
 pub mod Differing
 pub mod Sames
 pub mod Trails
+pub mod Layouts

@@ -112,16 +112,16 @@ module _ (graph : List (List ℕ)) where
   trail_less (x ∷ []) n h = (tt, tt)
   trail_less (x ∷ y ∷ ys) n h = (h.0, trail_less (y ∷ ys) n h.1)
 
-  first_leads : (x : ℕ) (xs : List ℕ) (n z : ℕ) → IsTrail (x ∷ (xs ++ n ∷ [])) → IsEdge graph n z → Leads (IsEdge graph) x z
-  first_leads x [] n z h e = further x n z h.0 (step n z e)
-  first_leads x (y ∷ ys) n z h e = further x y z h.0 (first_leads y ys n z h.1 e)
+  first_leads : (x : ℕ) (xs : List ℕ) (n : ℕ) → IsTrail (x ∷ (xs ++ n ∷ [])) → Leads (IsEdge graph) x n
+  first_leads x [] n h = step x n h.0
+  first_leads x (y ∷ ys) n h = further x y n h.0 (first_leads y ys n h.1)
 
-  -- each point of a trail leads where its last does
-  pub trail_leads : (xs : List ℕ) (n t z : ℕ) → IsTrail (xs ++ n ∷ []) → IsPoint (xs ++ n ∷ []) t → IsEdge graph n z → Leads (IsEdge graph) t z
-  trail_leads [] n t z h (inl is) e = subst (λ a. Leads (IsEdge graph) a z) is (step n z e)
-  trail_leads [] n t z h (inr m) e = absurd m
-  trail_leads (x ∷ xs) n t z h (inl is) e = subst (λ a. Leads (IsEdge graph) a z) is (first_leads x xs n z h e)
-  trail_leads (x ∷ xs) n t z h (inr m) e = trail_leads xs n t z h.1 m e
+  -- the last point of a trail leads at once to none of the trail but those that lead back to it
+  pub leads_back : (xs : List ℕ) (n t : ℕ) → IsTrail (xs ++ n ∷ []) → IsPoint (xs ++ n ∷ []) t → IsEdge graph n t → Leads (IsEdge graph) t n
+  leads_back [] n t h (inl is) e = subst (λ a. Leads (IsEdge graph) t a) (sym is) (step t t (subst (λ a. IsEdge graph a t) is e))
+  leads_back [] n t h (inr m) e = absurd m
+  leads_back (x ∷ xs) n t h (inl is) e = subst (λ a. Leads (IsEdge graph) a n) is (first_leads x xs n h)
+  leads_back (x ∷ xs) n t h (inr m) e = leads_back xs n t h.1 m e
 
 -- where each of these is marked, so is one of them
 pub each_marked : (marks : List Bool) (ts : List ℕ) → ((k : ℕ) → k < length ts → IsMarked marks (get_or ts k 0)) → (b : ℕ) → Contains ts b → IsMarked marks b

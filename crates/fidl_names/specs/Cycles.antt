@@ -14,6 +14,10 @@ pub record IsEdge (graph : List (List ℕ)) (one other : ℕ) : Type 0 where
   pub stands : slice_get graph one ≡ Some targets
   pub among : Contains targets other
 
+-- an edge whose end leads back to its start
+abbrev pub IsClosing : (graph : List (List ℕ)) → (one other : ℕ) → Type 0
+IsClosing graph one other = IsEdge graph one other × Leads (IsEdge graph) other one
+
 -- a graph as vectors hold it
 abbrev pub points_of : List (Vec ℕ) → List (List ℕ)
 points_of graph = map (λ v. v.items) graph

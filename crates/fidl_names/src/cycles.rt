@@ -1,7 +1,7 @@
 //! Cycles in a graph whose points are numbered.
 ghost use Rattle.std.specs.Prelude.{◌≡◌, ◌<◌, ℕ, false, length, slice_index, slice_index_or, IfOk, IfSome, IsNone};
 ghost use Rattle.std.specs.List.{Contains};
-ghost use Rattle.fidl_names.specs.Cycles.{Leads, IsEdge, IsMarked, HasNoCycle, points_of};
+ghost use Rattle.fidl_names.specs.Cycles.{Leads, IsEdge, IsClosing, IsMarked, HasNoCycle, points_of};
 
 use std::alloc::{AllocError, Global};
 
@@ -10,6 +10,13 @@ use std::alloc::{AllocError, Global};
 struct Frame {
     point: usize,
     next: usize,
+}
+
+/// An edge whose end leads back to its start.
+#[derive(Clone, Copy, Drop)]
+pub(crate) struct Closing {
+    pub from: usize,
+    pub to: usize,
 }
 
 /// The first of the targets that isn't finished.
@@ -29,21 +36,21 @@ fn first_open(targets: &[usize], from: usize, done: &[bool]) -> Option<usize>
     None
 }
 
-/// Goes all ways from a point that lead to points not finished. Finds a point that leads to itself, or finishes all that it met.
+/// Goes all ways from a point that lead to points not finished. Finds an edge of a cycle, or finishes all that it met.
 fn search_from(
     graph: &[Vec<usize>],
     alloc: Global,
     seen: &mut [bool],
     done: &mut [bool],
     root: usize,
-) -> Result<Option<usize>, AllocError>
+) -> Result<Option<Closing>, AllocError>
     requires edges { (one other : ℕ) → IsEdge (points_of graph.now) one other → other < length graph.now }
     requires all_seen { length seen.old ≡ length graph.now }
     requires all_done { length done.old ≡ length graph.now }
     requires within { root < length graph.now }
     requires sound { HasNoCycle (points_of graph.now) done.old }
     requires settled { (t : ℕ) → IsMarked seen.old t → IsMarked done.old t }
-    ensures cycle { IfOk result (λ found. IfSome found (λ t. Leads (IsEdge (points_of graph.now)) t t)) }
+    ensures cycle { IfOk result (λ found. IfSome found (λ e. IsClosing (points_of graph.now) e.from e.to)) }
     ensures sound { IfOk result (λ found. IsNone found → HasNoCycle (points_of graph.now) done.new) }
     ensures settled { IfOk result (λ found. IsNone found → (t : ℕ) → IsMarked seen.new t → IsMarked done.new t) }
     ensures kept { IfOk result (λ found. IsNone found → (t : ℕ) → IsMarked done.old t → IsMarked done.new t) }
@@ -68,7 +75,10 @@ fn search_from(
             Some(i) => {
                 let target = graph[point][i];
                 if seen[target] {
-                    return Ok(Some(target));
+                    return Ok(Some(Closing {
+                        from: point,
+                        to: target,
+                    }));
                 }
                 seen[target] = true;
                 path.push(Frame { point, next: i })?;
@@ -79,10 +89,10 @@ fn search_from(
     }
 }
 
-/// A point that leads to itself.
-pub(crate) fn find_cycle(graph: &[Vec<usize>], alloc: Global) -> Result<Option<usize>, AllocError>
+/// An edge of a cycle.
+pub(crate) fn find_cycle(graph: &[Vec<usize>], alloc: Global) -> Result<Option<Closing>, AllocError>
     requires { (one other : ℕ) → IsEdge (points_of graph.now) one other → other < length graph.now }
-    ensures found { IfOk result (λ found. IfSome found (λ t. Leads (IsEdge (points_of graph.now)) t t)) }
+    ensures found { IfOk result (λ found. IfSome found (λ e. IsClosing (points_of graph.now) e.from e.to)) }
     ensures none { IfOk result (λ found. IsNone found → (t : ℕ) → Leads (IsEdge (points_of graph.now)) t t → ⊥) }
 {
     let mut seen = vec![in alloc; false; graph.len()]?;

@@ -2,6 +2,7 @@
 ghost use Rattle.std.specs.Prelude.{◌≡◌, ◌++◌, ◌∷◌, [], map, IfErr, IfOk, OnOk};
 ghost use Rattle.std.specs.List.{AllByRecursion};
 ghost use Rattle.fidl_names.specs.Imports.{visible, libraries_of, ImportsAreKnown, ImportsAreApart, IsTrueOfImports};
+ghost use Rattle.fidl_names.specs.Meanings.{MembersDiffer};
 ghost use Rattle.fidl_names.specs.MemberLists.{DistinctMembers, RepeatsMember, IsRepeatedAt};
 ghost use Rattle.fidl_names.specs.Seen.{seen, seen_texts, names_of, HaveSame};
 ghost use Rattle.fidl_names.specs.Faults.{IsTrueOfOne};
@@ -45,6 +46,7 @@ pub(crate) fn libraries(
 /// Members differ in each file.
 pub(crate) fn all_members(set: &LibrarySet<'_, '_>, alloc: Global) -> Result<(), NameFault>
     ensures differ { OnOk result (AllByRecursion DistinctMembers set.now) }
+    ensures values { OnOk result (MembersDiffer set.now) }
     ensures told { IfErr result (IsTrueOfOne set.now (λ f. IsRepeatedAt (RepeatsMember f))) }
 {
     for number in 0..set.count() {

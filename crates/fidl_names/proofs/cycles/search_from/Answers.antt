@@ -2,8 +2,8 @@ use Rattle.std.proofs.Common.{◌<◌, ◌++◌, ◌∷◌, [], ℕ, true, false
 use Rattle.std.specs.Prelude.{◌⊎◌, map}
 use Rattle.std.specs.List.{Contains, AllByRecursion}
 use Rattle.fidl_names.specs.declared.cycles.Frame.{Frame}
-use Rattle.fidl_names.specs.Cycles.{Leads, IsEdge, IsMarked, points_of}
-use Rattle.fidl_names.proofs.Trails.{row_is, edge_to, target_of, each_marked, finished, trail_less, trail_more, trail_leads, trail_split, trail_of, IsTrail, IsPoint, IsPassed, still_marked, marked_here, marked_before, point_before, point_last, point_cases, passed_still, all_front, all_last, all_more, all_weaker, unmarked_less, target_edge, target_is}
+use Rattle.fidl_names.specs.Cycles.{IsClosing, IsMarked, points_of}
+use Rattle.fidl_names.proofs.Trails.{row_is, edge_to, target_of, each_marked, finished, trail_less, trail_more, leads_back, trail_split, trail_of, IsTrail, IsPoint, IsPassed, still_marked, marked_here, marked_before, point_before, point_last, point_cases, passed_still, all_front, all_last, all_more, all_weaker, unmarked_less, target_edge, target_is}
 use Rattle.fidl_names.proofs.cycles.search_from.Goals as goal
 
 pub first_open-requires-clause-within : goal.first_open-requires-clause-within
@@ -53,9 +53,9 @@ returns-then-seen-target-clause-cycle c =
     let target = c.index-target.result.now in
     let edge = target_edge graph point c.index-graph-point.result c.index-graph-point-in-Some.result inv.here.0 c.index-graph-point.is c.index-graph-point-in-Some.is c.deref.result.now c.deref.ensures.value c.in-Some.i target c.in-Some.ensures.inside c.index-target.ensures in
     let the_target = target_is graph point c.index-graph-point.result c.index-graph-point-in-Some.result inv.here.0 c.index-graph-point.is c.index-graph-point-in-Some.is c.deref.result.now c.deref.ensures.value c.in-Some.i target c.in-Some.ensures.inside c.index-target.ensures in
-    elim (inv.known target c.if-seen-target.true) as (λ _. Leads (IsEdge (points_of graph)) target target) [
+    elim (inv.known target c.if-seen-target.true) as (λ _. IsClosing (points_of graph) point target) [
       | inl done ↦ absurd (true≢false (sym done ∙ ap (λ t. get_or c.loop-done.done t false) (sym the_target) ∙ c.in-Some.ensures.open))
-      | inr on ↦ trail_leads (points_of graph) (map (λ (f : Frame). f.point) c.loop-done.path.items) point target target inv.trail on edge
+      | inr on ↦ (edge, leads_back (points_of graph) (map (λ (f : Frame). f.point) c.loop-done.path.items) point target inv.trail on edge)
     ]
 
 pub loop-done-smaller : goal.loop-done-smaller

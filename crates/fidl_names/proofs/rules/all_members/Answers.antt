@@ -1,10 +1,13 @@
-use Rattle.std.proofs.Common.{◌≡◌, get_or, sym, arith}
+use Rattle.std.proofs.Common.{◌≡◌, get_or, sym, subst, arith}
+use Rattle.std.specs.List.{AllByRecursion}
+use Rattle.std.proofs.lemmas.List.{take_all}
 use Rattle.std.proofs.lemmas.Result.{err_from_is_err_and}
 use Rattle.std.proofs.lemmas.Option.{get_or_from_slice_get}
 use Rattle.fidl_tree.specs.declared.file.File.{File}
 use Rattle.fidl_names.specs.MemberLists.{DistinctMembers, RepeatsMember, IsRepeatedAt}
 use Rattle.fidl_names.specs.Faults.{IsTrueOfOne}
 use Rattle.fidl_names.proofs.Seeing.{all_take}
+use Rattle.fidl_names.proofs.Layouts.{members_differ}
 use Rattle.fidl_names.proofs.rules.all_members.Goals as goal
 
 pub loop-number-preserved : goal.loop-number-preserved
@@ -23,3 +26,9 @@ returns-in_err-see_members-clause-told c =
     record { number = c.loop-number.number; file = c.file.result.now; file_at = c.file.ensures; says = c.in_err-see_members.ensures.told } in
     let p = err_from_is_err_and c.from_residual.result c.from_residual.ensures.1 in
     rw (p.1, p.2) h
+
+pub returns-clause-values : goal.returns-clause-values
+returns-clause-values c =
+    let over = c.loop-number-test.false in
+    let long = c.count-number-end.ensures in
+    members_differ c.args.set.now (subst (AllByRecursion DistinctMembers) (take_all c.loop-number.number c.args.set.now (omega arith)) c.loop-number.invariant)
