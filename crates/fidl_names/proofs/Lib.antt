@@ -14,3 +14,4 @@ pub mod Differing
 pub mod Sames
 pub mod Trails
 pub mod Layouts
+pub mod Edges

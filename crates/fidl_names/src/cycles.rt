@@ -1,5 +1,5 @@
 //! Cycles in a graph whose points are numbered.
-ghost use Rattle.std.specs.Prelude.{◌≡◌, ◌<◌, ℕ, false, length, slice_index, slice_index_or, IfOk, IfSome, IsNone};
+ghost use Rattle.std.specs.Prelude.{◌≡◌, ◌<◌, ◌↔◌, ◌⊎◌, ℕ, false, length, slice_index, slice_index_or, IfOk, OnOk, IfSome, IsNone};
 ghost use Rattle.std.specs.List.{Contains};
 ghost use Rattle.fidl_names.specs.Cycles.{Leads, IsEdge, IsClosing, IsMarked, HasNoCycle, points_of};
 
@@ -87,6 +87,15 @@ fn search_from(
             }
         }
     }
+}
+
+/// Adds an edge.
+pub(crate) fn add_edge(graph: &mut [Vec<usize>], from: usize, to: usize) -> Result<(), AllocError>
+    requires { from < length graph.old }
+    ensures { OnOk result ((one other : ℕ) → IsEdge (points_of graph.new) one other ↔ (IsEdge (points_of graph.old) one other ⊎ ((one ≡ from) × (other ≡ to)))) }
+{
+    graph[from].push(to)?;
+    Ok(())
 }
 
 /// An edge of a cycle.
