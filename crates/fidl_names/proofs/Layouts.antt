@@ -66,7 +66,7 @@ all_get P [] i d h lt = absurd (omega (arith, lt))
 all_get P (x ∷ xs) zero d h lt = h.0
 all_get P (x ∷ xs) (suc i) d h lt = all_get P xs i d h.1 (omega (arith, lt))
 
-all_at : {X : Type 0} (P : X → Type 0) (xs : List X) (i : ℕ) (x : X) → AllByRecursion P xs → slice_get xs i ≡ Some x → P x
+pub all_at : {X : Type 0} (P : X → Type 0) (xs : List X) (i : ℕ) (x : X) → AllByRecursion P xs → slice_get xs i ≡ Some x → P x
 all_at P xs i x h e = subst P (get_or_from_slice_get xs i x x e) (all_get P xs i x h (slice_get_within xs i x e))
 
 -- where members differ in all files, those of declared bits and enums do

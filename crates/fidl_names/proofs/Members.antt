@@ -20,18 +20,18 @@ use Rattle.fidl_names.proofs.Positions.{same_file, same_declaration}
 abbrev pub name_in : List ℕ → ValueMember → List ℕ
 name_in src m = text_at src m.name
 
-module _ (src : List ℕ) (ms : List ValueMember) (i : ℕ) (m : ValueMember) (lt : i < length ms) (is : m ≡ get_or ms i m) where
-  member_at : slice_get (map (name_in src) ms) i ≡ Some (name_in src m)
-  member_at = slice_get-map (name_in src) ms i ∙ ap (option_map (name_in src)) (slice_get-get_or ms i m lt ∙ ap (λ x. Some x) (sym is))
+module _ {X : Type 0} (text : X → List ℕ) (ms : List X) (i : ℕ) (m : X) (lt : i < length ms) (is : m ≡ get_or ms i m) where
+  member_at : slice_get (map text ms) i ≡ Some (text m)
+  member_at = slice_get-map text ms i ∙ ap (option_map text) (slice_get-get_or ms i m lt ∙ ap (λ x. Some x) (sym is))
 
-  pub has_name : (name : List ℕ) → same (name_in src m) name ≡ true → slice_get (map (name_in src) ms) i ≡ Some name
-  has_name name eq = member_at ∙ ap (λ n. Some n) ((same_is (name_in src m) name).0 eq)
+  pub has_name : (name : List ℕ) → same (text m) name ≡ true → slice_get (map text ms) i ≡ Some name
+  has_name name eq = member_at ∙ ap (λ n. Some n) ((same_is (text m) name).0 eq)
 
-  pub has_other : (name : List ℕ) → same (name_in src m) name ≡ false → slice_get (map (name_in src) ms) i ≡ Some name → ⊥
+  pub has_other : (name : List ℕ) → same (text m) name ≡ false → slice_get (map text ms) i ≡ Some name → ⊥
   has_other name eq h =
-      let it : Some (name_in src m) ≡ Some name = sym member_at ∙ h in
-      let named : name_in src m ≡ name = cc in
-      true≢false (sym ((same_is (name_in src m) name).1 named) ∙ eq)
+      let it : Some (text m) ≡ Some name = sym member_at ∙ h in
+      let named : text m ≡ name = cc in
+      true≢false (sym ((same_is (text m) name).1 named) ∙ eq)
 
 place_among : (ns : List (List ℕ)) (i : ℕ) (n : List ℕ) → slice_get ns i ≡ Some n → IsOneOf ns n
 place_among [] i n h = absurd (cc)

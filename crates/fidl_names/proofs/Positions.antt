@@ -16,7 +16,7 @@ use Rattle.fidl_names.specs.Positions.{IsDeclared}
 abbrev pub at : ℕ → ℕ → Position
 at file index = record { file = file; index = index }
 
-entry_both : {X : Type 0} (xs ys : List (List ℕ × X)) (name : List ℕ) (x : X) → IsEntry (xs ++ ys) name x → IsEntry xs name x ⊎ IsEntry ys name x
+pub entry_both : {X : Type 0} (xs ys : List (List ℕ × X)) (name : List ℕ) (x : X) → IsEntry (xs ++ ys) name x → IsEntry xs name x ⊎ IsEntry ys name x
 entry_both [] ys name x h = inr h
 entry_both (e ∷ xs) ys name x (inl k) = inl (inl k)
 entry_both (e ∷ xs) ys name x (inr k) = elim (entry_both xs ys name x k) [ inl m ↦ inl (inr m) | inr m ↦ inr m ]

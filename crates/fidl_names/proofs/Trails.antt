@@ -1,6 +1,6 @@
 -- Trails: points of which each leads to the next at once; and what marks say when a point is finished.
 use Rattle.std.proofs.Common.{◌≡◌, ◌<◌, ◌+◌, ℕ, Bool, true, false, List, [], ◌∷◌, ◌++◌, inl, inr, refl, sym, subst, ◌∙◌, length, get_or, set, eqb, ap, true≢false, get_or-set_same, get_or-set_other, arith}
-use Rattle.std.specs.Prelude.{◌⊎◌, map}
+use Rattle.std.specs.Prelude.{◌⊎◌}
 use Rattle.std.specs.List.{Contains, AllByRecursion, sum_by}
 use Rattle.std.specs.Global.{Vec}
 use Rattle.std.proofs.lemmas.Bool.{cases_Bool}
@@ -11,7 +11,7 @@ use Rattle.std.proofs.lemmas.List.Elements.{Contains-get_or}
 use Rattle.std.proofs.lemmas.Option.{get_or_from_slice_get, slice_get_read}
 use Rattle.std.proofs.Math.ListN.{get_or-map, length-map}
 use Rattle.fidl_names.specs.declared.cycles.Frame.{Frame}
-use Rattle.fidl_names.specs.Cycles.{Leads, step, further, IsEdge, IsMarked, HasNoCycle, points_of}
+use Rattle.fidl_names.specs.Cycles.{Leads, step, further, IsEdge, IsMarked, HasNoCycle, IsPoint, IsTrail, points_of, trail_of}
 
 pub same_or_not : (a b : ℕ) → (a ≡ b) ⊎ (a ≡ b → ⊥)
 same_or_not a b = elim (cases_Bool (eqb a b)) as (λ _. (a ≡ b) ⊎ (a ≡ b → ⊥)) [
@@ -34,11 +34,6 @@ module _ (marks : List Bool) (p : ℕ) where
     | inl e ↦ inl e
     | inr ne ↦ inr (sym (get_or-set_other marks p t true false ne) ∙ h)
   ]
-
--- it is one of these points
-abbrev pub IsPoint : List ℕ → ℕ → Type 0
-IsPoint [] t = ⊥
-IsPoint (x ∷ xs) t = (x ≡ t) ⊎ IsPoint xs t
 
 pub point_before : (xs : List ℕ) (n t : ℕ) → IsPoint xs t → IsPoint (xs ++ n ∷ []) t
 point_before [] n t h = absurd h
@@ -93,35 +88,20 @@ module _ (graph : List (List ℕ)) where
         | inr old ↦ h.acyclic a old l
       ]
 
-  -- each leads to the next at once
-  abbrev pub Starts : ℕ → List ℕ → Type 0
-  Starts x [] = Unit {0}
-  Starts x (y ∷ ys) = IsEdge graph x y
-
-  abbrev pub IsTrail : List ℕ → Type 0
-  IsTrail [] = Unit {0}
-  IsTrail (x ∷ xs) = Starts x xs × IsTrail xs
-
-  pub trail_more : (xs : List ℕ) (n t : ℕ) → IsTrail (xs ++ n ∷ []) → IsEdge graph n t → IsTrail ((xs ++ n ∷ []) ++ t ∷ [])
+  pub trail_more : (xs : List ℕ) (n t : ℕ) → IsTrail graph (xs ++ n ∷ []) → IsEdge graph n t → IsTrail graph ((xs ++ n ∷ []) ++ t ∷ [])
   trail_more [] n t h e = (e, (tt, tt))
   trail_more (x ∷ []) n t h e = (h.0, trail_more [] n t h.1 e)
   trail_more (x ∷ y ∷ ys) n t h e = (h.0, trail_more (y ∷ ys) n t h.1 e)
 
-  pub trail_less : (xs : List ℕ) (n : ℕ) → IsTrail (xs ++ n ∷ []) → IsTrail xs
+  pub trail_less : (xs : List ℕ) (n : ℕ) → IsTrail graph (xs ++ n ∷ []) → IsTrail graph xs
   trail_less [] n h = tt
   trail_less (x ∷ []) n h = (tt, tt)
   trail_less (x ∷ y ∷ ys) n h = (h.0, trail_less (y ∷ ys) n h.1)
 
-  first_leads : (x : ℕ) (xs : List ℕ) (n : ℕ) → IsTrail (x ∷ (xs ++ n ∷ [])) → Leads (IsEdge graph) x n
-  first_leads x [] n h = step x n h.0
-  first_leads x (y ∷ ys) n h = further x y n h.0 (first_leads y ys n h.1)
-
-  -- the last point of a trail leads at once to none of the trail but those that lead back to it
-  pub leads_back : (xs : List ℕ) (n t : ℕ) → IsTrail (xs ++ n ∷ []) → IsPoint (xs ++ n ∷ []) t → IsEdge graph n t → Leads (IsEdge graph) t n
-  leads_back [] n t h (inl is) e = subst (λ a. Leads (IsEdge graph) t a) (sym is) (step t t (subst (λ a. IsEdge graph a t) is e))
-  leads_back [] n t h (inr m) e = absurd m
-  leads_back (x ∷ xs) n t h (inl is) e = subst (λ a. Leads (IsEdge graph) a n) is (first_leads x xs n h)
-  leads_back (x ∷ xs) n t h (inr m) e = leads_back xs n t h.1 m e
+  pub trail_edge : (xs : List ℕ) (n t : ℕ) → IsTrail graph ((xs ++ n ∷ []) ++ t ∷ []) → IsEdge graph n t
+  trail_edge [] n t h = h.0
+  trail_edge (x ∷ []) n t h = h.1.0
+  trail_edge (x ∷ y ∷ ys) n t h = trail_edge (y ∷ ys) n t h.1
 
 -- where each of these is marked, so is one of them
 pub each_marked : (marks : List Bool) (ts : List ℕ) → ((k : ℕ) → k < length ts → IsMarked marks (get_or ts k 0)) → (b : ℕ) → Contains ts b → IsMarked marks b
@@ -143,10 +123,6 @@ module _ {X : Type 0} where
   pub all_weaker : (P Q : X → Type 0) → ((x : X) → P x → Q x) → (xs : List X) → AllByRecursion P xs → AllByRecursion Q xs
   all_weaker P Q w [] h = tt
   all_weaker P Q w (x ∷ xs) h = (w x h.0, all_weaker P Q w xs h.1)
-
--- the points on the way, with the one that it has come to
-abbrev pub trail_of : List Frame → ℕ → List ℕ
-trail_of path point = map (λ (f : Frame). f.point) path ++ point ∷ []
 
 -- a point of the graph, of whose targets those before the next are marked
 abbrev pub IsPassed : (graph : List (Vec ℕ)) → List Bool → (point next : ℕ) → Type 0

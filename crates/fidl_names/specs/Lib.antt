@@ -4,6 +4,17 @@ pub mod Imports
 pub mod Positions
 pub mod Meanings
 pub mod MemberLists
+pub mod Places
+pub mod SeenPlaces
 pub mod Cycles
+pub mod Aliases
+pub mod Read
+pub mod Numbers
+pub mod AliasGraph
+pub mod Rows
 pub mod Faults
 pub mod Stored
+pub mod ImportCycles
+pub mod Items
+pub mod Scopes
+pub mod Resolved

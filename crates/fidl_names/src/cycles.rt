@@ -1,7 +1,7 @@
 //! Cycles in a graph whose points are numbered.
-ghost use Rattle.std.specs.Prelude.{◌≡◌, ◌<◌, ◌↔◌, ◌⊎◌, ℕ, false, length, slice_index, slice_index_or, IfOk, OnOk, IfSome, IsNone};
+ghost use Rattle.std.specs.Prelude.{◌≡◌, ◌<◌, ◌≤◌, ◌↔◌, ◌⊎◌, ℕ, List, false, length, slice_index, slice_index_or, IfOk, IfErr, IsOk, OnOk, IfSome, IsNone};
 ghost use Rattle.std.specs.List.{Contains};
-ghost use Rattle.fidl_names.specs.Cycles.{Leads, IsEdge, IsClosing, IsMarked, HasNoCycle, points_of};
+ghost use Rattle.fidl_names.specs.Cycles.{Leads, IsEdge, IsFirstEdge, IsOrder, IsMarked, HasNoCycle, IsOrdered, IsPoint, IsTrail, points_of, trail_of};
 
 use std::alloc::{AllocError, Global};
 
@@ -12,7 +12,7 @@ struct Frame {
     next: usize,
 }
 
-/// An edge whose end leads back to its start.
+/// An edge of a cycle.
 #[derive(Clone, Copy, Drop)]
 pub(crate) struct Closing {
     pub from: usize,
@@ -36,12 +36,44 @@ fn first_open(targets: &[usize], from: usize, done: &[bool]) -> Option<usize>
     None
 }
 
-/// Goes all ways from a point that lead to points not finished. Finds an edge of a cycle, or finishes all that it met.
+/// The edge that leaves the lesser point; of two from one point the first.
+fn earlier(one: Closing, other: Closing) -> Closing
+    ensures { ((result ≡ one) × (one.from ≤ other.from)) ⊎ ((result ≡ other) × (other.from ≤ one.from)) }
+{
+    if other.from < one.from { other } else { one }
+}
+
+/// The edge that leaves the first point of a cycle: a way from the target to a point, and from there back.
+fn first_edge(path: &[Frame], point: usize, target: usize) -> Closing
+    requires { IsPoint (trail_of path.now point) target }
+    ensures { (graph : List (List ℕ)) → IsTrail graph (trail_of path.now point) → IsEdge graph point target → IsFirstEdge graph result.from result.to }
+{
+    let mut first = Closing {
+        from: point,
+        to: target,
+    };
+    let mut next = point;
+    let mut index = path.len();
+    while next != target {
+        index -= 1;
+        let before = path[index].point;
+        let edge = Closing {
+            from: before,
+            to: next,
+        };
+        first = earlier(first, edge);
+        next = before;
+    }
+    first
+}
+
+/// Goes all ways from a point that lead to points not finished. Finds a cycle's first edge, or finishes all that it met, each behind its targets.
 fn search_from(
     graph: &[Vec<usize>],
     alloc: Global,
     seen: &mut [bool],
     done: &mut [bool],
+    order: &mut Vec<usize>,
     root: usize,
 ) -> Result<Option<Closing>, AllocError>
     requires edges { (one other : ℕ) → IsEdge (points_of graph.now) one other → other < length graph.now }
@@ -50,7 +82,9 @@ fn search_from(
     requires within { root < length graph.now }
     requires sound { HasNoCycle (points_of graph.now) done.old }
     requires settled { (t : ℕ) → IsMarked seen.old t → IsMarked done.old t }
-    ensures cycle { IfOk result (λ found. IfSome found (λ e. IsClosing (points_of graph.now) e.from e.to)) }
+    requires ordered { IsOrdered (points_of graph.now) done.old order.old.items }
+    ensures cycle { IfOk result (λ found. IfSome found (λ e. IsFirstEdge (points_of graph.now) e.from e.to)) }
+    ensures ordered { IfOk result (λ found. IsNone found → IsOrdered (points_of graph.now) done.new order.new.items) }
     ensures sound { IfOk result (λ found. IsNone found → HasNoCycle (points_of graph.now) done.new) }
     ensures settled { IfOk result (λ found. IsNone found → (t : ℕ) → IsMarked seen.new t → IsMarked done.new t) }
     ensures kept { IfOk result (λ found. IsNone found → (t : ℕ) → IsMarked done.old t → IsMarked done.new t) }
@@ -64,6 +98,7 @@ fn search_from(
         match first_open(&graph[point], next, done) {
             None => {
                 done[point] = true;
+                order.push(point)?;
                 match path.pop() {
                     None => return Ok(None),
                     Some(frame) => {
@@ -75,10 +110,7 @@ fn search_from(
             Some(i) => {
                 let target = graph[point][i];
                 if seen[target] {
-                    return Ok(Some(Closing {
-                        from: point,
-                        to: target,
-                    }));
+                    return Ok(Some(first_edge(&path, point, target)));
                 }
                 seen[target] = true;
                 path.push(Frame { point, next: i })?;
@@ -98,19 +130,23 @@ pub(crate) fn add_edge(graph: &mut [Vec<usize>], from: usize, to: usize) -> Resu
     Ok(())
 }
 
-/// An edge of a cycle.
-pub(crate) fn find_cycle(graph: &[Vec<usize>], alloc: Global) -> Result<Option<Closing>, AllocError>
+/// An order of all points, each behind those that it leads to, or a cycle's first edge.
+pub(crate) fn find_cycle(
+    graph: &[Vec<usize>],
+    alloc: Global,
+) -> Result<Result<Vec<usize>, Closing>, AllocError>
     requires { (one other : ℕ) → IsEdge (points_of graph.now) one other → other < length graph.now }
-    ensures found { IfOk result (λ found. IfSome found (λ e. IsClosing (points_of graph.now) e.from e.to)) }
-    ensures none { IfOk result (λ found. IsNone found → (t : ℕ) → Leads (IsEdge (points_of graph.now)) t t → ⊥) }
+    ensures cycle { IfOk result (λ found. IfErr found (λ e. IsFirstEdge (points_of graph.now) e.from e.to)) }
+    ensures order { IfOk result (λ found. IfOk found (λ order. IsOrder (points_of graph.now) order.items)) }
+    ensures none { IfOk result (λ found. IsOk found → (t : ℕ) → Leads (IsEdge (points_of graph.now)) t t → ⊥) }
 {
     let mut seen = vec![in alloc; false; graph.len()]?;
     let mut done = vec![in alloc; false; graph.len()]?;
+    let mut order = Vec::new(alloc);
     for root in 0..graph.len() {
-        let found = search_from(graph, alloc, &mut seen, &mut done, root)?;
-        if found.is_some() {
-            return Ok(found);
+        if let Some(closing) = search_from(graph, alloc, &mut seen, &mut done, &mut order, root)? {
+            return Ok(Err(closing));
         }
     }
-    Ok(None)
+    Ok(Ok(order))
 }

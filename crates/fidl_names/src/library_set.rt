@@ -48,6 +48,7 @@ pub(crate) struct Found<'f, 's> {
 
 impl<'f, 's> LibrarySet<'f, 's> {
     ghost use Rattle.fidl_names.specs.Positions.{IsDeclared};
+    ghost use Rattle.fidl_names.specs.Items.{StandsAt};
 
     /// The declaration of a full name.
     pub(crate) fn find(&self, full: &[u8]) -> Option<Found<'f, 's>>
@@ -63,6 +64,30 @@ impl<'f, 's> LibrarySet<'f, 's> {
             file,
             declaration,
         })
+    }
+
+    /// The declaration at a position.
+    pub(crate) fn get(&self, position: Position) -> Option<Found<'f, 's>>
+        ensures found { IfSome result (λ x. (x.position ≡ position) × StandsAt self.now position x.file.now x.declaration.now) }
+        ensures none { IsNone result → (f : Tree) (d : Node) → StandsAt self.now position f d → ⊥ }
+    {
+        if position.file >= self.files.len() {
+            return None;
+        }
+        let file = self.files[position.file];
+        if position.index >= file.declarations.len() {
+            return None;
+        }
+        Some(Found {
+            position,
+            file,
+            declaration: &file.declarations[position.index],
+        })
+    }
+
+    /// What its memory comes from.
+    pub(crate) fn alloc(&self) -> Global {
+        self.alloc
     }
 
     /// How many files it has.

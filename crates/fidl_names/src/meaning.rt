@@ -6,7 +6,7 @@ ghost use Rattle.fidl_names.specs.Meanings.{predeclared_text, predeclared_kind};
 
 use crate::place::Position;
 
-/// What the place of a name wants: only readings of this kind count there.
+/// What the place of a name wants: only readings of this kind count there (public source: the FIDL language specification, "Scoping").
 #[derive(Clone, Copy, PartialEq, Eq, Debug, Drop)]
 pub enum Wanted {
     Type,
@@ -15,7 +15,7 @@ pub enum Wanted {
     Value,
 }
 
-/// The names of the language itself.
+/// The names of the language itself (public source: the FIDL language specification, "Built-in types").
 #[derive(Clone, Copy, PartialEq, Eq, Debug, Drop)]
 pub enum Predeclared {
     Bool,

@@ -5,6 +5,7 @@ ghost use Rattle.fidl_names.specs.declared.meaning.Wanted.TheVariants as Kind;
 ghost use Rattle.fidl_names.specs.Meanings.{kind_of, value_members, IsOwn, IsMember, IsSimple, IsImported, IsImportedMember, IsMemberBehind, IsJust, Means, IsTrueOfName, MembersDiffer, components, names_in, one_of};
 ghost use Rattle.fidl_names.specs.Imports.{visible as visible_in, ImportsAreApart};
 ghost use Rattle.fidl_names.specs.Names.{AreDistinct};
+ghost use Rattle.fidl_names.specs.Items.{number_in, texts_of};
 ghost use Rattle.fidl_names.specs.Seen.{seen_texts, names_of};
 
 use crate::fault::NameFault;
@@ -68,9 +69,10 @@ fn own(
 }
 
 /// The number of the member of this name, of the members of bits or an enum.
-fn member_number(file: &File<'_>, members: &[ValueMember], name: &[u8]) -> Option<usize>
+pub(crate) fn member_number(file: &File<'_>, members: &[ValueMember], name: &[u8]) -> Option<usize>
     ensures found { IfSome result (λ i. slice_get (map (λ m. text_at file.now.src.now m.name) members.now) i ≡ Some name.now) }
     ensures none { IsNone result → (i : ℕ) → slice_get (map (λ m. text_at file.now.src.now m.name) members.now) i ≡ Some name.now → ⊥ }
+    ensures first { result ≡ number_in (texts_of file.now members.now) name.now }
 {
     for (i, member) in members.iter().enumerate() {
         if file.text(member.name) == name {

@@ -2,6 +2,7 @@
 ghost use Rattle.std.specs.Prelude.{◌≡◌, ◌++◌, ◌∷◌, [], map, IfErr, IfOk, OnOk};
 ghost use Rattle.std.specs.List.{AllByRecursion};
 ghost use Rattle.fidl_names.specs.Imports.{visible, libraries_of, ImportsAreKnown, ImportsAreApart, IsTrueOfImports};
+ghost use Rattle.fidl_names.specs.ImportCycles.{AreNumbered};
 ghost use Rattle.fidl_names.specs.Meanings.{MembersDiffer};
 ghost use Rattle.fidl_names.specs.MemberLists.{DistinctMembers, RepeatsMember, IsRepeatedAt};
 ghost use Rattle.fidl_names.specs.Seen.{seen, seen_texts, names_of, HaveSame};
@@ -17,7 +18,8 @@ use std::alloc::{AllocError, Global};
 
 /// Adds a library, where it isn't there yet.
 fn add_library(libraries: &mut IndexMap<Vec<u8>, usize>, name: Vec<u8>) -> Result<(), AllocError>
-    ensures { OnOk result (HaveSame (names_of (seen libraries.new.entries)) (names_of (seen libraries.old.entries) ++ name.items ∷ [])) }
+    ensures same { OnOk result (HaveSame (names_of (seen libraries.new.entries)) (names_of (seen libraries.old.entries) ++ name.items ∷ [])) }
+    ensures numbered { OnOk result (AreNumbered (seen libraries.old.entries) → AreNumbered (seen libraries.new.entries)) }
 {
     if libraries.contains_key(&name) {
         return Ok(());
@@ -27,12 +29,13 @@ fn add_library(libraries: &mut IndexMap<Vec<u8>, usize>, name: Vec<u8>) -> Resul
     Ok(())
 }
 
-/// The libraries of a set, each with its number.
+/// The libraries of a set, numbered in the order of their first files.
 pub(crate) fn libraries(
     set: &LibrarySet<'_, '_>,
     alloc: Global,
 ) -> Result<IndexMap<Vec<u8>, usize>, AllocError>
-    ensures { IfOk result (λ found. HaveSame (names_of (seen found.entries)) (libraries_of set.now)) }
+    ensures same { IfOk result (λ found. HaveSame (names_of (seen found.entries)) (libraries_of set.now)) }
+    ensures numbered { IfOk result (λ found. AreNumbered (seen found.entries)) }
 {
     let mut libraries = IndexMap::new(alloc);
     for number in 0..set.count() {

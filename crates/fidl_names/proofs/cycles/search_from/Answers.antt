@@ -2,8 +2,9 @@ use Rattle.std.proofs.Common.{◌<◌, ◌++◌, ◌∷◌, [], ℕ, true, false
 use Rattle.std.specs.Prelude.{◌⊎◌, map}
 use Rattle.std.specs.List.{Contains, AllByRecursion}
 use Rattle.fidl_names.specs.declared.cycles.Frame.{Frame}
-use Rattle.fidl_names.specs.Cycles.{IsClosing, IsMarked, points_of}
-use Rattle.fidl_names.proofs.Trails.{row_is, edge_to, target_of, each_marked, finished, trail_less, trail_more, leads_back, trail_split, trail_of, IsTrail, IsPoint, IsPassed, still_marked, marked_here, marked_before, point_before, point_last, point_cases, passed_still, all_front, all_last, all_more, all_weaker, unmarked_less, target_edge, target_is}
+use Rattle.fidl_names.specs.Cycles.{IsMarked, IsOrdered, IsTrail, IsPoint, points_of, trail_of}
+use Rattle.fidl_names.proofs.Trails.{row_is, edge_to, target_of, each_marked, finished, trail_less, trail_more, trail_split, IsPassed, still_marked, marked_here, marked_before, point_before, point_last, point_cases, passed_still, all_front, all_last, all_more, all_weaker, unmarked_less, target_edge, target_is}
+use Rattle.fidl_names.proofs.Orders.{order_more}
 use Rattle.fidl_names.proofs.cycles.search_from.Goals as goal
 
 pub first_open-requires-clause-within : goal.first_open-requires-clause-within
@@ -52,11 +53,31 @@ returns-then-seen-target-clause-cycle c =
     let inv = c.loop-done.invariant in
     let target = c.index-target.result.now in
     let edge = target_edge graph point c.index-graph-point.result c.index-graph-point-in-Some.result inv.here.0 c.index-graph-point.is c.index-graph-point-in-Some.is c.deref.result.now c.deref.ensures.value c.in-Some.i target c.in-Some.ensures.inside c.index-target.ensures in
+    let way = sym c.deref-then-seen-target.ensures.value in
+    c.first_edge.ensures (points_of graph) (subst (λ l. IsTrail (points_of graph) (trail_of l point)) way inv.trail) edge
+
+pub first_edge-requires : goal.first_edge-requires
+first_edge-requires c =
+    let graph = c.args.graph.now in
+    let point = c.loop-done.point in
+    let inv = c.loop-done.invariant in
+    let target = c.index-target.result.now in
     let the_target = target_is graph point c.index-graph-point.result c.index-graph-point-in-Some.result inv.here.0 c.index-graph-point.is c.index-graph-point-in-Some.is c.deref.result.now c.deref.ensures.value c.in-Some.i target c.in-Some.ensures.inside c.index-target.ensures in
-    elim (inv.known target c.if-seen-target.true) as (λ _. IsClosing (points_of graph) point target) [
+    let way = sym c.deref-then-seen-target.ensures.value in
+    subst (λ l. IsPoint (trail_of l point) target) way (elim (inv.known target c.if-seen-target.true) as (λ _. IsPoint (trail_of c.loop-done.path.items point) target) [
       | inl done ↦ absurd (true≢false (sym done ∙ ap (λ t. get_or c.loop-done.done t false) (sym the_target) ∙ c.in-Some.ensures.open))
-      | inr on ↦ (edge, leads_back (points_of graph) (map (λ (f : Frame). f.point) c.loop-done.path.items) point target inv.trail on edge)
-    ]
+      | inr on ↦ on
+    ])
+
+pub returns-in-None-pop-clause-ordered : goal.returns-in-None-pop-clause-ordered
+returns-in-None-pop-clause-ordered c = λ _.
+    let row = c.index-graph-point.result in
+    let graph = c.args.graph.now in
+    let point = c.loop-done.point in
+    let inv = c.loop-done.invariant in
+    subst (IsOrdered (points_of graph) (set c.loop-done.done point true)) (sym c.in_ok-push-in-None.ensures.items)
+    (order_more (points_of graph) c.loop-done.done c.loop-done.order.items point (subst (λ n. point < n) (sym inv.all_done) inv.here.0) inv.ordered
+    (λ b e. each_marked c.loop-done.done c.deref.result.now (c.in-None.ensures.none refl) b (subst (λ l. Contains l b) (sym c.deref.ensures.value) (target_of graph point row inv.here.0 c.index-graph-point.is b e))))
 
 pub loop-done-smaller : goal.loop-done-smaller
 loop-done-smaller c =
@@ -82,7 +103,7 @@ loop-done-preserved c =
     let path = c.loop-done.path.items in
     let frame : Frame = record { point = point; next = c.in-Some.i } in
     let longer = c.in_ok-push-in-Some.ensures.items in
-    let split = trail_split c.push.new.self.items path frame target longer in
+    let split = trail_split c.push-in-Some.new.self.items path frame target longer in
     let points = trail_of path point in
     let row = row_is graph point c.index-graph-point.result inv.here.0 c.index-graph-point.is ∙ sym c.deref.ensures.value in
     let passed : IsPassed graph c.loop-done.done point c.in-Some.i = (inv.here.0, λ k below. subst (λ l. IsMarked c.loop-done.done (get_or l k 0)) (sym row) (c.in-Some.ensures.passed k below)) in
@@ -102,6 +123,7 @@ loop-done-preserved c =
       known = λ t h. subst (λ l. IsMarked c.loop-done.done t ⊎ IsPoint l t) (sym split) (met t h);
       frames = subst (AllByRecursion (λ (f : Frame). IsPassed graph c.loop-done.done f.point f.next)) (sym longer) (all_more (λ (f : Frame). IsPassed graph c.loop-done.done f.point f.next) path frame inv.frames passed);
       here = (within, λ k below. absurd (omega (arith, below)));
+      ordered = inv.ordered;
       kept = inv.kept;
       root = still_marked c.loop-done.seen target lt c.args.root inv.root;
     }
@@ -137,6 +159,9 @@ loop-done-preserved-in-Some-pop c =
       trail = trail_less (points_of graph) points point (subst (IsTrail (points_of graph)) split inv.trail);
       known = met;
       frames = all_weaker (λ (f : Frame). IsPassed graph done f.point f.next) (λ (f : Frame). IsPassed graph (set done point true) f.point f.next) (λ f. more f.point f.next) front (all_front (λ (f : Frame). IsPassed graph done f.point f.next) front frame held);
+      ordered = subst (IsOrdered (points_of graph) (set done point true)) (sym c.in_ok-push-in-None.ensures.items)
+          (order_more (points_of graph) done c.loop-done.order.items point lt inv.ordered
+          (λ b e. each_marked done c.deref.result.now (c.in-None.ensures.none refl) b (subst (λ l. Contains l b) (sym c.deref.ensures.value) (target_of graph point row inv.here.0 c.index-graph-point.is b e))));
       here = more frame.point frame.next (all_last (λ (f : Frame). IsPassed graph done f.point f.next) front frame held);
       kept = λ t h. still_marked done point lt t (inv.kept t h);
       root = inv.root;

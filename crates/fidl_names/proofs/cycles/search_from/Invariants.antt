@@ -2,8 +2,8 @@ use Rattle.std.proofs.Common.{◌≡◌, ◌+◌, ◌*◌, ℕ, length}
 use Rattle.std.specs.Prelude.{◌⊎◌}
 use Rattle.std.specs.List.{AllByRecursion}
 use Rattle.fidl_names.specs.declared.cycles.Frame.{Frame}
-use Rattle.fidl_names.specs.Cycles.{IsMarked, HasNoCycle, points_of}
-use Rattle.fidl_names.proofs.Trails.{IsTrail, IsPoint, trail_of, IsPassed, unmarked}
+use Rattle.fidl_names.specs.Cycles.{IsMarked, HasNoCycle, IsOrdered, IsTrail, IsPoint, points_of, trail_of}
+use Rattle.fidl_names.proofs.Trails.{IsPassed, unmarked}
 use Rattle.fidl_names.proofs.cycles.search_from.Given as goal
 
 -- what was met is finished or stands on the way, along which each point leads to the next
@@ -16,6 +16,7 @@ invariant-loop-done l = record {
   known : (t : ℕ) → IsMarked l.seen t → IsMarked l.done t ⊎ IsPoint (trail_of l.path.items l.point) t;
   frames : AllByRecursion (λ (f : Frame). IsPassed l.graph l.done f.point f.next) l.path.items;
   here : IsPassed l.graph l.done l.point l.next;
+  ordered : IsOrdered (points_of l.graph) l.done l.order.items;
   kept : (t : ℕ) → IsMarked l.fn.done t → IsMarked l.done t;
   root : IsMarked l.seen l.root;
 }

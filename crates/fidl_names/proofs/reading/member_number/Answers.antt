@@ -3,21 +3,31 @@ use Rattle.std.proofs.Math.ListN.{length-map}
 use Rattle.std.proofs.lemmas.Option.{slice_get_within}
 use Rattle.fidl_names.specs.Imports.{same}
 use Rattle.fidl_names.proofs.Members.{name_in, has_name, has_other}
+use Rattle.fidl_names.proofs.Numbered.{number_found, number_none}
 use Rattle.fidl_names.proofs.reading.member_number.Goals as goal
 
 pub returns-then-eq-clause-found : goal.returns-then-eq-clause-found
 returns-then-eq-clause-found c =
     let src = c.args.file.now.src.now in
     let m = c.index-members-i.result in
-    has_name src c.args.members.now c.loop-i.i m c.loop-i-test.true c.index-members-i.is c.args.name.now
+    has_name (name_in src) c.args.members.now c.loop-i.i m c.loop-i-test.true c.index-members-i.is c.args.name.now
     (ap (λ (t : List ℕ). same t c.args.name.now) (sym c.text.ensures.bytes) ∙ sym c.eq.ensures ∙ c.if-eq.true)
+
+pub returns-then-eq-clause-first : goal.returns-then-eq-clause-first
+returns-then-eq-clause-first c =
+    let src = c.args.file.now.src.now in
+    let m = c.index-members-i.result in
+    sym (number_found c.args.name.now (map (name_in src) c.args.members.now) c.loop-i.i
+    (has_name (name_in src) c.args.members.now c.loop-i.i m c.loop-i-test.true c.index-members-i.is c.args.name.now
+    (ap (λ (t : List ℕ). same t c.args.name.now) (sym c.text.ensures.bytes) ∙ sym c.eq.ensures ∙ c.if-eq.true))
+    c.loop-i.invariant)
 
 pub loop-i-preserved : goal.loop-i-preserved
 loop-i-preserved c =
     let src = c.args.file.now.src.now in
     let m = c.index-members-i.result in
     below_more _ _ c.loop-i.invariant
-    (has_other src c.args.members.now c.loop-i.i m c.loop-i-test.true c.index-members-i.is c.args.name.now
+    (has_other (name_in src) c.args.members.now c.loop-i.i m c.loop-i-test.true c.index-members-i.is c.args.name.now
     (ap (λ (t : List ℕ). same t c.args.name.now) (sym c.text.ensures.bytes) ∙ sym c.eq.ensures ∙ c.if-eq.false))
 
 pub returns-clause-none : goal.returns-clause-none
@@ -26,3 +36,10 @@ returns-clause-none c = λ _ i h.
     let over = c.loop-i-test.false in
     let lt : i < c.loop-i.i = omega (arith, length-map c.args.members.now (name_in c.args.file.now.src.now)) in
     c.loop-i.invariant i lt h
+
+pub returns-clause-first : goal.returns-clause-first
+returns-clause-first c = sym (number_none c.args.name.now (map (name_in c.args.file.now.src.now) c.args.members.now) (λ i h.
+    let within = slice_get_within (map (name_in c.args.file.now.src.now) c.args.members.now) i c.args.name.now h in
+    let over = c.loop-i-test.false in
+    let lt : i < c.loop-i.i = omega (arith, length-map c.args.members.now (name_in c.args.file.now.src.now)) in
+    c.loop-i.invariant i lt h))

@@ -19,5 +19,8 @@ loop-number-preserved c =
     let name : c.in_ok-name.name.items ≡ library_of f = c.in_ok-name.ensures in
     let at : library_of f ≡ get_or (libraries_of files) i (library_of f) = ap library_of is ∙ sym (get_or-map library_of files i f) in
     let more = take_item (libraries_of files) i (library_of f) (omega (arith, length-map files library_of)) at in
-    let now = subst (λ n. HaveSame (names_of (seen c.add_library.new.libraries.entries)) (names_of (seen c.loop-number.libraries.entries) ++ n ∷ [])) name c.in_ok-add_library.ensures in
-    subst (HaveSame (names_of (seen c.add_library.new.libraries.entries))) (sym more) (same_more _ _ (take i (libraries_of files)) (library_of f) c.loop-number.invariant now)
+    let now = subst (λ n. HaveSame (names_of (seen c.add_library.new.libraries.entries)) (names_of (seen c.loop-number.libraries.entries) ++ n ∷ [])) name c.in_ok-add_library.ensures.same in
+    record {
+      same = subst (HaveSame (names_of (seen c.add_library.new.libraries.entries))) (sym more) (same_more _ _ (take i (libraries_of files)) (library_of f) c.loop-number.invariant.same now);
+      numbered = c.in_ok-add_library.ensures.numbered c.loop-number.invariant.numbered;
+    }

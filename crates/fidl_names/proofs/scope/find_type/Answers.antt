@@ -1,0 +1,12 @@
+use Rattle.fidl_names.proofs.Scoped.{at_each, at_both}
+use Rattle.fidl_names.specs.Seen.{seen_texts}
+use Rattle.fidl_names.specs.Imports.{visible, ImportsAreApart}
+use Rattle.fidl_names.proofs.scope.find_type.Goals as goal
+
+pub read_type-requires-clause-sees : goal.read_type-requires-clause-sees
+read_type-requires-clause-sees c =
+    at_both (λ v. seen_texts v.entries) visible c.args.scope.now.sights.now c.args.scope.now.set.now c.args.number c.index-scope-number.result c.args.file.now
+    c.requires.known.sees c.requires.file_at
+
+pub read_type-requires-clause-names : goal.read_type-requires-clause-names
+read_type-requires-clause-names c = at_each ImportsAreApart c.args.scope.now.set.now c.args.number c.args.file.now c.requires.known.apart c.requires.file_at

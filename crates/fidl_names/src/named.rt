@@ -1,0 +1,137 @@
+//! Sets of files whose names are resolved.
+ghost use Rattle.std.specs.Prelude.{◌≡◌, ◌<◌, length, slice_get, Some, IfErr, IfOk, OnOk};
+ghost use Rattle.fidl_tree.specs.declared.file.File.{File as Tree};
+ghost use Rattle.fidl_names.specs.Meanings.{components, Means, IsTrueOfName};
+ghost use Rattle.fidl_names.specs.Aliases.{StandsBehind};
+ghost use Rattle.fidl_names.specs.Items.{ItemMeans, NameOfItemFails};
+ghost use Rattle.fidl_names.specs.Scopes.{IsScope, Tells};
+ghost use Rattle.fidl_names.specs.Resolved.{Resolves, IsTrueOfResolving};
+
+use crate::alias_ends::behind;
+use crate::aliases::see_aliases;
+use crate::constraint_names::see_item_name;
+use crate::fault::NameFault;
+use crate::import_cycles::see_import_cycles;
+use crate::library_set::LibrarySet;
+use crate::meaning::{Meaning, Wanted};
+use crate::place_names::see_names;
+use crate::rules::{all_imports, all_members, libraries};
+use crate::scope::{Scope, read};
+use fidl_tree::{File, Path};
+use indexmap::IndexMap;
+use std::marker::Model;
+
+/// Files in which each name has just one meaning where it stands. Contracts see the list of their trees.
+#[derive(Drop)]
+pub struct Named<'f, 's> {
+    set: LibrarySet<'f, 's>,
+    sights: Vec<IndexMap<Vec<u8>, Vec<u8>>>,
+    ends: Vec<Vec<Meaning>>,
+}
+
+impl<'f, 's> Model for Named<'f, 's> {
+    ghost use Rattle.std.specs.Prelude.{List, map};
+    ghost use Rattle.fidl_tree.specs.declared.file.File.{File as Tree};
+    ghost use Rattle.fidl_names.specs.Seen.{seen_texts};
+    ghost use Rattle.fidl_names.specs.Aliases.{rows_of};
+    ghost use Rattle.fidl_names.specs.Scopes.{IsKnown};
+    ghost use Rattle.fidl_names.specs.Stored.{files_coded};
+
+    ghost Value = { List Tree };
+
+    ghost coded = { files_coded };
+
+    ghost view = { λ s. s.set };
+
+    ghost invariant = { λ s. IsKnown s.set (map (λ v. seen_texts v.entries) s.sights.items) (rows_of s.ends.items) };
+}
+
+impl<'f, 's> Named<'f, 's> {
+    /// How many files there are.
+    pub fn count(&self) -> usize
+        ensures { result ≡ length self.now }
+    {
+        self.set.count()
+    }
+
+    /// The file of this number, which is below `count`.
+    pub fn file(&self, number: usize) -> &'f File<'s>
+        requires { number < length self.now }
+        ensures { slice_get self.now number ≡ Some result.now }
+    {
+        self.set.file(number)
+    }
+
+    /// What a name means in the file of this number, where this kind is wanted. A name that stands in the files has a meaning at its place; elsewhere, or of another kind, it can be refused with
+    /// UnknownName or AmbiguousName, at the path's span. Memory: memory ran out.
+    pub fn meaning(&self, number: usize, path: &Path, wanted: Wanted) -> Result<Meaning, NameFault>
+        requires { number < length self.now }
+        ensures ok { IfOk result (λ m. (f : Tree) → slice_get self.now number ≡ Some f → Means self.now f wanted (components f.src.now path.now) m) }
+        ensures told { IfErr result (λ fault. (f : Tree) → slice_get self.now number ≡ Some f → IsTrueOfName self.now f number wanted path.now fault) }
+    {
+        let file = self.set.file(number);
+        read(&self.scope(), number, file, path, wanted)
+    }
+
+    /// What stands behind a meaning, alias by alias.
+    pub fn behind(&self, meaning: Meaning) -> Meaning
+        ensures { StandsBehind self.now meaning result }
+    {
+        behind(&self.set, &self.ends, meaning)
+    }
+
+    /// What a constraint means that is just a name, in the file of this number, by what stands behind its type (nothing for a layout) and its number, from 0, among the constraints that aren't
+    /// `optional`. The refusals are those of `meaning`.
+    pub fn constraint(
+        &self,
+        number: usize,
+        end: Option<Meaning>,
+        rank: usize,
+        path: &Path,
+    ) -> Result<Meaning, NameFault>
+        requires { number < length self.now }
+        ensures ok { IfOk result (λ m. (f : Tree) → slice_get self.now number ≡ Some f → ItemMeans self.now f end rank path.now m) }
+        ensures told { IfErr result (λ fault. (f : Tree) → slice_get self.now number ≡ Some f → Tells (NameOfItemFails self.now f number end rank path.now) fault) }
+    {
+        let file = self.set.file(number);
+        see_item_name(&self.scope(), number, file, end, rank, path)
+    }
+
+    /// What is known, behind references.
+    fn scope(&self) -> Scope<'_, 'f, 's>
+        ensures set { result.set.now ≡ self.now }
+        ensures known { IsScope result }
+    {
+        Scope {
+            set: &self.set,
+            alloc: self.set.alloc(),
+            sights: &self.sights,
+            ends: &self.ends,
+        }
+    }
+}
+
+impl<'f, 's> LibrarySet<'f, 's> {
+    /// Resolves the names of all files (public source: the FIDL language specification, "Libraries" and "Scoping"). Refused with DuplicateName where a list of members repeats a name,
+    /// UnknownLibrary where no file of an imported library was added, BadImport where an import repeats a library or a name, ImportCycle where a library's imports lead back to it, AliasCycle where an
+    /// alias leads back to itself, UnknownName and AmbiguousName where a name has no meaning at its place, or not just one, and Memory where memory ran out. The set is spent either way.
+    pub fn resolve(self) -> Result<Named<'f, 's>, NameFault>
+        ensures ok { IfOk result (λ named. named ≡ self.entry) }
+        ensures resolves { OnOk result (Resolves self.entry) }
+        ensures told { IfErr result (IsTrueOfResolving self.entry) }
+    {
+        let alloc = self.alloc();
+        all_members(&self, alloc)?;
+        let libraries = libraries(&self, alloc)?;
+        let sights = all_imports(&self, alloc, &libraries)?;
+        see_import_cycles(&self, alloc, &libraries)?;
+        let ends = see_aliases(&self, alloc, &sights)?;
+        let named = Named {
+            set: self,
+            sights,
+            ends,
+        };
+        see_names(&named.scope())?;
+        Ok(named)
+    }
+}
