@@ -49,6 +49,7 @@ module _ (fs : List File) where
   of_place f number fault x (PlaceFails.of_type argument_of p cs kind wants h) = of_reading f number kind p fault h
   of_place f number fault x (PlaceFails.of_constraint argument_of p cs kind m end wants means behind h) = of_items f number (Some end) cs fault h
   of_place f number fault x (PlaceFails.of_layout cs h) = of_items f number None cs fault h
+  of_place f number fault x (PlaceFails.of_members keyword underlying members h) = of_reading f number _ h.fails.path fault h.fails.fails
 
   of_one : (fault : NameFault) → IsTrueOfOne fs (NameFails fs) fault → IsOfName fault
   of_one fault h = of_place h.file h.number fault h.says.fails.place h.says.fails.fails

@@ -135,6 +135,12 @@ pub record IsPropertyFor (files : List File) (end : Option Meaning) (rank : ℕ)
   pub number_is : number_in (property_names f definition.properties.members.items) name ≡ Some number
   pub member_at : slice_get definition.properties.members.items number ≡ Some member
 
+-- the same by positions: that of the resource definition, and the number of the property
+pub record IsPropertyAt (files : List File) (end : Option Meaning) (rank : ℕ) (p : Position) (number : ℕ) : Type 0 where
+  pub file : File
+  pub member : Property
+  pub is_for : IsPropertyFor files end rank p file number member
+
 -- a constraint of one component that names a member of its property's bits or enum
 pub record IsOfProperty (files : List File) (f : File) (end : Option Meaning) (rank : ℕ) (p : Path) (m : Meaning) : Type 0 where
   pub position : Position

@@ -1,7 +1,9 @@
--- Where names stand in a file, and what each place wants (docs/language.md, "Places of names"). Since types hold one another, a step says which places one level has, with those of
--- each part in the part's place, and the places of a whole type are those by all steps together.
+-- Where names, and values, stand in a file, and what each place wants (docs/language.md, "Places of names"). Since types hold one another, a step says which places one level has, with those
+-- of each part in the part's place, and the places of a whole type are those by all steps together.
 use Rattle.std.specs.Prelude.{List, [], ◌∷◌, ◌++◌, Option, Some, None, map, flat_map}
+use Rattle.fidl_span.specs.declared.words.Span.{Span}
 use Rattle.fidl_tree.specs.declared.path.Path.{Path}
+use Rattle.fidl_tree.specs.declared.keyword.ValuesKeyword.{ValuesKeyword}
 use Rattle.fidl_tree.specs.declared.constraint.Constraints.{Constraints}
 use Rattle.fidl_tree.specs.declared.constraint.Constraints.TheVariants.{Single, List as Several}
 use Rattle.fidl_tree.specs.declared.constraint.NextConstraint.{NextConstraint}
@@ -19,11 +21,10 @@ use Rattle.fidl_tree.specs.declared.type_constructor.TypeArgument.{TypeArgument}
 use Rattle.fidl_tree.specs.declared.type_constructor.Layout.{Layout}
 use Rattle.fidl_tree.specs.declared.type_constructor.LayoutBody.{LayoutBody}
 use Rattle.fidl_tree.specs.declared.type_constructor.ValuesLayout.{ValuesLayout}
-use Rattle.fidl_tree.specs.declared.type_constructor.Underlying.{Underlying}
 use Rattle.fidl_tree.specs.declared.type_constructor.Member.{Member}
 use Rattle.fidl_tree.specs.declared.type_constructor.OrdinalMember.{OrdinalMember}
 use Rattle.fidl_tree.specs.declared.type_constructor.LayoutBody.TheOpen.{TypeConstructor-F, NamedType-F, TypeArguments-F, NextTypeArgument-F, TypeArgument-F, Layout-F, LayoutBody-F, ValuesLayout-F, StructLayout-F, TableLayout-F, UnionLayout-F, Underlying-F, Member-F, OrdinalMember-F, OrdinalBody-F}
-use Rattle.fidl_tree.specs.declared.type_constructor.LayoutBody.TheFolds.{fold-TypeConstructor, fold-NamedType, fold-TypeArguments, fold-TypeArgument, fold-NextTypeArgument, fold-Layout, fold-LayoutBody, fold-ValuesLayout, fold-Underlying, fold-Member, fold-OrdinalMember}
+use Rattle.fidl_tree.specs.declared.type_constructor.LayoutBody.TheFolds.{fold-TypeConstructor, fold-NamedType, fold-TypeArguments, fold-TypeArgument, fold-NextTypeArgument, fold-Layout, fold-LayoutBody, fold-ValuesLayout, fold-Member, fold-OrdinalMember}
 use Rattle.fidl_tree.specs.declared.protocol.ProtocolMember.{ProtocolMember}
 use Rattle.fidl_tree.specs.declared.protocol.ProtocolMemberBody.{ProtocolMemberBody}
 use Rattle.fidl_tree.specs.declared.protocol.ProtocolMemberBody.TheVariants as protocol
@@ -36,11 +37,14 @@ use Rattle.fidl_tree.specs.declared.declaration.Property.{Property}
 use Rattle.fidl_names.specs.declared.meaning.Wanted.{Wanted}
 use Rattle.fidl_names.specs.declared.meaning.Wanted.TheVariants as wanted
 
--- a name's place, and what it wants: a name of a kind; a type with its constraints, which may be the second argument of another; constraints of a layout
+-- a place, and what it wants: a name of a kind; a type with its constraints, which may be the second argument of another; constraints of a layout; a number as an argument, which may be the
+-- second one of a type; the members of bits or an enum, with the name of the underlying type where one is written
 pub data NamePlace : Type 0 where
   a_name : (kind : Wanted) (path : Path) → NamePlace
   a_type : (argument_of : Option Path) (path : Path) (constraints : Option Constraints) → NamePlace
   a_layout : (constraints : Option Constraints) → NamePlace
+  a_number : (argument_of : Option Path) (number : Span) → NamePlace
+  a_members : (keyword : ValuesKeyword) (underlying : Option Path) (members : List ValueMember) → NamePlace
 
 -- the constraints in a list of them, in order
 abbrev pub items : Option Constraints → List Value
@@ -87,8 +91,16 @@ T = Option Path → List NamePlace
 abbrev A : Type 0
 A = Path → List NamePlace
 
+-- the path of a named type, and the places in the type
+pub record NamedPlaces : Type 0 where
+  pub path : Path
+  pub places : Option Path → List NamePlace
+
+abbrev N : Type 0
+N = NamedPlaces
+
 abbrev Level : (Type 0 → Type 0 → Type 0 → Type 0 → Type 0 → Type 0 → Type 0 → Type 0 → Type 0 → Type 0 → Type 0 → Type 0 → Type 0 → Type 0 → Type 0 → Type 0) → Type 0
-Level F = F P P T T P P T T P P P A P P P
+Level F = F P P T T P P N T P P P A N P P
 
 -- what parts give, one after another, where each is a type by itself
 abbrev pub all : List (Option Path → List NamePlace) → List NamePlace
@@ -108,10 +120,13 @@ given (Some arguments) head = arguments head
 
 abbrev type_step : Level TypeConstructor-F → T
 type_step (TypeConstructor-F.Layout layout constraints) of = layout ++ a_layout constraints ∷ []
-type_step (TypeConstructor-F.Named named) of = named of
+type_step (TypeConstructor-F.Named named) of = named.places of
 
-abbrev named_step : Level NamedType-F → T
-named_step n of = a_type of n.path n.constraints ∷ given n.arguments n.path
+abbrev named_step : Level NamedType-F → N
+named_step n = record {
+  path = n.path;
+  places = λ of. a_type of n.path n.constraints ∷ given n.arguments n.path;
+}
 
 abbrev type_arguments_step : Level TypeArguments-F → A
 type_arguments_step a head = a.first.value None ++ behind_first head a.rest.items
@@ -120,7 +135,7 @@ abbrev next_type_argument_step : Level NextTypeArgument-F → T
 next_type_argument_step n = n.argument
 
 abbrev type_argument_step : Level TypeArgument-F → T
-type_argument_step (TypeArgument-F.Number number) of = []
+type_argument_step (TypeArgument-F.Number number) of = a_number of number ∷ []
 type_argument_step (TypeArgument-F.Type constructor) of = constructor of
 
 abbrev layout_step : Level Layout-F → P
@@ -132,15 +147,16 @@ layout_body_step (LayoutBody-F.Struct layout) = layout
 layout_body_step (LayoutBody-F.Table layout) = layout
 layout_body_step (LayoutBody-F.Union layout) = layout
 
-abbrev pub value_member_places : ValueMember → List NamePlace
-value_member_places m = value_places m.value
+abbrev underlying_path : Option N → Option Path
+underlying_path None = None
+underlying_path (Some named) = Some named.path
 
-abbrev of_underlying : Option P → P
+abbrev of_underlying : Option N → P
 of_underlying None = []
-of_underlying (Some places) = places
+of_underlying (Some named) = named.places None
 
 abbrev values_layout_step : Level ValuesLayout-F → P
-values_layout_step l = of_underlying l.underlying ++ flat_map value_member_places l.members.items
+values_layout_step l = of_underlying l.underlying ++ a_members l.keyword (underlying_path l.underlying) l.members.items ∷ []
 
 abbrev struct_layout_step : Level StructLayout-F → P
 struct_layout_step l = joined l.members.items
@@ -151,8 +167,8 @@ table_layout_step l = joined l.members.items
 abbrev union_layout_step : Level UnionLayout-F → P
 union_layout_step l = joined l.members.items
 
-abbrev underlying_step : Level Underlying-F → P
-underlying_step u = u.named None
+abbrev underlying_step : Level Underlying-F → N
+underlying_step u = u.named
 
 abbrev member_step : Level Member-F → P
 member_step m = m.constructor None
@@ -165,37 +181,37 @@ ordinal_body_step (OrdinalBody-F.Reserved s) = []
 ordinal_body_step (OrdinalBody-F.Typed s constructor) = constructor None
 
 abbrev pub places_of_type : TypeConstructor → Option Path → List NamePlace
-places_of_type = fold-TypeConstructor P P T T P P T T P P P A P P P layout_body_step ordinal_body_step type_argument_step type_step layout_step member_step named_step next_type_argument_step ordinal_member_step struct_layout_step table_layout_step type_arguments_step underlying_step union_layout_step values_layout_step
+places_of_type = fold-TypeConstructor P P T T P P N T P P P A N P P layout_body_step ordinal_body_step type_argument_step type_step layout_step member_step named_step next_type_argument_step ordinal_member_step struct_layout_step table_layout_step type_arguments_step underlying_step union_layout_step values_layout_step
+
+abbrev pub named_type : NamedType → NamedPlaces
+named_type = fold-NamedType P P T T P P N T P P P A N P P layout_body_step ordinal_body_step type_argument_step type_step layout_step member_step named_step next_type_argument_step ordinal_member_step struct_layout_step table_layout_step type_arguments_step underlying_step union_layout_step values_layout_step
 
 abbrev pub named_places : NamedType → Option Path → List NamePlace
-named_places = fold-NamedType P P T T P P T T P P P A P P P layout_body_step ordinal_body_step type_argument_step type_step layout_step member_step named_step next_type_argument_step ordinal_member_step struct_layout_step table_layout_step type_arguments_step underlying_step union_layout_step values_layout_step
+named_places n = (named_type n).places
 
 abbrev pub type_arguments_places : TypeArguments → Path → List NamePlace
-type_arguments_places = fold-TypeArguments P P T T P P T T P P P A P P P layout_body_step ordinal_body_step type_argument_step type_step layout_step member_step named_step next_type_argument_step ordinal_member_step struct_layout_step table_layout_step type_arguments_step underlying_step union_layout_step values_layout_step
+type_arguments_places = fold-TypeArguments P P T T P P N T P P P A N P P layout_body_step ordinal_body_step type_argument_step type_step layout_step member_step named_step next_type_argument_step ordinal_member_step struct_layout_step table_layout_step type_arguments_step underlying_step union_layout_step values_layout_step
 
 abbrev pub type_argument_places : TypeArgument → Option Path → List NamePlace
-type_argument_places = fold-TypeArgument P P T T P P T T P P P A P P P layout_body_step ordinal_body_step type_argument_step type_step layout_step member_step named_step next_type_argument_step ordinal_member_step struct_layout_step table_layout_step type_arguments_step underlying_step union_layout_step values_layout_step
+type_argument_places = fold-TypeArgument P P T T P P N T P P P A N P P layout_body_step ordinal_body_step type_argument_step type_step layout_step member_step named_step next_type_argument_step ordinal_member_step struct_layout_step table_layout_step type_arguments_step underlying_step union_layout_step values_layout_step
 
 abbrev pub next_type_argument_places : NextTypeArgument → Option Path → List NamePlace
-next_type_argument_places = fold-NextTypeArgument P P T T P P T T P P P A P P P layout_body_step ordinal_body_step type_argument_step type_step layout_step member_step named_step next_type_argument_step ordinal_member_step struct_layout_step table_layout_step type_arguments_step underlying_step union_layout_step values_layout_step
+next_type_argument_places = fold-NextTypeArgument P P T T P P N T P P P A N P P layout_body_step ordinal_body_step type_argument_step type_step layout_step member_step named_step next_type_argument_step ordinal_member_step struct_layout_step table_layout_step type_arguments_step underlying_step union_layout_step values_layout_step
 
 abbrev pub layout_places : Layout → List NamePlace
-layout_places = fold-Layout P P T T P P T T P P P A P P P layout_body_step ordinal_body_step type_argument_step type_step layout_step member_step named_step next_type_argument_step ordinal_member_step struct_layout_step table_layout_step type_arguments_step underlying_step union_layout_step values_layout_step
+layout_places = fold-Layout P P T T P P N T P P P A N P P layout_body_step ordinal_body_step type_argument_step type_step layout_step member_step named_step next_type_argument_step ordinal_member_step struct_layout_step table_layout_step type_arguments_step underlying_step union_layout_step values_layout_step
 
 abbrev pub layout_body_places : LayoutBody → List NamePlace
-layout_body_places = fold-LayoutBody P P T T P P T T P P P A P P P layout_body_step ordinal_body_step type_argument_step type_step layout_step member_step named_step next_type_argument_step ordinal_member_step struct_layout_step table_layout_step type_arguments_step underlying_step union_layout_step values_layout_step
+layout_body_places = fold-LayoutBody P P T T P P N T P P P A N P P layout_body_step ordinal_body_step type_argument_step type_step layout_step member_step named_step next_type_argument_step ordinal_member_step struct_layout_step table_layout_step type_arguments_step underlying_step union_layout_step values_layout_step
 
 abbrev pub values_layout_places : ValuesLayout → List NamePlace
-values_layout_places = fold-ValuesLayout P P T T P P T T P P P A P P P layout_body_step ordinal_body_step type_argument_step type_step layout_step member_step named_step next_type_argument_step ordinal_member_step struct_layout_step table_layout_step type_arguments_step underlying_step union_layout_step values_layout_step
-
-abbrev pub underlying_places : Underlying → List NamePlace
-underlying_places = fold-Underlying P P T T P P T T P P P A P P P layout_body_step ordinal_body_step type_argument_step type_step layout_step member_step named_step next_type_argument_step ordinal_member_step struct_layout_step table_layout_step type_arguments_step underlying_step union_layout_step values_layout_step
+values_layout_places = fold-ValuesLayout P P T T P P N T P P P A N P P layout_body_step ordinal_body_step type_argument_step type_step layout_step member_step named_step next_type_argument_step ordinal_member_step struct_layout_step table_layout_step type_arguments_step underlying_step union_layout_step values_layout_step
 
 abbrev pub member_places : Member → List NamePlace
-member_places = fold-Member P P T T P P T T P P P A P P P layout_body_step ordinal_body_step type_argument_step type_step layout_step member_step named_step next_type_argument_step ordinal_member_step struct_layout_step table_layout_step type_arguments_step underlying_step union_layout_step values_layout_step
+member_places = fold-Member P P T T P P N T P P P A N P P layout_body_step ordinal_body_step type_argument_step type_step layout_step member_step named_step next_type_argument_step ordinal_member_step struct_layout_step table_layout_step type_arguments_step underlying_step union_layout_step values_layout_step
 
 abbrev pub ordinal_member_places : OrdinalMember → List NamePlace
-ordinal_member_places = fold-OrdinalMember P P T T P P T T P P P A P P P layout_body_step ordinal_body_step type_argument_step type_step layout_step member_step named_step next_type_argument_step ordinal_member_step struct_layout_step table_layout_step type_arguments_step underlying_step union_layout_step values_layout_step
+ordinal_member_places = fold-OrdinalMember P P T T P P N T P P P A N P P layout_body_step ordinal_body_step type_argument_step type_step layout_step member_step named_step next_type_argument_step ordinal_member_step struct_layout_step table_layout_step type_arguments_step underlying_step union_layout_step values_layout_step
 
 -- The places in declarations.
 

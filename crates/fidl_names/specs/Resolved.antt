@@ -1,7 +1,10 @@
 -- When the names of a set of files are resolved, and what a refusal says (docs/language.md, "Resolving").
 use Rattle.std.specs.Prelude.{ℕ, List, Option, Some, None}
 use Rattle.std.specs.List.{Contains, AllByRecursion}
+use Rattle.fidl_span.specs.declared.words.Span.{Span}
 use Rattle.fidl_tree.specs.declared.path.Path.{Path}
+use Rattle.fidl_tree.specs.declared.keyword.ValuesKeyword.{ValuesKeyword}
+use Rattle.fidl_tree.specs.declared.value_member.ValueMember.{ValueMember}
 use Rattle.fidl_tree.specs.declared.file.File.{File}
 use Rattle.fidl_tree.specs.declared.constraint.Constraints.{Constraints}
 use Rattle.fidl_tree.specs.declared.declaration.Declaration.{Declaration}
@@ -17,15 +20,27 @@ use Rattle.fidl_names.specs.MemberLists.{RepeatsMember, DistinctMembers, IsRepea
 use Rattle.fidl_names.specs.Faults.{IsTrueOfOne}
 use Rattle.fidl_names.specs.ImportCycles.{ImportsBack}
 use Rattle.fidl_names.specs.Aliases.{WantsKind, StandsBehind, AliasesBack}
-use Rattle.fidl_names.specs.Places.{NamePlace, a_name, a_type, a_layout, body_places}
-use Rattle.fidl_names.specs.Items.{ItemsHold, ItemsFail}
+use Rattle.fidl_names.specs.Places.{NamePlace, a_name, a_type, a_layout, a_number, a_members, body_places}
+use Rattle.fidl_names.specs.Items.{ItemsHold, ItemsFail, ValueMeans, NameOfValueFails}
 
--- each name at a place means something
+-- each name in the values of members means something
+abbrev pub MembersMean : List File → File → List ValueMember → Type 0
+MembersMean files f members = AllByRecursion (λ (m : ValueMember). ValueMeans files f m.value) members
+
+-- a name in one of them is refused
+pub record MemberFails (files : List File) (f : File) (number : ℕ) (members : List ValueMember) (fault : NameFault) : Type 0 where
+  pub member : ValueMember
+  pub among : Contains members member
+  pub fails : NameOfValueFails files f number member.value fault
+
+-- each name at a place means something; a number is no name
 pub data PlaceHolds (files : List File) (f : File) : NamePlace → Type 0 where
   of_name : (kind : Wanted) (p : Path) (m : Meaning) → Means files f kind (components f.src.now p) m → PlaceHolds files f (a_name kind p)
   of_type : (argument_of : Option Path) (p : Path) (cs : Option Constraints) (kind : Wanted) (m end : Meaning) → WantsKind files f argument_of kind → Means files f kind (components f.src.now p) m
       → StandsBehind files m end → ItemsHold files f (Some end) cs → PlaceHolds files f (a_type argument_of p cs)
   of_layout : (cs : Option Constraints) → ItemsHold files f None cs → PlaceHolds files f (a_layout cs)
+  of_number : (argument_of : Option Path) (n : Span) → PlaceHolds files f (a_number argument_of n)
+  of_members : (keyword : ValuesKeyword) (underlying : Option Path) (members : List ValueMember) → MembersMean files f members → PlaceHolds files f (a_members keyword underlying members)
 
 -- a name at a place is refused: it has no meaning, or not just one
 pub data PlaceFails (files : List File) (f : File) (number : ℕ) (fault : NameFault) : NamePlace → Type 0 where
@@ -35,6 +50,8 @@ pub data PlaceFails (files : List File) (f : File) (number : ℕ) (fault : NameF
   of_constraint : (argument_of : Option Path) (p : Path) (cs : Option Constraints) (kind : Wanted) (m end : Meaning) → WantsKind files f argument_of kind
       → Means files f kind (components f.src.now p) m → StandsBehind files m end → ItemsFail files f number (Some end) cs fault → PlaceFails files f number fault (a_type argument_of p cs)
   of_layout : (cs : Option Constraints) → ItemsFail files f number None cs fault → PlaceFails files f number fault (a_layout cs)
+  of_members : (keyword : ValuesKeyword) (underlying : Option Path) (members : List ValueMember) → MemberFails files f number members fault
+      → PlaceFails files f number fault (a_members keyword underlying members)
 
 -- each name in a declaration of a file means something, and in each of the file's
 abbrev pub DeclarationHolds : List File → File → DeclarationBody → Type 0

@@ -7,15 +7,15 @@ ghost use Rattle.fidl_names.specs.Scopes.{IsScope, Tells};
 use crate::fault::NameFault;
 use crate::full_name::path_text;
 use crate::meaning::{Meaning, Predeclared, Wanted};
-use crate::name_places::items;
+use crate::paths::value_paths;
+use crate::places::items;
 use crate::properties::of_property;
 use crate::scope::{Scope, read};
-use crate::value_paths::value_paths;
 use fidl_tree::{Constraints, File, Path, Term, Value};
 use std::alloc::{AllocError, Global};
 
 /// The path that a value is just.
-fn path_alone(value: &Value) -> Option<&Path>
+pub fn path_alone(value: &Value) -> Option<&Path>
     ensures { option_copied result ≡ path_alone value.now }
 {
     if !value.rest.is_empty() {
@@ -28,7 +28,7 @@ fn path_alone(value: &Value) -> Option<&Path>
 }
 
 /// Whether a constraint is the word `optional`.
-fn is_optional(alloc: Global, file: &File<'_>, value: &Value) -> Result<bool, AllocError>
+pub fn is_optional(alloc: Global, file: &File<'_>, value: &Value) -> Result<bool, AllocError>
     ensures { IfOk result (λ found. found ≡ is_optional file.now value.now) }
 {
     match path_alone(value) {
@@ -40,8 +40,8 @@ fn is_optional(alloc: Global, file: &File<'_>, value: &Value) -> Result<bool, Al
     }
 }
 
-/// The constraints that aren't this word, in order.
-fn ordinary<'f>(
+/// The constraints that aren't the word `optional`, in order.
+pub fn ordinary<'f>(
     alloc: Global,
     file: &File<'_>,
     constraints: Option<&'f Constraints>,
@@ -71,7 +71,7 @@ fn item_kind(end: Option<Meaning>) -> Wanted
 }
 
 /// Each name in a value means something.
-fn see_value(
+pub(crate) fn see_value(
     scope: &Scope<'_, '_, '_>,
     number: usize,
     file: &File<'_>,

@@ -14,7 +14,7 @@ struct Frame {
 
 /// An edge of a cycle.
 #[derive(Clone, Copy, Drop)]
-pub(crate) struct Closing {
+pub struct Closing {
     pub from: usize,
     pub to: usize,
 }
@@ -131,7 +131,7 @@ pub(crate) fn add_edge(graph: &mut [Vec<usize>], from: usize, to: usize) -> Resu
 }
 
 /// An order of all points, each behind those that it leads to, or a cycle's first edge.
-pub(crate) fn find_cycle(
+pub fn find_cycle(
     graph: &[Vec<usize>],
     alloc: Global,
 ) -> Result<Result<Vec<usize>, Closing>, AllocError>

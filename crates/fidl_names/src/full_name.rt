@@ -8,7 +8,7 @@ use fidl_tree::{DeclarationBody, File, Path, PathPart};
 use std::alloc::{AllocError, Global};
 
 /// Where a declaration's name stands.
-pub(crate) fn name_span(body: &DeclarationBody) -> Span
+pub fn name_span(body: &DeclarationBody) -> Span
     ensures { result ≡ name_span body.now }
 {
     match body {

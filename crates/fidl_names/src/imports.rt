@@ -14,7 +14,7 @@ use indexmap::IndexMap;
 use std::alloc::Global;
 
 /// Where a path stands.
-pub(crate) fn path_span(path: &Path) -> Span
+pub fn path_span(path: &Path) -> Span
     ensures { result ≡ path_span path.now }
 {
     let mut last = path.first;

@@ -1,9 +1,11 @@
 //! Sets of files whose names are resolved.
-ghost use Rattle.std.specs.Prelude.{◌≡◌, ◌<◌, length, slice_get, Some, IfErr, IfOk, OnOk};
+ghost use Rattle.std.specs.Prelude.{◌≡◌, ◌<◌, ℕ, length, slice_get, option_copied, Some, IfErr, IfOk, IfSome, IsNone, OnOk};
 ghost use Rattle.fidl_tree.specs.declared.file.File.{File as Tree};
-ghost use Rattle.fidl_names.specs.Meanings.{components, Means, IsTrueOfName};
-ghost use Rattle.fidl_names.specs.Aliases.{StandsBehind};
-ghost use Rattle.fidl_names.specs.Items.{ItemMeans, NameOfItemFails};
+ghost use Rattle.fidl_names.specs.declared.meaning.Wanted.TheVariants as Kind;
+ghost use Rattle.fidl_names.specs.declared.place.Position.{Position as Site};
+ghost use Rattle.fidl_names.specs.Meanings.{components, IsJust, Means, IsTrueOfName};
+ghost use Rattle.fidl_names.specs.Aliases.{StandsBehind, WantsKind};
+ghost use Rattle.fidl_names.specs.Items.{IsPropertyAt, ItemMeans, NameOfItemFails};
 ghost use Rattle.fidl_names.specs.Scopes.{IsScope, Tells};
 ghost use Rattle.fidl_names.specs.Resolved.{Resolves, IsTrueOfResolving};
 
@@ -14,11 +16,14 @@ use crate::fault::NameFault;
 use crate::import_cycles::see_import_cycles;
 use crate::library_set::LibrarySet;
 use crate::meaning::{Meaning, Wanted};
+use crate::place::PropertyAt;
 use crate::place_names::see_names;
+use crate::properties::find_property;
 use crate::rules::{all_imports, all_members, libraries};
-use crate::scope::{Scope, read};
+use crate::scope::{Scope, find, kind_of_type, read};
 use fidl_tree::{File, Path};
 use indexmap::IndexMap;
+use std::alloc::AllocError;
 use std::marker::Model;
 
 /// Files in which each name has just one meaning where it stands. Contracts see the list of their trees.
@@ -95,6 +100,45 @@ impl<'f, 's> Named<'f, 's> {
     {
         let file = self.set.file(number);
         see_item_name(&self.scope(), number, file, end, rank, path)
+    }
+
+    /// The property that an ordinary constraint of a type is for, by what stands behind the type and the constraint's number, from 0.
+    pub fn property(&self, end: Meaning, rank: usize) -> Option<PropertyAt>
+        ensures found { IfSome result (λ x. IsPropertyAt self.now (Some end) rank x.position x.number) }
+        ensures none { IsNone result → (p : Site) (n : ℕ) → IsPropertyAt self.now (Some end) rank p n → ⊥ }
+    {
+        let found = find_property(&self.scope(), Some(end), rank)?;
+        Some(PropertyAt {
+            position: found.position,
+            number: found.number,
+        })
+    }
+
+    /// The kind that a type's name wants in the file of this number, where the type may be the second argument of another.
+    pub fn kind(&self, number: usize, argument_of: Option<&Path>) -> Result<Wanted, AllocError>
+        requires { number < length self.now }
+        ensures { IfOk result (λ k. (f : Tree) → slice_get self.now number ≡ Some f → WantsKind self.now f (option_copied argument_of.entry) k) }
+    {
+        let file = self.set.file(number);
+        kind_of_type(&self.scope(), number, file, argument_of)
+    }
+
+    /// What a name means as a type in the file of this number, if anything.
+    pub fn type_meaning(&self, number: usize, path: &Path) -> Result<Option<Meaning>, AllocError>
+        requires { number < length self.now }
+        ensures { IfOk result (λ found. (f : Tree) → slice_get self.now number ≡ Some f → IsJust (Means self.now f Kind.«Type» (components f.src.now path.now)) found) }
+    {
+        let file = self.set.file(number);
+        find(&self.scope(), number, file, path, Wanted::Type)
+    }
+
+    /// What a name means as a value in the file of this number, if anything.
+    pub fn value_meaning(&self, number: usize, path: &Path) -> Result<Option<Meaning>, AllocError>
+        requires { number < length self.now }
+        ensures { IfOk result (λ found. (f : Tree) → slice_get self.now number ≡ Some f → IsJust (Means self.now f Kind.Value (components f.src.now path.now)) found) }
+    {
+        let file = self.set.file(number);
+        find(&self.scope(), number, file, path, Wanted::Value)
     }
 
     /// What is known, behind references.

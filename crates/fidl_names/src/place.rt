@@ -15,3 +15,10 @@ pub struct Position {
     pub file: usize,
     pub index: usize,
 }
+
+/// A property of a resource definition: the definition's position, and the property's number in it, from 0.
+#[derive(Clone, Copy, PartialEq, Eq, Debug, Drop)]
+pub struct PropertyAt {
+    pub position: Position,
+    pub number: usize,
+}

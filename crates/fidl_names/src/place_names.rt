@@ -3,15 +3,15 @@ ghost use Rattle.std.specs.Prelude.{◌≡◌, Some, slice_get, option_copied, I
 ghost use Rattle.std.specs.List.{AllByRecursion};
 ghost use Rattle.fidl_names.specs.SeenPlaces.{seen_place};
 ghost use Rattle.fidl_names.specs.Places.{a_type};
-ghost use Rattle.fidl_names.specs.Resolved.{PlaceHolds, PlaceFails, DeclarationHolds, DeclarationFails, NamesHold, NameFails};
+ghost use Rattle.fidl_names.specs.Resolved.{MembersMean, MemberFails, PlaceHolds, PlaceFails, DeclarationHolds, DeclarationFails, NamesHold, NameFails};
 ghost use Rattle.fidl_names.specs.Faults.{IsTrueOfOne};
 ghost use Rattle.fidl_names.specs.Scopes.{IsScope, Tells};
 
-use crate::constraint_names::see_items;
+use crate::constraint_names::{see_items, see_value};
 use crate::fault::NameFault;
-use crate::name_places::{NamePlace, name_places};
+use crate::places::{NamePlace, name_places};
 use crate::scope::{Scope, end_of, kind_of_type, read};
-use fidl_tree::{Constraints, DeclarationBody, File, Path};
+use fidl_tree::{Constraints, DeclarationBody, File, Path, ValueMember};
 
 /// Each name of a type and its constraints means something.
 fn see_type(
@@ -31,6 +31,24 @@ fn see_type(
     let meaning = read(scope, number, file, path, kind)?;
     let end = end_of(scope, meaning);
     see_items(scope, number, file, Some(end), constraints)
+}
+
+/// Each name in the values of members means something.
+fn see_value_members(
+    scope: &Scope<'_, '_, '_>,
+    number: usize,
+    file: &File<'_>,
+    members: &[ValueMember],
+) -> Result<(), NameFault>
+    requires known { IsScope scope.now }
+    requires file_at { slice_get scope.now.set.now number ≡ Some file.now }
+    ensures ok { OnOk result (MembersMean scope.now.set.now file.now members.now) }
+    ensures told { IfErr result (Tells (MemberFails scope.now.set.now file.now number members.now)) }
+{
+    for member in members {
+        see_value(scope, number, file, &member.value)?;
+    }
+    Ok(())
 }
 
 /// Each name at a place means something.
@@ -56,6 +74,8 @@ fn see_place(
             constraints,
         } => see_type(scope, number, file, argument_of, path, constraints),
         NamePlace::Layout { constraints } => see_items(scope, number, file, None, constraints),
+        NamePlace::Number { .. } => Ok(()),
+        NamePlace::Members { members, .. } => see_value_members(scope, number, file, members),
     }
 }
 

@@ -8,10 +8,10 @@ ghost use Rattle.fidl_names.specs.Meanings.{layout_members as members_of, compon
 ghost use Rattle.fidl_names.specs.Items.{number_in, property_of, property_names, texts_of, written_members as written, declared_members as declared, IsDeclaredMember, IsPropertyMember, IsPropertyFor, IsOfProperty};
 ghost use Rattle.fidl_names.specs.Scopes.{IsScope};
 
-use crate::meaning::Meaning;
+use crate::meaning::{Meaning, Wanted};
 use crate::place::Position;
 use crate::reading::member_number;
-use crate::scope::{Scope, end_of, find_type};
+use crate::scope::{Scope, end_of, find};
 use fidl_tree::{DeclarationBody, File, LayoutBody, Path, Property, TypeConstructor, ValueMember};
 use std::alloc::AllocError;
 
@@ -70,7 +70,7 @@ fn declared_member(
     requires file_at { slice_get scope.now.set.now number ≡ Some file.now }
     ensures { IfOk result (IsJust (IsDeclaredMember scope.now.set.now file.now path.now name.now)) }
 {
-    let Some(first) = find_type(scope, number, file, path)? else {
+    let Some(first) = find(scope, number, file, path, Wanted::Type)? else {
         return Ok(None);
     };
     let Meaning::Declared(position) = end_of(scope, first) else {
@@ -91,11 +91,11 @@ fn declared_member(
 
 /// A property of a resource definition, with its number and the definition's position and file.
 #[derive(Clone, Copy, Drop)]
-struct FoundProperty<'f, 's> {
-    position: Position,
-    file: &'f File<'s>,
-    number: usize,
-    property: &'f Property,
+pub(crate) struct FoundProperty<'f, 's> {
+    pub position: Position,
+    pub file: &'f File<'s>,
+    pub number: usize,
+    pub property: &'f Property,
 }
 
 /// A member, by its name, of the bits or the enum that a property has for its type.
@@ -138,7 +138,7 @@ fn property_name(rank: usize) -> Option<&'static [u8]>
 }
 
 /// The property that a constraint is for.
-fn find_property<'f, 's>(
+pub(crate) fn find_property<'f, 's>(
     scope: &Scope<'_, 'f, 's>,
     end: Option<Meaning>,
     rank: usize,

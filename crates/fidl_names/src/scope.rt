@@ -1,7 +1,6 @@
 //! The names of a set, as each of its files sees them.
 ghost use Rattle.std.specs.Prelude.{◌≡◌, Some, slice_get, IfErr, IfOk};
 ghost use Rattle.std.specs.Option.{option_map};
-ghost use Rattle.fidl_names.specs.declared.meaning.Wanted.TheVariants as Kind;
 ghost use Rattle.fidl_names.specs.Meanings.{components, IsJust, Means, IsTrueOfName};
 ghost use Rattle.fidl_names.specs.Aliases.{WantsKind, StandsBehind};
 ghost use Rattle.fidl_names.specs.Scopes.{IsScope};
@@ -11,7 +10,7 @@ use crate::fault::NameFault;
 use crate::library_set::LibrarySet;
 use crate::meaning::{Meaning, Wanted};
 use crate::reading::read_name;
-use crate::type_names::{read_type, wanted_kind};
+use crate::type_names::{find_meaning, wanted_kind};
 use fidl_tree::{File, Path};
 use indexmap::IndexMap;
 use std::alloc::{AllocError, Global};
@@ -42,19 +41,20 @@ pub(crate) fn read(
     read_name(scope.set, scope.alloc, visible, file, number, path, wanted)
 }
 
-/// What a name of a file means as a type, if anything.
-pub(crate) fn find_type(
+/// What a name of a file means where this kind is wanted, if anything.
+pub(crate) fn find(
     scope: &Scope<'_, '_, '_>,
     number: usize,
     file: &File<'_>,
     path: &Path,
+    wanted: Wanted,
 ) -> Result<Option<Meaning>, AllocError>
     requires known { IsScope scope.now }
     requires file_at { slice_get scope.now.set.now number ≡ Some file.now }
-    ensures { IfOk result (IsJust (Means scope.now.set.now file.now Kind.«Type» (components file.now.src.now path.now))) }
+    ensures { IfOk result (IsJust (Means scope.now.set.now file.now wanted (components file.now.src.now path.now))) }
 {
     let visible = &scope.sights[number];
-    read_type(scope.set, scope.alloc, visible, file, number, path)
+    find_meaning(scope.set, scope.alloc, visible, file, number, path, wanted)
 }
 
 /// The kind that a type's name wants, which may be the second argument of another.

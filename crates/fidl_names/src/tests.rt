@@ -1,9 +1,12 @@
 // Worked cases: names that repeat, that mean nothing, or more than one thing, and where.
-use crate::{LibrarySet, Meaning, NameFault, Named, Position, Predeclared, Wanted};
+use crate::{
+    LibrarySet, Meaning, NameFault, NamePlace, Named, Position, Predeclared, PropertyAt, Wanted,
+    name_places,
+};
 use fidl_parse::parse;
 use fidl_span::{Span, lex, line_col};
 use fidl_tree::{Constraints, DeclarationBody, File, NamedType, Path, Term, TypeConstructor};
-use std::alloc::Global;
+use std::alloc::{AllocError, Global};
 use std::test::Fail;
 
 /// The tree of a source.
@@ -337,8 +340,13 @@ fn members_that_repeat_are_told(rt: HostRuntime) -> Result<(), Fail> {
 
 #[test]
 fn names_without_a_meaning_are_told(rt: HostRuntime) -> Result<(), Fail> {
-    let cases: [Case<'_>; 15] = [
+    let cases: [Case<'_>; 16] = [
         (&[b"library t; const A uint8 = B;"], (0, (1, 28))),
+        // In the value of a member behind another.
+        (
+            &[b"library t; type E = enum {A = 1; B = C;};"],
+            (0, (1, 38)),
+        ),
         // A name of another kind.
         (
             &[b"library t; const B uint8 = 1; const A B = 1;"],
@@ -655,5 +663,99 @@ fn constraints_have_their_meanings(rt: HostRuntime) -> Result<(), Fail> {
     assert_eq!(rt; alias_means(&named, 2, 1), None, "no right N");
     let constant = Meaning::Declared(Position { file: 1, index: 4 });
     assert_eq!(rt; alias_means(&named, 3, 0), Some((handle, constant)), "X");
+    Ok(())
+}
+
+/// What kind of place it is.
+fn place_word(place: &NamePlace<'_>) -> &'static str {
+    match place {
+        NamePlace::Name { .. } => "name",
+        NamePlace::Type { .. } => "type",
+        NamePlace::Layout { .. } => "layout",
+        NamePlace::Number {
+            argument_of: None,
+            ..
+        } => "number",
+        NamePlace::Number { .. } => "second number",
+        NamePlace::Members {
+            underlying: None,
+            ..
+        } => "members",
+        NamePlace::Members { .. } => "members of a type",
+    }
+}
+
+/// The kinds of the places in the declaration of a number.
+fn place_words(
+    alloc: Global,
+    file: &File<'_>,
+    index: usize,
+) -> Result<Option<Vec<&'static str>>, Fail> {
+    let Some(declaration) = file.declarations.get(index) else {
+        return Ok(None);
+    };
+    let places = name_places(alloc, &declaration.body)?;
+    let mut words = Vec::new(alloc);
+    for place in &places {
+        words.push(place_word(place))?;
+    }
+    Ok(Some(words))
+}
+
+#[test]
+fn values_have_their_places(rt: HostRuntime) -> Result<(), Fail> {
+    let file = tree(
+        rt.alloc(),
+        b"library t; type S = struct {b bits : uint8 {A = N; B = N;}; e enum {C = 1;};}; alias V = array<vector<uint8, 3>, 4>; const N uint8 = A | 2;",
+    )?;
+    let cases: [&[&str]; 3] = [
+        &["type", "members of a type", "layout", "members", "layout"],
+        &["type", "type", "type", "second number", "second number"],
+        &["type", "name"],
+    ];
+    for (index, want) in cases.into_iter().enumerate() {
+        let words = place_words(rt.alloc(), &file, index)?.ok_or("a declaration")?;
+        assert_eq!(rt; words.as_slice(), want, "of declaration {index}");
+    }
+    Ok(())
+}
+
+/// What a name in the second file of a set means as a type and as a value, and what the second argument of a type of that name wants.
+type Meant = (Option<Meaning>, Option<Meaning>, Wanted);
+
+fn meant(named: &Named<'_, '_>, path: &Path) -> Result<Option<Meant>, AllocError> {
+    if named.count() < 2 {
+        return Ok(None);
+    }
+    let as_type = named.type_meaning(1, path)?;
+    let as_value = named.value_meaning(1, path)?;
+    Ok(Some((as_type, as_value, named.kind(1, Some(path))?)))
+}
+
+#[test]
+fn meanings_are_found(rt: HostRuntime) -> Result<(), Fail> {
+    let source = b"library t; alias A = array<uint8, 2>;";
+    let files = trees(rt.alloc(), &[USED, source])?;
+    let named = named_of(rt.alloc(), &files)?;
+    let file = files.get(1).ok_or("a file")?;
+    let alias = alias_of(file, 0).ok_or("A")?;
+    let word = Meaning::Predeclared(Predeclared::Array);
+    let want = Some((Some(word), None, Wanted::Value));
+    assert_eq!(rt; meant(&named, &alias.path)?, want, "array");
+    Ok(())
+}
+
+#[test]
+fn constraints_have_their_properties(rt: HostRuntime) -> Result<(), Fail> {
+    let files = trees(rt.alloc(), &[USED, USING])?;
+    let named = named_of(rt.alloc(), &files)?;
+    let position = Position { file: 0, index: 1 };
+    let handle = Meaning::Declared(position);
+    let subtype = PropertyAt {
+        position,
+        number: 0,
+    };
+    assert_eq!(rt; named.property(handle, 0), Some(subtype), "subtype");
+    assert_eq!(rt; named.property(handle, 1), None, "no rights");
     Ok(())
 }

@@ -27,6 +27,32 @@ fn is_memory(fault: NameFault) -> bool
     matches!(fault, NameFault::Memory)
 }
 
+/// What a name means where this kind is wanted, if anything.
+pub(crate) fn find_meaning(
+    set: &LibrarySet<'_, '_>,
+    alloc: Global,
+    visible: &IndexMap<Vec<u8>, Vec<u8>>,
+    file: &File<'_>,
+    number: usize,
+    path: &Path,
+    wanted: Wanted,
+) -> Result<Option<Meaning>, AllocError>
+    requires sees { seen_texts visible.now.entries ≡ visible_in file.now }
+    requires names { ImportsAreApart file.now }
+    requires members { MembersDiffer set.now }
+    ensures { IfOk result (IsJust (Means set.now file.now wanted (components file.now.src.now path.now))) }
+{
+    match read_name(set, alloc, visible, file, number, path, wanted) {
+        Ok(meaning) => Ok(Some(meaning)),
+        Err(fault) => {
+            if is_memory(fault) {
+                return Err(AllocError);
+            }
+            Ok(None)
+        }
+    }
+}
+
 /// What a name means as a type, if anything.
 pub(crate) fn read_type(
     set: &LibrarySet<'_, '_>,
@@ -41,15 +67,7 @@ pub(crate) fn read_type(
     requires members { MembersDiffer set.now }
     ensures { IfOk result (IsJust (Means set.now file.now Kind.«Type» (components file.now.src.now path.now))) }
 {
-    match read_name(set, alloc, visible, file, number, path, Wanted::Type) {
-        Ok(meaning) => Ok(Some(meaning)),
-        Err(fault) => {
-            if is_memory(fault) {
-                return Err(AllocError);
-            }
-            Ok(None)
-        }
-    }
+    find_meaning(set, alloc, visible, file, number, path, Wanted::Type)
 }
 
 /// Whether it is the predeclared array.

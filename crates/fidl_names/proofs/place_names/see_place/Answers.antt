@@ -1,9 +1,9 @@
 use Rattle.std.proofs.Common.{inr}
 use Rattle.std.specs.Prelude.{None, option_copied}
 use Rattle.std.proofs.lemmas.Result.{err_from_is_err_and, on_ok_weaker}
-use Rattle.fidl_names.specs.Places.{a_name, a_layout}
+use Rattle.fidl_names.specs.Places.{a_name, a_layout, a_members}
 use Rattle.fidl_names.specs.Items.{ItemsHold, ItemsFail}
-use Rattle.fidl_names.specs.Resolved.{PlaceHolds, PlaceFails}
+use Rattle.fidl_names.specs.Resolved.{MembersMean, MemberFails, PlaceHolds, PlaceFails}
 use Rattle.fidl_names.specs.Scopes.{Tells}
 use Rattle.fidl_names.proofs.Judging.{told_more}
 use Rattle.fidl_names.proofs.place_names.see_place.Goals as goal
@@ -36,3 +36,21 @@ returns-in-Layout-clause-told c =
     let cs = option_copied c.in-Layout.constraints in
     rw c.in-Layout.is
     (told_more (ItemsFail files f c.args.number None cs) (λ fault. PlaceFails files f c.args.number fault (a_layout cs)) (λ fault h. PlaceFails.of_layout _ h) c.see_items.result c.see_items.ensures.told)
+
+pub returns-in-Members-clause-ok : goal.returns-in-Members-clause-ok
+returns-in-Members-clause-ok c =
+    rw c.in-Members.is
+    (on_ok_weaker c.see_value_members.result
+    (λ (h : MembersMean c.args.scope.now.set.now c.args.file.now c.in-Members.members.now). PlaceHolds.of_members _ _ _ h)
+    c.see_value_members.ensures.ok)
+
+pub returns-in-Members-clause-told : goal.returns-in-Members-clause-told
+returns-in-Members-clause-told c =
+    let files = c.args.scope.now.set.now in
+    let f = c.args.file.now in
+    let members = c.in-Members.members.now in
+    rw c.in-Members.is
+    (told_more (MemberFails files f c.args.number members) (λ fault. PlaceFails files f c.args.number fault (a_members c.in-Members.keyword.now (option_copied c.in-Members.underlying) members)) (λ fault h. PlaceFails.of_members _ _ _ h) c.see_value_members.result c.see_value_members.ensures.told)
+
+pub returns-in-Number-clause-ok : goal.returns-in-Number-clause-ok
+returns-in-Number-clause-ok c = rw c.in-Number.is (PlaceHolds.of_number _ _)
