@@ -1,0 +1,70 @@
+-- The graph of what hangs on what: its edges, ways and orders are those of declarations and members.
+use Rattle.std.proofs.Common.{◌≡◌, ◌∙◌, ◌<◌, ℕ, List, [], Some, length, take, get_or, refl, sym, ap, subst}
+use Rattle.std.specs.Prelude.{slice_get}
+use Rattle.std.specs.List.{Contains}
+use Rattle.std.proofs.lemmas.Option.{same_Some, slice_get_within, slice_get-get_or, get_or_from_slice_get}
+use Rattle.fidl_tree.specs.declared.file.File.{File}
+use Rattle.fidl_names.specs.declared.meaning.Meaning.{Meaning}
+use Rattle.fidl_names.specs.Cycles.{Leads, step, further, IsEdge, IsEdgeFrom, IsFirstEdge, IsOrder}
+use Rattle.std.specs.Global.{Vec}
+use Rattle.fidl_const.specs.Uses.{HangsOn}
+use Rattle.fidl_const.specs.Tables.{AreNumbered, AreRows, IsNodeOrder, number_of}
+
+some_there : {X : Type 0} (xs : List X) (n : ℕ) (d : X) → n < length xs → (x : X) × (slice_get xs n ≡ Some x)
+some_there xs n d within = (get_or xs n d, slice_get-get_or xs n d within)
+
+contains_there : {X : Type 0} (xs : List X) (i : ℕ) (x : X) → slice_get xs i ≡ Some x → Contains xs x
+contains_there xs i x is = (i, slice_get_within xs i x is, get_or_from_slice_get xs i x x is)
+
+module _ (files : List File) (nodes : List Meaning) (starts : List (Vec ℕ)) (graph : List (List ℕ)) (numbered : AreNumbered files nodes starts) (rows : AreRows files nodes starts graph) where
+  from_within : (one other : ℕ) → IsEdge graph one other → one < length nodes
+  from_within one other e = subst (λ n. one < n) rows.long (slice_get_within graph one e.targets e.stands)
+
+  -- the end of an edge, where one stands at its start
+  record End (m : Meaning) (other : ℕ) : Type 0 where
+    pub node : Meaning
+    pub hangs : HangsOn files m node
+    pub there : slice_get nodes other ≡ Some node
+
+  end_of : (one other : ℕ) (m : Meaning) → IsEdge graph one other → slice_get nodes one ≡ Some m → End m other
+  end_of one other m e at =
+      let found = rows.just one m e.targets other at e.stands e.among in
+      record {
+        node = found.0;
+        hangs = found.1.0;
+        there = subst (λ n. slice_get nodes n ≡ Some found.0) (sym found.1.1) (numbered.numbered found.0 found.1.0.target);
+      }
+
+  pub edges_within : (one other : ℕ) → IsEdge graph one other → (d : Meaning) → other < length graph
+  edges_within one other e d =
+      let start = some_there nodes one d (from_within one other e) in
+      let end = end_of one other start.0 e start.1 in
+      subst (λ n. other < n) (sym rows.long) (slice_get_within nodes other end.node end.there)
+
+  hangs : (one other : ℕ) (m n : Meaning) → IsEdge graph one other → slice_get nodes one ≡ Some m → slice_get nodes other ≡ Some n → HangsOn files m n
+  hangs one other m n e at there =
+      let end = end_of one other m e at in
+      subst (HangsOn files m) (same_Some end.node n (sym end.there ∙ there)) end.hangs
+
+  leads : (first one other : ℕ) (m n : Meaning) → Leads (IsEdgeFrom graph first) one other → slice_get nodes one ≡ Some m → slice_get nodes other ≡ Some n → Leads (HangsOn files) m n
+  leads first one other m n (step x y e) at there = step m n (hangs one other m n e.0 at there)
+  leads first one other m n (further x y z e rest) at there =
+      let end = end_of one y m e.0 at in
+      further m end.node n end.hangs (leads first y other end.node n rest end.there there)
+
+  pub back : (one other : ℕ) (m : Meaning) → IsFirstEdge graph one other → slice_get nodes one ≡ Some m → Leads (HangsOn files) m m
+  back one other m e at =
+      let end = end_of one other m e.0 at in
+      further m end.node m end.hangs (leads one other one end.node m e.1 end.there at)
+
+  pub start_within : (one other : ℕ) → IsFirstEdge graph one other → one < length nodes
+  start_within one other e = from_within one other e.0
+
+  pub node_order : (order : List ℕ) → IsOrder graph order → IsNodeOrder files nodes order
+  node_order order h = record {
+    within = λ k n at. subst (λ l. n < l) rows.long (h.points n (contains_there order k n at));
+    whole = λ n within. h.whole n (subst (λ l. n < l) (sym rows.long) within);
+    behind = λ k n one other at there hang.
+        let row = some_there graph n [] (subst (λ l. n < l) (sym rows.long) (slice_get_within nodes n one there)) in
+        (number_of starts other, (h.behind k n (number_of starts other) at (record { targets = row.0; stands = row.1; among = rows.all n one other row.0 there row.1 hang }), numbered.numbered other hang.target));
+  }
