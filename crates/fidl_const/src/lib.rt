@@ -18,8 +18,6 @@ mod numbers;
 mod order;
 mod places;
 mod strings;
-#[cfg(test)]
-mod tests;
 mod types;
 mod values;
 

@@ -27,8 +27,6 @@ mod properties;
 mod reading;
 mod rules;
 mod scope;
-#[cfg(test)]
-mod tests;
 mod type_names;
 
 pub use constraint_names::{is_optional, ordinary, path_alone};

@@ -14,8 +14,6 @@ mod parser;
 mod path;
 mod protocol;
 mod reading;
-#[cfg(test)]
-mod tests;
 mod type_constructor;
 mod value;
 mod value_member;

@@ -15,8 +15,6 @@ mod lines;
 mod literals;
 mod names;
 mod symbols;
-#[cfg(test)]
-mod tests;
 mod words;
 
 pub use faults::LexFault;

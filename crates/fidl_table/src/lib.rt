@@ -5,8 +5,6 @@ mod field;
 mod kind;
 mod record;
 mod section;
-#[cfg(test)]
-mod tests;
 
 pub use field::{u16_at, u32_at, u64_at};
 pub use kind::EntryKind;

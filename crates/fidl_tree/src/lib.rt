@@ -13,8 +13,6 @@ mod laws;
 mod path;
 mod production;
 mod protocol;
-#[cfg(test)]
-mod tests;
 mod type_constructor;
 mod value;
 mod value_member;

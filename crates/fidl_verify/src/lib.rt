@@ -11,8 +11,6 @@ mod name;
 mod roots;
 mod sections;
 mod table;
-#[cfg(test)]
-mod tests;
 
 pub use fault::TableFault;
 pub use table::{Table, verify};

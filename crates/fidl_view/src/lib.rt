@@ -3,8 +3,6 @@
 
 mod elements;
 mod number;
-#[cfg(test)]
-mod tests;
 mod view;
 
 pub use elements::Elements;

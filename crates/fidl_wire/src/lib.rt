@@ -7,8 +7,6 @@ mod handle;
 pub mod laws;
 mod limits;
 pub mod refused;
-#[cfg(test)]
-mod tests;
 mod value;
 pub mod worked;
 

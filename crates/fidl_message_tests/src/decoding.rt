@@ -1,7 +1,7 @@
 ghost use Rattle.std.specs.Prelude.{◌<◌};
 ghost use Rattle.fidl_table.specs.Section.{header_of};
 
-use crate::{DecodeFault, Scratch, decode};
+use fidl_decode::{DecodeFault, Scratch, decode};
 use fidl_verify::{Table, verify};
 use fidl_wire::HandleInfo;
 use std::test::Fail;

@@ -1,6 +1,6 @@
-use crate::{View, Views};
 use fidl_decode::{Scratch, decode};
 use fidl_verify::verify;
+use fidl_view::{View, Views};
 use std::test::Fail;
 
 /// The table of `type Point = struct {x uint32; y uint32;};`, written by hand after the table's rules.

@@ -1,5 +1,5 @@
-use super::*;
 use fidl_span::{Span, Word, WordKind};
+use fidl_tree::*;
 use std::alloc::{AllocError, Global};
 use std::test::Fail;
 

@@ -1,5 +1,5 @@
 // Worked cases: sources whose trees keep all their words, and faults with their places.
-use crate::{ParseFault, parse};
+use fidl_parse::{ParseFault, parse};
 use fidl_span::{lex, line_col};
 use fidl_tree::{File, yield_tokens};
 use std::alloc::Global;

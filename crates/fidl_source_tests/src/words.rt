@@ -1,5 +1,5 @@
 // Worked cases: words and faults with their places, and lines and columns.
-use crate::{LexFault, Span, WordKind, lex, line_col};
+use fidl_span::{LexFault, Span, WordKind, lex, line_col};
 use std::test::Fail;
 
 #[test]

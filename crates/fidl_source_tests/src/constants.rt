@@ -1,71 +1,12 @@
 // Worked cases: values, and what has none, and where.
-use crate::evaluate;
-use crate::numbers::number_value;
-use crate::strings::string_bytes;
-use fidl_names::{LibrarySet, NameFault, Named};
-use fidl_parse::parse;
-use fidl_span::{lex, line_col};
-use fidl_tree::File;
+use crate::sources::trees;
+use fidl_const::{ConstType, ConstValue, NumberKind, evaluate};
+use fidl_names::{LibrarySet, Meaning, NameFault, Named, Position};
+use fidl_span::line_col;
+use fidl_tree::{DeclarationBody, File, Value};
 use std::alloc::Global;
 use std::process::Abort;
 use std::test::Fail;
-
-#[test]
-fn reads_numbers(rt: HostRuntime) -> Result<(), Fail> {
-    let cases: [(&[u8], Option<u64>); 12] = [
-        (b"0", Some(0)),
-        (b"007", Some(7)),
-        (b"0x1F", Some(31)),
-        (b"0XfF", Some(255)),
-        (b"0B101", Some(5)),
-        (b"0b0", Some(0)),
-        (b"18446744073709551615", Some(18_446_744_073_709_551_615)),
-        (b"0xFFFFFFFFFFFFFFFF", Some(18_446_744_073_709_551_615)),
-        (b"18446744073709551616", None),
-        (b"0x10000000000000000", None),
-        (b"340282366920938463463374607431768211456", None),
-        (b"00000000000000000000000000000000000000001", Some(1)),
-    ];
-    for (text, want) in cases {
-        assert_eq!(rt; number_value(text), want, "the number of {text:?}");
-    }
-    Ok(())
-}
-
-#[test]
-fn reads_strings(rt: HostRuntime) -> Result<(), Fail> {
-    let cases: [(&[u8], &[u8]); 9] = [
-        (b"\"\"", b""),
-        (b"\"abc\"", b"abc"),
-        (b"\"caf\xC3\xA9\"", b"caf\xC3\xA9"),
-        (b"\"\\\\\\\"\\n\\r\\t\"", b"\\\"\n\r\t"),
-        (b"\"\\u{1F600}\"", b"\xF0\x9F\x98\x80"),
-        (b"\"\\u{7F}\"", b"\x7F"),
-        (b"\"\\u{e9}\\u{0020AC}\"", b"\xC3\xA9\xE2\x82\xAC"),
-        (b"\"a\\u{0}b\"", b"a\0b"),
-        (b"\"\\\\u{41}\\nu\"", b"\\u{41}\nu"),
-    ];
-    for (text, want) in cases {
-        let bytes = string_bytes(rt.alloc(), text)?;
-        assert_eq!(rt; bytes.as_slice(), want, "the bytes of {text:?}");
-    }
-    Ok(())
-}
-
-/// The tree of a source.
-fn tree<'s>(alloc: Global, src: &'s [u8]) -> Result<File<'s>, Fail> {
-    let tokens = lex(alloc, src)?;
-    Ok(parse(alloc, &tokens, src)?)
-}
-
-/// The trees of sources.
-fn trees<'s>(alloc: Global, sources: &[&'s [u8]]) -> Result<Vec<File<'s>>, Fail> {
-    let mut files = Vec::new(alloc);
-    for src in sources {
-        files.push(tree(alloc, src)?)?;
-    }
-    Ok(files)
-}
 
 /// Files with their names resolved.
 fn named<'f, 's>(alloc: Global, files: &'f [File<'s>]) -> Result<Named<'f, 's>, NameFault> {
@@ -74,6 +15,124 @@ fn named<'f, 's>(alloc: Global, files: &'f [File<'s>]) -> Result<Named<'f, 's>, 
         set.add(file)?;
     }
     set.resolve()
+}
+
+/// The value that the first declaration of a source has of its own.
+fn first_value(alloc: Global, src: &[u8]) -> Result<Option<ConstValue>, Fail> {
+    let files = trees(alloc, &[src])?;
+    let named = named(alloc, &files)?;
+    let consts = evaluate(alloc, &named)?;
+    let first = Meaning::Declared(Position { file: 0, index: 0 });
+    Ok(
+        consts
+            .offered(alloc, &named, first)?
+            .map(|entry| entry.value),
+    )
+}
+
+#[test]
+fn gives_the_values_of_numbers(rt: HostRuntime) -> Result<(), Fail> {
+    let cases: [(&[u8], i128); 9] = [
+        (b"library t; const A uint64 = 0;", 0),
+        (b"library t; const A uint64 = 007;", 7),
+        (b"library t; const A uint64 = 0x1F;", 31),
+        (b"library t; const A uint64 = 0XfF;", 255),
+        (b"library t; const A uint64 = 0B101;", 5),
+        (
+            b"library t; const A uint64 = 18446744073709551615;",
+            18_446_744_073_709_551_615,
+        ),
+        (
+            b"library t; const A uint64 = 00000000000000000000000000000000000000001;",
+            1,
+        ),
+        (b"library t; const A int8 = -128;", -128),
+        (
+            b"library t; const A uint8 = B | (2 | 4); const B uint8 = 0x11;",
+            23,
+        ),
+    ];
+    for (src, want) in cases {
+        let found = first_value(rt.alloc(), src)?;
+        assert!(rt;
+            matches!(found, Some(ConstValue::Number(n)) if n == want),
+            "the number of {src:?}"
+        );
+    }
+    Ok(())
+}
+
+#[test]
+fn gives_the_bytes_of_strings(rt: HostRuntime) -> Result<(), Fail> {
+    let cases: [(&[u8], &[u8]); 9] = [
+        (b"library t; const A string = \"\";", b""),
+        (b"library t; const A string = \"abc\";", b"abc"),
+        (
+            b"library t; const A string = \"caf\xC3\xA9\";",
+            b"caf\xC3\xA9",
+        ),
+        (
+            b"library t; const A string = \"\\\\\\\"\\n\\r\\t\";",
+            b"\\\"\n\r\t",
+        ),
+        (
+            b"library t; const A string = \"\\u{1F600}\";",
+            b"\xF0\x9F\x98\x80",
+        ),
+        (b"library t; const A string = \"\\u{7F}\";", b"\x7F"),
+        (
+            b"library t; const A string = \"\\u{e9}\\u{0020AC}\";",
+            b"\xC3\xA9\xE2\x82\xAC",
+        ),
+        (b"library t; const A string = \"a\\u{0}b\";", b"a\0b"),
+        (
+            b"library t; const A string = \"\\\\u{41}\\nu\";",
+            b"\\u{41}\nu",
+        ),
+    ];
+    for (src, want) in cases {
+        let Some(ConstValue::Text(bytes)) = first_value(rt.alloc(), src)? else {
+            return Err("a string".into());
+        };
+        assert_eq!(rt; bytes.as_slice(), want, "the bytes of {src:?}");
+    }
+    Ok(())
+}
+
+/// The expression of a file's first constant.
+fn first_expression<'f>(file: &'f File<'_>) -> Result<&'f Value, Fail> {
+    let first = file.declarations.first().ok_or("a declaration")?;
+    match &first.body {
+        DeclarationBody::Const(constant) => Ok(&constant.value),
+        _ => Err("a constant".into()),
+    }
+}
+
+#[test]
+fn reads_an_expression_where_another_type_is_wanted(rt: HostRuntime) -> Result<(), Fail> {
+    let cases: [(ConstType, Result<i128, u32>); 4] = [
+        (ConstType::Number(NumberKind::Uint64), Ok(300)),
+        (ConstType::Number(NumberKind::Uint8), Err(1)),
+        (ConstType::Bool, Err(2)),
+        (ConstType::String, Err(2)),
+    ];
+    let alloc = rt.alloc();
+    let files = trees(
+        alloc,
+        &[b"library t; const A uint16 = B; const B uint32 = 300;"],
+    )?;
+    let named = named(alloc, &files)?;
+    let consts = evaluate(alloc, &named)?;
+    let value = first_expression(&files[0])?;
+    for (wanted, want) in cases {
+        let found = match consts.value_of(alloc, &named, 0, wanted, value) {
+            Ok(ConstValue::Number(number)) => Ok(number),
+            Ok(_) => Err(0),
+            Err(fault) => Err(fault.number()),
+        };
+        assert_eq!(rt; found, want, "the value where {wanted:?} is wanted");
+    }
+    Ok(())
 }
 
 /// A fault's number, its file, and the line and the column of its place.

@@ -1,4 +1,4 @@
-use crate::{Bytes, Content, HandleInfo, Handles, Member, Members, Value, Values};
+use fidl_wire::{Bytes, Content, HandleInfo, Handles, Member, Members, Value, Values};
 use std::test::Fail;
 
 /// A tree is built from below, and its parts are found in order.

@@ -1,5 +1,5 @@
 //! Tables that are accepted or refused, and the rule that each refused one breaks.
-use crate::{TableFault, verify};
+use fidl_verify::{TableFault, verify};
 use std::test::Fail;
 
 /// `type Point = struct {x uint32; y uint32;};`: entry 0 is the struct, entry 1 is `uint32`, and the root is `Point`.

@@ -1,31 +1,16 @@
 // Worked cases: names that repeat, that mean nothing, or more than one thing, and where.
-use crate::{
-    LibrarySet, Meaning, NameFault, NamePlace, Named, Position, Predeclared, PropertyAt, Wanted,
-    name_places,
+use crate::sources::{tree, trees};
+use fidl_names::{
+    LibrarySet, Meaning, NameFault, NamePlace, Named, Place, Position, Predeclared, PropertyAt,
+    Wanted, name_places,
 };
-use fidl_parse::parse;
-use fidl_span::{Span, lex, line_col};
+use fidl_span::{Span, line_col};
 use fidl_tree::{Constraints, DeclarationBody, File, NamedType, Path, Term, TypeConstructor};
 use std::alloc::{AllocError, Global};
 use std::test::Fail;
 
-/// The tree of a source.
-fn tree<'s>(alloc: Global, src: &'s [u8]) -> Result<File<'s>, Fail> {
-    let tokens = lex(alloc, src)?;
-    Ok(parse(alloc, &tokens, src)?)
-}
-
-/// A fault with its file, and the line and the column of its place.
+/// A fault, its file, and the line and the column of its place.
 type Told = (NameFault, usize, (u64, u64));
-
-/// The trees of sources.
-fn trees<'s>(alloc: Global, sources: &[&'s [u8]]) -> Result<Vec<File<'s>>, Fail> {
-    let mut files = Vec::new(alloc);
-    for src in sources {
-        files.push(tree(alloc, src)?)?;
-    }
-    Ok(files)
-}
 
 /// A fault with the line and the column of its place.
 fn told(fault: NameFault, sources: &[&[u8]]) -> Result<Told, Fail> {
@@ -174,7 +159,7 @@ fn refused_files_leave_nothing(rt: HostRuntime) -> Result<(), Fail> {
 
 #[test]
 fn faults_have_numbers_and_names(rt: HostRuntime) -> Result<(), Fail> {
-    let place = crate::Place {
+    let place = Place {
         file: 3,
         span: Span { from: 5, to: 8 },
     };
