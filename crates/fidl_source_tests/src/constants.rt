@@ -123,7 +123,7 @@ fn reads_an_expression_where_another_type_is_wanted(rt: HostRuntime) -> Result<(
     )?;
     let named = named(alloc, &files)?;
     let consts = evaluate(alloc, &named)?;
-    let value = first_expression(&files[0])?;
+    let value = first_expression(files.first().ok_or("a file")?)?;
     for (wanted, want) in cases {
         let found = match consts.value_of(alloc, &named, 0, wanted, value) {
             Ok(ConstValue::Number(number)) => Ok(number),
