@@ -130,7 +130,7 @@ other_type fs p f a at other g b h string =
 pub bound_told : (fs : List File) (p : Position) (f : File) (a : AliasDeclaration) → IsAliasAt fs p f a → IsStringType fs f a.constructor → (fault : ConstFault)
     → Tells (BoundFails fs f p.file (ordinary f (constraints_of a.constructor))) fault → Tells (Fails fs) fault
 bound_told fs p f a at string =
-    tells_more (BoundFails fs f p.file (ordinary f (constraints_of a.constructor))) (Fails fs) (λ fault h. Fails.of_bound p.file f a.constructor at.file_at string h)
+    tells_more (BoundFails fs f p.file (ordinary f (constraints_of a.constructor))) (Fails fs) (λ fault h. Fails.of_bound p f a at string h)
 
 -- a member
 module _ (fs : List File) (p : Position) (i : ℕ) (m : Meaning) (is : m ≡ meaning.Member p i) where

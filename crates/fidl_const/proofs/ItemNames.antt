@@ -1,5 +1,5 @@
 -- Constraints that are just names.
-use Rattle.std.proofs.Common.{◌≡◌, ◌∙◌, ℕ, List, Option, Some, None, inl, inr, refl, sym, ap, subst, false, true}
+use Rattle.std.proofs.Common.{◌≡◌, ℕ, List, Option, Some, None, inr, refl, sym, ap, subst}
 use Rattle.std.specs.Prelude.{Result, IfOk, IfErr, IfSome, IsNone}
 use Rattle.std.proofs.lemmas.Result.{IfOk-weaker, IfErr-weaker}
 use Rattle.fidl_span.specs.declared.words.Span.{Span}
@@ -16,7 +16,7 @@ use Rattle.fidl_const.specs.declared.fault.ConstFault.TheVariants.{WrongKind}
 use Rattle.fidl_const.specs.Known.{seen}
 use Rattle.fidl_const.specs.Values.{Gives, Offers}
 use Rattle.fidl_const.specs.Tables.{Tells}
-use Rattle.fidl_const.specs.Evaluated.{ItemNameGives, ItemNameFails, HasItemValue, Misfits, at}
+use Rattle.fidl_const.specs.Evaluated.{ItemNameGives, ItemNameFails, Misfits, at}
 
 -- an option that isn't there, and one that is
 pub none_is : {X : Type 0} (o : Option X) → o ≡ None → IsNone o

@@ -25,3 +25,6 @@ pub mod PropertyValues
 pub mod ItemNames
 pub mod Graphs
 pub mod NoCycle
+pub mod OneType
+pub mod OneValue
+pub mod NoValue

@@ -90,7 +90,7 @@ module _ (files : List File) where
     apart (Fails.of_constant p f c at fails) = constant_apart p f c fails
     apart (Fails.of_underlying p f l at fails) = underlying_apart f p.file _ _ fails
     apart (Fails.of_member p f l kind m at layout_is among fails) = value_apart f p.file (ty.Number kind) m.value fails
-    apart (Fails.of_bound n f t there string fails) = value_apart f n _ fails.value fails.fails
+    apart (Fails.of_bound p f a at string fails) = value_apart f p.file _ fails.value fails.fails
     apart (Fails.of_place n f d there among fails) = place_apart f n fails.place fails.fails
 
 -- what a refusal tells is true of the files

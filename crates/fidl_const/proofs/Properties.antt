@@ -1,5 +1,5 @@
 -- The property that a constraint is for is what stands at its place.
-use Rattle.std.proofs.Common.{◌≡◌, ℕ, List, Some, Option, ap, sym, subst, refl, ◌∙◌}
+use Rattle.std.proofs.Common.{◌≡◌, ℕ, List, Some, Option, ap, sym, subst, ◌∙◌}
 use Rattle.std.specs.Prelude.{slice_get}
 use Rattle.fidl_tree.specs.declared.file.File.{File}
 use Rattle.fidl_tree.specs.declared.declaration.Declaration.{Declaration}

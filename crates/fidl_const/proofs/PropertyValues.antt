@@ -1,13 +1,9 @@
 -- Members of the bits or the enum that a property is written as.
-use Rattle.std.proofs.Common.{◌≡◌, ◌<◌, ◌∙◌, ℕ, List, Option, Some, length, sym, ap, subst, refl}
+use Rattle.std.proofs.Common.{◌≡◌, ◌<◌, ℕ, List, Option, Some, length, subst, refl}
 use Rattle.std.specs.Prelude.{slice_get}
-use Rattle.std.proofs.lemmas.Option.{same_Some, slice_get_within}
+use Rattle.std.proofs.lemmas.Option.{slice_get_within}
 use Rattle.fidl_tree.specs.declared.file.File.{File}
 use Rattle.fidl_tree.specs.declared.path.Path.{Path}
-use Rattle.fidl_tree.specs.declared.declaration.Declaration.{Declaration}
-use Rattle.fidl_tree.specs.declared.declaration.Property.{Property}
-use Rattle.fidl_tree.specs.declared.declaration.ResourceDefinition.{ResourceDefinition}
-use Rattle.fidl_tree.specs.declared.declaration.DeclarationBody.TheVariants.{Resource}
 use Rattle.fidl_tree.specs.declared.value_member.ValueMember.{ValueMember}
 use Rattle.fidl_tree.specs.declared.type_constructor.ValuesLayout.{ValuesLayout, out-ValuesLayout}
 use Rattle.fidl_names.specs.declared.place.Position.{Position}
@@ -18,7 +14,7 @@ use Rattle.fidl_const.specs.declared.const_type.BitsOrEnum.TheVariants as layout
 use Rattle.fidl_const.specs.declared.const_type.ConstType.TheVariants as ty
 use Rattle.fidl_const.specs.declared.fault.ConstFault.{ConstFault}
 use Rattle.fidl_const.specs.Known.{Known}
-use Rattle.fidl_const.specs.Types.{IsPropertyValues, UnderlyingIs, path_of, written_values}
+use Rattle.fidl_const.specs.Types.{IsPropertyValues, UnderlyingIs, path_of}
 use Rattle.fidl_const.specs.Values.{Offers, ValueIs}
 use Rattle.fidl_const.specs.Evaluated.{HasPropertyValue, PropertyMemberFails, UnderlyingFails, ValueFails}
 use Rattle.fidl_const.specs.Tables.{Tells}

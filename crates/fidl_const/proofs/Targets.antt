@@ -1,17 +1,17 @@
 -- The graph of what values hang on: its rows, one name and one node at a time.
-use Rattle.std.proofs.Common.{◌≡◌, ◌⊎◌, ◌<◌, ◌+◌, ℕ, zero, suc, List, [], ◌∷◌, ◌++◌, Option, Some, None, length, inl, inr, refl, ap, sym, subst, ◌∙◌, arith}
+use Rattle.std.proofs.Common.{◌≡◌, ◌⊎◌, ◌<◌, ℕ, zero, suc, List, [], ◌∷◌, ◌++◌, Some, length, inl, inr, refl, ap, sym, subst, arith}
 use Rattle.std.specs.Prelude.{slice_get}
 use Rattle.std.specs.List.{Contains}
 use Rattle.std.specs.Global.{Vec}
 use Rattle.std.proofs.lemmas.List.{length_push}
 use Rattle.std.proofs.lemmas.List.Elements.{Contains-push, Contains-push_cases, Contains-append_left}
-use Rattle.std.proofs.lemmas.Option.{slice_get_within, slice_get-get_or, get_or_from_slice_get, same_Some, none-some}
+use Rattle.std.proofs.lemmas.Option.{slice_get_within, none-some}
 use Rattle.fidl_tree.specs.declared.path.Path.{Path}
 use Rattle.fidl_tree.specs.declared.file.File.{File}
 use Rattle.fidl_names.specs.declared.place.Place.{Place}
 use Rattle.fidl_names.specs.declared.meaning.Wanted.{Wanted}
 use Rattle.fidl_names.specs.declared.meaning.Meaning.{Meaning}
-use Rattle.fidl_names.specs.Meanings.{components, Means, IsJust}
+use Rattle.fidl_names.specs.Meanings.{components, Means}
 use Rattle.fidl_const.specs.Uses.{IsNode, declaration, member, IsKnownNode, HangsOn}
 use Rattle.fidl_const.specs.Tables.{number_of, file_of, IsTarget, AreTargets, AreRows}
 

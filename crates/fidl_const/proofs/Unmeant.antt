@@ -1,5 +1,5 @@
 -- Names that are refused mean nothing.
-use Rattle.std.proofs.Common.{◌≡◌, ◌∙◌, ℕ, List, Option, Some, refl, sym, inl, inr}
+use Rattle.std.proofs.Common.{◌≡◌, ◌∙◌, ℕ, List, Option, refl, sym, inl, inr}
 use Rattle.fidl_tree.specs.declared.file.File.{File}
 use Rattle.fidl_tree.specs.declared.path.Path.{Path}
 use Rattle.fidl_names.specs.declared.meaning.Wanted.{Wanted}

@@ -19,13 +19,13 @@ use Rattle.fidl_tree.specs.declared.declaration.Property.{Property}
 use Rattle.fidl_tree.specs.declared.declaration.AliasDeclaration.{AliasDeclaration}
 use Rattle.fidl_tree.specs.declared.declaration.DeclarationBody.{DeclarationBody}
 use Rattle.fidl_tree.specs.declared.type_constructor.TypeConstructor.{TypeConstructor, out-TypeConstructor}
-use Rattle.fidl_tree.specs.declared.type_constructor.NamedType.{NamedType, out-NamedType}
-use Rattle.fidl_tree.specs.declared.type_constructor.Layout.{Layout, out-Layout}
+use Rattle.fidl_tree.specs.declared.type_constructor.NamedType.{out-NamedType}
+use Rattle.fidl_tree.specs.declared.type_constructor.Layout.{out-Layout}
 use Rattle.fidl_tree.specs.declared.type_constructor.LayoutBody.{LayoutBody, out-LayoutBody}
 use Rattle.fidl_tree.specs.declared.type_constructor.ValuesLayout.{ValuesLayout, out-ValuesLayout}
-use Rattle.fidl_tree.specs.declared.type_constructor.StructLayout.{StructLayout, out-StructLayout}
-use Rattle.fidl_tree.specs.declared.type_constructor.TableLayout.{TableLayout, out-TableLayout}
-use Rattle.fidl_tree.specs.declared.type_constructor.UnionLayout.{UnionLayout, out-UnionLayout}
+use Rattle.fidl_tree.specs.declared.type_constructor.StructLayout.{out-StructLayout}
+use Rattle.fidl_tree.specs.declared.type_constructor.TableLayout.{out-TableLayout}
+use Rattle.fidl_tree.specs.declared.type_constructor.UnionLayout.{out-UnionLayout}
 use Rattle.fidl_tree.specs.declared.type_constructor.LayoutBody.TheOpen.{TypeConstructor-F, LayoutBody-F}
 use Rattle.fidl_names.specs.declared.place.Place.{Place}
 use Rattle.fidl_names.specs.declared.place.Position.{Position}
@@ -36,7 +36,7 @@ use Rattle.fidl_names.specs.declared.meaning.Meaning.TheVariants as meaning
 use Rattle.fidl_names.specs.Imports.{path_span}
 use Rattle.fidl_names.specs.Meanings.{components, Means}
 use Rattle.fidl_names.specs.Aliases.{type_path, StandsBehind, WantsKind, IsAliasAt}
-use Rattle.fidl_names.specs.Items.{ItemMeans, IsPropertyFor, StandsAt, ordinary, path_alone, is_optional}
+use Rattle.fidl_names.specs.Items.{ItemMeans, IsPropertyFor, ordinary, path_alone, is_optional}
 use Rattle.fidl_names.specs.Places.{NamePlace, a_name, a_type, a_layout, a_number, a_members, body_places, items}
 use Rattle.fidl_const.specs.declared.fault.ConstFault.{ConstFault}
 use Rattle.fidl_const.specs.declared.fault.ConstFault.TheVariants.{OutOfRange, WrongKind, ConstCycle, NotBits, Memory}
@@ -344,7 +344,7 @@ pub data Fails (files : List File) (fault : ConstFault) : Type 0 where
   of_underlying : (p : Position) (f : File) (l : ValuesLayout) → IsValuesAt files p f l → UnderlyingFails files f p.file (out-ValuesLayout l).keyword (path_of (out-ValuesLayout l).underlying) fault → Fails files fault
   of_member : (p : Position) (f : File) (l : ValuesLayout) (kind : NumberKind) (m : ValueMember) → IsValuesAt files p f l → LayoutIs files f l (Some kind) → Contains (out-ValuesLayout l).members.items m
       → ValueFails files f p.file (ty.Number kind) fault m.value → Fails files fault
-  of_bound : (number : ℕ) (f : File) (t : TypeConstructor) → slice_get files number ≡ Some f → IsStringType files f t → BoundFails files f number (ordinary f (constraints_of t)) fault → Fails files fault
+  of_bound : (p : Position) (f : File) (a : AliasDeclaration) → IsAliasAt files p f a → IsStringType files f a.constructor → BoundFails files f p.file (ordinary f (constraints_of a.constructor)) fault → Fails files fault
   of_place : (number : ℕ) (f : File) (d : Declaration) → slice_get files number ≡ Some f → Contains f.declarations.items d → DeclarationFails files f number d.body fault → Fails files fault
 
 -- the values of a set of files are there

@@ -1,4 +1,4 @@
-use Rattle.std.proofs.Common.{rules, ◌≡◌, ◌<◌, ◌∙◌, ℕ, List, Vec, Some, None, length, map, refl, sym, ap, subst}
+use Rattle.std.proofs.Common.{rules, ◌≡◌, ◌<◌, Some, None, length, refl, sym, subst}
 use Rattle.std.specs.Prelude.{slice_get, IfErr, IfOk}
 use Rattle.std.proofs.lemmas.Option.{same_Some, slice_get_read}
 use Rattle.std.proofs.lemmas.Result.{err_from_is_err_and}
@@ -6,7 +6,7 @@ use Rattle.std.proofs.Math.ListN.{length-map}
 use Rattle.fidl_names.specs.declared.meaning.Predeclared.TheVariants as name
 use Rattle.fidl_names.specs.declared.meaning.Meaning.TheVariants as meaning
 use Rattle.fidl_names.specs.declared.place.Place.{Place}
-use Rattle.fidl_names.specs.Cycles.{IsEdge, IsFirstEdge, IsOrder, points_of}
+use Rattle.fidl_names.specs.Cycles.{IsFirstEdge, IsOrder, points_of}
 use Rattle.fidl_const.specs.Uses.{IsNode}
 use Rattle.fidl_const.specs.Tables.{AreRows, IsNodeOrder}
 use Rattle.fidl_const.proofs.Graphs.{edges_within, back, start_within, node_order}
