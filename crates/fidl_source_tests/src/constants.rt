@@ -122,6 +122,9 @@ fn reads_an_expression_where_another_type_is_wanted(rt: HostRuntime) -> Result<(
         &[b"library t; const A uint16 = B; const B uint32 = 300;"],
     )?;
     let named = named(alloc, &files)?;
+    if named.count() == 0 {
+        return Err("a file".into());
+    }
     let consts = evaluate(alloc, &named)?;
     let value = first_expression(files.first().ok_or("a file")?)?;
     for (wanted, want) in cases {
