@@ -15,6 +15,24 @@ pub const MAX_NEST: usize = 32;
 /// The greatest inline size of a type, in bytes.
 pub const MAX_INLINE_SIZE: usize = 65_535;
 
+/// The greatest number of members of one layout: of a struct, table, union, bits or enum.
+pub const MAX_LAYOUT_MEMBERS: u32 = 65_535;
+
+/// The greatest ordinal of a table's member.
+pub const MAX_TABLE_ORDINAL: u32 = 64;
+
+/// The greatest number of entries of a coding table, one for each type.
+pub const MAX_ENTRIES: u32 = 65_535;
+
+/// The greatest number of `(`, `{` and `<` that are open at once in a FIDL source.
+pub const MAX_SOURCE_BRACKETS: usize = 64;
+
+/// The greatest number of brackets that are open at once in the written text of a value.
+pub const MAX_TEXT_BRACKETS: usize = 4_096;
+
+/// The greatest number of reads that the service makes of its input.
+pub const MAX_SERVICE_READS: u64 = 4_294_967_296;
+
 /// The places of the decoder's stack.
 pub const STACK_PLACES: usize = 2_178;
 
