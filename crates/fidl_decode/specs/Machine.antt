@@ -5,8 +5,8 @@ use Rattle.fidl_wire.specs.declared.handle.HandleInfo.{HandleInfo}
 use Rattle.fidl_wire.specs.Term as ty
 use Rattle.fidl_wire.specs.Term.{resolve}
 use Rattle.fidl_wire.specs.Figure.{figure_of}
-use Rattle.fidl_table.specs.Section.{header_of}
-use Rattle.fidl_table.specs.Terms.{declarations_of}
+use Rattle.fidl_records.specs.Section.{header_of}
+use Rattle.fidl_records.specs.Terms.{declarations_of}
 use Rattle.fidl_decode.specs.declared.fault.DecodeFault.{DecodeFault}
 use Rattle.fidl_decode.specs.declared.fault.DecodeFault.TheVariants.{BytesLeft, HandlesLeft}
 use Rattle.fidl_decode.specs.declared.frame.Frame.{Frame}

@@ -5,8 +5,8 @@ ghost use Rattle.fidl_wire.specs.Term.{resolve};
 ghost use Rattle.fidl_wire.specs.Figure.{size_of};
 ghost use Rattle.fidl_wire.specs.Standing.{Stands};
 ghost use Rattle.fidl_wire.specs.Encoding.{zeros};
-ghost use Rattle.fidl_table.specs.Section.{header_of, entry_at};
-ghost use Rattle.fidl_table.specs.Terms.{declarations_of};
+ghost use Rattle.fidl_records.specs.Section.{header_of, entry_at};
+ghost use Rattle.fidl_records.specs.Terms.{declarations_of};
 ghost use Rattle.fidl_decode.specs.Fine.{IsFine};
 ghost use Rattle.fidl_decode.specs.Faults.{IsShown};
 ghost use Rattle.fidl_decode.specs.State.{At, Item};
@@ -14,7 +14,7 @@ ghost use Rattle.fidl_decode.specs.Machine.{rows_left, LeftFine, Reads, StateFin
 
 use crate::fault::DecodeFault;
 use crate::frame::{Frame, Left, Member, State, Turn};
-use fidl_table::EntryKind;
+use fidl_records::EntryKind;
 use fidl_verify::Table;
 use fidl_wire::HandleInfo;
 

@@ -1,5 +1,5 @@
 ghost use Rattle.std.specs.Prelude.{◌<◌};
-ghost use Rattle.fidl_table.specs.Section.{header_of};
+ghost use Rattle.fidl_records.specs.Section.{header_of};
 
 use fidl_decode::{DecodeFault, Scratch, decode};
 use fidl_verify::{Table, verify};

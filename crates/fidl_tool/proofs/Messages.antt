@@ -8,7 +8,7 @@ use Rattle.fidl_wire.specs.Encoding.{Enc, pad8}
 use Rattle.fidl_wire.specs.Typed.{IsTyped}
 use Rattle.fidl_wire.specs.Message.{Encodes}
 use Rattle.fidl_wire.proofs.Stand.{stands_from_all, stands_front}
-use Rattle.fidl_table.specs.Terms.{declarations_of}
+use Rattle.fidl_records.specs.Terms.{declarations_of}
 use Rattle.fidl_decode.specs.Shown.{Shown}
 use Rattle.fidl_view.specs.Shows.{Shows}
 use Rattle.fidl_view.specs.declared.view.View.{View}

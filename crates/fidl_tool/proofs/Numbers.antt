@@ -9,9 +9,9 @@ use Rattle.fidl_wire.specs.Term as ty
 use Rattle.fidl_wire.specs.Figure.{Declarations}
 use Rattle.fidl_wire.specs.Typed.{IsTyped}
 use Rattle.fidl_wire.specs.Text.{text_of}
-use Rattle.fidl_table.specs.Section.{header_of}
-use Rattle.fidl_table.specs.Terms.{declarations_of}
-use Rattle.fidl_verify.specs.WellFormed.{WellFormed}
+use Rattle.fidl_records.specs.Section.{header_of}
+use Rattle.fidl_records.specs.Terms.{declarations_of}
+use Rattle.fidl_records.specs.WellFormed.{WellFormed}
 use Rattle.fidl_view.specs.Parts.{unsigned_of, signed_of}
 use Rattle.fidl_tool.proofs.Printing.{number_answered}
 

@@ -9,16 +9,16 @@ use Rattle.fidl_wire.specs.Term as ty
 use Rattle.fidl_wire.specs.Figure.{Declarations}
 use Rattle.fidl_wire.specs.Typed.{IsTyped, AllTyped, EachTyped, InRange}
 use Rattle.fidl_wire.specs.Text.{text_of, elements_text, fields_text, comma_if}
-use Rattle.fidl_table.specs.declared.record.Header.{Header}
-use Rattle.fidl_table.specs.declared.record.Entry.{Entry}
-use Rattle.fidl_table.specs.declared.record.Row.{Row}
-use Rattle.fidl_table.specs.declared.kind.EntryKind.{EntryKind}
-use Rattle.fidl_table.specs.declared.kind.EntryKind.TheVariants.{Bool as Boolean, Int8, Int16, Int32, Int64, Uint8, Uint16, Uint32, Uint64, Bits, Enum, String, Vector, Array, Box, Struct, Table, Union, Handle}
-use Rattle.fidl_table.specs.Section.{header_of, entry_at, row_at, name_at}
-use Rattle.fidl_table.specs.Terms.{declarations_of, fields_from, term_as}
-use Rattle.fidl_verify.specs.Uses.{is_known}
-use Rattle.fidl_verify.specs.Entry.{IsOf}
-use Rattle.fidl_verify.specs.WellFormed.{WellFormed}
+use Rattle.fidl_records.specs.declared.record.Header.{Header}
+use Rattle.fidl_records.specs.declared.record.Entry.{Entry}
+use Rattle.fidl_records.specs.declared.record.Row.{Row}
+use Rattle.fidl_records.specs.declared.kind.EntryKind.{EntryKind}
+use Rattle.fidl_records.specs.declared.kind.EntryKind.TheVariants.{Bool as Boolean, Int8, Int16, Int32, Int64, Uint8, Uint16, Uint32, Uint64, Bits, Enum, String, Vector, Array, Box, Struct, Table, Union, Handle}
+use Rattle.fidl_records.specs.Section.{header_of, entry_at, row_at, name_at}
+use Rattle.fidl_records.specs.Terms.{declarations_of, fields_from, term_as}
+use Rattle.fidl_records.specs.Uses.{is_known}
+use Rattle.fidl_records.specs.Entry.{IsOf}
+use Rattle.fidl_records.specs.WellFormed.{WellFormed}
 use Rattle.fidl_verify.proofs.Declared.{element_nests, member_nests}
 use Rattle.fidl_decode.specs.Shown.{Shown}
 use Rattle.fidl_decode.proofs.Bridge.{fine_of}

@@ -5,7 +5,7 @@ ghost use Rattle.fidl_wire.specs.Value.{Value};
 ghost use Rattle.fidl_wire.specs.Term as ty;
 ghost use Rattle.fidl_wire.specs.Message.{Encodes};
 ghost use Rattle.fidl_wire.specs.Text.{Text};
-ghost use Rattle.fidl_table.specs.Terms.{declarations_of};
+ghost use Rattle.fidl_records.specs.Terms.{declarations_of};
 ghost use Rattle.fidl_tool.specs.Decoding.{HasRoot, LacksRoot, IsText, IsRefusal, no_root_line, no_memory_line};
 ghost use Rattle.fidl_tool.specs.declared.status.Status.TheVariants as status;
 

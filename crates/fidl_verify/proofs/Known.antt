@@ -3,13 +3,13 @@ use Rattle.std.proofs.Common.{◌≡◌, ℕ, List, Bool, true, false, sym, ap, 
 use Rattle.std.specs.Option.{option_map_or}
 use Rattle.fidl_wire.specs.Figure.{figure, figure_of}
 use Rattle.fidl_wire.specs.Term.{nothing}
-use Rattle.fidl_table.specs.declared.record.Header.{Header}
-use Rattle.fidl_table.specs.declared.record.Entry.{Entry}
-use Rattle.fidl_table.specs.declared.kind.EntryKind.{EntryKind}
-use Rattle.fidl_table.specs.declared.kind.EntryKind.TheVariants.{Bool as Boolean, Int8, Int16, Int32, Int64, Uint8, Uint16, Uint32, Uint64, Array, Struct, Table, Union}
-use Rattle.fidl_table.specs.Terms.{term_as}
-use Rattle.fidl_verify.specs.Uses.{is_known, uses_rows, plain_size}
-use Rattle.fidl_verify.specs.Entry.{IsOf, kind_is, HasShape, rows_of, figures_of, entry_figure}
+use Rattle.fidl_records.specs.declared.record.Header.{Header}
+use Rattle.fidl_records.specs.declared.record.Entry.{Entry}
+use Rattle.fidl_records.specs.declared.kind.EntryKind.{EntryKind}
+use Rattle.fidl_records.specs.declared.kind.EntryKind.TheVariants.{Bool as Boolean, Int8, Int16, Int32, Int64, Uint8, Uint16, Uint32, Uint64, Array, Struct, Table, Union}
+use Rattle.fidl_records.specs.Terms.{term_as}
+use Rattle.fidl_records.specs.Uses.{is_known, uses_rows, plain_size}
+use Rattle.fidl_records.specs.Entry.{IsOf, kind_is, HasShape, rows_of, figures_of, entry_figure}
 
 -- a test of the kind of an entry
 pub test_of : (test : EntryKind → Bool) (k : EntryKind) (e : Entry) → IsOf k e → kind_is test e ≡ test k

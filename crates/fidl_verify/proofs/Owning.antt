@@ -1,17 +1,17 @@
 -- Each row of a well-formed table is a member of a struct.
 use Rattle.std.proofs.Common.{◌≡◌, ℕ, zero, suc, ◌+◌, ◌<◌, ◌≤◌, ◌⊎◌, inl, inr, List, true, false, if◌then◌else◌, Some, refl, ap, sym, ◌∙◌, subst, arith}
 use Rattle.std.proofs.lemmas.Bool.{cases_order}
-use Rattle.fidl_table.specs.declared.record.Header.{Header}
-use Rattle.fidl_table.specs.declared.record.Entry.{Entry}
-use Rattle.fidl_table.specs.declared.record.Row.{Row}
-use Rattle.fidl_table.specs.declared.kind.EntryKind.{EntryKind}
-use Rattle.fidl_table.specs.declared.kind.EntryKind.TheVariants.{Struct, Table, Union}
-use Rattle.fidl_table.specs.Kind.{kind_of}
-use Rattle.fidl_table.specs.Section.{header_of, entry_at, row_at}
-use Rattle.fidl_verify.specs.Uses.{is_known, uses_rows}
-use Rattle.fidl_verify.specs.Name.{IsMemberName}
-use Rattle.fidl_verify.specs.Entry.{IsOf, IsEntry, IsRowOf, HasShape, rows_of, rows_before}
-use Rattle.fidl_verify.specs.WellFormed.{WellFormed}
+use Rattle.fidl_records.specs.declared.record.Header.{Header}
+use Rattle.fidl_records.specs.declared.record.Entry.{Entry}
+use Rattle.fidl_records.specs.declared.record.Row.{Row}
+use Rattle.fidl_records.specs.declared.kind.EntryKind.{EntryKind}
+use Rattle.fidl_records.specs.declared.kind.EntryKind.TheVariants.{Struct, Table, Union}
+use Rattle.fidl_records.specs.Kind.{kind_of}
+use Rattle.fidl_records.specs.Section.{header_of, entry_at, row_at}
+use Rattle.fidl_records.specs.Uses.{is_known, uses_rows}
+use Rattle.fidl_records.specs.Name.{IsMemberName}
+use Rattle.fidl_records.specs.Entry.{IsOf, IsEntry, IsRowOf, HasShape, rows_of, rows_before}
+use Rattle.fidl_records.specs.WellFormed.{WellFormed}
 use Rattle.fidl_verify.proofs.Known.{test_of, rows_of_struct}
 use Rattle.fidl_verify.proofs.Declared.{kind_known}
 use Rattle.fidl_verify.proofs.Ranges.{of_range}

@@ -1,7 +1,7 @@
 -- The names of roots rise one by one.
 use Rattle.std.proofs.Common.{◌≡◌, ◌≢◌, ◌↔◌, ℕ, suc, ◌-◌, ◌<◌, ◌≤◌, List, Bool, IsTrue, inl, inr, subst, sym, arith}
-use Rattle.fidl_table.specs.declared.record.Header.{Header}
-use Rattle.fidl_verify.specs.Root.{root_name, IsBefore, Rises}
+use Rattle.fidl_records.specs.declared.record.Header.{Header}
+use Rattle.fidl_records.specs.Root.{root_name, IsBefore, Rises}
 use Rattle.fidl_verify.proofs.Stated.{or_last}
 
 -- the one name before is that of the root before

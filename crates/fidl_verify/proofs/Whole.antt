@@ -1,12 +1,12 @@
 -- A table is well formed where all its rules hold, and only there.
 use Rattle.std.proofs.Common.{◌≡◌, ℕ, ◌<◌, List, Result, Ok, Err, IfErr, OnErr, subst, sym, arith}
-use Rattle.fidl_table.specs.declared.record.Header.{Header}
-use Rattle.fidl_table.specs.Section.{header_of}
+use Rattle.fidl_records.specs.declared.record.Header.{Header}
+use Rattle.fidl_records.specs.Section.{header_of}
 use Rattle.fidl_verify.specs.declared.fault.TableFault.{TableFault}
-use Rattle.fidl_verify.specs.Entry.{IsEntry, rows_before}
-use Rattle.fidl_verify.specs.Root.{IsRoot}
-use Rattle.fidl_verify.specs.WellFormed.{HasHeader, WellFormed}
-use Rattle.fidl_verify.specs.Faults.{Breaks, magic, version, short, long, many_entries, shape, children, follows, offsets, size, nest, names, row, value, root, root_name, root_order, protocols, methods}
+use Rattle.fidl_records.specs.Entry.{IsEntry, rows_before}
+use Rattle.fidl_records.specs.Root.{IsRoot}
+use Rattle.fidl_records.specs.WellFormed.{HasHeader, WellFormed}
+use Rattle.fidl_verify.specs.Faults.{Breaks, BreaksHeader, BreaksRecord, no_header, header, record_at, magic, version, short, long, many_entries, shape, children, follows, offsets, size, nest, names, row, value, root, root_name, root_order, protocols, methods}
 
 pub well_formed_from : (bytes : List ℕ) (h : Header) → h ≡ header_of bytes → HasHeader bytes h → ((index : ℕ) → index < h.entries → IsEntry bytes h index)
     → rows_before bytes h.entries ≡ h.rows → h.values ≡ 0 → ((index : ℕ) → index < h.roots → IsRoot bytes h index) → h.protocols ≡ 0 → h.methods ≡ 0 → WellFormed bytes
@@ -15,27 +15,34 @@ well_formed_from bytes h same =
     → rows_before bytes h.entries ≡ h.rows → h.values ≡ 0 → ((index : ℕ) → index < h.roots → IsRoot bytes h index) → h.protocols ≡ 0 → h.methods ≡ 0 → WellFormed bytes) (sym same)
     (λ a b c d e f g. record { header = a; entries = b; covered = c; no_values = d; roots = e; no_protocols = f; no_methods = g })
 
--- a fault is told of no table that is well formed
+-- no fault is true of a table that is well formed
+of_header : (bytes : List ℕ) (fault : TableFault) → BreaksHeader bytes (header_of bytes) fault → WellFormed bytes → ⊥
+of_header bytes fault (magic n) w = n w.header.magic
+of_header bytes fault (version n) w = n w.header.version
+of_header bytes fault (short n) w = omega (arith, n, w.header.whole)
+of_header bytes fault (long n) w = omega (arith, n, w.header.whole)
+
+of_record : (bytes : List ℕ) (fault : TableFault) → BreaksRecord bytes (header_of bytes) fault → WellFormed bytes → ⊥
+of_record bytes fault (many_entries n) w = omega (arith, n, w.header.few_entries)
+of_record bytes fault (shape at p n) w = n (w.entries at p).shape
+of_record bytes fault (children at p n) w = n (w.entries at p).children
+of_record bytes fault (follows at p n) w = n (w.entries at p).follows
+of_record bytes fault (offsets at p n) w = n (w.entries at p).offsets
+of_record bytes fault (size at p n) w = n (w.entries at p).size
+of_record bytes fault (nest at p n) w = n (w.entries at p).nest
+of_record bytes fault (names at p n) w = n (w.entries at p).names
+of_record bytes fault (row n) w = omega (arith, n, w.covered)
+of_record bytes fault (value n) w = n w.no_values
+of_record bytes fault (root at p n) w = n (w.roots at p).entry
+of_record bytes fault (root_name at p n) w = n (w.roots at p).name
+of_record bytes fault (root_order at p n) w = n (w.roots at p).rises
+of_record bytes fault (protocols n) w = n w.no_protocols
+of_record bytes fault (methods n) w = n w.no_methods
+
 pub refutes : (bytes : List ℕ) (fault : TableFault) → Breaks bytes fault → WellFormed bytes → ⊥
-refutes bytes fault (magic n) w = n w.header.magic
-refutes bytes fault (version n) w = n w.header.version
-refutes bytes fault (short n) w = omega (arith, n, w.header.whole)
-refutes bytes fault (long n) w = omega (arith, n, w.header.whole)
-refutes bytes fault (many_entries n) w = omega (arith, n, w.header.few_entries)
-refutes bytes fault (shape at p n) w = n (w.entries at p).shape
-refutes bytes fault (children at p n) w = n (w.entries at p).children
-refutes bytes fault (follows at p n) w = n (w.entries at p).follows
-refutes bytes fault (offsets at p n) w = n (w.entries at p).offsets
-refutes bytes fault (size at p n) w = n (w.entries at p).size
-refutes bytes fault (nest at p n) w = n (w.entries at p).nest
-refutes bytes fault (names at p n) w = n (w.entries at p).names
-refutes bytes fault (row n) w = omega (arith, n, w.covered)
-refutes bytes fault (value n) w = n w.no_values
-refutes bytes fault (root at p n) w = n (w.roots at p).entry
-refutes bytes fault (root_name at p n) w = n (w.roots at p).name
-refutes bytes fault (root_order at p n) w = n (w.roots at p).rises
-refutes bytes fault (protocols n) w = n w.no_protocols
-refutes bytes fault (methods n) w = n w.no_methods
+refutes bytes fault (no_header n) w = omega (arith, n, w.header.whole)
+refutes bytes fault (header g room b) w = of_header bytes g b w
+refutes bytes fault (record_at g whole b) w = of_record bytes g b w
 
 pub none_of : {T : Type 0} (bytes : List ℕ) (r : Result T TableFault) → IfErr r (Breaks bytes) → OnErr r (WellFormed bytes → ⊥)
 none_of bytes (Ok x) h = tt

@@ -1,9 +1,12 @@
 -- What each fault says of a table (docs/table.md, "Faults").
-use Rattle.std.specs.Prelude.{◌≢◌, ℕ, ◌<◌, List, length, codes}
-use Rattle.fidl_table.specs.Section.{header_of, entry_at, table_length}
-use Rattle.fidl_verify.specs.Entry.{HasShape, HasChildren, Follows, HasOffsets, HasSize, HasNest, HasNames, rows_before, entry_figure}
-use Rattle.fidl_verify.specs.Root.{HasEntry, HasRootName, Rises}
-use Rattle.fidl_verify.specs.WellFormed.{table_magic, IsVersion}
+use Rattle.std.specs.Prelude.{◌≡◌, ◌≢◌, ℕ, ◌<◌, ◌≤◌, List, length, codes}
+use Rattle.fidl_wire.specs.declared.limits.TheConstants.{MAX_ENTRIES}
+use Rattle.fidl_records.specs.declared.section.TheConstants.{HEADER_SIZE}
+use Rattle.fidl_records.specs.declared.record.Header.{Header}
+use Rattle.fidl_records.specs.Section.{header_of, entry_at, table_length}
+use Rattle.fidl_records.specs.Entry.{HasShape, HasChildren, Follows, HasOffsets, HasSize, HasNest, HasNames, rows_before, entry_figure}
+use Rattle.fidl_records.specs.Root.{HasEntry, HasRootName, Rises}
+use Rattle.fidl_records.specs.WellFormed.{table_magic, IsVersion}
 use Rattle.fidl_verify.specs.declared.fault.TableFault.{TableFault}
 use Rattle.fidl_verify.specs.declared.fault.TableFault.TheVariants.{BadMagic, BadVersion, Truncated, Surplus, BadKind, BadIndex, BadOffset, BadSize, BadNest, NotSorted, BadName, BadMethod}
 
@@ -52,25 +55,34 @@ place_of (NotSorted at) = at
 place_of (BadName at) = at
 place_of (BadMethod at) = at
 
--- what each fault says of the table, which breaks the rule that is named; faults of the header are told at 0
-pub data Breaks (bytes : List ℕ) : TableFault → Type 0 where
-  magic : (header_of bytes).magic ≢ table_magic → Breaks bytes (BadMagic 0)
-  version : ¬ IsVersion (header_of bytes) → Breaks bytes (BadVersion 0)
-  short : length bytes < table_length (header_of bytes) → Breaks bytes (Truncated 0)
-  long : table_length (header_of bytes) < length bytes → Breaks bytes (Surplus 0)
-  many_entries : 65_535 < (header_of bytes).entries → Breaks bytes (BadIndex 0)
-  shape : (at : ℕ) → at < (header_of bytes).entries → ¬ HasShape (entry_at bytes at) → Breaks bytes (BadKind at)
-  children : (at : ℕ) → at < (header_of bytes).entries → ¬ HasChildren bytes (header_of bytes) (entry_at bytes at) → Breaks bytes (BadIndex at)
-  follows : (at : ℕ) → at < (header_of bytes).entries → ¬ Follows (rows_before bytes at) (entry_at bytes at) → Breaks bytes (BadIndex at)
-  offsets : (at : ℕ) → at < (header_of bytes).entries → ¬ HasOffsets bytes (header_of bytes) (entry_at bytes at) → Breaks bytes (BadOffset at)
-  size : (at : ℕ) → at < (header_of bytes).entries → ¬ HasSize (entry_figure bytes (header_of bytes) (entry_at bytes at)) (entry_at bytes at) → Breaks bytes (BadSize at)
-  nest : (at : ℕ) → at < (header_of bytes).entries → ¬ HasNest (entry_figure bytes (header_of bytes) (entry_at bytes at)) (entry_at bytes at) → Breaks bytes (BadNest at)
-  names : (at : ℕ) → at < (header_of bytes).entries → ¬ HasNames bytes (header_of bytes) (entry_at bytes at) → Breaks bytes (BadName at)
+-- a header that states what it must not; all are reported at 0
+pub data BreaksHeader (bytes : List ℕ) (h : Header) : TableFault → Type 0 where
+  magic : h.magic ≢ table_magic → BreaksHeader bytes h (BadMagic 0)
+  version : ¬ IsVersion h → BreaksHeader bytes h (BadVersion 0)
+  short : length bytes < table_length h → BreaksHeader bytes h (Truncated 0)
+  long : table_length h < length bytes → BreaksHeader bytes h (Surplus 0)
+
+-- a record that breaks the rule that is named, or too many or too few of them
+pub data BreaksRecord (bytes : List ℕ) (h : Header) : TableFault → Type 0 where
+  many_entries : MAX_ENTRIES < h.entries → BreaksRecord bytes h (BadIndex 0)
+  shape : (at : ℕ) → at < h.entries → ¬ HasShape (entry_at bytes at) → BreaksRecord bytes h (BadKind at)
+  children : (at : ℕ) → at < h.entries → ¬ HasChildren bytes h (entry_at bytes at) → BreaksRecord bytes h (BadIndex at)
+  follows : (at : ℕ) → at < h.entries → ¬ Follows (rows_before bytes at) (entry_at bytes at) → BreaksRecord bytes h (BadIndex at)
+  offsets : (at : ℕ) → at < h.entries → ¬ HasOffsets bytes h (entry_at bytes at) → BreaksRecord bytes h (BadOffset at)
+  size : (at : ℕ) → at < h.entries → ¬ HasSize (entry_figure bytes h (entry_at bytes at)) (entry_at bytes at) → BreaksRecord bytes h (BadSize at)
+  nest : (at : ℕ) → at < h.entries → ¬ HasNest (entry_figure bytes h (entry_at bytes at)) (entry_at bytes at) → BreaksRecord bytes h (BadNest at)
+  names : (at : ℕ) → at < h.entries → ¬ HasNames bytes h (entry_at bytes at) → BreaksRecord bytes h (BadName at)
   -- the first row that no entry has, and the first value
-  row : rows_before bytes (header_of bytes).entries < (header_of bytes).rows → Breaks bytes (BadIndex (rows_before bytes (header_of bytes).entries))
-  value : (header_of bytes).values ≢ 0 → Breaks bytes (BadIndex 0)
-  root : (at : ℕ) → at < (header_of bytes).roots → ¬ HasEntry bytes (header_of bytes) at → Breaks bytes (BadIndex at)
-  root_name : (at : ℕ) → at < (header_of bytes).roots → ¬ HasRootName bytes (header_of bytes) at → Breaks bytes (BadName at)
-  root_order : (at : ℕ) → at < (header_of bytes).roots → ¬ Rises bytes (header_of bytes) at → Breaks bytes (NotSorted at)
-  protocols : (header_of bytes).protocols ≢ 0 → Breaks bytes (BadMethod 0)
-  methods : (header_of bytes).methods ≢ 0 → Breaks bytes (BadMethod 0)
+  row : rows_before bytes h.entries < h.rows → BreaksRecord bytes h (BadIndex (rows_before bytes h.entries))
+  value : h.values ≢ 0 → BreaksRecord bytes h (BadIndex 0)
+  root : (at : ℕ) → at < h.roots → ¬ HasEntry bytes h at → BreaksRecord bytes h (BadIndex at)
+  root_name : (at : ℕ) → at < h.roots → ¬ HasRootName bytes h at → BreaksRecord bytes h (BadName at)
+  root_order : (at : ℕ) → at < h.roots → ¬ Rises bytes h at → BreaksRecord bytes h (NotSorted at)
+  protocols : h.protocols ≢ 0 → BreaksRecord bytes h (BadMethod 0)
+  methods : h.methods ≢ 0 → BreaksRecord bytes h (BadMethod 0)
+
+-- what each fault says of a table: it has no header, or its header breaks the rule, or, in a table whose sections fill it, a record does
+pub data Breaks (bytes : List ℕ) : TableFault → Type 0 where
+  no_header : length bytes < HEADER_SIZE → Breaks bytes (Truncated 0)
+  header : (fault : TableFault) → HEADER_SIZE ≤ length bytes → BreaksHeader bytes (header_of bytes) fault → Breaks bytes fault
+  record_at : (fault : TableFault) → length bytes ≡ table_length (header_of bytes) → BreaksRecord bytes (header_of bytes) fault → Breaks bytes fault

@@ -1,8 +1,8 @@
 //! The rules of entries.
 ghost use Rattle.std.specs.Prelude.{◌≡◌, ℕ, suc, ◌+◌, ◌<◌, ◌≤◌, ◌↔◌, IsTrue, IsFalse, OnOk, IfOk, IfErr};
-ghost use Rattle.fidl_table.specs.Section.{entry_at, row_at};
-ghost use Rattle.fidl_verify.specs.Name.{IsMemberName};
-ghost use Rattle.fidl_verify.specs.Entry.{IsOf, HasShape, HasChildren, Follows, HasOffsets, HasSize, HasNest, HasNames, IsEntry, rows_of, rows_before};
+ghost use Rattle.fidl_records.specs.Section.{entry_at, row_at};
+ghost use Rattle.fidl_records.specs.Name.{IsMemberName};
+ghost use Rattle.fidl_records.specs.Entry.{IsOf, HasShape, HasChildren, Follows, HasOffsets, HasSize, HasNest, HasNames, IsEntry, rows_of, rows_before};
 ghost use Rattle.fidl_verify.specs.Measured.{measured};
 ghost use Rattle.fidl_verify.specs.Faults.{Breaks};
 
@@ -11,11 +11,8 @@ use crate::figure::{Measure, entry_measure};
 use crate::kind::{is_array, is_known, is_struct, uses_count, uses_first, uses_name};
 use crate::name::{is_member_name, is_name};
 use crate::sections::Sections;
-use fidl_table::{Entry, EntryKind};
-use fidl_wire::{MAX_INLINE_SIZE, MAX_NEST};
-
-/// The greatest number of members of a struct.
-const MAX_MEMBERS: u32 = 65_535;
+use fidl_records::{Entry, EntryKind};
+use fidl_wire::{MAX_INLINE_SIZE, MAX_LAYOUT_MEMBERS, MAX_NEST};
 
 /// Whether a field is zero where it is not used.
 fn is_zero_unless(used: bool, field: u32) -> bool
@@ -38,7 +35,7 @@ fn has_shape(entry: &Entry, kind: EntryKind) -> bool
         && entry.rights == 0
         && is_zero_unless(uses_name(kind), entry.name_place)
         && is_zero_unless(uses_name(kind), entry.name_length)
-        && (!is_struct(kind) || entry.count <= MAX_MEMBERS)
+        && (!is_struct(kind) || entry.count <= MAX_LAYOUT_MEMBERS)
 }
 
 /// Whether the rows' types are entries.

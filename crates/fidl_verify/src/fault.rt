@@ -34,7 +34,7 @@ pub enum TableFault {
     /// elements.
     #[error("entry {at}: a size or alignment that is wrong")]
     BadSize { at: u32 },
-    /// An entry states another nest than its type has, or one over 32.
+    /// An entry states another nest than its type has, or one over the limit.
     #[error("entry {at}: a nest that is wrong")]
     BadNest { at: u32 },
     /// A root's name does not stand behind that of the root before.

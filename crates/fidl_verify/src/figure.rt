@@ -3,14 +3,14 @@ ghost use Rattle.std.specs.Prelude.{◌≡◌, ℕ, ◌+◌, ◌<◌, ◌≤◌,
 ghost use Rattle.std.specs.Int.{next_multiple_of};
 ghost use Rattle.fidl_wire.specs.Term as ty;
 ghost use Rattle.fidl_wire.specs.Figure.{figure_of};
-ghost use Rattle.fidl_table.specs.Section.{row_at};
-ghost use Rattle.fidl_table.specs.Terms.{fields_from};
-ghost use Rattle.fidl_verify.specs.Entry.{IsOf, figures_of, entry_figure, AreOffsets, HasOffsets, HasShape, HasChildren};
+ghost use Rattle.fidl_records.specs.Section.{row_at};
+ghost use Rattle.fidl_records.specs.Terms.{fields_from};
+ghost use Rattle.fidl_records.specs.Entry.{IsOf, figures_of, entry_figure, AreOffsets, HasOffsets, HasShape, HasChildren};
 ghost use Rattle.fidl_verify.specs.Measured.{measured};
 
 use crate::kind::plain_size;
 use crate::sections::Sections;
-use fidl_table::{Entry, EntryKind};
+use fidl_records::{Entry, EntryKind};
 
 /// The figure of a type, in bytes and levels.
 #[derive(Clone, Copy)]

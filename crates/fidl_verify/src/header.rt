@@ -1,18 +1,16 @@
 //! The rules of the header.
 ghost use Rattle.std.specs.Prelude.{◌≡◌, ◌↔◌, IsTrue, IfOk, IfErr, length};
-ghost use Rattle.fidl_table.specs.Section.{header_of, table_length};
-ghost use Rattle.fidl_verify.specs.WellFormed.{table_magic, IsVersion, HasHeader};
+ghost use Rattle.fidl_records.specs.Section.{header_of, table_length};
+ghost use Rattle.fidl_records.specs.WellFormed.{table_magic, IsVersion, HasHeader};
 ghost use Rattle.fidl_verify.specs.Faults.{Breaks};
 
 use crate::fault::TableFault;
 use crate::sections::Sections;
-use fidl_table::{HEADER_SIZE, Header, read_header};
+use fidl_records::{HEADER_SIZE, Header, read_header};
+use fidl_wire::MAX_ENTRIES;
 
 /// "FCT2", as a number.
 const TABLE_MAGIC: u32 = 0x3254_4346;
-
-/// The greatest number of entries.
-const MAX_ENTRIES: u32 = 65_535;
 
 /// How long a table with this header is.
 fn length_of(header: &Header) -> u64

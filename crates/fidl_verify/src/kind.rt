@@ -1,9 +1,9 @@
 //! What the entries of each kind use.
 ghost use Rattle.std.specs.Prelude.{◌≡◌, ◌↔◌, IsTrue};
-ghost use Rattle.fidl_verify.specs.Uses.{is_plain, is_known, uses_first, uses_count, uses_name, plain_size};
-ghost use Rattle.fidl_table.specs.declared.kind.EntryKind.TheVariants as EntryKind;
+ghost use Rattle.fidl_records.specs.Uses.{is_plain, is_known, uses_first, uses_count, uses_name, plain_size};
+ghost use Rattle.fidl_records.specs.declared.kind.EntryKind.TheVariants as EntryKind;
 
-use fidl_table::EntryKind;
+use fidl_records::EntryKind;
 
 /// Whether the kind is bool or a number.
 pub(crate) fn is_plain(kind: EntryKind) -> bool

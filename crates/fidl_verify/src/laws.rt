@@ -1,11 +1,14 @@
 //! Laws of well-formed tables: each is the contract of a function that does nothing.
 ghost use Rattle.std.specs.Prelude.{◌≡◌, ℕ, ◌+◌, ◌<◌, ◌≤◌, List, length};
+ghost use Rattle.fidl_wire.specs.declared.limits.TheConstants.{MAX_INLINE_SIZE, MAX_NEST};
 ghost use Rattle.fidl_wire.specs.Figure.{IsLaidOut, IsSound};
-ghost use Rattle.fidl_table.specs.declared.kind.EntryKind.TheVariants as EntryKind;
-ghost use Rattle.fidl_table.specs.Section.{header_of, table_length, entry_at, row_at};
-ghost use Rattle.fidl_table.specs.Terms.{declarations_of};
-ghost use Rattle.fidl_verify.specs.Entry.{IsOf, IsRowOf, IsApart};
-ghost use Rattle.fidl_verify.specs.WellFormed.{WellFormed};
+ghost use Rattle.fidl_records.specs.declared.kind.EntryKind.TheVariants as EntryKind;
+ghost use Rattle.fidl_records.specs.Section.{header_of, table_length, entry_at, row_at};
+ghost use Rattle.fidl_records.specs.Terms.{declarations_of};
+ghost use Rattle.fidl_records.specs.Entry.{IsOf, IsRowOf, IsApart};
+ghost use Rattle.fidl_records.specs.WellFormed.{WellFormed};
+ghost use Rattle.fidl_verify.specs.declared.fault.TableFault.{TableFault};
+ghost use Rattle.fidl_verify.specs.Faults.{Breaks};
 
 /// The figures that the entries state are those of their types.
 pub fn tables_are_laid_out()
@@ -17,10 +20,10 @@ pub fn tables_are_sound()
     ensures { (bytes : List ℕ) → WellFormed bytes → IsSound (declarations_of bytes) }
 {}
 
-/// Sizes are at most 65,535 bytes, and nests at most 32.
+/// Inline sizes and nests are within their limits.
 pub fn figures_are_small()
     ensures { (bytes : List ℕ) → WellFormed bytes → (index : ℕ) → index < (header_of bytes).entries
-        → ((entry_at bytes index).size ≤ 65535) × ((entry_at bytes index).nest ≤ 32) }
+        → ((entry_at bytes index).size ≤ MAX_INLINE_SIZE) × ((entry_at bytes index).nest ≤ MAX_NEST) }
 {}
 
 /// An array's elements are an entry of the table, with a lesser nest.
@@ -49,4 +52,9 @@ pub fn members_stand_apart()
     ensures { (bytes : List ℕ) → WellFormed bytes → (index : ℕ) → index < (header_of bytes).entries
         → IsOf EntryKind.Struct (entry_at bytes index) → (k : ℕ) → k < (entry_at bytes index).count
         → IsApart bytes (header_of bytes) (entry_at bytes index) k }
+{}
+
+/// No fault is true of a well-formed table.
+pub fn well_formed_tables_have_no_fault()
+    ensures { (bytes : List ℕ) (fault : TableFault) → Breaks bytes fault → WellFormed bytes → ⊥ }
 {}

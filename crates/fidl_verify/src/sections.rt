@@ -1,8 +1,8 @@
 //! The sections of a table whose header is right.
 ghost use Rattle.std.specs.Prelude.{◌≡◌, ◌+◌, ◌≤◌, ◌<◌, length};
-ghost use Rattle.fidl_table.specs.Section.{header_of, table_length, entry_at, row_at, root_at, name_at};
+ghost use Rattle.fidl_records.specs.Section.{header_of, table_length, entry_at, row_at, root_at, name_at};
 
-use fidl_table::{Entry, Header, Root, Row, name_bytes, read_entry, read_root, read_row};
+use fidl_records::{Entry, Header, Root, Row, name_bytes, read_entry, read_root, read_row};
 
 /// The bytes of a table, and its header; the sections fill the table.
 #[derive(Clone, Copy)]

@@ -1,9 +1,9 @@
 //! Tables that are verified.
 ghost use Rattle.std.specs.Prelude.{◌≡◌, ℕ, ◌+◌, ◌<◌, ◌≤◌, OnOk, OnErr, IfOk, IfErr, IfSome, IfNone};
-ghost use Rattle.fidl_table.specs.Section.{header_of, entry_at, row_at, name_at};
-ghost use Rattle.fidl_verify.specs.Entry.{rows_before};
-ghost use Rattle.fidl_verify.specs.Root.{IsRootEntry, HasNoRoot};
-ghost use Rattle.fidl_verify.specs.WellFormed.{WellFormed};
+ghost use Rattle.fidl_records.specs.Section.{header_of, entry_at, row_at, name_at};
+ghost use Rattle.fidl_records.specs.Entry.{rows_before};
+ghost use Rattle.fidl_records.specs.Root.{IsRootEntry, HasNoRoot};
+ghost use Rattle.fidl_records.specs.WellFormed.{WellFormed};
 ghost use Rattle.fidl_verify.specs.Faults.{Breaks};
 
 use crate::entry::check_entries;
@@ -11,7 +11,7 @@ use crate::fault::TableFault;
 use crate::header::read_sections;
 use crate::roots::{check_roots, find_root};
 use crate::sections::Sections;
-use fidl_table::{Entry, Row};
+use fidl_records::{Entry, Row};
 use std::marker::Model;
 
 /// The bytes of a well-formed table (docs/table.md, "Verification").
@@ -22,7 +22,7 @@ pub struct Table<'t> {
 
 impl<'t> Model for Table<'t> {
     ghost use Rattle.std.specs.Prelude.{List, ℕ};
-    ghost use Rattle.fidl_verify.specs.WellFormed.{WellFormed};
+    ghost use Rattle.fidl_records.specs.WellFormed.{WellFormed};
 
     ghost Value = { List ℕ };
 

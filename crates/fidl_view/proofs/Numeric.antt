@@ -6,7 +6,7 @@ use Rattle.std.proofs.Math.Facts.{Fits-of_z}
 use Rattle.std.proofs.lemmas.Nat.{from_le_bytes-to_le_bytes_2, from_le_bytes-to_le_bytes_4, from_le_bytes-to_le_bytes_8}
 use Rattle.std.specs.Int.{w8, w16, w32, w64, to_le_bytes, from_le_bytes, cast_unsigned, cast_signed}
 use Rattle.fidl_wire.specs.Standing.{Stands}
-use Rattle.fidl_table.specs.Field.{number_at}
+use Rattle.fidl_records.specs.Field.{number_at}
 
 -- what stands at a place is the slice there
 pub stands_slice : (m : List ℕ) (p : ℕ) (a : List ℕ) → Stands m p a → take (length a) (drop p m) ≡ a

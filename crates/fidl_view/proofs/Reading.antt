@@ -11,13 +11,13 @@ use Rattle.fidl_wire.specs.Typed.{IsTyped, AllTyped}
 use Rattle.fidl_wire.specs.Encoding.{encoding_of, elements, zeros}
 use Rattle.fidl_wire.specs.Standing.{Stands}
 use Rattle.fidl_wire.proofs.Stand.{stands_to, stands_front, stands_back}
-use Rattle.fidl_table.specs.declared.record.Header.{Header}
-use Rattle.fidl_table.specs.declared.record.Entry.{Entry}
-use Rattle.fidl_table.specs.declared.kind.EntryKind.{EntryKind}
-use Rattle.fidl_table.specs.declared.kind.EntryKind.TheVariants.{Bool as Boolean, Int8, Int16, Int32, Int64, Uint8, Uint16, Uint32, Uint64, Array, Struct}
-use Rattle.fidl_table.specs.Section.{header_of, row_at}
-use Rattle.fidl_table.specs.Terms.{term_as, fields_from, declarations_of}
-use Rattle.fidl_verify.specs.Uses.{is_known}
+use Rattle.fidl_records.specs.declared.record.Header.{Header}
+use Rattle.fidl_records.specs.declared.record.Entry.{Entry}
+use Rattle.fidl_records.specs.declared.kind.EntryKind.{EntryKind}
+use Rattle.fidl_records.specs.declared.kind.EntryKind.TheVariants.{Bool as Boolean, Int8, Int16, Int32, Int64, Uint8, Uint16, Uint32, Uint64, Array, Struct}
+use Rattle.fidl_records.specs.Section.{header_of, row_at}
+use Rattle.fidl_records.specs.Terms.{term_as, fields_from, declarations_of}
+use Rattle.fidl_records.specs.Uses.{is_known}
 use Rattle.fidl_decode.specs.Rows.{table_rows, TypedRows, enc_rows, RowsRise}
 use Rattle.fidl_decode.proofs.Rows.{length-entry}
 use Rattle.fidl_view.specs.Parts.{absence_of, bool_of, unsigned_of, signed_of, octets, bytes_if, bytes_of, length_of, nth, element_of, elements_of, field_of}

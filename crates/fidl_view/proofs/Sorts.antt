@@ -1,8 +1,8 @@
 -- The kinds of a table of today, in four sorts.
 use Rattle.std.proofs.Common.{◌≡◌, true, false}
-use Rattle.fidl_table.specs.declared.kind.EntryKind.{EntryKind}
-use Rattle.fidl_table.specs.declared.kind.EntryKind.TheVariants.{Bool as Boolean, Int8, Int16, Int32, Int64, Uint8, Uint16, Uint32, Uint64, Bits, Enum, String, Vector, Array, Box, Struct, Table, Union, Handle}
-use Rattle.fidl_verify.specs.Uses.{is_known}
+use Rattle.fidl_records.specs.declared.kind.EntryKind.{EntryKind}
+use Rattle.fidl_records.specs.declared.kind.EntryKind.TheVariants.{Bool as Boolean, Int8, Int16, Int32, Int64, Uint8, Uint16, Uint32, Uint64, Bits, Enum, String, Vector, Array, Box, Struct, Table, Union, Handle}
+use Rattle.fidl_records.specs.Uses.{is_known}
 
 unknown : false ≡ true → ⊥
 unknown e = cc

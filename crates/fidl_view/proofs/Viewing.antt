@@ -12,13 +12,13 @@ use Rattle.fidl_wire.specs.Encoding.{Encoding, encoding_of, elements, zeros, pad
 use Rattle.fidl_wire.specs.Standing.{Stands}
 use Rattle.fidl_wire.proofs.Sizes.{end_of-le, le-next_multiple_of}
 use Rattle.fidl_wire.proofs.Stand.{stands_to, stands_front, stands_back, stands_from_all}
-use Rattle.fidl_table.specs.declared.kind.EntryKind.{EntryKind}
-use Rattle.fidl_table.specs.declared.kind.EntryKind.TheVariants.{Uint8, Array, Struct}
-use Rattle.fidl_table.specs.Section.{header_of, entry_at, row_at}
-use Rattle.fidl_table.specs.Terms.{declarations_of, fields_from, term_as}
-use Rattle.fidl_verify.specs.Uses.{is_known}
-use Rattle.fidl_verify.specs.Entry.{IsOf}
-use Rattle.fidl_verify.specs.WellFormed.{WellFormed}
+use Rattle.fidl_records.specs.declared.kind.EntryKind.{EntryKind}
+use Rattle.fidl_records.specs.declared.kind.EntryKind.TheVariants.{Uint8, Array, Struct}
+use Rattle.fidl_records.specs.Section.{header_of, entry_at, row_at}
+use Rattle.fidl_records.specs.Terms.{declarations_of, fields_from, term_as}
+use Rattle.fidl_records.specs.Uses.{is_known}
+use Rattle.fidl_records.specs.Entry.{IsOf}
+use Rattle.fidl_records.specs.WellFormed.{WellFormed}
 use Rattle.fidl_decode.specs.Shown.{Shown}
 use Rattle.fidl_decode.specs.Fine.{IsFine, EntryFine}
 use Rattle.fidl_decode.specs.Rows.{table_rows, TypedRows, RowsRise}

@@ -1,9 +1,9 @@
 -- The numbers that stand at a place, by the kind of their type.
 use Rattle.std.specs.Prelude.{ℕ, ℤ, List, Option, Some, None, slice_index}
 use Rattle.std.specs.Int.{w8, w16, w32, w64, cast_signed}
-use Rattle.fidl_table.specs.declared.kind.EntryKind.{EntryKind}
-use Rattle.fidl_table.specs.declared.kind.EntryKind.TheVariants.{Int8, Int16, Int32, Int64, Uint8, Uint16, Uint32, Uint64}
-use Rattle.fidl_table.specs.Field.{number_at}
+use Rattle.fidl_records.specs.declared.kind.EntryKind.{EntryKind}
+use Rattle.fidl_records.specs.declared.kind.EntryKind.TheVariants.{Int8, Int16, Int32, Int64, Uint8, Uint16, Uint32, Uint64}
+use Rattle.fidl_records.specs.Field.{number_at}
 
 -- how many bytes a number of the kind has, 0 for the other kinds
 abbrev pub width_of : EntryKind → ℕ

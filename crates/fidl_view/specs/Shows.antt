@@ -6,7 +6,7 @@ use Rattle.fidl_wire.specs.Term as ty
 use Rattle.fidl_wire.specs.Typed.{Typed}
 use Rattle.fidl_wire.specs.Encoding.{Enc}
 use Rattle.fidl_wire.specs.Standing.{Stands}
-use Rattle.fidl_table.specs.Terms.{declarations_of}
+use Rattle.fidl_records.specs.Terms.{declarations_of}
 use Rattle.fidl_decode.specs.Shown.{Shown}
 
 -- the type that an entry declares

@@ -1,7 +1,7 @@
 //! The elements of an array, one by one.
 ghost use Rattle.std.specs.Prelude.{◌≡◌, ◌+◌, ◌*◌, ◌<◌, ◌≤◌, length};
 ghost use Rattle.fidl_wire.specs.declared.limits.TheConstants.{MAX_MESSAGE_BYTES};
-ghost use Rattle.fidl_table.specs.Section.{header_of, entry_at};
+ghost use Rattle.fidl_records.specs.Section.{header_of, entry_at};
 
 use crate::view::View;
 use fidl_decode::Decoded;

@@ -3,7 +3,7 @@ ghost use Rattle.std.specs.Prelude.{◌≡◌, ◌+◌, ◌≤◌, length, slice
 ghost use Rattle.std.specs.Int.{w8, w16, w32, w64, cast_signed};
 ghost use Rattle.fidl_view.specs.Numbers.{unsigned_at, signed_at, width_of};
 
-use fidl_table::{EntryKind, u16_at, u32_at, u64_at};
+use fidl_records::{EntryKind, u16_at, u32_at, u64_at};
 
 /// The number of an unsigned kind at a place, none for the other kinds.
 pub(crate) fn unsigned(kind: EntryKind, bytes: &[u8], place: usize) -> Option<u64>

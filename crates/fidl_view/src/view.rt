@@ -8,15 +8,15 @@ ghost use Rattle.fidl_wire.specs.Value.{Value};
 ghost use Rattle.fidl_wire.specs.Term as ty;
 ghost use Rattle.fidl_wire.specs.Message.{Encodes};
 ghost use Rattle.fidl_wire.specs.declared.limits.TheConstants.{MAX_MESSAGE_BYTES};
-ghost use Rattle.fidl_table.specs.Section.{header_of, entry_at};
-ghost use Rattle.fidl_table.specs.Terms.{declarations_of};
+ghost use Rattle.fidl_records.specs.Section.{header_of, entry_at};
+ghost use Rattle.fidl_records.specs.Terms.{declarations_of};
 ghost use Rattle.fidl_decode.specs.Shown.{Shown};
 ghost use Rattle.fidl_view.specs.Shows.{Shows};
 
 use crate::elements::Elements;
 use crate::number::{signed, unsigned};
 use fidl_decode::Decoded;
-use fidl_table::EntryKind;
+use fidl_records::EntryKind;
 
 /// A part of a decoded message. It borrows the message, and every answer is a part of the value that the message encodes.
 #[derive(Clone, Copy)]
@@ -64,8 +64,8 @@ impl<'t, 'm, 's> Views<'m> for Decoded<'t, 'm, 's> {
 impl<'v, 'm> View<'v, 'm> {
     ghost use Rattle.std.specs.Prelude.{MatchOption, slice_range};
     ghost use Rattle.std.specs.Option.{option_copied};
-    ghost use Rattle.fidl_verify.specs.Entry.{IsOf};
-    ghost use Rattle.fidl_verify.specs.WellFormed.{WellFormed};
+    ghost use Rattle.fidl_records.specs.Entry.{IsOf};
+    ghost use Rattle.fidl_records.specs.WellFormed.{WellFormed};
     ghost use Rattle.fidl_view.specs.Parts.{absence_of, bool_of, unsigned_of, signed_of, bytes_of, length_of, element_of, elements_of, field_of};
     ghost use Rattle.fidl_view.specs.Elements.{ShowEach};
     ghost use Rattle.fidl_view.specs.Left.{parts_left};

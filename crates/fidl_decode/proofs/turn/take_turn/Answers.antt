@@ -2,8 +2,8 @@ use Rattle.std.proofs.Common.{ℕ, ◌≡◌, ◌+◌, ◌-◌, subst, ◌∙◌
 use Rattle.std.specs.Prelude.{Some, None}
 use Rattle.fidl_wire.specs.Term as ty
 use Rattle.fidl_wire.specs.Figure.{size_of}
-use Rattle.fidl_table.specs.declared.record.Entry.{Entry}
-use Rattle.fidl_table.specs.Terms.{declarations_of}
+use Rattle.fidl_records.specs.declared.record.Entry.{Entry}
+use Rattle.fidl_records.specs.Terms.{declarations_of}
 use Rattle.fidl_decode.specs.Rows.{Row}
 use Rattle.fidl_decode.specs.State.{At}
 use Rattle.fidl_decode.specs.Machine.{Turns, Reads, message_of, at_of}

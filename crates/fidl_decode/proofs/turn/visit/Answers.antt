@@ -1,10 +1,10 @@
 use Rattle.std.proofs.Common.{◌≡◌, ◌<◌, sym, ap, subst, ◌∙◌, arith}
 use Rattle.std.specs.Prelude.{Some, None}
-use Rattle.fidl_table.specs.declared.record.Entry.{Entry}
-use Rattle.fidl_table.specs.declared.kind.EntryKind.{EntryKind}
-use Rattle.fidl_table.specs.declared.kind.EntryKind.TheVariants.{Bool as Boolean, Array, Struct}
-use Rattle.fidl_table.specs.Kind.{kind_of}
-use Rattle.fidl_table.specs.Section.{header_of, entry_at}
+use Rattle.fidl_records.specs.declared.record.Entry.{Entry}
+use Rattle.fidl_records.specs.declared.kind.EntryKind.{EntryKind}
+use Rattle.fidl_records.specs.declared.kind.EntryKind.TheVariants.{Bool as Boolean, Array, Struct}
+use Rattle.fidl_records.specs.Kind.{kind_of}
+use Rattle.fidl_records.specs.Section.{header_of, entry_at}
 use Rattle.fidl_decode.specs.Machine.{message_of, at_of, Visits}
 use Rattle.fidl_decode.proofs.Visiting.{fine_as, size_is, positive, refused_bool, visits_bool, visits_number, visits_struct, visits_array, struct_frame, array_frame}
 use Rattle.fidl_decode.proofs.turn.visit.Goals as goal

@@ -3,7 +3,7 @@ use Rattle.std.specs.Prelude.{codes}
 use Rattle.fidl_wire.specs.Term as ty
 use Rattle.fidl_wire.specs.Text.{Text}
 use Rattle.fidl_wire.specs.Message.{IsEncoding}
-use Rattle.fidl_table.specs.Terms.{declarations_of}
+use Rattle.fidl_records.specs.Terms.{declarations_of}
 use Rattle.fidl_verify.specs.Faults as table_faults
 use Rattle.fidl_decode.specs.Faults as message_faults
 use Rattle.fidl_tool.specs.declared.status.Status.TheVariants as status

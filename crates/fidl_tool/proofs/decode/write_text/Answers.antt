@@ -2,7 +2,7 @@ use Rattle.std.proofs.Common.{ℕ, List, ◌++◌, ap, ◌∙◌}
 use Rattle.std.specs.Prelude.{codes}
 use Rattle.fidl_wire.specs.Term as ty
 use Rattle.fidl_wire.specs.Text.{Text}
-use Rattle.fidl_table.specs.Terms.{declarations_of}
+use Rattle.fidl_records.specs.Terms.{declarations_of}
 use Rattle.fidl_tool.proofs.Written.{appends_as, appends_then, appends_kept, always}
 use Rattle.fidl_tool.proofs.Messages.{message_part}
 use Rattle.fidl_tool.proofs.decode.write_text.Goals as goal

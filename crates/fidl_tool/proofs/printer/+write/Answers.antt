@@ -5,15 +5,15 @@ use Rattle.fidl_wire.specs.Term.{Term, resolve}
 use Rattle.fidl_wire.specs.Term as ty
 use Rattle.fidl_wire.specs.Typed.{IsTyped}
 use Rattle.fidl_wire.specs.Text.{text_of, comma_if}
-use Rattle.fidl_table.specs.declared.record.Entry.{Entry}
-use Rattle.fidl_table.specs.declared.record.Row.{Row}
-use Rattle.fidl_table.specs.declared.kind.EntryKind.{EntryKind}
-use Rattle.fidl_table.specs.declared.kind.EntryKind.TheVariants.{Bool as Boolean, Array, Struct}
-use Rattle.fidl_table.specs.Kind.{kind_of}
-use Rattle.fidl_table.specs.Section.{header_of, entry_at, row_at, name_at}
-use Rattle.fidl_table.specs.Terms.{declarations_of}
-use Rattle.fidl_verify.specs.Entry.{IsOf}
-use Rattle.fidl_verify.specs.WellFormed.{WellFormed}
+use Rattle.fidl_records.specs.declared.record.Entry.{Entry}
+use Rattle.fidl_records.specs.declared.record.Row.{Row}
+use Rattle.fidl_records.specs.declared.kind.EntryKind.{EntryKind}
+use Rattle.fidl_records.specs.declared.kind.EntryKind.TheVariants.{Bool as Boolean, Array, Struct}
+use Rattle.fidl_records.specs.Kind.{kind_of}
+use Rattle.fidl_records.specs.Section.{header_of, entry_at, row_at, name_at}
+use Rattle.fidl_records.specs.Terms.{declarations_of}
+use Rattle.fidl_records.specs.Entry.{IsOf}
+use Rattle.fidl_records.specs.WellFormed.{WellFormed}
 use Rattle.fidl_decode.specs.Shown.{Shown}
 use Rattle.fidl_view.specs.Parts.{element_of, field_of}
 use Rattle.fidl_tool.proofs.Written.{appends_as, appends_then, so_far_begin, so_far_more, so_far_end, so_far_as, on_ok}

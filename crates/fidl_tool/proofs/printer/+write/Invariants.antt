@@ -1,5 +1,5 @@
 use Rattle.std.proofs.Common.{◌+◌, ◌*◌}
-use Rattle.fidl_table.specs.Section.{entry_at}
+use Rattle.fidl_records.specs.Section.{entry_at}
 use Rattle.fidl_tool.proofs.Printing.{IsElementsLeft, IsMembersLeft}
 use Rattle.fidl_tool.proofs.printer.+write.Given as goal
 

@@ -1,5 +1,5 @@
 use Rattle.std.proofs.Common.{ap, sym, ◌∙◌, add-one, below_more}
-use Rattle.fidl_verify.specs.Entry.{rows_before}
+use Rattle.fidl_records.specs.Entry.{rows_before}
 use Rattle.fidl_verify.proofs.entry.check_entries.Goals as goal
 
 pub loop-index-preserved : goal.loop-index-preserved

@@ -1,5 +1,5 @@
 use Rattle.std.proofs.Common.{◌≡◌, ℕ, ◌<◌, ◌≤◌}
-use Rattle.fidl_verify.specs.Entry.{IsEntry, rows_before}
+use Rattle.fidl_records.specs.Entry.{IsEntry, rows_before}
 use Rattle.fidl_verify.proofs.entry.check_entries.Given as goal
 
 abbrev pub invariant-loop-index : goal.invariant-loop-index

@@ -1,4 +1,4 @@
-use Rattle.fidl_table.specs.Section.{header_of, entry_at}
+use Rattle.fidl_records.specs.Section.{header_of, entry_at}
 use Rattle.fidl_verify.proofs.Declared.{member_nests}
 use Rattle.fidl_verify.proofs.laws.members_nest_less.Goals as goal
 

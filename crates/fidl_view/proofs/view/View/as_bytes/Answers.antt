@@ -1,9 +1,9 @@
 use Rattle.std.proofs.Common.{◌≡◌, ℕ, ◌+◌, ◌<◌, List, ap, sym, subst, ◌∙◌, arith}
 use Rattle.std.specs.Prelude.{Some, slice_range}
-use Rattle.fidl_table.specs.declared.record.Entry.{Entry}
-use Rattle.fidl_table.specs.declared.kind.EntryKind.TheVariants.{Uint8}
-use Rattle.fidl_table.specs.Section.{header_of, entry_at}
-use Rattle.fidl_verify.specs.Entry.{IsOf}
+use Rattle.fidl_records.specs.declared.record.Entry.{Entry}
+use Rattle.fidl_records.specs.declared.kind.EntryKind.TheVariants.{Uint8}
+use Rattle.fidl_records.specs.Section.{header_of, entry_at}
+use Rattle.fidl_records.specs.Entry.{IsOf}
 use Rattle.fidl_view.proofs.Viewing as viewing
 use Rattle.fidl_view.proofs.view.View.as_bytes.Goals as goal
 

@@ -1,7 +1,7 @@
 use Rattle.std.proofs.Common.{◌≡◌, ℕ, List, ap, sym, ◌∙◌}
 use Rattle.fidl_wire.specs.Term.{Term}
-use Rattle.fidl_table.specs.Section.{header_of, entry_at}
-use Rattle.fidl_table.specs.Terms.{declarations_of}
+use Rattle.fidl_records.specs.Section.{header_of, entry_at}
+use Rattle.fidl_records.specs.Terms.{declarations_of}
 use Rattle.fidl_decode.proofs.Visiting.{term_is}
 use Rattle.fidl_decode.proofs.Bridge.{fine_of}
 use Rattle.fidl_view.specs.Parts.{unsigned_of}

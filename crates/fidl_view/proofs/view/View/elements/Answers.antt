@@ -1,6 +1,6 @@
 use Rattle.std.proofs.Common.{◌≡◌, ℕ, ◌*◌, ◌<◌, List, refl, ap, sym, subst, ◌∙◌, arith}
-use Rattle.fidl_table.specs.declared.record.Entry.{Entry}
-use Rattle.fidl_table.specs.Section.{header_of, entry_at}
+use Rattle.fidl_records.specs.declared.record.Entry.{Entry}
+use Rattle.fidl_records.specs.Section.{header_of, entry_at}
 use Rattle.fidl_view.specs.Parts.{elements_of}
 use Rattle.fidl_view.specs.Elements.{parts_from, ShowEach}
 use Rattle.fidl_view.proofs.Viewing as viewing

@@ -26,7 +26,7 @@ pub enum EntryKind {
 }
 
 impl EntryKind {
-    ghost use Rattle.fidl_table.specs.Kind.{kind_of};
+    ghost use Rattle.fidl_records.specs.Kind.{kind_of};
 
     /// The kind of this number, from 1 on; no other number has a kind.
     pub fn from_number(number: u8) -> Option<EntryKind>

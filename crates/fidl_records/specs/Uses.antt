@@ -1,8 +1,8 @@
 -- What the entries of each kind use (docs/table.md, "Kinds").
 use Rattle.std.specs.Prelude.{ℕ, Bool, true, false, is_some}
-use Rattle.fidl_table.specs.Kind.{number_type}
-use Rattle.fidl_table.specs.declared.kind.EntryKind.{EntryKind}
-use Rattle.fidl_table.specs.declared.kind.EntryKind.TheVariants.{Bool as Boolean, Int16, Int32, Int64, Uint16, Uint32, Uint64, Array, Struct, Table, Union}
+use Rattle.fidl_records.specs.Kind.{number_type}
+use Rattle.fidl_records.specs.declared.kind.EntryKind.{EntryKind}
+use Rattle.fidl_records.specs.declared.kind.EntryKind.TheVariants.{Bool as Boolean, Int16, Int32, Int64, Uint16, Uint32, Uint64, Array, Struct, Table, Union}
 
 -- bool and the numbers
 abbrev pub is_plain : EntryKind → Bool

@@ -1,16 +1,17 @@
 -- The rules of an entry, in the order in which they are asked (docs/table.md, "Verification").
 use Rattle.std.specs.Prelude.{◌≡◌, ℕ, zero, suc, ◌+◌, ◌<◌, ◌≤◌, Bool, false, if◌then◌else◌, List, [], ◌∷◌, map, Some, IsTrue, IsFalse}
 use Rattle.std.specs.Option.{option_map_or}
+use Rattle.fidl_wire.specs.declared.limits.TheConstants.{MAX_INLINE_SIZE, MAX_LAYOUT_MEMBERS, MAX_NEST}
 use Rattle.fidl_wire.specs.Figure.{Figure, figure_of, offsets}
-use Rattle.fidl_table.specs.declared.record.Header.{Header}
-use Rattle.fidl_table.specs.declared.record.Entry.{Entry}
-use Rattle.fidl_table.specs.declared.kind.EntryKind.{EntryKind}
-use Rattle.fidl_table.specs.declared.kind.EntryKind.TheVariants.{Array, Struct}
-use Rattle.fidl_table.specs.Kind.{kind_of}
-use Rattle.fidl_table.specs.Section.{entry_at, row_at}
-use Rattle.fidl_table.specs.Terms.{term_of, fields_from, stated_figure, below}
-use Rattle.fidl_verify.specs.Uses.{is_known, uses_first, uses_count, uses_name, uses_rows}
-use Rattle.fidl_verify.specs.Name.{IsName, IsMemberName}
+use Rattle.fidl_records.specs.declared.record.Header.{Header}
+use Rattle.fidl_records.specs.declared.record.Entry.{Entry}
+use Rattle.fidl_records.specs.declared.kind.EntryKind.{EntryKind}
+use Rattle.fidl_records.specs.declared.kind.EntryKind.TheVariants.{Array, Struct}
+use Rattle.fidl_records.specs.Kind.{kind_of}
+use Rattle.fidl_records.specs.Section.{entry_at, row_at}
+use Rattle.fidl_records.specs.Terms.{term_of, fields_from, stated_figure, below}
+use Rattle.fidl_records.specs.Uses.{is_known, uses_first, uses_count, uses_name, uses_rows}
+use Rattle.fidl_records.specs.Name.{IsName, IsMemberName}
 
 -- the entry is of this kind
 abbrev pub IsOf : EntryKind → Entry → Type 0
@@ -31,7 +32,7 @@ pub record HasShape (e : Entry) : Type 0 where
   pub rights : e.rights ≡ 0
   pub name_place : IsFalse (kind_is uses_name e) → e.name_place ≡ 0
   pub name_length : IsFalse (kind_is uses_name e) → e.name_length ≡ 0
-  pub few_members : IsOf Struct e → e.count ≤ 65_535
+  pub few_members : IsOf Struct e → e.count ≤ MAX_LAYOUT_MEMBERS
 
 -- how many rows an entry has
 abbrev pub rows_of : Entry → ℕ
@@ -88,13 +89,13 @@ HasOffsets bytes h e = IsOf Struct e → AreOffsets bytes h e.first e.count
 pub record HasSize (f : Figure) (e : Entry) : Type 0 where
   pub size : e.size ≡ f.size
   pub alignment : e.alignment ≡ f.align
-  pub limit : e.size ≤ 65_535
+  pub limit : e.size ≤ MAX_INLINE_SIZE
   pub elements : IsOf Array e → 0 < e.count
 
 -- the nest is that of this figure, and within the limit
 pub record HasNest (f : Figure) (e : Entry) : Type 0 where
   pub nest : e.nest ≡ f.nest
-  pub limit : e.nest ≤ 32
+  pub limit : e.nest ≤ MAX_NEST
 
 -- the names of the entry and of a struct's members
 pub record HasNames (bytes : List ℕ) (h : Header) (e : Entry) : Type 0 where

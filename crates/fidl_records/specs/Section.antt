@@ -1,11 +1,11 @@
 -- The sections of a table and their records (docs/table.md, "Sections" and "Records").
 use Rattle.std.specs.Prelude.{ℕ, ◌+◌, ◌*◌, List, slice_index, slice_range}
 use Rattle.std.specs.Int.{w16, w32, w64}
-use Rattle.fidl_table.specs.declared.record.Header.{Header}
-use Rattle.fidl_table.specs.declared.record.Entry.{Entry}
-use Rattle.fidl_table.specs.declared.record.Row.{Row}
-use Rattle.fidl_table.specs.declared.record.Root.{Root}
-use Rattle.fidl_table.specs.Field.{number_at}
+use Rattle.fidl_records.specs.declared.record.Header.{Header}
+use Rattle.fidl_records.specs.declared.record.Entry.{Entry}
+use Rattle.fidl_records.specs.declared.record.Row.{Row}
+use Rattle.fidl_records.specs.declared.record.Root.{Root}
+use Rattle.fidl_records.specs.Field.{number_at}
 
 -- the fields of the header, 40 bytes
 abbrev pub header_of : List ℕ → Header
@@ -74,7 +74,7 @@ row_at bytes h index =
     let place = row_place h index in
     record { key = number_at w32 bytes place; entry = number_at w32 bytes (place + 4); name_place = number_at w32 bytes (place + 8); name_length = number_at w32 bytes (place + 12) }
 
--- the number of a strict enum's value, sign-extended to 64 bits
+-- the eight bytes of a strict enum's value as a number; negative values are sign-extended to 64 bits
 abbrev pub value_at : List ℕ → Header → (index : ℕ) → ℕ
 value_at bytes h index = number_at w64 bytes (value_place h index)
 

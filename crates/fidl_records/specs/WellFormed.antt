@@ -1,9 +1,10 @@
 -- Which tables are accepted (docs/table.md, "Verification").
 use Rattle.std.specs.Prelude.{◌≡◌, ℕ, ◌<◌, ◌≤◌, List, length}
-use Rattle.fidl_table.specs.declared.record.Header.{Header}
-use Rattle.fidl_table.specs.Section.{header_of, table_length}
-use Rattle.fidl_verify.specs.Entry.{IsEntry, rows_before}
-use Rattle.fidl_verify.specs.Root.{IsRoot}
+use Rattle.fidl_wire.specs.declared.limits.TheConstants.{MAX_ENTRIES}
+use Rattle.fidl_records.specs.declared.record.Header.{Header}
+use Rattle.fidl_records.specs.Section.{header_of, table_length}
+use Rattle.fidl_records.specs.Entry.{IsEntry, rows_before}
+use Rattle.fidl_records.specs.Root.{IsRoot}
 
 -- "FCT2", as a number
 abbrev pub table_magic : ℕ
@@ -20,7 +21,7 @@ pub record HasHeader (bytes : List ℕ) (h : Header) : Type 0 where
   pub magic : h.magic ≡ table_magic
   pub version : IsVersion h
   pub whole : length bytes ≡ table_length h
-  pub few_entries : h.entries ≤ 65_535
+  pub few_entries : h.entries ≤ MAX_ENTRIES
 
 -- a table of the known kinds, with all its rules; each row is a member of just one struct
 pub record WellFormed (bytes : List ℕ) : Type 0 where

@@ -1,16 +1,16 @@
 -- What the entries of a table declare (docs/table.md, "Declarations").
-use Rattle.std.specs.Prelude.{ℕ, zero, suc, ◌+◌, ◌/◌, ◌%◌, ◌==◌, ℤ, Bool, if◌then◌else◌, List, [], ◌∷◌, ◌++◌, map, Option, Some, None, unwrap_or}
+use Rattle.std.specs.Prelude.{ℕ, zero, suc, ◌/◌, ◌%◌, ◌==◌, ℤ, pos, Bool, if◌then◌else◌, List, [], ◌∷◌, ◌++◌, map, Some, None, unwrap_or}
 use Rattle.std.specs.Option.{option_map_or}
 use Rattle.std.specs.Int.{w64, cast_signed}
 use Rattle.fidl_wire.specs.Term as ty
 use Rattle.fidl_wire.specs.Term.{Term, Fields, no_fields, field, Rows, no_rows, row, nothing}
 use Rattle.fidl_wire.specs.Figure.{Figure, figure, Declarations}
-use Rattle.fidl_table.specs.declared.record.Header.{Header}
-use Rattle.fidl_table.specs.declared.record.Entry.{Entry}
-use Rattle.fidl_table.specs.declared.kind.EntryKind.{EntryKind}
-use Rattle.fidl_table.specs.declared.kind.EntryKind.TheVariants.{Bool as Boolean, Int8, Int16, Int32, Int64, Uint8, Uint16, Uint32, Uint64, Bits, Enum, String, Vector, Array, Box, Struct, Table, Union, Handle}
-use Rattle.fidl_table.specs.Kind.{kind_of, number_type}
-use Rattle.fidl_table.specs.Section.{header_of, entry_at, row_at, value_at, name_at}
+use Rattle.fidl_records.specs.declared.record.Header.{Header}
+use Rattle.fidl_records.specs.declared.record.Entry.{Entry}
+use Rattle.fidl_records.specs.declared.kind.EntryKind.{EntryKind}
+use Rattle.fidl_records.specs.declared.kind.EntryKind.TheVariants.{Bool as Boolean, Bits, Enum, String, Vector, Array, Box, Struct, Table, Union, Handle}
+use Rattle.fidl_records.specs.Kind.{kind_of, number_type}
+use Rattle.fidl_records.specs.Section.{header_of, entry_at, row_at, value_at, name_at}
 
 -- the entry has flag 1
 abbrev pub is_optional : Entry → Bool
@@ -24,10 +24,18 @@ is_strict e = e.flags / 2 % 2 == 1
 abbrev pub underlying : Entry → ty.Kind
 underlying e = unwrap_or (option_map_or number_type (kind_of e.subtype) None) ty.uint8
 
--- the numbers of a strict enum: `count` values from the `first` on
-abbrev pub values_from : List ℕ → Header → (first count : ℕ) → List ℤ
-values_from bytes h first zero = []
-values_from bytes h first (suc n) = cast_signed w64 (value_at bytes h first) ∷ values_from bytes h (suc first) n
+-- the number that the eight bytes of a value stand for: in two's complement where its number type is signed, else as it is
+abbrev pub value_number : ty.Kind → ℕ → ℤ
+value_number ty.int8 n = cast_signed w64 n
+value_number ty.int16 n = cast_signed w64 n
+value_number ty.int32 n = cast_signed w64 n
+value_number ty.int64 n = cast_signed w64 n
+value_number _ n = pos n
+
+-- the numbers of a strict enum of this number type: `count` values from the `first` on
+abbrev pub values_from : List ℕ → Header → ty.Kind → (first count : ℕ) → List ℤ
+values_from bytes h kind first zero = []
+values_from bytes h kind first (suc n) = value_number kind (value_at bytes h first) ∷ values_from bytes h kind (suc first) n
 
 -- the members of a struct: `count` rows from the `first` on, each with its name and the entry of its type
 abbrev pub fields_from : List ℕ → Header → (first count : ℕ) → Fields
@@ -47,7 +55,7 @@ rows_from bytes h first (suc n) =
 abbrev pub term_as : EntryKind → List ℕ → Header → Entry → Term
 term_as Boolean bytes h e = ty.bool
 term_as Bits bytes h e = ty.bits (underlying e) (if is_strict e then Some e.bound else None)
-term_as Enum bytes h e = ty.enum (underlying e) (if is_strict e then Some (values_from bytes h e.first e.count) else None)
+term_as Enum bytes h e = ty.enum (underlying e) (if is_strict e then Some (values_from bytes h (underlying e) e.first e.count) else None)
 term_as String bytes h e = ty.string (is_optional e) e.bound
 term_as Vector bytes h e = ty.vector (is_optional e) e.bound (ty.named e.first)
 term_as Array bytes h e = ty.array (ty.named e.first) e.count

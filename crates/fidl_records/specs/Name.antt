@@ -1,8 +1,8 @@
 -- Which bytes the names of a table have (docs/table.md, "Names").
 use Rattle.std.specs.Prelude.{◌≢◌, ℕ, ◌+◌, ◌-◌, ◌<◌, ◌≤◌, ◌==◌, ◌&&◌, ◌||◌, nat_le, Bool, List, length, slice_index, IsTrue}
 use Rattle.std.specs.List.{list_all}
-use Rattle.fidl_table.specs.declared.record.Header.{Header}
-use Rattle.fidl_table.specs.Section.{name_at}
+use Rattle.fidl_records.specs.declared.record.Header.{Header}
+use Rattle.fidl_records.specs.Section.{name_at}
 
 -- `A` to `Z`, `a` to `z`
 abbrev pub is_letter : ℕ → Bool

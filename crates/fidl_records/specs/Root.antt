@@ -3,9 +3,9 @@ use Rattle.std.specs.Prelude.{◌≡◌, ◌≢◌, ℕ, suc, ◌<◌, List}
 use Rattle.std.specs.Ordering.{nat_cmp}
 use Rattle.std.specs.Cmp.Lexicographic.{slice_cmp}
 use Rattle.std.specs.declared.cmp.Ordering.TheVariants.{Less}
-use Rattle.fidl_table.specs.declared.record.Header.{Header}
-use Rattle.fidl_table.specs.Section.{root_at, name_at}
-use Rattle.fidl_verify.specs.Name.{IsName}
+use Rattle.fidl_records.specs.declared.record.Header.{Header}
+use Rattle.fidl_records.specs.Section.{root_at, name_at}
+use Rattle.fidl_records.specs.Name.{IsName}
 
 -- the name of the root of this number
 abbrev pub root_name : List ℕ → Header → (index : ℕ) → List ℕ

@@ -1,0 +1,9 @@
+pub mod Field
+pub mod Kind
+pub mod Section
+pub mod Terms
+pub mod Name
+pub mod Uses
+pub mod Entry
+pub mod Root
+pub mod WellFormed

@@ -1,4 +1,0 @@
-pub mod Field
-pub mod Kind
-pub mod Section
-pub mod Terms
