@@ -1,0 +1,152 @@
+#!/usr/bin/env python3
+"""Tests of the gate: which edits have a crate's wrong bodies tried again, and what a run prints and records.
+
+They make a small repository and a stand-in for `rt` that proves nothing; `rt` itself is not run."""
+import contextlib
+import io
+import os
+import subprocess
+import sys
+import tempfile
+import unittest
+
+sys.dont_write_bytecode = True
+sys.path.insert(0, os.path.dirname(os.path.realpath(__file__)))
+import gate  # noqa: E402
+
+FILES = {
+    "HANDLES": "Handles allowed: none.\n",
+    ".gitignore": "out/\n",
+    "crates.txt": "low:\nhigh: low thiserror\naside:\nplain: low\n",
+    "crates/low/src/lib.rt": "low\n",
+    "crates/low/specs/Lib.antt": "spec\n",
+    "crates/low/must-fail/one.edit": "file: src/lib.rt\n",
+    "crates/high/src/lib.rt": "high\n",
+    "crates/high/proofs/Lib.antt": "proof\n",
+    "crates/high/must-fail/one.edit": "file: src/lib.rt\n",
+    "crates/high/must-fail/two.edit": "file: src/lib.rt\n",
+    "crates/aside/src/lib.rt": "aside\n",
+    "crates/aside/must-fail/one.edit": "file: src/lib.rt\n",
+    "crates/plain/src/lib.rt": "plain\n",
+}
+ALL = {"low", "high", "aside"}
+
+
+class GateTest(unittest.TestCase):
+    def setUp(self):
+        room = tempfile.TemporaryDirectory(prefix="gate-test-")
+        self.addCleanup(room.cleanup)
+        self.root = room.name
+        for file, text in FILES.items():
+            self.write(file, text)
+        subprocess.run(["git", "init", "-q", self.root], check=True)
+        os.makedirs(f"{self.root}/.ci")
+
+    def write(self, file, text):
+        os.makedirs(os.path.dirname(f"{self.root}/{file}"), exist_ok=True)
+        with open(f"{self.root}/{file}", "w", encoding="utf-8") as it:
+            it.write(text)
+
+    def repository(self, kit="kit"):
+        return gate.Repository(self.root, kit)
+
+    def tried_again(self, kit="kit"):
+        known, now = self.repository().recorded(), self.repository(kit).keys()
+        return {it for it in now if known.get(it) != now[it]}
+
+    def changed(self, file, text):
+        """The crates whose wrong bodies are tried again after the change."""
+        self.repository().record(self.repository().keys())
+        self.assertEqual(self.tried_again(), set())
+        self.write(file, text)
+        return self.tried_again()
+
+    def test_nothing_is_recorded_at_first(self):
+        self.assertEqual(self.tried_again(), ALL)
+
+    def test_a_changed_spec_of_a_lower_crate(self):
+        self.assertEqual(self.changed("crates/low/specs/Lib.antt", "other\n"), {"low", "high"})
+
+    def test_a_changed_proof(self):
+        self.assertEqual(self.changed("crates/high/proofs/Lib.antt", "other\n"), {"high"})
+
+    def test_a_new_source(self):
+        self.assertEqual(self.changed("crates/low/src/more.rt", "more\n"), {"low", "high"})
+
+    def test_a_changed_edit(self):
+        self.assertEqual(self.changed("crates/high/must-fail/one.edit", "other\n"), {"high"})
+
+    def test_a_changed_edit_of_a_lower_crate(self):
+        self.assertEqual(self.changed("crates/low/must-fail/one.edit", "other\n"), {"low"})
+
+    def test_a_changed_line_of_crates(self):
+        self.assertEqual(self.changed("crates.txt", FILES["crates.txt"].replace("low thiserror", "low aside thiserror")), {"high"})
+
+    def test_a_changed_line_of_a_lower_crate(self):
+        self.assertEqual(self.changed("crates.txt", FILES["crates.txt"].replace("low:\n", "low: thiserror\n", 1)), {"low", "high"})
+
+    def test_changed_handles(self):
+        self.assertEqual(self.changed("HANDLES", "Handles allowed: Threads.\n"), ALL)
+
+    def test_another_toolchain(self):
+        self.repository().record(self.repository().keys())
+        self.assertEqual(self.tried_again("another kit"), ALL)
+
+    def test_a_comment_in_crates_changes_nothing(self):
+        self.assertEqual(self.changed("crates.txt", "# a comment\n" + FILES["crates.txt"]), set())
+
+    def run_with(self, mode, script):
+        """Runs the gate with this script in the place of rt; returns its status and lines."""
+        programs = f"{self.root}/out/bin"
+        os.makedirs(programs, exist_ok=True)
+        with open(f"{programs}/rt", "w", encoding="utf-8") as it:
+            it.write(f"#!/bin/sh\n{script}\n")
+        os.chmod(f"{programs}/rt", 0o755)
+        before, printed = os.environ["PATH"], io.StringIO()
+        os.environ["PATH"] = f"{programs}:{before}"
+        try:
+            with contextlib.redirect_stdout(printed):
+                status = gate.run(self.repository(), mode)
+        finally:
+            os.environ["PATH"] = before
+        return status, printed.getvalue().splitlines()
+
+    def test_a_run_that_passes_records_only_when_asked(self):
+        status, lines = self.run_with(None, 'echo "a line"; echo "9 passed, 0 failed"')
+        self.assertEqual((status, lines), (0, ["a line", "9 passed, 0 failed"]))
+        self.assertEqual(self.tried_again(), ALL)
+        status, lines = self.run_with("--record", 'echo "9 passed, 0 failed"')
+        self.assertEqual((status, lines[-1]), (0, "9 passed, 0 failed"))
+        self.assertEqual(self.tried_again(), set())
+
+    def test_a_run_that_fails_records_nothing(self):
+        status, lines = self.run_with("--record", 'echo "8 passed, 1 failed"; exit 1')
+        self.assertEqual((status, lines[-1]), (1, "8 passed, 1 failed"))
+        self.assertEqual(self.tried_again(), ALL)
+
+    def test_recorded_wrong_bodies_are_left_out_and_named(self):
+        self.run_with("--record", 'echo "9 passed, 0 failed"')
+        self.write("crates/high/must-fail/two.edit", "other\n")
+        status, lines = self.run_with(None, 'find crates -name "*.edit" | sort; echo "7 passed, 0 failed"')
+        self.assertEqual(status, 0)
+        self.assertEqual(lines[2:], ["crates/high/must-fail/one.edit", "crates/high/must-fail/two.edit", "7 passed, 0 failed"])
+        self.assertTrue(lines[0].startswith("gate: low: its 1 wrong bodies"))
+        self.assertTrue(lines[1].startswith("gate: aside: its 1 wrong bodies"))
+
+    def test_a_whole_run_tries_all_again(self):
+        self.run_with("--record", 'echo "9 passed, 0 failed"')
+        _, lines = self.run_with("--whole", 'find crates -name "*.edit" | wc -l; echo "9 passed, 0 failed"')
+        self.assertEqual([it.strip() for it in lines][0], "4")
+
+    def test_a_change_during_the_run_fails_it(self):
+        status, lines = self.run_with("--record", f'echo more >> {self.root}/crates/low/src/lib.rt; echo "9 passed, 0 failed"')
+        self.assertEqual((status, lines[-1]), (1, "0 passed, 1 failed"))
+        self.assertEqual(self.tried_again(), ALL)
+
+
+if __name__ == "__main__":
+    result = unittest.TextTestRunner(stream=io.StringIO()).run(unittest.defaultTestLoader.loadTestsFromTestCase(GateTest))
+    for _, text in result.failures + result.errors:
+        print(text)
+    print(f"gate: its own {result.testsRun} tests {'passed' if result.wasSuccessful() else 'FAILED'}")
+    sys.exit(not result.wasSuccessful())
