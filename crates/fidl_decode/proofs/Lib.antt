@@ -5,7 +5,9 @@ pub mod Stated
 pub mod Elements
 pub mod Visiting
 pub mod Turning
+pub mod Leaves
 pub mod Running
 pub mod Messages
 pub mod Bridge
 pub mod Refusing
+pub mod Inverted

@@ -1,6 +1,8 @@
 -- What a turn on a frame does.
-use Rattle.std.proofs.Common.{◌≡◌, ℕ, ◌+◌, ◌-◌, ◌*◌, ◌<◌, ◌≤◌, List, [], ◌∷◌, refl, sym, subst, ◌∙◌, arith}
-use Rattle.std.specs.Prelude.{Option, Some, None, Result, Ok, Err, OnErr, OnOk}
+use Rattle.std.proofs.Common.{◌≡◌, ℕ, ◌+◌, ◌-◌, ◌*◌, ◌<◌, ◌≤◌, List, [], ◌∷◌, refl, sym, subst, ◌∙◌, arith, inl, inr}
+use Rattle.fidl_wire.specs.declared.limits.TheConstants.{MAX_NEST}
+use Rattle.std.specs.Prelude.{Option, Some, None, Result, Ok, Err, OnErr, OnOk, IfErr}
+use Rattle.std.specs.Result.{IsErrAnd}
 use Rattle.std.proofs.Math.Nat.{mul-le-mul_left, mul-le-mul_right}
 use Rattle.fidl_wire.specs.Term.{Term, resolve, width, Kind, int8}
 use Rattle.fidl_wire.specs.Term as ty
@@ -14,7 +16,10 @@ use Rattle.fidl_decode.specs.declared.frame.Frame.{Frame}
 use Rattle.fidl_decode.specs.declared.frame.Left.{Left}
 use Rattle.fidl_decode.specs.Rows.{Row, RowsRise}
 use Rattle.fidl_decode.specs.State.{Message, At, Item, Members}
-use Rattle.fidl_decode.specs.Machine.{rows_left, Reads, LeftFine, FrameFine, FineIf, StateFine, Visits, Turns}
+use Rattle.fidl_decode.specs.declared.fault.DecodeFault.{DecodeFault}
+use Rattle.fidl_decode.specs.Breaks.{IsPadding, Breaks, BreaksParts}
+use Rattle.fidl_decode.specs.Breaks as broken
+use Rattle.fidl_decode.specs.Machine.{rows_left, Reads, row_parts, BreaksFrame, LeftFine, FrameFine, FineIf, StateFine, Visits, Turns}
 use Rattle.fidl_decode.proofs.Rows.{rows_fit, members_end, members_more, more_members}
 
 -- what holds anyway, at an error
@@ -22,9 +27,18 @@ pub on_err : {T E : Type 0} (r : Result T E) (P : Type 0) → P → OnErr r P
 on_err (Ok x) P h = tt
 on_err (Err e) P h = h
 
+-- what holds of an error holds of it where a `?` passes it on
+pub passed_on : {T E : Type 0} (r : Result T E) (e : E) (P : E → Type 0) → IsErrAnd r (λ y. y ≡ e) → P e → IfErr r P
+passed_on (Ok x) e P h p = tt
+passed_on (Err y) e P h p = subst P (sym h) p
+
 pub on_ok_two : {T E P Q R : Type 0} (r : Result T E) → (P → Q → R) → OnOk r P → OnOk r Q → OnOk r R
 on_ok_two (Ok x) f p q = f p q
 on_ok_two (Err e) f p q = tt
+
+pub on_ok_from : {T E P Q : Type 0} (r : Result T E) → (P → Q) → OnOk r P → OnOk r Q
+on_ok_from (Ok x) f p = f p
+on_ok_from (Err e) f p = tt
 
 work_falls : (n k s g a b : ℕ) → k < n → 0 < s → b + s + g ≤ a → (2 * k + 2) * s + 1 + ((2 * n + 2) * b + 1) + (g + 1) ≤ (2 * n + 2) * a + 1
 work_falls n k s g a b lt pos le =
@@ -36,7 +50,7 @@ work_falls n k s g a b lt pos le =
 pub spends : (n x y : ℕ) → x ≤ y → x + 1 ≤ (2 * n + 2) * y + 1
 spends n x y le = let one : 1 ≤ 2 * n + 2 = omega arith in omega (arith, mul-le-mul_right y one)
 
-fine_from : (t : List ℕ) (m : List ℕ) (h k : ℕ) (o : Option Frame) → k ≤ h → FineIf t m h o → FineIf t m k o
+pub fine_from : (t : List ℕ) (m : List ℕ) (h k : ℕ) (o : Option Frame) → k ≤ h → FineIf t m h o → FineIf t m k o
 fine_from t m h k None le x = tt
 fine_from t m h k (Some f) le x = (x.0, omega (arith, x.1))
 
@@ -57,6 +71,9 @@ module _ (t : List ℕ) (fine : IsFine t) (m : Message) (f : Frame) (old : At) (
     pub end_refused : (to : At) → (Stands m.bytes (f.base + f.done) (zeros (f.base + f.size - (f.base + f.done))) → ⊥) → Reads t m f old to → ⊥
     end_refused to bad x = bad (subst (λ n. Stands m.bytes (f.base + f.done) (zeros n)) (sym zeros_left) (at_end to x).1)
 
+    pub end_breaks : (fault : DecodeFault) → IsPadding m.bytes (f.base + f.done) (f.base + f.size) fault → BreaksFrame t m f old fault
+    end_breaks fault p = subst (λ (rs : List Row). BreaksParts ds m f.depth f.size f.base f.done (row_parts rs) old fault) (sym over) (broken.in_end f.size f.base f.done old fault p)
+
     pub turns_end : Stands m.bytes (f.base + f.done) (zeros (f.base + f.size - (f.base + f.done))) → Turns t m f old old (f.base + f.size - (f.base + f.done) + 1) (record { below = None; rest = None })
     turns_end z =
         let z' = subst (λ n. Stands m.bytes (f.base + f.done) (zeros n)) zeros_left z in
@@ -65,6 +82,7 @@ module _ (t : List ℕ) (fine : IsFine t) (m : Message) (f : Frame) (old : At) (
             (λ x. (old, refl, (at_end to x).0)),
             (λ y. subst (λ (rs : List Row). Members ds m f.depth f.size f.base f.done rs old to) (sym over) ((members_end ds fine.laid_out m f.depth f.size f.base f.done old to ff.depth).1 (y.1 ∙ y.2, z'))),
           );
+          breaks = λ fault b. elim b [ inl x ↦ absurd x | inr y ↦ absurd y.2 ];
           state = state;
           below_fine = tt;
           rest_fine = tt;
@@ -93,6 +111,20 @@ module _ (t : List ℕ) (fine : IsFine t) (m : Message) (f : Frame) (old : At) (
     pub visit_refused : (to : At) → ((mid : At) → Item ds m f.depth (resolve ds.terms (ty.named r.entry)) (f.base + r.offset) old mid → ⊥) → Reads t m f old to → ⊥
     visit_refused to bad x = let a = (apart to x).1 in bad a.0 a.1
 
+    -- the frame breaks a rule where the parts that are left do
+    parts_break : (fault : DecodeFault) → BreaksParts ds m f.depth f.size f.base f.done (row_parts (r ∷ rest)) old fault → BreaksFrame t m f old fault
+    parts_break fault b = subst (λ (rs : List Row). BreaksParts ds m f.depth f.size f.base f.done (row_parts rs) old fault) (sym one) b
+
+    pub gap_breaks : (fault : DecodeFault) → IsPadding m.bytes (f.base + f.done) (f.base + r.offset) fault → BreaksFrame t m f old fault
+    gap_breaks fault p = parts_break fault (broken.in_gap f.size f.base f.done _ _ old fault p)
+
+    pub visit_breaks : (fault : DecodeFault) → Stands m.bytes (f.base + f.done) (zeros (f.base + r.offset - (f.base + f.done))) → Breaks ds m f.depth (resolve ds.terms (ty.named r.entry)) (f.base + r.offset) old fault → BreaksFrame t m f old fault
+    visit_breaks fault z b = parts_break fault (broken.in_next f.size f.base f.done _ _ old fault (subst (λ n. Stands m.bytes (f.base + f.done) (zeros n)) gap z) b)
+
+    pub rest_breaks : (fault : DecodeFault) (mid : At) → Stands m.bytes (f.base + f.done) (zeros (f.base + r.offset - (f.base + f.done))) → Item ds m f.depth (resolve ds.terms (ty.named r.entry)) (f.base + r.offset) old mid
+        → BreaksParts ds m f.depth f.size f.base (r.offset + size_of ds (ty.named r.entry)) (row_parts rest) mid fault → BreaksFrame t m f old fault
+    rest_breaks fault mid z i b = parts_break fault (broken.in_later f.size f.base f.done _ _ old mid fault (subst (λ n. Stands m.bytes (f.base + f.done) (zeros n)) gap z) i b)
+
     pub turns_more : 0 < size_of ds (ty.named r.entry) → LeftFine t left → (below : Option Frame) (new : At) (done : ℕ) → done ≡ r.offset + size_of ds (ty.named r.entry) → Stands m.bytes (f.base + f.done) (zeros (f.base + r.offset - (f.base + f.done))) → Visits t m f.depth r.entry (f.base + r.offset) old new below
         → Turns t m f old new (f.base + r.offset - (f.base + f.done) + 1) (record { below = below; rest = Some (record { left = left; base = f.base; done = done; size = f.size; nest = f.nest; depth = f.depth }) })
     turns_more pos left_fine below new done done-is z v =
@@ -106,8 +138,12 @@ module _ (t : List ℕ) (fine : IsFine t) (m : Message) (f : Frame) (old : At) (
             (λ x. let a = (apart to x).1 in (a.0, (v.same a.0).0 a.1, a.2)),
             (λ y. subst (λ (rs : List Row). Members ds m f.depth f.size f.base f.done rs old to) (sym one) (more_members ds fine.laid_out m f.depth (header_of t).entries f.nest f.size f.base f.done r rest old y.0 to row_fine z' ((v.same y.0).1 y.1) y.2)),
           );
+          breaks = λ fault b. elim b [
+            | inl x ↦ visit_breaks fault z (v.breaks fault x)
+            | inr y ↦ rest_breaks fault y.0 z ((v.same y.0).1 y.1) y.2
+          ];
           state = v.state;
-          below_fine = fine_from t m.bytes (f.depth * 33 + (32 - n)) (f.depth * 33 + (32 - f.nest) + 1) below (omega (arith, row_fine.2, ff.nest)) v.fine;
+          below_fine = fine_from t m.bytes (f.depth * (MAX_NEST + 1) + (MAX_NEST - n)) (f.depth * (MAX_NEST + 1) + (MAX_NEST - f.nest) + 1) below (omega (arith, row_fine.2, ff.nest)) v.fine;
           rest_fine = (record { left = left_fine; room = ff.room; nest = ff.nest; depth = ff.depth; rise = row_fine.3 }, omega arith);
           less = omega (arith, v.less, falls, gap);
         } in

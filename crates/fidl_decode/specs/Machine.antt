@@ -1,7 +1,6 @@
 -- What a state of the decoder still has to read, said by values and never by a run.
-use Rattle.std.specs.Prelude.{◌≡◌, ℕ, suc, ◌+◌, ◌-◌, ◌*◌, ◌<◌, ◌≤◌, ◌↔◌, List, [], ◌∷◌, length, Option, Some, None}
-use Rattle.std.specs.Int.{next_multiple_of}
-use Rattle.fidl_wire.specs.declared.handle.HandleInfo.{HandleInfo}
+use Rattle.std.specs.Prelude.{◌≡◌, ℕ, suc, ◌+◌, ◌-◌, ◌*◌, ◌<◌, ◌≤◌, ◌⊎◌, ◌↔◌, List, [], ◌∷◌, length, Option, Some, None}
+use Rattle.fidl_wire.specs.declared.limits.TheConstants.{MAX_DEPTH, MAX_NEST}
 use Rattle.fidl_wire.specs.Term as ty
 use Rattle.fidl_wire.specs.Term.{resolve}
 use Rattle.fidl_wire.specs.Figure.{figure_of}
@@ -15,7 +14,7 @@ use Rattle.fidl_decode.specs.declared.frame.Left.TheVariants.{Rows, Elements}
 use Rattle.fidl_decode.specs.declared.frame.Turn.{Turn}
 use Rattle.fidl_decode.specs.declared.frame.State.{State}
 use Rattle.fidl_decode.specs.Rows.{Row, table_rows, element_rows, RowsRise}
-use Rattle.fidl_decode.specs.Faults.{IsShown}
+use Rattle.fidl_decode.specs.Breaks.{Part, Breaks, BreaksParts}
 use Rattle.fidl_decode.specs.State.{Message, At, Item, Members}
 
 -- the rows that a frame has left
@@ -37,9 +36,32 @@ abbrev pub Finishes : List ℕ → Message → List Frame → At → At → Type
 Finishes t m [] from to = from ≡ to
 Finishes t m (f ∷ fs) from to = (mid : At) × Finishes t m fs from mid × Reads t m f mid to
 
+-- rows as parts of an object
+abbrev pub row_parts : List Row → List Part
+row_parts [] = []
+row_parts (r ∷ rs) = record { offset = r.offset; term = ty.named r.entry } ∷ row_parts rs
+
+-- what a frame still has to read breaks a rule
+abbrev pub BreaksFrame : List ℕ → Message → Frame → At → DecodeFault → Type 0
+BreaksFrame t m f from fault = BreaksParts (declarations_of t) m f.depth f.size f.base f.done (row_parts (rows_left t f.done f.left)) from fault
+
+-- the same where there may be none
+abbrev pub BreaksIf : List ℕ → Message → Option Frame → At → DecodeFault → Type 0
+BreaksIf t m None from fault = ⊥
+BreaksIf t m (Some f) from fault = BreaksFrame t m f from fault
+
+-- what is left after a turn breaks a rule: what is below, or, behind that, the rest
+abbrev pub BreaksAfter : List ℕ → Message → Turn → At → DecodeFault → Type 0
+BreaksAfter t m x from fault = BreaksIf t m x.below from fault ⊎ ((mid : At) × ReadsIf t m x.below from mid × BreaksIf t m x.rest mid fault)
+
+-- what a stack of frames still has to read breaks a rule
+abbrev pub BreaksStack : List ℕ → Message → List Frame → At → DecodeFault → Type 0
+BreaksStack t m [] from fault = ⊥
+BreaksStack t m (f ∷ fs) from fault = BreaksStack t m fs from fault ⊎ ((mid : At) × Finishes t m fs from mid × BreaksFrame t m f mid fault)
+
 -- how deep a frame lies, by depth and nest
 abbrev pub height : Frame → ℕ
-height f = f.depth * 33 + (32 - f.nest)
+height f = f.depth * (MAX_NEST + 1) + (MAX_NEST - f.nest)
 
 -- a struct's rows that are left lie in the table; elements have their size
 abbrev pub LeftFine : List ℕ → Left → Type 0
@@ -49,8 +71,8 @@ LeftFine t (Elements entry size count) = (figure_of (declarations_of t).figures 
 pub record FrameFine (t : List ℕ) (m : List ℕ) (f : Frame) : Type 0 where
   pub left : LeftFine t f.left
   pub room : f.base + f.size ≤ length m
-  pub nest : f.nest ≤ 32
-  pub depth : f.depth ≤ 32
+  pub nest : f.nest ≤ MAX_NEST
+  pub depth : f.depth ≤ MAX_DEPTH
   pub rise : RowsRise (declarations_of t) (header_of t).entries f.nest f.size f.done (rows_left t f.done f.left)
 
 -- a frame, if any, is fine, and lies at least so deep
@@ -75,9 +97,17 @@ abbrev pub stack_work : List Frame → ℕ
 stack_work [] = 0
 stack_work (f ∷ fs) = frame_work f + stack_work fs
 
+-- the work that one byte out of line may still make: two turns for each nest, and those of an object
+abbrev pub byte_work : ℕ
+byte_work = 2 * MAX_NEST + 6
+
 -- with what the bytes out of line may still make
 abbrev pub work : List ℕ → List Frame → ℕ → ℕ
-work m fs next = 70 * (length m - next) + stack_work fs
+work m fs next = byte_work * (length m - next) + stack_work fs
+
+-- a frame's, with what the bytes out of line may still make
+abbrev pub turn_work : List ℕ → (next : ℕ) → Frame → ℕ
+turn_work m next f = byte_work * (length m - next) + frame_work f
 
 -- the state stands within the message
 pub record StateFine (m : Message) (s : At) : Type 0 where
@@ -87,37 +117,31 @@ pub record StateFine (m : Message) (s : At) : Type 0 where
 -- a visit of an entry at a place gives what of it is left to read, if any, and the state then
 pub record Visits (t : List ℕ) (m : Message) (held e place : ℕ) (old new : At) (found : Option Frame) : Type 0 where
   pub same : (to : At) → Item (declarations_of t) m held (resolve (declarations_of t).terms (ty.named e)) place old to ↔ ReadsIf t m found new to
+  pub breaks : (fault : DecodeFault) → BreaksIf t m found new fault → Breaks (declarations_of t) m held (resolve (declarations_of t).terms (ty.named e)) place old fault
   pub state : StateFine m new
-  pub fine : FineIf t m.bytes (held * 33 + (32 - (figure_of (declarations_of t).figures (ty.named e)).nest)) found
-  pub less : 70 * (length m.bytes - new.next) + frame_work_if found ≤ 70 * (length m.bytes - old.next) + (2 * (figure_of (declarations_of t).figures (ty.named e)).nest + 2) * (figure_of (declarations_of t).figures (ty.named e)).size + 1
+  pub fine : FineIf t m.bytes (held * (MAX_NEST + 1) + (MAX_NEST - (figure_of (declarations_of t).figures (ty.named e)).nest)) found
+  pub less : byte_work * (length m.bytes - new.next) + frame_work_if found ≤ byte_work * (length m.bytes - old.next) + (2 * (figure_of (declarations_of t).figures (ty.named e)).nest + 2) * (figure_of (declarations_of t).figures (ty.named e)).size + 1
 
 -- a turn on a frame: what is left of it, what is to be read before that, and the state then
 pub record Turns (t : List ℕ) (m : Message) (f : Frame) (old new : At) (spent : ℕ) (x : Turn) : Type 0 where
   pub same : (to : At) → Reads t m f old to ↔ ((mid : At) × ReadsIf t m x.below new mid × ReadsIf t m x.rest mid to)
+  pub breaks : (fault : DecodeFault) → BreaksAfter t m x new fault → BreaksFrame t m f old fault
   pub state : StateFine m new
   pub below_fine : FineIf t m.bytes (height f + 1) x.below
   pub rest_fine : FineIf t m.bytes (height f) x.rest
-  pub less : 70 * (length m.bytes - new.next) + frame_work_if x.below + frame_work_if x.rest + spent ≤ 70 * (length m.bytes - old.next) + frame_work f
+  pub less : byte_work * (length m.bytes - new.next) + frame_work_if x.below + frame_work_if x.rest + spent ≤ byte_work * (length m.bytes - old.next) + frame_work f
 
 -- the whole message is read
 pub record IsWhole (m : Message) (s : At) : Type 0 where
   pub bytes : s.next ≡ length m.bytes
   pub handles : s.handle ≡ length m.handles
 
--- why a stack of frames is not read to the message's end: a byte shows it, or the frames end before bytes or handles do
+-- why a stack of frames is not read to the message's end: it breaks a rule, or the frames end before bytes or handles do
 abbrev pub IsStopped : List ℕ → Message → List Frame → At → DecodeFault → Type 0
 IsStopped t m fs from (BytesLeft at) = (at < length m.bytes) × ((to : At) × Finishes t m fs from to × StateFine m to × (to.next ≡ at))
 IsStopped t m fs from (HandlesLeft at) = (at ≡ length m.bytes) × ((to : At) × Finishes t m fs from to × (to.next ≡ length m.bytes) × (to.handle < length m.handles))
-IsStopped t m fs from fault = IsShown m.bytes fault
-
--- bytes and handles as one
-abbrev pub message_of : List ℕ → List HandleInfo → Message
-message_of bytes handles = record { bytes = bytes; handles = handles }
+IsStopped t m fs from fault = BreaksStack t m fs from fault
 
 -- how far a state has read
 abbrev pub at_of : State → At
 at_of s = record { next = s.next; handle = s.handle }
-
--- where the decoder begins: behind the primary object, which is padded to a multiple of 8
-abbrev pub start_of : (size : ℕ) → At
-start_of size = record { next = next_multiple_of size 8; handle = 0 }

@@ -1,200 +1,152 @@
-//! The steps of the decoder: a turn reads the zeros before a member, and the member.
-ghost use Rattle.std.specs.Prelude.{◌≡◌, ℕ, ◌+◌, ◌-◌, ◌*◌, ◌^◌, ◌<◌, ◌≤◌, ◌∷◌, [], OnOk, OnErr, IfOk, IfErr, IfSome, IfNone, length};
-ghost use Rattle.fidl_wire.specs.Term as ty;
-ghost use Rattle.fidl_wire.specs.Term.{resolve};
-ghost use Rattle.fidl_wire.specs.Figure.{size_of};
-ghost use Rattle.fidl_wire.specs.Standing.{Stands};
-ghost use Rattle.fidl_wire.specs.Encoding.{zeros};
+//! A turn of the decoder: it reads members of a frame in place, up to one that leads to more than it reads there.
+ghost use Rattle.std.specs.Prelude.{◌≡◌, ◌+◌, ◌-◌, ◌^◌, ◌<◌, ◌≤◌, OnOk, OnErr, IfOk, IfErr, Some, None, length};
+ghost use Rattle.fidl_wire.specs.declared.limits.TheConstants.{MAX_MESSAGE_BYTES};
+ghost use Rattle.fidl_records.specs.declared.kind.EntryKind.TheVariants as kinds;
+ghost use Rattle.fidl_records.specs.Kind.{kind_of};
 ghost use Rattle.fidl_records.specs.Section.{header_of, entry_at};
-ghost use Rattle.fidl_records.specs.Terms.{declarations_of};
 ghost use Rattle.fidl_decode.specs.Fine.{IsFine};
-ghost use Rattle.fidl_decode.specs.Faults.{IsShown};
-ghost use Rattle.fidl_decode.specs.State.{At, Item};
-ghost use Rattle.fidl_decode.specs.Machine.{rows_left, LeftFine, Reads, StateFine, FrameFine, Visits, Turns, frame_work, message_of, at_of};
+ghost use Rattle.fidl_decode.specs.Faults.{message_of};
+ghost use Rattle.fidl_decode.specs.State.{At};
+ghost use Rattle.fidl_decode.specs.declared.frame.Left.TheVariants as left;
+ghost use Rattle.fidl_decode.specs.Machine.{Reads, StateFine, FrameFine, BreaksFrame, Turns, turn_work, at_of};
 
+use crate::decoder::{Decoder, zeros_at};
 use crate::fault::DecodeFault;
-use crate::frame::{Frame, Left, Member, State, Turn};
+use crate::frame::{Frame, Left, State, Turn};
 use fidl_records::EntryKind;
-use fidl_verify::Table;
-use fidl_wire::HandleInfo;
 
-/// Zeros from one place to another.
-pub(crate) fn zeros_at(bytes: &[u8], from: usize, to: usize) -> Result<(), DecodeFault>
-    requires order { from ≤ to }
-    requires room { to ≤ length bytes.now }
-    ensures ok { OnOk result (Stands bytes.now from (zeros (to - from))) }
-    ensures err { OnErr result (Stands bytes.now from (zeros (to - from)) → ⊥) }
-    ensures told { IfErr result (IsShown bytes.now) }
-{
-    for i in from..to {
-        if bytes[i] != 0 {
-            return Err(DecodeFault::Padding { at: i });
-        }
-    }
-    Ok(())
-}
-
-/// The next member of those that are left, and those after it.
-fn next_member(table: &Table, left: Left, done: usize) -> Option<Member>
-    requires table { IsFine table.now }
-    requires left { LeftFine table.now left }
-    ensures none { IfNone result (rows_left table.now done left ≡ []) }
-    ensures some { IfSome result (λ m. rows_left table.now done left
-        ≡ record { offset = m.offset; entry = m.entry } ∷ rows_left table.now (m.offset + size_of (declarations_of table.now) (ty.named m.entry)) m.left) }
-    ensures left { IfSome result (λ m. LeftFine table.now m.left) }
-{
-    match left {
-        Left::Rows { first, count } => {
-            if count == 0 {
-                return None;
-            }
-            let within = first < table.rows();
-            prove!(within);
-            let row = table.row(first);
-            Some(Member {
-                offset: row.key as usize,
-                entry: row.entry,
+impl<'t, 'm> Decoder<'t, 'm> {
+    /// Reads the elements of an array of structs in place, up to a struct that holds more than leaves: that one, where it
+    /// stopped, is to be read next.
+    fn read_structs(
+        &self,
+        frame: Frame,
+        entry: u32,
+        size: usize,
+        count: u32,
+        state: &mut State,
+    ) -> Result<Turn, DecodeFault>
+        requires table { IsFine self.now.table.now }
+        requires left { frame.left ≡ left.Elements entry size count }
+        requires entry { entry < (header_of self.now.table.now).entries }
+        requires kind { kind_of (entry_at self.now.table.now entry).kind ≡ Some kinds.Struct }
+        requires short { length self.now.bytes.now ≤ MAX_MESSAGE_BYTES }
+        requires frame { FrameFine self.now.table.now self.now.bytes.now frame }
+        requires state { StateFine (message_of self.now.bytes.now self.now.handles.now) (at_of state.old) }
+        requires budget { state.old.steps + turn_work self.now.bytes.now state.old.next frame < 2 ^ 40 }
+        ensures ok { IfOk result (λ turn. Turns self.now.table.now (message_of self.now.bytes.now self.now.handles.now) frame (at_of state.old) (at_of state.new) (state.new.steps - state.old.steps) turn) }
+        ensures rises { OnOk result (state.old.steps < state.new.steps) }
+        ensures cost { state.new.steps ≤ state.old.steps + turn_work self.now.bytes.now state.old.next frame }
+        ensures err { OnErr result ((to : At) → Reads self.now.table.now (message_of self.now.bytes.now self.now.handles.now) frame (at_of state.old) to → ⊥) }
+        ensures told { IfErr result (BreaksFrame self.now.table.now (message_of self.now.bytes.now self.now.handles.now) frame (at_of state.old)) }
+    {
+        let e = self.table.entry(entry);
+        let mut done = frame.done;
+        for i in 0..count {
+            let place = frame.base + done;
+            let below = Frame {
                 left: Left::Rows {
-                    first: first + 1,
-                    count: count - 1,
+                    first: e.first,
+                    count: e.count,
                 },
-            })
-        }
-        Left::Elements { entry, size, count } => {
-            if count == 0 {
-                return None;
-            }
-            Some(Member {
-                offset: done,
-                entry,
-                left: Left::Elements {
-                    entry,
-                    size,
-                    count: count - 1,
-                },
-            })
-        }
-    }
-}
-
-/// Reads an entry at a place, up to what it holds.
-pub(crate) fn visit(
-    table: &Table,
-    entry: u32,
-    place: usize,
-    depth: u8,
-    bytes: &[u8],
-    handles: &[HandleInfo],
-    state: &mut State,
-) -> Result<Option<Frame>, DecodeFault>
-    requires table { IsFine table.now }
-    requires entry { entry < (header_of table.now).entries }
-    requires short { length bytes.now ≤ 65536 }
-    requires room { place + (entry_at table.now entry).size ≤ length bytes.now }
-    requires state { StateFine (message_of bytes.now handles.now) (at_of state.old) }
-    requires depth { depth ≤ 32 }
-    ensures ok { IfOk result (λ found. Visits table.now (message_of bytes.now handles.now) depth entry place (at_of state.old) (at_of state.new) found) }
-    ensures err { OnErr result ((to : At) → Item (declarations_of table.now) (message_of bytes.now handles.now) depth (resolve (declarations_of table.now).terms (ty.named entry)) place (at_of state.old) to → ⊥) }
-    ensures told { IfErr result (IsShown bytes.now) }
-    ensures steps { state.new.steps ≡ state.old.steps }
-{
-    let e = table.entry(entry);
-    let Some(kind) = EntryKind::from_number(e.kind) else {
-        unreachable!()
-    };
-    match kind {
-        EntryKind::Bool => {
-            if bytes[place] > 1 {
-                return Err(DecodeFault::BadBool { at: place });
-            }
-            Ok(None)
-        }
-        EntryKind::Struct => {
-            let left = Left::Rows {
-                first: e.first,
-                count: e.count,
-            };
-            Ok(Some(Frame {
-                left,
                 base: place,
                 done: 0,
                 size: e.size as usize,
                 nest: e.nest,
-                depth,
-            }))
-        }
-        EntryKind::Array => {
-            let size = table.entry(e.first).size as usize;
-            let left = Left::Elements {
-                entry: e.first,
-                size,
-                count: e.count,
+                depth: frame.depth,
             };
-            Ok(Some(Frame {
-                left,
-                base: place,
-                done: 0,
-                size: e.size as usize,
-                nest: e.nest,
-                depth,
-            }))
+            state.steps += 1;
+            let found = self.read_rows(below, e.first, e.count, state)?;
+            done += size;
+            if let Some(inner) = found {
+                return Ok(Turn {
+                    below: Some(inner),
+                    rest: Some(Frame {
+                        left: Left::Elements {
+                            entry,
+                            size,
+                            count: count - (i + 1),
+                        },
+                        base: frame.base,
+                        done,
+                        size: frame.size,
+                        nest: frame.nest,
+                        depth: frame.depth,
+                    }),
+                });
+            }
         }
-        _ => Ok(None),
-    }
-}
-
-/// Reads the zeros before the next member and that member, or the zeros at the end.
-pub(crate) fn take_turn(
-    table: &Table,
-    bytes: &[u8],
-    handles: &[HandleInfo],
-    frame: Frame,
-    state: &mut State,
-) -> Result<Turn, DecodeFault>
-    requires table { IsFine table.now }
-    requires short { length bytes.now ≤ 65536 }
-    requires frame { FrameFine table.now bytes.now frame }
-    requires state { StateFine (message_of bytes.now handles.now) (at_of state.old) }
-    requires steps { state.old.steps < 2 ^ 40 }
-    ensures ok { IfOk result (λ turn. Turns table.now (message_of bytes.now handles.now) frame (at_of state.old) (at_of state.new) (state.new.steps - state.old.steps) turn) }
-    ensures rises { state.old.steps < state.new.steps }
-    ensures cost { state.new.steps ≤ state.old.steps + frame_work frame }
-    ensures err { OnErr result ((to : At) → Reads table.now (message_of bytes.now handles.now) frame (at_of state.old) to → ⊥) }
-    ensures told { IfErr result (IsShown bytes.now) }
-{
-    let at = frame.base + frame.done;
-    let Some(member) = next_member(table, frame.left, frame.done) else {
+        let behind = frame.base + done;
         let stop = frame.base + frame.size;
-        state.steps += (stop - at) as u64 + 1;
-        zeros_at(bytes, at, stop)?;
-        return Ok(Turn {
+        state.steps += (stop - behind) as u64 + 1;
+        zeros_at(self.bytes, behind, stop)?;
+        Ok(Turn {
             below: None,
             rest: None,
-        });
-    };
-    let place = frame.base + member.offset;
-    state.steps += (place - at) as u64 + 1;
-    zeros_at(bytes, at, place)?;
-    let below = visit(
-        table,
-        member.entry,
-        place,
-        frame.depth,
-        bytes,
-        handles,
-        state,
-    )?;
-    let done = member.offset + table.entry(member.entry).size as usize;
-    let rest = Frame {
-        left: member.left,
-        base: frame.base,
-        done,
-        size: frame.size,
-        nest: frame.nest,
-        depth: frame.depth,
-    };
-    Ok(Turn {
-        below,
-        rest: Some(rest),
-    })
+        })
+    }
+
+    /// Reads a frame in place, and what it holds, up to a frame that holds another: that one, where it stopped, is to be read next.
+    fn read_frame(&self, frame: Frame, state: &mut State) -> Result<Turn, DecodeFault>
+        requires table { IsFine self.now.table.now }
+        requires short { length self.now.bytes.now ≤ MAX_MESSAGE_BYTES }
+        requires frame { FrameFine self.now.table.now self.now.bytes.now frame }
+        requires state { StateFine (message_of self.now.bytes.now self.now.handles.now) (at_of state.old) }
+        requires budget { state.old.steps + turn_work self.now.bytes.now state.old.next frame < 2 ^ 40 }
+        ensures ok { IfOk result (λ turn. Turns self.now.table.now (message_of self.now.bytes.now self.now.handles.now) frame (at_of state.old) (at_of state.new) (state.new.steps - state.old.steps) turn) }
+        ensures rises { OnOk result (state.old.steps < state.new.steps) }
+        ensures cost { state.new.steps ≤ state.old.steps + turn_work self.now.bytes.now state.old.next frame }
+        ensures err { OnErr result ((to : At) → Reads self.now.table.now (message_of self.now.bytes.now self.now.handles.now) frame (at_of state.old) to → ⊥) }
+        ensures told { IfErr result (BreaksFrame self.now.table.now (message_of self.now.bytes.now self.now.handles.now) frame (at_of state.old)) }
+    {
+        let mut rest = frame;
+        loop {
+            let Some(now) = self.read_leaves(rest, state)? else {
+                return Ok(Turn {
+                    below: None,
+                    rest: None,
+                });
+            };
+            let turn = self.take_member(now, state)?;
+            let Some(after) = turn.rest else {
+                return Ok(turn);
+            };
+            let Some(below) = turn.below else {
+                rest = after;
+                continue;
+            };
+            let Some(inner) = self.read_leaves(below, state)? else {
+                rest = after;
+                continue;
+            };
+            return Ok(Turn {
+                below: Some(inner),
+                rest: Some(after),
+            });
+        }
+    }
+
+    /// Reads of a frame what can be read in place, and tells what is left.
+    pub(crate) fn take_turn(&self, frame: Frame, state: &mut State) -> Result<Turn, DecodeFault>
+        requires table { IsFine self.now.table.now }
+        requires short { length self.now.bytes.now ≤ MAX_MESSAGE_BYTES }
+        requires frame { FrameFine self.now.table.now self.now.bytes.now frame }
+        requires state { StateFine (message_of self.now.bytes.now self.now.handles.now) (at_of state.old) }
+        requires budget { state.old.steps + turn_work self.now.bytes.now state.old.next frame < 2 ^ 40 }
+        ensures ok { IfOk result (λ turn. Turns self.now.table.now (message_of self.now.bytes.now self.now.handles.now) frame (at_of state.old) (at_of state.new) (state.new.steps - state.old.steps) turn) }
+        ensures rises { OnOk result (state.old.steps < state.new.steps) }
+        ensures cost { state.new.steps ≤ state.old.steps + turn_work self.now.bytes.now state.old.next frame }
+        ensures err { OnErr result ((to : At) → Reads self.now.table.now (message_of self.now.bytes.now self.now.handles.now) frame (at_of state.old) to → ⊥) }
+        ensures told { IfErr result (BreaksFrame self.now.table.now (message_of self.now.bytes.now self.now.handles.now) frame (at_of state.old)) }
+    {
+        if let Left::Elements { entry, size, count } = frame.left {
+            if count != 0 {
+                let e = self.table.entry(entry);
+                if let Some(EntryKind::Struct) = EntryKind::from_number(e.kind) {
+                    return self.read_structs(frame, entry, size, count, state);
+                }
+            }
+        }
+        self.read_frame(frame, state)
+    }
 }

@@ -1,5 +1,5 @@
 pub mod Parts
 pub mod Shows
 pub mod Elements
-pub mod Left
+pub mod Views
 pub mod Numbers

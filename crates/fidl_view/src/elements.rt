@@ -24,7 +24,7 @@ pub struct Elements<'v, 'm> {
 
 impl<'v, 'm> Iterator for Elements<'v, 'm> {
     ghost use Rattle.std.specs.Iterator.{YieldsFirstBy, at_most};
-    ghost use Rattle.fidl_view.specs.Left.{part_of, parts_left};
+    ghost use Rattle.fidl_view.specs.Views.{part_of, parts_left};
 
     type Item = View<'v, 'm>;
 

@@ -4,6 +4,8 @@
 mod elements;
 mod number;
 mod view;
+mod views;
 
 pub use elements::Elements;
-pub use view::{View, Views};
+pub use view::View;
+pub use views::Views;

@@ -3,15 +3,10 @@
 //! What holds of a table behind a shared borrow is known here only from what its calls ensure. So some bodies read an entry,
 //! a kind or the number of rows for that alone: that the table is well-formed, or that a number of it has 32 bits. The names of
 //! what they read begin with `_`.
-ghost use Rattle.std.specs.Prelude.{◌≡◌, ◌+◌, ◌<◌, ◌≤◌, length, Option, Some, None, IfSome, IfNone};
+ghost use Rattle.std.specs.Prelude.{◌≡◌, ◌+◌, ◌<◌, ◌≤◌, length, Some, None, IfSome};
 ghost use Rattle.fidl_wire.specs.Value.{Value};
-ghost use Rattle.fidl_wire.specs.Term as ty;
-ghost use Rattle.fidl_wire.specs.Message.{Encodes};
 ghost use Rattle.fidl_wire.specs.declared.limits.TheConstants.{MAX_MESSAGE_BYTES};
 ghost use Rattle.fidl_records.specs.Section.{header_of, entry_at};
-ghost use Rattle.fidl_records.specs.Terms.{declarations_of};
-ghost use Rattle.fidl_decode.specs.Shown.{Shown};
-ghost use Rattle.fidl_view.specs.Shows.{Shows};
 
 use crate::elements::Elements;
 use crate::number::{signed, unsigned};
@@ -30,46 +25,14 @@ pub struct View<'v, 'm> {
     ghost short: { length decoded.now.bytes ≤ MAX_MESSAGE_BYTES },
 }
 
-/// What gives views: a decoded message.
-pub trait Views<'m> {
-    ghost shown: { Self → Shown };
-
-    /// The view of the whole value.
-    fn view<'v>(&'v self) -> View<'v, 'm>
-        ensures message { result.decoded.now ≡ shown self.now }
-        ensures index { result.index ≡ (shown self.now).entry }
-        ensures place { result.place ≡ 0 }
-        // The view shows each value that the message encodes.
-        ensures shows { (v : Value)
-            → Encodes (declarations_of (shown self.now).table) (ty.named (shown self.now).entry) v
-            (shown self.now).bytes (shown self.now).handles
-            → Shows result.decoded.now result.index result.place v };
-}
-
-impl<'t, 'm, 's> Views<'m> for Decoded<'t, 'm, 's> {
-    ghost shown = { λ d. d };
-
-    fn view<'v>(&'v self) -> View<'v, 'm> {
-        let index = self.entry();
-        // Read, so that the table is known to be well-formed: a message of the entry then has room for its inline part.
-        let _entry = self.table().entry(index);
-        View {
-            decoded: self,
-            index,
-            place: 0,
-        }
-    }
-}
-
 impl<'v, 'm> View<'v, 'm> {
-    ghost use Rattle.std.specs.Prelude.{MatchOption, slice_range};
+    ghost use Rattle.std.specs.Prelude.{MatchOption};
     ghost use Rattle.std.specs.Option.{option_copied};
     ghost use Rattle.fidl_records.specs.Entry.{IsOf};
     ghost use Rattle.fidl_records.specs.WellFormed.{WellFormed};
     ghost use Rattle.fidl_view.specs.Parts.{absence_of, bool_of, unsigned_of, signed_of, bytes_of, length_of, element_of, elements_of, field_of};
     ghost use Rattle.fidl_view.specs.Elements.{ShowEach};
-    ghost use Rattle.fidl_view.specs.Left.{parts_left};
-    ghost use Rattle.fidl_view.specs.Shows.{type_of};
+    ghost use Rattle.fidl_view.specs.Views.{part_of, parts_left, message_left, IsShownBy, type_shown, types_shown, bytes_shown};
 
     /// The kind of the part's type.
     fn kind(self) -> EntryKind
@@ -85,7 +48,7 @@ impl<'v, 'm> View<'v, 'm> {
 
     /// Whether an optional or a box is absent: never, in a table of today's kinds.
     pub fn is_absent(self) -> bool
-        ensures { (v : Value) → Shows self.entry.decoded.now self.entry.index self.entry.place v → result ≡ absence_of v }
+        ensures { (v : Value) → IsShownBy self.entry v → result ≡ absence_of v }
     {
         // Read, so that the kind is known to be one without absent values. No other is accepted yet.
         let _kind = self.kind();
@@ -94,7 +57,7 @@ impl<'v, 'm> View<'v, 'm> {
 
     /// A bool, none of another kind.
     pub fn as_bool(self) -> Option<bool>
-        ensures { (v : Value) → Shows self.entry.decoded.now self.entry.index self.entry.place v → result ≡ bool_of v }
+        ensures { (v : Value) → IsShownBy self.entry v → result ≡ bool_of v }
     {
         match self.kind() {
             EntryKind::Bool => Some(self.decoded.bytes()[self.place] == 1),
@@ -104,27 +67,23 @@ impl<'v, 'm> View<'v, 'm> {
 
     /// The number of uint8, uint16, uint32 or uint64, none of another kind.
     pub fn as_u64(self) -> Option<u64>
-        ensures { (v : Value) → Shows self.entry.decoded.now self.entry.index self.entry.place v
-            → result ≡ unsigned_of (type_of self.entry.decoded.now self.entry.index) v }
+        ensures { (v : Value) → IsShownBy self.entry v → result ≡ unsigned_of (type_shown self.entry) v }
     {
         unsigned(self.kind(), self.decoded.bytes(), self.place)
     }
 
     /// The number of int8, int16, int32 or int64, none of another kind.
     pub fn as_i64(self) -> Option<i64>
-        ensures { (v : Value) → Shows self.entry.decoded.now self.entry.index self.entry.place v
-            → result ≡ signed_of (type_of self.entry.decoded.now self.entry.index) v }
+        ensures { (v : Value) → IsShownBy self.entry v → result ≡ signed_of (type_shown self.entry) v }
     {
         signed(self.kind(), self.decoded.bytes(), self.place)
     }
 
     /// The bytes of an array of uint8, as a slice of the message itself; none of another type.
     pub fn as_bytes(self) -> Option<&'m [u8]>
-        ensures value { (v : Value) → Shows self.entry.decoded.now self.entry.index self.entry.place v
-            → option_copied result
-            ≡ bytes_of (declarations_of self.entry.decoded.now.table) (type_of self.entry.decoded.now self.entry.index) v }
-        ensures slice { let size = (entry_at self.entry.decoded.now.table self.entry.index).size in
-            IfSome result (λ bytes. bytes.now ≡ slice_range self.entry.decoded.now.bytes self.entry.place (self.entry.place + size)) }
+        ensures value { (v : Value) → IsShownBy self.entry v
+            → option_copied result ≡ bytes_of (types_shown self.entry) (type_shown self.entry) v }
+        ensures slice { IfSome result (λ bytes. bytes.now ≡ bytes_shown self.entry) }
     {
         match self.kind() {
             EntryKind::Array => {
@@ -147,7 +106,7 @@ impl<'v, 'm> View<'v, 'm> {
 
     /// How many elements an array has, none of another kind.
     pub fn len(self) -> Option<usize>
-        ensures { (v : Value) → Shows self.entry.decoded.now self.entry.index self.entry.place v → result ≡ length_of v }
+        ensures { (v : Value) → IsShownBy self.entry v → result ≡ length_of v }
     {
         match self.kind() {
             EntryKind::Array => Some(self.decoded.table().entry(self.index).count as usize),
@@ -157,10 +116,10 @@ impl<'v, 'm> View<'v, 'm> {
 
     /// The element of an array at this place, counted from 0; none past the last, and of another kind.
     pub fn element(self, at: usize) -> Option<View<'v, 'm>>
-        ensures message { IfSome result (λ part. part.decoded.now ≡ self.entry.decoded.now) }
-        ensures part { (v : Value) → Shows self.entry.decoded.now self.entry.index self.entry.place v
+        ensures message { IfSome result (λ part. (part_of part).message ≡ (part_of self.entry).message) }
+        ensures part { (v : Value) → IsShownBy self.entry v
             → MatchOption result (element_of v at ≡ None)
-            (λ part. (x : Value) × (element_of v at ≡ Some x) × Shows part.decoded.now part.index part.place x) }
+            (λ part. (x : Value) × (element_of v at ≡ Some x) × IsShownBy part x) }
     {
         match self.kind() {
             EntryKind::Array => {
@@ -181,8 +140,8 @@ impl<'v, 'm> View<'v, 'm> {
 
     /// The elements of an array in their order; of another kind there are none.
     pub fn elements(self) -> Elements<'v, 'm>
-        ensures message { result.decoded.now ≡ self.entry.decoded.now }
-        ensures parts { (v : Value) → Shows self.entry.decoded.now self.entry.index self.entry.place v
+        ensures message { message_left result ≡ (part_of self.entry).message }
+        ensures parts { (v : Value) → IsShownBy self.entry v
             → ShowEach (parts_left result) (elements_of v) }
     {
         let array = self.decoded.table().entry(self.index);
@@ -207,10 +166,10 @@ impl<'v, 'm> View<'v, 'm> {
 
     /// The member of a struct at this place in its declaration, counted from 0; none past the last, and of another kind.
     pub fn field(self, at: usize) -> Option<View<'v, 'm>>
-        ensures message { IfSome result (λ part. part.decoded.now ≡ self.entry.decoded.now) }
-        ensures part { (v : Value) → Shows self.entry.decoded.now self.entry.index self.entry.place v
+        ensures message { IfSome result (λ part. (part_of part).message ≡ (part_of self.entry).message) }
+        ensures part { (v : Value) → IsShownBy self.entry v
             → MatchOption result (field_of v at ≡ None)
-            (λ part. (x : Value) × (field_of v at ≡ Some x) × Shows part.decoded.now part.index part.place x) }
+            (λ part. (x : Value) × (field_of v at ≡ Some x) × IsShownBy part x) }
     {
         match self.kind() {
             EntryKind::Struct => {

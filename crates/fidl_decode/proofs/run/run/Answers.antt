@@ -2,10 +2,12 @@ use Rattle.std.proofs.Common.{rules, refl, false, true, ◌≡◌, ◌++◌, ◌
 use Rattle.std.specs.Option.{option_to_list}
 use Rattle.fidl_decode.specs.declared.frame.Frame.{Frame}
 use Rattle.fidl_decode.specs.State.{At}
-use Rattle.fidl_decode.specs.Machine.{IsWhole, message_of, at_of, Finishes, StackFine, work}
+use Rattle.fidl_decode.specs.declared.fault.DecodeFault.{DecodeFault}
+use Rattle.fidl_decode.specs.Machine.{IsWhole, at_of, BreaksFrame, BreaksStack, IsStopped, Finishes, StackFine, work}
+use Rattle.fidl_decode.specs.Faults.{message_of}
 use Rattle.fidl_decode.proofs.Turning.{on_err}
-use Rattle.fidl_decode.proofs.Running.{read_all, stack_work_top, fine_top, height_room, length_if, turn_same, turn_fine, turn_less, finishes_top}
-use Rattle.fidl_decode.proofs.Refusing.{shown_stopped}
+use Rattle.fidl_decode.proofs.Running.{read_all, stack_work_top, fine_top, height_room, length_if, turn_same, turn_fine, turn_less, finishes_top, top_breaks, turn_breaks}
+use Rattle.fidl_decode.proofs.Refusing.{broken_stopped}
 use Rattle.fidl_decode.proofs.run.run.Goals as goal
 
 no_false : false ≡ true → ⊥
@@ -13,35 +15,35 @@ no_false e = cc
 
 pub take_turn-requires-clause-frame : goal.take_turn-requires-clause-frame
 take_turn-requires-clause-frame c =
-    let top = fine_top c.args.table.now (message_of c.args.bytes.now c.args.handles.now) 0 c.pop.new.self.items c.in-Some.frame (subst (λ (l : List Frame). StackFine c.args.table.now c.args.bytes.now 0 l) c.in-Some.ensures.items c.loop-frame.invariant.fine) in
+    let top = fine_top c.args.decoder.now.table.now (message_of c.args.decoder.now.bytes.now c.args.decoder.now.handles.now) 0 c.pop.new.self.items c.in-Some.frame (subst (λ (l : List Frame). StackFine c.args.decoder.now.table.now c.args.decoder.now.bytes.now 0 l) c.in-Some.ensures.items c.loop-frame.invariant.fine) in
     top.1
 
 pub returns-in_err-turn-clause-err : goal.returns-in_err-turn-clause-err
 returns-in_err-turn-clause-err c =
-    on_err _ ((to : At) → IsWhole (message_of c.args.bytes.now c.args.handles.now) to → Finishes c.args.table.now (message_of c.args.bytes.now c.args.handles.now) c.args.stack.now.items (at_of c.args.state.now) to → ⊥)
-    (λ to is h. let now = subst (λ (l : List Frame). Finishes c.args.table.now (message_of c.args.bytes.now c.args.handles.now) l (at_of c.loop-frame.state) to) c.in-Some.ensures.items ((c.loop-frame.invariant.same to).0 h) in
-    let top = finishes_top c.args.table.now (message_of c.args.bytes.now c.args.handles.now) c.pop.new.self.items c.in-Some.frame (at_of c.loop-frame.state) to now in
+    on_err _ ((to : At) → IsWhole (message_of c.args.decoder.now.bytes.now c.args.decoder.now.handles.now) to → Finishes c.args.decoder.now.table.now (message_of c.args.decoder.now.bytes.now c.args.decoder.now.handles.now) c.args.stack.now.items (at_of c.args.state.now) to → ⊥)
+    (λ to is h. let now = subst (λ (l : List Frame). Finishes c.args.decoder.now.table.now (message_of c.args.decoder.now.bytes.now c.args.decoder.now.handles.now) l (at_of c.loop-frame.state) to) c.in-Some.ensures.items ((c.loop-frame.invariant.same to).0 h) in
+    let top = finishes_top c.args.decoder.now.table.now (message_of c.args.decoder.now.bytes.now c.args.decoder.now.handles.now) c.pop.new.self.items c.in-Some.frame (at_of c.loop-frame.state) to now in
     c.in_err-turn.ensures.err top.0 top.1)
 
 pub push_if-requires : goal.push_if-requires
 push_if-requires c =
-    let top = fine_top c.args.table.now (message_of c.args.bytes.now c.args.handles.now) 0 c.pop.new.self.items c.in-Some.frame (subst (λ (l : List Frame). StackFine c.args.table.now c.args.bytes.now 0 l) c.in-Some.ensures.items c.loop-frame.invariant.fine) in
-    omega (arith, top.2, height_room c.args.table.now (message_of c.args.bytes.now c.args.handles.now) c.in-Some.frame top.1)
+    let top = fine_top c.args.decoder.now.table.now (message_of c.args.decoder.now.bytes.now c.args.decoder.now.handles.now) 0 c.pop.new.self.items c.in-Some.frame (subst (λ (l : List Frame). StackFine c.args.decoder.now.table.now c.args.decoder.now.bytes.now 0 l) c.in-Some.ensures.items c.loop-frame.invariant.fine) in
+    omega (arith, top.2, height_room c.args.decoder.now.table.now (message_of c.args.decoder.now.bytes.now c.args.decoder.now.handles.now) c.in-Some.frame top.1)
 
 pub push_if-requires-in-Some : goal.push_if-requires-in-Some
 push_if-requires-in-Some c =
-    let top = fine_top c.args.table.now (message_of c.args.bytes.now c.args.handles.now) 0 c.pop.new.self.items c.in-Some.frame (subst (λ (l : List Frame). StackFine c.args.table.now c.args.bytes.now 0 l) c.in-Some.ensures.items c.loop-frame.invariant.fine) in
+    let top = fine_top c.args.decoder.now.table.now (message_of c.args.decoder.now.bytes.now c.args.decoder.now.handles.now) 0 c.pop.new.self.items c.in-Some.frame (subst (λ (l : List Frame). StackFine c.args.decoder.now.table.now c.args.decoder.now.bytes.now 0 l) c.in-Some.ensures.items c.loop-frame.invariant.fine) in
     let one = ap length c.push_if.ensures in
-    omega (arith, top.2, height_room c.args.table.now (message_of c.args.bytes.now c.args.handles.now) c.in-Some.frame top.1, one, length_if c.args.table.now (message_of c.args.bytes.now c.args.handles.now) c.pop.new.self.items c.in_ok-turn.turn.rest)
+    omega (arith, top.2, height_room c.args.decoder.now.table.now (message_of c.args.decoder.now.bytes.now c.args.decoder.now.handles.now) c.in-Some.frame top.1, one, length_if c.args.decoder.now.table.now (message_of c.args.decoder.now.bytes.now c.args.decoder.now.handles.now) c.pop.new.self.items c.in_ok-turn.turn.rest)
 
 pub loop-frame-smaller : goal.loop-frame-smaller
 loop-frame-smaller c =
     let popped = c.in-Some.ensures.items in
     let after : c.push_if-in-Some.new.stack.items ≡ (c.pop.new.self.items ++ option_to_list c.in_ok-turn.turn.rest) ++ option_to_list c.in_ok-turn.turn.below = c.push_if-in-Some.ensures ∙ ap (λ (l : List Frame). l ++ option_to_list c.in_ok-turn.turn.below) c.push_if.ensures in
-    let less = turn_less c.args.table.now (message_of c.args.bytes.now c.args.handles.now) c.pop.new.self.items c.in-Some.frame (at_of c.loop-frame.state) _ _ c.in_ok-turn.turn c.in_ok-turn.ensures.ok in
-    let new = ap (λ (l : List Frame). work c.args.bytes.now l c.take_turn.new.state.next) after in
-    let old = ap (λ (l : List Frame). work c.args.bytes.now l c.loop-frame.state.next) popped in
-    let fewer : work c.args.bytes.now c.push_if-in-Some.new.stack.items c.take_turn.new.state.next < work c.args.bytes.now c.loop-frame.stack.items c.loop-frame.state.next = omega (arith, c.take_turn.ensures.rises) in
+    let less = turn_less c.args.decoder.now.table.now (message_of c.args.decoder.now.bytes.now c.args.decoder.now.handles.now) c.pop.new.self.items c.in-Some.frame (at_of c.loop-frame.state) _ _ c.in_ok-turn.turn c.in_ok-turn.ensures.ok in
+    let new = ap (λ (l : List Frame). work c.args.decoder.now.bytes.now l c.take_turn.new.state.next) after in
+    let old = ap (λ (l : List Frame). work c.args.decoder.now.bytes.now l c.loop-frame.state.next) popped in
+    let fewer : work c.args.decoder.now.bytes.now c.push_if-in-Some.new.stack.items c.take_turn.new.state.next < work c.args.decoder.now.bytes.now c.loop-frame.stack.items c.loop-frame.state.next = omega (arith, c.in_ok-turn.ensures.rises) in
     fewer
 
 pub loop-frame-preserved : goal.loop-frame-preserved
@@ -51,37 +53,49 @@ loop-frame-preserved c =
     let before = c.loop-frame.invariant.same in
     record {
       same = λ to. (
-        (λ h. subst (λ (l : List Frame). Finishes c.args.table.now (message_of c.args.bytes.now c.args.handles.now) l (at_of c.take_turn.new.state) to) (sym after) ((turn_same c.args.table.now (message_of c.args.bytes.now c.args.handles.now) c.pop.new.self.items c.in-Some.frame (at_of c.loop-frame.state) _ _ c.in_ok-turn.turn c.in_ok-turn.ensures.ok to).0 (subst (λ (l : List Frame). Finishes c.args.table.now (message_of c.args.bytes.now c.args.handles.now) l (at_of c.loop-frame.state) to) popped ((before to).0 h)))),
-        (λ h. (before to).1 (subst (λ (l : List Frame). Finishes c.args.table.now (message_of c.args.bytes.now c.args.handles.now) l (at_of c.loop-frame.state) to) (sym popped) ((turn_same c.args.table.now (message_of c.args.bytes.now c.args.handles.now) c.pop.new.self.items c.in-Some.frame (at_of c.loop-frame.state) _ _ c.in_ok-turn.turn c.in_ok-turn.ensures.ok to).1 (subst (λ (l : List Frame). Finishes c.args.table.now (message_of c.args.bytes.now c.args.handles.now) l (at_of c.take_turn.new.state) to) after h)))),
+        (λ h. subst (λ (l : List Frame). Finishes c.args.decoder.now.table.now (message_of c.args.decoder.now.bytes.now c.args.decoder.now.handles.now) l (at_of c.take_turn.new.state) to) (sym after) ((turn_same c.args.decoder.now.table.now (message_of c.args.decoder.now.bytes.now c.args.decoder.now.handles.now) c.pop.new.self.items c.in-Some.frame (at_of c.loop-frame.state) _ _ c.in_ok-turn.turn c.in_ok-turn.ensures.ok to).0 (subst (λ (l : List Frame). Finishes c.args.decoder.now.table.now (message_of c.args.decoder.now.bytes.now c.args.decoder.now.handles.now) l (at_of c.loop-frame.state) to) popped ((before to).0 h)))),
+        (λ h. (before to).1 (subst (λ (l : List Frame). Finishes c.args.decoder.now.table.now (message_of c.args.decoder.now.bytes.now c.args.decoder.now.handles.now) l (at_of c.loop-frame.state) to) (sym popped) ((turn_same c.args.decoder.now.table.now (message_of c.args.decoder.now.bytes.now c.args.decoder.now.handles.now) c.pop.new.self.items c.in-Some.frame (at_of c.loop-frame.state) _ _ c.in_ok-turn.turn c.in_ok-turn.ensures.ok to).1 (subst (λ (l : List Frame). Finishes c.args.decoder.now.table.now (message_of c.args.decoder.now.bytes.now c.args.decoder.now.handles.now) l (at_of c.take_turn.new.state) to) after h)))),
       );
-      fine = subst (λ (l : List Frame). StackFine c.args.table.now c.args.bytes.now 0 l) (sym after) (turn_fine c.args.table.now (message_of c.args.bytes.now c.args.handles.now) c.pop.new.self.items c.in-Some.frame (at_of c.loop-frame.state) _ _ c.in_ok-turn.turn c.in_ok-turn.ensures.ok (subst (λ (l : List Frame). StackFine c.args.table.now c.args.bytes.now 0 l) popped c.loop-frame.invariant.fine));
-      steps = (let less = turn_less c.args.table.now (message_of c.args.bytes.now c.args.handles.now) c.pop.new.self.items c.in-Some.frame (at_of c.loop-frame.state) _ _ c.in_ok-turn.turn c.in_ok-turn.ensures.ok in
-          let new = ap (λ (l : List Frame). work c.args.bytes.now l c.take_turn.new.state.next) after in
-          let old = ap (λ (l : List Frame). work c.args.bytes.now l c.loop-frame.state.next) popped in
+      breaks = λ fault b. c.loop-frame.invariant.breaks fault (subst (λ (l : List Frame). BreaksStack c.args.decoder.now.table.now (message_of c.args.decoder.now.bytes.now c.args.decoder.now.handles.now) l (at_of c.loop-frame.state) fault) (sym popped)
+          (turn_breaks c.args.decoder.now.table.now (message_of c.args.decoder.now.bytes.now c.args.decoder.now.handles.now) c.pop.new.self.items c.in-Some.frame (at_of c.loop-frame.state) _ _ c.in_ok-turn.turn c.in_ok-turn.ensures.ok fault (subst (λ (l : List Frame). BreaksStack c.args.decoder.now.table.now (message_of c.args.decoder.now.bytes.now c.args.decoder.now.handles.now) l (at_of c.take_turn.new.state) fault) after b)));
+      fine = subst (λ (l : List Frame). StackFine c.args.decoder.now.table.now c.args.decoder.now.bytes.now 0 l) (sym after) (turn_fine c.args.decoder.now.table.now (message_of c.args.decoder.now.bytes.now c.args.decoder.now.handles.now) c.pop.new.self.items c.in-Some.frame (at_of c.loop-frame.state) _ _ c.in_ok-turn.turn c.in_ok-turn.ensures.ok (subst (λ (l : List Frame). StackFine c.args.decoder.now.table.now c.args.decoder.now.bytes.now 0 l) popped c.loop-frame.invariant.fine));
+      steps = (let less = turn_less c.args.decoder.now.table.now (message_of c.args.decoder.now.bytes.now c.args.decoder.now.handles.now) c.pop.new.self.items c.in-Some.frame (at_of c.loop-frame.state) _ _ c.in_ok-turn.turn c.in_ok-turn.ensures.ok in
+          let new = ap (λ (l : List Frame). work c.args.decoder.now.bytes.now l c.take_turn.new.state.next) after in
+          let old = ap (λ (l : List Frame). work c.args.decoder.now.bytes.now l c.loop-frame.state.next) popped in
           let so_far = c.loop-frame.invariant.steps in
-          omega (arith, c.take_turn.ensures.rises));
+          omega (arith, c.in_ok-turn.ensures.rises));
       state = c.in_ok-turn.ensures.ok.state;
     }
 
 pub returns-in_err-turn-clause-cost : goal.returns-in_err-turn-clause-cost
 returns-in_err-turn-clause-cost c =
-    let old = ap (λ (l : List Frame). work c.args.bytes.now l c.loop-frame.state.next) c.in-Some.ensures.items in
+    let old = ap (λ (l : List Frame). work c.args.decoder.now.bytes.now l c.loop-frame.state.next) c.in-Some.ensures.items in
     let so_far = c.loop-frame.invariant.steps in
-    omega (arith, c.take_turn.ensures.cost, stack_work_top c.args.table.now (message_of c.args.bytes.now c.args.handles.now) c.pop.new.self.items c.in-Some.frame)
+    omega (arith, c.take_turn.ensures.cost, stack_work_top c.args.decoder.now.table.now (message_of c.args.decoder.now.bytes.now c.args.decoder.now.handles.now) c.pop.new.self.items c.in-Some.frame)
 
 pub returns-in_err-turn-clause-told : goal.returns-in_err-turn-clause-told
 returns-in_err-turn-clause-told c =
-    let h = shown_stopped c.args.table.now (message_of c.args.bytes.now c.args.handles.now) c.args.stack.now.items (at_of c.args.state.now) _ c.in_err-turn.ensures.told in search (rules, h)
+    let broken : (fault : DecodeFault) → BreaksFrame c.args.decoder.now.table.now (message_of c.args.decoder.now.bytes.now c.args.decoder.now.handles.now) c.in-Some.frame (at_of c.loop-frame.state) fault → IsStopped c.args.decoder.now.table.now (message_of c.args.decoder.now.bytes.now c.args.decoder.now.handles.now) c.args.stack.now.items (at_of c.args.state.now) fault = λ fault b.
+    broken_stopped c.args.decoder.now.table.now (message_of c.args.decoder.now.bytes.now c.args.decoder.now.handles.now) c.args.stack.now.items (at_of c.args.state.now) fault
+    (c.loop-frame.invariant.breaks fault (subst (λ (l : List Frame). BreaksStack c.args.decoder.now.table.now (message_of c.args.decoder.now.bytes.now c.args.decoder.now.handles.now) l (at_of c.loop-frame.state) fault) (sym c.in-Some.ensures.items)
+    (top_breaks c.args.decoder.now.table.now (message_of c.args.decoder.now.bytes.now c.args.decoder.now.handles.now) c.pop.new.self.items c.in-Some.frame (at_of c.loop-frame.state) fault b))) in
+    let h = broken _ c.in_err-turn.ensures.told in search (rules, h)
 
-pub returns-then-state-bytes-clause-told : goal.returns-then-state-bytes-clause-told
-returns-then-state-bytes-clause-told c =
-    let all = read_all c.args.table.now (message_of c.args.bytes.now c.args.handles.now) c.loop-frame.stack.items (at_of c.loop-frame.state) (λ lt. no_false (c.in_default.ensures.variant.1 lt)) in
+pub returns-then-state-decoder-clause-told : goal.returns-then-state-decoder-clause-told
+returns-then-state-decoder-clause-told c =
+    let all = read_all c.args.decoder.now.table.now (message_of c.args.decoder.now.bytes.now c.args.decoder.now.handles.now) c.loop-frame.stack.items (at_of c.loop-frame.state) (λ lt. no_false (c.in_default.ensures.variant.1 lt)) in
     let state = c.loop-frame.invariant.state in
     let next = state.next in
-    (omega (arith, next, c.if-state-bytes.true), (at_of c.loop-frame.state, (c.loop-frame.invariant.same (at_of c.loop-frame.state)).1 all, state, refl))
+    (omega (arith, next, c.if-state-decoder.true), (at_of c.loop-frame.state, (c.loop-frame.invariant.same (at_of c.loop-frame.state)).1 all, state, refl))
 
-pub returns-then-state-handles-clause-told : goal.returns-then-state-handles-clause-told
-returns-then-state-handles-clause-told c =
-    let all = read_all c.args.table.now (message_of c.args.bytes.now c.args.handles.now) c.loop-frame.stack.items (at_of c.loop-frame.state) (λ lt. no_false (c.in_default.ensures.variant.1 lt)) in
+pub returns-then-state-decoder-2-clause-told : goal.returns-then-state-decoder-2-clause-told
+returns-then-state-decoder-2-clause-told c =
+    let all = read_all c.args.decoder.now.table.now (message_of c.args.decoder.now.bytes.now c.args.decoder.now.handles.now) c.loop-frame.stack.items (at_of c.loop-frame.state) (λ lt. no_false (c.in_default.ensures.variant.1 lt)) in
     let handle = c.loop-frame.invariant.state.handle in
-    (refl, (at_of c.loop-frame.state, (c.loop-frame.invariant.same (at_of c.loop-frame.state)).1 all, c.if-state-bytes.false, omega (arith, handle, c.if-state-handles.true)))
+    (refl, (at_of c.loop-frame.state, (c.loop-frame.invariant.same (at_of c.loop-frame.state)).1 all, c.if-state-decoder.false, omega (arith, handle, c.if-state-decoder-2.true)))
+
+pub take_turn-requires-clause-budget : goal.take_turn-requires-clause-budget
+take_turn-requires-clause-budget c =
+    let old = ap (λ (l : List Frame). work c.args.decoder.now.bytes.now l c.loop-frame.state.next) c.in-Some.ensures.items in
+    let so_far = c.loop-frame.invariant.steps in
+    omega (arith, old, so_far, c.requires.budget, stack_work_top c.args.decoder.now.table.now (message_of c.args.decoder.now.bytes.now c.args.decoder.now.handles.now) c.pop.new.self.items c.in-Some.frame)

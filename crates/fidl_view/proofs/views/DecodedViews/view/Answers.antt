@@ -1,7 +1,7 @@
 use Rattle.std.proofs.Common.{ℕ, List, subst}
 use Rattle.fidl_records.specs.WellFormed.{WellFormed}
 use Rattle.fidl_view.proofs.Viewing as viewing
-use Rattle.fidl_view.proofs.view.DecodedViews.view.Goals as goal
+use Rattle.fidl_view.proofs.views.DecodedViews.view.Goals as goal
 
 pub invariant_of-result : goal.invariant_of-result
 invariant_of-result c =

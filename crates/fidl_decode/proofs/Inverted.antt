@@ -1,0 +1,149 @@
+-- What a message that breaks a rule says of its parts, and worked refusals.
+use Rattle.std.proofs.Common.{◌≡◌, ℕ, ◌+◌, List, [], ◌∷◌, refl, sym, subst, ◌∙◌, arith, inl, inr, true, pos}
+use Rattle.std.specs.Prelude.{◌⊎◌, Some, None, codes}
+use Rattle.fidl_wire.specs.Value.{bool, number}
+use Rattle.fidl_wire.specs.Term.{Term, no_fields, field, uint8, uint32, resolve}
+use Rattle.fidl_wire.specs.Term as ty
+use Rattle.fidl_wire.specs.Figure.{Declarations, no_declarations, size_of}
+use Rattle.fidl_wire.specs.Encoding.{zeros}
+use Rattle.fidl_decode.specs.declared.fault.DecodeFault.{DecodeFault}
+use Rattle.fidl_decode.specs.declared.fault.DecodeFault.TheVariants.{Padding, BadBool}
+use Rattle.fidl_decode.specs.State.{Message, At, Item}
+use Rattle.fidl_decode.specs.Breaks.{Part, parts_of, IsPadding, BreaksField, Breaks, BreaksParts, in_field, in_parts, in_gap, in_next, in_later, in_end}
+use Rattle.fidl_decode.proofs.Rows.{past_inline}
+use Rattle.fidl_decode.specs.Faults.{IsTold, message_of, start_of}
+
+no_part : (ps : List Part) → None ≡ Some ps → ⊥
+no_part ps e = cc
+
+only_parts : (ps qs : List Part) → Some ps ≡ Some qs → ps ≡ qs
+only_parts ps qs e = cc
+
+module _ (ds : Declarations) (m : Message) (held : ℕ) where
+  -- a field breaks its own rule
+  of_field : (t : Term) (place : ℕ) (from : At) (fault : DecodeFault) → parts_of ds t ≡ None → Breaks ds m held t place from fault → BreaksField m t place fault
+  of_field t place from fault none (in_field t' place' from' fault' b) = b
+  of_field t place from fault none (in_parts t' place' from' fault' ps is b) = absurd (no_part ps (sym none ∙ is))
+
+  -- an object with parts breaks a rule in one of them, or in a gap
+  of_object : (t : Term) (place : ℕ) (from : At) (fault : DecodeFault) (ps : List Part) → (BreaksField m t place fault → ⊥) → parts_of ds t ≡ Some ps → Breaks ds m held t place from fault → BreaksParts ds m held (size_of ds t) place 0 ps from fault
+  of_object t place from fault ps none is (in_field t' place' from' fault' b) = absurd (none b)
+  of_object t place from fault ps none is (in_parts t' place' from' fault' qs has b) = subst (λ (l : List Part). BreaksParts ds m held (size_of ds t) place 0 l from fault) (only_parts qs ps (sym has ∙ is)) b
+
+  of_parts : (size base done : ℕ) (p : Part) (ps : List Part) (from : At) (fault : DecodeFault) → BreaksParts ds m held size base done (p ∷ ps) from fault
+      → IsPadding m.bytes (base + done) (base + p.offset) fault ⊎ (Breaks ds m held (resolve ds.terms p.term) (base + p.offset) from fault ⊎ ((mid : At) × BreaksParts ds m held size base (p.offset + size_of ds p.term) ps mid fault))
+  of_parts size base done p ps from fault (in_gap size' base' done' p' ps' from' fault' b) = inl b
+  of_parts size base done p ps from fault (in_next size' base' done' p' ps' from' fault' z b) = inr (inl b)
+  of_parts size base done p ps from fault (in_later size' base' done' p' ps' from' mid fault' z i b) = inr (inr (mid, b))
+
+  of_end : (size base done : ℕ) (from : At) (fault : DecodeFault) → BreaksParts ds m held size base done [] from fault → IsPadding m.bytes (base + done) (base + size) fault
+  of_end size base done from fault (in_end size' base' done' from' fault' b) = b
+
+-- ---- struct {a uint8; b uint32;}
+
+abbrev two_bad : Message
+two_bad = message_of (1 ∷ 0 ∷ 1 ∷ 1 ∷ 2 ∷ 0 ∷ 0 ∷ 0 ∷ []) []
+
+abbrev pair : Term
+pair = ty.struct (field (codes "a") (ty.number uint8) (field (codes "b") (ty.number uint32) no_fields))
+
+abbrev part_a : Part
+part_a = record { offset = 0; term = ty.number uint8 }
+
+abbrev part_b : Part
+part_b = record { offset = 4; term = ty.number uint32 }
+
+number_a : (from : At) → Item no_declarations two_bad 0 (ty.number uint8) 0 from from
+number_a from = record { value = number (pos 1); typed = omega arith; shallow = omega arith; stands = record { inline = (omega arith, refl, tt); out = tt; carried = tt }; end = sym (past_inline (1 ∷ []) from) }
+
+pub first_bad : IsTold no_declarations pair two_bad.bytes two_bad.handles (Padding 2)
+first_bad = (
+  (omega arith, omega arith),
+  inr (in_parts pair 0 (start_of 8) (Padding 2) (part_a ∷ part_b ∷ []) refl
+      (in_later 8 0 0 part_a (part_b ∷ []) (start_of 8) (start_of 8) (Padding 2) tt (number_a (start_of 8))
+      (in_gap 8 0 1 part_b [] (start_of 8) (Padding 2) (omega arith, omega arith, (omega arith, refl, tt), λ e. omega (arith, e))))),
+)
+
+-- Padding is true of no other byte
+only_there : (at : ℕ) → (IsPadding two_bad.bytes 8 8 (Padding at) → ⊥) → (IsPadding two_bad.bytes 0 0 (Padding at) → ⊥) → (IsPadding two_bad.bytes 1 4 (Padding at) → ⊥) → IsTold no_declarations pair two_bad.bytes two_bad.handles (Padding at) → ⊥
+only_there at behind before between h = elim h.1 [
+  | inl p ↦ behind p
+  | inr b ↦ elim (of_parts no_declarations two_bad 0 8 0 0 part_a (part_b ∷ []) (start_of 8) (Padding at) (of_object no_declarations two_bad 0 pair 0 (start_of 8) (Padding at) (part_a ∷ part_b ∷ []) (λ x. x) refl b)) [
+    | inl p ↦ before p
+    | inr c ↦ elim c [
+      | inl n ↦ of_field no_declarations two_bad 0 (ty.number uint8) 0 (start_of 8) (Padding at) refl n
+      | inr l ↦ elim (of_parts no_declarations two_bad 0 8 0 1 part_b [] l.0 (Padding at) l.1) [
+        | inl p ↦ between p
+        | inr d ↦ elim d [
+          | inl n ↦ of_field no_declarations two_bad 0 (ty.number uint32) 4 l.0 (Padding at) refl n
+          | inr e ↦ behind (of_end no_declarations two_bad 0 8 0 8 e.0 (Padding at) e.1)
+        ]
+      ]
+    ]
+  ]
+]
+
+pub second_bad : IsTold no_declarations pair two_bad.bytes two_bad.handles (Padding 3) → ⊥
+second_bad = only_there 3 (λ p. omega (arith, p.0)) (λ p. omega (arith, p.1)) (λ p. let e : 1 ≡ 0 = p.2.2.1 in omega (arith, e))
+
+pub member_bad : IsTold no_declarations pair two_bad.bytes two_bad.handles (Padding 4) → ⊥
+member_bad = only_there 4 (λ p. omega (arith, p.0)) (λ p. omega (arith, p.1)) (λ p. omega (arith, p.1))
+
+-- ---- struct {v array<bool, 2>;}, and of uint8
+
+abbrev ones : Message
+ones = message_of (1 ∷ 2 ∷ zeros 6) []
+
+abbrev first_of_type : Term → Part
+first_of_type t = record { offset = 0; term = t }
+
+abbrev second_of_type : Term → Part
+second_of_type t = record { offset = 1; term = t }
+
+abbrev array_of : Term → Part
+array_of t = record { offset = 0; term = ty.array t 2 }
+
+true_there : (from : At) → Item no_declarations ones 0 ty.bool 0 from from
+true_there from = record { value = bool true; typed = tt; shallow = omega arith; stands = record { inline = (omega arith, refl, tt); out = tt; carried = tt }; end = sym (past_inline (1 ∷ []) from) }
+
+pub bad_element : IsTold no_declarations (ty.struct (field (codes "v") (ty.array ty.bool 2) no_fields)) ones.bytes ones.handles (BadBool 1)
+bad_element = (
+  (omega arith, omega arith),
+  inr (in_parts (ty.struct (field (codes "v") (ty.array ty.bool 2) no_fields)) 0 (start_of 2) (BadBool 1) (array_of ty.bool ∷ []) refl
+      (in_next 2 0 0 (array_of ty.bool) [] (start_of 2) (BadBool 1) tt
+      (in_parts (ty.array ty.bool 2) 0 (start_of 2) (BadBool 1) (first_of_type ty.bool ∷ second_of_type ty.bool ∷ []) refl
+      (in_later 2 0 0 (first_of_type ty.bool) (second_of_type ty.bool ∷ []) (start_of 2) (start_of 2) (BadBool 1) tt (true_there (start_of 2))
+      (in_next 2 0 1 (second_of_type ty.bool) [] (start_of 2) (BadBool 1) tt (in_field ty.bool 1 (start_of 2) (BadBool 1) (refl, omega arith))))))),
+)
+
+no_bool : (place : ℕ) (from : At) → Breaks no_declarations ones 0 (ty.number uint8) place from (BadBool 1) → ⊥
+no_bool place from b = of_field no_declarations ones 0 (ty.number uint8) place from (BadBool 1) refl b
+
+no_element : (from : At) → Breaks no_declarations ones 0 (ty.array (ty.number uint8) 2) 0 from (BadBool 1) → ⊥
+no_element from b = elim (of_parts no_declarations ones 0 2 0 0 (first_of_type (ty.number uint8)) (second_of_type (ty.number uint8) ∷ []) from (BadBool 1)
+    (of_object no_declarations ones 0 (ty.array (ty.number uint8) 2) 0 from (BadBool 1) (first_of_type (ty.number uint8) ∷ second_of_type (ty.number uint8) ∷ []) (λ x. x) refl b)) [
+      | inl p ↦ p
+      | inr c ↦ elim c [
+        | inl n ↦ no_bool 0 from n
+        | inr l ↦ elim (of_parts no_declarations ones 0 2 0 1 (second_of_type (ty.number uint8)) [] l.0 (BadBool 1) l.1) [
+          | inl p ↦ p
+          | inr d ↦ elim d [
+            | inl n ↦ no_bool 1 l.0 n
+            | inr e ↦ of_end no_declarations ones 0 2 0 2 e.0 (BadBool 1) e.1
+          ]
+        ]
+      ]
+    ]
+
+pub number_no_bool : IsTold no_declarations (ty.struct (field (codes "v") (ty.array (ty.number uint8) 2) no_fields)) ones.bytes ones.handles (BadBool 1) → ⊥
+number_no_bool h = elim h.1 [
+  | inl p ↦ p
+  | inr b ↦ elim (of_parts no_declarations ones 0 2 0 0 (array_of (ty.number uint8)) [] (start_of 2) (BadBool 1)
+      (of_object no_declarations ones 0 (ty.struct (field (codes "v") (ty.array (ty.number uint8) 2) no_fields)) 0 (start_of 2) (BadBool 1) (array_of (ty.number uint8) ∷ []) (λ x. x) refl b)) [
+        | inl p ↦ p
+        | inr c ↦ elim c [
+          | inl n ↦ no_element (start_of 2) n
+          | inr l ↦ of_end no_declarations ones 0 2 0 2 l.0 (BadBool 1) l.1
+        ]
+      ]
+]

@@ -1,0 +1,237 @@
+-- Turns behind one another: what is read of a frame in place, up to a frame that is left of it.
+use Rattle.std.proofs.Common.{◌≡◌, ℕ, zero, suc, ◌+◌, ◌-◌, ◌*◌, ◌<◌, ◌≤◌, List, [], ◌∷◌, length, get_or, refl, sym, ap, subst, ◌∙◌, arith, mul-suc, inl, inr}
+use Rattle.std.specs.Prelude.{Option, Some, None}
+use Rattle.fidl_wire.specs.Term.{resolve}
+use Rattle.fidl_wire.specs.Term as ty
+use Rattle.fidl_wire.specs.Figure.{Declarations, size_of}
+use Rattle.fidl_wire.specs.Encoding.{zeros}
+use Rattle.fidl_wire.specs.Standing.{Stands}
+use Rattle.fidl_records.specs.declared.record.Row as raw
+use Rattle.fidl_records.specs.declared.kind.EntryKind.{EntryKind}
+use Rattle.fidl_records.specs.declared.kind.EntryKind.TheVariants.{Bool as Boolean, Array, Struct}
+use Rattle.fidl_records.specs.Kind.{kind_of}
+use Rattle.fidl_records.specs.Section.{header_of, entry_at, row_at}
+use Rattle.fidl_records.specs.Terms.{declarations_of}
+use Rattle.fidl_decode.specs.Fine.{IsFine}
+use Rattle.fidl_decode.specs.declared.frame.Frame.{Frame}
+use Rattle.fidl_decode.specs.declared.frame.Left.{Left}
+use Rattle.fidl_decode.specs.declared.frame.Left.TheVariants.{Rows, Elements}
+use Rattle.fidl_decode.specs.declared.frame.Turn.{Turn}
+use Rattle.fidl_decode.specs.Rows.{Row, table_rows, element_rows}
+use Rattle.fidl_decode.specs.State.{Message, At, Item}
+use Rattle.fidl_decode.specs.declared.fault.DecodeFault.{DecodeFault}
+use Rattle.fidl_decode.specs.Breaks.{IsPadding, Breaks}
+use Rattle.fidl_decode.specs.Machine.{rows_left, Reads, ReadsIf, BreaksFrame, LeftFine, height, FrameFine, frame_work, StateFine, Visits, Turns}
+use Rattle.fidl_decode.proofs.Stated.{table_rows-more, element_rows-more}
+use Rattle.fidl_decode.proofs.Visiting.{size_is, positive, visits_number}
+use Rattle.fidl_decode.proofs.Turning.{fine_from, done_fits, spends, end_refused, turns_end, row_fine, row_room, gap_refused, visit_refused, turns_more, end_breaks, gap_breaks, visit_breaks}
+
+-- a frame with other members left, so many of its bytes read
+abbrev pub going_on : Frame → Left → (done : ℕ) → Frame
+going_on f left done = record { left = left; base = f.base; done = done; size = f.size; nest = f.nest; depth = f.depth }
+
+pub same_frame : (f : Frame) (left : Left) → f.left ≡ left → f ≡ going_on f left f.done
+same_frame f left is = λ i. record { left = is i; base = f.base; done = f.done; size = f.size; nest = f.nest; depth = f.depth }
+
+-- only a frame is left
+abbrev pub left_over : Option Frame → Turn
+left_over o = record { below = None; rest = o }
+
+module _ (t : List ℕ) (m : Message) (f : Frame) (old : At) where
+  -- before anything is read
+  pub turns_start : FrameFine t m.bytes f → StateFine m old → (g : Frame) → f ≡ g → Turns t m f old old 0 (left_over (Some g))
+  turns_start ff state g is = subst (λ (g : Frame). Turns t m f old old 0 (left_over (Some g))) is (record {
+    same = λ to. ((λ x. (old, refl, x)), (λ y. subst (λ (s : At). Reads t m f s to) (sym y.1) y.2));
+    breaks = λ fault b. elim b [ inl x ↦ absurd x | inr y ↦ subst (λ (s : At). BreaksFrame t m f s fault) (sym y.1) y.2 ];
+    state = state;
+    below_fine = tt;
+    rest_fine = (ff, omega arith);
+    less = omega arith;
+  })
+
+  module _ (mid : At) (a : ℕ) (g : Frame) where
+    module _ (one : Turns t m f old mid a (left_over (Some g))) where
+      -- what is left is read on
+      pub turns_then : (new : At) (b n : ℕ) (x : Turn) → n ≤ a + b → Turns t m g mid new b x → Turns t m f old new n x
+      turns_then new b n x le two = record {
+        same = λ to. (
+          (λ r. let p = (one.same to).0 r in (two.same to).0 (subst (λ (s : At). Reads t m g s to) (sym p.1) p.2)),
+          (λ y. (one.same to).1 (mid, refl, (two.same to).1 y)),
+        );
+        breaks = λ fault b. one.breaks fault (inr (mid, refl, two.breaks fault b));
+        state = two.state;
+        below_fine = fine_from t m.bytes (height g + 1) (height f + 1) x.below (omega (arith, one.rest_fine.1)) two.below_fine;
+        rest_fine = fine_from t m.bytes (height g) (height f) x.rest one.rest_fine.1 two.rest_fine;
+        less = omega (arith, one.less, two.less);
+      }
+
+      pub turns_refused : ((to : At) → Reads t m g mid to → ⊥) → (to : At) → Reads t m f old to → ⊥
+      turns_refused bad to r = let p = (one.same to).0 r in bad to (subst (λ (s : At). Reads t m g s to) (sym p.1) p.2)
+
+      pub turns_break : (fault : DecodeFault) → BreaksFrame t m g mid fault → BreaksFrame t m f old fault
+      turns_break fault b = one.breaks fault (inr (mid, refl, b))
+
+    -- what is below is read up to what is left of it
+    module _ (h : Frame) (one : Turns t m f old mid a (record { below = Some g; rest = Some h })) where
+      pub turns_below : (new : At) (b n : ℕ) (o : Option Frame) → n ≤ a + b → Turns t m g mid new b (left_over o) → Turns t m f old new n (record { below = o; rest = Some h })
+      turns_below new b n o le two = record {
+        same = λ to. (
+          (λ r. let p = (one.same to).0 r in
+              let q = (two.same p.0).0 p.1 in
+              (p.0, subst (λ (s : At). ReadsIf t m o s p.0) (sym q.1) q.2, p.2)),
+          (λ y. (one.same to).1 (y.0, (two.same y.0).1 (new, refl, y.1), y.2)),
+        );
+        breaks = λ fault b. elim b [
+          | inl x ↦ one.breaks fault (inl (two.breaks fault (inr (new, refl, x))))
+          | inr y ↦ one.breaks fault (inr (y.0, (two.same y.0).1 (new, refl, y.1), y.2))
+        ];
+        state = two.state;
+        below_fine = fine_from t m.bytes (height g) (height f + 1) o one.below_fine.1 two.rest_fine;
+        rest_fine = one.rest_fine;
+        less = omega (arith, one.less, two.less);
+      }
+
+      -- to its end
+      pub turns_over : (new : At) (b n : ℕ) → n ≤ a + b → Turns t m g mid new b (left_over None) → Turns t m f old new n (left_over (Some h))
+      turns_over new b n le two = turns_below new b n None le two
+
+      pub below_refused : ((to : At) → Reads t m g mid to → ⊥) → (to : At) → Reads t m f old to → ⊥
+      below_refused bad to r = let p = (one.same to).0 r in bad p.0 p.1
+
+      pub below_breaks : (fault : DecodeFault) → BreaksFrame t m g mid fault → BreaksFrame t m f old fault
+      below_breaks fault b = one.breaks fault (inl b)
+
+module _ (t : List ℕ) (fine : IsFine t) (m : Message) (f : Frame) (old now : At) (a : ℕ) (g : Frame) (turns : Turns t m f old now a (left_over (Some g))) where
+  abbrev ds : Declarations
+  ds = declarations_of t
+
+  abbrev gf : FrameFine t m.bytes g
+  gf = turns.rest_fine.0
+
+  -- the members are read: zeros to the end
+  module _ (over : rows_left t g.done g.left ≡ []) where
+    pub over_turns : (n : ℕ) → n ≤ a + (g.base + g.size - (g.base + g.done) + 1) → Stands m.bytes (g.base + g.done) (zeros (g.base + g.size - (g.base + g.done))) → Turns t m f old now n (left_over None)
+    over_turns n le z = turns_then t m f old now a g turns now (g.base + g.size - (g.base + g.done) + 1) n (left_over None) le (turns_end t fine m g now gf turns.state over z)
+
+    pub over_refused : (Stands m.bytes (g.base + g.done) (zeros (g.base + g.size - (g.base + g.done))) → ⊥) → (to : At) → Reads t m f old to → ⊥
+    over_refused bad = turns_refused t m f old now a g turns (λ to. end_refused t fine m g now gf turns.state over to bad)
+
+    pub over_breaks : (fault : DecodeFault) → IsPadding m.bytes (g.base + g.done) (g.base + g.size) fault → BreaksFrame t m f old fault
+    over_breaks fault p = turns_break t m f old now a g turns fault (end_breaks t fine m g now gf turns.state over fault p)
+
+  -- the bytes that are left lie within the message, and there is work for them
+  pub over_room : (g.done ≤ g.size) × (g.base + g.size ≤ length m.bytes) × (g.size - g.done + 1 ≤ frame_work g)
+  over_room = let d = done_fits t fine m g now gf turns.state in (d, gf.room, spends g.nest (g.size - g.done) (g.size - g.done) (omega arith))
+
+  -- a member is next
+  module _ (r : Row) (left : Left) (one : rows_left t g.done g.left ≡ r ∷ rows_left t (r.offset + size_of ds (ty.named r.entry)) left) where
+    pub next_known : r.entry < (header_of t).entries
+    next_known = (row_fine t fine m g now gf turns.state r left one).0
+
+    pub next_size : size_of ds (ty.named r.entry) ≡ (entry_at t r.entry).size
+    next_size = size_is t fine r.entry next_known
+
+    -- it lies behind what is read, within the frame and the message, and there is work for it
+    pub next_room : (g.done ≤ r.offset) × (r.offset + (entry_at t r.entry).size ≤ g.size) × (g.base + g.size ≤ length m.bytes) × (r.offset - g.done + 1 ≤ frame_work g)
+    next_room =
+        let known = row_fine t fine m g now gf turns.state r left one in
+        let fits = row_room t fine m g now gf turns.state r left one in
+        let size = next_size in
+        (known.1, omega (arith, size), gf.room, spends g.nest (r.offset - g.done) (g.size - g.done) (omega (arith, fits)))
+
+    pub next_gap_refused : (Stands m.bytes (g.base + g.done) (zeros (g.base + r.offset - (g.base + g.done))) → ⊥) → (to : At) → Reads t m f old to → ⊥
+    next_gap_refused bad = turns_refused t m f old now a g turns (λ to. gap_refused t fine m g now gf turns.state r left one to bad)
+
+    pub next_leaf_refused : ((to : At) → Item ds m g.depth (resolve ds.terms (ty.named r.entry)) (g.base + r.offset) now to → ⊥) → (to : At) → Reads t m f old to → ⊥
+    next_leaf_refused bad = turns_refused t m f old now a g turns (λ to. visit_refused t fine m g now gf turns.state r left one to bad)
+
+    pub next_gap_breaks : (fault : DecodeFault) → IsPadding m.bytes (g.base + g.done) (g.base + r.offset) fault → BreaksFrame t m f old fault
+    next_gap_breaks fault p = turns_break t m f old now a g turns fault (gap_breaks t fine m g now gf turns.state r left one fault p)
+
+    pub next_leaf_breaks : (fault : DecodeFault) → Stands m.bytes (g.base + g.done) (zeros (g.base + r.offset - (g.base + g.done))) → Breaks ds m g.depth (resolve ds.terms (ty.named r.entry)) (g.base + r.offset) now fault → BreaksFrame t m f old fault
+    next_leaf_breaks fault z b = turns_break t m f old now a g turns fault (visit_breaks t fine m g now gf turns.state r left one fault z b)
+
+    -- it is a leaf, or leads to what is below
+    pub next_takes : LeftFine t left → (below : Option Frame) (new : At) (done n : ℕ) → done ≡ r.offset + (entry_at t r.entry).size → n ≤ a + (g.base + r.offset - (g.base + g.done) + 1) → Stands m.bytes (g.base + g.done) (zeros (g.base + r.offset - (g.base + g.done))) → Visits t m g.depth r.entry (g.base + r.offset) now new below
+        → Turns t m f old new n (record { below = below; rest = Some (going_on g left done) })
+    next_takes left_fine below new done n is le z v =
+        turns_then t m f old now a g turns new (g.base + r.offset - (g.base + g.done) + 1) n (record { below = below; rest = Some (going_on g left done) }) le
+        (turns_more t fine m g now gf turns.state r left one (positive t fine r.entry next_known) left_fine below new done (omega (arith, is, next_size)) z v)
+
+    pub next_turns : LeftFine t left → (new : At) (done n : ℕ) → done ≡ r.offset + (entry_at t r.entry).size → n ≤ a + (g.base + r.offset - (g.base + g.done) + 1) → Stands m.bytes (g.base + g.done) (zeros (g.base + r.offset - (g.base + g.done))) → Visits t m g.depth r.entry (g.base + r.offset) now new None
+        → Turns t m f old new n (left_over (Some (going_on g left done)))
+    next_turns left_fine new done n is le z v = next_takes left_fine None new done n is le z v
+
+-- the next of a struct's rows
+pub rows_next : (t : List ℕ) (first end done d : ℕ) (w : raw.Row) → w ≡ row_at t (header_of t) first → first < end → rows_left t done (Rows first (end - first)) ≡ (let x : Row = record { offset = w.key; entry = w.entry } in x) ∷ rows_left t d (Rows (first + 1) (end - (first + 1)))
+rows_next t first end done d w is lt =
+    let fewer : end - first - 1 ≡ end - (first + 1) = omega arith in
+    table_rows-more t first (end - first) (λ none. absurd (omega (arith, none)))
+    ∙ ap (λ n. (let x : Row = record { offset = (row_at t (header_of t) first).key; entry = (row_at t (header_of t) first).entry } in x) ∷ table_rows t (header_of t) (first + 1) n) fewer
+    ∙ ap (λ (r : raw.Row). (let x : Row = record { offset = r.key; entry = r.entry } in x) ∷ table_rows t (header_of t) (first + 1) (end - (first + 1))) (sym is)
+
+pub rows_over : (t : List ℕ) (first end done : ℕ) → end ≤ first → rows_left t done (Rows first (end - first)) ≡ []
+rows_over t first end done le = let none : end - first ≡ 0 = omega arith in ap (λ n. table_rows t (header_of t) first n) none
+
+-- the next of an array's elements
+pub elements_next : (t : List ℕ) (e size k count done : ℕ) → size_of (declarations_of t) (ty.named e) ≡ size → k < count → rows_left t done (Elements e size (count - k)) ≡ (let x : Row = record { offset = done; entry = e } in x) ∷ rows_left t (done + size_of (declarations_of t) (ty.named e)) (Elements e size (count - (k + 1)))
+elements_next t e size k count done is lt =
+    let fewer : count - k - 1 ≡ count - (k + 1) = omega arith in
+    element_rows-more e size (count - k) done (λ none. absurd (omega (arith, none)))
+    ∙ ap (λ n. (let x : Row = record { offset = done; entry = e } in x) ∷ element_rows e size n (done + size)) fewer
+    ∙ ap (λ s. (let x : Row = record { offset = done; entry = e } in x) ∷ element_rows e size (count - (k + 1)) (done + s)) (sym is)
+
+pub elements_over : (t : List ℕ) (e size k count done : ℕ) → count ≤ k → rows_left t done (Elements e size (count - k)) ≡ []
+elements_over t e size k count done le = let none : count - k ≡ 0 = omega arith in ap (λ n. element_rows e size n done) none
+
+pub no_zeros : (m : List ℕ) (p k : ℕ) → k ≡ 0 → Stands m p (zeros k)
+no_zeros m p k is = subst (λ n. Stands m p (zeros n)) (sym is) tt
+
+-- elements that any bytes are need no look
+module _ (t : List ℕ) (fine : IsFine t) (m : Message) (e size : ℕ) (f : Frame) (at : At) where
+  abbrev at_element : (n done : ℕ) → Frame
+  at_element n done = going_on f (Elements e size n) done
+
+  pub any_elements : (n done : ℕ) → FrameFine t m.bytes (at_element n done) → StateFine m at → ((place : ℕ) → e < (header_of t).entries → place + (entry_at t e).size ≤ length m.bytes → Visits t m f.depth e place at at None)
+      → Turns t m (at_element n done) at at 0 (left_over (Some (at_element 0 (done + size * n))))
+  any_elements zero done ff state v =
+      let none : done ≡ done + size * 0 = omega arith in
+      turns_start t m (at_element zero done) at ff state (at_element 0 (done + size * 0)) (ap (λ d. at_element 0 d) none)
+  any_elements (suc n) done ff state v =
+      let g = at_element (suc n) done in
+      let is = ff.left in
+      let r : Row = record { offset = done; entry = e } in
+      let left = Elements e size n in
+      let one : rows_left t done (Elements e size (suc n)) ≡ r ∷ rows_left t (done + size_of (declarations_of t) (ty.named e)) left = ap (λ s. r ∷ element_rows e size n (done + s)) (sym is) in
+      let start = turns_start t m g at ff state g refl in
+      let known = next_known t fine m g at at 0 g start r left one in
+      let own = next_size t fine m g at at 0 g start r left one in
+      let room = next_room t fine m g at at 0 g start r left one in
+      let none : f.base + done - (f.base + done) ≡ 0 = omega arith in
+      let step = next_turns t fine m g at at 0 g start r left one is at (done + size) 0 (omega (arith, is, own)) (omega arith) (no_zeros m.bytes (f.base + done) _ none) (v (f.base + done) known (omega (arith, room.1, room.2))) in
+      let on = any_elements n (done + size) step.rest_fine.0 state v in
+      let more : size * suc n ≡ size * n + size = mul-suc size n in
+      let same : done + size + size * n ≡ done + size * suc n = omega arith in
+      subst (λ d. Turns t m g at at 0 (left_over (Some (at_element 0 d)))) same (turns_then t m g at at 0 (at_element n (done + size)) step at 0 0 (left_over (Some (at_element 0 (done + size + size * n)))) (omega arith) on)
+
+-- an array's frame, from its start
+module _ (t : List ℕ) (fine : IsFine t) (m : Message) (f : Frame) (old : At) (ff : FrameFine t m.bytes f) (state : StateFine m old) (e size count : ℕ) (is : f.left ≡ Elements e size count) where
+  start : Turns t m f old old 0 (left_over (Some (going_on f (Elements e size count) f.done)))
+  start = turns_start t m f old ff state (going_on f (Elements e size count) f.done) (same_frame f (Elements e size count) is)
+
+  pub element_known : (count ≡ 0 → ⊥) → e < (header_of t).entries
+  element_known some =
+      let own = start.rest_fine.0.left in
+      let all : count ≡ count - 0 = omega arith in
+      let none : 0 < count = omega (arith, some) in
+      next_known t fine m f old old 0 (going_on f (Elements e size count) f.done) start (let x : Row = record { offset = f.done; entry = e } in x) (Elements e size (count - (0 + 1)))
+      (ap (λ n. rows_left t f.done (Elements e size n)) all ∙ elements_next t e size 0 count f.done own none)
+
+  pub any_turns : ((place : ℕ) → e < (header_of t).entries → place + (entry_at t e).size ≤ length m.bytes → Visits t m f.depth e place old old None)
+      → Turns t m f old old 0 (left_over (Some (going_on f (Elements e size 0) (f.done + size * count))))
+  any_turns v = turns_then t m f old old 0 (going_on f (Elements e size count) f.done) start old 0 0 (left_over (Some (going_on f (Elements e size 0) (f.done + size * count)))) (omega arith) (any_elements t fine m e size f old count f.done start.rest_fine.0 state v)
+
+  -- numbers are any bytes
+  pub number_turns : (k : EntryKind) → kind_of (entry_at t e).kind ≡ Some k → (k ≡ Boolean → ⊥) → (k ≡ Array → ⊥) → (k ≡ Struct → ⊥) → ((i : ℕ) → get_or m.bytes i 0 < 256)
+      → Turns t m f old old 0 (left_over (Some (going_on f (Elements e size 0) (f.done + size * count))))
+  number_turns k known b a s small = any_turns (λ place lt room. visits_number t fine m f.depth e place old lt state ff.depth k known b a s room small)

@@ -1,0 +1,232 @@
+//! The decoder: one field, and one member of a frame.
+ghost use Rattle.std.specs.Prelude.{◌≡◌, ◌≢◌, ℕ, ◌+◌, ◌-◌, ◌^◌, ◌<◌, ◌≤◌, ◌∷◌, [], OnOk, OnErr, IfOk, IfErr, IfSome, IfNone, Some, None, length, slice_index};
+ghost use Rattle.fidl_wire.specs.declared.limits.TheConstants.{MAX_DEPTH, MAX_MESSAGE_BYTES};
+ghost use Rattle.fidl_wire.specs.Term as ty;
+ghost use Rattle.fidl_wire.specs.Term.{resolve};
+ghost use Rattle.fidl_wire.specs.Figure.{size_of};
+ghost use Rattle.fidl_wire.specs.Standing.{Stands};
+ghost use Rattle.fidl_wire.specs.Encoding.{zeros};
+ghost use Rattle.fidl_records.specs.declared.kind.EntryKind.TheVariants as kinds;
+ghost use Rattle.fidl_records.specs.Kind.{kind_of};
+ghost use Rattle.fidl_records.specs.Section.{header_of, entry_at};
+ghost use Rattle.fidl_records.specs.Terms.{declarations_of};
+ghost use Rattle.fidl_decode.specs.Fine.{IsFine};
+ghost use Rattle.fidl_decode.specs.Faults.{message_of};
+ghost use Rattle.fidl_decode.specs.Breaks.{IsPadding, Breaks};
+ghost use Rattle.fidl_decode.specs.State.{At, Item};
+ghost use Rattle.fidl_decode.specs.Machine.{rows_left, LeftFine, Reads, StateFine, FrameFine, BreaksFrame, Visits, Turns, frame_work, at_of};
+
+use crate::fault::DecodeFault;
+use crate::frame::{Frame, Left, Member, State, Turn};
+use fidl_records::EntryKind;
+use fidl_verify::Table;
+use fidl_wire::HandleInfo;
+
+/// Zeros from one place to another.
+pub(crate) fn zeros_at(bytes: &[u8], from: usize, to: usize) -> Result<(), DecodeFault>
+    requires order { from ≤ to }
+    requires room { to ≤ length bytes.now }
+    ensures ok { OnOk result (Stands bytes.now from (zeros (to - from))) }
+    ensures err { OnErr result (Stands bytes.now from (zeros (to - from)) → ⊥) }
+    ensures told { IfErr result (IsPadding bytes.now from to) }
+{
+    for i in from..to {
+        if bytes[i] != 0 {
+            return Err(DecodeFault::Padding { at: i });
+        }
+    }
+    Ok(())
+}
+
+/// The next member of those that are left, and those after it.
+fn next_member(table: &Table, left: Left, done: usize) -> Option<Member>
+    requires table { IsFine table.now }
+    requires left { LeftFine table.now left }
+    ensures none { IfNone result (rows_left table.now done left ≡ []) }
+    ensures some { IfSome result (λ m. rows_left table.now done left
+        ≡ record { offset = m.offset; entry = m.entry } ∷ rows_left table.now (m.offset + size_of (declarations_of table.now) (ty.named m.entry)) m.left) }
+    ensures left { IfSome result (λ m. LeftFine table.now m.left) }
+{
+    match left {
+        Left::Rows { first, count } => {
+            if count == 0 {
+                return None;
+            }
+            let within = first < table.rows();
+            prove!(within);
+            let row = table.row(first);
+            Some(Member {
+                offset: row.key as usize,
+                entry: row.entry,
+                left: Left::Rows {
+                    first: first + 1,
+                    count: count - 1,
+                },
+            })
+        }
+        Left::Elements { entry, size, count } => {
+            if count == 0 {
+                return None;
+            }
+            Some(Member {
+                offset: done,
+                entry,
+                left: Left::Elements {
+                    entry,
+                    size,
+                    count: count - 1,
+                },
+            })
+        }
+    }
+}
+
+/// What decoding reads and never changes: a verified table, and a message.
+#[derive(Clone, Copy)]
+pub(crate) struct Decoder<'t, 'm> {
+    pub table: &'t Table<'t>,
+    pub bytes: &'m [u8],
+    pub handles: &'m [HandleInfo],
+    ghost octets: { (i : ℕ) → slice_index bytes.now i < 256 },
+}
+
+impl<'t, 'm> Decoder<'t, 'm> {
+    /// Reads a leaf at a place: a value that holds no other.
+    #[inline(always)]
+    pub(crate) fn read_leaf(
+        &self,
+        entry: u32,
+        kind: EntryKind,
+        place: usize,
+        depth: u8,
+        state: &mut State,
+    ) -> Result<(), DecodeFault>
+        requires table { IsFine self.now.table.now }
+        requires entry { entry < (header_of self.now.table.now).entries }
+        requires kind { kind_of (entry_at self.now.table.now entry).kind ≡ Some kind }
+        requires no_array { kind ≢ kinds.Array }
+        requires no_struct { kind ≢ kinds.Struct }
+        requires short { length self.now.bytes.now ≤ MAX_MESSAGE_BYTES }
+        requires room { place + (entry_at self.now.table.now entry).size ≤ length self.now.bytes.now }
+        requires state { StateFine (message_of self.now.bytes.now self.now.handles.now) (at_of state.old) }
+        requires depth { depth ≤ MAX_DEPTH }
+        ensures ok { OnOk result (Visits self.now.table.now (message_of self.now.bytes.now self.now.handles.now) depth entry place (at_of state.old) (at_of state.new) None) }
+        ensures err { OnErr result ((to : At) → Item (declarations_of self.now.table.now) (message_of self.now.bytes.now self.now.handles.now) depth (resolve (declarations_of self.now.table.now).terms (ty.named entry)) place (at_of state.old) to → ⊥) }
+        ensures told { IfErr result (Breaks (declarations_of self.now.table.now) (message_of self.now.bytes.now self.now.handles.now) depth (resolve (declarations_of self.now.table.now).terms (ty.named entry)) place (at_of state.old)) }
+        ensures steps { state.new.steps ≡ state.old.steps }
+    {
+        match kind {
+            EntryKind::Bool => {
+                if self.bytes[place] > 1 {
+                    return Err(DecodeFault::BadBool { at: place });
+                }
+                Ok(())
+            }
+            // Any bytes are a number.
+            _ => Ok(()),
+        }
+    }
+
+    /// Reads an entry at a place, up to what it holds.
+    pub(crate) fn visit(
+        &self,
+        entry: u32,
+        place: usize,
+        depth: u8,
+        state: &mut State,
+    ) -> Result<Option<Frame>, DecodeFault>
+        requires table { IsFine self.now.table.now }
+        requires entry { entry < (header_of self.now.table.now).entries }
+        requires short { length self.now.bytes.now ≤ MAX_MESSAGE_BYTES }
+        requires room { place + (entry_at self.now.table.now entry).size ≤ length self.now.bytes.now }
+        requires state { StateFine (message_of self.now.bytes.now self.now.handles.now) (at_of state.old) }
+        requires depth { depth ≤ MAX_DEPTH }
+        ensures ok { IfOk result (λ found. Visits self.now.table.now (message_of self.now.bytes.now self.now.handles.now) depth entry place (at_of state.old) (at_of state.new) found) }
+        ensures err { OnErr result ((to : At) → Item (declarations_of self.now.table.now) (message_of self.now.bytes.now self.now.handles.now) depth (resolve (declarations_of self.now.table.now).terms (ty.named entry)) place (at_of state.old) to → ⊥) }
+        ensures told { IfErr result (Breaks (declarations_of self.now.table.now) (message_of self.now.bytes.now self.now.handles.now) depth (resolve (declarations_of self.now.table.now).terms (ty.named entry)) place (at_of state.old)) }
+        ensures steps { state.new.steps ≡ state.old.steps }
+    {
+        let e = self.table.entry(entry);
+        let Some(kind) = EntryKind::from_number(e.kind) else {
+            unreachable!()
+        };
+        match kind {
+            EntryKind::Struct => {
+                let left = Left::Rows {
+                    first: e.first,
+                    count: e.count,
+                };
+                Ok(Some(Frame {
+                    left,
+                    base: place,
+                    done: 0,
+                    size: e.size as usize,
+                    nest: e.nest,
+                    depth,
+                }))
+            }
+            EntryKind::Array => {
+                let size = self.table.entry(e.first).size as usize;
+                let left = Left::Elements {
+                    entry: e.first,
+                    size,
+                    count: e.count,
+                };
+                Ok(Some(Frame {
+                    left,
+                    base: place,
+                    done: 0,
+                    size: e.size as usize,
+                    nest: e.nest,
+                    depth,
+                }))
+            }
+            _ => {
+                self.read_leaf(entry, kind, place, depth, state)?;
+                Ok(None)
+            }
+        }
+    }
+
+    /// Reads the zeros before the next member and that member, or the zeros at the end.
+    pub(crate) fn take_member(&self, frame: Frame, state: &mut State) -> Result<Turn, DecodeFault>
+        requires table { IsFine self.now.table.now }
+        requires short { length self.now.bytes.now ≤ MAX_MESSAGE_BYTES }
+        requires frame { FrameFine self.now.table.now self.now.bytes.now frame }
+        requires state { StateFine (message_of self.now.bytes.now self.now.handles.now) (at_of state.old) }
+        requires steps { state.old.steps < 2 ^ 40 }
+        ensures ok { IfOk result (λ turn. Turns self.now.table.now (message_of self.now.bytes.now self.now.handles.now) frame (at_of state.old) (at_of state.new) (state.new.steps - state.old.steps) turn) }
+        ensures rises { state.old.steps < state.new.steps }
+        ensures cost { state.new.steps ≤ state.old.steps + frame_work frame }
+        ensures err { OnErr result ((to : At) → Reads self.now.table.now (message_of self.now.bytes.now self.now.handles.now) frame (at_of state.old) to → ⊥) }
+        ensures told { IfErr result (BreaksFrame self.now.table.now (message_of self.now.bytes.now self.now.handles.now) frame (at_of state.old)) }
+    {
+        let at = frame.base + frame.done;
+        let Some(member) = next_member(self.table, frame.left, frame.done) else {
+            let stop = frame.base + frame.size;
+            state.steps += (stop - at) as u64 + 1;
+            zeros_at(self.bytes, at, stop)?;
+            return Ok(Turn {
+                below: None,
+                rest: None,
+            });
+        };
+        let place = frame.base + member.offset;
+        state.steps += (place - at) as u64 + 1;
+        zeros_at(self.bytes, at, place)?;
+        let below = self.visit(member.entry, place, frame.depth, state)?;
+        let done = member.offset + self.table.entry(member.entry).size as usize;
+        let rest = Frame {
+            left: member.left,
+            base: frame.base,
+            done,
+            size: frame.size,
+            nest: frame.nest,
+            depth: frame.depth,
+        };
+        Ok(Turn {
+            below,
+            rest: Some(rest),
+        })
+    }
+}

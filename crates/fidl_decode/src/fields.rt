@@ -1,0 +1,190 @@
+//! The fields of a frame, read in place: the rows of a struct, and the elements of an array.
+ghost use Rattle.std.specs.Prelude.{◌≡◌, ◌≢◌, ◌+◌, ◌-◌, ◌*◌, ◌^◌, ◌<◌, ◌≤◌, OnOk, OnErr, IfOk, IfErr, IfNone, Some, None, length};
+ghost use Rattle.fidl_wire.specs.declared.limits.TheConstants.{MAX_MESSAGE_BYTES};
+ghost use Rattle.fidl_records.specs.declared.kind.EntryKind.TheVariants as kinds;
+ghost use Rattle.fidl_records.specs.Kind.{kind_of};
+ghost use Rattle.fidl_records.specs.Section.{header_of, entry_at};
+ghost use Rattle.fidl_decode.specs.Fine.{IsFine};
+ghost use Rattle.fidl_decode.specs.Faults.{message_of};
+ghost use Rattle.fidl_decode.specs.State.{At};
+ghost use Rattle.fidl_decode.specs.declared.frame.Left.TheVariants as left;
+ghost use Rattle.fidl_decode.specs.Machine.{Reads, StateFine, FrameFine, BreaksFrame, Turns, turn_work, at_of};
+
+use crate::decoder::{Decoder, zeros_at};
+use crate::fault::DecodeFault;
+use crate::frame::{Frame, Left, State};
+use fidl_records::EntryKind;
+
+impl<'t, 'm> Decoder<'t, 'm> {
+    /// Reads the rows of a struct in place, up to the first that is no leaf. Nothing is left at the struct's end.
+    pub(crate) fn read_rows(
+        &self,
+        frame: Frame,
+        first: u32,
+        count: u32,
+        state: &mut State,
+    ) -> Result<Option<Frame>, DecodeFault>
+        requires table { IsFine self.now.table.now }
+        requires short { length self.now.bytes.now ≤ MAX_MESSAGE_BYTES }
+        requires frame { FrameFine self.now.table.now self.now.bytes.now frame }
+        requires left { frame.left ≡ left.Rows first count }
+        requires state { StateFine (message_of self.now.bytes.now self.now.handles.now) (at_of state.old) }
+        requires budget { state.old.steps + turn_work self.now.bytes.now state.old.next frame < 2 ^ 40 }
+        ensures ok { IfOk result (λ rest. Turns self.now.table.now (message_of self.now.bytes.now self.now.handles.now) frame (at_of state.old) (at_of state.new) (state.new.steps - state.old.steps) (record { below = None; rest = rest })) }
+        ensures grows { state.old.steps ≤ state.new.steps }
+        ensures ended { IfOk result (λ rest. IfNone rest (state.old.steps < state.new.steps)) }
+        ensures cost { state.new.steps ≤ state.old.steps + turn_work self.now.bytes.now state.old.next frame }
+        ensures err { OnErr result ((to : At) → Reads self.now.table.now (message_of self.now.bytes.now self.now.handles.now) frame (at_of state.old) to → ⊥) }
+        ensures told { IfErr result (BreaksFrame self.now.table.now (message_of self.now.bytes.now self.now.handles.now) frame (at_of state.old)) }
+    {
+        let _rows = self.table.rows();
+        let end = first + count;
+        let mut done = frame.done;
+        for i in first..end {
+            let row = self.table.row(i);
+            let e = self.table.entry(row.entry);
+            let Some(kind) = EntryKind::from_number(e.kind) else {
+                unreachable!()
+            };
+            match kind {
+                EntryKind::Array | EntryKind::Struct => {
+                    return Ok(Some(Frame {
+                        left: Left::Rows {
+                            first: i,
+                            count: end - i,
+                        },
+                        base: frame.base,
+                        done,
+                        size: frame.size,
+                        nest: frame.nest,
+                        depth: frame.depth,
+                    }));
+                }
+                _ => {}
+            }
+            let read = frame.base + done;
+            let place = frame.base + row.key as usize;
+            state.steps += (place - read) as u64 + 1;
+            zeros_at(self.bytes, read, place)?;
+            self.read_leaf(row.entry, kind, place, frame.depth, state)?;
+            done = row.key as usize + e.size as usize;
+        }
+        let over = frame.base + done;
+        let stop = frame.base + frame.size;
+        state.steps += (stop - over) as u64 + 1;
+        zeros_at(self.bytes, over, stop)?;
+        Ok(None)
+    }
+
+    /// Reads the elements of an array, which are leaves.
+    fn read_each(
+        &self,
+        frame: Frame,
+        entry: u32,
+        kind: EntryKind,
+        size: usize,
+        count: u32,
+        state: &mut State,
+    ) -> Result<(), DecodeFault>
+        requires table { IsFine self.now.table.now }
+        requires short { length self.now.bytes.now ≤ MAX_MESSAGE_BYTES }
+        requires frame { FrameFine self.now.table.now self.now.bytes.now frame }
+        requires left { frame.left ≡ left.Elements entry size count }
+        requires entry { entry < (header_of self.now.table.now).entries }
+        requires kind { kind_of (entry_at self.now.table.now entry).kind ≡ Some kind }
+        requires no_array { kind ≢ kinds.Array }
+        requires no_struct { kind ≢ kinds.Struct }
+        requires state { StateFine (message_of self.now.bytes.now self.now.handles.now) (at_of state.old) }
+        requires budget { state.old.steps + turn_work self.now.bytes.now state.old.next frame < 2 ^ 40 }
+        ensures ok { OnOk result (Turns self.now.table.now (message_of self.now.bytes.now self.now.handles.now) frame (at_of state.old) (at_of state.new) (state.new.steps - state.old.steps) (record { below = None; rest = None })) }
+        ensures ended { OnOk result (state.old.steps < state.new.steps) }
+        ensures cost { state.new.steps ≤ state.old.steps + turn_work self.now.bytes.now state.old.next frame }
+        ensures err { OnErr result ((to : At) → Reads self.now.table.now (message_of self.now.bytes.now self.now.handles.now) frame (at_of state.old) to → ⊥) }
+        ensures told { IfErr result (BreaksFrame self.now.table.now (message_of self.now.bytes.now self.now.handles.now) frame (at_of state.old)) }
+    {
+        let mut done = frame.done;
+        for i in 0..count {
+            let place = frame.base + done;
+            state.steps += 1;
+            self.read_leaf(entry, kind, place, frame.depth, state)?;
+            done += size;
+        }
+        let at = frame.base + done;
+        let stop = frame.base + frame.size;
+        state.steps += (stop - at) as u64 + 1;
+        zeros_at(self.bytes, at, stop)
+    }
+
+    /// Reads the elements of an array in place, where they are leaves. Nothing is left at the array's end.
+    fn read_elements(
+        &self,
+        frame: Frame,
+        entry: u32,
+        size: usize,
+        count: u32,
+        state: &mut State,
+    ) -> Result<Option<Frame>, DecodeFault>
+        requires table { IsFine self.now.table.now }
+        requires short { length self.now.bytes.now ≤ MAX_MESSAGE_BYTES }
+        requires frame { FrameFine self.now.table.now self.now.bytes.now frame }
+        requires left { frame.left ≡ left.Elements entry size count }
+        requires state { StateFine (message_of self.now.bytes.now self.now.handles.now) (at_of state.old) }
+        requires budget { state.old.steps + turn_work self.now.bytes.now state.old.next frame < 2 ^ 40 }
+        ensures ok { IfOk result (λ rest. Turns self.now.table.now (message_of self.now.bytes.now self.now.handles.now) frame (at_of state.old) (at_of state.new) (state.new.steps - state.old.steps) (record { below = None; rest = rest })) }
+        ensures grows { OnOk result (state.old.steps ≤ state.new.steps) }
+        ensures ended { IfOk result (λ rest. IfNone rest (state.old.steps < state.new.steps)) }
+        ensures cost { state.new.steps ≤ state.old.steps + turn_work self.now.bytes.now state.old.next frame }
+        ensures err { OnErr result ((to : At) → Reads self.now.table.now (message_of self.now.bytes.now self.now.handles.now) frame (at_of state.old) to → ⊥) }
+        ensures told { IfErr result (BreaksFrame self.now.table.now (message_of self.now.bytes.now self.now.handles.now) frame (at_of state.old)) }
+    {
+        if count == 0 {
+            return Ok(Some(frame));
+        }
+        let e = self.table.entry(entry);
+        let Some(kind) = EntryKind::from_number(e.kind) else {
+            unreachable!()
+        };
+        match kind {
+            EntryKind::Array | EntryKind::Struct => Ok(Some(frame)),
+            EntryKind::Bool => {
+                self.read_each(frame, entry, kind, size, count, state)?;
+                Ok(None)
+            }
+            _ => {
+                // Any bytes are numbers.
+                let from = frame.base + frame.done + size * count as usize;
+                let stop = frame.base + frame.size;
+                state.steps += (stop - from) as u64 + 1;
+                zeros_at(self.bytes, from, stop)?;
+                Ok(None)
+            }
+        }
+    }
+
+    /// Reads the leaves of a frame in place, up to the first member that is none. Nothing is left at the frame's end.
+    #[inline(always)]
+    pub(crate) fn read_leaves(
+        &self,
+        frame: Frame,
+        state: &mut State,
+    ) -> Result<Option<Frame>, DecodeFault>
+        requires table { IsFine self.now.table.now }
+        requires short { length self.now.bytes.now ≤ MAX_MESSAGE_BYTES }
+        requires frame { FrameFine self.now.table.now self.now.bytes.now frame }
+        requires state { StateFine (message_of self.now.bytes.now self.now.handles.now) (at_of state.old) }
+        requires budget { state.old.steps + turn_work self.now.bytes.now state.old.next frame < 2 ^ 40 }
+        ensures ok { IfOk result (λ rest. Turns self.now.table.now (message_of self.now.bytes.now self.now.handles.now) frame (at_of state.old) (at_of state.new) (state.new.steps - state.old.steps) (record { below = None; rest = rest })) }
+        ensures grows { OnOk result (state.old.steps ≤ state.new.steps) }
+        ensures ended { IfOk result (λ rest. IfNone rest (state.old.steps < state.new.steps)) }
+        ensures cost { state.new.steps ≤ state.old.steps + turn_work self.now.bytes.now state.old.next frame }
+        ensures err { OnErr result ((to : At) → Reads self.now.table.now (message_of self.now.bytes.now self.now.handles.now) frame (at_of state.old) to → ⊥) }
+        ensures told { IfErr result (BreaksFrame self.now.table.now (message_of self.now.bytes.now self.now.handles.now) frame (at_of state.old)) }
+    {
+        match frame.left {
+            Left::Rows { first, count } => { self.read_rows(frame, first, count, state) }
+            Left::Elements { entry, size, count } => {
+                self.read_elements(frame, entry, size, count, state)
+            }
+        }
+    }
+}
