@@ -37,6 +37,21 @@ const SHAPES: [u8; 388] = [
     0x61, 0x62, 0x74, 0x6c,
 ];
 
+/// A table of five types without names but `a`, written by hand after the table's rules: 0 `struct {a array<Pair, 3>; a bool;}`,
+/// 1 `array<Pair, 3>`, 2 `Pair = struct {a bool; a uint16;}`, 3 `bool`, 4 `uint16`.
+const PAIRS: [u8; 305] = [
+    70, 67, 84, 50, 1, 0, 0, 0, 5, 0, 0, 0, 4, 0, 0, 0, 0, 0, 0, 0, 0, 0, 0, 0, 0, 0, 0, 0, 0, 0,
+    0, 0, 1, 0, 0, 0, 0, 0, 0, 0, 16, 0, 2, 3, 14, 0, 0, 0, 0, 0, 0, 0, 2, 0, 0, 0, 0, 0, 0, 0, 0,
+    0, 0, 0, 0, 0, 0, 0, 0, 0, 0, 0, 0, 0, 0, 0, 0, 0, 0, 0, 14, 0, 2, 2, 12, 0, 0, 0, 2, 0, 0, 0,
+    3, 0, 0, 0, 0, 0, 0, 0, 0, 0, 0, 0, 0, 0, 0, 0, 0, 0, 0, 0, 0, 0, 0, 0, 0, 0, 0, 0, 16, 0, 2,
+    1, 4, 0, 0, 0, 2, 0, 0, 0, 2, 0, 0, 0, 0, 0, 0, 0, 0, 0, 0, 0, 0, 0, 0, 0, 0, 0, 0, 0, 0, 0, 0,
+    0, 0, 0, 0, 0, 1, 0, 1, 0, 1, 0, 0, 0, 0, 0, 0, 0, 0, 0, 0, 0, 0, 0, 0, 0, 0, 0, 0, 0, 0, 0, 0,
+    0, 0, 0, 0, 0, 0, 0, 0, 0, 0, 0, 0, 0, 7, 0, 2, 0, 2, 0, 0, 0, 0, 0, 0, 0, 0, 0, 0, 0, 0, 0, 0,
+    0, 0, 0, 0, 0, 0, 0, 0, 0, 0, 0, 0, 0, 0, 0, 0, 0, 0, 0, 0, 0, 0, 0, 0, 0, 1, 0, 0, 0, 0, 0, 0,
+    0, 1, 0, 0, 0, 12, 0, 0, 0, 3, 0, 0, 0, 0, 0, 0, 0, 1, 0, 0, 0, 0, 0, 0, 0, 3, 0, 0, 0, 0, 0,
+    0, 0, 1, 0, 0, 0, 2, 0, 0, 0, 4, 0, 0, 0, 0, 0, 0, 0, 1, 0, 0, 0, 97,
+];
+
 /// The refusal of a message, if it is refused.
 fn answer(
     table: &Table,
@@ -101,6 +116,44 @@ fn messages_are_decoded_or_refused_at_a_place(rt: HostRuntime) -> Result<(), Fai
         if entry < 7 {
             assert!(rt; answer(&table, entry, bytes, &[], &mut scratch) == wanted);
         }
+    }
+    Ok(())
+}
+
+#[test]
+fn of_several_bad_bytes_the_first_of_a_gap_is_reported(rt: HostRuntime) -> Result<(), Fail> {
+    let table = verify(&SHAPES)?;
+    assert!(rt; table.entries() == 7);
+    let mut scratch = Scratch::new(rt.alloc())?;
+    let between = answer(&table, 0, &[1, 0, 3, 4, 2, 0, 0, 0], &[], &mut scratch);
+    assert!(rt; between == Some(DecodeFault::Padding { at: 2 }));
+    let behind = answer(&table, 4, &[1, 7, 8, 255, 0, 5, 0, 9], &[], &mut scratch);
+    assert!(rt; behind == Some(DecodeFault::Padding { at: 5 }));
+    Ok(())
+}
+
+#[test]
+fn structs_in_an_array_are_read_in_place(rt: HostRuntime) -> Result<(), Fail> {
+    let table = verify(&PAIRS)?;
+    assert!(rt; table.entries() == 5);
+    let mut scratch = Scratch::new(rt.alloc())?;
+    let message = [1, 0, 5, 0, 0, 0, 6, 0, 1, 0, 7, 0, 1, 0, 0, 0];
+    assert!(rt; answer(&table, 0, &message, &[], &mut scratch).is_none());
+    // The place of a byte that is changed, its new value, and the refusal.
+    let cases = [
+        (8, 2, DecodeFault::BadBool { at: 8 }),
+        (5, 9, DecodeFault::Padding { at: 5 }),
+        (9, 9, DecodeFault::Padding { at: 9 }),
+        (12, 3, DecodeFault::BadBool { at: 12 }),
+        (13, 4, DecodeFault::Padding { at: 13 }),
+        (15, 1, DecodeFault::Padding { at: 15 }),
+    ];
+    for (place, byte, wanted) in cases {
+        let mut changed = message;
+        if place < 16 {
+            changed[place] = byte;
+        }
+        assert!(rt; answer(&table, 0, &changed, &[], &mut scratch) == Some(wanted));
     }
     Ok(())
 }

@@ -4,6 +4,8 @@
 #[cfg(test)]
 mod decoding;
 #[cfg(test)]
+mod limits;
+#[cfg(test)]
 mod records;
 #[cfg(test)]
 mod values;

@@ -168,6 +168,16 @@ fn the_length_is_exact(rt: HostRuntime) -> Result<(), Fail> {
 }
 
 #[test]
+fn a_table_cut_at_each_length_is_truncated(rt: HostRuntime) -> Result<(), Fail> {
+    for bytes in [POINT.as_slice(), ARRAY.as_slice(), TWO_ROOTS.as_slice()] {
+        for length in 0..bytes.len() {
+            assert_eq!(rt; refusal(&bytes[..length]), (3, 0));
+        }
+    }
+    Ok(())
+}
+
+#[test]
 fn other_rules(rt: HostRuntime) -> Result<(), Fail> {
     let mut no_elements = ARRAY;
     no_elements[44] = 0;
