@@ -1,6 +1,6 @@
 pub mod Stand
 pub mod Rows
-pub mod Laws
+pub mod Scalars
 pub mod Stated
 pub mod Elements
 pub mod Visiting
@@ -11,3 +11,4 @@ pub mod Messages
 pub mod Bridge
 pub mod Refusing
 pub mod Inverted
+pub mod Excluding

@@ -1,0 +1,311 @@
+-- A refusal that is true of a message excludes that the message is an encoding.
+use Rattle.std.proofs.Common.{◌≡◌, ℕ, suc, ◌+◌, ◌-◌, ◌*◌, ◌^◌, ◌<◌, ◌≤◌, List, [], ◌∷◌, ◌++◌, length, get_or, take, drop, refl, sym, ap, subst, ◌∙◌, arith, inl, inr, false, true, add-one, drop-cons}
+use Rattle.std.specs.Prelude.{Some, None}
+use Rattle.std.proofs.lemmas.List.{length-drop, length-take, length-take-le, get_or-take}
+use Rattle.std.proofs.lemmas.Option.{slice_get-get_or, slice_get_within}
+use Rattle.fidl_wire.specs.declared.handle.HandleInfo.{HandleInfo}
+use Rattle.fidl_wire.specs.Value.{Value}
+use Rattle.fidl_wire.specs.Term.{Term, resolve, IsBounded}
+use Rattle.fidl_wire.specs.Term as ty
+use Rattle.fidl_wire.specs.Figure.{Declarations, Figure, figure_of, size_of, IsSound}
+use Rattle.fidl_wire.specs.Encoding.{zeros, encoding_of}
+use Rattle.fidl_wire.specs.Standing.{Stands, Carries}
+use Rattle.fidl_wire.specs.Message.{IsEncoding}
+use Rattle.fidl_wire.proofs.Sizes.{length-inline, end_of-le, le-next_multiple_of}
+use Rattle.std.specs.Int.{next_multiple_of}
+use Rattle.fidl_wire.proofs.Unique.{only, bounded-resolve}
+use Rattle.fidl_records.specs.declared.record.Header.{Header}
+use Rattle.fidl_records.specs.declared.kind.EntryKind.{EntryKind}
+use Rattle.fidl_records.specs.declared.kind.EntryKind.TheVariants.{Bool as Boolean, Int8, Int16, Int32, Int64, Uint8, Uint16, Uint32, Uint64, Bits, Enum, String, Vector, Array, Box, Struct, Table, Union, Handle}
+use Rattle.fidl_records.specs.Section.{header_of, entry_at}
+use Rattle.fidl_records.specs.Terms.{declarations_of, fields_from}
+use Rattle.fidl_decode.specs.Fine.{EntryFine, IsFine}
+use Rattle.fidl_decode.specs.declared.fault.DecodeFault.{DecodeFault}
+use Rattle.fidl_decode.specs.declared.fault.DecodeFault.TheVariants.{TooLong, TooManyHandles, Truncated, Padding, BadBool, BytesLeft, HandlesLeft}
+use Rattle.fidl_decode.specs.Rows.{Row, table_rows, element_rows, RowsRise}
+use Rattle.fidl_decode.specs.State.{Message, At, past, Item, Members}
+use Rattle.fidl_decode.specs.Breaks.{Part, parts_of, IsPadding, BreaksField, Breaks, BreaksParts, in_field, in_parts, in_gap, in_next, in_later, in_end}
+use Rattle.fidl_decode.specs.Faults.{IsTold, BreaksMessage, message_of, start_of}
+use Rattle.fidl_decode.specs.Machine.{row_parts}
+use Rattle.fidl_decode.proofs.Messages.{message_item}
+use Rattle.fidl_decode.proofs.Stand.{copies_are}
+use Rattle.fidl_decode.proofs.Rows.{members_end, members_more}
+use Rattle.fidl_decode.proofs.Stated.{table_rise, struct_item, table_parts}
+use Rattle.fidl_decode.proofs.Elements.{elements_rise, array_item, row_parts-elements}
+use Rattle.fidl_decode.proofs.Visiting.{size_is, term_is, figure_is}
+use Rattle.fidl_decode.proofs.Scalars.{bool_item}
+
+-- ---- what stands at a place
+
+same_stand : (m : List ℕ) (p : ℕ) (a b : List ℕ) → length a ≡ length b → Stands m p a → Stands m p b → a ≡ b
+same_stand m p [] [] e h k = refl
+same_stand m p (x ∷ a) (y ∷ b) e h k =
+    let is : x ≡ y = sym h.1 ∙ k.1 in
+    let rest = same_stand m (p + 1) a b (omega (arith, e)) h.2 k.2 in
+    λ i. is i ∷ rest i
+same_stand m p [] (y ∷ b) e h k = absurd (omega (arith, e))
+same_stand m p (x ∷ a) [] e h k = absurd (omega (arith, e))
+
+-- it is the front of what is left from there
+front_of : (m : List ℕ) (p : ℕ) (a : List ℕ) → Stands m p a → a ++ drop (p + length a) m ≡ drop p m
+front_of m p [] h = let e : p + 0 ≡ p = omega arith in ap (λ n. drop n m) e
+front_of m p (x ∷ a) h =
+    let more = front_of m (p + 1) a h.2 in
+    let there : p + length (x ∷ a) ≡ p + 1 + length a = omega arith in
+    let one : x ∷ drop (p + 1) m ≡ drop p m = ap (λ n. x ∷ drop n m) (add-one p) ∙ sym (ap (λ y. y ∷ drop (suc p) m) h.1) ∙ sym (drop-cons m p 0 h.0) in
+    ap (λ n. x ∷ (a ++ drop n m)) there ∙ ap (λ l. x ∷ l) more ∙ one
+
+same_some : {A : Type 0} (a b : A) → Some a ≡ Some b → a ≡ b
+same_some a b e = cc
+
+front_of_handles : (hs : List HandleInfo) (p : ℕ) (a : List HandleInfo) → Carries hs p a → a ++ drop (p + length a) hs ≡ drop p hs
+front_of_handles hs p [] h = let e : p + 0 ≡ p = omega arith in ap (λ n. drop n hs) e
+front_of_handles hs p (x ∷ a) h =
+    let more = front_of_handles hs (p + 1) a h.1 in
+    let there : p + length (x ∷ a) ≡ p + 1 + length a = omega arith in
+    let lt = slice_get_within hs p x h.0 in
+    let is : get_or hs p x ≡ x = same_some _ _ (sym (slice_get-get_or hs p x lt) ∙ h.0) in
+    let one : x ∷ drop (p + 1) hs ≡ drop p hs = ap (λ n. x ∷ drop n hs) (add-one p) ∙ sym (ap (λ y. y ∷ drop (suc p) hs) is) ∙ sym (drop-cons hs p x lt) in
+    ap (λ n. x ∷ (a ++ drop n hs)) there ∙ ap (λ l. x ∷ l) more ∙ one
+
+-- ---- one value of a type stands at a place, and leads to one state
+
+pub item_unique : (ds : Declarations) → IsSound ds → (m : Message) → length m.bytes < 2 ^ 32 → length m.handles < 2 ^ 16 → (held held' : ℕ) (t : Term) → IsBounded t → (place : ℕ) (from to to' : At)
+    → Item ds m held t place from to → Item ds m held' t place from to' → to ≡ to'
+item_unique ds sound m short few held held' t g place from to to' x y =
+    let a = encoding_of ds t x.value in
+    let b = encoding_of ds t y.value in
+    let same = length-inline ds sound.laid_out t x.value x.typed ∙ sym (length-inline ds sound.laid_out t y.value y.typed) in
+    let inline = same_stand m.bytes place a.inline b.inline same x.stands.inline y.stands.inline in
+    let out_a = front_of m.bytes from.next a.out x.stands.out in
+    let out_b = front_of m.bytes from.next b.out y.stands.out in
+    let handles_a = front_of_handles m.handles from.handle a.handles x.stands.carried in
+    let handles_b = front_of_handles m.handles from.handle b.handles y.stands.carried in
+    let small : length (a.out ++ drop (from.next + length a.out) m.bytes) < 2 ^ 32 = subst (λ (l : List ℕ). length l < 2 ^ 32) (sym out_a) (omega (arith, length-drop from.next m.bytes)) in
+    let fewer : length (a.handles ++ drop (from.handle + length a.handles) m.handles) < 2 ^ 16 = subst (λ (l : List HandleInfo). length l < 2 ^ 16) (sym handles_a) (omega (arith, length-drop from.handle m.handles)) in
+    let one = (only ds sound t x.value g x.typed y.value y.typed _ _ _ _ inline (out_a ∙ sym out_b) (handles_a ∙ sym handles_b) small fewer).0 in
+    x.end ∙ ap (λ (v : Value). past (encoding_of ds t v) from) one ∙ sym y.end
+
+-- ---- gaps and fields
+
+padding_excluded : (m : List ℕ) (from to n : ℕ) (fault : DecodeFault) → to ≤ from + n → Stands m from (zeros n) → IsPadding m from to fault → ⊥
+padding_excluded m from to n (Padding at) le z p = p.3 (copies_are m 0 n from z at p.0 (omega (arith, p.1)))
+padding_excluded m from to n fault le z p = absurd p
+
+field_excluded : (ds : Declarations) (m : Message) (held : ℕ) (t : Term) (place : ℕ) (from to : At) (fault : DecodeFault) → BreaksField m t place fault → Item ds m held t place from to → ⊥
+field_excluded ds m held ty.bool place from to (BadBool at) b x =
+    let over : 1 < get_or m.bytes place 0 = subst (λ n. 1 < get_or m.bytes n 0) b.0 b.1 in
+    let le = (bool_item ds m held place from to x).1 in
+    omega (arith, over, le)
+field_excluded ds m held t place from to fault b x = absurd b
+
+unknown : false ≡ true → ⊥
+unknown e = cc
+
+no_parts : (ps : List Part) → None ≡ Some ps → ⊥
+no_parts ps e = cc
+
+no_cons : (p : Part) (ps : List Part) → p ∷ ps ≡ [] → ⊥
+no_cons p ps e = cc
+
+no_nil : (p : Part) (ps : List Part) → [] ≡ p ∷ ps → ⊥
+no_nil p ps e = cc
+
+heads : (p q : Part) (ps qs : List Part) → p ∷ ps ≡ q ∷ qs → p ≡ q
+heads p q ps qs e = cc
+
+tails : (p q : Part) (ps qs : List Part) → p ∷ ps ≡ q ∷ qs → ps ≡ qs
+tails p q ps qs e = cc
+
+module _ (t : List ℕ) (fine : IsFine t) (sound : IsSound (declarations_of t)) (m : Message) (short : length m.bytes < 2 ^ 32) (few : length m.handles < 2 ^ 16) where
+  abbrev ds : Declarations
+  ds = declarations_of t
+
+  abbrev h : Header
+  h = header_of t
+
+  abbrev term : ℕ → Term
+  term e = resolve ds.terms (ty.named e)
+
+  abbrev fig : ℕ → Figure
+  fig e = figure_of ds.figures (ty.named e)
+
+  -- the rows of an object with parts, and its members
+  abbrev Rowed : (held place size : ℕ) (ps : List Part) (from to : At) → Type 0
+  Rowed held place size ps from to = (nest : ℕ) × (rs : List Row) × (ps ≡ row_parts rs) × RowsRise ds h.entries nest size 0 rs × Members ds m held size place 0 rs from to
+
+  rowed : (e : ℕ) (lt : e < h.entries) (held place : ℕ) (from to : At) (ps : List Part) (k : EntryKind) → EntryFine t (entry_at t e) k → parts_of ds (term e) ≡ Some ps → Item ds m held (term e) place from to → Rowed held place (size_of ds (term e)) ps from to
+  rowed e lt held place from to ps k f has x = go k f
+    where
+      of_field : (u : Term) → term e ≡ u → parts_of ds u ≡ None → Rowed held place (size_of ds (term e)) ps from to
+      of_field u is none = absurd (no_parts ps (sym none ∙ ap (λ (u : Term). parts_of ds u) (sym is) ∙ has))
+
+      go : (k : EntryKind) → EntryFine t (entry_at t e) k → Rowed held place (size_of ds (term e)) ps from to
+      go Struct f =
+          let d = entry_at t e in
+          let u = term_is t fine e Struct lt f.is in
+          let g = figure_is t fine e Struct lt f.is in
+          let fs = fields_from t h d.first d.count in
+          let nest : (figure_of ds.figures (ty.struct fs)).nest ≡ d.nest = ap (λ (f : Figure). f.nest) g in
+          let key = f.content.1 in
+          let parts : ps ≡ row_parts (table_rows t h d.first d.count) = sym (same_some _ _ (ap (λ (u : Term). parts_of ds u) (sym u) ∙ has)) ∙ sym (table_parts t d.first d.count 0 key) in
+          subst (λ (u : Term). Rowed held place (size_of ds u) ps from to) (sym u) (
+            d.nest,
+            table_rows t h d.first d.count,
+            parts,
+            table_rise t d.first d.count d.nest (size_of ds (ty.struct fs)) 0 key (end_of-le ds fs) (omega (arith, nest)),
+            struct_item t m held place d.first d.count from to key (subst (λ (u : Term). Item ds m held u place from to) u x),
+          )
+      go Array f =
+          let d = entry_at t e in
+          let u = term_is t fine e Array lt f.is in
+          let g = figure_is t fine e Array lt f.is in
+          let nest : suc (fig d.first).nest ≡ d.nest = ap (λ (f : Figure). f.nest) g in
+          let rs = element_rows d.first (size_of ds (ty.named d.first)) d.count 0 in
+          let parts : ps ≡ row_parts rs = sym (same_some _ _ (ap (λ (u : Term). parts_of ds u) (sym u) ∙ has)) ∙ sym (row_parts-elements ds d.first d.count 0) in
+          let flat : 0 + (fig d.first).size * d.count ≡ (fig d.first).size * d.count = omega arith in
+          subst (λ (u : Term). Rowed held place (size_of ds u) ps from to) (sym u) (
+            d.nest,
+            rs,
+            parts,
+            subst (λ k. RowsRise ds h.entries d.nest k 0 rs) flat (elements_rise ds d.first h.entries d.nest d.count 0 f.content.0 (omega (arith, nest))),
+            array_item ds d.first m held place d.count from to (subst (λ (u : Term). Item ds m held u place from to) u x),
+          )
+      go Boolean f = of_field ty.bool (term_is t fine e Boolean lt f.is) refl
+      go Int8 f = of_field (ty.number ty.int8) (term_is t fine e Int8 lt f.is) refl
+      go Int16 f = of_field (ty.number ty.int16) (term_is t fine e Int16 lt f.is) refl
+      go Int32 f = of_field (ty.number ty.int32) (term_is t fine e Int32 lt f.is) refl
+      go Int64 f = of_field (ty.number ty.int64) (term_is t fine e Int64 lt f.is) refl
+      go Uint8 f = of_field (ty.number ty.uint8) (term_is t fine e Uint8 lt f.is) refl
+      go Uint16 f = of_field (ty.number ty.uint16) (term_is t fine e Uint16 lt f.is) refl
+      go Uint32 f = of_field (ty.number ty.uint32) (term_is t fine e Uint32 lt f.is) refl
+      go Uint64 f = of_field (ty.number ty.uint64) (term_is t fine e Uint64 lt f.is) refl
+      go Bits f = absurd (unknown f.known)
+      go Enum f = absurd (unknown f.known)
+      go String f = absurd (unknown f.known)
+      go Vector f = absurd (unknown f.known)
+      go Box f = absurd (unknown f.known)
+      go Table f = absurd (unknown f.known)
+      go Union f = absurd (unknown f.known)
+      go Handle f = absurd (unknown f.known)
+
+  abbrev part_of : Row → Part
+  part_of r = record { offset = r.offset; term = ty.named r.entry }
+
+  mutual
+    pub item_excluded : (held e place : ℕ) (from to : At) (fault : DecodeFault) (u : Term) → e < h.entries → u ≡ term e → Breaks ds m held u place from fault → Item ds m held u place from to → ⊥
+    item_excluded held e place from to fault u lt is (in_field u' place' from' fault' b) x = field_excluded ds m held u place from to fault b x
+    item_excluded held e place from to fault u lt is (in_parts u' place' from' fault' ps has b) x =
+        let r = rowed e lt held place from to ps (fine.each e lt).0 (fine.each e lt).1 (ap (λ (u : Term). parts_of ds u) (sym is) ∙ has) (subst (λ (u : Term). Item ds m held u place from to) is x) in
+        let size : size_of ds (term e) ≡ size_of ds u = ap (λ (u : Term). size_of ds u) (sym is) in
+        parts_excluded held (size_of ds u) place 0 ps r.0 r.1 from to fault r.2 (subst (λ n. RowsRise ds h.entries r.0 n 0 r.1) size r.3) b (subst (λ n. Members ds m held n place 0 r.1 from to) size r.4)
+
+    parts_excluded : (held size base done : ℕ) (ps : List Part) (nest : ℕ) (rs : List Row) (from to : At) (fault : DecodeFault) → ps ≡ row_parts rs → RowsRise ds h.entries nest size done rs → BreaksParts ds m held size base done ps from fault → Members ds m held size base done rs from to → ⊥
+    parts_excluded held size base done ps nest (r ∷ rs) from to fault e rise (in_gap size' base' done' p qs from' fault' b) y =
+        let a = members_more ds fine.laid_out m held h.entries nest size base done r rs from to rise y in
+        let q = heads p (part_of r) qs (row_parts rs) e in
+        let b' : IsPadding m.bytes (base + done) (base + r.offset) fault = subst (λ (p : Part). IsPadding m.bytes (base + done) (base + p.offset) fault) q b in
+        padding_excluded m.bytes (base + done) (base + r.offset) (r.offset - done) fault (omega (arith, rise.1)) a.0 b'
+    parts_excluded held size base done ps nest (r ∷ rs) from to fault e rise (in_next size' base' done' p qs from' fault' z b) y =
+        let a = members_more ds fine.laid_out m held h.entries nest size base done r rs from to rise y in
+        let q = heads p (part_of r) qs (row_parts rs) e in
+        item_excluded held r.entry (base + p.offset) from a.1.0 fault (resolve ds.terms p.term) rise.0 (ap (λ (p : Part). resolve ds.terms p.term) q) b
+        (subst (λ (p : Part). Item ds m held (resolve ds.terms p.term) (base + p.offset) from a.1.0) (sym q) a.1.1)
+    parts_excluded held size base done ps nest (r ∷ rs) from to fault e rise (in_later size' base' done' p qs from' mid fault' z i b) y =
+        let a = members_more ds fine.laid_out m held h.entries nest size base done r rs from to rise y in
+        let q = heads p (part_of r) qs (row_parts rs) e in
+        let i' = subst (λ (p : Part). Item ds m held (resolve ds.terms p.term) (base + p.offset) from mid) q i in
+        let same : a.1.0 ≡ mid = item_unique ds sound m short few held held (term r.entry) (bounded-resolve ds.terms (ty.named r.entry) sound.bounded tt) (base + r.offset) from a.1.0 mid a.1.1 i' in
+        let done' : r.offset + size_of ds (ty.named r.entry) ≡ p.offset + size_of ds p.term = ap (λ (p : Part). p.offset + size_of ds p.term) (sym q) in
+        parts_excluded held size base (p.offset + size_of ds p.term) qs nest rs mid to fault (tails p (part_of r) qs (row_parts rs) e) (subst (λ n. RowsRise ds h.entries nest size n rs) done' rise.3) b
+        (subst (λ (s : At). Members ds m held size base (p.offset + size_of ds p.term) rs s to) same (subst (λ n. Members ds m held size base n rs a.1.0 to) done' a.1.2))
+    parts_excluded held size base done ps nest [] from to fault e rise (in_end size' base' done' from' fault' b) y =
+        let deep = y.shallow in
+        let z = ((members_end ds fine.laid_out m held size base done from to (omega (arith, deep))).0 y).1 in
+        padding_excluded m.bytes (base + done) (base + size) (size - done) fault (omega (arith, rise)) z b
+    parts_excluded held size base done ps nest [] from to fault e rise (in_gap size' base' done' p qs from' fault' b) y = absurd (no_cons p qs e)
+    parts_excluded held size base done ps nest [] from to fault e rise (in_next size' base' done' p qs from' fault' z b) y = absurd (no_cons p qs e)
+    parts_excluded held size base done ps nest [] from to fault e rise (in_later size' base' done' p qs from' mid fault' z i b) y = absurd (no_cons p qs e)
+    parts_excluded held size base done ps nest (r ∷ rs) from to fault e rise (in_end size' base' done' from' fault' b) y = absurd (no_nil (part_of r) (row_parts rs) e)
+
+-- ---- whole messages
+
+stands_wider : (m : List ℕ) (n p : ℕ) (a : List ℕ) → n ≤ length m → Stands (take n m) p a → Stands m p a
+stands_wider m n p [] le h = tt
+stands_wider m n p (x ∷ a) le h =
+    let len = length-take-le n m le in
+    let lt = h.0 in
+    (omega (arith, len, lt), sym (get_or-take n m p 0 (omega (arith, len, lt))) ∙ h.1, stands_wider m n (p + 1) a le h.2)
+
+carries_wider : (hs : List HandleInfo) (n p : ℕ) (a : List HandleInfo) → Carries (take n hs) p a → Carries hs p a
+carries_wider hs n p [] h = tt
+carries_wider hs n p (x ∷ a) h =
+    let within = slice_get_within (take n hs) p x h.0 in
+    let cut = length-take n hs in
+    let is : get_or (take n hs) p x ≡ x = same_some _ _ (sym (slice_get-get_or (take n hs) p x within) ∙ h.0) in
+    let old : get_or hs p x ≡ x = sym (get_or-take n hs p x (omega (arith, cut, within))) ∙ is in
+    (slice_get-get_or hs p x (omega (arith, cut, within)) ∙ ap (λ y. Some y) old, carries_wider hs n (p + 1) a h.1)
+
+item_wider : (types : Declarations) (m m' : Message) (held : ℕ) (t : Term) (place : ℕ) (from to : At) → ((p : ℕ) (a : List ℕ) → Stands m.bytes p a → Stands m'.bytes p a) → ((p : ℕ) (a : List HandleInfo) → Carries m.handles p a → Carries m'.handles p a)
+    → Item types m held t place from to → Item types m' held t place from to
+item_wider types m m' held t place from to f g x = record {
+  value = x.value;
+  typed = x.typed;
+  shallow = x.shallow;
+  stands = record { inline = f _ _ x.stands.inline; out = f _ _ x.stands.out; carried = g _ _ x.stands.carried };
+  end = x.end;
+}
+
+module _ (t : List ℕ) (fine : IsFine t) (sound : IsSound (declarations_of t)) (e : ℕ) (lt : e < (header_of t).entries) (bytes : List ℕ) (handles : List HandleInfo) (y : IsEncoding (declarations_of t) (ty.named e) bytes handles) where
+  abbrev whole : Message
+  whole = message_of bytes handles
+
+  short : length bytes < 2 ^ 32
+  short = let s = y.1.short in omega arith
+
+  few : length handles < 2 ^ 16
+  few = let s = y.1.few in omega arith
+
+  size : size_of (declarations_of t) (ty.named e) ≡ (entry_at t e).size
+  size = size_is t fine e lt
+
+  -- where a value ends that has a part of the message as its own
+  ended : (part : Message) → ((p : ℕ) (a : List ℕ) → Stands part.bytes p a → Stands bytes p a) → ((p : ℕ) (a : List HandleInfo) → Carries part.handles p a → Carries handles p a) → IsEncoding (declarations_of t) (ty.named e) part.bytes part.handles
+      → (length part.bytes ≡ length bytes) × (length part.handles ≡ length handles)
+  ended part f g z =
+      let a = (message_item t fine part e lt z).2 in
+      let b = (message_item t fine whole e lt y).2 in
+      let bounded = bounded-resolve (declarations_of t).terms (ty.named e) sound.bounded tt in
+      let same = item_unique (declarations_of t) sound whole short few 0 0 (resolve (declarations_of t).terms (ty.named e)) bounded 0 (start_of (entry_at t e).size) a.0 b.0 (item_wider (declarations_of t) part whole 0 (resolve (declarations_of t).terms (ty.named e)) 0 (start_of (entry_at t e).size) a.0 f g a.2) b.2 in
+      (sym a.1.bytes ∙ ap (λ (s : At). s.next) same ∙ b.1.bytes, sym a.1.handles ∙ ap (λ (s : At). s.handle) same ∙ b.1.handles)
+
+  part_excluded : (fault : DecodeFault) → BreaksMessage (declarations_of t) (ty.named e) whole fault → ⊥
+  part_excluded fault b =
+      let r = message_item t fine whole e lt y in
+      elim b [
+        | inl p ↦ let far = le-next_multiple_of (entry_at t e).size 8 in
+            padding_excluded bytes (entry_at t e).size (next_multiple_of (entry_at t e).size 8) (next_multiple_of (entry_at t e).size 8 - (entry_at t e).size) fault (omega (arith, far)) r.1 (subst (λ (s : ℕ). IsPadding bytes s (next_multiple_of s 8) fault) size p)
+        | inr i ↦ item_excluded t fine sound whole short few 0 e 0 (start_of (entry_at t e).size) r.2.0 fault (resolve (declarations_of t).terms (ty.named e)) lt refl (subst (λ (s : ℕ). Breaks (declarations_of t) whole 0 (resolve (declarations_of t).terms (ty.named e)) 0 (start_of s) fault) size i) r.2.2
+      ]
+
+  pub told_excluded : (fault : DecodeFault) → IsTold (declarations_of t) (ty.named e) bytes handles fault → ⊥
+  told_excluded (TooLong at) h = let s = y.1.short in omega (arith, h.1)
+  told_excluded (TooManyHandles at) h = let s = y.1.few in omega (arith, h.2)
+  told_excluded (Truncated at) h =
+      let r = message_item t fine whole e lt y in
+      let primary = ap (λ n. next_multiple_of n 8) size in
+      omega (arith, h.2, r.0, primary)
+  told_excluded (Padding at) h = part_excluded (Padding at) h.1
+  told_excluded (BadBool at) h = part_excluded (BadBool at) h.1
+  told_excluded (BytesLeft at) h =
+      let before = h.1 in
+      let n = h.2.0 in
+      let same = (ended (message_of (take at bytes) (take n handles)) (λ p a. stands_wider bytes at p a (omega (arith, before))) (λ p a. carries_wider handles n p a) h.2.1).0 in
+      let len = length-take-le at bytes (omega (arith, before)) in
+      omega (arith, same, len, before)
+  told_excluded (HandlesLeft at) h =
+      let n = h.2.0 in
+      let fewer = h.2.1 in
+      let same = (ended (message_of bytes (take n handles)) (λ p a s. s) (λ p a. carries_wider handles n p a) h.2.2).1 in
+      let len = length-take-le n handles (omega (arith, fewer)) in
+      omega (arith, same, len, fewer)
