@@ -3,6 +3,7 @@ use Rattle.std.specs.Int.{next_multiple_of}
 use Rattle.std.proofs.Common.{◌≡◌, ℕ, zero, suc, ◌+◌, ◌-◌, ◌*◌, ◌<◌, ◌≤◌, true, List, ◌++◌, length, refl, sym, ap, subst, ◌∙◌, arith}
 use Rattle.std.specs.Prelude.{Some, None, [], slice_range}
 use Rattle.std.proofs.Math.Nat.{mul-le-mul_right}
+use Rattle.fidl_wire.specs.declared.limits.TheConstants.{MAX_MESSAGE_BYTES}
 use Rattle.fidl_wire.specs.Value.{Value, Values, list, fields, none, value, count}
 use Rattle.fidl_wire.specs.Term.{Term, resolve, Fields, uint8}
 use Rattle.fidl_wire.specs.Term as ty
@@ -37,7 +38,7 @@ use Rattle.fidl_view.proofs.Reading.{Stood, nth_row, nth_element, no_nth, no_byt
 
 -- a message has room for its primary object, and is no longer than a message may be
 pub message_room : (d : Shown) → WellFormed d.table → (index : ℕ) → index ≡ d.entry → index < (header_of d.table).entries → IsEncoding (declarations_of d.table) (ty.named d.entry) d.bytes d.handles
-    → (0 + (entry_at d.table index).size ≤ length d.bytes) × (length d.bytes ≤ 65536)
+    → (0 + (entry_at d.table index).size ≤ length d.bytes) × (length d.bytes ≤ MAX_MESSAGE_BYTES)
 message_room d w index same lt x =
     let y = subst (λ k. IsEncoding (declarations_of d.table) (ty.named k) d.bytes d.handles) (sym same) x in
     let m : Message = record { bytes = d.bytes; handles = d.handles } in
