@@ -7,6 +7,8 @@ ghost use Rattle.fidl_wire.specs.Figure.{Declarations, no_declarations, figure};
 ghost use Rattle.fidl_wire.specs.Encoding.{zeros, present};
 ghost use Rattle.fidl_wire.specs.Message.{IsEncoding};
 
+pub mod scalars;
+
 /// `struct {a uint8; b uint32;}`: a byte between the members that isn't zero.
 pub fn padding_that_is_not_zero()
     ensures { let t : Term = ty.struct (field (codes "a") (ty.number uint8) (field (codes "b") (ty.number uint32) no_fields)) in

@@ -10,6 +10,8 @@ ghost use Rattle.fidl_wire.specs.Depth.{Depth};
 ghost use Rattle.fidl_wire.specs.Message.{Encodes};
 ghost use Rattle.fidl_wire.specs.Text.{Text};
 
+pub mod scalars;
+
 /// `struct {x uint32; y uint32;}`: numbers in little-endian order.
 pub fn numbers_in_a_struct()
     ensures { let t : Term = ty.struct (field (codes "x") (ty.number uint32) (field (codes "y") (ty.number uint32) no_fields)) in
