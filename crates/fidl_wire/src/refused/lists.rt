@@ -49,7 +49,7 @@ pub fn padding_out_of_line()
         (1 ∷ zeros 7 ++ present ++ 97 ∷ 1 ∷ zeros 6) []) }
 {}
 
-/// A text of which nothing stands behind its count and marker.
+/// A count and a marker without the text that they announce.
 pub fn a_text_that_is_not_there()
     ensures { ¬ (IsEncoding no_declarations (ty.string false 2) (2 ∷ zeros 7 ++ present) []) }
 {}
