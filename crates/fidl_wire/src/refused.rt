@@ -1,5 +1,5 @@
 //! Worked refusals: bytes and handles that no value of a type has as its message.
-ghost use Rattle.std.specs.Prelude.{◌≡◌, [], ◌∷◌, ◌++◌, replicate, codes, true, false};
+ghost use Rattle.std.specs.Prelude.{[], ◌∷◌, ◌++◌, replicate, codes, false};
 ghost use Rattle.fidl_wire.specs.declared.handle.HandleInfo.{HandleInfo};
 ghost use Rattle.fidl_wire.specs.Term.{Term, no_fields, field, no_rows, row, uint8, uint32};
 ghost use Rattle.fidl_wire.specs.Term as ty;

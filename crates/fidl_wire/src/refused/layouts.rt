@@ -5,6 +5,7 @@ ghost use Rattle.fidl_wire.specs.Value.{absent, empty, fields, known, list, memb
 ghost use Rattle.fidl_wire.specs.Term.{Term, no_fields, field, no_rows, row, uint8, uint32, uint64};
 ghost use Rattle.fidl_wire.specs.Term as ty;
 ghost use Rattle.fidl_wire.specs.Figure.{no_declarations};
+ghost use Rattle.fidl_wire.specs.Samples.{byte_struct, byte_table, number_union};
 ghost use Rattle.fidl_wire.specs.Encoding.{zeros, present};
 ghost use Rattle.fidl_wire.specs.Typed.{Typed};
 ghost use Rattle.fidl_wire.specs.Message.{IsEncoding};
@@ -15,14 +16,12 @@ pub fn structs_of_other_members()
     ensures too_few { ¬ (Typed no_declarations
         (ty.struct (field (codes "a") (ty.number uint8) (field (codes "b") ty.bool no_fields)))
         (fields (value (number (pos 1)) none))) }
-    ensures too_many { ¬ (Typed no_declarations
-        (ty.struct (field (codes "a") (ty.number uint8) no_fields))
+    ensures too_many { ¬ (Typed no_declarations byte_struct
         (fields (value (number (pos 1)) (value (number (pos 1)) none)))) }
     ensures another { ¬ (Typed no_declarations
         (ty.struct (field (codes "a") (ty.number uint8) (field (codes "b") ty.bool no_fields)))
         (fields (value (number (pos 1)) (value (number (pos 1)) none)))) }
-    ensures not_there { ¬ (Typed no_declarations
-        (ty.struct (field (codes "a") (ty.number uint8) no_fields)) absent) }
+    ensures not_there { ¬ (Typed no_declarations byte_struct absent) }
 {}
 
 /// `struct {a uint64; b uint8;}`: a byte behind the last member that is not zero.
@@ -33,64 +32,48 @@ pub fn padding_behind_the_last_member()
 {}
 
 /// `box<S>` with `S = struct {a uint8;}`: a marker that is neither all ones nor zero, a struct that
-/// is not there, and one
-/// behind an absent marker.
+/// is not there, and one behind an absent marker.
 pub fn boxes()
-    ensures another_marker { ¬ (IsEncoding no_declarations
-        (ty.box (ty.struct (field (codes "a") (ty.number uint8) no_fields))) (1 ∷ zeros 7) []) }
-    ensures nothing_there { ¬ (IsEncoding no_declarations
-        (ty.box (ty.struct (field (codes "a") (ty.number uint8) no_fields))) present []) }
-    ensures behind_an_absent_marker { ¬ (IsEncoding no_declarations
-        (ty.box (ty.struct (field (codes "a") (ty.number uint8) no_fields)))
+    ensures another_marker { ¬ (IsEncoding no_declarations (ty.box byte_struct) (1 ∷ zeros 7) []) }
+    ensures nothing_there { ¬ (IsEncoding no_declarations (ty.box byte_struct) present []) }
+    ensures behind_an_absent_marker { ¬ (IsEncoding no_declarations (ty.box byte_struct)
         (zeros 8 ++ 5 ∷ zeros 7) []) }
 {}
 
 /// A box has a struct in it: of its members, and of no other type.
 pub fn boxes_of_other_values()
-    ensures too_few { ¬ (Typed no_declarations
-        (ty.box (ty.struct (field (codes "a") (ty.number uint8) no_fields))) (fields none)) }
+    ensures too_few { ¬ (Typed no_declarations (ty.box byte_struct) (fields none)) }
     ensures no_struct { ¬ (Typed no_declarations (ty.box (ty.number uint8)) (fields none)) }
 {}
 
 /// A table is never absent.
 pub fn a_table_that_is_absent()
-    ensures message { ¬ (IsEncoding no_declarations
-        (ty.table (row 1 (codes "a") (ty.number uint8) no_rows)) (zeros 16) []) }
-    ensures value { ¬ (Typed no_declarations
-        (ty.table (row 1 (codes "a") (ty.number uint8) no_rows)) absent) }
+    ensures message { ¬ (IsEncoding no_declarations byte_table (zeros 16) []) }
+    ensures value { ¬ (Typed no_declarations byte_table absent) }
 {}
 
 /// `table {1: a uint8;}`: ordinals that do not rise from 1 up to the count, and a count that is no
 /// number of 64 bits.
 pub fn ordinals_out_of_order()
-    ensures from_zero { ¬ (Typed no_declarations
-        (ty.table (row 1 (codes "a") (ty.number uint8) no_rows))
+    ensures from_zero { ¬ (Typed no_declarations byte_table
         (table 1 (member 0 (unknown true (zeros 4) []) empty))) }
-    ensures twice { ¬ (Typed no_declarations
-        (ty.table (row 1 (codes "a") (ty.number uint8) no_rows))
+    ensures twice { ¬ (Typed no_declarations byte_table
         (table 2 (member 1 (known (number (pos 5))) (member 1 (known (number (pos 5))) empty)))) }
-    ensures falling { ¬ (Typed no_declarations
-        (ty.table (row 1 (codes "a") (ty.number uint8) no_rows))
+    ensures falling { ¬ (Typed no_declarations byte_table
         (table 2 (member 2 (unknown true (zeros 4) []) (member 1 (known (number (pos 5))) empty)))) }
-    ensures past_the_count { ¬ (Typed no_declarations
-        (ty.table (row 1 (codes "a") (ty.number uint8) no_rows))
+    ensures past_the_count { ¬ (Typed no_declarations byte_table
         (table 0 (member 1 (known (number (pos 5))) empty))) }
-    ensures great_count { ¬ (Typed no_declarations
-        (ty.table (row 1 (codes "a") (ty.number uint8) no_rows)) (table 18446744073709551616 empty)) }
+    ensures great_count { ¬ (Typed no_declarations byte_table (table 18446744073709551616 empty)) }
 {}
 
 /// `table {1: a uint8;}`: a known member at an ordinal that the layout does not have, an unknown
-/// one at one that it has,
-/// and one of another type.
+/// one at one that it has, and one of another type.
 pub fn members_that_the_layout_does_not_have()
-    ensures known { ¬ (Typed no_declarations
-        (ty.table (row 1 (codes "a") (ty.number uint8) no_rows))
+    ensures known { ¬ (Typed no_declarations byte_table
         (table 2 (member 2 (known (number (pos 5))) empty))) }
-    ensures unknown { ¬ (Typed no_declarations
-        (ty.table (row 1 (codes "a") (ty.number uint8) no_rows))
+    ensures unknown { ¬ (Typed no_declarations byte_table
         (table 1 (member 1 (unknown true (zeros 4) []) empty))) }
-    ensures another { ¬ (Typed no_declarations
-        (ty.table (row 1 (codes "a") (ty.number uint8) no_rows))
+    ensures another { ¬ (Typed no_declarations byte_table
         (table 1 (member 1 (known (number (pos 256))) empty))) }
 {}
 
@@ -115,40 +98,32 @@ pub fn unknown_members_of_other_parts()
         (table 1 (member 1 (unknown true (zeros 4) (h ∷ [])) empty))) }
 {}
 
-/// An unknown member out of line whose handle did not come, in `table {}` and in `union {1: n
-/// uint32;}`.
+/// An unknown member out of line whose handle did not come, in `table {}` and in
+/// `union {1: n uint32;}`.
 pub fn unknown_members_without_their_handle()
     ensures in_a_table { ¬ (IsEncoding no_declarations (ty.table no_rows)
         (1 ∷ zeros 7 ++ present ++ 8 ∷ 0 ∷ 0 ∷ 0 ∷ 1 ∷ 0 ∷ 0 ∷ 0 ∷ 1 ∷ zeros 7) []) }
-    ensures in_a_union { let t : Term = ty.union false false
-        (row 1 (codes "n") (ty.number uint32) no_rows) in
-        ¬ (IsEncoding no_declarations t (5 ∷ zeros 7 ++ 8 ∷ 0 ∷ 0 ∷ 0 ∷ 1 ∷ 0 ∷ 0 ∷ 0 ∷ 1 ∷ zeros 7)
-        []) }
+    ensures in_a_union { ¬ (IsEncoding no_declarations number_union
+        (5 ∷ zeros 7 ++ 8 ∷ 0 ∷ 0 ∷ 0 ∷ 1 ∷ 0 ∷ 0 ∷ 0 ∷ 1 ∷ zeros 7) []) }
 {}
 
-/// An unknown member whose envelope counts four bytes out of line, in `table {}` and in `union {1:
-/// n uint32;}`.
+/// An unknown member whose envelope counts four bytes out of line, in `table {}` and in
+/// `union {1: n uint32;}`.
 pub fn unknown_members_of_four_bytes_out_of_line()
     ensures in_a_table { ¬ (IsEncoding no_declarations (ty.table no_rows)
         (1 ∷ zeros 7 ++ present ++ 4 ∷ zeros 7 ++ 1 ∷ zeros 7) []) }
-    ensures in_a_union { let t : Term = ty.union false false
-        (row 1 (codes "n") (ty.number uint32) no_rows) in
-        ¬ (IsEncoding no_declarations t (5 ∷ zeros 7 ++ 4 ∷ zeros 7 ++ 1 ∷ zeros 7) []) }
+    ensures in_a_union { ¬ (IsEncoding no_declarations number_union
+        (5 ∷ zeros 7 ++ 4 ∷ zeros 7 ++ 1 ∷ zeros 7) []) }
 {}
 
 /// `union {1: n uint32;}`: an envelope with other flags, with a handle too many, and none at all.
 pub fn envelopes_of_a_union()
-    ensures other_flags { let t : Term = ty.union false false
-        (row 1 (codes "n") (ty.number uint32) no_rows) in
-        ¬ (IsEncoding no_declarations t (1 ∷ zeros 7 ++ 7 ∷ 0 ∷ 0 ∷ 0 ∷ 0 ∷ 0 ∷ 3 ∷ 0 ∷ []) []) }
-    ensures handle_count { let t : Term = ty.union false false
-        (row 1 (codes "n") (ty.number uint32) no_rows) in
-        let h : HandleInfo = record { id = 9; object_type = 3; rights = 1 } in
-        ¬ (IsEncoding no_declarations t (1 ∷ zeros 7 ++ 7 ∷ 0 ∷ 0 ∷ 0 ∷ 1 ∷ 0 ∷ 1 ∷ 0 ∷ [])
-        (h ∷ [])) }
-    ensures nothing_there { let t : Term = ty.union false false
-        (row 1 (codes "n") (ty.number uint32) no_rows) in
-        ¬ (IsEncoding no_declarations t (1 ∷ zeros 15) []) }
+    ensures other_flags { ¬ (IsEncoding no_declarations number_union
+        (1 ∷ zeros 7 ++ 7 ∷ 0 ∷ 0 ∷ 0 ∷ 0 ∷ 0 ∷ 3 ∷ 0 ∷ []) []) }
+    ensures handle_count { let h : HandleInfo = record { id = 9; object_type = 3; rights = 1 } in
+        ¬ (IsEncoding no_declarations number_union
+        (1 ∷ zeros 7 ++ 7 ∷ 0 ∷ 0 ∷ 0 ∷ 1 ∷ 0 ∷ 1 ∷ 0 ∷ []) (h ∷ [])) }
+    ensures nothing_there { ¬ (IsEncoding no_declarations number_union (1 ∷ zeros 15) []) }
 {}
 
 /// `union {1: a uint8; 2: b uint64;}`: a byte in its envelope with another byte behind it, and
@@ -178,11 +153,8 @@ pub fn ordinals_of_a_union()
     ensures zero_with_an_envelope { let t : Term = ty.union true false
         (row 1 (codes "n") (ty.number uint32) no_rows) in
         ¬ (IsEncoding no_declarations t (zeros 8 ++ 5 ∷ 0 ∷ 0 ∷ 0 ∷ 0 ∷ 0 ∷ 1 ∷ 0 ∷ []) []) }
-    ensures zero { ¬ (Typed no_declarations
-        (ty.union false false (row 1 (codes "n") (ty.number uint32) no_rows))
-        (union 0 (unknown true (zeros 4) []))) }
-    ensures too_great { ¬ (Typed no_declarations
-        (ty.union false false (row 1 (codes "n") (ty.number uint32) no_rows))
+    ensures zero { ¬ (Typed no_declarations number_union (union 0 (unknown true (zeros 4) []))) }
+    ensures too_great { ¬ (Typed no_declarations number_union
         (union 18446744073709551616 (unknown true (zeros 4) []))) }
 {}
 
@@ -194,7 +166,6 @@ pub fn values_of_other_kinds()
     ensures for_a_table { ¬ (Typed no_declarations
         (ty.table (row 1 (codes "n") (ty.number uint32) no_rows))
         (union 1 (known (number (pos 1))))) }
-    ensures for_a_union { ¬ (Typed no_declarations
-        (ty.union false false (row 1 (codes "n") (ty.number uint32) no_rows))
+    ensures for_a_union { ¬ (Typed no_declarations number_union
         (table 1 (member 1 (known (number (pos 1))) empty))) }
 {}

@@ -1,6 +1,6 @@
 //! Refused: strings, vectors and arrays.
-ghost use Rattle.std.specs.Prelude.{[], ◌∷◌, ◌++◌, codes, true, false, pos};
-ghost use Rattle.fidl_wire.specs.Value.{absent, list, none, number, text, value};
+ghost use Rattle.std.specs.Prelude.{[], ◌∷◌, ◌++◌, true, false, pos};
+ghost use Rattle.fidl_wire.specs.Value.{absent, list, none, number, value};
 ghost use Rattle.fidl_wire.specs.Term.{uint8, uint64};
 ghost use Rattle.fidl_wire.specs.Term as ty;
 ghost use Rattle.fidl_wire.specs.Figure.{no_declarations};

@@ -1,6 +1,6 @@
 //! Refused: bools, numbers, bits and enums.
-ghost use Rattle.std.specs.Prelude.{[], ◌∷◌, ◌++◌, pos, negsuc, Some, None};
-ghost use Rattle.fidl_wire.specs.Value.{number};
+ghost use Rattle.std.specs.Prelude.{[], ◌∷◌, pos, negsuc, Some, None};
+ghost use Rattle.fidl_wire.specs.Value.{absent, number};
 ghost use Rattle.fidl_wire.specs.Term.{int8, int16, int32, int64, uint8, uint16, uint32, uint64};
 ghost use Rattle.fidl_wire.specs.Term as ty;
 ghost use Rattle.fidl_wire.specs.Figure.{no_declarations};
@@ -49,8 +49,7 @@ pub fn signed_numbers_too_small()
 {}
 
 /// `strict bits : uint8 {A = 1; C = 4;}` with a bit that is no member, alone and beside members;
-/// and numbers that are not
-/// of the bits' width.
+/// and numbers that are not of the bits' width.
 pub fn bits_that_are_no_members()
     ensures alone { ¬ (IsEncoding no_declarations (ty.bits uint8 (Some 5)) (2 ∷ zeros 7) []) }
     ensures beside_members { ¬ (IsEncoding no_declarations (ty.bits uint8 (Some 5)) (7 ∷ zeros 7)
@@ -65,6 +64,14 @@ pub fn enum_numbers_that_are_no_members()
     ensures strict { ¬ (IsEncoding no_declarations (ty.enum uint8 (Some (pos 1 ∷ pos 2 ∷ [])))
         (3 ∷ zeros 7) []) }
     ensures too_great { ¬ (Typed no_declarations (ty.enum uint8 None) (number (pos 256))) }
+{}
+
+/// Absence, of what is never optional.
+pub fn scalars_that_are_absent()
+    ensures bools { ¬ (Typed no_declarations ty.bool absent) }
+    ensures numbers { ¬ (Typed no_declarations (ty.number uint8) absent) }
+    ensures bits { ¬ (Typed no_declarations (ty.bits uint8 None) absent) }
+    ensures enums { ¬ (Typed no_declarations (ty.enum uint8 None) absent) }
 {}
 
 /// A number whose padding is not zero.

@@ -1,10 +1,11 @@
 //! The depth of values of each kind.
-ghost use Rattle.std.specs.Prelude.{◌≡◌, [], ◌∷◌, codes, true, false, pos};
+ghost use Rattle.std.specs.Prelude.{◌≡◌, [], codes, true, false, pos};
 ghost use Rattle.fidl_wire.specs.declared.handle.HandleInfo.{HandleInfo};
 ghost use Rattle.fidl_wire.specs.Value.{absent, bool, empty, fields, handle, known, list, member, none, number, table, text, union, unknown, value};
-ghost use Rattle.fidl_wire.specs.Term.{Term, no_fields, field, no_rows, row, uint8, uint32, uint64};
+ghost use Rattle.fidl_wire.specs.Term.{no_fields, field, no_rows, row, uint8, uint32, uint64};
 ghost use Rattle.fidl_wire.specs.Term as ty;
-ghost use Rattle.fidl_wire.specs.Figure.{Declarations, no_declarations, figure};
+ghost use Rattle.fidl_wire.specs.Figure.{no_declarations};
+ghost use Rattle.fidl_wire.specs.Samples.{byte_struct, declared_text, number_union};
 ghost use Rattle.fidl_wire.specs.Encoding.{zeros};
 ghost use Rattle.fidl_wire.specs.Depth.{Depth};
 
@@ -51,9 +52,8 @@ pub fn depths_of_arrays()
 /// A struct counts what the deepest of its members counts.
 pub fn depths_of_structs()
     ensures empty { Depth no_declarations (ty.struct no_fields) (fields none) ≡ 0 }
-    ensures of_a_number { Depth no_declarations
-        (ty.struct (field (codes "a") (ty.number uint8) no_fields))
-        (fields (value (number (pos 1)) none)) ≡ 0 }
+    ensures of_a_number { Depth no_declarations byte_struct (fields (value (number (pos 1)) none))
+        ≡ 0 }
     ensures deepest_first { Depth no_declarations
         (ty.struct (field (codes "s") (ty.string false 2)
         (field (codes "a") (ty.number uint8) no_fields)))
@@ -99,9 +99,8 @@ pub fn depths_of_tables()
 
 /// A union itself counts nothing: its member counts as a table's does.
 pub fn depths_of_unions()
-    ensures in_the_envelope { Depth no_declarations
-        (ty.union false false (row 1 (codes "n") (ty.number uint32) no_rows))
-        (union 1 (known (number (pos 1)))) ≡ 0 }
+    ensures in_the_envelope { Depth no_declarations number_union (union 1 (known (number (pos 1))))
+        ≡ 0 }
     ensures out_of_line { Depth no_declarations
         (ty.union false false (row 1 (codes "n") (ty.number uint64) no_rows))
         (union 1 (known (number (pos 1)))) ≡ 1 }
@@ -117,31 +116,12 @@ pub fn depths_of_unions()
 
 /// `type S = struct {s string;};` in a vector, an array, a struct and a table, by its declaration.
 pub fn depths_of_declared_types()
-    ensures in_a_vector { let ds : Declarations = record {
-      terms = ty.struct
-          (field (codes "s") (ty.string false 2) no_fields) ∷ [];
-      figures = figure 16 8 1 ∷ [];
-    } in
-        Depth ds (ty.vector false 2 (ty.named 0))
+    ensures in_a_vector { Depth declared_text (ty.vector false 2 (ty.named 0))
         (list (value (fields (value (text []) none)) none)) ≡ 2 }
-    ensures in_an_array { let ds : Declarations = record {
-      terms = ty.struct
-          (field (codes "s") (ty.string false 2) no_fields) ∷ [];
-      figures = figure 16 8 1 ∷ [];
-    } in
-        Depth ds (ty.array (ty.named 0) 1) (list (value (fields (value (text []) none)) none)) ≡ 1 }
-    ensures in_a_struct { let ds : Declarations = record {
-      terms = ty.struct
-          (field (codes "s") (ty.string false 2) no_fields) ∷ [];
-      figures = figure 16 8 1 ∷ [];
-    } in
-        Depth ds (ty.struct (field (codes "a") (ty.named 0) no_fields))
+    ensures in_an_array { Depth declared_text (ty.array (ty.named 0) 1)
+        (list (value (fields (value (text []) none)) none)) ≡ 1 }
+    ensures in_a_struct { Depth declared_text (ty.struct (field (codes "a") (ty.named 0) no_fields))
         (fields (value (fields (value (text []) none)) none)) ≡ 1 }
-    ensures in_a_table { let ds : Declarations = record {
-      terms = ty.struct
-          (field (codes "s") (ty.string false 2) no_fields) ∷ [];
-      figures = figure 16 8 1 ∷ [];
-    } in
-        Depth ds (ty.table (row 1 (codes "a") (ty.named 0) no_rows))
+    ensures in_a_table { Depth declared_text (ty.table (row 1 (codes "a") (ty.named 0) no_rows))
         (table 1 (member 1 (known (fields (value (text []) none))) empty)) ≡ 3 }
 {}

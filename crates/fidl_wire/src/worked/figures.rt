@@ -1,5 +1,5 @@
 //! Size, alignment and nest of each kind, and what terms and ordinals stand for.
-ghost use Rattle.std.specs.Prelude.{◌≡◌, ℕ, [], ◌∷◌, codes, true, false, pos, Some, None};
+ghost use Rattle.std.specs.Prelude.{◌≡◌, [], ◌∷◌, codes, false, pos, Some, None};
 ghost use Rattle.fidl_wire.specs.Value.{Value};
 ghost use Rattle.fidl_wire.specs.Term.{find, no_fields, field, no_rows, row, resolve, int8, int16, int32, int64, uint8, uint16, uint32, uint64, IsBounded, IsNoName};
 ghost use Rattle.fidl_wire.specs.Term as ty;
@@ -81,15 +81,18 @@ pub fn declarations_that_are_laid_out()
           (field (codes "a") (ty.named 1) no_fields) ∷ ty.number uint16 ∷ [];
       figures = figure 2 2
           1 ∷ figure 2 2 0 ∷ [];
-    } in IsLaidOut ds }
+    } in
+        IsLaidOut ds }
     ensures another_size { let ds : Declarations = record {
       terms = ty.number uint16 ∷ [];
       figures = figure 4 2 0 ∷ [];
-    } in ¬ (IsLaidOut ds) }
+    } in
+        ¬ (IsLaidOut ds) }
     ensures one_too_many { let ds : Declarations = record {
       terms = [];
       figures = figure 2 2 0 ∷ [];
-    } in ¬ (IsLaidOut ds) }
+    } in
+        ¬ (IsLaidOut ds) }
 {}
 
 /// A name stands for its declaration, and any other term for itself.

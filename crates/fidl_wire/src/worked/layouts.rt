@@ -5,6 +5,7 @@ ghost use Rattle.fidl_wire.specs.Value.{absent, empty, fields, handle, known, li
 ghost use Rattle.fidl_wire.specs.Term.{Term, no_fields, field, no_rows, row, uint8, uint16, uint32, uint64};
 ghost use Rattle.fidl_wire.specs.Term as ty;
 ghost use Rattle.fidl_wire.specs.Figure.{no_declarations};
+ghost use Rattle.fidl_wire.specs.Samples.{byte_struct, number_union};
 ghost use Rattle.fidl_wire.specs.Encoding.{zeros, present};
 ghost use Rattle.fidl_wire.specs.Message.{Encodes};
 
@@ -19,13 +20,12 @@ pub fn padding_behind_the_last_member()
 
 /// `struct {a struct {x uint16; y uint8;}; b uint8;}`: a struct in a struct has its own padding.
 pub fn a_struct_in_a_struct()
-    ensures { Encodes no_declarations
-        (ty.struct (field (codes "a") (ty.struct
-        (field (codes "x") (ty.number uint16) (field (codes "y") (ty.number uint8) no_fields)))
+    ensures { Encodes no_declarations (ty.struct
+        (field (codes "a") (ty.struct (field (codes "x") (ty.number uint16)
+        (field (codes "y") (ty.number uint8) no_fields)))
         (field (codes "b") (ty.number uint8) no_fields)))
         (fields (value (fields (value (number (pos 1)) (value (number (pos 2)) none)))
-        (value (number (pos 3)) none)))
-        (1 ∷ 0 ∷ 2 ∷ 0 ∷ 3 ∷ zeros 3) [] }
+        (value (number (pos 3)) none))) (1 ∷ 0 ∷ 2 ∷ 0 ∷ 3 ∷ zeros 3) [] }
 {}
 
 /// `struct {e struct {}; b uint8;}`: an empty struct takes a byte.
@@ -38,12 +38,9 @@ pub fn an_empty_struct_in_a_struct()
 /// A box is a marker in the holder's place, and its struct stands out of line; an absent one is
 /// zeros.
 pub fn boxes()
-    ensures there { Encodes no_declarations
-        (ty.box (ty.struct (field (codes "a") (ty.number uint8) no_fields)))
-        (fields (value (number (pos 5)) none))
-        (present ++ 5 ∷ zeros 7) [] }
-    ensures not_there { Encodes no_declarations
-        (ty.box (ty.struct (field (codes "a") (ty.number uint8) no_fields))) absent (zeros 8) [] }
+    ensures there { Encodes no_declarations (ty.box byte_struct)
+        (fields (value (number (pos 5)) none)) (present ++ 5 ∷ zeros 7) [] }
+    ensures not_there { Encodes no_declarations (ty.box byte_struct) absent (zeros 8) [] }
     ensures of_an_empty_struct { Encodes no_declarations (ty.box (ty.struct no_fields))
         (fields none) (present ++ zeros 8) [] }
 {}
@@ -69,8 +66,8 @@ pub fn members_out_of_line()
         (row 2 (codes "n") (ty.number uint64) no_rows)) in
         Encodes no_declarations t (table 2
         (member 1 (known (text (codes "hi"))) (member 2 (known (number (pos 7))) empty)))
-        (2 ∷ zeros 7 ++ present ++ 24 ∷ zeros 7 ++ 8 ∷ zeros 7 ++ 2 ∷ zeros 7 ++ present
-        ++ codes "hi" ++ zeros 6 ++ 7 ∷ zeros 7) [] }
+        (2 ∷ zeros 7 ++ present ++ 24 ∷ zeros 7 ++ 8 ∷ zeros 7 ++ 2 ∷ zeros 7 ++ present ++ codes
+        "hi" ++ zeros 6 ++ 7 ∷ zeros 7) [] }
 {}
 
 /// `table {1: a array<uint8, 4>; 2: b array<uint8, 5>;}`: four bytes stand in the envelope, five
@@ -100,8 +97,7 @@ pub fn handles_of_members()
         (known (list (value (handle i) (value (handle j) none)))) empty)))
         (2 ∷ zeros 7 ++ present ++ replicate 4 255
         ++ 1 ∷ 0 ∷ 1 ∷ 0 ∷ 24 ∷ 0 ∷ 0 ∷ 0 ∷ 2 ∷ 0 ∷ 0 ∷ 0 ∷ 2 ∷ zeros 7 ++ present ++ replicate 8
-        255)
-        (h ∷ i ∷ j ∷ []) }
+        255) (h ∷ i ∷ j ∷ []) }
 {}
 
 /// `table {2: b uint8;}` with unknown members in their envelopes at ordinals 1 and 3, the second
@@ -137,13 +133,10 @@ pub fn unions()
 
 /// `flexible union {1: n uint32;}` with unknown members, at ordinals up to the greatest.
 pub fn unknown_members_of_a_union()
-    ensures in_its_envelope { let t : Term = ty.union false false
-        (row 1 (codes "n") (ty.number uint32) no_rows) in
-        Encodes no_declarations t (union 2 (unknown true (1 ∷ 2 ∷ 3 ∷ 4 ∷ []) []))
+    ensures in_its_envelope { Encodes no_declarations number_union
+        (union 2 (unknown true (1 ∷ 2 ∷ 3 ∷ 4 ∷ []) []))
         (2 ∷ zeros 7 ++ 1 ∷ 2 ∷ 3 ∷ 4 ∷ 0 ∷ 0 ∷ 1 ∷ 0 ∷ []) [] }
-    ensures out_of_line { let t : Term = ty.union false false
-        (row 1 (codes "n") (ty.number uint32) no_rows) in
-        Encodes no_declarations t (union 18446744073709551615
-        (unknown false (1 ∷ 2 ∷ 3 ∷ 4 ∷ 5 ∷ 6 ∷ 7 ∷ 255 ∷ []) []))
+    ensures out_of_line { Encodes no_declarations number_union
+        (union 18446744073709551615 (unknown false (1 ∷ 2 ∷ 3 ∷ 4 ∷ 5 ∷ 6 ∷ 7 ∷ 255 ∷ []) []))
         (replicate 8 255 ++ 8 ∷ zeros 7 ++ 1 ∷ 2 ∷ 3 ∷ 4 ∷ 5 ∷ 6 ∷ 7 ∷ 255 ∷ []) [] }
 {}

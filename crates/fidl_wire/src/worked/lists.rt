@@ -63,8 +63,8 @@ pub fn a_vector_of_strings()
 /// `vector<S>` with `S = struct {a uint16; b uint8;}` declared: each element has its padding.
 pub fn a_vector_of_structs()
     ensures { let ds : Declarations = record {
-      terms = ty.struct (field (codes "a") (ty.number uint16)
-          (field (codes "b") (ty.number uint8) no_fields)) ∷ [];
+      terms = ty.struct
+          (field (codes "a") (ty.number uint16) (field (codes "b") (ty.number uint8) no_fields)) ∷ [];
       figures = figure 4 2 1 ∷ [];
     } in
         IsLaidOut ds × Encodes ds (ty.vector false 2 (ty.named 0))

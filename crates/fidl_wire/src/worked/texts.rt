@@ -1,10 +1,11 @@
 //! The written text of values of each kind.
-ghost use Rattle.std.specs.Prelude.{◌≡◌, [], ◌∷◌, ◌++◌, codes, true, false, pos, negsuc, None};
+ghost use Rattle.std.specs.Prelude.{◌≡◌, [], ◌∷◌, codes, true, false, pos, negsuc, None};
 ghost use Rattle.fidl_wire.specs.declared.handle.HandleInfo.{HandleInfo};
 ghost use Rattle.fidl_wire.specs.Value.{absent, bool, empty, fields, handle, known, list, member, none, number, table, text, union, unknown, value};
 ghost use Rattle.fidl_wire.specs.Term.{no_fields, field, no_rows, row, int64, uint8, uint32, uint64};
 ghost use Rattle.fidl_wire.specs.Term as ty;
-ghost use Rattle.fidl_wire.specs.Figure.{Declarations, no_declarations, figure};
+ghost use Rattle.fidl_wire.specs.Figure.{no_declarations};
+ghost use Rattle.fidl_wire.specs.Samples.{declared_bool};
 ghost use Rattle.fidl_wire.specs.Text.{Text};
 
 /// Bools are words.
@@ -37,14 +38,14 @@ pub fn texts_of_what_is_absent()
 /// A handle is its number, type and rights.
 pub fn texts_of_handles()
     ensures { let h : HandleInfo = record { id = 10; object_type = 3; rights = 4294967295 } in
-        Text no_declarations (ty.handle false 0 0x80000000) (handle h) ≡
-        codes "handle(10, 3, 4294967295)" }
+        Text no_declarations (ty.handle false 0 0x80000000) (handle h) ≡ codes
+        "handle(10, 3, 4294967295)" }
 {}
 
 /// A string stands between quotes, and an empty one too.
 pub fn texts_of_strings()
-    ensures plain { Text no_declarations (ty.string false 9) (text (codes "hi ~'/")) ≡
-        codes "\"hi ~'/\"" }
+    ensures plain { Text no_declarations (ty.string false 9) (text (codes "hi ~'/")) ≡ codes
+        "\"hi ~'/\"" }
     ensures empty { Text no_declarations (ty.string false 9) (text []) ≡ codes "\"\"" }
     ensures not_ascii { Text no_declarations (ty.string false 9) (text (0xc3 ∷ 0xa9 ∷ []))
         ≡ 34 ∷ 0xc3 ∷ 0xa9 ∷ 34 ∷ [] }
@@ -52,16 +53,16 @@ pub fn texts_of_strings()
 
 /// Quotes, backslashes, and line feed, carriage return and tab are escaped by a letter.
 pub fn escapes_of_one_letter()
-    ensures quote { Text no_declarations (ty.string false 9) (text (codes "a\"b")) ≡
-        codes "\"a\\\"b\"" }
-    ensures backslash { Text no_declarations (ty.string false 9) (text (codes "a\\b")) ≡
-        codes "\"a\\\\b\"" }
-    ensures line_feed { Text no_declarations (ty.string false 9) (text (97 ∷ 10 ∷ 98 ∷ [])) ≡
-        codes "\"a\\nb\"" }
+    ensures quote { Text no_declarations (ty.string false 9) (text (codes "a\"b")) ≡ codes
+        "\"a\\\"b\"" }
+    ensures backslash { Text no_declarations (ty.string false 9) (text (codes "a\\b")) ≡ codes
+        "\"a\\\\b\"" }
+    ensures line_feed { Text no_declarations (ty.string false 9) (text (97 ∷ 10 ∷ 98 ∷ [])) ≡ codes
+        "\"a\\nb\"" }
     ensures carriage_return { Text no_declarations (ty.string false 9) (text (97 ∷ 13 ∷ 98 ∷ []))
         ≡ codes "\"a\\rb\"" }
-    ensures tab { Text no_declarations (ty.string false 9) (text (97 ∷ 9 ∷ 98 ∷ [])) ≡
-        codes "\"a\\tb\"" }
+    ensures tab { Text no_declarations (ty.string false 9) (text (97 ∷ 9 ∷ 98 ∷ [])) ≡ codes
+        "\"a\\tb\"" }
 {}
 
 /// Other control characters are escaped by their number, without leading zeros: below 16, below 32,
@@ -71,8 +72,8 @@ pub fn escapes_by_number()
     ensures of_15 { Text no_declarations (ty.string false 9) (text (15 ∷ [])) ≡ codes "\"\\u{f}\"" }
     ensures of_16 { Text no_declarations (ty.string false 9) (text (16 ∷ [])) ≡ codes "\"\\u{10}\"" }
     ensures of_31 { Text no_declarations (ty.string false 9) (text (31 ∷ [])) ≡ codes "\"\\u{1f}\"" }
-    ensures of_127 { Text no_declarations (ty.string false 9) (text (127 ∷ [])) ≡
-        codes "\"\\u{7f}\"" }
+    ensures of_127 { Text no_declarations (ty.string false 9) (text (127 ∷ [])) ≡ codes
+        "\"\\u{7f}\"" }
     ensures none_of_32 { Text no_declarations (ty.string false 9) (text (32 ∷ [])) ≡ codes "\" \"" }
     ensures none_of_126 { Text no_declarations (ty.string false 9) (text (126 ∷ [])) ≡ codes "\"~\"" }
 {}
@@ -83,14 +84,9 @@ pub fn texts_of_lists()
     ensures vector { Text no_declarations (ty.vector false 2 ty.bool)
         (list (value (bool true) (value (bool false) none))) ≡ codes "[true, false]" }
     ensures array { Text no_declarations (ty.array ty.bool 3)
-        (list (value (bool true) (value (bool false) (value (bool true) none)))) ≡
-        codes "[true, false, true]" }
-    ensures of_declared { let ds : Declarations = record {
-      terms = ty.struct
-          (field (codes "b") ty.bool no_fields) ∷ [];
-      figures = figure 1 1 1 ∷ [];
-    } in
-        Text ds (ty.vector false 2 (ty.named 0))
+        (list (value (bool true) (value (bool false) (value (bool true) none)))) ≡ codes
+        "[true, false, true]" }
+    ensures of_declared { Text declared_bool (ty.vector false 2 (ty.named 0))
         (list (value (fields (value (bool true) none)) none)) ≡ codes "[{b: true}]" }
 {}
 
@@ -103,12 +99,7 @@ pub fn texts_of_structs()
     ensures in_a_box { Text no_declarations
         (ty.box (ty.struct (field (codes "a") ty.bool no_fields))) (fields (value (bool true) none))
         ≡ codes "{a: true}" }
-    ensures of_declared { let ds : Declarations = record {
-      terms = ty.struct
-          (field (codes "b") ty.bool no_fields) ∷ [];
-      figures = figure 1 1 1 ∷ [];
-    } in
-        Text ds (ty.struct (field (codes "a") (ty.named 0) no_fields))
+    ensures of_declared { Text declared_bool (ty.struct (field (codes "a") (ty.named 0) no_fields))
         (fields (value (fields (value (bool true) none)) none)) ≡ codes "{a: {b: true}}" }
 {}
 
@@ -117,8 +108,8 @@ pub fn texts_of_tables()
     ensures empty { Text no_declarations (ty.table no_rows) (table 0 empty) ≡ codes "table(0) {}" }
     ensures of_two { Text no_declarations
         (ty.table (row 1 (codes "a") ty.bool (row 3 (codes "c") ty.bool no_rows)))
-        (table 12 (member 1 (known (bool true)) (member 3 (known (bool false)) empty))) ≡
-        codes "table(12) {a: true, c: false}" }
+        (table 12 (member 1 (known (bool true)) (member 3 (known (bool false)) empty))) ≡ codes
+        "table(12) {a: true, c: false}" }
 {}
 
 /// A union is its member behind its name.
@@ -133,13 +124,12 @@ pub fn texts_of_unions()
 pub fn texts_of_unknown_members()
     ensures in_a_union { Text no_declarations
         (ty.union false false (row 1 (codes "a") (ty.number uint32) no_rows))
-        (union 10 (unknown true (0 ∷ 0x1f ∷ 0xa9 ∷ 0xff ∷ []) [])) ≡
-        codes "union(10: unknown in 001fa9ff [])" }
+        (union 10 (unknown true (0 ∷ 0x1f ∷ 0xa9 ∷ 0xff ∷ []) [])) ≡ codes
+        "union(10: unknown in 001fa9ff [])" }
     ensures with_handles { let h : HandleInfo = record { id = 1; object_type = 2; rights = 3 } in
         let i : HandleInfo = record { id = 4; object_type = 5; rights = 6 } in
         Text no_declarations (ty.table (row 2 (codes "b") ty.bool no_rows))
         (table 2 (member 1 (unknown false (1 ∷ 2 ∷ 3 ∷ 4 ∷ 5 ∷ 6 ∷ 7 ∷ 8 ∷ []) (h ∷ i ∷ []))
-        (member 2 (known (bool true)) empty)))
-        ≡
-        codes "table(2) {1: unknown out 0102030405060708 [handle(1, 2, 3), handle(4, 5, 6)], b: true}" }
+        (member 2 (known (bool true)) empty))) ≡ codes
+        "table(2) {1: unknown out 0102030405060708 [handle(1, 2, 3), handle(4, 5, 6)], b: true}" }
 {}
