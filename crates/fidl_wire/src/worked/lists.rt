@@ -1,11 +1,18 @@
 //! Worked messages of strings, vectors and arrays, each as a message of its own.
-ghost use Rattle.std.specs.Prelude.{[], ◌∷◌, ◌++◌, codes, true, false, pos};
+ghost use Rattle.std.specs.Prelude.{◌≡◌, [], ◌∷◌, ◌++◌, codes, true, false, pos};
 ghost use Rattle.fidl_wire.specs.Value.{absent, fields, list, none, number, text, value};
 ghost use Rattle.fidl_wire.specs.Term.{no_fields, field, uint8, uint16, uint32};
 ghost use Rattle.fidl_wire.specs.Term as ty;
 ghost use Rattle.fidl_wire.specs.Figure.{Declarations, IsLaidOut, no_declarations, figure};
 ghost use Rattle.fidl_wire.specs.Encoding.{zeros, present};
 ghost use Rattle.fidl_wire.specs.Message.{Encodes};
+
+/// A marker is eight bytes of ones, and padding is zeros.
+pub fn markers_and_padding()
+    ensures marker { present ≡ 255 ∷ 255 ∷ 255 ∷ 255 ∷ 255 ∷ 255 ∷ 255 ∷ 255 ∷ [] }
+    ensures padding { zeros 3 ≡ 0 ∷ 0 ∷ 0 ∷ [] }
+    ensures no_padding { zeros 0 ≡ [] }
+{}
 
 /// A text has its count and the marker in the holder's place, and stands out of line, padded to
 /// whole eights.
