@@ -114,7 +114,7 @@ pub fn depths_of_unions()
     ensures not_there { Depth no_declarations (ty.union true false no_rows) absent ≡ 0 }
 {}
 
-/// `type S = struct {s string;};` in a vector, an array, a struct and a table, by its declaration.
+/// `type S = struct {s string:2;};` in each kind, by its declaration.
 pub fn depths_of_declared_types()
     ensures in_a_vector { Depth declared_text (ty.vector false 2 (ty.named 0))
         (list (value (fields (value (text []) none)) none)) ≡ 2 }
@@ -124,4 +124,10 @@ pub fn depths_of_declared_types()
         (fields (value (fields (value (text []) none)) none)) ≡ 1 }
     ensures in_a_table { Depth declared_text (ty.table (row 1 (codes "a") (ty.named 0) no_rows))
         (table 1 (member 1 (known (fields (value (text []) none))) empty)) ≡ 3 }
+    ensures in_a_union { Depth declared_text
+        (ty.union false false (row 1 (codes "a") (ty.named 0) no_rows))
+        (union 1 (known (fields (value (text []) none)))) ≡ 2 }
+    ensures in_a_box { Depth declared_text (ty.box (ty.named 0)) (fields (value (text []) none))
+        ≡ 2 }
+    ensures by_itself { Depth declared_text (ty.named 0) (fields (value (text []) none)) ≡ 1 }
 {}

@@ -1,11 +1,11 @@
 //! Worked messages of structs, boxes, tables and unions, each as a message of its own.
 ghost use Rattle.std.specs.Prelude.{[], ◌∷◌, ◌++◌, codes, replicate, true, false, pos};
 ghost use Rattle.fidl_wire.specs.declared.handle.HandleInfo.{HandleInfo};
-ghost use Rattle.fidl_wire.specs.Value.{absent, empty, fields, handle, known, list, member, none, number, table, text, union, unknown, value};
+ghost use Rattle.fidl_wire.specs.Value.{absent, bool, empty, fields, handle, known, list, member, none, number, table, text, union, unknown, value};
 ghost use Rattle.fidl_wire.specs.Term.{Term, no_fields, field, no_rows, row, uint8, uint16, uint32, uint64};
 ghost use Rattle.fidl_wire.specs.Term as ty;
 ghost use Rattle.fidl_wire.specs.Figure.{no_declarations};
-ghost use Rattle.fidl_wire.specs.Samples.{byte_struct, number_union};
+ghost use Rattle.fidl_wire.specs.Samples.{byte_struct, declared_bool, number_union};
 ghost use Rattle.fidl_wire.specs.Encoding.{zeros, present};
 ghost use Rattle.fidl_wire.specs.Message.{Encodes};
 
@@ -139,4 +139,28 @@ pub fn unknown_members_of_a_union()
     ensures out_of_line { Encodes no_declarations number_union
         (union 18446744073709551615 (unknown false (1 ∷ 2 ∷ 3 ∷ 4 ∷ 5 ∷ 6 ∷ 7 ∷ 255 ∷ []) []))
         (replicate 8 255 ++ 8 ∷ zeros 7 ++ 1 ∷ 2 ∷ 3 ∷ 4 ∷ 5 ∷ 6 ∷ 7 ∷ 255 ∷ []) [] }
+{}
+
+/// `type S = struct {b bool;};` in a struct, a box, an array, a table and a union, by its declaration.
+pub fn declared_types()
+    ensures in_a_struct { Encodes declared_bool
+        (ty.struct (field (codes "a") (ty.named 0) (field (codes "c") (ty.number uint8) no_fields)))
+        (fields (value (fields (value (bool true) none)) (value (number (pos 5)) none)))
+        (1 ∷ 5 ∷ zeros 6) [] }
+    ensures in_a_box { Encodes declared_bool (ty.box (ty.named 0))
+        (fields (value (bool true) none)) (present ++ 1 ∷ zeros 7) [] }
+    ensures in_an_array { Encodes declared_bool (ty.array (ty.named 0) 1)
+        (list (value (fields (value (bool true) none)) none)) (1 ∷ zeros 7) [] }
+    ensures in_a_vector { Encodes declared_bool (ty.vector false 1 (ty.named 0))
+        (list (value (fields (value (bool true) none)) none)) (1 ∷ zeros 7 ++ present ++ 1 ∷ zeros 7)
+        [] }
+    ensures in_a_table { Encodes declared_bool (ty.table (row 1 (codes "a") (ty.named 0) no_rows))
+        (table 1 (member 1 (known (fields (value (bool true) none))) empty))
+        (1 ∷ zeros 7 ++ present ++ 1 ∷ 0 ∷ 0 ∷ 0 ∷ 0 ∷ 0 ∷ 1 ∷ 0 ∷ []) [] }
+    ensures in_a_union { Encodes declared_bool
+        (ty.union false true (row 1 (codes "a") (ty.named 0) no_rows))
+        (union 1 (known (fields (value (bool true) none))))
+        (1 ∷ zeros 7 ++ 1 ∷ 0 ∷ 0 ∷ 0 ∷ 0 ∷ 0 ∷ 1 ∷ 0 ∷ []) [] }
+    ensures by_itself { Encodes declared_bool (ty.named 0) (fields (value (bool true) none))
+        (1 ∷ zeros 7) [] }
 {}

@@ -119,6 +119,20 @@ pub fn texts_of_unions()
         (union 2 (known (bool true))) ≡ codes "union(b: true)" }
 {}
 
+/// `type S = struct {b bool;};` in a table, a union and a box, and by itself, by its declaration.
+pub fn texts_of_declared_types()
+    ensures in_a_table { Text declared_bool (ty.table (row 1 (codes "a") (ty.named 0) no_rows))
+        (table 1 (member 1 (known (fields (value (bool true) none))) empty))
+        ≡ codes "table(1) {a: {b: true}}" }
+    ensures in_a_union { Text declared_bool
+        (ty.union false false (row 1 (codes "a") (ty.named 0) no_rows))
+        (union 1 (known (fields (value (bool true) none)))) ≡ codes "union(a: {b: true})" }
+    ensures in_a_box { Text declared_bool (ty.box (ty.named 0)) (fields (value (bool true) none))
+        ≡ codes "{b: true}" }
+    ensures by_itself { Text declared_bool (ty.named 0) (fields (value (bool true) none))
+        ≡ codes "{b: true}" }
+{}
+
 /// Unknown members stand behind their ordinals: where they stand, their raw bytes in lower-case
 /// hex, and their handles.
 pub fn texts_of_unknown_members()
