@@ -51,6 +51,9 @@ pub fn figures_of_structs()
     ensures most_aligned_last { figure_of []
         (ty.struct (field (codes "a") (ty.number uint8)
         (field (codes "b") (ty.number uint32) no_fields))) ≡ figure 8 4 1 }
+    ensures padding_between { figure_of []
+        (ty.struct (field (codes "a") (ty.number uint8) (field (codes "b") (ty.number uint16)
+        (field (codes "c") (ty.number uint8) no_fields)))) ≡ figure 6 2 1 }
     ensures deepest_first { figure_of []
         (ty.struct (field (codes "a") (ty.array ty.bool 3) (field (codes "b") ty.bool no_fields)))
         ≡ figure 4 1 2 }
