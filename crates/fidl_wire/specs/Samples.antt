@@ -1,5 +1,5 @@
 -- Small types that worked messages and refusals speak of (docs/wire.md, "Worked messages and refusals").
-use Rattle.std.specs.Prelude.{[], ◌∷◌, Bool, true, false, codes}
+use Rattle.std.specs.Prelude.{[], ◌∷◌, false, codes}
 use Rattle.fidl_wire.specs.Term.{Term, no_fields, field, no_rows, row, uint8, uint32}
 use Rattle.fidl_wire.specs.Term as ty
 use Rattle.fidl_wire.specs.Figure.{Declarations, figure}

@@ -1,12 +1,12 @@
-use Rattle.std.proofs.Common.{rules, ◌≡◌, ℕ, zero, suc, ◌≤◌, ◌%◌, ◌-◌, max, [], ◌∷◌, ◌++◌, length, replicate, refl, ap, arith, ◌∙◌, sym, pos, append-nil}
+use Rattle.std.proofs.Common.{◌≡◌, ℕ, zero, suc, ◌%◌, ◌-◌, max, [], ◌∷◌, ◌++◌, length, replicate, refl, ap, arith, ◌∙◌, pos, append-nil}
 use Rattle.std.proofs.Math.ListN.{length-replicate}
 use Rattle.std.specs.Int.{next_multiple_of}
-use Rattle.fidl_wire.specs.Value.{Value, Values, list, none, number, value, values_of, count}
+use Rattle.fidl_wire.specs.Value.{Values, number, values_of, count}
 use Rattle.fidl_wire.specs.Term.{Term, uint8}
 use Rattle.fidl_wire.specs.Term as ty
 use Rattle.fidl_wire.specs.Figure.{no_declarations}
 use Rattle.fidl_wire.specs.Typed.{AllTyped}
-use Rattle.fidl_wire.specs.Encoding.{Encoding, elements, inline_only, pad8, zeros}
+use Rattle.fidl_wire.specs.Encoding.{elements, inline_only, pad8, zeros}
 use Rattle.fidl_wire.specs.Depth.{elements_depth}
 use Rattle.fidl_wire.proofs.worked.limits.arrays_of_up_to_65536_bytes.Goals as goal
 
