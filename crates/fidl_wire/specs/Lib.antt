@@ -8,3 +8,4 @@ pub mod Message
 pub mod Text
 pub mod Standing
 pub mod Views
+pub mod Samples

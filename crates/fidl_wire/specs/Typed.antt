@@ -25,7 +25,7 @@ abbrev pub InMask : ℕ → ℤ → Type 0
 InMask mask (pos n) = bit_or n mask ≡ mask
 InMask mask (negsuc n) = ⊥
 
--- absence stands for a box, and for what is optional
+-- a box can be absent, and so can what is optional
 abbrev pub MayBeAbsent : Term → Type 0
 MayBeAbsent (ty.box t) = Unit {0}
 MayBeAbsent (ty.handle optional subtype rights) = IsTrue optional

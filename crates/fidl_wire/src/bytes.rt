@@ -6,7 +6,7 @@ use std::alloc::{AllocError, Global};
 use std::marker::Model;
 use std::slice::Iter;
 
-/// Bytes, seen as their list.
+/// A list of bytes.
 #[derive(Debug, Drop)]
 pub struct Bytes {
     items: Vec<u8>,
@@ -21,7 +21,7 @@ impl Model for Bytes {
 }
 
 impl Bytes {
-    /// No bytes; it takes no memory.
+    /// An empty list of bytes. It allocates nothing.
     pub fn new(alloc: Global) -> Bytes
         ensures { result ≡ [] }
     {
@@ -30,14 +30,14 @@ impl Bytes {
         }
     }
 
-    /// The bytes of a `Vec`, which it keeps.
+    /// The list of the bytes in a `Vec`, which it takes over.
     pub fn from_vec(items: Vec<u8>) -> Bytes
         ensures { result ≡ items.items }
     {
         Bytes { items }
     }
 
-    /// The `Vec` of the bytes, given back.
+    /// Returns the `Vec` of the bytes.
     pub fn into_vec(self) -> Vec<u8>
         ensures { result.items ≡ self }
     {
@@ -45,7 +45,7 @@ impl Bytes {
         items
     }
 
-    /// One more byte, at the end. An error is want of memory, and the bytes are as before.
+    /// Adds a byte at the end. An error means that memory ran out; the bytes are then unchanged.
     pub fn push(&mut self, byte: u8) -> Result<(), AllocError>
         ensures ok { IfOk result (λ _. self.new ≡ self.old ++ byte ∷ []) }
         ensures err { OnErr result (self.new ≡ self.old) }
@@ -54,14 +54,14 @@ impl Bytes {
         Ok(())
     }
 
-    /// How many bytes there are.
+    /// The number of bytes.
     pub fn len(&self) -> usize
         ensures { result ≡ length self.now }
     {
         self.items.len()
     }
 
-    /// Whether there are none.
+    /// Whether the list is empty.
     pub fn is_empty(&self) -> bool
         ensures { IsTrue result ↔ (self.now ≡ []) }
     {

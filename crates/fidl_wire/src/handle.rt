@@ -1,4 +1,4 @@
-//! Handles beside the bytes of a message.
+//! The handles that come with a message.
 ghost use Rattle.std.specs.Prelude.{◌≡◌, ◌↔◌, [], ◌∷◌, ◌++◌, length, IfOk, OnErr, IsTrue};
 ghost use Rattle.std.specs.Slice.Iter.{iter_rest};
 
@@ -6,7 +6,7 @@ use std::alloc::{AllocError, Global};
 use std::marker::Model;
 use std::slice::Iter;
 
-/// What came beside the bytes for one handle: a record in place of the kernel's object.
+/// A handle that comes with a message: a record that stands for the kernel's object.
 #[derive(Clone, Copy, PartialEq, Eq, Debug, Drop)]
 pub struct HandleInfo {
     /// The handle's number.
@@ -17,7 +17,7 @@ pub struct HandleInfo {
     pub rights: u32,
 }
 
-/// Handles, seen as their list.
+/// A list of handles.
 #[derive(Debug, Drop)]
 pub struct Handles {
     items: Vec<HandleInfo>,
@@ -33,7 +33,7 @@ impl Model for Handles {
 }
 
 impl Handles {
-    /// No handles; it takes no memory.
+    /// An empty list of handles. It allocates nothing.
     pub fn new(alloc: Global) -> Handles
         ensures { result ≡ [] }
     {
@@ -42,14 +42,14 @@ impl Handles {
         }
     }
 
-    /// The handles of a `Vec`, which it keeps.
+    /// The list of the handles in a `Vec`, which it takes over.
     pub fn from_vec(items: Vec<HandleInfo>) -> Handles
         ensures { result ≡ items.items }
     {
         Handles { items }
     }
 
-    /// The `Vec` of the handles, given back.
+    /// Returns the `Vec` of the handles.
     pub fn into_vec(self) -> Vec<HandleInfo>
         ensures { result.items ≡ self }
     {
@@ -57,7 +57,7 @@ impl Handles {
         items
     }
 
-    /// One more handle, at the end. An error is want of memory, and the handles are as before.
+    /// Adds a handle at the end. An error means that memory ran out; the handles are then unchanged.
     pub fn push(&mut self, handle: HandleInfo) -> Result<(), AllocError>
         ensures ok { IfOk result (λ _. self.new ≡ self.old ++ handle ∷ []) }
         ensures err { OnErr result (self.new ≡ self.old) }
@@ -66,14 +66,14 @@ impl Handles {
         Ok(())
     }
 
-    /// How many handles there are.
+    /// The number of handles.
     pub fn len(&self) -> usize
         ensures { result ≡ length self.now }
     {
         self.items.len()
     }
 
-    /// Whether there are none.
+    /// Whether the list is empty.
     pub fn is_empty(&self) -> bool
         ensures { IsTrue result ↔ (self.now ≡ []) }
     {

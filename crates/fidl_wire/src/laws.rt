@@ -1,4 +1,4 @@
-//! Laws of the definitions: each is the contract of a function that does nothing.
+//! Laws of the definitions. Each is the contract of a function with an empty body.
 ghost use Rattle.std.specs.Prelude.{◌≡◌, ℕ, ◌+◌, ◌%◌, ◌↔◌, ℤ, List, ◌++◌, length, map, Bool};
 ghost use Rattle.std.specs.List.{AllByRecursion};
 ghost use Rattle.fidl_wire.specs.declared.handle.HandleInfo.{HandleInfo};
@@ -30,7 +30,7 @@ pub fn trees_stand_for_values()
     ensures unions { (ordinal : ℕ) (c : Content) → value_view (tree.Union ordinal c) ≡ union ordinal (content_view c) }
 {}
 
-/// So with a member: known, it stands for its value, and unknown, for its raw parts.
+/// A known member stands for its value, and an unknown one for its raw parts.
 pub fn trees_stand_for_members()
     ensures known { (v : Tree) → member_view (part.Known v) ≡ known (value_view v) }
     ensures unknown { (inline : Bool) (bytes : List ℕ) (handles : List HandleInfo)

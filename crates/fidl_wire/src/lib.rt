@@ -1,5 +1,5 @@
-//! The FIDL wire format, version 2: the tree of a value, the limits of a message, and the definitions and laws that
-//! every reader and writer of messages stands on (`specs/`, docs/wire.md).
+//! The FIDL wire format, version 2: the owned tree of a value, the limits of a message, and the
+//! definitions and laws that all readers and writers of messages use (`specs/`, docs/wire.md).
 #![tactic(auto)]
 
 mod bytes;

@@ -1,4 +1,4 @@
-//! The owned tree of a value, and the small lists that it is made of.
+//! The owned tree of a value, and the lists that it consists of.
 ghost use Rattle.std.specs.Prelude.{◌≡◌, ◌↔◌, [], ◌∷◌, ◌++◌, length, map, IfOk, OnErr, IsTrue};
 ghost use Rattle.std.specs.Slice.Iter.{iter_rest};
 ghost use Rattle.fidl_wire.specs.Views.{content_view, entry_view, member_view, members_view, value_view, values_view};
@@ -36,9 +36,10 @@ pub enum Value {
 #[cycle(value)]
 #[derive(Debug, Drop)]
 pub enum Member {
-    /// One that the layout has.
+    /// A member that the layout has.
     Known(Value),
-    /// One that it doesn't have, raw: the four bytes of an inline envelope, or all bytes out of line, and its handles.
+    /// A member that the layout does not have, raw: the four bytes of an inline envelope or all bytes
+    /// out of line, and its handles.
     Unknown {
         inline: bool,
         bytes: Bytes,
@@ -68,7 +69,7 @@ pub struct Content {
 }
 
 impl Values {
-    /// No values; it takes no memory.
+    /// An empty list of values. It allocates nothing.
     pub fn new(alloc: Global) -> Values
         ensures { values_view result ≡ [] }
     {
@@ -77,14 +78,14 @@ impl Values {
         }
     }
 
-    /// The values of a `Vec`, which it keeps.
+    /// The list of the values in a `Vec`, which it takes over.
     pub fn from_vec(items: Vec<Value>) -> Values
         ensures { values_view result ≡ map value_view items.items }
     {
         Values { items }
     }
 
-    /// The `Vec` of the values, given back.
+    /// Returns the `Vec` of the values.
     pub fn into_vec(self) -> Vec<Value>
         ensures { map value_view result.items ≡ values_view self }
     {
@@ -92,7 +93,7 @@ impl Values {
         items
     }
 
-    /// One more value, at the end. An error is want of memory, and the values are as before.
+    /// Adds a value at the end. An error means that memory ran out; the values are then unchanged.
     pub fn push(&mut self, value: Value) -> Result<(), AllocError>
         ensures ok { IfOk result (λ _. values_view self.new ≡ values_view self.old ++ value_view value ∷ []) }
         ensures err { OnErr result (values_view self.new ≡ values_view self.old) }
@@ -101,14 +102,14 @@ impl Values {
         Ok(())
     }
 
-    /// How many values there are.
+    /// The number of values.
     pub fn len(&self) -> usize
         ensures { result ≡ length (values_view self.now) }
     {
         self.items.len()
     }
 
-    /// Whether there are none.
+    /// Whether the list is empty.
     pub fn is_empty(&self) -> bool
         ensures { IsTrue result ↔ (values_view self.now ≡ []) }
     {
@@ -131,7 +132,7 @@ impl Values {
 }
 
 impl Members {
-    /// No members; it takes no memory.
+    /// An empty list of members. It allocates nothing.
     pub fn new(alloc: Global) -> Members
         ensures { members_view result ≡ [] }
     {
@@ -140,14 +141,14 @@ impl Members {
         }
     }
 
-    /// The members of a `Vec`, which it keeps.
+    /// The list of the members in a `Vec`, which it takes over.
     pub fn from_vec(entries: Vec<(u64, Member)>) -> Members
         ensures { members_view result ≡ map entry_view entries.items }
     {
         Members { entries }
     }
 
-    /// The `Vec` of the members, given back.
+    /// Returns the `Vec` of the members.
     pub fn into_vec(self) -> Vec<(u64, Member)>
         ensures { map entry_view result.items ≡ members_view self }
     {
@@ -155,7 +156,7 @@ impl Members {
         entries
     }
 
-    /// One more member, at the end. An error is want of memory, and the members are as before.
+    /// Adds a member at the end. An error means that memory ran out; the members are then unchanged.
     pub fn push(&mut self, ordinal: u64, member: Member) -> Result<(), AllocError>
         ensures ok { IfOk result (λ _. members_view self.new ≡ members_view self.old ++ (ordinal, member_view member) ∷ []) }
         ensures err { OnErr result (members_view self.new ≡ members_view self.old) }
@@ -164,14 +165,14 @@ impl Members {
         Ok(())
     }
 
-    /// How many members there are.
+    /// The number of members.
     pub fn len(&self) -> usize
         ensures { result ≡ length (members_view self.now) }
     {
         self.entries.len()
     }
 
-    /// Whether there are none.
+    /// Whether the list is empty.
     pub fn is_empty(&self) -> bool
         ensures { IsTrue result ↔ (members_view self.now ≡ []) }
     {
@@ -194,7 +195,7 @@ impl Members {
 }
 
 impl Content {
-    /// A union's member. An error is want of memory.
+    /// The content of a union that has this member. An error means that memory ran out.
     pub fn new(alloc: Global, member: Member) -> Result<Content, AllocError>
         ensures { IfOk result (λ c. content_view c ≡ member_view member) }
     {
@@ -210,7 +211,7 @@ impl Content {
         &self.member
     }
 
-    /// The member, given back.
+    /// Returns the member.
     pub fn into_member(self) -> Member
         ensures { member_view result ≡ content_view self }
     {
