@@ -21,6 +21,7 @@ use std::io::Write;
 /// Writes what stands between one element or member and the next.
 fn write_comma<W: Write>(out: &mut Output<W>, later: bool) -> Result<(), Failed>
     ensures text { OnOk result (Appends (W.contents out.old.writer) (W.contents out.new.writer) (comma_if later)) }
+    ensures kept { OnOk result (out.new.failure ≡ out.old.failure) }
     ensures failed { OnErr result (IsSome out.new.failure) }
 {
     out.write_all(if later { b", " } else { b"" })
@@ -29,6 +30,7 @@ fn write_comma<W: Write>(out: &mut Output<W>, later: bool) -> Result<(), Failed>
 fn write_bool<W: Write>(view: View<'_, '_>, out: &mut Output<W>) -> Result<(), Failed>
     requires { (ds : Declarations) × HasPart ds ty.bool view }
     ensures text { (ds : Declarations) → Prints ds ty.bool view.entry (W.contents out.old.writer) (W.contents out.new.writer) result }
+    ensures kept { OnOk result (out.new.failure ≡ out.old.failure) }
     ensures failed { OnErr result (IsSome out.new.failure) }
 {
     let value = view.as_bool().unwrap();
@@ -39,6 +41,7 @@ fn write_number<W: Write>(view: View<'_, '_>, out: &mut Output<W>) -> Result<(),
     requires well_formed { WellFormed view.decoded.now.table }
     requires part { (ds : Declarations) × (kind : ty.Kind) × HasPart ds (ty.number kind) view }
     ensures text { (ds : Declarations) (kind : ty.Kind) → Prints ds (ty.number kind) view.entry (W.contents out.old.writer) (W.contents out.new.writer) result }
+    ensures kept { OnOk result (out.new.failure ≡ out.old.failure) }
     ensures failed { OnErr result (IsSome out.new.failure) }
 {
     match view.as_u64() {
@@ -62,6 +65,7 @@ fn write_elements<W: Write>(
     requires element { element < (header_of table.now).entries }
     requires part { (count : ℕ) × HasPart (declarations_of table.now) (ty.array (ty.named element) count) view }
     ensures text { (count : ℕ) → Prints (declarations_of table.now) (ty.array (ty.named element) count) view.entry (W.contents out.old.writer) (W.contents out.new.writer) result }
+    ensures kept { OnOk result (out.new.failure ≡ out.old.failure) }
     ensures failed { OnErr result (IsSome out.new.failure) }
 {
     out.write_all(b"[")?;
@@ -87,6 +91,7 @@ fn write_members<W: Write>(
     requires of_struct { IsOf EntryKind.Struct (entry_at table.now index) }
     requires part { HasPart (declarations_of table.now) (resolve (declarations_of table.now).terms (ty.named index)) view }
     ensures text { Prints (declarations_of table.now) (resolve (declarations_of table.now).terms (ty.named index)) view.entry (W.contents out.old.writer) (W.contents out.new.writer) result }
+    ensures kept { OnOk result (out.new.failure ≡ out.old.failure) }
     ensures failed { OnErr result (IsSome out.new.failure) }
 {
     out.write_all(b"{")?;
@@ -116,6 +121,7 @@ pub(crate) fn write_value<W: Write>(
     requires index { index < (header_of table.now).entries }
     requires part { HasPart (declarations_of table.now) (resolve (declarations_of table.now).terms (ty.named index)) view }
     ensures text { Prints (declarations_of table.now) (resolve (declarations_of table.now).terms (ty.named index)) view.entry (W.contents out.old.writer) (W.contents out.new.writer) result }
+    ensures kept { OnOk result (out.new.failure ≡ out.old.failure) }
     ensures failed { OnErr result (IsSome out.new.failure) }
 {
     let entry = table.entry(index);

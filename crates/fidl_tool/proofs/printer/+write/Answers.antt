@@ -42,30 +42,36 @@ write_elements-write_value-requires g t c κs within =
     (omega (arith, c.decreases), (within, (ap (λ (s : Shown). s.table) message ∙ c.requires.table, (c.requires.element, (x.0, record { shown = x.2; typed = typed.1 })))))
 
 pub write_elements-loop-at-init : goal.write_elements-loop-at-init
-write_elements-loop-at-init g t c =
-    record { left = λ n v p. so_far_begin _ _ _ _ _ c.in_ok-write_all.ensures.bytes (printing.array_text (declarations_of c.args.table.now) (ty.named c.args.element) n v p.typed) }
+write_elements-loop-at-init g t c = (
+  record { left = λ n v p. so_far_begin _ _ _ _ _ c.in_ok-write_all.ensures.bytes (printing.array_text (declarations_of c.args.table.now) (ty.named c.args.element) n v p.typed) },
+  c.in_ok-write_all.ensures.kept,
+)
 
 pub write_elements-loop-at-preserved : goal.write_elements-loop-at-preserved
-write_elements-loop-at-preserved g t c = record {
-  left = λ n v p.
-      let ds = declarations_of c.args.table.now in
-      let x = printing.part_shown c.args.view.decoded.now (element_of v c.loop-at.at) c.element.result c.unwrap-part.result c.unwrap-part.ensures (c.element.ensures.part v p.shown) in
-      let typed = printing.array_nth ds (ty.named c.args.element) n v p.typed c.loop-at.at x.0 x.1 in
-      let wrote = appends_then _ _ _ _ _ c.in_ok-write_comma.ensures.text (c.in_ok-write_value.ensures.text x.0 (record { shown = x.2; typed = typed.1 })) in
-      so_far_more _ _ _ _ _ _ _ (c.loop-at.invariant.left n v p) wrote (printing.elements_at ds (resolve ds.terms (ty.named c.args.element)) (parts_of v) c.loop-at.at (c.loop-at.at + 1) x.0 (codes "]") typed.0 (omega arith));
-}
+write_elements-loop-at-preserved g t c = (
+  record {
+    left = λ n v p.
+        let ds = declarations_of c.args.table.now in
+        let x = printing.part_shown c.args.view.decoded.now (element_of v c.loop-at.at) c.element.result c.unwrap-part.result c.unwrap-part.ensures (c.element.ensures.part v p.shown) in
+        let typed = printing.array_nth ds (ty.named c.args.element) n v p.typed c.loop-at.at x.0 x.1 in
+        let wrote = appends_then _ _ _ _ _ c.in_ok-write_comma.ensures.text (c.in_ok-write_value.ensures.text x.0 (record { shown = x.2; typed = typed.1 })) in
+        so_far_more _ _ _ _ _ _ _ (c.loop-at.invariant.0.left n v p) wrote (printing.elements_at ds (resolve ds.terms (ty.named c.args.element)) (parts_of v) c.loop-at.at (c.loop-at.at + 1) x.0 (codes "]") typed.0 (omega arith));
+  },
+  c.in_ok-write_value.ensures.kept ∙ c.in_ok-write_comma.ensures.kept ∙ c.loop-at.invariant.1,
+)
 
 pub write_elements-returns-clause-text : goal.write_elements-returns-clause-text
 write_elements-returns-clause-text g t c n v p =
     let ds = declarations_of c.args.table.now in
     let size = printing.array_count ds (ty.named c.args.element) n v p.typed c.len.result c.unwrap-count.result (c.len.ensures v p.shown) c.unwrap-count.ensures in
-    let end = so_far_as _ _ _ _ (codes "]") (c.loop-at.invariant.left n v p) (printing.elements_end ds (resolve ds.terms (ty.named c.args.element)) (parts_of v) c.loop-at.at _ (codes "]") (omega (arith, c.loop-at-test.false, c.loop-at.auto.at-end, size))) in
+    let end = so_far_as _ _ _ _ (codes "]") (c.loop-at.invariant.0.left n v p) (printing.elements_end ds (resolve ds.terms (ty.named c.args.element)) (parts_of v) c.loop-at.at _ (codes "]") (omega (arith, c.loop-at-test.false, c.loop-at.auto.at-end, size))) in
     on_ok c.write_all-2.result (λ h. so_far_end _ _ _ _ _ end h) c.write_all-2.ensures.bytes
 
 pub write_members-loop-at-init : goal.write_members-loop-at-init
-write_members-loop-at-init g t c = record {
-  left = λ v p. so_far_begin _ _ _ _ _ c.in_ok-write_all.ensures.bytes (printing.members_begin c.args.table.now c.entry-entry.ensures.well_formed c.args.index c.requires.index c.requires.of_struct v p.typed);
-}
+write_members-loop-at-init g t c = (
+  record { left = λ v p. so_far_begin _ _ _ _ _ c.in_ok-write_all.ensures.bytes (printing.members_begin c.args.table.now c.entry-entry.ensures.well_formed c.args.index c.requires.index c.requires.of_struct v p.typed) },
+  c.in_ok-write_all.ensures.kept,
+)
 
 pub write_members-overflow_add-entry : goal.write_members-overflow_add-entry
 write_members-overflow_add-entry g t c =
@@ -129,42 +135,45 @@ write_members-write_value-requires g t c κs within =
     )
 
 pub write_members-loop-at-preserved : goal.write_members-loop-at-preserved
-write_members-loop-at-preserved g t c = record {
-  left = λ v p.
-      let b = c.args.table.now in
-      let w = c.entry-entry.ensures.well_formed in
-      let i = c.args.index in
-      let lt = c.requires.index in
-      let is = c.requires.of_struct in
-      let counted = ap (λ (e : Entry). e.count) c.entry-entry.ensures.value in
-      let begun = ap (λ (e : Entry). e.first) c.entry-entry.ensures.value in
-      let less : c.loop-at.at < (entry_at b i).count = omega (arith, c.loop-at-test.true, counted) in
-      let here : c.row-row.result ≡ row_at b (header_of b) ((entry_at b i).first + c.loop-at.at) = c.row-row.ensures.value ∙ ap (λ k. row_at b (header_of b) (k + c.loop-at.at)) begun in
-      let x = printing.part_shown c.args.view.decoded.now (field_of v c.loop-at.at) c.field.result c.unwrap-part.result c.unwrap-part.ensures (c.field.ensures.part v p.shown) in
-      let typed = printing.member_typed b w i lt is v p.typed c.loop-at.at less x.0 x.1 in
-      let own = subst (λ (r : Row). IsTyped (declarations_of b) (resolve (declarations_of b).terms (ty.named r.entry)) x.0) (sym here) typed.1 in
-      let c0 = g.W.Write.contents c.loop-at.out.writer in
-      let c1 = g.W.Write.contents c.write_comma.new.out.writer in
-      let c2 = g.W.Write.contents c.write_all-in-loop-at.new.self.writer in
-      let c3 = g.W.Write.contents c.write_all-in-loop-at-2.new.self.writer in
-      let c4 = g.W.Write.contents c.write_value.new.out.writer in
-      let comma = comma_if (nat_lt 0 c.loop-at.at) in
-      let row = row_at b (header_of b) ((entry_at b i).first + c.loop-at.at) in
-      let name = name_at b (header_of b) row.name_place row.name_length in
-      let text = text_of (declarations_of b) (resolve (declarations_of b).terms (ty.named row.entry)) x.0 in
-      let named : c.row_name.result.now ≡ name = c.row_name.ensures ∙ ap (λ (r : Row). name_at b (header_of b) r.name_place r.name_length) here in
-      let texted = ap (λ (r : Row). text_of (declarations_of b) (resolve (declarations_of b).terms (ty.named r.entry)) x.0) here in
-      let w1 = appends_then c0 c1 c2 comma name c.in_ok-write_comma.ensures.text (appends_as c1 c2 c.row_name.result.now name named c.in_ok-write_all-2.ensures.bytes) in
-      let w2 = appends_then c0 c2 c3 (comma ++ name) (codes ": ") w1 c.in_ok-write_all-3.ensures.bytes in
-      let w3 = appends_then c0 c3 c4 (comma ++ name ++ codes ": ") text w2 (appends_as c3 c4 _ text texted (c.in_ok-write_value.ensures.text x.0 (record { shown = x.2; typed = own }))) in
-      let step = printing.members_step b w i lt is v c.loop-at.at (c.loop-at.at + 1) x.0 typed.0 less (omega arith) in
-      so_far_more _ _ _ _ _ _ _ (c.loop-at.invariant.left v p) w3 step;
-}
+write_members-loop-at-preserved g t c = (
+  record {
+    left = λ v p.
+        let b = c.args.table.now in
+        let w = c.entry-entry.ensures.well_formed in
+        let i = c.args.index in
+        let lt = c.requires.index in
+        let is = c.requires.of_struct in
+        let counted = ap (λ (e : Entry). e.count) c.entry-entry.ensures.value in
+        let begun = ap (λ (e : Entry). e.first) c.entry-entry.ensures.value in
+        let less : c.loop-at.at < (entry_at b i).count = omega (arith, c.loop-at-test.true, counted) in
+        let here : c.row-row.result ≡ row_at b (header_of b) ((entry_at b i).first + c.loop-at.at) = c.row-row.ensures.value ∙ ap (λ k. row_at b (header_of b) (k + c.loop-at.at)) begun in
+        let x = printing.part_shown c.args.view.decoded.now (field_of v c.loop-at.at) c.field.result c.unwrap-part.result c.unwrap-part.ensures (c.field.ensures.part v p.shown) in
+        let typed = printing.member_typed b w i lt is v p.typed c.loop-at.at less x.0 x.1 in
+        let own = subst (λ (r : Row). IsTyped (declarations_of b) (resolve (declarations_of b).terms (ty.named r.entry)) x.0) (sym here) typed.1 in
+        let c0 = g.W.Write.contents c.loop-at.out.writer in
+        let c1 = g.W.Write.contents c.write_comma.new.out.writer in
+        let c2 = g.W.Write.contents c.write_all-in-loop-at.new.self.writer in
+        let c3 = g.W.Write.contents c.write_all-in-loop-at-2.new.self.writer in
+        let c4 = g.W.Write.contents c.write_value.new.out.writer in
+        let comma = comma_if (nat_lt 0 c.loop-at.at) in
+        let row = row_at b (header_of b) ((entry_at b i).first + c.loop-at.at) in
+        let name = name_at b (header_of b) row.name_place row.name_length in
+        let text = text_of (declarations_of b) (resolve (declarations_of b).terms (ty.named row.entry)) x.0 in
+        let named : c.row_name.result.now ≡ name = c.row_name.ensures ∙ ap (λ (r : Row). name_at b (header_of b) r.name_place r.name_length) here in
+        let texted = ap (λ (r : Row). text_of (declarations_of b) (resolve (declarations_of b).terms (ty.named r.entry)) x.0) here in
+        let w1 = appends_then c0 c1 c2 comma name c.in_ok-write_comma.ensures.text (appends_as c1 c2 c.row_name.result.now name named c.in_ok-write_all-2.ensures.bytes) in
+        let w2 = appends_then c0 c2 c3 (comma ++ name) (codes ": ") w1 c.in_ok-write_all-3.ensures.bytes in
+        let w3 = appends_then c0 c3 c4 (comma ++ name ++ codes ": ") text w2 (appends_as c3 c4 _ text texted (c.in_ok-write_value.ensures.text x.0 (record { shown = x.2; typed = own }))) in
+        let step = printing.members_step b w i lt is v c.loop-at.at (c.loop-at.at + 1) x.0 typed.0 less (omega arith) in
+        so_far_more _ _ _ _ _ _ _ (c.loop-at.invariant.0.left v p) w3 step;
+  },
+  c.in_ok-write_value.ensures.kept ∙ c.in_ok-write_all-3.ensures.kept ∙ c.in_ok-write_all-2.ensures.kept ∙ c.in_ok-write_comma.ensures.kept ∙ c.loop-at.invariant.1,
+)
 
 pub write_members-returns-clause-text : goal.write_members-returns-clause-text
 write_members-returns-clause-text g t c v p =
     let counted = ap (λ (e : Entry). e.count) c.entry-entry.ensures.value in
-    let end = so_far_as _ _ _ _ (codes "}") (c.loop-at.invariant.left v p)
+    let end = so_far_as _ _ _ _ (codes "}") (c.loop-at.invariant.0.left v p)
     (printing.members_end c.args.table.now c.entry-entry.ensures.well_formed c.args.index c.requires.index c.requires.of_struct v c.loop-at.at (omega (arith, c.loop-at-test.false, c.loop-at.auto.at-end, counted))) in
     on_ok c.write_all-2.result (λ h. so_far_end _ _ _ _ _ end h) c.write_all-2.ensures.bytes
 

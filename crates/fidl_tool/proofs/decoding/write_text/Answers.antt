@@ -5,7 +5,7 @@ use Rattle.fidl_wire.specs.Text.{Text}
 use Rattle.fidl_table.specs.Terms.{declarations_of}
 use Rattle.fidl_tool.proofs.Written.{appends_as, appends_then, appends_kept, always}
 use Rattle.fidl_tool.proofs.Messages.{message_part}
-use Rattle.fidl_tool.proofs.decode.write_text.Goals as goal
+use Rattle.fidl_tool.proofs.decoding.write_text.Goals as goal
 
 pub write_value-requires-clause-part : goal.write_value-requires-clause-part
 write_value-requires-clause-part g c =
