@@ -114,7 +114,7 @@ fn an_output_that_is_full(rt: HostRuntime) -> Result<(), Fail> {
     let outcome = decode(alloc, &FILE, &message, &mut out, &mut errors);
     assert_eq!(rt; outcome.status().number(), 3);
     assert!(rt; out.failure().is_some() && errors.failure().is_none());
-    let told = b"error: the output: failed to write whole buffer\n".as_slice();
+    let told = b"error: the output: write zero\n".as_slice();
     assert!(rt; errors.into_writer().as_slice() == told);
     assert!(rt; room.as_slice() == b"{x: 1,".as_slice());
     Ok(())

@@ -1,5 +1,5 @@
 -- What the words of a command line give, and what is told where they give no arguments (docs/program.md, "Statuses").
-use Rattle.std.specs.Prelude.{◌≡◌, ◌≢◌, ◌⊎◌, ⊤, ℕ, List, [], ◌++◌, codes, string_bytes, Option, Some, None, Ok, IsErr}
+use Rattle.std.specs.Prelude.{◌≡◌, ◌≢◌, ◌⊎◌, ⊤, ℕ, List, [], ◌++◌, codes, string_bytes, Some, None, Ok, IsErr}
 use Rattle.std.specs.List.{All, AllZip}
 use Rattle.std.specs.Option.{option_map_or}
 use Rattle.clap.specs.Matches.{matched_of, first_value, raw_values}

@@ -7,6 +7,7 @@ ghost use Rattle.fidl_wire.specs.Message.{Encodes};
 ghost use Rattle.fidl_wire.specs.Text.{Text};
 ghost use Rattle.fidl_table.specs.Terms.{declarations_of};
 ghost use Rattle.fidl_tool.specs.Decoding.{HasRoot, LacksRoot, IsText, IsRefusal, CanEndDecode, no_root_line, no_memory_line};
+ghost use Rattle.fidl_tool.specs.Outputs.{Writes, AppendsFront};
 ghost use Rattle.fidl_tool.specs.declared.outcome.Outcome.TheVariants as outcome;
 
 use crate::files::File;
@@ -32,7 +33,7 @@ pub struct TypedMessage<'m> {
 /// Writes the line of the text of the value that a message encodes.
 fn write_text<W: Write>(decoded: &Decoded<'_, '_, '_>, out: &mut Output<W>) -> Result<(), Failed>
     ensures text { (v : Value) → Encodes (declarations_of decoded.now.table) (ty.named decoded.now.entry) v decoded.now.bytes decoded.now.handles
-        → OnOk result (Appends (W.contents out.old.writer) (W.contents out.new.writer) (Text (declarations_of decoded.now.table) (ty.named decoded.now.entry) v ++ codes "\n")) }
+        → Writes (W.contents out.old.writer) (W.contents out.new.writer) (Text (declarations_of decoded.now.table) (ty.named decoded.now.entry) v ++ codes "\n") result }
     ensures kept { OnOk result (out.new.failure ≡ out.old.failure) }
     ensures failed { OnErr result (IsSome out.new.failure) }
 {
@@ -63,6 +64,8 @@ pub fn decode<W: Write, E: Write>(
     ensures memory { result ≡ outcome.NoMemory → HasRoot file.now.bytes.now message.now.root.now }
     ensures memory_line { result ≡ outcome.NoMemory → Appends (E.contents errors.old.writer) (E.contents errors.new.writer) no_memory_line }
     ensures unwritten { out.old.failure ≡ None → errors.old.failure ≡ None → (result ≡ outcome.Unwritten ↔ (IsSome out.new.failure ⊎ IsSome errors.new.failure)) }
+    ensures front { result ≡ outcome.Unwritten → W.contents out.new.writer ≡ W.contents out.old.writer
+        ⊎ ((line : List ℕ) × IsText file.now.bytes.now message.now.root.now message.now.bytes.now message.now.handles.now line × AppendsFront (W.contents out.old.writer) (W.contents out.new.writer) line) }
     ensures out { result ≢ outcome.Done → result ≢ outcome.Unwritten → W.contents out.new.writer ≡ W.contents out.old.writer }
     ensures errors { result ≡ outcome.Done → E.contents errors.new.writer ≡ E.contents errors.old.writer }
 {

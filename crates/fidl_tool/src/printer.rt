@@ -1,6 +1,5 @@
 //! The text of a value, as a view shows it (docs/wire.md, "The written text of a value").
 ghost use Rattle.std.specs.Prelude.{◌≡◌, ℕ, ◌<◌, OnOk, OnErr, IsSome};
-ghost use Rattle.std.specs.Io.KnownBytes.{Appends};
 ghost use Rattle.fidl_wire.specs.Term as ty;
 ghost use Rattle.fidl_wire.specs.Term.{resolve};
 ghost use Rattle.fidl_wire.specs.Figure.{Declarations};
@@ -11,16 +10,18 @@ ghost use Rattle.fidl_table.specs.Terms.{declarations_of};
 ghost use Rattle.fidl_verify.specs.Entry.{IsOf};
 ghost use Rattle.fidl_verify.specs.WellFormed.{WellFormed};
 ghost use Rattle.fidl_tool.specs.Parts.{HasPart, Prints};
+ghost use Rattle.fidl_tool.specs.Outputs.{Writes};
 
 use crate::output::{Failed, Output};
 use fidl_table::EntryKind;
 use fidl_verify::Table;
 use fidl_view::View;
+use itoa::Buffer;
 use std::io::Write;
 
 /// Writes what stands between one element or member and the next.
 fn write_comma<W: Write>(out: &mut Output<W>, later: bool) -> Result<(), Failed>
-    ensures text { OnOk result (Appends (W.contents out.old.writer) (W.contents out.new.writer) (comma_if later)) }
+    ensures text { Writes (W.contents out.old.writer) (W.contents out.new.writer) (comma_if later) result }
     ensures kept { OnOk result (out.new.failure ≡ out.old.failure) }
     ensures failed { OnErr result (IsSome out.new.failure) }
 {
@@ -44,11 +45,12 @@ fn write_number<W: Write>(view: View<'_, '_>, out: &mut Output<W>) -> Result<(),
     ensures kept { OnOk result (out.new.failure ≡ out.old.failure) }
     ensures failed { OnErr result (IsSome out.new.failure) }
 {
+    let mut buffer = Buffer::new();
     match view.as_u64() {
-        Some(number) => write!(out, "{number}"),
+        Some(number) => out.write_all(buffer.format(number).as_bytes()),
         None => {
             let number = view.as_i64().unwrap();
-            write!(out, "{number}")
+            out.write_all(buffer.format(number).as_bytes())
         }
     }
 }
@@ -94,8 +96,8 @@ fn write_members<W: Write>(
     ensures kept { OnOk result (out.new.failure ≡ out.old.failure) }
     ensures failed { OnErr result (IsSome out.new.failure) }
 {
-    out.write_all(b"{")?;
     let entry = table.entry(index);
+    out.write_all(b"{")?;
     // Read, so that a row's index is known to be a number of 32 bits.
     let _rows = table.rows();
     for at in 0..entry.count {

@@ -5,14 +5,15 @@ ghost use Rattle.std.specs.IoError.{error_kind};
 ghost use Rattle.std.specs.declared.io.ErrorKind.TheVariants as error_kinds;
 ghost use Rattle.fidl_tool.specs.Arguments.{outcome_of, text_of, line_of};
 ghost use Rattle.fidl_tool.specs.Decoding.{LacksRoot, IsText, IsRefusal, no_root_line, no_memory_line, CanEndRun};
+ghost use Rattle.fidl_tool.specs.Outputs.{AppendsFront};
 ghost use Rattle.fidl_tool.specs.declared.outcome.Outcome.TheVariants as outcome;
 
 use crate::arguments::{DecodeArguments, read_arguments};
 use crate::decoding::decode;
 use crate::files::{File, Files};
-use crate::lines::{write_line, write_no_file, write_no_memory, write_text};
+use crate::lines::{write_line, write_no_file, write_no_memory, write_no_output, write_text};
 use crate::outcome::Outcome;
-use crate::output::Output;
+use crate::output::{Failed, Output};
 use crate::unread::Unread;
 use std::alloc::Global;
 use std::convert::AsStr;
@@ -34,7 +35,10 @@ pub(crate) fn tell<W: Write, E: Write>(
         Unread::Asked { text } => write_text(out, text.as_str()),
         _ => write_line(errors, unread.line()),
     };
-    unread.outcome().where_written(&written)
+    match written {
+        Ok(()) => unread.outcome(),
+        Err(Failed) => Outcome::Unwritten.where_written(&write_no_output(errors, out)),
+    }
 }
 
 /// Tells that a file cannot be read, or that memory ran out for it.
@@ -68,6 +72,8 @@ fn run_decode<F: Files, W: Write, E: Write>(
     ensures no_file { result ≡ outcome.NoFile → F.bytes_of files.now arguments.now.table.now ≡ None }
     ensures memory_line { result ≡ outcome.NoMemory → Appends (E.contents errors.old.writer) (E.contents errors.new.writer) no_memory_line }
     ensures unwritten { out.old.failure ≡ None → errors.old.failure ≡ None → (result ≡ outcome.Unwritten ↔ (IsSome out.new.failure ⊎ IsSome errors.new.failure)) }
+    ensures front { result ≡ outcome.Unwritten → W.contents out.new.writer ≡ W.contents out.old.writer ⊎ IfSome (F.bytes_of files.now arguments.now.table.now) (λ table.
+        (line : List ℕ) × IsText table arguments.now.root.now arguments.now.bytes.items arguments.now.handles.items line × AppendsFront (W.contents out.old.writer) (W.contents out.new.writer) line) }
     ensures out { result ≢ outcome.Done → result ≢ outcome.Unwritten → W.contents out.new.writer ≡ W.contents out.old.writer }
     ensures errors { result ≡ outcome.Done → E.contents errors.new.writer ≡ E.contents errors.old.writer }
 {

@@ -1,4 +1,4 @@
-use Rattle.std.proofs.Common.{arith, map, length}
+use Rattle.std.proofs.Common.{arith}
 use Rattle.std.proofs.lemmas.List.{length-map}
 use Rattle.fidl_tool.proofs.HandleTexts.{no_handle, one_handle, none_given, some_given}
 use Rattle.fidl_tool.proofs.arguments.are_handles.Goals as goal

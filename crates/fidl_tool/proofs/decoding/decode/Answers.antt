@@ -1,4 +1,4 @@
-use Rattle.std.proofs.Common.{ℕ, List, ◌++◌, sym, ap, subst, ◌∙◌, arith}
+use Rattle.std.proofs.Common.{ℕ, List, ◌++◌, sym, ap, subst, ◌∙◌, inr}
 use Rattle.std.specs.Prelude.{codes}
 use Rattle.fidl_wire.specs.Term as ty
 use Rattle.fidl_wire.specs.Text.{Text}
@@ -8,7 +8,7 @@ use Rattle.fidl_verify.specs.Faults as table_faults
 use Rattle.fidl_decode.specs.Faults as message_faults
 use Rattle.fidl_tool.specs.declared.outcome.Outcome.TheVariants as outcome
 use Rattle.fidl_tool.specs.Decoding.{refusal_line, table_line, message_line, value, of_table, of_message}
-use Rattle.fidl_tool.proofs.Written.{appends_as}
+use Rattle.fidl_tool.proofs.Written.{appends_as, front_as}
 use Rattle.fidl_tool.proofs.Told.{told_written, told_never, root_of, no_root_of, encodes_as, text_as}
 use Rattle.fidl_decode.specs.Faults.{IsTold}
 use Rattle.fidl_tool.proofs.decoding.decode.Goals as goal
@@ -69,6 +69,19 @@ returns-in-Ok-write_text-clause-done g c q =
     let same = ap (λ (l : List ℕ). l ++ codes "\n") (text_as d file entry x.0 table c.in-Ok-decoded.ensures.entry) in
     let line = Text (declarations_of file) (ty.named entry) x.0 ++ codes "\n" in
     (line, value entry x.0 root x.1, appends_as (g.W.Write.contents c.args.out.now.writer) (g.W.Write.contents c.write_text.new.out.writer) _ line same (c.in-Ok-write_text.ensures.text x.0 here))
+
+pub returns-clause-front : goal.returns-clause-front
+returns-clause-front g c q =
+    let file = c.args.file.now.bytes.now in
+    let entry = c.in-Some.entry in
+    let d = c.in-Ok-decoded.decoded in
+    let root = root_of file c.in-Ok.table c.args.message.now.root.now c.as_bytes.result.now entry c.in-Ok.ensures.value c.as_bytes.ensures.value c.in-Ok.ensures.ok c.in-Some.ensures.found in
+    let x = subst (λ (b : List ℕ). IsEncoding (declarations_of b) (ty.named entry) c.args.message.now.bytes.now c.args.message.now.handles.now) c.in-Ok.ensures.value c.in-Ok-decoded.ensures.ok in
+    let table = c.in-Ok-decoded.ensures.table ∙ c.in-Ok.ensures.value in
+    let here = encodes_as d file c.args.message.now.bytes.now entry c.args.message.now.handles.now x.0 table c.in-Ok-decoded.ensures.entry c.in-Ok-decoded.ensures.bytes c.in-Ok-decoded.ensures.handles x.1 in
+    let same = ap (λ (l : List ℕ). l ++ codes "\n") (text_as d file entry x.0 table c.in-Ok-decoded.ensures.entry) in
+    let line = Text (declarations_of file) (ty.named entry) x.0 ++ codes "\n" in
+    inr (line, value entry x.0 root x.1, front_as (g.W.Write.contents c.args.out.now.writer) (g.W.Write.contents c.write_text.new.out.writer) _ line same (c.in-Err-write_text.ensures.text x.0 here))
 
 pub returns-clause-done : goal.returns-clause-done
 returns-clause-done g c q = told_never c.write_no_output.result outcome.Unwritten outcome.Done c.where_written-in-Err-write_text.result c.where_written-in-Err-write_text.ensures q (λ e. cc) (λ e. cc)
