@@ -96,7 +96,9 @@ pub fn run<S: AsStr, F: Files, W: Write, E: Write>(
     files: &F,
     out: &mut Output<W>,
     errors: &mut Output<E>,
-) -> Outcome {
+) -> Outcome
+    ensures unwritten { out.old.failure ≡ None → errors.old.failure ≡ None → (result ≡ outcome.Unwritten ↔ (IsSome out.new.failure ⊎ IsSome errors.new.failure)) }
+{
     match read_arguments(alloc, words) {
         Ok(arguments) => run_decode(alloc, &arguments, files, out, errors),
         Err(unread) => tell(&unread, out, errors),
