@@ -5,3 +5,4 @@ pub mod Numbers
 pub mod Messages
 pub mod Told
 mod HandleTexts
+mod HexText

@@ -1,5 +1,5 @@
 -- What a status says of the line that goes with it, and of the roots of a table.
-use Rattle.std.proofs.Common.{◌≡◌, ◌≢◌, ℕ, List, sym, ap, subst, ◌∙◌, arith}
+use Rattle.std.proofs.Common.{◌≡◌, ◌≢◌, ℕ, List, sym, ap, subst, ◌∙◌}
 use Rattle.std.specs.Prelude.{Result, Ok, Err, OnOk, is_ok, if◌then◌else◌}
 use Rattle.fidl_wire.specs.declared.handle.HandleInfo.{HandleInfo}
 use Rattle.fidl_wire.specs.Value.{Value}
@@ -11,20 +11,19 @@ use Rattle.fidl_records.specs.Terms.{declarations_of}
 use Rattle.fidl_records.specs.Root.{IsRootEntry, HasNoRoot}
 use Rattle.fidl_records.specs.WellFormed.{WellFormed}
 use Rattle.fidl_decode.specs.Shown.{Shown}
-use Rattle.fidl_tool.specs.declared.status.Status.{Status}
-use Rattle.fidl_tool.specs.declared.status.Status.TheVariants.{Refused, FileFault}
-use Rattle.fidl_tool.specs.Status.{number_of}
+use Rattle.fidl_tool.specs.declared.outcome.Outcome.{Outcome}
+use Rattle.fidl_tool.specs.declared.outcome.Outcome.TheVariants.{Unwritten}
 use Rattle.fidl_tool.specs.Decoding.{IsRootOf, LacksRoot}
 
--- a refusal is told where its line was written
-pub told_refused : {T E P : Type 0} (w : Result T E) (r : Status) → r ≡ (if is_ok w then Refused else FileFault) → r ≡ Refused → OnOk w P → P
-told_refused (Ok x) r e q h = h
-told_refused (Err x) r e q h = let bad : number_of FileFault ≡ number_of Refused = ap number_of (sym e ∙ q) in absurd (omega (arith, bad))
+-- what a line says holds where its outcome is answered
+pub told_written : {T E P : Type 0} (w : Result T E) (own r : Outcome) → r ≡ (if is_ok w then own else Unwritten) → r ≡ own → own ≢ Unwritten → OnOk w P → P
+told_written (Ok x) own r e q n h = h
+told_written (Err x) own r e q n h = absurd (n (sym q ∙ e))
 
--- no status is told but the own one and a file fault
-pub told_never : {T E P : Type 0} (w : Result T E) (own other r : Status) → r ≡ (if is_ok w then own else FileFault) → r ≡ other → number_of own ≢ number_of other → number_of FileFault ≢ number_of other → P
-told_never (Ok x) own other r e q a b = absurd (a (ap number_of (sym e ∙ q)))
-told_never (Err x) own other r e q a b = absurd (b (ap number_of (sym e ∙ q)))
+-- no outcome is answered but the own one and a failed write
+pub told_never : {T E P : Type 0} (w : Result T E) (own other r : Outcome) → r ≡ (if is_ok w then own else Unwritten) → r ≡ other → own ≢ other → Unwritten ≢ other → P
+told_never (Ok x) own other r e q a b = absurd (a (sym e ∙ q))
+told_never (Err x) own other r e q a b = absurd (b (sym e ∙ q))
 
 pub root_of : (file table root name : List ℕ) (entry : ℕ) → table ≡ file → name ≡ root → WellFormed file → IsRootEntry table (header_of table) name entry → IsRootOf file root entry
 root_of file table root name entry t n w h = record {

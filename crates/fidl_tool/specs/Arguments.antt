@@ -1,22 +1,79 @@
--- What is told of a command line (docs/program.md, "Statuses").
-use Rattle.std.specs.Prelude.{◌≡◌, ⊤, ℕ, List, ◌++◌, codes, string_bytes}
-use Rattle.fidl_tool.specs.declared.status.Status.{Status}
-use Rattle.fidl_tool.specs.declared.status.Status.TheVariants as status
+-- What the words of a command line give, and what is told where they give no arguments (docs/program.md, "Statuses").
+use Rattle.std.specs.Prelude.{◌≡◌, ◌≢◌, ◌⊎◌, ⊤, ℕ, List, [], ◌++◌, codes, string_bytes, Some, None, Ok, IsErr}
+use Rattle.std.specs.List.{All, AllZip}
+use Rattle.std.specs.Option.{option_map_or}
+use Rattle.clap.specs.Matches.{matched_of, first_value, raw_values}
+use Rattle.clap.specs.declared.parser.matches.Found.{Found}
+use Rattle.clap.specs.declared.error.kind.ErrorKind.{ErrorKind}
+use Rattle.clap.specs.declared.error.kind.ErrorKind.TheVariants.{DisplayHelp, DisplayVersion, OutOfMemory}
+use Rattle.hex.specs.Hex.{decode_of}
+use Rattle.fidl_tool.specs.declared.outcome.Outcome.{Outcome}
+use Rattle.fidl_tool.specs.declared.outcome.Outcome.TheVariants as outcome
 use Rattle.fidl_tool.specs.declared.unread.Unread.{Unread}
-use Rattle.fidl_tool.specs.declared.unread.Unread.TheVariants.{Asked, Wrong, Memory}
+use Rattle.fidl_tool.specs.declared.unread.Unread.TheVariants.{Asked, Wrong, NotText, Missing, BadHex, BadHandle, Memory}
+use Rattle.fidl_tool.specs.declared.arguments.DecodeArguments.{DecodeArguments}
+use Rattle.fidl_wire.specs.declared.handle.HandleInfo.{HandleInfo}
+use Rattle.fidl_tool.specs.Decoding.{no_memory}
+use Rattle.fidl_tool.specs.Handles.{IsHandleText, HasNoHandleText}
 
--- the line for an argument that is wrong
-abbrev pub wrong_line : (argument why : List ℕ) → List ℕ
-wrong_line argument why = codes "error: " ++ argument ++ codes ": " ++ why
+-- an argument is not read: it is wrong and told so, or it is right and memory ran out
+abbrev pub IsTold : (told_wrong : Unread) (IsWrong IsRight : Type 0) → Unread → Type 0
+IsTold told_wrong IsWrong IsRight told = ((told ≡ told_wrong) × IsWrong) ⊎ ((told ≡ Memory) × IsRight)
 
--- unless memory ran out, the command line is told to be wrong, with this line
-abbrev pub IsWrong : (argument why : List ℕ) → Unread → Type 0
-IsWrong argument why (Wrong line) = string_bytes line ≡ wrong_line argument why
-IsWrong argument why (Asked text) = ⊥
-IsWrong argument why Memory = ⊤
+-- each text is that of a handle
+abbrev pub AreHandleTexts : List (List ℕ) → Type 0
+AreHandleTexts texts = All (λ text. (h : HandleInfo) × IsHandleText text h) texts
 
--- how a command ends whose command line gives no arguments
-abbrev pub told_by : Unread → Status
-told_by (Asked text) = status.Done
-told_by (Wrong line) = status.Usage
-told_by Memory = status.Memory
+-- the texts of the handles among the arguments that were found
+abbrev pub handle_texts : Found → List (List ℕ)
+handle_texts found = option_map_or raw_values (matched_of found (codes "handle")) []
+
+-- what was found gives these arguments of `decode`
+pub record IsDecode (found : Found) (given : DecodeArguments) : Type 0 where
+  pub table : first_value found (codes "TABLE") ≡ Some given.table.now
+  pub root : first_value found (codes "ROOT") ≡ Some given.root.now
+  pub hex : List ℕ
+  pub hex_given : first_value found (codes "HEX") ≡ Some hex
+  pub bytes : decode_of hex ≡ Ok given.bytes.items
+  pub handles : AllZip IsHandleText (handle_texts found) given.handles.items
+
+-- why what was found gives no arguments of `decode`
+abbrev pub IsNoDecode : Found → Unread → Type 0
+IsNoDecode found Missing = (first_value found (codes "TABLE") ≡ None) ⊎ (first_value found (codes "ROOT") ≡ None) ⊎ (first_value found (codes "HEX") ≡ None)
+IsNoDecode found BadHex = (hex : List ℕ) × (first_value found (codes "HEX") ≡ Some hex) × IsErr (decode_of hex)
+IsNoDecode found BadHandle = HasNoHandleText (handle_texts found)
+IsNoDecode found Memory = ⊤
+IsNoDecode found _ = ⊥
+
+-- what is told where clap gives no matches, by the kind of its error; memory can run out while the text is made
+abbrev pub IsToldByKind : ErrorKind → Unread → Type 0
+IsToldByKind kind (Asked text) = (kind ≡ DisplayHelp) ⊎ (kind ≡ DisplayVersion)
+IsToldByKind kind (Wrong line) = (kind ≢ DisplayHelp) × (kind ≢ DisplayVersion) × (kind ≢ OutOfMemory)
+IsToldByKind kind Memory = ⊤
+IsToldByKind kind _ = ⊥
+
+-- what happens to a command whose arguments are not read
+abbrev pub outcome_of : Unread → Outcome
+outcome_of (Asked text) = outcome.Asked
+outcome_of Memory = outcome.NoMemory
+outcome_of _ = outcome.WrongLine
+
+-- what is printed on the output
+abbrev pub text_of : Unread → List ℕ
+text_of (Asked text) = string_bytes text
+text_of _ = []
+
+-- what is wrong, in one line
+abbrev pub complaint_of : Unread → List ℕ
+complaint_of (Asked text) = []
+complaint_of (Wrong line) = string_bytes line
+complaint_of NotText = codes "error: the arguments: UTF-8 is wanted"
+complaint_of Missing = codes "error: the arguments: decode TABLE ROOT HEX is wanted"
+complaint_of BadHex = codes "error: HEX: an even number of hexadecimal digits is wanted"
+complaint_of BadHandle = codes "error: --handle: three decimal numbers of 32 bits are wanted, as in 1:3:0"
+complaint_of Memory = no_memory
+
+-- what is printed on the errors
+abbrev pub line_of : Unread → List ℕ
+line_of (Asked text) = []
+line_of other = complaint_of other ++ codes "\n"

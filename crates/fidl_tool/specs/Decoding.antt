@@ -1,5 +1,5 @@
 -- What the command `decode` answers (docs/program.md, "decode").
-use Rattle.std.specs.Prelude.{ℕ, List, ◌++◌, codes, decimal, Option, Some}
+use Rattle.std.specs.Prelude.{⊤, ℕ, List, ◌++◌, codes, decimal, Option, Some}
 use Rattle.std.specs.Fmt.{option_append, debug_str}
 use Rattle.fidl_wire.specs.declared.handle.HandleInfo.{HandleInfo}
 use Rattle.fidl_wire.specs.Value.{Value}
@@ -16,6 +16,8 @@ use Rattle.fidl_verify.specs.declared.fault.TableFault.{TableFault}
 use Rattle.fidl_decode.specs.Faults.{IsTold}
 use Rattle.fidl_decode.specs.Faults as message_faults
 use Rattle.fidl_decode.specs.declared.fault.DecodeFault.{DecodeFault}
+use Rattle.fidl_tool.specs.declared.outcome.Outcome.{Outcome}
+use Rattle.fidl_tool.specs.declared.outcome.Outcome.TheVariants.{Asked, WrongLine, NoFile}
 
 -- the table is accepted, and its first root of this name has this entry
 pub record IsRootOf (table root : List ℕ) (entry : ℕ) : Type 0 where
@@ -46,9 +48,25 @@ message_line f = refusal_line (codes "decode") (message_faults.number_of f) (mes
 abbrev pub no_root_line : (file root : List ℕ) → Option (List ℕ)
 no_root_line file root = option_append (Some (codes "error: ROOT: no root of ")) (option_append (debug_str file) (option_append (Some (codes " has the name ")) (option_append (debug_str root) (Some (codes "\n")))))
 
--- the line for want of memory
+-- what is said where memory ran out, and its line
+abbrev pub no_memory : List ℕ
+no_memory = codes "error: out of memory"
+
 abbrev pub no_memory_line : List ℕ
-no_memory_line = codes "error: out of memory\n"
+no_memory_line = no_memory ++ codes "\n"
+
+-- what can happen to `decode`
+abbrev pub CanEndDecode : Outcome → Type 0
+CanEndDecode Asked = ⊥
+CanEndDecode WrongLine = ⊥
+CanEndDecode NoFile = ⊥
+CanEndDecode _ = ⊤
+
+-- what can happen to it with its arguments read, and its file to be read
+abbrev pub CanEndRun : Outcome → Type 0
+CanEndRun Asked = ⊥
+CanEndRun WrongLine = ⊥
+CanEndRun _ = ⊤
 
 -- the line of the text that bytes and handles encode, as a value of the root's type
 pub data IsText (table root bytes : List ℕ) (handles : List HandleInfo) : List ℕ → Type 0 where

@@ -1,9 +1,22 @@
--- How a command ends (docs/program.md, "Statuses").
+-- What happens to a command, and how the program then ends (docs/program.md, "Statuses").
 use Rattle.std.specs.Prelude.{ℕ}
-use Rattle.fidl_tool.specs.declared.status.Status.{Status}
-use Rattle.fidl_tool.specs.declared.status.Status.TheVariants.{Done, Refused, Usage, FileFault, Memory}
+use Rattle.fidl_tool.specs.declared.outcome.Outcome.{Outcome}
+use Rattle.fidl_tool.specs.declared.outcome.Outcome.TheVariants as outcome
+use Rattle.fidl_tool.specs.declared.outcome.Status.{Status}
+use Rattle.fidl_tool.specs.declared.outcome.Status.TheVariants.{Done, Refused, Usage, FileFault, Memory}
 
--- the program's exit status
+-- the status that follows from what happened
+abbrev pub status_of : Outcome → Status
+status_of outcome.Done = Done
+status_of outcome.Asked = Done
+status_of outcome.Refused = Refused
+status_of outcome.WrongLine = Usage
+status_of outcome.NoRoot = Usage
+status_of outcome.NoFile = FileFault
+status_of outcome.Unwritten = FileFault
+status_of outcome.NoMemory = Memory
+
+-- the number that the program exits with
 abbrev pub number_of : Status → ℕ
 number_of Done = 0
 number_of Refused = 1

@@ -1,11 +1,13 @@
 //! The command line.
-ghost use Rattle.std.specs.Prelude.{◌≡◌, ◌⊎◌, ℕ, List, Ok, IfOk, IfErr, map};
-ghost use Rattle.std.specs.List.{AllZip};
-ghost use Rattle.hex.specs.Hex.{decode_of};
+ghost use Rattle.std.specs.Prelude.{◌≡◌, IsErr, IsOk, ℕ, List, Ok, IfOk, IfErr, MatchBool, map};
+ghost use Rattle.std.specs.List.{AllZip, list_all};
+ghost use Rattle.clap.specs.Matches.{found_of};
+ghost use Rattle.hex.specs.Hex.{decode_of, is_hex_digit};
 ghost use Rattle.fidl_tool.specs.Handles.{IsHandleText, HasNoHandleText};
-ghost use Rattle.fidl_tool.specs.Arguments.{IsWrong};
+ghost use Rattle.fidl_tool.specs.Arguments.{IsTold, AreHandleTexts, IsDecode, IsNoDecode};
 ghost use Rattle.fidl_tool.specs.declared.unread.Unread.TheVariants as unread;
 
+use crate::decoding::TypedMessage;
 use crate::handle::read_handle;
 use crate::unread::Unread;
 use clap::{Arg, ArgAction, ArgMatches, Command};
@@ -15,12 +17,27 @@ use std::alloc::{AllocError, Global};
 use std::convert::AsStr;
 
 /// What `fidl decode` is given: the table's file, the root's name, and a message.
-#[derive(Debug, Drop)]
+#[derive(Drop)]
 pub(crate) struct DecodeArguments<'a> {
     pub table: &'a str,
     pub root: &'a str,
     pub bytes: Vec<u8>,
     pub handles: Vec<HandleInfo>,
+}
+
+impl DecodeArguments<'_> {
+    /// The message, with the name of its root.
+    pub(crate) fn message(&self) -> TypedMessage<'_>
+        ensures root { result.root.now ≡ self.now.root.now }
+        ensures bytes { result.bytes.now ≡ self.now.bytes.items }
+        ensures handles { result.handles.now ≡ self.now.handles.items }
+    {
+        TypedMessage {
+            root: self.root,
+            bytes: self.bytes.as_slice(),
+            handles: self.handles.as_slice(),
+        }
+    }
 }
 
 /// An argument that must be given, by its place.
@@ -52,61 +69,81 @@ fn command_line<'a>(alloc: Global) -> Result<Command<'a>, AllocError> {
         .subcommand(decode)
 }
 
-/// The line for an argument that is wrong.
-fn wrong(alloc: Global, argument: &str, why: &str) -> Unread
-    ensures { IsWrong argument.now why.now result }
+fn is_hex_digit(byte: u8) -> bool
+    ensures { result ≡ is_hex_digit byte }
 {
-    match format!(in alloc; "error: {argument}: {why}") {
-        Ok(line) => Unread::Wrong { line },
-        Err(_) => Unread::Memory,
-    }
+    matches!(byte, b'A'..=b'F' | b'a'..=b'f' | b'0'..=b'9')
+}
+
+fn are_hex_digits(text: &[u8]) -> bool
+    ensures { result ≡ list_all is_hex_digit text.now }
+{
+    text.iter().all(|byte| is_hex_digit(*byte))
+}
+
+/// Whether a text is an even number of hexadecimal digits.
+fn is_hex(text: &str) -> bool
+    ensures { MatchBool result (IsOk (decode_of text.now)) (IsErr (decode_of text.now)) }
+{
+    text.len() % 2 == 0 && are_hex_digits(text.as_bytes())
 }
 
 /// The bytes of a message, from their text.
 fn read_bytes(alloc: Global, text: &str) -> Result<Vec<u8>, Unread>
     ensures ok { IfOk result (λ bytes. decode_of text.now ≡ Ok bytes.items) }
-    ensures wrong { IfErr result (λ e. (e ≡ unread.Memory) ⊎ ((bytes : List ℕ) → decode_of text.now ≡ Ok bytes → ⊥)) }
+    ensures err { IfErr result (IsTold unread.BadHex (IsErr (decode_of text.now)) (IsOk (decode_of text.now))) }
 {
     match hex::decode(alloc, text) {
         Ok(bytes) => Ok(bytes),
-        Err(FromHexError::OutOfMemory) => Err(Unread::Memory),
-        Err(_) => Err(wrong(
-            alloc,
-            "HEX",
-            "an even number of hexadecimal digits is wanted",
-        )),
+        Err(FromHexError::OutOfMemory) if is_hex(text) => Err(Unread::Memory),
+        Err(_) => Err(Unread::BadHex),
     }
+}
+
+/// Whether each text is that of a handle.
+fn are_handles(texts: &[&str]) -> bool
+    ensures { MatchBool result (AreHandleTexts (map (λ text. text.now) texts.now)) (HasNoHandleText (map (λ text. text.now) texts.now)) }
+{
+    for text in texts {
+        if read_handle(*text).is_none() {
+            return false;
+        }
+    }
+    true
 }
 
 /// The handles of a message, from their texts.
 fn read_handles(alloc: Global, texts: &[&str]) -> Result<Vec<HandleInfo>, Unread>
     ensures ok { IfOk result (λ handles. AllZip IsHandleText (map (λ text. text.now) texts.now) handles.items) }
-    ensures wrong { IfErr result (λ e. (e ≡ unread.Memory) ⊎ HasNoHandleText (map (λ text. text.now) texts.now)) }
+    ensures err { IfErr result (IsTold unread.BadHandle (HasNoHandleText (map (λ text. text.now) texts.now)) (AreHandleTexts (map (λ text. text.now) texts.now))) }
 {
     let mut handles = Vec::new(alloc);
     for text in texts {
         let Some(handle) = read_handle(*text) else {
-            return Err(wrong(
-                alloc,
-                "--handle",
-                "three decimal numbers of 32 bits are wanted, as in 1:3:0",
-            ));
+            return Err(Unread::BadHandle);
         };
         if handles.push(handle).is_err() {
-            return Err(Unread::Memory);
+            return Err(if are_handles(texts) {
+                Unread::Memory
+            } else {
+                Unread::BadHandle
+            });
         }
     }
     Ok(handles)
 }
 
 /// What `fidl decode` was given.
-fn read_decode<'a>(alloc: Global, matches: &ArgMatches<'a>) -> Result<DecodeArguments<'a>, Unread> {
+fn read_decode<'a>(alloc: Global, matches: &ArgMatches<'a>) -> Result<DecodeArguments<'a>, Unread>
+    ensures ok { IfOk result (IsDecode (found_of matches.now)) }
+    ensures err { IfErr result (IsNoDecode (found_of matches.now)) }
+{
     let (Some(table), Some(root), Some(hex)) = (
         matches.get_str("TABLE"),
         matches.get_str("ROOT"),
         matches.get_str("HEX"),
     ) else {
-        return Err(wrong(alloc, "decode", "TABLE, ROOT and HEX are wanted"));
+        return Err(Unread::Missing);
     };
     let bytes = read_bytes(alloc, hex)?;
     let handles = match matches.get_strs("handle") {
@@ -132,6 +169,6 @@ pub(crate) fn read_arguments<'a, S: AsStr>(
     };
     match matches.subcommand_matches("decode") {
         Some(matches) => read_decode(alloc, matches),
-        None => Err(wrong(alloc, "COMMAND", "decode is wanted")),
+        None => Err(Unread::Missing),
     }
 }

@@ -1,10 +1,32 @@
 //! The lines that a command prints on its errors.
-ghost use Rattle.std.specs.Prelude.{◌≡◌, OnOk, OnErr, IfSome, IsSome};
+ghost use Rattle.std.specs.Prelude.{◌≡◌, ◌++◌, codes, OnOk, OnErr, IfSome, IsSome};
 ghost use Rattle.std.specs.Io.KnownBytes.{Appends};
 ghost use Rattle.fidl_tool.specs.Decoding.{refusal_line, no_root_line, no_memory_line};
 
 use crate::output::{Failed, Output};
+use std::io;
 use std::io::Write;
+
+/// A text as it is.
+pub(crate) fn write_text<W: Write>(out: &mut Output<W>, text: &str) -> Result<(), Failed>
+    ensures text { OnOk result (Appends (W.contents out.old.writer) (W.contents out.new.writer) text.now) }
+    ensures kept { OnOk result (out.new.failure ≡ out.old.failure) }
+    ensures failed { OnErr result (IsSome out.new.failure) }
+{
+    out.write_all(text.as_bytes())?;
+    out.flush()
+}
+
+/// A text and a line feed.
+pub(crate) fn write_line<E: Write>(errors: &mut Output<E>, text: &str) -> Result<(), Failed>
+    ensures line { OnOk result (Appends (E.contents errors.old.writer) (E.contents errors.new.writer) (text.now ++ codes "\n")) }
+    ensures kept { OnOk result (errors.new.failure ≡ errors.old.failure) }
+    ensures failed { OnErr result (IsSome errors.new.failure) }
+{
+    errors.write_all(text.as_bytes())?;
+    errors.write_all(b"\n")?;
+    errors.flush()
+}
 
 /// The line of a refusal: the stage that refuses, the fault's number and name, and its place.
 pub(crate) fn write_refusal<E: Write>(
@@ -15,6 +37,7 @@ pub(crate) fn write_refusal<E: Write>(
     place: usize,
 ) -> Result<(), Failed>
     ensures line { OnOk result (Appends (E.contents errors.old.writer) (E.contents errors.new.writer) (refusal_line stage.now number name.now place)) }
+    ensures kept { OnOk result (errors.new.failure ≡ errors.old.failure) }
     ensures failed { OnErr result (IsSome errors.new.failure) }
 {
     writeln!(errors, "{stage} {number} {name} at {place}")?;
@@ -28,6 +51,7 @@ pub(crate) fn write_no_root<E: Write>(
     root: &str,
 ) -> Result<(), Failed>
     ensures line { OnOk result (IfSome (no_root_line table.now root.now) (Appends (E.contents errors.old.writer) (E.contents errors.new.writer))) }
+    ensures kept { OnOk result (errors.new.failure ≡ errors.old.failure) }
     ensures failed { OnErr result (IsSome errors.new.failure) }
 {
     writeln!(
@@ -37,13 +61,26 @@ pub(crate) fn write_no_root<E: Write>(
     errors.flush()
 }
 
-/// The line for want of memory.
-pub(crate) fn write_no_memory<E: Write>(errors: &mut Output<E>) -> Result<(), Failed>
-    ensures line { OnOk result (Appends (E.contents errors.old.writer) (E.contents errors.new.writer) no_memory_line) }
+/// The line for a file that cannot be read.
+pub(crate) fn write_no_file<E: Write>(
+    errors: &mut Output<E>,
+    name: &str,
+    error: &io::Error,
+) -> Result<(), Failed>
+    ensures kept { OnOk result (errors.new.failure ≡ errors.old.failure) }
     ensures failed { OnErr result (IsSome errors.new.failure) }
 {
-    errors.write_all(b"error: out of memory\n")?;
+    writeln!(errors, "error: {name:?}: {error}")?;
     errors.flush()
+}
+
+/// The line where memory ran out.
+pub(crate) fn write_no_memory<E: Write>(errors: &mut Output<E>) -> Result<(), Failed>
+    ensures line { OnOk result (Appends (E.contents errors.old.writer) (E.contents errors.new.writer) no_memory_line) }
+    ensures kept { OnOk result (errors.new.failure ≡ errors.old.failure) }
+    ensures failed { OnErr result (IsSome errors.new.failure) }
+{
+    write_line(errors, "error: out of memory")
 }
 
 /// The line for an output that has failed.
@@ -51,6 +88,7 @@ pub(crate) fn write_no_output<W: Write, E: Write>(
     errors: &mut Output<E>,
     out: &Output<W>,
 ) -> Result<(), Failed>
+    ensures kept { OnOk result (errors.new.failure ≡ errors.old.failure) }
     ensures failed { OnErr result (IsSome errors.new.failure) }
 {
     if let Some(error) = out.failure() {

@@ -2,6 +2,7 @@
 ghost use Rattle.std.specs.Prelude.{◌≡◌, IfSome, IsSome, OnOk, OnErr, is_ok, None, option_map};
 ghost use Rattle.std.specs.Io.KnownBytes.{Appends, Keeps};
 ghost use Rattle.std.specs.Fmt.{with_newline};
+ghost use Rattle.fidl_tool.specs.Outputs.{Writes};
 
 use std::fmt::Display;
 use std::io;
@@ -60,17 +61,28 @@ impl<W: Write> Output<W> {
         }
     }
 
-    /// Writes all of the bytes.
+    /// Writes all of the bytes, or a front of them and fails. A write that was interrupted is tried again.
     pub fn write_all(&mut self, bytes: &[u8]) -> Result<(), Failed>
-        ensures bytes { OnOk result (Appends (W.contents self.old.writer) (W.contents self.new.writer) bytes.now) }
+        ensures bytes { Writes (W.contents self.old.writer) (W.contents self.new.writer) bytes.now result }
         ensures kept { OnOk result (self.new.failure ≡ self.old.failure) }
         ensures failed { OnErr result (IsSome self.new.failure) }
     {
-        let written = self.writer.write_all(bytes);
-        self.note(written)
+        let mut rest = bytes;
+        for _ in 0..u64::MAX {
+            if rest.is_empty() {
+                return Ok(());
+            }
+            match self.writer.write(rest) {
+                Ok(0) => return self.note(Err(io::Error::from(io::ErrorKind::WriteZero))),
+                Ok(count) => rest = &rest[count..],
+                Err(error) if error.kind() == io::ErrorKind::Interrupted => {}
+                Err(error) => return self.note(Err(error)),
+            }
+        }
+        self.note(Err(io::Error::from(io::ErrorKind::Interrupted)))
     }
 
-    /// Writes a text, as `write!` gives it.
+    /// Writes a text, as `write!` gives it. Where this fails, no contract says what was written.
     pub fn write_fmt<D: Display + Drop>(&mut self, text: D) -> Result<(), Failed>
         ensures bytes { OnOk result (IfSome (D.output text) (Appends (W.contents self.old.writer) (W.contents self.new.writer))) }
         ensures kept { OnOk result (self.new.failure ≡ self.old.failure) }
@@ -80,7 +92,7 @@ impl<W: Write> Output<W> {
         self.note(written)
     }
 
-    /// Writes a text and a line feed, as `writeln!` gives them.
+    /// Writes a text and a line feed, as `writeln!` gives them. Where this fails, no contract says what was written.
     pub fn writeln<D: Display + Drop>(&mut self, text: D) -> Result<(), Failed>
         ensures bytes { OnOk result (IfSome (with_newline (D.output text)) (Appends (W.contents self.old.writer) (W.contents self.new.writer))) }
         ensures kept { OnOk result (self.new.failure ≡ self.old.failure) }

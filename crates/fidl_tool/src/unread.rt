@@ -1,18 +1,29 @@
 //! Why a command line gives no arguments.
 ghost use Rattle.std.specs.Prelude.{◌≡◌};
+ghost use Rattle.clap.specs.Values.{kind_of};
+ghost use Rattle.fidl_tool.specs.Arguments.{IsToldByKind, outcome_of, complaint_of};
 ghost use Rattle.fidl_tool.specs.declared.unread.Unread.TheVariants as unread;
 
+use crate::outcome::Outcome;
 use clap::error::ErrorKind;
 use std::alloc::{AllocError, Global};
 
 /// Why a command line gives no arguments.
 #[derive(Debug, Drop)]
 pub(crate) enum Unread {
-    /// Help or the version was asked for.
+    /// Help or the version was asked for, and is this text.
     Asked { text: String },
-    /// The line says which argument is wrong.
+    /// The words are no command line, as the line says.
     Wrong { line: String },
-    /// There is no memory left.
+    /// The words are not text.
+    NotText,
+    /// A command or an argument is missing.
+    Missing,
+    /// HEX is not an even number of hexadecimal digits.
+    BadHex,
+    /// A handle is not three decimal numbers of 32 bits.
+    BadHandle,
+    /// Memory ran out.
     Memory,
 }
 
@@ -42,7 +53,9 @@ fn one_line(alloc: Global, text: &str) -> Result<String, AllocError> {
 
 impl Unread {
     /// What the reader of the command line says.
-    pub(crate) fn from_clap(alloc: Global, error: &clap::Error) -> Unread {
+    pub(crate) fn from_clap(alloc: Global, error: &clap::Error) -> Unread
+        ensures { IsToldByKind (kind_of error.now) result }
+    {
         let Ok(text) = format!(in alloc; "{error}") else {
             return Unread::Memory;
         };
@@ -53,6 +66,34 @@ impl Unread {
                 Ok(line) => Unread::Wrong { line },
                 Err(_) => Unread::Memory,
             },
+        }
+    }
+
+    /// What happens to a command whose arguments are not read.
+    pub(crate) fn outcome(&self) -> Outcome
+        ensures { result ≡ outcome_of self.now }
+    {
+        match self {
+            Unread::Asked { .. } => Outcome::Asked,
+            Unread::Memory => Outcome::NoMemory,
+            _ => Outcome::WrongLine,
+        }
+    }
+
+    /// The line that says so. Nothing where help or the version was asked for.
+    pub(crate) fn line(&self) -> &str
+        ensures { result.now ≡ complaint_of self.now }
+    {
+        match self {
+            Unread::Asked { .. } => "",
+            Unread::Wrong { line } => line.as_str(),
+            Unread::NotText => "error: the arguments: UTF-8 is wanted",
+            Unread::Missing => "error: the arguments: decode TABLE ROOT HEX is wanted",
+            Unread::BadHex => "error: HEX: an even number of hexadecimal digits is wanted",
+            Unread::BadHandle => {
+                "error: --handle: three decimal numbers of 32 bits are wanted, as in 1:3:0"
+            }
+            Unread::Memory => "error: out of memory",
         }
     }
 }

@@ -1,4 +1,4 @@
-use Rattle.std.proofs.Common.{◌+◌, ◌*◌}
+use Rattle.std.proofs.Common.{◌≡◌, ◌+◌, ◌*◌}
 use Rattle.fidl_records.specs.Section.{entry_at}
 use Rattle.fidl_tool.proofs.Printing.{IsElementsLeft, IsMembersLeft}
 use Rattle.fidl_tool.proofs.printer.+write.Given as goal
@@ -13,7 +13,7 @@ abbrev pub decreases-write_value : goal.decreases-write_value
 decreases-write_value g l = 2 * (entry_at l.table.now l.index).nest + 1
 
 abbrev pub invariant-write_elements-loop-at : goal.invariant-write_elements-loop-at
-invariant-write_elements-loop-at g l = IsElementsLeft l.fn.table l.fn.element l.at l.fn.view (g.W.Write.contents l.fn.out.writer) (g.W.Write.contents l.out.writer)
+invariant-write_elements-loop-at g l = IsElementsLeft l.fn.table l.fn.element l.at l.fn.view (g.W.Write.contents l.fn.out.writer) (g.W.Write.contents l.out.writer) × (l.out.failure ≡ l.fn.out.failure)
 
 abbrev pub invariant-write_members-loop-at : goal.invariant-write_members-loop-at
-invariant-write_members-loop-at g l = IsMembersLeft l.fn.table l.fn.index l.at l.fn.view (g.W.Write.contents l.fn.out.writer) (g.W.Write.contents l.out.writer)
+invariant-write_members-loop-at g l = IsMembersLeft l.fn.table l.fn.index l.at l.fn.view (g.W.Write.contents l.fn.out.writer) (g.W.Write.contents l.out.writer) × (l.out.failure ≡ l.fn.out.failure)

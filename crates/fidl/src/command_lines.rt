@@ -1,0 +1,160 @@
+//! Tests of `run`: command lines, each with its status and all that it prints.
+use crate::tables::POINT;
+use fidl_tool::{Files, Output, run};
+use std::alloc::Global;
+use std::io;
+use std::test::Fail;
+
+/// One file, `point.fct`, and one for which memory runs out, `vast`.
+struct Desk;
+
+impl Files for Desk {
+    fn read(&self, alloc: Global, name: &str) -> io::Result<Vec<u8>> {
+        if name == "point.fct" {
+            Ok(Vec::from_slice(alloc, &POINT)?)
+        } else if name == "vast" {
+            Err(io::Error::from(io::ErrorKind::OutOfMemory))
+        } else {
+            Err(io::Error::from(io::ErrorKind::NotFound))
+        }
+    }
+}
+
+/// Runs a command line, and compares the status and what is printed on the output and on the errors.
+fn expect(alloc: Global, words: &[&str], status: u8, out: &str, errors: &str) -> Result<(), Fail> {
+    let mut printed = Output::new(Vec::new(alloc));
+    let mut told = Output::new(Vec::new(alloc));
+    let outcome = run(alloc, words, &Desk, &mut printed, &mut told);
+    if outcome.status().number() != status {
+        return Err(Fail::from("another status"));
+    }
+    if printed.into_writer().as_slice() != out.as_bytes() {
+        return Err(Fail::from("another output"));
+    }
+    if told.into_writer().as_slice() != errors.as_bytes() {
+        return Err(Fail::from("another line"));
+    }
+    Ok(())
+}
+
+const POINT_HEX: &str = "0100000002000000";
+
+#[test]
+fn messages_are_decoded(rt: HostRuntime) -> Result<(), Fail> {
+    let alloc = rt.alloc();
+    let words = ["fidl", "decode", "point.fct", "Point", POINT_HEX];
+    expect(alloc, &words, 0, "{x: 1, y: 2}\n", "")?;
+    let words = ["fidl", "decode", "point.fct", "Point", "0aFF000002000000"];
+    expect(alloc, &words, 0, "{x: 65290, y: 2}\n", "")?;
+    let words = ["fidl", "decode", "point.fct", "Point", "01000000020000"];
+    expect(alloc, &words, 1, "", "decode 3 Truncated at 0\n")?;
+    let words = [
+        "fidl",
+        "decode",
+        "--handle",
+        "1:3:0",
+        "point.fct",
+        "Point",
+        POINT_HEX,
+    ];
+    expect(alloc, &words, 1, "", "decode 20 HandlesLeft at 8\n")?;
+    let words = [
+        "fidl",
+        "decode",
+        "point.fct",
+        "Point",
+        POINT_HEX,
+        "--handle=2:5:4294967295",
+    ];
+    expect(alloc, &words, 1, "", "decode 20 HandlesLeft at 8\n")
+}
+
+#[test]
+fn files_and_roots_that_are_missing(rt: HostRuntime) -> Result<(), Fail> {
+    let alloc = rt.alloc();
+    let words = ["fidl", "decode", "no\tfile", "Point", POINT_HEX];
+    expect(
+        alloc,
+        &words,
+        3,
+        "",
+        "error: \"no\\tfile\": entity not found\n",
+    )?;
+    let words = ["fidl", "decode", "vast", "Point", POINT_HEX];
+    expect(alloc, &words, 4, "", "error: out of memory\n")?;
+    let words = ["fidl", "decode", "point.fct", "Line", POINT_HEX];
+    let no_root = "error: ROOT: no root of \"point.fct\" has the name \"Line\"\n";
+    expect(alloc, &words, 2, "", no_root)
+}
+
+#[test]
+fn wrong_arguments_come_before_files(rt: HostRuntime) -> Result<(), Fail> {
+    let alloc = rt.alloc();
+    let hex = "error: HEX: an even number of hexadecimal digits is wanted\n";
+    expect(
+        alloc,
+        &["fidl", "decode", "none", "Point", "012"],
+        2,
+        "",
+        hex,
+    )?;
+    expect(
+        alloc,
+        &["fidl", "decode", "none", "Point", "0g"],
+        2,
+        "",
+        hex,
+    )?;
+    let handle = "error: --handle: three decimal numbers of 32 bits are wanted, as in 1:3:0\n";
+    let words = ["fidl", "decode", "--handle", "1:3", "none", "Point", "00"];
+    expect(alloc, &words, 2, "", handle)?;
+    let words = [
+        "fidl",
+        "decode",
+        "--handle=1:3:0",
+        "--handle=",
+        "none",
+        "Point",
+        "00",
+    ];
+    expect(alloc, &words, 2, "", handle)
+}
+
+#[test]
+fn wrong_command_lines(rt: HostRuntime) -> Result<(), Fail> {
+    let alloc = rt.alloc();
+    let unknown = "error: unrecognized subcommand 'encode'\n";
+    expect(
+        alloc,
+        &["fidl", "encode", "point.fct", "Point", "{}"],
+        2,
+        "",
+        unknown,
+    )?;
+    let missing = "error: the following required arguments were not provided: <ROOT> <HEX>\n";
+    expect(alloc, &["fidl", "decode", "point.fct"], 2, "", missing)?;
+    let dash = "error: unexpected argument '-1' found\n";
+    expect(
+        alloc,
+        &["fidl", "decode", "point.fct", "Point", "-1"],
+        2,
+        "",
+        dash,
+    )?;
+    let none =
+        "error: 'fidl' requires a subcommand but one was not provided [subcommands: decode, help]\n";
+    expect(alloc, &["out/fidl"], 2, "", none)?;
+    expect(alloc, &[], 2, "", none)
+}
+
+#[test]
+fn help_and_version(rt: HostRuntime) -> Result<(), Fail> {
+    let alloc = rt.alloc();
+    expect(alloc, &["fidl", "--version"], 0, "fidl 0.1\n", "")?;
+    let help = "Reads FIDL messages by coding tables\n\nUsage: fidl <COMMAND>\n\nCommands:\n  \
+        decode  Prints the text of the value that a message encodes\n  \
+        help    Print this message or the help of the given subcommand(s)\n\nOptions:\n  \
+        -h, --help     Print help\n  -V, --version  Print version\n";
+    expect(alloc, &["fidl", "--help"], 0, help, "")?;
+    expect(alloc, &["fidl", "help"], 0, help, "")
+}

@@ -1,0 +1,106 @@
+//! The program, over its words, its files and two writers.
+ghost use Rattle.std.specs.Prelude.{◌≡◌, ◌≢◌, ◌↔◌, ◌⊎◌, ℕ, List, None, IfSome, IsSome};
+ghost use Rattle.std.specs.Io.KnownBytes.{Appends};
+ghost use Rattle.std.specs.IoError.{error_kind};
+ghost use Rattle.std.specs.declared.io.ErrorKind.TheVariants as error_kinds;
+ghost use Rattle.fidl_tool.specs.Arguments.{outcome_of, text_of, line_of};
+ghost use Rattle.fidl_tool.specs.Decoding.{LacksRoot, IsText, IsRefusal, no_root_line, no_memory_line, CanEndRun};
+ghost use Rattle.fidl_tool.specs.Outputs.{AppendsFront};
+ghost use Rattle.fidl_tool.specs.declared.outcome.Outcome.TheVariants as outcome;
+
+use crate::arguments::{DecodeArguments, read_arguments};
+use crate::decoding::decode;
+use crate::files::{File, Files};
+use crate::lines::{write_line, write_no_file, write_no_memory, write_no_output, write_text};
+use crate::outcome::Outcome;
+use crate::output::{Failed, Output};
+use crate::unread::Unread;
+use std::alloc::Global;
+use std::convert::AsStr;
+use std::io;
+use std::io::Write;
+
+/// Prints why there are no arguments: help and version on the output, all else as a line on the errors.
+pub(crate) fn tell<W: Write, E: Write>(
+    unread: &Unread,
+    out: &mut Output<W>,
+    errors: &mut Output<E>,
+) -> Outcome
+    ensures outcome { result ≢ outcome.Unwritten → result ≡ outcome_of unread.now }
+    ensures out { result ≢ outcome.Unwritten → Appends (W.contents out.old.writer) (W.contents out.new.writer) (text_of unread.now) }
+    ensures errors { result ≢ outcome.Unwritten → Appends (E.contents errors.old.writer) (E.contents errors.new.writer) (line_of unread.now) }
+    ensures unwritten { out.old.failure ≡ None → errors.old.failure ≡ None → (result ≡ outcome.Unwritten ↔ (IsSome out.new.failure ⊎ IsSome errors.new.failure)) }
+{
+    let written = match unread {
+        Unread::Asked { text } => write_text(out, text.as_str()),
+        _ => write_line(errors, unread.line()),
+    };
+    match written {
+        Ok(()) => unread.outcome(),
+        Err(Failed) => Outcome::Unwritten.where_written(&write_no_output(errors, out)),
+    }
+}
+
+/// Tells that a file cannot be read, or that memory ran out for it.
+fn tell_no_file<E: Write>(name: &str, error: &io::Error, errors: &mut Output<E>) -> Outcome
+    ensures ends { result ≢ outcome.Unwritten → result ≡ outcome.NoFile ⊎ result ≡ outcome.NoMemory }
+    ensures no_file { result ≡ outcome.NoFile → error_kind error.now ≢ error_kinds.OutOfMemory }
+    ensures memory_line { result ≡ outcome.NoMemory → Appends (E.contents errors.old.writer) (E.contents errors.new.writer) no_memory_line }
+    ensures unwritten { errors.old.failure ≡ None → (result ≡ outcome.Unwritten ↔ IsSome errors.new.failure) }
+{
+    match error.kind() {
+        io::ErrorKind::OutOfMemory => Outcome::NoMemory.where_written(&write_no_memory(errors)),
+        _ => Outcome::NoFile.where_written(&write_no_file(errors, name, error)),
+    }
+}
+
+/// Reads the table's file, and decodes the message by it.
+fn run_decode<F: Files, W: Write, E: Write>(
+    alloc: Global,
+    arguments: &DecodeArguments<'_>,
+    files: &F,
+    out: &mut Output<W>,
+    errors: &mut Output<E>,
+) -> Outcome
+    ensures ends { CanEndRun result }
+    ensures done { result ≡ outcome.Done → IfSome (F.bytes_of files.now arguments.now.table.now) (λ table.
+        (line : List ℕ) × IsText table arguments.now.root.now arguments.now.bytes.items arguments.now.handles.items line × Appends (W.contents out.old.writer) (W.contents out.new.writer) line) }
+    ensures refused { result ≡ outcome.Refused → IfSome (F.bytes_of files.now arguments.now.table.now) (λ table.
+        (line : List ℕ) × IsRefusal table arguments.now.root.now arguments.now.bytes.items arguments.now.handles.items line × Appends (E.contents errors.old.writer) (E.contents errors.new.writer) line) }
+    ensures no_root { result ≡ outcome.NoRoot → IfSome (F.bytes_of files.now arguments.now.table.now) (λ table. LacksRoot table arguments.now.root.now) }
+    ensures no_root_line { result ≡ outcome.NoRoot → IfSome (no_root_line arguments.now.table.now arguments.now.root.now) (Appends (E.contents errors.old.writer) (E.contents errors.new.writer)) }
+    ensures no_file { result ≡ outcome.NoFile → F.bytes_of files.now arguments.now.table.now ≡ None }
+    ensures memory_line { result ≡ outcome.NoMemory → Appends (E.contents errors.old.writer) (E.contents errors.new.writer) no_memory_line }
+    ensures unwritten { out.old.failure ≡ None → errors.old.failure ≡ None → (result ≡ outcome.Unwritten ↔ (IsSome out.new.failure ⊎ IsSome errors.new.failure)) }
+    ensures front { result ≡ outcome.Unwritten → W.contents out.new.writer ≡ W.contents out.old.writer ⊎ IfSome (F.bytes_of files.now arguments.now.table.now) (λ table.
+        (line : List ℕ) × IsText table arguments.now.root.now arguments.now.bytes.items arguments.now.handles.items line × AppendsFront (W.contents out.old.writer) (W.contents out.new.writer) line) }
+    ensures out { result ≢ outcome.Done → result ≢ outcome.Unwritten → W.contents out.new.writer ≡ W.contents out.old.writer }
+    ensures errors { result ≡ outcome.Done → E.contents errors.new.writer ≡ E.contents errors.old.writer }
+{
+    let name = arguments.table;
+    let table = match files.read(alloc, name) {
+        Ok(table) => table,
+        Err(error) => return tell_no_file(name, &error, errors),
+    };
+    let file = File {
+        name,
+        bytes: table.as_slice(),
+    };
+    decode(alloc, &file, &arguments.message(), out, errors)
+}
+
+/// Runs the command that the words of a command line name; the first word is the program's name.
+pub fn run<S: AsStr, F: Files, W: Write, E: Write>(
+    alloc: Global,
+    words: &[S],
+    files: &F,
+    out: &mut Output<W>,
+    errors: &mut Output<E>,
+) -> Outcome
+    ensures unwritten { out.old.failure ≡ None → errors.old.failure ≡ None → (result ≡ outcome.Unwritten ↔ (IsSome out.new.failure ⊎ IsSome errors.new.failure)) }
+{
+    match read_arguments(alloc, words) {
+        Ok(arguments) => run_decode(alloc, &arguments, files, out, errors),
+        Err(unread) => tell(&unread, out, errors),
+    }
+}
