@@ -1,6 +1,6 @@
 -- What a writer holds after one write and then the next.
 use Rattle.std.proofs.Common.{◌≡◌, ℕ, ◌++◌, List, [], ◌-◌, length, take, drop, take-append-drop, arith, refl, sym, ap, subst, ◌∙◌}
-use Rattle.std.specs.Prelude.{Option, Some, None, Result, Ok, Err, OnOk, IsErr}
+use Rattle.std.specs.Prelude.{Option, Some, None, Result, Ok, Err, IsErr}
 use Rattle.std.specs.Io.KnownBytes.{Appends, Keeps, WriteAppends}
 use Rattle.fidl_tool.specs.Outputs.{AppendsFront, Writes}
 use Rattle.std.proofs.KnownBytes.{Appends-nil}
