@@ -6,6 +6,8 @@ ghost use Rattle.std.specs.declared.io.ErrorKind.TheVariants as error_kinds;
 ghost use Rattle.fidl_tool.specs.Arguments.{outcome_of, text_of, line_of};
 ghost use Rattle.fidl_tool.specs.Decoding.{LacksRoot, IsText, IsRefusal, no_root_line, no_memory_line, CanEndRun};
 ghost use Rattle.fidl_tool.specs.Outputs.{AppendsFront};
+ghost use Rattle.fidl_tool.specs.declared.arguments.DecodeArguments.{DecodeArguments};
+ghost use Rattle.fidl_tool.specs.declared.unread.Unread.{Unread};
 ghost use Rattle.fidl_tool.specs.declared.outcome.Outcome.TheVariants as outcome;
 
 use crate::arguments::{DecodeArguments, read_arguments};
@@ -97,6 +99,14 @@ pub fn run<S: AsStr, F: Files, W: Write, E: Write>(
     out: &mut Output<W>,
     errors: &mut Output<E>,
 ) -> Outcome
+    ensures done { result ≡ outcome.Done → (given : DecodeArguments) × IfSome (F.bytes_of files.now given.table.now) (λ table.
+        (line : List ℕ) × IsText table given.root.now given.bytes.items given.handles.items line × Appends (W.contents out.old.writer) (W.contents out.new.writer) line) }
+    ensures refused { result ≡ outcome.Refused → (given : DecodeArguments) × IfSome (F.bytes_of files.now given.table.now) (λ table.
+        (line : List ℕ) × IsRefusal table given.root.now given.bytes.items given.handles.items line × Appends (E.contents errors.old.writer) (E.contents errors.new.writer) line) }
+    ensures no_root { result ≡ outcome.NoRoot → (given : DecodeArguments) × IfSome (F.bytes_of files.now given.table.now) (λ table. LacksRoot table given.root.now) }
+    ensures no_file { result ≡ outcome.NoFile → (given : DecodeArguments) × (F.bytes_of files.now given.table.now ≡ None) }
+    ensures asked { result ≡ outcome.Asked → (unread : Unread) × (outcome_of unread ≡ outcome.Asked) × Appends (W.contents out.old.writer) (W.contents out.new.writer) (text_of unread) }
+    ensures wrong_line { result ≡ outcome.WrongLine → (unread : Unread) × (outcome_of unread ≡ outcome.WrongLine) × Appends (E.contents errors.old.writer) (E.contents errors.new.writer) (line_of unread) }
     ensures unwritten { out.old.failure ≡ None → errors.old.failure ≡ None → (result ≡ outcome.Unwritten ↔ (IsSome out.new.failure ⊎ IsSome errors.new.failure)) }
 {
     match read_arguments(alloc, words) {
