@@ -91,8 +91,8 @@ layout_span body = elim (out-LayoutBody body) as (λ _. Span) [
 -- a type: its name, or its layout's keyword
 abbrev pub type_span : TypeConstructor → Span
 type_span t = elim (out-TypeConstructor t) as (λ _. Span) [
-  | TypeConstructor-F.Named n ↦ path_span (out-NamedType n).path
-  | TypeConstructor-F.Layout l cs ↦ layout_span (out-Layout l).body
+  | TypeConstructor-F.Named n ↦ path_span (out-NamedType n.value).path
+  | TypeConstructor-F.Layout l cs ↦ layout_span (out-Layout l.value).body
 ]
 
 abbrev pub at : (number : ℕ) → Span → Place

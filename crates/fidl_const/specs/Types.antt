@@ -142,6 +142,6 @@ pub data Joins (files : List File) : ConstType → Type 0 where
 -- the constraints of a type
 abbrev pub constraints_of : TypeConstructor → Option Constraints
 constraints_of t = elim (out-TypeConstructor t) as (λ _. Option Constraints) [
-  | TypeConstructor-F.Named n ↦ (out-NamedType n).constraints
+  | TypeConstructor-F.Named n ↦ (out-NamedType n.value).constraints
   | TypeConstructor-F.Layout l cs ↦ cs
 ]

@@ -102,15 +102,15 @@ rest_of n (Some arguments) is = (arguments_outer arguments (out-NamedType n).pat
 
 pub first_outer : (t : TypeConstructor) (path : Path) → type_path t ≡ Some path → Contains (outer_types t) (None, path)
 first_outer t path h = elim (out-TypeConstructor t) as (λ o. out-TypeConstructor t ≡ o → (elim o as (λ _. Option Path) [
-  | TypeConstructor-F.Named n ↦ Some (out-NamedType n).path
+  | TypeConstructor-F.Named n ↦ Some (out-NamedType n.value).path
   | TypeConstructor-F.Layout l c ↦ None
 ]) ≡ Some path → Contains (outer_types t) (None, path)) [
   | TypeConstructor-F.Named n ↦ λ is e.
-      let types : outer_types t ≡ named_outer n None = search (rules, constructor.the_lemmas, is) in
-      let rest = rest_of n (out-NamedType n).arguments refl in
-      let its : Contains ((None, (out-NamedType n).path) ∷ rest.0) (None, (out-NamedType n).path) = (0, (omega arith), refl) in
-      let same = same_Some (out-NamedType n).path path e in
-      subst (λ (p : Path). Contains (outer_types t) (None, p)) same (subst (λ l. Contains l (None, (out-NamedType n).path)) (sym (types ∙ rest.1)) its)
+      let types : outer_types t ≡ named_outer n.value None = search (rules, constructor.the_lemmas, is) in
+      let rest = rest_of n.value (out-NamedType n.value).arguments refl in
+      let its : Contains ((None, (out-NamedType n.value).path) ∷ rest.0) (None, (out-NamedType n.value).path) = (0, (omega arith), refl) in
+      let same = same_Some (out-NamedType n.value).path path e in
+      subst (λ (p : Path). Contains (outer_types t) (None, p)) same (subst (λ l. Contains l (None, (out-NamedType n.value).path)) (sym (types ∙ rest.1)) its)
   | TypeConstructor-F.Layout l c ↦ λ is e. absurd (none-some path e)
 ] refl h
 

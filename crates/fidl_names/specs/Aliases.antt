@@ -48,7 +48,7 @@ given (Some arguments) head = arguments head
 
 abbrev type_step : Level TypeConstructor-F → T
 type_step (TypeConstructor-F.Layout layout constraints) of = []
-type_step (TypeConstructor-F.Named named) of = named of
+type_step (TypeConstructor-F.Named named) of = named.value of
 
 abbrev named_step : Level NamedType-F → T
 named_step n of = (of, n.path) ∷ given n.arguments n.path
@@ -133,7 +133,7 @@ IsTrueOfAliases files fault = ⊥
 -- the path of a type that is given by a name
 abbrev pub type_path : TypeConstructor → Option Path
 type_path t = elim (out-TypeConstructor t) as (λ _. Option Path) [
-  | TypeConstructor-F.Named n ↦ Some (out-NamedType n).path
+  | TypeConstructor-F.Named n ↦ Some (out-NamedType n.value).path
   | TypeConstructor-F.Layout l c ↦ None
 ]
 

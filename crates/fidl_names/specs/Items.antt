@@ -74,7 +74,7 @@ number_in (x ∷ xs) n = if same x n then Some 0 else option_map suc (number_in 
 -- the layout that a type is, if it is written as one
 abbrev pub type_layout : TypeConstructor → Option Layout
 type_layout t = elim (out-TypeConstructor t) as (λ _. Option Layout) [
-  | TypeConstructor-F.Layout l c ↦ Some l
+  | TypeConstructor-F.Layout l c ↦ Some l.value
   | TypeConstructor-F.Named n ↦ None
 ]
 

@@ -59,8 +59,8 @@ abbrev pub lists_of : List Part → List (List Span)
 lists_of parts = flat_map (λ (p : Part). p.inside) parts ++ flat_map (λ (p : Part). p.own) parts ∷ []
 
 abbrev type_step : Level TypeConstructor-F → L
-type_step (TypeConstructor-F.Layout layout constraints) = layout
-type_step (TypeConstructor-F.Named named) = named
+type_step (TypeConstructor-F.Layout layout constraints) = layout.value
+type_step (TypeConstructor-F.Named named) = named.value
 
 abbrev named_step : Level NamedType-F → L
 named_step n = given n.arguments

@@ -49,8 +49,8 @@ pub data NamePlace : Type 0 where
 -- the constraints in a list of them, in order
 abbrev pub items : Option Constraints → List Value
 items None = []
-items (Some (Single colon value)) = value ∷ []
-items (Some (Several colon less first rest greater)) = first ∷ map (λ (n : NextConstraint). n.value) rest.items
+items (Some (Single colon value)) = value.value ∷ []
+items (Some (Several colon less first rest greater)) = first.value ∷ map (λ (n : NextConstraint). n.value) rest.items
 
 -- The paths in a value.
 
@@ -119,8 +119,8 @@ given None head = []
 given (Some arguments) head = arguments head
 
 abbrev type_step : Level TypeConstructor-F → T
-type_step (TypeConstructor-F.Layout layout constraints) of = layout ++ a_layout constraints ∷ []
-type_step (TypeConstructor-F.Named named) of = named.places of
+type_step (TypeConstructor-F.Layout layout constraints) of = layout.value ++ a_layout constraints ∷ []
+type_step (TypeConstructor-F.Named named) of = named.value.places of
 
 abbrev named_step : Level NamedType-F → N
 named_step n = record {

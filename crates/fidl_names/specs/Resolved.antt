@@ -82,11 +82,15 @@ IsTrueOfResolving files (UnknownName place) = IsTrueOfOne files (NameFails files
 IsTrueOfResolving files (AmbiguousName place) = IsTrueOfOne files (NameFails files) (AmbiguousName place)
 IsTrueOfResolving files Memory = Unit {0}
 
--- the rules of resolving hold
-pub record Resolves (files : List File) : Type 0 where
+-- all rules of resolving but the names' own hold
+pub record KeepsRules (files : List File) : Type 0 where
   pub members : AllByRecursion DistinctMembers files
   pub known : AllByRecursion (ImportsAreKnown (libraries_of files)) files
   pub apart : AllByRecursion ImportsAreApart files
   pub imports : (place : Place) → ImportsBack files place → ⊥
   pub aliases : (place : Place) → AliasesBack files place → ⊥
+
+-- the rules of resolving hold, and each name has its meaning
+pub record Resolves (files : List File) : Type 0 where
+  pub rules : KeepsRules files
   pub names : AllByRecursion (NamesHold files) files

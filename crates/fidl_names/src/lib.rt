@@ -14,6 +14,7 @@ mod fault;
 mod full_name;
 mod import_cycles;
 mod imports;
+mod known;
 mod library_set;
 mod meaning;
 mod member_lists;

@@ -10,16 +10,14 @@ ghost use Rattle.fidl_names.specs.Scopes.{IsScope, Tells};
 ghost use Rattle.fidl_names.specs.Resolved.{Resolves, IsTrueOfResolving};
 
 use crate::alias_ends::behind;
-use crate::aliases::see_aliases;
 use crate::constraint_names::see_item_name;
 use crate::fault::NameFault;
-use crate::import_cycles::see_import_cycles;
+use crate::known::{Known, keep_rules};
 use crate::library_set::LibrarySet;
 use crate::meaning::{Meaning, Wanted};
 use crate::place::PropertyAt;
 use crate::place_names::see_names;
 use crate::properties::find_property;
-use crate::rules::{all_imports, all_members, libraries};
 use crate::scope::{Scope, find, kind_of_type, read};
 use fidl_tree::{File, Path};
 use indexmap::IndexMap;
@@ -164,12 +162,7 @@ impl<'f, 's> LibrarySet<'f, 's> {
         ensures resolves { OnOk result (Resolves self.entry) }
         ensures told { IfErr result (IsTrueOfResolving self.entry) }
     {
-        let alloc = self.alloc();
-        all_members(&self, alloc)?;
-        let libraries = libraries(&self, alloc)?;
-        let sights = all_imports(&self, alloc, &libraries)?;
-        see_import_cycles(&self, alloc, &libraries)?;
-        let ends = see_aliases(&self, alloc, &sights)?;
+        let Known { sights, ends } = keep_rules(&self)?;
         let named = Named {
             set: self,
             sights,

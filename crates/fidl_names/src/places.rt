@@ -52,7 +52,7 @@ pub fn items<'f>(
 ) -> Result<Vec<&'f Value>, AllocError>
     ensures { IfOk result (λ found. map (λ v. v.now) found.items ≡ items (option_copied constraints.entry)) }
 {
-    let mut found = Vec::new(alloc);
+    let mut found: Vec<&'f Value> = Vec::new(alloc);
     match constraints {
         None => {}
         Some(Constraints::Single { value, .. }) => found.push(value)?,

@@ -26,12 +26,12 @@ next_constraint_begins y ls = refl
 
 pub single_ahead : (p : Parser) (at : ℕ) (y : Constraints) (rest : List Leaf) → (IsKindAt p (at + 1) kind.Less → ⊥) → Ahead p at (constraints_leaves y ++ rest)
     → (colon : Span) × (value : Value) × Ahead p at (symbol kind.Colon colon ++ (value_leaves value ++ rest))
-single_ahead p at (constraints.Single colon value) rest n a = (colon, value, a)
+single_ahead p at (constraints.Single colon value) rest n a = (colon, value.value, a)
 single_ahead p at (constraints.List colon less first more greater) rest n a = absurd (n (kind_at p (at + 1) _ _ (step p at _ _ a)))
 
 pub list_ahead : (p : Parser) (at : ℕ) (y : Constraints) (rest : List Leaf) → IsKindAt p (at + 1) kind.Less → Ahead p at (constraints_leaves y ++ rest)
     → (colon : Span) × (less : Span) × (first : Value) × (more : List NextConstraint) × (greater : Span)
     × Ahead p at (symbol kind.Colon colon ++ (symbol kind.Less less ++ (value_leaves first ++ (row next_constraint_leaves more ++ (symbol kind.Greater greater ++ rest)))))
 list_ahead p at (constraints.Single colon value) rest i a =
-    absurd (starts_other starts_value kind.Less (value_leaves value ++ rest) refl (value_starts value rest) (begins p (at + 1) kind.Less _ i (step p at _ _ a)))
-list_ahead p at (constraints.List colon less first more greater) rest i a = (colon, less, first, more.items, greater, simp append_assoc at a)
+    absurd (starts_other starts_value kind.Less (value_leaves value.value ++ rest) refl (value_starts value.value rest) (begins p (at + 1) kind.Less _ i (step p at _ _ a)))
+list_ahead p at (constraints.List colon less first more greater) rest i a = (colon, less, first.value, more.items, greater, simp append_assoc at a)

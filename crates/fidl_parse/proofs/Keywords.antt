@@ -43,7 +43,7 @@ done R v = Ok v
 abbrev stopped : (R : Type 0) → Stop → Result R Stop
 stopped R e = Err e
 
--- what is told of a part that stands ahead and of one that doesn't, together
+-- what is known of a part that is next and of one that isn't, together
 pub option_ahead : {X : Type 0} {R : Type 0} (f : X → List Leaf) (p : Parser) (from to : ℕ) (v : Option R) (o : Option X) (rest : List Leaf)
     → ((x : X) → (ls : List Leaf) → Anything ls → Ahead p from (f x ++ ls) → Ahead p to ls) → (Ahead p from rest → (done (Option R) v ≡ Ok None) × Ahead p to rest)
     → Ahead p from (optional f o ++ rest) → Ahead p to rest

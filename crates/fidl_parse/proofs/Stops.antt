@@ -1,4 +1,4 @@
--- A part that stops for want of memory.
+-- A part whose reading stops with Memory.
 use Rattle.std.proofs.Common.{◌≡◌, Result, Ok, Err, IsErr, IsErrAnd, ◌∙◌}
 use Rattle.fidl_parse.specs.declared.fault.Stop.{Stop}
 use Rattle.fidl_parse.specs.declared.fault.Stop.TheVariants.{Memory}

@@ -75,8 +75,8 @@ no_layout p at s ls a (inr i) =
 
 named_level : (p : Parser) (at : ℕ) (y : Open TypeConstructor-F) (rest : List Leaf) → (IsKindAt p at kind.At ⊎ IsLayoutWordAt p at → ⊥) → Ahead p at (type_level y ++ rest)
     → (n : NamedType) × Ahead p at (named_leaves n ++ rest)
-named_level p at (TypeConstructor-F.Layout layout constraints) rest n a = absurd (n (layout_begins p at layout (optional constraints_leaves constraints ++ rest) (group p at (layout_leaves layout) (optional constraints_leaves constraints) rest a)))
-named_level p at (TypeConstructor-F.Named named) rest n a = (named, a)
+named_level p at (TypeConstructor-F.Layout layout constraints) rest n a = absurd (n (layout_begins p at layout.value (optional constraints_leaves constraints ++ rest) (group p at (layout_leaves layout.value) (optional constraints_leaves constraints) rest a)))
+named_level p at (TypeConstructor-F.Named named) rest n a = (named.value, a)
 
 pub named_type_ahead : (p : Parser) (at : ℕ) (x : TypeConstructor) (rest : List Leaf) → (IsKindAt p at kind.At ⊎ IsLayoutWordAt p at → ⊥) → Ahead p at (type_leaves x ++ rest)
     → (n : NamedType) × Ahead p at (named_leaves n ++ rest)
@@ -84,8 +84,8 @@ named_type_ahead p at x rest n a = named_level p at (out-TypeConstructor x) rest
 
 layout_level : (p : Parser) (at : ℕ) (y : Open TypeConstructor-F) (rest : List Leaf) → IsKindAt p at kind.At ⊎ IsLayoutWordAt p at → Ahead p at (type_level y ++ rest)
     → (l : Layout) × (c : Option Constraints) × Ahead p at (layout_leaves l ++ (optional constraints_leaves c ++ rest))
-layout_level p at (TypeConstructor-F.Layout layout constraints) rest i a = (layout, constraints, group p at _ _ rest a)
-layout_level p at (TypeConstructor-F.Named named) rest i a = absurd (no_layout p at _ _ (named_ahead p at named rest a) i)
+layout_level p at (TypeConstructor-F.Layout layout constraints) rest i a = (layout.value, constraints, group p at _ _ rest a)
+layout_level p at (TypeConstructor-F.Named named) rest i a = absurd (no_layout p at _ _ (named_ahead p at named.value rest a) i)
 
 pub layout_type_ahead : (p : Parser) (at : ℕ) (x : TypeConstructor) (rest : List Leaf) → IsKindAt p at kind.At ⊎ IsLayoutWordAt p at → Ahead p at (type_leaves x ++ rest)
     → (l : Layout) × (c : Option Constraints) × Ahead p at (layout_leaves l ++ (optional constraints_leaves c ++ rest))
@@ -134,8 +134,8 @@ named_starts x rest = subst (λ l. Starts starts_type (l ++ rest)) (sym (named_p
 
 type_level_starts : (y : Open TypeConstructor-F) (rest : List Leaf) → Starts starts_type (type_level y ++ rest)
 type_level_starts (TypeConstructor-F.Layout layout constraints) rest =
-    subst (λ l. Starts starts_type l) (sym (append_assoc (layout_leaves layout) (optional constraints_leaves constraints) rest)) (layout_starts layout (optional constraints_leaves constraints ++ rest))
-type_level_starts (TypeConstructor-F.Named named) rest = named_starts named rest
+    subst (λ l. Starts starts_type l) (sym (append_assoc (layout_leaves layout.value) (optional constraints_leaves constraints) rest)) (layout_starts layout.value (optional constraints_leaves constraints ++ rest))
+type_level_starts (TypeConstructor-F.Named named) rest = named_starts named.value rest
 
 pub type_starts : (x : TypeConstructor) (rest : List Leaf) → Starts starts_type (type_leaves x ++ rest)
 type_starts x rest = subst (λ l. Starts starts_type (l ++ rest)) (sym (type_parts x)) (type_level_starts (out-TypeConstructor x) rest)

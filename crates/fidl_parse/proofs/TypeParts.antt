@@ -99,8 +99,8 @@ ordinal_member_parts x = rw fold_out-OrdinalMember
 -- a choice at one level
 
 abbrev pub type_level : Open TypeConstructor-F → List Leaf
-type_level (TypeConstructor-F.Layout layout constraints) = layout_leaves layout ++ optional constraints_leaves constraints
-type_level (TypeConstructor-F.Named named) = named_leaves named
+type_level (TypeConstructor-F.Layout layout constraints) = layout_leaves layout.value ++ optional constraints_leaves constraints
+type_level (TypeConstructor-F.Named named) = named_leaves named.value
 
 type_rolled : (y : Open TypeConstructor-F) → type_leaves (roll-TypeConstructor y) ≡ type_level y
 type_rolled (TypeConstructor-F.Layout layout constraints) = rw fold-roll-TypeConstructor

@@ -12,7 +12,7 @@ pub record Ahead (p : Parser) (at : ℕ) (leaves : List Leaf) : Type 0 where
   pub stand : drop at p.words.now ≡ words leaves
   pub texts : AllByRecursion (MeetsText p.src.now) leaves
 
--- this holds where a part is read, and nothing but want of memory stops the reading
+-- this holds where a part is read, and only Memory stops the reading
 abbrev pub Goes : {R : Type 0} → Result R Stop → Type 0 → Type 0
 Goes (Ok part) P = P
 Goes (Err stop) P = stop ≡ Memory

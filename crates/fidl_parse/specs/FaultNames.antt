@@ -14,7 +14,7 @@ name_of (Unexpected span) = codes "Unexpected"
 name_of (TooNested span) = codes "TooNested"
 name_of Memory = codes "Memory"
 
--- where the source is at fault; nowhere for want of memory
+-- where the source is at fault; Memory has no place
 abbrev pub span_of : ParseFault → Option Span
 span_of (Unexpected span) = Some span
 span_of (TooNested span) = Some span

@@ -25,7 +25,7 @@ IsAtEnd ws src span = (span.from ≡ length src) × (span.to ≡ length src) × 
 abbrev pub IsOfBracket : List Word → Span → Type 0
 IsOfBracket ws span = (n : ℕ) × IsWordOf ws n span × IsTooDeepAt ws n × IsWithinLimit (take n ws)
 
--- what a refusal says: nothing for want of memory
+-- what a refusal says of the words; Memory says nothing
 abbrev pub IsTrueOf : List Word → List ℕ → ParseFault → Type 0
 IsTrueOf ws src (Unexpected span) = IsOfWord ws span ⊎ IsAtEnd ws src span
 IsTrueOf ws src (TooNested span) = IsOfBracket ws span

@@ -25,7 +25,7 @@ impl<'w, 's> Parser<'w, 's> {
             return Ok(Some(self.constraint_list(at)?));
         }
         let colon = self.symbol(at, WordKind::Colon)?;
-        let value = self.value(at)?;
+        let value = Box::new(self.alloc, self.value(at)?)?;
         Ok(Some(Constraints::Single { colon, value }))
     }
 
@@ -36,7 +36,7 @@ impl<'w, 's> Parser<'w, 's> {
     {
         let colon = self.symbol(at, WordKind::Colon)?;
         let less = self.symbol(at, WordKind::Less)?;
-        let first = self.value(at)?;
+        let first = Box::new(self.alloc, self.value(at)?)?;
         let rest = self.next_constraints(at)?;
         let greater = self.symbol(at, WordKind::Greater)?;
         Ok(Constraints::List {

@@ -8,11 +8,13 @@ use thiserror::Error;
 /// Why the words of a source have no syntax tree, and where.
 #[derive(Clone, Copy, Debug, PartialEq, Eq, Error)]
 pub enum ParseFault {
-    /// A word doesn't fit the grammar. The span is the first such word; at the end of the source it
-    /// is empty and stands there.
+    /// The words are no source file. The span is a word's, up to which the limit of open brackets
+    /// is kept, or it is empty and stands at the end of the source. Which word is reported is
+    /// tested, not proved: it is the first that doesn't fit the grammar.
     #[error("this word doesn't fit")]
     Unexpected { span: Span },
-    /// More than 64 brackets are open at once. The span is the bracket that opens as the 65th.
+    /// More brackets are open at once than `MAX_SOURCE_BRACKETS`. The span is the first bracket
+    /// with which they are.
     #[error("more than 64 brackets are open")]
     TooNested { span: Span },
     /// Memory ran out.
@@ -45,7 +47,7 @@ impl ParseFault {
         }
     }
 
-    /// Where the source is at fault; `None` for want of memory.
+    /// Where the source is at fault; `None` for `Memory`.
     pub fn span(&self) -> Option<Span>
         ensures { result ≡ span_of self.now }
     {
@@ -66,7 +68,7 @@ impl From<AllocError> for ParseFault {
     }
 }
 
-/// Why a part could not be read. Which word didn't fit is told by the place where the parser stands.
+/// Why a part could not be read. The parser's place says at which word it stopped.
 #[derive(Clone, Copy, Debug, PartialEq, Eq)]
 pub(crate) enum Stop {
     Unexpected,

@@ -5,11 +5,10 @@ ghost use Rattle.fidl_tree.specs.Brackets.{IsWithinLimit, opens, closes};
 ghost use Rattle.fidl_parse.specs.Nesting.{IsTooDeepAt};
 
 use fidl_span::{Word, WordKind};
+use fidl_wire::MAX_SOURCE_BRACKETS;
 
-/// The most brackets that may be open at once.
-const BRACKET_LIMIT: usize = 64;
-
-/// How many words there are before the bracket that opens as the 65th; all, where none does.
+/// How many words there are before the first bracket with which more are open than the limit; all,
+/// where there is no such bracket.
 pub(crate) fn nesting_end(words: &[Word]) -> usize
     ensures bound { result ≤ length words.now }
     ensures within { IsWithinLimit (take result words.now) }
@@ -19,7 +18,7 @@ pub(crate) fn nesting_end(words: &[Word]) -> usize
     let mut closed: usize = 0;
     for (index, word) in words.iter().enumerate() {
         if is_opening(word.kind) {
-            if opened.saturating_sub(closed) >= BRACKET_LIMIT {
+            if opened.saturating_sub(closed) >= MAX_SOURCE_BRACKETS {
                 return index;
             }
             opened += 1;

@@ -28,9 +28,10 @@ impl<'w, 's> Parser<'w, 's> {
         ensures complete { Finds self.now at.old at.new type_leaves (Not extends_type) result }
     {
         if !self.begins_layout(*at) {
-            return Ok(TypeConstructor::Named(self.named_type(at)?));
+            let named = Box::new(self.alloc, self.named_type(at)?)?;
+            return Ok(TypeConstructor::Named(named));
         }
-        let layout = self.layout(at)?;
+        let layout = Box::new(self.alloc, self.layout(at)?)?;
         let constraints = self.constraints(at)?;
         Ok(TypeConstructor::Layout {
             layout,

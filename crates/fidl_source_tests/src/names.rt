@@ -570,7 +570,10 @@ fn names_of_a_thousand_components_are_told(rt: HostRuntime) -> Result<(), Fail> 
 fn alias_of<'f>(file: &'f File<'_>, index: usize) -> Option<&'f NamedType> {
     match &file.declarations.get(index)?.body {
         DeclarationBody::Alias(alias) => match &alias.constructor {
-            TypeConstructor::Named(named) => Some(named),
+            TypeConstructor::Named(named) => {
+                let named: &NamedType = named;
+                Some(named)
+            }
             TypeConstructor::Layout { .. } => None,
         },
         _ => None,

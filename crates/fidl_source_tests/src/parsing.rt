@@ -83,7 +83,7 @@ fn point_has_16_words(rt: HostRuntime) -> Result<(), Fail> {
 
 #[test]
 fn unexpected_words_have_their_places(rt: HostRuntime) -> Result<(), Fail> {
-    let cases: [(&[u8], (u64, u64)); 37] = [
+    let cases: [(&[u8], (u64, u64)); 38] = [
         // The source ends early.
         (b"", (1, 1)),
         (b"// nothing", (1, 11)),
@@ -126,6 +126,11 @@ fn unexpected_words_have_their_places(rt: HostRuntime) -> Result<(), Fail> {
             (1, 34),
         ),
         (b"library t; resource_definition R : a {};", (1, 39)),
+        // The word stands before too many brackets.
+        (
+            b"library t; ; ((((((((((((((((((((((((((((((((((((((((((((((((((((((((((((((((((((((",
+            (1, 12),
+        ),
     ];
     for (src, place) in cases {
         let tokens = lex(rt.alloc(), src)?;

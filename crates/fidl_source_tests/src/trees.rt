@@ -43,12 +43,19 @@ fn single(alloc: Global, term: Term) -> Value {
     }
 }
 
-fn named(alloc: Global, at: &mut Places) -> TypeConstructor {
-    TypeConstructor::Named(NamedType {
-        path: plain(alloc, at),
-        arguments: None,
-        constraints: None,
-    })
+fn named(alloc: Global, at: &mut Places) -> Result<TypeConstructor, AllocError> {
+    boxed(
+        alloc,
+        NamedType {
+            path: plain(alloc, at),
+            arguments: None,
+            constraints: None,
+        },
+    )
+}
+
+fn boxed(alloc: Global, named: NamedType) -> Result<TypeConstructor, AllocError> {
+    Ok(TypeConstructor::Named(Box::new(alloc, named)?))
 }
 
 fn marked(alloc: Global, at: &mut Places) -> Result<Vec<Attribute>, AllocError> {
@@ -143,7 +150,7 @@ fn vector(alloc: Global, at: &mut Places) -> Result<(Path, TypeArguments), Alloc
         plain(alloc, at),
         TypeArguments {
             less: at.next(),
-            first: Box::new(alloc, TypeArgument::Type(named(alloc, at)))?,
+            first: Box::new(alloc, TypeArgument::Type(named(alloc, at)?))?,
             rest: vec![in alloc;
                 NextTypeArgument {
                     comma: at.next(),
@@ -160,13 +167,16 @@ fn constraints(alloc: Global, at: &mut Places) -> Result<Constraints, AllocError
     Ok(Constraints::List {
         colon: at.next(),
         less: at.next(),
-        first: single(
+        first: Box::new(
             alloc,
-            Term::Number {
-                minus: None,
-                number: at.next(),
-            },
-        ),
+            single(
+                alloc,
+                Term::Number {
+                    minus: None,
+                    number: at.next(),
+                },
+            ),
+        )?,
         rest: vec![in alloc;
             NextConstraint {
                 comma: at.next(),
@@ -205,11 +215,14 @@ fn constant(alloc: Global, at: &mut Places) -> Result<Declaration, AllocError> {
         body: DeclarationBody::Const(ConstDeclaration {
             keyword,
             name,
-            constructor: TypeConstructor::Named(NamedType {
-                path,
-                arguments: Some(arguments),
-                constraints: Some(constraints(alloc, at)?),
-            }),
+            constructor: boxed(
+                alloc,
+                NamedType {
+                    path,
+                    arguments: Some(arguments),
+                    constraints: Some(constraints(alloc, at)?),
+                },
+            )?,
             equals: at.next(),
             value: single(alloc, Term::True(at.next())),
         }),
@@ -218,24 +231,27 @@ fn constant(alloc: Global, at: &mut Places) -> Result<Declaration, AllocError> {
 }
 
 /// `alias A = t:false;`
-fn alias(alloc: Global, at: &mut Places) -> Declaration {
-    Declaration {
+fn alias(alloc: Global, at: &mut Places) -> Result<Declaration, AllocError> {
+    Ok(Declaration {
         attributes: Vec::new(alloc),
         body: DeclarationBody::Alias(AliasDeclaration {
             keyword: at.next(),
             name: at.next(),
             equals: at.next(),
-            constructor: TypeConstructor::Named(NamedType {
-                path: plain(alloc, at),
-                arguments: None,
-                constraints: Some(Constraints::Single {
-                    colon: at.next(),
-                    value: single(alloc, Term::False(at.next())),
-                }),
-            }),
+            constructor: boxed(
+                alloc,
+                NamedType {
+                    path: plain(alloc, at),
+                    arguments: None,
+                    constraints: Some(Constraints::Single {
+                        colon: at.next(),
+                        value: Box::new(alloc, single(alloc, Term::False(at.next())))?,
+                    }),
+                },
+            )?,
         }),
         semicolon: at.next(),
-    }
+    })
 }
 
 /// `@c strict bits : t { @d M = "s"; }`
@@ -268,6 +284,21 @@ fn bits(alloc: Global, at: &mut Places) -> Result<Layout, AllocError> {
     })
 }
 
+/// `flexible enum {}`
+fn empty_enum(alloc: Global, at: &mut Places) -> Layout {
+    Layout {
+        attributes: Vec::new(alloc),
+        body: LayoutBody::Values(ValuesLayout {
+            strictness: Some(Strictness::Flexible(at.next())),
+            keyword: ValuesKeyword::Enum(at.next()),
+            underlying: None,
+            left: at.next(),
+            members: Vec::new(alloc),
+            right: at.next(),
+        }),
+    }
+}
+
 /// `resource struct { @e m flexible enum {}:4; }`
 fn structure(alloc: Global, at: &mut Places) -> Result<Layout, AllocError> {
     Ok(Layout {
@@ -281,26 +312,19 @@ fn structure(alloc: Global, at: &mut Places) -> Result<Layout, AllocError> {
                     attributes: marked(alloc, at)?,
                     name: at.next(),
                     constructor: TypeConstructor::Layout {
-                        layout: Layout {
-                            attributes: Vec::new(alloc),
-                            body: LayoutBody::Values(ValuesLayout {
-                                strictness: Some(Strictness::Flexible(at.next())),
-                                keyword: ValuesKeyword::Enum(at.next()),
-                                underlying: None,
-                                left: at.next(),
-                                members: Vec::new(alloc),
-                                right: at.next(),
-                            }),
-                        },
+                        layout: Box::new(alloc, empty_enum(alloc, at))?,
                         constraints: Some(Constraints::Single {
                             colon: at.next(),
-                            value: single(
+                            value: Box::new(
                                 alloc,
-                                Term::Number {
-                                    minus: None,
-                                    number: at.next()
-                                }
-                            ),
+                                single(
+                                    alloc,
+                                    Term::Number {
+                                        minus: None,
+                                        number: at.next()
+                                    }
+                                )
+                            )?,
                         }),
                     },
                     semicolon: at.next(),
@@ -333,7 +357,7 @@ fn table(alloc: Global, at: &mut Places) -> Result<Layout, AllocError> {
                     colon: at.next(),
                     body: OrdinalBody::Typed {
                         name: at.next(),
-                        constructor: named(alloc, at)
+                        constructor: named(alloc, at)?
                     },
                     semicolon: at.next(),
                 },
@@ -361,7 +385,7 @@ fn union_with_member(alloc: Global, at: &mut Places) -> Result<Layout, AllocErro
                     colon: at.next(),
                     body: OrdinalBody::Typed {
                         name: at.next(),
-                        constructor: named(alloc, at)
+                        constructor: named(alloc, at)?
                     },
                     semicolon: at.next(),
                 },
@@ -412,12 +436,12 @@ fn three(at: &mut Places) -> [Span; 3] {
     [at.next(), at.next(), at.next()]
 }
 
-fn payload(alloc: Global, at: &mut Places) -> Payload {
-    Payload {
+fn payload(alloc: Global, at: &mut Places) -> Result<Payload, AllocError> {
+    Ok(Payload {
         left: at.next(),
-        constructor: Some(named(alloc, at)),
+        constructor: Some(named(alloc, at)?),
         right: at.next(),
-    }
+    })
 }
 
 fn empty_payload(at: &mut Places) -> Payload {
@@ -441,24 +465,24 @@ fn compose(alloc: Global, at: &mut Places) -> Result<ProtocolMember, AllocError>
 }
 
 /// `strict M(t) -> () error t;`
-fn two_way(alloc: Global, at: &mut Places) -> ProtocolMember {
-    ProtocolMember {
+fn two_way(alloc: Global, at: &mut Places) -> Result<ProtocolMember, AllocError> {
+    Ok(ProtocolMember {
         attributes: Vec::new(alloc),
         body: ProtocolMemberBody::Method(Method {
             strictness: Some(Strictness::Strict(at.next())),
             name: at.next(),
-            request: payload(alloc, at),
+            request: payload(alloc, at)?,
             response: Some(Response {
                 arrow: at.next(),
                 payload: empty_payload(at),
                 error: Some(ErrorType {
                     keyword: at.next(),
-                    constructor: named(alloc, at),
+                    constructor: named(alloc, at)?,
                 }),
             }),
         }),
         semicolon: at.next(),
-    }
+    })
 }
 
 /// `F();`
@@ -476,17 +500,17 @@ fn one_way(alloc: Global, at: &mut Places) -> ProtocolMember {
 }
 
 /// `flexible -> E(t);`
-fn event(alloc: Global, at: &mut Places) -> ProtocolMember {
-    ProtocolMember {
+fn event(alloc: Global, at: &mut Places) -> Result<ProtocolMember, AllocError> {
+    Ok(ProtocolMember {
         attributes: Vec::new(alloc),
         body: ProtocolMemberBody::Event(Event {
             strictness: Some(Strictness::Flexible(at.next())),
             arrow: at.next(),
             name: at.next(),
-            payload: payload(alloc, at),
+            payload: payload(alloc, at)?,
         }),
         semicolon: at.next(),
-    }
+    })
 }
 
 /// `@g ajar protocol P { @h compose q.r; strict M(t) -> () error t; F(); flexible -> E(t); };`
@@ -500,9 +524,9 @@ fn protocol(alloc: Global, at: &mut Places) -> Result<Declaration, AllocError> {
             left: at.next(),
             members: vec![in alloc;
                 compose(alloc, at)?,
-                two_way(alloc, at),
+                two_way(alloc, at)?,
                 one_way(alloc, at),
-                event(alloc, at),
+                event(alloc, at)?,
             ]?,
             right: at.next(),
         }),
@@ -522,7 +546,7 @@ fn service(alloc: Global, at: &mut Places) -> Result<Declaration, AllocError> {
                 Member {
                     attributes: marked(alloc, at)?,
                     name: at.next(),
-                    constructor: named(alloc, at),
+                    constructor: named(alloc, at)?,
                     semicolon: at.next(),
                 },
             ]?,
@@ -540,7 +564,7 @@ fn resource_definition(alloc: Global, at: &mut Places) -> Result<Declaration, Al
             keyword: at.next(),
             name: at.next(),
             colon: at.next(),
-            constructor: named(alloc, at),
+            constructor: named(alloc, at)?,
             left: at.next(),
             properties: Properties {
                 keyword: at.next(),
@@ -548,7 +572,7 @@ fn resource_definition(alloc: Global, at: &mut Places) -> Result<Declaration, Al
                 members: vec![in alloc;
                     Property {
                         name: at.next(),
-                        constructor: named(alloc, at),
+                        constructor: named(alloc, at)?,
                         semicolon: at.next(),
                     },
                 ]?,
@@ -569,7 +593,7 @@ fn whole_file(alloc: Global, at: &mut Places) -> Result<File<'static>, AllocErro
         imports: vec![in alloc; renamed_import(alloc, at)?, plain_import(alloc, at)]?,
         declarations: vec![in alloc;
             constant(alloc, at)?,
-            alias(alloc, at),
+            alias(alloc, at)?,
             type_declaration(alloc, three(at), bits(alloc, at)?, at),
             type_declaration(alloc, three(at), structure(alloc, at)?, at),
             type_declaration(alloc, three(at), table(alloc, at)?, at),
@@ -639,25 +663,34 @@ fn span(from: usize, to: usize) -> Span {
     Span { from, to }
 }
 
-fn point_member(alloc: Global, name: Span, path: Span, semicolon: Span) -> Member {
-    Member {
-        attributes: Vec::new(alloc),
-        name,
-        constructor: TypeConstructor::Named(NamedType {
+fn point_member(
+    alloc: Global,
+    name: Span,
+    path: Span,
+    semicolon: Span,
+) -> Result<Member, AllocError> {
+    let constructor = boxed(
+        alloc,
+        NamedType {
             path: Path {
                 first: path,
                 rest: Vec::new(alloc),
             },
             arguments: None,
             constraints: None,
-        }),
+        },
+    )?;
+    Ok(Member {
+        attributes: Vec::new(alloc),
+        name,
+        constructor,
         semicolon,
-    }
+    })
 }
 
 fn point(alloc: Global) -> Result<File<'static>, AllocError> {
-    let x = point_member(alloc, span(36, 37), span(38, 44), span(44, 45));
-    let y = point_member(alloc, span(46, 47), span(48, 54), span(54, 55));
+    let x = point_member(alloc, span(36, 37), span(38, 44), span(44, 45))?;
+    let y = point_member(alloc, span(46, 47), span(48, 54), span(54, 55))?;
     let layout = Layout {
         attributes: Vec::new(alloc),
         body: LayoutBody::Struct(StructLayout {

@@ -75,7 +75,7 @@ fn reads_a_library(rt: HostRuntime) -> Result<(), Fail> {
 
 #[test]
 fn tells_faults(rt: HostRuntime) {
-    let cases: [(&[u8], u32, usize, usize); 25] = [
+    let cases: [(&[u8], u32, usize, usize); 26] = [
         (b"library t; #", 2, 11, 12),
         (b"/", 2, 0, 1),
         (b"a / b", 2, 2, 3),
@@ -101,6 +101,8 @@ fn tells_faults(rt: HostRuntime) {
         (b"// \xFF", 1, 3, 4),
         (b"\"\xE2\x82\"", 1, 1, 2),
         (b"a \xC3", 1, 2, 3),
+        // Not UTF-8, though a bad byte stands before.
+        (b"# \xC3", 1, 2, 3),
     ];
     for (src, number, from, to) in cases {
         match lex(rt.alloc(), src) {

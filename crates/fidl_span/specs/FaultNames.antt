@@ -22,7 +22,7 @@ name_of (BadEscape span) = codes "BadEscape"
 name_of (BadNumber span) = codes "BadNumber"
 name_of Memory = codes "Memory"
 
--- where the source is at fault; nowhere for want of memory
+-- where the source is at fault; Memory has no place
 abbrev pub span_of : LexFault → Option Span
 span_of (NotUtf8 span) = Some span
 span_of (BadByte span) = Some span

@@ -72,7 +72,7 @@ pub record StandsBehindWords (src : List ℕ) (fault : LexFault) : Type 0 where
   pub before : AreWordsBetween src 0 words place
   pub at_fault : IsFaultAt src place fault
 
--- what a refusal says of the source: nothing for want of memory
+-- what a refusal says of the source; Memory says nothing
 abbrev pub Refutes : List ℕ → LexFault → Type 0
 Refutes src (NotUtf8 span) = IsNotUtf8 src span
 Refutes src Memory = Unit {0}

@@ -6,6 +6,7 @@ use std::alloc::{AllocError, AllocFailed};
 use thiserror::Error;
 
 /// Why a source has no words, and where: each fault but `Memory` is true of the source at its span.
+/// Where a source has several faults, which one `lex` reports is tested, not proved.
 #[derive(Clone, Copy, Debug, PartialEq, Eq, Error)]
 pub enum LexFault {
     /// The source is not UTF-8. The span is the byte behind the longest front that is.
@@ -86,7 +87,7 @@ impl LexFault {
         }
     }
 
-    /// Where the source is at fault; `None` for want of memory.
+    /// Where the source is at fault; `None` for `Memory`.
     pub fn span(&self) -> Option<Span>
         ensures { result ≡ span_of self.now }
     {

@@ -48,9 +48,10 @@ fn read_words(alloc: Global, src: &[u8]) -> Result<Tokens, LexFault>
 
 /// Cuts a source into its words. What stands between them are blanks and comments.
 ///
-/// The answer is `Ok` exactly where the source has words, unless memory runs out; they are the only
-/// ones that it has. A refusal is true of the source at its span, and a source that is refused,
-/// but for want of memory, has no words.
+/// `Ok` holds the words of the source, and a source has no others. A refusal other than `Memory` is
+/// true of the source at its span, and the source then has no words. Which fault is reported, where
+/// there are several, is tested, not proved: a source that isn't UTF-8 is refused with `NotUtf8`.
+/// `Memory` says nothing of the source.
 pub fn lex(alloc: Global, src: &[u8]) -> Result<Tokens, LexFault>
     ensures ok { IfOk result (λ tokens. Words src.now tokens.words.items) }
     ensures err { IfErr result (Refutes src.now) }

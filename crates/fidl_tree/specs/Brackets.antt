@@ -1,5 +1,6 @@
 -- How many brackets may be open at once (docs/language.md, "Limit of open brackets").
 use Rattle.std.specs.Prelude.{ℕ, ◌+◌, ◌≤◌, Bool, true, false, List, take, count_by}
+use Rattle.fidl_wire.specs.declared.limits.TheConstants.{MAX_SOURCE_BRACKETS}
 use Rattle.fidl_span.specs.declared.words.Word.{Word}
 use Rattle.fidl_span.specs.declared.words.WordKind.{WordKind}
 use Rattle.fidl_span.specs.declared.words.WordKind.TheVariants as kind
@@ -18,14 +19,10 @@ closes kind.RightBrace = true
 closes kind.Greater = true
 closes _ = false
 
--- the most brackets that may be open at once
-abbrev pub bracket_limit : ℕ
-bracket_limit = 64
-
 -- in no beginning of the words are more brackets left open than the limit
 abbrev pub IsWithinLimit : List Word → Type 0
 IsWithinLimit ws = (n : ℕ) →
-    count_by (λ w. opens w.kind) (take n ws) ≤ count_by (λ w. closes w.kind) (take n ws) + bracket_limit
+    count_by (λ w. opens w.kind) (take n ws) ≤ count_by (λ w. closes w.kind) (take n ws) + MAX_SOURCE_BRACKETS
 
 -- a parenthesis that opens
 abbrev pub parenthesis : Word

@@ -43,8 +43,8 @@ layout_words = codes "bits" ∷ codes "enum" ∷ codes "struct" ∷ codes "table
 
 -- type = layout [constraints] | named
 abbrev type_step : Level TypeConstructor-F → L
-type_step (TypeConstructor-F.Layout layout constraints) = layout ++ optional constraints_leaves constraints
-type_step (TypeConstructor-F.Named named) = named
+type_step (TypeConstructor-F.Layout layout constraints) = layout.value ++ optional constraints_leaves constraints
+type_step (TypeConstructor-F.Named named) = named.value
 
 -- named = path [type_arguments] [constraints]
 abbrev named_step : Level NamedType-F → L

@@ -10,12 +10,12 @@ use std::alloc::AllocError;
 pub enum Constraints {
     Single {
         colon: Span,
-        value: Value,
+        value: Box<Value>,
     },
     List {
         colon: Span,
         less: Span,
-        first: Value,
+        first: Box<Value>,
         rest: Vec<NextConstraint>,
         greater: Span,
     },

@@ -58,7 +58,7 @@ impl<'s> File<'s> {
 
 /// The words that the tree was read from, in the order of the source.
 ///
-/// It refuses only where memory was refused.
+/// `AllocError`: memory ran out.
 pub fn yield_tokens(alloc: Global, file: &File) -> Result<Vec<Word>, AllocError>
     ensures ok { IfOk result (λ found. found.items ≡ yield_of file.now) }
 {

@@ -16,10 +16,10 @@ use std::alloc::AllocError;
 #[derive(Drop)]
 pub enum TypeConstructor {
     Layout {
-        layout: Layout,
+        layout: Box<Layout>,
         constraints: Option<Constraints>,
     },
-    Named(NamedType),
+    Named(Box<NamedType>),
 }
 
 /// A type by its name, with its arguments and constraints.

@@ -1,6 +1,6 @@
-use Rattle.std.proofs.Common.{rules, ◌≡◌, Some, refl}
+use Rattle.std.proofs.Common.{rules, ◌≡◌, Some, refl, ap, sym, ◌∙◌}
 use Rattle.fidl_tree.specs.declared.type_constructor.TypeConstructor.{the_lemmas}
-use Rattle.fidl_tree.specs.declared.type_constructor.NamedType.{out-NamedType}
+use Rattle.fidl_tree.specs.declared.type_constructor.NamedType.{NamedType, out-NamedType}
 use Rattle.fidl_names.specs.Imports.{visible, ImportsAreApart}
 use Rattle.fidl_names.specs.Aliases.{type_path}
 use Rattle.fidl_names.proofs.Layouts.{all_at}
@@ -29,7 +29,8 @@ returns-in-Named c =
     let p = c.args.position in
     let f = c.in-Some.found.file.now in
     let a = c.in-Some.found.alias.now in
-    let path = (out-NamedType c.in-Named.named).path in
+    let path = (out-NamedType c.deref.result.now).path in
     let h = c.in-Named.is in
-    let type_is : type_path a.constructor ≡ Some path = search (rules, the_lemmas, h) in
+    let written : type_path a.constructor ≡ Some (out-NamedType c.in-Named.named.value).path = search (rules, the_lemmas, h) in
+    let type_is : type_path a.constructor ≡ Some path = written ∙ ap (λ (n : NamedType). Some (out-NamedType n).path) (sym c.deref.ensures) in
     ok_iff _ _ (means_follows set p f a path c.in-Some.ensures.found type_is) (follows_means set p f a path c.in-Some.ensures.found type_is) c.read_type.result c.read_type.ensures

@@ -29,7 +29,7 @@ pub type_constructor-returns-in_err-named_type-clause-complete : goal.type_const
 type_constructor-returns-in_err-named_type-clause-complete t c x rest m a =
     let n = named_type_ahead _ _ x rest (λ e. false≢true (c.if-not-begins_layout.ensures.1 e)) a in
     let h = c.in_err-named_type.ensures.complete n.0 _ m n.1 in
-    search (rules, h)
+    stops _ _ _ _ c.from_residual.ensures (λ x g. g) h
 
 pub type_constructor-returns-then-not-begins_layout-clause-complete : goal.type_constructor-returns-then-not-begins_layout-clause-complete
 type_constructor-returns-then-not-begins_layout-clause-complete t c x rest m a =
@@ -40,14 +40,14 @@ pub type_constructor-returns-in_err-layout-clause-complete : goal.type_construct
 type_constructor-returns-in_err-layout-clause-complete t c x rest m a =
     let l = layout_type_ahead _ _ x rest (c.begins_layout.ensures.0 c.if-not-begins_layout.false) a in
     let h = c.in_err-layout.ensures.complete l.0 _ tt l.2 in
-    search (rules, h)
+    stops _ _ _ _ c.from_residual-in_err-layout.ensures (λ x g. g) h
 
 pub type_constructor-returns-in_err-constraints-clause-complete : goal.type_constructor-returns-in_err-constraints-clause-complete
 type_constructor-returns-in_err-constraints-clause-complete t c x rest m a =
     let l = layout_type_ahead _ _ x rest (c.begins_layout.ensures.0 c.if-not-begins_layout.false) a in
     let b1 = c.in_ok-layout.ensures.complete l.0 _ tt l.2 in
     let h = c.in_err-constraints.ensures.complete l.1 _ m b1 in
-    search (rules, h)
+    stops _ _ _ _ c.from_residual-in_err-constraints.ensures (λ x g. g) h
 
 pub type_constructor-returns-clause-complete : goal.type_constructor-returns-clause-complete
 type_constructor-returns-clause-complete t c x rest m a =
@@ -59,14 +59,14 @@ pub named_type-returns-in_err-path-clause-complete : goal.named_type-returns-in_
 named_type-returns-in_err-path-clause-complete t c x rest m a =
     let a0 = named_ahead _ _ x rest a in
     let h = c.in_err-path.ensures.complete (out-NamedType x).path _ (not_optional extends_path type_arguments_leaves kind.Less refl type_arguments_begin (out-NamedType x).arguments _ (not_optional extends_path constraints_leaves kind.Colon refl constraints_begin (out-NamedType x).constraints rest (path_of_value rest (value_of_type rest m)))) a0 in
-    search (rules, h)
+    stops _ _ _ _ c.from_residual.ensures (λ x g. g) h
 
 pub named_type-returns-in_err-arguments-clause-complete : goal.named_type-returns-in_err-arguments-clause-complete
 named_type-returns-in_err-arguments-clause-complete t c x rest m a =
     let a0 = named_ahead _ _ x rest a in
     let b1 = c.in_ok-path.ensures.complete (out-NamedType x).path _ (not_optional extends_path type_arguments_leaves kind.Less refl type_arguments_begin (out-NamedType x).arguments _ (not_optional extends_path constraints_leaves kind.Colon refl constraints_begin (out-NamedType x).constraints rest (path_of_value rest (value_of_type rest m)))) a0 in
     let h = c.in_err-arguments.ensures.complete (out-NamedType x).arguments _ (not_optional extends_name constraints_leaves kind.Colon refl constraints_begin (out-NamedType x).constraints rest (name_of_type rest m)) b1 in
-    search (rules, h)
+    stops _ _ _ _ c.from_residual-in_err-arguments.ensures (λ x g. g) h
 
 pub named_type-returns-in_err-constraints-clause-complete : goal.named_type-returns-in_err-constraints-clause-complete
 named_type-returns-in_err-constraints-clause-complete t c x rest m a =
@@ -74,7 +74,7 @@ named_type-returns-in_err-constraints-clause-complete t c x rest m a =
     let b1 = c.in_ok-path.ensures.complete (out-NamedType x).path _ (not_optional extends_path type_arguments_leaves kind.Less refl type_arguments_begin (out-NamedType x).arguments _ (not_optional extends_path constraints_leaves kind.Colon refl constraints_begin (out-NamedType x).constraints rest (path_of_value rest (value_of_type rest m)))) a0 in
     let b2 = c.in_ok-arguments.ensures.complete (out-NamedType x).arguments _ (not_optional extends_name constraints_leaves kind.Colon refl constraints_begin (out-NamedType x).constraints rest (name_of_type rest m)) b1 in
     let h = c.in_err-constraints.ensures.complete (out-NamedType x).constraints _ m b2 in
-    search (rules, h)
+    stops _ _ _ _ c.from_residual-in_err-constraints.ensures (λ x g. g) h
 
 pub named_type-returns-clause-complete : goal.named_type-returns-clause-complete
 named_type-returns-clause-complete t c x rest m a =
@@ -92,7 +92,7 @@ type_arguments-returns-in_err-less-clause-complete t c x rest m a =
     let y = kind_some type_arguments_leaves kind.Less _ _ x rest (not_begins extends_name kind.Less rest refl m) (c.is_next.ensures.next.0 c.if-not-is_next.false) a in
     let a0 = type_arguments_ahead _ _ y.0 rest y.1 in
     let h = c.in_err-less.ensures.complete (out-TypeArguments y.0).less _ tt a0 in
-    search (rules, h)
+    stops _ _ _ _ c.from_residual.ensures (λ x g. g) h
 
 pub type_arguments-returns-in_err-type_argument-clause-complete : goal.type_arguments-returns-in_err-type_argument-clause-complete
 type_arguments-returns-in_err-type_argument-clause-complete t c x rest m a =
@@ -100,7 +100,7 @@ type_arguments-returns-in_err-type_argument-clause-complete t c x rest m a =
     let a0 = type_arguments_ahead _ _ y.0 rest y.1 in
     let b1 = c.in_ok-less.ensures.complete (out-TypeArguments y.0).less _ tt a0 in
     let h = c.in_err-type_argument.ensures.complete (out-TypeArguments y.0).first.value _ (not_row extends_type next_type_argument_leaves kind.Comma refl next_type_argument_begins (out-TypeArguments y.0).rest.items _ refl) b1 in
-    search (rules, h)
+    stops _ _ _ _ c.from_residual-in_err-type_argument.ensures (λ x g. g) h
 
 pub type_arguments-returns-in_err-rest-clause-complete : goal.type_arguments-returns-in_err-rest-clause-complete
 type_arguments-returns-in_err-rest-clause-complete t c x rest m a =
@@ -109,7 +109,7 @@ type_arguments-returns-in_err-rest-clause-complete t c x rest m a =
     let b1 = c.in_ok-less.ensures.complete (out-TypeArguments y.0).less _ tt a0 in
     let b2 = c.in_ok-type_argument.ensures.complete (out-TypeArguments y.0).first.value _ (not_row extends_type next_type_argument_leaves kind.Comma refl next_type_argument_begins (out-TypeArguments y.0).rest.items _ refl) b1 in
     let h = c.in_err-rest.ensures.complete (out-TypeArguments y.0).rest.items _ refl b2 in
-    search (rules, h)
+    stops _ _ _ _ c.from_residual-in_err-rest.ensures (λ x g. g) h
 
 pub type_arguments-returns-in_err-greater-clause-complete : goal.type_arguments-returns-in_err-greater-clause-complete
 type_arguments-returns-in_err-greater-clause-complete t c x rest m a =
@@ -119,7 +119,7 @@ type_arguments-returns-in_err-greater-clause-complete t c x rest m a =
     let b2 = c.in_ok-type_argument.ensures.complete (out-TypeArguments y.0).first.value _ (not_row extends_type next_type_argument_leaves kind.Comma refl next_type_argument_begins (out-TypeArguments y.0).rest.items _ refl) b1 in
     let b3 = c.in_ok-rest.ensures.complete (out-TypeArguments y.0).rest.items _ refl b2 in
     let h = c.in_err-greater.ensures.complete (out-TypeArguments y.0).greater _ tt b3 in
-    search (rules, h)
+    stops _ _ _ _ c.from_residual-in_err-greater.ensures (λ x g. g) h
 
 pub type_arguments-returns-clause-complete : goal.type_arguments-returns-clause-complete
 type_arguments-returns-clause-complete t c x rest m a =
@@ -150,7 +150,7 @@ next_type_arguments-returns-in_err-next_type_argument-clause-complete t c = λ x
     let h = c.loop-arguments.invariant.left xs rest m a in
     let more = list_more next_type_argument_leaves kind.Comma _ _ h.0 rest (other_begins is_comma kind.Comma kind.Greater rest refl refl m) (c.is_next.ensures.next.0 c.loop-arguments-test.true) h.1 in
     let stop = c.in_err-next_type_argument.ensures.complete more.0 _ (not_row extends_type next_type_argument_leaves kind.Comma refl next_type_argument_begins more.1 rest (begins_not extends_type kind.Greater rest refl m)) more.2 in
-    search (rules, stop)
+    stops _ _ _ _ c.from_residual.ensures (λ x g. g) stop
 
 pub next_type_arguments-returns-clause-reads : goal.next_type_arguments-returns-clause-reads
 next_type_arguments-returns-clause-reads t c = c.loop-arguments.invariant.reads
@@ -164,14 +164,14 @@ pub next_type_argument-returns-in_err-comma-clause-complete : goal.next_type_arg
 next_type_argument-returns-in_err-comma-clause-complete t c x rest m a =
     let a0 = next_type_argument_ahead _ _ x rest a in
     let h = c.in_err-comma.ensures.complete (out-NextTypeArgument x).comma _ tt a0 in
-    search (rules, h)
+    stops _ _ _ _ c.from_residual.ensures (λ x g. g) h
 
 pub next_type_argument-returns-in_err-argument-clause-complete : goal.next_type_argument-returns-in_err-argument-clause-complete
 next_type_argument-returns-in_err-argument-clause-complete t c x rest m a =
     let a0 = next_type_argument_ahead _ _ x rest a in
     let b1 = c.in_ok-comma.ensures.complete (out-NextTypeArgument x).comma _ tt a0 in
     let h = c.in_err-argument.ensures.complete (out-NextTypeArgument x).argument _ m b1 in
-    search (rules, h)
+    stops _ _ _ _ c.from_residual-in_err-argument.ensures (λ x g. g) h
 
 pub next_type_argument-returns-clause-complete : goal.next_type_argument-returns-clause-complete
 next_type_argument-returns-clause-complete t c x rest m a =
@@ -183,7 +183,7 @@ pub type_argument-returns-in_err-symbol-clause-complete : goal.type_argument-ret
 type_argument-returns-in_err-symbol-clause-complete t c x rest m a =
     let y = number_argument_ahead _ _ x rest (c.is_next.ensures.next.0 c.if-is_next.true) a in
     let h = c.in_err-symbol.ensures.complete y.0 _ tt y.1 in
-    search (rules, h)
+    stops _ _ _ _ c.from_residual.ensures (λ x g. g) h
 
 pub type_argument-returns-then-is_next-clause-complete : goal.type_argument-returns-then-is_next-clause-complete
 type_argument-returns-then-is_next-clause-complete t c x rest m a =
@@ -194,7 +194,7 @@ pub type_argument-returns-in_err-type_constructor-clause-complete : goal.type_ar
 type_argument-returns-in_err-type_constructor-clause-complete t c x rest m a =
     let z = type_argument_ahead _ _ x rest (λ e. false≢true (c.if-is_next.ensures.next.1 e)) a in
     let h = c.in_err-type_constructor.ensures.complete z.0 _ m z.1 in
-    search (rules, h)
+    stops _ _ _ _ c.from_residual-in_err-type_constructor.ensures (λ x g. g) h
 
 pub type_argument-returns-clause-complete : goal.type_argument-returns-clause-complete
 type_argument-returns-clause-complete t c x rest m a =
@@ -205,14 +205,14 @@ pub layout-returns-in_err-attributes-clause-complete : goal.layout-returns-in_er
 layout-returns-in_err-attributes-clause-complete t c x rest m a =
     let a0 = layout_ahead _ _ x rest a in
     let h = c.in_err-attributes.ensures.complete (out-Layout x).attributes.items _ (begins_not extends_attributes kind.Identifier _ refl (body_begins (out-Layout x).body rest)) a0 in
-    search (rules, h)
+    stops _ _ _ _ c.from_residual.ensures (λ x g. g) h
 
 pub layout-returns-in_err-body-clause-complete : goal.layout-returns-in_err-body-clause-complete
 layout-returns-in_err-body-clause-complete t c x rest m a =
     let a0 = layout_ahead _ _ x rest a in
     let b1 = c.in_ok-attributes.ensures.complete (out-Layout x).attributes.items _ (begins_not extends_attributes kind.Identifier _ refl (body_begins (out-Layout x).body rest)) a0 in
     let h = c.in_err-body.ensures.complete (out-Layout x).body _ tt b1 in
-    search (rules, h)
+    stops _ _ _ _ c.from_residual-in_err-body.ensures (λ x g. g) h
 
 pub layout-returns-clause-complete : goal.layout-returns-clause-complete
 layout-returns-clause-complete t c x rest m a =
@@ -225,7 +225,7 @@ layout_body-returns-in_err-modifiers-clause-complete t c x rest m a =
     let y = body_of x in
     let a0 = body_ahead _ _ x rest a in
     let h = c.in_err-modifiers.ensures.complete y.modifiers _ (tail_may y.tail rest) a0 in
-    search (rules, h)
+    stops _ _ _ _ c.from_residual.ensures (λ x g. g) h
 
 pub layout_body-returns-in_err-struct_layout-clause-complete : goal.layout_body-returns-in_err-struct_layout-clause-complete
 layout_body-returns-in_err-struct_layout-clause-complete t c x rest m a =
@@ -235,7 +235,7 @@ layout_body-returns-in_err-struct_layout-clause-complete t c x rest m a =
     let u = struct_tail_ahead _ _ y.tail y.modifiers rest (c.is_next_word.ensures.next.0 c.if-is_next_word.true) y.fits b1 in
     let e = c.in_ok-modifiers.ensures.strictness y.modifiers _ (tail_may y.tail rest) a0 u.1 in
     let h = c.in_err-struct_layout.ensures.complete e u.0 _ tt u.2 in
-    search (rules, h)
+    stops _ _ _ _ c.from_residual-in_err-struct_layout.ensures (λ x g. g) h
 
 pub layout_body-returns-then-is_next_word-clause-complete : goal.layout_body-returns-then-is_next_word-clause-complete
 layout_body-returns-then-is_next_word-clause-complete t c x rest m a =
@@ -254,7 +254,7 @@ layout_body-returns-in_err-table_layout-clause-complete t c x rest m a =
     let u = table_tail_ahead _ _ y.tail y.modifiers rest (c.is_next_word-2.ensures.next.0 c.if-is_next_word-2.true) y.fits b1 in
     let e = c.in_ok-modifiers.ensures.strictness y.modifiers _ (tail_may y.tail rest) a0 u.1 in
     let h = c.in_err-table_layout.ensures.complete e u.0 _ tt u.2 in
-    search (rules, h)
+    stops _ _ _ _ c.from_residual-in_err-table_layout.ensures (λ x g. g) h
 
 pub layout_body-returns-then-is_next_word-2-clause-complete : goal.layout_body-returns-then-is_next_word-2-clause-complete
 layout_body-returns-then-is_next_word-2-clause-complete t c x rest m a =
@@ -272,7 +272,7 @@ layout_body-returns-in_err-union_layout-clause-complete t c x rest m a =
     let b1 = c.in_ok-modifiers.ensures.complete y.modifiers _ (tail_may y.tail rest) a0 in
     let u = union_tail_ahead _ _ y.tail rest (c.is_next_word-3.ensures.next.0 c.if-is_next_word-3.true) b1 in
     let h = c.in_err-union_layout.ensures.complete u.0 _ tt u.1 in
-    search (rules, h)
+    stops _ _ _ _ c.from_residual-in_err-union_layout.ensures (λ x g. g) h
 
 pub layout_body-returns-then-is_next_word-3-clause-complete : goal.layout_body-returns-then-is_next_word-3-clause-complete
 layout_body-returns-then-is_next_word-3-clause-complete t c x rest m a =
@@ -290,7 +290,7 @@ layout_body-returns-in_err-values_layout-clause-complete t c x rest m a =
     let u = values_tail_ahead _ _ y.tail y.modifiers rest (λ e. false≢true (c.if-is_next_word.ensures.next.1 e)) (λ e. false≢true (c.if-is_next_word-2.ensures.next.1 e)) (λ e. false≢true (c.if-is_next_word-3.ensures.next.1 e)) y.fits b1 in
     let e = c.in_ok-modifiers.ensures.resource y.modifiers _ (tail_may y.tail rest) a0 u.1 in
     let h = c.in_err-values_layout.ensures.complete e u.0 _ tt u.2 in
-    search (rules, h)
+    stops _ _ _ _ c.from_residual-in_err-values_layout.ensures (λ x g. g) h
 
 pub layout_body-returns-clause-complete : goal.layout_body-returns-clause-complete
 layout_body-returns-clause-complete t c x rest m a =
@@ -309,14 +309,14 @@ pub struct_layout-returns-in_err-keyword-clause-complete : goal.struct_layout-re
 struct_layout-returns-in_err-keyword-clause-complete t c e x rest m a =
     let a0 = block_ahead _ _ (codes "struct") member_leaves x rest a in
     let h = c.in_err-keyword.ensures.complete x.word _ tt a0 in
-    search (rules, h)
+    stops _ _ _ _ c.from_residual-in_err-keyword.ensures (λ x g. g) h
 
 pub struct_layout-returns-in_err-left-clause-complete : goal.struct_layout-returns-in_err-left-clause-complete
 struct_layout-returns-in_err-left-clause-complete t c e x rest m a =
     let a0 = block_ahead _ _ (codes "struct") member_leaves x rest a in
     let b1 = c.in_ok-keyword.ensures.complete x.word _ tt a0 in
     let h = c.in_err-left.ensures.complete x.left _ tt b1 in
-    search (rules, h)
+    stops _ _ _ _ c.from_residual-in_err-left.ensures (λ x g. g) h
 
 pub struct_layout-returns-in_err-members-clause-complete : goal.struct_layout-returns-in_err-members-clause-complete
 struct_layout-returns-in_err-members-clause-complete t c e x rest m a =
@@ -324,7 +324,7 @@ struct_layout-returns-in_err-members-clause-complete t c e x rest m a =
     let b1 = c.in_ok-keyword.ensures.complete x.word _ tt a0 in
     let b2 = c.in_ok-left.ensures.complete x.left _ tt b1 in
     let h = c.in_err-members.ensures.complete x.members _ refl b2 in
-    search (rules, h)
+    stops _ _ _ _ c.from_residual-in_err-members.ensures (λ x g. g) h
 
 pub struct_layout-returns-in_err-right-clause-complete : goal.struct_layout-returns-in_err-right-clause-complete
 struct_layout-returns-in_err-right-clause-complete t c e x rest m a =
@@ -333,7 +333,7 @@ struct_layout-returns-in_err-right-clause-complete t c e x rest m a =
     let b2 = c.in_ok-left.ensures.complete x.left _ tt b1 in
     let b3 = c.in_ok-members.ensures.complete x.members _ refl b2 in
     let h = c.in_err-right.ensures.complete x.right _ tt b3 in
-    search (rules, h)
+    stops _ _ _ _ c.from_residual-in_err-right.ensures (λ x g. g) h
 
 pub struct_layout-returns-clause-complete : goal.struct_layout-returns-clause-complete
 struct_layout-returns-clause-complete t c e x rest m a =
@@ -351,14 +351,14 @@ pub table_layout-returns-in_err-keyword-clause-complete : goal.table_layout-retu
 table_layout-returns-in_err-keyword-clause-complete t c e x rest m a =
     let a0 = block_ahead _ _ (codes "table") ordinal_member_leaves x rest a in
     let h = c.in_err-keyword.ensures.complete x.word _ tt a0 in
-    search (rules, h)
+    stops _ _ _ _ c.from_residual-in_err-keyword.ensures (λ x g. g) h
 
 pub table_layout-returns-in_err-left-clause-complete : goal.table_layout-returns-in_err-left-clause-complete
 table_layout-returns-in_err-left-clause-complete t c e x rest m a =
     let a0 = block_ahead _ _ (codes "table") ordinal_member_leaves x rest a in
     let b1 = c.in_ok-keyword.ensures.complete x.word _ tt a0 in
     let h = c.in_err-left.ensures.complete x.left _ tt b1 in
-    search (rules, h)
+    stops _ _ _ _ c.from_residual-in_err-left.ensures (λ x g. g) h
 
 pub table_layout-returns-in_err-members-clause-complete : goal.table_layout-returns-in_err-members-clause-complete
 table_layout-returns-in_err-members-clause-complete t c e x rest m a =
@@ -366,7 +366,7 @@ table_layout-returns-in_err-members-clause-complete t c e x rest m a =
     let b1 = c.in_ok-keyword.ensures.complete x.word _ tt a0 in
     let b2 = c.in_ok-left.ensures.complete x.left _ tt b1 in
     let h = c.in_err-members.ensures.complete x.members _ refl b2 in
-    search (rules, h)
+    stops _ _ _ _ c.from_residual-in_err-members.ensures (λ x g. g) h
 
 pub table_layout-returns-in_err-right-clause-complete : goal.table_layout-returns-in_err-right-clause-complete
 table_layout-returns-in_err-right-clause-complete t c e x rest m a =
@@ -375,7 +375,7 @@ table_layout-returns-in_err-right-clause-complete t c e x rest m a =
     let b2 = c.in_ok-left.ensures.complete x.left _ tt b1 in
     let b3 = c.in_ok-members.ensures.complete x.members _ refl b2 in
     let h = c.in_err-right.ensures.complete x.right _ tt b3 in
-    search (rules, h)
+    stops _ _ _ _ c.from_residual-in_err-right.ensures (λ x g. g) h
 
 pub table_layout-returns-clause-complete : goal.table_layout-returns-clause-complete
 table_layout-returns-clause-complete t c e x rest m a =
@@ -389,14 +389,14 @@ pub union_layout-returns-in_err-keyword-clause-complete : goal.union_layout-retu
 union_layout-returns-in_err-keyword-clause-complete t c x rest m a =
     let a0 = block_ahead _ _ (codes "union") ordinal_member_leaves x rest a in
     let h = c.in_err-keyword.ensures.complete x.word _ tt a0 in
-    search (rules, h)
+    stops _ _ _ _ c.from_residual.ensures (λ x g. g) h
 
 pub union_layout-returns-in_err-left-clause-complete : goal.union_layout-returns-in_err-left-clause-complete
 union_layout-returns-in_err-left-clause-complete t c x rest m a =
     let a0 = block_ahead _ _ (codes "union") ordinal_member_leaves x rest a in
     let b1 = c.in_ok-keyword.ensures.complete x.word _ tt a0 in
     let h = c.in_err-left.ensures.complete x.left _ tt b1 in
-    search (rules, h)
+    stops _ _ _ _ c.from_residual-in_err-left.ensures (λ x g. g) h
 
 pub union_layout-returns-in_err-members-clause-complete : goal.union_layout-returns-in_err-members-clause-complete
 union_layout-returns-in_err-members-clause-complete t c x rest m a =
@@ -404,7 +404,7 @@ union_layout-returns-in_err-members-clause-complete t c x rest m a =
     let b1 = c.in_ok-keyword.ensures.complete x.word _ tt a0 in
     let b2 = c.in_ok-left.ensures.complete x.left _ tt b1 in
     let h = c.in_err-members.ensures.complete x.members _ refl b2 in
-    search (rules, h)
+    stops _ _ _ _ c.from_residual-in_err-members.ensures (λ x g. g) h
 
 pub union_layout-returns-in_err-right-clause-complete : goal.union_layout-returns-in_err-right-clause-complete
 union_layout-returns-in_err-right-clause-complete t c x rest m a =
@@ -413,7 +413,7 @@ union_layout-returns-in_err-right-clause-complete t c x rest m a =
     let b2 = c.in_ok-left.ensures.complete x.left _ tt b1 in
     let b3 = c.in_ok-members.ensures.complete x.members _ refl b2 in
     let h = c.in_err-right.ensures.complete x.right _ tt b3 in
-    search (rules, h)
+    stops _ _ _ _ c.from_residual-in_err-right.ensures (λ x g. g) h
 
 pub union_layout-returns-clause-complete : goal.union_layout-returns-clause-complete
 union_layout-returns-clause-complete t c x rest m a =
@@ -431,14 +431,14 @@ pub values_layout-returns-in_err-keyword-clause-complete : goal.values_layout-re
 values_layout-returns-in_err-keyword-clause-complete t c e x rest m a =
     let a0 = values_ahead _ _ x rest a in
     let h = c.in_err-keyword.ensures.complete x.word _ tt a0 in
-    search (rules, h)
+    stops _ _ _ _ c.from_residual-in_err-keyword.ensures (λ x g. g) h
 
 pub values_layout-returns-in_err-underlying-clause-complete : goal.values_layout-returns-in_err-underlying-clause-complete
 values_layout-returns-in_err-underlying-clause-complete t c e x rest m a =
     let a0 = values_ahead _ _ x rest a in
     let b1 = c.in_ok-keyword.ensures.complete x.word _ tt a0 in
     let h = c.in_err-underlying.ensures.complete x.underlying _ refl b1 in
-    search (rules, h)
+    stops _ _ _ _ c.from_residual-in_err-underlying.ensures (λ x g. g) h
 
 pub values_layout-returns-in_err-left-clause-complete : goal.values_layout-returns-in_err-left-clause-complete
 values_layout-returns-in_err-left-clause-complete t c e x rest m a =
@@ -446,7 +446,7 @@ values_layout-returns-in_err-left-clause-complete t c e x rest m a =
     let b1 = c.in_ok-keyword.ensures.complete x.word _ tt a0 in
     let b2 = c.in_ok-underlying.ensures.complete x.underlying _ refl b1 in
     let h = c.in_err-left.ensures.complete x.left _ tt b2 in
-    search (rules, h)
+    stops _ _ _ _ c.from_residual-in_err-left.ensures (λ x g. g) h
 
 pub values_layout-returns-in_err-members-clause-complete : goal.values_layout-returns-in_err-members-clause-complete
 values_layout-returns-in_err-members-clause-complete t c e x rest m a =
@@ -455,7 +455,7 @@ values_layout-returns-in_err-members-clause-complete t c e x rest m a =
     let b2 = c.in_ok-underlying.ensures.complete x.underlying _ refl b1 in
     let b3 = c.in_ok-left.ensures.complete x.left _ tt b2 in
     let h = c.in_err-members.ensures.complete x.members _ refl b3 in
-    search (rules, h)
+    stops _ _ _ _ c.from_residual-in_err-members.ensures (λ x g. g) h
 
 pub values_layout-returns-in_err-right-clause-complete : goal.values_layout-returns-in_err-right-clause-complete
 values_layout-returns-in_err-right-clause-complete t c e x rest m a =
@@ -465,7 +465,7 @@ values_layout-returns-in_err-right-clause-complete t c e x rest m a =
     let b3 = c.in_ok-left.ensures.complete x.left _ tt b2 in
     let b4 = c.in_ok-members.ensures.complete x.members _ refl b3 in
     let h = c.in_err-right.ensures.complete x.right _ tt b4 in
-    search (rules, h)
+    stops _ _ _ _ c.from_residual-in_err-right.ensures (λ x g. g) h
 
 pub values_layout-returns-clause-complete : goal.values_layout-returns-clause-complete
 values_layout-returns-clause-complete t c e x rest m a =
@@ -485,7 +485,7 @@ underlying-returns-in_err-colon-clause-complete t c x rest m a =
     let y = kind_some underlying_leaves kind.Colon _ _ x rest (other_begins extends_type kind.Colon kind.LeftBrace rest refl refl m) (c.is_next.ensures.next.0 c.if-not-is_next.false) a in
     let a0 = underlying_ahead _ _ y.0 rest y.1 in
     let h = c.in_err-colon.ensures.complete (out-Underlying y.0).colon _ tt a0 in
-    search (rules, h)
+    stops _ _ _ _ c.from_residual.ensures (λ x g. g) h
 
 pub underlying-returns-in_err-named-clause-complete : goal.underlying-returns-in_err-named-clause-complete
 underlying-returns-in_err-named-clause-complete t c x rest m a =
@@ -493,7 +493,7 @@ underlying-returns-in_err-named-clause-complete t c x rest m a =
     let a0 = underlying_ahead _ _ y.0 rest y.1 in
     let b1 = c.in_ok-colon.ensures.complete (out-Underlying y.0).colon _ tt a0 in
     let h = c.in_err-named.ensures.complete (out-Underlying y.0).named _ (begins_not extends_type kind.LeftBrace rest refl m) b1 in
-    search (rules, h)
+    stops _ _ _ _ c.from_residual-in_err-named.ensures (λ x g. g) h
 
 pub underlying-returns-clause-complete : goal.underlying-returns-clause-complete
 underlying-returns-clause-complete t c x rest m a =
@@ -522,7 +522,7 @@ members-returns-in_err-member-clause-complete t c = λ xs rest m a.
     let h = c.loop-members.invariant.left xs rest m a in
     let more = members_more member_leaves kind.RightBrace _ _ h.0 rest m (λ i. false≢true (c.loop-members-test.ensures.next.1 i)) h.1 in
     let stop = c.in_err-member.ensures.complete more.0 _ tt more.2 in
-    search (rules, stop)
+    stops _ _ _ _ c.from_residual.ensures (λ x g. g) stop
 
 pub members-returns-clause-reads : goal.members-returns-clause-reads
 members-returns-clause-reads t c = c.loop-members.invariant.reads
@@ -552,7 +552,7 @@ ordinal_members-returns-in_err-ordinal_member-clause-complete t c = λ xs rest m
     let h = c.loop-members.invariant.left xs rest m a in
     let more = members_more ordinal_member_leaves kind.RightBrace _ _ h.0 rest m (λ i. false≢true (c.loop-members-test.ensures.next.1 i)) h.1 in
     let stop = c.in_err-ordinal_member.ensures.complete more.0 _ tt more.2 in
-    search (rules, stop)
+    stops _ _ _ _ c.from_residual.ensures (λ x g. g) stop
 
 pub ordinal_members-returns-clause-reads : goal.ordinal_members-returns-clause-reads
 ordinal_members-returns-clause-reads t c = c.loop-members.invariant.reads
@@ -566,14 +566,14 @@ pub member-returns-in_err-attributes-clause-complete : goal.member-returns-in_er
 member-returns-in_err-attributes-clause-complete t c x rest m a =
     let a0 = member_ahead _ _ x rest a in
     let h = c.in_err-attributes.ensures.complete (out-Member x).attributes.items _ refl a0 in
-    search (rules, h)
+    stops _ _ _ _ c.from_residual.ensures (λ x g. g) h
 
 pub member-returns-in_err-name-clause-complete : goal.member-returns-in_err-name-clause-complete
 member-returns-in_err-name-clause-complete t c x rest m a =
     let a0 = member_ahead _ _ x rest a in
     let b1 = c.in_ok-attributes.ensures.complete (out-Member x).attributes.items _ refl a0 in
     let h = c.in_err-name.ensures.complete (out-Member x).name _ tt b1 in
-    search (rules, h)
+    stops _ _ _ _ c.from_residual-in_err-name.ensures (λ x g. g) h
 
 pub member-returns-in_err-constructor-clause-complete : goal.member-returns-in_err-constructor-clause-complete
 member-returns-in_err-constructor-clause-complete t c x rest m a =
@@ -581,7 +581,7 @@ member-returns-in_err-constructor-clause-complete t c x rest m a =
     let b1 = c.in_ok-attributes.ensures.complete (out-Member x).attributes.items _ refl a0 in
     let b2 = c.in_ok-name.ensures.complete (out-Member x).name _ tt b1 in
     let h = c.in_err-constructor.ensures.complete (out-Member x).constructor _ refl b2 in
-    search (rules, h)
+    stops _ _ _ _ c.from_residual-in_err-constructor.ensures (λ x g. g) h
 
 pub member-returns-in_err-semicolon-clause-complete : goal.member-returns-in_err-semicolon-clause-complete
 member-returns-in_err-semicolon-clause-complete t c x rest m a =
@@ -604,14 +604,14 @@ pub ordinal_member-returns-in_err-attributes-clause-complete : goal.ordinal_memb
 ordinal_member-returns-in_err-attributes-clause-complete t c x rest m a =
     let a0 = ordinal_member_ahead _ _ x rest a in
     let h = c.in_err-attributes.ensures.complete (out-OrdinalMember x).attributes.items _ refl a0 in
-    search (rules, h)
+    stops _ _ _ _ c.from_residual.ensures (λ x g. g) h
 
 pub ordinal_member-returns-in_err-ordinal-clause-complete : goal.ordinal_member-returns-in_err-ordinal-clause-complete
 ordinal_member-returns-in_err-ordinal-clause-complete t c x rest m a =
     let a0 = ordinal_member_ahead _ _ x rest a in
     let b1 = c.in_ok-attributes.ensures.complete (out-OrdinalMember x).attributes.items _ refl a0 in
     let h = c.in_err-ordinal.ensures.complete (out-OrdinalMember x).ordinal _ tt b1 in
-    search (rules, h)
+    stops _ _ _ _ c.from_residual-in_err-ordinal.ensures (λ x g. g) h
 
 pub ordinal_member-returns-in_err-colon-clause-complete : goal.ordinal_member-returns-in_err-colon-clause-complete
 ordinal_member-returns-in_err-colon-clause-complete t c x rest m a =
@@ -619,7 +619,7 @@ ordinal_member-returns-in_err-colon-clause-complete t c x rest m a =
     let b1 = c.in_ok-attributes.ensures.complete (out-OrdinalMember x).attributes.items _ refl a0 in
     let b2 = c.in_ok-ordinal.ensures.complete (out-OrdinalMember x).ordinal _ tt b1 in
     let h = c.in_err-colon.ensures.complete (out-OrdinalMember x).colon _ tt b2 in
-    search (rules, h)
+    stops _ _ _ _ c.from_residual-in_err-colon.ensures (λ x g. g) h
 
 pub ordinal_member-returns-in_err-body-clause-complete : goal.ordinal_member-returns-in_err-body-clause-complete
 ordinal_member-returns-in_err-body-clause-complete t c x rest m a =
@@ -628,7 +628,7 @@ ordinal_member-returns-in_err-body-clause-complete t c x rest m a =
     let b2 = c.in_ok-ordinal.ensures.complete (out-OrdinalMember x).ordinal _ tt b1 in
     let b3 = c.in_ok-colon.ensures.complete (out-OrdinalMember x).colon _ tt b2 in
     let h = c.in_err-body.ensures.complete (out-OrdinalMember x).body _ refl b3 in
-    search (rules, h)
+    stops _ _ _ _ c.from_residual-in_err-body.ensures (λ x g. g) h
 
 pub ordinal_member-returns-in_err-semicolon-clause-complete : goal.ordinal_member-returns-in_err-semicolon-clause-complete
 ordinal_member-returns-in_err-semicolon-clause-complete t c x rest m a =
@@ -659,7 +659,7 @@ ordinal_body-returns-in_err-keyword-clause-complete t c x rest m a =
     let i = c.begins_reserved.ensures.0 c.if-begins_reserved.true in
     let y = reserved_ahead _ _ x rest i.0 i.1 a in
     let h = c.in_err-keyword.ensures.complete y.0 _ tt y.1 in
-    search (rules, h)
+    stops _ _ _ _ c.from_residual.ensures (λ x g. g) h
 
 pub ordinal_body-returns-then-begins_reserved-clause-complete : goal.ordinal_body-returns-then-begins_reserved-clause-complete
 ordinal_body-returns-then-begins_reserved-clause-complete t c x rest m a =
@@ -675,7 +675,7 @@ ordinal_body-returns-in_err-constructor-clause-complete t c x rest m a =
     let y = typed_ahead _ _ x rest m (λ i j. false≢true (c.if-begins_reserved.ensures.1 (i, j))) a in
     let b1 = c.in_ok-name.ensures.complete y.0 _ tt y.2 in
     let h = c.in_err-constructor.ensures.complete y.1 _ (begins_not extends_type kind.Semicolon rest refl m) b1 in
-    search (rules, h)
+    stops _ _ _ _ c.from_residual-in_err-constructor.ensures (λ x g. g) h
 
 pub ordinal_body-returns-clause-complete : goal.ordinal_body-returns-clause-complete
 ordinal_body-returns-clause-complete t c x rest m a =

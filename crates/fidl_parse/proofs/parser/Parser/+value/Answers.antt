@@ -9,20 +9,21 @@ use Rattle.fidl_tree.specs.declared.value.Operand.{out-Operand}
 use Rattle.fidl_parse.specs.Follow.{extends_value}
 use Rattle.fidl_parse.proofs.Ahead.{not_begins}
 use Rattle.fidl_parse.proofs.Values.{value_ahead, operand_ahead, operand_begins, operands_end, group_ahead, group_reads}
+use Rattle.fidl_parse.proofs.Stops.{stops}
 use Rattle.fidl_parse.proofs.parser.Parser.+value.Goals as goal
 
 pub value-returns-in_err-first-clause-complete : goal.value-returns-in_err-first-clause-complete
 value-returns-in_err-first-clause-complete t c = λ x rest m a.
     let a0 = value_ahead _ _ x rest a in
     let h = c.in_err-first.ensures.complete (out-Value x).first _ (operands_end (out-Value x).rest.items rest m) a0 in
-    search (rules, h)
+    stops _ _ _ _ c.from_residual.ensures (λ x g. g) h
 
 pub value-returns-in_err-rest-clause-complete : goal.value-returns-in_err-rest-clause-complete
 value-returns-in_err-rest-clause-complete t c = λ x rest m a.
     let a0 = value_ahead _ _ x rest a in
     let a1 = c.in_ok-first.ensures.complete (out-Value x).first _ (operands_end (out-Value x).rest.items rest m) a0 in
     let h = c.in_err-rest.ensures.complete (out-Value x).rest.items _ m a1 in
-    search (rules, h)
+    stops _ _ _ _ c.from_residual-in_err-rest.ensures (λ x g. g) h
 
 pub value-returns-clause-complete : goal.value-returns-clause-complete
 value-returns-clause-complete t c = λ x rest m a.
@@ -50,7 +51,7 @@ operands-returns-in_err-operand-clause-complete t c = λ xs rest m a.
     let h = c.loop-operands.invariant.left xs rest m a in
     let more = list_more operand_leaves kind.Bar _ _ h.0 rest (not_begins extends_value kind.Bar rest refl m) (c.is_next.ensures.next.0 c.loop-operands-test.true) h.1 in
     let stop = c.in_err-operand.ensures.complete more.0 _ (operands_end more.1 rest m) more.2 in
-    search (rules, stop)
+    stops _ _ _ _ c.from_residual.ensures (λ x g. g) stop
 
 pub operands-returns-clause-reads : goal.operands-returns-clause-reads
 operands-returns-clause-reads t c = c.loop-operands.invariant.reads
@@ -64,14 +65,14 @@ pub operand-returns-in_err-bar-clause-complete : goal.operand-returns-in_err-bar
 operand-returns-in_err-bar-clause-complete t c = λ x rest m a.
     let a0 = operand_ahead _ _ x rest a in
     let h = c.in_err-bar.ensures.complete (out-Operand x).bar _ tt a0 in
-    search (rules, h)
+    stops _ _ _ _ c.from_residual.ensures (λ x g. g) h
 
 pub operand-returns-in_err-term-clause-complete : goal.operand-returns-in_err-term-clause-complete
 operand-returns-in_err-term-clause-complete t c = λ x rest m a.
     let a0 = operand_ahead _ _ x rest a in
     let a1 = c.in_ok-bar.ensures.complete (out-Operand x).bar _ tt a0 in
     let h = c.in_err-term.ensures.complete (out-Operand x).term _ m a1 in
-    search (rules, h)
+    stops _ _ _ _ c.from_residual-in_err-term.ensures (λ x g. g) h
 
 pub operand-returns-clause-complete : goal.operand-returns-clause-complete
 operand-returns-clause-complete t c = λ x rest m a.
@@ -83,14 +84,14 @@ pub group-returns-in_err-left-clause-complete : goal.group-returns-in_err-left-c
 group-returns-in_err-left-clause-complete t c = λ i x rest m a.
     let g = group_ahead _ _ x rest i a in
     let h = c.in_err-left.ensures.complete g.0 _ tt g.3 in
-    search (rules, h)
+    stops _ _ _ _ c.from_residual.ensures (λ x g. g) h
 
 pub group-returns-in_err-value-clause-complete : goal.group-returns-in_err-value-clause-complete
 group-returns-in_err-value-clause-complete t c = λ i x rest m a.
     let g = group_ahead _ _ x rest i a in
     let a1 = c.in_ok-left.ensures.complete g.0 _ tt g.3 in
     let h = c.in_err-value.ensures.complete g.1 _ refl a1 in
-    search (rules, h)
+    stops _ _ _ _ c.from_residual-in_err-value.ensures (λ x g. g) h
 
 pub group-returns-in_err-right-clause-complete : goal.group-returns-in_err-right-clause-complete
 group-returns-in_err-right-clause-complete t c = λ i x rest m a.
@@ -98,7 +99,7 @@ group-returns-in_err-right-clause-complete t c = λ i x rest m a.
     let a1 = c.in_ok-left.ensures.complete g.0 _ tt g.3 in
     let a2 = c.in_ok-value.ensures.complete g.1 _ refl a1 in
     let h = c.in_err-right.ensures.complete g.2 _ tt a2 in
-    search (rules, h)
+    stops _ _ _ _ c.from_residual-in_err-right.ensures (λ x g. g) h
 
 pub group-returns-clause-complete : goal.group-returns-clause-complete
 group-returns-clause-complete t c = λ i x rest m a.

@@ -1,4 +1,4 @@
-use Rattle.std.proofs.Common.{rules, refl}
+use Rattle.std.proofs.Common.{refl}
 use Rattle.fidl_span.specs.declared.words.WordKind.TheVariants as kind
 use Rattle.fidl_parse.specs.Follow.{extends_type}
 use Rattle.fidl_parse.proofs.Ahead.{begins_not}
@@ -8,7 +8,7 @@ use Rattle.fidl_parse.proofs.parser.Parser.alias.Goals as goal
 pub returns-in_err-keyword-clause-complete : goal.returns-in_err-keyword-clause-complete
 returns-in_err-keyword-clause-complete c x rest m a =
     let h = c.in_err-keyword.ensures.complete x.keyword _ tt a in
-    search (rules, h)
+    stops _ _ _ _ c.from_residual.ensures (λ x g. g) h
 
 pub returns-in_err-name-clause-complete : goal.returns-in_err-name-clause-complete
 returns-in_err-name-clause-complete c x rest m a =

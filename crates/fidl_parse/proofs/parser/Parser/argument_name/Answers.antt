@@ -1,6 +1,6 @@
-use Rattle.std.proofs.Common.{rules}
 use Rattle.std.proofs.lemmas.Bool.{false≢true}
 use Rattle.fidl_parse.proofs.Attributes.{named_none, named_some}
+use Rattle.fidl_parse.proofs.Stops.{stops}
 use Rattle.fidl_parse.proofs.parser.Parser.argument_name.Goals as goal
 
 pub returns-then-not-begins_argument_name-clause-complete : goal.returns-then-not-begins_argument_name-clause-complete
@@ -11,14 +11,14 @@ pub returns-in_err-name-clause-complete : goal.returns-in_err-name-clause-comple
 returns-in_err-name-clause-complete c x rest m a =
     let y = named_some _ _ x rest m (c.begins_argument_name.ensures.0 c.if-not-begins_argument_name.false) a in
     let h = c.in_err-name.ensures.complete y.0.name _ tt y.1 in
-    search (rules, h)
+    stops _ _ _ _ c.from_residual.ensures (λ x g. g) h
 
 pub returns-in_err-equals-clause-complete : goal.returns-in_err-equals-clause-complete
 returns-in_err-equals-clause-complete c x rest m a =
     let y = named_some _ _ x rest m (c.begins_argument_name.ensures.0 c.if-not-begins_argument_name.false) a in
     let b1 = c.in_ok-name.ensures.complete y.0.name _ tt y.1 in
     let h = c.in_err-equals.ensures.complete y.0.equals _ tt b1 in
-    search (rules, h)
+    stops _ _ _ _ c.from_residual-in_err-equals.ensures (λ x g. g) h
 
 pub returns-clause-complete : goal.returns-clause-complete
 returns-clause-complete c x rest m a =

@@ -1,4 +1,4 @@
-use Rattle.std.proofs.Common.{rules, refl}
+use Rattle.std.proofs.Common.{refl}
 use Rattle.std.proofs.lemmas.Bool.{false≢true}
 use Rattle.fidl_span.specs.declared.words.WordKind.TheVariants as kind
 use Rattle.fidl_tree.specs.Attribute.{arguments_leaves}
@@ -6,6 +6,7 @@ use Rattle.fidl_parse.specs.Follow.{extends_attribute}
 use Rattle.fidl_parse.proofs.Ahead.{not_begins}
 use Rattle.fidl_parse.proofs.Options.{kind_none, kind_some}
 use Rattle.fidl_parse.proofs.Attributes.{arguments_begin, arguments_ahead}
+use Rattle.fidl_parse.proofs.Stops.{stops}
 use Rattle.fidl_parse.proofs.parser.Parser.arguments.Goals as goal
 
 pub returns-then-not-is_next-clause-complete : goal.returns-then-not-is_next-clause-complete
@@ -17,7 +18,7 @@ returns-in_err-left-clause-complete c x rest m a =
     let y = kind_some arguments_leaves kind.LeftParenthesis _ _ x rest (not_begins extends_attribute kind.LeftParenthesis rest refl m) (c.is_next.ensures.next.0 c.if-not-is_next.false) a in
     let a0 = arguments_ahead _ _ y.0 rest y.1 in
     let h = c.in_err-left.ensures.complete y.0.left _ tt a0 in
-    search (rules, h)
+    stops _ _ _ _ c.from_residual.ensures (λ x g. g) h
 
 pub returns-in_err-list-clause-complete : goal.returns-in_err-list-clause-complete
 returns-in_err-list-clause-complete c x rest m a =
@@ -25,7 +26,7 @@ returns-in_err-list-clause-complete c x rest m a =
     let a0 = arguments_ahead _ _ y.0 rest y.1 in
     let b1 = c.in_ok-left.ensures.complete y.0.left _ tt a0 in
     let h = c.in_err-list.ensures.complete y.0.list _ refl b1 in
-    search (rules, h)
+    stops _ _ _ _ c.from_residual-in_err-list.ensures (λ x g. g) h
 
 pub returns-in_err-right-clause-complete : goal.returns-in_err-right-clause-complete
 returns-in_err-right-clause-complete c x rest m a =
@@ -34,7 +35,7 @@ returns-in_err-right-clause-complete c x rest m a =
     let b1 = c.in_ok-left.ensures.complete y.0.left _ tt a0 in
     let b2 = c.in_ok-list.ensures.complete y.0.list _ refl b1 in
     let h = c.in_err-right.ensures.complete y.0.right _ tt b2 in
-    search (rules, h)
+    stops _ _ _ _ c.from_residual-in_err-right.ensures (λ x g. g) h
 
 pub returns-clause-complete : goal.returns-clause-complete
 returns-clause-complete c x rest m a =

@@ -8,6 +8,7 @@ use Rattle.fidl_parse.specs.Follow.{extends_attribute, extends_attributes}
 use Rattle.fidl_parse.proofs.Ahead.{not_begins}
 use Rattle.fidl_parse.proofs.Follow.{not_row, attribute_of_attributes}
 use Rattle.fidl_parse.proofs.Attributes.{attribute_begins}
+use Rattle.fidl_parse.proofs.Stops.{stops}
 use Rattle.fidl_parse.proofs.parser.Parser.attributes.Goals as goal
 
 pub loop-attributes-init : goal.loop-attributes-init
@@ -30,7 +31,7 @@ returns-in_err-attribute-clause-complete c = λ xs rest m a.
     let h = c.loop-attributes.invariant.left xs rest m a in
     let more = list_more attribute_leaves kind.At _ _ h.0 rest (not_begins extends_attributes kind.At rest refl m) (c.is_next.ensures.next.0 c.loop-attributes-test.true) h.1 in
     let stop = c.in_err-attribute.ensures.complete more.0 _ (not_row extends_attribute attribute_leaves kind.At refl attribute_begins more.1 rest (attribute_of_attributes rest m)) more.2 in
-    search (rules, stop)
+    stops _ _ _ _ c.from_residual.ensures (λ x g. g) stop
 
 pub returns-clause-reads : goal.returns-clause-reads
 returns-clause-reads c = c.loop-attributes.invariant.reads

@@ -1,4 +1,4 @@
-use Rattle.std.proofs.Common.{rules, refl}
+use Rattle.std.proofs.Common.{refl}
 use Rattle.std.proofs.lemmas.Bool.{false≢true}
 use Rattle.fidl_span.specs.declared.words.WordKind.TheVariants as kind
 use Rattle.fidl_tree.specs.Constraint.{constraints_leaves}
@@ -7,6 +7,7 @@ use Rattle.fidl_parse.proofs.Ahead.{not_begins}
 use Rattle.fidl_parse.proofs.Options.{kind_none, kind_some}
 use Rattle.fidl_parse.proofs.Follow.{value_of_type}
 use Rattle.fidl_parse.proofs.Constraints.{constraints_begin, single_ahead}
+use Rattle.fidl_parse.proofs.Stops.{stops}
 use Rattle.fidl_parse.proofs.parser.Parser.constraints.Goals as goal
 
 pub returns-then-not-is_next-clause-complete : goal.returns-then-not-is_next-clause-complete
@@ -17,7 +18,7 @@ pub returns-in_err-constraint_list-clause-complete : goal.returns-in_err-constra
 returns-in_err-constraint_list-clause-complete c x rest m a =
     let y = kind_some constraints_leaves kind.Colon _ _ x rest (not_begins extends_type kind.Colon rest refl m) (c.is_next.ensures.next.0 c.if-not-is_next.false) a in
     let h = c.in_err-constraint_list.ensures.complete (c.is_second.ensures.0 c.if-is_second.true) y.0 _ tt y.1 in
-    search (rules, h)
+    stops _ _ _ _ c.from_residual.ensures (λ x g. g) h
 
 pub returns-then-is_second-clause-complete : goal.returns-then-is_second-clause-complete
 returns-then-is_second-clause-complete c x rest m a =
@@ -29,7 +30,7 @@ returns-in_err-colon-clause-complete c x rest m a =
     let y = kind_some constraints_leaves kind.Colon _ _ x rest (not_begins extends_type kind.Colon rest refl m) (c.is_next.ensures.next.0 c.if-not-is_next.false) a in
     let s = single_ahead _ _ y.0 rest (λ e. false≢true (c.if-is_second.ensures.1 e)) y.1 in
     let h = c.in_err-colon.ensures.complete s.0 _ tt s.2 in
-    search (rules, h)
+    stops _ _ _ _ c.from_residual-in_err-colon.ensures (λ x g. g) h
 
 pub returns-in_err-value-clause-complete : goal.returns-in_err-value-clause-complete
 returns-in_err-value-clause-complete c x rest m a =
@@ -37,7 +38,7 @@ returns-in_err-value-clause-complete c x rest m a =
     let s = single_ahead _ _ y.0 rest (λ e. false≢true (c.if-is_second.ensures.1 e)) y.1 in
     let b1 = c.in_ok-colon.ensures.complete s.0 _ tt s.2 in
     let h = c.in_err-value.ensures.complete s.1 _ (value_of_type rest m) b1 in
-    search (rules, h)
+    stops _ _ _ _ c.from_residual-in_err-value.ensures (λ x g. g) h
 
 pub returns-clause-complete : goal.returns-clause-complete
 returns-clause-complete c x rest m a =

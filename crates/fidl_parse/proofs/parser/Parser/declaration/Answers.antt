@@ -1,4 +1,4 @@
-use Rattle.std.proofs.Common.{rules, refl}
+use Rattle.std.proofs.Common.{refl}
 use Rattle.fidl_span.specs.declared.words.WordKind.TheVariants as kind
 use Rattle.fidl_parse.proofs.Ahead.{group}
 use Rattle.fidl_parse.proofs.Stops.{stops}
@@ -10,7 +10,7 @@ pub returns-in_err-body-clause-complete : goal.returns-in_err-body-clause-comple
 returns-in_err-body-clause-complete c x rest m a =
     let a0 = group _ _ (declaration_body_leaves x.body) (symbol kind.Semicolon x.semicolon) rest a in
     let h = c.in_err-body.ensures.complete x.body _ refl a0 in
-    search (rules, h)
+    stops _ _ _ _ c.from_residual.ensures (λ x g. g) h
 
 pub returns-in_err-semicolon-clause-complete : goal.returns-in_err-semicolon-clause-complete
 returns-in_err-semicolon-clause-complete c x rest m a =

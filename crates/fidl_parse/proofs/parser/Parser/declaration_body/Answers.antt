@@ -1,4 +1,3 @@
-use Rattle.std.proofs.Common.{rules}
 use Rattle.std.proofs.lemmas.Bool.{false≢true}
 use Rattle.fidl_parse.proofs.Declarations.{const_body_ahead, alias_body_ahead, type_declaration_body_ahead, service_body_ahead, resource_body_ahead, protocol_body_ahead}
 use Rattle.fidl_parse.proofs.Stops.{stops}
@@ -8,7 +7,7 @@ pub returns-in_err-constant-clause-complete : goal.returns-in_err-constant-claus
 returns-in_err-constant-clause-complete c x rest m a =
     let y = const_body_ahead _ _ x rest (c.is_next_word.ensures.next.0 c.if-is_next_word.true) a in
     let h = c.in_err-constant.ensures.complete y.0 _ m y.1 in
-    search (rules, h)
+    stops _ _ _ _ c.from_residual.ensures (λ x g. g) h
 
 pub returns-then-is_next_word-clause-complete : goal.returns-then-is_next_word-clause-complete
 returns-then-is_next_word-clause-complete c x rest m a =

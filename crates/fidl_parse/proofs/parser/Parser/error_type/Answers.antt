@@ -1,4 +1,4 @@
-use Rattle.std.proofs.Common.{rules, refl, codes}
+use Rattle.std.proofs.Common.{refl, codes}
 use Rattle.std.proofs.lemmas.Bool.{false≢true}
 use Rattle.fidl_span.specs.declared.words.WordKind.TheVariants as kind
 use Rattle.fidl_tree.specs.Protocol.{error_type_leaves}
@@ -17,7 +17,7 @@ pub returns-in_err-keyword-clause-complete : goal.returns-in_err-keyword-clause-
 returns-in_err-keyword-clause-complete c x rest m a =
     let y = option_some error_type_leaves _ _ x rest (λ b. no_text _ _ (codes "error") kind.Semicolon rest m refl (c.is_next_word.ensures.next.0 c.if-not-is_next_word.false) b) a in
     let h = c.in_err-keyword.ensures.complete y.0.keyword _ tt y.1 in
-    search (rules, h)
+    stops _ _ _ _ c.from_residual.ensures (λ x g. g) h
 
 pub returns-in_err-constructor-clause-complete : goal.returns-in_err-constructor-clause-complete
 returns-in_err-constructor-clause-complete c x rest m a =

@@ -1,4 +1,4 @@
-use Rattle.std.proofs.Common.{rules, refl, arith, length, map, ◌<◌, ◌≤◌, ap, []}
+use Rattle.std.proofs.Common.{refl, arith, length, map, ◌<◌, ◌≤◌, ap, []}
 use Rattle.std.proofs.lemmas.Bool.{false≢true}
 use Rattle.fidl_parse.proofs.Files.{file_ahead, nothing_ahead, file_start, item_ahead, item_may, import_item, declaration_item, told}
 use Rattle.fidl_parse.proofs.Stops.{stops}
@@ -11,7 +11,7 @@ pub returns-in_err-library-clause-complete : goal.returns-in_err-library-clause-
 returns-in_err-library-clause-complete c x rest m a =
     let a0 = file_ahead _ _ x rest m a in
     let h = c.in_err-library.ensures.complete x.library _ tt a0 in
-    search (rules, h)
+    stops _ _ _ _ c.from_residual.ensures (λ x g. g) h
 
 pub loop-at-init : goal.loop-at-init
 loop-at-init c = record {

@@ -1,4 +1,4 @@
-use Rattle.std.proofs.Common.{rules, refl}
+use Rattle.std.proofs.Common.{refl}
 use Rattle.fidl_parse.proofs.Files.{library_ahead}
 use Rattle.fidl_parse.proofs.Stops.{stops}
 use Rattle.fidl_parse.proofs.parser.Parser.library.Goals as goal
@@ -7,7 +7,7 @@ pub returns-in_err-attributes-clause-complete : goal.returns-in_err-attributes-c
 returns-in_err-attributes-clause-complete c x rest m a =
     let a0 = library_ahead _ _ x rest a in
     let h = c.in_err-attributes.ensures.complete x.attributes.items _ refl a0 in
-    search (rules, h)
+    stops _ _ _ _ c.from_residual.ensures (λ x g. g) h
 
 pub returns-in_err-keyword-clause-complete : goal.returns-in_err-keyword-clause-complete
 returns-in_err-keyword-clause-complete c x rest m a =

@@ -1,6 +1,7 @@
-use Rattle.std.proofs.Common.{rules, refl}
+use Rattle.std.proofs.Common.{refl}
 use Rattle.std.proofs.lemmas.Bool.{false≢true}
 use Rattle.fidl_parse.proofs.Values.{literal_ahead, string_ahead, number_ahead, number_reads}
+use Rattle.fidl_parse.proofs.Stops.{stops}
 use Rattle.fidl_parse.proofs.parser.Parser.literal.Goals as goal
 
 pub returns-in_err-symbol-clause-complete : goal.returns-in_err-symbol-clause-complete
@@ -8,7 +9,7 @@ returns-in_err-symbol-clause-complete c i j x rest m a =
     let l = literal_ahead _ _ x rest i j a in
     let y = string_ahead _ _ rest (c.is_next.ensures.next.0 c.if-is_next.true) l in
     let h = c.in_err-symbol.ensures.complete y.0 _ tt y.1 in
-    search (rules, h)
+    stops _ _ _ _ c.from_residual.ensures (λ x g. g) h
 
 pub returns-then-is_next-clause-complete : goal.returns-then-is_next-clause-complete
 returns-then-is_next-clause-complete c i j x rest m a =
@@ -21,7 +22,7 @@ returns-in_err-minus-clause-complete c i j x rest m a =
     let l = literal_ahead _ _ x rest i j a in
     let y = number_ahead _ _ rest (λ e. false≢true (c.if-is_next.ensures.next.1 e)) l in
     let h = c.in_err-minus.ensures.complete y.0 _ refl y.2 in
-    search (rules, h)
+    stops _ _ _ _ c.from_residual-in_err-minus.ensures (λ x g. g) h
 
 pub returns-in_err-number-clause-complete : goal.returns-in_err-number-clause-complete
 returns-in_err-number-clause-complete c i j x rest m a =
@@ -29,7 +30,7 @@ returns-in_err-number-clause-complete c i j x rest m a =
     let y = number_ahead _ _ rest (λ e. false≢true (c.if-is_next.ensures.next.1 e)) l in
     let b = c.in_ok-minus.ensures.complete y.0 _ refl y.2 in
     let h = c.in_err-number.ensures.complete y.1 _ tt b in
-    search (rules, h)
+    stops _ _ _ _ c.from_residual-in_err-number.ensures (λ x g. g) h
 
 pub returns-clause-complete : goal.returns-clause-complete
 returns-clause-complete c i j x rest m a =

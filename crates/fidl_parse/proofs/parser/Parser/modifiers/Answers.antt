@@ -1,9 +1,10 @@
-use Rattle.std.proofs.Common.{rules, codes}
+use Rattle.std.proofs.Common.{codes}
 use Rattle.std.proofs.lemmas.Bool.{false≢true}
 use Rattle.fidl_parse.specs.Follow.{strictness_words}
 use Rattle.fidl_tree.specs.Keyword.{strictness_leaves, resource_leaves}
 use Rattle.fidl_parse.proofs.Keywords.{resource_told, strictness_ahead, option_ahead, option_stops}
 use Rattle.fidl_parse.proofs.Words.{not_first_word}
+use Rattle.fidl_parse.proofs.Stops.{stops}
 use Rattle.fidl_parse.proofs.parser.Parser.modifiers.Goals as goal
 
 pub returns-then-is_next_word-clause-resource : goal.returns-then-is_next_word-clause-resource
@@ -16,7 +17,7 @@ returns-in_err-resource-clause-complete c x rest m a =
     let b1 = option_ahead strictness_leaves _ _ _ _ s.strictness _ c.in_ok-strictness.ensures.present (c.in_ok-strictness.ensures.absent _ s.may) s.ahead in
     let n = not_first_word (codes "resource") strictness_words rest m in
     let h = option_stops resource_leaves _ _ _ _ s.resource rest c.in_err-resource.ensures.present (c.in_err-resource.ensures.absent rest n) b1 in
-    search (rules, h)
+    stops _ _ _ _ c.from_residual-in_err-resource.ensures (λ x g. g) h
 
 pub returns-clause-complete : goal.returns-clause-complete
 returns-clause-complete c x rest m a =

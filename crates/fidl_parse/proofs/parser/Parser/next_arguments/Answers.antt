@@ -6,6 +6,7 @@ use Rattle.fidl_parse.proofs.Rows.{list_more, list_done}
 use Rattle.fidl_tree.specs.Attribute.{next_argument_leaves}
 use Rattle.fidl_parse.proofs.Follow.{other_begins, is_comma}
 use Rattle.fidl_parse.proofs.Attributes.{next_argument_begins, arguments_end}
+use Rattle.fidl_parse.proofs.Stops.{stops}
 use Rattle.fidl_parse.proofs.parser.Parser.next_arguments.Goals as goal
 
 pub loop-arguments-init : goal.loop-arguments-init
@@ -28,7 +29,7 @@ returns-in_err-next_argument-clause-complete c = λ xs rest m a.
     let h = c.loop-arguments.invariant.left xs rest m a in
     let more = list_more next_argument_leaves kind.Comma _ _ h.0 rest (other_begins is_comma kind.Comma kind.RightParenthesis rest refl refl m) (c.is_next.ensures.next.0 c.loop-arguments-test.true) h.1 in
     let stop = c.in_err-next_argument.ensures.complete more.0 _ (arguments_end more.1 rest m) more.2 in
-    search (rules, stop)
+    stops _ _ _ _ c.from_residual.ensures (λ x g. g) stop
 
 pub returns-clause-reads : goal.returns-clause-reads
 returns-clause-reads c = c.loop-arguments.invariant.reads

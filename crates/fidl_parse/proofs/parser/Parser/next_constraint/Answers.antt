@@ -1,16 +1,16 @@
-use Rattle.std.proofs.Common.{rules}
+use Rattle.fidl_parse.proofs.Stops.{stops}
 use Rattle.fidl_parse.proofs.parser.Parser.next_constraint.Goals as goal
 
 pub returns-in_err-comma-clause-complete : goal.returns-in_err-comma-clause-complete
 returns-in_err-comma-clause-complete c x rest m a =
     let h = c.in_err-comma.ensures.complete x.comma _ tt a in
-    search (rules, h)
+    stops _ _ _ _ c.from_residual.ensures (λ x g. g) h
 
 pub returns-in_err-value-clause-complete : goal.returns-in_err-value-clause-complete
 returns-in_err-value-clause-complete c x rest m a =
     let b1 = c.in_ok-comma.ensures.complete x.comma _ tt a in
     let h = c.in_err-value.ensures.complete x.value _ m b1 in
-    search (rules, h)
+    stops _ _ _ _ c.from_residual-in_err-value.ensures (λ x g. g) h
 
 pub returns-clause-complete : goal.returns-clause-complete
 returns-clause-complete c x rest m a =

@@ -8,6 +8,7 @@ use Rattle.fidl_parse.specs.Follow.{extends_value}
 use Rattle.fidl_parse.proofs.Ahead.{begins_not}
 use Rattle.fidl_parse.proofs.Follow.{other_begins, is_comma, not_row}
 use Rattle.fidl_parse.proofs.Constraints.{next_constraint_begins}
+use Rattle.fidl_parse.proofs.Stops.{stops}
 use Rattle.fidl_parse.proofs.parser.Parser.next_constraints.Goals as goal
 
 pub loop-constraints-init : goal.loop-constraints-init
@@ -30,7 +31,7 @@ returns-in_err-next_constraint-clause-complete c = λ xs rest m a.
     let h = c.loop-constraints.invariant.left xs rest m a in
     let more = list_more next_constraint_leaves kind.Comma _ _ h.0 rest (other_begins is_comma kind.Comma kind.Greater rest refl refl m) (c.is_next.ensures.next.0 c.loop-constraints-test.true) h.1 in
     let stop = c.in_err-next_constraint.ensures.complete more.0 _ (not_row extends_value next_constraint_leaves kind.Comma refl next_constraint_begins more.1 rest (begins_not extends_value kind.Greater rest refl m)) more.2 in
-    search (rules, stop)
+    stops _ _ _ _ c.from_residual.ensures (λ x g. g) stop
 
 pub returns-clause-reads : goal.returns-clause-reads
 returns-clause-reads c = c.loop-constraints.invariant.reads

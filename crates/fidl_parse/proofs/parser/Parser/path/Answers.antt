@@ -1,16 +1,16 @@
-use Rattle.std.proofs.Common.{rules}
+use Rattle.fidl_parse.proofs.Stops.{stops}
 use Rattle.fidl_parse.proofs.parser.Parser.path.Goals as goal
 
 pub returns-in_err-first-clause-complete : goal.returns-in_err-first-clause-complete
 returns-in_err-first-clause-complete c = λ x rest m a.
     let h = c.in_err-first.ensures.complete x.first _ tt a in
-    search (rules, h)
+    stops _ _ _ _ c.from_residual.ensures (λ x g. g) h
 
 pub returns-in_err-rest-clause-complete : goal.returns-in_err-rest-clause-complete
 returns-in_err-rest-clause-complete c = λ x rest m a.
     let a1 = c.in_ok-first.ensures.complete x.first _ tt a in
     let h = c.in_err-rest.ensures.complete x.rest.items _ m a1 in
-    search (rules, h)
+    stops _ _ _ _ c.from_residual-in_err-rest.ensures (λ x g. g) h
 
 pub returns-clause-complete : goal.returns-clause-complete
 returns-clause-complete c = λ x rest m a.

@@ -7,6 +7,7 @@ use Rattle.fidl_tree.specs.Path.{part_leaves}
 use Rattle.fidl_parse.specs.Follow.{extends_path}
 use Rattle.fidl_parse.proofs.Ahead.{not_begins}
 use Rattle.fidl_parse.proofs.PathRest.{part_begins}
+use Rattle.fidl_parse.proofs.Stops.{stops}
 use Rattle.fidl_parse.proofs.parser.Parser.path_parts.Goals as goal
 
 pub loop-parts-init : goal.loop-parts-init
@@ -29,7 +30,7 @@ returns-in_err-path_part-clause-complete c = λ xs rest m a.
     let h = c.loop-parts.invariant.left xs rest m a in
     let more = list_more part_leaves kind.Dot _ _ h.0 rest (not_begins extends_path kind.Dot rest refl m) (c.is_next.ensures.next.0 c.loop-parts-test.true) h.1 in
     let stop = c.in_err-path_part.ensures.complete more.0 _ tt more.2 in
-    search (rules, stop)
+    stops _ _ _ _ c.from_residual.ensures (λ x g. g) stop
 
 pub returns-clause-reads : goal.returns-clause-reads
 returns-clause-reads c = c.loop-parts.invariant.reads

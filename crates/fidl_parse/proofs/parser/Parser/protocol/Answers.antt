@@ -1,4 +1,4 @@
-use Rattle.std.proofs.Common.{rules, refl}
+use Rattle.std.proofs.Common.{refl}
 use Rattle.fidl_parse.proofs.Declarations.{protocol_ahead}
 use Rattle.fidl_parse.proofs.Stops.{stops}
 use Rattle.fidl_parse.proofs.parser.Parser.protocol.Goals as goal
@@ -7,7 +7,7 @@ pub returns-in_err-openness-clause-complete : goal.returns-in_err-openness-claus
 returns-in_err-openness-clause-complete c x rest m a =
     let a0 = protocol_ahead _ _ x rest a in
     let h = c.in_err-openness.ensures.complete x.openness _ refl a0 in
-    search (rules, h)
+    stops _ _ _ _ c.from_residual.ensures (λ x g. g) h
 
 pub returns-in_err-keyword-clause-complete : goal.returns-in_err-keyword-clause-complete
 returns-in_err-keyword-clause-complete c x rest m a =

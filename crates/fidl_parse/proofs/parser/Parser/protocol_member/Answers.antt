@@ -1,4 +1,4 @@
-use Rattle.std.proofs.Common.{rules, refl}
+use Rattle.std.proofs.Common.{refl}
 use Rattle.fidl_parse.proofs.Protocols.{body_may, protocol_member_ahead}
 use Rattle.fidl_parse.proofs.Stops.{stops}
 use Rattle.fidl_parse.proofs.parser.Parser.protocol_member.Goals as goal
@@ -7,7 +7,7 @@ pub returns-in_err-attributes-clause-complete : goal.returns-in_err-attributes-c
 returns-in_err-attributes-clause-complete c x rest m a =
     let a0 = protocol_member_ahead _ _ x rest a in
     let h = c.in_err-attributes.ensures.complete x.attributes.items _ (body_may x.body _) a0 in
-    search (rules, h)
+    stops _ _ _ _ c.from_residual.ensures (λ x g. g) h
 
 pub returns-in_err-body-clause-complete : goal.returns-in_err-body-clause-complete
 returns-in_err-body-clause-complete c x rest m a =

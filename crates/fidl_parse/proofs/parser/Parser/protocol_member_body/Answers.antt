@@ -1,4 +1,4 @@
-use Rattle.std.proofs.Common.{rules, refl}
+use Rattle.std.proofs.Common.{refl}
 use Rattle.std.proofs.lemmas.Bool.{false≢true}
 use Rattle.fidl_span.specs.declared.words.WordKind.TheVariants as kind
 use Rattle.fidl_parse.specs.Follow.{extends_path}
@@ -12,7 +12,7 @@ returns-in_err-keyword-clause-complete c x rest m a =
     let i = c.begins_compose.ensures.0 c.if-begins_compose.true in
     let y = compose_ahead _ _ x rest i.0 i.1 a in
     let h = c.in_err-keyword.ensures.complete y.0 _ tt y.2 in
-    search (rules, h)
+    stops _ _ _ _ c.from_residual.ensures (λ x g. g) h
 
 pub returns-in_err-path-clause-complete : goal.returns-in_err-path-clause-complete
 returns-in_err-path-clause-complete c x rest m a =
@@ -33,7 +33,7 @@ pub returns-in_err-strictness-clause-complete : goal.returns-in_err-strictness-c
 returns-in_err-strictness-clause-complete c x rest m a =
     let y = call_ahead _ _ x rest (λ i. false≢true (c.if-begins_compose.ensures.1 i)) a in
     let h = c.in_err-strictness.ensures.complete y.0 _ (call_may y.1 rest) y.2 in
-    search (rules, h)
+    stops _ _ _ _ c.from_residual-in_err-strictness.ensures (λ x g. g) h
 
 pub returns-in_err-arrow-clause-complete : goal.returns-in_err-arrow-clause-complete
 returns-in_err-arrow-clause-complete c x rest m a =
@@ -41,7 +41,7 @@ returns-in_err-arrow-clause-complete c x rest m a =
     let b0 = c.in_ok-strictness.ensures.complete y.0 _ (call_may y.1 rest) y.2 in
     let e = event_ahead _ _ y.1 rest (c.is_next.ensures.next.0 c.if-is_next.true) b0 in
     let h = c.in_err-arrow.ensures.complete e.0 _ tt e.3 in
-    search (rules, h)
+    stops _ _ _ _ c.from_residual-in_err-arrow.ensures (λ x g. g) h
 
 pub returns-in_err-name-clause-complete : goal.returns-in_err-name-clause-complete
 returns-in_err-name-clause-complete c x rest m a =
@@ -77,7 +77,7 @@ returns-in_err-name-2-clause-complete c x rest m a =
     let b0 = c.in_ok-strictness.ensures.complete y.0 _ (call_may y.1 rest) y.2 in
     let e = method_ahead _ _ y.1 rest (λ e. false≢true (c.if-is_next.ensures.next.1 e)) b0 in
     let h = c.in_err-name-2.ensures.complete e.0 _ tt e.3 in
-    search (rules, h)
+    stops _ _ _ _ c.from_residual-in_err-name-2.ensures (λ x g. g) h
 
 pub returns-in_err-request-clause-complete : goal.returns-in_err-request-clause-complete
 returns-in_err-request-clause-complete c x rest m a =

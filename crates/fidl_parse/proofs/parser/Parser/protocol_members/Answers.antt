@@ -5,6 +5,7 @@ use Rattle.fidl_parse.proofs.Joins.{reads_push, reads_none}
 use Rattle.fidl_parse.proofs.Rows.{members_more, members_done}
 use Rattle.fidl_tree.specs.Protocol.{protocol_member_leaves}
 use Rattle.fidl_parse.proofs.Protocols.{protocol_member_apart}
+use Rattle.fidl_parse.proofs.Stops.{stops}
 use Rattle.fidl_parse.proofs.parser.Parser.protocol_members.Goals as goal
 
 pub loop-members-init : goal.loop-members-init
@@ -27,7 +28,7 @@ returns-in_err-protocol_member-clause-complete c = λ xs rest m a.
     let h = c.loop-members.invariant.left xs rest m a in
     let more = members_more protocol_member_leaves kind.RightBrace _ _ h.0 rest m (λ i. false≢true (c.loop-members-test.ensures.next.1 i)) h.1 in
     let stop = c.in_err-protocol_member.ensures.complete more.0 _ tt more.2 in
-    search (rules, stop)
+    stops _ _ _ _ c.from_residual.ensures (λ x g. g) stop
 
 pub returns-clause-reads : goal.returns-clause-reads
 returns-clause-reads c = c.loop-members.invariant.reads

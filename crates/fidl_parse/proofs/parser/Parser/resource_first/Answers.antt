@@ -1,15 +1,16 @@
-use Rattle.std.proofs.Common.{rules, codes, sym, ◌∙◌}
+use Rattle.std.proofs.Common.{codes, sym, ◌∙◌}
 use Rattle.fidl_parse.specs.Follow.{strictness_words}
 use Rattle.fidl_tree.specs.Keyword.{strictness_leaves}
 use Rattle.fidl_parse.proofs.Keywords.{resource_ahead, option_ahead, option_stops, option_absent}
 use Rattle.fidl_parse.proofs.Words.{not_word_of}
+use Rattle.fidl_parse.proofs.Stops.{stops}
 use Rattle.fidl_parse.proofs.parser.Parser.resource_first.Goals as goal
 
 pub returns-in_err-keyword-clause-complete : goal.returns-in_err-keyword-clause-complete
 returns-in_err-keyword-clause-complete c i x rest m a =
     let l = resource_ahead _ _ x rest i m a in
     let h = c.in_err-keyword.ensures.complete l.word _ tt l.ahead in
-    search (rules, h)
+    stops _ _ _ _ c.from_residual.ensures (λ x g. g) h
 
 pub returns-in_err-strictness-clause-complete : goal.returns-in_err-strictness-clause-complete
 returns-in_err-strictness-clause-complete c i x rest m a =
@@ -17,7 +18,7 @@ returns-in_err-strictness-clause-complete c i x rest m a =
     let b1 = c.in_ok-keyword.ensures.complete l.word _ tt l.ahead in
     let n = not_word_of (codes "resource") strictness_words rest m in
     let h = option_stops strictness_leaves _ _ _ _ l.strictness rest c.in_err-strictness.ensures.present (c.in_err-strictness.ensures.absent rest n) b1 in
-    search (rules, h)
+    stops _ _ _ _ c.from_residual-in_err-strictness.ensures (λ x g. g) h
 
 pub returns-in-Some-clause-complete : goal.returns-in-Some-clause-complete
 returns-in-Some-clause-complete c i x rest m a =

@@ -1,4 +1,4 @@
-use Rattle.std.proofs.Common.{rules, refl}
+use Rattle.std.proofs.Common.{refl}
 use Rattle.std.proofs.lemmas.Bool.{false≢true}
 use Rattle.fidl_span.specs.declared.words.WordKind.TheVariants as kind
 use Rattle.fidl_tree.specs.Protocol.{response_leaves}
@@ -17,7 +17,7 @@ returns-in_err-arrow-clause-complete c x rest m a =
     let y = kind_some response_leaves kind.Arrow _ _ x rest (other_begins is_arrow kind.Arrow kind.Semicolon rest refl refl m) (c.is_next.ensures.next.0 c.if-not-is_next.false) a in
     let a0 = response_ahead _ _ y.0 rest y.1 in
     let h = c.in_err-arrow.ensures.complete y.0.arrow _ tt a0 in
-    search (rules, h)
+    stops _ _ _ _ c.from_residual.ensures (λ x g. g) h
 
 pub returns-in_err-payload-clause-complete : goal.returns-in_err-payload-clause-complete
 returns-in_err-payload-clause-complete c x rest m a =

@@ -1,11 +1,10 @@
-use Rattle.std.proofs.Common.{rules}
 use Rattle.fidl_parse.proofs.Stops.{stops}
 use Rattle.fidl_parse.proofs.parser.Parser.type_declaration.Goals as goal
 
 pub returns-in_err-keyword-clause-complete : goal.returns-in_err-keyword-clause-complete
 returns-in_err-keyword-clause-complete c x rest m a =
     let h = c.in_err-keyword.ensures.complete x.keyword _ tt a in
-    search (rules, h)
+    stops _ _ _ _ c.from_residual.ensures (λ x g. g) h
 
 pub returns-in_err-name-clause-complete : goal.returns-in_err-name-clause-complete
 returns-in_err-name-clause-complete c x rest m a =

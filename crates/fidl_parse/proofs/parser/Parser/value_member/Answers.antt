@@ -1,19 +1,20 @@
-use Rattle.std.proofs.Common.{rules, refl}
+use Rattle.std.proofs.Common.{refl}
 use Rattle.fidl_parse.proofs.ValueMembers.{value_member_ahead}
+use Rattle.fidl_parse.proofs.Stops.{stops}
 use Rattle.fidl_parse.proofs.parser.Parser.value_member.Goals as goal
 
 pub returns-in_err-attributes-clause-complete : goal.returns-in_err-attributes-clause-complete
 returns-in_err-attributes-clause-complete c x rest m a =
     let a0 = value_member_ahead _ _ x rest a in
     let h = c.in_err-attributes.ensures.complete x.attributes.items _ refl a0 in
-    search (rules, h)
+    stops _ _ _ _ c.from_residual.ensures (λ x g. g) h
 
 pub returns-in_err-name-clause-complete : goal.returns-in_err-name-clause-complete
 returns-in_err-name-clause-complete c x rest m a =
     let a0 = value_member_ahead _ _ x rest a in
     let b1 = c.in_ok-attributes.ensures.complete x.attributes.items _ refl a0 in
     let h = c.in_err-name.ensures.complete x.name _ tt b1 in
-    search (rules, h)
+    stops _ _ _ _ c.from_residual-in_err-name.ensures (λ x g. g) h
 
 pub returns-in_err-equals-clause-complete : goal.returns-in_err-equals-clause-complete
 returns-in_err-equals-clause-complete c x rest m a =
@@ -21,7 +22,7 @@ returns-in_err-equals-clause-complete c x rest m a =
     let b1 = c.in_ok-attributes.ensures.complete x.attributes.items _ refl a0 in
     let b2 = c.in_ok-name.ensures.complete x.name _ tt b1 in
     let h = c.in_err-equals.ensures.complete x.equals _ tt b2 in
-    search (rules, h)
+    stops _ _ _ _ c.from_residual-in_err-equals.ensures (λ x g. g) h
 
 pub returns-in_err-value-clause-complete : goal.returns-in_err-value-clause-complete
 returns-in_err-value-clause-complete c x rest m a =
@@ -30,7 +31,7 @@ returns-in_err-value-clause-complete c x rest m a =
     let b2 = c.in_ok-name.ensures.complete x.name _ tt b1 in
     let b3 = c.in_ok-equals.ensures.complete x.equals _ tt b2 in
     let h = c.in_err-value.ensures.complete x.value _ refl b3 in
-    search (rules, h)
+    stops _ _ _ _ c.from_residual-in_err-value.ensures (λ x g. g) h
 
 pub returns-in_err-semicolon-clause-complete : goal.returns-in_err-semicolon-clause-complete
 returns-in_err-semicolon-clause-complete c x rest m a =
@@ -40,7 +41,7 @@ returns-in_err-semicolon-clause-complete c x rest m a =
     let b3 = c.in_ok-equals.ensures.complete x.equals _ tt b2 in
     let b4 = c.in_ok-value.ensures.complete x.value _ refl b3 in
     let h = c.in_err-semicolon.ensures.complete x.semicolon _ tt b4 in
-    search (rules, h)
+    stops _ _ _ _ c.from_residual-in_err-semicolon.ensures (λ x g. g) h
 
 pub returns-clause-complete : goal.returns-clause-complete
 returns-clause-complete c x rest m a =

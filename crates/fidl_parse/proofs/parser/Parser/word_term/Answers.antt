@@ -1,6 +1,6 @@
-use Rattle.std.proofs.Common.{rules}
 use Rattle.std.proofs.lemmas.Bool.{false≢true}
 use Rattle.fidl_parse.proofs.Values.{word_ahead, true_ahead, false_ahead, path_ahead, path_reads}
+use Rattle.fidl_parse.proofs.Stops.{stops}
 use Rattle.fidl_parse.proofs.parser.Parser.word_term.Goals as goal
 
 pub returns-in_err-keyword-clause-complete : goal.returns-in_err-keyword-clause-complete
@@ -8,7 +8,7 @@ returns-in_err-keyword-clause-complete c i x rest m a =
     let w = word_ahead _ _ x rest i a in
     let y = true_ahead _ _ rest (c.is_next_word.ensures.next.0 c.if-is_next_word.true) w in
     let h = c.in_err-keyword.ensures.complete y.0 _ tt y.1 in
-    search (rules, h)
+    stops _ _ _ _ c.from_residual.ensures (λ x g. g) h
 
 pub returns-then-is_next_word-clause-complete : goal.returns-then-is_next_word-clause-complete
 returns-then-is_next_word-clause-complete c i x rest m a =
@@ -21,7 +21,7 @@ returns-in_err-keyword-2-clause-complete c i x rest m a =
     let w = word_ahead _ _ x rest i a in
     let y = false_ahead _ _ rest (c.is_next_word-2.ensures.next.0 c.if-is_next_word-2.true) w in
     let h = c.in_err-keyword-2.ensures.complete y.0 _ tt y.1 in
-    search (rules, h)
+    stops _ _ _ _ c.from_residual-in_err-keyword-2.ensures (λ x g. g) h
 
 pub returns-then-is_next_word-2-clause-complete : goal.returns-then-is_next_word-2-clause-complete
 returns-then-is_next_word-2-clause-complete c i x rest m a =
@@ -34,7 +34,7 @@ returns-in_err-first-clause-complete c i x rest m a =
     let w = word_ahead _ _ x rest i a in
     let y = path_ahead _ _ rest (λ e. false≢true (c.if-is_next_word.ensures.next.1 e)) (λ e. false≢true (c.if-is_next_word-2.ensures.next.1 e)) w in
     let h = c.in_err-first.ensures.complete y.0.first _ tt y.1 in
-    search (rules, h)
+    stops _ _ _ _ c.from_residual-in_err-first.ensures (λ x g. g) h
 
 pub returns-in_err-rest-clause-complete : goal.returns-in_err-rest-clause-complete
 returns-in_err-rest-clause-complete c i x rest m a =
@@ -42,7 +42,7 @@ returns-in_err-rest-clause-complete c i x rest m a =
     let y = path_ahead _ _ rest (λ e. false≢true (c.if-is_next_word.ensures.next.1 e)) (λ e. false≢true (c.if-is_next_word-2.ensures.next.1 e)) w in
     let b = c.in_ok-first.ensures.complete y.0.first _ tt y.1 in
     let h = c.in_err-rest.ensures.complete y.0.rest.items _ m b in
-    search (rules, h)
+    stops _ _ _ _ c.from_residual-in_err-rest.ensures (λ x g. g) h
 
 pub returns-clause-complete : goal.returns-clause-complete
 returns-clause-complete c i x rest m a =
