@@ -6,8 +6,8 @@ use Rattle.fidl_span.specs.declared.words.WordKind.TheVariants as kind
 use Rattle.fidl_tree.specs.Leaf.{Leaf, words, text_at}
 use Rattle.fidl_parse.specs.declared.parser.Parser.{Parser}
 use Rattle.fidl_parse.specs.Reading.{IsKindAt, IsTextAt}
-use Rattle.fidl_parse.specs.Ahead.{Ahead}
-use Rattle.fidl_parse.specs.Follow.{Begins, Not}
+use Rattle.fidl_parse.specs.Completeness.{Ahead}
+use Rattle.fidl_parse.specs.FollowSets.{Begins, Not}
 
 pub look_front : (ws : List Word) (at : ℕ) (w : Word) (l : List Word) → drop at ws ≡ w ∷ l → slice_get ws at ≡ Some w
 look_front [] zero w l e = cc

@@ -12,8 +12,8 @@ use Rattle.fidl_tree.specs.declared.attribute.Argument.{Argument}
 use Rattle.fidl_tree.specs.declared.attribute.ArgumentName.{ArgumentName}
 use Rattle.fidl_parse.specs.declared.parser.Parser.{Parser}
 use Rattle.fidl_parse.specs.Reading.{IsKindAt}
-use Rattle.fidl_parse.specs.Ahead.{Ahead, row}
-use Rattle.fidl_parse.specs.Follow.{Begins, EndsArgument, NotNamed}
+use Rattle.fidl_parse.specs.Completeness.{Ahead, row}
+use Rattle.fidl_parse.specs.FollowSets.{Begins, EndsArgument, NotNamed}
 use Rattle.fidl_parse.proofs.Ahead.{step, kind_at, kind_same, none_ahead}
 use Rattle.fidl_parse.proofs.Follow.{Starts, starts_other}
 use Rattle.fidl_parse.proofs.Values.{starts_value, value_starts}

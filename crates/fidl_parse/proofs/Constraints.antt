@@ -11,8 +11,8 @@ use Rattle.fidl_tree.specs.declared.constraint.Constraints.TheVariants as constr
 use Rattle.fidl_tree.specs.declared.constraint.NextConstraint.{NextConstraint}
 use Rattle.fidl_parse.specs.declared.parser.Parser.{Parser}
 use Rattle.fidl_parse.specs.Reading.{IsKindAt}
-use Rattle.fidl_parse.specs.Ahead.{Ahead, row}
-use Rattle.fidl_parse.specs.Follow.{Begins}
+use Rattle.fidl_parse.specs.Completeness.{Ahead, row}
+use Rattle.fidl_parse.specs.FollowSets.{Begins}
 use Rattle.fidl_parse.proofs.Ahead.{step, kind_at, begins}
 use Rattle.fidl_parse.proofs.Follow.{starts_other}
 use Rattle.fidl_parse.proofs.Values.{starts_value, value_starts}

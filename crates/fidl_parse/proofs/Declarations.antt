@@ -22,8 +22,8 @@ use Rattle.fidl_tree.specs.declared.declaration.Properties.{Properties}
 use Rattle.fidl_tree.specs.declared.declaration.Property.{Property}
 use Rattle.fidl_parse.specs.declared.parser.Parser.{Parser}
 use Rattle.fidl_parse.specs.Reading.{IsTextAt}
-use Rattle.fidl_parse.specs.Ahead.{Ahead, row}
-use Rattle.fidl_parse.specs.Follow.{Begins, same_text}
+use Rattle.fidl_parse.specs.Completeness.{Ahead, row}
+use Rattle.fidl_parse.specs.FollowSets.{Begins, same_text}
 use Rattle.fidl_parse.proofs.Follow.{starts_other}
 use Rattle.fidl_parse.proofs.Words.{differ, text_ahead}
 use Rattle.fidl_parse.proofs.TypeAhead.{starts_member}

@@ -17,9 +17,9 @@ use Rattle.fidl_tree.specs.declared.file.Import.{Import}
 use Rattle.fidl_tree.specs.declared.file.ImportAlias.{ImportAlias}
 use Rattle.fidl_parse.specs.declared.parser.Parser.{Parser}
 use Rattle.fidl_parse.specs.Reading.{Reads, IsTextAt}
-use Rattle.fidl_parse.specs.Ahead.{Ahead, row}
-use Rattle.fidl_parse.specs.Behind.{behind_attributes, import_behind_attributes}
-use Rattle.fidl_parse.specs.Follow.{Not, extends_attributes, extends_path}
+use Rattle.fidl_parse.specs.Completeness.{Ahead, row}
+use Rattle.fidl_parse.specs.Suffixes.{behind_attributes, import_behind_attributes}
+use Rattle.fidl_parse.specs.FollowSets.{Not, extends_attributes, extends_path}
 use Rattle.fidl_parse.proofs.Ahead.{begins_not}
 use Rattle.fidl_parse.proofs.Words.{text_ahead}
 use Rattle.fidl_parse.proofs.Declarations.{no_using, declaration_begins}

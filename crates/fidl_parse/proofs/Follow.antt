@@ -3,8 +3,8 @@ use Rattle.std.proofs.Common.{◌≡◌, Bool, true, false, List, [], ◌∷◌,
 use Rattle.fidl_span.specs.declared.words.WordKind.{WordKind}
 use Rattle.fidl_span.specs.declared.words.WordKind.TheVariants as kind
 use Rattle.fidl_tree.specs.Leaf.{Leaf, optional}
-use Rattle.fidl_parse.specs.Ahead.{row}
-use Rattle.fidl_parse.specs.Follow.{Begins, Not, extends_path, extends_value, extends_name, extends_type, extends_attribute, extends_attributes, EndsArgument}
+use Rattle.fidl_parse.specs.Completeness.{row}
+use Rattle.fidl_parse.specs.FollowSets.{Begins, Not, extends_path, extends_value, extends_name, extends_type, extends_attribute, extends_attributes, EndsArgument}
 use Rattle.fidl_parse.proofs.Ahead.{begins_not, not_begins}
 
 narrow : (wide slim : WordKind → Bool) → ((k : WordKind) → wide k ≡ false → slim k ≡ false) → (ls : List Leaf) → Not wide ls → Not slim ls

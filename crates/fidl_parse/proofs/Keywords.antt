@@ -17,9 +17,9 @@ use Rattle.fidl_parse.specs.declared.fault.Stop.{Stop}
 use Rattle.fidl_parse.specs.declared.fault.Stop.TheVariants.{Memory}
 use Rattle.std.proofs.lemmas.Bool.{false≢true}
 use Rattle.fidl_parse.specs.Reading.{IsTextAt}
-use Rattle.fidl_parse.specs.Ahead.{Ahead, Goes, Finds}
-use Rattle.fidl_parse.specs.Follow.{Anything, NotWord, strictness_words, modifier_words}
-use Rattle.fidl_parse.specs.Behind.{has_strictness, has_resource}
+use Rattle.fidl_parse.specs.Completeness.{Ahead, Goes, Finds}
+use Rattle.fidl_parse.specs.FollowSets.{Anything, NotWord, strictness_words, modifier_words}
+use Rattle.fidl_parse.specs.Suffixes.{has_strictness, has_resource}
 use Rattle.fidl_parse.proofs.Words.{differ, text_ahead, not_word, not_word_of}
 
 pub strict_ahead : (p : Parser) (at : ℕ) (x : Strictness) (rest : List Leaf) → IsTextAt p at (codes "strict") → Ahead p at (strictness_leaves x ++ rest)

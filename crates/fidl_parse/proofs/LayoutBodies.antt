@@ -19,9 +19,9 @@ use Rattle.fidl_tree.specs.declared.type_constructor.OrdinalMember.{OrdinalMembe
 use Rattle.fidl_tree.specs.declared.type_constructor.LayoutBody.TheOpen.{LayoutBody-F}
 use Rattle.fidl_parse.specs.declared.parser.Parser.{Parser}
 use Rattle.fidl_parse.specs.Reading.{IsTextAt}
-use Rattle.fidl_parse.specs.Ahead.{Ahead, row}
-use Rattle.fidl_parse.specs.Behind.{Block, block, ValuesBlock, values_block, has_strictness, has_resource}
-use Rattle.fidl_parse.specs.Follow.{NotWord, same_text, modifier_words}
+use Rattle.fidl_parse.specs.Completeness.{Ahead, row}
+use Rattle.fidl_parse.specs.Suffixes.{Block, block, ValuesBlock, values_block, has_strictness, has_resource}
+use Rattle.fidl_parse.specs.FollowSets.{NotWord, same_text, modifier_words}
 use Rattle.fidl_parse.proofs.Ahead.{group}
 use Rattle.fidl_parse.proofs.Words.{differ, text_ahead}
 use Rattle.fidl_parse.proofs.TypeParts.{Open, struct_parts, table_parts, union_parts, values_parts, layout_body_level, layout_body_parts}

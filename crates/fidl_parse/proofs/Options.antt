@@ -4,8 +4,8 @@ use Rattle.fidl_span.specs.declared.words.WordKind.{WordKind}
 use Rattle.fidl_tree.specs.Leaf.{Leaf, optional}
 use Rattle.fidl_parse.specs.declared.parser.Parser.{Parser}
 use Rattle.fidl_parse.specs.Reading.{IsKindAt}
-use Rattle.fidl_parse.specs.Ahead.{Ahead}
-use Rattle.fidl_parse.specs.Follow.{Begins}
+use Rattle.fidl_parse.specs.Completeness.{Ahead}
+use Rattle.fidl_parse.specs.FollowSets.{Begins}
 use Rattle.fidl_parse.proofs.Ahead.{begins, next}
 
 pub option_none : {X : Type 0} (f : X → List Leaf) (p : Parser) (at : ℕ) (o : Option X) (rest : List Leaf)

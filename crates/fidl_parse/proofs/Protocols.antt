@@ -23,8 +23,8 @@ use Rattle.fidl_tree.specs.declared.protocol.Method.{Method}
 use Rattle.fidl_tree.specs.declared.protocol.Event.{Event}
 use Rattle.fidl_parse.specs.declared.parser.Parser.{Parser}
 use Rattle.fidl_parse.specs.Reading.{IsKindAt, IsTextAt}
-use Rattle.fidl_parse.specs.Ahead.{Ahead}
-use Rattle.fidl_parse.specs.Follow.{Begins, Not, NotWord, BeginsMethod, extends_attributes, is_identifier, strictness_words}
+use Rattle.fidl_parse.specs.Completeness.{Ahead}
+use Rattle.fidl_parse.specs.FollowSets.{Begins, Not, NotWord, BeginsMethod, extends_attributes, is_identifier, strictness_words}
 use Rattle.fidl_parse.proofs.Ahead.{step, kind_at, kind_same, text_same}
 use Rattle.fidl_parse.proofs.Follow.{Starts, starts_other}
 use Rattle.fidl_parse.proofs.Words.{differ, text_ahead}

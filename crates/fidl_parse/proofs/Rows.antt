@@ -4,8 +4,8 @@ use Rattle.fidl_span.specs.declared.words.WordKind.{WordKind}
 use Rattle.fidl_tree.specs.Leaf.{Leaf}
 use Rattle.fidl_parse.specs.declared.parser.Parser.{Parser}
 use Rattle.fidl_parse.specs.Reading.{IsKindAt}
-use Rattle.fidl_parse.specs.Ahead.{Ahead, row}
-use Rattle.fidl_parse.specs.Follow.{Begins}
+use Rattle.fidl_parse.specs.Completeness.{Ahead, row}
+use Rattle.fidl_parse.specs.FollowSets.{Begins}
 use Rattle.fidl_parse.proofs.Ahead.{begins, next, group}
 
 -- from here the rest of any row is ahead that was ahead at the start

@@ -9,7 +9,7 @@ use Rattle.fidl_tree.specs.File.{file_leaves, yield_of, IsProper}
 use Rattle.fidl_tree.specs.declared.file.File.{File}
 use Rattle.fidl_parse.specs.declared.parser.Parser.{Parser}
 use Rattle.fidl_parse.specs.Nesting.{IsTooDeepAt}
-use Rattle.fidl_parse.specs.Ahead.{Ahead}
+use Rattle.fidl_parse.specs.Completeness.{Ahead}
 
 -- words within the limit are read to their end
 pub whole : (ws : List Word) (end : ℕ) → IsWithinLimit ws → (end < length ws → IsTooDeepAt ws end) → length ws ≤ end

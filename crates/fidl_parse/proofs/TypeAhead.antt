@@ -17,8 +17,8 @@ use Rattle.fidl_tree.specs.declared.type_constructor.Member.{Member, out-Member}
 use Rattle.fidl_tree.specs.declared.type_constructor.OrdinalMember.{OrdinalMember, out-OrdinalMember}
 use Rattle.fidl_parse.specs.declared.parser.Parser.{Parser}
 use Rattle.fidl_parse.specs.Choices.{layout_words}
-use Rattle.fidl_parse.specs.Ahead.{Ahead, row}
-use Rattle.fidl_parse.specs.Follow.{Begins}
+use Rattle.fidl_parse.specs.Completeness.{Ahead, row}
+use Rattle.fidl_parse.specs.FollowSets.{Begins}
 use Rattle.fidl_parse.proofs.Ahead.{group}
 use Rattle.fidl_parse.proofs.Follow.{Starts, starts_other}
 use Rattle.fidl_parse.proofs.TypeParts.{named_parts, type_arguments_parts, next_type_argument_parts, layout_parts, underlying_parts, member_parts, ordinal_member_parts}

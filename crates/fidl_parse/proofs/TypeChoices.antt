@@ -28,8 +28,8 @@ use Rattle.fidl_tree.specs.declared.type_constructor.LayoutBody.TheOpen.{TypeCon
 use Rattle.fidl_parse.specs.declared.parser.Parser.{Parser}
 use Rattle.fidl_parse.specs.Reading.{IsKindAt, IsTextAt}
 use Rattle.fidl_parse.specs.Choices.{layout_words, IsLayoutWordAt}
-use Rattle.fidl_parse.specs.Ahead.{Ahead, row}
-use Rattle.fidl_parse.specs.Follow.{Begins, same_text, is_identifier}
+use Rattle.fidl_parse.specs.Completeness.{Ahead, row}
+use Rattle.fidl_parse.specs.FollowSets.{Begins, same_text, is_identifier}
 use Rattle.fidl_parse.proofs.Ahead.{begins, next, step, word_at, same_word, kind_at, kind_same, group}
 use Rattle.fidl_parse.proofs.Follow.{Starts, starts_other, begins_starts}
 use Rattle.fidl_parse.proofs.Words.{text_ahead, none_among}

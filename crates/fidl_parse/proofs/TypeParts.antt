@@ -34,7 +34,7 @@ use Rattle.fidl_parse.specs.declared.parser.Parser.{Parser}
 use Rattle.fidl_parse.specs.Reading.{Reads}
 use Rattle.fidl_parse.proofs.Joins.{reads_join}
 use Rattle.fidl_parse.specs.Choices.{layout_words}
-use Rattle.fidl_parse.specs.Ahead.{row}
+use Rattle.fidl_parse.specs.Completeness.{row}
 use Rattle.fidl_parse.proofs.Types.{named_built}
 
 -- one level of a type of the tree

@@ -7,8 +7,8 @@ use Rattle.fidl_tree.specs.Attribute.{attributes_leaves}
 use Rattle.fidl_tree.specs.ValueMember.{value_member_leaves}
 use Rattle.fidl_tree.specs.declared.value_member.ValueMember.{ValueMember}
 use Rattle.fidl_parse.specs.declared.parser.Parser.{Parser}
-use Rattle.fidl_parse.specs.Ahead.{Ahead}
-use Rattle.fidl_parse.specs.Follow.{Begins}
+use Rattle.fidl_parse.specs.Completeness.{Ahead}
+use Rattle.fidl_parse.specs.FollowSets.{Begins}
 use Rattle.fidl_parse.proofs.Follow.{starts_other}
 use Rattle.fidl_parse.proofs.TypeAhead.{starts_member, attributes_start}
 

@@ -9,8 +9,8 @@ use Rattle.fidl_span.specs.declared.words.WordKind.TheVariants as kind
 use Rattle.fidl_tree.specs.Leaf.{Leaf, Text, any, is, none_of, Meets, keyword, text_at}
 use Rattle.fidl_parse.specs.declared.parser.Parser.{Parser}
 use Rattle.fidl_parse.specs.Reading.{IsTextAt}
-use Rattle.fidl_parse.specs.Ahead.{Ahead}
-use Rattle.fidl_parse.specs.Follow.{Begins, NotWord, same_text, excludes, is_identifier}
+use Rattle.fidl_parse.specs.Completeness.{Ahead}
+use Rattle.fidl_parse.specs.FollowSets.{Begins, NotWord, same_text, excludes, is_identifier}
 use Rattle.fidl_parse.proofs.Ahead.{word_at, text_same, none_ahead}
 
 eqb_same : (n : ℕ) → eqb n n ≡ true

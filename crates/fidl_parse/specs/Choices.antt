@@ -13,8 +13,12 @@ literals = codes "true" ∷ codes "false" ∷ []
 
 -- Layout words: a named type does not begin with these.
 abbrev pub layout_words : List (List ℕ)
-layout_words = codes "bits" ∷ codes "enum" ∷ codes "struct" ∷ codes "table" ∷ codes "union" ∷ codes "strict" ∷ codes "flexible" ∷ codes "resource" ∷ []
+layout_words =
+    codes "bits" ∷ codes "enum" ∷ codes "struct" ∷ codes "table" ∷ codes "union"
+    ∷ codes "strict" ∷ codes "flexible" ∷ codes "resource" ∷ []
 
 -- a layout word stands at the place
 abbrev pub IsLayoutWordAt : Parser → ℕ → Type 0
-IsLayoutWordAt p at = (w : Word) × (slice_get p.words.now at ≡ Some w) × (w.kind ≡ kind.Identifier) × (¬ Meets (none_of layout_words) (text_at p.src.now w.span))
+IsLayoutWordAt p at =
+    (w : Word) × (slice_get p.words.now at ≡ Some w) × (w.kind ≡ kind.Identifier)
+    × (¬ Meets (none_of layout_words) (text_at p.src.now w.span))

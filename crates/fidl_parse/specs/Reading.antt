@@ -24,4 +24,5 @@ IsKindAt p at k = (w : Word) × (slice_get p.words.now at ≡ Some w) × (w.kind
 
 -- an identifier with this text stands at the place
 abbrev pub IsTextAt : Parser → ℕ → List ℕ → Type 0
-IsTextAt p at text = (w : Word) × (slice_get p.words.now at ≡ Some w) × (w.kind ≡ kind.Identifier) × (text_at p.src.now w.span ≡ text)
+IsTextAt p at text =
+    (w : Word) × (slice_get p.words.now at ≡ Some w) × (w.kind ≡ kind.Identifier) × (text_at p.src.now w.span ≡ text)

@@ -4,8 +4,8 @@ ghost use Rattle.fidl_span.specs.declared.words.WordKind.TheVariants as kind;
 ghost use Rattle.fidl_tree.specs.Leaf.{joined, optional};
 ghost use Rattle.fidl_tree.specs.Attribute.{attributes_leaves, attribute_leaves, arguments_leaves, argument_list_leaves, next_argument_leaves, argument_leaves, argument_name_leaves};
 ghost use Rattle.fidl_parse.specs.Reading.{Reads, IsKindAt};
-ghost use Rattle.fidl_parse.specs.Ahead.{Finds, row};
-ghost use Rattle.fidl_parse.specs.Follow.{Begins, Not, extends_attribute, extends_attributes, EndsArgument, NotNamed};
+ghost use Rattle.fidl_parse.specs.Completeness.{Finds, row};
+ghost use Rattle.fidl_parse.specs.FollowSets.{Begins, Not, extends_attribute, extends_attributes, EndsArgument, NotNamed};
 
 use crate::fault::Stop;
 use crate::parser::Parser;
@@ -14,8 +14,10 @@ use fidl_tree::{Argument, ArgumentList, ArgumentName, Arguments, Attribute, Next
 
 impl<'w, 's> Parser<'w, 's> {
     pub(crate) fn attributes(&self, at: &mut usize) -> Result<Vec<Attribute>, Stop>
-        ensures reads { IfOk result (λ attributes. Reads self.now at.old at.new (attributes_leaves attributes.items)) }
-        ensures complete { Finds self.now at.old at.new attributes_leaves (Not extends_attributes) result }
+        ensures reads { IfOk result (λ attributes. Reads self.now at.old at.new
+            (attributes_leaves attributes.items)) }
+        ensures complete { Finds self.now at.old at.new attributes_leaves (Not extends_attributes)
+            result }
     {
         let mut attributes = Vec::new(self.alloc);
         while self.is_next(*at, WordKind::At) {
@@ -25,8 +27,10 @@ impl<'w, 's> Parser<'w, 's> {
     }
 
     fn attribute(&self, at: &mut usize) -> Result<Attribute, Stop>
-        ensures reads { IfOk result (λ attribute. Reads self.now at.old at.new (attribute_leaves attribute)) }
-        ensures complete { Finds self.now at.old at.new attribute_leaves (Not extends_attribute) result }
+        ensures reads { IfOk result (λ attribute. Reads self.now at.old at.new
+            (attribute_leaves attribute)) }
+        ensures complete { Finds self.now at.old at.new attribute_leaves (Not extends_attribute)
+            result }
     {
         let sign = self.symbol(at, WordKind::At)?;
         let name = self.name(at)?;
@@ -39,8 +43,10 @@ impl<'w, 's> Parser<'w, 's> {
     }
 
     fn arguments(&self, at: &mut usize) -> Result<Option<Arguments>, Stop>
-        ensures reads { IfOk result (λ arguments. Reads self.now at.old at.new (optional arguments_leaves arguments)) }
-        ensures complete { Finds self.now at.old at.new (optional arguments_leaves) (Not extends_attribute) result }
+        ensures reads { IfOk result (λ arguments. Reads self.now at.old at.new
+            (optional arguments_leaves arguments)) }
+        ensures complete { Finds self.now at.old at.new (optional arguments_leaves)
+            (Not extends_attribute) result }
     {
         if !self.is_next(*at, WordKind::LeftParenthesis) {
             return Ok(None);
@@ -53,8 +59,10 @@ impl<'w, 's> Parser<'w, 's> {
 
     /// The arguments up to a closing parenthesis.
     fn argument_list(&self, at: &mut usize) -> Result<Option<ArgumentList>, Stop>
-        ensures reads { IfOk result (λ list. Reads self.now at.old at.new (optional argument_list_leaves list)) }
-        ensures complete { Finds self.now at.old at.new (optional argument_list_leaves) (Begins kind.RightParenthesis) result }
+        ensures reads { IfOk result (λ list. Reads self.now at.old at.new
+            (optional argument_list_leaves list)) }
+        ensures complete { Finds self.now at.old at.new (optional argument_list_leaves)
+            (Begins kind.RightParenthesis) result }
     {
         if self.is_next(*at, WordKind::RightParenthesis) {
             return Ok(None);
@@ -65,8 +73,10 @@ impl<'w, 's> Parser<'w, 's> {
     }
 
     fn next_arguments(&self, at: &mut usize) -> Result<Vec<NextArgument>, Stop>
-        ensures reads { IfOk result (λ arguments. Reads self.now at.old at.new (joined (map next_argument_leaves arguments.items))) }
-        ensures complete { Finds self.now at.old at.new (row next_argument_leaves) (Begins kind.RightParenthesis) result }
+        ensures reads { IfOk result (λ arguments. Reads self.now at.old at.new
+            (joined (map next_argument_leaves arguments.items))) }
+        ensures complete { Finds self.now at.old at.new (row next_argument_leaves)
+            (Begins kind.RightParenthesis) result }
     {
         let mut arguments = Vec::new(self.alloc);
         while self.is_next(*at, WordKind::Comma) {
@@ -76,7 +86,8 @@ impl<'w, 's> Parser<'w, 's> {
     }
 
     fn next_argument(&self, at: &mut usize) -> Result<NextArgument, Stop>
-        ensures reads { IfOk result (λ argument. Reads self.now at.old at.new (next_argument_leaves argument)) }
+        ensures reads { IfOk result (λ argument. Reads self.now at.old at.new
+            (next_argument_leaves argument)) }
         ensures complete { Finds self.now at.old at.new next_argument_leaves EndsArgument result }
     {
         let comma = self.symbol(at, WordKind::Comma)?;
@@ -85,7 +96,8 @@ impl<'w, 's> Parser<'w, 's> {
     }
 
     fn argument(&self, at: &mut usize) -> Result<Argument, Stop>
-        ensures reads { IfOk result (λ argument. Reads self.now at.old at.new (argument_leaves argument)) }
+        ensures reads { IfOk result (λ argument. Reads self.now at.old at.new
+            (argument_leaves argument)) }
         ensures complete { Finds self.now at.old at.new argument_leaves EndsArgument result }
     {
         let name = self.argument_name(at)?;
@@ -95,15 +107,18 @@ impl<'w, 's> Parser<'w, 's> {
 
     /// Whether a name and `=` stand next, which no value does.
     fn begins_argument_name(&self, at: usize) -> bool
-        ensures { IsTrue result ↔ IsKindAt self.now at kind.Identifier × IsKindAt self.now (at + 1) kind.Equals }
+        ensures { IsTrue result ↔ IsKindAt self.now at kind.Identifier × IsKindAt self.now
+            (at + 1) kind.Equals }
     {
         self.is_next(at, WordKind::Identifier) && self.is_second(at, WordKind::Equals)
     }
 
     /// The name of an argument, before `=`.
     fn argument_name(&self, at: &mut usize) -> Result<Option<ArgumentName>, Stop>
-        ensures reads { IfOk result (λ name. Reads self.now at.old at.new (optional argument_name_leaves name)) }
-        ensures complete { Finds self.now at.old at.new (optional argument_name_leaves) NotNamed result }
+        ensures reads { IfOk result (λ name. Reads self.now at.old at.new
+            (optional argument_name_leaves name)) }
+        ensures complete { Finds self.now at.old at.new (optional argument_name_leaves) NotNamed
+            result }
     {
         if !self.begins_argument_name(*at) {
             return Ok(None);

@@ -4,9 +4,9 @@ ghost use Rattle.fidl_tree.specs.Leaf.{joined};
 ghost use Rattle.fidl_tree.specs.Attribute.{attributes_leaves};
 ghost use Rattle.fidl_tree.specs.Declaration.{declaration_leaves, declaration_body_leaves, const_leaves, alias_leaves, type_declaration_leaves, protocol_leaves, service_leaves, resource_definition_leaves, properties_leaves, property_leaves};
 ghost use Rattle.fidl_parse.specs.Reading.{Reads, ReadsBehind};
-ghost use Rattle.fidl_parse.specs.Ahead.{Finds, row};
-ghost use Rattle.fidl_parse.specs.Follow.{Anything, Begins};
-ghost use Rattle.fidl_parse.specs.Behind.{behind_attributes};
+ghost use Rattle.fidl_parse.specs.Completeness.{Finds, row};
+ghost use Rattle.fidl_parse.specs.FollowSets.{Anything, Begins};
+ghost use Rattle.fidl_parse.specs.Suffixes.{behind_attributes};
 ghost use Rattle.fidl_span.specs.declared.words.WordKind.TheVariants as kind;
 
 use crate::fault::Stop;
@@ -24,7 +24,8 @@ impl<'w, 's> Parser<'w, 's> {
         attributes: Vec<Attribute>,
         at: &mut usize,
     ) -> Result<Declaration, Stop>
-        ensures reads { IfOk result (λ declaration. ReadsBehind self.now at.old at.new (attributes_leaves attributes.items) (declaration_leaves declaration)) }
+        ensures reads { IfOk result (λ declaration. ReadsBehind self.now at.old at.new
+            (attributes_leaves attributes.items) (declaration_leaves declaration)) }
         ensures complete { Finds self.now at.old at.new behind_attributes Anything result }
         ensures forward { OnOk result (at.old < at.new) }
     {
@@ -38,8 +39,10 @@ impl<'w, 's> Parser<'w, 's> {
     }
 
     fn declaration_body(&self, at: &mut usize) -> Result<DeclarationBody, Stop>
-        ensures reads { IfOk result (λ body. Reads self.now at.old at.new (declaration_body_leaves body)) }
-        ensures complete { Finds self.now at.old at.new declaration_body_leaves (Begins kind.Semicolon) result }
+        ensures reads { IfOk result (λ body. Reads self.now at.old at.new
+            (declaration_body_leaves body)) }
+        ensures complete { Finds self.now at.old at.new declaration_body_leaves
+            (Begins kind.Semicolon) result }
     {
         if self.is_next_word(*at, b"const") {
             return Ok(DeclarationBody::Const(self.constant(at)?));
@@ -60,8 +63,10 @@ impl<'w, 's> Parser<'w, 's> {
     }
 
     fn constant(&self, at: &mut usize) -> Result<ConstDeclaration, Stop>
-        ensures reads { IfOk result (λ declaration. Reads self.now at.old at.new (const_leaves declaration)) }
-        ensures complete { Finds self.now at.old at.new const_leaves (Begins kind.Semicolon) result }
+        ensures reads { IfOk result (λ declaration. Reads self.now at.old at.new
+            (const_leaves declaration)) }
+        ensures complete { Finds self.now at.old at.new const_leaves (Begins kind.Semicolon)
+            result }
     {
         let keyword = self.keyword(at, b"const")?;
         let name = self.name(at)?;
@@ -78,8 +83,10 @@ impl<'w, 's> Parser<'w, 's> {
     }
 
     fn alias(&self, at: &mut usize) -> Result<AliasDeclaration, Stop>
-        ensures reads { IfOk result (λ declaration. Reads self.now at.old at.new (alias_leaves declaration)) }
-        ensures complete { Finds self.now at.old at.new alias_leaves (Begins kind.Semicolon) result }
+        ensures reads { IfOk result (λ declaration. Reads self.now at.old at.new
+            (alias_leaves declaration)) }
+        ensures complete { Finds self.now at.old at.new alias_leaves (Begins kind.Semicolon)
+            result }
     {
         let keyword = self.keyword(at, b"alias")?;
         let name = self.name(at)?;
@@ -94,7 +101,8 @@ impl<'w, 's> Parser<'w, 's> {
     }
 
     fn type_declaration(&self, at: &mut usize) -> Result<TypeDeclaration, Stop>
-        ensures reads { IfOk result (λ declaration. Reads self.now at.old at.new (type_declaration_leaves declaration)) }
+        ensures reads { IfOk result (λ declaration. Reads self.now at.old at.new
+            (type_declaration_leaves declaration)) }
         ensures complete { Finds self.now at.old at.new type_declaration_leaves Anything result }
     {
         let keyword = self.keyword(at, b"type")?;
@@ -110,7 +118,8 @@ impl<'w, 's> Parser<'w, 's> {
     }
 
     fn protocol(&self, at: &mut usize) -> Result<ProtocolDeclaration, Stop>
-        ensures reads { IfOk result (λ declaration. Reads self.now at.old at.new (protocol_leaves declaration)) }
+        ensures reads { IfOk result (λ declaration. Reads self.now at.old at.new
+            (protocol_leaves declaration)) }
         ensures complete { Finds self.now at.old at.new protocol_leaves Anything result }
     {
         let openness = self.openness(at)?;
@@ -130,7 +139,8 @@ impl<'w, 's> Parser<'w, 's> {
     }
 
     fn service(&self, at: &mut usize) -> Result<ServiceDeclaration, Stop>
-        ensures reads { IfOk result (λ declaration. Reads self.now at.old at.new (service_leaves declaration)) }
+        ensures reads { IfOk result (λ declaration. Reads self.now at.old at.new
+            (service_leaves declaration)) }
         ensures complete { Finds self.now at.old at.new service_leaves Anything result }
     {
         let keyword = self.keyword(at, b"service")?;
@@ -148,7 +158,8 @@ impl<'w, 's> Parser<'w, 's> {
     }
 
     fn resource_definition(&self, at: &mut usize) -> Result<ResourceDefinition, Stop>
-        ensures reads { IfOk result (λ definition. Reads self.now at.old at.new (resource_definition_leaves definition)) }
+        ensures reads { IfOk result (λ definition. Reads self.now at.old at.new
+            (resource_definition_leaves definition)) }
         ensures complete { Finds self.now at.old at.new resource_definition_leaves Anything result }
     {
         let keyword = self.keyword(at, b"resource_definition")?;
@@ -170,7 +181,8 @@ impl<'w, 's> Parser<'w, 's> {
     }
 
     fn properties(&self, at: &mut usize) -> Result<Properties, Stop>
-        ensures reads { IfOk result (λ properties. Reads self.now at.old at.new (properties_leaves properties)) }
+        ensures reads { IfOk result (λ properties. Reads self.now at.old at.new
+            (properties_leaves properties)) }
         ensures complete { Finds self.now at.old at.new properties_leaves Anything result }
     {
         let keyword = self.keyword(at, b"properties")?;
@@ -189,8 +201,10 @@ impl<'w, 's> Parser<'w, 's> {
 
     /// The properties up to a closing brace.
     fn property_list(&self, at: &mut usize) -> Result<Vec<Property>, Stop>
-        ensures reads { IfOk result (λ members. Reads self.now at.old at.new (joined (map property_leaves members.items))) }
-        ensures complete { Finds self.now at.old at.new (row property_leaves) (Begins kind.RightBrace) result }
+        ensures reads { IfOk result (λ members. Reads self.now at.old at.new
+            (joined (map property_leaves members.items))) }
+        ensures complete { Finds self.now at.old at.new (row property_leaves)
+            (Begins kind.RightBrace) result }
     {
         let mut members = Vec::new(self.alloc);
         while !self.is_next(*at, WordKind::RightBrace) {
@@ -200,7 +214,8 @@ impl<'w, 's> Parser<'w, 's> {
     }
 
     fn property(&self, at: &mut usize) -> Result<Property, Stop>
-        ensures reads { IfOk result (λ property. Reads self.now at.old at.new (property_leaves property)) }
+        ensures reads { IfOk result (λ property. Reads self.now at.old at.new
+            (property_leaves property)) }
         ensures complete { Finds self.now at.old at.new property_leaves Anything result }
         ensures forward { OnOk result (at.old < at.new) }
         ensures within { OnOk result (at.old < length self.now.words.now) }

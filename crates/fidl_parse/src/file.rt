@@ -4,9 +4,9 @@ ghost use Rattle.fidl_tree.specs.Leaf.{optional};
 ghost use Rattle.fidl_tree.specs.Attribute.{attributes_leaves};
 ghost use Rattle.fidl_tree.specs.File.{file_leaves, library_leaves, import_leaves, import_alias_leaves};
 ghost use Rattle.fidl_parse.specs.Reading.{Reads, ReadsBehind, IsTextAt};
-ghost use Rattle.fidl_parse.specs.Ahead.{Finds};
-ghost use Rattle.fidl_parse.specs.Follow.{Anything, IsNothing, Begins};
-ghost use Rattle.fidl_parse.specs.Behind.{import_behind_attributes};
+ghost use Rattle.fidl_parse.specs.Completeness.{Finds};
+ghost use Rattle.fidl_parse.specs.FollowSets.{Anything, IsNothing, Begins};
+ghost use Rattle.fidl_parse.specs.Suffixes.{import_behind_attributes};
 ghost use Rattle.fidl_span.specs.declared.words.WordKind.TheVariants as kind;
 
 use crate::fault::Stop;
@@ -43,13 +43,15 @@ impl<'w, 's> Parser<'w, 's> {
 
     /// Whether an import stands next: behind a declaration none does.
     fn begins_import(&self, declarations: &Vec<Declaration>, at: usize) -> bool
-        ensures { IsTrue result ↔ (length declarations.now.items ≡ 0) × IsTextAt self.now at (codes "using") }
+        ensures { IsTrue result ↔ (length declarations.now.items ≡ 0) × IsTextAt self.now at
+            (codes "using") }
     {
         declarations.is_empty() && self.is_next_word(at, b"using")
     }
 
     fn library(&self, at: &mut usize) -> Result<Library, Stop>
-        ensures reads { IfOk result (λ library. Reads self.now at.old at.new (library_leaves library)) }
+        ensures reads { IfOk result (λ library. Reads self.now at.old at.new
+            (library_leaves library)) }
         ensures complete { Finds self.now at.old at.new library_leaves Anything result }
     {
         let attributes = self.attributes(at)?;
@@ -66,7 +68,8 @@ impl<'w, 's> Parser<'w, 's> {
 
     /// The import behind these attributes.
     fn import(&self, attributes: Vec<Attribute>, at: &mut usize) -> Result<Import, Stop>
-        ensures reads { IfOk result (λ import. ReadsBehind self.now at.old at.new (attributes_leaves attributes.items) (import_leaves import)) }
+        ensures reads { IfOk result (λ import. ReadsBehind self.now at.old at.new
+            (attributes_leaves attributes.items) (import_leaves import)) }
         ensures complete { Finds self.now at.old at.new import_behind_attributes Anything result }
         ensures forward { OnOk result (at.old < at.new) }
     {
@@ -84,8 +87,10 @@ impl<'w, 's> Parser<'w, 's> {
     }
 
     fn import_alias(&self, at: &mut usize) -> Result<Option<ImportAlias>, Stop>
-        ensures reads { IfOk result (λ alias. Reads self.now at.old at.new (optional import_alias_leaves alias)) }
-        ensures complete { Finds self.now at.old at.new (optional import_alias_leaves) (Begins kind.Semicolon) result }
+        ensures reads { IfOk result (λ alias. Reads self.now at.old at.new
+            (optional import_alias_leaves alias)) }
+        ensures complete { Finds self.now at.old at.new (optional import_alias_leaves)
+            (Begins kind.Semicolon) result }
     {
         if !self.is_next_word(*at, b"as") {
             return Ok(None);

@@ -3,9 +3,9 @@ ghost use Rattle.std.specs.Prelude.{◌≡◌, IfOk, IsOk, false, [], ◌∷◌,
 ghost use Rattle.fidl_tree.specs.Leaf.{optional};
 ghost use Rattle.fidl_tree.specs.Keyword.{strictness_leaves, resource_leaves, openness_leaves, values_keyword_leaves, union_modifiers_leaves};
 ghost use Rattle.fidl_parse.specs.Reading.{Reads, IsTextAt};
-ghost use Rattle.fidl_parse.specs.Ahead.{Finds, Skips};
-ghost use Rattle.fidl_parse.specs.Follow.{Anything, NotWord, modifier_words, strictness_words};
-ghost use Rattle.fidl_parse.specs.Behind.{has_strictness, has_resource, Lacks};
+ghost use Rattle.fidl_parse.specs.Completeness.{Finds, Skips};
+ghost use Rattle.fidl_parse.specs.FollowSets.{Anything, NotWord, modifier_words, strictness_words};
+ghost use Rattle.fidl_parse.specs.Suffixes.{has_strictness, has_resource, Lacks};
 
 use crate::fault::Stop;
 use crate::parser::Parser;
@@ -13,7 +13,8 @@ use fidl_tree::{Openness, Resource, Strictness, UnionModifiers, ValuesKeyword};
 
 impl<'w, 's> Parser<'w, 's> {
     pub(crate) fn strictness(&self, at: &mut usize) -> Result<Option<Strictness>, Stop>
-        ensures reads { IfOk result (λ strictness. Reads self.now at.old at.new (optional strictness_leaves strictness)) }
+        ensures reads { IfOk result (λ strictness. Reads self.now at.old at.new
+            (optional strictness_leaves strictness)) }
         ensures present { Finds self.now at.old at.new strictness_leaves Anything result }
         ensures absent { Skips self.now at.old at.new (NotWord strictness_words) result }
     {
@@ -27,7 +28,8 @@ impl<'w, 's> Parser<'w, 's> {
     }
 
     fn resource(&self, at: &mut usize) -> Result<Option<Resource>, Stop>
-        ensures reads { IfOk result (λ resource. Reads self.now at.old at.new (optional resource_leaves resource)) }
+        ensures reads { IfOk result (λ resource. Reads self.now at.old at.new
+            (optional resource_leaves resource)) }
         ensures present { Finds self.now at.old at.new resource_leaves Anything result }
         ensures absent { Skips self.now at.old at.new (NotWord (codes "resource" ∷ [])) result }
     {
@@ -39,8 +41,10 @@ impl<'w, 's> Parser<'w, 's> {
     }
 
     pub(crate) fn openness(&self, at: &mut usize) -> Result<Option<Openness>, Stop>
-        ensures reads { IfOk result (λ openness. Reads self.now at.old at.new (optional openness_leaves openness)) }
-        ensures complete { Finds self.now at.old at.new (optional openness_leaves) (NotWord (codes "open" ∷ codes "ajar" ∷ codes "closed" ∷ [])) result }
+        ensures reads { IfOk result (λ openness. Reads self.now at.old at.new
+            (optional openness_leaves openness)) }
+        ensures complete { Finds self.now at.old at.new (optional openness_leaves)
+            (NotWord (codes "open" ∷ codes "ajar" ∷ codes "closed" ∷ [])) result }
     {
         if self.is_next_word(*at, b"open") {
             return Ok(Some(Openness::Open(self.keyword(at, b"open")?)));
@@ -55,7 +59,8 @@ impl<'w, 's> Parser<'w, 's> {
     }
 
     pub(crate) fn values_keyword(&self, at: &mut usize) -> Result<ValuesKeyword, Stop>
-        ensures reads { IfOk result (λ keyword. Reads self.now at.old at.new (values_keyword_leaves keyword)) }
+        ensures reads { IfOk result (λ keyword. Reads self.now at.old at.new
+            (values_keyword_leaves keyword)) }
         ensures complete { Finds self.now at.old at.new values_keyword_leaves Anything result }
     {
         if self.is_next_word(*at, b"bits") {
@@ -66,8 +71,10 @@ impl<'w, 's> Parser<'w, 's> {
 
     /// What stands before the keyword of a layout.
     pub(crate) fn modifiers(&self, at: &mut usize) -> Result<UnionModifiers, Stop>
-        ensures reads { IfOk result (λ modifiers. Reads self.now at.old at.new (union_modifiers_leaves modifiers)) }
-        ensures complete { Finds self.now at.old at.new union_modifiers_leaves (NotWord modifier_words) result }
+        ensures reads { IfOk result (λ modifiers. Reads self.now at.old at.new
+            (union_modifiers_leaves modifiers)) }
+        ensures complete { Finds self.now at.old at.new union_modifiers_leaves
+            (NotWord modifier_words) result }
         ensures strictness { Lacks has_strictness self.now at.old result }
         ensures resource { Lacks has_resource self.now at.old result }
     {
@@ -83,9 +90,12 @@ impl<'w, 's> Parser<'w, 's> {
     }
 
     fn resource_first(&self, at: &mut usize) -> Result<UnionModifiers, Stop>
-        ensures reads { IfOk result (λ modifiers. Reads self.now at.old at.new (union_modifiers_leaves modifiers)) }
-        ensures complete { IsTextAt self.now at.old (codes "resource") → Finds self.now at.old at.new union_modifiers_leaves (NotWord modifier_words) result }
-        ensures strictness { IsTextAt self.now at.old (codes "resource") → Lacks has_strictness self.now at.old result }
+        ensures reads { IfOk result (λ modifiers. Reads self.now at.old at.new
+            (union_modifiers_leaves modifiers)) }
+        ensures complete { IsTextAt self.now at.old (codes "resource")
+            → Finds self.now at.old at.new union_modifiers_leaves (NotWord modifier_words) result }
+        ensures strictness { IsTextAt self.now at.old (codes "resource")
+            → Lacks has_strictness self.now at.old result }
     {
         let keyword = self.keyword(at, b"resource")?;
         let resource = Resource { keyword };
@@ -104,7 +114,8 @@ impl<'w, 's> Parser<'w, 's> {
 
 /// What may stand before `struct` and `table`.
 pub(crate) fn without_strictness(modifiers: UnionModifiers) -> Result<Option<Resource>, Stop>
-    ensures leaves { IfOk result (λ resource. union_modifiers_leaves modifiers ≡ optional resource_leaves resource) }
+    ensures leaves { IfOk result (λ resource. union_modifiers_leaves modifiers
+        ≡ optional resource_leaves resource) }
     ensures complete { has_strictness modifiers ≡ false → IsOk result }
 {
     match modifiers {
@@ -118,7 +129,8 @@ pub(crate) fn without_strictness(modifiers: UnionModifiers) -> Result<Option<Res
 
 /// What may stand before `bits` and `enum`.
 pub(crate) fn without_resource(modifiers: UnionModifiers) -> Result<Option<Strictness>, Stop>
-    ensures leaves { IfOk result (λ strictness. union_modifiers_leaves modifiers ≡ optional strictness_leaves strictness) }
+    ensures leaves { IfOk result (λ strictness. union_modifiers_leaves modifiers
+        ≡ optional strictness_leaves strictness) }
     ensures complete { has_resource modifiers ≡ false → IsOk result }
 {
     match modifiers {

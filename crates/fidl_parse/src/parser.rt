@@ -3,8 +3,8 @@ ghost use Rattle.std.specs.Prelude.{◌≡◌, ℕ, ◌+◌, ◌<◌, ◌↔◌,
 ghost use Rattle.fidl_span.specs.declared.words.WordKind.TheVariants as kind;
 ghost use Rattle.fidl_tree.specs.Leaf.{symbol, name, keyword, text_at};
 ghost use Rattle.fidl_parse.specs.Reading.{Reads, IsKindAt, IsTextAt};
-ghost use Rattle.fidl_parse.specs.Ahead.{Finds};
-ghost use Rattle.fidl_parse.specs.Follow.{Anything};
+ghost use Rattle.fidl_parse.specs.Completeness.{Finds};
+ghost use Rattle.fidl_parse.specs.FollowSets.{Anything};
 
 use crate::fault::Stop;
 use fidl_span::{Span, Word, WordKind};
@@ -74,7 +74,8 @@ impl<'w, 's> Parser<'w, 's> {
 
     /// Whether a word is an identifier with this text.
     fn is_keyword(&self, word: Word, text: &[u8]) -> bool
-        ensures { IsTrue result ↔ (word.kind ≡ kind.Identifier) × (text_at self.now.src.now word.span ≡ text.now) }
+        ensures { IsTrue result ↔ (word.kind ≡ kind.Identifier)
+            × (text_at self.now.src.now word.span ≡ text.now) }
     {
         word.kind == WordKind::Identifier && self.text(word.span) == text
     }

@@ -3,8 +3,8 @@ ghost use Rattle.std.specs.Prelude.{IfOk, map};
 ghost use Rattle.fidl_tree.specs.Leaf.{joined};
 ghost use Rattle.fidl_tree.specs.Path.{path_leaves, part_leaves};
 ghost use Rattle.fidl_parse.specs.Reading.{Reads};
-ghost use Rattle.fidl_parse.specs.Ahead.{Finds, row};
-ghost use Rattle.fidl_parse.specs.Follow.{Anything, Not, extends_path};
+ghost use Rattle.fidl_parse.specs.Completeness.{Finds, row};
+ghost use Rattle.fidl_parse.specs.FollowSets.{Anything, Not, extends_path};
 
 use crate::fault::Stop;
 use crate::parser::Parser;
@@ -23,8 +23,10 @@ impl<'w, 's> Parser<'w, 's> {
 
     /// What stands behind the first name of a path.
     pub(crate) fn path_parts(&self, at: &mut usize) -> Result<Vec<PathPart>, Stop>
-        ensures reads { IfOk result (λ parts. Reads self.now at.old at.new (joined (map part_leaves parts.items))) }
-        ensures complete { Finds self.now at.old at.new (row part_leaves) (Not extends_path) result }
+        ensures reads { IfOk result (λ parts. Reads self.now at.old at.new
+            (joined (map part_leaves parts.items))) }
+        ensures complete { Finds self.now at.old at.new (row part_leaves)
+            (Not extends_path) result }
     {
         let mut parts = Vec::new(self.alloc);
         while self.is_next(*at, WordKind::Dot) {

@@ -26,7 +26,8 @@ pub fn parse<'s>(alloc: Global, tokens: &Tokens, src: &'s [u8]) -> Result<File<'
     ensures proper { IfOk result (λ tree. IsProper tree) }
     ensures words { IfOk result (λ tree. yield_of tree ≡ tokens.now.words.items) }
     ensures limit { IfOk result (λ _. IsWithinLimit tokens.now.words.items) }
-    ensures no_tree { IfErr result (λ fault. fault ≢ Memory → ¬ HasTree tokens.now.words.items src.now) }
+    ensures no_tree { IfErr result (λ fault. fault ≢ Memory
+        → ¬ HasTree tokens.now.words.items src.now) }
     ensures refusal { IfErr result (λ fault. IsTrueOf tokens.now.words.items src.now fault) }
 {
     let words = tokens.as_slice();

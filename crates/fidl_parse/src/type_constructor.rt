@@ -7,9 +7,9 @@ ghost use Rattle.fidl_tree.specs.TypeConstructor.{type_leaves, named_leaves, typ
 ghost use Rattle.fidl_span.specs.declared.words.WordKind.TheVariants as kind;
 ghost use Rattle.fidl_parse.specs.Choices.{layout_words, IsLayoutWordAt};
 ghost use Rattle.fidl_parse.specs.Reading.{Reads, ReadsBehind, IsKindAt, IsTextAt};
-ghost use Rattle.fidl_parse.specs.Ahead.{Finds, row};
-ghost use Rattle.fidl_parse.specs.Follow.{Anything, Begins, Not, extends_path, extends_name, extends_type};
-ghost use Rattle.fidl_parse.specs.Behind.{has_strictness, has_resource, block, values_block};
+ghost use Rattle.fidl_parse.specs.Completeness.{Finds, row};
+ghost use Rattle.fidl_parse.specs.FollowSets.{Anything, Begins, Not, extends_path, extends_name, extends_type};
+ghost use Rattle.fidl_parse.specs.Suffixes.{has_strictness, has_resource, block, values_block};
 
 use crate::fault::Stop;
 use crate::keyword::{without_resource, without_strictness};
@@ -24,7 +24,8 @@ use fidl_tree::{
 impl<'w, 's> Parser<'w, 's> {
     #[cycle(types)]
     pub(crate) fn type_constructor(&self, at: &mut usize) -> Result<TypeConstructor, Stop>
-        ensures reads { IfOk result (λ constructor. Reads self.now at.old at.new (type_leaves constructor)) }
+        ensures reads { IfOk result (λ constructor. Reads self.now at.old at.new
+            (type_leaves constructor)) }
         ensures complete { Finds self.now at.old at.new type_leaves (Not extends_type) result }
     {
         if !self.begins_layout(*at) {
@@ -56,8 +57,10 @@ impl<'w, 's> Parser<'w, 's> {
 
     #[cycle(types)]
     fn type_arguments(&self, at: &mut usize) -> Result<Option<TypeArguments>, Stop>
-        ensures reads { IfOk result (λ arguments. Reads self.now at.old at.new (optional type_arguments_leaves arguments)) }
-        ensures complete { Finds self.now at.old at.new (optional type_arguments_leaves) (Not extends_name) result }
+        ensures reads { IfOk result (λ arguments. Reads self.now at.old at.new
+            (optional type_arguments_leaves arguments)) }
+        ensures complete { Finds self.now at.old at.new (optional type_arguments_leaves)
+            (Not extends_name) result }
     {
         if !self.is_next(*at, WordKind::Less) {
             return Ok(None);
@@ -76,8 +79,10 @@ impl<'w, 's> Parser<'w, 's> {
 
     #[cycle(types)]
     fn next_type_arguments(&self, at: &mut usize) -> Result<Vec<NextTypeArgument>, Stop>
-        ensures reads { IfOk result (λ arguments. Reads self.now at.old at.new (joined (map next_type_argument_leaves arguments.items))) }
-        ensures complete { Finds self.now at.old at.new (row next_type_argument_leaves) (Begins kind.Greater) result }
+        ensures reads { IfOk result (λ arguments. Reads self.now at.old at.new
+            (joined (map next_type_argument_leaves arguments.items))) }
+        ensures complete { Finds self.now at.old at.new (row next_type_argument_leaves)
+            (Begins kind.Greater) result }
     {
         let mut arguments = Vec::new(self.alloc);
         while self.is_next(*at, WordKind::Comma) {
@@ -88,8 +93,10 @@ impl<'w, 's> Parser<'w, 's> {
 
     #[cycle(types)]
     fn next_type_argument(&self, at: &mut usize) -> Result<NextTypeArgument, Stop>
-        ensures reads { IfOk result (λ argument. Reads self.now at.old at.new (next_type_argument_leaves argument)) }
-        ensures complete { Finds self.now at.old at.new next_type_argument_leaves (Not extends_type) result }
+        ensures reads { IfOk result (λ argument. Reads self.now at.old at.new
+            (next_type_argument_leaves argument)) }
+        ensures complete { Finds self.now at.old at.new next_type_argument_leaves
+            (Not extends_type) result }
     {
         let comma = self.symbol(at, WordKind::Comma)?;
         let argument = self.type_argument(at)?;
@@ -98,8 +105,10 @@ impl<'w, 's> Parser<'w, 's> {
 
     #[cycle(types)]
     fn type_argument(&self, at: &mut usize) -> Result<TypeArgument, Stop>
-        ensures reads { IfOk result (λ argument. Reads self.now at.old at.new (type_argument_leaves argument)) }
-        ensures complete { Finds self.now at.old at.new type_argument_leaves (Not extends_type) result }
+        ensures reads { IfOk result (λ argument. Reads self.now at.old at.new
+            (type_argument_leaves argument)) }
+        ensures complete { Finds self.now at.old at.new type_argument_leaves
+            (Not extends_type) result }
     {
         if self.is_next(*at, WordKind::Number) {
             return Ok(TypeArgument::Number(self.symbol(at, WordKind::Number)?));
@@ -109,7 +118,8 @@ impl<'w, 's> Parser<'w, 's> {
 
     #[cycle(types)]
     pub(crate) fn layout(&self, at: &mut usize) -> Result<Layout, Stop>
-        ensures reads { IfOk result (λ layout. Reads self.now at.old at.new (layout_leaves layout)) }
+        ensures reads { IfOk result (λ layout. Reads self.now at.old at.new
+            (layout_leaves layout)) }
         ensures complete { Finds self.now at.old at.new layout_leaves Anything result }
     {
         let attributes = self.attributes(at)?;
@@ -119,7 +129,8 @@ impl<'w, 's> Parser<'w, 's> {
 
     #[cycle(types)]
     fn layout_body(&self, at: &mut usize) -> Result<LayoutBody, Stop>
-        ensures reads { IfOk result (λ body. Reads self.now at.old at.new (layout_body_leaves body)) }
+        ensures reads { IfOk result (λ body. Reads self.now at.old at.new
+            (layout_body_leaves body)) }
         ensures complete { Finds self.now at.old at.new layout_body_leaves Anything result }
     {
         let modifiers = self.modifiers(at)?;
@@ -137,8 +148,10 @@ impl<'w, 's> Parser<'w, 's> {
 
     #[cycle(types)]
     fn struct_layout(&self, modifiers: UnionModifiers, at: &mut usize) -> Result<StructLayout, Stop>
-        ensures reads { IfOk result (λ layout. ReadsBehind self.now at.old at.new (union_modifiers_leaves modifiers) (struct_layout_leaves layout)) }
-        ensures complete { has_strictness modifiers ≡ false → Finds self.now at.old at.new (block (codes "struct") member_leaves) Anything result }
+        ensures reads { IfOk result (λ layout. ReadsBehind self.now at.old at.new
+            (union_modifiers_leaves modifiers) (struct_layout_leaves layout)) }
+        ensures complete { has_strictness modifiers ≡ false → Finds self.now at.old at.new
+            (block (codes "struct") member_leaves) Anything result }
     {
         let resource = without_strictness(modifiers)?;
         let keyword = self.keyword(at, b"struct")?;
@@ -156,8 +169,10 @@ impl<'w, 's> Parser<'w, 's> {
 
     #[cycle(types)]
     fn table_layout(&self, modifiers: UnionModifiers, at: &mut usize) -> Result<TableLayout, Stop>
-        ensures reads { IfOk result (λ layout. ReadsBehind self.now at.old at.new (union_modifiers_leaves modifiers) (table_layout_leaves layout)) }
-        ensures complete { has_strictness modifiers ≡ false → Finds self.now at.old at.new (block (codes "table") ordinal_member_leaves) Anything result }
+        ensures reads { IfOk result (λ layout. ReadsBehind self.now at.old at.new
+            (union_modifiers_leaves modifiers) (table_layout_leaves layout)) }
+        ensures complete { has_strictness modifiers ≡ false → Finds self.now at.old at.new
+            (block (codes "table") ordinal_member_leaves) Anything result }
     {
         let resource = without_strictness(modifiers)?;
         let keyword = self.keyword(at, b"table")?;
@@ -175,8 +190,10 @@ impl<'w, 's> Parser<'w, 's> {
 
     #[cycle(types)]
     fn union_layout(&self, modifiers: UnionModifiers, at: &mut usize) -> Result<UnionLayout, Stop>
-        ensures reads { IfOk result (λ layout. ReadsBehind self.now at.old at.new (union_modifiers_leaves modifiers) (union_layout_leaves layout)) }
-        ensures complete { Finds self.now at.old at.new (block (codes "union") ordinal_member_leaves) Anything result }
+        ensures reads { IfOk result (λ layout. ReadsBehind self.now at.old at.new
+            (union_modifiers_leaves modifiers) (union_layout_leaves layout)) }
+        ensures complete { Finds self.now at.old at.new
+            (block (codes "union") ordinal_member_leaves) Anything result }
     {
         let keyword = self.keyword(at, b"union")?;
         let left = self.symbol(at, WordKind::LeftBrace)?;
@@ -194,8 +211,10 @@ impl<'w, 's> Parser<'w, 's> {
     /// Bits or an enum.
     #[cycle(types)]
     fn values_layout(&self, modifiers: UnionModifiers, at: &mut usize) -> Result<ValuesLayout, Stop>
-        ensures reads { IfOk result (λ layout. ReadsBehind self.now at.old at.new (union_modifiers_leaves modifiers) (values_layout_leaves layout)) }
-        ensures complete { has_resource modifiers ≡ false → Finds self.now at.old at.new values_block Anything result }
+        ensures reads { IfOk result (λ layout. ReadsBehind self.now at.old at.new
+            (union_modifiers_leaves modifiers) (values_layout_leaves layout)) }
+        ensures complete { has_resource modifiers ≡ false
+            → Finds self.now at.old at.new values_block Anything result }
     {
         let strictness = without_resource(modifiers)?;
         let keyword = self.values_keyword(at)?;
@@ -215,8 +234,10 @@ impl<'w, 's> Parser<'w, 's> {
 
     #[cycle(types)]
     fn underlying(&self, at: &mut usize) -> Result<Option<Underlying>, Stop>
-        ensures reads { IfOk result (λ underlying. Reads self.now at.old at.new (optional underlying_leaves underlying)) }
-        ensures complete { Finds self.now at.old at.new (optional underlying_leaves) (Begins kind.LeftBrace) result }
+        ensures reads { IfOk result (λ underlying. Reads self.now at.old at.new
+            (optional underlying_leaves underlying)) }
+        ensures complete { Finds self.now at.old at.new (optional underlying_leaves)
+            (Begins kind.LeftBrace) result }
     {
         if !self.is_next(*at, WordKind::Colon) {
             return Ok(None);
@@ -229,8 +250,10 @@ impl<'w, 's> Parser<'w, 's> {
     /// The members of a struct or a service up to a closing brace.
     #[cycle(types)]
     pub(crate) fn members(&self, at: &mut usize) -> Result<Vec<Member>, Stop>
-        ensures reads { IfOk result (λ members. Reads self.now at.old at.new (joined (map member_leaves members.items))) }
-        ensures complete { Finds self.now at.old at.new (row member_leaves) (Begins kind.RightBrace) result }
+        ensures reads { IfOk result (λ members. Reads self.now at.old at.new
+            (joined (map member_leaves members.items))) }
+        ensures complete { Finds self.now at.old at.new (row member_leaves) (Begins kind.RightBrace)
+            result }
     {
         let mut members = Vec::new(self.alloc);
         while !self.is_next(*at, WordKind::RightBrace) {
@@ -241,7 +264,8 @@ impl<'w, 's> Parser<'w, 's> {
 
     #[cycle(types)]
     fn member(&self, at: &mut usize) -> Result<Member, Stop>
-        ensures reads { IfOk result (λ member. Reads self.now at.old at.new (member_leaves member)) }
+        ensures reads { IfOk result (λ member. Reads self.now at.old at.new
+            (member_leaves member)) }
         ensures complete { Finds self.now at.old at.new member_leaves Anything result }
         ensures forward { OnOk result (at.old < at.new) }
         ensures within { OnOk result (at.old < length self.now.words.now) }
@@ -261,8 +285,10 @@ impl<'w, 's> Parser<'w, 's> {
     /// The members of a table or a union up to a closing brace.
     #[cycle(types)]
     fn ordinal_members(&self, at: &mut usize) -> Result<Vec<OrdinalMember>, Stop>
-        ensures reads { IfOk result (λ members. Reads self.now at.old at.new (joined (map ordinal_member_leaves members.items))) }
-        ensures complete { Finds self.now at.old at.new (row ordinal_member_leaves) (Begins kind.RightBrace) result }
+        ensures reads { IfOk result (λ members. Reads self.now at.old at.new
+            (joined (map ordinal_member_leaves members.items))) }
+        ensures complete { Finds self.now at.old at.new (row ordinal_member_leaves)
+            (Begins kind.RightBrace) result }
     {
         let mut members = Vec::new(self.alloc);
         while !self.is_next(*at, WordKind::RightBrace) {
@@ -273,7 +299,8 @@ impl<'w, 's> Parser<'w, 's> {
 
     #[cycle(types)]
     fn ordinal_member(&self, at: &mut usize) -> Result<OrdinalMember, Stop>
-        ensures reads { IfOk result (λ member. Reads self.now at.old at.new (ordinal_member_leaves member)) }
+        ensures reads { IfOk result (λ member. Reads self.now at.old at.new
+            (ordinal_member_leaves member)) }
         ensures complete { Finds self.now at.old at.new ordinal_member_leaves Anything result }
         ensures forward { OnOk result (at.old < at.new) }
         ensures within { OnOk result (at.old < length self.now.words.now) }
@@ -294,15 +321,18 @@ impl<'w, 's> Parser<'w, 's> {
 
     /// Whether `reserved` stands next, before the end of the member, where it is no name.
     fn begins_reserved(&self, at: usize) -> bool
-        ensures { IsTrue result ↔ IsTextAt self.now at (codes "reserved") × IsKindAt self.now (at + 1) kind.Semicolon }
+        ensures { IsTrue result ↔ IsTextAt self.now at (codes "reserved") × IsKindAt self.now
+            (at + 1) kind.Semicolon }
     {
         self.is_next_word(at, b"reserved") && self.is_second(at, WordKind::Semicolon)
     }
 
     #[cycle(types)]
     fn ordinal_body(&self, at: &mut usize) -> Result<OrdinalBody, Stop>
-        ensures reads { IfOk result (λ body. Reads self.now at.old at.new (ordinal_body_leaves body)) }
-        ensures complete { Finds self.now at.old at.new ordinal_body_leaves (Begins kind.Semicolon) result }
+        ensures reads { IfOk result (λ body. Reads self.now at.old at.new
+            (ordinal_body_leaves body)) }
+        ensures complete { Finds self.now at.old at.new ordinal_body_leaves (Begins kind.Semicolon)
+            result }
     {
         if self.begins_reserved(*at) {
             return Ok(OrdinalBody::Reserved(self.keyword(at, b"reserved")?));
@@ -314,8 +344,10 @@ impl<'w, 's> Parser<'w, 's> {
 
     /// The path of a named type.
     fn type_path(&self, at: &mut usize) -> Result<Path, Stop>
-        ensures reads { IfOk result (λ path. Reads self.now at.old at.new (path_from (none_of layout_words) path)) }
-        ensures complete { Finds self.now at.old at.new (path_from (none_of layout_words)) (Not extends_path) result }
+        ensures reads { IfOk result (λ path. Reads self.now at.old at.new
+            (path_from (none_of layout_words) path)) }
+        ensures complete { Finds self.now at.old at.new (path_from (none_of layout_words))
+            (Not extends_path) result }
         ensures within { OnOk result (at.old < length self.now.words.now) }
     {
         let first = self.type_name(at)?;
@@ -325,8 +357,10 @@ impl<'w, 's> Parser<'w, 's> {
 
     /// A name that begins no layout.
     fn type_name(&self, at: &mut usize) -> Result<Span, Stop>
-        ensures reads { IfOk result (λ span. Reads self.now at.old at.new (leaf kind.Identifier span (none_of layout_words))) }
-        ensures complete { Finds self.now at.old at.new (λ span. leaf kind.Identifier span (none_of layout_words)) Anything result }
+        ensures reads { IfOk result (λ span. Reads self.now at.old at.new
+            (leaf kind.Identifier span (none_of layout_words))) }
+        ensures complete { Finds self.now at.old at.new (λ span. leaf kind.Identifier span
+            (none_of layout_words)) Anything result }
         ensures within { OnOk result (at.old < length self.now.words.now) }
     {
         match self.words.get(*at) {

@@ -70,7 +70,8 @@ fn code_point_end(src: &[u8], from: usize) -> Option<usize>
     requires { from ≤ length src.now }
     ensures found { IfSome result (λ to. (from < to) × (to ≤ length src.now)
         × ((text : List ℕ) × IsCodePoint text × (slice_range src.now from to ≡ text ++ 125 ∷ []))) }
-    ensures none { IfNone result ((text rest : List ℕ) → IsCodePoint text → drop from src.now ≢ text ++ 125 ∷ rest) }
+    ensures none { IfNone result ((text rest : List ℕ) → IsCodePoint text → drop from src.now ≢ text
+        ++ 125 ∷ rest) }
 {
     let to = hex_end(src, from);
     if to < src.len() && src[to] == b'}' && is_code_point(&src[from..to]) {
@@ -84,7 +85,8 @@ fn code_point_end(src: &[u8], from: usize) -> Option<usize>
 pub fn escape_end(src: &[u8], at: usize) -> Option<usize>
     requires within { at < length src.now }
     requires backslash { slice_index src.now at ≡ 92 }
-    ensures found { IfSome result (λ to. (at < to) × (to ≤ length src.now) × IsPiece (slice_range src.now at to)) }
+    ensures found { IfSome result (λ to. (at < to) × (to ≤ length src.now)
+        × IsPiece (slice_range src.now at to)) }
     ensures none { IfNone result (BeginsNoPiece (drop at src.now)) }
 {
     if at + 1 < src.len() && is_escape_letter(src[at + 1]) {

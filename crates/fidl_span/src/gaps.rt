@@ -12,7 +12,8 @@ fn line_end(src: &[u8], from: usize) -> usize
     requires { from ≤ length src.now }
     ensures ordered { from ≤ result }
     ensures within { result ≤ length src.now }
-    ensures run { IsRun (λ b. not (b == 10)) (slice_range src.now from result) (drop result src.now) }
+    ensures run { IsRun (λ b. not (b == 10)) (slice_range src.now from result)
+        (drop result src.now) }
 {
     let mut to = from;
     while to < src.len() && src[to] != b'\n' {

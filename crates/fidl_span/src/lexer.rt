@@ -33,7 +33,8 @@ fn word_at(src: &[u8], at: usize) -> Result<Word, LexFault>
 
 /// The words of a source, which need not be UTF-8 here.
 fn read_words(alloc: Global, src: &[u8]) -> Result<Tokens, LexFault>
-    ensures ok { IfOk result (λ tokens. AreWordsBetween src.now 0 tokens.words.items (length src.now)) }
+    ensures ok { IfOk result (λ tokens. AreWordsBetween src.now 0 tokens.words.items
+        (length src.now)) }
     ensures err { IfErr result (Refutes src.now) }
 {
     let mut words = Vec::new(alloc);

@@ -13,7 +13,8 @@ fn piece_end(src: &[u8], at: usize) -> Option<usize>
     requires within { at < length src.now }
     requires no_quote { slice_index src.now at ≢ 34 }
     requires no_line_feed { slice_index src.now at ≢ 10 }
-    ensures found { IfSome result (λ to. (at < to) × (to ≤ length src.now) × IsPiece (slice_range src.now at to)) }
+    ensures found { IfSome result (λ to. (at < to) × (to ≤ length src.now)
+        × IsPiece (slice_range src.now at to)) }
     ensures none { IfNone result ((slice_index src.now at ≡ 92) × BeginsNoPiece (drop at src.now)) }
 {
     if src[at] == b'\\' {

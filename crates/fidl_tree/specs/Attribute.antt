@@ -28,7 +28,9 @@ argument_list_leaves l = argument_leaves l.first ++ joined (map next_argument_le
 
 -- arguments = "(" [argument_list] ")"
 abbrev pub arguments_leaves : Arguments → List Leaf
-arguments_leaves a = symbol kind.LeftParenthesis a.left ++ optional argument_list_leaves a.list ++ symbol kind.RightParenthesis a.right
+arguments_leaves a =
+    symbol kind.LeftParenthesis a.left ++ optional argument_list_leaves a.list
+    ++ symbol kind.RightParenthesis a.right
 
 -- attribute = "@" ident [arguments]
 abbrev pub attribute_leaves : Attribute → List Leaf

@@ -21,15 +21,19 @@ use Rattle.fidl_tree.specs.declared.declaration.Property.{Property}
 
 -- const = "const" ident type "=" value
 abbrev pub const_leaves : ConstDeclaration → List Leaf
-const_leaves d = keyword (codes "const") d.keyword ++ name d.name ++ type_leaves d.constructor ++ symbol kind.Equals d.equals ++ value_leaves d.value
+const_leaves d =
+    keyword (codes "const") d.keyword ++ name d.name ++ type_leaves d.constructor ++ symbol kind.Equals d.equals
+    ++ value_leaves d.value
 
 -- alias = "alias" ident "=" type
 abbrev pub alias_leaves : AliasDeclaration → List Leaf
-alias_leaves d = keyword (codes "alias") d.keyword ++ name d.name ++ symbol kind.Equals d.equals ++ type_leaves d.constructor
+alias_leaves d =
+    keyword (codes "alias") d.keyword ++ name d.name ++ symbol kind.Equals d.equals ++ type_leaves d.constructor
 
 -- type_declaration = "type" ident "=" layout
 abbrev pub type_declaration_leaves : TypeDeclaration → List Leaf
-type_declaration_leaves d = keyword (codes "type") d.keyword ++ name d.name ++ symbol kind.Equals d.equals ++ layout_leaves d.layout
+type_declaration_leaves d =
+    keyword (codes "type") d.keyword ++ name d.name ++ symbol kind.Equals d.equals ++ layout_leaves d.layout
 
 -- protocol = [openness] "protocol" ident "{" { protocol_member } "}"
 abbrev pub protocol_leaves : ProtocolDeclaration → List Leaf
@@ -39,7 +43,9 @@ protocol_leaves d =
 
 -- service = "service" ident "{" { member } "}"
 abbrev pub service_leaves : ServiceDeclaration → List Leaf
-service_leaves d = keyword (codes "service") d.keyword ++ name d.name ++ braced d.left (joined (map member_leaves d.members.items)) d.right
+service_leaves d =
+    keyword (codes "service") d.keyword ++ name d.name
+    ++ braced d.left (joined (map member_leaves d.members.items)) d.right
 
 -- property = ident type ";"
 abbrev pub property_leaves : Property → List Leaf
@@ -47,12 +53,15 @@ property_leaves p = name p.name ++ type_leaves p.constructor ++ symbol kind.Semi
 
 -- properties = "properties" "{" { property } "}" ";"
 abbrev pub properties_leaves : Properties → List Leaf
-properties_leaves p = keyword (codes "properties") p.keyword ++ braced p.left (joined (map property_leaves p.members.items)) p.right ++ symbol kind.Semicolon p.semicolon
+properties_leaves p =
+    keyword (codes "properties") p.keyword ++ braced p.left (joined (map property_leaves p.members.items)) p.right
+    ++ symbol kind.Semicolon p.semicolon
 
 -- resource_definition = "resource_definition" ident ":" type "{" properties "}"
 abbrev pub resource_definition_leaves : ResourceDefinition → List Leaf
 resource_definition_leaves d =
-    keyword (codes "resource_definition") d.keyword ++ name d.name ++ symbol kind.Colon d.colon ++ type_leaves d.constructor
+    keyword (codes "resource_definition") d.keyword ++ name d.name ++ symbol kind.Colon d.colon
+    ++ type_leaves d.constructor
     ++ braced d.left (properties_leaves d.properties) d.right
 
 -- declaration_body = const | alias | type_declaration | protocol | service | resource_definition
@@ -66,4 +75,5 @@ declaration_body_leaves (body.Resource d) = resource_definition_leaves d
 
 -- declaration = attributes declaration_body ";"
 abbrev pub declaration_leaves : Declaration → List Leaf
-declaration_leaves d = attributes_leaves d.attributes.items ++ declaration_body_leaves d.body ++ symbol kind.Semicolon d.semicolon
+declaration_leaves d =
+    attributes_leaves d.attributes.items ++ declaration_body_leaves d.body ++ symbol kind.Semicolon d.semicolon

@@ -14,7 +14,9 @@ use Rattle.fidl_tree.specs.declared.file.ImportAlias.{ImportAlias}
 
 -- library = attributes "library" path ";"
 abbrev pub library_leaves : Library → List Leaf
-library_leaves l = attributes_leaves l.attributes.items ++ keyword (codes "library") l.keyword ++ path_leaves l.path ++ symbol kind.Semicolon l.semicolon
+library_leaves l =
+    attributes_leaves l.attributes.items ++ keyword (codes "library") l.keyword ++ path_leaves l.path
+    ++ symbol kind.Semicolon l.semicolon
 
 -- import_alias = "as" ident
 abbrev pub import_alias_leaves : ImportAlias → List Leaf
@@ -28,7 +30,9 @@ import_leaves i =
 
 -- file = library { import } { declaration }
 abbrev pub file_leaves : File → List Leaf
-file_leaves f = library_leaves f.library ++ joined (map import_leaves f.imports.items) ++ joined (map declaration_leaves f.declarations.items)
+file_leaves f =
+    library_leaves f.library ++ joined (map import_leaves f.imports.items)
+    ++ joined (map declaration_leaves f.declarations.items)
 
 -- The words of a tree, in order.
 abbrev pub yield_of : File → List Word

@@ -33,5 +33,6 @@ values_keyword_leaves (Enum s) = keyword (codes "enum") s
 
 -- union_modifiers = [strictness] [resource] | resource strictness
 abbrev pub union_modifiers_leaves : UnionModifiers → List Leaf
-union_modifiers_leaves (StrictnessFirst strictness resource) = optional strictness_leaves strictness ++ optional resource_leaves resource
+union_modifiers_leaves (StrictnessFirst strictness resource) =
+    optional strictness_leaves strictness ++ optional resource_leaves resource
 union_modifiers_leaves (ResourceFirst resource strictness) = resource_leaves resource ++ strictness_leaves strictness

@@ -23,14 +23,29 @@ use Rattle.fidl_tree.specs.declared.type_constructor.Underlying.{Underlying}
 use Rattle.fidl_tree.specs.declared.type_constructor.Member.{Member}
 use Rattle.fidl_tree.specs.declared.type_constructor.OrdinalMember.{OrdinalMember}
 use Rattle.fidl_tree.specs.declared.type_constructor.OrdinalBody.{OrdinalBody}
-use Rattle.fidl_tree.specs.declared.type_constructor.LayoutBody.TheOpen.{TypeConstructor-F, NamedType-F, TypeArguments-F, NextTypeArgument-F, TypeArgument-F, Layout-F, LayoutBody-F, ValuesLayout-F, StructLayout-F, TableLayout-F, UnionLayout-F, Underlying-F, Member-F, OrdinalMember-F, OrdinalBody-F}
-use Rattle.fidl_tree.specs.declared.type_constructor.LayoutBody.TheFolds.{fold-TypeConstructor, fold-NamedType, fold-TypeArguments, fold-NextTypeArgument, fold-TypeArgument, fold-Layout, fold-LayoutBody, fold-ValuesLayout, fold-StructLayout, fold-TableLayout, fold-UnionLayout, fold-Underlying, fold-Member, fold-OrdinalMember, fold-OrdinalBody}
+use Rattle.fidl_tree.specs.declared.type_constructor.LayoutBody.TheOpen.{TypeConstructor-F, NamedType-F}
+use Rattle.fidl_tree.specs.declared.type_constructor.LayoutBody.TheOpen.{TypeArguments-F, NextTypeArgument-F}
+use Rattle.fidl_tree.specs.declared.type_constructor.LayoutBody.TheOpen.{TypeArgument-F, Layout-F, LayoutBody-F}
+use Rattle.fidl_tree.specs.declared.type_constructor.LayoutBody.TheOpen.{ValuesLayout-F, StructLayout-F}
+use Rattle.fidl_tree.specs.declared.type_constructor.LayoutBody.TheOpen.{TableLayout-F, UnionLayout-F, Underlying-F}
+use Rattle.fidl_tree.specs.declared.type_constructor.LayoutBody.TheOpen.{Member-F, OrdinalMember-F, OrdinalBody-F}
+use Rattle.fidl_tree.specs.declared.type_constructor.LayoutBody.TheFolds.{fold-TypeConstructor, fold-NamedType}
+use Rattle.fidl_tree.specs.declared.type_constructor.LayoutBody.TheFolds.{fold-TypeArguments, fold-NextTypeArgument}
+use Rattle.fidl_tree.specs.declared.type_constructor.LayoutBody.TheFolds.{fold-TypeArgument, fold-Layout}
+use Rattle.fidl_tree.specs.declared.type_constructor.LayoutBody.TheFolds.{fold-LayoutBody, fold-ValuesLayout}
+use Rattle.fidl_tree.specs.declared.type_constructor.LayoutBody.TheFolds.{fold-StructLayout, fold-TableLayout}
+use Rattle.fidl_tree.specs.declared.type_constructor.LayoutBody.TheFolds.{fold-UnionLayout, fold-Underlying}
+use Rattle.fidl_tree.specs.declared.type_constructor.LayoutBody.TheFolds.{fold-Member, fold-OrdinalMember}
+use Rattle.fidl_tree.specs.declared.type_constructor.LayoutBody.TheFolds.{fold-OrdinalBody}
 
 abbrev L : Type 0
 L = List Leaf
 
 -- one level of a type of the tree, with leaves in the place of each part
-abbrev Level : (Type 0 → Type 0 → Type 0 → Type 0 → Type 0 → Type 0 → Type 0 → Type 0 → Type 0 → Type 0 → Type 0 → Type 0 → Type 0 → Type 0 → Type 0 → Type 0) → Type 0
+abbrev Level :
+    (Type 0 → Type 0 → Type 0 → Type 0 → Type 0 → Type 0 → Type 0 → Type 0 → Type 0 → Type 0 → Type 0 → Type 0 → Type 0
+    → Type 0 → Type 0 → Type 0)
+    → Type 0
 Level F = F L L L L L L L L L L L L L L L
 
 -- a part that may be left out, in whose place its leaves stand
@@ -39,7 +54,9 @@ given = optional (λ part. part)
 
 -- Layout words: where a type may stand these always begin a layout, so a named type does not begin with them.
 abbrev layout_words : List (List ℕ)
-layout_words = codes "bits" ∷ codes "enum" ∷ codes "struct" ∷ codes "table" ∷ codes "union" ∷ codes "strict" ∷ codes "flexible" ∷ codes "resource" ∷ []
+layout_words =
+    codes "bits" ∷ codes "enum" ∷ codes "struct" ∷ codes "table" ∷ codes "union" ∷ codes "strict" ∷ codes "flexible"
+    ∷ codes "resource" ∷ []
 
 -- type = layout [constraints] | named
 abbrev type_step : Level TypeConstructor-F → L
@@ -82,15 +99,21 @@ values_layout_step l =
 
 -- struct_layout = [resource] "struct" "{" { member } "}"
 abbrev struct_layout_step : Level StructLayout-F → L
-struct_layout_step l = optional resource_leaves l.resource ++ keyword (codes "struct") l.keyword ++ braced l.left (joined l.members.items) l.right
+struct_layout_step l =
+    optional resource_leaves l.resource ++ keyword (codes "struct") l.keyword
+    ++ braced l.left (joined l.members.items) l.right
 
 -- table_layout = [resource] "table" "{" { ordinal_member } "}"
 abbrev table_layout_step : Level TableLayout-F → L
-table_layout_step l = optional resource_leaves l.resource ++ keyword (codes "table") l.keyword ++ braced l.left (joined l.members.items) l.right
+table_layout_step l =
+    optional resource_leaves l.resource ++ keyword (codes "table") l.keyword
+    ++ braced l.left (joined l.members.items) l.right
 
 -- union_layout = union_modifiers "union" "{" { ordinal_member } "}"
 abbrev union_layout_step : Level UnionLayout-F → L
-union_layout_step l = union_modifiers_leaves l.modifiers ++ keyword (codes "union") l.keyword ++ braced l.left (joined l.members.items) l.right
+union_layout_step l =
+    union_modifiers_leaves l.modifiers ++ keyword (codes "union") l.keyword
+    ++ braced l.left (joined l.members.items) l.right
 
 -- underlying = ":" named. Underlying type: a colon behind `bits` or `enum` gives it, and it is never a layout.
 abbrev underlying_step : Level Underlying-F → L
@@ -98,11 +121,14 @@ underlying_step u = symbol kind.Colon u.colon ++ u.named
 
 -- member = attributes ident type ";"
 abbrev member_step : Level Member-F → L
-member_step m = attributes_leaves m.attributes.items ++ name m.name ++ m.constructor ++ symbol kind.Semicolon m.semicolon
+member_step m =
+    attributes_leaves m.attributes.items ++ name m.name ++ m.constructor ++ symbol kind.Semicolon m.semicolon
 
 -- ordinal_member = attributes number ":" ordinal_body ";"
 abbrev ordinal_member_step : Level OrdinalMember-F → L
-ordinal_member_step m = attributes_leaves m.attributes.items ++ symbol kind.Number m.ordinal ++ symbol kind.Colon m.colon ++ m.body ++ symbol kind.Semicolon m.semicolon
+ordinal_member_step m =
+    attributes_leaves m.attributes.items ++ symbol kind.Number m.ordinal ++ symbol kind.Colon m.colon ++ m.body
+    ++ symbol kind.Semicolon m.semicolon
 
 -- ordinal_body = "reserved" | ident type
 abbrev ordinal_body_step : Level OrdinalBody-F → L
@@ -111,47 +137,71 @@ ordinal_body_step (OrdinalBody-F.Typed s constructor) = name s ++ constructor
 
 -- The leaves of whole types, by these steps at every level.
 
+-- a fold by all these steps
+abbrev by_steps : {R : Type 0}
+    → ((Level LayoutBody-F → L)
+    → (Level OrdinalBody-F → L)
+    → (Level TypeArgument-F → L)
+    → (Level TypeConstructor-F → L)
+    → (Level Layout-F → L)
+    → (Level Member-F → L)
+    → (Level NamedType-F → L)
+    → (Level NextTypeArgument-F → L)
+    → (Level OrdinalMember-F → L)
+    → (Level StructLayout-F → L)
+    → (Level TableLayout-F → L)
+    → (Level TypeArguments-F → L)
+    → (Level Underlying-F → L)
+    → (Level UnionLayout-F → L)
+    → (Level ValuesLayout-F → L)
+    → R)
+    → R
+by_steps fold =
+    fold layout_body_step ordinal_body_step type_argument_step type_step layout_step member_step named_step
+    next_type_argument_step ordinal_member_step struct_layout_step table_layout_step type_arguments_step
+    underlying_step union_layout_step values_layout_step
+
 abbrev pub type_leaves : TypeConstructor → List Leaf
-type_leaves = fold-TypeConstructor L L L L L L L L L L L L L L L layout_body_step ordinal_body_step type_argument_step type_step layout_step member_step named_step next_type_argument_step ordinal_member_step struct_layout_step table_layout_step type_arguments_step underlying_step union_layout_step values_layout_step
+type_leaves = by_steps (fold-TypeConstructor _ _ _ _ _ _ _ _ _ _ _ _ _ _ _)
 
 abbrev pub named_leaves : NamedType → List Leaf
-named_leaves = fold-NamedType L L L L L L L L L L L L L L L layout_body_step ordinal_body_step type_argument_step type_step layout_step member_step named_step next_type_argument_step ordinal_member_step struct_layout_step table_layout_step type_arguments_step underlying_step union_layout_step values_layout_step
+named_leaves = by_steps (fold-NamedType _ _ _ _ _ _ _ _ _ _ _ _ _ _ _)
 
 abbrev pub type_arguments_leaves : TypeArguments → List Leaf
-type_arguments_leaves = fold-TypeArguments L L L L L L L L L L L L L L L layout_body_step ordinal_body_step type_argument_step type_step layout_step member_step named_step next_type_argument_step ordinal_member_step struct_layout_step table_layout_step type_arguments_step underlying_step union_layout_step values_layout_step
+type_arguments_leaves = by_steps (fold-TypeArguments _ _ _ _ _ _ _ _ _ _ _ _ _ _ _)
 
 abbrev pub next_type_argument_leaves : NextTypeArgument → List Leaf
-next_type_argument_leaves = fold-NextTypeArgument L L L L L L L L L L L L L L L layout_body_step ordinal_body_step type_argument_step type_step layout_step member_step named_step next_type_argument_step ordinal_member_step struct_layout_step table_layout_step type_arguments_step underlying_step union_layout_step values_layout_step
+next_type_argument_leaves = by_steps (fold-NextTypeArgument _ _ _ _ _ _ _ _ _ _ _ _ _ _ _)
 
 abbrev pub type_argument_leaves : TypeArgument → List Leaf
-type_argument_leaves = fold-TypeArgument L L L L L L L L L L L L L L L layout_body_step ordinal_body_step type_argument_step type_step layout_step member_step named_step next_type_argument_step ordinal_member_step struct_layout_step table_layout_step type_arguments_step underlying_step union_layout_step values_layout_step
+type_argument_leaves = by_steps (fold-TypeArgument _ _ _ _ _ _ _ _ _ _ _ _ _ _ _)
 
 abbrev pub layout_leaves : Layout → List Leaf
-layout_leaves = fold-Layout L L L L L L L L L L L L L L L layout_body_step ordinal_body_step type_argument_step type_step layout_step member_step named_step next_type_argument_step ordinal_member_step struct_layout_step table_layout_step type_arguments_step underlying_step union_layout_step values_layout_step
+layout_leaves = by_steps (fold-Layout _ _ _ _ _ _ _ _ _ _ _ _ _ _ _)
 
 abbrev pub layout_body_leaves : LayoutBody → List Leaf
-layout_body_leaves = fold-LayoutBody L L L L L L L L L L L L L L L layout_body_step ordinal_body_step type_argument_step type_step layout_step member_step named_step next_type_argument_step ordinal_member_step struct_layout_step table_layout_step type_arguments_step underlying_step union_layout_step values_layout_step
+layout_body_leaves = by_steps (fold-LayoutBody _ _ _ _ _ _ _ _ _ _ _ _ _ _ _)
 
 abbrev pub values_layout_leaves : ValuesLayout → List Leaf
-values_layout_leaves = fold-ValuesLayout L L L L L L L L L L L L L L L layout_body_step ordinal_body_step type_argument_step type_step layout_step member_step named_step next_type_argument_step ordinal_member_step struct_layout_step table_layout_step type_arguments_step underlying_step union_layout_step values_layout_step
+values_layout_leaves = by_steps (fold-ValuesLayout _ _ _ _ _ _ _ _ _ _ _ _ _ _ _)
 
 abbrev pub struct_layout_leaves : StructLayout → List Leaf
-struct_layout_leaves = fold-StructLayout L L L L L L L L L L L L L L L layout_body_step ordinal_body_step type_argument_step type_step layout_step member_step named_step next_type_argument_step ordinal_member_step struct_layout_step table_layout_step type_arguments_step underlying_step union_layout_step values_layout_step
+struct_layout_leaves = by_steps (fold-StructLayout _ _ _ _ _ _ _ _ _ _ _ _ _ _ _)
 
 abbrev pub table_layout_leaves : TableLayout → List Leaf
-table_layout_leaves = fold-TableLayout L L L L L L L L L L L L L L L layout_body_step ordinal_body_step type_argument_step type_step layout_step member_step named_step next_type_argument_step ordinal_member_step struct_layout_step table_layout_step type_arguments_step underlying_step union_layout_step values_layout_step
+table_layout_leaves = by_steps (fold-TableLayout _ _ _ _ _ _ _ _ _ _ _ _ _ _ _)
 
 abbrev pub union_layout_leaves : UnionLayout → List Leaf
-union_layout_leaves = fold-UnionLayout L L L L L L L L L L L L L L L layout_body_step ordinal_body_step type_argument_step type_step layout_step member_step named_step next_type_argument_step ordinal_member_step struct_layout_step table_layout_step type_arguments_step underlying_step union_layout_step values_layout_step
+union_layout_leaves = by_steps (fold-UnionLayout _ _ _ _ _ _ _ _ _ _ _ _ _ _ _)
 
 abbrev pub underlying_leaves : Underlying → List Leaf
-underlying_leaves = fold-Underlying L L L L L L L L L L L L L L L layout_body_step ordinal_body_step type_argument_step type_step layout_step member_step named_step next_type_argument_step ordinal_member_step struct_layout_step table_layout_step type_arguments_step underlying_step union_layout_step values_layout_step
+underlying_leaves = by_steps (fold-Underlying _ _ _ _ _ _ _ _ _ _ _ _ _ _ _)
 
 abbrev pub member_leaves : Member → List Leaf
-member_leaves = fold-Member L L L L L L L L L L L L L L L layout_body_step ordinal_body_step type_argument_step type_step layout_step member_step named_step next_type_argument_step ordinal_member_step struct_layout_step table_layout_step type_arguments_step underlying_step union_layout_step values_layout_step
+member_leaves = by_steps (fold-Member _ _ _ _ _ _ _ _ _ _ _ _ _ _ _)
 
 abbrev pub ordinal_member_leaves : OrdinalMember → List Leaf
-ordinal_member_leaves = fold-OrdinalMember L L L L L L L L L L L L L L L layout_body_step ordinal_body_step type_argument_step type_step layout_step member_step named_step next_type_argument_step ordinal_member_step struct_layout_step table_layout_step type_arguments_step underlying_step union_layout_step values_layout_step
+ordinal_member_leaves = by_steps (fold-OrdinalMember _ _ _ _ _ _ _ _ _ _ _ _ _ _ _)
 
 abbrev pub ordinal_body_leaves : OrdinalBody → List Leaf
-ordinal_body_leaves = fold-OrdinalBody L L L L L L L L L L L L L L L layout_body_step ordinal_body_step type_argument_step type_step layout_step member_step named_step next_type_argument_step ordinal_member_step struct_layout_step table_layout_step type_arguments_step underlying_step union_layout_step values_layout_step
+ordinal_body_leaves = by_steps (fold-OrdinalBody _ _ _ _ _ _ _ _ _ _ _ _ _ _ _)

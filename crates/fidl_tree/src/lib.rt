@@ -16,6 +16,7 @@ mod protocol;
 mod type_constructor;
 mod value;
 mod value_member;
+pub mod worked;
 
 pub use attribute::{Argument, ArgumentList, ArgumentName, Arguments, Attribute, NextArgument};
 pub use constraint::{Constraints, NextConstraint};
@@ -25,7 +26,7 @@ pub use declaration::{
 };
 pub use file::{File, Import, ImportAlias, Library, yield_tokens};
 pub use keyword::{Openness, Resource, Strictness, UnionModifiers, ValuesKeyword};
-pub use laws::bracket_limit_is_sixty_four;
+pub use laws::{bracket_limit_is_sixty_four, file_views_keep_all};
 pub use path::{Path, PathPart};
 pub use protocol::{
     Compose, ErrorType, Event, Method, Payload, ProtocolMember, ProtocolMemberBody, Response,
@@ -35,5 +36,5 @@ pub use type_constructor::{
     StructLayout, TableLayout, TypeArgument, TypeArguments, TypeConstructor, Underlying,
     UnionLayout, ValuesLayout,
 };
-pub use value::{Operand, Term, Value};
+pub use value::{Operand, OrOperand, Value};
 pub use value_member::ValueMember;

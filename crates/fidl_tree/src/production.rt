@@ -24,7 +24,8 @@ pub(crate) fn push_word(out: &mut Vec<Word>, kind: WordKind, span: Span) -> Resu
 
 /// Puts the words of parts behind `out`, in order.
 pub(crate) fn push_all<T: Production>(out: &mut Vec<Word>, parts: &[T]) -> Result<(), AllocError>
-    ensures { OnOk result (out.new.items ≡ out.old.items ++ words (joined (map T.leaves parts.now))) }
+    ensures { OnOk result (out.new.items ≡ out.old.items
+        ++ words (joined (map T.leaves parts.now))) }
 {
     for part in parts {
         part.push_words(out)?;

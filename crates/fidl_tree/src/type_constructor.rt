@@ -200,7 +200,8 @@ fn push_type_arguments(
     out: &mut Vec<Word>,
     arguments: &[NextTypeArgument],
 ) -> Result<(), AllocError>
-    ensures { OnOk result (out.new.items ≡ out.old.items ++ words (joined (map next_type_argument_leaves arguments.now))) }
+    ensures { OnOk result (out.new.items ≡ out.old.items
+        ++ words (joined (map next_type_argument_leaves arguments.now))) }
 {
     for next in arguments {
         push_word(out, WordKind::Comma, next.comma)?;
@@ -303,7 +304,8 @@ impl Production for UnionLayout {
 
 #[cycle(types)]
 fn push_members(out: &mut Vec<Word>, members: &[Member]) -> Result<(), AllocError>
-    ensures { OnOk result (out.new.items ≡ out.old.items ++ words (joined (map member_leaves members.now))) }
+    ensures { OnOk result (out.new.items ≡ out.old.items
+        ++ words (joined (map member_leaves members.now))) }
 {
     for member in members {
         member.push_words(out)?;
@@ -325,7 +327,8 @@ impl Production for Member {
 
 #[cycle(types)]
 fn push_ordinal_members(out: &mut Vec<Word>, members: &[OrdinalMember]) -> Result<(), AllocError>
-    ensures { OnOk result (out.new.items ≡ out.old.items ++ words (joined (map ordinal_member_leaves members.now))) }
+    ensures { OnOk result (out.new.items ≡ out.old.items
+        ++ words (joined (map ordinal_member_leaves members.now))) }
 {
     for member in members {
         member.push_words(out)?;

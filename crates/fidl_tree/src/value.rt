@@ -1,32 +1,32 @@
 ghost use Rattle.std.specs.Prelude.{◌≡◌, ◌++◌, OnOk, map};
 ghost use Rattle.fidl_tree.specs.Leaf.{words, joined};
-ghost use Rattle.fidl_tree.specs.Value.{value_leaves, term_leaves, operand_leaves};
+ghost use Rattle.fidl_tree.specs.Value.{value_leaves, operand_leaves, or_operand_leaves};
 
 use crate::path::Path;
 use crate::production::{Production, push_word};
 use fidl_span::{Span, Word, WordKind};
 use std::alloc::AllocError;
 
-/// A value: terms with `|` between them.
+/// A value: operands with `|` between them.
 #[cycle(value)]
 #[derive(Drop)]
 pub struct Value {
-    pub first: Term,
-    pub rest: Vec<Operand>,
+    pub first: Operand,
+    pub rest: Vec<OrOperand>,
 }
 
-/// A `|` and the term behind it.
+/// A `|` and the operand after it.
 #[cycle(value)]
 #[derive(Drop)]
-pub struct Operand {
+pub struct OrOperand {
     pub bar: Span,
-    pub term: Term,
+    pub operand: Operand,
 }
 
-/// A term of a value.
+/// An operand of a value.
 #[cycle(value)]
 #[derive(Drop)]
-pub enum Term {
+pub enum Operand {
     Number {
         minus: Option<Span>,
         number: Span,
@@ -48,38 +48,39 @@ impl Production for Value {
     #[cycle(value)]
     fn push_words(&self, out: &mut Vec<Word>) -> Result<(), AllocError> {
         self.first.push_words(out)?;
-        push_operands(out, &self.rest)
+        push_or_operands(out, &self.rest)
     }
 }
 
 #[cycle(value)]
-fn push_operands(out: &mut Vec<Word>, operands: &[Operand]) -> Result<(), AllocError>
-    ensures { OnOk result (out.new.items ≡ out.old.items ++ words (joined (map operand_leaves operands.now))) }
+fn push_or_operands(out: &mut Vec<Word>, or_operands: &[OrOperand]) -> Result<(), AllocError>
+    ensures { OnOk result (out.new.items ≡ out.old.items
+        ++ words (joined (map or_operand_leaves or_operands.now))) }
 {
-    for operand in operands {
-        push_word(out, WordKind::Bar, operand.bar)?;
-        operand.term.push_words(out)?;
+    for or_operand in or_operands {
+        push_word(out, WordKind::Bar, or_operand.bar)?;
+        or_operand.operand.push_words(out)?;
     }
     Ok(())
 }
 
-impl Production for Term {
-    ghost leaves = { term_leaves };
+impl Production for Operand {
+    ghost leaves = { operand_leaves };
 
     #[cycle(value)]
     fn push_words(&self, out: &mut Vec<Word>) -> Result<(), AllocError> {
         match self {
-            Term::Number { minus, number } => {
+            Operand::Number { minus, number } => {
                 if let Some(minus) = minus {
                     push_word(out, WordKind::Minus, *minus)?;
                 }
                 push_word(out, WordKind::Number, *number)
             }
-            Term::String(span) => push_word(out, WordKind::String, *span),
-            Term::True(span) => push_word(out, WordKind::Identifier, *span),
-            Term::False(span) => push_word(out, WordKind::Identifier, *span),
-            Term::Path(path) => path.push_words(out),
-            Term::Group { left, value, right } => {
+            Operand::String(span) => push_word(out, WordKind::String, *span),
+            Operand::True(span) => push_word(out, WordKind::Identifier, *span),
+            Operand::False(span) => push_word(out, WordKind::Identifier, *span),
+            Operand::Path(path) => path.push_words(out),
+            Operand::Group { left, value, right } => {
                 push_word(out, WordKind::LeftParenthesis, *left)?;
                 value.push_words(out)?;
                 push_word(out, WordKind::RightParenthesis, *right)

@@ -6,7 +6,7 @@ use Rattle.fidl_parse.proofs.Types.{named_reads}
 use Rattle.fidl_parse.proofs.Rows.{list_more, list_done, members_more, members_done}
 use Rattle.fidl_tree.specs.Constraint.{constraints_leaves}
 use Rattle.fidl_tree.specs.TypeConstructor.{type_arguments_leaves, next_type_argument_leaves, underlying_leaves, member_leaves, ordinal_member_leaves}
-use Rattle.fidl_parse.specs.Follow.{extends_path, extends_name, extends_type, extends_attributes}
+use Rattle.fidl_parse.specs.FollowSets.{extends_path, extends_name, extends_type, extends_attributes}
 use Rattle.fidl_parse.proofs.Ahead.{not_begins, begins_not}
 use Rattle.fidl_parse.proofs.Options.{kind_none, kind_some}
 use Rattle.fidl_parse.proofs.Follow.{other_begins, is_comma, not_row, not_optional, path_of_value, value_of_type, name_of_type}

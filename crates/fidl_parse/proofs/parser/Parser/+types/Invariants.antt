@@ -5,7 +5,7 @@ use Rattle.fidl_tree.specs.TypeConstructor.{next_type_argument_leaves, member_le
 use Rattle.fidl_parse.specs.Reading.{Reads}
 use Rattle.fidl_parse.proofs.Rows.{Left}
 use Rattle.fidl_span.specs.declared.words.WordKind.TheVariants as kind
-use Rattle.fidl_parse.specs.Follow.{Begins}
+use Rattle.fidl_parse.specs.FollowSets.{Begins}
 use Rattle.fidl_parse.proofs.parser.Parser.+types.Given as goal
 
 abbrev pub decreases-layout : goal.decreases-layout

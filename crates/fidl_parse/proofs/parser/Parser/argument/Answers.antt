@@ -1,5 +1,5 @@
 use Rattle.std.proofs.Common.{refl}
-use Rattle.fidl_parse.specs.Follow.{extends_value}
+use Rattle.fidl_parse.specs.FollowSets.{extends_value}
 use Rattle.fidl_parse.proofs.Ahead.{group}
 use Rattle.fidl_parse.proofs.Follow.{argument_end}
 use Rattle.fidl_parse.proofs.Values.{value_unnamed}

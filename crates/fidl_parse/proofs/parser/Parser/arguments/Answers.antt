@@ -2,7 +2,7 @@ use Rattle.std.proofs.Common.{refl}
 use Rattle.std.proofs.lemmas.Bool.{false≢true}
 use Rattle.fidl_span.specs.declared.words.WordKind.TheVariants as kind
 use Rattle.fidl_tree.specs.Attribute.{arguments_leaves}
-use Rattle.fidl_parse.specs.Follow.{extends_attribute}
+use Rattle.fidl_parse.specs.FollowSets.{extends_attribute}
 use Rattle.fidl_parse.proofs.Ahead.{not_begins}
 use Rattle.fidl_parse.proofs.Options.{kind_none, kind_some}
 use Rattle.fidl_parse.proofs.Attributes.{arguments_begin, arguments_ahead}

@@ -4,7 +4,7 @@ use Rattle.fidl_span.specs.declared.words.WordKind.TheVariants as kind
 use Rattle.fidl_parse.proofs.Joins.{reads_push, reads_none}
 use Rattle.fidl_parse.proofs.Rows.{list_more, list_done}
 use Rattle.fidl_tree.specs.Attribute.{attribute_leaves}
-use Rattle.fidl_parse.specs.Follow.{extends_attribute, extends_attributes}
+use Rattle.fidl_parse.specs.FollowSets.{extends_attribute, extends_attributes}
 use Rattle.fidl_parse.proofs.Ahead.{not_begins}
 use Rattle.fidl_parse.proofs.Follow.{not_row, attribute_of_attributes}
 use Rattle.fidl_parse.proofs.Attributes.{attribute_begins}

@@ -3,7 +3,7 @@ use Rattle.fidl_tree.specs.Leaf.{joined}
 use Rattle.fidl_tree.specs.Attribute.{attribute_leaves}
 use Rattle.fidl_parse.specs.Reading.{Reads}
 use Rattle.fidl_parse.proofs.Rows.{Left}
-use Rattle.fidl_parse.specs.Follow.{Not, extends_attributes}
+use Rattle.fidl_parse.specs.FollowSets.{Not, extends_attributes}
 use Rattle.fidl_parse.proofs.parser.Parser.attributes.Given as goal
 
 -- from the start to here the attributes so far are read, and from here what is left of any

@@ -1,6 +1,6 @@
 use Rattle.std.proofs.Common.{refl}
 use Rattle.fidl_span.specs.declared.words.WordKind.TheVariants as kind
-use Rattle.fidl_parse.specs.Follow.{extends_value}
+use Rattle.fidl_parse.specs.FollowSets.{extends_value}
 use Rattle.fidl_parse.proofs.Ahead.{begins_not}
 use Rattle.fidl_parse.proofs.Declarations.{const_ahead}
 use Rattle.fidl_parse.proofs.Stops.{stops}

@@ -1,7 +1,7 @@
 use Rattle.std.proofs.Common.{refl}
 use Rattle.fidl_span.specs.declared.words.WordKind.TheVariants as kind
 use Rattle.fidl_tree.specs.Constraint.{next_constraint_leaves}
-use Rattle.fidl_parse.specs.Follow.{extends_value}
+use Rattle.fidl_parse.specs.FollowSets.{extends_value}
 use Rattle.fidl_parse.proofs.Follow.{not_row}
 use Rattle.fidl_parse.proofs.Constraints.{next_constraint_begins, list_ahead}
 use Rattle.fidl_parse.proofs.Stops.{stops}

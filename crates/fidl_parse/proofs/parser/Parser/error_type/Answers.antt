@@ -2,7 +2,7 @@ use Rattle.std.proofs.Common.{refl, codes}
 use Rattle.std.proofs.lemmas.Bool.{false≢true}
 use Rattle.fidl_span.specs.declared.words.WordKind.TheVariants as kind
 use Rattle.fidl_tree.specs.Protocol.{error_type_leaves}
-use Rattle.fidl_parse.specs.Follow.{extends_type}
+use Rattle.fidl_parse.specs.FollowSets.{extends_type}
 use Rattle.fidl_parse.proofs.Ahead.{begins_not}
 use Rattle.fidl_parse.proofs.Options.{option_none, option_some}
 use Rattle.fidl_parse.proofs.Words.{text_ahead, no_text}

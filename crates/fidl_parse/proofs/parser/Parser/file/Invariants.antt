@@ -6,7 +6,7 @@ use Rattle.fidl_tree.specs.declared.file.File.{File}
 use Rattle.fidl_tree.specs.declared.file.Import.{Import}
 use Rattle.fidl_tree.specs.declared.declaration.Declaration.{Declaration}
 use Rattle.fidl_parse.specs.Reading.{Reads}
-use Rattle.fidl_parse.specs.Ahead.{Ahead, row}
+use Rattle.fidl_parse.specs.Completeness.{Ahead, row}
 use Rattle.fidl_parse.proofs.parser.Parser.file.Given as goal
 
 -- from the start to here the library's declaration, the imports and the declarations so far are read, and from here what is

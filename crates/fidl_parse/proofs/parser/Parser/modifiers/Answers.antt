@@ -1,6 +1,6 @@
 use Rattle.std.proofs.Common.{codes}
 use Rattle.std.proofs.lemmas.Bool.{false≢true}
-use Rattle.fidl_parse.specs.Follow.{strictness_words}
+use Rattle.fidl_parse.specs.FollowSets.{strictness_words}
 use Rattle.fidl_tree.specs.Keyword.{strictness_leaves, resource_leaves}
 use Rattle.fidl_parse.proofs.Keywords.{resource_told, strictness_ahead, option_ahead, option_stops}
 use Rattle.fidl_parse.proofs.Words.{not_first_word}

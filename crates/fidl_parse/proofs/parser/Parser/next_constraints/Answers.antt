@@ -4,7 +4,7 @@ use Rattle.fidl_span.specs.declared.words.WordKind.TheVariants as kind
 use Rattle.fidl_parse.proofs.Joins.{reads_push, reads_none}
 use Rattle.fidl_parse.proofs.Rows.{list_more, list_done}
 use Rattle.fidl_tree.specs.Constraint.{next_constraint_leaves}
-use Rattle.fidl_parse.specs.Follow.{extends_value}
+use Rattle.fidl_parse.specs.FollowSets.{extends_value}
 use Rattle.fidl_parse.proofs.Ahead.{begins_not}
 use Rattle.fidl_parse.proofs.Follow.{other_begins, is_comma, not_row}
 use Rattle.fidl_parse.proofs.Constraints.{next_constraint_begins}

@@ -4,7 +4,7 @@ use Rattle.fidl_span.specs.declared.words.WordKind.TheVariants as kind
 use Rattle.fidl_parse.proofs.Joins.{reads_push, reads_none}
 use Rattle.fidl_parse.proofs.Rows.{list_more, list_done}
 use Rattle.fidl_tree.specs.Path.{part_leaves}
-use Rattle.fidl_parse.specs.Follow.{extends_path}
+use Rattle.fidl_parse.specs.FollowSets.{extends_path}
 use Rattle.fidl_parse.proofs.Ahead.{not_begins}
 use Rattle.fidl_parse.proofs.PathRest.{part_begins}
 use Rattle.fidl_parse.proofs.Stops.{stops}

@@ -2,7 +2,7 @@ use Rattle.std.proofs.Common.{length, ◌-◌, map}
 use Rattle.fidl_tree.specs.Leaf.{joined}
 use Rattle.fidl_tree.specs.Path.{part_leaves}
 use Rattle.fidl_parse.specs.Reading.{Reads}
-use Rattle.fidl_parse.specs.Follow.{Not, extends_path}
+use Rattle.fidl_parse.specs.FollowSets.{Not, extends_path}
 use Rattle.fidl_parse.proofs.Rows.{Left}
 use Rattle.fidl_parse.proofs.parser.Parser.path_parts.Given as goal
 

@@ -1,7 +1,7 @@
 use Rattle.std.proofs.Common.{refl}
 use Rattle.std.proofs.lemmas.Bool.{false≢true}
 use Rattle.fidl_span.specs.declared.words.WordKind.TheVariants as kind
-use Rattle.fidl_parse.specs.Follow.{extends_type}
+use Rattle.fidl_parse.specs.FollowSets.{extends_type}
 use Rattle.fidl_parse.proofs.Ahead.{begins_not}
 use Rattle.fidl_parse.proofs.Options.{until_none, until_some}
 use Rattle.fidl_parse.proofs.Protocols.{type_apart}

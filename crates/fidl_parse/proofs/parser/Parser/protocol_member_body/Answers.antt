@@ -1,7 +1,7 @@
 use Rattle.std.proofs.Common.{refl}
 use Rattle.std.proofs.lemmas.Bool.{false≢true}
 use Rattle.fidl_span.specs.declared.words.WordKind.TheVariants as kind
-use Rattle.fidl_parse.specs.Follow.{extends_path}
+use Rattle.fidl_parse.specs.FollowSets.{extends_path}
 use Rattle.fidl_parse.proofs.Ahead.{begins_not}
 use Rattle.fidl_parse.proofs.Protocols.{compose_ahead, call_ahead, call_may, event_ahead, method_ahead}
 use Rattle.fidl_parse.proofs.Stops.{stops}

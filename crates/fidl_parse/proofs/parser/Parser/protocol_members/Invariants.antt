@@ -4,7 +4,7 @@ use Rattle.fidl_tree.specs.Protocol.{protocol_member_leaves}
 use Rattle.fidl_parse.specs.Reading.{Reads}
 use Rattle.fidl_parse.proofs.Rows.{Left}
 use Rattle.fidl_span.specs.declared.words.WordKind.TheVariants as kind
-use Rattle.fidl_parse.specs.Follow.{Begins}
+use Rattle.fidl_parse.specs.FollowSets.{Begins}
 use Rattle.fidl_parse.proofs.parser.Parser.protocol_members.Given as goal
 
 -- from the start to here the members so far are read, and from here what is left of any

@@ -1,5 +1,5 @@
 use Rattle.std.proofs.Common.{codes, sym, ◌∙◌}
-use Rattle.fidl_parse.specs.Follow.{strictness_words}
+use Rattle.fidl_parse.specs.FollowSets.{strictness_words}
 use Rattle.fidl_tree.specs.Keyword.{strictness_leaves}
 use Rattle.fidl_parse.proofs.Keywords.{resource_ahead, option_ahead, option_stops, option_absent}
 use Rattle.fidl_parse.proofs.Words.{not_word_of}

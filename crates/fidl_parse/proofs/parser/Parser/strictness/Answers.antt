@@ -1,6 +1,6 @@
 use Rattle.std.proofs.Common.{rules, refl, codes}
 use Rattle.std.proofs.lemmas.Bool.{false≢true}
-use Rattle.fidl_parse.specs.Follow.{strictness_words}
+use Rattle.fidl_parse.specs.FollowSets.{strictness_words}
 use Rattle.fidl_parse.proofs.Keywords.{strict_ahead, flexible_ahead, no_strictness}
 use Rattle.fidl_parse.proofs.Words.{not_word}
 use Rattle.fidl_parse.proofs.parser.Parser.strictness.Goals as goal

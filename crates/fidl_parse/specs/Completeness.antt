@@ -18,7 +18,8 @@ Goes (Ok part) P = P
 Goes (Err stop) P = stop ≡ Memory
 
 -- Wherever such a part stands before what may follow it, it is read up to what follows it.
-abbrev pub Finds : {X : Type 0} {R : Type 0} → Parser → ℕ → ℕ → (X → List Leaf) → (List Leaf → Type 0) → Result R Stop → Type 0
+abbrev pub Finds : {X : Type 0} {R : Type 0} → Parser → ℕ → ℕ → (X → List Leaf) → (List Leaf → Type 0)
+    → Result R Stop → Type 0
 Finds {X = X} p from to leaves_of May result =
     (x : X) → (rest : List Leaf) → May rest → Ahead p from (leaves_of x ++ rest) → Goes result (Ahead p to rest)
 

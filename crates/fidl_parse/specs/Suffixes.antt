@@ -18,8 +18,8 @@ use Rattle.fidl_tree.specs.declared.declaration.Declaration.{Declaration}
 use Rattle.fidl_tree.specs.declared.file.Import.{Import}
 use Rattle.fidl_parse.specs.declared.parser.Parser.{Parser}
 use Rattle.fidl_parse.specs.declared.fault.Stop.{Stop}
-use Rattle.fidl_parse.specs.Ahead.{Ahead, row}
-use Rattle.fidl_parse.specs.Follow.{NotWord, modifier_words}
+use Rattle.fidl_parse.specs.Completeness.{Ahead, row}
+use Rattle.fidl_parse.specs.FollowSets.{NotWord, modifier_words}
 
 -- `strict` or `flexible` is among the modifiers
 abbrev pub has_strictness : UnionModifiers → Bool
@@ -34,7 +34,8 @@ has_resource (ResourceFirst resource strictness) = true
 -- Where the modifiers that stand ahead have none of these words, those that are read have none.
 abbrev pub Lacks : (UnionModifiers → Bool) → Parser → ℕ → Result UnionModifiers Stop → Type 0
 Lacks has p from result =
-    (x : UnionModifiers) → (rest : List Leaf) → NotWord modifier_words rest → Ahead p from (union_modifiers_leaves x ++ rest) → has x ≡ false
+    (x : UnionModifiers) → (rest : List Leaf) → NotWord modifier_words rest → Ahead p from (union_modifiers_leaves x ++ rest)
+    → has x ≡ false
     → IfOk result (λ modifiers. has modifiers ≡ false)
 
 -- a layout's keyword and its members in braces
@@ -59,7 +60,8 @@ pub record ValuesBlock : Type 0 where
 -- its leaves
 abbrev pub values_block : ValuesBlock → List Leaf
 values_block b =
-    values_keyword_leaves b.word ++ optional underlying_leaves b.underlying ++ braced b.left (row value_member_leaves b.members) b.right
+    values_keyword_leaves b.word ++ optional underlying_leaves b.underlying
+    ++ braced b.left (row value_member_leaves b.members) b.right
 
 -- a declaration behind its attributes
 abbrev pub behind_attributes : Declaration → List Leaf
@@ -68,4 +70,5 @@ behind_attributes d = declaration_body_leaves d.body ++ symbol kind.Semicolon d.
 -- an import behind its attributes
 abbrev pub import_behind_attributes : Import → List Leaf
 import_behind_attributes i =
-    keyword (codes "using") i.keyword ++ path_leaves i.path ++ optional import_alias_leaves i.alias ++ symbol kind.Semicolon i.semicolon
+    keyword (codes "using") i.keyword ++ path_leaves i.path ++ optional import_alias_leaves i.alias
+    ++ symbol kind.Semicolon i.semicolon

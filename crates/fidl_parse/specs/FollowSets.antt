@@ -73,7 +73,8 @@ NotNamed (l ∷ m ∷ rest) = l.word.kind ≡ kind.Identifier → m.word.kind �
 abbrev pub BeginsMethod : List Leaf → Type 0
 BeginsMethod [] = ⊥
 BeginsMethod (l ∷ []) = ⊥
-BeginsMethod (l ∷ m ∷ rest) = (l.word.kind ≡ kind.Arrow) ⊎ ((l.word.kind ≡ kind.Identifier) × (m.word.kind ≡ kind.LeftParenthesis))
+BeginsMethod (l ∷ m ∷ rest) =
+    (l.word.kind ≡ kind.Arrow) ⊎ ((l.word.kind ≡ kind.Identifier) × (m.word.kind ≡ kind.LeftParenthesis))
 
 -- the two texts are one
 abbrev pub same_text : List ℕ → List ℕ → Bool

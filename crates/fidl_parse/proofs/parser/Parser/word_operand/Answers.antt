@@ -1,7 +1,7 @@
 use Rattle.std.proofs.lemmas.Bool.{false≢true}
 use Rattle.fidl_parse.proofs.Values.{word_ahead, true_ahead, false_ahead, path_ahead, path_reads}
 use Rattle.fidl_parse.proofs.Stops.{stops}
-use Rattle.fidl_parse.proofs.parser.Parser.word_term.Goals as goal
+use Rattle.fidl_parse.proofs.parser.Parser.word_operand.Goals as goal
 
 pub returns-in_err-keyword-clause-complete : goal.returns-in_err-keyword-clause-complete
 returns-in_err-keyword-clause-complete c i x rest m a =
