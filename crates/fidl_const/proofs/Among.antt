@@ -4,11 +4,10 @@ use Rattle.std.specs.Prelude.{flat_map}
 use Rattle.std.specs.List.{Contains, filter}
 use Rattle.std.proofs.lemmas.List.Elements.{Contains-append_left, Contains-append_right, Contains-append_cases}
 use Rattle.std.proofs.Math.ListN.{get_or-map, length-map}
-use Rattle.fidl_tree.specs.declared.path.Path.{Path}
-use Rattle.fidl_tree.specs.declared.value.Value.{Value}
+use Rattle.fidl_tree.specs.Syntax.{Path, Value}
 use Rattle.fidl_names.specs.declared.meaning.Wanted.TheVariants as wanted
 use Rattle.fidl_names.specs.Places.{value_paths}
-use Rattle.fidl_const.specs.Uses.{value_uses}
+use Rattle.fidl_const.specs.Dependencies.{value_uses}
 
 module _ {X : Type 0} where
   -- no list without elements has one
@@ -52,7 +51,7 @@ module _ {X : Type 0} where
       | inr rest ↦ Contains-append_right (g z) (flat_map g xs) y (among_flat g xs x y rest k)
     ]
 
--- the names in values are among those that the values hang on
+-- the names in values are among those that the values depend on
 pub among_uses : (vs : List Value) (path : Path) → Contains (flat_map value_paths vs) path → Contains (flat_map value_uses vs) (wanted.Value, path)
 among_uses [] path h = absurd (among_none path h)
 among_uses (v ∷ vs) path h = elim (Contains-append_cases (value_paths v) (flat_map value_paths vs) path h) [

@@ -5,11 +5,11 @@ use Rattle.fidl_names.specs.declared.meaning.Meaning.{Meaning}
 use Rattle.fidl_names.specs.declared.meaning.Meaning.TheVariants as meaning
 use Rattle.fidl_names.specs.declared.meaning.Predeclared.TheVariants as name
 use Rattle.fidl_const.specs.Values.{HasValue}
-use Rattle.fidl_const.specs.Uses.{IsKnownNode, IsNode}
+use Rattle.fidl_const.specs.Dependencies.{IsKnownNode, IsNode}
 
 module _ (files : List File) where
   -- what has a value, but for the greatest bound, is a declaration or a member
   pub known_with_value : (m : Meaning) → HasValue files m → (m ≡ meaning.Predeclared name.Max → ⊥) → IsKnownNode files m
   known_with_value _ HasValue.maximum other = absurd (other refl)
-  known_with_value _ (HasValue.constant p f c stands) other = record { file = f; place = _; uses = _; is = IsNode.declaration p f stands.declaration stands.at }
-  known_with_value _ (HasValue.member p f l i m stands is) other = record { file = f; place = _; uses = _; is = IsNode.member p f l i m stands is }
+  known_with_value _ (HasValue.constant p f c stands) other = record { file = f; place = _; is = IsNode.declaration p f stands.declaration stands.at }
+  known_with_value _ (HasValue.member p f l i m stands is) other = record { file = f; place = _; is = IsNode.member p f l i m stands is }

@@ -7,7 +7,7 @@ use Rattle.std.proofs.lemmas.List.{get_or-set_same, get_or-set_other}
 use Rattle.std.proofs.lemmas.Option.{slice_get_within, same_Some}
 use Rattle.fidl_tree.specs.declared.file.File.{File}
 use Rattle.fidl_tree.specs.declared.declaration.AliasDeclaration.{AliasDeclaration}
-use Rattle.fidl_names.specs.declared.place.Position.{Position}
+use Rattle.fidl_names.specs.declared.place.DeclarationId.{DeclarationId}
 use Rattle.fidl_names.specs.declared.meaning.Meaning.{Meaning}
 use Rattle.fidl_names.specs.declared.meaning.Meaning.TheVariants as meaning
 use Rattle.fidl_names.specs.Aliases.{IsAliasAt}
@@ -16,10 +16,10 @@ use Rattle.fidl_const.specs.declared.consts.Consts.{Consts}
 use Rattle.fidl_const.specs.declared.consts.Entry.{Entry}
 use Rattle.fidl_const.specs.declared.consts.Limits.{Limits}
 use Rattle.fidl_const.specs.declared.order.Found.{Found}
-use Rattle.fidl_const.specs.Known.{seen}
-use Rattle.fidl_const.specs.Uses.{IsKnownNode}
+use Rattle.fidl_const.specs.PlainValues.{seen}
+use Rattle.fidl_const.specs.Dependencies.{IsKnownNode}
 use Rattle.fidl_const.specs.Values.{Offers}
-use Rattle.fidl_const.specs.Evaluated.{IsConstraintOf}
+use Rattle.fidl_const.specs.Strings.{IsConstraintOf}
 use Rattle.fidl_const.specs.Tables.{number_of, AreLimits, AreTrue, Extends, HasRoom, IsDone, IsFound, value_at, limits_at, with_values, with_limits}
 use Rattle.fidl_const.proofs.AliasLimits.{known_alias}
 
@@ -89,7 +89,7 @@ module _ (fs : List File) (nodes : List Meaning) (one : Meaning) (node : IsKnown
           subst (λ (x : Meaning). Offers fs x e.own (seen e.value)) (sym same) (if_some (λ (x : Entry). Offers fs one x.own (seen x.value)) found.value e here is_found.value)
       entry m e known is (inr other) = h.values m e known (sym (value_of_other m other) ∙ is)
 
-      limit : (p : Position) (f : File) (a : AliasDeclaration) (l : Limits) → IsAliasAt fs p f a → limits_at new (number_of new.starts.items (meaning.Declared p)) ≡ Some l
+      limit : (p : DeclarationId) (f : File) (a : AliasDeclaration) (l : Limits) → IsAliasAt fs p f a → limits_at new (number_of new.starts.items (meaning.Declared p)) ≡ Some l
           → (meaning.Declared p ≡ one) ⊎ (number_of old.starts.items (meaning.Declared p) ≡ number_of old.starts.items one → ⊥) → AreLimits fs (IsConstraintOf fs p.file f a.constructor) l
       limit p f a l at is (inl same) =
           let here : found.limits ≡ Some l = sym limits_of_one ∙ ap (λ (x : Meaning). limits_at new (number_of new.starts.items x)) (sym same) ∙ is in

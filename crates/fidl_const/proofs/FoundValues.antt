@@ -8,29 +8,31 @@ use Rattle.fidl_tree.specs.declared.declaration.Declaration.{Declaration}
 use Rattle.fidl_tree.specs.declared.declaration.DeclarationBody.TheVariants.{Const, Alias}
 use Rattle.fidl_tree.specs.declared.declaration.AliasDeclaration.{AliasDeclaration}
 use Rattle.fidl_tree.specs.declared.declaration.ConstDeclaration.{ConstDeclaration}
-use Rattle.fidl_names.specs.declared.place.Position.{Position}
+use Rattle.fidl_names.specs.declared.place.DeclarationId.{DeclarationId}
 use Rattle.fidl_names.specs.declared.meaning.Meaning.{Meaning}
 use Rattle.fidl_names.specs.declared.meaning.Meaning.TheVariants as meaning
 use Rattle.fidl_names.specs.Aliases.{IsAliasAt}
-use Rattle.fidl_names.specs.Items.{StandsAt, ordinary}
+use Rattle.fidl_names.specs.Constraints.{IsDeclarationAt, ordinary}
 use Rattle.fidl_const.specs.declared.consts.Entry.{Entry}
 use Rattle.fidl_const.specs.declared.consts.Limits.{Limits}
 use Rattle.fidl_const.specs.declared.fault.ConstFault.{ConstFault}
-use Rattle.fidl_const.specs.Known.{seen, text_length}
+use Rattle.fidl_const.specs.PlainValues.{seen, text_length}
 use Rattle.fidl_const.specs.Types.{IsConstAt, IsStringType, IsValuesAt, constraints_of}
 use Rattle.fidl_const.specs.Values.{HasValue, Offers, constant, member, maximum}
-use Rattle.fidl_const.specs.Uses.{IsKnownNode}
-use Rattle.fidl_const.specs.Evaluated.{BoundFails, ConstantFails, ConstantHolds, Fails, IsConstraintOf, TextFits}
-use Rattle.fidl_const.specs.Tables.{AreLimits, IsFound, Tells}
+use Rattle.fidl_const.specs.Dependencies.{IsKnownNode}
+use Rattle.fidl_const.specs.Strings.{BoundFails, IsConstraintOf, TextFits}
+use Rattle.fidl_const.specs.Evaluated.{ConstantFails, ConstantHolds, Fails}
+use Rattle.fidl_const.specs.Tables.{AreLimits, IsFound, IsMemoryOr}
+use Rattle.fidl_names.proofs.ResolvedMeanings.{one_alias, one_file as alias_file}
 use Rattle.fidl_const.proofs.Standing.{one_file, one_declaration}
 use Rattle.fidl_const.proofs.NodeFacts.{node_member}
-use Rattle.fidl_const.proofs.Telling.{tells_more}
+use Rattle.fidl_const.proofs.Reports.{reports_more}
 
-module _ (fs : List File) (p : Position) where
-  alias_stands : (f : File) (a : AliasDeclaration) (h : IsAliasAt fs p f a) → StandsAt fs p f h.declaration
+module _ (fs : List File) (p : DeclarationId) where
+  alias_stands : (f : File) (a : AliasDeclaration) (h : IsAliasAt fs p f a) → IsDeclarationAt fs p f h.declaration
   alias_stands f a h = record { file_at = h.file_at; stands = h.stands }
 
-  -- what stands at a position is no constant and alias both
+  -- what has an id is no constant and alias both
   const_or_alias : (f g : File) (c : ConstDeclaration) (a : AliasDeclaration) → IsConstAt fs p f c → IsAliasAt fs p g a → ⊥
   const_or_alias f g c a h k =
       let bodies : Const c ≡ Alias a = sym h.body ∙ ap (λ (d : Declaration). d.body) (one_declaration fs p f g h.declaration k.declaration h.at (alias_stands g a k)) ∙ k.body in
@@ -41,17 +43,8 @@ module _ (fs : List File) (p : Position) where
       let bodies : Const c ≡ Const d = sym h.body ∙ ap (λ (x : Declaration). x.body) (one_declaration fs p f g h.declaration k.declaration h.at k.at) ∙ k.body in
       cc
 
-  one_alias : (f g : File) (a b : AliasDeclaration) → IsAliasAt fs p f a → IsAliasAt fs p g b → a ≡ b
-  one_alias f g a b h k =
-      let bodies : Alias a ≡ Alias b =
-      sym h.body ∙ ap (λ (x : Declaration). x.body) (one_declaration fs p f g h.declaration k.declaration (alias_stands f a h) (alias_stands g b k)) ∙ k.body in
-      cc
-
-  alias_file : (f g : File) (a b : AliasDeclaration) → IsAliasAt fs p f a → IsAliasAt fs p g b → f ≡ g
-  alias_file f g a b h k = one_file fs p f g h.declaration k.declaration (alias_stands f a h) (alias_stands g b k)
-
 -- a constant
-module _ (fs : List File) (p : Position) (f : File) (c : ConstDeclaration) (at : IsConstAt fs p f c) where
+module _ (fs : List File) (p : DeclarationId) (f : File) (c : ConstDeclaration) (at : IsConstAt fs p f c) where
   pub found_const : (e : Entry) → Offers fs (meaning.Declared p) e.own (seen e.value) → (IsStringType fs f c.constructor → TextFits fs p.file f c.constructor (text_length (seen e.value)))
       → IsFound fs (meaning.Declared p) (record { value = Some e; limits = None })
   found_const e offers text = record {
@@ -60,7 +53,7 @@ module _ (fs : List File) (p : Position) (f : File) (c : ConstDeclaration) (at :
     limits = λ q g a is h. tt;
     no_limits = λ none q g a is h string.
         let same : q ≡ p = cc in
-        const_or_alias fs p f g c a at (subst (λ (x : Position). IsAliasAt fs x g a) same h);
+        const_or_alias fs p f g c a at (subst (λ (x : DeclarationId). IsAliasAt fs x g a) same h);
     holds = λ q g d is h.
         let same : p ≡ q = cc in
         holds_at q same g d h;
@@ -69,25 +62,25 @@ module _ (fs : List File) (p : Position) (f : File) (c : ConstDeclaration) (at :
       holds : ConstantHolds fs p f c
       holds = record { own = e.own; known = seen e.value; offers = offers; text = text }
 
-      holds_at : (q : Position) → p ≡ q → (g : File) (d : ConstDeclaration) → IsConstAt fs q g d → ConstantHolds fs q g d
+      holds_at : (q : DeclarationId) → p ≡ q → (g : File) (d : ConstDeclaration) → IsConstAt fs q g d → ConstantHolds fs q g d
       holds_at q same g d h =
-          let here = subst (λ (x : Position). IsConstAt fs x g d) (sym same) h in
+          let here = subst (λ (x : DeclarationId). IsConstAt fs x g d) (sym same) h in
           let file = one_file fs p f g at.declaration here.declaration at.at here.at in
           let const = one_const fs p f g c d at here in
-          subst (λ (x : Position). ConstantHolds fs x g d) same (subst (λ (x : File). ConstantHolds fs p x d) file (subst (ConstantHolds fs p f) const holds))
+          subst (λ (x : DeclarationId). ConstantHolds fs x g d) same (subst (λ (x : File). ConstantHolds fs p x d) file (subst (ConstantHolds fs p f) const holds))
 
-  pub const_told : (fault : ConstFault) → Tells (ConstantFails fs p f c) fault → Tells (Fails fs) fault
-  const_told = tells_more (ConstantFails fs p f c) (Fails fs) (λ fault h. Fails.of_constant p f c at h)
+  pub const_reported : (fault : ConstFault) → IsMemoryOr (ConstantFails fs p f c) fault → IsMemoryOr (Fails fs) fault
+  const_reported = reports_more (ConstantFails fs p f c) (Fails fs) (λ fault h. Fails.of_constant p f c at h)
 
 -- no constant
-value_of_const : (fs : List File) (p : Position) (m : Meaning) → m ≡ meaning.Declared p → ((f : File) (c : ConstDeclaration) → IsConstAt fs p f c → ⊥) → HasValue fs m → ⊥
+value_of_const : (fs : List File) (p : DeclarationId) (m : Meaning) → m ≡ meaning.Declared p → ((f : File) (c : ConstDeclaration) → IsConstAt fs p f c → ⊥) → HasValue fs m → ⊥
 value_of_const fs p m is none (maximum) = cc
-value_of_const fs p m is none (constant q f c at) = let same : q ≡ p = cc in none f c (subst (λ (x : Position). IsConstAt fs x f c) same at)
+value_of_const fs p m is none (constant q f c at) = let same : q ≡ p = cc in none f c (subst (λ (x : DeclarationId). IsConstAt fs x f c) same at)
 value_of_const fs p m is none (member q f l i v at there) = cc
 
-module _ (fs : List File) (p : Position) (no_const : (f : File) (c : ConstDeclaration) → IsConstAt fs p f c → ⊥) where
-  no_holds : (q : Position) (g : File) (c : ConstDeclaration) → meaning.Declared p ≡ meaning.Declared q → IsConstAt fs q g c → ConstantHolds fs q g c
-  no_holds q g c is h = let same : q ≡ p = cc in absurd (no_const g c (subst (λ (x : Position). IsConstAt fs x g c) same h))
+module _ (fs : List File) (p : DeclarationId) (no_const : (f : File) (c : ConstDeclaration) → IsConstAt fs p f c → ⊥) where
+  no_holds : (q : DeclarationId) (g : File) (c : ConstDeclaration) → meaning.Declared p ≡ meaning.Declared q → IsConstAt fs q g c → ConstantHolds fs q g c
+  no_holds q g c is h = let same : q ≡ p = cc in absurd (no_const g c (subst (λ (x : DeclarationId). IsConstAt fs x g c) same h))
 
   -- an alias of strings
   pub found_limits : (f : File) (a : AliasDeclaration) (l : Limits) → IsAliasAt fs p f a → AreLimits fs (IsConstraintOf fs p.file f a.constructor) l → IsFound fs (meaning.Declared p) (record { value = None; limits = Some l })
@@ -99,12 +92,12 @@ module _ (fs : List File) (p : Position) (no_const : (f : File) (c : ConstDeclar
     holds = λ q g c is h. no_holds q g c is h;
   }
     where
-      limits_at : (q : Position) → p ≡ q → (g : File) (b : AliasDeclaration) → IsAliasAt fs q g b → AreLimits fs (IsConstraintOf fs q.file g b.constructor) l
+      limits_at : (q : DeclarationId) → p ≡ q → (g : File) (b : AliasDeclaration) → IsAliasAt fs q g b → AreLimits fs (IsConstraintOf fs q.file g b.constructor) l
       limits_at q same g b h =
-          let here = subst (λ (x : Position). IsAliasAt fs x g b) (sym same) h in
-          let file = alias_file fs p f g a b at here in
-          let alias = one_alias fs p f g a b at here in
-          subst (λ (x : Position). AreLimits fs (IsConstraintOf fs x.file g b.constructor) l) same
+          let here = subst (λ (x : DeclarationId). IsAliasAt fs x g b) (sym same) h in
+          let file = alias_file fs p p f g a b at here refl in
+          let alias = one_alias fs p p f g a b at here refl in
+          subst (λ (x : DeclarationId). AreLimits fs (IsConstraintOf fs x.file g b.constructor) l) same
           (subst (λ (x : File). AreLimits fs (IsConstraintOf fs p.file x b.constructor) l) file
           (subst (λ (x : AliasDeclaration). AreLimits fs (IsConstraintOf fs p.file f x.constructor) l) alias are))
 
@@ -116,24 +109,24 @@ module _ (fs : List File) (p : Position) (no_const : (f : File) (c : ConstDeclar
     limits = λ q g a is h. tt;
     no_limits = λ none q g a is h string.
         let same : q ≡ p = cc in
-        no_string g a (subst (λ (x : Position). IsAliasAt fs x g a) same h) string;
+        no_string g a (subst (λ (x : DeclarationId). IsAliasAt fs x g a) same h) string;
     holds = λ q g c is h. no_holds q g c is h;
   }
 
 -- of an alias, whether its type is one of strings
-pub other_type : (fs : List File) (p : Position) (f : File) (a : AliasDeclaration) → IsAliasAt fs p f a → (IsStringType fs f a.constructor → ⊥) → (g : File) (b : AliasDeclaration) → IsAliasAt fs p g b → IsStringType fs g b.constructor → ⊥
+pub other_type : (fs : List File) (p : DeclarationId) (f : File) (a : AliasDeclaration) → IsAliasAt fs p f a → (IsStringType fs f a.constructor → ⊥) → (g : File) (b : AliasDeclaration) → IsAliasAt fs p g b → IsStringType fs g b.constructor → ⊥
 other_type fs p f a at other g b h string =
-    let file = alias_file fs p f g a b at h in
-    let alias = one_alias fs p f g a b at h in
+    let file = alias_file fs p p f g a b at h refl in
+    let alias = one_alias fs p p f g a b at h refl in
     other (subst (λ (x : AliasDeclaration). IsStringType fs f x.constructor) (sym alias) (subst (λ (x : File). IsStringType fs x b.constructor) (sym file) string))
 
-pub bound_told : (fs : List File) (p : Position) (f : File) (a : AliasDeclaration) → IsAliasAt fs p f a → IsStringType fs f a.constructor → (fault : ConstFault)
-    → Tells (BoundFails fs f p.file (ordinary f (constraints_of a.constructor))) fault → Tells (Fails fs) fault
-bound_told fs p f a at string =
-    tells_more (BoundFails fs f p.file (ordinary f (constraints_of a.constructor))) (Fails fs) (λ fault h. Fails.of_bound p f a at string h)
+pub bound_reported : (fs : List File) (p : DeclarationId) (f : File) (a : AliasDeclaration) → IsAliasAt fs p f a → IsStringType fs f a.constructor → (fault : ConstFault)
+    → IsMemoryOr (BoundFails fs f p.file (ordinary f (constraints_of a.constructor))) fault → IsMemoryOr (Fails fs) fault
+bound_reported fs p f a at string =
+    reports_more (BoundFails fs f p.file (ordinary f (constraints_of a.constructor))) (Fails fs) (λ fault h. Fails.of_bound p f a at string h)
 
 -- a member
-module _ (fs : List File) (p : Position) (i : ℕ) (m : Meaning) (is : m ≡ meaning.Member p i) where
+module _ (fs : List File) (p : DeclarationId) (i : ℕ) (m : Meaning) (is : m ≡ meaning.Member p i) where
   pub found_member : (e : Entry) → Offers fs (meaning.Member p i) e.own (seen e.value) → IsFound fs m (record { value = Some e; limits = None })
   found_member e offers = record {
     value = subst (λ (x : Meaning). Offers fs x e.own (seen e.value)) (sym is) offers;
@@ -145,5 +138,5 @@ module _ (fs : List File) (p : Position) (i : ℕ) (m : Meaning) (is : m ≡ mea
 
   pub no_member : ((f : File) (l : ValuesLayout) (v : ValueMember) → IsValuesAt fs p f l → slice_get (out-ValuesLayout l).members.items i ≡ Some v → ⊥) → IsKnownNode fs m → ⊥
   no_member none known =
-      let k = node_member fs m known.file known.place known.uses p i is known.is in
+      let k = node_member fs m known.file known.place p i is known.is in
       none k.file k.layout k.value k.at k.there

@@ -8,12 +8,12 @@ use Rattle.std.proofs.lemmas.List.Elements.{Contains-push_cases}
 use Rattle.std.proofs.lemmas.Option.{none-some, same_Some, slice_get-get_or, slice_get_read, slice_get_within}
 use Rattle.fidl_tree.specs.declared.file.File.{File}
 use Rattle.fidl_tree.specs.declared.declaration.ConstDeclaration.{ConstDeclaration}
-use Rattle.fidl_names.specs.declared.place.Position.{Position}
+use Rattle.fidl_names.specs.declared.place.DeclarationId.{DeclarationId}
 use Rattle.fidl_names.specs.declared.meaning.Meaning.{Meaning}
 use Rattle.fidl_names.specs.declared.meaning.Meaning.TheVariants as meaning
 use Rattle.fidl_const.specs.declared.consts.Consts.{Consts}
 use Rattle.fidl_const.specs.Types.{IsConstAt}
-use Rattle.fidl_const.specs.Uses.{IsKnownNode, declaration}
+use Rattle.fidl_const.specs.Dependencies.{IsKnownNode, IsNode}
 use Rattle.fidl_const.specs.Evaluated.{ConstantHolds}
 use Rattle.fidl_const.specs.Tables.{number_of, AreConsts, AreNumbered, AreTrue, Extends, HasRoom, IsDone, IsNodeOrder, UsesSettled}
 
@@ -43,10 +43,10 @@ AreDone fs nodes c placed = (t : ℕ) (m : Meaning) → Contains placed t → sl
 
 -- and the constants among them hold
 abbrev pub AllHold : List File → List Meaning → List ℕ → Type 0
-AllHold fs nodes placed = (t : ℕ) (p : Position) (f : File) (c : ConstDeclaration) → Contains placed t → slice_get nodes t ≡ Some (meaning.Declared p) → IsConstAt fs p f c → ConstantHolds fs p f c
+AllHold fs nodes placed = (t : ℕ) (p : DeclarationId) (f : File) (c : ConstDeclaration) → Contains placed t → slice_get nodes t ≡ Some (meaning.Declared p) → IsConstAt fs p f c → ConstantHolds fs p f c
 
-const_known : (fs : List File) (p : Position) (f : File) (c : ConstDeclaration) → IsConstAt fs p f c → IsKnownNode fs (meaning.Declared p)
-const_known fs p f c h = record { file = f; place = _; uses = _; is = declaration p f h.declaration h.at }
+const_known : (fs : List File) (p : DeclarationId) (f : File) (c : ConstDeclaration) → IsConstAt fs p f c → IsKnownNode fs (meaning.Declared p)
+const_known fs p f c h = record { file = f; place = _; is = IsNode.declaration p f h.declaration h.at }
 
 pub room_kept : (fs : List File) (nodes : List Meaning) (old new : Consts) → HasRoom fs nodes old → Extends fs old new → HasRoom fs nodes new
 room_kept fs nodes old new room more = record {
@@ -65,7 +65,7 @@ module _ (fs : List File) (nodes : List Meaning) (order : List ℕ) (placed : Is
 
   pub next_settled : (c : Consts) (one : Meaning) → slice_get nodes (get_or order i 0) ≡ Some one → AreDone fs nodes c (take i order) → UsesSettled fs c one
   next_settled c one at done = λ other hangs.
-      let before = placed.behind i (get_or order i 0) one other (slice_get-get_or order i 0 lt) at hangs in
+      let before = placed.after i (get_or order i 0) one other (slice_get-get_or order i 0 lt) at hangs in
       done before.0 other before.1.0 before.1.1
 
   either_place : (t : ℕ) → Contains (take (i + 1) order) t → Contains (take i order) t ⊎ (get_or order i 0 ≡ t)
@@ -82,7 +82,7 @@ module _ (fs : List File) (nodes : List Meaning) (order : List ℕ) (placed : Is
       either (inl before) = more.kept m (numbered.node t m there) (done t m before there)
       either (inr is) = subst (IsDone fs new) (same_node one m t at is there) last
 
-  pub holds_more : (one : Meaning) → slice_get nodes (get_or order i 0) ≡ Some one → ((p : Position) (f : File) (c : ConstDeclaration) → one ≡ meaning.Declared p → IsConstAt fs p f c → ConstantHolds fs p f c) → AllHold fs nodes (take i order)
+  pub holds_more : (one : Meaning) → slice_get nodes (get_or order i 0) ≡ Some one → ((p : DeclarationId) (f : File) (c : ConstDeclaration) → one ≡ meaning.Declared p → IsConstAt fs p f c → ConstantHolds fs p f c) → AllHold fs nodes (take i order)
       → AllHold fs nodes (take (i + 1) order)
   holds_more one at last holds t p f c h there const = either (either_place t h)
     where
@@ -103,7 +103,7 @@ module _ (fs : List File) (nodes : List Meaning) (order : List ℕ) (placed : Is
     all = λ m node. done (number_of ss m) m (all_placed m node) (numbered.numbered m node);
   }
 
-  pub all_hold : AllHold fs nodes (take i order) → (p : Position) (f : File) (c : ConstDeclaration) → IsConstAt fs p f c → ConstantHolds fs p f c
+  pub all_hold : AllHold fs nodes (take i order) → (p : DeclarationId) (f : File) (c : ConstDeclaration) → IsConstAt fs p f c → ConstantHolds fs p f c
   all_hold holds p f c at =
       let node = const_known fs p f c at in
       holds (number_of ss (meaning.Declared p)) p f c (all_placed (meaning.Declared p) node) (numbered.numbered (meaning.Declared p) node) at

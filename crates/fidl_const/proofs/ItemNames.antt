@@ -4,19 +4,20 @@ use Rattle.std.specs.Prelude.{Result, IfOk, IfErr, IfSome, IsNone}
 use Rattle.std.proofs.lemmas.Result.{IfOk-weaker, IfErr-weaker}
 use Rattle.fidl_span.specs.declared.words.Span.{Span}
 use Rattle.fidl_tree.specs.declared.file.File.{File}
-use Rattle.fidl_tree.specs.declared.path.Path.{Path}
+use Rattle.fidl_tree.specs.Syntax.{Path}
 use Rattle.fidl_names.specs.declared.meaning.Meaning.{Meaning}
-use Rattle.fidl_names.specs.Imports.{path_span}
-use Rattle.fidl_names.specs.Items.{ItemMeans}
+use Rattle.fidl_names.specs.Paths.{path_place}
+use Rattle.fidl_names.specs.Constraints.{ItemMeans}
 use Rattle.fidl_const.specs.declared.const_type.ConstType.{ConstType}
 use Rattle.fidl_const.specs.declared.const_value.ConstValue.{ConstValue}
 use Rattle.fidl_const.specs.declared.consts.Entry.{Entry}
 use Rattle.fidl_const.specs.declared.fault.ConstFault.{ConstFault}
 use Rattle.fidl_const.specs.declared.fault.ConstFault.TheVariants.{WrongKind}
-use Rattle.fidl_const.specs.Known.{seen}
+use Rattle.fidl_const.specs.PlainValues.{seen}
 use Rattle.fidl_const.specs.Values.{Gives, Offers}
-use Rattle.fidl_const.specs.Tables.{Tells}
-use Rattle.fidl_const.specs.Evaluated.{ItemNameGives, ItemNameFails, Misfits, at}
+use Rattle.fidl_const.specs.Tables.{IsMemoryOr}
+use Rattle.fidl_const.specs.Refusals.{Misfits, at}
+use Rattle.fidl_const.specs.Constraints.{ItemNameGives, ItemNameFails}
 
 -- an option that isn't there, and one that is
 pub none_is : {X : Type 0} (o : Option X) → o ≡ None → IsNone o
@@ -29,15 +30,15 @@ module _ (fs : List File) (f : File) (n : ℕ) (end : Meaning) (rank : ℕ) (t :
   pub meant : (found : Option Meaning) → IfSome found (ItemMeans fs f (Some end) rank path) → (m : Meaning) → found ≡ Some m → ItemMeans fs f (Some end) rank path m
   meant found h m is = some_is (ItemMeans fs f (Some end) rank path) found h m is
 
-  module _ (span : Span) (span_is : span ≡ path_span path) where
-    pub unmeant : (found : Option Meaning) → found ≡ None → (IsNone found → (m : Meaning) → ItemMeans fs f (Some end) rank path m → ⊥) → Tells (ItemNameFails fs f n end rank t path) (WrongKind (at n span))
+  module _ (span : Span) (span_is : span ≡ path_place path) where
+    pub unmeant : (found : Option Meaning) → found ≡ None → (IsNone found → (m : Meaning) → ItemMeans fs f (Some end) rank path m → ⊥) → IsMemoryOr (ItemNameFails fs f n end rank t path) (WrongKind (at n span))
     unmeant found is none = inr (ItemNameFails.nothing (none (none_is found is)) (ap (λ s. WrongKind (at n s)) span_is))
 
     module _ (found : Option Meaning) (h : IfSome found (ItemMeans fs f (Some end) rank path)) (m : Meaning) (is : found ≡ Some m) where
       pub misfit : (e : Entry) → Offers fs m e.own (seen e.value) → (r : Result ConstValue ConstFault) → IfErr r (λ fault. (files : List File) → Offers files m e.own (seen e.value) → Misfits files m t (at n span) fault)
-          → IfErr r (Tells (ItemNameFails fs f n end rank t path))
-      misfit e offers r told = IfErr-weaker r (λ fault. (files : List File) → Offers files m e.own (seen e.value) → Misfits files m t (at n span) fault) (Tells (ItemNameFails fs f n end rank t path))
-          (λ fault k. inr (ItemNameFails.misfit m (meant found h m is) (subst (λ s. Misfits fs m t (at n s) fault) span_is (k fs offers)))) told
+          → IfErr r (IsMemoryOr (ItemNameFails fs f n end rank t path))
+      misfit e offers r fault_is_true = IfErr-weaker r (λ fault. (files : List File) → Offers files m e.own (seen e.value) → Misfits files m t (at n span) fault) (IsMemoryOr (ItemNameFails fs f n end rank t path))
+          (λ fault k. inr (ItemNameFails.misfit m (meant found h m is) (subst (λ s. Misfits fs m t (at n s) fault) span_is (k fs offers)))) fault_is_true
 
       pub gives : (e : Entry) → Offers fs m e.own (seen e.value) → (r : Result ConstValue ConstFault) → IfOk r (λ v. (files : List File) → Offers files m e.own (seen e.value) → Gives files m t (seen v))
           → IfOk r (λ v. ItemNameGives fs f end rank t path (seen v))

@@ -4,14 +4,14 @@ use Rattle.std.specs.Prelude.{IsSomeAnd, IfSome, IsNone, pos}
 use Rattle.std.proofs.lemmas.Bool.Decides.{leb_tells}
 use Rattle.std.proofs.lemmas.List.Elements.{Contains-append_left, Contains-append_right, Contains-append_cases}
 use Rattle.fidl_tree.specs.declared.file.File.{File}
-use Rattle.fidl_tree.specs.declared.value.Value.{Value}
-use Rattle.fidl_names.specs.Items.{is_optional}
+use Rattle.fidl_tree.specs.Syntax.{Value}
+use Rattle.fidl_names.specs.Constraints.{is_optional}
 use Rattle.fidl_const.specs.declared.consts.Limits.{Limits}
 use Rattle.fidl_const.specs.declared.const_type.NumberKind.TheVariants.{Uint32}
 use Rattle.fidl_const.specs.declared.const_type.ConstType.TheVariants as ty
-use Rattle.fidl_const.specs.Known.{Known, a_number, Fits}
+use Rattle.fidl_const.specs.PlainValues.{PlainValue, a_number, Fits}
 use Rattle.fidl_const.specs.Values.{ValueIs}
-use Rattle.fidl_const.specs.Evaluated.{Allows}
+use Rattle.fidl_const.specs.Strings.{Allows}
 use Rattle.fidl_const.specs.Tables.{AreLimits, IsBoundAmong, HasWord, IsOwnConstraint, IsBound, lesser}
 use Rattle.fidl_const.proofs.Among.{among_none, among_first, among_cases}
 
@@ -114,7 +114,7 @@ module _ (files : List File) where
       | inr none ↦ absurd (among_none w none)
     ]
 
-    pub bound_limits : (v : Value) (k : Known) (o : Option ℕ) → is_optional f v ≡ false → ValueIs files f (ty.Number Uint32) v k → Fits (ty.Number Uint32) k → IfSome o (IsBound k) → (IsNone o → Fits (ty.Number Uint32) k → ⊥)
+    pub bound_limits : (v : Value) (k : PlainValue) (o : Option ℕ) → is_optional f v ≡ false → ValueIs files f (ty.Number Uint32) v k → Fits (ty.Number Uint32) k → IfSome o (IsBound k) → (IsNone o → Fits (ty.Number Uint32) k → ⊥)
         → AreLimits files (IsOwnConstraint number f (v ∷ [])) (record { greatest = o; optional = false })
     bound_limits v k None no_word is fits bound none = absurd (none refl fits)
     bound_limits v k (Some m) no_word is fits bound none =

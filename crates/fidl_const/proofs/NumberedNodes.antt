@@ -11,55 +11,55 @@ use Rattle.fidl_tree.specs.declared.declaration.Declaration.{Declaration}
 use Rattle.fidl_tree.specs.declared.declaration.DeclarationBody.{DeclarationBody}
 use Rattle.fidl_tree.specs.declared.type_constructor.ValuesLayout.{ValuesLayout, out-ValuesLayout}
 use Rattle.fidl_names.specs.declared.place.Place.{Place}
-use Rattle.fidl_names.specs.declared.place.Position.{Position}
+use Rattle.fidl_names.specs.declared.place.DeclarationId.{DeclarationId}
 use Rattle.fidl_names.specs.declared.meaning.Predeclared.{Predeclared}
 use Rattle.fidl_names.specs.declared.meaning.Meaning.{Meaning}
 use Rattle.fidl_names.specs.declared.meaning.Meaning.TheVariants as meaning
-use Rattle.fidl_names.specs.Items.{StandsAt}
-use Rattle.fidl_names.proofs.Positions.{at}
+use Rattle.fidl_names.specs.Constraints.{IsDeclarationAt}
+use Rattle.fidl_names.proofs.FullNames.{at}
 use Rattle.fidl_names.proofs.Trails.{same_or_not}
 use Rattle.fidl_names.proofs.Numbering.{get_left, get_right, get_either, get_there}
 use Rattle.fidl_const.specs.Types.{declared_values, IsValuesAt}
-use Rattle.fidl_const.specs.Uses.{Use, IsNode, IsKnownNode}
+use Rattle.fidl_const.specs.Dependencies.{IsNode, IsKnownNode}
 use Rattle.fidl_const.specs.Tables.{number_of, member_list, first_members, nodes_of, nodes_in, starts_in, file_of, AreNumbered}
 
 -- What is known of a declaration, and of a member.
 
 module _ (files : List File) where
-  declared_of : (m : Meaning) (f : File) (place : Place) (uses : List Use) (p : Position) → m ≡ meaning.Declared p → IsNode files m f place uses → (g : File) × (d : Declaration) × StandsAt files p g d
-  declared_of m f place uses p e (IsNode.declaration q g d h) = let same : q ≡ p = cc in (g, d, subst (λ (r : Position). StandsAt files r g d) same h)
-  declared_of m f place uses p e (IsNode.member q g l i x h there) = absurd (cc)
+  declared_of : (m : Meaning) (f : File) (place : Place) (p : DeclarationId) → m ≡ meaning.Declared p → IsNode files m f place → (g : File) × (d : Declaration) × IsDeclarationAt files p g d
+  declared_of m f place p e (IsNode.declaration q g d h) = let same : q ≡ p = cc in (g, d, subst (λ (r : DeclarationId). IsDeclarationAt files r g d) same h)
+  declared_of m f place p e (IsNode.member q g l i x h there) = absurd (cc)
 
-  member_of : (m : Meaning) (f : File) (place : Place) (uses : List Use) (p : Position) (n : ℕ) → m ≡ meaning.Member p n → IsNode files m f place uses
+  member_of : (m : Meaning) (f : File) (place : Place) (p : DeclarationId) (n : ℕ) → m ≡ meaning.Member p n → IsNode files m f place
       → (g : File) × (l : ValuesLayout) × (x : ValueMember) × IsValuesAt files p g l × (slice_get (out-ValuesLayout l).members.items n ≡ Some x)
-  member_of m f place uses p n e (IsNode.declaration q g d h) = absurd (cc)
-  member_of m f place uses p n e (IsNode.member q g l i x h there) =
+  member_of m f place p n e (IsNode.declaration q g d h) = absurd (cc)
+  member_of m f place p n e (IsNode.member q g l i x h there) =
       let same : q ≡ p = cc in
       let number : i ≡ n = cc in
-      (g, l, x, subst (λ (r : Position). IsValuesAt files r g l) same h, subst (λ (k : ℕ). slice_get (out-ValuesLayout l).members.items k ≡ Some x) number there)
+      (g, l, x, subst (λ (r : DeclarationId). IsValuesAt files r g l) same h, subst (λ (k : ℕ). slice_get (out-ValuesLayout l).members.items k ≡ Some x) number there)
 
-  pub declared_node : (p : Position) → IsKnownNode files (meaning.Declared p) → (g : File) × (d : Declaration) × StandsAt files p g d
-  declared_node p h = declared_of (meaning.Declared p) h.file h.place h.uses p refl h.is
+  pub declared_node : (p : DeclarationId) → IsKnownNode files (meaning.Declared p) → (g : File) × (d : Declaration) × IsDeclarationAt files p g d
+  declared_node p h = declared_of (meaning.Declared p) h.file h.place p refl h.is
 
-  pub member_node : (p : Position) (n : ℕ) → IsKnownNode files (meaning.Member p n)
+  pub member_node : (p : DeclarationId) (n : ℕ) → IsKnownNode files (meaning.Member p n)
       → (g : File) × (l : ValuesLayout) × (x : ValueMember) × IsValuesAt files p g l × (slice_get (out-ValuesLayout l).members.items n ≡ Some x)
-  member_node p n h = member_of (meaning.Member p n) h.file h.place h.uses p n refl h.is
+  member_node p n h = member_of (meaning.Member p n) h.file h.place p n refl h.is
 
-  not_node : (m : Meaning) (f : File) (place : Place) (uses : List Use) → ((p : Position) → m ≡ meaning.Declared p → ⊥) → ((p : Position) (n : ℕ) → m ≡ meaning.Member p n → ⊥) → IsNode files m f place uses → ⊥
-  not_node m f place uses none other (IsNode.declaration q g d h) = none q refl
-  not_node m f place uses none other (IsNode.member q g l i x h there) = other q i refl
+  not_node : (m : Meaning) (f : File) (place : Place) → ((p : DeclarationId) → m ≡ meaning.Declared p → ⊥) → ((p : DeclarationId) (n : ℕ) → m ≡ meaning.Member p n → ⊥) → IsNode files m f place → ⊥
+  not_node m f place none other (IsNode.declaration q g d h) = none q refl
+  not_node m f place none other (IsNode.member q g l i x h there) = other q i refl
 
   pub no_predeclared : (n : Predeclared) → IsKnownNode files (meaning.Predeclared n) → ⊥
-  no_predeclared n h = not_node (meaning.Predeclared n) h.file h.place h.uses (λ p e. (cc)) (λ p i e. (cc)) h.is
+  no_predeclared n h = not_node (meaning.Predeclared n) h.file h.place (λ p e. (cc)) (λ p i e. (cc)) h.is
 
-  pub no_property_member : (p : Position) (n i : ℕ) → IsKnownNode files (meaning.PropertyMember p n i) → ⊥
-  no_property_member p n i h = not_node (meaning.PropertyMember p n i) h.file h.place h.uses (λ p e. (cc)) (λ p i e. (cc)) h.is
+  pub no_property_member : (p : DeclarationId) (n i : ℕ) → IsKnownNode files (meaning.PropertyMember p n i) → ⊥
+  no_property_member p n i h = not_node (meaning.PropertyMember p n i) h.file h.place (λ p e. (cc)) (λ p i e. (cc)) h.is
 
-  pub known_declaration : (p : Position) (f : File) (d : Declaration) → StandsAt files p f d → IsKnownNode files (meaning.Declared p)
-  known_declaration p f d h = record { file = f; place = _; uses = _; is = IsNode.declaration p f d h }
+  pub known_declaration : (p : DeclarationId) (f : File) (d : Declaration) → IsDeclarationAt files p f d → IsKnownNode files (meaning.Declared p)
+  known_declaration p f d h = record { file = f; place = _; is = IsNode.declaration p f d h }
 
-  pub known_member : (p : Position) (f : File) (l : ValuesLayout) (n : ℕ) (x : ValueMember) → IsValuesAt files p f l → slice_get (out-ValuesLayout l).members.items n ≡ Some x → IsKnownNode files (meaning.Member p n)
-  known_member p f l n x h there = record { file = f; place = _; uses = _; is = IsNode.member p f l n x h there }
+  pub known_member : (p : DeclarationId) (f : File) (l : ValuesLayout) (n : ℕ) (x : ValueMember) → IsValuesAt files p f l → slice_get (out-ValuesLayout l).members.items n ≡ Some x → IsKnownNode files (meaning.Member p n)
+  known_member p f l n x h there = record { file = f; place = _; is = IsNode.member p f l n x h there }
 
 -- The members of a declaration.
 
@@ -69,14 +69,14 @@ members_are body l e = rw e refl
 no_members : (body : DeclarationBody) → declared_values body ≡ None → member_list body ≡ []
 no_members body e = rw e refl
 
-length_members : (of : Position) (n : ℕ) → length (first_members of n) ≡ n
+length_members : (of : DeclarationId) (n : ℕ) → length (first_members of n) ≡ n
 length_members of zero = refl
 length_members of (suc n) =
     let more = length_push (first_members of n) (meaning.Member of n) in
     let before = length_members of n in
     omega (arith, more, before)
 
-member_there : (of : Position) (n i : ℕ) → i < n → slice_get (first_members of n) i ≡ Some (meaning.Member of i)
+member_there : (of : DeclarationId) (n i : ℕ) → i < n → slice_get (first_members of n) i ≡ Some (meaning.Member of i)
 member_there of zero i lt = let no : ⊥ = omega (arith, lt) in absurd no
 member_there of (suc n) i lt = elim (same_or_not i n) as (λ _. slice_get (first_members of (suc n)) i ≡ Some (meaning.Member of i)) [
   | inl same ↦
@@ -88,7 +88,7 @@ member_there of (suc n) i lt = elim (same_or_not i n) as (λ _. slice_get (first
       get_left (first_members of n) (meaning.Member of n ∷ []) i (meaning.Member of i) (member_there of n i less)
 ]
 
-member_only : (of : Position) (n i : ℕ) (m : Meaning) → slice_get (first_members of n) i ≡ Some m → (meaning.Member of i ≡ m) × (i < n)
+member_only : (of : DeclarationId) (n i : ℕ) (m : Meaning) → slice_get (first_members of n) i ≡ Some m → (meaning.Member of i ≡ m) × (i < n)
 member_only of n i m e =
     let within = slice_get_within (first_members of n) i m e in
     let long = length_members of n in
@@ -156,7 +156,7 @@ module _ (k : ℕ) where
 -- Those of a file of a set are known.
 
 module _ (files : List File) (k : ℕ) (f : File) (is : slice_get files k ≡ Some f) (i : ℕ) (d : Declaration) (there : slice_get f.declarations.items i ≡ Some d) where
-  stands : StandsAt files (at k i) f d
+  stands : IsDeclarationAt files (at k i) f d
   stands = record { file_at = is; stands = there }
 
   its_member : (n : ℕ) → n < count d → (o : Option ValuesLayout) → declared_values d.body ≡ o → IsKnownNode files (meaning.Member (at k i) n)
@@ -183,7 +183,7 @@ pub record AreNumberedTo (files : List File) (k : ℕ) (nodes : List Meaning) (s
   pub numbered : (m : Meaning) → IsKnownNode files m → file_of m < k → slice_get nodes (number_of starts m) ≡ Some m
 
 -- where the first of a declaration and its members is
-abbrev start_of : List (Vec ℕ) → Position → ℕ
+abbrev start_of : List (Vec ℕ) → DeclarationId → ℕ
 start_of starts p = get_or (get_or (map (λ v. v.items) starts) p.file []) p.index 0
 
 module _ (files : List File) (k : ℕ) (ns : List Meaning) (ss : List (Vec ℕ)) (f : File) (row : Vec ℕ) (h : AreNumberedTo files k ns ss) (is : slice_get files k ≡ Some f)
@@ -210,14 +210,14 @@ module _ (files : List File) (k : ℕ) (ns : List Meaning) (ss : List (Vec ℕ))
   long_rows : length (map (λ (v : Vec ℕ). v.items) ss) ≡ k
   long_rows = length-map ss (λ (v : Vec ℕ). v.items) ∙ h.long
 
-  old_start : (p : Position) → p.file < k → start_of more p ≡ start_of ss p
+  old_start : (p : DeclarationId) → p.file < k → start_of more p ≡ start_of ss p
   old_start p lt =
       let long = long_rows in
       let within : p.file < length (map (λ (v : Vec ℕ). v.items) ss) = omega (arith, lt, long) in
       ap (λ (rows : List (List ℕ)). get_or (get_or rows p.file []) p.index 0) rows_more
       ∙ ap (λ l. get_or l p.index 0) (get_or_append_left (map (λ (v : Vec ℕ). v.items) ss) (row.items ∷ []) [] p.file within)
 
-  new_start : (p : Position) → p.file ≡ k → start_of more p ≡ get_or (starts_in (length ns) f.declarations.items) p.index 0
+  new_start : (p : DeclarationId) → p.file ≡ k → start_of more p ≡ get_or (starts_in (length ns) f.declarations.items) p.index 0
   new_start p here =
       ap (λ (rows : List (List ℕ)). get_or (get_or rows p.file []) p.index 0) rows_more
       ∙ ap (λ l. get_or l p.index 0) (get_or_push (map (λ (v : Vec ℕ). v.items) ss) row.items [] p.file (long_rows ∙ sym here) ∙ row_is)
@@ -228,7 +228,7 @@ module _ (files : List File) (k : ℕ) (ns : List Meaning) (ss : List (Vec ℕ))
   old_number (meaning.Predeclared n) lt = refl
   old_number (meaning.PropertyMember p n i) lt = refl
 
-  new_at : (p : Position) (g : File) (d : Declaration) → StandsAt files p g d → p.file ≡ k → (o : ℕ) (m : Meaning) → slice_get (nodes_of (at k p.index) (count d)) o ≡ Some m → slice_get (ns ++ own) (start_of more p + o) ≡ Some m
+  new_at : (p : DeclarationId) (g : File) (d : Declaration) → IsDeclarationAt files p g d → p.file ≡ k → (o : ℕ) (m : Meaning) → slice_get (nodes_of (at k p.index) (count d)) o ≡ Some m → slice_get (ns ++ own) (start_of more p + o) ≡ Some m
   new_at p g d there here o m e =
       let file = same_Some g f (sym there.file_at ∙ ap (slice_get files) here ∙ is) in
       let stands = ap (λ (x : File). slice_get x.declarations.items p.index) (sym file) ∙ there.stands in

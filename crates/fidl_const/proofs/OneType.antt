@@ -1,13 +1,13 @@
--- A type of constants is one: what stands behind a name, what a type or a layout is written as.
+-- A type of constants is one: what a name resolves to, what a type or a layout is written as.
 use Rattle.std.proofs.Common.{◌≡◌, List, Option, Some, None, refl, ap, sym, subst, ◌∙◌}
 use Rattle.fidl_tree.specs.declared.file.File.{File}
-use Rattle.fidl_tree.specs.declared.path.Path.{Path}
-use Rattle.fidl_tree.specs.declared.keyword.ValuesKeyword.{ValuesKeyword}
+use Rattle.fidl_tree.specs.Syntax.{ValuesKind, Path}
 use Rattle.fidl_tree.specs.declared.type_constructor.TypeConstructor.{TypeConstructor}
 use Rattle.fidl_tree.specs.declared.type_constructor.ValuesLayout.{ValuesLayout, out-ValuesLayout}
 use Rattle.fidl_names.specs.declared.meaning.Meaning.{Meaning}
-use Rattle.fidl_names.specs.Aliases.{StandsBehind}
-use Rattle.fidl_names.proofs.Behinds.{one_behind}
+use Rattle.fidl_names.specs.Aliases.{ResolvesTo}
+use Rattle.fidl_names.proofs.ResolvedMeanings.{one_resolved}
+use Rattle.fidl_tree.specs.Views.{kind_view}
 use Rattle.fidl_const.specs.declared.const_type.ConstType.{ConstType}
 use Rattle.fidl_const.specs.declared.const_type.NumberKind.{NumberKind}
 use Rattle.fidl_const.specs.Types.{EndIs, NameIs, meant, unmeant, TypeIs, UnderlyingIs, unwritten, underlying_kind, LayoutIs, path_of}
@@ -24,12 +24,12 @@ module _ (files : List File) where
 
   module _ (f : File) (path : Path) where
     one_name : (a b : Option ConstType) → NameIs files f path a → NameIs files f path b → a ≡ b
-    one_name a b (meant m end _ means behind is) (meant n other _ also stands has) =
+    one_name a b (meant m end _ means resolved is) (meant n other _ also stands has) =
         let same : n ≡ m = means.1 n also.0 in
-        let ends : other ≡ end = one_behind files m other end (subst (λ x. StandsBehind files x other) same stands) behind in
+        let ends : other ≡ end = one_resolved files m other end (subst (λ x. ResolvesTo files x other) same stands) resolved in
         one_end end a b is (subst (λ x. EndIs files x b) ends has)
-    one_name a b (meant m end _ means behind is) (unmeant none) = absurd (none m means)
-    one_name a b (unmeant none) (meant m end _ means behind is) = absurd (none m means)
+    one_name a b (meant m end _ means resolved is) (unmeant none) = absurd (none m means)
+    one_name a b (unmeant none) (meant m end _ means resolved is) = absurd (none m means)
     one_name a b (unmeant none) (unmeant other) = refl
 
   pub one_type : (f : File) (t : TypeConstructor) (a b : Option ConstType) → TypeIs files f t a → TypeIs files f t b → a ≡ b
@@ -41,11 +41,11 @@ module _ (files : List File) where
       let same : other ≡ path = cc in
       one_name f path a b h (subst (λ p. NameIs files f p b) same k)
 
-  one_underlying : (f : File) (keyword : ValuesKeyword) (path : Option Path) (a b : Option NumberKind) → UnderlyingIs files f keyword path a → UnderlyingIs files f keyword path b → a ≡ b
-  one_underlying f keyword _ _ _ unwritten unwritten = refl
-  one_underlying f keyword _ _ _ (UnderlyingIs.written path t h) (UnderlyingIs.written _ s k) = ap (underlying_kind keyword) (one_name f path t s h k)
+  pub one_underlying : (f : File) (values : ValuesKind) (path : Option Path) (a b : Option NumberKind) → UnderlyingIs files f values path a → UnderlyingIs files f values path b → a ≡ b
+  one_underlying f values _ _ _ unwritten unwritten = refl
+  one_underlying f values _ _ _ (UnderlyingIs.written path t h) (UnderlyingIs.written _ s k) = ap (underlying_kind values) (one_name f path t s h k)
 
   pub one_kind : (f : File) (l : ValuesLayout) (a b : NumberKind) → LayoutIs files f l (Some a) → LayoutIs files f l (Some b) → a ≡ b
   one_kind f l a b h k =
-      let both : Some a ≡ Some b = one_underlying f (out-ValuesLayout l).keyword (path_of (out-ValuesLayout l).underlying) (Some a) (Some b) h k in
+      let both : Some a ≡ Some b = one_underlying f (kind_view (out-ValuesLayout l).keyword) (path_of (out-ValuesLayout l).underlying) (Some a) (Some b) h k in
       cc

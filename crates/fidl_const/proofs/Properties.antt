@@ -6,12 +6,12 @@ use Rattle.fidl_tree.specs.declared.declaration.Declaration.{Declaration}
 use Rattle.fidl_tree.specs.declared.declaration.Property.{Property}
 use Rattle.fidl_tree.specs.declared.declaration.ResourceDefinition.{ResourceDefinition}
 use Rattle.fidl_tree.specs.declared.declaration.DeclarationBody.TheVariants.{Resource}
-use Rattle.fidl_names.specs.declared.place.Position.{Position}
+use Rattle.fidl_names.specs.declared.place.DeclarationId.{DeclarationId}
 use Rattle.fidl_names.specs.declared.meaning.Meaning.{Meaning}
-use Rattle.fidl_names.specs.Items.{StandsAt, IsPropertyAt, IsPropertyFor, number_in, property_names}
+use Rattle.fidl_names.specs.Constraints.{IsDeclarationAt, IsPropertyAt, IsPropertyFor, number_in, property_names}
 use Rattle.fidl_const.proofs.Standing.{one_file, one_declaration}
 
-module _ (fs : List File) (p : Position) (f : File) (d : Declaration) (definition : ResourceDefinition) (end : Option Meaning) (rank i : ℕ) (at : StandsAt fs p f d) (body : d.body ≡ Resource definition) (h : IsPropertyAt fs end rank p i) where
+module _ (fs : List File) (p : DeclarationId) (f : File) (d : Declaration) (definition : ResourceDefinition) (end : Option Meaning) (rank i : ℕ) (at : IsDeclarationAt fs p f d) (body : d.body ≡ Resource definition) (h : IsPropertyAt fs end rank p i) where
   same_file : h.file ≡ f
   same_file = one_file fs p h.file f h.is_for.declaration d h.is_for.at at
 

@@ -3,7 +3,7 @@ use Rattle.std.proofs.Common.{ℕ, ◌≤◌, ◌^◌, Bool, true, false, arith}
 use Rattle.std.proofs.lemmas.Int.{ints}
 use Rattle.fidl_const.specs.declared.const_type.NumberKind.{NumberKind}
 use Rattle.fidl_const.specs.declared.const_type.NumberKind.TheVariants.{Int8, Int16, Int32, Int64, Uint8, Uint16, Uint32, Uint64}
-use Rattle.fidl_const.specs.Known.{InRange}
+use Rattle.fidl_const.specs.PlainValues.{InRange}
 use Rattle.fidl_const.specs.Values.{signed_if}
 
 pub too_great_for_all : (kind : NumberKind) (minus : Bool) (n : ℕ) → 2 ^ 64 ≤ n → InRange kind (signed_if minus n) → ⊥

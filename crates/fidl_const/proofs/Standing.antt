@@ -1,4 +1,4 @@
--- What stands at a position is one.
+-- The declaration of an id is one.
 use Rattle.std.proofs.Common.{◌≡◌, ℕ, List, ap, sym, ◌∙◌}
 use Rattle.std.specs.Prelude.{slice_get}
 use Rattle.std.proofs.lemmas.Option.{same_Some}
@@ -8,15 +8,15 @@ use Rattle.fidl_tree.specs.declared.declaration.Property.{Property}
 use Rattle.fidl_tree.specs.declared.declaration.ResourceDefinition.{ResourceDefinition}
 use Rattle.fidl_tree.specs.declared.declaration.DeclarationBody.TheVariants.{Resource}
 use Rattle.fidl_tree.specs.declared.type_constructor.ValuesLayout.{ValuesLayout}
-use Rattle.fidl_names.specs.declared.place.Position.{Position}
-use Rattle.fidl_names.specs.Items.{StandsAt}
+use Rattle.fidl_names.specs.declared.place.DeclarationId.{DeclarationId}
+use Rattle.fidl_names.specs.Constraints.{IsDeclarationAt}
 use Rattle.fidl_const.specs.Types.{declared_values, written_values, IsValuesAt, IsPropertyValues}
 
-module _ (files : List File) (p : Position) (f g : File) where
-  pub one_file : (d e : Declaration) → StandsAt files p f d → StandsAt files p g e → f ≡ g
+module _ (files : List File) (p : DeclarationId) (f g : File) where
+  pub one_file : (d e : Declaration) → IsDeclarationAt files p f d → IsDeclarationAt files p g e → f ≡ g
   one_file d e h k = same_Some f g (sym h.file_at ∙ k.file_at)
 
-  pub one_declaration : (d e : Declaration) → StandsAt files p f d → StandsAt files p g e → d ≡ e
+  pub one_declaration : (d e : Declaration) → IsDeclarationAt files p f d → IsDeclarationAt files p g e → d ≡ e
   one_declaration d e h k = same_Some d e (sym h.stands ∙ ap (λ (x : File). slice_get x.declarations.items p.index) (one_file d e h k) ∙ k.stands)
 
   pub one_layout : (l m : ValuesLayout) → IsValuesAt files p f l → IsValuesAt files p g m → l ≡ m

@@ -1,4 +1,4 @@
--- Strings: what stands behind a brace, and behind an escape.
+-- Strings: what stands after a brace, and after an escape.
 use Rattle.std.proofs.Common.{◌≡◌, ◌≢◌, ℕ, zero, suc, ◌+◌, ◌-◌, ◌<◌, ◌≤◌, ◌==◌, Bool, true, false, List, [], ◌∷◌, ◌++◌, length, take, drop, get_or, slice_range, min, refl, sym, ap, ◌∙◌, arith, drop-drop}
 use Rattle.std.proofs.lemmas.Bool.{ne_eqb, eq-eqb}
 use Rattle.std.proofs.lemmas.List.{drop_more, drop_min}
@@ -6,7 +6,7 @@ use Rattle.std.proofs.lemmas.List.Sums.{position_or_len_is}
 use Rattle.std.proofs.Math.Seq.{take-nil}
 use Rattle.std.specs.List.{position_or_len}
 use Rattle.fidl_span.specs.Strings.{hex_value}
-use Rattle.fidl_const.specs.Literals.{unescaped, behind_backslash, behind_brace, character_bytes}
+use Rattle.fidl_const.specs.Literals.{unescaped, after_backslash, after_brace, character_bytes}
 
 abbrev pub is_brace : ℕ → Bool
 is_brace b = b == 125
@@ -27,27 +27,27 @@ pub place_is : (text : List ℕ) (i : ℕ) → i ≤ length text → ((k : ℕ) 
 place_is text i within before here =
     sym (position_or_len_is is_brace text i 0 within (λ k h. ne_eqb (get_or text k 0) 125 (before k h)) (λ h. eq-eqb (get_or text i 0) 125 (here h)))
 
-behind_cons : (b : ℕ) (text : List ℕ) (t : Bool) → is_brace b ≡ t → behind_brace text ≡ unescaped (drop (position_or_len is_brace text + 1) text) → behind_brace (b ∷ text) ≡ unescaped (drop (position_or_len is_brace (b ∷ text) + 1) (b ∷ text))
-behind_cons b text true e h = rw e refl
-behind_cons b text false e h =
+after_cons : (b : ℕ) (text : List ℕ) (t : Bool) → is_brace b ≡ t → after_brace text ≡ unescaped (drop (position_or_len is_brace text + 1) text) → after_brace (b ∷ text) ≡ unescaped (drop (position_or_len is_brace (b ∷ text) + 1) (b ∷ text))
+after_cons b text true e h = rw e refl
+after_cons b text false e h =
     let size : 1 + position_or_len is_brace text + 1 ≡ suc (position_or_len is_brace text + 1) = omega arith in
     rw (e, size) h
 
--- what stands behind the first `}`
-pub behind_brace_is : (text : List ℕ) → behind_brace text ≡ unescaped (drop (position_or_len is_brace text + 1) text)
-behind_brace_is [] = refl
-behind_brace_is (b ∷ text) = behind_cons b text (is_brace b) refl (behind_brace_is text)
+-- what stands after the first `}`
+pub after_brace_is : (text : List ℕ) → after_brace text ≡ unescaped (drop (position_or_len is_brace text + 1) text)
+after_brace_is [] = refl
+after_brace_is (b ∷ text) = after_cons b text (is_brace b) refl (after_brace_is text)
 
--- a code point in braces, and what stands behind it
-pub code_point_behind : (text : List ℕ) (at place to : ℕ) → at < length text → get_or text at 0 ≡ 117 → place ≡ position_or_len is_brace (drop (at + 1) text) → to ≡ min (at + place + 2) (length text) → character_bytes (hex_value (slice_range (drop (at + 1) text) (min place 1) place)) ++ unescaped (drop to text) ≡ behind_backslash (drop at text)
-code_point_behind text at place to within letter e f =
+-- a code point in braces, and what stands after it
+pub code_point_after : (text : List ℕ) (at place to : ℕ) → at < length text → get_or text at 0 ≡ 117 → place ≡ position_or_len is_brace (drop (at + 1) text) → to ≡ min (at + place + 2) (length text) → character_bytes (hex_value (slice_range (drop (at + 1) text) (min place 1) place)) ++ unescaped (drop to text) ≡ after_backslash (drop at text)
+code_point_after text at place to within letter e f =
     let rest = drop (at + 1) text in
     let here : drop at text ≡ 117 ∷ rest = drop_more text at 0 within ∙ ap (λ b. b ∷ rest) letter in
     let digits : slice_range rest (min place 1) place ≡ drop 1 (take (position_or_len is_brace rest) rest) = inner rest place ∙ ap (λ n. drop 1 (take n rest)) e in
     let size : at + 1 + (place + 1) ≡ at + place + 2 = omega arith in
-    let behind : drop to text ≡ drop (position_or_len is_brace rest + 1) rest =
+    let after : drop to text ≡ drop (position_or_len is_brace rest + 1) rest =
     ap (λ n. drop n text) f ∙ drop_min (at + place + 2) text ∙ ap (λ n. drop n text) (sym size) ∙ sym (drop-drop (place + 1) (at + 1) text) ∙ ap (λ n. drop (n + 1) rest) e in
     ap (λ l. character_bytes (hex_value l) ++ unescaped (drop to text)) digits
-    ∙ ap (λ l. character_bytes (hex_value (drop 1 (take (position_or_len is_brace rest) rest))) ++ unescaped l) behind
-    ∙ ap (λ l. character_bytes (hex_value (drop 1 (take (position_or_len is_brace rest) rest))) ++ l) (sym (behind_brace_is rest))
-    ∙ sym (ap behind_backslash here)
+    ∙ ap (λ l. character_bytes (hex_value (drop 1 (take (position_or_len is_brace rest) rest))) ++ unescaped l) after
+    ∙ ap (λ l. character_bytes (hex_value (drop 1 (take (position_or_len is_brace rest) rest))) ++ l) (sym (after_brace_is rest))
+    ∙ sym (ap after_backslash here)

@@ -1,4 +1,4 @@
--- The graph of what values hang on: its rows, one name and one node at a time.
+-- The graph of what values depend on: its rows, one name and one node at a time.
 use Rattle.std.proofs.Common.{◌≡◌, ◌⊎◌, ◌<◌, ℕ, zero, suc, List, [], ◌∷◌, ◌++◌, Some, length, inl, inr, refl, ap, sym, subst, arith}
 use Rattle.std.specs.Prelude.{slice_get}
 use Rattle.std.specs.List.{Contains}
@@ -6,14 +6,15 @@ use Rattle.std.specs.Global.{Vec}
 use Rattle.std.proofs.lemmas.List.{length_push}
 use Rattle.std.proofs.lemmas.List.Elements.{Contains-push, Contains-push_cases, Contains-append_left}
 use Rattle.std.proofs.lemmas.Option.{slice_get_within, none-some}
-use Rattle.fidl_tree.specs.declared.path.Path.{Path}
+use Rattle.fidl_tree.specs.Syntax.{Path}
 use Rattle.fidl_tree.specs.declared.file.File.{File}
 use Rattle.fidl_names.specs.declared.place.Place.{Place}
 use Rattle.fidl_names.specs.declared.meaning.Wanted.{Wanted}
 use Rattle.fidl_names.specs.declared.meaning.Meaning.{Meaning}
-use Rattle.fidl_names.specs.Meanings.{components, Means}
-use Rattle.fidl_const.specs.Uses.{IsNode, declaration, member, IsKnownNode, HangsOn}
-use Rattle.fidl_const.specs.Tables.{number_of, file_of, IsTarget, AreTargets, AreRows}
+use Rattle.fidl_names.specs.Meanings.{Means}
+use Rattle.fidl_names.specs.OuterTypes.{texts}
+use Rattle.fidl_const.specs.Dependencies.{IsNode, IsKnownNode, Uses, DependsOn}
+use Rattle.fidl_const.specs.Tables.{number_of, file_of, AreNames, IsTarget, AreTargets, AreRows}
 
 -- one name more
 module _ (fs : List File) (f : File) (ss : List (Vec ℕ)) (us : List (Wanted × Path)) (kind : Wanted) (path : Path) (row : List ℕ) (h : AreTargets fs f ss us row) where
@@ -21,30 +22,30 @@ module _ (fs : List File) (f : File) (ss : List (Vec ℕ)) (us : List (Wanted ×
   later t k = record { kind = k.kind; path = k.path; meant = k.meant; among = Contains-append_left us ((kind, path) ∷ []) (k.kind, k.path) k.among; means = k.means; node = k.node; number = k.number }
 
   -- what a name means, where it is the last
-  last_meant : (k : Wanted) (p : Path) (m : Meaning) → Contains (us ++ (kind, path) ∷ []) (k, p) → Means fs f k (components f.src.now p) m → Contains us (k, p) ⊎ Means fs f kind (components f.src.now path) m
+  last_meant : (k : Wanted) (p : Path) (m : Meaning) → Contains (us ++ (kind, path) ∷ []) (k, p) → Means fs f k (texts f.src.now p) m → Contains us (k, p) ⊎ Means fs f kind (texts f.src.now path) m
   last_meant k p m among means = either (Contains-push_cases us (kind, path) (k, p) among)
     where
-      either : Contains us (k, p) ⊎ ◌≡◌ {A = Wanted × Path} (kind, path) (k, p) → Contains us (k, p) ⊎ Means fs f kind (components f.src.now path) m
+      either : Contains us (k, p) ⊎ ◌≡◌ {A = Wanted × Path} (kind, path) (k, p) → Contains us (k, p) ⊎ Means fs f kind (texts f.src.now path) m
       either (inl old) = inl old
-      either (inr same) = inr (subst (λ (x : Wanted × Path). Means fs f x.0 (components f.src.now x.1) m) (sym same) means)
+      either (inr same) = inr (subst (λ (x : Wanted × Path). Means fs f x.0 (texts f.src.now x.1) m) (sym same) means)
 
-  pub target_none : ((m : Meaning) → Means fs f kind (components f.src.now path) m → IsKnownNode fs m → ⊥) → AreTargets fs f ss (us ++ (kind, path) ∷ []) row
+  pub target_none : ((m : Meaning) → Means fs f kind (texts f.src.now path) m → IsKnownNode fs m → ⊥) → AreTargets fs f ss (us ++ (kind, path) ∷ []) row
   target_none none = record {
     all = λ k p m among means node. either m node (last_meant k p m among means) (λ old. h.all k p m old means node);
     just = λ t there. later t (h.just t there);
   }
     where
-      either : {P : Type 0} {Q : Type 0} (m : Meaning) → IsKnownNode fs m → P ⊎ Means fs f kind (components f.src.now path) m → (P → Q) → Q
+      either : {P : Type 0} {Q : Type 0} (m : Meaning) → IsKnownNode fs m → P ⊎ Means fs f kind (texts f.src.now path) m → (P → Q) → Q
       either m node (inl old) to = to old
       either m node (inr means) to = absurd (none m means node)
 
-  pub target_more : (q : Meaning) → Means fs f kind (components f.src.now path) q → IsKnownNode fs q → AreTargets fs f ss (us ++ (kind, path) ∷ []) (row ++ number_of ss q ∷ [])
+  pub target_more : (q : Meaning) → Means fs f kind (texts f.src.now path) q → IsKnownNode fs q → AreTargets fs f ss (us ++ (kind, path) ∷ []) (row ++ number_of ss q ∷ [])
   target_more q means_q node_q = record {
     all = λ k p m among means node. either m (last_meant k p m among means) (λ old. h.all k p m old means node);
     just = λ t there. back t (Contains-push_cases row (number_of ss q) t there);
   }
     where
-      either : {P : Type 0} (m : Meaning) → P ⊎ Means fs f kind (components f.src.now path) m → (P → Contains row (number_of ss m)) → Contains (row ++ number_of ss q ∷ []) (number_of ss m)
+      either : {P : Type 0} (m : Meaning) → P ⊎ Means fs f kind (texts f.src.now path) m → (P → Contains row (number_of ss m)) → Contains (row ++ number_of ss q ∷ []) (number_of ss m)
       either m (inl old) to = Contains-append_left row (number_of ss q ∷ []) (number_of ss m) (to old)
       either m (inr means) to = subst (λ x. Contains (row ++ number_of ss q ∷ []) (number_of ss x)) (sym (means_q.1 m means.0)) (Contains-push row (number_of ss q))
 
@@ -53,32 +54,42 @@ module _ (fs : List File) (f : File) (ss : List (Vec ℕ)) (us : List (Wanted ×
       back t (inr is) = record { kind = kind; path = path; meant = q; among = Contains-push us (kind, path); means = means_q; node = node_q; number = sym is }
 
 -- a declaration or a member stands in its file
-pub node_file : (fs : List File) (m : Meaning) (f : File) (place : Place) (us : List (Wanted × Path)) → IsNode fs m f place us → slice_get fs (file_of m) ≡ Some f
-node_file fs m f place us (declaration p g d at) = at.file_at
-node_file fs m f place us (member p g l i v here there) = here.at.file_at
+pub node_file : (fs : List File) (m : Meaning) (f : File) (place : Place) → IsNode fs m f place → slice_get fs (file_of m) ≡ Some f
+node_file fs m f place (IsNode.declaration p g d at) = at.file_at
+node_file fs m f place (IsNode.member p g l i v here there) = here.at.file_at
+
+-- so do the names on which it depends
+uses_file : (fs : List File) (m : Meaning) (f : File) (kind : Wanted) (path : Path) → Uses fs m f kind path → slice_get fs (file_of m) ≡ Some f
+uses_file fs m f kind path (Uses.declaration p g d _ _ at body) = at.file_at
+uses_file fs m f kind path (Uses.member p g l i v _ here there among) = here.at.file_at
+
+pub uses_node : (fs : List File) (m : Meaning) (f : File) (kind : Wanted) (path : Path) → Uses fs m f kind path → IsKnownNode fs m
+uses_node fs m f kind path (Uses.declaration p g d _ _ at body) = record { file = g; place = _; is = IsNode.declaration p g d at }
+uses_node fs m f kind path (Uses.member p g l i v _ here there among) = record { file = g; place = _; is = IsNode.member p g l i v here there }
 
 pub node_within : (fs : List File) (m : Meaning) → IsKnownNode fs m → file_of m < length fs
-node_within fs m k = slice_get_within fs (file_of m) k.file (node_file fs m k.file k.place k.uses k.is)
+node_within fs m k = slice_get_within fs (file_of m) k.file (node_file fs m k.file k.place k.is)
 
--- the numbers of just those on which a declaration or a member hangs
+-- the numbers of just those on which a declaration or a member depends
 pub record IsRow (fs : List File) (ss : List (Vec ℕ)) (one : Meaning) (row : List ℕ) : Type 0 where
-  pub all : (other : Meaning) → HangsOn fs one other → Contains row (number_of ss other)
-  pub just : (t : ℕ) → Contains row t → (other : Meaning) × (HangsOn fs one other × (t ≡ number_of ss other))
+  pub all : (other : Meaning) → DependsOn fs one other → Contains row (number_of ss other)
+  pub just : (t : ℕ) → Contains row t → (other : Meaning) × (DependsOn fs one other × (t ≡ number_of ss other))
 
 -- they are what its names mean
 pub row_of_targets : (fs : List File) (ss : List (Vec ℕ)) (one : Meaning) (us : List (Wanted × Path)) (row : List ℕ) → IsKnownNode fs one
-    → ((f : File) (place : Place) (uses : List (Wanted × Path)) → IsNode fs one f place uses → us ≡ uses)
+    → ((f : File) → slice_get fs (file_of one) ≡ Some f → AreNames (Uses fs one f) us)
     → ((f : File) → slice_get fs (file_of one) ≡ Some f → AreTargets fs f ss us row) → IsRow fs ss one row
-row_of_targets fs ss one us row known its targets = record {
-  all = λ other h. (targets_in h.file h.place h.uses h.is).all h.kind h.path other h.among h.means h.target;
+row_of_targets fs ss one us row known names targets = record {
+  all = λ other h.
+      let at = uses_file fs one h.file h.kind h.path h.uses in
+      (targets h.file at).all h.kind h.path other ((names h.file at).all h.kind h.path h.uses) h.means h.target;
   just = λ t there.
-      let k = (targets_in known.file known.place known.uses known.is).just t there in
-      let hangs : HangsOn fs one k.meant = record { file = known.file; place = known.place; uses = known.uses; kind = k.kind; path = k.path; is = known.is; among = k.among; means = k.means; target = k.node } in
-      (k.meant, (hangs, k.number));
+      let at = node_file fs one known.file known.place known.is in
+      let k = (targets known.file at).just t there in
+      let uses : Uses fs one known.file k.kind k.path = (names known.file at).just k.kind k.path k.among in
+      let depends : DependsOn fs one k.meant = record { file = known.file; kind = k.kind; path = k.path; uses = uses; means = k.means; target = k.node } in
+      (k.meant, (depends, k.number));
 }
-  where
-    targets_in : (f : File) (place : Place) (uses : List (Wanted × Path)) → IsNode fs one f place uses → AreTargets fs f ss uses row
-    targets_in f place uses is = subst (λ l. AreTargets fs f ss l row) (its f place uses is) (targets f (node_file fs one f place uses is))
 
 -- of what stands in a list with one more at its end, that it is the last, or stands in the list
 same_at : {X : Type 0} (xs : List X) (y : X) (n : ℕ) (x : X) → slice_get (xs ++ y ∷ []) n ≡ Some x → (slice_get xs n ≡ Some x) ⊎ ((n ≡ length xs) × (x ≡ y))

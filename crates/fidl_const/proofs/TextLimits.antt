@@ -3,14 +3,16 @@ use Rattle.std.proofs.Common.{◌≡◌, ◌<◌, ◌≤◌, ℕ, List, Option, 
 use Rattle.std.specs.Prelude.{IfSome, IsSomeAnd}
 use Rattle.fidl_span.specs.declared.words.Span.{Span}
 use Rattle.fidl_tree.specs.declared.file.File.{File}
-use Rattle.fidl_tree.specs.declared.value.Value.{Value}
+use Rattle.fidl_tree.specs.Syntax.{Value}
 use Rattle.fidl_tree.specs.declared.type_constructor.TypeConstructor.{TypeConstructor}
 use Rattle.fidl_tree.specs.declared.declaration.ConstDeclaration.{ConstDeclaration}
-use Rattle.fidl_names.specs.declared.place.Position.{Position}
+use Rattle.fidl_names.specs.declared.place.DeclarationId.{DeclarationId}
+use Rattle.fidl_tree.specs.Views.{type_view, value_view}
 use Rattle.fidl_const.specs.declared.consts.Limits.{Limits}
 use Rattle.fidl_const.specs.declared.fault.ConstFault.TheVariants.{OutOfRange, WrongKind}
-use Rattle.fidl_const.specs.Evaluated.{Allows, IsConstraintOf, IsExceeded, IsOptionalText, TextFails, TextFits, long, optional, type_span, value_span}
-use Rattle.fidl_const.specs.Tables.{AreLimits, IsBoundAmong, Tells}
+use Rattle.fidl_const.specs.Refusals.{type_span, value_span}
+use Rattle.fidl_const.specs.Strings.{Allows, IsConstraintOf, IsExceeded, IsOptionalText, TextFails, TextFits, long, optional}
+use Rattle.fidl_const.specs.Tables.{AreLimits, IsBoundAmong, IsMemoryOr}
 
 -- a string that isn't longer than the limit is no longer than what the limit keeps to
 within_limit : (fs : List File) (h : File) (v : Value) (count : ℕ) (o : Option ℕ) → IsSomeAnd o (Allows fs h v) → (IsSomeAnd o (λ bound. bound < count) → ⊥) → Allows fs h v count
@@ -36,12 +38,12 @@ exceeds_bound fs n f t count (Some bound) among past = record {
   past = past;
 }
 
-module _ (fs : List File) (p : Position) (f : File) (c : ConstDeclaration) (limits : Limits) (count : ℕ) (are : AreLimits fs (IsConstraintOf fs p.file f c.constructor) limits) where
-  pub long_fails : (s : Span) → s ≡ value_span c.value → IsSomeAnd limits.greatest (λ bound. bound < count) → Tells (TextFails fs p f c count) (OutOfRange (record { file = p.file; span = s }))
+module _ (fs : List File) (p : DeclarationId) (f : File) (c : ConstDeclaration) (limits : Limits) (count : ℕ) (are : AreLimits fs (IsConstraintOf fs p.file f c.constructor) limits) where
+  pub long_fails : (s : Span) → s ≡ value_span (value_view c.value) → IsSomeAnd limits.greatest (λ bound. bound < count) → IsMemoryOr (TextFails fs p f c count) (OutOfRange (record { file = p.file; span = s }))
   long_fails s is past =
       inr (long (exceeds_bound fs p.file f c.constructor count limits.greatest are.reached past) (ap (λ (x : Span). OutOfRange (record { file = p.file; span = x })) is))
 
-  pub optional_fails : (s : Span) → s ≡ type_span c.constructor → limits.optional ≡ true → Tells (TextFails fs p f c count) (WrongKind (record { file = p.file; span = s }))
+  pub optional_fails : (s : Span) → s ≡ type_span (type_view c.constructor) → limits.optional ≡ true → IsMemoryOr (TextFails fs p f c count) (WrongKind (record { file = p.file; span = s }))
   optional_fails s is word =
       let k = are.word word in
       let text : IsOptionalText fs p.file f c.constructor = record { of_number = k.of_number; file = k.file; value = k.value; constraint = k.among; word = k.word } in

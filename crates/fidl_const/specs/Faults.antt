@@ -2,7 +2,8 @@
 use Rattle.std.specs.Prelude.{ℕ, List, Option, Some, None, codes}
 use Rattle.fidl_names.specs.declared.place.Place.{Place}
 use Rattle.fidl_const.specs.declared.fault.ConstFault.{ConstFault}
-use Rattle.fidl_const.specs.declared.fault.ConstFault.TheVariants.{OutOfRange, WrongKind, ConstCycle, NotBits, Memory}
+use Rattle.fidl_const.specs.declared.fault.ConstFault.TheVariants.{OutOfRange, WrongKind}
+use Rattle.fidl_const.specs.declared.fault.ConstFault.TheVariants.{ConstCycle, NotBits, Memory}
 
 abbrev pub number_of : ConstFault → ℕ
 number_of (OutOfRange place) = 1
@@ -18,7 +19,7 @@ name_of (ConstCycle place) = codes "ConstCycle"
 name_of (NotBits place) = codes "NotBits"
 name_of Memory = codes "Memory"
 
--- where the sources are at fault; nowhere for want of memory
+-- where the sources are at fault; nowhere where memory ran out
 abbrev pub place_of : ConstFault → Option Place
 place_of (OutOfRange place) = Some place
 place_of (WrongKind place) = Some place

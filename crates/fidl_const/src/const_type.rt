@@ -1,8 +1,8 @@
 //! The types of constants.
 ghost use Rattle.std.specs.Prelude.{◌≡◌, ◌↔◌, Bool, IsTrue};
-ghost use Rattle.fidl_const.specs.Known.{InRange, is_unsigned, Suits, predeclared_type};
+ghost use Rattle.fidl_const.specs.PlainValues.{InRange, is_unsigned, Suits, predeclared_type};
 
-use fidl_names::{Position, Predeclared};
+use fidl_names::{DeclarationId, Predeclared};
 
 /// A type of whole numbers (public source: the FIDL language specification, "Integers").
 #[derive(Clone, Copy, PartialEq, Eq, Debug, Drop)]
@@ -21,9 +21,10 @@ pub enum NumberKind {
 #[derive(Clone, Copy, PartialEq, Eq, Debug, Drop)]
 pub enum BitsOrEnum {
     /// The layout that a declaration is written as, an alias too.
-    Declared(Position),
-    /// The layout that a property of a resource definition has for its type, by the definition's position and the property's number.
-    Property { of: Position, property: usize },
+    Declared(DeclarationId),
+    /// The layout that a property of a resource definition has for its type, by the definition's
+    /// id and the property's number.
+    Property { of: DeclarationId, property: usize },
 }
 
 /// A type that a constant can have (public source: the FIDL language specification, "Constants").
@@ -63,7 +64,7 @@ impl NumberKind {
     }
 }
 
-/// Whether a named value of one type may stand where another is wanted.
+/// Whether a named value of one type may be given where another is wanted.
 pub(crate) fn suits(is_member: bool, own: ConstType, wanted: ConstType) -> bool
     ensures { IsTrue result ↔ Suits is_member own wanted }
 {

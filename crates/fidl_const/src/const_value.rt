@@ -1,6 +1,6 @@
 //! The values of constants.
 ghost use Rattle.std.specs.Prelude.{◌≡◌, ◌↔◌, IsTrue, IfOk};
-ghost use Rattle.fidl_const.specs.Known.{seen, Fits, is_literal_of, joined, text_length};
+ghost use Rattle.fidl_const.specs.PlainValues.{seen, Fits, is_literal_of, joined, text_length};
 
 use crate::const_type::ConstType;
 use std::alloc::{AllocError, Global};
@@ -16,7 +16,7 @@ pub enum ConstValue {
 }
 
 impl ConstValue {
-    /// The same value once more.
+    /// A copy.
     pub(crate) fn copy(&self, alloc: Global) -> Result<ConstValue, AllocError>
         ensures { IfOk result (λ copy. seen copy ≡ seen self.now) }
     {

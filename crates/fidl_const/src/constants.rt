@@ -1,13 +1,14 @@
 //! The values of constants and members.
-ghost use Rattle.std.specs.Prelude.{◌≡◌, ◌<◌, ◌↔◌, Some, slice_get, IfOk, IfErr, OnOk, IsTrue, IsSomeAnd};
-ghost use Rattle.fidl_tree.specs.declared.type_constructor.ValuesLayout.{out-ValuesLayout};
+ghost use Rattle.std.specs.Prelude.{◌≡◌, ◌<◌, ◌↔◌, IfOk, IfErr, OnOk, IsTrue, IsSomeAnd};
+ghost use Rattle.fidl_tree.specs.Views.{keyword_span, body_view, type_view, value_view};
 ghost use Rattle.fidl_names.specs.declared.meaning.Meaning.TheVariants as Given;
-ghost use Rattle.fidl_const.specs.Known.{seen, text_length};
-ghost use Rattle.fidl_const.specs.Types.{IsConstAt, IsValuesAt, IsStringType, constraints_of};
-ghost use Rattle.fidl_const.specs.Uses.{type_uses, value_uses};
-ghost use Rattle.fidl_const.specs.Values.{Offers};
-ghost use Rattle.fidl_const.specs.Evaluated.{layout_span, type_span, IsConstraintOf, TextFits, TextFails, ConstantFails, Fails};
-ghost use Rattle.fidl_const.specs.Tables.{AreTrue, AreSettled, AreLimits, Tells};
+ghost use Rattle.fidl_const.specs.PlainValues.{seen, text_length};
+ghost use Rattle.fidl_const.specs.Types.{IsConstAt, IsValuesAt, IsStringType, IsMemberOf};
+ghost use Rattle.fidl_names.specs.Places.{value_paths};
+ghost use Rattle.fidl_const.specs.Refusals.{layout_span, type_span};
+ghost use Rattle.fidl_const.specs.Strings.{TextFits, TextFails};
+ghost use Rattle.fidl_const.specs.Evaluated.{ConstantFails, Fails};
+ghost use Rattle.fidl_const.specs.Tables.{AreTrue, PathsSettled, IsMemoryOr, TypeSettled, HasEntry};
 
 use crate::bounds::limits;
 use crate::const_type::{BitsOrEnum, ConstType};
@@ -16,32 +17,41 @@ use crate::consts::{Entry, Limits};
 use crate::fault::ConstFault;
 use crate::found::{FoundConst, FoundMember};
 use crate::layouts::member_kind;
+use crate::names::path_place;
+use crate::scope::{FileScope, NamedFile, Scope};
 use crate::types::{is_string_type, underlying_path, written_type};
-use crate::values::{Scope, value_in, value_span};
-use fidl_names::{Place, Position, path_span};
+use crate::values::{value_in, value_span};
+use fidl_names::{DeclarationId, Place};
 use fidl_span::Span;
 use fidl_tree::{LayoutBody, TypeConstructor, ValuesKeyword};
 
-/// Where a layout's keyword stands.
+/// The place of the keyword of bits or an enum.
+fn keyword_span(keyword: &ValuesKeyword) -> Span
+    ensures { result ≡ keyword_span keyword.now }
+{
+    match keyword {
+        ValuesKeyword::Bits(span) | ValuesKeyword::Enum(span) => *span,
+    }
+}
+
+/// The place of a layout's keyword.
 fn layout_span(body: &LayoutBody) -> Span
-    ensures { result ≡ layout_span body.now }
+    ensures { result ≡ layout_span (body_view body.now) }
 {
     match body {
-        LayoutBody::Values(layout) => match &layout.keyword {
-            ValuesKeyword::Bits(span) | ValuesKeyword::Enum(span) => *span,
-        },
+        LayoutBody::Values(layout) => keyword_span(&layout.keyword),
         LayoutBody::Struct(layout) => layout.keyword,
         LayoutBody::Table(layout) => layout.keyword,
         LayoutBody::Union(layout) => layout.keyword,
     }
 }
 
-/// Where a type stands: its name, or its layout's keyword.
+/// The place of a type: its name, or its layout's keyword.
 fn type_span(constructor: &TypeConstructor) -> Span
-    ensures { result ≡ type_span constructor.now }
+    ensures { result ≡ type_span (type_view constructor.now) }
 {
     match constructor {
-        TypeConstructor::Named(named) => path_span(&named.path),
+        TypeConstructor::Named(named) => path_place(&named.path),
         TypeConstructor::Layout { layout, .. } => layout_span(&layout.body),
     }
 }
@@ -56,32 +66,46 @@ fn exceeds(limits: Limits, count: usize) -> bool
     }
 }
 
-/// A string keeps to the bounds of its constant's type.
-fn see_text(
-    scope: &Scope<'_, '_, '_>,
-    position: Position,
+/// A string is no longer than the bounds of its constant's type.
+fn check_text(
+    scope: &Scope<'_, '_, '_, '_>,
+    id: DeclarationId,
     found: FoundConst<'_, '_>,
     value: &ConstValue,
 ) -> Result<(), ConstFault>
-    requires at { IsConstAt scope.now.named.now position found.file.now found.constant.now }
+    requires at { IsConstAt scope.now.named.now id found.file.now found.constant.now }
     requires known { AreTrue scope.now.named.now scope.now.consts.now }
-    requires settled { AreSettled scope.now.named.now found.file.now scope.now.consts.now (type_uses found.file.now found.constant.now.constructor) }
-    requires string { IsStringType scope.now.named.now found.file.now found.constant.now.constructor }
-    ensures ok { OnOk result (TextFits scope.now.named.now position.file found.entry.file.now found.entry.constant.now.constructor (text_length (seen value.now))) }
-    ensures told { IfErr result (Tells (TextFails scope.now.named.now position found.entry.file.now found.entry.constant.now (text_length (seen value.now)))) }
+    requires settled { TypeSettled scope.now.named.now found.file.now scope.now.consts.now
+        found.constant.now.constructor }
+    requires string { IsStringType scope.now.named.now found.file.now
+        found.constant.now.constructor }
+    ensures ok { OnOk result (TextFits scope.now.named.now id.file found.entry.file.now
+        found.entry.constant.now.constructor (text_length (seen value.now))) }
+    ensures fault_is_true { IfErr result (IsMemoryOr (TextFails scope.now.named.now id
+        found.entry.file.now found.entry.constant.now (text_length (seen value.now)))) }
 {
     let constant = found.constant;
-    let limits = limits(scope, position.file, found.file, &constant.constructor)?;
+    let file = NamedFile {
+        named: scope.named,
+        file_index: id.file,
+        tree: found.file,
+    };
+    let inside = FileScope {
+        alloc: scope.alloc,
+        consts: scope.consts,
+        file,
+    };
+    let limits = limits(&inside, &constant.constructor)?;
     if limits.optional {
         let place = Place {
-            file: position.file,
+            file: id.file,
             span: type_span(&constant.constructor),
         };
         return Err(ConstFault::WrongKind { place });
     }
     if exceeds(limits, value.text_length()) {
         let place = Place {
-            file: position.file,
+            file: id.file,
             span: value_span(&constant.value),
         };
         return Err(ConstFault::OutOfRange { place });
@@ -91,68 +115,81 @@ fn see_text(
 
 /// The value of a constant.
 pub(crate) fn constant_entry(
-    scope: &Scope<'_, '_, '_>,
-    position: Position,
+    scope: &Scope<'_, '_, '_, '_>,
+    id: DeclarationId,
     found: FoundConst<'_, '_>,
 ) -> Result<Entry, ConstFault>
-    requires at { IsConstAt scope.now.named.now position found.file.now found.constant.now }
+    requires at { IsConstAt scope.now.named.now id found.file.now found.constant.now }
     requires known { AreTrue scope.now.named.now scope.now.consts.now }
-    requires types { AreSettled scope.now.named.now found.file.now scope.now.consts.now (type_uses found.file.now found.constant.now.constructor) }
-    requires values { AreSettled scope.now.named.now found.file.now scope.now.consts.now (value_uses found.constant.now.value) }
-    ensures offers { IfOk result (λ e. Offers scope.now.named.now (Given.Declared position) e.own (seen e.value)) }
-    ensures text { IfOk result (λ e. IsStringType scope.now.named.now found.entry.file.now found.entry.constant.now.constructor → TextFits scope.now.named.now position.file found.entry.file.now found.entry.constant.now.constructor (text_length (seen e.value))) }
-    ensures told { IfErr result (Tells (ConstantFails scope.now.named.now position found.entry.file.now found.entry.constant.now)) }
+    requires types { TypeSettled scope.now.named.now found.file.now scope.now.consts.now
+        found.constant.now.constructor }
+    requires values { PathsSettled scope.now.named.now found.file.now scope.now.consts.now
+        (value_paths (value_view found.constant.now.value)) }
+    ensures offers { IfOk result (HasEntry scope.now.named.now (Given.Declared id)) }
+    ensures text { IfOk result (λ e. IsStringType scope.now.named.now found.entry.file.now
+        found.entry.constant.now.constructor
+        → TextFits scope.now.named.now id.file found.entry.file.now
+        found.entry.constant.now.constructor (text_length (seen e.value))) }
+    ensures fault_is_true { IfErr result (IsMemoryOr (ConstantFails scope.now.named.now id
+        found.entry.file.now found.entry.constant.now)) }
 {
     let constant = found.constant;
     let constructor = &constant.constructor;
-    let written = written_type(scope.named, position.file, found.file, constructor)?;
+    let file = NamedFile {
+        named: scope.named,
+        file_index: id.file,
+        tree: found.file,
+    };
+    let written = written_type(&file, constructor)?;
     let Some(own) = written else {
         let place = Place {
-            file: position.file,
+            file: id.file,
             span: type_span(constructor),
         };
         return Err(ConstFault::WrongKind { place });
     };
-    let value = value_in(scope, position.file, found.file, own, &constant.value)?;
-    if is_string_type(scope.named, position.file, found.file, constructor)? {
-        see_text(scope, position, found, &value)?;
+    let inside = FileScope {
+        alloc: scope.alloc,
+        consts: scope.consts,
+        file,
+    };
+    let value = value_in(&inside, own, &constant.value)?;
+    if is_string_type(&file, constructor)? {
+        check_text(scope, id, found, &value)?;
     }
     Ok(Entry { own, value })
 }
 
 /// The value of a member of bits or an enum.
 pub(crate) fn member_entry(
-    scope: &Scope<'_, '_, '_>,
-    position: Position,
+    scope: &Scope<'_, '_, '_, '_>,
+    id: DeclarationId,
     number: usize,
     found: FoundMember<'_, '_>,
 ) -> Result<Entry, ConstFault>
-    requires layout { IsValuesAt scope.now.named.now position found.file.now found.layout.now }
-    requires member { slice_get (out-ValuesLayout found.layout.now).members.items number ≡ Some found.member.now }
+    requires layout { IsValuesAt scope.now.named.now id found.file.now found.layout.now }
+    requires member { IsMemberOf found.layout.now number found.member.now }
     requires known { AreTrue scope.now.named.now scope.now.consts.now }
-    requires settled { AreSettled scope.now.named.now found.file.now scope.now.consts.now (value_uses found.member.now.value) }
-    ensures offers { IfOk result (λ e. Offers scope.now.named.now (Given.Member position number) e.own (seen e.value)) }
-    ensures told { IfErr result (Tells (Fails scope.now.named.now)) }
+    requires settled { PathsSettled scope.now.named.now found.file.now scope.now.consts.now
+        (value_paths (value_view found.member.now.value)) }
+    ensures offers { IfOk result (HasEntry scope.now.named.now (Given.Member id number)) }
+    ensures fault_is_true { IfErr result (IsMemoryOr (Fails scope.now.named.now)) }
 {
     let layout = found.layout;
-    let underlying = underlying_path(layout);
-    let kind = member_kind(
-        scope.named,
-        position.file,
-        found.file,
-        &layout.keyword,
-        underlying,
-    )?;
-    let wanted = ConstType::Number(kind);
-    let value = value_in(
-        scope,
-        position.file,
-        found.file,
-        wanted,
-        &found.member.value,
-    )?;
+    let file = NamedFile {
+        named: scope.named,
+        file_index: id.file,
+        tree: found.file,
+    };
+    let kind = member_kind(&file, &layout.keyword, underlying_path(layout))?;
+    let inside = FileScope {
+        alloc: scope.alloc,
+        consts: scope.consts,
+        file,
+    };
+    let value = value_in(&inside, ConstType::Number(kind), &found.member.value)?;
     Ok(Entry {
-        own: ConstType::Values(BitsOrEnum::Declared(position)),
+        own: ConstType::Values(BitsOrEnum::Declared(id)),
         value,
     })
 }

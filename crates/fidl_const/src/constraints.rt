@@ -1,15 +1,17 @@
 //! The values of the constraints of types.
-ghost use Rattle.std.specs.Prelude.{◌≡◌, ◌<◌, ℕ, length, Some, option_copied, slice_get, IfOk, IfErr, IfSome, IsNone, OnOk};
-ghost use Rattle.fidl_tree.specs.declared.file.File.{File as Tree};
-ghost use Rattle.fidl_tree.specs.declared.declaration.Property.{Property as Field};
-ghost use Rattle.fidl_names.specs.declared.place.Position.{Position as Site};
+ghost use Rattle.std.specs.Prelude.{◌≡◌, ◌<◌, length, Some, IfOk, IfErr, IfSome, IsNone, OnOk};
+ghost use Rattle.fidl_tree.specs.Views.{path_view};
 ghost use Rattle.fidl_names.specs.declared.meaning.Meaning.{Meaning as Meant};
 ghost use Rattle.fidl_names.specs.declared.meaning.Meaning.TheVariants as Given;
-ghost use Rattle.fidl_names.specs.Items.{ItemMeans, IsPropertyFor};
-ghost use Rattle.fidl_const.specs.Known.{seen};
-ghost use Rattle.fidl_const.specs.Values.{Offers};
-ghost use Rattle.fidl_const.specs.Evaluated.{is_bounded, HasPropertyValue, HasItemValue, PropertyMemberFails, ItemNameGives, ItemNameFails, ItemIs, ItemFails, PropertyWants, ConstraintHolds, ConstraintFails, ConstraintsHold, ConstraintsFail};
-ghost use Rattle.fidl_const.specs.Tables.{AreConsts, Tells};
+ghost use Rattle.fidl_names.specs.Constraints.{ItemMeans};
+ghost use Rattle.fidl_names.specs.Scopes.{OfFile};
+ghost use Rattle.fidl_const.specs.Constraints.{is_bounded, HasPropertyValue, HasItemValue};
+ghost use Rattle.fidl_const.specs.Constraints.{PropertyMemberFails, PropertyWants, IsForNoProperty};
+ghost use Rattle.fidl_const.specs.Tables.{AreConsts, IsMemoryOr, HasEntry};
+ghost use Rattle.fidl_const.specs.Scopes.{HoldsConstraint, HoldsConstraints, KnowsAll, ReadsHandle};
+ghost use Rattle.fidl_const.specs.Scopes.{ReadsItem, ReadsItemName, RefusesConstraint};
+ghost use Rattle.fidl_const.specs.Scopes.{RefusesConstraints, RefusesHandle, RefusesItem};
+ghost use Rattle.fidl_const.specs.Scopes.{RefusesItemName};
 
 use crate::const_type::{BitsOrEnum, ConstType, NumberKind};
 use crate::const_value::ConstValue;
@@ -17,14 +19,15 @@ use crate::consts::Entry;
 use crate::fault::ConstFault;
 use crate::found::{declaration_at, property_values_at};
 use crate::layouts::member_kind;
-use crate::names::is_memory;
+use crate::names::{is_memory, path_place};
+use crate::scope::{FileScope, NamedFile, Scope};
 use crate::types::{property_type, underlying_path};
-use crate::values::{Scope, given, offered, value_in, value_span};
-use fidl_names::{Meaning, Named, Place, Position, Predeclared, ordinary, path_alone, path_span};
-use fidl_tree::{Constraints, DeclarationBody, File, Path, Value};
+use crate::values::{given, value_in, value_of, value_span};
+use fidl_names::{DeclarationId, Meaning, Named, Place, Predeclared, ordinary, path_alone};
+use fidl_tree::{Constraints, DeclarationBody, Path, Value};
 use std::alloc::AllocError;
 
-/// Whether a type's constraints are bounds, by what stands behind its name.
+/// Whether a type's constraints are bounds, by what its name resolves to.
 fn is_bounded(end: Meaning) -> bool
     ensures { result ≡ is_bounded end }
 {
@@ -37,16 +40,18 @@ fn is_bounded(end: Meaning) -> bool
 /// What a constraint means that is just a name, if it means just one thing.
 fn item_meaning(
     named: &Named<'_, '_>,
-    number: usize,
+    file_index: usize,
     end: Meaning,
     rank: usize,
     path: &Path,
 ) -> Result<Option<Meaning>, AllocError>
-    requires { number < length named.now }
-    ensures found { IfOk result (λ found. (f : Tree) → slice_get named.now number ≡ Some f → IfSome found (ItemMeans named.now f (Some end) rank path.now)) }
-    ensures none { IfOk result (λ found. (f : Tree) → slice_get named.now number ≡ Some f → IsNone found → (m : Meant) → ItemMeans named.now f (Some end) rank path.now m → ⊥) }
+    requires { file_index < length named.now }
+    ensures found { IfOk result (λ found. OfFile named.now file_index
+        (λ f. IfSome found (ItemMeans named.now f (Some end) rank (path_view path.now)))) }
+    ensures none { IfOk result (λ found. OfFile named.now file_index (λ f. IsNone found
+        → (m : Meant) → ItemMeans named.now f (Some end) rank (path_view path.now) m → ⊥)) }
 {
-    match named.constraint(number, Some(end), rank, path) {
+    match named.constraint(file_index, Some(end), rank, path) {
         Ok(meaning) => Ok(Some(meaning)),
         Err(fault) => {
             if is_memory(fault) {
@@ -58,16 +63,20 @@ fn item_meaning(
 }
 
 /// The value of a member of the bits or the enum that a property is written as.
-fn property_member(
-    scope: &Scope<'_, '_, '_>,
-    of: Position,
+pub(crate) fn property_member(
+    scope: &Scope<'_, '_, '_, '_>,
+    of: DeclarationId,
     property: usize,
     number: usize,
 ) -> Result<Option<Entry>, ConstFault>
     requires { AreConsts scope.now.named.now scope.now.consts.now }
-    ensures found { IfOk result (λ found. IfSome found (λ e. Offers scope.now.named.now (Given.PropertyMember of property number) e.own (seen e.value))) }
-    ensures none { IfOk result (λ found. IsNone found → HasPropertyValue scope.now.named.now (Given.PropertyMember of property number) → ⊥) }
-    ensures told { IfErr result (Tells (λ fault. PropertyMemberFails scope.now.named.now fault (Given.PropertyMember of property number))) }
+    ensures found { IfOk result (λ found. IfSome found
+        (HasEntry scope.now.named.now (Given.PropertyMember of property number))) }
+    ensures none { IfOk result (λ found. IsNone found
+        → HasPropertyValue scope.now.named.now (Given.PropertyMember of property number) → ⊥) }
+    ensures fault_is_true { IfErr result (IsMemoryOr
+        (λ fault. PropertyMemberFails scope.now.named.now
+        fault (Given.PropertyMember of property number))) }
 {
     let Some(found) = property_values_at(scope.named, of, property) else {
         return Ok(None);
@@ -76,16 +85,18 @@ fn property_member(
     let Some(member) = layout.members.get(number) else {
         return Ok(None);
     };
-    let underlying = underlying_path(layout);
-    let kind = member_kind(
-        scope.named,
-        of.file,
-        found.file,
-        &layout.keyword,
-        underlying,
-    )?;
-    let wanted = ConstType::Number(kind);
-    let value = value_in(scope, of.file, found.file, wanted, &member.value)?;
+    let file = NamedFile {
+        named: scope.named,
+        file_index: of.file,
+        tree: found.file,
+    };
+    let kind = member_kind(&file, &layout.keyword, underlying_path(layout))?;
+    let inside = FileScope {
+        alloc: scope.alloc,
+        consts: scope.consts,
+        file,
+    };
+    let value = value_in(&inside, ConstType::Number(kind), &member.value)?;
     Ok(Some(Entry {
         own: ConstType::Values(BitsOrEnum::Property { of, property }),
         value,
@@ -93,11 +104,14 @@ fn property_member(
 }
 
 /// The value of its own that the meaning of a constraint has.
-fn item_entry(scope: &Scope<'_, '_, '_>, meaning: Meaning) -> Result<Option<Entry>, ConstFault>
+fn item_entry(scope: &Scope<'_, '_, '_, '_>, meaning: Meaning) -> Result<Option<Entry>, ConstFault>
     requires { AreConsts scope.now.named.now scope.now.consts.now }
-    ensures found { IfOk result (λ found. IfSome found (λ e. Offers scope.now.named.now meaning e.own (seen e.value))) }
-    ensures none { IfOk result (λ found. IsNone found → HasItemValue scope.now.named.now meaning → ⊥) }
-    ensures told { IfErr result (Tells (λ fault. PropertyMemberFails scope.now.named.now fault meaning)) }
+    ensures found { IfOk result (λ found. IfSome found (HasEntry scope.now.named.now meaning)) }
+    ensures none { IfOk result (λ found. IsNone found → HasItemValue scope.now.named.now meaning
+        → ⊥) }
+    ensures fault_is_true { IfErr result (IsMemoryOr
+        (λ fault. PropertyMemberFails scope.now.named.now
+        fault meaning)) }
 {
     match meaning {
         Meaning::PropertyMember {
@@ -106,34 +120,38 @@ fn item_entry(scope: &Scope<'_, '_, '_>, meaning: Meaning) -> Result<Option<Entr
             number,
         } => property_member(scope, of, property, number),
         Meaning::Predeclared(_) | Meaning::Declared(_) | Meaning::Member { .. } => {
-            Ok(offered(scope, meaning)?)
+            Ok(value_of(scope, meaning)?)
         }
     }
 }
 
 /// The value that a constraint has which is just a name, at a property's type.
 fn item_name_value(
-    scope: &Scope<'_, '_, '_>,
-    number: usize,
-    file: &File<'_>,
+    scope: &FileScope<'_, '_, '_, '_>,
     end: Meaning,
     rank: usize,
     wanted: ConstType,
     path: &Path,
 ) -> Result<ConstValue, ConstFault>
-    requires file_at { slice_get scope.now.named.now number ≡ Some file.now }
-    requires known { AreConsts scope.now.named.now scope.now.consts.now }
-    ensures ok { IfOk result (λ v. ItemNameGives scope.now.named.now file.now end rank wanted path.now (seen v)) }
-    ensures told { IfErr result (Tells (ItemNameFails scope.now.named.now file.now number end rank wanted path.now)) }
+    requires known { KnowsAll scope.now }
+    ensures ok { IfOk result (ReadsItemName scope.now end rank wanted path.now) }
+    ensures fault_is_true { IfErr result (IsMemoryOr (RefusesItemName scope.now end rank wanted
+        path.now)) }
 {
+    let file = scope.file;
     let place = Place {
-        file: number,
-        span: path_span(path),
+        file: file.file_index,
+        span: path_place(path),
     };
-    let Some(meaning) = item_meaning(scope.named, number, end, rank, path)? else {
+    let Some(meaning) = item_meaning(file.named, file.file_index, end, rank, path)? else {
         return Err(ConstFault::WrongKind { place });
     };
-    match item_entry(scope, meaning)? {
+    let set = Scope {
+        alloc: scope.alloc,
+        named: file.named,
+        consts: scope.consts,
+    };
+    match item_entry(&set, meaning)? {
         None => Err(ConstFault::WrongKind { place }),
         Some(entry) => given(meaning, entry, wanted, place),
     }
@@ -141,38 +159,37 @@ fn item_name_value(
 
 /// The value that a constraint has at a property's type.
 fn item_value(
-    scope: &Scope<'_, '_, '_>,
-    number: usize,
-    file: &File<'_>,
+    scope: &FileScope<'_, '_, '_, '_>,
     end: Meaning,
     rank: usize,
     wanted: ConstType,
     value: &Value,
 ) -> Result<ConstValue, ConstFault>
-    requires file_at { slice_get scope.now.named.now number ≡ Some file.now }
-    requires known { AreConsts scope.now.named.now scope.now.consts.now }
-    ensures ok { IfOk result (λ v. ItemIs scope.now.named.now file.now end rank wanted value.now (seen v)) }
-    ensures told { IfErr result (Tells (ItemFails scope.now.named.now file.now number end rank wanted value.now)) }
+    requires known { KnowsAll scope.now }
+    ensures ok { IfOk result (ReadsItem scope.now end rank wanted value.now) }
+    ensures fault_is_true { IfErr result (IsMemoryOr
+        (RefusesItem scope.now end rank wanted value.now)) }
 {
     match path_alone(value) {
-        None => value_in(scope, number, file, wanted, value),
-        Some(path) => item_name_value(scope, number, file, end, rank, wanted, path),
+        None => value_in(scope, wanted, value),
+        Some(path) => item_name_value(scope, end, rank, wanted, path),
     }
 }
 
-/// The type of the property that a constraint is for, by what stands behind its type and its number, from 0, among those that aren't `optional`.
+/// The type of the property that a constraint is for, by what its type resolves to and its number,
+/// from 0, among those that aren't `optional`.
 fn wanted_type(
     named: &Named<'_, '_>,
     end: Meaning,
     rank: usize,
 ) -> Result<Option<Option<ConstType>>, AllocError>
     ensures found { IfOk result (λ found. IfSome found (PropertyWants named.now end rank)) }
-    ensures none { IfOk result (λ found. IsNone found → (p : Site) (g : Tree) (n : ℕ) (m : Field) → IsPropertyFor named.now (Some end) rank p g n m → ⊥) }
+    ensures none { IfOk result (λ found. IsNone found → IsForNoProperty named.now end rank) }
 {
     let Some(at) = named.property(end, rank) else {
         return Ok(None);
     };
-    let Some(found) = declaration_at(named, at.position) else {
+    let Some(found) = declaration_at(named, at.id) else {
         return Ok(None);
     };
     let DeclarationBody::Resource(definition) = &found.declaration.body else {
@@ -181,65 +198,78 @@ fn wanted_type(
     let Some(property) = definition.properties.members.get(at.number) else {
         return Ok(None);
     };
-    let wanted = property_type(
+    let file = NamedFile {
         named,
-        at.position,
-        at.number,
-        found.file,
-        &property.constructor,
-    )?;
+        file_index: at.id.file,
+        tree: found.file,
+    };
+    let wanted = property_type(&file, at.id, at.number, &property.constructor)?;
     Ok(Some(wanted))
 }
 
-/// An ordinary constraint has the value that it owes: a bound, or what a property wants.
-fn see_constraint(
-    scope: &Scope<'_, '_, '_>,
-    number: usize,
-    file: &File<'_>,
+/// The value of a handle's constraint, where a property wants one.
+pub(crate) fn handle_value(
+    scope: &FileScope<'_, '_, '_, '_>,
     end: Meaning,
     rank: usize,
     value: &Value,
-) -> Result<(), ConstFault>
-    requires file_at { slice_get scope.now.named.now number ≡ Some file.now }
-    requires known { AreConsts scope.now.named.now scope.now.consts.now }
-    ensures ok { OnOk result (ConstraintHolds scope.now.named.now file.now end rank value.now) }
-    ensures told { IfErr result (Tells (ConstraintFails scope.now.named.now file.now number end rank value.now)) }
+) -> Result<Option<ConstValue>, ConstFault>
+    requires known { KnowsAll scope.now }
+    ensures found { IfOk result (λ found. IfSome found
+        (ReadsHandle scope.now end rank value.now)) }
+    ensures none { IfOk result (λ found. IsNone found
+        → IsForNoProperty scope.now.file.named.now end rank) }
+    ensures fault_is_true { IfErr result (IsMemoryOr (RefusesHandle scope.now end rank value.now)) }
 {
-    if is_bounded(end) {
-        let wanted = ConstType::Number(NumberKind::Uint32);
-        value_in(scope, number, file, wanted, value)?;
-        return Ok(());
-    }
-    let Some(found) = wanted_type(scope.named, end, rank)? else {
-        return Ok(());
+    let Some(found) = wanted_type(scope.file.named, end, rank)? else {
+        return Ok(None);
     };
     let Some(wanted) = found else {
         let place = Place {
-            file: number,
+            file: scope.file.file_index,
             span: value_span(value),
         };
         return Err(ConstFault::WrongKind { place });
     };
-    item_value(scope, number, file, end, rank, wanted, value)?;
+    let known = item_value(scope, end, rank, wanted, value)?;
+    Ok(Some(known))
+}
+
+/// An ordinary constraint has the value that it owes: a bound, or what a property wants.
+fn check_constraint(
+    scope: &FileScope<'_, '_, '_, '_>,
+    end: Meaning,
+    rank: usize,
+    value: &Value,
+) -> Result<(), ConstFault>
+    requires known { KnowsAll scope.now }
+    ensures ok { OnOk result (HoldsConstraint scope.now end rank value.now) }
+    ensures fault_is_true { IfErr result (IsMemoryOr (RefusesConstraint scope.now end rank
+        value.now)) }
+{
+    if is_bounded(end) {
+        let wanted = ConstType::Number(NumberKind::Uint32);
+        value_in(scope, wanted, value)?;
+        return Ok(());
+    }
+    handle_value(scope, end, rank, value)?;
     Ok(())
 }
 
-/// Each constraint of a type of a file has the value that it owes, where this stands behind the type.
-pub(crate) fn see_constraints(
-    scope: &Scope<'_, '_, '_>,
-    number: usize,
-    file: &File<'_>,
+/// Each constraint of a type of a file has the value that it owes, where the type resolves to this.
+pub(crate) fn check_constraints(
+    scope: &FileScope<'_, '_, '_, '_>,
     end: Meaning,
     constraints: Option<&Constraints>,
 ) -> Result<(), ConstFault>
-    requires file_at { slice_get scope.now.named.now number ≡ Some file.now }
-    requires known { AreConsts scope.now.named.now scope.now.consts.now }
-    ensures ok { OnOk result (ConstraintsHold scope.now.named.now file.now end (option_copied constraints.entry)) }
-    ensures told { IfErr result (Tells (ConstraintsFail scope.now.named.now file.now number end (option_copied constraints.entry))) }
+    requires known { KnowsAll scope.now }
+    ensures ok { OnOk result (HoldsConstraints scope.now end constraints.entry) }
+    ensures fault_is_true { IfErr result (IsMemoryOr (RefusesConstraints scope.now end
+        constraints.entry)) }
 {
-    let values = ordinary(scope.alloc, file, constraints)?;
+    let values = ordinary(scope.alloc, scope.file.tree, constraints)?;
     for (rank, value) in values.iter().enumerate() {
-        see_constraint(scope, number, file, end, rank, value)?;
+        check_constraint(scope, end, rank, value)?;
     }
     Ok(())
 }

@@ -1,22 +1,24 @@
 //! The values of a set of files.
 ghost use Rattle.std.specs.Prelude.{◌≡◌, ◌<◌, ◌≤◌, ◌^◌, None, IfOk, IfSome, IsNone};
 ghost use Rattle.fidl_names.specs.declared.meaning.Meaning.TheVariants as meaning;
-ghost use Rattle.fidl_const.specs.Known.{seen};
+ghost use Rattle.fidl_const.specs.PlainValues.{seen};
 ghost use Rattle.fidl_const.specs.Tables.{number_of, value_at, limits_at, SomeEntry};
 
 use crate::const_type::ConstType;
 use crate::const_value::ConstValue;
-use fidl_names::{Meaning, Position};
+use fidl_names::{DeclarationId, Meaning};
 use std::alloc::{AllocError, Global};
 
-/// A value and the type that it has of its own: of a constant its type, of a member its bits or enum.
+/// A value and the type that it has of its own: of a constant its type, of a member its bits or
+/// enum.
 #[derive(Drop)]
 pub struct Entry {
     pub own: ConstType,
     pub value: ConstValue,
 }
 
-/// How long the strings of an alias may be, and whether the word `optional` stands among its constraints.
+/// How long the strings of an alias may be, and whether the word `optional` is among its
+/// constraints.
 #[derive(Clone, Copy, Drop)]
 pub(crate) struct Limits {
     pub greatest: Option<u64>,
@@ -31,13 +33,13 @@ pub struct Consts {
     pub(crate) limits: Vec<Option<Limits>>,
 }
 
-/// The number of the declaration at a position.
-fn declaration_number(starts: &[Vec<usize>], position: Position) -> usize
-    ensures { result ≡ number_of starts.now (meaning.Declared position) }
+/// The number of the declaration of an id.
+fn declaration_number(starts: &[Vec<usize>], id: DeclarationId) -> usize
+    ensures { result ≡ number_of starts.now (meaning.Declared id) }
 {
-    match starts.get(position.file) {
+    match starts.get(id.file) {
         None => 0,
-        Some(row) => match row.get(position.index) {
+        Some(row) => match row.get(id.index) {
             None => 0,
             Some(start) => *start,
         },
@@ -50,7 +52,7 @@ pub(crate) fn node_number(starts: &[Vec<usize>], meaning: Meaning) -> usize
     ensures { result ≡ number_of starts.now meaning }
 {
     match meaning {
-        Meaning::Declared(position) => declaration_number(starts, position),
+        Meaning::Declared(id) => declaration_number(starts, id),
         Meaning::Member { of, number } => declaration_number(starts, of) + 1 + number,
         Meaning::Predeclared(_) | Meaning::PropertyMember { .. } => 0,
     }
@@ -62,7 +64,7 @@ fn number_below(starts: &[Vec<usize>], meaning: Meaning, count: usize) -> Option
     ensures none { IsNone result → count ≤ number_of starts.now meaning }
 {
     match meaning {
-        Meaning::Declared(position) => Some(declaration_number(starts, position)),
+        Meaning::Declared(id) => Some(declaration_number(starts, id)),
         Meaning::Member { of, number } => {
             let start = declaration_number(starts, of);
             if start < count && number < count - start {
@@ -76,7 +78,7 @@ fn number_below(starts: &[Vec<usize>], meaning: Meaning, count: usize) -> Option
 }
 
 impl Entry {
-    /// The same once more.
+    /// A copy.
     fn copy(&self, alloc: Global) -> Result<Entry, AllocError>
         ensures own { IfOk result (λ copy. copy.own ≡ self.now.own) }
         ensures value { IfOk result (λ copy. seen copy.value ≡ seen self.now.value) }
@@ -91,8 +93,11 @@ impl Entry {
 impl Consts {
     /// The value that the table has of a constant or a member.
     pub(crate) fn value(&self, alloc: Global, meaning: Meaning) -> Result<Option<Entry>, AllocError>
-        ensures found { IfOk result (λ found. IfSome found (λ e. SomeEntry (value_at self.now (number_of self.now.starts.items meaning)) e.own (seen e.value))) }
-        ensures none { IfOk result (λ found. IsNone found → value_at self.now (number_of self.now.starts.items meaning) ≡ None) }
+        ensures found { IfOk result (λ found. IfSome found
+            (λ e. SomeEntry (value_at self.now (number_of self.now.starts.items meaning)) e.own
+            (seen e.value))) }
+        ensures none { IfOk result (λ found. IsNone found
+            → value_at self.now (number_of self.now.starts.items meaning) ≡ None) }
     {
         let Some(number) = number_below(&self.starts, meaning, self.values.len()) else {
             return Ok(None);
@@ -104,10 +109,11 @@ impl Consts {
     }
 
     /// The limits that the table has of an alias of strings.
-    pub(crate) fn limits(&self, position: Position) -> Option<Limits>
-        ensures { result ≡ limits_at self.now (number_of self.now.starts.items (meaning.Declared position)) }
+    pub(crate) fn limits(&self, id: DeclarationId) -> Option<Limits>
+        ensures { result ≡ limits_at self.now (number_of self.now.starts.items
+            (meaning.Declared id)) }
     {
-        match self.limits.get(declaration_number(&self.starts, position)) {
+        match self.limits.get(declaration_number(&self.starts, id)) {
             Some(limits) => *limits,
             None => None,
         }

@@ -5,7 +5,8 @@ use fidl_names::Place;
 use std::alloc::{AllocError, AllocFailed};
 use thiserror::Error;
 
-/// Why constants, members and constraints have no values (public source: the FIDL language specification, "Constants").
+/// Why constants, members and constraints have no values (public source: the FIDL language
+/// specification, "Constants").
 #[derive(Clone, Copy, Debug, PartialEq, Eq, Drop, Error)]
 pub enum ConstFault {
     /// A number is out of its type's range, or a string longer than its bound.
@@ -14,7 +15,7 @@ pub enum ConstFault {
     /// A value, or a type, of another kind than is wanted.
     #[error("this is of another kind than is wanted here")]
     WrongKind { place: Place },
-    /// A constant or a member that hangs on itself.
+    /// A constant, a member or an alias that depends on itself.
     #[error("this leads back to itself")]
     ConstCycle { place: Place },
     /// `|` between values that it doesn't join.
@@ -54,7 +55,8 @@ impl ConstFault {
         }
     }
 
-    /// The name, value or type at fault: the number of its file and its span in bytes; nothing for want of memory.
+    /// The name, value or type at fault: the number of its file and its span in bytes; nothing
+    /// where memory ran out.
     pub fn place(&self) -> Option<Place>
         ensures { result ≡ place_of self.now }
     {

@@ -1,17 +1,19 @@
-//! What stands at the positions of declarations.
-ghost use Rattle.std.specs.Prelude.{◌≡◌, ◌↔◌, ℕ, List, Some, slice_get, IfSome, IsNone, IsTrue, option_copied};
+//! The declarations of ids.
+ghost use Rattle.std.specs.Prelude.{◌≡◌, ◌↔◌, ℕ, List, Some, slice_get, IfSome, IsNone, IsTrue};
+ghost use Rattle.std.specs.Prelude.{option_copied};
 ghost use Rattle.fidl_tree.specs.declared.file.File.{File as Tree};
 ghost use Rattle.fidl_tree.specs.declared.declaration.Declaration.{Declaration as Node};
 ghost use Rattle.fidl_tree.specs.declared.declaration.AliasDeclaration.{AliasDeclaration as AliasNode};
 ghost use Rattle.fidl_tree.specs.declared.declaration.ConstDeclaration.{ConstDeclaration as ConstNode};
 ghost use Rattle.fidl_tree.specs.declared.type_constructor.ValuesLayout.{ValuesLayout as LayoutNode};
-ghost use Rattle.fidl_tree.specs.declared.value_member.ValueMember.{ValueMember as MemberNode};
 ghost use Rattle.fidl_tree.specs.declared.type_constructor.ValuesLayout.{out-ValuesLayout};
+ghost use Rattle.fidl_tree.specs.declared.value_member.ValueMember.{ValueMember as MemberNode};
 ghost use Rattle.fidl_names.specs.Aliases.{IsAliasAt};
-ghost use Rattle.fidl_names.specs.Items.{StandsAt};
-ghost use Rattle.fidl_const.specs.Types.{IsConstAt, values_in, written_values, declared_values, IsValuesAt, IsPropertyValues};
+ghost use Rattle.fidl_names.specs.Constraints.{IsDeclarationAt};
+ghost use Rattle.fidl_const.specs.Types.{IsConstAt, values_in, written_values, declared_values};
+ghost use Rattle.fidl_const.specs.Types.{IsValuesAt, IsMemberOf, IsPropertyValues};
 
-use fidl_names::{Named, Position};
+use fidl_names::{DeclarationId, Named};
 use fidl_tree::{
     AliasDeclaration, ConstDeclaration, Declaration, DeclarationBody, File, LayoutBody,
     TypeConstructor, ValueMember, ValuesLayout,
@@ -24,19 +26,19 @@ pub(crate) struct FoundDeclaration<'f, 's> {
     pub declaration: &'f Declaration,
 }
 
-/// The declaration at a position.
+/// The declaration of an id.
 pub(crate) fn declaration_at<'f, 's>(
     named: &Named<'f, 's>,
-    position: Position,
+    id: DeclarationId,
 ) -> Option<FoundDeclaration<'f, 's>>
-    ensures found { IfSome result (λ x. StandsAt named.now position x.file.now x.declaration.now) }
-    ensures none { IsNone result → (f : Tree) (d : Node) → StandsAt named.now position f d → ⊥ }
+    ensures found { IfSome result (λ x. IsDeclarationAt named.now id x.file.now x.declaration.now) }
+    ensures none { IsNone result → (f : Tree) (d : Node) → IsDeclarationAt named.now id f d → ⊥ }
 {
-    if position.file >= named.count() {
+    if id.file >= named.count() {
         return None;
     }
-    let file = named.file(position.file);
-    let declaration = file.declarations.get(position.index)?;
+    let file = named.file(id.file);
+    let declaration = file.declarations.get(id.index)?;
     Some(FoundDeclaration { file, declaration })
 }
 
@@ -47,15 +49,16 @@ pub(crate) struct FoundConst<'f, 's> {
     pub constant: &'f ConstDeclaration,
 }
 
-/// The constant at a position.
+/// The constant of an id.
 pub(crate) fn const_at<'f, 's>(
     named: &Named<'f, 's>,
-    position: Position,
+    id: DeclarationId,
 ) -> Option<FoundConst<'f, 's>>
-    ensures found { IfSome result (λ x. IsConstAt named.now position x.file.now x.constant.now) }
-    ensures none { IsNone result → (f : Tree) (c : ConstNode) → IsConstAt named.now position f c → ⊥ }
+    ensures found { IfSome result (λ x. IsConstAt named.now id x.file.now x.constant.now) }
+    ensures none { IsNone result → (f : Tree) (c : ConstNode) → IsConstAt named.now id f c
+        → ⊥ }
 {
-    let found = declaration_at(named, position)?;
+    let found = declaration_at(named, id)?;
     match &found.declaration.body {
         DeclarationBody::Const(constant) => Some(FoundConst {
             file: found.file,
@@ -72,15 +75,16 @@ pub(crate) struct FoundAlias<'f, 's> {
     pub alias: &'f AliasDeclaration,
 }
 
-/// The alias at a position.
+/// The alias of an id.
 pub(crate) fn alias_at<'f, 's>(
     named: &Named<'f, 's>,
-    position: Position,
+    id: DeclarationId,
 ) -> Option<FoundAlias<'f, 's>>
-    ensures found { IfSome result (λ x. IsAliasAt named.now position x.file.now x.alias.now) }
-    ensures none { IsNone result → (f : Tree) (a : AliasNode) → IsAliasAt named.now position f a → ⊥ }
+    ensures found { IfSome result (λ x. IsAliasAt named.now id x.file.now x.alias.now) }
+    ensures none { IsNone result → (f : Tree) (a : AliasNode) → IsAliasAt named.now id f a
+        → ⊥ }
 {
-    let found = declaration_at(named, position)?;
+    let found = declaration_at(named, id)?;
     match &found.declaration.body {
         DeclarationBody::Alias(alias) => Some(FoundAlias {
             file: found.file,
@@ -128,15 +132,16 @@ pub(crate) struct FoundValues<'f, 's> {
     pub layout: &'f ValuesLayout,
 }
 
-/// The bits or the enum at a declaration's position.
+/// The bits or the enum of a declaration's id.
 pub(crate) fn values_at<'f, 's>(
     named: &Named<'f, 's>,
-    position: Position,
+    id: DeclarationId,
 ) -> Option<FoundValues<'f, 's>>
-    ensures found { IfSome result (λ x. IsValuesAt named.now position x.file.now x.layout.now) }
-    ensures none { IsNone result → (f : Tree) (l : LayoutNode) → IsValuesAt named.now position f l → ⊥ }
+    ensures found { IfSome result (λ x. IsValuesAt named.now id x.file.now x.layout.now) }
+    ensures none { IsNone result → (f : Tree) (l : LayoutNode) → IsValuesAt named.now id f l
+        → ⊥ }
 {
-    let found = declaration_at(named, position)?;
+    let found = declaration_at(named, id)?;
     let layout = declared_values(&found.declaration.body)?;
     Some(FoundValues {
         file: found.file,
@@ -144,16 +149,18 @@ pub(crate) fn values_at<'f, 's>(
     })
 }
 
-/// The bits or the enum that a property of the resource definition at a position is written as.
+/// The bits or the enum that a property of the resource definition of an id is written as.
 pub(crate) fn property_values_at<'f, 's>(
     named: &Named<'f, 's>,
-    position: Position,
+    id: DeclarationId,
     number: usize,
 ) -> Option<FoundValues<'f, 's>>
-    ensures found { IfSome result (λ x. IsPropertyValues named.now position number x.file.now x.layout.now) }
-    ensures none { IsNone result → (f : Tree) (l : LayoutNode) → IsPropertyValues named.now position number f l → ⊥ }
+    ensures found { IfSome result (λ x. IsPropertyValues named.now id number x.file.now
+        x.layout.now) }
+    ensures none { IsNone result → (f : Tree) (l : LayoutNode)
+        → IsPropertyValues named.now id number f l → ⊥ }
 {
-    let found = declaration_at(named, position)?;
+    let found = declaration_at(named, id)?;
     let DeclarationBody::Resource(definition) = &found.declaration.body else {
         return None;
     };
@@ -173,17 +180,18 @@ pub(crate) struct FoundMember<'f, 's> {
     pub member: &'f ValueMember,
 }
 
-/// A member of the bits or the enum at a declaration's position.
+/// A member of the bits or the enum of a declaration's id.
 pub(crate) fn member_at<'f, 's>(
     named: &Named<'f, 's>,
-    position: Position,
+    id: DeclarationId,
     number: usize,
 ) -> Option<FoundMember<'f, 's>>
-    ensures layout { IfSome result (λ x. IsValuesAt named.now position x.file.now x.layout.now) }
-    ensures member { IfSome result (λ x. slice_get (out-ValuesLayout x.layout.now).members.items number ≡ Some x.member.now) }
-    ensures none { IsNone result → (f : Tree) (l : LayoutNode) (m : MemberNode) → IsValuesAt named.now position f l → slice_get (out-ValuesLayout l).members.items number ≡ Some m → ⊥ }
+    ensures layout { IfSome result (λ x. IsValuesAt named.now id x.file.now x.layout.now) }
+    ensures member { IfSome result (λ x. IsMemberOf x.layout.now number x.member.now) }
+    ensures none { IsNone result → (f : Tree) (l : LayoutNode) (m : MemberNode)
+        → IsValuesAt named.now id f l → IsMemberOf l number m → ⊥ }
 {
-    let found = values_at(named, position)?;
+    let found = values_at(named, id)?;
     let member = found.layout.members.get(number)?;
     Some(FoundMember {
         file: found.file,

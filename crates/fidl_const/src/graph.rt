@@ -1,18 +1,20 @@
-//! The graph of what values hang on, over the numbers of declarations and members.
-ghost use Rattle.std.specs.Prelude.{◌≡◌, ◌<◌, ◌++◌, length, List, Some, map, slice_get, option_copied, IfOk, OnOk};
-ghost use Rattle.fidl_tree.specs.declared.file.File.{File as Tree};
-ghost use Rattle.fidl_tree.specs.declared.path.Path.{Path as PathNode};
-ghost use Rattle.fidl_names.specs.declared.place.Place.{Place as Spot};
-ghost use Rattle.fidl_names.specs.declared.meaning.Wanted.{Wanted as Kind};
+//! The graph of what values depend on, over the numbers of declarations and members.
+ghost use Rattle.std.specs.Prelude.{◌≡◌, ◌<◌, ◌++◌, length, IfOk, OnOk};
+ghost use Rattle.fidl_tree.specs.Views.{value_view};
+ghost use Rattle.fidl_names.specs.Scopes.{OfFile};
+ghost use Rattle.fidl_const.specs.Types.{own_path};
 ghost use Rattle.fidl_names.specs.Cycles.{points_of};
-ghost use Rattle.fidl_const.specs.Uses.{IsNode, IsKnownNode, HangsOn, value_uses, type_uses, body_uses};
-ghost use Rattle.fidl_const.specs.Tables.{AreNumbered, AreRows, AreTargets, file_of, seen_uses};
+ghost use Rattle.fidl_const.specs.Dependencies.{TypeUses, BodyUses, Uses, value_uses, path_uses};
+ghost use Rattle.fidl_const.specs.Dependencies.{constraint_uses};
+ghost use Rattle.fidl_const.specs.Tables.{AreNames, AreNumbered, AreRows, AreTargets, file_of};
+ghost use Rattle.fidl_const.specs.Tables.{seen_uses};
 
 use crate::consts::node_number;
 use crate::found::{declaration_at, member_at};
 use crate::names::find;
 use crate::nodes::{Numbers, is_node};
-use crate::types::{type_constraints, type_path};
+use crate::scope::NamedFile;
+use crate::types::{is_string_type, type_constraints, type_path};
 use fidl_names::{Meaning, Named, Wanted, ordinary, value_paths};
 use fidl_tree::{DeclarationBody, File, Path, TypeConstructor, Value};
 use std::alloc::{AllocError, Global};
@@ -24,13 +26,14 @@ pub(crate) struct NameUse<'f> {
     pub path: &'f Path,
 }
 
-/// The names in a value, behind those before them.
+/// Appends the names in a value.
 fn push_value<'f>(
     uses: &mut Vec<NameUse<'f>>,
     alloc: Global,
     value: &'f Value,
 ) -> Result<(), AllocError>
-    ensures { OnOk result (seen_uses uses.new.items ≡ seen_uses uses.old.items ++ value_uses value.now) }
+    ensures { OnOk result (seen_uses uses.new.items ≡ seen_uses uses.old.items ++ value_uses
+        (value_view value.now)) }
 {
     let paths = value_paths(alloc, value)?;
     for path in &paths {
@@ -42,21 +45,33 @@ fn push_value<'f>(
     Ok(())
 }
 
-/// A type's own name, and those in its constraints.
-fn push_type<'f>(
-    uses: &mut Vec<NameUse<'f>>,
+/// A type's own name.
+fn own_name<'f>(
     alloc: Global,
-    file: &File<'_>,
     constructor: &'f TypeConstructor,
-) -> Result<(), AllocError>
-    ensures { OnOk result (seen_uses uses.new.items ≡ seen_uses uses.old.items ++ type_uses file.now constructor.now) }
+) -> Result<Vec<NameUse<'f>>, AllocError>
+    ensures { IfOk result (λ uses. seen_uses uses.items ≡ path_uses (own_path constructor.now)) }
 {
+    let mut uses = Vec::new(alloc);
     if let Some(path) = type_path(constructor) {
         uses.push(NameUse {
             kind: Wanted::Type,
             path,
         })?;
     }
+    Ok(uses)
+}
+
+/// Appends the names in a type's constraints.
+fn push_constraints<'f>(
+    uses: &mut Vec<NameUse<'f>>,
+    alloc: Global,
+    file: &File<'_>,
+    constructor: &'f TypeConstructor,
+) -> Result<(), AllocError>
+    ensures { OnOk result (seen_uses uses.new.items
+        ≡ seen_uses uses.old.items ++ constraint_uses file.now constructor.now) }
+{
     let values = ordinary(alloc, file, type_constraints(constructor))?;
     for value in &values {
         push_value(uses, alloc, value)?;
@@ -64,24 +79,40 @@ fn push_type<'f>(
     Ok(())
 }
 
-/// The names that a declaration hangs on.
-fn body_uses<'f>(
+/// The names that a type depends on: its own, and where it is a string's those in its bounds.
+fn type_uses<'f>(
     alloc: Global,
-    file: &File<'_>,
-    body: &'f DeclarationBody,
+    file: &NamedFile<'_, '_, '_>,
+    constructor: &'f TypeConstructor,
 ) -> Result<Vec<NameUse<'f>>, AllocError>
-    ensures { IfOk result (λ uses. seen_uses uses.items ≡ body_uses file.now body.now) }
+    ensures { IfOk result (λ uses. AreNames
+        (TypeUses file.now.named.now file.now.tree.now constructor.now) (seen_uses uses.items)) }
 {
-    let mut uses = Vec::new(alloc);
-    match body {
-        DeclarationBody::Const(constant) => {
-            push_type(&mut uses, alloc, file, &constant.constructor)?;
-            push_value(&mut uses, alloc, &constant.value)?;
-        }
-        DeclarationBody::Alias(alias) => push_type(&mut uses, alloc, file, &alias.constructor)?,
-        _ => {}
+    let mut uses = own_name(alloc, constructor)?;
+    if is_string_type(file, constructor)? {
+        push_constraints(&mut uses, alloc, file.tree, constructor)?;
     }
     Ok(uses)
+}
+
+/// The names that a declaration depends on.
+fn body_uses<'f>(
+    alloc: Global,
+    file: &NamedFile<'_, '_, '_>,
+    body: &'f DeclarationBody,
+) -> Result<Vec<NameUse<'f>>, AllocError>
+    ensures { IfOk result (λ uses. AreNames
+        (BodyUses file.now.named.now file.now.tree.now body.now) (seen_uses uses.items)) }
+{
+    match body {
+        DeclarationBody::Const(constant) => {
+            let mut uses = type_uses(alloc, file, &constant.constructor)?;
+            push_value(&mut uses, alloc, &constant.value)?;
+            Ok(uses)
+        }
+        DeclarationBody::Alias(alias) => type_uses(alloc, file, &alias.constructor),
+        _ => Ok(Vec::new(alloc)),
+    }
 }
 
 /// The number of the file of a declaration or a member.
@@ -89,24 +120,32 @@ fn file_number(meaning: Meaning) -> usize
     ensures { result ≡ file_of meaning }
 {
     match meaning {
-        Meaning::Declared(position) => position.file,
+        Meaning::Declared(id) => id.file,
         Meaning::Member { of, .. } | Meaning::PropertyMember { of, .. } => of.file,
         Meaning::Predeclared(_) => 0,
     }
 }
 
-/// The names that a declaration or a member hangs on.
+/// The names that a declaration or a member depends on.
 fn node_uses<'f>(
     named: &Named<'f, '_>,
     alloc: Global,
     meaning: Meaning,
 ) -> Result<Vec<NameUse<'f>>, AllocError>
-    ensures { IfOk result (λ found. (f : Tree) (place : Spot) (uses : List (Kind × PathNode)) → IsNode named.now meaning f place uses → seen_uses found.items ≡ uses) }
+    ensures { IfOk result (λ found. OfFile named.now (file_of meaning)
+        (λ f. AreNames (Uses named.now meaning f) (seen_uses found.items))) }
 {
     match meaning {
-        Meaning::Declared(position) => match declaration_at(named, position) {
+        Meaning::Declared(id) => match declaration_at(named, id) {
             None => Ok(Vec::new(alloc)),
-            Some(found) => body_uses(alloc, found.file, &found.declaration.body),
+            Some(found) => {
+                let file = NamedFile {
+                    named,
+                    file_index: id.file,
+                    tree: found.file,
+                };
+                body_uses(alloc, &file, &found.declaration.body)
+            }
         },
         Meaning::Member { of, number } => match member_at(named, of, number) {
             None => Ok(Vec::new(alloc)),
@@ -125,16 +164,17 @@ fn targets(
     named: &Named<'_, '_>,
     alloc: Global,
     numbers: &Numbers,
-    number: usize,
+    file_index: usize,
     uses: &[NameUse<'_>],
 ) -> Result<Vec<usize>, AllocError>
     requires numbered { AreNumbered named.now numbers.now.nodes.items numbers.now.starts.items }
-    requires within { number < length named.now }
-    ensures { IfOk result (λ row. (f : Tree) → slice_get named.now number ≡ Some f → AreTargets named.now f numbers.now.starts.items (seen_uses uses.now) row.items) }
+    requires within { file_index < length named.now }
+    ensures { IfOk result (λ row. OfFile named.now file_index
+        (λ f. AreTargets named.now f numbers.now.starts.items (seen_uses uses.now) row.items)) }
 {
     let mut row = Vec::new(alloc);
     for name in uses {
-        if let Some(meaning) = find(named, number, name.path, name.kind)? {
+        if let Some(meaning) = find(named, file_index, name.path, name.kind)? {
             if is_node(named, meaning) {
                 row.push(node_number(&numbers.starts, meaning))?;
             }
@@ -143,14 +183,15 @@ fn targets(
     Ok(row)
 }
 
-/// The graph of what hangs on what.
+/// The graph of what depends on what.
 pub(crate) fn value_graph(
     named: &Named<'_, '_>,
     alloc: Global,
     numbers: &Numbers,
 ) -> Result<Vec<Vec<usize>>, AllocError>
     requires { AreNumbered named.now numbers.now.nodes.items numbers.now.starts.items }
-    ensures { IfOk result (λ graph. AreRows named.now numbers.now.nodes.items numbers.now.starts.items (points_of graph.items)) }
+    ensures { IfOk result (λ graph. AreRows named.now numbers.now.nodes.items
+        numbers.now.starts.items (points_of graph.items)) }
 {
     let mut graph = Vec::new(alloc);
     for meaning in &numbers.nodes {

@@ -9,6 +9,7 @@ mod constraints;
 mod consts;
 mod evaluation;
 mod fault;
+mod for_types;
 mod found;
 mod graph;
 mod laws;
@@ -18,13 +19,19 @@ mod nodes;
 mod numbers;
 mod order;
 mod places;
+mod scope;
 mod strings;
 mod types;
 mod values;
+pub mod worked;
 
 pub use const_type::{BitsOrEnum, ConstType, NumberKind};
 pub use const_value::ConstValue;
 pub use consts::{Consts, Entry};
 pub use evaluation::evaluate;
 pub use fault::ConstFault;
-pub use laws::{refused_expressions_have_no_value, values_are_unique};
+pub use for_types::{Constraint, underlying_kind};
+pub use laws::{
+    only_bounds_of_strings_are_read, refused_expressions_have_no_value,
+    refused_files_do_not_evaluate, values_are_unique, values_end_with_their_last_operand,
+};

@@ -1,10 +1,14 @@
 //! What the names of files mean.
-ghost use Rattle.std.specs.Prelude.{◌≡◌, ◌<◌, ◌↔◌, length, Some, slice_get, IfOk, IsTrue};
-ghost use Rattle.fidl_tree.specs.declared.file.File.{File as Tree};
+ghost use Rattle.std.specs.Prelude.{◌≡◌, ◌<◌, ◌↔◌, length, IfOk, IsTrue};
 ghost use Rattle.fidl_names.specs.declared.fault.NameFault.TheVariants as Fault;
-ghost use Rattle.fidl_names.specs.Meanings.{components, IsJust, Means};
+ghost use Rattle.fidl_tree.specs.Views.{path_view};
+ghost use Rattle.fidl_names.specs.Meanings.{IsJust, Means};
+ghost use Rattle.fidl_names.specs.OuterTypes.{texts};
+ghost use Rattle.fidl_names.specs.Paths.{path_place};
+ghost use Rattle.fidl_names.specs.Scopes.{OfFile};
 
-use fidl_names::{Meaning, NameFault, Named, Wanted};
+use fidl_names::{Meaning, NameFault, Named, Wanted, path_span};
+use fidl_span::Span;
 use fidl_tree::Path;
 use std::alloc::AllocError;
 
@@ -15,17 +19,25 @@ pub(crate) fn is_memory(fault: NameFault) -> bool
     matches!(fault, NameFault::Memory)
 }
 
+/// Where a name is.
+pub(crate) fn path_place(path: &Path) -> Span
+    ensures { result ≡ path_place (path_view path.now) }
+{
+    path_span(path)
+}
+
 /// What a name of a file means where this kind is wanted, if it means just one thing.
 pub(crate) fn find(
     named: &Named<'_, '_>,
-    number: usize,
+    file_index: usize,
     path: &Path,
     wanted: Wanted,
 ) -> Result<Option<Meaning>, AllocError>
-    requires { number < length named.now }
-    ensures { IfOk result (λ found. (f : Tree) → slice_get named.now number ≡ Some f → IsJust (Means named.now f wanted (components f.src.now path.now)) found) }
+    requires { file_index < length named.now }
+    ensures { IfOk result (λ found. OfFile named.now file_index
+        (λ f. IsJust (Means named.now f wanted (texts f.src.now (path_view path.now))) found)) }
 {
-    match named.meaning(number, path, wanted) {
+    match named.meaning(file_index, path, wanted) {
         Ok(meaning) => Ok(Some(meaning)),
         Err(fault) => {
             if is_memory(fault) {

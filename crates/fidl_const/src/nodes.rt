@@ -2,13 +2,11 @@
 ghost use Rattle.std.specs.Prelude.{◌≡◌, ◌↔◌, ◌++◌, List, length, Some, IfOk, OnOk, IsTrue};
 ghost use Rattle.fidl_names.specs.declared.place.Place.{Place as Spot};
 ghost use Rattle.fidl_tree.specs.declared.file.File.{File as Tree};
-ghost use Rattle.fidl_tree.specs.declared.path.Path.{Path as PathNode};
-ghost use Rattle.fidl_names.specs.declared.meaning.Wanted.{Wanted as Kind};
-ghost use Rattle.fidl_const.specs.Uses.{IsNode, IsKnownNode};
+ghost use Rattle.fidl_const.specs.Dependencies.{IsNode, IsKnownNode};
 ghost use Rattle.fidl_const.specs.Tables.{AreNumbered, member_list, nodes_of, nodes_in, starts_in};
 
 use crate::found::{declaration_at, declared_values, member_at};
-use fidl_names::{Meaning, Named, Place, Position, name_span};
+use fidl_names::{DeclarationId, Meaning, Named, Place, name_span};
 use fidl_tree::{Declaration, DeclarationBody};
 use std::alloc::{AllocError, Global};
 
@@ -24,21 +22,21 @@ pub(crate) fn is_node(named: &Named<'_, '_>, meaning: Meaning) -> bool
     ensures { IsTrue result ↔ IsKnownNode named.now meaning }
 {
     match meaning {
-        Meaning::Declared(position) => declaration_at(named, position).is_some(),
+        Meaning::Declared(id) => declaration_at(named, id).is_some(),
         Meaning::Member { of, number } => member_at(named, of, number).is_some(),
         Meaning::Predeclared(_) | Meaning::PropertyMember { .. } => false,
     }
 }
 
-/// Where the name of a declaration or a member stands.
+/// The place of the name of a declaration or a member.
 pub(crate) fn node_place(named: &Named<'_, '_>, meaning: Meaning) -> Option<Place>
-    ensures { (f : Tree) (place : Spot) (uses : List (Kind × PathNode)) → IsNode named.now meaning f place uses → result ≡ Some place }
+    ensures { (f : Tree) (place : Spot) → IsNode named.now meaning f place → result ≡ Some place }
 {
     match meaning {
-        Meaning::Declared(position) => {
-            let found = declaration_at(named, position)?;
+        Meaning::Declared(id) => {
+            let found = declaration_at(named, id)?;
             Some(Place {
-                file: position.file,
+                file: id.file,
                 span: name_span(&found.declaration.body),
             })
         }
@@ -63,8 +61,12 @@ fn member_count(body: &DeclarationBody) -> usize
     }
 }
 
-/// The declaration at a position and its members, behind those before them.
-fn push_declaration(nodes: &mut Vec<Meaning>, of: Position, count: usize) -> Result<(), AllocError>
+/// Appends the declaration of an id and its members.
+fn push_declaration(
+    nodes: &mut Vec<Meaning>,
+    of: DeclarationId,
+    count: usize,
+) -> Result<(), AllocError>
     ensures { OnOk result (nodes.new.items ≡ nodes.old.items ++ nodes_of of count) }
 {
     nodes.push(Meaning::Declared(of))?;
@@ -74,36 +76,44 @@ fn push_declaration(nodes: &mut Vec<Meaning>, of: Position, count: usize) -> Res
     Ok(())
 }
 
-/// Those of a file, and the numbers of its declarations.
+/// Appends the declarations and members of a file, and gives the numbers of its declarations.
 fn push_file(
     nodes: &mut Vec<Meaning>,
     alloc: Global,
-    number: usize,
+    file_index: usize,
     declarations: &[Declaration],
 ) -> Result<Vec<usize>, AllocError>
-    ensures nodes { OnOk result (nodes.new.items ≡ nodes.old.items ++ nodes_in number 0 declarations.now) }
-    ensures starts { IfOk result (λ starts. starts.items ≡ starts_in (length nodes.old.items) declarations.now) }
+    ensures nodes { OnOk result (nodes.new.items ≡ nodes.old.items ++ nodes_in file_index 0
+        declarations.now) }
+    ensures starts { IfOk result (λ starts. starts.items ≡ starts_in (length nodes.old.items)
+        declarations.now) }
 {
     let mut starts = Vec::new(alloc);
     for (index, declaration) in declarations.iter().enumerate() {
         starts.push(nodes.len())?;
-        let position = Position {
-            file: number,
+        let id = DeclarationId {
+            file: file_index,
             index,
         };
-        push_declaration(nodes, position, member_count(&declaration.body))?;
+        push_declaration(nodes, id, member_count(&declaration.body))?;
     }
     Ok(starts)
 }
 
 /// The numbers of all declarations and members.
 pub(crate) fn number_nodes(named: &Named<'_, '_>, alloc: Global) -> Result<Numbers, AllocError>
-    ensures { IfOk result (λ numbers. AreNumbered named.now numbers.nodes.items numbers.starts.items) }
+    ensures { IfOk result (λ numbers. AreNumbered named.now numbers.nodes.items
+        numbers.starts.items) }
 {
     let mut nodes = Vec::new(alloc);
     let mut starts = Vec::new(alloc);
-    for number in 0..named.count() {
-        let row = push_file(&mut nodes, alloc, number, &named.file(number).declarations)?;
+    for file_index in 0..named.count() {
+        let row = push_file(
+            &mut nodes,
+            alloc,
+            file_index,
+            &named.file(file_index).declarations,
+        )?;
         starts.push(row)?;
     }
     Ok(Numbers { nodes, starts })

@@ -1,4 +1,4 @@
-// What number literals stand for.
+// The values of number literals.
 ghost use Rattle.std.specs.Prelude.{◌≡◌, ◌^◌, ◌<◌, ◌≤◌, length, drop, slice_index, IfSome, IfNone};
 ghost use Rattle.std.specs.Char.{digit_value};
 ghost use Rattle.std.specs.Str.Parse.{digits_value};
@@ -39,7 +39,7 @@ fn has_prefix(text: &[u8], lower: u8, upper: u8) -> bool
     text.len() > 1 && text[0] == b'0' && (text[1] == lower || text[1] == upper)
 }
 
-/// The number that a number word stands for, where it is below 2^64.
+/// The number that a number word writes, where it is below 2^64.
 pub(crate) fn number_value(text: &[u8]) -> Option<u64>
     ensures found { IfSome result (λ n. n ≡ number_of text.now) }
     ensures none { IfNone result (2 ^ 64 ≤ number_of text.now) }

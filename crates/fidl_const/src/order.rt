@@ -1,14 +1,13 @@
-//! The values of all constants and members, in an order in which each stands behind all that it hangs on.
+//! The values of all constants and members, in an order in which each follows all that it depends
+//! on.
 ghost use Rattle.std.specs.Prelude.{◌≡◌, ◌<◌, List, None, length, replicate, IfOk, IfErr, OnOk};
-ghost use Rattle.fidl_tree.specs.declared.file.File.{File as Tree};
-ghost use Rattle.fidl_tree.specs.declared.declaration.ConstDeclaration.{ConstDeclaration as ConstNode};
-ghost use Rattle.fidl_names.specs.declared.place.Position.{Position as Site};
 ghost use Rattle.fidl_names.specs.declared.meaning.Meaning.{Meaning as Meant};
 ghost use Rattle.fidl_names.specs.declared.meaning.Meaning.TheVariants as Given;
-ghost use Rattle.fidl_const.specs.Types.{IsConstAt};
-ghost use Rattle.fidl_const.specs.Uses.{IsKnownNode};
-ghost use Rattle.fidl_const.specs.Evaluated.{ConstantHolds, Fails};
-ghost use Rattle.fidl_const.specs.Tables.{AreNumbered, AreConsts, AreTrue, HasRoom, IsDone, IsFound, IsNodeOrder, UsesSettled, Extends, Tells, with_values, with_limits};
+ghost use Rattle.fidl_const.specs.Dependencies.{IsKnownNode};
+ghost use Rattle.fidl_const.specs.Evaluated.{ConstantsHold, Fails};
+ghost use Rattle.fidl_const.specs.Tables.{AreNumbered, AreConsts, AreTrue, HasRoom, IsDone};
+ghost use Rattle.fidl_const.specs.Tables.{HoldsIfConstant, IsFound, IsNodeOrder, UsesSettled};
+ghost use Rattle.fidl_const.specs.Tables.{Extends, IsMemoryOr, with_values, with_limits};
 
 use crate::bounds::limits;
 use crate::constants::{constant_entry, member_entry};
@@ -16,9 +15,9 @@ use crate::consts::{Consts, Entry, Limits, node_number};
 use crate::fault::ConstFault;
 use crate::found::{alias_at, const_at, member_at};
 use crate::nodes::Numbers;
+use crate::scope::{FileScope, NamedFile, Scope};
 use crate::types::is_string_type;
-use crate::values::Scope;
-use fidl_names::{Meaning, Named, Position};
+use fidl_names::{DeclarationId, Meaning, Named};
 use std::alloc::{AllocError, Global};
 
 /// What a declaration or a member has: a value, limits, or neither.
@@ -29,23 +28,34 @@ pub(crate) struct Found {
 }
 
 /// What a declaration has.
-fn of_declaration(scope: &Scope<'_, '_, '_>, position: Position) -> Result<Found, ConstFault>
+fn of_declaration(scope: &Scope<'_, '_, '_, '_>, id: DeclarationId) -> Result<Found, ConstFault>
     requires known { AreTrue scope.now.named.now scope.now.consts.now }
-    requires settled { UsesSettled scope.now.named.now scope.now.consts.now (Given.Declared position) }
-    ensures ok { IfOk result (IsFound scope.now.named.now (Given.Declared position)) }
-    ensures told { IfErr result (Tells (Fails scope.now.named.now)) }
+    requires settled { UsesSettled scope.now.named.now scope.now.consts.now
+        (Given.Declared id) }
+    ensures ok { IfOk result (IsFound scope.now.named.now (Given.Declared id)) }
+    ensures fault_is_true { IfErr result (IsMemoryOr (Fails scope.now.named.now)) }
 {
-    if let Some(found) = const_at(scope.named, position) {
+    if let Some(found) = const_at(scope.named, id) {
         return Ok(Found {
-            value: Some(constant_entry(scope, position, found)?),
+            value: Some(constant_entry(scope, id, found)?),
             limits: None,
         });
     }
     let mut limits_found = None;
-    if let Some(found) = alias_at(scope.named, position) {
+    if let Some(found) = alias_at(scope.named, id) {
         let constructor = &found.alias.constructor;
-        if is_string_type(scope.named, position.file, found.file, constructor)? {
-            limits_found = Some(limits(scope, position.file, found.file, constructor)?);
+        let file = NamedFile {
+            named: scope.named,
+            file_index: id.file,
+            tree: found.file,
+        };
+        if is_string_type(&file, constructor)? {
+            let inside = FileScope {
+                alloc: scope.alloc,
+                consts: scope.consts,
+                file,
+            };
+            limits_found = Some(limits(&inside, constructor)?);
         }
     }
     Ok(Found {
@@ -55,19 +65,19 @@ fn of_declaration(scope: &Scope<'_, '_, '_>, position: Position) -> Result<Found
 }
 
 /// What a declaration or a member has.
-fn of_node(scope: &Scope<'_, '_, '_>, meaning: Meaning) -> Result<Found, ConstFault>
+fn of_node(scope: &Scope<'_, '_, '_, '_>, meaning: Meaning) -> Result<Found, ConstFault>
     requires known { AreTrue scope.now.named.now scope.now.consts.now }
     requires node { IsKnownNode scope.now.named.now meaning }
     requires settled { UsesSettled scope.now.named.now scope.now.consts.now meaning }
     ensures ok { IfOk result (IsFound scope.now.named.now meaning) }
-    ensures told { IfErr result (Tells (Fails scope.now.named.now)) }
+    ensures fault_is_true { IfErr result (IsMemoryOr (Fails scope.now.named.now)) }
 {
     let none = Found {
         value: None,
         limits: None,
     };
     match meaning {
-        Meaning::Declared(position) => of_declaration(scope, position),
+        Meaning::Declared(id) => of_declaration(scope, id),
         Meaning::Member { of, number } => match member_at(scope.named, of, number) {
             None => Ok(none),
             Some(found) => Ok(Found {
@@ -105,8 +115,8 @@ fn add_node(
     ensures known { OnOk result (AreTrue named.now consts.new) }
     ensures extends { OnOk result (Extends named.now consts.old consts.new) }
     ensures done { OnOk result (IsDone named.now consts.new meaning) }
-    ensures holds { OnOk result ((p : Site) (f : Tree) (c : ConstNode) → meaning ≡ Given.Declared p → IsConstAt named.now p f c → ConstantHolds named.now p f c) }
-    ensures told { IfErr result (Tells (Fails named.now)) }
+    ensures holds { OnOk result (HoldsIfConstant named.now meaning) }
+    ensures fault_is_true { IfErr result (IsMemoryOr (Fails named.now)) }
 {
     let scope = Scope {
         alloc,
@@ -130,7 +140,7 @@ fn no_values(alloc: Global, count: usize) -> Result<Vec<Option<Entry>>, AllocErr
     Ok(values)
 }
 
-/// The values of all, where an order has each behind all that it hangs on.
+/// The values of all, where an order has each after all that it depends on.
 pub(crate) fn values_in_order(
     alloc: Global,
     named: &Named<'_, '_>,
@@ -140,8 +150,8 @@ pub(crate) fn values_in_order(
     requires numbered { AreNumbered named.now numbers.nodes.items numbers.starts.items }
     requires order { IsNodeOrder named.now numbers.nodes.items order.now }
     ensures ok { IfOk result (AreConsts named.now) }
-    ensures holds { OnOk result ((p : Site) (f : Tree) (c : ConstNode) → IsConstAt named.now p f c → ConstantHolds named.now p f c) }
-    ensures told { IfErr result (Tells (Fails named.now)) }
+    ensures holds { OnOk result (ConstantsHold named.now) }
+    ensures fault_is_true { IfErr result (IsMemoryOr (Fails named.now)) }
 {
     let count = numbers.nodes.len();
     let mut consts = Consts {

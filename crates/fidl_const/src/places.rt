@@ -1,61 +1,60 @@
 //! The values at the places of declarations.
-ghost use Rattle.std.specs.Prelude.{◌≡◌, ◌↔◌, Some, pos, option_copied, slice_get, IfErr, OnOk, IsTrue};
+ghost use Rattle.std.specs.Prelude.{◌↔◌, pos, IfErr, OnOk, IsTrue};
 ghost use Rattle.std.specs.List.{AllByRecursion};
-ghost use Rattle.fidl_names.specs.declared.meaning.Wanted.TheVariants as Kind;
-ghost use Rattle.fidl_names.specs.SeenPlaces.{seen_place};
-ghost use Rattle.fidl_names.specs.Places.{a_number, a_members, a_type};
+ghost use Rattle.fidl_names.specs.PlaceViews.{seen_place};
 ghost use Rattle.fidl_const.specs.declared.const_type.NumberKind.TheVariants as Kinds;
 ghost use Rattle.fidl_const.specs.Literals.{number_of};
-ghost use Rattle.fidl_const.specs.Known.{InRange};
-ghost use Rattle.fidl_const.specs.Evaluated.{MemberHolds, MembersFail, PlaceHolds, PlaceFails, DeclarationHolds, DeclarationFails, PlacesHold, Fails};
-ghost use Rattle.fidl_const.specs.Tables.{AreConsts, Tells};
+ghost use Rattle.fidl_const.specs.PlainValues.{InRange};
+ghost use Rattle.fidl_const.specs.Places.{PlacesHold};
+ghost use Rattle.fidl_const.specs.Evaluated.{Fails};
+ghost use Rattle.fidl_const.specs.Tables.{AreConsts, IsMemoryOr};
+ghost use Rattle.fidl_const.specs.Scopes.{HoldsDeclaration, HoldsMembers, HoldsPlace, KnowsAll};
+ghost use Rattle.fidl_const.specs.Scopes.{RefusesDeclaration, RefusesMembers, RefusesPlace};
+ghost use Rattle.fidl_const.specs.Scopes.{members_place, number_place, type_place};
 
 use crate::const_type::{ConstType, NumberKind};
-use crate::constraints::see_constraints;
+use crate::constraints::check_constraints;
 use crate::fault::ConstFault;
 use crate::layouts::member_kind;
 use crate::names::find;
 use crate::numbers::number_value;
-use crate::values::{Scope, name_value, value_in};
-use fidl_names::{NamePlace, Place, Wanted, name_places};
+use crate::scope::{FileScope, NamedFile, Scope};
+use crate::values::{name_value, value_in};
+use fidl_names::{NamePlace, Place, Wanted, name_places, wants_value};
 use fidl_span::Span;
-use fidl_tree::{Constraints, DeclarationBody, File, Path, ValueMember, ValuesKeyword};
+use fidl_tree::{Constraints, DeclarationBody, Path, ValueMember, ValuesKeyword};
 
 /// Each member has a value of this kind.
-fn see_members(
-    scope: &Scope<'_, '_, '_>,
-    number: usize,
-    file: &File<'_>,
+fn check_members(
+    scope: &FileScope<'_, '_, '_, '_>,
     kind: NumberKind,
     members: &[ValueMember],
 ) -> Result<(), ConstFault>
-    requires file_at { slice_get scope.now.named.now number ≡ Some file.now }
-    requires known { AreConsts scope.now.named.now scope.now.consts.now }
-    ensures ok { OnOk result (AllByRecursion (MemberHolds scope.now.named.now file.now kind) members.now) }
-    ensures told { IfErr result (Tells (MembersFail scope.now.named.now file.now number kind members.now)) }
+    requires known { KnowsAll scope.now }
+    ensures ok { OnOk result (HoldsMembers scope.now kind members.now) }
+    ensures fault_is_true { IfErr result (IsMemoryOr (RefusesMembers scope.now kind members.now)) }
 {
     for member in members {
-        value_in(scope, number, file, ConstType::Number(kind), &member.value)?;
+        value_in(scope, ConstType::Number(kind), &member.value)?;
     }
     Ok(())
 }
 
-/// Bits or an enum: their underlying type may be one, and each member has a value of it.
-fn see_layout(
-    scope: &Scope<'_, '_, '_>,
-    number: usize,
-    file: &File<'_>,
+/// The underlying type of bits or an enum is one of numbers, and each member has a value of it.
+fn check_layout(
+    scope: &FileScope<'_, '_, '_, '_>,
     keyword: &ValuesKeyword,
     underlying: Option<&Path>,
     members: &[ValueMember],
 ) -> Result<(), ConstFault>
-    requires file_at { slice_get scope.now.named.now number ≡ Some file.now }
-    requires known { AreConsts scope.now.named.now scope.now.consts.now }
-    ensures ok { OnOk result (PlaceHolds scope.now.named.now file.now (a_members keyword.now (option_copied underlying.entry) members.now)) }
-    ensures told { IfErr result (Tells (λ fault. PlaceFails scope.now.named.now file.now number fault (a_members keyword.now (option_copied underlying.entry) members.now))) }
+    requires known { KnowsAll scope.now }
+    ensures ok { OnOk result (HoldsPlace scope.now
+        (members_place keyword.now underlying.entry members.now)) }
+    ensures fault_is_true { IfErr result (IsMemoryOr (RefusesPlace scope.now
+        (members_place keyword.now underlying.entry members.now))) }
 {
-    let kind = member_kind(scope.named, number, file, keyword, underlying)?;
-    see_members(scope, number, file, kind, members)
+    let kind = member_kind(&scope.file, keyword, underlying)?;
+    check_members(scope, kind, members)
 }
 
 /// Whether a number word is a number of 32 bits.
@@ -68,80 +67,67 @@ fn is_count(text: &[u8]) -> bool
     }
 }
 
-/// Whether a place wants a value.
-fn wants_value(wanted: Wanted) -> bool
-    ensures { IsTrue result ↔ (wanted ≡ Kind.Value) }
-{
-    matches!(wanted, Wanted::Value)
-}
-
 /// A number as an argument: where it is an array's number of elements, it fits.
-fn see_number(
-    scope: &Scope<'_, '_, '_>,
-    number: usize,
-    file: &File<'_>,
+fn check_number(
+    scope: &FileScope<'_, '_, '_, '_>,
     argument_of: Option<&Path>,
     word: Span,
 ) -> Result<(), ConstFault>
-    requires file_at { slice_get scope.now.named.now number ≡ Some file.now }
-    ensures ok { OnOk result (PlaceHolds scope.now.named.now file.now (a_number (option_copied argument_of.entry) word)) }
-    ensures told { IfErr result (Tells (λ fault. PlaceFails scope.now.named.now file.now number fault (a_number (option_copied argument_of.entry) word))) }
+    ensures ok { OnOk result (HoldsPlace scope.now (number_place argument_of.entry word)) }
+    ensures fault_is_true { IfErr result (IsMemoryOr (RefusesPlace scope.now
+        (number_place argument_of.entry word))) }
 {
-    let kind = scope.named.kind(number, argument_of)?;
+    let file = scope.file;
+    let kind = file.named.kind(file.file_index, argument_of)?;
     if !wants_value(kind) {
         return Ok(());
     }
-    if is_count(file.text(word)) {
+    if is_count(file.tree.text(word)) {
         return Ok(());
     }
     Err(ConstFault::OutOfRange {
         place: Place {
-            file: number,
+            file: file.file_index,
             span: word,
         },
     })
 }
 
-/// A type by its name: the number of elements that it is, or its constraints.
-fn see_type(
-    scope: &Scope<'_, '_, '_>,
-    number: usize,
-    file: &File<'_>,
+/// A type by its name: where it is a number of elements it fits, else its constraints hold.
+fn check_type(
+    scope: &FileScope<'_, '_, '_, '_>,
     argument_of: Option<&Path>,
     path: &Path,
     constraints: Option<&Constraints>,
 ) -> Result<(), ConstFault>
-    requires file_at { slice_get scope.now.named.now number ≡ Some file.now }
-    requires known { AreConsts scope.now.named.now scope.now.consts.now }
-    ensures ok { OnOk result (PlaceHolds scope.now.named.now file.now (a_type (option_copied argument_of.entry) path.now (option_copied constraints.entry))) }
-    ensures told { IfErr result (Tells (λ fault. PlaceFails scope.now.named.now file.now number fault (a_type (option_copied argument_of.entry) path.now (option_copied constraints.entry)))) }
+    requires known { KnowsAll scope.now }
+    ensures ok { OnOk result (HoldsPlace scope.now
+        (type_place argument_of.entry path.now constraints.entry)) }
+    ensures fault_is_true { IfErr result (IsMemoryOr (RefusesPlace scope.now
+        (type_place argument_of.entry path.now constraints.entry))) }
 {
-    let kind = scope.named.kind(number, argument_of)?;
+    let file = scope.file;
+    let kind = file.named.kind(file.file_index, argument_of)?;
     if wants_value(kind) {
         let wanted = ConstType::Number(NumberKind::Uint32);
-        name_value(scope, number, file, wanted, path)?;
+        name_value(scope, wanted, path)?;
         return Ok(());
     }
-    match find(scope.named, number, path, Wanted::Type)? {
+    match find(file.named, file.file_index, path, Wanted::Type)? {
         None => Ok(()),
         Some(meaning) => {
-            let end = scope.named.behind(meaning);
-            see_constraints(scope, number, file, end, constraints)
+            let end = file.named.resolved(meaning);
+            check_constraints(scope, end, constraints)
         }
     }
 }
 
 /// A place has the values that it owes.
-fn see_place(
-    scope: &Scope<'_, '_, '_>,
-    number: usize,
-    file: &File<'_>,
-    place: NamePlace<'_>,
-) -> Result<(), ConstFault>
-    requires file_at { slice_get scope.now.named.now number ≡ Some file.now }
-    requires known { AreConsts scope.now.named.now scope.now.consts.now }
-    ensures ok { OnOk result (PlaceHolds scope.now.named.now file.now (seen_place place.entry)) }
-    ensures told { IfErr result (Tells (λ fault. PlaceFails scope.now.named.now file.now number fault (seen_place place.entry))) }
+fn check_place(scope: &FileScope<'_, '_, '_, '_>, place: NamePlace<'_>) -> Result<(), ConstFault>
+    requires known { KnowsAll scope.now }
+    ensures ok { OnOk result (HoldsPlace scope.now (seen_place place.entry)) }
+    ensures fault_is_true { IfErr result (IsMemoryOr (RefusesPlace scope.now
+        (seen_place place.entry))) }
 {
     match place {
         NamePlace::Name { .. } => Ok(()),
@@ -149,60 +135,66 @@ fn see_place(
         NamePlace::Number {
             argument_of,
             number: word,
-        } => see_number(scope, number, file, argument_of, word),
+        } => check_number(scope, argument_of, word),
         NamePlace::Members {
             keyword,
             underlying,
             members,
-        } => see_layout(scope, number, file, keyword, underlying, members),
+        } => check_layout(scope, keyword, underlying, members),
         NamePlace::Type {
             argument_of,
             path,
             constraints,
-        } => see_type(scope, number, file, argument_of, path, constraints),
+        } => check_type(scope, argument_of, path, constraints),
     }
 }
 
-/// Each place of a declaration has.
-fn see_declaration(
-    scope: &Scope<'_, '_, '_>,
-    number: usize,
-    file: &File<'_>,
+/// Each place of a declaration has the values that it owes.
+fn check_declaration(
+    scope: &FileScope<'_, '_, '_, '_>,
     body: &DeclarationBody,
 ) -> Result<(), ConstFault>
-    requires file_at { slice_get scope.now.named.now number ≡ Some file.now }
-    requires known { AreConsts scope.now.named.now scope.now.consts.now }
-    ensures ok { OnOk result (DeclarationHolds scope.now.named.now file.now body.now) }
-    ensures told { IfErr result (Tells (DeclarationFails scope.now.named.now file.now number body.now)) }
+    requires known { KnowsAll scope.now }
+    ensures ok { OnOk result (HoldsDeclaration scope.now body.now) }
+    ensures fault_is_true { IfErr result (IsMemoryOr (RefusesDeclaration scope.now body.now)) }
 {
     let places = name_places(scope.alloc, body)?;
     for place in &places {
-        see_place(scope, number, file, *place)?;
+        check_place(scope, *place)?;
     }
     Ok(())
 }
 
-/// Each place of a file has.
-fn see_file(scope: &Scope<'_, '_, '_>, number: usize, file: &File<'_>) -> Result<(), ConstFault>
-    requires file_at { slice_get scope.now.named.now number ≡ Some file.now }
-    requires known { AreConsts scope.now.named.now scope.now.consts.now }
-    ensures ok { OnOk result (PlacesHold scope.now.named.now file.now) }
-    ensures told { IfErr result (Tells (Fails scope.now.named.now)) }
+/// Each place of a file has the values that it owes.
+fn check_file(scope: &FileScope<'_, '_, '_, '_>) -> Result<(), ConstFault>
+    requires known { KnowsAll scope.now }
+    ensures ok { OnOk result (PlacesHold scope.now.file.named.now scope.now.file.tree.now) }
+    ensures fault_is_true { IfErr result (IsMemoryOr (Fails scope.now.file.named.now)) }
 {
-    for declaration in &file.declarations {
-        see_declaration(scope, number, file, &declaration.body)?;
+    for declaration in &scope.file.tree.declarations {
+        check_declaration(scope, &declaration.body)?;
     }
     Ok(())
 }
 
 /// Each place of the files has the values that it owes.
-pub(crate) fn see_places(scope: &Scope<'_, '_, '_>) -> Result<(), ConstFault>
+pub(crate) fn check_places(scope: &Scope<'_, '_, '_, '_>) -> Result<(), ConstFault>
     requires { AreConsts scope.now.named.now scope.now.consts.now }
     ensures ok { OnOk result (AllByRecursion (PlacesHold scope.now.named.now) scope.now.named.now) }
-    ensures told { IfErr result (Tells (Fails scope.now.named.now)) }
+    ensures fault_is_true { IfErr result (IsMemoryOr (Fails scope.now.named.now)) }
 {
-    for number in 0..scope.named.count() {
-        see_file(scope, number, scope.named.file(number))?;
+    for file_index in 0..scope.named.count() {
+        let file = NamedFile {
+            named: scope.named,
+            file_index,
+            tree: scope.named.file(file_index),
+        };
+        let inside = FileScope {
+            alloc: scope.alloc,
+            consts: scope.consts,
+            file,
+        };
+        check_file(&inside)?;
     }
     Ok(())
 }

@@ -1,9 +1,11 @@
-// What string literals stand for.
-ghost use Rattle.std.specs.Prelude.{◌≡◌, ◌≢◌, ◌++◌, ◌==◌, ◌+◌, ◌<◌, ◌≤◌, length, drop, slice_index, IfOk, SomeIff};
+// The values of string literals.
+ghost use Rattle.std.specs.Prelude.{◌≡◌, ◌≢◌, ◌++◌, ◌==◌, ◌+◌, ◌<◌, ◌≤◌, length, drop, slice_index};
+ghost use Rattle.std.specs.Prelude.{IfOk, SomeIff};
 ghost use Rattle.std.specs.Char.{IsScalar};
 ghost use Rattle.std.specs.List.{position_or_len};
 ghost use Rattle.fidl_span.specs.Strings.{hex_value};
-ghost use Rattle.fidl_const.specs.Literals.{character_bytes, letter_value, unescaped, behind_backslash, string_of};
+ghost use Rattle.fidl_const.specs.Literals.{character_bytes, letter_value, unescaped};
+ghost use Rattle.fidl_const.specs.Literals.{after_backslash, string_of};
 
 use crate::numbers::digits_value;
 use std::alloc::{AllocError, Global};
@@ -18,7 +20,8 @@ fn character(digits: &[u8]) -> Option<char>
 
 /// Appends the character of a code point, if it is one.
 fn push_character(bytes: &mut Vec<u8>, digits: &[u8]) -> Result<(), AllocError>
-    ensures { IfOk result (λ _. bytes.new.items ≡ bytes.old.items ++ character_bytes (hex_value digits.now)) }
+    ensures { IfOk result (λ _. bytes.new.items ≡ bytes.old.items ++ character_bytes
+        (hex_value digits.now)) }
 {
     if let Some(character) = character(digits) {
         let mut room = [0; 4];
@@ -27,7 +30,7 @@ fn push_character(bytes: &mut Vec<u8>, digits: &[u8]) -> Result<(), AllocError>
     Ok(())
 }
 
-/// How many bytes stand before the first `}`, or before the end where there is none.
+/// How many bytes come before the first `}`, or before the end where there is none.
 fn brace_place(text: &[u8]) -> usize
     ensures within { result ≤ length text.now }
     ensures place { result ≡ position_or_len (λ b. b == 125) text.now }
@@ -39,7 +42,7 @@ fn brace_place(text: &[u8]) -> usize
     place
 }
 
-/// The byte that a backslash and this letter stand for.
+/// The byte that a backslash and this letter write.
 fn letter_value(letter: u8) -> u8
     ensures { result ≡ letter_value letter }
 {
@@ -51,20 +54,20 @@ fn letter_value(letter: u8) -> u8
     }
 }
 
-/// Appends what an escape stands for, whose backslash stands before `at`, and gives the place
-/// behind it.
+/// Appends what an escape writes whose backslash is before `at`, and gives the place after it.
 fn push_escape(bytes: &mut Vec<u8>, text: &[u8], at: usize) -> Result<usize, AllocError>
     requires { at ≤ length text.now }
     ensures onward { IfOk result (λ to. at ≤ to) }
-    ensures value { IfOk result (λ to. bytes.new.items ++ unescaped (drop to text.now) ≡ bytes.old.items ++ behind_backslash (drop at text.now)) }
+    ensures value { IfOk result (λ to. bytes.new.items ++ unescaped (drop to text.now)
+        ≡ bytes.old.items ++ after_backslash (drop at text.now)) }
 {
     if at == text.len() {
         return Ok(at);
     }
-    let behind = &text[at + 1..];
+    let after = &text[at + 1..];
     if text[at] == b'u' {
-        let brace = brace_place(behind);
-        push_character(bytes, &behind[brace.min(1)..brace])?;
+        let brace = brace_place(after);
+        push_character(bytes, &after[brace.min(1)..brace])?;
         Ok((at + brace + 2).min(text.len()))
     } else {
         bytes.push(letter_value(text[at]))?;
@@ -72,12 +75,13 @@ fn push_escape(bytes: &mut Vec<u8>, text: &[u8], at: usize) -> Result<usize, All
     }
 }
 
-/// Appends what the byte or the escape at `at` stands for, and gives the place behind it.
+/// Appends what the byte or the escape at `at` writes, and gives the place after it.
 fn push_piece(bytes: &mut Vec<u8>, text: &[u8], at: usize) -> Result<usize, AllocError>
     requires within { at < length text.now }
     requires no_quote { slice_index text.now at ≢ 34 }
     ensures onward { IfOk result (λ to. at < to) }
-    ensures value { IfOk result (λ to. bytes.new.items ++ unescaped (drop to text.now) ≡ bytes.old.items ++ unescaped (drop at text.now)) }
+    ensures value { IfOk result (λ to. bytes.new.items ++ unescaped (drop to text.now)
+        ≡ bytes.old.items ++ unescaped (drop at text.now)) }
 {
     if text[at] == b'\\' {
         push_escape(bytes, text, at + 1)
@@ -87,7 +91,7 @@ fn push_piece(bytes: &mut Vec<u8>, text: &[u8], at: usize) -> Result<usize, Allo
     }
 }
 
-/// The bytes that a string word stands for.
+/// The bytes that a string word writes.
 pub(crate) fn string_bytes(alloc: Global, text: &[u8]) -> Result<Vec<u8>, AllocError>
     ensures { IfOk result (λ bytes. bytes.items ≡ string_of text.now) }
 {

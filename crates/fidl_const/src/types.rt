@@ -1,51 +1,49 @@
 //! The types of constants, members and constraints.
-ghost use Rattle.std.specs.Prelude.{◌≡◌, ◌↔◌, Some, slice_get, IfOk, IsTrue, IsSomeAnd, option_copied};
-ghost use Rattle.fidl_names.specs.Aliases.{type_path};
+ghost use Rattle.std.specs.Prelude.{◌≡◌, ◌↔◌, Some, IfOk, IsTrue, IsSomeAnd, option_copied};
+ghost use Rattle.std.specs.Prelude.{option_map};
+ghost use Rattle.fidl_tree.specs.Views.{path_view, constraints_view, kind_view};
 ghost use Rattle.fidl_tree.specs.declared.type_constructor.ValuesLayout.{out-ValuesLayout};
 ghost use Rattle.fidl_names.specs.declared.meaning.Meaning.TheVariants as Given;
 ghost use Rattle.fidl_names.specs.declared.meaning.Predeclared.TheVariants as Word;
-ghost use Rattle.fidl_const.specs.Types.{EndIs, NameIs, TypeIs, IsStringType, PropertyIs, UnderlyingIs, IsBits, Joins, constraints_of, path_of, underlying_kind};
+ghost use Rattle.fidl_const.specs.Types.{EndIs, NameIs, TypeIs, PropertyIs, IsBits, Joins};
+ghost use Rattle.fidl_const.specs.Types.{constraints_of, own_path, path_of, underlying_kind};
+ghost use Rattle.fidl_const.specs.Scopes.{HasKind, IsString};
 
 use crate::const_type::{BitsOrEnum, ConstType, NumberKind, predeclared_type};
 use crate::found::{FoundValues, property_values_at, values_at, written_values};
 use crate::names::find;
-use fidl_names::{Meaning, Named, Position, Predeclared, Wanted};
-use fidl_tree::{Constraints, File, Path, TypeConstructor, ValuesKeyword, ValuesLayout};
+use crate::scope::NamedFile;
+use fidl_names::{DeclarationId, Meaning, Named, Predeclared, Wanted};
+use fidl_tree::{Constraints, Path, TypeConstructor, ValuesKeyword, ValuesLayout};
 use std::alloc::AllocError;
 
-/// The type of constants that a meaning is behind which no alias stands.
+/// The type of constants that a meaning is, aliases followed.
 fn end_type(named: &Named<'_, '_>, end: Meaning) -> Option<ConstType>
     ensures { EndIs named.now end result }
 {
     match end {
         Meaning::Predeclared(name) => predeclared_type(name),
-        Meaning::Declared(position) => match values_at(named, position) {
+        Meaning::Declared(id) => match values_at(named, id) {
             None => None,
-            Some(_) => Some(ConstType::Values(BitsOrEnum::Declared(position))),
+            Some(_) => Some(ConstType::Values(BitsOrEnum::Declared(id))),
         },
         Meaning::Member { .. } | Meaning::PropertyMember { .. } => None,
     }
 }
 
-/// The type of constants that a name of a file stands for.
-fn name_type(
-    named: &Named<'_, '_>,
-    number: usize,
-    file: &File<'_>,
-    path: &Path,
-) -> Result<Option<ConstType>, AllocError>
-    requires { slice_get named.now number ≡ Some file.now }
-    ensures { IfOk result (NameIs named.now file.now path.now) }
+/// The type of constants that a name of a file resolves to.
+fn name_type(file: &NamedFile<'_, '_, '_>, path: &Path) -> Result<Option<ConstType>, AllocError>
+    ensures { IfOk result (NameIs file.now.named.now file.now.tree.now (path_view path.now)) }
 {
-    match find(named, number, path, Wanted::Type)? {
+    match find(file.named, file.file_index, path, Wanted::Type)? {
         None => Ok(None),
-        Some(meaning) => Ok(end_type(named, named.behind(meaning))),
+        Some(meaning) => Ok(end_type(file.named, file.named.resolved(meaning))),
     }
 }
 
 /// The name that a type is given by.
 pub(crate) fn type_path(constructor: &TypeConstructor) -> Option<&Path>
-    ensures { option_copied result ≡ type_path constructor.now }
+    ensures { option_map path_view (option_copied result) ≡ own_path constructor.now }
 {
     match constructor {
         TypeConstructor::Named(named) => Some(&named.path),
@@ -55,7 +53,7 @@ pub(crate) fn type_path(constructor: &TypeConstructor) -> Option<&Path>
 
 /// The constraints of a type.
 pub(crate) fn type_constraints(constructor: &TypeConstructor) -> Option<&Constraints>
-    ensures { option_copied result ≡ constraints_of constructor.now }
+    ensures { constraints_view (option_copied result) ≡ constraints_of constructor.now }
 {
     match constructor {
         TypeConstructor::Named(named) => named.constraints.as_ref(),
@@ -65,17 +63,14 @@ pub(crate) fn type_constraints(constructor: &TypeConstructor) -> Option<&Constra
 
 /// The type of constants that a written type of a file is.
 pub(crate) fn written_type(
-    named: &Named<'_, '_>,
-    number: usize,
-    file: &File<'_>,
+    file: &NamedFile<'_, '_, '_>,
     constructor: &TypeConstructor,
 ) -> Result<Option<ConstType>, AllocError>
-    requires { slice_get named.now number ≡ Some file.now }
-    ensures { IfOk result (TypeIs named.now file.now constructor.now) }
+    ensures { IfOk result (TypeIs file.now.named.now file.now.tree.now constructor.now) }
 {
     match type_path(constructor) {
         None => Ok(None),
-        Some(path) => name_type(named, number, file, path),
+        Some(path) => name_type(file, path),
     }
 }
 
@@ -88,46 +83,43 @@ fn is_string(meaning: Meaning) -> bool
 
 /// Whether a written type of a file is the predeclared string, aliases followed.
 pub(crate) fn is_string_type(
-    named: &Named<'_, '_>,
-    number: usize,
-    file: &File<'_>,
+    file: &NamedFile<'_, '_, '_>,
     constructor: &TypeConstructor,
 ) -> Result<bool, AllocError>
-    requires { slice_get named.now number ≡ Some file.now }
-    ensures { IfOk result (λ found. IsTrue found ↔ IsStringType named.now file.now constructor.now) }
+    ensures { IfOk result (λ found. IsTrue found ↔ IsString file.now constructor.now) }
 {
     let Some(path) = type_path(constructor) else {
         return Ok(false);
     };
-    match find(named, number, path, Wanted::Type)? {
+    match find(file.named, file.file_index, path, Wanted::Type)? {
         None => Ok(false),
-        Some(meaning) => Ok(is_string(named.behind(meaning))),
+        Some(meaning) => Ok(is_string(file.named.resolved(meaning))),
     }
 }
 
-/// The type of constants that the type of a property of a resource definition is, in its file, which is that of its position.
+/// The type of constants that the type of a property of the resource definition of an id is.
 pub(crate) fn property_type(
-    named: &Named<'_, '_>,
-    position: Position,
+    file: &NamedFile<'_, '_, '_>,
+    id: DeclarationId,
     number: usize,
-    file: &File<'_>,
     constructor: &TypeConstructor,
 ) -> Result<Option<ConstType>, AllocError>
-    requires { slice_get named.now position.file ≡ Some file.now }
-    ensures { IfOk result (PropertyIs named.now position number file.now constructor.now) }
+    ensures { IfOk result (PropertyIs file.now.named.now id number file.now.tree.now
+        constructor.now) }
 {
     match written_values(constructor) {
         Some(_) => Ok(Some(ConstType::Values(BitsOrEnum::Property {
-            of: position,
+            of: id,
             property: number,
         }))),
-        None => written_type(named, position.file, file, constructor),
+        None => written_type(file, constructor),
     }
 }
 
-/// The whole numbers that bits or an enum may be of, by the type that stands as their underlying one.
+/// The whole numbers that bits or an enum may be of, by the type that is written as their
+/// underlying one.
 fn underlying_kind(keyword: &ValuesKeyword, written: Option<ConstType>) -> Option<NumberKind>
-    ensures { result ≡ underlying_kind keyword.now written }
+    ensures { result ≡ underlying_kind (kind_view keyword.now) written }
 {
     let Some(ConstType::Number(kind)) = written else {
         return None;
@@ -140,22 +132,20 @@ fn underlying_kind(keyword: &ValuesKeyword, written: Option<ConstType>) -> Optio
 
 /// The underlying type of bits or an enum of a file, by its name, where it may be one.
 pub(crate) fn underlying_type(
-    named: &Named<'_, '_>,
-    number: usize,
-    file: &File<'_>,
+    file: &NamedFile<'_, '_, '_>,
     keyword: &ValuesKeyword,
     path: &Path,
 ) -> Result<Option<NumberKind>, AllocError>
-    requires { slice_get named.now number ≡ Some file.now }
-    ensures { IfOk result (UnderlyingIs named.now file.now keyword.now (Some path.now)) }
+    ensures { IfOk result (HasKind file.now keyword.now (Some (path_view path.now))) }
 {
-    let written = name_type(named, number, file, path)?;
+    let written = name_type(file, path)?;
     Ok(underlying_kind(keyword, written))
 }
 
 /// The name of a layout's underlying type.
 pub(crate) fn underlying_path(layout: &ValuesLayout) -> Option<&Path>
-    ensures { option_copied result ≡ path_of (out-ValuesLayout layout.now).underlying }
+    ensures { let path = path_of (out-ValuesLayout layout.now).underlying in
+        option_map path_view (option_copied result) ≡ path }
 {
     match &layout.underlying {
         None => None,
@@ -172,7 +162,8 @@ fn is_bits(layout: &ValuesLayout) -> bool
 
 /// Whether bits were found, and no enum.
 fn are_bits(found: Option<FoundValues<'_, '_>>) -> bool
-    ensures { IsTrue result ↔ IsSomeAnd found.entry (λ x. IsBits (out-ValuesLayout x.layout.now).keyword) }
+    ensures { IsTrue result ↔ IsSomeAnd found.entry
+        (λ x. IsBits (out-ValuesLayout x.layout.now).keyword) }
 {
     match found {
         None => false,
@@ -188,7 +179,7 @@ pub(crate) fn joins(named: &Named<'_, '_>, wanted: ConstType) -> bool
         ConstType::Bool | ConstType::String => false,
         ConstType::Number(kind) => kind.is_unsigned(),
         ConstType::Values(values) => match values {
-            BitsOrEnum::Declared(position) => are_bits(values_at(named, position)),
+            BitsOrEnum::Declared(id) => are_bits(values_at(named, id)),
             BitsOrEnum::Property { of, property } => {
                 are_bits(property_values_at(named, of, property))
             }

@@ -1,80 +1,79 @@
 //! The values of expressions.
-ghost use Rattle.std.specs.Prelude.{◌≡◌, ◌↔◌, ◌≤◌, ◌^◌, ◌∷◌, [], List, Some, true, map, flat_map, slice_get, IfOk, IfErr, IfSome, IsNone, IsTrue};
+ghost use Rattle.std.specs.Prelude.{◌≡◌, ◌↔◌, ◌≤◌, ◌^◌, ◌∷◌, [], List, true, IfOk, IfErr, IfSome};
+ghost use Rattle.std.specs.Prelude.{IsNone, IsTrue};
 ghost use Rattle.fidl_tree.specs.declared.file.File.{File as Tree};
 ghost use Rattle.fidl_names.specs.declared.meaning.Meaning.TheVariants as Given;
 ghost use Rattle.fidl_names.specs.declared.meaning.Predeclared.TheVariants as Word;
-ghost use Rattle.fidl_names.specs.Places.{value_paths, operand_paths, term_paths};
+ghost use Rattle.fidl_tree.specs.Views.{path_view, value_view, operand_view};
 ghost use Rattle.fidl_const.specs.declared.const_type.NumberKind.TheVariants as Kinds;
 ghost use Rattle.fidl_const.specs.declared.const_type.ConstType.TheVariants as ty;
 ghost use Rattle.fidl_const.specs.Literals.{number_of};
-ghost use Rattle.fidl_const.specs.Known.{a_number, Fits, greatest, is_literal_of, seen};
-ghost use Rattle.fidl_const.specs.Values.{HasValue, NameGives, ValueIs, OperandsAre, TermIs, Gives, Offers, is_member, signed_if};
-ghost use Rattle.fidl_const.specs.Uses.{IsKnownNode};
-ghost use Rattle.fidl_const.specs.Evaluated.{Misfits, NameFails, ValueFails, TermFails, OperandsFail, LiteralFails, term_span, value_span};
-ghost use Rattle.fidl_const.specs.Tables.{AreTrue, IsDone, PathsSettled, Tells};
+ghost use Rattle.fidl_const.specs.PlainValues.{a_number, Fits, greatest, is_literal_of, seen};
+ghost use Rattle.fidl_const.specs.Values.{HasValue, Gives, is_member, signed_if};
+ghost use Rattle.fidl_const.specs.Dependencies.{IsKnownNode};
+ghost use Rattle.fidl_const.specs.Refusals.{Misfits, LiteralFails, operand_span, value_span};
+ghost use Rattle.fidl_const.specs.Tables.{AreTrue, IsDone, IsMemoryOr, HasEntry};
+ghost use Rattle.fidl_const.specs.Scopes.{KnowsTrue, OrOperandsSettled, ReadsName, ReadsOrOperands};
+ghost use Rattle.fidl_const.specs.Scopes.{ReadsOperand, ReadsValue, RefusesName, RefusesOrOperands};
+ghost use Rattle.fidl_const.specs.Scopes.{RefusesOperand, RefusesValue, Settled, OperandSettled};
+ghost use Rattle.fidl_const.specs.Scopes.{ValueSettled};
 
 use crate::const_type::{ConstType, NumberKind, suits};
 use crate::const_value::ConstValue;
-use crate::consts::{Consts, Entry};
+use crate::consts::Entry;
 use crate::fault::ConstFault;
-use crate::names::find;
+use crate::names::{find, path_place};
 use crate::nodes::is_node;
 use crate::numbers::number_value;
+use crate::scope::{FileScope, Scope};
 use crate::strings::string_bytes;
 use crate::types::joins;
-use fidl_names::{Meaning, Named, Place, Predeclared, Wanted, path_span};
+use fidl_names::{Meaning, Place, Predeclared, Wanted};
 use fidl_span::Span;
-use fidl_tree::{File, Operand, Path, Term, Value};
-use std::alloc::{AllocError, Global};
+use fidl_tree::{Operand, OrOperand, Path, Value};
+use std::alloc::AllocError;
 
-/// What values are read with: the files' names, and the values that are known.
-#[derive(Clone, Copy, Drop)]
-pub(crate) struct Scope<'a, 'f, 's> {
-    pub alloc: Global,
-    pub named: &'a Named<'f, 's>,
-    pub consts: &'a Consts,
-}
-
-/// Where a term stands.
-pub(crate) fn term_span(term: &Term) -> Span
-    ensures { result ≡ term_span term.now }
+/// The place of an operand.
+pub(crate) fn operand_span(operand: &Operand) -> Span
+    ensures { result ≡ operand_span (operand_view operand.now) }
 {
-    match term {
-        Term::Number {
+    match operand {
+        Operand::Number {
             minus: Some(minus),
             number,
         } => Span {
             from: minus.from,
             to: number.to,
         },
-        Term::Number {
+        Operand::Number {
             minus: None,
             number,
         } => *number,
-        Term::String(word) | Term::True(word) | Term::False(word) => *word,
-        Term::Path(path) => path_span(path),
-        Term::Group { left, right, .. } => Span {
+        Operand::String(word) | Operand::True(word) | Operand::False(word) => *word,
+        Operand::Path(path) => path_place(path),
+        Operand::Group { left, right, .. } => Span {
             from: left.from,
             to: right.to,
         },
     }
 }
 
-/// Where a value stands: its first two terms, or the only one.
+/// The place of a value: from its first operand to its last.
 pub(crate) fn value_span(value: &Value) -> Span
-    ensures { result ≡ value_span value.now }
+    ensures { result ≡ value_span (value_view value.now) }
 {
-    let first = term_span(&value.first);
-    match value.rest.first() {
+    let first = operand_span(&value.first);
+    match value.rest.last() {
         None => first,
-        Some(operand) => Span {
+        Some(or_operand) => Span {
             from: first.from,
-            to: term_span(&operand.term).to,
+            to: operand_span(&or_operand.operand).to,
         },
     }
 }
 
-/// The whole number of a number word, below zero behind a minus, where it is less than 2^64 from zero.
+/// The whole number of a number word, below zero after a minus, where it is less than 2^64 from
+/// zero.
 fn signed_number(text: &[u8], minus: bool) -> Option<i128>
     ensures found { IfSome result (λ z. z ≡ signed_if minus (number_of text.now)) }
     ensures none { IsNone result → 2 ^ 64 ≤ number_of text.now }
@@ -112,13 +111,14 @@ fn greatest() -> Entry
 }
 
 /// The value of its own that a meaning has.
-pub(crate) fn offered(
-    scope: &Scope<'_, '_, '_>,
+pub(crate) fn value_of(
+    scope: &Scope<'_, '_, '_, '_>,
     meaning: Meaning,
 ) -> Result<Option<Entry>, AllocError>
     requires known { AreTrue scope.now.named.now scope.now.consts.now }
-    requires done { IsKnownNode scope.now.named.now meaning → IsDone scope.now.named.now scope.now.consts.now meaning }
-    ensures found { IfOk result (λ found. IfSome found (λ e. Offers scope.now.named.now meaning e.own (seen e.value))) }
+    requires done { IsKnownNode scope.now.named.now meaning
+        → IsDone scope.now.named.now scope.now.consts.now meaning }
+    ensures found { IfOk result (λ found. IfSome found (HasEntry scope.now.named.now meaning)) }
     ensures none { IfOk result (λ found. IsNone found → HasValue scope.now.named.now meaning → ⊥) }
 {
     if is_maximum(meaning) {
@@ -130,16 +130,19 @@ pub(crate) fn offered(
     scope.consts.value(scope.alloc, meaning)
 }
 
-/// What a meaning gives where a type is wanted, by the value of its own; told at a place.
+/// What a meaning gives where a type is wanted, by the value of its own; a refusal is reported at a
+/// place.
 pub(crate) fn given(
     meaning: Meaning,
     entry: Entry,
     wanted: ConstType,
     place: Place,
 ) -> Result<ConstValue, ConstFault>
-    ensures ok { IfOk result (λ v. (files : List Tree) → Offers files meaning entry.own (seen entry.value) → Gives files meaning wanted (seen v)) }
+    ensures ok { IfOk result (λ v. (files : List Tree) → HasEntry files meaning entry
+        → Gives files meaning wanted (seen v)) }
     ensures fits { IfOk result (λ v. Fits wanted (seen v)) }
-    ensures told { IfErr result (λ fault. (files : List Tree) → Offers files meaning entry.own (seen entry.value) → Misfits files meaning wanted place fault) }
+    ensures fault_is_true { IfErr result (λ fault. (files : List Tree)
+        → HasEntry files meaning entry → Misfits files meaning wanted place fault) }
 {
     if !suits(is_member(meaning), entry.own, wanted) {
         return Err(ConstFault::WrongKind { place });
@@ -152,36 +155,40 @@ pub(crate) fn given(
 
 /// The value of a name of a file where a type is wanted.
 pub(crate) fn name_value(
-    scope: &Scope<'_, '_, '_>,
-    number: usize,
-    file: &File<'_>,
+    scope: &FileScope<'_, '_, '_, '_>,
     wanted: ConstType,
     path: &Path,
 ) -> Result<ConstValue, ConstFault>
-    requires file_at { slice_get scope.now.named.now number ≡ Some file.now }
-    requires known { AreTrue scope.now.named.now scope.now.consts.now }
-    requires settled { PathsSettled scope.now.named.now file.now scope.now.consts.now (path.now ∷ []) }
-    ensures ok { IfOk result (λ v. NameGives scope.now.named.now file.now path.now wanted (seen v)) }
+    requires known { KnowsTrue scope.now }
+    requires settled { Settled scope.now (path_view path.now ∷ []) }
+    ensures ok { IfOk result (ReadsName scope.now wanted path.now) }
     ensures fits { IfOk result (λ v. Fits wanted (seen v)) }
-    ensures told { IfErr result (Tells (NameFails scope.now.named.now file.now number wanted path.now)) }
+    ensures fault_is_true { IfErr result (IsMemoryOr (RefusesName scope.now wanted path.now)) }
 {
+    let file = scope.file;
     let place = Place {
-        file: number,
-        span: path_span(path),
+        file: file.file_index,
+        span: path_place(path),
     };
-    let Some(meaning) = find(scope.named, number, path, Wanted::Value)? else {
+    let Some(meaning) = find(file.named, file.file_index, path, Wanted::Value)? else {
         return Err(ConstFault::WrongKind { place });
     };
-    match offered(scope, meaning)? {
+    let set = Scope {
+        alloc: scope.alloc,
+        named: file.named,
+        consts: scope.consts,
+    };
+    match value_of(&set, meaning)? {
         None => Err(ConstFault::WrongKind { place }),
         Some(entry) => given(meaning, entry, wanted, place),
     }
 }
 
-/// A literal's value where a type is wanted; told at a place.
+/// A literal's value where a type is wanted; a refusal is reported at a place.
 fn fitting(literal: ConstValue, wanted: ConstType, place: Place) -> Result<ConstValue, ConstFault>
-    ensures ok { IfOk result (λ v. (seen v ≡ seen literal) × ((is_literal_of wanted (seen v) ≡ true) × Fits wanted (seen v))) }
-    ensures told { IfErr result (LiteralFails wanted (seen literal) place) }
+    ensures ok { IfOk result (λ v. (seen v ≡ seen literal)
+        × ((is_literal_of wanted (seen v) ≡ true) × Fits wanted (seen v))) }
+    ensures fault_is_true { IfErr result (LiteralFails wanted (seen literal) place) }
 {
     if !literal.is_literal_of(wanted) {
         return Err(ConstFault::WrongKind { place });
@@ -199,8 +206,10 @@ fn number_literal(
     wanted: ConstType,
     place: Place,
 ) -> Result<ConstValue, ConstFault>
-    ensures ok { IfOk result (λ v. (seen v ≡ a_number (signed_if minus (number_of text.now))) × ((is_literal_of wanted (seen v) ≡ true) × Fits wanted (seen v))) }
-    ensures told { IfErr result (LiteralFails wanted (a_number (signed_if minus (number_of text.now))) place) }
+    ensures ok { IfOk result (λ v. (seen v ≡ a_number (signed_if minus (number_of text.now)))
+        × ((is_literal_of wanted (seen v) ≡ true) × Fits wanted (seen v))) }
+    ensures fault_is_true { IfErr result (LiteralFails wanted
+        (a_number (signed_if minus (number_of text.now))) place) }
 {
     match signed_number(text, minus) {
         Some(value) => fitting(ConstValue::Number(value), wanted, place),
@@ -211,60 +220,57 @@ fn number_literal(
     }
 }
 
-/// The value of a term where a type is wanted.
+/// The value of an operand where a type is wanted.
 #[cycle(values)]
-fn term_value(
-    scope: &Scope<'_, '_, '_>,
-    number: usize,
-    file: &File<'_>,
+fn operand_value(
+    scope: &FileScope<'_, '_, '_, '_>,
     wanted: ConstType,
-    term: &Term,
+    operand: &Operand,
 ) -> Result<ConstValue, ConstFault>
-    requires file_at { slice_get scope.now.named.now number ≡ Some file.now }
-    requires known { AreTrue scope.now.named.now scope.now.consts.now }
-    requires settled { PathsSettled scope.now.named.now file.now scope.now.consts.now (term_paths term.now) }
-    ensures ok { IfOk result (λ v. TermIs scope.now.named.now file.now wanted term.now (seen v)) }
+    requires known { KnowsTrue scope.now }
+    requires settled { OperandSettled scope.now operand.now }
+    ensures ok { IfOk result (ReadsOperand scope.now wanted operand.now) }
     ensures fits { IfOk result (λ v. Fits wanted (seen v)) }
-    ensures told { IfErr result (Tells (λ fault. TermFails scope.now.named.now file.now number wanted fault term.now)) }
+    ensures fault_is_true { IfErr result
+        (IsMemoryOr (RefusesOperand scope.now wanted operand.now)) }
 {
+    let tree = scope.file.tree;
     let place = Place {
-        file: number,
-        span: term_span(term),
+        file: scope.file.file_index,
+        span: operand_span(operand),
     };
-    match term {
-        Term::Number { minus, number } => {
-            number_literal(file.text(*number), minus.is_some(), wanted, place)
+    match operand {
+        Operand::Number { minus, number } => {
+            number_literal(tree.text(*number), minus.is_some(), wanted, place)
         }
-        Term::String(word) => {
-            let bytes = string_bytes(scope.alloc, file.text(*word))?;
+        Operand::String(word) => {
+            let bytes = string_bytes(scope.alloc, tree.text(*word))?;
             fitting(ConstValue::Text(bytes), wanted, place)
         }
-        Term::True(_) => fitting(ConstValue::Bool(true), wanted, place),
-        Term::False(_) => fitting(ConstValue::Bool(false), wanted, place),
-        Term::Path(path) => name_value(scope, number, file, wanted, path),
-        Term::Group { value, .. } => value_in(scope, number, file, wanted, value),
+        Operand::True(_) => fitting(ConstValue::Bool(true), wanted, place),
+        Operand::False(_) => fitting(ConstValue::Bool(false), wanted, place),
+        Operand::Path(path) => name_value(scope, wanted, path),
+        Operand::Group { value, .. } => value_in(scope, wanted, value),
     }
 }
 
-/// What a value is joined to by the terms behind it.
+/// What a value is joined to by the operands after it.
 #[cycle(values)]
-fn operands_value(
-    scope: &Scope<'_, '_, '_>,
-    number: usize,
-    file: &File<'_>,
+fn or_operands_value(
+    scope: &FileScope<'_, '_, '_, '_>,
     wanted: ConstType,
     before: ConstValue,
-    operands: &[Operand],
+    or_operands: &[OrOperand],
 ) -> Result<ConstValue, ConstFault>
-    requires file_at { slice_get scope.now.named.now number ≡ Some file.now }
-    requires known { AreTrue scope.now.named.now scope.now.consts.now }
-    requires settled { PathsSettled scope.now.named.now file.now scope.now.consts.now (flat_map (λ o. o) (map operand_paths operands.now)) }
-    ensures ok { IfOk result (λ v. OperandsAre scope.now.named.now file.now wanted (seen before) operands.now (seen v)) }
-    ensures told { IfErr result (Tells (OperandsFail scope.now.named.now file.now number wanted operands.now)) }
+    requires known { KnowsTrue scope.now }
+    requires settled { OrOperandsSettled scope.now or_operands.now }
+    ensures ok { IfOk result (ReadsOrOperands scope.now wanted before or_operands.now) }
+    ensures fault_is_true { IfErr result (IsMemoryOr
+        (RefusesOrOperands scope.now wanted or_operands.now)) }
 {
     let mut all = before;
-    for operand in operands {
-        let next = term_value(scope, number, file, wanted, &operand.term)?;
+    for or_operand in or_operands {
+        let next = operand_value(scope, wanted, &or_operand.operand)?;
         all = all.joined(&next);
     }
     Ok(all)
@@ -273,31 +279,28 @@ fn operands_value(
 /// The value of an expression of a file where a type is wanted.
 #[cycle(values)]
 pub(crate) fn value_in(
-    scope: &Scope<'_, '_, '_>,
-    number: usize,
-    file: &File<'_>,
+    scope: &FileScope<'_, '_, '_, '_>,
     wanted: ConstType,
     value: &Value,
 ) -> Result<ConstValue, ConstFault>
-    requires file_at { slice_get scope.now.named.now number ≡ Some file.now }
-    requires known { AreTrue scope.now.named.now scope.now.consts.now }
-    requires settled { PathsSettled scope.now.named.now file.now scope.now.consts.now (value_paths value.now) }
-    ensures ok { IfOk result (λ v. ValueIs scope.now.named.now file.now wanted value.now (seen v)) }
+    requires known { KnowsTrue scope.now }
+    requires settled { ValueSettled scope.now value.now }
+    ensures ok { IfOk result (ReadsValue scope.now wanted value.now) }
     ensures fits { IfOk result (λ v. Fits wanted (seen v)) }
-    ensures told { IfErr result (Tells (λ fault. ValueFails scope.now.named.now file.now number wanted fault value.now)) }
+    ensures fault_is_true { IfErr result (IsMemoryOr (RefusesValue scope.now wanted value.now)) }
 {
-    let first = term_value(scope, number, file, wanted, &value.first)?;
+    let first = operand_value(scope, wanted, &value.first)?;
     if value.rest.is_empty() {
         return Ok(first);
     }
     let place = Place {
-        file: number,
+        file: scope.file.file_index,
         span: value_span(value),
     };
-    if !joins(scope.named, wanted) {
+    if !joins(scope.file.named, wanted) {
         return Err(ConstFault::NotBits { place });
     }
-    let all = operands_value(scope, number, file, wanted, first, &value.rest)?;
+    let all = or_operands_value(scope, wanted, first, &value.rest)?;
     if !all.fits(wanted) {
         return Err(ConstFault::OutOfRange { place });
     }

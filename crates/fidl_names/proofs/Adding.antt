@@ -9,11 +9,11 @@ use Rattle.std.proofs.lemmas.List.FromFn.{get_or-enumerate_from, length-enumerat
 use Rattle.fidl_tree.specs.declared.file.File.{File}
 use Rattle.fidl_tree.specs.declared.declaration.Declaration.{Declaration}
 use Rattle.fidl_names.specs.declared.place.Place.{Place}
-use Rattle.fidl_names.specs.declared.place.Position.{Position}
+use Rattle.fidl_names.specs.declared.place.DeclarationId.{DeclarationId}
 use Rattle.fidl_names.specs.declared.fault.NameFault.{NameFault}
 use Rattle.fidl_names.specs.declared.fault.NameFault.TheVariants.{DuplicateName, UnknownLibrary, UnknownName, AmbiguousName, AliasCycle, ImportCycle, BadImport, Memory}
 use Rattle.fidl_names.specs.Names.{full_name, declared, entries_of, place_in, IsOneOf, AreDistinct}
-use Rattle.fidl_names.specs.Seen.{seen, names_of, IsTaken}
+use Rattle.fidl_names.specs.NameMaps.{seen, names_of, IsTaken}
 use Rattle.fidl_names.specs.Faults.{IsTrueOfAdding}
 
 -- a name that is none of them may follow
@@ -30,14 +30,14 @@ distinct_more (y ∷ ys) x h new = ((λ h'. others h'), distinct_more ys x h.1 (
     others : IsOneOf (ys ++ x ∷ []) y → ⊥
     others k = before ys k h.0 (λ e. new (inl (sym e)))
 
-pub names_more : (es : List (List ℕ × Position)) (e : List ℕ × Position) → names_of (es ++ e ∷ []) ≡ names_of es ++ e.0 ∷ []
+pub names_more : (es : List (List ℕ × DeclarationId)) (e : List ℕ × DeclarationId) → names_of (es ++ e ∷ []) ≡ names_of es ++ e.0 ∷ []
 names_more es e = map-append _ es (e ∷ [])
 
-pub seen_more : (es : List (Vec ℕ × Position)) (name : Vec ℕ) (p : Position) → seen (es ++ (name, p) ∷ []) ≡ seen es ++ (name.items, p) ∷ []
+pub seen_more : (es : List (Vec ℕ × DeclarationId)) (name : Vec ℕ) (p : DeclarationId) → seen (es ++ (name, p) ∷ []) ≡ seen es ++ (name.items, p) ∷ []
 seen_more es name p = map-append _ es ((name, p) ∷ [])
 
 module _ (f : File) (number : ℕ) where
-  abbrev entry : ℕ × Declaration → List ℕ × Position
+  abbrev entry : ℕ × Declaration → List ℕ × DeclarationId
   entry p = (full_name f p.1, record { file = number; index = p.0 })
 
   abbrev ds : List Declaration
@@ -69,20 +69,20 @@ module _ (f : File) (number : ℕ) where
   names_so_far i = sym (take-map _ i (entries_of f number)) ∙ ap (take i) (names_from 0 ds)
 
   -- what a taken name says of the file
-  pub told_taken : (before : List (List ℕ)) (now : List (List ℕ × Position)) (i : ℕ) (d : Declaration) (name : List ℕ) (place : Place) (fault : NameFault)
+  pub reported_taken : (before : List (List ℕ)) (now : List (List ℕ × DeclarationId)) (i : ℕ) (d : Declaration) (name : List ℕ) (place : Place) (fault : NameFault)
       → slice_get ds i ≡ Some d → names_of now ≡ before ++ take i (declared f) → name ≡ full_name f d → place ≡ place_in number d
       → IsTaken now name place fault → IsTrueOfAdding before f number fault
-  told_taken before now i d name place (DuplicateName told) at names is there h = record {
+  reported_taken before now i d name place (DuplicateName reported) at names is there h = record {
     index = i;
     declaration = d;
     stands = at;
     earlier = subst (λ n. IsOneOf (before ++ take i (declared f)) n) is (subst (λ l. IsOneOf l name) names h.1);
     place_is = h.0 ∙ there;
   }
-  told_taken before now i d name place (UnknownLibrary told) at names is there h = absurd h
-  told_taken before now i d name place (UnknownName told) at names is there h = absurd h
-  told_taken before now i d name place (AmbiguousName told) at names is there h = absurd h
-  told_taken before now i d name place (AliasCycle told) at names is there h = absurd h
-  told_taken before now i d name place (ImportCycle told) at names is there h = absurd h
-  told_taken before now i d name place (BadImport told) at names is there h = absurd h
-  told_taken before now i d name place Memory at names is there h = tt
+  reported_taken before now i d name place (UnknownLibrary reported) at names is there h = absurd h
+  reported_taken before now i d name place (UnknownName reported) at names is there h = absurd h
+  reported_taken before now i d name place (AmbiguousName reported) at names is there h = absurd h
+  reported_taken before now i d name place (AliasCycle reported) at names is there h = absurd h
+  reported_taken before now i d name place (ImportCycle reported) at names is there h = absurd h
+  reported_taken before now i d name place (BadImport reported) at names is there h = absurd h
+  reported_taken before now i d name place Memory at names is there h = tt

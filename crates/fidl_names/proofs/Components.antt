@@ -14,7 +14,7 @@ use Rattle.fidl_names.specs.declared.meaning.Meaning.{Meaning}
 use Rattle.fidl_names.specs.declared.meaning.Meaning.TheVariants as meaning
 use Rattle.fidl_names.specs.Names.{part_text}
 use Rattle.fidl_names.specs.Imports.{path_span}
-use Rattle.fidl_names.specs.Meanings.{names_in, dotted, components, IsDeclarationOf, IsMemberOf, IsMemberBehind, IsReading, declaration, member, IsJust, Means, IsTrueOfName, one_of}
+use Rattle.fidl_names.specs.Meanings.{names_in, dotted, components, IsDeclarationOf, IsMemberOf, IsMemberAfter, IsReading, declaration, member, IsJust, Means, IsTrueOfName, one_of}
 use Rattle.fidl_names.proofs.Readings.{just_iff, ok_iff}
 
 no_end : {X : Type 0} (ys : List X) (y : X) → [] ≡ ys ++ y ∷ [] → ⊥
@@ -51,8 +51,8 @@ module _ (f : File) (first : Span) where
       ap (names_in f first) parts ∙ ap (λ l. text_at f.src.now first ∷ l) (map-append (λ (q : PathPart). text_at f.src.now q.name) (take i ps) (get_or ps i d ∷ []))
 
 module _ (fs : List File) (f : File) (front : List (List ℕ)) (t n : List ℕ) where
-  pub just_behind : {E : Type 0} (r : Result (Option Meaning) E) → IfOk r (IsJust (IsMemberOf fs f front t n)) → IfOk r (IsJust (IsMemberBehind fs f (front ++ t ∷ []) n))
-  just_behind = ok_iff (IsMemberOf fs f front t n) (IsMemberBehind fs f (front ++ t ∷ []) n)
+  pub just_after : {E : Type 0} (r : Result (Option Meaning) E) → IfOk r (IsJust (IsMemberOf fs f front t n)) → IfOk r (IsJust (IsMemberAfter fs f (front ++ t ∷ []) n))
+  just_after = ok_iff (IsMemberOf fs f front t n) (IsMemberAfter fs f (front ++ t ∷ []) n)
       (λ m h. record { front = front; type_name = t; before_is = refl; member = h })
       (λ m h. let r = same_end front h.front t h.type_name h.before_is in
       subst (λ (u : List ℕ). IsMemberOf fs f front u n m) (sym r.last) (subst (λ (g : List (List ℕ)). IsMemberOf fs f g h.type_name n m) (sym r.before) h.member))
@@ -61,7 +61,7 @@ module _ (fs : List File) (f : File) (kind : Wanted) (front : List (List ℕ)) (
   -- a member, where a value is wanted
   pub record IsValue (m : Meaning) : Type 0 where
     pub wants : kind ≡ wanted.Value
-    pub member : IsMemberBehind fs f front n m
+    pub member : IsMemberAfter fs f front n m
 
   declared_means : (g : List (List ℕ)) (m : Meaning) → IsDeclarationOf fs f kind g n m → (p : _) (i : ℕ) → m ≡ meaning.Member p i → ⊥
   declared_means [] m (inl h) p i is = let means = h.means in absurd (cc)
@@ -69,8 +69,8 @@ module _ (fs : List File) (f : File) (kind : Wanted) (front : List (List ℕ)) (
   declared_means (c ∷ cs) m h p i is = let means = h.own.means in absurd (cc)
 
   apart : (g : List (List ℕ)) (t : List ℕ) (m : Meaning) → IsDeclarationOf fs f kind front n m → IsMemberOf fs f g t n m → ⊥
-  apart [] t m d h = declared_means front m d h.position h.number h.means
-  apart (c ∷ cs) t m d h = declared_means front m d h.member.position h.member.number h.member.means
+  apart [] t m d h = declared_means front m d h.id h.number h.means
+  apart (c ∷ cs) t m d h = declared_means front m d h.member.id h.member.number h.member.means
 
   module _ (name : List (List ℕ)) (is : name ≡ front ++ n ∷ []) where
     reading_of : (m : Meaning) → IsReading fs f kind name m → IsDeclarationOf fs f kind front n m ⊎ IsValue m
@@ -79,7 +79,7 @@ module _ (fs : List File) (f : File) (kind : Wanted) (front : List (List ℕ)) (
         inl (subst (λ (u : List ℕ). IsDeclarationOf fs f kind front u m) (sym r.last) (subst (λ (g : List (List ℕ)). IsDeclarationOf fs f kind g k m) (sym r.before) h))
     reading_of m (member g k at value h) =
         let r = same_end front g n k (sym is ∙ at) in
-        inr (record { wants = value; member = subst (λ (u : List ℕ). IsMemberBehind fs f front u m) (sym r.last) (subst (λ (g : List (List ℕ)). IsMemberBehind fs f g k m) (sym r.before) h) })
+        inr (record { wants = value; member = subst (λ (u : List ℕ). IsMemberAfter fs f front u m) (sym r.last) (subst (λ (g : List (List ℕ)). IsMemberAfter fs f g k m) (sym r.before) h) })
 
 pub no_items : {X : Type 0} (xs : List X) → length xs ≡ 0 → xs ≡ []
 no_items [] is = refl
@@ -118,14 +118,14 @@ module _ (fs : List File) (f : File) (kind : Wanted) (front : List (List ℕ)) (
   abbrev name_of : List (List ℕ)
   name_of = components f.src.now path
 
-  pub read_told : (a b : Option Meaning) → IsJust (IsDeclarationOf fs f kind front n) a → IsJust (IsValue fs f kind front n) b → (place : Place) → place ≡ record { file = number; span = path_span path } → IfErr (one_of a b place) (IsTrueOfName fs f number kind path)
-  read_told None None pa qb place at = (nothing, at)
+  pub read_reported : (a b : Option Meaning) → IsJust (IsDeclarationOf fs f kind front n) a → IsJust (IsValue fs f kind front n) b → (place : Place) → place ≡ record { file = number; span = path_span path } → IfErr (one_of a b place) (IsTrueOfName fs f number kind path)
+  read_reported None None pa qb place at = (nothing, at)
     where
       nothing : (y : Meaning) → IsReading fs f kind name_of y → ⊥
       nothing y h = elim (reading_of fs f kind front n name_of is y h) [ inl p ↦ pa y p | inr q ↦ qb y q ]
-  read_told (Some m) None pa qb place at = tt
-  read_told None (Some m) pa qb place at = tt
-  read_told (Some m) (Some o) pa qb place at = (
+  read_reported (Some m) None pa qb place at = tt
+  read_reported None (Some m) pa qb place at = tt
+  read_reported (Some m) (Some o) pa qb place at = (
     record {
       one = m;
       other = o;
@@ -143,5 +143,5 @@ no_member_alone fs f kind n m h = no_end h.member.front h.member.type_name h.mem
 pub no_value : (fs : List File) (f : File) (kind : Wanted) (front : List (List ℕ)) (n : List ℕ) → (kind ≡ wanted.Value → ⊥) → IsJust (IsValue fs f kind front n) None
 no_value fs f kind front n other m h = other h.wants
 
-pub just_value : (fs : List File) (f : File) (kind : Wanted) (front : List (List ℕ)) (n : List ℕ) → kind ≡ wanted.Value → (o : Option Meaning) → IsJust (IsMemberBehind fs f front n) o → IsJust (IsValue fs f kind front n) o
-just_value fs f kind front n is = just_iff (IsMemberBehind fs f front n) (IsValue fs f kind front n) (λ m h. record { wants = is; member = h }) (λ m h. h.member)
+pub just_value : (fs : List File) (f : File) (kind : Wanted) (front : List (List ℕ)) (n : List ℕ) → kind ≡ wanted.Value → (o : Option Meaning) → IsJust (IsMemberAfter fs f front n) o → IsJust (IsValue fs f kind front n) o
+just_value fs f kind front n is = just_iff (IsMemberAfter fs f front n) (IsValue fs f kind front n) (λ m h. record { wants = is; member = h }) (λ m h. h.member)

@@ -2,7 +2,7 @@
 use Rattle.std.proofs.Common.{◌≡◌, ◌<◌, ◌≤◌, ◌-◌, ◌+◌, ℕ, zero, suc, List, [], ◌∷◌, ◌++◌, inl, inr, refl, sym, subst, ◌∙◌, ap, arith, length, take, get_or}
 use Rattle.std.specs.Prelude.{◌⊎◌}
 use Rattle.std.proofs.lemmas.List.{take_more}
-use Rattle.fidl_names.specs.declared.cycles.Closing.{Closing}
+use Rattle.fidl_names.specs.declared.cycles.CycleEdge.{CycleEdge}
 use Rattle.fidl_names.specs.declared.cycles.Frame.{Frame}
 use Rattle.fidl_names.specs.Cycles.{Leads, step, further, IsEdge, IsEdgeFrom, IsFirstEdge, IsTrail, IsPoint, trail_of}
 use Rattle.fidl_names.proofs.Trails.{trail_split}
@@ -40,7 +40,7 @@ lower graph low high le a b e =
     (e.0, omega (arith, one), omega (arith, other))
 
 -- on the way back from a cycle's last point: the next point leads on to the last one and to the first of those met, whose edge leads to the last one or is the last edge
-pub record GoesBack (graph : List (List ℕ)) (way : List ℕ) (next point target : ℕ) (first : Closing) : Type 0 where
+pub record GoesBack (graph : List (List ℕ)) (way : List ℕ) (next point target : ℕ) (first : CycleEdge) : Type 0 where
   pub trail : IsTrail graph way
   pub edge : IsEdge graph first.from first.to
   pub next_later : first.from ≤ next
@@ -61,8 +61,8 @@ module _ (graph : List (List ℕ)) where
     leads = inl refl;
   }
 
-  module _ (way rest : List ℕ) (next point target before : ℕ) (first : Closing) (h : GoesBack graph way next point target first) (trail : IsTrail graph rest) (edge : IsEdge graph before next) where
-    abbrev here : Closing
+  module _ (way rest : List ℕ) (next point target before : ℕ) (first : CycleEdge) (h : GoesBack graph way next point target first) (trail : IsTrail graph rest) (edge : IsEdge graph before next) where
+    abbrev here : CycleEdge
     here = record { from = before; to = next }
 
     keeps : first.from ≤ before → GoesBack graph rest before point target first
@@ -95,11 +95,11 @@ module _ (graph : List (List ℕ)) where
           leads = inr on;
         }
 
-    pub goes_on : (now : Closing) → ((now ≡ first) × (first.from ≤ before)) ⊎ ((now ≡ here) × (before ≤ first.from)) → GoesBack graph rest before point target now
+    pub goes_on : (now : CycleEdge) → ((now ≡ first) × (first.from ≤ before)) ⊎ ((now ≡ here) × (before ≤ first.from)) → GoesBack graph rest before point target now
     goes_on now (inl k) = subst (GoesBack graph rest before point target) (sym k.0) (keeps k.1)
     goes_on now (inr k) = subst (GoesBack graph rest before point target) (sym k.0) (takes k.1)
 
-  pub comes_round : (way : List ℕ) (next point target : ℕ) (first : Closing) → GoesBack graph way next point target first → next ≡ target → IsEdge graph point target → IsFirstEdge graph first.from first.to
+  pub comes_round : (way : List ℕ) (next point target : ℕ) (first : CycleEdge) → GoesBack graph way next point target first → next ≡ target → IsEdge graph point target → IsFirstEdge graph first.from first.to
   comes_round way next point target first h is last = (h.edge, round h.leads)
     where
       by_last : first.to ≡ target → Reaches (IsEdgeFrom graph first.from) next first.from → Leads (IsEdgeFrom graph first.from) first.to first.from

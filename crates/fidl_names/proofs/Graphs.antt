@@ -1,4 +1,4 @@
--- The graph of the libraries of a set, and the imports that it stands for.
+-- The graph of the libraries of a set, and the imports that make it.
 use Rattle.std.proofs.Common.{◌≡◌, ◌<◌, ◌+◌, ℕ, List, [], Some, inl, inr, refl, sym, subst, ◌∙◌, length, get_or, take, arith}
 use Rattle.std.specs.Prelude.{◌⊎◌, ◌↔◌, slice_get, replicate}
 use Rattle.std.specs.List.{Contains, Any, AllByRecursion}
@@ -10,11 +10,11 @@ use Rattle.fidl_names.specs.declared.place.Place.{Place}
 use Rattle.fidl_names.specs.Cycles.{Leads, step, further, IsEdge, IsEdgeFrom, IsFirstEdge}
 use Rattle.fidl_names.specs.Names.{IsOneOf, AreDistinct, path_text, library_of}
 use Rattle.fidl_names.specs.Imports.{libraries_of, ImportsAreKnown, IsEntry}
-use Rattle.fidl_names.specs.Seen.{names_of, HaveSame}
-use Rattle.fidl_names.specs.ImportCycles.{Imports, ImportsBack, AreNumbered, HasEdge, StandsAt}
+use Rattle.fidl_names.specs.NameMaps.{names_of, HaveSame}
+use Rattle.fidl_names.specs.ImportCycles.{Imports, ImportsBack, AreNumbered, HasEdge, IsImportAt}
 use Rattle.fidl_names.proofs.Sames.{known_by}
 use Rattle.fidl_names.proofs.Firsts.{leads_by}
-use Rattle.fidl_names.proofs.Positions.{one_entry}
+use Rattle.fidl_names.proofs.FullNames.{one_entry}
 use Rattle.fidl_names.proofs.LibraryNumbers.{contains_at, all_at, one_of_them, pick, any_of, any_more, one_name, number_within, number_of}
 
 -- points without edges
@@ -116,8 +116,8 @@ module _ (files : List File) (es : List (List ℕ × ℕ)) (g : List (List ℕ))
       further x y z (edge_imports x y a b e hx i.holds) (names_lead b c l y z i.holds hz)
 
   -- a place where an edge of a cycle stands is one of an import that leads back
-  pub told_back : (one other : ℕ) (place : Place) → IsFirstEdge g one other → StandsAt es files one other place → ImportsBack files place
-  told_back one other place cycle h =
+  pub reported_back : (one other : ℕ) (place : Place) → IsFirstEdge g one other → IsImportAt es files one other place → ImportsBack files place
+  reported_back one other place cycle h =
       let e = h.edge in
       let round : Leads (IsEdge g) other one = leads_by (IsEdgeFrom g one) (IsEdge g) (λ a b d. d.0) other one cycle.1 in
       record {

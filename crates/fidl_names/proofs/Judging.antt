@@ -1,4 +1,4 @@
--- What holds of things one after another, and what a refusal tells.
+-- What holds of things one after another, and what a refusal says.
 use Rattle.std.proofs.Common.{◌≡◌, ◌+◌, ◌<◌, ℕ, Bool, true, false, cond, List, [], ◌∷◌, ◌++◌, Some, length, take, get_or, sym, ap, subst, ◌∙◌, inl, inr, below_more}
 use Rattle.std.specs.Prelude.{slice_get, Result, IfErr}
 use Rattle.std.specs.List.{filter}
@@ -7,7 +7,7 @@ use Rattle.std.proofs.lemmas.List.Elements.{filter_more}
 use Rattle.std.proofs.lemmas.Option.{get_or_from_slice_get}
 use Rattle.std.proofs.lemmas.Result.{IfErr-weaker}
 use Rattle.fidl_names.specs.declared.fault.NameFault.{NameFault}
-use Rattle.fidl_names.specs.Scopes.{Tells}
+use Rattle.fidl_names.specs.Scopes.{IsMemoryOr}
 
 module _ {X : Type 0} (xs : List X) (i : ℕ) (x : X) (is : x ≡ get_or xs i x) where
   filtered : (p : X → Bool) (b : Bool) → i < length xs → p x ≡ b → filter p (take (i + 1) xs) ≡ filter p (take i xs) ++ cond b (x ∷ []) []
@@ -28,10 +28,10 @@ module _ {X : Type 0} (xs : List X) (i : ℕ) (x : X) (is : x ≡ get_or xs i x)
   holds_more P before here = below_more (λ k. (y : X) → slice_get xs k ≡ Some y → P k y) i before (λ y at. subst (P i) (is ∙ get_or_from_slice_get xs i y x at) here)
 
 module _ (P Q : NameFault → Type 0) (wider : (fault : NameFault) → P fault → Q fault) where
-  pub tells_more : (fault : NameFault) → Tells P fault → Tells Q fault
-  tells_more fault (inl e) = inl e
-  tells_more fault (inr h) = inr (wider fault h)
+  pub reports_more : (fault : NameFault) → IsMemoryOr P fault → IsMemoryOr Q fault
+  reports_more fault (inl e) = inl e
+  reports_more fault (inr h) = inr (wider fault h)
 
-  -- what a refusal tells, of a whole that it is a part of
-  pub told_more : {T : Type 0} (r : Result T NameFault) → IfErr r (Tells P) → IfErr r (Tells Q)
-  told_more r h = IfErr-weaker r (Tells P) (Tells Q) tells_more h
+  -- what a refusal says, of a whole that it is a part of
+  pub reported_more : {T : Type 0} (r : Result T NameFault) → IfErr r (IsMemoryOr P) → IfErr r (IsMemoryOr Q)
+  reported_more r h = IfErr-weaker r (IsMemoryOr P) (IsMemoryOr Q) reports_more h

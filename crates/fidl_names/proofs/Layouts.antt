@@ -1,65 +1,84 @@
 -- The members of declared bits and enums make one of the declaration's lists.
-use Rattle.std.proofs.Common.{rules, ◌≡◌, ◌<◌, ℕ, zero, suc, length, get_or, arith, List, [], ◌∷◌, ◌++◌, map, refl, ap, subst}
-use Rattle.std.specs.Prelude.{slice_get, Option, Some, None}
+use Rattle.std.proofs.Common.{rules, ◌≡◌, ◌<◌, ℕ, zero, suc, length, get_or, arith, List, [], ◌∷◌, map, refl, ap, sym, subst, ◌∙◌}
+use Rattle.std.specs.Prelude.{Some, slice_get}
 use Rattle.std.specs.List.{AllByRecursion}
+use Rattle.std.proofs.lemmas.Grind.{flat_map-append}
 use Rattle.std.proofs.lemmas.Option.{get_or_from_slice_get, slice_get_within}
-use Rattle.fidl_span.specs.declared.words.Span.{Span}
 use Rattle.fidl_tree.specs.Leaf.{text_at}
+use Rattle.fidl_tree.specs.Syntax as plain
+use Rattle.fidl_tree.specs.Syntax.{values_layout, struct_layout, table_layout, union_layout}
+use Rattle.fidl_tree.specs.Syntax.{const_body, alias_body, type_body, protocol_body, service_body, resource_body}
+use Rattle.fidl_tree.specs.Views.{value_member_view, values_view, body_view, layout_view, declared_view, declaration_view, file_view}
 use Rattle.fidl_tree.specs.declared.file.File.{File}
 use Rattle.fidl_tree.specs.declared.value_member.ValueMember.{ValueMember}
+use Rattle.fidl_tree.specs.declared.declaration.Declaration.{Declaration}
 use Rattle.fidl_tree.specs.declared.declaration.DeclarationBody.{DeclarationBody}
 use Rattle.fidl_tree.specs.declared.declaration.DeclarationBody.TheVariants.{Const, Alias, «Type» as Declared, Protocol, Service, Resource}
 use Rattle.fidl_tree.specs.declared.type_constructor.Layout as whole
 use Rattle.fidl_tree.specs.declared.type_constructor.LayoutBody as kind
 use Rattle.fidl_tree.specs.declared.type_constructor.LayoutBody.{LayoutBody, out-LayoutBody}
 use Rattle.fidl_tree.specs.declared.type_constructor.LayoutBody.TheOpen.{LayoutBody-F}
-use Rattle.fidl_tree.specs.declared.type_constructor.Underlying.{Underlying}
 use Rattle.fidl_tree.specs.declared.type_constructor.ValuesLayout as values
 use Rattle.fidl_tree.specs.declared.type_constructor.ValuesLayout.{ValuesLayout, out-ValuesLayout}
 use Rattle.fidl_names.specs.Names.{AreDistinct}
 use Rattle.fidl_names.specs.Meanings.{layout_members, value_members, MembersDiffer}
-use Rattle.fidl_names.specs.MemberLists.{layout_lists, layout_body_lists, values_layout_lists, underlying_lists, body_lists, NamesDiffer, ListsDiffer, DistinctMembers}
+use Rattle.fidl_names.specs.Spots.{layout_spot, underlying_spots, layout_spots}
+use Rattle.fidl_names.specs.MemberLists.{value_names, spot_lists, lists_of, body_lists, layout_values, body_values, NamesDiffer, ListsDiffer, DistinctMembers}
 use Rattle.fidl_names.proofs.Trails.{all_last}
 
-abbrev name : ValueMember → Span
-name m = m.name
+-- in plain data
 
 module _ (src : List ℕ) where
-  texts_again : (ms : List ValueMember) → map (text_at src) (map name ms) ≡ map (λ (m : ValueMember). text_at src m.name) ms
-  texts_again [] = refl
-  texts_again (m ∷ ms) = ap (λ l. text_at src m.name ∷ l) (texts_again ms)
+  of_layout : (l : plain.Layout) → AllByRecursion (NamesDiffer src) (lists_of (layout_spots l)) → NamesDiffer src (value_names (layout_values l))
+  of_layout (values_layout kind strict keyword u members) h =
+      let own = layout_spot (values_layout kind strict keyword u members) ∷ [] in
+      all_last (NamesDiffer src) (lists_of (underlying_spots u)) (value_names members)
+      (subst (AllByRecursion (NamesDiffer src)) (flat_map-append spot_lists (underlying_spots u) own) h)
+  of_layout (struct_layout is_resource keyword ms) h = tt
+  of_layout (table_layout is_resource keyword ms) h = tt
+  of_layout (union_layout strict is_resource keyword ms) h = tt
 
-  in_values : (l : ValuesLayout) (u : Option Underlying) → (out-ValuesLayout l).underlying ≡ u → (before : List (List Span)) × (values_layout_lists l ≡ before ++ map name (out-ValuesLayout l).members.items ∷ [])
-  in_values l None is = ([], search (rules, values.the_lemmas, is))
-  in_values l (Some u) is = (underlying_lists u, search (rules, values.the_lemmas, is))
+  of_plain : (b : plain.Body) → AllByRecursion (NamesDiffer src) (body_lists b) → NamesDiffer src (value_names (body_values b))
+  of_plain (type_body attributes layout) h = of_layout layout h
+  of_plain (const_body t v) h = tt
+  of_plain (alias_body t) h = tt
+  of_plain (protocol_body openness members) h = tt
+  of_plain (service_body ms) h = tt
+  of_plain (resource_body t properties) h = tt
 
-  of_values : (l : ValuesLayout) → AllByRecursion (NamesDiffer src) (values_layout_lists l) → AreDistinct (map (λ (m : ValueMember). text_at src m.name) (out-ValuesLayout l).members.items)
-  of_values l h =
-      let s = in_values l (out-ValuesLayout l).underlying refl in
-      let ms = (out-ValuesLayout l).members.items in
-      subst AreDistinct (texts_again ms) (all_last (NamesDiffer src) s.0 (map name ms) (subst (AllByRecursion (NamesDiffer src)) s.1 h))
+-- the members of the tree are those of the plain data
 
-  of_body : (b : LayoutBody) → AllByRecursion (NamesDiffer src) (layout_body_lists b) → AreDistinct (map (λ (m : ValueMember). text_at src m.name) (layout_members b))
-  of_body b h = elim (out-LayoutBody b) as (λ o. out-LayoutBody b ≡ o → AreDistinct (map (λ (m : ValueMember). text_at src m.name) (elim o as (λ _. List ValueMember) [
-    | LayoutBody-F.Values l ↦ (out-ValuesLayout l).members.items
-    | _ ↦ []
-  ]))) [
-    | LayoutBody-F.Values l ↦ λ is.
-        let e : layout_body_lists b ≡ values_layout_lists l = search (rules, kind.the_lemmas, is) in
-        of_values l (subst (AllByRecursion (NamesDiffer src)) e h)
-    | _ ↦ λ _. tt
-  ] refl
+seen_values : (l : ValuesLayout) → map value_member_view (out-ValuesLayout l).members.items ≡ layout_values (values_view l)
+seen_values l = search (rules, values.the_lemmas)
 
-  pub of_declaration : (body : DeclarationBody) → AllByRecursion (NamesDiffer src) (body_lists body) → AreDistinct (map (λ (m : ValueMember). text_at src m.name) (value_members body))
-  of_declaration (Declared d) h =
-      let l = d.layout in
-      let e : layout_lists l ≡ layout_body_lists (whole.out-Layout l).body = search (rules, whole.the_lemmas) in
-      of_body (whole.out-Layout l).body (subst (AllByRecursion (NamesDiffer src)) e h)
-  of_declaration (Const d) h = tt
-  of_declaration (Alias d) h = tt
-  of_declaration (Protocol d) h = tt
-  of_declaration (Service d) h = tt
-  of_declaration (Resource d) h = tt
+seen_body : (b : LayoutBody) → map value_member_view (layout_members b) ≡ layout_values (body_view b)
+seen_body b = elim (out-LayoutBody b) as (λ o. out-LayoutBody b ≡ o → map value_member_view (elim o as (λ _. List ValueMember) [
+  | LayoutBody-F.Values l ↦ (out-ValuesLayout l).members.items
+  | _ ↦ []
+]) ≡ layout_values (body_view b)) [
+  | LayoutBody-F.Values l ↦ λ is. seen_values l ∙ ap layout_values (let e : values_view l ≡ body_view b = search (rules, kind.the_lemmas, is) in e)
+  | LayoutBody-F.Struct l ↦ λ is. search (rules, kind.the_lemmas, is)
+  | LayoutBody-F.Table l ↦ λ is. search (rules, kind.the_lemmas, is)
+  | LayoutBody-F.Union l ↦ λ is. search (rules, kind.the_lemmas, is)
+] refl
+
+pub seen_members : (body : DeclarationBody) → map value_member_view (value_members body) ≡ body_values (declared_view body)
+seen_members (Declared d) =
+    let e : body_view (whole.out-Layout d.layout).body ≡ (layout_view d.layout).1 = search (rules, whole.the_lemmas) in
+    seen_body (whole.out-Layout d.layout).body ∙ ap layout_values e
+seen_members (Const d) = refl
+seen_members (Alias d) = refl
+seen_members (Protocol d) = refl
+seen_members (Service d) = refl
+seen_members (Resource d) = refl
+
+names_again : (src : List ℕ) (ms : List ValueMember) → map (text_at src) (value_names (map value_member_view ms)) ≡ map (λ (m : ValueMember). text_at src m.name) ms
+names_again src [] = refl
+names_again src (m ∷ ms) = ap (λ l. text_at src m.name ∷ l) (names_again src ms)
+
+of_declaration : (src : List ℕ) (d : Declaration) → ListsDiffer src (declaration_view d) → AreDistinct (map (λ (m : ValueMember). text_at src m.name) (value_members d.body))
+of_declaration src d h =
+    subst AreDistinct (ap (λ ms. map (text_at src) (value_names ms)) (sym (seen_members d.body)) ∙ names_again src (value_members d.body)) (of_plain src (declared_view d.body) h)
 
 all_get : {X : Type 0} (P : X → Type 0) (xs : List X) (i : ℕ) (d : X) → AllByRecursion P xs → i < length xs → P (get_or xs i d)
 all_get P [] i d h lt = absurd (omega (arith, lt))
@@ -69,6 +88,13 @@ all_get P (x ∷ xs) (suc i) d h lt = all_get P xs i d h.1 (omega (arith, lt))
 pub all_at : {X : Type 0} (P : X → Type 0) (xs : List X) (i : ℕ) (x : X) → AllByRecursion P xs → slice_get xs i ≡ Some x → P x
 all_at P xs i x h e = subst P (get_or_from_slice_get xs i x x e) (all_get P xs i x h (slice_get_within xs i x e))
 
+all_mapped : {X Y : Type 0} (view : X → Y) (P : Y → Type 0) (xs : List X) → AllByRecursion P (map view xs) → AllByRecursion (λ x. P (view x)) xs
+all_mapped view P [] h = tt
+all_mapped view P (x ∷ xs) h = (h.0, all_mapped view P xs h.1)
+
 -- where members differ in all files, those of declared bits and enums do
-pub members_differ : (files : List File) → AllByRecursion DistinctMembers files → MembersDiffer files
-members_differ files h full p f d declared = of_declaration f.src.now d.body (all_at (ListsDiffer f.src.now) f.declarations.items p.index d (all_at DistinctMembers files p.file f h declared.file_at) declared.stands)
+pub members_differ : (files : List File) → AllByRecursion (λ f. DistinctMembers (file_view f)) files → MembersDiffer files
+members_differ files h full p f d declared =
+    let of_file = all_at (λ (g : File). DistinctMembers (file_view g)) files p.file f h declared.file_at in
+    let of_trees = all_mapped declaration_view (ListsDiffer f.src.now) f.declarations.items of_file in
+    of_declaration f.src.now d (all_at (λ (e : Declaration). ListsDiffer f.src.now (declaration_view e)) f.declarations.items p.index d of_trees declared.stands)

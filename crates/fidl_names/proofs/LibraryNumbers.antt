@@ -8,10 +8,10 @@ use Rattle.std.proofs.lemmas.List.Quantifiers.{Any-push}
 use Rattle.std.proofs.lemmas.Option.{slice_get_within, get_or_from_slice_get, some_pair_parts}
 use Rattle.fidl_names.specs.Names.{IsOneOf, AreDistinct}
 use Rattle.fidl_names.specs.Imports.{IsEntry}
-use Rattle.fidl_names.specs.Seen.{names_of}
+use Rattle.fidl_names.specs.NameMaps.{names_of}
 use Rattle.fidl_names.specs.ImportCycles.{AreNumbered}
 use Rattle.fidl_names.proofs.Adding.{distinct_more}
-use Rattle.fidl_names.proofs.Positions.{entry_both}
+use Rattle.fidl_names.proofs.FullNames.{entry_both}
 use Rattle.fidl_names.proofs.Seeing.{take_item}
 
 module _ {X : Type 0} where

@@ -3,7 +3,7 @@ use Rattle.std.proofs.Common.{◌≡◌, ◌<◌, ℕ, zero, suc, List, [], ◌�
 use Rattle.std.specs.Prelude.{option_map}
 use Rattle.std.proofs.lemmas.Bool.{cases_Bool}
 use Rattle.fidl_names.specs.Imports.{same}
-use Rattle.fidl_names.specs.Items.{number_in}
+use Rattle.fidl_names.specs.Constraints.{number_in}
 use Rattle.fidl_names.proofs.Seeing.{same_is}
 
 module _ (n : List ℕ) where

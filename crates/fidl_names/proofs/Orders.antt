@@ -1,4 +1,4 @@
--- Orders of a graph's points, in which each stands behind those that it leads to.
+-- Orders of a graph's points, in which each stands after those that it leads to.
 use Rattle.std.proofs.Common.{◌≡◌, ◌<◌, ℕ, Bool, true, false, List, [], ◌∷◌, ◌++◌, Some, inl, inr, sym, subst, ◌∙◌, ap, length, set, take, arith, true≢false}
 use Rattle.std.specs.Prelude.{slice_get}
 use Rattle.std.specs.List.{Contains}
@@ -15,7 +15,7 @@ module _ (graph : List (List ℕ)) (marks : List Bool) (order : List ℕ) (p : �
 
   -- a point all of whose targets are marked may follow
   pub order_more : p < length marks → IsOrdered graph marks order → ((b : ℕ) → IsEdge graph p b → IsMarked marks b) → IsOrdered graph (set marks p true) (order ++ p ∷ [])
-  order_more lt h targets = record { whole = whole; behind = behind; points = points }
+  order_more lt h targets = record { whole = whole; after = after; points = points }
     where
       whole : (t : ℕ) → IsMarked (set marks p true) t → Contains now t
       whole t m = elim (marked_before marks p t m) as (λ _. Contains now t) [
@@ -29,11 +29,11 @@ module _ (graph : List (List ℕ)) (marks : List Bool) (order : List ℕ) (p : �
         | inr is ↦ subst (IsMarked (set marks p true)) is (marked_here marks p lt)
       ]
 
-      behind : (k one other : ℕ) → slice_get now k ≡ Some one → IsEdge graph one other → Contains (take k now) other
-      behind k one other at e = elim (cases_lt k (length order)) as (λ _. Contains (take k now) other) [
+      after : (k one other : ℕ) → slice_get now k ≡ Some one → IsEdge graph one other → Contains (take k now) other
+      after k one other at e = elim (cases_lt k (length order)) as (λ _. Contains (take k now) other) [
         | inl before ↦
             let here : slice_get order k ≡ Some one = slice_get-get_or order k one before ∙ ap (λ x. Some x) (sym (get_or_append_left order (p ∷ []) one k before) ∙ get_or_from_slice_get now k one one at) in
-            subst (λ l. Contains l other) (sym (take-append-le k order (p ∷ []) (omega arith))) (h.behind k one other here e)
+            subst (λ l. Contains l other) (sym (take-append-le k order (p ∷ []) (omega arith))) (h.after k one other here e)
         | inr past ↦
             let within = slice_get_within now k one at in
             let long = length_push order p in
@@ -52,7 +52,7 @@ marked_within marks t m = elim (cases_lt t (length marks)) as (λ _. t < length 
 pub order_all : (graph : List (List ℕ)) (marks : List Bool) (order : List ℕ) → length marks ≡ length graph → IsOrdered graph marks order → ((t : ℕ) → t < length graph → IsMarked marks t) → IsOrder graph order
 order_all graph marks order long h all = record {
   whole = λ t lt. h.whole t (all t lt);
-  behind = h.behind;
+  after = h.after;
   points = λ t m. subst (λ n. t < n) long (marked_within marks t (h.points t m));
 }
 

@@ -7,10 +7,10 @@ use Rattle.fidl_names.specs.declared.meaning.Predeclared.{Predeclared}
 use Rattle.fidl_names.specs.declared.meaning.Meaning.{Meaning}
 use Rattle.fidl_names.specs.declared.meaning.Meaning.TheVariants as meaning
 use Rattle.fidl_names.specs.Names.{AreDistinct}
-use Rattle.fidl_names.specs.Seen.{names_of}
+use Rattle.fidl_names.specs.NameMaps.{names_of}
 use Rattle.fidl_names.specs.Imports.{IsEntry}
 use Rattle.fidl_names.specs.Meanings.{predeclared_text, predeclared_kind, IsOwn, IsMember, IsSimple, IsImported, IsImportedMember, IsJust}
-use Rattle.fidl_names.proofs.Positions.{one_entry}
+use Rattle.fidl_names.proofs.FullNames.{one_entry}
 use Rattle.fidl_names.proofs.Words.{one_predeclared}
 
 -- what holds of the same things has the same only one
@@ -22,16 +22,16 @@ pub ok_iff : {X E : Type 0} (P Q : X → Type 0) → ((x : X) → P x → Q x) �
 ok_iff P Q to from (Ok o) h = just_iff P Q to from o h
 ok_iff P Q to from (Err e) h = h
 
-module _ (fs : List File) (sights : List (List ℕ × List ℕ)) (distinct : AreDistinct (names_of sights)) (front library : List ℕ) (seen : IsEntry sights front library) where
-  pub just_imported : {E : Type 0} (kind : Wanted) (n : List ℕ) (r : Result (Option Meaning) E) → IfOk r (IsJust (IsOwn fs library kind n)) → IfOk r (IsJust (IsImported fs sights kind front n))
-  just_imported kind n = ok_iff (IsOwn fs library kind n) (IsImported fs sights kind front n)
+module _ (fs : List File) (visible_names : List (List ℕ × List ℕ)) (distinct : AreDistinct (names_of visible_names)) (front library : List ℕ) (seen : IsEntry visible_names front library) where
+  pub just_imported : {E : Type 0} (kind : Wanted) (n : List ℕ) (r : Result (Option Meaning) E) → IfOk r (IsJust (IsOwn fs library kind n)) → IfOk r (IsJust (IsImported fs visible_names kind front n))
+  just_imported kind n = ok_iff (IsOwn fs library kind n) (IsImported fs visible_names kind front n)
       (λ m h. record { library = library; seen = seen; own = h })
-      (λ m h. subst (λ (l : List ℕ). IsOwn fs l kind n m) (one_entry sights front h.library library distinct h.seen seen) h.own)
+      (λ m h. subst (λ (l : List ℕ). IsOwn fs l kind n m) (one_entry visible_names front h.library library distinct h.seen seen) h.own)
 
-  pub just_imported_member : {E : Type 0} (t n : List ℕ) (r : Result (Option Meaning) E) → IfOk r (IsJust (IsMember fs library t n)) → IfOk r (IsJust (IsImportedMember fs sights front t n))
-  just_imported_member t n = ok_iff (IsMember fs library t n) (IsImportedMember fs sights front t n)
+  pub just_imported_member : {E : Type 0} (t n : List ℕ) (r : Result (Option Meaning) E) → IfOk r (IsJust (IsMember fs library t n)) → IfOk r (IsJust (IsImportedMember fs visible_names front t n))
+  just_imported_member t n = ok_iff (IsMember fs library t n) (IsImportedMember fs visible_names front t n)
       (λ m h. record { library = library; seen = seen; member = h })
-      (λ m h. subst (λ (l : List ℕ). IsMember fs l t n m) (one_entry sights front h.library library distinct h.seen seen) h.member)
+      (λ m h. subst (λ (l : List ℕ). IsMember fs l t n m) (one_entry visible_names front h.library library distinct h.seen seen) h.member)
 
 module _ (fs : List File) (library : List ℕ) (kind : Wanted) (n : List ℕ) where
   pub simple_own : (m : Meaning) → IsJust (IsOwn fs library kind n) (Some m) → IsJust (IsSimple fs library kind n) (Some m)

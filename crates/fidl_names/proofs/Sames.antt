@@ -8,7 +8,7 @@ use Rattle.fidl_names.specs.declared.fault.NameFault.{NameFault}
 use Rattle.fidl_names.specs.declared.fault.NameFault.TheVariants.{DuplicateName, UnknownLibrary, UnknownName, AmbiguousName, AliasCycle, ImportCycle, BadImport, Memory}
 use Rattle.fidl_names.specs.Names.{IsOneOf, path_text}
 use Rattle.fidl_names.specs.Imports.{ImportsAreKnown, IsTrueOfImports}
-use Rattle.fidl_names.specs.Seen.{HaveSame}
+use Rattle.fidl_names.specs.NameMaps.{HaveSame}
 
 module _ (n x : List ℕ) where
   pub before_last : (xs : List (List ℕ)) → IsOneOf xs x → IsOneOf (xs ++ n ∷ []) x
@@ -66,18 +66,18 @@ known_by xs ys f h = all f.imports.items
     all [] k = tt
     all (i ∷ is) k = ((h (path_text f.src.now i.path)).0 k.0, all is k.1)
 
-pub told_by : (xs ys : List (List ℕ)) (f : File) (number : ℕ) → HaveSame xs ys → (fault : NameFault) → IsTrueOfImports xs f number fault → IsTrueOfImports ys f number fault
-told_by xs ys f number h (UnknownLibrary place) k = record {
+pub reported_by : (xs ys : List (List ℕ)) (f : File) (number : ℕ) → HaveSame xs ys → (fault : NameFault) → IsTrueOfImports xs f number fault → IsTrueOfImports ys f number fault
+reported_by xs ys f number h (UnknownLibrary place) k = record {
   index = k.index;
   an_import = k.an_import;
   stands = k.stands;
   unknown = λ m. k.unknown ((h (path_text f.src.now k.an_import.path)).1 m);
   place_is = k.place_is;
 }
-told_by xs ys f number h (BadImport place) k = k
-told_by xs ys f number h (DuplicateName place) k = absurd k
-told_by xs ys f number h (UnknownName place) k = absurd k
-told_by xs ys f number h (AmbiguousName place) k = absurd k
-told_by xs ys f number h (AliasCycle place) k = absurd k
-told_by xs ys f number h (ImportCycle place) k = absurd k
-told_by xs ys f number h Memory k = tt
+reported_by xs ys f number h (BadImport place) k = k
+reported_by xs ys f number h (DuplicateName place) k = absurd k
+reported_by xs ys f number h (UnknownName place) k = absurd k
+reported_by xs ys f number h (AmbiguousName place) k = absurd k
+reported_by xs ys f number h (AliasCycle place) k = absurd k
+reported_by xs ys f number h (ImportCycle place) k = absurd k
+reported_by xs ys f number h Memory k = tt

@@ -10,8 +10,8 @@ use Rattle.std.proofs.lemmas.Bool.{cases_Bool}
 use Rattle.std.proofs.lemmas.Bool.Decides.{Decides-eqb}
 use Rattle.fidl_names.specs.Names.{IsOneOf}
 use Rattle.fidl_names.specs.Imports.{IsEntry}
-use Rattle.fidl_names.proofs.Positions.{entry_among}
-use Rattle.fidl_names.specs.Seen.{seen, seen_texts, names_of}
+use Rattle.fidl_names.proofs.FullNames.{entry_among}
+use Rattle.fidl_names.specs.NameMaps.{seen, seen_texts, names_of}
 
 -- two texts are the same by the test of a map
 abbrev pub same_text : List ℕ → Vec ℕ → Bool

@@ -18,7 +18,7 @@ module _ (src : List ℕ) (ps : List PathPart) (i : ℕ) (d : PathPart) (lt : i 
       ∙ flat_map-append (part_text src) (take i ps) (get_or ps i d ∷ [])
       ∙ ap (λ l. flat_map (part_text src) (take i ps) ++ l) (append-nil (part_text src (get_or ps i d)))
 
-  -- with a dot and the name behind, the text goes one component further
+  -- with a dot and the name after it, the text goes one component further
   pub grown : (first text dotted new name : List ℕ) → text ≡ first ++ flat_map (part_text src) (take i ps) → dotted ≡ text ++ codes "." → name ≡ text_at src (get_or ps i d).name → new ≡ dotted ++ name → new ≡ first ++ flat_map (part_text src) (take (i + 1) ps)
   grown first text dotted new name is dot named all =
       let part : codes "." ++ name ≡ part_text src (get_or ps i d) = ap (λ l. codes "." ++ l) named in

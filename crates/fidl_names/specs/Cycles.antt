@@ -1,5 +1,7 @@
--- Ways along the edges of a graph whose points are numbered: a list has, at each point's number, the points that it leads to at once.
-use Rattle.std.specs.Prelude.{ℕ, ◌≡◌, ◌<◌, ◌≤◌, ◌⊎◌, ◌++◌, ◌∷◌, [], Bool, true, false, List, length, map, take, Some, slice_get, slice_index_or}
+-- Ways along the edges of a graph whose points are numbered: a list has, at each point's number,
+-- the points that it leads to at once.
+use Rattle.std.specs.Prelude.{ℕ, ◌≡◌, ◌<◌, ◌≤◌, ◌⊎◌, ◌++◌, ◌∷◌, [], Bool, true, false, List, length}
+use Rattle.std.specs.Prelude.{map, take, Some, slice_get, slice_index_or}
 use Rattle.std.specs.List.{Contains}
 use Rattle.std.specs.Global.{Vec}
 use Rattle.fidl_names.specs.declared.cycles.Frame.{Frame}
@@ -19,19 +21,25 @@ pub record IsEdge (graph : List (List ℕ)) (one other : ℕ) : Type 0 where
 abbrev pub IsEdgeFrom : (graph : List (List ℕ)) (first : ℕ) → ℕ → ℕ → Type 0
 IsEdgeFrom graph first one other = IsEdge graph one other × (first ≤ one) × (first ≤ other)
 
--- the edge of a cycle that leaves the cycle's first point: its end leads back to its start over points that don't stand before it
+-- the edge of a cycle that leaves the cycle's first point: its end leads back to its start over
+-- points that don't stand before it
 abbrev pub IsFirstEdge : (graph : List (List ℕ)) → (one other : ℕ) → Type 0
 IsFirstEdge graph one other = IsEdge graph one other × Leads (IsEdgeFrom graph one) other one
 
--- every point stands in the order, behind all those that it leads to at once
+-- every point stands in the order, after all those that it leads to at once
 pub record IsOrder (graph : List (List ℕ)) (order : List ℕ) : Type 0 where
   pub whole : (point : ℕ) → point < length graph → Contains order point
-  pub behind : (k one other : ℕ) → slice_get order k ≡ Some one → IsEdge graph one other → Contains (take k order) other
+  pub after : (k one other : ℕ) → slice_get order k ≡ Some one → IsEdge graph one other
+      → Contains (take k order) other
   pub points : (point : ℕ) → Contains order point → point < length graph
 
 -- a graph as vectors hold it
 abbrev pub points_of : List (Vec ℕ) → List (List ℕ)
 points_of graph = map (λ v. v.items) graph
+
+-- each edge leads to a point of the graph
+abbrev pub EdgesWithin : List (Vec ℕ) → Type 0
+EdgesWithin graph = (one other : ℕ) → IsEdge (points_of graph) one other → other < length graph
 
 -- a point has a mark
 abbrev pub IsMarked : List Bool → ℕ → Type 0
@@ -42,10 +50,11 @@ pub record HasNoCycle (graph : List (List ℕ)) (marks : List Bool) : Type 0 whe
   pub closed : (one other : ℕ) → IsMarked marks one → IsEdge graph one other → IsMarked marks other
   pub acyclic : (point : ℕ) → IsMarked marks point → Leads (IsEdge graph) point point → ⊥
 
--- the marked points stand in the order, each behind all those that it leads to at once
+-- the marked points stand in the order, each after all those that it leads to at once
 pub record IsOrdered (graph : List (List ℕ)) (marks : List Bool) (order : List ℕ) : Type 0 where
   pub whole : (point : ℕ) → IsMarked marks point → Contains order point
-  pub behind : (k one other : ℕ) → slice_get order k ≡ Some one → IsEdge graph one other → Contains (take k order) other
+  pub after : (k one other : ℕ) → slice_get order k ≡ Some one → IsEdge graph one other
+      → Contains (take k order) other
   pub points : (point : ℕ) → Contains order point → IsMarked marks point
 
 -- it is one of these points

@@ -1,4 +1,4 @@
--- Libraries that import one another, and the numbers that stand for them (docs/language.md, "Imports").
+-- Libraries that import one another, and their numbers (docs/language.md, "Imports").
 use Rattle.std.specs.Prelude.{ℕ, ◌≡◌, List, Some, slice_get}
 use Rattle.std.specs.List.{Contains, Any}
 use Rattle.fidl_span.specs.declared.words.Span.{Span}
@@ -8,7 +8,7 @@ use Rattle.fidl_names.specs.declared.place.Place.{Place}
 use Rattle.fidl_names.specs.declared.fault.NameFault.{NameFault}
 use Rattle.fidl_names.specs.declared.fault.NameFault.TheVariants.{ImportCycle, Memory}
 use Rattle.fidl_names.specs.Names.{path_text, library_of, AreDistinct}
-use Rattle.fidl_names.specs.Seen.{names_of}
+use Rattle.fidl_names.specs.NameMaps.{names_of}
 use Rattle.fidl_names.specs.Imports.{path_span, IsEntry}
 use Rattle.fidl_names.specs.Cycles.{Leads}
 
@@ -30,7 +30,7 @@ pub record ImportsBack (files : List File) (place : Place) : Type 0 where
   pub back : Leads (Imports files) (path_text file.src.now an_import.path) (library_of file)
   pub span_is : place.span ≡ path_span an_import.path
 
--- what a refusal says: an import that leads back; nothing for want of memory
+-- what a refusal says: an import that leads back; nothing where memory ran out
 abbrev pub IsTrueOfImportCycle : List File → NameFault → Type 0
 IsTrueOfImportCycle files (ImportCycle place) = ImportsBack files place
 IsTrueOfImportCycle files Memory = Unit {0}
@@ -39,15 +39,18 @@ IsTrueOfImportCycle files fault = ⊥
 -- names that differ, each with how many stand before it
 pub record AreNumbered (entries : List (List ℕ × ℕ)) : Type 0 where
   pub names : AreDistinct (names_of entries)
-  pub places : (name : List ℕ) (number : ℕ) → IsEntry entries name number → slice_get entries number ≡ Some (name, number)
+  pub places : (name : List ℕ) (number : ℕ) → IsEntry entries name number
+      → slice_get entries number ≡ Some (name, number)
 
 -- the file is of the library of one number, and one of these imports names that of the other
-pub record HasEdge (entries : List (List ℕ × ℕ)) (f : File) (imports : List Import) (one other : ℕ) : Type 0 where
+pub record HasEdge (entries : List (List ℕ × ℕ)) (f : File) (imports : List Import) (one other : ℕ)
+    : Type 0 where
   pub from : IsEntry entries (library_of f) one
   pub to : Any (λ i. IsEntry entries (path_text f.src.now i.path) other) imports
 
 -- the same of an import that stands at this span
-pub record HasEdgeAt (entries : List (List ℕ × ℕ)) (f : File) (one other : ℕ) (span : Span) : Type 0 where
+pub record HasEdgeAt (entries : List (List ℕ × ℕ)) (f : File) (one other : ℕ) (span : Span)
+    : Type 0 where
   pub an_import : Import
   pub stands : Contains f.imports.items an_import
   pub from : IsEntry entries (library_of f) one
@@ -55,7 +58,8 @@ pub record HasEdgeAt (entries : List (List ℕ × ℕ)) (f : File) (one other : 
   pub span_is : span ≡ path_span an_import.path
 
 -- the same in a set of files, at this place
-pub record StandsAt (entries : List (List ℕ × ℕ)) (files : List File) (one other : ℕ) (place : Place) : Type 0 where
+pub record IsImportAt (entries : List (List ℕ × ℕ)) (files : List File) (one other : ℕ)
+    (place : Place) : Type 0 where
   pub file : File
   pub file_at : slice_get files place.file ≡ Some file
   pub edge : HasEdgeAt entries file one other place.span

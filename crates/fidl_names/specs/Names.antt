@@ -8,11 +8,14 @@ use Rattle.fidl_tree.specs.declared.path.PathPart.{PathPart}
 use Rattle.fidl_tree.specs.declared.file.File.{File}
 use Rattle.fidl_tree.specs.declared.declaration.Declaration.{Declaration}
 use Rattle.fidl_tree.specs.declared.declaration.DeclarationBody.{DeclarationBody}
-use Rattle.fidl_tree.specs.declared.declaration.DeclarationBody.TheVariants.{Const, Alias, «Type» as Layout, Protocol, Service, Resource}
+use Rattle.fidl_tree.specs.declared.declaration.DeclarationBody.TheVariants.{Const, Alias}
+use Rattle.fidl_tree.specs.declared.declaration.DeclarationBody.TheVariants.{«Type» as Layout}
+use Rattle.fidl_tree.specs.declared.declaration.DeclarationBody.TheVariants.{Protocol, Service}
+use Rattle.fidl_tree.specs.declared.declaration.DeclarationBody.TheVariants.{Resource}
 use Rattle.fidl_names.specs.declared.place.Place.{Place}
-use Rattle.fidl_names.specs.declared.place.Position.{Position}
+use Rattle.fidl_names.specs.declared.place.DeclarationId.{DeclarationId}
 
--- a dot and the name behind it
+-- a dot and the name after it
 abbrev pub part_text : List ℕ → PathPart → List ℕ
 part_text src part = codes "." ++ text_at src part.name
 
@@ -59,11 +62,13 @@ AreDistinct (x ∷ xs) = (IsOneOf xs x → ⊥) × AreDistinct xs
 abbrev pub place_in : (number : ℕ) → Declaration → Place
 place_in number d = record { file = number; span = name_span d.body }
 
--- a file's declarations, with their full names and positions, in order
-abbrev pub entries_of : File → (number : ℕ) → List (List ℕ × Position)
-entries_of f number = map (λ (p : ℕ × Declaration). (full_name f p.1, record { file = number; index = p.0 })) (enumerate_from 0 f.declarations.items)
+-- a file's declarations, with their full names and ids, in order
+abbrev pub entries_of : File → (number : ℕ) → List (List ℕ × DeclarationId)
+entries_of f number =
+    map (λ (p : ℕ × Declaration). (full_name f p.1, record { file = number; index = p.0 }))
+    (enumerate_from 0 f.declarations.items)
 
 -- those of files, of which the first has this number
-abbrev pub all_entries : List File → (number : ℕ) → List (List ℕ × Position)
+abbrev pub all_entries : List File → (number : ℕ) → List (List ℕ × DeclarationId)
 all_entries [] number = []
 all_entries (f ∷ fs) number = entries_of f number ++ all_entries fs (suc number)

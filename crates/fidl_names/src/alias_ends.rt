@@ -1,67 +1,60 @@
-//! What stands behind aliases.
-ghost use Rattle.std.specs.Prelude.{◌≡◌, map, IfOk, OnOk};
-ghost use Rattle.std.specs.List.{AllByRecursion};
+//! What aliases resolve to.
+ghost use Rattle.std.specs.Prelude.{◌≡◌, IfOk, OnOk};
 ghost use Rattle.fidl_names.specs.declared.meaning.Meaning.TheVariants as Given;
-ghost use Rattle.fidl_names.specs.declared.place.Position.{Position as Site};
-ghost use Rattle.fidl_names.specs.Aliases.{Follows, StandsBehind, HasEnd, AreEnds, rows_of};
+ghost use Rattle.fidl_names.specs.declared.place.DeclarationId.{DeclarationId as Id};
+ghost use Rattle.fidl_names.specs.Aliases.{Follows, ResolvesTo, HasEnd, AreEnds, rows_of};
 ghost use Rattle.fidl_names.specs.AliasGraph.{IsAliasOrder};
-ghost use Rattle.fidl_names.specs.Imports.{visible as visible_in, ImportsAreApart};
-ghost use Rattle.fidl_names.specs.Meanings.{MembersDiffer};
-ghost use Rattle.fidl_names.specs.Numbers.{IsPosition, AreNumbered};
-ghost use Rattle.fidl_names.specs.Rows.{own_meanings, IsWithin, with_end};
-ghost use Rattle.fidl_names.specs.Seen.{seen_texts};
+ghost use Rattle.fidl_names.specs.DeclarationNumbers.{HasDeclaration, AreNumbered};
+ghost use Rattle.fidl_names.specs.MeaningRows.{own_meanings, IsWithin, with_end};
 
 use crate::alias_steps::next_meaning;
-use crate::declaration_numbers::{Numbers, is_position};
+use crate::declaration_numbers::{Numbers, has_declaration};
+use crate::file_scope::SetScope;
 use crate::library_set::LibrarySet;
 use crate::meaning::Meaning;
-use crate::place::Position;
-use crate::type_names::position_of;
-use indexmap::IndexMap;
+use crate::place::DeclarationId;
+use crate::type_names::declared_id;
 use std::alloc::{AllocError, Global};
 
-/// What stands behind a meaning, by what stands behind the declaration that it may be.
+/// What a meaning resolves to, by what the declaration that it may be resolves to.
 fn end_of(set: &LibrarySet<'_, '_>, ends: &[Vec<Meaning>], meaning: Meaning) -> Meaning
-    requires { (p : Site) → meaning ≡ Given.Declared p → IsPosition set.now p → HasEnd set.now (rows_of ends.now) p }
-    ensures { StandsBehind set.now meaning result }
+    requires { (p : Id) → meaning ≡ Given.Declared p → HasDeclaration set.now p
+        → HasEnd set.now (rows_of ends.now) p }
+    ensures { ResolvesTo set.now meaning result }
 {
-    match position_of(meaning) {
+    match declared_id(meaning) {
         None => meaning,
-        Some(position) => {
-            if is_position(set, position) {
-                return ends[position.file][position.index];
+        Some(id) => {
+            if has_declaration(set, id) {
+                return ends[id.file][id.index];
             }
             meaning
         }
     }
 }
 
-/// What stands behind a meaning, alias by alias.
-pub(crate) fn behind(set: &LibrarySet<'_, '_>, ends: &[Vec<Meaning>], meaning: Meaning) -> Meaning
+/// What a meaning resolves to, alias by alias.
+pub(crate) fn resolved(set: &LibrarySet<'_, '_>, ends: &[Vec<Meaning>], meaning: Meaning) -> Meaning
     requires { AreEnds set.now (rows_of ends.now) }
-    ensures { StandsBehind set.now meaning result }
+    ensures { ResolvesTo set.now meaning result }
 {
     end_of(set, ends, meaning)
 }
 
-/// What stands behind the declaration at a position, where that is known of what it leads to.
+/// What the declaration of an id resolves to, where that is known of what it leads to.
 fn find_end(
-    set: &LibrarySet<'_, '_>,
-    alloc: Global,
-    sights: &[IndexMap<Vec<u8>, Vec<u8>>],
+    names: &SetScope<'_, '_, '_>,
     ends: &[Vec<Meaning>],
-    position: Position,
+    id: DeclarationId,
 ) -> Result<Meaning, AllocError>
-    requires sees { map (λ s. seen_texts s.entries) sights.now ≡ map visible_in set.now }
-    requires apart { AllByRecursion ImportsAreApart set.now }
-    requires members { MembersDiffer set.now }
-    requires stands { IsPosition set.now position }
-    requires ends { (p : Site) → Follows set.now (Given.Declared position) (Given.Declared p) → IsPosition set.now p → HasEnd set.now (rows_of ends.now) p }
-    ensures { IfOk result (StandsBehind set.now (Given.Declared position)) }
+    requires stands { HasDeclaration names.now.set.now id }
+    requires ends { (p : Id) → Follows names.now.set.now (Given.Declared id) (Given.Declared p)
+        → HasDeclaration names.now.set.now p → HasEnd names.now.set.now (rows_of ends.now) p }
+    ensures { IfOk result (ResolvesTo names.now.set.now (Given.Declared id)) }
 {
-    match next_meaning(set, alloc, sights, position)? {
-        None => Ok(Meaning::Declared(position)),
-        Some(next) => Ok(end_of(set, ends, next)),
+    match next_meaning(names, id)? {
+        None => Ok(Meaning::Declared(id)),
+        Some(next) => Ok(end_of(names.set, ends, next)),
     }
 }
 
@@ -71,51 +64,50 @@ fn own_row(alloc: Global, file: usize, count: usize) -> Result<Vec<Meaning>, All
 {
     let mut row = Vec::new(alloc);
     for index in 0..count {
-        row.push(Meaning::Declared(Position { file, index }))?;
+        row.push(Meaning::Declared(DeclarationId { file, index }))?;
     }
     Ok(row)
 }
 
 /// All declarations, each as itself.
-fn own_rows(set: &LibrarySet<'_, '_>, alloc: Global) -> Result<Vec<Vec<Meaning>>, AllocError>
-    ensures { IfOk result (λ rows. (p : Site) → IsPosition set.now p → IsWithin (rows_of rows.items) p) }
+fn own_rows(set: &LibrarySet<'_, '_>) -> Result<Vec<Vec<Meaning>>, AllocError>
+    ensures { IfOk result (λ rows. (p : Id) → HasDeclaration set.now p
+        → IsWithin (rows_of rows.items) p) }
 {
+    let alloc = set.alloc();
     let mut rows = Vec::new(alloc);
-    for number in 0..set.count() {
-        let row = own_row(alloc, number, set.file(number).declarations.len())?;
+    for file_index in 0..set.count() {
+        let row = own_row(alloc, file_index, set.file(file_index).declarations.len())?;
         rows.push(row)?;
     }
     Ok(rows)
 }
 
-/// Writes what stands behind the declaration at a position.
-fn set_end(ends: &mut [Vec<Meaning>], position: Position, end: Meaning)
-    requires { IsWithin (rows_of ends.old) position }
-    ensures { rows_of ends.new ≡ with_end (rows_of ends.old) position end }
+/// Writes what the declaration of an id resolves to.
+fn set_end(ends: &mut [Vec<Meaning>], id: DeclarationId, end: Meaning)
+    requires { IsWithin (rows_of ends.old) id }
+    ensures { rows_of ends.new ≡ with_end (rows_of ends.old) id end }
 {
-    ends[position.file][position.index] = end;
+    ends[id.file][id.index] = end;
 }
 
-/// What stands behind each declaration, where an alias stands in the order behind all that it refers to.
+/// What each declaration resolves to, where the order has an alias after all that it refers to.
 pub(crate) fn find_ends(
-    set: &LibrarySet<'_, '_>,
-    alloc: Global,
-    sights: &[IndexMap<Vec<u8>, Vec<u8>>],
+    names: &SetScope<'_, '_, '_>,
     numbers: &Numbers,
     order: &[usize],
 ) -> Result<Vec<Vec<Meaning>>, AllocError>
-    requires sees { map (λ s. seen_texts s.entries) sights.now ≡ map visible_in set.now }
-    requires apart { AllByRecursion ImportsAreApart set.now }
-    requires members { MembersDiffer set.now }
-    requires numbered { AreNumbered set.now numbers.now.positions.items numbers.now.starts.items }
-    requires order { IsAliasOrder set.now numbers.now.starts.items numbers.now.positions.items order.now }
-    ensures { IfOk result (λ rows. AreEnds set.now (rows_of rows.items)) }
+    requires numbered { AreNumbered names.now.set.now numbers.now.ids.items
+        numbers.now.starts.items }
+    requires order { IsAliasOrder names.now.set.now numbers.now.starts.items numbers.now.ids.items
+        order.now }
+    ensures { IfOk result (λ rows. AreEnds names.now.set.now (rows_of rows.items)) }
 {
-    let mut ends = own_rows(set, alloc)?;
+    let mut ends = own_rows(names.set)?;
     for number in order {
-        let position = numbers.positions[*number];
-        let end = find_end(set, alloc, sights, &ends, position)?;
-        set_end(&mut ends, position, end);
+        let id = numbers.ids[*number];
+        let end = find_end(names, &ends, id)?;
+        set_end(&mut ends, id, end);
     }
     Ok(ends)
 }

@@ -1,23 +1,20 @@
 //! Aliases, and what they lead to at once.
-ghost use Rattle.std.specs.Prelude.{◌≡◌, map, IsNone, IfSome, IfOk};
-ghost use Rattle.std.specs.List.{AllByRecursion};
+ghost use Rattle.std.specs.Prelude.{◌≡◌, IsNone, IfSome, IfOk};
 ghost use Rattle.fidl_tree.specs.declared.file.File.{File as Tree};
 ghost use Rattle.fidl_tree.specs.declared.declaration.AliasDeclaration.{AliasDeclaration as Node};
 ghost use Rattle.fidl_tree.specs.declared.declaration.DeclarationBody.TheVariants as Body;
 ghost use Rattle.fidl_names.specs.declared.meaning.Meaning.TheVariants as Given;
 ghost use Rattle.fidl_names.specs.Aliases.{IsAliasAt, Follows};
-ghost use Rattle.fidl_names.specs.Imports.{visible as visible_in, ImportsAreApart};
-ghost use Rattle.fidl_names.specs.Meanings.{IsJust, MembersDiffer};
-ghost use Rattle.fidl_names.specs.Numbers.{IsPosition};
-ghost use Rattle.fidl_names.specs.Seen.{seen_texts};
+ghost use Rattle.fidl_names.specs.Meanings.{IsJust};
+ghost use Rattle.fidl_names.specs.DeclarationNumbers.{HasDeclaration};
 
+use crate::file_scope::{FileScope, SetScope};
 use crate::library_set::LibrarySet;
 use crate::meaning::Meaning;
-use crate::place::Position;
+use crate::place::DeclarationId;
 use crate::type_names::read_type;
 use fidl_tree::{AliasDeclaration, DeclarationBody, File, TypeConstructor};
-use indexmap::IndexMap;
-use std::alloc::{AllocError, Global};
+use std::alloc::AllocError;
 
 /// An alias, with its file.
 #[derive(Clone, Copy, Drop)]
@@ -41,17 +38,17 @@ fn as_alias(body: &DeclarationBody) -> Option<&AliasDeclaration>
     }
 }
 
-/// The alias at the position of a declaration.
+/// The alias of this id.
 pub(crate) fn alias_at<'f, 's>(
     set: &LibrarySet<'f, 's>,
-    position: Position,
+    id: DeclarationId,
 ) -> Option<FoundAlias<'f, 's>>
-    requires { IsPosition set.now position }
-    ensures found { IfSome result (λ x. IsAliasAt set.now position x.file.now x.alias.now) }
-    ensures none { IsNone result → (f : Tree) (a : Node) → IsAliasAt set.now position f a → ⊥ }
+    requires { HasDeclaration set.now id }
+    ensures found { IfSome result (λ x. IsAliasAt set.now id x.file.now x.alias.now) }
+    ensures none { IsNone result → (f : Tree) (a : Node) → IsAliasAt set.now id f a → ⊥ }
 {
-    let file = set.file(position.file);
-    match as_alias(&file.declarations[position.index].body) {
+    let file = set.file(id.file);
+    match as_alias(&file.declarations[id.index].body) {
         None => None,
         Some(alias) => Some(FoundAlias { file, alias }),
     }
@@ -59,24 +56,23 @@ pub(crate) fn alias_at<'f, 's>(
 
 /// What the name of an alias's type means, if anything.
 pub(crate) fn next_meaning(
-    set: &LibrarySet<'_, '_>,
-    alloc: Global,
-    sights: &[IndexMap<Vec<u8>, Vec<u8>>],
-    position: Position,
+    names: &SetScope<'_, '_, '_>,
+    id: DeclarationId,
 ) -> Result<Option<Meaning>, AllocError>
-    requires sees { map (λ s. seen_texts s.entries) sights.now ≡ map visible_in set.now }
-    requires apart { AllByRecursion ImportsAreApart set.now }
-    requires members { MembersDiffer set.now }
-    requires stands { IsPosition set.now position }
-    ensures { IfOk result (IsJust (Follows set.now (Given.Declared position))) }
+    requires { HasDeclaration names.now.set.now id }
+    ensures { IfOk result (IsJust (Follows names.now.set.now (Given.Declared id))) }
 {
-    match alias_at(set, position) {
+    match alias_at(names.set, id) {
         None => Ok(None),
         Some(found) => match &found.alias.constructor {
             TypeConstructor::Layout { .. } => Ok(None),
             TypeConstructor::Named(named) => {
-                let visible = &sights[position.file];
-                read_type(set, alloc, visible, found.file, position.file, &named.path)
+                let scope = FileScope {
+                    names: *names,
+                    file_index: id.file,
+                    file: found.file,
+                };
+                read_type(&scope, &named.path)
             }
         },
     }

@@ -1,35 +1,45 @@
 //! The names in the constraints of types.
-ghost use Rattle.std.specs.Prelude.{◌≡◌, ◌↔◌, Some, map, slice_get, option_copied, IsTrue, IfErr, IfOk, OnOk};
+ghost use Rattle.std.specs.Prelude.{◌≡◌, ◌↔◌, Some, option_map, option_copied};
+ghost use Rattle.std.specs.Prelude.{IsTrue, IfErr, IfOk, OnOk};
+ghost use Rattle.fidl_tree.specs.Views.{path_view, value_view, constraints_view};
 ghost use Rattle.fidl_names.specs.declared.meaning.Meaning.TheVariants as Given;
-ghost use Rattle.fidl_names.specs.Items.{path_alone, is_optional, ordinary, item_kind, ItemMeans, ItemHolds, ItemsHold, ValueMeans, NameOfItemFails, NameOfValueFails, ItemFails, ItemsFail};
-ghost use Rattle.fidl_names.specs.Scopes.{IsScope, Tells};
+ghost use Rattle.fidl_names.specs.Constraints.{path_alone, is_optional, ordinary, item_kind};
+ghost use Rattle.fidl_names.specs.Constraints.{ItemMeans};
+ghost use Rattle.fidl_names.specs.Constraints.{ItemHolds, ItemsHold, ValueMeans, NameOfItemFails};
+ghost use Rattle.fidl_names.specs.Constraints.{NameOfValueFails, ItemFails, ItemsFail};
+ghost use Rattle.fidl_names.specs.ReferenceViews.{seen_values};
+ghost use Rattle.fidl_names.specs.Scopes.{IsMemoryOr};
 
 use crate::fault::NameFault;
 use crate::full_name::path_text;
 use crate::meaning::{Meaning, Predeclared, Wanted};
+use crate::named_file::NamedFile;
 use crate::paths::value_paths;
 use crate::places::items;
 use crate::properties::of_property;
-use crate::scope::{Scope, read};
-use fidl_tree::{Constraints, File, Path, Term, Value};
+use fidl_tree::{Constraints, File, Operand, Path, Value};
 use std::alloc::{AllocError, Global};
 
 /// The path that a value is just.
 pub fn path_alone(value: &Value) -> Option<&Path>
-    ensures { option_copied result ≡ path_alone value.now }
+    ensures { option_map path_view (option_copied result) ≡ path_alone (value_view value.now) }
 {
-    if !value.rest.is_empty() {
-        return None;
-    }
-    match &value.first {
-        Term::Path(path) => Some(path),
-        _ => None,
+    match value.rest.split_first() {
+        Some(_) => None,
+        None => match &value.first {
+            Operand::Path(path) => Some(path),
+            Operand::Number { .. }
+            | Operand::String(_)
+            | Operand::True(_)
+            | Operand::False(_)
+            | Operand::Group { .. } => None,
+        },
     }
 }
 
 /// Whether a constraint is the word `optional`.
 pub fn is_optional(alloc: Global, file: &File<'_>, value: &Value) -> Result<bool, AllocError>
-    ensures { IfOk result (λ found. found ≡ is_optional file.now value.now) }
+    ensures { IfOk result (λ found. found ≡ is_optional file.now (value_view value.now)) }
 {
     match path_alone(value) {
         None => Ok(false),
@@ -46,7 +56,8 @@ pub fn ordinary<'f>(
     file: &File<'_>,
     constraints: Option<&'f Constraints>,
 ) -> Result<Vec<&'f Value>, AllocError>
-    ensures { IfOk result (λ found. map (λ v. v.now) found.items ≡ ordinary file.now (option_copied constraints.entry)) }
+    ensures { let values = ordinary file.now (constraints_view (option_copied constraints.entry)) in
+        IfOk result (λ found. seen_values found.items ≡ values) }
 {
     let all = items(alloc, constraints)?;
     let mut found = Vec::new(alloc);
@@ -58,7 +69,7 @@ pub fn ordinary<'f>(
     Ok(found)
 }
 
-/// The kind that a constraint wants, by what stands behind its type.
+/// The kind that a constraint wants, by what its type resolves to.
 fn item_kind(end: Option<Meaning>) -> Wanted
     ensures { result ≡ item_kind end }
 {
@@ -71,83 +82,76 @@ fn item_kind(end: Option<Meaning>) -> Wanted
 }
 
 /// Each name in a value means something.
-pub(crate) fn see_value(
-    scope: &Scope<'_, '_, '_>,
-    number: usize,
-    file: &File<'_>,
-    value: &Value,
-) -> Result<(), NameFault>
-    requires known { IsScope scope.now }
-    requires file_at { slice_get scope.now.set.now number ≡ Some file.now }
-    ensures ok { OnOk result (ValueMeans scope.now.set.now file.now value.now) }
-    ensures told { IfErr result (Tells (NameOfValueFails scope.now.set.now file.now number value.now)) }
+pub(crate) fn check_value(scope: &NamedFile<'_, '_, '_>, value: &Value) -> Result<(), NameFault>
+    ensures ok { OnOk result (ValueMeans scope.now.named.now scope.now.file.now
+        (value_view value.now)) }
+    ensures fault_is_true { let fails = NameOfValueFails scope.now.named.now scope.now.file.now
+        scope.now.file_index in
+        IfErr result (IsMemoryOr (fails (value_view value.now))) }
 {
-    let paths = value_paths(scope.alloc, value)?;
+    let paths = value_paths(scope.named.alloc(), value)?;
     for path in &paths {
-        read(scope, number, file, path, Wanted::Value)?;
+        scope.read(path, Wanted::Value)?;
     }
     Ok(())
 }
 
 /// What a constraint means that is just a name.
-pub(crate) fn see_item_name(
-    scope: &Scope<'_, '_, '_>,
-    number: usize,
-    file: &File<'_>,
+pub(crate) fn item_meaning(
+    scope: &NamedFile<'_, '_, '_>,
     end: Option<Meaning>,
     rank: usize,
     path: &Path,
 ) -> Result<Meaning, NameFault>
-    requires known { IsScope scope.now }
-    requires file_at { slice_get scope.now.set.now number ≡ Some file.now }
-    ensures ok { IfOk result (ItemMeans scope.now.set.now file.now end rank path.now) }
-    ensures told { IfErr result (Tells (NameOfItemFails scope.now.set.now file.now number end rank path.now)) }
+    ensures ok { IfOk result (ItemMeans scope.now.named.now scope.now.file.now end rank
+        (path_view path.now)) }
+    ensures fault_is_true { let fails = NameOfItemFails scope.now.named.now scope.now.file.now
+        scope.now.file_index end rank in
+        IfErr result (IsMemoryOr (fails (path_view path.now))) }
 {
-    match of_property(scope, file, end, rank, path)? {
+    match of_property(scope, end, rank, path)? {
         Some(meaning) => Ok(meaning),
-        None => read(scope, number, file, path, item_kind(end)),
+        None => scope.read(path, item_kind(end)),
     }
 }
 
 /// Each name in a constraint means something.
-fn see_item(
-    scope: &Scope<'_, '_, '_>,
-    number: usize,
-    file: &File<'_>,
+fn check_item(
+    scope: &NamedFile<'_, '_, '_>,
     end: Option<Meaning>,
     rank: usize,
     value: &Value,
 ) -> Result<(), NameFault>
-    requires known { IsScope scope.now }
-    requires file_at { slice_get scope.now.set.now number ≡ Some file.now }
-    ensures ok { OnOk result (ItemHolds scope.now.set.now file.now end rank value.now) }
-    ensures told { IfErr result (Tells (ItemFails scope.now.set.now file.now number end rank value.now)) }
+    ensures ok { let seen = value_view value.now in
+        OnOk result (ItemHolds scope.now.named.now scope.now.file.now end rank seen) }
+    ensures fault_is_true { let fails = ItemFails scope.now.named.now scope.now.file.now
+        scope.now.file_index end rank in
+        IfErr result (IsMemoryOr (fails (value_view value.now))) }
 {
     match path_alone(value) {
-        None => see_value(scope, number, file, value),
+        None => check_value(scope, value),
         Some(path) => {
-            see_item_name(scope, number, file, end, rank, path)?;
+            item_meaning(scope, end, rank, path)?;
             Ok(())
         }
     }
 }
 
-/// Each name in the constraints of a type means something, where this stands behind the type.
-pub(crate) fn see_items(
-    scope: &Scope<'_, '_, '_>,
-    number: usize,
-    file: &File<'_>,
+/// Each name in the constraints of a type means something, where the type resolves to this.
+pub(crate) fn check_items(
+    scope: &NamedFile<'_, '_, '_>,
     end: Option<Meaning>,
     constraints: Option<&Constraints>,
 ) -> Result<(), NameFault>
-    requires known { IsScope scope.now }
-    requires file_at { slice_get scope.now.set.now number ≡ Some file.now }
-    ensures ok { OnOk result (ItemsHold scope.now.set.now file.now end (option_copied constraints.entry)) }
-    ensures told { IfErr result (Tells (ItemsFail scope.now.set.now file.now number end (option_copied constraints.entry))) }
+    ensures ok { let values = constraints_view (option_copied constraints.entry) in
+        OnOk result (ItemsHold scope.now.named.now scope.now.file.now end values) }
+    ensures fault_is_true { let values = constraints_view (option_copied constraints.entry) in
+        IfErr result (IsMemoryOr (ItemsFail scope.now.named.now scope.now.file.now
+        scope.now.file_index end values)) }
 {
-    let values = ordinary(scope.alloc, file, constraints)?;
+    let values = ordinary(scope.named.alloc(), scope.file, constraints)?;
     for (rank, value) in values.iter().enumerate() {
-        see_item(scope, number, file, end, rank, value)?;
+        check_item(scope, end, rank, value)?;
     }
     Ok(())
 }

@@ -1,65 +1,64 @@
 //! Declarations by their numbers, in the order of the sources.
 ghost use Rattle.std.specs.Prelude.{◌≡◌, ◌<◌, ◌↔◌, ◌++◌, length, IsTrue, IfOk, OnOk};
-ghost use Rattle.fidl_names.specs.Numbers.{IsPosition, AreNumbered, positions_in, number_of};
+ghost use Rattle.fidl_names.specs.DeclarationNumbers.{HasDeclaration, AreNumbered, ids_in};
+ghost use Rattle.fidl_names.specs.DeclarationNumbers.{number_of};
 
 use crate::library_set::LibrarySet;
-use crate::place::Position;
-use std::alloc::{AllocError, Global};
+use crate::place::DeclarationId;
+use std::alloc::AllocError;
 
-/// The positions of all declarations, and the number of each file's first.
+/// The ids of all declarations, and the number of each file's first.
 #[derive(Drop)]
 pub(crate) struct Numbers {
-    pub positions: Vec<Position>,
+    pub ids: Vec<DeclarationId>,
     pub starts: Vec<usize>,
 }
 
 impl Numbers {
-    /// The number of the declaration at a position.
-    pub(crate) fn number(&self, position: Position) -> usize
-        requires file { position.file < length self.now.starts.items }
-        requires fits { number_of self.now.starts.items position < length self.now.positions.items }
-        ensures { result ≡ number_of self.now.starts.items position }
+    /// The number of the declaration of an id.
+    pub(crate) fn number(&self, id: DeclarationId) -> usize
+        requires file { id.file < length self.now.starts.items }
+        requires fits { number_of self.now.starts.items id < length self.now.ids.items }
+        ensures { result ≡ number_of self.now.starts.items id }
     {
-        self.starts[position.file] + position.index
+        self.starts[id.file] + id.index
     }
 }
 
-/// Whether a declaration stands at a position.
-pub(crate) fn is_position(set: &LibrarySet<'_, '_>, position: Position) -> bool
-    ensures { IsTrue result ↔ IsPosition set.now position }
+/// Whether a declaration has this id.
+pub(crate) fn has_declaration(set: &LibrarySet<'_, '_>, id: DeclarationId) -> bool
+    ensures { IsTrue result ↔ HasDeclaration set.now id }
 {
-    if position.file >= set.count() {
+    if id.file >= set.count() {
         return false;
     }
-    position.index < set.file(position.file).declarations.len()
+    id.index < set.file(id.file).declarations.len()
 }
 
-/// The positions of a file's declarations, behind those before them.
-fn push_positions(
-    positions: &mut Vec<Position>,
-    file: usize,
-    count: usize,
-) -> Result<(), AllocError>
-    ensures { OnOk result (positions.new.items ≡ positions.old.items ++ positions_in file count) }
+/// The ids of a file's declarations, after those before them.
+fn push_ids(ids: &mut Vec<DeclarationId>, file: usize, count: usize) -> Result<(), AllocError>
+    ensures { OnOk result (ids.new.items ≡ ids.old.items ++ ids_in file count) }
 {
     for index in 0..count {
-        positions.push(Position { file, index })?;
+        ids.push(DeclarationId { file, index })?;
     }
     Ok(())
 }
 
 /// The numbers of a set's declarations.
-pub(crate) fn number_declarations(
-    set: &LibrarySet<'_, '_>,
-    alloc: Global,
-) -> Result<Numbers, AllocError>
-    ensures { IfOk result (λ numbers. AreNumbered set.now numbers.positions.items numbers.starts.items) }
+pub(crate) fn number_declarations(set: &LibrarySet<'_, '_>) -> Result<Numbers, AllocError>
+    ensures { IfOk result (λ numbers. AreNumbered set.now numbers.ids.items numbers.starts.items) }
 {
-    let mut positions = Vec::new(alloc);
+    let alloc = set.alloc();
+    let mut ids = Vec::new(alloc);
     let mut starts = Vec::new(alloc);
-    for number in 0..set.count() {
-        starts.push(positions.len())?;
-        push_positions(&mut positions, number, set.file(number).declarations.len())?;
+    for file_index in 0..set.count() {
+        starts.push(ids.len())?;
+        push_ids(
+            &mut ids,
+            file_index,
+            set.file(file_index).declarations.len(),
+        )?;
     }
-    Ok(Numbers { positions, starts })
+    Ok(Numbers { ids, starts })
 }

@@ -1,25 +1,26 @@
 //! The declarations of a set's files, by their full names.
-ghost use Rattle.std.specs.Prelude.{◌≡◌, ◌++◌, ◌∷◌, [], length, take, map, Contains, IfErr, IfOk, OnOk, OnErr};
+ghost use Rattle.std.specs.Prelude.{◌≡◌, ◌++◌, ◌∷◌, [], length, take, map, Contains, IfErr, IfOk};
+ghost use Rattle.std.specs.Prelude.{OnOk, OnErr};
 ghost use Rattle.indexmap.specs.IndexMap.{index_map_len};
-ghost use Rattle.fidl_names.specs.Names.{IsOneOf, AreDistinct, entries_of};
+ghost use Rattle.fidl_names.specs.Names.{IsOneOf, entries_of};
 ghost use Rattle.fidl_names.specs.Faults.{IsTrueOfAdding};
-ghost use Rattle.fidl_names.specs.Seen.{seen, names_of, IsTaken};
+ghost use Rattle.fidl_names.specs.NameMaps.{seen, names_of, IsTaken, StayDistinct};
 
 use crate::fault::NameFault;
 use crate::full_name::{full_name, name_span, path_text};
-use crate::place::{Place, Position};
+use crate::place::{DeclarationId, Place};
 use fidl_tree::File;
 use indexmap::IndexMap;
 use std::alloc::Global;
 
 /// Adds a declaration, whose full name must be new.
 pub(crate) fn declare(
-    names: &mut IndexMap<Vec<u8>, Position>,
+    names: &mut IndexMap<Vec<u8>, DeclarationId>,
     name: Vec<u8>,
-    position: Position,
+    id: DeclarationId,
     place: Place,
 ) -> Result<(), NameFault>
-    ensures ok { OnOk result (names.new.entries ≡ names.old.entries ++ (name, position) ∷ []) }
+    ensures ok { OnOk result (names.new.entries ≡ names.old.entries ++ (name, id) ∷ []) }
     ensures fresh { OnOk result (IsOneOf (names_of (seen names.old.entries)) name.items → ⊥) }
     ensures err { OnErr result (names.new.entries ≡ names.old.entries) }
     ensures taken { IfErr result (IsTaken (seen names.old.entries) name.items place) }
@@ -27,32 +28,40 @@ pub(crate) fn declare(
     if names.contains_key(&name) {
         return Err(NameFault::DuplicateName { place });
     }
-    names.insert(name, position)?;
+    names.insert(name, id)?;
     Ok(())
 }
 
-/// Adds the declarations of the file of this number. After a refusal those before them stand as they were, and some of the file's behind.
+/// Adds the declarations of the file of this number. After a refusal the names before them are as
+/// they were, and some of the file's come after them.
 pub(crate) fn declare_all(
-    names: &mut IndexMap<Vec<u8>, Position>,
+    names: &mut IndexMap<Vec<u8>, DeclarationId>,
     alloc: Global,
     file: &File<'_>,
-    number: usize,
+    file_index: usize,
 ) -> Result<(), NameFault>
-    ensures ok { OnOk result (seen names.new.entries ≡ seen names.old.entries ++ entries_of file.now number) }
-    ensures distinct { OnOk result (AreDistinct (names_of (seen names.old.entries)) → AreDistinct (names_of (seen names.new.entries))) }
-    ensures err { OnErr result (take (length names.old.entries) names.new.entries ≡ names.old.entries) }
-    ensures told { IfErr result (IsTrueOfAdding (names_of (seen names.old.entries)) file.now number) }
+    ensures ok { OnOk result (seen names.new.entries ≡ seen names.old.entries
+        ++ entries_of file.now file_index) }
+    ensures distinct { OnOk result (StayDistinct (seen names.old.entries)
+        (seen names.new.entries)) }
+    ensures err { OnErr result (take (length names.old.entries) names.new.entries
+        ≡ names.old.entries) }
+    ensures fault_is_true { IfErr result (IsTrueOfAdding
+        (names_of (seen names.old.entries)) file.now file_index) }
 {
     let library = path_text(alloc, file, &file.library.path)?;
     for (index, declaration) in file.declarations.iter().enumerate() {
         let span = name_span(&declaration.body);
         let name = full_name(alloc, &library, file.text(span))?;
-        let position = Position {
-            file: number,
+        let id = DeclarationId {
+            file: file_index,
             index,
         };
-        let place = Place { file: number, span };
-        declare(names, name, position, place)?;
+        let place = Place {
+            file: file_index,
+            span,
+        };
+        declare(names, name, id, place)?;
     }
     Ok(())
 }

@@ -5,13 +5,15 @@ use crate::place::Place;
 use std::alloc::{AllocError, AllocFailed};
 use thiserror::Error;
 
-/// Why names have no meaning, or not just one (public source: the FIDL language specification, "Libraries" and "Scoping").
+/// Why names have no meaning, or not just one (public source: the FIDL language specification,
+/// "Libraries" and "Scoping").
 #[derive(Clone, Copy, Debug, PartialEq, Eq, Drop, Error)]
 pub enum NameFault {
-    /// A library declares a name a second time, or a layout, a service or a resource definition a member; told at the second.
+    /// A library declares a name a second time, or a layout, a service or a resource definition a
+    /// member; reported at the second.
     #[error("this name is declared already")]
     DuplicateName { place: Place },
-    /// No file of an imported library was added; told at the import's name.
+    /// No file of an imported library was added; reported at the import's name.
     #[error("no such library")]
     UnknownLibrary { place: Place },
     /// A name has no reading.
@@ -69,7 +71,7 @@ impl NameFault {
         }
     }
 
-    /// Where the sources are at fault; nowhere for want of memory.
+    /// Where the sources are at fault; nowhere where memory ran out.
     pub fn place(&self) -> Option<Place>
         ensures { result ≡ place_of self.now }
     {

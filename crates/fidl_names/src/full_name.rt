@@ -28,7 +28,8 @@ pub(crate) fn dotted_text(
     first: Span,
     parts: &[PathPart],
 ) -> Result<Vec<u8>, AllocError>
-    ensures { IfOk result (λ text. text.items ≡ text_at file.now.src.now first ++ flat_map (part_text file.now.src.now) parts.now) }
+    ensures { IfOk result (λ text. text.items ≡ text_at file.now.src.now first
+        ++ flat_map (part_text file.now.src.now) parts.now) }
 {
     let mut text = Vec::new(alloc);
     text.extend_from_slice(file.text(first))?;
@@ -46,7 +47,7 @@ pub(crate) fn path_text(alloc: Global, file: &File<'_>, path: &Path) -> Result<V
     dotted_text(alloc, file, path.first, &path.rest)
 }
 
-/// A name of a library, behind the library's and a slash.
+/// The full name of a library's declaration: the library's name, a slash and its own.
 pub(crate) fn full_name(alloc: Global, library: &[u8], name: &[u8]) -> Result<Vec<u8>, AllocError>
     ensures { IfOk result (λ text. text.items ≡ library.now ++ codes "/" ++ name.now) }
 {

@@ -1,13 +1,15 @@
 //! Libraries whose imports lead back to them.
-ghost use Rattle.std.specs.Prelude.{◌≡◌, ◌<◌, ◌↔◌, ◌⊎◌, ℕ, length, IfErr, IfOk, OnOk, IfSome, IsNone};
+ghost use Rattle.std.specs.Prelude.{◌≡◌, ◌<◌, ◌↔◌, ◌⊎◌, ℕ, length, IfErr, IfOk, OnOk, IfSome};
+ghost use Rattle.std.specs.Prelude.{IsNone};
 ghost use Rattle.std.specs.List.{AllByRecursion, Any};
 ghost use Rattle.fidl_names.specs.Cycles.{IsEdge, points_of};
 ghost use Rattle.fidl_names.specs.Names.{IsOneOf, AreDistinct, path_text, library_of};
 ghost use Rattle.fidl_names.specs.Imports.{libraries_of, ImportsAreKnown, IsEntry};
-ghost use Rattle.fidl_names.specs.Seen.{seen, names_of, HaveSame};
-ghost use Rattle.fidl_names.specs.ImportCycles.{AreNumbered, HasEdge, HasEdgeAt, StandsAt, ImportsBack, IsTrueOfImportCycle};
+ghost use Rattle.fidl_names.specs.NameMaps.{seen, names_of, HaveSame};
+ghost use Rattle.fidl_names.specs.ImportCycles.{AreNumbered, HasEdge, HasEdgeAt, IsImportAt};
+ghost use Rattle.fidl_names.specs.ImportCycles.{ImportsBack, IsTrueOfImportCycle};
 
-use crate::cycles::{Closing, add_edge, find_cycle};
+use crate::cycles::{CycleEdge, add_edge, find_cycle, no_edges};
 use crate::fault::NameFault;
 use crate::full_name::path_text;
 use crate::imports::path_span;
@@ -18,18 +20,6 @@ use fidl_tree::{File, Path};
 use indexmap::IndexMap;
 use std::alloc::{AllocError, Global};
 
-/// A graph of as many points, without edges.
-fn no_edges(alloc: Global, count: usize) -> Result<Vec<Vec<usize>>, AllocError>
-    ensures long { IfOk result (λ graph. length graph.items ≡ count) }
-    ensures none { IfOk result (λ graph. (one other : ℕ) → IsEdge (points_of graph.items) one other → ⊥) }
-{
-    let mut graph = Vec::new(alloc);
-    for _point in 0..count {
-        graph.push(Vec::new(alloc))?;
-    }
-    Ok(graph)
-}
-
 /// The number of the library that a path names.
 fn library_number(
     alloc: Global,
@@ -37,8 +27,10 @@ fn library_number(
     file: &File<'_>,
     path: &Path,
 ) -> Result<usize, AllocError>
-    requires { IsOneOf (names_of (seen libraries.now.entries)) (path_text file.now.src.now path.now) }
-    ensures { IfOk result (λ number. IsEntry (seen libraries.now.entries) (path_text file.now.src.now path.now) number) }
+    requires { IsOneOf (names_of (seen libraries.now.entries))
+        (path_text file.now.src.now path.now) }
+    ensures { IfOk result (λ number. IsEntry (seen libraries.now.entries)
+        (path_text file.now.src.now path.now) number) }
 {
     let name = path_text(alloc, file, path)?;
     match libraries.get(&name) {
@@ -58,7 +50,9 @@ fn add_imports(
     requires known { ImportsAreKnown (names_of (seen libraries.now.entries)) file.now }
     requires numbered { AreNumbered (seen libraries.now.entries) }
     requires long { length graph.old ≡ length libraries.now.entries }
-    ensures { OnOk result ((one other : ℕ) → IsEdge (points_of graph.new) one other ↔ (IsEdge (points_of graph.old) one other ⊎ HasEdge (seen libraries.now.entries) file.now file.now.imports.items one other)) }
+    ensures { OnOk result ((one other : ℕ) → IsEdge (points_of graph.new) one other
+        ↔ (IsEdge (points_of graph.old) one other ⊎ HasEdge
+        (seen libraries.now.entries) file.now file.now.imports.items one other)) }
 {
     let from = library_number(alloc, libraries, file, &file.library.path)?;
     for import in &file.imports {
@@ -71,34 +65,38 @@ fn add_imports(
 /// The libraries of a set as points, each with edges to those that it imports.
 fn import_graph(
     set: &LibrarySet<'_, '_>,
-    alloc: Global,
     libraries: &IndexMap<Vec<u8>, usize>,
 ) -> Result<Vec<Vec<usize>>, AllocError>
     requires same { HaveSame (names_of (seen libraries.now.entries)) (libraries_of set.now) }
     requires numbered { AreNumbered (seen libraries.now.entries) }
     requires known { AllByRecursion (ImportsAreKnown (libraries_of set.now)) set.now }
     ensures long { IfOk result (λ graph. length graph.items ≡ length libraries.now.entries) }
-    ensures edges { IfOk result (λ graph. (one other : ℕ) → IsEdge (points_of graph.items) one other ↔ Any (λ f. HasEdge (seen libraries.now.entries) f f.imports.items one other) set.now) }
+    ensures edges { IfOk result (λ graph. (one other : ℕ) → IsEdge (points_of graph.items) one other
+        ↔ Any (λ f. HasEdge (seen libraries.now.entries) f f.imports.items one other) set.now) }
 {
+    let alloc = set.alloc();
     let mut graph = no_edges(alloc, libraries.len())?;
-    for number in 0..set.count() {
-        add_imports(&mut graph, alloc, libraries, set.file(number))?;
+    for file_index in 0..set.count() {
+        add_imports(&mut graph, alloc, libraries, set.file(file_index))?;
     }
     Ok(graph)
 }
 
-/// The first import of a file that an edge stands for.
+/// The first import of a file that makes an edge.
 fn find_import(
     alloc: Global,
     libraries: &IndexMap<Vec<u8>, usize>,
     file: &File<'_>,
-    edge: Closing,
+    edge: CycleEdge,
 ) -> Result<Option<Span>, AllocError>
     requires own { IsOneOf (names_of (seen libraries.now.entries)) (library_of file.now) }
     requires known { ImportsAreKnown (names_of (seen libraries.now.entries)) file.now }
     requires names { AreDistinct (names_of (seen libraries.now.entries)) }
-    ensures found { IfOk result (λ found. IfSome found (HasEdgeAt (seen libraries.now.entries) file.now edge.from edge.to)) }
-    ensures none { IfOk result (λ found. IsNone found → HasEdge (seen libraries.now.entries) file.now file.now.imports.items edge.from edge.to → ⊥) }
+    ensures found { IfOk result (λ found. IfSome found
+        (HasEdgeAt (seen libraries.now.entries) file.now edge.from edge.to)) }
+    ensures none { IfOk result (λ found. IsNone found
+        → HasEdge (seen libraries.now.entries) file.now file.now.imports.items edge.from edge.to
+        → ⊥) }
 {
     if library_number(alloc, libraries, file, &file.library.path)? != edge.from {
         return Ok(None);
@@ -111,44 +109,46 @@ fn find_import(
     Ok(None)
 }
 
-/// The place of the first import that an edge stands for.
+/// The place of the first import that makes an edge.
 fn find_place(
     set: &LibrarySet<'_, '_>,
-    alloc: Global,
     libraries: &IndexMap<Vec<u8>, usize>,
-    edge: Closing,
+    edge: CycleEdge,
 ) -> Result<Place, AllocError>
     requires same { HaveSame (names_of (seen libraries.now.entries)) (libraries_of set.now) }
     requires names { AreDistinct (names_of (seen libraries.now.entries)) }
     requires known { AllByRecursion (ImportsAreKnown (libraries_of set.now)) set.now }
-    requires there { Any (λ f. HasEdge (seen libraries.now.entries) f f.imports.items edge.from edge.to) set.now }
-    ensures { IfOk result (StandsAt (seen libraries.now.entries) set.now edge.from edge.to) }
+    requires there { Any (λ f. HasEdge (seen libraries.now.entries) f f.imports.items edge.from
+        edge.to) set.now }
+    ensures { IfOk result (IsImportAt (seen libraries.now.entries) set.now edge.from edge.to) }
 {
-    for number in 0..set.count() {
-        if let Some(span) = find_import(alloc, libraries, set.file(number), edge)? {
-            return Ok(Place { file: number, span });
+    for file_index in 0..set.count() {
+        if let Some(span) = find_import(set.alloc(), libraries, set.file(file_index), edge)? {
+            return Ok(Place {
+                file: file_index,
+                span,
+            });
         }
     }
     unreachable!()
 }
 
 /// No library's imports lead back to it.
-pub(crate) fn see_import_cycles(
+pub(crate) fn check_import_cycles(
     set: &LibrarySet<'_, '_>,
-    alloc: Global,
     libraries: &IndexMap<Vec<u8>, usize>,
 ) -> Result<(), NameFault>
     requires same { HaveSame (names_of (seen libraries.now.entries)) (libraries_of set.now) }
     requires numbered { AreNumbered (seen libraries.now.entries) }
     requires known { AllByRecursion (ImportsAreKnown (libraries_of set.now)) set.now }
     ensures none { OnOk result ((place : Place) → ImportsBack set.now place → ⊥) }
-    ensures told { IfErr result (IsTrueOfImportCycle set.now) }
+    ensures fault_is_true { IfErr result (IsTrueOfImportCycle set.now) }
 {
-    let graph = import_graph(set, alloc, libraries)?;
-    match find_cycle(&graph, alloc)? {
+    let graph = import_graph(set, libraries)?;
+    match find_cycle(&graph, set.alloc())? {
         Ok(_order) => Ok(()),
         Err(edge) => {
-            let place = find_place(set, alloc, libraries, edge)?;
+            let place = find_place(set, libraries, edge)?;
             Err(NameFault::ImportCycle { place })
         }
     }

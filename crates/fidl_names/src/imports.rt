@@ -1,9 +1,12 @@
 //! The imports of a file, and the libraries that it sees by them.
-ghost use Rattle.std.specs.Prelude.{◌≡◌, ◌++◌, ◌∷◌, [], false, if◌then◌else◌, IfErr, IfOk, OnOk, OnErr};
+ghost use Rattle.std.specs.Prelude.{◌≡◌, ◌++◌, ◌∷◌, [], false, if◌then◌else◌, IfErr, IfOk, OnOk};
+ghost use Rattle.std.specs.Prelude.{OnErr};
 ghost use Rattle.fidl_tree.specs.Leaf.{text_at};
-ghost use Rattle.fidl_names.specs.Names.{IsOneOf, AreDistinct, path_text, library_of};
-ghost use Rattle.fidl_names.specs.Imports.{path_span, visible, visible_by, alias_names, ImportsAreKnown, ImportsAreApart, IsTrueOfImports, IsTrueOfImport, same};
-ghost use Rattle.fidl_names.specs.Seen.{seen, seen_texts, names_of, IsRepeated};
+ghost use Rattle.fidl_names.specs.Names.{IsOneOf, path_text, library_of};
+ghost use Rattle.fidl_names.specs.Imports.{path_span, visible, visible_by, alias_names};
+ghost use Rattle.fidl_names.specs.Imports.{ImportsAreKnown, ImportsAreApart, IsTrueOfImports};
+ghost use Rattle.fidl_names.specs.Imports.{IsTrueOfImport, same};
+ghost use Rattle.fidl_names.specs.NameMaps.{seen, seen_texts, names_of, IsRepeated, StayDistinct};
 
 use crate::fault::NameFault;
 use crate::full_name::path_text;
@@ -28,15 +31,17 @@ pub fn path_span(path: &Path) -> Span
 }
 
 /// Makes a library visible under a name that must be new.
-fn see(
+fn add_visible(
     visible: &mut IndexMap<Vec<u8>, Vec<u8>>,
     name: Vec<u8>,
     library: Vec<u8>,
     place: Place,
 ) -> Result<(), NameFault>
     ensures ok { OnOk result (visible.new.entries ≡ visible.old.entries ++ (name, library) ∷ []) }
-    ensures distinct { OnOk result (AreDistinct (names_of (seen_texts visible.old.entries)) → AreDistinct (names_of (seen_texts visible.new.entries))) }
-    ensures told { IfErr result (IsRepeated (seen_texts visible.old.entries) name.items place) }
+    ensures distinct { OnOk result (StayDistinct (seen_texts visible.old.entries)
+        (seen_texts visible.new.entries)) }
+    ensures fault_is_true { IfErr result (IsRepeated
+        (seen_texts visible.old.entries) name.items place) }
 {
     if visible.contains_key(&name) {
         return Err(NameFault::BadImport { place });
@@ -46,79 +51,91 @@ fn see(
 }
 
 /// Makes a library visible under an alias, where that isn't its own name.
-fn see_alias(
+fn add_alias(
     visible: &mut IndexMap<Vec<u8>, Vec<u8>>,
     alloc: Global,
     name: &[u8],
     library: Vec<u8>,
     place: Place,
 ) -> Result<(), NameFault>
-    ensures ok { OnOk result (seen_texts visible.new.entries ≡ seen_texts visible.old.entries ++ (if same name.now library.items then [] else (name.now, library.items) ∷ [])) }
-    ensures distinct { OnOk result (AreDistinct (names_of (seen_texts visible.old.entries)) → AreDistinct (names_of (seen_texts visible.new.entries))) }
+    ensures ok { OnOk result (seen_texts visible.new.entries ≡ seen_texts visible.old.entries
+        ++ (if same name.now library.items then [] else (name.now, library.items) ∷ [])) }
+    ensures distinct { OnOk result (StayDistinct (seen_texts visible.old.entries)
+        (seen_texts visible.new.entries)) }
     ensures other { OnErr result (same name.now library.items ≡ false) }
-    ensures told { IfErr result (IsRepeated (seen_texts visible.old.entries) name.now place) }
+    ensures fault_is_true { IfErr result (IsRepeated
+        (seen_texts visible.old.entries) name.now place) }
 {
     if name == library.as_slice() {
         return Ok(());
     }
     let alias = Vec::from_slice(alloc, name)?;
-    see(visible, alias, library, place)
+    add_visible(visible, alias, library, place)
 }
 
 /// Makes the library of an import visible, under its name and its alias.
-fn see_import(
+fn add_import(
     visible: &mut IndexMap<Vec<u8>, Vec<u8>>,
     alloc: Global,
     libraries: &IndexMap<Vec<u8>, usize>,
     file: &File<'_>,
-    number: usize,
+    file_index: usize,
     import: &Import,
 ) -> Result<(), NameFault>
-    ensures ok { OnOk result (seen_texts visible.new.entries ≡ seen_texts visible.old.entries ++ visible_by file.now.src.now import.now) }
-    ensures known { OnOk result (IsOneOf (names_of (seen libraries.now.entries)) (path_text file.now.src.now import.now.path)) }
-    ensures distinct { OnOk result (AreDistinct (names_of (seen_texts visible.old.entries)) → AreDistinct (names_of (seen_texts visible.new.entries))) }
-    ensures told { IfErr result (IsTrueOfImport (names_of (seen libraries.now.entries)) (names_of (seen_texts visible.old.entries)) file.now.src.now import.now number) }
+    ensures ok { OnOk result (seen_texts visible.new.entries ≡ seen_texts visible.old.entries
+        ++ visible_by file.now.src.now import.now) }
+    ensures known { OnOk result (IsOneOf (names_of (seen libraries.now.entries))
+        (path_text file.now.src.now import.now.path)) }
+    ensures distinct { OnOk result (StayDistinct (seen_texts visible.old.entries)
+        (seen_texts visible.new.entries)) }
+    ensures fault_is_true { IfErr result (IsTrueOfImport (names_of (seen libraries.now.entries))
+        (names_of (seen_texts visible.old.entries)) file.now.src.now import.now file_index) }
 {
     let library = path_text(alloc, file, &import.path)?;
     let span = path_span(&import.path);
-    let place = Place { file: number, span };
+    let place = Place {
+        file: file_index,
+        span,
+    };
     if !libraries.contains_key(&library) {
         return Err(NameFault::UnknownLibrary { place });
     }
     let name = Vec::from_slice(alloc, &library)?;
     let own = Vec::from_slice(alloc, &library)?;
-    see(visible, name, own, place)?;
+    add_visible(visible, name, own, place)?;
     match &import.alias {
         None => Ok(()),
         Some(alias) => {
             let place = Place {
-                file: number,
+                file: file_index,
                 span: alias.name,
             };
-            see_alias(visible, alloc, file.text(alias.name), library, place)?;
+            add_alias(visible, alloc, file.text(alias.name), library, place)?;
             Ok(())
         }
     }
 }
 
-/// The libraries that a file sees, by the names under which it sees them.
-pub(crate) fn see_imports(
+/// The libraries that a file sees, by the names under which it sees them: its own, and those that
+/// it imports.
+pub(crate) fn visible_libraries(
     alloc: Global,
     libraries: &IndexMap<Vec<u8>, usize>,
     file: &File<'_>,
-    number: usize,
+    file_index: usize,
 ) -> Result<IndexMap<Vec<u8>, Vec<u8>>, NameFault>
     ensures ok { IfOk result (λ found. seen_texts found.entries ≡ visible file.now) }
     ensures apart { OnOk result (ImportsAreApart file.now) }
     ensures known { OnOk result (ImportsAreKnown (names_of (seen libraries.now.entries)) file.now) }
-    ensures told { IfErr result (IsTrueOfImports (names_of (seen libraries.now.entries)) file.now number) }
+    ensures fault_is_true { IfErr result (IsTrueOfImports
+        (names_of (seen libraries.now.entries)) file.now file_index) }
 {
     let mut visible = IndexMap::new(alloc);
     let name = path_text(alloc, file, &file.library.path)?;
     let own = Vec::from_slice(alloc, &name)?;
     visible.insert(name, own)?;
     for import in &file.imports {
-        see_import(&mut visible, alloc, libraries, file, number, import)?;
+        add_import(&mut visible, alloc, libraries, file, file_index, import)?;
     }
     Ok(visible)
 }

@@ -4,9 +4,10 @@ ghost use Rattle.std.specs.Prelude.{◌≡◌, ◌↔◌, IsTrue, IsNone, IfSome
 ghost use Rattle.fidl_names.specs.declared.meaning.Predeclared.{Predeclared as Word};
 ghost use Rattle.fidl_names.specs.Meanings.{predeclared_text, predeclared_kind};
 
-use crate::place::Position;
+use crate::place::DeclarationId;
 
-/// What the place of a name wants: only readings of this kind count there (public source: the FIDL language specification, "Scoping").
+/// What the place of a name wants: only readings of this kind count there (public source: the FIDL
+/// language specification, "Scoping").
 #[derive(Clone, Copy, PartialEq, Eq, Debug, Drop)]
 pub enum Wanted {
     Type,
@@ -15,7 +16,8 @@ pub enum Wanted {
     Value,
 }
 
-/// The names of the language itself (public source: the FIDL language specification, "Built-in types").
+/// The names of the language itself (public source: the FIDL language specification, "Built-in
+/// types").
 #[derive(Clone, Copy, PartialEq, Eq, Debug, Drop)]
 pub enum Predeclared {
     Bool,
@@ -44,15 +46,15 @@ pub enum Predeclared {
 #[derive(Clone, Copy, PartialEq, Eq, Debug, Drop)]
 pub enum Meaning {
     Predeclared(Predeclared),
-    Declared(Position),
+    Declared(DeclarationId),
     /// A member of declared bits or of a declared enum, by its number in the layout, from 0.
     Member {
-        of: Position,
+        of: DeclarationId,
         number: usize,
     },
     /// A member of the bits or the enum that a property of a resource definition has for its type.
     PropertyMember {
-        of: Position,
+        of: DeclarationId,
         property: usize,
         number: usize,
     },

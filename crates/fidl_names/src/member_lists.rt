@@ -1,110 +1,25 @@
 //! The lists of members in declarations: the names of each layout, service and list of properties.
 ghost use Rattle.std.specs.Prelude.{◌≡◌, ◌++◌, ◌∷◌, [], map, flat_map, OnOk, IfOk};
-ghost use Rattle.fidl_tree.specs.declared.value_member.ValueMember.{ValueMember as Value};
-ghost use Rattle.fidl_names.specs.MemberLists.{Part, held, joined, lists_of, type_lists, named_lists, type_argument_lists, next_type_argument_lists, layout_body_lists, values_layout_lists, member_part, ordinal_part, perhaps, payload_lists, error_lists, response_lists, protocol_lists, protocol_member_lists, property_part, body_lists};
+ghost use Rattle.fidl_tree.specs.Syntax.{members_of};
+ghost use Rattle.fidl_tree.specs.Views.{type_view, body_view, value_member_view, member_view};
+ghost use Rattle.fidl_tree.specs.Views.{ordinal_member_view, payload_view, response_view};
+ghost use Rattle.fidl_tree.specs.Views.{protocol_body_view, protocol_member_view, property_view};
+ghost use Rattle.fidl_tree.specs.Views.{declared_view};
+ghost use Rattle.fidl_names.specs.Spots.{layout_spots};
+ghost use Rattle.fidl_names.specs.SpotViews.{seen_spots};
+ghost use Rattle.fidl_names.specs.MemberLists.{held, own_name, own_names, value_names};
+ghost use Rattle.fidl_names.specs.MemberLists.{layout_names};
+ghost use Rattle.fidl_names.specs.MemberLists.{lists_of, type_lists, members_lists, perhaps};
+ghost use Rattle.fidl_names.specs.MemberLists.{response_lists, protocol_lists, body_lists};
 
+use crate::spots;
+use crate::spots::Spot;
 use fidl_span::Span;
 use fidl_tree::{
-    DeclarationBody, LayoutBody, Member, NamedType, NextTypeArgument, OrdinalBody, OrdinalMember,
-    Payload, Property, ProtocolMember, ProtocolMemberBody, Response, TypeArgument, TypeConstructor,
-    ValueMember, ValuesLayout,
+    DeclarationBody, LayoutBody, Member, OrdinalBody, OrdinalMember, Payload, Property,
+    ProtocolMember, ProtocolMemberBody, Response, TypeConstructor, ValueMember,
 };
 use std::alloc::{AllocError, Global};
-
-/// The lists in a type, behind those before them.
-#[cycle(lists)]
-fn push_type(
-    lists: &mut Vec<Vec<Span>>,
-    alloc: Global,
-    constructor: &TypeConstructor,
-) -> Result<(), AllocError>
-    ensures { OnOk result (held lists.new.items ≡ held lists.old.items ++ type_lists constructor.now) }
-{
-    match constructor {
-        TypeConstructor::Layout { layout, .. } => push_layout(lists, alloc, &layout.body),
-        TypeConstructor::Named(named) => push_named(lists, alloc, named),
-    }
-}
-
-/// Those in the arguments of a named type.
-#[cycle(lists)]
-fn push_named(
-    lists: &mut Vec<Vec<Span>>,
-    alloc: Global,
-    named: &NamedType,
-) -> Result<(), AllocError>
-    ensures { OnOk result (held lists.new.items ≡ held lists.old.items ++ named_lists named.now) }
-{
-    if let Some(arguments) = &named.arguments {
-        push_argument(lists, alloc, &arguments.first)?;
-        push_arguments(lists, alloc, &arguments.rest)?;
-    }
-    Ok(())
-}
-
-#[cycle(lists)]
-fn push_arguments(
-    lists: &mut Vec<Vec<Span>>,
-    alloc: Global,
-    arguments: &[NextTypeArgument],
-) -> Result<(), AllocError>
-    ensures { OnOk result (held lists.new.items ≡ held lists.old.items ++ joined (map next_type_argument_lists arguments.now)) }
-{
-    for next in arguments {
-        push_argument(lists, alloc, &next.argument)?;
-    }
-    Ok(())
-}
-
-#[cycle(lists)]
-fn push_argument(
-    lists: &mut Vec<Vec<Span>>,
-    alloc: Global,
-    argument: &TypeArgument,
-) -> Result<(), AllocError>
-    ensures { OnOk result (held lists.new.items ≡ held lists.old.items ++ type_argument_lists argument.now) }
-{
-    match argument {
-        TypeArgument::Number(_) => Ok(()),
-        TypeArgument::Type(constructor) => push_type(lists, alloc, constructor),
-    }
-}
-
-/// Those in a layout.
-#[cycle(lists)]
-fn push_layout(
-    lists: &mut Vec<Vec<Span>>,
-    alloc: Global,
-    body: &LayoutBody,
-) -> Result<(), AllocError>
-    ensures { OnOk result (held lists.new.items ≡ held lists.old.items ++ layout_body_lists body.now) }
-{
-    match body {
-        LayoutBody::Values(layout) => push_values_layout(lists, alloc, layout),
-        LayoutBody::Struct(layout) => push_members(lists, alloc, &layout.members),
-        LayoutBody::Table(layout) => push_ordinals(lists, alloc, &layout.members),
-        LayoutBody::Union(layout) => push_ordinals(lists, alloc, &layout.members),
-    }
-}
-
-/// Those in bits or an enum.
-#[cycle(lists)]
-fn push_values_layout(
-    lists: &mut Vec<Vec<Span>>,
-    alloc: Global,
-    layout: &ValuesLayout,
-) -> Result<(), AllocError>
-    ensures { OnOk result (held lists.new.items ≡ held lists.old.items ++ values_layout_lists layout.now) }
-{
-    match &layout.underlying {
-        None => push_values(lists, alloc, &layout.members)?,
-        Some(underlying) => {
-            push_named(lists, alloc, &underlying.named)?;
-            push_values(lists, alloc, &layout.members)?;
-        }
-    }
-    Ok(())
-}
 
 /// The list of the members of bits or an enum.
 fn push_values(
@@ -112,7 +27,8 @@ fn push_values(
     alloc: Global,
     members: &[ValueMember],
 ) -> Result<(), AllocError>
-    ensures { OnOk result (held lists.new.items ≡ held lists.old.items ++ map (λ (m : Value). m.name) members.now ∷ []) }
+    ensures { OnOk result (held lists.new.items ≡ held lists.old.items
+        ++ value_names (map value_member_view members.now) ∷ []) }
 {
     let mut names = Vec::new(alloc);
     for member in members {
@@ -122,59 +38,125 @@ fn push_values(
     Ok(())
 }
 
-/// Those in the members of a struct or a service, and then their own.
-#[cycle(lists)]
-fn push_members(
+/// The list of the members of a struct or a service.
+fn push_names(
     lists: &mut Vec<Vec<Span>>,
     alloc: Global,
     members: &[Member],
 ) -> Result<(), AllocError>
-    ensures { OnOk result (held lists.new.items ≡ held lists.old.items ++ lists_of (map member_part members.now)) }
+    ensures { OnOk result (held lists.new.items ≡ held lists.old.items
+        ++ own_names (members_of (map member_view members.now)) ∷ []) }
 {
     let mut names = Vec::new(alloc);
     for member in members {
         names.push(member.name)?;
-        push_type(lists, alloc, &member.constructor)?;
     }
     lists.push(names)?;
     Ok(())
 }
 
-/// Those in the members of a table or a union, and then their own.
-#[cycle(lists)]
+/// The list of the members of a table or a union.
 fn push_ordinals(
     lists: &mut Vec<Vec<Span>>,
     alloc: Global,
     members: &[OrdinalMember],
 ) -> Result<(), AllocError>
-    ensures { OnOk result (held lists.new.items ≡ held lists.old.items ++ lists_of (map ordinal_part members.now)) }
+    ensures { OnOk result (held lists.new.items ≡ held lists.old.items
+        ++ own_names (members_of (map ordinal_member_view members.now)) ∷ []) }
 {
     let mut names = Vec::new(alloc);
     for member in members {
-        push_ordinal(lists, &mut names, alloc, member)?;
+        push_name(&mut names, member)?;
     }
     lists.push(names)?;
     Ok(())
 }
 
-/// What a member of a table or a union gives: its name, and the lists in its type.
-#[cycle(lists)]
-fn push_ordinal(
-    lists: &mut Vec<Vec<Span>>,
-    names: &mut Vec<Span>,
-    alloc: Global,
-    member: &OrdinalMember,
-) -> Result<(), AllocError>
-    ensures inside { OnOk result (held lists.new.items ≡ held lists.old.items ++ (ordinal_part member.now).inside) }
-    ensures own { OnOk result (names.new.items ≡ names.old.items ++ (ordinal_part member.now).own) }
+/// The name of a member of a table or a union; a reserved ordinal has none.
+fn push_name(names: &mut Vec<Span>, member: &OrdinalMember) -> Result<(), AllocError>
+    ensures { OnOk result (names.new.items ≡ names.old.items
+        ++ own_name (ordinal_member_view member.now)) }
 {
     match &member.body {
         OrdinalBody::Reserved(_) => Ok(()),
-        OrdinalBody::Typed { name, constructor } => {
+        OrdinalBody::Typed { name, .. } => {
             names.push(*name)?;
-            push_type(lists, alloc, constructor)
+            Ok(())
         }
     }
+}
+
+/// The list of a layout.
+fn push_own(lists: &mut Vec<Vec<Span>>, alloc: Global, body: &LayoutBody) -> Result<(), AllocError>
+    ensures { OnOk result (held lists.new.items ≡ held lists.old.items
+        ++ layout_names (body_view body.now) ∷ []) }
+{
+    match body {
+        LayoutBody::Values(layout) => push_values(lists, alloc, &layout.members),
+        LayoutBody::Struct(layout) => push_names(lists, alloc, &layout.members),
+        LayoutBody::Table(layout) => push_ordinals(lists, alloc, &layout.members),
+        LayoutBody::Union(layout) => push_ordinals(lists, alloc, &layout.members),
+    }
+}
+
+/// The lists of the layouts among the spots of a walk, after those before them.
+fn push_spots(
+    lists: &mut Vec<Vec<Span>>,
+    alloc: Global,
+    spots: &[Spot<'_>],
+) -> Result<(), AllocError>
+    ensures { OnOk result (held lists.new.items ≡ held lists.old.items
+        ++ lists_of (seen_spots spots.now)) }
+{
+    for spot in spots {
+        if let Spot::Layout { body } = spot {
+            push_own(lists, alloc, body)?;
+        }
+    }
+    Ok(())
+}
+
+/// The lists in a type.
+fn push_type(
+    lists: &mut Vec<Vec<Span>>,
+    alloc: Global,
+    constructor: &TypeConstructor,
+) -> Result<(), AllocError>
+    ensures { OnOk result (held lists.new.items ≡ held lists.old.items
+        ++ type_lists (type_view constructor.now)) }
+{
+    let mut spots = Vec::new(alloc);
+    spots::push_type(&mut spots, None, constructor)?;
+    push_spots(lists, alloc, &spots)
+}
+
+/// Those in a layout.
+fn push_layout(
+    lists: &mut Vec<Vec<Span>>,
+    alloc: Global,
+    body: &LayoutBody,
+) -> Result<(), AllocError>
+    ensures { OnOk result (held lists.new.items ≡ held lists.old.items
+        ++ lists_of (layout_spots (body_view body.now))) }
+{
+    let mut spots = Vec::new(alloc);
+    spots::push_layout(&mut spots, body)?;
+    push_spots(lists, alloc, &spots)
+}
+
+/// Those in the types of a service's members, and then the list of the members.
+fn push_members(
+    lists: &mut Vec<Vec<Span>>,
+    alloc: Global,
+    members: &[Member],
+) -> Result<(), AllocError>
+    ensures { OnOk result (held lists.new.items ≡ held lists.old.items
+        ++ members_lists (members_of (map member_view members.now))) }
+{
+    let mut spots = Vec::new(alloc);
+    spots::push_members(&mut spots, members)?;
+    push_spots(lists, alloc, &spots)?;
+    push_names(lists, alloc, members)
 }
 
 /// The lists in a request, a response or an event.
@@ -183,7 +165,8 @@ fn push_payload(
     alloc: Global,
     payload: &Payload,
 ) -> Result<(), AllocError>
-    ensures { OnOk result (held lists.new.items ≡ held lists.old.items ++ payload_lists payload.now) }
+    ensures { OnOk result (held lists.new.items ≡ held lists.old.items
+        ++ perhaps type_lists (payload_view payload.now)) }
 {
     match &payload.constructor {
         None => Ok(()),
@@ -196,7 +179,8 @@ fn push_response(
     alloc: Global,
     response: &Response,
 ) -> Result<(), AllocError>
-    ensures { OnOk result (held lists.new.items ≡ held lists.old.items ++ response_lists response.now) }
+    ensures { OnOk result (held lists.new.items ≡ held lists.old.items
+        ++ response_lists (response_view response.now)) }
 {
     push_payload(lists, alloc, &response.payload)?;
     match &response.error {
@@ -210,7 +194,8 @@ fn push_protocol_member(
     alloc: Global,
     body: &ProtocolMemberBody,
 ) -> Result<(), AllocError>
-    ensures { OnOk result (held lists.new.items ≡ held lists.old.items ++ protocol_lists body.now) }
+    ensures { OnOk result (held lists.new.items ≡ held lists.old.items
+        ++ protocol_lists (protocol_body_view [] body.now)) }
 {
     match body {
         ProtocolMemberBody::Compose(_) => Ok(()),
@@ -230,7 +215,8 @@ fn push_protocol(
     alloc: Global,
     members: &[ProtocolMember],
 ) -> Result<(), AllocError>
-    ensures { OnOk result (held lists.new.items ≡ held lists.old.items ++ flat_map protocol_member_lists members.now) }
+    ensures { OnOk result (held lists.new.items ≡ held lists.old.items
+        ++ flat_map protocol_lists (map protocol_member_view members.now)) }
 {
     for member in members {
         push_protocol_member(lists, alloc, &member.body)?;
@@ -243,7 +229,8 @@ fn push_properties(
     alloc: Global,
     properties: &[Property],
 ) -> Result<(), AllocError>
-    ensures { OnOk result (held lists.new.items ≡ held lists.old.items ++ lists_of (map property_part properties.now)) }
+    ensures { OnOk result (held lists.new.items ≡ held lists.old.items
+        ++ members_lists (members_of (map property_view properties.now))) }
 {
     let mut names = Vec::new(alloc);
     for property in properties {
@@ -259,7 +246,7 @@ pub(crate) fn member_lists(
     alloc: Global,
     body: &DeclarationBody,
 ) -> Result<Vec<Vec<Span>>, AllocError>
-    ensures { IfOk result (λ lists. held lists.items ≡ body_lists body.now) }
+    ensures { IfOk result (λ lists. held lists.items ≡ body_lists (declared_view body.now)) }
 {
     let mut lists = Vec::new(alloc);
     match body {

@@ -1,7 +1,10 @@
 //! The types that a type names outside layouts.
 ghost use Rattle.std.specs.Prelude.{◌≡◌, ◌++◌, Some, map, OnOk, IfOk};
-ghost use Rattle.fidl_names.specs.Aliases.{outer_of, named_outer, argument_outer, next_outer, outer_behind, outer_types};
-ghost use Rattle.fidl_names.specs.Read.{read_path, read_types};
+ghost use Rattle.fidl_tree.specs.Syntax.{arguments_of};
+ghost use Rattle.fidl_tree.specs.Views.{path_view, type_view, named_view, argument_view};
+ghost use Rattle.fidl_tree.specs.Views.{next_argument_view};
+ghost use Rattle.fidl_names.specs.OuterTypes.{outer_of, argument_outer, further_outer, outer_types};
+ghost use Rattle.fidl_names.specs.ReferenceViews.{seen_path, read_types};
 
 use fidl_tree::{NamedType, NextTypeArgument, Path, TypeArgument, TypeConstructor};
 use std::alloc::{AllocError, Global};
@@ -13,14 +16,15 @@ pub(crate) struct OuterType<'f> {
     pub path: &'f Path,
 }
 
-/// Those of a type, behind those before them.
+/// Those of a type, after those before them.
 #[cycle(outer)]
 fn push_type<'f>(
     types: &mut Vec<OuterType<'f>>,
     constructor: &'f TypeConstructor,
     argument_of: Option<&'f Path>,
 ) -> Result<(), AllocError>
-    ensures { OnOk result (read_types types.new.items ≡ read_types types.old.items ++ outer_of constructor.now (read_path argument_of.entry)) }
+    ensures { OnOk result (read_types types.new.items ≡ read_types types.old.items
+        ++ outer_of (seen_path argument_of.entry) (type_view constructor.now)) }
 {
     match constructor {
         TypeConstructor::Layout { .. } => Ok(()),
@@ -35,7 +39,8 @@ fn push_named<'f>(
     named: &'f NamedType,
     argument_of: Option<&'f Path>,
 ) -> Result<(), AllocError>
-    ensures { OnOk result (read_types types.new.items ≡ read_types types.old.items ++ named_outer named.now (read_path argument_of.entry)) }
+    ensures { OnOk result (read_types types.new.items ≡ read_types types.old.items
+        ++ outer_of (seen_path argument_of.entry) (named_view named.now)) }
 {
     let path = &named.path;
     types.push(OuterType { argument_of, path })?;
@@ -46,14 +51,16 @@ fn push_named<'f>(
     Ok(())
 }
 
-/// Those in the arguments behind the first, of a type of this path.
+/// Those in the arguments after the first, of a type of this path.
 #[cycle(outer)]
 fn push_arguments<'f>(
     types: &mut Vec<OuterType<'f>>,
     arguments: &'f [NextTypeArgument],
     head: &'f Path,
 ) -> Result<(), AllocError>
-    ensures { OnOk result (read_types types.new.items ≡ read_types types.old.items ++ outer_behind (Some head.now) (map next_outer arguments.now)) }
+    ensures { OnOk result (read_types types.new.items ≡ read_types types.old.items
+        ++ further_outer (Some (path_view head.now))
+        (arguments_of (map next_argument_view arguments.now))) }
 {
     let mut argument_of = Some(head);
     for next in arguments {
@@ -69,7 +76,8 @@ fn push_argument<'f>(
     argument: &'f TypeArgument,
     argument_of: Option<&'f Path>,
 ) -> Result<(), AllocError>
-    ensures { OnOk result (read_types types.new.items ≡ read_types types.old.items ++ argument_outer argument.now (read_path argument_of.entry)) }
+    ensures { OnOk result (read_types types.new.items ≡ read_types types.old.items
+        ++ argument_outer (seen_path argument_of.entry) (argument_view argument.now)) }
 {
     match argument {
         TypeArgument::Number(_) => Ok(()),
@@ -82,7 +90,8 @@ pub(crate) fn outer_types(
     alloc: Global,
     constructor: &TypeConstructor,
 ) -> Result<Vec<OuterType<'_>>, AllocError>
-    ensures { IfOk result (λ types. read_types types.items ≡ outer_types constructor.now) }
+    ensures { IfOk result (λ types. read_types types.items
+        ≡ outer_types (type_view constructor.now)) }
 {
     let mut types = Vec::new(alloc);
     push_type(&mut types, constructor, None)?;

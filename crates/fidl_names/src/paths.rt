@@ -1,49 +1,58 @@
 //! The paths in values.
-ghost use Rattle.std.specs.Prelude.{◌≡◌, ◌++◌, flat_map, map, OnOk, IfOk};
-ghost use Rattle.fidl_names.specs.Places.{value_paths, operand_paths, term_paths};
+ghost use Rattle.std.specs.Prelude.{◌≡◌, ◌++◌, map, OnOk, IfOk};
+ghost use Rattle.fidl_tree.specs.Syntax.{operands_of};
+ghost use Rattle.fidl_tree.specs.Views.{value_view, or_operand_view, operand_view};
+ghost use Rattle.fidl_names.specs.Places.{value_paths, operands_paths, operand_paths};
+ghost use Rattle.fidl_names.specs.ReferenceViews.{seen_paths};
 
-use fidl_tree::{Operand, Path, Term, Value};
+use fidl_tree::{Operand, OrOperand, Path, Value};
 use std::alloc::{AllocError, Global};
 
-/// The paths in a value, behind those before them.
+/// The paths in a value, after those before them.
 #[cycle(paths)]
 fn push_value<'f>(paths: &mut Vec<&'f Path>, value: &'f Value) -> Result<(), AllocError>
-    ensures { OnOk result (map (λ p. p.now) paths.new.items ≡ map (λ p. p.now) paths.old.items ++ value_paths value.now) }
+    ensures { OnOk result (seen_paths paths.new.items ≡ seen_paths paths.old.items
+        ++ value_paths (value_view value.now)) }
 {
-    push_term(paths, &value.first)?;
-    push_operands(paths, &value.rest)
+    push_operand(paths, &value.first)?;
+    push_or_operands(paths, &value.rest)
 }
 
 #[cycle(paths)]
-fn push_operands<'f>(paths: &mut Vec<&'f Path>, operands: &'f [Operand]) -> Result<(), AllocError>
-    ensures { OnOk result (map (λ p. p.now) paths.new.items ≡ map (λ p. p.now) paths.old.items ++ flat_map (λ o. o) (map operand_paths operands.now)) }
+fn push_or_operands<'f>(
+    paths: &mut Vec<&'f Path>,
+    or_operands: &'f [OrOperand],
+) -> Result<(), AllocError>
+    ensures { OnOk result (seen_paths paths.new.items ≡ seen_paths paths.old.items
+        ++ operands_paths (operands_of (map or_operand_view or_operands.now))) }
 {
-    for operand in operands {
-        push_term(paths, &operand.term)?;
+    for or_operand in or_operands {
+        push_operand(paths, &or_operand.operand)?;
     }
     Ok(())
 }
 
 #[cycle(paths)]
-fn push_term<'f>(paths: &mut Vec<&'f Path>, term: &'f Term) -> Result<(), AllocError>
-    ensures { OnOk result (map (λ p. p.now) paths.new.items ≡ map (λ p. p.now) paths.old.items ++ term_paths term.now) }
+fn push_operand<'f>(paths: &mut Vec<&'f Path>, operand: &'f Operand) -> Result<(), AllocError>
+    ensures { OnOk result (seen_paths paths.new.items ≡ seen_paths paths.old.items
+        ++ operand_paths (operand_view operand.now)) }
 {
-    match term {
-        Term::Number { .. } => Ok(()),
-        Term::String(_) => Ok(()),
-        Term::True(_) => Ok(()),
-        Term::False(_) => Ok(()),
-        Term::Path(path) => {
+    match operand {
+        Operand::Number { .. } => Ok(()),
+        Operand::String(_) => Ok(()),
+        Operand::True(_) => Ok(()),
+        Operand::False(_) => Ok(()),
+        Operand::Path(path) => {
             paths.push(path)?;
             Ok(())
         }
-        Term::Group { value, .. } => push_value(paths, value),
+        Operand::Group { value, .. } => push_value(paths, value),
     }
 }
 
 /// The paths in a value, in order.
 pub fn value_paths<'f>(alloc: Global, value: &'f Value) -> Result<Vec<&'f Path>, AllocError>
-    ensures { IfOk result (λ found. map (λ p. p.now) found.items ≡ value_paths value.now) }
+    ensures { IfOk result (λ found. seen_paths found.items ≡ value_paths (value_view value.now)) }
 {
     let mut paths = Vec::new(alloc);
     push_value(&mut paths, value)?;

@@ -1,124 +1,127 @@
 //! The names at the places of declarations.
-ghost use Rattle.std.specs.Prelude.{◌≡◌, Some, slice_get, option_copied, IfErr, OnOk};
+ghost use Rattle.std.specs.Prelude.{map, option_map, option_copied};
+ghost use Rattle.std.specs.Prelude.{IfErr, OnOk};
 ghost use Rattle.std.specs.List.{AllByRecursion};
-ghost use Rattle.fidl_names.specs.SeenPlaces.{seen_place};
+ghost use Rattle.fidl_tree.specs.Views.{path_view, constraints_view, value_member_view};
+ghost use Rattle.fidl_tree.specs.Views.{declared_view};
+ghost use Rattle.fidl_names.specs.PlaceViews.{seen_place};
 ghost use Rattle.fidl_names.specs.Places.{a_type};
-ghost use Rattle.fidl_names.specs.Resolved.{MembersMean, MemberFails, PlaceHolds, PlaceFails, DeclarationHolds, DeclarationFails, NamesHold, NameFails};
+ghost use Rattle.fidl_names.specs.Resolved.{MembersMean, MemberFails, PlaceHolds, PlaceFails};
+ghost use Rattle.fidl_names.specs.Resolved.{DeclarationHolds, DeclarationFails, NamesHold};
+ghost use Rattle.fidl_names.specs.Resolved.{NameFails};
 ghost use Rattle.fidl_names.specs.Faults.{IsTrueOfOne};
-ghost use Rattle.fidl_names.specs.Scopes.{IsScope, Tells};
+ghost use Rattle.fidl_names.specs.Scopes.{IsMemoryOr};
 
-use crate::constraint_names::{see_items, see_value};
+use crate::constraint_names::{check_items, check_value};
 use crate::fault::NameFault;
+use crate::named::Named;
+use crate::named_file::NamedFile;
 use crate::places::{NamePlace, name_places};
-use crate::scope::{Scope, end_of, kind_of_type, read};
-use fidl_tree::{Constraints, DeclarationBody, File, Path, ValueMember};
+use fidl_tree::{Constraints, DeclarationBody, Path, ValueMember};
 
 /// Each name of a type and its constraints means something.
-fn see_type(
-    scope: &Scope<'_, '_, '_>,
-    number: usize,
-    file: &File<'_>,
+fn check_type(
+    scope: &NamedFile<'_, '_, '_>,
     argument_of: Option<&Path>,
     path: &Path,
     constraints: Option<&Constraints>,
 ) -> Result<(), NameFault>
-    requires known { IsScope scope.now }
-    requires file_at { slice_get scope.now.set.now number ≡ Some file.now }
-    ensures ok { OnOk result (PlaceHolds scope.now.set.now file.now (a_type (option_copied argument_of.entry) path.now (option_copied constraints.entry))) }
-    ensures told { IfErr result (Tells (λ fault. PlaceFails scope.now.set.now file.now number fault (a_type (option_copied argument_of.entry) path.now (option_copied constraints.entry)))) }
+    ensures ok { let head = option_map path_view (option_copied argument_of.entry) in
+        let values = constraints_view (option_copied constraints.entry) in
+        let place = a_type head (path_view path.now) values in
+        OnOk result (PlaceHolds scope.now.named.now scope.now.file.now place) }
+    ensures fault_is_true { let head = option_map path_view (option_copied argument_of.entry) in
+        let values = constraints_view (option_copied constraints.entry) in
+        let place = a_type head (path_view path.now) values in
+        IfErr result (IsMemoryOr (λ f. PlaceFails scope.now.named.now scope.now.file.now
+        scope.now.file_index f place)) }
 {
-    let kind = kind_of_type(scope, number, file, argument_of)?;
-    let meaning = read(scope, number, file, path, kind)?;
-    let end = end_of(scope, meaning);
-    see_items(scope, number, file, Some(end), constraints)
+    let kind = scope.kind_of_type(argument_of)?;
+    let meaning = scope.read(path, kind)?;
+    let end = scope.named.resolved(meaning);
+    check_items(scope, Some(end), constraints)
 }
 
 /// Each name in the values of members means something.
-fn see_value_members(
-    scope: &Scope<'_, '_, '_>,
-    number: usize,
-    file: &File<'_>,
+fn check_value_members(
+    scope: &NamedFile<'_, '_, '_>,
     members: &[ValueMember],
 ) -> Result<(), NameFault>
-    requires known { IsScope scope.now }
-    requires file_at { slice_get scope.now.set.now number ≡ Some file.now }
-    ensures ok { OnOk result (MembersMean scope.now.set.now file.now members.now) }
-    ensures told { IfErr result (Tells (MemberFails scope.now.set.now file.now number members.now)) }
+    ensures ok { let seen = map value_member_view members.now in
+        OnOk result (MembersMean scope.now.named.now scope.now.file.now seen) }
+    ensures fault_is_true { let seen = map value_member_view members.now in
+        IfErr result (IsMemoryOr (MemberFails scope.now.named.now scope.now.file.now
+        scope.now.file_index seen)) }
 {
     for member in members {
-        see_value(scope, number, file, &member.value)?;
+        check_value(scope, &member.value)?;
     }
     Ok(())
 }
 
 /// Each name at a place means something.
-fn see_place(
-    scope: &Scope<'_, '_, '_>,
-    number: usize,
-    file: &File<'_>,
-    place: NamePlace<'_>,
-) -> Result<(), NameFault>
-    requires known { IsScope scope.now }
-    requires file_at { slice_get scope.now.set.now number ≡ Some file.now }
-    ensures ok { OnOk result (PlaceHolds scope.now.set.now file.now (seen_place place.entry)) }
-    ensures told { IfErr result (Tells (λ fault. PlaceFails scope.now.set.now file.now number fault (seen_place place.entry))) }
+fn check_place(scope: &NamedFile<'_, '_, '_>, place: NamePlace<'_>) -> Result<(), NameFault>
+    ensures ok { OnOk result (PlaceHolds scope.now.named.now scope.now.file.now
+        (seen_place place.entry)) }
+    ensures fault_is_true { let seen = seen_place place.entry in
+        IfErr result (IsMemoryOr (λ f. PlaceFails scope.now.named.now scope.now.file.now
+        scope.now.file_index f seen)) }
 {
     match place {
         NamePlace::Name { kind, path } => {
-            read(scope, number, file, path, kind)?;
+            scope.read(path, kind)?;
             Ok(())
         }
         NamePlace::Type {
             argument_of,
             path,
             constraints,
-        } => see_type(scope, number, file, argument_of, path, constraints),
-        NamePlace::Layout { constraints } => see_items(scope, number, file, None, constraints),
+        } => check_type(scope, argument_of, path, constraints),
+        NamePlace::Layout { constraints } => check_items(scope, None, constraints),
         NamePlace::Number { .. } => Ok(()),
-        NamePlace::Members { members, .. } => see_value_members(scope, number, file, members),
+        NamePlace::Members { members, .. } => check_value_members(scope, members),
     }
 }
 
 /// Each name in a declaration means something.
-fn see_declaration(
-    scope: &Scope<'_, '_, '_>,
-    number: usize,
-    file: &File<'_>,
-    body: &DeclarationBody,
-) -> Result<(), NameFault>
-    requires known { IsScope scope.now }
-    requires file_at { slice_get scope.now.set.now number ≡ Some file.now }
-    ensures ok { OnOk result (DeclarationHolds scope.now.set.now file.now body.now) }
-    ensures told { IfErr result (Tells (DeclarationFails scope.now.set.now file.now number body.now)) }
+fn check_declaration(scope: &NamedFile<'_, '_, '_>, body: &DeclarationBody) -> Result<(), NameFault>
+    ensures ok { let seen = declared_view body.now in
+        OnOk result (DeclarationHolds scope.now.named.now scope.now.file.now seen) }
+    ensures fault_is_true { let seen = declared_view body.now in
+        IfErr result (IsMemoryOr (DeclarationFails scope.now.named.now scope.now.file.now
+        scope.now.file_index seen)) }
 {
-    let places = name_places(scope.alloc, body)?;
+    let places = name_places(scope.named.alloc(), body)?;
     for place in &places {
-        see_place(scope, number, file, *place)?;
+        check_place(scope, *place)?;
     }
     Ok(())
 }
 
 /// Each name in a file means something.
-fn see_file(scope: &Scope<'_, '_, '_>, number: usize, file: &File<'_>) -> Result<(), NameFault>
-    requires known { IsScope scope.now }
-    requires file_at { slice_get scope.now.set.now number ≡ Some file.now }
-    ensures ok { OnOk result (NamesHold scope.now.set.now file.now) }
-    ensures told { IfErr result (Tells (NameFails scope.now.set.now file.now number)) }
+fn check_file(scope: &NamedFile<'_, '_, '_>) -> Result<(), NameFault>
+    ensures ok { OnOk result (NamesHold scope.now.named.now scope.now.file.now) }
+    ensures fault_is_true { IfErr result (IsMemoryOr
+        (NameFails scope.now.named.now scope.now.file.now scope.now.file_index)) }
 {
-    for declaration in &file.declarations {
-        see_declaration(scope, number, file, &declaration.body)?;
+    for declaration in &scope.file.declarations {
+        check_declaration(scope, &declaration.body)?;
     }
     Ok(())
 }
 
 /// Each name in the files of a set means something.
-pub(crate) fn see_names(scope: &Scope<'_, '_, '_>) -> Result<(), NameFault>
-    requires { IsScope scope.now }
-    ensures ok { OnOk result (AllByRecursion (NamesHold scope.now.set.now) scope.now.set.now) }
-    ensures told { IfErr result (Tells (IsTrueOfOne scope.now.set.now (NameFails scope.now.set.now))) }
+pub(crate) fn check_names(named: &Named<'_, '_>) -> Result<(), NameFault>
+    ensures ok { OnOk result (AllByRecursion (NamesHold named.now) named.now) }
+    ensures fault_is_true { IfErr result (IsMemoryOr
+        (IsTrueOfOne named.now (NameFails named.now))) }
 {
-    for number in 0..scope.set.count() {
-        see_file(scope, number, scope.set.file(number))?;
+    for file_index in 0..named.count() {
+        check_file(&NamedFile {
+            named,
+            file_index,
+            file: named.file(file_index),
+        })?;
     }
     Ok(())
 }

@@ -1,16 +1,30 @@
 //! The places of names and values in declarations, and what each place wants.
-ghost use Rattle.std.specs.Prelude.{◌≡◌, ◌++◌, map, flat_map, option_copied, OnOk, IfOk};
-ghost use Rattle.fidl_names.specs.Places.{items, value_places, all, joined, places_of_type, named_places, type_arguments_places, type_argument_places, next_type_argument_places, layout_body_places, values_layout_places, member_places, ordinal_member_places, payload_places, response_places, protocol_places, protocol_member_places, property_places, body_places};
-ghost use Rattle.fidl_names.specs.SeenPlaces.{seen_places};
+ghost use Rattle.std.specs.Prelude.{◌≡◌, ◌++◌, [], None, Some, map, flat_map, option_map};
+ghost use Rattle.std.specs.Prelude.{option_copied, OnOk, IfOk};
+ghost use Rattle.std.specs.Option.{option_to_list};
+ghost use Rattle.fidl_tree.specs.Syntax.{members_of};
+ghost use Rattle.fidl_tree.specs.Views.{path_view, value_view, constraints_view, type_view};
+ghost use Rattle.fidl_tree.specs.Views.{body_view, values_view, member_view};
+ghost use Rattle.fidl_tree.specs.Views.{payload_view, response_view};
+ghost use Rattle.fidl_tree.specs.Views.{protocol_body_view, protocol_member_view, property_view};
+ghost use Rattle.fidl_tree.specs.Views.{declared_view};
+ghost use Rattle.fidl_names.specs.Spots.{type_spots, layout_spots, members_spots};
+ghost use Rattle.fidl_names.specs.Places.{value_places, spot_places, places_of, perhaps};
+ghost use Rattle.fidl_names.specs.Places.{response_places, values_path};
+ghost use Rattle.fidl_names.specs.Places.{protocol_places, body_places};
+ghost use Rattle.fidl_names.specs.ReferenceViews.{seen_values};
+ghost use Rattle.fidl_names.specs.PlaceViews.{seen_place, seen_places};
+ghost use Rattle.fidl_names.specs.SpotViews.{seen_spot, seen_spots};
 
 use crate::meaning::Wanted;
 use crate::paths::value_paths;
+use crate::spots;
+use crate::spots::Spot;
 use fidl_span::Span;
 use fidl_tree::{
-    Constraints, DeclarationBody, LayoutBody, Member, NamedType, NextConstraint, NextTypeArgument,
-    OrdinalBody, OrdinalMember, Path, Payload, Property, ProtocolMember, ProtocolMemberBody,
-    Response, TypeArgument, TypeArguments, TypeConstructor, Value, ValueMember, ValuesKeyword,
-    ValuesLayout,
+    Constraints, DeclarationBody, LayoutBody, Member, NextConstraint, Path, Payload, Property,
+    ProtocolMember, ProtocolMemberBody, Response, TypeConstructor, Value, ValueMember,
+    ValuesKeyword, ValuesLayout,
 };
 use std::alloc::{AllocError, Global};
 
@@ -50,7 +64,8 @@ pub fn items<'f>(
     alloc: Global,
     constraints: Option<&'f Constraints>,
 ) -> Result<Vec<&'f Value>, AllocError>
-    ensures { IfOk result (λ found. map (λ v. v.now) found.items ≡ items (option_copied constraints.entry)) }
+    ensures { let values = constraints_view (option_copied constraints.entry) in
+        IfOk result (λ found. seen_values found.items ≡ values) }
 {
     let mut found: Vec<&'f Value> = Vec::new(alloc);
     match constraints {
@@ -68,7 +83,8 @@ fn push_items<'f>(
     found: &mut Vec<&'f Value>,
     constraints: &'f [NextConstraint],
 ) -> Result<(), AllocError>
-    ensures { OnOk result (map (λ v. v.now) found.new.items ≡ map (λ v. v.now) found.old.items ++ map (λ n. n.value) constraints.now) }
+    ensures { OnOk result (seen_values found.new.items ≡ seen_values found.old.items
+        ++ map (λ n. value_view n.value) constraints.now) }
 {
     for next in constraints {
         found.push(&next.value)?;
@@ -76,13 +92,14 @@ fn push_items<'f>(
     Ok(())
 }
 
-/// The places in a value, behind those before them.
+/// The places in a value, after those before them.
 fn push_value<'f>(
     places: &mut Vec<NamePlace<'f>>,
     alloc: Global,
     value: &'f Value,
 ) -> Result<(), AllocError>
-    ensures { OnOk result (seen_places places.new.items ≡ seen_places places.old.items ++ value_places value.now) }
+    ensures { OnOk result (seen_places places.new.items ≡ seen_places places.old.items
+        ++ value_places (value_view value.now)) }
 {
     let paths = value_paths(alloc, value)?;
     for path in &paths {
@@ -94,191 +111,99 @@ fn push_value<'f>(
     Ok(())
 }
 
-/// Those in a type, which may be the second argument of another.
-#[cycle(places)]
-fn push_type<'f>(
-    places: &mut Vec<NamePlace<'f>>,
-    alloc: Global,
-    argument_of: Option<&'f Path>,
-    constructor: &'f TypeConstructor,
-) -> Result<(), AllocError>
-    ensures { OnOk result (seen_places places.new.items ≡ seen_places places.old.items ++ places_of_type constructor.now (option_copied argument_of.entry)) }
+/// The place that a spot of the walk is, if it is one.
+fn place_of<'f>(spot: Spot<'f>) -> Option<NamePlace<'f>>
+    ensures { option_to_list (option_map seen_place result) ≡ spot_places (seen_spot spot.entry) }
 {
-    match constructor {
-        TypeConstructor::Layout {
-            layout,
-            constraints,
-        } => {
-            push_layout(places, alloc, &layout.body)?;
-            places.push(NamePlace::Layout {
-                constraints: constraints.as_ref(),
-            })?;
-            Ok(())
+    match spot {
+        Spot::Named { argument_of, named } => Some(NamePlace::Type {
+            argument_of,
+            path: &named.path,
+            constraints: named.constraints.as_ref(),
+        }),
+        Spot::Written { constraints, .. } => Some(NamePlace::Layout { constraints }),
+        Spot::Number {
+            argument_of,
+            number,
+        } => Some(NamePlace::Number {
+            argument_of,
+            number,
+        }),
+        Spot::Layout { body } => match body {
+            LayoutBody::Values(layout) => Some(NamePlace::Members {
+                keyword: &layout.keyword,
+                underlying: underlying_path(layout),
+                members: &layout.members,
+            }),
+            _ => None,
+        },
+    }
+}
+
+/// The name of the underlying type, where one is written.
+fn underlying_path<'f>(layout: &'f ValuesLayout) -> Option<&'f Path>
+    ensures { option_map path_view (option_copied result)
+        ≡ values_path (values_view layout.now) }
+{
+    match &layout.underlying {
+        None => None,
+        Some(underlying) => Some(&underlying.named.path),
+    }
+}
+
+/// The places among the spots of a walk, after those before them.
+fn push_spots<'f>(places: &mut Vec<NamePlace<'f>>, spots: &[Spot<'f>]) -> Result<(), AllocError>
+    ensures { OnOk result (seen_places places.new.items ≡ seen_places places.old.items
+        ++ places_of (seen_spots spots.now)) }
+{
+    for spot in spots {
+        if let Some(place) = place_of(*spot) {
+            places.push(place)?;
         }
-        TypeConstructor::Named(named) => push_named(places, alloc, argument_of, named),
-    }
-}
-
-/// That of a named type, and those in its arguments.
-#[cycle(places)]
-fn push_named<'f>(
-    places: &mut Vec<NamePlace<'f>>,
-    alloc: Global,
-    argument_of: Option<&'f Path>,
-    named: &'f NamedType,
-) -> Result<(), AllocError>
-    ensures { OnOk result (seen_places places.new.items ≡ seen_places places.old.items ++ named_places named.now (option_copied argument_of.entry)) }
-{
-    places.push(NamePlace::Type {
-        argument_of,
-        path: &named.path,
-        constraints: named.constraints.as_ref(),
-    })?;
-    match &named.arguments {
-        None => Ok(()),
-        Some(arguments) => push_arguments(places, alloc, &named.path, arguments),
-    }
-}
-
-/// Those in the arguments of a type.
-#[cycle(places)]
-fn push_arguments<'f>(
-    places: &mut Vec<NamePlace<'f>>,
-    alloc: Global,
-    head: &'f Path,
-    arguments: &'f TypeArguments,
-) -> Result<(), AllocError>
-    ensures { OnOk result (seen_places places.new.items ≡ seen_places places.old.items ++ type_arguments_places arguments.now head.now) }
-{
-    push_argument(places, alloc, None, &arguments.first)?;
-    match arguments.rest.split_first() {
-        None => Ok(()),
-        Some((second, others)) => {
-            push_argument(places, alloc, Some(head), &second.argument)?;
-            push_others(places, alloc, others)
-        }
-    }
-}
-
-/// Those in the arguments behind the second.
-#[cycle(places)]
-fn push_others<'f>(
-    places: &mut Vec<NamePlace<'f>>,
-    alloc: Global,
-    others: &'f [NextTypeArgument],
-) -> Result<(), AllocError>
-    ensures { OnOk result (seen_places places.new.items ≡ seen_places places.old.items ++ all (map next_type_argument_places others.now)) }
-{
-    for next in others {
-        push_argument(places, alloc, None, &next.argument)?;
     }
     Ok(())
 }
 
-#[cycle(places)]
-fn push_argument<'f>(
+/// Those in a type.
+fn push_type<'f>(
     places: &mut Vec<NamePlace<'f>>,
     alloc: Global,
-    argument_of: Option<&'f Path>,
-    argument: &'f TypeArgument,
+    constructor: &'f TypeConstructor,
 ) -> Result<(), AllocError>
-    ensures { OnOk result (seen_places places.new.items ≡ seen_places places.old.items ++ type_argument_places argument.now (option_copied argument_of.entry)) }
+    ensures { OnOk result (seen_places places.new.items ≡ seen_places places.old.items
+        ++ places_of (type_spots None (type_view constructor.now))) }
 {
-    match argument {
-        TypeArgument::Number(number) => {
-            places.push(NamePlace::Number {
-                argument_of,
-                number: *number,
-            })?;
-            Ok(())
-        }
-        TypeArgument::Type(constructor) => push_type(places, alloc, argument_of, constructor),
-    }
+    let mut spots = Vec::new(alloc);
+    spots::push_type(&mut spots, None, constructor)?;
+    push_spots(places, &spots)
 }
 
 /// Those in a layout.
-#[cycle(places)]
 fn push_layout<'f>(
     places: &mut Vec<NamePlace<'f>>,
     alloc: Global,
     body: &'f LayoutBody,
 ) -> Result<(), AllocError>
-    ensures { OnOk result (seen_places places.new.items ≡ seen_places places.old.items ++ layout_body_places body.now) }
+    ensures { OnOk result (seen_places places.new.items ≡ seen_places places.old.items
+        ++ places_of (layout_spots (body_view body.now))) }
 {
-    match body {
-        LayoutBody::Values(layout) => push_values_layout(places, alloc, layout),
-        LayoutBody::Struct(layout) => push_members(places, alloc, &layout.members),
-        LayoutBody::Table(layout) => push_ordinals(places, alloc, &layout.members),
-        LayoutBody::Union(layout) => push_ordinals(places, alloc, &layout.members),
-    }
+    let mut spots = Vec::new(alloc);
+    spots::push_layout(&mut spots, body)?;
+    push_spots(places, &spots)
 }
 
-/// Those in bits or an enum.
-#[cycle(places)]
-fn push_values_layout<'f>(
-    places: &mut Vec<NamePlace<'f>>,
-    alloc: Global,
-    layout: &'f ValuesLayout,
-) -> Result<(), AllocError>
-    ensures { OnOk result (seen_places places.new.items ≡ seen_places places.old.items ++ values_layout_places layout.now) }
-{
-    let underlying = match &layout.underlying {
-        None => None,
-        Some(underlying) => {
-            push_named(places, alloc, None, &underlying.named)?;
-            Some(&underlying.named.path)
-        }
-    };
-    places.push(NamePlace::Members {
-        keyword: &layout.keyword,
-        underlying,
-        members: &layout.members,
-    })?;
-    Ok(())
-}
-
-/// Those in the members of a struct or a service.
-#[cycle(places)]
+/// Those in the members of a service.
 fn push_members<'f>(
     places: &mut Vec<NamePlace<'f>>,
     alloc: Global,
     members: &'f [Member],
 ) -> Result<(), AllocError>
-    ensures { OnOk result (seen_places places.new.items ≡ seen_places places.old.items ++ joined (map member_places members.now)) }
+    ensures { OnOk result (seen_places places.new.items ≡ seen_places places.old.items
+        ++ places_of (members_spots (members_of (map member_view members.now)))) }
 {
-    for member in members {
-        push_type(places, alloc, None, &member.constructor)?;
-    }
-    Ok(())
-}
-
-/// Those in the members of a table or a union.
-#[cycle(places)]
-fn push_ordinals<'f>(
-    places: &mut Vec<NamePlace<'f>>,
-    alloc: Global,
-    members: &'f [OrdinalMember],
-) -> Result<(), AllocError>
-    ensures { OnOk result (seen_places places.new.items ≡ seen_places places.old.items ++ joined (map ordinal_member_places members.now)) }
-{
-    for member in members {
-        push_ordinal(places, alloc, member)?;
-    }
-    Ok(())
-}
-
-#[cycle(places)]
-fn push_ordinal<'f>(
-    places: &mut Vec<NamePlace<'f>>,
-    alloc: Global,
-    member: &'f OrdinalMember,
-) -> Result<(), AllocError>
-    ensures { OnOk result (seen_places places.new.items ≡ seen_places places.old.items ++ ordinal_member_places member.now) }
-{
-    match &member.body {
-        OrdinalBody::Reserved(_) => Ok(()),
-        OrdinalBody::Typed { constructor, .. } => push_type(places, alloc, None, constructor),
-    }
+    let mut spots = Vec::new(alloc);
+    spots::push_members(&mut spots, members)?;
+    push_spots(places, &spots)
 }
 
 /// Those in a request, a response or an event.
@@ -287,11 +212,12 @@ fn push_payload<'f>(
     alloc: Global,
     payload: &'f Payload,
 ) -> Result<(), AllocError>
-    ensures { OnOk result (seen_places places.new.items ≡ seen_places places.old.items ++ payload_places payload.now) }
+    ensures { OnOk result (seen_places places.new.items ≡ seen_places places.old.items
+        ++ perhaps (payload_view payload.now)) }
 {
     match &payload.constructor {
         None => Ok(()),
-        Some(constructor) => push_type(places, alloc, None, constructor),
+        Some(constructor) => push_type(places, alloc, constructor),
     }
 }
 
@@ -300,12 +226,13 @@ fn push_response<'f>(
     alloc: Global,
     response: &'f Response,
 ) -> Result<(), AllocError>
-    ensures { OnOk result (seen_places places.new.items ≡ seen_places places.old.items ++ response_places response.now) }
+    ensures { OnOk result (seen_places places.new.items ≡ seen_places places.old.items
+        ++ response_places (Some (response_view response.now))) }
 {
     push_payload(places, alloc, &response.payload)?;
     match &response.error {
         None => Ok(()),
-        Some(error) => push_type(places, alloc, None, &error.constructor),
+        Some(error) => push_type(places, alloc, &error.constructor),
     }
 }
 
@@ -314,7 +241,8 @@ fn push_protocol_member<'f>(
     alloc: Global,
     body: &'f ProtocolMemberBody,
 ) -> Result<(), AllocError>
-    ensures { OnOk result (seen_places places.new.items ≡ seen_places places.old.items ++ protocol_places body.now) }
+    ensures { OnOk result (seen_places places.new.items ≡ seen_places places.old.items
+        ++ protocol_places (protocol_body_view [] body.now)) }
 {
     match body {
         ProtocolMemberBody::Compose(composed) => {
@@ -340,7 +268,8 @@ fn push_protocol<'f>(
     alloc: Global,
     members: &'f [ProtocolMember],
 ) -> Result<(), AllocError>
-    ensures { OnOk result (seen_places places.new.items ≡ seen_places places.old.items ++ flat_map protocol_member_places members.now) }
+    ensures { OnOk result (seen_places places.new.items ≡ seen_places places.old.items
+        ++ flat_map protocol_places (map protocol_member_view members.now)) }
 {
     for member in members {
         push_protocol_member(places, alloc, &member.body)?;
@@ -353,10 +282,11 @@ fn push_properties<'f>(
     alloc: Global,
     properties: &'f [Property],
 ) -> Result<(), AllocError>
-    ensures { OnOk result (seen_places places.new.items ≡ seen_places places.old.items ++ flat_map property_places properties.now) }
+    ensures { OnOk result (seen_places places.new.items ≡ seen_places places.old.items
+        ++ places_of (members_spots (members_of (map property_view properties.now)))) }
 {
     for property in properties {
-        push_type(places, alloc, None, &property.constructor)?;
+        push_type(places, alloc, &property.constructor)?;
     }
     Ok(())
 }
@@ -366,20 +296,21 @@ pub fn name_places<'f>(
     alloc: Global,
     body: &'f DeclarationBody,
 ) -> Result<Vec<NamePlace<'f>>, AllocError>
-    ensures { IfOk result (λ found. seen_places found.items ≡ body_places body.now) }
+    ensures { let all = body_places (declared_view body.now) in
+        IfOk result (λ found. seen_places found.items ≡ all) }
 {
     let mut places = Vec::new(alloc);
     match body {
         DeclarationBody::Const(d) => {
-            push_type(&mut places, alloc, None, &d.constructor)?;
+            push_type(&mut places, alloc, &d.constructor)?;
             push_value(&mut places, alloc, &d.value)?;
         }
-        DeclarationBody::Alias(d) => push_type(&mut places, alloc, None, &d.constructor)?,
+        DeclarationBody::Alias(d) => push_type(&mut places, alloc, &d.constructor)?,
         DeclarationBody::Type(d) => push_layout(&mut places, alloc, &d.layout.body)?,
         DeclarationBody::Protocol(d) => push_protocol(&mut places, alloc, &d.members)?,
         DeclarationBody::Service(d) => push_members(&mut places, alloc, &d.members)?,
         DeclarationBody::Resource(d) => {
-            push_type(&mut places, alloc, None, &d.constructor)?;
+            push_type(&mut places, alloc, &d.constructor)?;
             push_properties(&mut places, alloc, &d.properties.members)?;
         }
     }

@@ -1,25 +1,29 @@
 //! The rules of resolving that each file keeps by itself: members and imports.
 ghost use Rattle.std.specs.Prelude.{◌≡◌, ◌++◌, ◌∷◌, [], map, IfErr, IfOk, OnOk};
 ghost use Rattle.std.specs.List.{AllByRecursion};
-ghost use Rattle.fidl_names.specs.Imports.{visible, libraries_of, ImportsAreKnown, ImportsAreApart, IsTrueOfImports};
+ghost use Rattle.fidl_tree.specs.Views.{file_view};
+ghost use Rattle.fidl_names.specs.Imports.{visible, libraries_of, ImportsAreKnown, ImportsAreApart};
+ghost use Rattle.fidl_names.specs.Imports.{IsTrueOfImports};
 ghost use Rattle.fidl_names.specs.ImportCycles.{AreNumbered};
 ghost use Rattle.fidl_names.specs.Meanings.{MembersDiffer};
 ghost use Rattle.fidl_names.specs.MemberLists.{DistinctMembers, RepeatsMember, IsRepeatedAt};
-ghost use Rattle.fidl_names.specs.Seen.{seen, seen_texts, names_of, HaveSame};
+ghost use Rattle.fidl_names.specs.NameMaps.{seen, seen_texts, names_of, HaveSame};
 ghost use Rattle.fidl_names.specs.Faults.{IsTrueOfOne};
 
-use crate::differ::see_members;
+use crate::differ::check_members;
 use crate::fault::NameFault;
 use crate::full_name::path_text;
-use crate::imports::see_imports;
+use crate::imports::visible_libraries;
 use crate::library_set::LibrarySet;
 use indexmap::IndexMap;
-use std::alloc::{AllocError, Global};
+use std::alloc::AllocError;
 
 /// Adds a library, where it isn't there yet.
 fn add_library(libraries: &mut IndexMap<Vec<u8>, usize>, name: Vec<u8>) -> Result<(), AllocError>
-    ensures same { OnOk result (HaveSame (names_of (seen libraries.new.entries)) (names_of (seen libraries.old.entries) ++ name.items ∷ [])) }
-    ensures numbered { OnOk result (AreNumbered (seen libraries.old.entries) → AreNumbered (seen libraries.new.entries)) }
+    ensures same { OnOk result (HaveSame (names_of (seen libraries.new.entries))
+        (names_of (seen libraries.old.entries) ++ name.items ∷ [])) }
+    ensures numbered { OnOk result (AreNumbered (seen libraries.old.entries)
+        → AreNumbered (seen libraries.new.entries)) }
 {
     if libraries.contains_key(&name) {
         return Ok(());
@@ -30,16 +34,15 @@ fn add_library(libraries: &mut IndexMap<Vec<u8>, usize>, name: Vec<u8>) -> Resul
 }
 
 /// The libraries of a set, numbered in the order of their first files.
-pub(crate) fn libraries(
-    set: &LibrarySet<'_, '_>,
-    alloc: Global,
-) -> Result<IndexMap<Vec<u8>, usize>, AllocError>
-    ensures same { IfOk result (λ found. HaveSame (names_of (seen found.entries)) (libraries_of set.now)) }
+pub(crate) fn libraries(set: &LibrarySet<'_, '_>) -> Result<IndexMap<Vec<u8>, usize>, AllocError>
+    ensures same { IfOk result (λ found. HaveSame (names_of (seen found.entries))
+        (libraries_of set.now)) }
     ensures numbered { IfOk result (λ found. AreNumbered (seen found.entries)) }
 {
+    let alloc = set.alloc();
     let mut libraries = IndexMap::new(alloc);
-    for number in 0..set.count() {
-        let file = set.file(number);
+    for file_index in 0..set.count() {
+        let file = set.file(file_index);
         let name = path_text(alloc, file, &file.library.path)?;
         add_library(&mut libraries, name)?;
     }
@@ -47,13 +50,14 @@ pub(crate) fn libraries(
 }
 
 /// Members differ in each file.
-pub(crate) fn all_members(set: &LibrarySet<'_, '_>, alloc: Global) -> Result<(), NameFault>
-    ensures differ { OnOk result (AllByRecursion DistinctMembers set.now) }
+pub(crate) fn all_members(set: &LibrarySet<'_, '_>) -> Result<(), NameFault>
+    ensures differ { OnOk result (AllByRecursion (λ f. DistinctMembers (file_view f)) set.now) }
     ensures values { OnOk result (MembersDiffer set.now) }
-    ensures told { IfErr result (IsTrueOfOne set.now (λ f. IsRepeatedAt (RepeatsMember f))) }
+    ensures fault_is_true { IfErr result (IsTrueOfOne set.now
+        (λ f. IsRepeatedAt (RepeatsMember (file_view f)))) }
 {
-    for number in 0..set.count() {
-        see_members(alloc, set.file(number), number)?;
+    for file_index in 0..set.count() {
+        check_members(set.alloc(), set.file(file_index), file_index)?;
     }
     Ok(())
 }
@@ -61,19 +65,22 @@ pub(crate) fn all_members(set: &LibrarySet<'_, '_>, alloc: Global) -> Result<(),
 /// What each file sees by its imports.
 pub(crate) fn all_imports(
     set: &LibrarySet<'_, '_>,
-    alloc: Global,
     libraries: &IndexMap<Vec<u8>, usize>,
 ) -> Result<Vec<IndexMap<Vec<u8>, Vec<u8>>>, NameFault>
     requires { HaveSame (names_of (seen libraries.now.entries)) (libraries_of set.now) }
-    ensures ok { IfOk result (λ found. map (λ sights. seen_texts sights.entries) found.items ≡ map visible set.now) }
+    ensures ok { IfOk result (λ found. map (λ visible_names. seen_texts visible_names.entries)
+        found.items
+        ≡ map visible set.now) }
     ensures apart { OnOk result (AllByRecursion ImportsAreApart set.now) }
     ensures known { OnOk result (AllByRecursion (ImportsAreKnown (libraries_of set.now)) set.now) }
-    ensures told { IfErr result (IsTrueOfOne set.now (IsTrueOfImports (libraries_of set.now))) }
+    ensures fault_is_true { IfErr result (IsTrueOfOne set.now
+        (IsTrueOfImports (libraries_of set.now))) }
 {
+    let alloc = set.alloc();
     let mut found = Vec::new(alloc);
-    for number in 0..set.count() {
-        let sights = see_imports(alloc, libraries, set.file(number), number)?;
-        found.push(sights)?;
+    for file_index in 0..set.count() {
+        let visible_names = visible_libraries(alloc, libraries, set.file(file_index), file_index)?;
+        found.push(visible_names)?;
     }
     Ok(found)
 }

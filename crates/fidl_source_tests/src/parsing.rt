@@ -142,7 +142,7 @@ fn unexpected_words_have_their_places(rt: HostRuntime) -> Result<(), Fail> {
     Ok(())
 }
 
-/// A constant whose value stands in so many parentheses, and the text behind it.
+/// A constant whose value stands in so many parentheses, and the text after it.
 fn in_parentheses(alloc: Global, count: usize, rest: &[u8]) -> Result<Vec<u8>, Fail> {
     let mut src = Vec::new(alloc);
     src.extend_from_slice(b"library t; const A uint8 = ")?;

@@ -74,7 +74,7 @@ fn reads_a_library(rt: HostRuntime) -> Result<(), Fail> {
 }
 
 #[test]
-fn tells_faults(rt: HostRuntime) {
+fn reports_faults(rt: HostRuntime) {
     let cases: [(&[u8], u32, usize, usize); 26] = [
         (b"library t; #", 2, 11, 12),
         (b"/", 2, 0, 1),
@@ -135,7 +135,7 @@ fn names_faults(rt: HostRuntime) {
 }
 
 #[test]
-fn tells_lines_and_columns(rt: HostRuntime) {
+fn reports_lines_and_columns(rt: HostRuntime) {
     let cases: [(&[u8], usize, u64, u64); 9] = [
         (b"library t; #", 11, 1, 12),
         (b"", 0, 1, 1),

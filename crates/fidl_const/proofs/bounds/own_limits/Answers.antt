@@ -1,67 +1,74 @@
-use Rattle.std.proofs.Common.{◌≡◌, ℕ, ◌+◌, ◌<◌, ◌++◌, ◌∷◌, [], Bor, false, not, List, map, take, length, get_or, ap, sym, subst, ◌∙◌, arith, Option}
+use Rattle.std.proofs.Common.{◌≡◌, ℕ, ◌+◌, ◌<◌, ◌++◌, ◌∷◌, [], Bor, false, not, List, take, length, get_or, ap, sym, subst, ◌∙◌, arith}
 use Rattle.std.specs.Prelude.{option_copied}
 use Rattle.std.specs.List.{Contains}
 use Rattle.std.proofs.lemmas.List.{take_more}
 use Rattle.std.proofs.lemmas.Result.{err_from_is_err_and}
 use Rattle.std.proofs.Math.ListN.{get_or-map, length-map}
 use Rattle.fidl_tree.specs.declared.file.File.{File}
-use Rattle.fidl_tree.specs.declared.constraint.Constraints.{Constraints}
-use Rattle.fidl_tree.specs.declared.value.Value.{Value}
-use Rattle.fidl_names.specs.Items.{is_optional, ordinary}
-use Rattle.fidl_names.specs.Places.{items, value_paths}
+use Rattle.fidl_names.specs.Constraints.{is_optional, ordinary}
+use Rattle.fidl_tree.specs.Syntax.{Value}
+use Rattle.fidl_tree.specs.Views.{value_view, constraints_view}
+use Rattle.fidl_tree.specs.declared.value.Value.{Value as Tree}
+use Rattle.fidl_names.specs.Places.{value_paths}
+use Rattle.fidl_names.specs.ReferenceViews.{seen_values}
 use Rattle.fidl_const.specs.declared.const_type.NumberKind.TheVariants.{Uint32}
 use Rattle.fidl_const.specs.declared.const_type.ConstType.TheVariants as ty
 use Rattle.fidl_const.specs.declared.fault.ConstFault.{ConstFault}
-use Rattle.fidl_const.specs.Evaluated.{BoundFails, ValueFails}
-use Rattle.fidl_const.specs.Tables.{AreLimits, IsOwnConstraint, Tells}
+use Rattle.fidl_const.specs.Refusals.{ValueFails}
+use Rattle.fidl_const.specs.Strings.{BoundFails}
+use Rattle.fidl_const.specs.Tables.{AreLimits, IsOwnConstraint, IsMemoryOr}
 use Rattle.fidl_const.proofs.Among.{among_flat, among_passed}
-use Rattle.fidl_const.proofs.Expressions.{tells_weaker}
+use Rattle.fidl_const.proofs.Expressions.{reports_weaker}
 use Rattle.fidl_const.proofs.bounds.own_limits.Goals as goal
 
-item_is : (found : List (Bor Value)) (i : ℕ) (item : Bor Value) → item ≡ get_or found i item → item.now ≡ get_or (map (λ v. v.now) found) i item.now
-item_is found i item is = ap (λ v. v.now) is ∙ sym (get_or-map (λ v. v.now) found i item)
+-- a value as the plain data that it represents
+abbrev seen : Bor Tree → Value
+seen v = value_view v.now
 
-module _ (f : File) (cs : Option Constraints) (found : List (Bor Value)) (i : ℕ) (item : Bor Value) (within : i < length found) (is : item ≡ get_or found i item) (whole : map (λ v. v.now) found ≡ items cs) where
+item_is : (found : List (Bor Tree)) (i : ℕ) (item : Bor Tree) → item ≡ get_or found i item → seen item ≡ get_or (seen_values found) i (seen item)
+item_is found i item is = ap seen is ∙ sym (get_or-map seen found i item)
+
+module _ (f : File) (cs : List Value) (found : List (Bor Tree)) (i : ℕ) (item : Bor Tree) (within : i < length found) (is : item ≡ get_or found i item) (whole : seen_values found ≡ cs) where
   -- a constraint that isn't the word `optional` is an ordinary one
-  among_ordinary : is_optional f item.now ≡ false → Contains (ordinary f cs) item.now
+  among_ordinary : is_optional f (seen item) ≡ false → Contains (ordinary f cs) (seen item)
   among_ordinary no_word =
-      let there : Contains (map (λ v. v.now) found) item.now = (i, omega (arith, within, length-map found (λ (v : Bor Value). v.now)), sym (item_is found i item is)) in
-      among_passed (λ v. not (is_optional f v)) (items cs) item.now (ap not no_word) (subst (λ l. Contains l item.now) whole there)
+      let there : Contains (seen_values found) (seen item) = (i, omega (arith, within, length-map found seen), sym (item_is found i item is)) in
+      among_passed (λ v. not (is_optional f v)) cs (seen item) (ap not no_word) (subst (λ l. Contains l (seen item)) whole there)
 
   -- the constraints up to it
-  taken : take (i + 1) (map (λ v. v.now) found) ≡ take i (map (λ v. v.now) found) ++ item.now ∷ []
+  taken : take (i + 1) (seen_values found) ≡ take i (seen_values found) ++ seen item ∷ []
   taken =
-      let vs = map (λ (v : Bor Value). v.now) found in
-      take_more vs i item.now (omega (arith, within, length-map found (λ (v : Bor Value). v.now))) ∙ ap (λ x. take i vs ++ x ∷ []) (sym (item_is found i item is))
+      let vs = seen_values found in
+      take_more vs i (seen item) (omega (arith, within, length-map found seen)) ∙ ap (λ x. take i vs ++ x ∷ []) (sym (item_is found i item is))
 
 pub with_constraint-requires-clause-settled : goal.with_constraint-requires-clause-settled
 with_constraint-requires-clause-settled c no_word path m h means known =
-    let f = c.args.file.now in
-    let cs = option_copied c.args.constraints in
-    let whole = ap (map (λ (v : Bor Value). v.now)) c.deref-value-items.ensures.value ∙ c.in_ok-items.ensures in
+    let f = c.args.scope.now.file.tree.now in
+    let cs = constraints_view (option_copied c.args.constraints) in
+    let whole = ap seen_values c.deref-value-items.ensures.value ∙ c.in_ok-items.ensures in
     let among = among_ordinary f cs c.deref-value-items.result.now c.loop-value.value-index c.value-item.result c.loop-value-test.true c.value-item.is whole no_word in
-    c.requires.settled path m (among_flat value_paths (ordinary f cs) c.value-item.result.now path among h) means known
+    c.requires.settled path m (among_flat value_paths (ordinary f cs) (seen c.value-item.result) path among h) means known
 
-pub returns-in_err-limits-clause-told : goal.returns-in_err-limits-clause-told
-returns-in_err-limits-clause-told c =
-    let files = c.args.scope.now.named.now in
-    let f = c.args.file.now in
-    let cs = option_copied c.args.constraints in
+pub returns-in_err-limits-clause-fault_is_true : goal.returns-in_err-limits-clause-fault_is_true
+returns-in_err-limits-clause-fault_is_true c =
+    let files = c.args.scope.now.file.named.now in
+    let f = c.args.scope.now.file.tree.now in
+    let cs = constraints_view (option_copied c.args.constraints) in
     let item = c.value-item.result in
-    let whole = ap (map (λ (v : Bor Value). v.now)) c.deref-value-items.ensures.value ∙ c.in_ok-items.ensures in
+    let whole = ap seen_values c.deref-value-items.ensures.value ∙ c.in_ok-items.ensures in
     let among = among_ordinary f cs c.deref-value-items.result.now c.loop-value.value-index item c.loop-value-test.true c.value-item.is whole in
-    let of_value = λ (fault : ConstFault). (is_optional f item.now ≡ false) × ValueFails files f c.args.number (ty.Number Uint32) fault item.now in
-    let fails = BoundFails files f c.args.number (ordinary f cs) in
-    let told : Tells fails c.in_err-limits.field-0.0 = tells_weaker of_value fails (λ fault h. record { value = item.now; among = among h.0; fails = h.1 }) _ c.in_err-limits.ensures.told in
+    let of_value = λ (fault : ConstFault). (is_optional f (seen item) ≡ false) × ValueFails files f c.args.scope.now.file.file_index (ty.Number Uint32) fault (seen item) in
+    let fails = BoundFails files f c.args.scope.now.file.file_index (ordinary f cs) in
+    let fault_is_true : IsMemoryOr fails c.in_err-limits.field-0.0 = reports_weaker of_value fails (λ fault h. record { value = seen item; among = among h.0; fails = h.1 }) _ c.in_err-limits.ensures.fault_is_true in
     let p = err_from_is_err_and c.from_residual-in_err-limits.result c.from_residual-in_err-limits.ensures.1 in
-    rw (p.1, p.2) told
+    rw (p.1, p.2) fault_is_true
 
 pub loop-value-preserved : goal.loop-value-preserved
 loop-value-preserved c =
-    let files = c.args.scope.now.named.now in
-    let f = c.args.file.now in
+    let files = c.args.scope.now.file.named.now in
+    let f = c.args.scope.now.file.tree.now in
     let found = c.deref-value-items.result.now in
     let i = c.loop-value.value-index in
-    let whole = ap (map (λ (v : Bor Value). v.now)) c.deref-value-items.ensures.value ∙ c.in_ok-items.ensures in
-    let its = taken f (option_copied c.args.constraints) found i c.value-item.result c.loop-value-test.true c.value-item.is whole in
-    subst (λ (l : List Value). AreLimits files (IsOwnConstraint c.args.number f l) c.in_ok-limits.limits) (sym its) (c.in_ok-limits.ensures.ok (take i (map (λ (v : Bor Value). v.now) found)) c.loop-value.invariant)
+    let whole = ap seen_values c.deref-value-items.ensures.value ∙ c.in_ok-items.ensures in
+    let its = taken f (constraints_view (option_copied c.args.constraints)) found i c.value-item.result c.loop-value-test.true c.value-item.is whole in
+    subst (λ (l : List Value). AreLimits files (IsOwnConstraint c.args.scope.now.file.file_index f l) c.in_ok-limits.limits) (sym its) (c.in_ok-limits.ensures.ok (take i (seen_values found)) c.loop-value.invariant)

@@ -2,7 +2,7 @@ use Rattle.std.proofs.Common.{rules, ◌≡◌, Bool, true, refl, sym, subst, �
 use Rattle.fidl_const.specs.declared.const_type.NumberKind.{NumberKind}
 use Rattle.fidl_const.specs.declared.const_type.ConstType.{ConstType}
 use Rattle.fidl_const.specs.declared.const_type.ConstType.TheVariants as ty
-use Rattle.fidl_const.specs.Known.{Suits}
+use Rattle.fidl_const.specs.PlainValues.{Suits}
 use Rattle.fidl_const.proofs.const_type.suits.Goals as goal
 
 -- the number of a member suits, and no other number of bits or an enum

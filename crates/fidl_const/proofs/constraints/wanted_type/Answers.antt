@@ -12,7 +12,7 @@ pub returns-in_default-get-clause-none : goal.returns-in_default-get-clause-none
 returns-in_default-get-clause-none c = λ _ p g n m h.
     let at = c.in-Some.at in
     let items = c.in-Resource.definition.properties.members.items in
-    let there = property_there c.args.named.now at.position c.in-Some-declaration_at.found.file.now c.in-Some-declaration_at.found.declaration.now c.in-Resource.definition (Some c.args.end) c.args.rank at.number
+    let there = property_there c.args.named.now at.id c.in-Some-declaration_at.found.file.now c.in-Some-declaration_at.found.declaration.now c.in-Resource.definition (Some c.args.end) c.args.rank at.number
     c.in-Some-declaration_at.ensures.found c.in-Resource.is c.in-Some.ensures.found in
     let within : at.number < length items = slice_get_within items at.number c.in-Some.ensures.found.member there in
     let past = c.in_default-get.ensures.lookup in
@@ -27,11 +27,11 @@ returns-clause-found c =
     let found : slice_get members at.number ≡ Some c.in-Some-get.property.now = slice_get_read members (length members) at.number c.in-Some-get.property.now refl (ltb-true at.number (length members) (sym look.0)) look.1 in
     let there = subst (λ l. slice_get l at.number ≡ Some c.in-Some-get.property.now) c.deref.ensures.value found in
     record {
-      position = at.position;
+      id = at.id;
       file = c.in-Some-declaration_at.found.file.now;
       number = at.number;
       property = c.in-Some-get.property.now;
-      is_for = property_is c.args.named.now at.position c.in-Some-declaration_at.found.file.now c.in-Some-declaration_at.found.declaration.now c.in-Resource.definition (Some c.args.end) c.args.rank at.number
+      is_for = property_is c.args.named.now at.id c.in-Some-declaration_at.found.file.now c.in-Some-declaration_at.found.declaration.now c.in-Resource.definition (Some c.args.end) c.args.rank at.number
           c.in-Some-declaration_at.ensures.found c.in-Resource.is c.in-Some.ensures.found c.in-Some-get.property.now there;
       is = c.in_ok-wanted.ensures;
     }

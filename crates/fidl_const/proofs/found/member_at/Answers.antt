@@ -12,7 +12,7 @@ returns-in_err-found-clause-none c = λ _ f l m h at. c.in_err-found.ensures.non
 pub returns-in_err-member-clause-none : goal.returns-in_err-member-clause-none
 returns-in_err-member-clause-none c = λ _ f l m h at.
     let found = c.in_ok-found.found in
-    let same : l ≡ found.layout.now = one_layout c.args.named.now c.args.position f found.file.now l found.layout.now h c.in_ok-found.ensures.found in
+    let same : l ≡ found.layout.now = one_layout c.args.named.now c.args.id f found.file.now l found.layout.now h c.in_ok-found.ensures.found in
     let within : c.args.number < length (out-ValuesLayout found.layout.now).members.items =
     subst (λ (l : ValuesLayout). c.args.number < length (out-ValuesLayout l).members.items) same (slice_get_within (out-ValuesLayout l).members.items c.args.number m at) in
     let past = c.in_err-member.ensures.lookup in

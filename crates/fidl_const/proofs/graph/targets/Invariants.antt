@@ -6,4 +6,4 @@ use Rattle.fidl_const.proofs.graph.targets.Given as goal
 
 -- the numbers of what the names so far mean
 abbrev pub invariant-loop-name : goal.invariant-loop-name
-invariant-loop-name l = (f : File) → slice_get l.named l.number ≡ Some f → AreTargets l.named f l.numbers.starts.items (take l.name-index (seen_uses l.uses)) l.row.items
+invariant-loop-name l = (f : File) → slice_get l.named l.file_index ≡ Some f → AreTargets l.named f l.numbers.starts.items (take l.name-index (seen_uses l.uses)) l.row.items

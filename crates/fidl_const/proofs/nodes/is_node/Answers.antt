@@ -5,18 +5,18 @@ use Rattle.fidl_tree.specs.declared.file.File.{File}
 use Rattle.fidl_tree.specs.declared.value_member.ValueMember.{ValueMember}
 use Rattle.fidl_tree.specs.declared.declaration.Declaration.{Declaration}
 use Rattle.fidl_tree.specs.declared.type_constructor.ValuesLayout.{ValuesLayout, out-ValuesLayout}
-use Rattle.fidl_names.specs.declared.place.Position.{Position}
+use Rattle.fidl_names.specs.declared.place.DeclarationId.{DeclarationId}
 use Rattle.fidl_names.specs.declared.meaning.Meaning.TheVariants as meaning
-use Rattle.fidl_names.specs.Items.{StandsAt}
+use Rattle.fidl_names.specs.Constraints.{IsDeclarationAt}
 use Rattle.fidl_const.specs.declared.found.FoundDeclaration.{FoundDeclaration}
 use Rattle.fidl_const.specs.declared.found.FoundMember.{FoundMember}
 use Rattle.fidl_const.specs.Types.{IsValuesAt}
-use Rattle.fidl_const.specs.Uses.{IsKnownNode}
+use Rattle.fidl_const.specs.Dependencies.{IsKnownNode}
 use Rattle.fidl_const.proofs.NumberedNodes.{declared_node, member_node, known_declaration, known_member}
 use Rattle.fidl_const.proofs.nodes.is_node.Goals as goal
 
-module _ (files : List File) (p : Position) where
-  declaration_found : (o : Option FoundDeclaration) → IfSome o (λ (x : FoundDeclaration). StandsAt files p x.file.now x.declaration.now) → (IsNone o → (f : File) (d : Declaration) → StandsAt files p f d → ⊥)
+module _ (files : List File) (p : DeclarationId) where
+  declaration_found : (o : Option FoundDeclaration) → IfSome o (λ (x : FoundDeclaration). IsDeclarationAt files p x.file.now x.declaration.now) → (IsNone o → (f : File) (d : Declaration) → IsDeclarationAt files p f d → ⊥)
       → (IsTrue (is_some o) → IsKnownNode files (meaning.Declared p)) × (IsKnownNode files (meaning.Declared p) → IsTrue (is_some o))
   declaration_found None at none = (λ h. absurd (true≢false (sym h)), λ k. let it = declared_node files p k in absurd (none refl it.0 it.1 it.2))
   declaration_found (Some x) at none = (λ h. known_declaration files p x.file.now x.declaration.now at, λ k. refl)
@@ -30,7 +30,7 @@ module _ (files : List File) (p : Position) where
 
 pub returns-in-Declared : goal.returns-in-Declared
 returns-in-Declared c =
-    rw (c.is_some.ensures, c.in-Declared.is) (declaration_found c.args.named.now c.in-Declared.position c.declaration_at.result c.declaration_at.ensures.found c.declaration_at.ensures.none)
+    rw (c.is_some.ensures, c.in-Declared.is) (declaration_found c.args.named.now c.in-Declared.id c.declaration_at.result c.declaration_at.ensures.found c.declaration_at.ensures.none)
 
 pub returns-in-Member : goal.returns-in-Member
 returns-in-Member c =

@@ -1,13 +1,13 @@
 use Rattle.std.proofs.Common.{◌≡◌, ◌+◌, ◌++◌, ◌∷◌, [], ◌<◌, ℕ, List, length, take, ap, sym, ◌∙◌, append_assoc, length-append, arith}
 use Rattle.std.proofs.lemmas.List.{take_more, length-take-le}
-use Rattle.fidl_names.proofs.Positions.{at}
+use Rattle.fidl_names.proofs.FullNames.{at}
 use Rattle.fidl_const.specs.Tables.{member_list, nodes_of, nodes_in, starts_in}
 use Rattle.fidl_const.proofs.NumberedNodes.{nodes_more, starts_more}
 use Rattle.fidl_const.proofs.nodes.push_file.Goals as goal
 
 pub loop-index-preserved : goal.loop-index-preserved
 loop-index-preserved c =
-    let k = c.args.number in
+    let k = c.args.file_index in
     let i = c.loop-index.index in
     let xs = c.args.declarations.now in
     let d = c.index-declarations-index.result in

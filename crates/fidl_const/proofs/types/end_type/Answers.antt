@@ -6,10 +6,10 @@ pub returns-in-Predeclared : goal.returns-in-Predeclared
 returns-in-Predeclared c = rw (c.predeclared_type.ensures, c.in-Predeclared.is) (EndIs.predeclared c.in-Predeclared.name)
 
 pub returns-in-None : goal.returns-in-None
-returns-in-None c = rw c.in-Declared.is (EndIs.no_values c.in-Declared.position (c.in-None.ensures.none refl))
+returns-in-None c = rw c.in-Declared.is (EndIs.no_values c.in-Declared.id (c.in-None.ensures.none refl))
 
 pub returns-in-Some : goal.returns-in-Some
-returns-in-Some c = rw c.in-Declared.is (EndIs.values c.in-Declared.position c.in-Some.field-0.file.now c.in-Some.field-0.layout.now c.in-Some.ensures.found)
+returns-in-Some c = rw c.in-Declared.is (EndIs.values c.in-Declared.id c.in-Some.field-0.file.now c.in-Some.field-0.layout.now c.in-Some.ensures.found)
 
 pub returns-in-Member : goal.returns-in-Member
 returns-in-Member c = elim c.in-Member.is as (λ _. EndIs c.args.named.now c.args.end None) [

@@ -2,13 +2,13 @@ use Rattle.std.proofs.Common.{◌≡◌, ℕ, List, Option, Some, None, true, re
 use Rattle.std.specs.Prelude.{IfSome, IsNone, IsSomeAnd}
 use Rattle.fidl_tree.specs.declared.file.File.{File}
 use Rattle.fidl_tree.specs.declared.type_constructor.ValuesLayout.{ValuesLayout, out-ValuesLayout}
-use Rattle.fidl_names.specs.declared.place.Position.{Position}
+use Rattle.fidl_names.specs.declared.place.DeclarationId.{DeclarationId}
 use Rattle.fidl_const.specs.declared.const_type.NumberKind.{NumberKind}
 use Rattle.fidl_const.specs.declared.const_type.BitsOrEnum.TheVariants as layout
 use Rattle.fidl_const.specs.declared.const_type.ConstType.{ConstType}
 use Rattle.fidl_const.specs.declared.const_type.ConstType.TheVariants as ty
 use Rattle.fidl_const.specs.declared.found.FoundValues.{FoundValues}
-use Rattle.fidl_const.specs.Known.{is_unsigned}
+use Rattle.fidl_const.specs.PlainValues.{is_unsigned}
 use Rattle.fidl_const.specs.Types.{IsBits, IsValuesAt, IsPropertyValues, Joins}
 use Rattle.fidl_const.proofs.Standing.{one_layout, one_property_layout}
 use Rattle.fidl_const.proofs.types.joins.Goals as goal
@@ -33,18 +33,18 @@ module _ (files : List File) where
   number_joins t kind e (Joins.declared p f l at bits) = absurd (cc)
   number_joins t kind e (Joins.property p n f l at bits) = absurd (cc)
 
-  declared_joins : (t : ConstType) (p : Position) → t ≡ ty.Values (layout.Declared p) → Joins files t → (f : File) × (l : ValuesLayout) × IsValuesAt files p f l × IsBits (out-ValuesLayout l).keyword
+  declared_joins : (t : ConstType) (p : DeclarationId) → t ≡ ty.Values (layout.Declared p) → Joins files t → (f : File) × (l : ValuesLayout) × IsValuesAt files p f l × IsBits (out-ValuesLayout l).keyword
   declared_joins t p e (Joins.numbers k is) = absurd (cc)
-  declared_joins t p e (Joins.declared q f l at bits) = let same : q ≡ p = cc in (f, l, subst (λ (r : Position). IsValuesAt files r f l) same at, bits)
+  declared_joins t p e (Joins.declared q f l at bits) = let same : q ≡ p = cc in (f, l, subst (λ (r : DeclarationId). IsValuesAt files r f l) same at, bits)
   declared_joins t p e (Joins.property q n f l at bits) = absurd (cc)
 
-  property_joins : (t : ConstType) (p : Position) (n : ℕ) → t ≡ ty.Values (layout.Property p n) → Joins files t → (f : File) × (l : ValuesLayout) × IsPropertyValues files p n f l × IsBits (out-ValuesLayout l).keyword
+  property_joins : (t : ConstType) (p : DeclarationId) (n : ℕ) → t ≡ ty.Values (layout.Property p n) → Joins files t → (f : File) × (l : ValuesLayout) × IsPropertyValues files p n f l × IsBits (out-ValuesLayout l).keyword
   property_joins t p n e (Joins.numbers k is) = absurd (cc)
   property_joins t p n e (Joins.declared q f l at bits) = absurd (cc)
   property_joins t p n e (Joins.property q m f l at bits) =
       let same : q ≡ p = cc in
       let number : m ≡ n = cc in
-      (f, l, subst (λ (k : ℕ). IsPropertyValues files p k f l) number (subst (λ (r : Position). IsPropertyValues files r m f l) same at), bits)
+      (f, l, subst (λ (k : ℕ). IsPropertyValues files p k f l) number (subst (λ (r : DeclarationId). IsPropertyValues files r m f l) same at), bits)
 
 pub returns-in-Number : goal.returns-in-Number
 returns-in-Number c =
@@ -54,7 +54,7 @@ returns-in-Number c =
 pub returns-in-Declared : goal.returns-in-Declared
 returns-in-Declared c =
     let fs = c.args.named.now in
-    let p = c.in-Declared.position in
+    let p = c.in-Declared.id in
     let o = c.values_at.result in
     let e : c.args.wanted ≡ ty.Values (layout.Declared p) = c.in-Values.is ∙ ap ty.Values c.in-Declared.is in (
       λ h. let there = bits_there (IsValuesAt fs p) o c.values_at.ensures.found (c.are_bits.ensures.0 h) in rw e (Joins.declared p there.0 there.1 there.2 there.3),

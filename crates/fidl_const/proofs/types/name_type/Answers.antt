@@ -1,17 +1,19 @@
 use Rattle.std.proofs.Common.{Option, subst}
 use Rattle.fidl_names.specs.declared.meaning.Wanted.TheVariants as wanted
 use Rattle.fidl_names.specs.declared.meaning.Meaning.{Meaning}
-use Rattle.fidl_names.specs.Meanings.{components, Means, IsJust}
+use Rattle.fidl_names.specs.Meanings.{Means, IsJust}
+use Rattle.fidl_names.specs.OuterTypes.{texts}
+use Rattle.fidl_tree.specs.Views.{path_view}
 use Rattle.fidl_const.specs.Types.{NameIs}
 use Rattle.fidl_const.proofs.types.name_type.Goals as goal
 
 pub returns-in-None : goal.returns-in-None
 returns-in-None c =
-    let f = c.args.file.now in
-    NameIs.unmeant (subst (λ (o : Option Meaning). IsJust (Means c.args.named.now f wanted.«Type» (components f.src.now c.args.path.now)) o) c.in-None.is (c.in_ok-find.ensures f c.requires))
+    let f = c.args.file.now.tree.now in
+    NameIs.unmeant (subst (λ (o : Option Meaning). IsJust (Means c.args.file.now.named.now f wanted.«Type» (texts f.src.now (path_view c.args.path.now))) o) c.in-None.is (c.in_ok-find.ensures f c.args.file.now.in_set))
 
 pub returns-in-Some : goal.returns-in-Some
 returns-in-Some c =
-    let f = c.args.file.now in
-    let just = subst (λ (o : Option Meaning). IsJust (Means c.args.named.now f wanted.«Type» (components f.src.now c.args.path.now)) o) c.in-Some.is (c.in_ok-find.ensures f c.requires) in
-    NameIs.meant c.in-Some.meaning c.behind.result c.end_type.result just.0 c.behind.ensures c.end_type.ensures
+    let f = c.args.file.now.tree.now in
+    let just = subst (λ (o : Option Meaning). IsJust (Means c.args.file.now.named.now f wanted.«Type» (texts f.src.now (path_view c.args.path.now))) o) c.in-Some.is (c.in_ok-find.ensures f c.args.file.now.in_set) in
+    NameIs.meant c.in-Some.meaning c.resolved.result c.end_type.result just.0 c.resolved.ensures c.end_type.ensures

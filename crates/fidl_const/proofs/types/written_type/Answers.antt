@@ -1,5 +1,6 @@
 use Rattle.std.proofs.Common.{sym}
 use Rattle.std.proofs.lemmas.Result.{IfOk-weaker}
+use Rattle.fidl_tree.specs.Views.{path_view}
 use Rattle.fidl_const.specs.Types.{TypeIs}
 use Rattle.fidl_const.proofs.types.written_type.Goals as goal
 
@@ -7,4 +8,4 @@ pub returns-in-None : goal.returns-in-None
 returns-in-None c = TypeIs.written (sym c.in-None.ensures)
 
 pub returns-in-Some : goal.returns-in-Some
-returns-in-Some c = IfOk-weaker c.name_type.result _ _ (λ found h. TypeIs.named c.in-Some.path.now found (sym c.in-Some.ensures) h) c.name_type.ensures
+returns-in-Some c = IfOk-weaker c.name_type.result _ _ (λ found h. TypeIs.named (path_view c.in-Some.path.now) found (sym c.in-Some.ensures) h) c.name_type.ensures

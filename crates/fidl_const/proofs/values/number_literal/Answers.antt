@@ -3,16 +3,16 @@ use Rattle.fidl_const.specs.declared.const_type.ConstType.{ConstType}
 use Rattle.std.specs.Prelude.{ℤ}
 use Rattle.fidl_const.specs.declared.const_type.NumberKind.{NumberKind}
 use Rattle.fidl_const.specs.declared.const_type.ConstType.TheVariants as ty
-use Rattle.fidl_const.specs.Known.{a_number, is_literal_of}
+use Rattle.fidl_const.specs.PlainValues.{a_number, is_literal_of}
 use Rattle.fidl_const.specs.Values.{signed_if}
 use Rattle.fidl_const.specs.Literals.{number_of}
-use Rattle.fidl_const.specs.Evaluated.{LiteralFails}
+use Rattle.fidl_const.specs.Refusals.{LiteralFails}
 use Rattle.fidl_const.specs.declared.fault.ConstFault.TheVariants.{OutOfRange}
 use Rattle.fidl_const.proofs.Ranges.{too_great_for_all}
 use Rattle.fidl_const.proofs.values.number_literal.Goals as goal
 
-pub returns-in-Number-clause-told : goal.returns-in-Number-clause-told
-returns-in-Number-clause-told c =
+pub returns-in-Number-clause-fault_is_true : goal.returns-in-Number-clause-fault_is_true
+returns-in-Number-clause-fault_is_true c =
     let k = a_number (signed_if c.args.minus (number_of c.args.text.now)) in
     subst (λ (t : ConstType). LiteralFails t k c.args.place (OutOfRange c.args.place)) (sym c.in-Number.is)
     (LiteralFails.range refl (λ h. too_great_for_all c.in-Number.field-0 c.args.minus _ (c.in-None.ensures.none refl) h))
@@ -24,4 +24,4 @@ other_literal ty.String z none h = cc
 other_literal (ty.Values values) z none h = cc
 
 pub returns-in_default : goal.returns-in_default
-returns-in_default c = record { ok = tt; told = LiteralFails.kind (other_literal c.args.wanted _ c.in_default.not-Number) }
+returns-in_default c = record { ok = tt; fault_is_true = LiteralFails.kind (other_literal c.args.wanted _ c.in_default.not-Number) }

@@ -1,5 +1,5 @@
 use Rattle.std.proofs.Common.{◌≡◌}
-use Rattle.fidl_names.specs.Rows.{own_meanings}
+use Rattle.fidl_names.specs.MeaningRows.{own_meanings}
 use Rattle.fidl_names.proofs.alias_ends.own_row.Given as goal
 
 -- those so far

@@ -5,24 +5,24 @@ use Rattle.std.proofs.lemmas.List.{map-append}
 use Rattle.fidl_names.specs.declared.meaning.Meaning.{Meaning}
 use Rattle.fidl_names.specs.declared.meaning.Meaning.TheVariants as meaning
 use Rattle.fidl_names.specs.Aliases.{rows_of}
-use Rattle.fidl_names.specs.Numbers.{positions_in}
+use Rattle.fidl_names.specs.DeclarationNumbers.{ids_in}
 use Rattle.fidl_names.proofs.Numbering.{length_in}
-use Rattle.fidl_names.proofs.Rows.{AreRowsTo, rows_more, rows_within}
+use Rattle.fidl_names.proofs.MeaningRows.{AreRowsTo, rows_more, rows_within}
 use Rattle.fidl_names.proofs.alias_ends.own_rows.Goals as goal
 
-pub loop-number-preserved : goal.loop-number-preserved
-loop-number-preserved c =
+pub loop-file_index-preserved : goal.loop-file_index-preserved
+loop-file_index-preserved c =
     let files = c.args.set.now in
-    let k = c.loop-number.number in
+    let k = c.loop-file_index.file_index in
     let f = c.file.result.now in
-    let rows = c.loop-number.rows.items in
+    let rows = c.loop-file_index.rows.items in
     let row = c.in_ok-row.row in
-    let long : length row.items ≡ length f.declarations.items = ap length c.in_ok-row.ensures ∙ length-map (positions_in k c.len.result) meaning.Declared ∙ length_in k c.len.result ∙ c.len.ensures ∙ f.declarations.ok.0 in
+    let long : length row.items ≡ length f.declarations.items = ap length c.in_ok-row.ensures ∙ length-map (ids_in k c.len.result) meaning.Declared ∙ length_in k c.len.result ∙ c.len.ensures ∙ f.declarations.ok.0 in
     let now : rows_of c.push.new.self.items ≡ rows_of rows ++ row.items ∷ [] = ap rows_of c.in_ok-push.ensures.items ∙ map-append (λ (v : Vec Meaning). v.items) rows (row ∷ []) in
-    subst (AreRowsTo files (k + 1)) (sym now) (rows_more files k (rows_of rows) row.items f c.loop-number.invariant c.file.ensures long)
+    subst (AreRowsTo files (k + 1)) (sym now) (rows_more files k (rows_of rows) row.items f c.loop-file_index.invariant c.file.ensures long)
 
 pub returns : goal.returns
 returns c =
-    let over = c.loop-number-test.false in
-    let long = c.count-number-end.ensures in
-    rows_within c.args.set.now c.loop-number.number (rows_of c.loop-number.rows.items) (omega (arith, over, long)) c.loop-number.invariant
+    let over = c.loop-file_index-test.false in
+    let long = c.count-file_index-end.ensures in
+    rows_within c.args.set.now c.loop-file_index.file_index (rows_of c.loop-file_index.rows.items) (omega (arith, over, long)) c.loop-file_index.invariant

@@ -1,7 +1,7 @@
 use Rattle.fidl_names.specs.Aliases.{rows_of}
-use Rattle.fidl_names.proofs.Rows.{AreRowsTo}
+use Rattle.fidl_names.proofs.MeaningRows.{AreRowsTo}
 use Rattle.fidl_names.proofs.alias_ends.own_rows.Given as goal
 
 -- the rows of the files so far
-abbrev pub invariant-loop-number : goal.invariant-loop-number
-invariant-loop-number l = AreRowsTo l.set l.number (rows_of l.rows.items)
+abbrev pub invariant-loop-file_index : goal.invariant-loop-file_index
+invariant-loop-file_index l = AreRowsTo l.set l.file_index (rows_of l.rows.items)

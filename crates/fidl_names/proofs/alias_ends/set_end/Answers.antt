@@ -9,8 +9,8 @@ use Rattle.fidl_names.proofs.alias_ends.set_end.Goals as goal
 pub returns : goal.returns
 returns c =
     let ends = c.args.ends.now in
-    let p = c.args.position in
-    let row = c.index-ends-position.result in
+    let p = c.args.id in
+    let row = c.index-ends-id.result in
     let old = sym (get_or-map (λ (v : Vec Meaning). v.items) ends p.file row) ∙ get_or_default (rows_of ends) p.file row.items [] c.requires.0 in
     map-set (λ (v : Vec Meaning). v.items) ends p.file _
     ∙ ap (λ (l : List Meaning). set (rows_of ends) p.file (set l p.index c.args.end)) old

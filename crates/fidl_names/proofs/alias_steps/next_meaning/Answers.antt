@@ -1,32 +1,20 @@
 use Rattle.std.proofs.Common.{rules, ◌≡◌, Some, refl, ap, sym, ◌∙◌}
 use Rattle.fidl_tree.specs.declared.type_constructor.TypeConstructor.{the_lemmas}
 use Rattle.fidl_tree.specs.declared.type_constructor.NamedType.{NamedType, out-NamedType}
-use Rattle.fidl_names.specs.Imports.{visible, ImportsAreApart}
 use Rattle.fidl_names.specs.Aliases.{type_path}
-use Rattle.fidl_names.proofs.Layouts.{all_at}
 use Rattle.fidl_names.proofs.Readings.{ok_iff}
-use Rattle.fidl_names.proofs.AliasFacts.{seen_at, means_follows, follows_means, follows_alias}
+use Rattle.fidl_names.proofs.AliasFacts.{means_follows, follows_means, follows_alias}
 use Rattle.fidl_names.proofs.alias_steps.next_meaning.Goals as goal
-
-pub read_type-requires-clause-sees : goal.read_type-requires-clause-sees
-read_type-requires-clause-sees c =
-    let found = c.in-Some.ensures.found in
-    seen_at _ visible c.args.sights.now c.args.set.now c.args.position.file c.index-sights-position.result c.in-Some.found.file.now c.requires.sees found.file_at c.index-sights-position.is
-
-pub read_type-requires-clause-names : goal.read_type-requires-clause-names
-read_type-requires-clause-names c =
-    let found = c.in-Some.ensures.found in
-    all_at ImportsAreApart c.args.set.now c.args.position.file c.in-Some.found.file.now c.requires.apart found.file_at
 
 pub returns-in-None : goal.returns-in-None
 returns-in-None c = λ x h.
-    let k = follows_alias c.args.set.now c.args.position x h in
+    let k = follows_alias c.args.names.now.set.now c.args.id x h in
     c.in-None.ensures.none refl k.0 k.1 k.2
 
 pub returns-in-Named : goal.returns-in-Named
 returns-in-Named c =
-    let set = c.args.set.now in
-    let p = c.args.position in
+    let set = c.args.names.now.set.now in
+    let p = c.args.id in
     let f = c.in-Some.found.file.now in
     let a = c.in-Some.found.alias.now in
     let path = (out-NamedType c.deref.result.now).path in

@@ -2,8 +2,10 @@ use Rattle.std.proofs.Common.{◌≡◌, ◌++◌, ◌<◌, ◌∷◌, [], Bor, 
 use Rattle.std.specs.Global.{Vec}
 use Rattle.std.proofs.lemmas.List.{map-append}
 use Rattle.std.proofs.Math.ListN.{get_or-map, length-map}
-use Rattle.fidl_tree.specs.declared.value.Value.{Value}
-use Rattle.fidl_names.specs.Items.{is_optional}
+use Rattle.fidl_tree.specs.Syntax.{Value}
+use Rattle.fidl_tree.specs.Views.{value_view}
+use Rattle.fidl_tree.specs.declared.value.Value.{Value as Tree}
+use Rattle.fidl_names.specs.Constraints.{is_optional}
 use Rattle.fidl_names.proofs.Judging.{passes, fails}
 use Rattle.fidl_names.proofs.constraint_names.ordinary.Goals as goal
 use Rattle.fidl_names.proofs.constraint_names.ordinary.Goals.{then-not-branch+in_ok-push, else-not-branch}
@@ -11,7 +13,7 @@ use Rattle.fidl_names.proofs.constraint_names.ordinary.Goals.{then-not-branch+in
 pub loop-value-preserved : goal.loop-value-preserved
 loop-value-preserved c =
     let f = c.args.file.now in
-    let seen = λ (v : Bor Value). v.now in
+    let seen = λ (v : Bor Tree). value_view v.now in
     let test = λ (v : Value). not (is_optional f v) in
     let all = c.deref-value-items.result.now in
     let xs = map seen all in
@@ -19,17 +21,17 @@ loop-value-preserved c =
     let item = c.value-item.result in
     let lt = c.loop-value-test.true in
     let within : i < length xs = omega (arith, length-map all seen) in
-    let is : item.now ≡ get_or xs i item.now = ap seen c.value-item.is ∙ sym (get_or-map seen all i item) in
-    let word : c.in_ok-is_optional.field-0 ≡ is_optional f item.now = c.in_ok-is_optional.ensures in
+    let is : (seen item) ≡ get_or xs i (seen item) = ap seen c.value-item.is ∙ sym (get_or-map seen all i item) in
+    let word : c.in_ok-is_optional.field-0 ≡ is_optional f (seen item) = c.in_ok-is_optional.ensures in
     elim c.if-not-branch.branch [
       | then-not-branch+in_ok-push w ↦
-          ap (λ (v : Vec (Bor Value)). map seen v.items) w.found-is
+          ap (λ (v : Vec (Bor Tree)). map seen v.items) w.found-is
           ∙ ap (map seen) w.in_ok-push.ensures.items
           ∙ map-append seen c.loop-value.found.items (item ∷ [])
-          ∙ ap (λ l. l ++ item.now ∷ []) c.loop-value.invariant
-          ∙ sym (passes xs i item.now is test within (ap not (sym word ∙ w.if-not-branch.true)))
+          ∙ ap (λ l. l ++ seen item ∷ []) c.loop-value.invariant
+          ∙ sym (passes xs i (seen item) is test within (ap not (sym word ∙ w.if-not-branch.true)))
       | else-not-branch w ↦
-          ap (λ (v : Vec (Bor Value)). map seen v.items) w.found-is
+          ap (λ (v : Vec (Bor Tree)). map seen v.items) w.found-is
           ∙ c.loop-value.invariant
-          ∙ sym (fails xs i item.now is test within (ap not (sym word ∙ w.if-not-branch.false)))
+          ∙ sym (fails xs i (seen item) is test within (ap not (sym word ∙ w.if-not-branch.false)))
     ]

@@ -4,8 +4,8 @@ use Rattle.std.proofs.lemmas.List.{take_all}
 use Rattle.fidl_tree.specs.declared.file.Import.{Import}
 use Rattle.fidl_names.specs.Names.{path_text, library_of}
 use Rattle.fidl_names.specs.Imports.{IsEntry}
-use Rattle.fidl_names.specs.Seen.{seen}
-use Rattle.fidl_names.proofs.Positions.{one_entry}
+use Rattle.fidl_names.specs.NameMaps.{seen}
+use Rattle.fidl_names.proofs.FullNames.{one_entry}
 use Rattle.fidl_names.proofs.LibraryNumbers.{any_more}
 use Rattle.fidl_names.proofs.import_cycles.find_import.Goals as goal
 

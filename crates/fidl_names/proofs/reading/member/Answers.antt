@@ -1,24 +1,24 @@
-use Rattle.std.proofs.Common.{◌≡◌, List, ℕ, Some, map, ap, sym, subst, ◌∙◌, refl}
+use Rattle.std.proofs.Common.{◌≡◌, List, ℕ, Some, sym, subst, ◌∙◌, refl}
 use Rattle.std.specs.Prelude.{slice_get}
-use Rattle.fidl_tree.specs.declared.value_member.ValueMember.{ValueMember}
 use Rattle.fidl_names.specs.declared.meaning.Meaning.TheVariants as meaning
-use Rattle.fidl_names.specs.Positions.{IsDeclared}
+use Rattle.fidl_names.specs.FullNames.{IsDeclared}
 use Rattle.fidl_names.specs.Meanings.{joined_name, member_names, IsMember}
-use Rattle.fidl_names.proofs.Members.{name_in, member_only}
+use Rattle.fidl_names.proofs.Members.{member_only, member_none}
+use Rattle.fidl_names.proofs.MemberNumbers.{number_stands, number_nowhere}
 use Rattle.fidl_names.proofs.reading.member.Goals as goal
 
 pub returns : goal.returns
 returns c =
     let set = c.args.set.now in
     let x = c.in-Some.found in
-    let i = c.in-Some-member_number.number in
+    let i = c.in-Some-value_number.number in
     let wanted = joined_name c.args.library.now c.args.type_name.now in
     let full : c.deref.result.now ≡ wanted = c.deref.ensures.value ∙ c.in_ok-full.ensures in
-    let declared = subst (λ (l : List ℕ). IsDeclared set l x.position x.file.now x.declaration.now) full c.in-Some.ensures.found in
+    let declared = subst (λ (l : List ℕ). IsDeclared set l x.id x.file.now x.declaration.now) full c.in-Some.ensures.found in
     let name : slice_get (member_names x.file.now x.declaration.now) i ≡ Some c.args.name.now =
-    ap (λ (ms : List ValueMember). slice_get (map (name_in x.file.now.src.now) ms) i) (sym c.value_members-members.ensures) ∙ c.in-Some-member_number.ensures.found in
-    let member : IsMember set c.args.library.now c.args.type_name.now c.args.name.now (meaning.Member x.position i) = record {
-      position = x.position;
+    number_stands c.args.name.now (member_names x.file.now x.declaration.now) i (sym c.in-Some-value_number.ensures) in
+    let member : IsMember set c.args.library.now c.args.type_name.now c.args.name.now (meaning.Member x.id i) = record {
+      id = x.id;
       file = x.file.now;
       declaration = x.declaration.now;
       number = i;
@@ -27,7 +27,18 @@ returns c =
       means = refl;
     } in (
       member,
-      member_only set c.args.library.now c.args.type_name.now c.args.name.now x.position x.file.now x.declaration.now i declared
-          (c.requires wanted x.position x.file.now x.declaration.now declared) name
+      member_only set c.args.library.now c.args.type_name.now c.args.name.now x.id x.file.now x.declaration.now i declared
+          (c.requires wanted x.id x.file.now x.declaration.now declared) name
           (λ q g e h. c.in-Some.ensures.only q g e (subst (λ (l : List ℕ). IsDeclared set l q g e) (sym full) h)),
     )
+
+pub returns-in-None-value_number : goal.returns-in-None-value_number
+returns-in-None-value_number c = λ m h.
+    let set = c.args.set.now in
+    let x = c.in-Some.found in
+    let wanted = joined_name c.args.library.now c.args.type_name.now in
+    let full : c.deref.result.now ≡ wanted = c.deref.ensures.value ∙ c.in_ok-full.ensures in
+    let declared = subst (λ (l : List ℕ). IsDeclared set l x.id x.file.now x.declaration.now) full c.in-Some.ensures.found in
+    member_none set c.args.library.now c.args.type_name.now c.args.name.now x.id x.file.now x.declaration.now declared
+    (λ q g e k. c.in-Some.ensures.only q g e (subst (λ (l : List ℕ). IsDeclared set l q g e) (sym full) k))
+    (number_nowhere c.args.name.now (member_names x.file.now x.declaration.now) (sym c.in-None-value_number.ensures)) m h

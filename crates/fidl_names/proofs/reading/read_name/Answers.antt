@@ -9,14 +9,14 @@ use Rattle.fidl_names.specs.declared.meaning.Meaning.{Meaning}
 use Rattle.fidl_names.specs.declared.meaning.Wanted.TheVariants as wanted
 use Rattle.fidl_names.specs.Names.{library_of, part_text}
 use Rattle.fidl_names.specs.Imports.{visible}
-use Rattle.fidl_names.specs.Meanings.{components, names_in, dotted, IsSimple, IsImported, IsMemberBehind, IsJust, Means, IsTrueOfName}
-use Rattle.fidl_names.proofs.Components.{no_items, names_in-last, dotted-names_in, no_member_alone, no_value, just_value, read_ok, read_told}
+use Rattle.fidl_names.specs.Meanings.{components, names_in, dotted, IsSimple, IsImported, IsMemberAfter, IsJust, Means, IsTrueOfName}
+use Rattle.fidl_names.proofs.Components.{no_items, names_in-last, dotted-names_in, no_member_alone, no_value, just_value, read_ok, read_reported}
 use Rattle.fidl_names.proofs.reading.read_name.Goals as goal
 
 pub returns-then-count-eq0-clause-ok : goal.returns-then-count-eq0-clause-ok
 returns-then-count-eq0-clause-ok c =
-    let set = c.args.set.now in
-    let f = c.args.file.now in
+    let set = c.args.scope.now.names.set.now in
+    let f = c.args.scope.now.file.now in
     let src = f.src.now in
     let p = c.args.path.now in
     let kind = c.args.wanted in
@@ -27,12 +27,12 @@ returns-then-count-eq0-clause-ok c =
     let a = subst (λ (t : List ℕ). IsJust (IsSimple set (library_of f) kind t) c.in_ok-reading.reading) c.text.ensures.bytes
     (subst (λ (l : List ℕ). IsJust (IsSimple set l kind c.text.result.now) c.in_ok-reading.reading) library c.in_ok-reading.ensures) in
     let b = no_member_alone set f kind n in
-    subst (λ (r : Result Meaning NameFault). IfOk r (Means set f kind (components src p))) (sym c.one_of.ensures) (read_ok set f kind [] n (components src p) is c.in_ok-reading.reading None a b (record { file = c.args.number; span = c.path_span-span.result }))
+    subst (λ (r : Result Meaning NameFault). IfOk r (Means set f kind (components src p))) (sym c.one_of.ensures) (read_ok set f kind [] n (components src p) is c.in_ok-reading.reading None a b (record { file = c.args.scope.now.file_index; span = c.path_span-span.result }))
 
-pub returns-then-count-eq0-clause-told : goal.returns-then-count-eq0-clause-told
-returns-then-count-eq0-clause-told c =
-    let set = c.args.set.now in
-    let f = c.args.file.now in
+pub returns-then-count-eq0-clause-fault_is_true : goal.returns-then-count-eq0-clause-fault_is_true
+returns-then-count-eq0-clause-fault_is_true c =
+    let set = c.args.scope.now.names.set.now in
+    let f = c.args.scope.now.file.now in
     let src = f.src.now in
     let p = c.args.path.now in
     let kind = c.args.wanted in
@@ -43,12 +43,12 @@ returns-then-count-eq0-clause-told c =
     let a = subst (λ (t : List ℕ). IsJust (IsSimple set (library_of f) kind t) c.in_ok-reading.reading) c.text.ensures.bytes
     (subst (λ (l : List ℕ). IsJust (IsSimple set l kind c.text.result.now) c.in_ok-reading.reading) library c.in_ok-reading.ensures) in
     let b = no_member_alone set f kind n in
-    subst (λ (r : Result Meaning NameFault). IfErr r (IsTrueOfName set f c.args.number kind p)) (sym c.one_of.ensures) (read_told set f kind [] n c.args.number p is c.in_ok-reading.reading None a b (record { file = c.args.number; span = c.path_span-span.result }) (ap (λ (s : Span). let q : Place = record { file = c.args.number; span = s } in q) c.path_span-span.ensures))
+    subst (λ (r : Result Meaning NameFault). IfErr r (IsTrueOfName set f c.args.scope.now.file_index kind p)) (sym c.one_of.ensures) (read_reported set f kind [] n c.args.scope.now.file_index p is c.in_ok-reading.reading None a b (record { file = c.args.scope.now.file_index; span = c.path_span-span.result }) (ap (λ (s : Span). let q : Place = record { file = c.args.scope.now.file_index; span = s } in q) c.path_span-span.ensures))
 
 pub returns-then-not-wants_value-clause-ok : goal.returns-then-not-wants_value-clause-ok
 returns-then-not-wants_value-clause-ok c =
-    let set = c.args.set.now in
-    let f = c.args.file.now in
+    let set = c.args.scope.now.names.set.now in
+    let f = c.args.scope.now.file.now in
     let src = f.src.now in
     let p = c.args.path.now in
     let kind = c.args.wanted in
@@ -63,15 +63,14 @@ returns-then-not-wants_value-clause-ok c =
     let is : components src p ≡ front ++ n ∷ [] = names_in-last f p.first ps i c.index.result.now long ∙ ap (λ (t : List ℕ). front ++ t ∷ []) last in
     let text : c.deref-3.result.now ≡ dotted front =
     c.deref-3.ensures.value ∙ c.in_ok-front.ensures ∙ ap (λ (qs : List PathPart). text_at src p.first ++ flat_map (part_text src) (take i qs)) c.deref-2.ensures.value ∙ dotted-names_in f p.first (take i ps) in
-    let a = subst (λ (l : List ℕ). IsJust (IsImported set (visible f) kind l n) c.in_ok-declared.declared) text
-    (subst (λ (ls : List (List ℕ × List ℕ)). IsJust (IsImported set ls kind c.deref-3.result.now n) c.in_ok-declared.declared) c.requires.sees c.in_ok-declared.ensures) in
+    let a = subst (λ (l : List ℕ). IsJust (IsImported set (visible f) kind l n) c.in_ok-declared.declared) text c.in_ok-declared.ensures in
     let b = no_value set f kind front n (λ h. absurd (true≢false (sym (c.wants_value.ensures.1 h) ∙ c.if-not-wants_value.true))) in
-    subst (λ (r : Result Meaning NameFault). IfOk r (Means set f kind (components src p))) (sym c.one_of-then-not-wants_value.ensures) (read_ok set f kind front n (components src p) is c.in_ok-declared.declared None a b (record { file = c.args.number; span = c.path_span-span.result }))
+    subst (λ (r : Result Meaning NameFault). IfOk r (Means set f kind (components src p))) (sym c.one_of-then-not-wants_value.ensures) (read_ok set f kind front n (components src p) is c.in_ok-declared.declared None a b (record { file = c.args.scope.now.file_index; span = c.path_span-span.result }))
 
-pub returns-then-not-wants_value-clause-told : goal.returns-then-not-wants_value-clause-told
-returns-then-not-wants_value-clause-told c =
-    let set = c.args.set.now in
-    let f = c.args.file.now in
+pub returns-then-not-wants_value-clause-fault_is_true : goal.returns-then-not-wants_value-clause-fault_is_true
+returns-then-not-wants_value-clause-fault_is_true c =
+    let set = c.args.scope.now.names.set.now in
+    let f = c.args.scope.now.file.now in
     let src = f.src.now in
     let p = c.args.path.now in
     let kind = c.args.wanted in
@@ -86,15 +85,14 @@ returns-then-not-wants_value-clause-told c =
     let is : components src p ≡ front ++ n ∷ [] = names_in-last f p.first ps i c.index.result.now long ∙ ap (λ (t : List ℕ). front ++ t ∷ []) last in
     let text : c.deref-3.result.now ≡ dotted front =
     c.deref-3.ensures.value ∙ c.in_ok-front.ensures ∙ ap (λ (qs : List PathPart). text_at src p.first ++ flat_map (part_text src) (take i qs)) c.deref-2.ensures.value ∙ dotted-names_in f p.first (take i ps) in
-    let a = subst (λ (l : List ℕ). IsJust (IsImported set (visible f) kind l n) c.in_ok-declared.declared) text
-    (subst (λ (ls : List (List ℕ × List ℕ)). IsJust (IsImported set ls kind c.deref-3.result.now n) c.in_ok-declared.declared) c.requires.sees c.in_ok-declared.ensures) in
+    let a = subst (λ (l : List ℕ). IsJust (IsImported set (visible f) kind l n) c.in_ok-declared.declared) text c.in_ok-declared.ensures in
     let b = no_value set f kind front n (λ h. absurd (true≢false (sym (c.wants_value.ensures.1 h) ∙ c.if-not-wants_value.true))) in
-    subst (λ (r : Result Meaning NameFault). IfErr r (IsTrueOfName set f c.args.number kind p)) (sym c.one_of-then-not-wants_value.ensures) (read_told set f kind front n c.args.number p is c.in_ok-declared.declared None a b (record { file = c.args.number; span = c.path_span-span.result }) (ap (λ (s : Span). let q : Place = record { file = c.args.number; span = s } in q) c.path_span-span.ensures))
+    subst (λ (r : Result Meaning NameFault). IfErr r (IsTrueOfName set f c.args.scope.now.file_index kind p)) (sym c.one_of-then-not-wants_value.ensures) (read_reported set f kind front n c.args.scope.now.file_index p is c.in_ok-declared.declared None a b (record { file = c.args.scope.now.file_index; span = c.path_span-span.result }) (ap (λ (s : Span). let q : Place = record { file = c.args.scope.now.file_index; span = s } in q) c.path_span-span.ensures))
 
 pub returns-clause-ok : goal.returns-clause-ok
 returns-clause-ok c =
-    let set = c.args.set.now in
-    let f = c.args.file.now in
+    let set = c.args.scope.now.names.set.now in
+    let f = c.args.scope.now.file.now in
     let src = f.src.now in
     let p = c.args.path.now in
     let kind = c.args.wanted in
@@ -109,17 +107,16 @@ returns-clause-ok c =
     let is : components src p ≡ front ++ n ∷ [] = names_in-last f p.first ps i c.index.result.now long ∙ ap (λ (t : List ℕ). front ++ t ∷ []) last in
     let text : c.deref-3.result.now ≡ dotted front =
     c.deref-3.ensures.value ∙ c.in_ok-front.ensures ∙ ap (λ (qs : List PathPart). text_at src p.first ++ flat_map (part_text src) (take i qs)) c.deref-2.ensures.value ∙ dotted-names_in f p.first (take i ps) in
-    let a = subst (λ (l : List ℕ). IsJust (IsImported set (visible f) kind l n) c.in_ok-declared.declared) text
-    (subst (λ (ls : List (List ℕ × List ℕ)). IsJust (IsImported set ls kind c.deref-3.result.now n) c.in_ok-declared.declared) c.requires.sees c.in_ok-declared.ensures) in
+    let a = subst (λ (l : List ℕ). IsJust (IsImported set (visible f) kind l n) c.in_ok-declared.declared) text c.in_ok-declared.ensures in
     let value : kind ≡ wanted.Value = c.wants_value.ensures.0 c.if-not-wants_value.false in
-    let behind = subst (λ (qs : List PathPart). IsJust (IsMemberBehind set f (names_in f p.first (take i qs)) n) c.in_ok-member.member) c.deref-2.ensures.value c.in_ok-member.ensures in
-    let b = just_value set f kind front n value c.in_ok-member.member behind in
-    subst (λ (r : Result Meaning NameFault). IfOk r (Means set f kind (components src p))) (sym c.one_of-2.ensures) (read_ok set f kind front n (components src p) is c.in_ok-declared.declared c.in_ok-member.member a b (record { file = c.args.number; span = c.path_span-span.result }))
+    let resolved = subst (λ (qs : List PathPart). IsJust (IsMemberAfter set f (names_in f p.first (take i qs)) n) c.in_ok-member.member) c.deref-2.ensures.value c.in_ok-member.ensures in
+    let b = just_value set f kind front n value c.in_ok-member.member resolved in
+    subst (λ (r : Result Meaning NameFault). IfOk r (Means set f kind (components src p))) (sym c.one_of-2.ensures) (read_ok set f kind front n (components src p) is c.in_ok-declared.declared c.in_ok-member.member a b (record { file = c.args.scope.now.file_index; span = c.path_span-span.result }))
 
-pub returns-clause-told : goal.returns-clause-told
-returns-clause-told c =
-    let set = c.args.set.now in
-    let f = c.args.file.now in
+pub returns-clause-fault_is_true : goal.returns-clause-fault_is_true
+returns-clause-fault_is_true c =
+    let set = c.args.scope.now.names.set.now in
+    let f = c.args.scope.now.file.now in
     let src = f.src.now in
     let p = c.args.path.now in
     let kind = c.args.wanted in
@@ -134,9 +131,8 @@ returns-clause-told c =
     let is : components src p ≡ front ++ n ∷ [] = names_in-last f p.first ps i c.index.result.now long ∙ ap (λ (t : List ℕ). front ++ t ∷ []) last in
     let text : c.deref-3.result.now ≡ dotted front =
     c.deref-3.ensures.value ∙ c.in_ok-front.ensures ∙ ap (λ (qs : List PathPart). text_at src p.first ++ flat_map (part_text src) (take i qs)) c.deref-2.ensures.value ∙ dotted-names_in f p.first (take i ps) in
-    let a = subst (λ (l : List ℕ). IsJust (IsImported set (visible f) kind l n) c.in_ok-declared.declared) text
-    (subst (λ (ls : List (List ℕ × List ℕ)). IsJust (IsImported set ls kind c.deref-3.result.now n) c.in_ok-declared.declared) c.requires.sees c.in_ok-declared.ensures) in
+    let a = subst (λ (l : List ℕ). IsJust (IsImported set (visible f) kind l n) c.in_ok-declared.declared) text c.in_ok-declared.ensures in
     let value : kind ≡ wanted.Value = c.wants_value.ensures.0 c.if-not-wants_value.false in
-    let behind = subst (λ (qs : List PathPart). IsJust (IsMemberBehind set f (names_in f p.first (take i qs)) n) c.in_ok-member.member) c.deref-2.ensures.value c.in_ok-member.ensures in
-    let b = just_value set f kind front n value c.in_ok-member.member behind in
-    subst (λ (r : Result Meaning NameFault). IfErr r (IsTrueOfName set f c.args.number kind p)) (sym c.one_of-2.ensures) (read_told set f kind front n c.args.number p is c.in_ok-declared.declared c.in_ok-member.member a b (record { file = c.args.number; span = c.path_span-span.result }) (ap (λ (s : Span). let q : Place = record { file = c.args.number; span = s } in q) c.path_span-span.ensures))
+    let resolved = subst (λ (qs : List PathPart). IsJust (IsMemberAfter set f (names_in f p.first (take i qs)) n) c.in_ok-member.member) c.deref-2.ensures.value c.in_ok-member.ensures in
+    let b = just_value set f kind front n value c.in_ok-member.member resolved in
+    subst (λ (r : Result Meaning NameFault). IfErr r (IsTrueOfName set f c.args.scope.now.file_index kind p)) (sym c.one_of-2.ensures) (read_reported set f kind front n c.args.scope.now.file_index p is c.in_ok-declared.declared c.in_ok-member.member a b (record { file = c.args.scope.now.file_index; span = c.path_span-span.result }) (ap (λ (s : Span). let q : Place = record { file = c.args.scope.now.file_index; span = s } in q) c.path_span-span.ensures))

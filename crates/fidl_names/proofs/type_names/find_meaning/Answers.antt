@@ -25,5 +25,5 @@ returns-in-Ok c = (c.in-Ok.ensures.ok, λ y h. c.in-Ok.ensures.ok.1 y h.0)
 
 pub returns-else-is_memory : goal.returns-else-is_memory
 returns-else-is_memory c =
-    no_meaning c.args.set.now c.args.file.now c.args.number _ c.args.path.now c.in-Err.fault c.in-Err.ensures.told
+    no_meaning c.args.scope.now.names.set.now c.args.scope.now.file.now c.args.scope.now.file_index _ c.args.path.now c.in-Err.fault c.in-Err.ensures.fault_is_true
     (λ is. true≢false (sym (c.is_memory.ensures.1 is) ∙ c.if-is_memory.false))

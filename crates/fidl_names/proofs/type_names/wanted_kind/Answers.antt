@@ -16,13 +16,13 @@ is_other P (Some y) x h other p = other (ap (λ z. Some z) (sym (h.1 x p)))
 pub returns-then-is_array : goal.returns-then-is_array
 returns-then-is_array c =
     let wants = count c.in-Some.head.now (is_it _ c.in_ok-meaning-in-Some.meaning _ c.in_ok-meaning-in-Some.ensures (c.is_array.ensures.0 c.if-is_array.true)) in
-    subst (λ (o : Option (Bor Path)). WantsKind c.args.set.now c.args.file.now (option_map (λ p. p.now) o) wanted.Value) (sym c.in-Some.is) wants
+    subst (λ (o : Option (Bor Path)). WantsKind c.args.scope.now.names.set.now c.args.scope.now.file.now (option_map (λ p. p.now) o) wanted.Value) (sym c.in-Some.is) wants
 
 pub returns-else-is_array : goal.returns-else-is_array
 returns-else-is_array c =
     let wants = argument c.in-Some.head.now (is_other _ c.in_ok-meaning-in-Some.meaning _ c.in_ok-meaning-in-Some.ensures (λ is. true≢false (sym (c.is_array.ensures.1 is) ∙ c.if-is_array.false))) in
-    subst (λ (o : Option (Bor Path)). WantsKind c.args.set.now c.args.file.now (option_map (λ p. p.now) o) wanted.«Type») (sym c.in-Some.is) wants
+    subst (λ (o : Option (Bor Path)). WantsKind c.args.scope.now.names.set.now c.args.scope.now.file.now (option_map (λ p. p.now) o) wanted.«Type») (sym c.in-Some.is) wants
 
 pub returns-in-None : goal.returns-in-None
 returns-in-None c =
-    subst (λ (o : Option (Bor Path)). WantsKind c.args.set.now c.args.file.now (option_map (λ p. p.now) o) wanted.«Type») (sym c.in-None.is) by_itself
+    subst (λ (o : Option (Bor Path)). WantsKind c.args.scope.now.names.set.now c.args.scope.now.file.now (option_map (λ p. p.now) o) wanted.«Type») (sym c.in-None.is) by_itself

@@ -5,7 +5,7 @@ use Rattle.std.proofs.lemmas.Nat.{or_lt}
 use lib.Signed.{lt_z}
 use mir.Val.{SFits, of_z, to_z}
 use mir.Syntax.{w128}
-use Rattle.fidl_const.specs.Known.{a_number, joined}
+use Rattle.fidl_const.specs.PlainValues.{a_number, joined}
 use Rattle.fidl_const.proofs.const_value.ConstValue.joined.Goals as goal
 
 or_joined : (a b : ℤ) → SFits w128 a → SFits w128 b → lt_z a (pos 0) ≡ false → lt_z b (pos 0) ≡ false

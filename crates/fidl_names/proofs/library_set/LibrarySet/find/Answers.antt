@@ -1,38 +1,36 @@
-use Rattle.std.proofs.Common.{◌≡◌, ◌<◌, Some, length, get_or, ap, sym, subst, ◌∙◌}
-use Rattle.std.specs.Prelude.{slice_get}
-use Rattle.std.proofs.lemmas.Option.{slice_get_within}
-use Rattle.fidl_tree.specs.declared.file.File.{File}
-use Rattle.fidl_names.specs.Positions.{IsDeclared}
-use Rattle.fidl_names.proofs.Positions.{item_is, element_is}
-use Rattle.fidl_names.proofs.Finding.{found_declared, found_only, found_none, file_within}
+use Rattle.std.proofs.Common.{ap, sym, subst, ◌∙◌}
+use Rattle.std.proofs.lemmas.Option.{IfSome_then}
+use Rattle.fidl_names.specs.Names.{all_entries}
+use Rattle.fidl_names.specs.FullNames.{IsDeclared}
+use Rattle.fidl_names.proofs.Finding.{found_declared, found_only, found_none, stands_declared}
 use Rattle.fidl_names.proofs.library_set.LibrarySet.find.Goals as goal
 
-pub returns-in_err-position-clause-none : goal.returns-in_err-position-clause-none
-returns-in_err-position-clause-none c = λ _. found_none c.self.inside.files.items c.args.self.now c.self.inside.names.entries c.self.invariant.0 c.self.view_is c.args.full.now (sym c.in_err-position.ensures.value)
-
-pub index-file-requires : goal.index-file-requires
-index-file-requires c =
-    let h = file_within c.self.inside.files.items c.args.self.now c.self.inside.names.entries c.self.invariant.0 c.self.view_is c.args.full.now c.in_ok-position.field-0.now (sym c.in_ok-position.ensures.value) in
-    subst (λ n. c.in_ok-position.field-0.now.file < n) (sym c.self.inside.files.ok.0) h
-
-pub index-declaration-requires : goal.index-declaration-requires
-index-declaration-requires c =
-    let p = c.in_ok-position.field-0.now in
-    let r = found_declared c.self.inside.files.items c.args.self.now c.self.inside.names.entries c.self.invariant.0 c.self.view_is c.args.full.now p (sym c.in_ok-position.ensures.value) in
-    let file = item_is c.self.inside.files.items p.file c.index-file.result.now r.file (subst (λ fs. slice_get fs p.file ≡ Some r.file) (sym c.self.view_is) r.declared.file_at) c.index-file.ensures in
-    let within = slice_get_within r.file.declarations.items p.index r.declaration r.declared.stands in
-    subst (λ n. p.index < n) (sym (c.index-file.result.now.now.declarations.ok.0 ∙ ap (λ f. length f.declarations.items) file)) within
+pub returns-in_err-id-clause-none : goal.returns-in_err-id-clause-none
+returns-in_err-id-clause-none c = λ _.
+    let es = c.self.inside.names.entries in
+    found_none c.args.self.now es (c.self.invariant.0 ∙ ap (λ l. all_entries l 0) c.self.view_is) c.args.full.now (sym c.in_err-id.ensures.value)
 
 pub returns-clause-found : goal.returns-clause-found
 returns-clause-found c =
     let fs = c.args.self.now in
     let full = c.args.full.now in
-    let p = c.in_ok-position.field-0.now in
-    let r = found_declared c.self.inside.files.items fs c.self.inside.names.entries c.self.invariant.0 c.self.view_is full p (sym c.in_ok-position.ensures.value) in
-    let file : c.index-file.result.now.now ≡ r.file = item_is c.self.inside.files.items p.file c.index-file.result.now r.file (subst (λ fs. slice_get fs p.file ≡ Some r.file) (sym c.self.view_is) r.declared.file_at) c.index-file.ensures in
-    let declaration : c.index-declaration.result.now ≡ r.declaration =
-    element_is r.file.declarations.items p.index c.index-declaration.result.now r.declaration r.declared.stands (c.index-declaration.ensures ∙ ap (λ (f : File). get_or f.declarations.items p.index c.index-declaration.result.now) file) in
-    subst (λ f. IsDeclared fs full p f c.index-declaration.result.now) (sym file) (subst (λ d. IsDeclared fs full p r.file d) (sym declaration) r.declared)
+    let p = c.in_ok-id.field-0.now in
+    let es = c.self.inside.names.entries in
+    let names = c.self.invariant.0 ∙ ap (λ l. all_entries l 0) c.self.view_is in
+    IfSome_then c.get-2.result c.get-2.ensures.found (λ x h.
+    let there : IsDeclared fs full p x.file.now x.declaration.now = stands_declared fs es names full p (sym c.in_ok-id.ensures.value) x.file.now x.declaration.now h.1 in
+    subst (λ q. IsDeclared fs full q x.file.now x.declaration.now) (sym h.0) there)
 
 pub returns-clause-only : goal.returns-clause-only
-returns-clause-only c = found_only c.self.inside.files.items c.args.self.now c.self.inside.names.entries c.self.invariant.0 c.self.view_is c.args.full.now c.in_ok-position.field-0.now c.self.invariant.1 (sym c.in_ok-position.ensures.value)
+returns-clause-only c =
+    let es = c.self.inside.names.entries in
+    let names = c.self.invariant.0 ∙ ap (λ l. all_entries l 0) c.self.view_is in
+    IfSome_then c.get-2.result c.get-2.ensures.found
+    (λ x h q f d declared. found_only c.args.self.now es names c.args.full.now c.in_ok-id.field-0.now c.self.invariant.1 (sym c.in_ok-id.ensures.value) q f d declared ∙ sym h.0)
+
+pub returns-clause-none : goal.returns-clause-none
+returns-clause-none c = λ none q f d declared.
+    let es = c.self.inside.names.entries in
+    let names = c.self.invariant.0 ∙ ap (λ l. all_entries l 0) c.self.view_is in
+    let r = found_declared c.args.self.now es names c.args.full.now c.in_ok-id.field-0.now (sym c.in_ok-id.ensures.value) in
+    c.get-2.ensures.none none r.file r.declaration (record { file_at = r.declared.file_at; stands = r.declared.stands })

@@ -1,18 +1,18 @@
-use Rattle.std.proofs.Common.{◌≡◌, Some, sym, subst, ◌∙◌}
-use Rattle.std.specs.Prelude.{slice_get, IfOk}
-use Rattle.std.proofs.lemmas.Result.{IfOk-weaker}
-use Rattle.fidl_tree.specs.declared.file.File.{File}
+use Rattle.std.proofs.lemmas.Result.{IfOk-weaker, IfErr-weaker}
+use Rattle.fidl_names.specs.declared.fault.NameFault.{NameFault}
 use Rattle.fidl_names.specs.declared.meaning.Meaning.{Meaning}
-use Rattle.fidl_names.specs.Meanings.{components, Means}
+use Rattle.fidl_names.specs.Meanings.{components, Means, IsTrueOfName}
+use Rattle.fidl_names.proofs.Scoped.{of_file}
 use Rattle.fidl_names.proofs.named.Named.meaning.Goals as goal
 
 pub returns-clause-ok : goal.returns-clause-ok
 returns-clause-ok c =
-    let fs = c.args.self.now in
-    let g = c.file-file.result.now in
-    let path = c.args.path.now in
-    IfOk-weaker c.read.result (Means fs g c.args.wanted (components g.src.now path)) _ (λ (m : Meaning) h. λ (f : File) at.
-    let it : Some g ≡ Some f = sym (subst (λ files. slice_get files c.args.number ≡ Some g) c.self.view_is c.file-file.ensures) ∙ at in
-    let same : g ≡ f = cc in
-    subst (λ (x : File). Means fs x c.args.wanted (components x.src.now path) m) same h)
-    (subst (λ files. IfOk c.read.result (Means files g c.args.wanted (components g.src.now path))) c.scope.ensures.set c.read.ensures.ok)
+    let s = c.scope.result in
+    IfOk-weaker c.read_name.result _ _ (λ (m : Meaning) h. of_file c.args.self.now s.names.set.now s.file_index c.args.file_index s.file.now (λ fs n f. Means fs f c.args.wanted (components f.src.now c.args.path.now) m) c.scope.ensures.set c.scope.ensures.number s.file_at h)
+    c.read_name.ensures.ok
+
+pub returns-clause-fault_is_true : goal.returns-clause-fault_is_true
+returns-clause-fault_is_true c =
+    let s = c.scope.result in
+    IfErr-weaker c.read_name.result _ _ (λ (fault : NameFault) h. of_file c.args.self.now s.names.set.now s.file_index c.args.file_index s.file.now (λ fs n f. IsTrueOfName fs f n c.args.wanted c.args.path.now fault) c.scope.ensures.set c.scope.ensures.number s.file_at h)
+    c.read_name.ensures.fault_is_true

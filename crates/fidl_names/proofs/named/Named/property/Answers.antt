@@ -1,16 +1,10 @@
-use Rattle.std.proofs.Common.{Some, sym, subst, refl}
-use Rattle.fidl_names.specs.Items.{IsPropertyFor}
+use Rattle.std.proofs.Common.{refl}
 use Rattle.fidl_names.proofs.named.Named.property.Goals as goal
 
 pub returns-in_err-found-clause-none : goal.returns-in_err-found-clause-none
-returns-in_err-found-clause-none c = λ none p n h.
-    c.in_err-found.ensures.none refl p h.file n h.member (subst (λ files. IsPropertyFor files (Some c.args.end) c.args.rank p h.file n h.member) (sym c.scope.ensures.set) h.is_for)
+returns-in_err-found-clause-none c = λ none p n h. c.in_err-found.ensures.none refl p h.file n h.member h.is_for
 
 pub returns-clause-found : goal.returns-clause-found
 returns-clause-found c =
     let x = c.in_ok-found.found in
-    record {
-      file = x.file.now;
-      member = x.property.now;
-      is_for = subst (λ files. IsPropertyFor files (Some c.args.end) c.args.rank x.position x.file.now x.number x.property.now) c.scope.ensures.set c.in_ok-found.ensures.found;
-    }
+    record { file = x.file.now; member = x.property.now; is_for = c.in_ok-found.ensures.found }

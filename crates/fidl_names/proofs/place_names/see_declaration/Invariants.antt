@@ -1,9 +1,0 @@
-use Rattle.std.proofs.Common.{take}
-use Rattle.std.specs.List.{AllByRecursion}
-use Rattle.fidl_names.specs.SeenPlaces.{seen_places}
-use Rattle.fidl_names.specs.Resolved.{PlaceHolds}
-use Rattle.fidl_names.proofs.place_names.see_declaration.Given as goal
-
--- the places so far hold
-abbrev pub invariant-loop-place : goal.invariant-loop-place
-invariant-loop-place l = AllByRecursion (PlaceHolds l.scope.set.now l.file) (take l.place-index (seen_places l.place-items))

@@ -1,0 +1,26 @@
+-- Types that are named outside layouts, as references hold them.
+use Rattle.std.specs.Prelude.{List, Option, map}
+use Rattle.std.specs.Option.{option_map}
+use Rattle.std.specs.Borrow.{Bor}
+use Rattle.fidl_tree.specs.Syntax as plain
+use Rattle.fidl_tree.specs.Views.{path_view, value_view}
+use Rattle.fidl_tree.specs.declared.path.Path.{Path}
+use Rattle.fidl_tree.specs.declared.value.Value.{Value}
+use Rattle.fidl_names.specs.declared.outer_types.OuterType.{OuterType}
+
+abbrev pub read_path : Option (Bor Path) → Option Path
+read_path path = option_map (λ p. p.now) path
+
+-- the same in plain data
+abbrev pub seen_path : Option (Bor Path) → Option plain.Path
+seen_path path = option_map (λ p. path_view p.now) path
+
+abbrev pub read_types : List OuterType → List (Option plain.Path × plain.Path)
+read_types types = map (λ t. (seen_path t.argument_of, path_view t.path.now)) types
+
+-- what references lead to, in plain data
+abbrev pub seen_paths : List (Bor Path) → List plain.Path
+seen_paths paths = map (λ p. path_view p.now) paths
+
+abbrev pub seen_values : List (Bor Value) → List plain.Value
+seen_values values = map (λ v. value_view v.now) values

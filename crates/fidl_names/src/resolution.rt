@@ -1,0 +1,44 @@
+//! The rules of resolving, but that each name has a meaning, and what their check finds out.
+ghost use Rattle.std.specs.Prelude.{map, IfErr, IfOk, OnOk};
+ghost use Rattle.fidl_names.specs.NameMaps.{seen_texts};
+ghost use Rattle.fidl_names.specs.Aliases.{rows_of};
+ghost use Rattle.fidl_names.specs.Scopes.{IsKnown};
+ghost use Rattle.fidl_names.specs.Resolved.{RulesHold, IsTrueOfResolving};
+
+use crate::aliases::check_aliases;
+use crate::fault::NameFault;
+use crate::file_scope::SetScope;
+use crate::import_cycles::check_import_cycles;
+use crate::library_set::LibrarySet;
+use crate::meaning::Meaning;
+use crate::rules::{all_imports, all_members, libraries};
+use indexmap::IndexMap;
+
+/// What each file sees by its imports, and what each declaration resolves to.
+#[derive(Drop)]
+pub(crate) struct Resolution {
+    pub visible_names: Vec<IndexMap<Vec<u8>, Vec<u8>>>,
+    pub ends: Vec<Vec<Meaning>>,
+}
+
+/// Checks all rules but that each name has a meaning.
+pub(crate) fn check_rules(set: &LibrarySet<'_, '_>) -> Result<Resolution, NameFault>
+    ensures known { IfOk result (λ r. IsKnown set.now
+        (map (λ v. seen_texts v.entries) r.visible_names.items) (rows_of r.ends.items)) }
+    ensures rules { OnOk result (RulesHold set.now) }
+    ensures fault_is_true { IfErr result (IsTrueOfResolving set.now) }
+{
+    all_members(set)?;
+    let libraries = libraries(set)?;
+    let visible_names = all_imports(set, &libraries)?;
+    check_import_cycles(set, &libraries)?;
+    let names = SetScope {
+        set,
+        visible_names: &visible_names,
+    };
+    let ends = check_aliases(&names)?;
+    Ok(Resolution {
+        visible_names,
+        ends,
+    })
+}
