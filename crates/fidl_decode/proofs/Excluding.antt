@@ -1,39 +1,45 @@
 -- A refusal that is true of a message excludes that the message is an encoding.
 use Rattle.std.proofs.Common.{◌≡◌, ℕ, suc, ◌+◌, ◌-◌, ◌*◌, ◌^◌, ◌<◌, ◌≤◌, List, [], ◌∷◌, ◌++◌, length, get_or, take, drop, refl, sym, ap, subst, ◌∙◌, arith, inl, inr, false, true, add-one, drop-cons}
-use Rattle.std.specs.Prelude.{Some, None}
+use Rattle.std.specs.Prelude.{Bool, Some, None, IfSome, Contains, replicate}
 use Rattle.std.proofs.lemmas.List.{length-drop, length-take, length-take-le, get_or-take}
-use Rattle.std.proofs.lemmas.Option.{slice_get-get_or, slice_get_within}
+use Rattle.std.proofs.lemmas.Option.{slice_get-get_or, slice_get_within, slice_get_past}
 use Rattle.fidl_wire.specs.declared.handle.HandleInfo.{HandleInfo}
 use Rattle.fidl_wire.specs.Value.{Value}
 use Rattle.fidl_wire.specs.Term.{Term, resolve, IsBounded}
 use Rattle.fidl_wire.specs.Term as ty
-use Rattle.fidl_wire.specs.Figure.{Declarations, Figure, figure_of, size_of, IsSound}
-use Rattle.fidl_wire.specs.Encoding.{zeros, encoding_of}
+use Rattle.fidl_wire.specs.Figure.{Declarations, Figure, figure_of, size_of, IsLaidOut, IsSound}
+use Rattle.fidl_wire.specs.Encoding.{zeros, present, encoding_of}
 use Rattle.fidl_wire.specs.Standing.{Stands, Carries}
+use Rattle.fidl_wire.specs.Typed.{InMask, IsAllowed}
+use Rattle.fidl_records.specs.Number.{number_standing}
 use Rattle.fidl_wire.specs.Message.{IsEncoding}
 use Rattle.fidl_wire.proofs.Sizes.{length-inline, end_of-le, le-next_multiple_of}
 use Rattle.std.specs.Int.{next_multiple_of}
 use Rattle.fidl_wire.proofs.Unique.{only, bounded-resolve}
 use Rattle.fidl_records.specs.declared.record.Header.{Header}
 use Rattle.fidl_records.specs.declared.kind.EntryKind.{EntryKind}
-use Rattle.fidl_records.specs.declared.kind.EntryKind.TheVariants.{Bool as Boolean, Int8, Int16, Int32, Int64, Uint8, Uint16, Uint32, Uint64, Bits, Enum, String, Vector, Array, Box, Struct, Table, Union, Handle}
+use Rattle.fidl_records.specs.declared.kind.EntryKind.TheVariants.{Vector, Array, Box, Struct}
 use Rattle.fidl_records.specs.Section.{header_of, entry_at}
-use Rattle.fidl_records.specs.Terms.{declarations_of, fields_from}
+use Rattle.fidl_records.specs.Terms.{term_as, declarations_of, fields_from}
 use Rattle.fidl_decode.specs.Fine.{EntryFine, IsFine}
 use Rattle.fidl_decode.specs.declared.fault.DecodeFault.{DecodeFault}
-use Rattle.fidl_decode.specs.declared.fault.DecodeFault.TheVariants.{TooLong, TooManyHandles, Truncated, Padding, BadBool, BytesLeft, HandlesLeft}
+use Rattle.fidl_decode.specs.declared.fault.DecodeFault.TheVariants.{TooLong, TooManyHandles, Truncated, Padding, BadBool, UnknownValue, UnknownBits, BadMarker, AbsentRequired, BadCount, OverBound, NotUtf8, TooDeep, HandleMissing, WrongHandle, BytesLeft, HandlesLeft}
 use Rattle.fidl_decode.specs.Rows.{Row, table_rows, element_rows, RowsRise}
-use Rattle.fidl_decode.specs.State.{Message, At, past, Item, Members}
-use Rattle.fidl_decode.specs.Breaks.{Part, parts_of, IsPadding, BreaksField, Breaks, BreaksParts, in_field, in_parts, in_gap, in_next, in_later, in_end}
+use Rattle.fidl_decode.specs.State.{Message, At, linked, after, Item, Members}
+use Rattle.fidl_decode.specs.Breaks.{Part, parts_of, Object, object_of, count_at, IsPadding, BreaksField, BreaksHandle, BreaksRule, Breaks, BreaksParts, in_field, in_parts, in_object, in_gap, in_next, in_later, in_end}
 use Rattle.fidl_decode.specs.Faults.{IsTold, BreaksMessage, message_of, start_of}
 use Rattle.fidl_decode.specs.Machine.{row_parts}
 use Rattle.fidl_decode.proofs.Messages.{message_item}
-use Rattle.fidl_decode.proofs.Stand.{copies_are}
 use Rattle.fidl_decode.proofs.Rows.{members_end, members_more}
 use Rattle.fidl_decode.proofs.Stated.{table_rise, struct_item, table_parts}
 use Rattle.fidl_decode.proofs.Elements.{elements_rise, array_item, row_parts-elements}
 use Rattle.fidl_decode.proofs.Visiting.{size_is, term_is, figure_is}
-use Rattle.fidl_decode.proofs.Scalars.{bool_item}
+use Rattle.fidl_decode.proofs.Written.{padding_excluded, text_excluded}
+use Rattle.fidl_decode.proofs.Objects.{padded_size, rows_wider}
+use Rattle.fidl_decode.proofs.Boxed.{box_excluded, box_object, box_item, box_rise}
+use Rattle.fidl_decode.proofs.Listed.{vector_excluded, vector_object, vector_item, vector_rise}
+use Rattle.fidl_decode.proofs.Carried.{handle_item, no_both}
+use Rattle.fidl_decode.proofs.Scalars.{bool_item, numeric_item, numeric_enum, numeric_bits}
 
 -- ---- what stands at a place
 
@@ -84,26 +90,60 @@ item_unique ds sound m short few held held' t g place from to to' x y =
     let small : length (a.out ++ drop (from.next + length a.out) m.bytes) < 2 ^ 32 = subst (λ (l : List ℕ). length l < 2 ^ 32) (sym out_a) (omega (arith, length-drop from.next m.bytes)) in
     let fewer : length (a.handles ++ drop (from.handle + length a.handles) m.handles) < 2 ^ 16 = subst (λ (l : List HandleInfo). length l < 2 ^ 16) (sym handles_a) (omega (arith, length-drop from.handle m.handles)) in
     let one = (only ds sound t x.value g x.typed y.value y.typed _ _ _ _ inline (out_a ∙ sym out_b) (handles_a ∙ sym handles_b) small fewer).0 in
-    x.end ∙ ap (λ (v : Value). past (encoding_of ds t v) from) one ∙ sym y.end
+    x.end ∙ ap (λ (v : Value). after ds t v place from) one ∙ sym y.end
 
 -- ---- gaps and fields
-
-padding_excluded : (m : List ℕ) (from to n : ℕ) (fault : DecodeFault) → to ≤ from + n → Stands m from (zeros n) → IsPadding m from to fault → ⊥
-padding_excluded m from to n (Padding at) le z p = p.3 (copies_are m 0 n from z at p.0 (omega (arith, p.1)))
-padding_excluded m from to n fault le z p = absurd p
 
 field_excluded : (ds : Declarations) (m : Message) (held : ℕ) (t : Term) (place : ℕ) (from to : At) (fault : DecodeFault) → BreaksField m t place fault → Item ds m held t place from to → ⊥
 field_excluded ds m held ty.bool place from to (BadBool at) b x =
     let over : 1 < get_or m.bytes place 0 = subst (λ n. 1 < get_or m.bytes n 0) b.0 b.1 in
     let le = (bool_item ds m held place from to x).1 in
     omega (arith, over, le)
+field_excluded ds m held (ty.enum kind (Some values)) place from to (UnknownValue at) b x =
+    let r = numeric_item ds m held place from (ty.enum kind (Some values)) kind (λ z. IfSome (Some values) (λ zs. Contains zs z)) (numeric_enum ds kind (Some values)) to x in
+    b.1 (subst (λ n. Contains values (number_standing kind m.bytes n)) (sym b.0) r.1)
+field_excluded ds m held (ty.bits kind (Some mask)) place from to (UnknownBits at) b x =
+    let r = numeric_item ds m held place from (ty.bits kind (Some mask)) kind (λ z. IfSome (Some mask) (λ k. InMask k z)) (numeric_bits ds kind (Some mask)) to x in
+    b.1 (subst (λ n. InMask mask (number_standing kind m.bytes n)) (sym b.0) r.1)
 field_excluded ds m held t place from to fault b x = absurd b
 
 unknown : false ≡ true → ⊥
 unknown e = cc
 
+none_some : (a : HandleInfo) → None ≡ Some a → ⊥
+none_some a e = cc
+
+handle_excluded : (ds : Declarations) (m : Message) (held : ℕ) (optional : Bool) (subtype rights place : ℕ) (from to : At) (fault : DecodeFault) → BreaksHandle m optional subtype rights place from.handle fault → Item ds m held (ty.handle optional subtype rights) place from to → ⊥
+handle_excluded ds m held optional subtype rights place from to (BadMarker at) b x = elim (handle_item ds m held optional subtype rights place from to x) [
+  | inl y ↦ b.1 (subst (λ p. Stands m.bytes p (zeros 4)) (sym b.0) y.0)
+  | inr y ↦ b.2 (subst (λ p. Stands m.bytes p (replicate 4 255)) (sym b.0) y.0)
+]
+handle_excluded ds m held optional subtype rights place from to (AbsentRequired at) b x = elim (handle_item ds m held optional subtype rights place from to x) [
+  | inl y ↦ unknown (sym b.1 ∙ y.1)
+  | inr y ↦ no_both m.bytes place (subst (λ p. Stands m.bytes p (zeros 4)) b.0 b.2) y.0
+]
+handle_excluded ds m held optional subtype rights place from to (HandleMissing at) b x = elim (handle_item ds m held optional subtype rights place from to x) [
+  | inl y ↦ no_both m.bytes place y.0 (subst (λ p. Stands m.bytes p (replicate 4 255)) b.0 b.1)
+  | inr y ↦ none_some y.1.0 (sym (slice_get_past m.handles from.handle b.2) ∙ y.1.1)
+]
+handle_excluded ds m held optional subtype rights place from to (WrongHandle at) b x = elim (handle_item ds m held optional subtype rights place from to x) [
+  | inl y ↦ no_both m.bytes place y.0 (subst (λ p. Stands m.bytes p (replicate 4 255)) b.0 b.1)
+  | inr y ↦ b.2.2 (subst (λ (h : HandleInfo). IsAllowed subtype rights h) (same_some y.1.0 b.2.0 (sym y.1.1 ∙ b.2.1)) y.1.2)
+]
+handle_excluded ds m held optional subtype rights place from to fault b x = absurd b
+
+rule_excluded : (ds : Declarations) → IsLaidOut ds → (m : Message) → length m.bytes < 2 ^ 32 → (held : ℕ) (t : Term) → IsBounded t → (place : ℕ) (from to : At) (fault : DecodeFault) → BreaksRule ds m held t place from.next from.handle fault → Item ds m held t place from to → ⊥
+rule_excluded ds laid m short held (ty.string optional bound) few place from to fault b x = text_excluded ds m short held optional bound place from to fault b x
+rule_excluded ds laid m short held (ty.vector optional bound u) few place from to fault b x = vector_excluded ds laid m held optional bound few.0 u place from to fault b x
+rule_excluded ds laid m short held (ty.box u) few place from to fault b x = box_excluded ds laid m held u place from to fault b x
+rule_excluded ds laid m short held (ty.handle optional subtype rights) few place from to fault b x = handle_excluded ds m held optional subtype rights place from to fault b x
+rule_excluded ds laid m short held t few place from to fault b x = field_excluded ds m held t place from to fault b x
+
 no_parts : (ps : List Part) → None ≡ Some ps → ⊥
 no_parts ps e = cc
+
+no_object : (o : Object) → None ≡ Some o → ⊥
+no_object o e = cc
 
 no_cons : (p : Part) (ps : List Part) → p ∷ ps ≡ [] → ⊥
 no_cons p ps e = cc
@@ -171,34 +211,60 @@ module _ (t : List ℕ) (fine : IsFine t) (sound : IsSound (declarations_of t)) 
             subst (λ k. RowsRise ds h.entries d.nest k 0 rs) flat (elements_rise ds d.first h.entries d.nest d.count 0 f.content.0 (omega (arith, nest))),
             array_item ds d.first m held place d.count from to (subst (λ (u : Term). Item ds m held u place from to) u x),
           )
-      go Boolean f = of_field ty.bool (term_is t fine e Boolean lt f.is) refl
-      go Int8 f = of_field (ty.number ty.int8) (term_is t fine e Int8 lt f.is) refl
-      go Int16 f = of_field (ty.number ty.int16) (term_is t fine e Int16 lt f.is) refl
-      go Int32 f = of_field (ty.number ty.int32) (term_is t fine e Int32 lt f.is) refl
-      go Int64 f = of_field (ty.number ty.int64) (term_is t fine e Int64 lt f.is) refl
-      go Uint8 f = of_field (ty.number ty.uint8) (term_is t fine e Uint8 lt f.is) refl
-      go Uint16 f = of_field (ty.number ty.uint16) (term_is t fine e Uint16 lt f.is) refl
-      go Uint32 f = of_field (ty.number ty.uint32) (term_is t fine e Uint32 lt f.is) refl
-      go Uint64 f = of_field (ty.number ty.uint64) (term_is t fine e Uint64 lt f.is) refl
-      go Bits f = absurd (unknown f.known)
-      go Enum f = absurd (unknown f.known)
-      go String f = absurd (unknown f.known)
-      go Vector f = absurd (unknown f.known)
-      go Box f = absurd (unknown f.known)
-      go Table f = absurd (unknown f.known)
-      go Union f = absurd (unknown f.known)
-      go Handle f = absurd (unknown f.known)
+      go k f = of_field (term_as k t h (entry_at t e)) (term_is t fine e k lt f.is) refl
+
+  -- the rows of an object out of line, and its members
+  abbrev Below : (held : ℕ) (o : Object) (from to : At) → Type 0
+  Below held o from to = (nest : ℕ) × (rs : List Row) × (o.parts ≡ row_parts rs) × RowsRise ds h.entries nest (padded_size o.size) 0 rs × Members ds m (held + 1) (padded_size o.size) from.next 0 rs (linked o.marker o.size from) to
+
+  below : (e : ℕ) (lt : e < h.entries) (held place : ℕ) (from to : At) (o : Object) (k : EntryKind) → EntryFine t (entry_at t e) k → object_of ds m.bytes (term e) place ≡ Some o → Stands m.bytes o.marker present → Item ds m held (term e) place from to → Below held o from to
+  below e lt held place from to o k f has ones x = go k f
+    where
+      of_field : (u : Term) → term e ≡ u → object_of ds m.bytes u place ≡ None → Below held o from to
+      of_field u is none = absurd (no_object o (sym none ∙ ap (λ (u : Term). object_of ds m.bytes u place) (sym is) ∙ has))
+
+      go : (k : EntryKind) → EntryFine t (entry_at t e) k → Below held o from to
+      go Box f =
+          let u = term_is t fine e Box lt f.is in
+          let inner = entry_at t (entry_at t e).first in
+          let same = box_object t fine m held e place from lt f.is o (ap (λ (u : Term). object_of ds m.bytes u place) (sym u) ∙ has) in
+          let marked : Stands m.bytes place present = subst (λ (o : Object). Stands m.bytes o.marker present) same ones in
+          let opened = box_item t fine m held e place from lt f.is to (subst (λ (u : Term). Item ds m held u place from to) u x) marked in
+          let rise = box_rise t fine m held e place from lt f.is in
+          let size = size_of ds (ty.struct (fields_from t h inner.first inner.count)) in
+          let rs = table_rows t h inner.first inner.count in
+          subst (λ (o : Object). Below held o from to) (sym same)
+          (inner.nest, rs, refl, rows_wider ds fine.laid_out h.entries inner.nest size (padded_size size) 0 rs (le-next_multiple_of size 8) rise, opened.members)
+      go Vector f =
+          let d = entry_at t e in
+          let u = term_is t fine e Vector lt f.is in
+          let same = vector_object t fine m held e place from lt f.is o (ap (λ (u : Term). object_of ds m.bytes u place) (sym u) ∙ has) in
+          let marked : Stands m.bytes (place + 8) present = subst (λ (o : Object). Stands m.bytes o.marker present) same ones in
+          let opened = vector_item t fine m held e place from lt f.is to (subst (λ (u : Term). Item ds m held u place from to) u x) marked in
+          let rise = vector_rise t fine m held e place from lt f.is in
+          let n = count_at m.bytes place in
+          let size = size_of ds (ty.named d.first) * n in
+          let rs = element_rows d.first (size_of ds (ty.named d.first)) n 0 in
+          let nest = (entry_at t d.first).nest + 1 in
+          subst (λ (o : Object). Below held o from to) (sym same)
+          (nest, rs, refl, rows_wider ds fine.laid_out h.entries nest size (padded_size size) 0 rs (le-next_multiple_of size 8) rise, opened.members)
+      go k f = of_field (term_as k t h (entry_at t e)) (term_is t fine e k lt f.is) refl
 
   abbrev part_of : Row → Part
   part_of r = record { offset = r.offset; term = ty.named r.entry }
 
   mutual
     pub item_excluded : (held e place : ℕ) (from to : At) (fault : DecodeFault) (u : Term) → e < h.entries → u ≡ term e → Breaks ds m held u place from fault → Item ds m held u place from to → ⊥
-    item_excluded held e place from to fault u lt is (in_field u' place' from' fault' b) x = field_excluded ds m held u place from to fault b x
+    item_excluded held e place from to fault u lt is (in_field u' place' from' fault' b) x =
+        let few = bounded-resolve ds.terms (ty.named e) sound.bounded tt in
+        rule_excluded ds fine.laid_out m short held u (subst IsBounded (sym is) few) place from to fault b x
     item_excluded held e place from to fault u lt is (in_parts u' place' from' fault' ps has b) x =
         let r = rowed e lt held place from to ps (fine.each e lt).0 (fine.each e lt).1 (ap (λ (u : Term). parts_of ds u) (sym is) ∙ has) (subst (λ (u : Term). Item ds m held u place from to) is x) in
         let size : size_of ds (term e) ≡ size_of ds u = ap (λ (u : Term). size_of ds u) (sym is) in
         parts_excluded held (size_of ds u) place 0 ps r.0 r.1 from to fault r.2 (subst (λ n. RowsRise ds h.entries r.0 n 0 r.1) size r.3) b (subst (λ n. Members ds m held n place 0 r.1 from to) size r.4)
+    item_excluded held e place from to fault u lt is (in_object u' place' from' fault' o has ones right b) x =
+        let r = below e lt held place from to o (fine.each e lt).0 (fine.each e lt).1 (ap (λ (u : Term). object_of ds m.bytes u place) (sym is) ∙ has) ones (subst (λ (u : Term). Item ds m held u place from to) is x) in
+        parts_excluded (held + 1) (padded_size o.size) from.next 0 o.parts r.0 r.1 (linked o.marker o.size from) to fault r.2 r.3 b r.4
 
     parts_excluded : (held size base done : ℕ) (ps : List Part) (nest : ℕ) (rs : List Row) (from to : At) (fault : DecodeFault) → ps ≡ row_parts rs → RowsRise ds h.entries nest size done rs → BreaksParts ds m held size base done ps from fault → Members ds m held size base done rs from to → ⊥
     parts_excluded held size base done ps nest (r ∷ rs) from to fault e rise (in_gap size' base' done' p qs from' fault' b) y =
@@ -273,15 +339,15 @@ module _ (t : List ℕ) (fine : IsFine t) (sound : IsSound (declarations_of t)) 
   ended : (part : Message) → ((p : ℕ) (a : List ℕ) → Stands part.bytes p a → Stands bytes p a) → ((p : ℕ) (a : List HandleInfo) → Carries part.handles p a → Carries handles p a) → IsEncoding (declarations_of t) (ty.named e) part.bytes part.handles
       → (length part.bytes ≡ length bytes) × (length part.handles ≡ length handles)
   ended part f g z =
-      let a = (message_item t fine part e lt z).2 in
-      let b = (message_item t fine whole e lt y).2 in
+      let a = (message_item t fine part e lt [] [] z).2 in
+      let b = (message_item t fine whole e lt [] [] y).2 in
       let bounded = bounded-resolve (declarations_of t).terms (ty.named e) sound.bounded tt in
       let same = item_unique (declarations_of t) sound whole short few 0 0 (resolve (declarations_of t).terms (ty.named e)) bounded 0 (start_of (entry_at t e).size) a.0 b.0 (item_wider (declarations_of t) part whole 0 (resolve (declarations_of t).terms (ty.named e)) 0 (start_of (entry_at t e).size) a.0 f g a.2) b.2 in
       (sym a.1.bytes ∙ ap (λ (s : At). s.next) same ∙ b.1.bytes, sym a.1.handles ∙ ap (λ (s : At). s.handle) same ∙ b.1.handles)
 
   part_excluded : (fault : DecodeFault) → BreaksMessage (declarations_of t) (ty.named e) whole fault → ⊥
   part_excluded fault b =
-      let r = message_item t fine whole e lt y in
+      let r = message_item t fine whole e lt [] [] y in
       elim b [
         | inl p ↦ let far = le-next_multiple_of (entry_at t e).size 8 in
             padding_excluded bytes (entry_at t e).size (next_multiple_of (entry_at t e).size 8) (next_multiple_of (entry_at t e).size 8 - (entry_at t e).size) fault (omega (arith, far)) r.1 (subst (λ (s : ℕ). IsPadding bytes s (next_multiple_of s 8) fault) size p)
@@ -291,12 +357,24 @@ module _ (t : List ℕ) (fine : IsFine t) (sound : IsSound (declarations_of t)) 
   pub told_excluded : (fault : DecodeFault) → IsTold (declarations_of t) (ty.named e) bytes handles fault → ⊥
   told_excluded (TooLong at) h = let s = y.1.short in omega (arith, h.1)
   told_excluded (TooManyHandles at) h = let s = y.1.few in omega (arith, h.2)
-  told_excluded (Truncated at) h =
-      let r = message_item t fine whole e lt y in
-      let primary = ap (λ n. next_multiple_of n 8) size in
-      omega (arith, h.2, r.0, primary)
+  told_excluded (Truncated at) h = elim h.1 [
+    | inl p ↦ let r = message_item t fine whole e lt [] [] y in
+        let primary = ap (λ n. next_multiple_of n 8) size in
+        omega (arith, p.1, r.0, primary)
+    | inr b ↦ part_excluded (Truncated at) b
+  ]
   told_excluded (Padding at) h = part_excluded (Padding at) h.1
   told_excluded (BadBool at) h = part_excluded (BadBool at) h.1
+  told_excluded (UnknownValue at) h = part_excluded (UnknownValue at) h.1
+  told_excluded (UnknownBits at) h = part_excluded (UnknownBits at) h.1
+  told_excluded (BadMarker at) h = part_excluded (BadMarker at) h.1
+  told_excluded (AbsentRequired at) h = part_excluded (AbsentRequired at) h.1
+  told_excluded (BadCount at) h = part_excluded (BadCount at) h.1
+  told_excluded (OverBound at) h = part_excluded (OverBound at) h.1
+  told_excluded (NotUtf8 at) h = part_excluded (NotUtf8 at) h.1
+  told_excluded (TooDeep at) h = part_excluded (TooDeep at) h.1
+  told_excluded (HandleMissing at) h = part_excluded (HandleMissing at) h.1
+  told_excluded (WrongHandle at) h = part_excluded (WrongHandle at) h.1
   told_excluded (BytesLeft at) h =
       let before = h.1 in
       let n = h.2.0 in

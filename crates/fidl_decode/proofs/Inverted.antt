@@ -1,6 +1,7 @@
 -- What a message that breaks a rule says of its parts, and worked refusals.
 use Rattle.std.proofs.Common.{◌≡◌, ℕ, ◌+◌, List, [], ◌∷◌, refl, sym, subst, ◌∙◌, arith, inl, inr, true, pos}
 use Rattle.std.specs.Prelude.{◌⊎◌, Some, None, codes}
+use Rattle.std.specs.Int.{next_multiple_of}
 use Rattle.fidl_wire.specs.Value.{bool, number}
 use Rattle.fidl_wire.specs.Term.{Term, no_fields, field, uint8, uint32, resolve}
 use Rattle.fidl_wire.specs.Term as ty
@@ -8,35 +9,50 @@ use Rattle.fidl_wire.specs.Figure.{Declarations, no_declarations, size_of}
 use Rattle.fidl_wire.specs.Encoding.{zeros}
 use Rattle.fidl_decode.specs.declared.fault.DecodeFault.{DecodeFault}
 use Rattle.fidl_decode.specs.declared.fault.DecodeFault.TheVariants.{Padding, BadBool}
-use Rattle.fidl_decode.specs.State.{Message, At, Item}
-use Rattle.fidl_decode.specs.Breaks.{Part, parts_of, IsPadding, BreaksField, Breaks, BreaksParts, in_field, in_parts, in_gap, in_next, in_later, in_end}
-use Rattle.fidl_decode.proofs.Rows.{past_inline}
+use Rattle.fidl_decode.specs.State.{Message, At, linked, Item}
+use Rattle.fidl_decode.specs.Breaks.{Part, parts_of, Object, object_of, IsPadding, BreaksRule, Breaks, BreaksParts, in_field, in_parts, in_object, in_gap, in_next, in_later, in_end}
 use Rattle.fidl_decode.specs.Faults.{IsTold, message_of, start_of}
 
 no_part : (ps : List Part) → None ≡ Some ps → ⊥
 no_part ps e = cc
+
+no_object : (o : Object) → None ≡ Some o → ⊥
+no_object o e = cc
+
+only_object : (o p : Object) → Some o ≡ Some p → o ≡ p
+only_object o p e = cc
 
 only_parts : (ps qs : List Part) → Some ps ≡ Some qs → ps ≡ qs
 only_parts ps qs e = cc
 
 module _ (ds : Declarations) (m : Message) (held : ℕ) where
   -- a field breaks its own rule
-  of_field : (t : Term) (place : ℕ) (from : At) (fault : DecodeFault) → parts_of ds t ≡ None → Breaks ds m held t place from fault → BreaksField m t place fault
+  pub of_field : (t : Term) (place : ℕ) (from : At) (fault : DecodeFault) → (parts_of ds t ≡ None) × (object_of ds m.bytes t place ≡ None) → Breaks ds m held t place from fault → BreaksRule ds m held t place from.next from.handle fault
   of_field t place from fault none (in_field t' place' from' fault' b) = b
-  of_field t place from fault none (in_parts t' place' from' fault' ps is b) = absurd (no_part ps (sym none ∙ is))
+  of_field t place from fault none (in_parts t' place' from' fault' ps is b) = absurd (no_part ps (sym none.0 ∙ is))
+  of_field t place from fault none (in_object t' place' from' fault' o is ones right b) = absurd (no_object o (sym none.1 ∙ is))
 
   -- an object with parts breaks a rule in one of them, or in a gap
-  of_object : (t : Term) (place : ℕ) (from : At) (fault : DecodeFault) (ps : List Part) → (BreaksField m t place fault → ⊥) → parts_of ds t ≡ Some ps → Breaks ds m held t place from fault → BreaksParts ds m held (size_of ds t) place 0 ps from fault
+  pub of_object : (t : Term) (place : ℕ) (from : At) (fault : DecodeFault) (ps : List Part) → (BreaksRule ds m held t place from.next from.handle fault → ⊥) → (parts_of ds t ≡ Some ps) × (object_of ds m.bytes t place ≡ None) → Breaks ds m held t place from fault → BreaksParts ds m held (size_of ds t) place 0 ps from fault
   of_object t place from fault ps none is (in_field t' place' from' fault' b) = absurd (none b)
-  of_object t place from fault ps none is (in_parts t' place' from' fault' qs has b) = subst (λ (l : List Part). BreaksParts ds m held (size_of ds t) place 0 l from fault) (only_parts qs ps (sym has ∙ is)) b
+  of_object t place from fault ps none is (in_parts t' place' from' fault' qs has b) = subst (λ (l : List Part). BreaksParts ds m held (size_of ds t) place 0 l from fault) (only_parts qs ps (sym has ∙ is.0)) b
+  of_object t place from fault ps none is (in_object t' place' from' fault' o has ones right b) = absurd (no_object o (sym is.1 ∙ has))
 
-  of_parts : (size base done : ℕ) (p : Part) (ps : List Part) (from : At) (fault : DecodeFault) → BreaksParts ds m held size base done (p ∷ ps) from fault
+  -- what points to an object breaks its own rule, or the object does
+  pub of_pointed : (t : Term) (place : ℕ) (from : At) (fault : DecodeFault) (o : Object) → (parts_of ds t ≡ None) × (object_of ds m.bytes t place ≡ Some o) → Breaks ds m held t place from fault
+      → BreaksRule ds m held t place from.next from.handle fault ⊎ BreaksParts ds m (held + 1) (next_multiple_of o.size 8) from.next 0 o.parts (linked o.marker o.size from) fault
+  of_pointed t place from fault o is (in_field t' place' from' fault' b) = inl b
+  of_pointed t place from fault o is (in_parts t' place' from' fault' ps has b) = absurd (no_part ps (sym is.0 ∙ has))
+  of_pointed t place from fault o is (in_object t' place' from' fault' p has ones right b) =
+      inr (subst (λ (o : Object). BreaksParts ds m (held + 1) (next_multiple_of o.size 8) from.next 0 o.parts (linked o.marker o.size from) fault) (only_object p o (sym has ∙ is.1)) b)
+
+  pub of_parts : (size base done : ℕ) (p : Part) (ps : List Part) (from : At) (fault : DecodeFault) → BreaksParts ds m held size base done (p ∷ ps) from fault
       → IsPadding m.bytes (base + done) (base + p.offset) fault ⊎ (Breaks ds m held (resolve ds.terms p.term) (base + p.offset) from fault ⊎ ((mid : At) × BreaksParts ds m held size base (p.offset + size_of ds p.term) ps mid fault))
   of_parts size base done p ps from fault (in_gap size' base' done' p' ps' from' fault' b) = inl b
   of_parts size base done p ps from fault (in_next size' base' done' p' ps' from' fault' z b) = inr (inl b)
   of_parts size base done p ps from fault (in_later size' base' done' p' ps' from' mid fault' z i b) = inr (inr (mid, b))
 
-  of_end : (size base done : ℕ) (from : At) (fault : DecodeFault) → BreaksParts ds m held size base done [] from fault → IsPadding m.bytes (base + done) (base + size) fault
+  pub of_end : (size base done : ℕ) (from : At) (fault : DecodeFault) → BreaksParts ds m held size base done [] from fault → IsPadding m.bytes (base + done) (base + size) fault
   of_end size base done from fault (in_end size' base' done' from' fault' b) = b
 
 -- ---- struct {a uint8; b uint32;}
@@ -54,7 +70,7 @@ abbrev part_b : Part
 part_b = record { offset = 4; term = ty.number uint32 }
 
 number_a : (from : At) → Item no_declarations two_bad 0 (ty.number uint8) 0 from from
-number_a from = record { value = number (pos 1); typed = omega arith; shallow = omega arith; stands = record { inline = (omega arith, refl, tt); out = tt; carried = tt }; end = sym (past_inline (1 ∷ []) from) }
+number_a from = record { value = number (pos 1); typed = omega arith; shallow = omega arith; stands = record { inline = (omega arith, refl, tt); out = tt; carried = tt }; end = refl }
 
 pub first_bad : IsTold no_declarations pair two_bad.bytes two_bad.handles (Padding 2)
 first_bad = (
@@ -68,14 +84,14 @@ first_bad = (
 only_there : (at : ℕ) → (IsPadding two_bad.bytes 8 8 (Padding at) → ⊥) → (IsPadding two_bad.bytes 0 0 (Padding at) → ⊥) → (IsPadding two_bad.bytes 1 4 (Padding at) → ⊥) → IsTold no_declarations pair two_bad.bytes two_bad.handles (Padding at) → ⊥
 only_there at behind before between h = elim h.1 [
   | inl p ↦ behind p
-  | inr b ↦ elim (of_parts no_declarations two_bad 0 8 0 0 part_a (part_b ∷ []) (start_of 8) (Padding at) (of_object no_declarations two_bad 0 pair 0 (start_of 8) (Padding at) (part_a ∷ part_b ∷ []) (λ x. x) refl b)) [
+  | inr b ↦ elim (of_parts no_declarations two_bad 0 8 0 0 part_a (part_b ∷ []) (start_of 8) (Padding at) (of_object no_declarations two_bad 0 pair 0 (start_of 8) (Padding at) (part_a ∷ part_b ∷ []) (λ x. x) (refl, refl) b)) [
     | inl p ↦ before p
     | inr c ↦ elim c [
-      | inl n ↦ of_field no_declarations two_bad 0 (ty.number uint8) 0 (start_of 8) (Padding at) refl n
+      | inl n ↦ of_field no_declarations two_bad 0 (ty.number uint8) 0 (start_of 8) (Padding at) (refl, refl) n
       | inr l ↦ elim (of_parts no_declarations two_bad 0 8 0 1 part_b [] l.0 (Padding at) l.1) [
         | inl p ↦ between p
         | inr d ↦ elim d [
-          | inl n ↦ of_field no_declarations two_bad 0 (ty.number uint32) 4 l.0 (Padding at) refl n
+          | inl n ↦ of_field no_declarations two_bad 0 (ty.number uint32) 4 l.0 (Padding at) (refl, refl) n
           | inr e ↦ behind (of_end no_declarations two_bad 0 8 0 8 e.0 (Padding at) e.1)
         ]
       ]
@@ -104,7 +120,7 @@ abbrev array_of : Term → Part
 array_of t = record { offset = 0; term = ty.array t 2 }
 
 true_there : (from : At) → Item no_declarations ones 0 ty.bool 0 from from
-true_there from = record { value = bool true; typed = tt; shallow = omega arith; stands = record { inline = (omega arith, refl, tt); out = tt; carried = tt }; end = sym (past_inline (1 ∷ []) from) }
+true_there from = record { value = bool true; typed = tt; shallow = omega arith; stands = record { inline = (omega arith, refl, tt); out = tt; carried = tt }; end = refl }
 
 pub bad_element : IsTold no_declarations (ty.struct (field (codes "v") (ty.array ty.bool 2) no_fields)) ones.bytes ones.handles (BadBool 1)
 bad_element = (
@@ -117,11 +133,11 @@ bad_element = (
 )
 
 no_bool : (place : ℕ) (from : At) → Breaks no_declarations ones 0 (ty.number uint8) place from (BadBool 1) → ⊥
-no_bool place from b = of_field no_declarations ones 0 (ty.number uint8) place from (BadBool 1) refl b
+no_bool place from b = of_field no_declarations ones 0 (ty.number uint8) place from (BadBool 1) (refl, refl) b
 
 no_element : (from : At) → Breaks no_declarations ones 0 (ty.array (ty.number uint8) 2) 0 from (BadBool 1) → ⊥
 no_element from b = elim (of_parts no_declarations ones 0 2 0 0 (first_of_type (ty.number uint8)) (second_of_type (ty.number uint8) ∷ []) from (BadBool 1)
-    (of_object no_declarations ones 0 (ty.array (ty.number uint8) 2) 0 from (BadBool 1) (first_of_type (ty.number uint8) ∷ second_of_type (ty.number uint8) ∷ []) (λ x. x) refl b)) [
+    (of_object no_declarations ones 0 (ty.array (ty.number uint8) 2) 0 from (BadBool 1) (first_of_type (ty.number uint8) ∷ second_of_type (ty.number uint8) ∷ []) (λ x. x) (refl, refl) b)) [
       | inl p ↦ p
       | inr c ↦ elim c [
         | inl n ↦ no_bool 0 from n
@@ -139,7 +155,7 @@ pub number_no_bool : IsTold no_declarations (ty.struct (field (codes "v") (ty.ar
 number_no_bool h = elim h.1 [
   | inl p ↦ p
   | inr b ↦ elim (of_parts no_declarations ones 0 2 0 0 (array_of (ty.number uint8)) [] (start_of 2) (BadBool 1)
-      (of_object no_declarations ones 0 (ty.struct (field (codes "v") (ty.array (ty.number uint8) 2) no_fields)) 0 (start_of 2) (BadBool 1) (array_of (ty.number uint8) ∷ []) (λ x. x) refl b)) [
+      (of_object no_declarations ones 0 (ty.struct (field (codes "v") (ty.array (ty.number uint8) 2) no_fields)) 0 (start_of 2) (BadBool 1) (array_of (ty.number uint8) ∷ []) (λ x. x) (refl, refl) b)) [
         | inl p ↦ p
         | inr c ↦ elim c [
           | inl n ↦ no_element (start_of 2) n

@@ -1,6 +1,6 @@
 -- Turns behind one another: what is read of a frame in place, up to a frame that is left of it.
 use Rattle.std.proofs.Common.{◌≡◌, ℕ, zero, suc, ◌+◌, ◌-◌, ◌*◌, ◌<◌, ◌≤◌, List, [], ◌∷◌, length, get_or, refl, sym, ap, subst, ◌∙◌, arith, mul-suc, inl, inr}
-use Rattle.std.specs.Prelude.{Option, Some, None}
+use Rattle.std.specs.Prelude.{Option, Some, None, true}
 use Rattle.fidl_wire.specs.Term.{resolve}
 use Rattle.fidl_wire.specs.Term as ty
 use Rattle.fidl_wire.specs.Figure.{Declarations, size_of}
@@ -8,11 +8,10 @@ use Rattle.fidl_wire.specs.Encoding.{zeros}
 use Rattle.fidl_wire.specs.Standing.{Stands}
 use Rattle.fidl_records.specs.declared.record.Row as raw
 use Rattle.fidl_records.specs.declared.kind.EntryKind.{EntryKind}
-use Rattle.fidl_records.specs.declared.kind.EntryKind.TheVariants.{Bool as Boolean, Array, Struct}
 use Rattle.fidl_records.specs.Kind.{kind_of}
 use Rattle.fidl_records.specs.Section.{header_of, entry_at, row_at}
 use Rattle.fidl_records.specs.Terms.{declarations_of}
-use Rattle.fidl_decode.specs.Fine.{IsFine}
+use Rattle.fidl_decode.specs.Fine.{IsFine, is_free}
 use Rattle.fidl_decode.specs.declared.frame.Frame.{Frame}
 use Rattle.fidl_decode.specs.declared.frame.Left.{Left}
 use Rattle.fidl_decode.specs.declared.frame.Left.TheVariants.{Rows, Elements}
@@ -21,10 +20,10 @@ use Rattle.fidl_decode.specs.Rows.{Row, table_rows, element_rows}
 use Rattle.fidl_decode.specs.State.{Message, At, Item}
 use Rattle.fidl_decode.specs.declared.fault.DecodeFault.{DecodeFault}
 use Rattle.fidl_decode.specs.Breaks.{IsPadding, Breaks}
-use Rattle.fidl_decode.specs.Machine.{rows_left, Reads, ReadsIf, BreaksFrame, LeftFine, height, FrameFine, frame_work, StateFine, Visits, Turns}
+use Rattle.fidl_decode.specs.Machine.{rows_left, Reads, ReadsIf, BreaksFrame, LeftFine, height, FrameFine, frame_work, probes, StateFine, Visits, Turns}
 use Rattle.fidl_decode.proofs.Stated.{table_rows-more, element_rows-more}
-use Rattle.fidl_decode.proofs.Visiting.{size_is, positive, visits_number}
-use Rattle.fidl_decode.proofs.Turning.{fine_from, done_fits, spends, end_refused, turns_end, row_fine, row_room, gap_refused, visit_refused, turns_more, end_breaks, gap_breaks, visit_breaks}
+use Rattle.fidl_decode.proofs.Visiting.{size_is, positive, visits_free}
+use Rattle.fidl_decode.proofs.Turning.{fine_from, done_fits, spends, spends_more, end_refused, turns_end, row_fine, row_room, gap_refused, visit_refused, turns_more, end_breaks, gap_breaks, visit_breaks}
 
 -- a frame with other members left, so many of its bytes read
 abbrev pub going_on : Frame → Left → (done : ℕ) → Frame
@@ -132,12 +131,13 @@ module _ (t : List ℕ) (fine : IsFine t) (m : Message) (f : Frame) (old now : A
     next_size = size_is t fine r.entry next_known
 
     -- it lies behind what is read, within the frame and the message, and there is work for it
-    pub next_room : (g.done ≤ r.offset) × (r.offset + (entry_at t r.entry).size ≤ g.size) × (g.base + g.size ≤ length m.bytes) × (r.offset - g.done + 1 ≤ frame_work g)
+    pub next_room : (g.done ≤ r.offset) × (r.offset + (entry_at t r.entry).size ≤ g.size) × (g.base + g.size ≤ length m.bytes) × (r.offset - g.done + 1 + probes ≤ frame_work g)
     next_room =
         let known = row_fine t fine m g now gf turns.state r left one in
         let fits = row_room t fine m g now gf turns.state r left one in
         let size = next_size in
-        (known.1, omega (arith, size), gf.room, spends g.nest (r.offset - g.done) (g.size - g.done) (omega (arith, fits)))
+        let pos = positive t fine r.entry next_known in
+        (known.1, omega (arith, size), gf.room, spends_more g.nest (r.offset - g.done) (g.size - g.done) (omega (arith, fits, known.1, pos)))
 
     pub next_gap_refused : (Stands m.bytes (g.base + g.done) (zeros (g.base + r.offset - (g.base + g.done))) → ⊥) → (to : At) → Reads t m f old to → ⊥
     next_gap_refused bad = turns_refused t m f old now a g turns (λ to. gap_refused t fine m g now gf turns.state r left one to bad)
@@ -152,15 +152,17 @@ module _ (t : List ℕ) (fine : IsFine t) (m : Message) (f : Frame) (old now : A
     next_leaf_breaks fault z b = turns_break t m f old now a g turns fault (visit_breaks t fine m g now gf turns.state r left one fault z b)
 
     -- it is a leaf, or leads to what is below
-    pub next_takes : LeftFine t left → (below : Option Frame) (new : At) (done n : ℕ) → done ≡ r.offset + (entry_at t r.entry).size → n ≤ a + (g.base + r.offset - (g.base + g.done) + 1) → Stands m.bytes (g.base + g.done) (zeros (g.base + r.offset - (g.base + g.done))) → Visits t m g.depth r.entry (g.base + r.offset) now new below
+    pub next_takes : LeftFine t left → (below : Option Frame) (new : At) (done spent n : ℕ) → done ≡ r.offset + (entry_at t r.entry).size → n ≤ a + (g.base + r.offset - (g.base + g.done) + 1 + spent)
+        → Stands m.bytes (g.base + g.done) (zeros (g.base + r.offset - (g.base + g.done))) → Visits t m g.depth r.entry (g.base + r.offset) now new spent below
         → Turns t m f old new n (record { below = below; rest = Some (going_on g left done) })
-    next_takes left_fine below new done n is le z v =
-        turns_then t m f old now a g turns new (g.base + r.offset - (g.base + g.done) + 1) n (record { below = below; rest = Some (going_on g left done) }) le
-        (turns_more t fine m g now gf turns.state r left one (positive t fine r.entry next_known) left_fine below new done (omega (arith, is, next_size)) z v)
+    next_takes left_fine below new done spent n is le z v =
+        turns_then t m f old now a g turns new (g.base + r.offset - (g.base + g.done) + 1 + spent) n (record { below = below; rest = Some (going_on g left done) }) le
+        (turns_more t fine m g now gf turns.state r left one (positive t fine r.entry next_known) left_fine below new done spent (omega (arith, is, next_size)) z v)
 
-    pub next_turns : LeftFine t left → (new : At) (done n : ℕ) → done ≡ r.offset + (entry_at t r.entry).size → n ≤ a + (g.base + r.offset - (g.base + g.done) + 1) → Stands m.bytes (g.base + g.done) (zeros (g.base + r.offset - (g.base + g.done))) → Visits t m g.depth r.entry (g.base + r.offset) now new None
+    pub next_turns : LeftFine t left → (new : At) (done spent n : ℕ) → done ≡ r.offset + (entry_at t r.entry).size → n ≤ a + (g.base + r.offset - (g.base + g.done) + 1 + spent)
+        → Stands m.bytes (g.base + g.done) (zeros (g.base + r.offset - (g.base + g.done))) → Visits t m g.depth r.entry (g.base + r.offset) now new spent None
         → Turns t m f old new n (left_over (Some (going_on g left done)))
-    next_turns left_fine new done n is le z v = next_takes left_fine None new done n is le z v
+    next_turns left_fine new done spent n is le z v = next_takes left_fine None new done spent n is le z v
 
 -- the next of a struct's rows
 pub rows_next : (t : List ℕ) (first end done d : ℕ) (w : raw.Row) → w ≡ row_at t (header_of t) first → first < end → rows_left t done (Rows first (end - first)) ≡ (let x : Row = record { offset = w.key; entry = w.entry } in x) ∷ rows_left t d (Rows (first + 1) (end - (first + 1)))
@@ -192,7 +194,7 @@ module _ (t : List ℕ) (fine : IsFine t) (m : Message) (e size : ℕ) (f : Fram
   abbrev at_element : (n done : ℕ) → Frame
   at_element n done = going_on f (Elements e size n) done
 
-  pub any_elements : (n done : ℕ) → FrameFine t m.bytes (at_element n done) → StateFine m at → ((place : ℕ) → e < (header_of t).entries → place + (entry_at t e).size ≤ length m.bytes → Visits t m f.depth e place at at None)
+  pub any_elements : (n done : ℕ) → FrameFine t m.bytes (at_element n done) → StateFine m at → ((place : ℕ) → e < (header_of t).entries → place + (entry_at t e).size ≤ length m.bytes → Visits t m f.depth e place at at 0 None)
       → Turns t m (at_element n done) at at 0 (left_over (Some (at_element 0 (done + size * n))))
   any_elements zero done ff state v =
       let none : done ≡ done + size * 0 = omega arith in
@@ -208,7 +210,7 @@ module _ (t : List ℕ) (fine : IsFine t) (m : Message) (e size : ℕ) (f : Fram
       let own = next_size t fine m g at at 0 g start r left one in
       let room = next_room t fine m g at at 0 g start r left one in
       let none : f.base + done - (f.base + done) ≡ 0 = omega arith in
-      let step = next_turns t fine m g at at 0 g start r left one is at (done + size) 0 (omega (arith, is, own)) (omega arith) (no_zeros m.bytes (f.base + done) _ none) (v (f.base + done) known (omega (arith, room.1, room.2))) in
+      let step = next_turns t fine m g at at 0 g start r left one is at (done + size) 0 0 (omega (arith, is, own)) (omega arith) (no_zeros m.bytes (f.base + done) _ none) (v (f.base + done) known (omega (arith, room.1, room.2))) in
       let on = any_elements n (done + size) step.rest_fine.0 state v in
       let more : size * suc n ≡ size * n + size = mul-suc size n in
       let same : done + size + size * n ≡ done + size * suc n = omega arith in
@@ -227,11 +229,11 @@ module _ (t : List ℕ) (fine : IsFine t) (m : Message) (f : Frame) (old : At) (
       next_known t fine m f old old 0 (going_on f (Elements e size count) f.done) start (let x : Row = record { offset = f.done; entry = e } in x) (Elements e size (count - (0 + 1)))
       (ap (λ n. rows_left t f.done (Elements e size n)) all ∙ elements_next t e size 0 count f.done own none)
 
-  pub any_turns : ((place : ℕ) → e < (header_of t).entries → place + (entry_at t e).size ≤ length m.bytes → Visits t m f.depth e place old old None)
+  pub any_turns : ((place : ℕ) → e < (header_of t).entries → place + (entry_at t e).size ≤ length m.bytes → Visits t m f.depth e place old old 0 None)
       → Turns t m f old old 0 (left_over (Some (going_on f (Elements e size 0) (f.done + size * count))))
   any_turns v = turns_then t m f old old 0 (going_on f (Elements e size count) f.done) start old 0 0 (left_over (Some (going_on f (Elements e size 0) (f.done + size * count)))) (omega arith) (any_elements t fine m e size f old count f.done start.rest_fine.0 state v)
 
-  -- numbers are any bytes
-  pub number_turns : (k : EntryKind) → kind_of (entry_at t e).kind ≡ Some k → (k ≡ Boolean → ⊥) → (k ≡ Array → ⊥) → (k ≡ Struct → ⊥) → ((i : ℕ) → get_or m.bytes i 0 < 256)
+  -- any bytes are elements
+  pub free_turns : (k : EntryKind) → kind_of (entry_at t e).kind ≡ Some k → is_free k (entry_at t e) ≡ true → ((i : ℕ) → get_or m.bytes i 0 < 256)
       → Turns t m f old old 0 (left_over (Some (going_on f (Elements e size 0) (f.done + size * count))))
-  number_turns k known b a s small = any_turns (λ place lt room. visits_number t fine m f.depth e place old lt state ff.depth k known b a s room small)
+  free_turns k known free small = any_turns (λ place lt room. visits_free t fine m f.depth e place old lt state ff.depth k known free 0 (omega arith) room small)

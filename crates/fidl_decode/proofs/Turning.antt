@@ -1,6 +1,5 @@
 -- What a turn on a frame does.
 use Rattle.std.proofs.Common.{◌≡◌, ℕ, ◌+◌, ◌-◌, ◌*◌, ◌<◌, ◌≤◌, List, [], ◌∷◌, refl, sym, subst, ◌∙◌, arith, inl, inr}
-use Rattle.fidl_wire.specs.declared.limits.TheConstants.{MAX_NEST}
 use Rattle.std.specs.Prelude.{Option, Some, None, Result, Ok, Err, OnErr, OnOk, IfErr}
 use Rattle.std.specs.Result.{IsErrAnd}
 use Rattle.std.proofs.Math.Nat.{mul-le-mul_left, mul-le-mul_right}
@@ -19,7 +18,7 @@ use Rattle.fidl_decode.specs.State.{Message, At, Item, Members}
 use Rattle.fidl_decode.specs.declared.fault.DecodeFault.{DecodeFault}
 use Rattle.fidl_decode.specs.Breaks.{IsPadding, Breaks, BreaksParts}
 use Rattle.fidl_decode.specs.Breaks as broken
-use Rattle.fidl_decode.specs.Machine.{rows_left, Reads, row_parts, BreaksFrame, LeftFine, FrameFine, FineIf, StateFine, Visits, Turns}
+use Rattle.fidl_decode.specs.Machine.{rows_left, Reads, row_parts, BreaksFrame, LeftFine, level, height, FrameFine, FineIf, StateFine, Visits, Turns, inline_work, probes}
 use Rattle.fidl_decode.proofs.Rows.{rows_fit, members_end, members_more, more_members}
 
 -- what holds anyway, at an error
@@ -32,23 +31,36 @@ pub passed_on : {T E : Type 0} (r : Result T E) (e : E) (P : E → Type 0) → I
 passed_on (Ok x) e P h p = tt
 passed_on (Err y) e P h p = subst P (sym h) p
 
+-- what each error excludes
+pub refused_by : {T E : Type 0} (r : Result T E) (P : E → Type 0) (Q : Type 0) → ((e : E) → P e → Q) → IfErr r P → OnErr r Q
+refused_by (Ok x) P Q f h = tt
+refused_by (Err e) P Q f h = f e h
+
 pub on_ok_two : {T E P Q R : Type 0} (r : Result T E) → (P → Q → R) → OnOk r P → OnOk r Q → OnOk r R
 on_ok_two (Ok x) f p q = f p q
 on_ok_two (Err e) f p q = tt
+
+pub on_ok_three : {T E P Q S R : Type 0} (r : Result T E) → (P → Q → S → R) → OnOk r P → OnOk r Q → OnOk r S → OnOk r R
+on_ok_three (Ok x) f p q s = f p q s
+on_ok_three (Err e) f p q s = tt
 
 pub on_ok_from : {T E P Q : Type 0} (r : Result T E) → (P → Q) → OnOk r P → OnOk r Q
 on_ok_from (Ok x) f p = f p
 on_ok_from (Err e) f p = tt
 
-work_falls : (n k s g a b : ℕ) → k < n → 0 < s → b + s + g ≤ a → (2 * k + 2) * s + 1 + ((2 * n + 2) * b + 1) + (g + 1) ≤ (2 * n + 2) * a + 1
+work_falls : (n k s g a b : ℕ) → k < n → 0 < s → b + s + g ≤ a → inline_work k * s + 1 + (inline_work n * b + 1) + (g + 1) ≤ inline_work n * a + 1
 work_falls n k s g a b lt pos le =
-    let more : 2 * k + 4 ≤ 2 * n + 2 = omega arith in
-    let one : 1 ≤ 2 * n + 2 = omega arith in
-    omega (arith, mul-le-mul_left (2 * n + 2) le, mul-le-mul_right s more, mul-le-mul_right g one)
+    let more : inline_work k + 2 ≤ inline_work n = omega arith in
+    let one : 1 ≤ inline_work n = omega arith in
+    omega (arith, mul-le-mul_left (inline_work n) le, mul-le-mul_right s more, mul-le-mul_right g one)
 
 -- what a turn spends on zeros is within the frame's work
-pub spends : (n x y : ℕ) → x ≤ y → x + 1 ≤ (2 * n + 2) * y + 1
-spends n x y le = let one : 1 ≤ 2 * n + 2 = omega arith in omega (arith, mul-le-mul_right y one)
+pub spends : (n x y : ℕ) → x ≤ y → x + 1 ≤ inline_work n * y + 1
+spends n x y le = let one : 1 ≤ inline_work n = omega arith in omega (arith, mul-le-mul_right y one)
+
+-- and what it spends on a search too, where a byte is left
+pub spends_more : (n x y : ℕ) → x < y → x + 1 + probes ≤ inline_work n * y + 1
+spends_more n x y lt = let many : 2 + probes ≤ inline_work n = omega arith in omega (arith, mul-le-mul_right y many)
 
 pub fine_from : (t : List ℕ) (m : List ℕ) (h k : ℕ) (o : Option Frame) → k ≤ h → FineIf t m h o → FineIf t m k o
 fine_from t m h k None le x = tt
@@ -125,15 +137,15 @@ module _ (t : List ℕ) (fine : IsFine t) (m : Message) (f : Frame) (old : At) (
         → BreaksParts ds m f.depth f.size f.base (r.offset + size_of ds (ty.named r.entry)) (row_parts rest) mid fault → BreaksFrame t m f old fault
     rest_breaks fault mid z i b = parts_break fault (broken.in_later f.size f.base f.done _ _ old mid fault (subst (λ n. Stands m.bytes (f.base + f.done) (zeros n)) gap z) i b)
 
-    pub turns_more : 0 < size_of ds (ty.named r.entry) → LeftFine t left → (below : Option Frame) (new : At) (done : ℕ) → done ≡ r.offset + size_of ds (ty.named r.entry) → Stands m.bytes (f.base + f.done) (zeros (f.base + r.offset - (f.base + f.done))) → Visits t m f.depth r.entry (f.base + r.offset) old new below
-        → Turns t m f old new (f.base + r.offset - (f.base + f.done) + 1) (record { below = below; rest = Some (record { left = left; base = f.base; done = done; size = f.size; nest = f.nest; depth = f.depth }) })
-    turns_more pos left_fine below new done done-is z v =
+    pub turns_more : 0 < size_of ds (ty.named r.entry) → LeftFine t left → (below : Option Frame) (new : At) (done spent : ℕ) → done ≡ r.offset + size_of ds (ty.named r.entry) → Stands m.bytes (f.base + f.done) (zeros (f.base + r.offset - (f.base + f.done))) → Visits t m f.depth r.entry (f.base + r.offset) old new spent below
+        → Turns t m f old new (f.base + r.offset - (f.base + f.done) + 1 + spent) (record { below = below; rest = Some (record { left = left; base = f.base; done = done; size = f.size; nest = f.nest; depth = f.depth }) })
+    turns_more pos left_fine below new done spent done-is z v =
         let s = size_of ds (ty.named r.entry) in
         let n = (figure_of ds.figures (ty.named r.entry)).nest in
         let d = r.offset + s in
         let z' = subst (λ k. Stands m.bytes (f.base + f.done) (zeros k)) gap z in
         let falls = work_falls f.nest n s (r.offset - f.done) (f.size - f.done) (f.size - d) row_fine.2 pos (omega (arith, row_room, row_fine.1)) in
-        let main : Turns t m f old new (f.base + r.offset - (f.base + f.done) + 1) (record { below = below; rest = Some (record { left = left; base = f.base; done = d; size = f.size; nest = f.nest; depth = f.depth }) }) = record {
+        let main : Turns t m f old new (f.base + r.offset - (f.base + f.done) + 1 + spent) (record { below = below; rest = Some (record { left = left; base = f.base; done = d; size = f.size; nest = f.nest; depth = f.depth }) }) = record {
           same = λ to. (
             (λ x. let a = (apart to x).1 in (a.0, (v.same a.0).0 a.1, a.2)),
             (λ y. subst (λ (rs : List Row). Members ds m f.depth f.size f.base f.done rs old to) (sym one) (more_members ds fine.laid_out m f.depth (header_of t).entries f.nest f.size f.base f.done r rest old y.0 to row_fine z' ((v.same y.0).1 y.1) y.2)),
@@ -143,8 +155,8 @@ module _ (t : List ℕ) (fine : IsFine t) (m : Message) (f : Frame) (old : At) (
             | inr y ↦ rest_breaks fault y.0 z ((v.same y.0).1 y.1) y.2
           ];
           state = v.state;
-          below_fine = fine_from t m.bytes (f.depth * (MAX_NEST + 1) + (MAX_NEST - n)) (f.depth * (MAX_NEST + 1) + (MAX_NEST - f.nest) + 1) below (omega (arith, row_fine.2, ff.nest)) v.fine;
+          below_fine = fine_from t m.bytes (level f.depth n) (height f + 1) below (omega (arith, row_fine.2, ff.nest)) v.fine;
           rest_fine = (record { left = left_fine; room = ff.room; nest = ff.nest; depth = ff.depth; rise = row_fine.3 }, omega arith);
           less = omega (arith, v.less, falls, gap);
         } in
-        subst (λ k. Turns t m f old new (f.base + r.offset - (f.base + f.done) + 1) (record { below = below; rest = Some (record { left = left; base = f.base; done = k; size = f.size; nest = f.nest; depth = f.depth }) })) (sym done-is) main
+        subst (λ k. Turns t m f old new (f.base + r.offset - (f.base + f.done) + 1 + spent) (record { below = below; rest = Some (record { left = left; base = f.base; done = k; size = f.size; nest = f.nest; depth = f.depth }) })) (sym done-is) main

@@ -1,9 +1,9 @@
 -- What a state of the decoder still has to read, said by values and never by a run.
 use Rattle.std.specs.Prelude.{◌≡◌, ℕ, suc, ◌+◌, ◌-◌, ◌*◌, ◌<◌, ◌≤◌, ◌⊎◌, ◌↔◌, List, [], ◌∷◌, length, Option, Some, None}
-use Rattle.fidl_wire.specs.declared.limits.TheConstants.{MAX_DEPTH, MAX_NEST}
+use Rattle.fidl_wire.specs.declared.limits.TheConstants.{MAX_DEPTH, MAX_NEST, MAX_MESSAGE_HANDLES}
 use Rattle.fidl_wire.specs.Term as ty
-use Rattle.fidl_wire.specs.Term.{resolve}
-use Rattle.fidl_wire.specs.Figure.{figure_of}
+use Rattle.fidl_wire.specs.Term.{Term, resolve}
+use Rattle.fidl_wire.specs.Figure.{Declarations, figure_of}
 use Rattle.fidl_records.specs.Section.{header_of}
 use Rattle.fidl_records.specs.Terms.{declarations_of}
 use Rattle.fidl_decode.specs.declared.fault.DecodeFault.{DecodeFault}
@@ -59,9 +59,17 @@ abbrev pub BreaksStack : List ℕ → Message → List Frame → At → DecodeFa
 BreaksStack t m [] from fault = ⊥
 BreaksStack t m (f ∷ fs) from fault = BreaksStack t m fs from fault ⊎ ((mid : At) × Finishes t m fs from mid × BreaksFrame t m f mid fault)
 
--- how deep a frame lies, by depth and nest
+-- the greatest nest of a frame: that of a vector is one more than its elements have
+abbrev pub most_nest : ℕ
+most_nest = MAX_NEST + 1
+
+-- how deep something lies, by depth and nest
+abbrev pub level : (depth nest : ℕ) → ℕ
+level depth nest = depth * (most_nest + 1) + (most_nest - nest)
+
+-- how deep a frame lies
 abbrev pub height : Frame → ℕ
-height f = f.depth * (MAX_NEST + 1) + (MAX_NEST - f.nest)
+height f = level f.depth f.nest
 
 -- a struct's rows that are left lie in the table; elements have their size
 abbrev pub LeftFine : List ℕ → Left → Type 0
@@ -71,7 +79,7 @@ LeftFine t (Elements entry size count) = (figure_of (declarations_of t).figures 
 pub record FrameFine (t : List ℕ) (m : List ℕ) (f : Frame) : Type 0 where
   pub left : LeftFine t f.left
   pub room : f.base + f.size ≤ length m
-  pub nest : f.nest ≤ MAX_NEST
+  pub nest : f.nest ≤ most_nest
   pub depth : f.depth ≤ MAX_DEPTH
   pub rise : RowsRise (declarations_of t) (header_of t).entries f.nest f.size f.done (rows_left t f.done f.left)
 
@@ -85,9 +93,17 @@ abbrev pub StackFine : List ℕ → List ℕ → ℕ → List Frame → Type 0
 StackFine t m k [] = Unit {0}
 StackFine t m k (f ∷ fs) = FrameFine t m f × (k ≤ height f) × StackFine t m (suc k) fs
 
--- the work that a frame may still make: one turn to end it, and at most 2 * nest + 2 a byte
+-- the probes of a search among the values of an enum, at most 65,535 of them
+abbrev pub probes : ℕ
+probes = 16
+
+-- the work that one byte inline may make at most, in a frame of this nest: two turns for each nest, two more, and a search
+abbrev pub inline_work : (nest : ℕ) → ℕ
+inline_work nest = 2 * nest + 2 + probes
+
+-- the work that a frame may still make: one turn to end it, and that of its bytes
 abbrev pub frame_work : Frame → ℕ
-frame_work f = (2 * f.nest + 2) * (f.size - f.done) + 1
+frame_work f = inline_work f.nest * (f.size - f.done) + 1
 
 abbrev pub frame_work_if : Option Frame → ℕ
 frame_work_if None = 0
@@ -97,9 +113,9 @@ abbrev pub stack_work : List Frame → ℕ
 stack_work [] = 0
 stack_work (f ∷ fs) = frame_work f + stack_work fs
 
--- the work that one byte out of line may still make: two turns for each nest, and those of an object
+-- the work that one byte out of line may still make: that of a byte inline at the greatest nest, and the turns of an object
 abbrev pub byte_work : ℕ
-byte_work = 2 * MAX_NEST + 6
+byte_work = inline_work most_nest + 4
 
 -- with what the bytes out of line may still make
 abbrev pub work : List ℕ → List Frame → ℕ → ℕ
@@ -109,18 +125,24 @@ work m fs next = byte_work * (length m - next) + stack_work fs
 abbrev pub turn_work : List ℕ → (next : ℕ) → Frame → ℕ
 turn_work m next f = byte_work * (length m - next) + frame_work f
 
--- the state stands within the message
+-- the state stands within the message, which has not too many handles
 pub record StateFine (m : Message) (s : At) : Type 0 where
   pub next : s.next ≤ length m.bytes
   pub handle : s.handle ≤ length m.handles
+  pub few : length m.handles ≤ MAX_MESSAGE_HANDLES
 
--- a visit of an entry at a place gives what of it is left to read, if any, and the state then
-pub record Visits (t : List ℕ) (m : Message) (held e place : ℕ) (old new : At) (found : Option Frame) : Type 0 where
+-- a value of a leaf stands at a place exactly where it leads to this state
+abbrev pub Leads : Declarations → Message → (held : ℕ) → Term → (place : ℕ) → At → At → Type 0
+Leads ds m held t place old new = (to : At) → Item ds m held t place old to ↔ (new ≡ to)
+
+-- a visit of an entry at a place, in so many steps, gives what of it is left to read, if any, and the state then
+pub record Visits (t : List ℕ) (m : Message) (held e place : ℕ) (old new : At) (spent : ℕ) (found : Option Frame) : Type 0 where
   pub same : (to : At) → Item (declarations_of t) m held (resolve (declarations_of t).terms (ty.named e)) place old to ↔ ReadsIf t m found new to
   pub breaks : (fault : DecodeFault) → BreaksIf t m found new fault → Breaks (declarations_of t) m held (resolve (declarations_of t).terms (ty.named e)) place old fault
   pub state : StateFine m new
-  pub fine : FineIf t m.bytes (held * (MAX_NEST + 1) + (MAX_NEST - (figure_of (declarations_of t).figures (ty.named e)).nest)) found
-  pub less : byte_work * (length m.bytes - new.next) + frame_work_if found ≤ byte_work * (length m.bytes - old.next) + (2 * (figure_of (declarations_of t).figures (ty.named e)).nest + 2) * (figure_of (declarations_of t).figures (ty.named e)).size + 1
+  pub fine : FineIf t m.bytes (level held (figure_of (declarations_of t).figures (ty.named e)).nest) found
+  pub less : let f = figure_of (declarations_of t).figures (ty.named e) in
+      byte_work * (length m.bytes - new.next) + frame_work_if found + spent ≤ byte_work * (length m.bytes - old.next) + inline_work f.nest * f.size + 1
 
 -- a turn on a frame: what is left of it, what is to be read before that, and the state then
 pub record Turns (t : List ℕ) (m : Message) (f : Frame) (old new : At) (spent : ℕ) (x : Turn) : Type 0 where
@@ -142,6 +164,6 @@ IsStopped t m fs from (BytesLeft at) = (at < length m.bytes) × ((to : At) × Fi
 IsStopped t m fs from (HandlesLeft at) = (at ≡ length m.bytes) × ((to : At) × Finishes t m fs from to × (to.next ≡ length m.bytes) × (to.handle < length m.handles))
 IsStopped t m fs from fault = BreaksStack t m fs from fault
 
--- how far a state has read
+-- how far a state has read, and what it has linked
 abbrev pub at_of : State → At
-at_of s = record { next = s.next; handle = s.handle }
+at_of s = record { next = s.next; handle = s.handle; objects = s.links.objects; records = s.links.records }

@@ -14,7 +14,7 @@ ghost use Rattle.fidl_decode.specs.Fine.{IsFine};
 ghost use Rattle.fidl_decode.specs.Faults.{message_of};
 ghost use Rattle.fidl_decode.specs.Breaks.{IsPadding, Breaks};
 ghost use Rattle.fidl_decode.specs.State.{At, Item};
-ghost use Rattle.fidl_decode.specs.Machine.{rows_left, LeftFine, Reads, StateFine, FrameFine, BreaksFrame, Visits, Turns, frame_work, at_of};
+ghost use Rattle.fidl_decode.specs.Machine.{rows_left, LeftFine, Reads, StateFine, FrameFine, BreaksFrame, Visits, Turns, turn_work, at_of, probes};
 
 use crate::fault::DecodeFault;
 use crate::frame::{Frame, Left, Member, State, Turn};
@@ -91,42 +91,6 @@ pub(crate) struct Decoder<'t, 'm> {
 }
 
 impl<'t, 'm> Decoder<'t, 'm> {
-    /// Reads a leaf at a place: a value that holds no other.
-    #[inline(always)]
-    pub(crate) fn read_leaf(
-        &self,
-        entry: u32,
-        kind: EntryKind,
-        place: usize,
-        depth: u8,
-        state: &mut State,
-    ) -> Result<(), DecodeFault>
-        requires table { IsFine self.now.table.now }
-        requires entry { entry < (header_of self.now.table.now).entries }
-        requires kind { kind_of (entry_at self.now.table.now entry).kind ≡ Some kind }
-        requires no_array { kind ≢ kinds.Array }
-        requires no_struct { kind ≢ kinds.Struct }
-        requires short { length self.now.bytes.now ≤ MAX_MESSAGE_BYTES }
-        requires room { place + (entry_at self.now.table.now entry).size ≤ length self.now.bytes.now }
-        requires state { StateFine (message_of self.now.bytes.now self.now.handles.now) (at_of state.old) }
-        requires depth { depth ≤ MAX_DEPTH }
-        ensures ok { OnOk result (Visits self.now.table.now (message_of self.now.bytes.now self.now.handles.now) depth entry place (at_of state.old) (at_of state.new) None) }
-        ensures err { OnErr result ((to : At) → Item (declarations_of self.now.table.now) (message_of self.now.bytes.now self.now.handles.now) depth (resolve (declarations_of self.now.table.now).terms (ty.named entry)) place (at_of state.old) to → ⊥) }
-        ensures told { IfErr result (Breaks (declarations_of self.now.table.now) (message_of self.now.bytes.now self.now.handles.now) depth (resolve (declarations_of self.now.table.now).terms (ty.named entry)) place (at_of state.old)) }
-        ensures steps { state.new.steps ≡ state.old.steps }
-    {
-        match kind {
-            EntryKind::Bool => {
-                if self.bytes[place] > 1 {
-                    return Err(DecodeFault::BadBool { at: place });
-                }
-                Ok(())
-            }
-            // Any bytes are a number.
-            _ => Ok(()),
-        }
-    }
-
     /// Reads an entry at a place, up to what it holds.
     pub(crate) fn visit(
         &self,
@@ -141,10 +105,13 @@ impl<'t, 'm> Decoder<'t, 'm> {
         requires room { place + (entry_at self.now.table.now entry).size ≤ length self.now.bytes.now }
         requires state { StateFine (message_of self.now.bytes.now self.now.handles.now) (at_of state.old) }
         requires depth { depth ≤ MAX_DEPTH }
-        ensures ok { IfOk result (λ found. Visits self.now.table.now (message_of self.now.bytes.now self.now.handles.now) depth entry place (at_of state.old) (at_of state.new) found) }
+        requires budget { state.old.steps < 2 ^ 41 }
+        ensures ok { IfOk result (λ found. Visits self.now.table.now (message_of self.now.bytes.now self.now.handles.now) depth entry place (at_of state.old) (at_of state.new) (state.new.steps - state.old.steps) found) }
         ensures err { OnErr result ((to : At) → Item (declarations_of self.now.table.now) (message_of self.now.bytes.now self.now.handles.now) depth (resolve (declarations_of self.now.table.now).terms (ty.named entry)) place (at_of state.old) to → ⊥) }
         ensures told { IfErr result (Breaks (declarations_of self.now.table.now) (message_of self.now.bytes.now self.now.handles.now) depth (resolve (declarations_of self.now.table.now).terms (ty.named entry)) place (at_of state.old)) }
-        ensures steps { state.new.steps ≡ state.old.steps }
+        ensures grows { state.old.steps ≤ state.new.steps }
+        ensures probes { state.new.steps ≤ state.old.steps + probes
+            + (length self.now.bytes.now - state.old.next) }
     {
         let e = self.table.entry(entry);
         let Some(kind) = EntryKind::from_number(e.kind) else {
@@ -181,6 +148,8 @@ impl<'t, 'm> Decoder<'t, 'm> {
                     depth,
                 }))
             }
+            EntryKind::Box => self.read_box(entry, place, depth, state),
+            EntryKind::Vector => self.read_vector(entry, place, depth, state),
             _ => {
                 self.read_leaf(entry, kind, place, depth, state)?;
                 Ok(None)
@@ -197,7 +166,8 @@ impl<'t, 'm> Decoder<'t, 'm> {
         requires steps { state.old.steps < 2 ^ 40 }
         ensures ok { IfOk result (λ turn. Turns self.now.table.now (message_of self.now.bytes.now self.now.handles.now) frame (at_of state.old) (at_of state.new) (state.new.steps - state.old.steps) turn) }
         ensures rises { state.old.steps < state.new.steps }
-        ensures cost { state.new.steps ≤ state.old.steps + frame_work frame }
+        ensures cost { state.new.steps ≤ state.old.steps
+            + turn_work self.now.bytes.now state.old.next frame }
         ensures err { OnErr result ((to : At) → Reads self.now.table.now (message_of self.now.bytes.now self.now.handles.now) frame (at_of state.old) to → ⊥) }
         ensures told { IfErr result (BreaksFrame self.now.table.now (message_of self.now.bytes.now self.now.handles.now) frame (at_of state.old)) }
     {

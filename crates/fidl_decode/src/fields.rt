@@ -1,10 +1,9 @@
-//! The fields of a frame, read in place: the rows of a struct, and the elements of an array.
-ghost use Rattle.std.specs.Prelude.{◌≡◌, ◌≢◌, ◌+◌, ◌-◌, ◌*◌, ◌^◌, ◌<◌, ◌≤◌, OnOk, OnErr, IfOk, IfErr, IfNone, Some, None, length};
+//! The fields of a frame, read in place: the rows of a struct, and the elements of an array or vector.
+ghost use Rattle.std.specs.Prelude.{◌≡◌, ◌+◌, ◌-◌, ◌*◌, ◌^◌, ◌<◌, ◌≤◌, OnOk, OnErr, IfOk, IfErr, IfNone, true, Some, None, length};
 ghost use Rattle.fidl_wire.specs.declared.limits.TheConstants.{MAX_MESSAGE_BYTES};
-ghost use Rattle.fidl_records.specs.declared.kind.EntryKind.TheVariants as kinds;
 ghost use Rattle.fidl_records.specs.Kind.{kind_of};
 ghost use Rattle.fidl_records.specs.Section.{header_of, entry_at};
-ghost use Rattle.fidl_decode.specs.Fine.{IsFine};
+ghost use Rattle.fidl_decode.specs.Fine.{IsFine, is_leaf};
 ghost use Rattle.fidl_decode.specs.Faults.{message_of};
 ghost use Rattle.fidl_decode.specs.State.{At};
 ghost use Rattle.fidl_decode.specs.declared.frame.Left.TheVariants as left;
@@ -13,6 +12,7 @@ ghost use Rattle.fidl_decode.specs.Machine.{Reads, StateFine, FrameFine, BreaksF
 use crate::decoder::{Decoder, zeros_at};
 use crate::fault::DecodeFault;
 use crate::frame::{Frame, Left, State};
+use crate::leaf::{is_free, is_leaf};
 use fidl_records::EntryKind;
 
 impl<'t, 'm> Decoder<'t, 'm> {
@@ -46,21 +46,18 @@ impl<'t, 'm> Decoder<'t, 'm> {
             let Some(kind) = EntryKind::from_number(e.kind) else {
                 unreachable!()
             };
-            match kind {
-                EntryKind::Array | EntryKind::Struct => {
-                    return Ok(Some(Frame {
-                        left: Left::Rows {
-                            first: i,
-                            count: end - i,
-                        },
-                        base: frame.base,
-                        done,
-                        size: frame.size,
-                        nest: frame.nest,
-                        depth: frame.depth,
-                    }));
-                }
-                _ => {}
+            if !is_leaf(kind) {
+                return Ok(Some(Frame {
+                    left: Left::Rows {
+                        first: i,
+                        count: end - i,
+                    },
+                    base: frame.base,
+                    done,
+                    size: frame.size,
+                    nest: frame.nest,
+                    depth: frame.depth,
+                }));
             }
             let read = frame.base + done;
             let place = frame.base + row.key as usize;
@@ -76,7 +73,7 @@ impl<'t, 'm> Decoder<'t, 'm> {
         Ok(None)
     }
 
-    /// Reads the elements of an array, which are leaves.
+    /// Reads the elements of an array or vector, which are leaves.
     fn read_each(
         &self,
         frame: Frame,
@@ -92,8 +89,7 @@ impl<'t, 'm> Decoder<'t, 'm> {
         requires left { frame.left ≡ left.Elements entry size count }
         requires entry { entry < (header_of self.now.table.now).entries }
         requires kind { kind_of (entry_at self.now.table.now entry).kind ≡ Some kind }
-        requires no_array { kind ≢ kinds.Array }
-        requires no_struct { kind ≢ kinds.Struct }
+        requires leaf { is_leaf kind ≡ true }
         requires state { StateFine (message_of self.now.bytes.now self.now.handles.now) (at_of state.old) }
         requires budget { state.old.steps + turn_work self.now.bytes.now state.old.next frame < 2 ^ 40 }
         ensures ok { OnOk result (Turns self.now.table.now (message_of self.now.bytes.now self.now.handles.now) frame (at_of state.old) (at_of state.new) (state.new.steps - state.old.steps) (record { below = None; rest = None })) }
@@ -115,7 +111,7 @@ impl<'t, 'm> Decoder<'t, 'm> {
         zeros_at(self.bytes, at, stop)
     }
 
-    /// Reads the elements of an array in place, where they are leaves. Nothing is left at the array's end.
+    /// Reads the elements of an array or vector in place, where they are leaves. Nothing is left at their end.
     fn read_elements(
         &self,
         frame: Frame,
@@ -144,21 +140,18 @@ impl<'t, 'm> Decoder<'t, 'm> {
         let Some(kind) = EntryKind::from_number(e.kind) else {
             unreachable!()
         };
-        match kind {
-            EntryKind::Array | EntryKind::Struct => Ok(Some(frame)),
-            EntryKind::Bool => {
-                self.read_each(frame, entry, kind, size, count, state)?;
-                Ok(None)
-            }
-            _ => {
-                // Any bytes are numbers.
-                let from = frame.base + frame.done + size * count as usize;
-                let stop = frame.base + frame.size;
-                state.steps += (stop - from) as u64 + 1;
-                zeros_at(self.bytes, from, stop)?;
-                Ok(None)
-            }
+        if !is_leaf(kind) {
+            return Ok(Some(frame));
         }
+        if !is_free(&e, kind) {
+            self.read_each(frame, entry, kind, size, count, state)?;
+            return Ok(None);
+        }
+        let from = frame.base + frame.done + size * count as usize;
+        let stop = frame.base + frame.size;
+        state.steps += (stop - from) as u64 + 1;
+        zeros_at(self.bytes, from, stop)?;
+        Ok(None)
     }
 
     /// Reads the leaves of a frame in place, up to the first member that is none. Nothing is left at the frame's end.

@@ -16,7 +16,7 @@ use crate::frame::{Frame, Left, State, Turn};
 use fidl_records::EntryKind;
 
 impl<'t, 'm> Decoder<'t, 'm> {
-    /// Reads the elements of an array of structs in place, up to a struct that holds more than leaves: that one, where it
+    /// Reads structs of an array or vector in place, up to a struct that holds more than leaves: that one, where it
     /// stopped, is to be read next.
     fn read_structs(
         &self,
@@ -126,7 +126,7 @@ impl<'t, 'm> Decoder<'t, 'm> {
         }
     }
 
-    /// Reads of a frame what can be read in place, and tells what is left.
+    /// Reads what can be read in place of a frame, and answers what is left.
     pub(crate) fn take_turn(&self, frame: Frame, state: &mut State) -> Result<Turn, DecodeFault>
         requires table { IsFine self.now.table.now }
         requires short { length self.now.bytes.now ≤ MAX_MESSAGE_BYTES }

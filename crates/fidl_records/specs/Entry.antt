@@ -1,16 +1,17 @@
 -- The rules of an entry, in the order in which they are asked (docs/table.md, "Verification").
-use Rattle.std.specs.Prelude.{◌≡◌, ℕ, zero, suc, ◌+◌, ◌<◌, ◌≤◌, Bool, false, if◌then◌else◌, List, [], ◌∷◌, map, Some, IsTrue, IsFalse}
+use Rattle.std.specs.Prelude.{◌≡◌, ℕ, zero, suc, ◌+◌, ◌^◌, ◌<◌, ◌≤◌, ℤ, pos, ◌<ℤ◌, Bool, false, if◌then◌else◌, List, [], ◌∷◌, map, Some, IsTrue, IsFalse}
 use Rattle.std.specs.Option.{option_map_or}
 use Rattle.fidl_wire.specs.declared.limits.TheConstants.{MAX_INLINE_SIZE, MAX_LAYOUT_MEMBERS, MAX_NEST}
 use Rattle.fidl_wire.specs.Figure.{Figure, figure_of, offsets}
+use Rattle.fidl_wire.specs.Typed.{InRange}
 use Rattle.fidl_records.specs.declared.record.Header.{Header}
 use Rattle.fidl_records.specs.declared.record.Entry.{Entry}
 use Rattle.fidl_records.specs.declared.kind.EntryKind.{EntryKind}
-use Rattle.fidl_records.specs.declared.kind.EntryKind.TheVariants.{Array, Struct}
-use Rattle.fidl_records.specs.Kind.{kind_of}
-use Rattle.fidl_records.specs.Section.{entry_at, row_at}
-use Rattle.fidl_records.specs.Terms.{term_of, fields_from, stated_figure, below}
-use Rattle.fidl_records.specs.Uses.{is_known, uses_first, uses_count, uses_name, uses_rows}
+use Rattle.fidl_records.specs.declared.kind.EntryKind.TheVariants.{Bits, Enum, String, Vector, Array, Box, Struct}
+use Rattle.fidl_records.specs.Kind.{kind_of, number_type}
+use Rattle.fidl_records.specs.Section.{entry_at, row_at, value_at}
+use Rattle.fidl_records.specs.Terms.{is_strict, underlying, value_number, term_of, fields_from, stated_figure, below}
+use Rattle.fidl_records.specs.Uses.{is_number, is_unsigned, is_known, allows, uses_entry, uses_rows, uses_values, uses_first, uses_count, uses_bound, uses_subtype, uses_rights, uses_name}
 use Rattle.fidl_records.specs.Name.{IsName, IsMemberName}
 
 -- the entry is of this kind
@@ -21,22 +22,65 @@ IsOf k e = kind_of e.kind ≡ Some k
 abbrev pub kind_is : (EntryKind → Bool) → Entry → Bool
 kind_is test e = option_map_or test (kind_of e.kind) false
 
--- a known kind, and only what that kind uses is not zero
-pub record HasShape (e : Entry) : Type 0 where
-  pub known : IsTrue (kind_is is_known e)
-  pub flags : e.flags ≡ 0
+-- a test of the kind that the subtype is the number of; the number of no kind fails it
+abbrev pub subtype_is : (EntryKind → Bool) → Entry → Bool
+subtype_is test e = option_map_or test (kind_of e.subtype) false
+
+-- what an entry does not use is zero
+pub record IsZeroElsewhere (e : Entry) : Type 0 where
   pub first : IsFalse (kind_is uses_first e) → e.first ≡ 0
-  pub count : IsFalse (kind_is uses_count e) → e.count ≡ 0
-  pub bound : e.bound ≡ 0
-  pub subtype : e.subtype ≡ 0
-  pub rights : e.rights ≡ 0
+  pub count : IsFalse (kind_is (uses_count (is_strict e)) e) → e.count ≡ 0
+  pub bound : IsFalse (kind_is (uses_bound (is_strict e)) e) → e.bound ≡ 0
+  pub subtype : IsFalse (kind_is uses_subtype e) → e.subtype ≡ 0
+  pub rights : IsFalse (kind_is uses_rights e) → e.rights ≡ 0
   pub name_place : IsFalse (kind_is uses_name e) → e.name_place ≡ 0
   pub name_length : IsFalse (kind_is uses_name e) → e.name_length ≡ 0
-  pub few_members : IsOf Struct e → e.count ≤ MAX_LAYOUT_MEMBERS
+
+-- the subtype is the number of a kind of numbers, whose number type is the underlying type
+abbrev pub HasNumberKind : Entry → Type 0
+HasNumberKind e = (k : EntryKind) × (kind_of e.subtype ≡ Some k) × (number_type k ≡ Some (underlying e))
+
+-- bits have an underlying type without a sign, which their mask fits
+pub record HasMask (e : Entry) : Type 0 where
+  pub subtype : IsTrue (subtype_is is_unsigned e)
+  pub mask : InRange (underlying e) (pos e.bound)
+
+-- an enum has an underlying type, and has values where it is strict
+pub record HasValues (e : Entry) : Type 0 where
+  pub subtype : IsTrue (subtype_is is_number e)
+  pub some : IsTrue (is_strict e) → 0 < e.count
+
+-- a known kind with flags of its own, and only what that kind uses is not zero; rows and values are not too many, and bounds have 32 bits
+pub record HasShape (e : Entry) : Type 0 where
+  pub known : IsTrue (kind_is is_known e)
+  pub flags : IsTrue (kind_is (allows e.flags) e)
+  pub unused : IsZeroElsewhere e
+  pub few_rows : IsTrue (kind_is uses_rows e) → e.count ≤ MAX_LAYOUT_MEMBERS
+  pub few_values : IsTrue (kind_is uses_values e) → e.count ≤ MAX_LAYOUT_MEMBERS
+  pub bits : IsOf Bits e → HasMask e
+  pub enum : IsOf Enum e → HasValues e
+  pub text_bound : IsOf String e → e.bound < 2 ^ 32
+  pub count_bound : IsOf Vector e → e.bound < 2 ^ 32
+
+-- how many rows, or values, an entry has; `uses` says which kinds have them
+abbrev pub parts_of : (uses : EntryKind → Bool) → Entry → ℕ
+parts_of uses e = if kind_is uses e then e.count else 0
+
+-- how many of them the entries before this one have together
+abbrev pub parts_before : (uses : EntryKind → Bool) → List ℕ → (index : ℕ) → ℕ
+parts_before uses bytes zero = 0
+parts_before uses bytes (suc index) = parts_before uses bytes index + parts_of uses (entry_at bytes index)
 
 -- how many rows an entry has
 abbrev pub rows_of : Entry → ℕ
-rows_of e = if kind_is uses_rows e then e.count else 0
+rows_of = parts_of uses_rows
+
+-- how many rows, and how many values, the entries before this one have together
+abbrev pub rows_before : List ℕ → (index : ℕ) → ℕ
+rows_before = parts_before uses_rows
+
+abbrev pub values_before : List ℕ → (index : ℕ) → ℕ
+values_before = parts_before uses_values
 
 -- the row of this number is a member of this entry
 pub record IsRowOf (e : Entry) (row : ℕ) : Type 0 where
@@ -44,20 +88,17 @@ pub record IsRowOf (e : Entry) (row : ℕ) : Type 0 where
   pub from : e.first ≤ row
   pub to : row < e.first + e.count
 
--- how many rows the entries before this one have together
-abbrev pub rows_before : List ℕ → (index : ℕ) → ℕ
-rows_before bytes zero = 0
-rows_before bytes (suc index) = rows_before bytes index + rows_of (entry_at bytes index)
-
--- an array's elements and a struct's members have entries, and a struct's rows lie in the section
+-- what `first` refers to is in the table: an entry, which is a struct where it stands in a box, rows whose types have entries, or values
 pub record HasChildren (bytes : List ℕ) (h : Header) (e : Entry) : Type 0 where
-  pub elements : IsOf Array e → e.first < h.entries
-  pub within : IsOf Struct e → e.first + e.count ≤ h.rows
-  pub members : IsOf Struct e → (k : ℕ) → k < e.count → (row_at bytes h (e.first + k)).entry < h.entries
+  pub elements : IsTrue (kind_is uses_entry e) → e.first < h.entries
+  pub content : IsOf Box e → IsOf Struct (entry_at bytes e.first)
+  pub within : IsTrue (kind_is uses_rows e) → e.first + e.count ≤ h.rows
+  pub members : IsTrue (kind_is uses_rows e) → (k : ℕ) → k < e.count → (row_at bytes h (e.first + k)).entry < h.entries
+  pub values : IsTrue (kind_is uses_values e) → e.first + e.count ≤ h.values
 
--- a struct's rows follow those of the entries before it, of which there are `before`
-abbrev pub Follows : (before : ℕ) → Entry → Type 0
-Follows before e = IsOf Struct e → e.first ≡ before
+-- an entry's rows, or values, follow those of the entries before it, of which there are `before`
+abbrev pub Follows : (uses : EntryKind → Bool) → (before : ℕ) → Entry → Type 0
+Follows uses before e = IsTrue (kind_is uses e) → e.first ≡ before
 
 -- the member of this place in a struct lies within it, and ends before the next begins
 pub record IsApart (bytes : List ℕ) (h : Header) (e : Entry) (k : ℕ) : Type 0 where
@@ -97,18 +138,33 @@ pub record HasNest (f : Figure) (e : Entry) : Type 0 where
   pub nest : e.nest ≡ f.nest
   pub limit : e.nest ≤ MAX_NEST
 
--- the names of the entry and of a struct's members
+-- the number of this place in a strict enum
+abbrev pub enum_value : List ℕ → Header → Entry → (k : ℕ) → ℤ
+enum_value bytes h e k = value_number (underlying e) (value_at bytes h (e.first + k))
+
+-- the number of this place in a strict enum fits the underlying type, and is less than the next
+pub record IsEnumValue (bytes : List ℕ) (h : Header) (e : Entry) (k : ℕ) : Type 0 where
+  pub fits : InRange (underlying e) (enum_value bytes h e k)
+  pub rises : suc k < e.count → enum_value bytes h e k <ℤ enum_value bytes h e (suc k)
+
+-- the numbers of a strict enum rise
+pub record IsSorted (bytes : List ℕ) (h : Header) (e : Entry) : Type 0 where
+  pub values : IsOf Enum e → (k : ℕ) → k < e.count → IsEnumValue bytes h e k
+
+-- the names of the entry and of its rows
 pub record HasNames (bytes : List ℕ) (h : Header) (e : Entry) : Type 0 where
   pub own : IsName bytes h e.name_place e.name_length
-  pub members : IsOf Struct e → (k : ℕ) → k < e.count
+  pub members : IsTrue (kind_is uses_rows e) → (k : ℕ) → k < e.count
       → let r = row_at bytes h (e.first + k) in IsMemberName bytes h r.name_place r.name_length
 
 -- all the rules of the entry of this number; its figure is that of its type
 pub record IsEntry (bytes : List ℕ) (h : Header) (index : ℕ) : Type 0 where
   pub shape : HasShape (entry_at bytes index)
   pub children : HasChildren bytes h (entry_at bytes index)
-  pub follows : Follows (rows_before bytes index) (entry_at bytes index)
+  pub rows : Follows uses_rows (rows_before bytes index) (entry_at bytes index)
+  pub values : Follows uses_values (values_before bytes index) (entry_at bytes index)
   pub offsets : HasOffsets bytes h (entry_at bytes index)
   pub size : HasSize (entry_figure bytes h (entry_at bytes index)) (entry_at bytes index)
   pub nest : HasNest (entry_figure bytes h (entry_at bytes index)) (entry_at bytes index)
+  pub sorted : IsSorted bytes h (entry_at bytes index)
   pub names : HasNames bytes h (entry_at bytes index)

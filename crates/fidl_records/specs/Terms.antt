@@ -1,5 +1,5 @@
 -- What the entries of a table declare (docs/table.md, "Declarations").
-use Rattle.std.specs.Prelude.{ℕ, zero, suc, ◌/◌, ◌%◌, ◌==◌, ℤ, pos, Bool, if◌then◌else◌, List, [], ◌∷◌, ◌++◌, map, Some, None, unwrap_or}
+use Rattle.std.specs.Prelude.{ℕ, zero, suc, ◌/◌, ◌%◌, ◌==◌, ℤ, pos, Bool, if◌then◌else◌, List, [], ◌∷◌, ◌++◌, map, Option, Some, None, unwrap_or}
 use Rattle.std.specs.Option.{option_map_or}
 use Rattle.std.specs.Int.{w64, cast_signed}
 use Rattle.fidl_wire.specs.Term as ty
@@ -20,9 +20,13 @@ is_optional e = e.flags % 2 == 1
 abbrev pub is_strict : Entry → Bool
 is_strict e = e.flags / 2 % 2 == 1
 
--- the number type of bits or an enum
+-- the number type of a kind; uint8 where it is no number
+abbrev pub as_number : EntryKind → ty.Kind
+as_number k = unwrap_or (number_type k) ty.uint8
+
+-- the number type of bits or an enum: that of the kind that the subtype is the number of
 abbrev pub underlying : Entry → ty.Kind
-underlying e = unwrap_or (option_map_or number_type (kind_of e.subtype) None) ty.uint8
+underlying e = option_map_or as_number (kind_of e.subtype) ty.uint8
 
 -- the number that the eight bytes of a value stand for: in two's complement where its number type is signed, else as it is
 abbrev pub value_number : ty.Kind → ℕ → ℤ
@@ -36,6 +40,14 @@ value_number _ n = pos n
 abbrev pub values_from : List ℕ → Header → ty.Kind → (first count : ℕ) → List ℤ
 values_from bytes h kind first zero = []
 values_from bytes h kind first (suc n) = value_number kind (value_at bytes h first) ∷ values_from bytes h kind (suc first) n
+
+-- the mask of bits, where they are strict
+abbrev pub mask_of : Entry → Option ℕ
+mask_of e = if is_strict e then Some e.bound else None
+
+-- the values of an enum, where it is strict
+abbrev pub strict_values : List ℕ → Header → Entry → Option (List ℤ)
+strict_values bytes h e = if is_strict e then Some (values_from bytes h (underlying e) e.first e.count) else None
 
 -- the members of a struct: `count` rows from the `first` on, each with its name and the entry of its type
 abbrev pub fields_from : List ℕ → Header → (first count : ℕ) → Fields
@@ -54,8 +66,8 @@ rows_from bytes h first (suc n) =
 -- the type that an entry of this kind declares, one level deep: what it holds is named by its entry's number
 abbrev pub term_as : EntryKind → List ℕ → Header → Entry → Term
 term_as Boolean bytes h e = ty.bool
-term_as Bits bytes h e = ty.bits (underlying e) (if is_strict e then Some e.bound else None)
-term_as Enum bytes h e = ty.enum (underlying e) (if is_strict e then Some (values_from bytes h (underlying e) e.first e.count) else None)
+term_as Bits bytes h e = ty.bits (underlying e) (mask_of e)
+term_as Enum bytes h e = ty.enum (underlying e) (strict_values bytes h e)
 term_as String bytes h e = ty.string (is_optional e) e.bound
 term_as Vector bytes h e = ty.vector (is_optional e) e.bound (ty.named e.first)
 term_as Array bytes h e = ty.array (ty.named e.first) e.count

@@ -1,43 +1,101 @@
 -- What the entries of each kind use (docs/table.md, "Kinds").
-use Rattle.std.specs.Prelude.{ℕ, Bool, true, false, is_some}
+use Rattle.std.specs.Prelude.{ℕ, ◌==◌, ◌||◌, Bool, true, false, is_some}
 use Rattle.fidl_records.specs.Kind.{number_type}
 use Rattle.fidl_records.specs.declared.kind.EntryKind.{EntryKind}
-use Rattle.fidl_records.specs.declared.kind.EntryKind.TheVariants.{Bool as Boolean, Int16, Int32, Int64, Uint16, Uint32, Uint64, Array, Struct, Table, Union}
+use Rattle.fidl_records.specs.declared.kind.EntryKind.TheVariants.{Bool as Boolean, Int16, Int32, Int64, Uint8, Uint16, Uint32, Uint64, Bits, Enum, String, Vector, Array, Box, Struct, Table, Union, Handle}
+
+-- the numbers
+abbrev pub is_number : EntryKind → Bool
+is_number k = is_some (number_type k)
+
+-- the numbers without a sign
+abbrev pub is_unsigned : EntryKind → Bool
+is_unsigned Uint8 = true
+is_unsigned Uint16 = true
+is_unsigned Uint32 = true
+is_unsigned Uint64 = true
+is_unsigned _ = false
 
 -- bool and the numbers
 abbrev pub is_plain : EntryKind → Bool
 is_plain Boolean = true
-is_plain k = is_some (number_type k)
+is_plain k = is_number k
 
 -- the kinds that a table may have: a table with another kind is refused
 abbrev pub is_known : EntryKind → Bool
+is_known Bits = true
+is_known Enum = true
+is_known String = true
+is_known Vector = true
 is_known Array = true
+is_known Box = true
 is_known Struct = true
+is_known Handle = true
 is_known k = is_plain k
 
--- `first` is used by
-abbrev pub uses_first : EntryKind → Bool
-uses_first Array = true
-uses_first Struct = true
-uses_first _ = false
+-- the flags that an entry of the kind may have: 1 is optional, 2 strict
+abbrev pub allows : (flags : ℕ) → EntryKind → Bool
+allows flags Bits = flags == 0 || flags == 2
+allows flags Enum = flags == 0 || flags == 2
+allows flags String = flags == 0 || flags == 1
+allows flags Vector = flags == 0 || flags == 1
+allows flags Handle = flags == 0 || flags == 1
+allows flags _ = flags == 0
 
--- `count` is used by
-abbrev pub uses_count : EntryKind → Bool
-uses_count Array = true
-uses_count Struct = true
-uses_count _ = false
+-- `first` is an entry
+abbrev pub uses_entry : EntryKind → Bool
+uses_entry Vector = true
+uses_entry Array = true
+uses_entry Box = true
+uses_entry _ = false
 
--- a name is used by
-abbrev pub uses_name : EntryKind → Bool
-uses_name Struct = true
-uses_name _ = false
-
--- rows are used by
+-- `first` is a row, the first of `count`
 abbrev pub uses_rows : EntryKind → Bool
 uses_rows Struct = true
 uses_rows Table = true
 uses_rows Union = true
 uses_rows _ = false
+
+-- `first` is a value, the first of `count`
+abbrev pub uses_values : EntryKind → Bool
+uses_values Enum = true
+uses_values _ = false
+
+-- `first` is used by
+abbrev pub uses_first : EntryKind → Bool
+uses_first k = uses_entry k || uses_rows k || uses_values k
+
+-- `count` is used by; an enum has values only where it is strict
+abbrev pub uses_count : (strict : Bool) → EntryKind → Bool
+uses_count strict Enum = strict
+uses_count strict Array = true
+uses_count strict k = uses_rows k
+
+-- `bound` is used by; bits have a mask only where they are strict
+abbrev pub uses_bound : (strict : Bool) → EntryKind → Bool
+uses_bound strict Bits = strict
+uses_bound strict String = true
+uses_bound strict Vector = true
+uses_bound strict _ = false
+
+-- `subtype` is used by
+abbrev pub uses_subtype : EntryKind → Bool
+uses_subtype Bits = true
+uses_subtype Enum = true
+uses_subtype Handle = true
+uses_subtype _ = false
+
+-- `rights` is used by
+abbrev pub uses_rights : EntryKind → Bool
+uses_rights Handle = true
+uses_rights _ = false
+
+-- a name is used by
+abbrev pub uses_name : EntryKind → Bool
+uses_name Bits = true
+uses_name Enum = true
+uses_name Struct = true
+uses_name _ = false
 
 -- the size of bool and the numbers, in bytes, which is their alignment too
 abbrev pub plain_size : EntryKind → ℕ

@@ -3,7 +3,7 @@ use Rattle.std.specs.Prelude.{◌≡◌, ℕ, ◌<◌, ◌≤◌, List, length}
 use Rattle.fidl_wire.specs.declared.limits.TheConstants.{MAX_ENTRIES}
 use Rattle.fidl_records.specs.declared.record.Header.{Header}
 use Rattle.fidl_records.specs.Section.{header_of, table_length}
-use Rattle.fidl_records.specs.Entry.{IsEntry, rows_before}
+use Rattle.fidl_records.specs.Entry.{IsEntry, rows_before, values_before}
 use Rattle.fidl_records.specs.Root.{IsRoot}
 
 -- "FCT2", as a number
@@ -23,12 +23,12 @@ pub record HasHeader (bytes : List ℕ) (h : Header) : Type 0 where
   pub whole : length bytes ≡ table_length h
   pub few_entries : h.entries ≤ MAX_ENTRIES
 
--- a table of the known kinds, with all its rules; each row is a member of just one struct
+-- a table of the known kinds, with all its rules; each row and each value is of just one entry
 pub record WellFormed (bytes : List ℕ) : Type 0 where
   pub header : HasHeader bytes (header_of bytes)
   pub entries : (index : ℕ) → index < (header_of bytes).entries → IsEntry bytes (header_of bytes) index
   pub covered : rows_before bytes (header_of bytes).entries ≡ (header_of bytes).rows
-  pub no_values : (header_of bytes).values ≡ 0
+  pub values_covered : values_before bytes (header_of bytes).entries ≡ (header_of bytes).values
   pub roots : (index : ℕ) → index < (header_of bytes).roots → IsRoot bytes (header_of bytes) index
   pub no_protocols : (header_of bytes).protocols ≡ 0
   pub no_methods : (header_of bytes).methods ≡ 0

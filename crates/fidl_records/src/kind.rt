@@ -55,4 +55,14 @@ impl EntryKind {
             _ => None,
         }
     }
+
+    /// The kind of the number that an entry's subtype is.
+    pub fn from_subtype(subtype: u32) -> Option<EntryKind>
+        ensures { result ≡ kind_of subtype }
+    {
+        match u8::try_from(subtype) {
+            Ok(number) => EntryKind::from_number(number),
+            Err(_) => None,
+        }
+    }
 }

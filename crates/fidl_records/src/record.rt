@@ -1,4 +1,7 @@
 //! The records of a table, as their fields stand there.
+ghost use Rattle.std.specs.Prelude.{◌≡◌};
+
+use crate::kind::EntryKind;
 
 /// What the header states: its mark, the version, and how many records each section has.
 #[derive(Clone, Copy, PartialEq, Eq, Debug, Drop)]
@@ -43,6 +46,28 @@ pub struct Entry {
     /// Where the name begins, from the start of the names.
     pub name_place: u32,
     pub name_length: u32,
+}
+
+impl Entry {
+    ghost use Rattle.std.specs.Prelude.{IsTrue};
+    ghost use Rattle.fidl_records.specs.Uses.{is_number};
+    ghost use Rattle.fidl_records.specs.Entry.{subtype_is};
+    ghost use Rattle.fidl_records.specs.Terms.{as_number, is_strict, underlying};
+
+    /// Whether the flag of strict types is set.
+    pub fn is_strict(&self) -> bool
+        ensures { result ≡ is_strict self.now }
+    {
+        self.flags / 2 % 2 == 1
+    }
+
+    /// The kind of the underlying type of bits or an enum; uint8 where the subtype is the number of no kind.
+    pub fn underlying(&self) -> EntryKind
+        ensures number { as_number result ≡ underlying self.now }
+        ensures kind { IsTrue (subtype_is is_number self.now) → IsTrue (is_number result) }
+    {
+        EntryKind::from_subtype(self.subtype).unwrap_or(EntryKind::Uint8)
+    }
 }
 
 /// A member of a struct, table or union.

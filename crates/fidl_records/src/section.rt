@@ -1,6 +1,6 @@
 //! Readers of the records of a table's sections.
 ghost use Rattle.std.specs.Prelude.{◌≡◌, ◌+◌, ◌*◌, ◌≤◌, length, slice_range};
-ghost use Rattle.fidl_records.specs.Section.{header_of, entry_at, row_at, root_at, entry_place, row_place, root_place, names_place, name_at};
+ghost use Rattle.fidl_records.specs.Section.{header_of, entry_at, row_at, value_at, root_at, entry_place, row_place, value_place, root_place, names_place, name_at};
 
 use crate::field::{u16_at, u32_at, u64_at};
 use crate::record::{Entry, Header, Root, Row};
@@ -62,6 +62,16 @@ pub fn read_row(table: &[u8], header: &Header, index: u32) -> Row
         name_place: u32_at(table, place + 8),
         name_length: u32_at(table, place + 12),
     }
+}
+
+/// The eight bytes of a value as a number, by the value's number, in a table with this header.
+pub fn read_value(table: &[u8], header: &Header, index: u32) -> u64
+    requires { value_place header.now index + 8 ≤ length table.now }
+    ensures { result ≡ value_at table.now header.now index }
+{
+    let rows = HEADER_SIZE + 40 * header.entries as usize;
+    let values = rows + 16 * header.rows as usize;
+    u64_at(table, values + 8 * index as usize)
 }
 
 /// The fields of a root, by its number, in a table with this header.

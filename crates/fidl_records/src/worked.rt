@@ -5,6 +5,11 @@ ghost use Rattle.fidl_wire.specs.Term.{Term, uint64, int64, int8};
 ghost use Rattle.fidl_records.specs.Section.{header_of, value_at};
 ghost use Rattle.fidl_records.specs.Terms.{declarations_of, value_number};
 
+pub mod below;
+pub mod numbers;
+pub mod tables;
+pub mod unknown;
+
 /// A table of one strict enum with one value: underlying type uint64, and the greatest number of 64 bits.
 pub fn the_greatest_value_of_a_strict_enum()
     ensures { let table : List ℕ = codes "FCT2" ++ 1 ∷ 0 ∷ 0 ∷ 0 ∷ 1 ∷ 0 ∷ 0 ∷ 0 ∷ 0 ∷ 0 ∷ 0 ∷ 0 ∷ 1 ∷ replicate 23 0

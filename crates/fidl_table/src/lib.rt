@@ -2,6 +2,6 @@
 #![tactic(auto)]
 
 pub use fidl_records::{
-    Entry, EntryKind, HEADER_SIZE, Header, Root, Row, name_bytes, read_entry, read_header,
-    read_root, read_row, u16_at, u32_at, u64_at,
+    Entry, EntryKind, HEADER_SIZE, Header, Root, Row, is_less, name_bytes, number_bits, read_entry,
+    read_header, read_root, read_row, read_value, u16_at, u32_at, u64_at,
 };

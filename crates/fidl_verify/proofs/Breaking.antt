@@ -6,8 +6,8 @@ use Rattle.fidl_records.specs.declared.record.Entry.{Entry}
 use Rattle.fidl_records.specs.Kind.{kind_of}
 use Rattle.fidl_records.specs.Section.{header_of, table_length, entry_at}
 use Rattle.fidl_verify.specs.declared.fault.TableFault.TheVariants.{BadMagic, BadVersion, Truncated, Surplus, BadKind, BadIndex, BadOffset, BadSize, BadNest, NotSorted, BadName, BadMethod}
-use Rattle.fidl_records.specs.Uses.{is_known}
-use Rattle.fidl_records.specs.Entry.{HasShape, HasChildren, Follows, HasOffsets, HasSize, HasNest, HasNames, entry_figure, rows_before}
+use Rattle.fidl_records.specs.Uses.{is_known, uses_rows, uses_values}
+use Rattle.fidl_records.specs.Entry.{HasShape, HasChildren, Follows, HasOffsets, HasSize, HasNest, IsSorted, HasNames, entry_figure, rows_before, values_before}
 use Rattle.fidl_records.specs.Root.{HasEntry, HasRootName, Rises}
 use Rattle.fidl_records.specs.WellFormed.{table_magic, IsVersion}
 use Rattle.fidl_wire.specs.declared.limits.TheConstants.{MAX_ENTRIES}
@@ -58,8 +58,11 @@ module _ (bytes : List ℕ) (h : Header) (same : h ≡ header_of bytes) where
       pub wrong_children : (HasChildren bytes h e → ⊥) → Breaks bytes (BadIndex at)
       wrong_children n = record_at (BadIndex at) (breaks.children at within (subst (λ e. HasChildren bytes h e → ⊥) is n))
 
-      pub wrong_first : (Follows (rows_before bytes at) e → ⊥) → Breaks bytes (BadIndex at)
-      wrong_first n = record_at (BadIndex at) (breaks.follows at within (subst (λ e. Follows (rows_before bytes at) e → ⊥) is n))
+      pub wrong_rows : (Follows uses_rows (rows_before bytes at) e → ⊥) → Breaks bytes (BadIndex at)
+      wrong_rows n = record_at (BadIndex at) (breaks.rows at within (subst (λ e. Follows uses_rows (rows_before bytes at) e → ⊥) is n))
+
+      pub wrong_values : (Follows uses_values (values_before bytes at) e → ⊥) → Breaks bytes (BadIndex at)
+      wrong_values n = record_at (BadIndex at) (breaks.values at within (subst (λ e. Follows uses_values (values_before bytes at) e → ⊥) is n))
 
       pub wrong_offsets : (HasOffsets bytes h e → ⊥) → Breaks bytes (BadOffset at)
       wrong_offsets n = record_at (BadOffset at) (breaks.offsets at within (subst (λ e. HasOffsets bytes h e → ⊥) is n))
@@ -70,14 +73,17 @@ module _ (bytes : List ℕ) (h : Header) (same : h ≡ header_of bytes) where
       pub wrong_nest : (HasNest (entry_figure bytes h e) e → ⊥) → Breaks bytes (BadNest at)
       wrong_nest n = record_at (BadNest at) (breaks.nest at within (subst (λ e. HasNest (entry_figure bytes h e) e → ⊥) is n))
 
+      pub wrong_sorted : (IsSorted bytes h e → ⊥) → Breaks bytes (NotSorted at)
+      wrong_sorted n = record_at (NotSorted at) (breaks.sorted at within (subst (λ e. IsSorted bytes h e → ⊥) is n))
+
       pub wrong_names : (HasNames bytes h e → ⊥) → Breaks bytes (BadName at)
       wrong_names n = record_at (BadName at) (breaks.names at within (subst (λ e. HasNames bytes h e → ⊥) is n))
 
     pub uncovered : (rows : ℕ) → rows ≡ rows_before bytes h.entries → rows < h.rows → Breaks bytes (BadIndex rows)
     uncovered rows e p = subst (λ n. Breaks bytes (BadIndex n)) (sym e) (record_at (BadIndex (rows_before bytes h.entries)) (breaks.row (subst (λ n. n < h.rows) e p)))
 
-    pub some_values : h.values ≢ 0 → Breaks bytes (BadIndex 0)
-    some_values n = record_at (BadIndex 0) (breaks.value n)
+    pub uncovered_value : (values : ℕ) → values ≡ values_before bytes h.entries → values < h.values → Breaks bytes (BadIndex values)
+    uncovered_value values e p = subst (λ n. Breaks bytes (BadIndex n)) (sym e) (record_at (BadIndex (values_before bytes h.entries)) (breaks.value (subst (λ n. n < h.values) e p)))
 
     pub some_protocols : h.protocols ≢ 0 → Breaks bytes (BadMethod 0)
     some_protocols n = record_at (BadMethod 0) (breaks.protocols n)

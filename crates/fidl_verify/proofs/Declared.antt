@@ -8,7 +8,7 @@ use Rattle.fidl_wire.specs.Figure.{figure, figure_of, nest_of, IsLaidOut, IsSoun
 use Rattle.fidl_records.specs.declared.record.Header.{Header}
 use Rattle.fidl_records.specs.declared.record.Entry.{Entry}
 use Rattle.fidl_records.specs.declared.kind.EntryKind.{EntryKind}
-use Rattle.fidl_records.specs.declared.kind.EntryKind.TheVariants.{Bool as Boolean, Int8, Int16, Int32, Int64, Uint8, Uint16, Uint32, Uint64, Array, Struct}
+use Rattle.fidl_records.specs.declared.kind.EntryKind.TheVariants.{Bool as Boolean, Int8, Int16, Int32, Int64, Uint8, Uint16, Uint32, Uint64, Bits, Enum, String, Vector, Array, Box, Struct, Handle}
 use Rattle.fidl_records.specs.Kind.{kind_of}
 use Rattle.fidl_records.specs.Section.{header_of, entry_at, row_at}
 use Rattle.fidl_records.specs.Terms.{below, term_of, term_as, stated_figure, fields_from, declarations_of}
@@ -48,24 +48,30 @@ fields_bounded : (bytes : List ℕ) (h : Header) (first count : ℕ) → AreFiel
 fields_bounded bytes h first zero = tt
 fields_bounded bytes h first (suc n) = (tt, fields_bounded bytes h (suc first) n)
 
-term_bounded : (bytes : List ℕ) (h : Header) (k : EntryKind) (e : Entry) → is_known k ≡ true → IsBounded (term_as k bytes h e)
-term_bounded bytes h Boolean e known = tt
-term_bounded bytes h Int8 e known = tt
-term_bounded bytes h Int16 e known = tt
-term_bounded bytes h Int32 e known = tt
-term_bounded bytes h Int64 e known = tt
-term_bounded bytes h Uint8 e known = tt
-term_bounded bytes h Uint16 e known = tt
-term_bounded bytes h Uint32 e known = tt
-term_bounded bytes h Uint64 e known = tt
-term_bounded bytes h Array e known = tt
-term_bounded bytes h Struct e known = fields_bounded bytes h e.first e.count
-term_bounded bytes h _ e known = absurd (let never : false ≡ true = known in cc)
+term_bounded : (bytes : List ℕ) (h : Header) (k : EntryKind) (e : Entry) → is_known k ≡ true → IsOf k e → HasShape e → IsBounded (term_as k bytes h e)
+term_bounded bytes h Boolean e known is s = tt
+term_bounded bytes h Int8 e known is s = tt
+term_bounded bytes h Int16 e known is s = tt
+term_bounded bytes h Int32 e known is s = tt
+term_bounded bytes h Int64 e known is s = tt
+term_bounded bytes h Uint8 e known is s = tt
+term_bounded bytes h Uint16 e known is s = tt
+term_bounded bytes h Uint32 e known is s = tt
+term_bounded bytes h Uint64 e known is s = tt
+term_bounded bytes h Bits e known is s = tt
+term_bounded bytes h Enum e known is s = tt
+term_bounded bytes h String e known is s = s.text_bound is
+term_bounded bytes h Vector e known is s = (s.count_bound is, tt)
+term_bounded bytes h Array e known is s = tt
+term_bounded bytes h Box e known is s = tt
+term_bounded bytes h Struct e known is s = fields_bounded bytes h e.first e.count
+term_bounded bytes h Handle e known is s = tt
+term_bounded bytes h _ e known is s = absurd (let never : false ≡ true = known in cc)
 
 entry_bounded : (bytes : List ℕ) (h : Header) (e : Entry) → HasShape e → IsBounded (term_of bytes h e)
 entry_bounded bytes h e s =
     let k = kind_known (kind_of e.kind) s.known in
-    subst (λ o. IsBounded (option_map_or (λ k. term_as k bytes h e) o nothing)) (sym k.1) (term_bounded bytes h k.0 e k.2)
+    subst (λ o. IsBounded (option_map_or (λ k. term_as k bytes h e) o nothing)) (sym k.1) (term_bounded bytes h k.0 e k.2 k.1 s)
 
 all-append : {X : Type 0} (P : X → Type 0) (xs ys : List X) → AllByRecursion P xs → AllByRecursion P ys → AllByRecursion P (xs ++ ys)
 all-append P [] ys a b = b

@@ -8,3 +8,4 @@ pub mod Rising
 pub mod Declared
 pub mod Owning
 pub mod Standing
+pub mod Enumerated

@@ -1,5 +1,5 @@
 -- Each row of a well-formed table is a member of a struct.
-use Rattle.std.proofs.Common.{◌≡◌, ℕ, zero, suc, ◌+◌, ◌<◌, ◌≤◌, ◌⊎◌, inl, inr, List, true, false, if◌then◌else◌, Some, refl, ap, sym, ◌∙◌, subst, arith}
+use Rattle.std.proofs.Common.{◌≡◌, ℕ, zero, suc, ◌+◌, ◌<◌, ◌≤◌, ◌⊎◌, inl, inr, List, true, false, Some, refl, ap, sym, ◌∙◌, subst, arith}
 use Rattle.std.proofs.lemmas.Bool.{cases_order}
 use Rattle.fidl_records.specs.declared.record.Header.{Header}
 use Rattle.fidl_records.specs.declared.record.Entry.{Entry}
@@ -12,7 +12,7 @@ use Rattle.fidl_records.specs.Uses.{is_known, uses_rows}
 use Rattle.fidl_records.specs.Name.{IsMemberName}
 use Rattle.fidl_records.specs.Entry.{IsOf, IsEntry, IsRowOf, HasShape, rows_of, rows_before}
 use Rattle.fidl_records.specs.WellFormed.{WellFormed}
-use Rattle.fidl_verify.proofs.Known.{test_of, rows_of_struct}
+use Rattle.fidl_verify.proofs.Known.{test_of, parts_unused, rows_of_struct}
 use Rattle.fidl_verify.proofs.Declared.{kind_known}
 use Rattle.fidl_verify.proofs.Ranges.{of_range}
 
@@ -29,7 +29,7 @@ struct_of e s some =
     elim (struct_or_none k.0 k.2) [
       | inl is ↦ k.1 ∙ ap Some is
       | inr none ↦ absurd (
-          let e0 : rows_of e ≡ 0 = ap (λ b. if b then e.count else 0) (test_of uses_rows k.0 e k.1 ∙ none) in
+          let e0 : rows_of e ≡ 0 = parts_unused uses_rows e (test_of uses_rows k.0 e k.1 ∙ none) in
           omega (arith, e0, some)
           )
     ]
@@ -49,7 +49,7 @@ owner bytes h es (suc n) p row q =
           let e = es n here in
           let some : 0 < rows_of (entry_at bytes n) = omega (arith, q, above) in
           let is = struct_of (entry_at bytes n) e.shape some in
-          let first : (entry_at bytes n).first ≡ rows_before bytes n = e.follows is in
+          let first : (entry_at bytes n).first ≡ rows_before bytes n = e.rows (test_of uses_rows Struct (entry_at bytes n) is) in
           let count : rows_of (entry_at bytes n) ≡ (entry_at bytes n).count = rows_of_struct (entry_at bytes n) is in
           (n, here, record { of_struct = is; from = omega (arith, first, above); to = omega (arith, first, count, q) })
     ]
@@ -63,7 +63,7 @@ pub row_entry : (bytes : List ℕ) → WellFormed bytes → (row : ℕ) → row 
 row_entry bytes w row p =
     let o = owned bytes w row p in
     of_range (λ n. (row_at bytes (header_of bytes) n).entry < (header_of bytes).entries) (entry_at bytes o.0).first (entry_at bytes o.0).count row o.2.from o.2.to
-    ((w.entries o.0 o.1).children.members o.2.of_struct)
+    ((w.entries o.0 o.1).children.members (test_of uses_rows Struct (entry_at bytes o.0) o.2.of_struct))
 
 -- the row's name is a member's name
 pub row_named : (bytes : List ℕ) → WellFormed bytes → (row : ℕ) → row < (header_of bytes).rows
@@ -71,7 +71,7 @@ pub row_named : (bytes : List ℕ) → WellFormed bytes → (row : ℕ) → row 
 row_named bytes w row p =
     let o = owned bytes w row p in
     of_range (λ n. IsMemberName bytes (header_of bytes) (row_at bytes (header_of bytes) n).name_place (row_at bytes (header_of bytes) n).name_length) (entry_at bytes o.0).first (entry_at bytes o.0).count row o.2.from o.2.to
-    ((w.entries o.0 o.1).names.members o.2.of_struct)
+    ((w.entries o.0 o.1).names.members (test_of uses_rows Struct (entry_at bytes o.0) o.2.of_struct))
 
 -- what a row that was read from the table keeps
 pub row_kept : (bytes self : List ℕ) (h : Header) (r : Row) (index : ℕ) → h ≡ header_of bytes → bytes ≡ self → WellFormed bytes → index < (header_of self).rows → r ≡ row_at bytes h index

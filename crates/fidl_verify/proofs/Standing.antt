@@ -8,9 +8,10 @@ use Rattle.fidl_records.specs.declared.kind.EntryKind.TheVariants.{Struct}
 use Rattle.fidl_records.specs.Section.{header_of, entry_at, row_at}
 use Rattle.fidl_records.specs.Terms.{fields_from}
 use Rattle.fidl_records.specs.Entry.{IsOf, figures_of, keys_from, IsApart}
+use Rattle.fidl_records.specs.Uses.{uses_rows}
 use Rattle.fidl_records.specs.WellFormed.{WellFormed}
 use Rattle.fidl_verify.proofs.Stated.{stated_at}
-use Rattle.fidl_verify.proofs.Known.{figure_as}
+use Rattle.fidl_verify.proofs.Known.{test_of, figure_as}
 
 rounded : (x a : ℕ) → x ≤ next_multiple_of x a
 rounded x a = omega arith
@@ -81,7 +82,7 @@ members_stand bytes w index p is k q =
     let e = entry_at bytes index in
     let kept = w.entries index p in
     let s = stand bytes h 0 e.first e.count (kept.offsets is) k q in
-    let sized = ap (λ f. f.size) (stated_at bytes h (row_at bytes h (e.first + k)).entry (figure 1 1 0) (kept.children.members is k q)) in
+    let sized = ap (λ f. f.size) (stated_at bytes h (row_at bytes h (e.first + k)).entry (figure 1 1 0) (kept.children.members (test_of uses_rows Struct e is) k q)) in
     let own = kept.size.size ∙ ap (λ f. f.size) (figure_as bytes h Struct e is) in
     record {
       within = ended (row_at bytes h (e.first + k)).key (size_at bytes h (e.first + k)) (entry_at bytes (row_at bytes h (e.first + k)).entry).size (end_of (figures_of bytes h) 0 (fields_from bytes h e.first e.count)) e.size (align_of (figures_of bytes h) (fields_from bytes h e.first e.count)) sized own s.high;

@@ -3,17 +3,17 @@ use Rattle.std.proofs.Common.{◌≡◌, ℕ, ◌<◌, List, Result, Ok, Err, If
 use Rattle.fidl_records.specs.declared.record.Header.{Header}
 use Rattle.fidl_records.specs.Section.{header_of}
 use Rattle.fidl_verify.specs.declared.fault.TableFault.{TableFault}
-use Rattle.fidl_records.specs.Entry.{IsEntry, rows_before}
+use Rattle.fidl_records.specs.Entry.{IsEntry, rows_before, values_before}
 use Rattle.fidl_records.specs.Root.{IsRoot}
 use Rattle.fidl_records.specs.WellFormed.{HasHeader, WellFormed}
-use Rattle.fidl_verify.specs.Faults.{Breaks, BreaksHeader, BreaksRecord, no_header, header, record_at, magic, version, short, long, many_entries, shape, children, follows, offsets, size, nest, names, row, value, root, root_name, root_order, protocols, methods}
+use Rattle.fidl_verify.specs.Faults.{Breaks, BreaksHeader, BreaksRecord, no_header, header, record_at, magic, version, short, long, many_entries, shape, children, rows, values, offsets, size, nest, sorted, names, row, value, root, root_name, root_order, protocols, methods}
 
 pub well_formed_from : (bytes : List ℕ) (h : Header) → h ≡ header_of bytes → HasHeader bytes h → ((index : ℕ) → index < h.entries → IsEntry bytes h index)
-    → rows_before bytes h.entries ≡ h.rows → h.values ≡ 0 → ((index : ℕ) → index < h.roots → IsRoot bytes h index) → h.protocols ≡ 0 → h.methods ≡ 0 → WellFormed bytes
+    → rows_before bytes h.entries ≡ h.rows → values_before bytes h.entries ≡ h.values → ((index : ℕ) → index < h.roots → IsRoot bytes h index) → h.protocols ≡ 0 → h.methods ≡ 0 → WellFormed bytes
 well_formed_from bytes h same =
     subst (λ h. HasHeader bytes h → ((index : ℕ) → index < h.entries → IsEntry bytes h index)
-    → rows_before bytes h.entries ≡ h.rows → h.values ≡ 0 → ((index : ℕ) → index < h.roots → IsRoot bytes h index) → h.protocols ≡ 0 → h.methods ≡ 0 → WellFormed bytes) (sym same)
-    (λ a b c d e f g. record { header = a; entries = b; covered = c; no_values = d; roots = e; no_protocols = f; no_methods = g })
+    → rows_before bytes h.entries ≡ h.rows → values_before bytes h.entries ≡ h.values → ((index : ℕ) → index < h.roots → IsRoot bytes h index) → h.protocols ≡ 0 → h.methods ≡ 0 → WellFormed bytes) (sym same)
+    (λ a b c d e f g. record { header = a; entries = b; covered = c; values_covered = d; roots = e; no_protocols = f; no_methods = g })
 
 -- no fault is true of a table that is well formed
 of_header : (bytes : List ℕ) (fault : TableFault) → BreaksHeader bytes (header_of bytes) fault → WellFormed bytes → ⊥
@@ -26,13 +26,15 @@ of_record : (bytes : List ℕ) (fault : TableFault) → BreaksRecord bytes (head
 of_record bytes fault (many_entries n) w = omega (arith, n, w.header.few_entries)
 of_record bytes fault (shape at p n) w = n (w.entries at p).shape
 of_record bytes fault (children at p n) w = n (w.entries at p).children
-of_record bytes fault (follows at p n) w = n (w.entries at p).follows
+of_record bytes fault (rows at p n) w = n (w.entries at p).rows
+of_record bytes fault (values at p n) w = n (w.entries at p).values
 of_record bytes fault (offsets at p n) w = n (w.entries at p).offsets
 of_record bytes fault (size at p n) w = n (w.entries at p).size
 of_record bytes fault (nest at p n) w = n (w.entries at p).nest
+of_record bytes fault (sorted at p n) w = n (w.entries at p).sorted
 of_record bytes fault (names at p n) w = n (w.entries at p).names
 of_record bytes fault (row n) w = omega (arith, n, w.covered)
-of_record bytes fault (value n) w = n w.no_values
+of_record bytes fault (value n) w = omega (arith, n, w.values_covered)
 of_record bytes fault (root at p n) w = n (w.roots at p).entry
 of_record bytes fault (root_name at p n) w = n (w.roots at p).name
 of_record bytes fault (root_order at p n) w = n (w.roots at p).rises

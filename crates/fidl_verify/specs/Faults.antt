@@ -4,7 +4,8 @@ use Rattle.fidl_wire.specs.declared.limits.TheConstants.{MAX_ENTRIES}
 use Rattle.fidl_records.specs.declared.section.TheConstants.{HEADER_SIZE}
 use Rattle.fidl_records.specs.declared.record.Header.{Header}
 use Rattle.fidl_records.specs.Section.{header_of, entry_at, table_length}
-use Rattle.fidl_records.specs.Entry.{HasShape, HasChildren, Follows, HasOffsets, HasSize, HasNest, HasNames, rows_before, entry_figure}
+use Rattle.fidl_records.specs.Entry.{HasShape, HasChildren, Follows, HasOffsets, HasSize, HasNest, IsSorted, HasNames, rows_before, values_before, entry_figure}
+use Rattle.fidl_records.specs.Uses.{uses_rows, uses_values}
 use Rattle.fidl_records.specs.Root.{HasEntry, HasRootName, Rises}
 use Rattle.fidl_records.specs.WellFormed.{table_magic, IsVersion}
 use Rattle.fidl_verify.specs.declared.fault.TableFault.{TableFault}
@@ -67,14 +68,16 @@ pub data BreaksRecord (bytes : List ℕ) (h : Header) : TableFault → Type 0 wh
   many_entries : MAX_ENTRIES < h.entries → BreaksRecord bytes h (BadIndex 0)
   shape : (at : ℕ) → at < h.entries → ¬ HasShape (entry_at bytes at) → BreaksRecord bytes h (BadKind at)
   children : (at : ℕ) → at < h.entries → ¬ HasChildren bytes h (entry_at bytes at) → BreaksRecord bytes h (BadIndex at)
-  follows : (at : ℕ) → at < h.entries → ¬ Follows (rows_before bytes at) (entry_at bytes at) → BreaksRecord bytes h (BadIndex at)
+  rows : (at : ℕ) → at < h.entries → ¬ Follows uses_rows (rows_before bytes at) (entry_at bytes at) → BreaksRecord bytes h (BadIndex at)
+  values : (at : ℕ) → at < h.entries → ¬ Follows uses_values (values_before bytes at) (entry_at bytes at) → BreaksRecord bytes h (BadIndex at)
   offsets : (at : ℕ) → at < h.entries → ¬ HasOffsets bytes h (entry_at bytes at) → BreaksRecord bytes h (BadOffset at)
   size : (at : ℕ) → at < h.entries → ¬ HasSize (entry_figure bytes h (entry_at bytes at)) (entry_at bytes at) → BreaksRecord bytes h (BadSize at)
   nest : (at : ℕ) → at < h.entries → ¬ HasNest (entry_figure bytes h (entry_at bytes at)) (entry_at bytes at) → BreaksRecord bytes h (BadNest at)
+  sorted : (at : ℕ) → at < h.entries → ¬ IsSorted bytes h (entry_at bytes at) → BreaksRecord bytes h (NotSorted at)
   names : (at : ℕ) → at < h.entries → ¬ HasNames bytes h (entry_at bytes at) → BreaksRecord bytes h (BadName at)
-  -- the first row that no entry has, and the first value
+  -- the first row that no entry has, and the first value that no entry has
   row : rows_before bytes h.entries < h.rows → BreaksRecord bytes h (BadIndex (rows_before bytes h.entries))
-  value : h.values ≢ 0 → BreaksRecord bytes h (BadIndex 0)
+  value : values_before bytes h.entries < h.values → BreaksRecord bytes h (BadIndex (values_before bytes h.entries))
   root : (at : ℕ) → at < h.roots → ¬ HasEntry bytes h at → BreaksRecord bytes h (BadIndex at)
   root_name : (at : ℕ) → at < h.roots → ¬ HasRootName bytes h at → BreaksRecord bytes h (BadName at)
   root_order : (at : ℕ) → at < h.roots → ¬ Rises bytes h at → BreaksRecord bytes h (NotSorted at)

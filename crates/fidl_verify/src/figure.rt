@@ -2,9 +2,10 @@
 ghost use Rattle.std.specs.Prelude.{◌≡◌, ℕ, ◌+◌, ◌<◌, ◌≤◌, ◌^◌, IfNone, OnSome, IfSome};
 ghost use Rattle.std.specs.Int.{next_multiple_of};
 ghost use Rattle.fidl_wire.specs.Term as ty;
-ghost use Rattle.fidl_wire.specs.Figure.{figure_of};
+ghost use Rattle.fidl_wire.specs.Figure.{figure, figure_of};
 ghost use Rattle.fidl_records.specs.Section.{row_at};
 ghost use Rattle.fidl_records.specs.Terms.{fields_from};
+ghost use Rattle.fidl_records.specs.Uses.{plain_size};
 ghost use Rattle.fidl_records.specs.Entry.{IsOf, figures_of, entry_figure, AreOffsets, HasOffsets, HasShape, HasChildren};
 ghost use Rattle.fidl_verify.specs.Measured.{measured};
 
@@ -33,10 +34,30 @@ fn round_up(place: u64, alignment: u8) -> u64
     }
 }
 
+/// The figure of this size and alignment, of a type that nothing stands in inline.
+fn flat_measure(size: u8, alignment: u8) -> Measure
+    ensures { measured result ≡ figure size alignment 0 }
+{
+    Measure {
+        size: u64::from(size),
+        alignment,
+        nest: 0,
+    }
+}
+
+/// The figure of bool and the numbers, and of bits and enums by their underlying type.
+fn plain_measure(kind: EntryKind) -> Measure
+    ensures { measured result ≡ figure (plain_size kind) (plain_size kind) 0 }
+{
+    let size = plain_size(kind);
+    flat_measure(size, size)
+}
+
 /// The figure of an array of so many elements of this entry.
 fn array_measure(table: &Sections<'_>, element: u32, count: u32) -> Measure
     requires { element < table.now.header.entries }
-    ensures { measured result ≡ figure_of (figures_of table.now.bytes.now table.now.header) (ty.array (ty.named element) count) }
+    ensures { measured result ≡ figure_of (figures_of table.now.bytes.now table.now.header)
+        (ty.array (ty.named element) count) }
 {
     let element = table.entry(element);
     Measure {
@@ -49,7 +70,9 @@ fn array_measure(table: &Sections<'_>, element: u32, count: u32) -> Measure
 /// The figure of a struct with these rows, where their keys are the offsets of its members.
 fn struct_measure(table: &Sections<'_>, first: u32, count: u32) -> Option<Measure>
     requires within { first + count ≤ table.now.header.rows }
-    requires members { (k : ℕ) → k < count → (row_at table.now.bytes.now table.now.header (first + k)).entry < table.now.header.entries }
+    requires members { (k : ℕ) → k < count
+        → (row_at table.now.bytes.now table.now.header (first + k)).entry
+        < table.now.header.entries }
     ensures none { IfNone result (¬ AreOffsets table.now.bytes.now table.now.header first count) }
     ensures offsets { OnSome result (AreOffsets table.now.bytes.now table.now.header first count) }
     ensures figure { IfSome result (λ m. measured m ≡ figure_of (figures_of table.now.bytes.now table.now.header)
@@ -84,18 +107,16 @@ pub(crate) fn entry_measure(table: &Sections<'_>, entry: &Entry, kind: EntryKind
     requires children { HasChildren table.now.bytes.now table.now.header entry.now }
     ensures none { IfNone result (¬ HasOffsets table.now.bytes.now table.now.header entry.now) }
     ensures offsets { OnSome result (HasOffsets table.now.bytes.now table.now.header entry.now) }
-    ensures figure { IfSome result (λ m. measured m ≡ entry_figure table.now.bytes.now table.now.header entry.now) }
+    ensures figure { IfSome result (λ m. measured m
+        ≡ entry_figure table.now.bytes.now table.now.header entry.now) }
 {
     match kind {
         EntryKind::Array => Some(array_measure(table, entry.first, entry.count)),
         EntryKind::Struct => struct_measure(table, entry.first, entry.count),
-        _ => {
-            let size = plain_size(kind);
-            Some(Measure {
-                size: u64::from(size),
-                alignment: size,
-                nest: 0,
-            })
-        }
+        EntryKind::Bits | EntryKind::Enum => Some(plain_measure(entry.underlying())),
+        EntryKind::String | EntryKind::Vector => Some(flat_measure(16, 8)),
+        EntryKind::Box => Some(flat_measure(8, 8)),
+        EntryKind::Handle => Some(flat_measure(4, 4)),
+        _ => Some(plain_measure(kind)),
     }
 }

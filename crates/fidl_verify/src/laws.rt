@@ -1,11 +1,11 @@
 //! Laws of well-formed tables: each is the contract of a function that does nothing.
-ghost use Rattle.std.specs.Prelude.{◌≡◌, ℕ, ◌+◌, ◌<◌, ◌≤◌, List, length};
+ghost use Rattle.std.specs.Prelude.{◌≡◌, ℕ, ◌+◌, ◌<◌, ◌≤◌, ◌<ℤ◌, List, length};
 ghost use Rattle.fidl_wire.specs.declared.limits.TheConstants.{MAX_INLINE_SIZE, MAX_NEST};
 ghost use Rattle.fidl_wire.specs.Figure.{IsLaidOut, IsSound};
 ghost use Rattle.fidl_records.specs.declared.kind.EntryKind.TheVariants as EntryKind;
 ghost use Rattle.fidl_records.specs.Section.{header_of, table_length, entry_at, row_at};
 ghost use Rattle.fidl_records.specs.Terms.{declarations_of};
-ghost use Rattle.fidl_records.specs.Entry.{IsOf, IsRowOf, IsApart};
+ghost use Rattle.fidl_records.specs.Entry.{IsOf, IsRowOf, IsApart, HasNumberKind, enum_value};
 ghost use Rattle.fidl_records.specs.WellFormed.{WellFormed};
 ghost use Rattle.fidl_verify.specs.declared.fault.TableFault.{TableFault};
 ghost use Rattle.fidl_verify.specs.Faults.{Breaks};
@@ -52,6 +52,21 @@ pub fn members_stand_apart()
     ensures { (bytes : List ℕ) → WellFormed bytes → (index : ℕ) → index < (header_of bytes).entries
         → IsOf EntryKind.Struct (entry_at bytes index) → (k : ℕ) → k < (entry_at bytes index).count
         → IsApart bytes (header_of bytes) (entry_at bytes index) k }
+{}
+
+/// The underlying type of bits or an enum is that of a kind of numbers.
+pub fn underlying_types_are_numbers()
+    ensures of_bits { (bytes : List ℕ) → WellFormed bytes → (index : ℕ) → index < (header_of bytes).entries
+        → IsOf EntryKind.Bits (entry_at bytes index) → HasNumberKind (entry_at bytes index) }
+    ensures of_enums { (bytes : List ℕ) → WellFormed bytes → (index : ℕ) → index < (header_of bytes).entries
+        → IsOf EntryKind.Enum (entry_at bytes index) → HasNumberKind (entry_at bytes index) }
+{}
+
+/// A number of a strict enum is less than each that comes later.
+pub fn enum_values_rise()
+    ensures { (bytes : List ℕ) → WellFormed bytes → (index : ℕ) → index < (header_of bytes).entries
+        → let e = entry_at bytes index in IsOf EntryKind.Enum e → (i j : ℕ) → i < j → j < e.count
+        → enum_value bytes (header_of bytes) e i <ℤ enum_value bytes (header_of bytes) e j }
 {}
 
 /// No fault is true of a well-formed table.

@@ -8,6 +8,7 @@ mod header;
 mod kind;
 pub mod laws;
 mod name;
+mod number;
 mod roots;
 mod sections;
 mod table;

@@ -66,7 +66,8 @@ fn check_root(table: &Sections<'_>, index: u32) -> Result<(), TableFault>
 
 /// Checks the rules of all roots.
 pub(crate) fn check_roots(table: &Sections<'_>) -> Result<(), TableFault>
-    ensures ok { OnOk result ((index : ℕ) → index < table.now.header.roots → IsRoot table.now.bytes.now table.now.header index) }
+    ensures ok { OnOk result ((index : ℕ) → index < table.now.header.roots
+        → IsRoot table.now.bytes.now table.now.header index) }
     ensures err { IfErr result (Breaks table.now.bytes.now) }
 {
     for index in 0..table.header.roots {
@@ -77,7 +78,8 @@ pub(crate) fn check_roots(table: &Sections<'_>) -> Result<(), TableFault>
 
 /// The entry of the first root of a name.
 pub(crate) fn find_root(table: &Sections<'_>, name: &[u8]) -> Option<u32>
-    requires { (index : ℕ) → index < table.now.header.roots → IsRoot table.now.bytes.now table.now.header index }
+    requires { (index : ℕ) → index < table.now.header.roots
+        → IsRoot table.now.bytes.now table.now.header index }
     ensures found { IfSome result (IsRootEntry table.now.bytes.now table.now.header name.now) }
     ensures below { IfSome result (λ entry. entry < table.now.header.entries) }
     ensures none { IfNone result (HasNoRoot table.now.bytes.now table.now.header name.now) }

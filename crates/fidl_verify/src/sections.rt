@@ -1,8 +1,10 @@
 //! The sections of a table whose header is right.
 ghost use Rattle.std.specs.Prelude.{◌≡◌, ◌+◌, ◌≤◌, ◌<◌, length};
-ghost use Rattle.fidl_records.specs.Section.{header_of, table_length, entry_at, row_at, root_at, name_at};
+ghost use Rattle.fidl_records.specs.Section.{header_of, table_length, entry_at, row_at, value_at, root_at, name_at};
 
-use fidl_records::{Entry, Header, Root, Row, name_bytes, read_entry, read_root, read_row};
+use fidl_records::{
+    Entry, Header, Root, Row, name_bytes, read_entry, read_root, read_row, read_value,
+};
 
 /// The bytes of a table, and its header; the sections fill the table.
 #[derive(Clone, Copy)]
@@ -37,6 +39,24 @@ impl<'t> Sections<'t> {
     {
         // Read, so that the sum is known to be a number of 32 bits.
         let _rows = self.header.rows;
+        first + count
+    }
+
+    /// The value of this number.
+    pub(crate) fn value(&self, index: u32) -> u64
+        requires { index < self.now.header.values }
+        ensures { result ≡ value_at self.now.bytes.now self.now.header index }
+    {
+        read_value(self.bytes, &self.header, index)
+    }
+
+    /// The end of a range of values.
+    pub(crate) fn values_end(&self, first: u32, count: u32) -> u32
+        requires { first + count ≤ self.now.header.values }
+        ensures { result ≡ first + count }
+    {
+        // Read, so that the sum is known to be a number of 32 bits.
+        let _values = self.header.values;
         first + count
     }
 

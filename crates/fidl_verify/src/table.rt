@@ -1,12 +1,13 @@
 //! Tables that are verified.
 ghost use Rattle.std.specs.Prelude.{◌≡◌, ℕ, ◌+◌, ◌<◌, ◌≤◌, OnOk, OnErr, IfOk, IfErr, IfSome, IfNone};
-ghost use Rattle.fidl_records.specs.Section.{header_of, entry_at, row_at, name_at};
-ghost use Rattle.fidl_records.specs.Entry.{rows_before};
+ghost use Rattle.fidl_records.specs.Section.{header_of, entry_at, row_at, value_at, name_at};
+ghost use Rattle.fidl_records.specs.Entry.{rows_before, values_before};
 ghost use Rattle.fidl_records.specs.Root.{IsRootEntry, HasNoRoot};
 ghost use Rattle.fidl_records.specs.WellFormed.{WellFormed};
+ghost use Rattle.fidl_verify.specs.Measured.{AreBefore, HasRoom};
 ghost use Rattle.fidl_verify.specs.Faults.{Breaks};
 
-use crate::entry::check_entries;
+use crate::entry::{Parts, check_entries};
 use crate::fault::TableFault;
 use crate::header::read_sections;
 use crate::roots::{check_roots, find_root};
@@ -32,18 +33,20 @@ impl<'t> Model for Table<'t> {
 }
 
 /// Checks that each row and value belongs to an entry.
-fn check_covered(table: &Sections<'_>, rows: u32) -> Result<(), TableFault>
-    requires rows { rows ≡ rows_before table.now.bytes.now table.now.header.entries }
-    requires room { rows ≤ table.now.header.rows }
-    ensures covered { OnOk result (rows_before table.now.bytes.now table.now.header.entries ≡ table.now.header.rows) }
-    ensures no_values { OnOk result (table.now.header.values ≡ 0) }
+fn check_covered(table: &Sections<'_>, parts: Parts) -> Result<(), TableFault>
+    requires parts { AreBefore table.now.bytes.now table.now.header.entries parts }
+    requires room { HasRoom table.now.header parts }
+    ensures covered { OnOk result (rows_before table.now.bytes.now table.now.header.entries
+        ≡ table.now.header.rows) }
+    ensures values_covered { OnOk result (values_before table.now.bytes.now table.now.header.entries
+        ≡ table.now.header.values) }
     ensures err { IfErr result (Breaks table.now.bytes.now) }
 {
-    if rows < table.header.rows {
-        return Err(TableFault::BadIndex { at: rows });
+    if parts.rows < table.header.rows {
+        return Err(TableFault::BadIndex { at: parts.rows });
     }
-    if table.header.values != 0 {
-        return Err(TableFault::BadIndex { at: 0 });
+    if parts.values < table.header.values {
+        return Err(TableFault::BadIndex { at: parts.values });
     }
     Ok(())
 }
@@ -60,7 +63,7 @@ fn check_methods(table: &Sections<'_>) -> Result<(), TableFault>
     Ok(())
 }
 
-/// Checks a table's rules in their order, and keeps its bytes where all hold; the fault tells the first that does not,
+/// Checks a table's rules in their order, and keeps its bytes where all hold; the fault names the first that does not,
 /// with the number of the record.
 pub fn verify(bytes: &[u8]) -> Result<Table<'_>, TableFault>
     ensures ok { OnOk result (WellFormed bytes.now) }
@@ -69,8 +72,8 @@ pub fn verify(bytes: &[u8]) -> Result<Table<'_>, TableFault>
     ensures none { OnErr result (WellFormed bytes.now → ⊥) }
 {
     let sections = read_sections(bytes)?;
-    let rows = check_entries(&sections)?;
-    check_covered(&sections, rows)?;
+    let parts = check_entries(&sections)?;
+    check_covered(&sections, parts)?;
     check_roots(&sections)?;
     check_methods(&sections)?;
     Ok(Table { sections })
@@ -99,6 +102,14 @@ impl<'t> Table<'t> {
         ensures well_formed { WellFormed self.now }
     {
         self.sections.header.rows
+    }
+
+    /// The number of values.
+    pub fn values(&self) -> u32
+        ensures value { result ≡ (header_of self.now).values }
+        ensures well_formed { WellFormed self.now }
+    {
+        self.sections.header.values
     }
 
     /// The entry that the first root of this name has, where there is one.
@@ -131,10 +142,20 @@ impl<'t> Table<'t> {
         self.sections.row(index)
     }
 
+    /// The eight bytes of the value of this number, as a number.
+    pub fn value(&self, index: u32) -> u64
+        requires { index < (header_of self.now).values }
+        ensures value { result ≡ value_at self.now (header_of self.now) index }
+        ensures well_formed { WellFormed self.now }
+    {
+        self.sections.value(index)
+    }
+
     /// The bytes of a row's name.
     pub fn row_name(&self, row: &Row) -> &'t [u8]
         requires { row.now.name_place + row.now.name_length ≤ (header_of self.now).names }
-        ensures { result.now ≡ name_at self.now (header_of self.now) row.now.name_place row.now.name_length }
+        ensures { result.now ≡ name_at self.now (header_of self.now) row.now.name_place
+            row.now.name_length }
     {
         self.sections.name(row.name_place, row.name_length)
     }
@@ -142,7 +163,8 @@ impl<'t> Table<'t> {
     /// The bytes of an entry's name.
     pub fn entry_name(&self, entry: &Entry) -> &'t [u8]
         requires { entry.now.name_place + entry.now.name_length ≤ (header_of self.now).names }
-        ensures { result.now ≡ name_at self.now (header_of self.now) entry.now.name_place entry.now.name_length }
+        ensures { result.now ≡ name_at self.now (header_of self.now) entry.now.name_place
+            entry.now.name_length }
     {
         self.sections.name(entry.name_place, entry.name_length)
     }

@@ -1,4 +1,4 @@
--- The elements of an array, one by one (docs/views.md, "Elements").
+-- The elements of an array or a vector, one by one (docs/views.md, "Elements").
 use Rattle.std.specs.Prelude.{ℕ, zero, suc, ◌+◌, List, [], ◌∷◌}
 use Rattle.fidl_wire.specs.Value.{Values, none, value}
 use Rattle.fidl_decode.specs.Shown.{Shown}
@@ -25,3 +25,7 @@ ShowEach [] none = Unit {0}
 ShowEach (p ∷ ps) none = ⊥
 ShowEach [] (value v vs) = ⊥
 ShowEach (p ∷ ps) (value v vs) = Shows p.message p.index p.place v × ShowEach ps vs
+
+-- each part shows some value
+abbrev pub HaveValues : List Part → Type 0
+HaveValues ps = (vs : Values) × ShowEach ps vs

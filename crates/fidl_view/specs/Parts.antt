@@ -1,9 +1,13 @@
 -- The parts of a value that the calls of a view answer (docs/views.md).
-use Rattle.std.specs.Prelude.{ℕ, zero, suc, Bool, true, false, ℤ, pos, List, [], ◌∷◌, Option, Some, None}
-use Rattle.fidl_wire.specs.Value.{Value, Values, absent, bool, number, list, fields, none, value, count}
-use Rattle.fidl_wire.specs.Term.{Term, Kind, int8, int16, int32, int64, uint8, uint16, uint32, uint64, resolve}
+use Rattle.std.specs.Prelude.{◌≢◌, ℕ, zero, suc, ◌==◌, Bool, true, false, if◌then◌else◌, ℤ, pos, List, [], ◌∷◌, length, Option, Some, None}
+use Rattle.fidl_wire.specs.declared.handle.HandleInfo.{HandleInfo}
+use Rattle.fidl_wire.specs.declared.limits.TheConstants.{SAME_RIGHTS}
+use Rattle.fidl_wire.specs.Value.{Value, Values, absent, bool, number, text, list, fields, handle, none, value, count}
+use Rattle.fidl_wire.specs.Term.{Term, Kind, uint8}
 use Rattle.fidl_wire.specs.Term as ty
 use Rattle.fidl_wire.specs.Figure.{Declarations}
+use Rattle.fidl_wire.specs.Encoding as encoding
+use Rattle.fidl_view.specs.Numbers.{unsigned_in, signed_in}
 
 -- whether it is absent
 abbrev pub absence_of : Value → Bool
@@ -15,20 +19,25 @@ abbrev pub bool_of : Value → Option Bool
 bool_of (bool b) = Some b
 bool_of _ = None
 
--- the number of an unsigned type
+-- the type of numbers that the values of a type are
+abbrev pub numbers_of : Term → Option Kind
+numbers_of (ty.number kind) = Some kind
+numbers_of (ty.bits kind mask) = Some kind
+numbers_of (ty.enum kind values) = Some kind
+numbers_of _ = None
+
+-- the number of an unsigned type, and of bits or an enum of one
 abbrev pub unsigned_of : Term → Value → Option ℕ
-unsigned_of (ty.number uint8) (number (pos n)) = Some n
-unsigned_of (ty.number uint16) (number (pos n)) = Some n
-unsigned_of (ty.number uint32) (number (pos n)) = Some n
-unsigned_of (ty.number uint64) (number (pos n)) = Some n
+unsigned_of (ty.number kind) (number z) = unsigned_in kind z
+unsigned_of (ty.bits kind mask) (number z) = unsigned_in kind z
+unsigned_of (ty.enum kind values) (number z) = unsigned_in kind z
 unsigned_of _ _ = None
 
--- the number of a signed type
+-- the number of a signed type, and of an enum of one
 abbrev pub signed_of : Term → Value → Option ℤ
-signed_of (ty.number int8) (number z) = Some z
-signed_of (ty.number int16) (number z) = Some z
-signed_of (ty.number int32) (number z) = Some z
-signed_of (ty.number int64) (number z) = Some z
+signed_of (ty.number kind) (number z) = signed_in kind z
+signed_of (ty.bits kind mask) (number z) = signed_in kind z
+signed_of (ty.enum kind values) (number z) = signed_in kind z
 signed_of _ _ = None
 
 -- the number, where the value is one from 0 on, else 0
@@ -46,15 +55,35 @@ abbrev pub bytes_if : (element : Term) → Values → Option (List ℕ)
 bytes_if (ty.number uint8) vs = Some (octets vs)
 bytes_if _ vs = None
 
--- the bytes of an array of uint8
+-- the bytes of an array or a vector of uint8
 abbrev pub bytes_of : Declarations → Term → Value → Option (List ℕ)
-bytes_of ds (ty.array t n) (list vs) = bytes_if (resolve ds.terms t) vs
-bytes_of ds _ _ = None
+bytes_of ds t (list vs) = bytes_if (encoding.element_of ds t) vs
+bytes_of ds t _ = None
 
--- how many elements an array has
+-- how many elements an array or a vector has, and how many bytes a string
 abbrev pub length_of : Value → Option ℕ
 length_of (list vs) = Some (count vs)
+length_of (text bytes) = Some (length bytes)
 length_of _ = None
+
+-- the bytes of a string
+abbrev pub string_of : Value → Option (List ℕ)
+string_of (text bytes) = Some bytes
+string_of _ = None
+
+-- the record of a handle
+abbrev pub handle_of : Value → Option HandleInfo
+handle_of (handle h) = Some h
+handle_of _ = None
+
+-- the rights that a type grants to a handle: those that it requires, or those that came, where it requires the same rights
+abbrev pub rights_of : (required : ℕ) → HandleInfo → ℕ
+rights_of required h = if required == SAME_RIGHTS then h.rights else required
+
+-- the rights of a handle
+abbrev pub granted_of : Term → Value → Option ℕ
+granted_of (ty.handle optional subtype rights) (handle h) = Some (rights_of rights h)
+granted_of _ _ = None
 
 -- the value at a place of a list
 abbrev pub nth : Values → ℕ → Option Value
@@ -62,17 +91,25 @@ nth none i = None
 nth (value v vs) zero = Some v
 nth (value v vs) (suc i) = nth vs i
 
--- an element of an array
+-- an element of an array or a vector
 abbrev pub element_of : Value → ℕ → Option Value
 element_of (list vs) i = nth vs i
 element_of _ i = None
 
--- the elements of an array, none of another value
+-- the elements of an array or a vector, none of another value
 abbrev pub elements_of : Value → Values
 elements_of (list vs) = vs
 elements_of _ = none
 
--- a member of a struct
+-- a member of a struct, also of the struct in a box
 abbrev pub field_of : Value → ℕ → Option Value
 field_of (fields vs) i = nth vs i
 field_of _ i = None
+
+-- no array, and no vector that is there
+abbrev pub IsNoList : Value → Type 0
+IsNoList v = (vs : Values) → v ≢ list vs
+
+-- no struct, and no box that is there
+abbrev pub IsNoStruct : Value → Type 0
+IsNoStruct v = (vs : Values) → v ≢ fields vs

@@ -1,15 +1,22 @@
 -- Views as parts of a message, and what an iterator of elements has left (docs/views.md, "Shows" and "Elements").
-use Rattle.std.specs.Prelude.{ℕ, ◌+◌, List, slice_range}
-use Rattle.fidl_wire.specs.Value.{Value}
+use Rattle.std.specs.Prelude.{◌≡◌, ◌<◌, ℕ, ◌+◌, List, slice_range}
+use Rattle.std.specs.Int.{w64}
+use Rattle.fidl_wire.specs.Value.{Value, Values, list, fields}
 use Rattle.fidl_wire.specs.Term.{Term}
+use Rattle.fidl_wire.specs.Term as ty
 use Rattle.fidl_wire.specs.Figure.{Declarations}
-use Rattle.fidl_records.specs.Section.{entry_at}
+use Rattle.fidl_wire.specs.Encoding.{element_of}
+use Rattle.fidl_wire.specs.Message.{Encodes}
+use Rattle.fidl_records.specs.Field.{number_at}
 use Rattle.fidl_records.specs.Terms.{declarations_of}
+use Rattle.fidl_decode.specs.Placed.{content_at}
 use Rattle.fidl_decode.specs.Shown.{Shown}
 use Rattle.fidl_view.specs.declared.view.View.{View}
 use Rattle.fidl_view.specs.declared.elements.Elements.{Elements}
+use Rattle.fidl_view.specs.declared.structs.Members.{Members}
 use Rattle.fidl_view.specs.Shows.{Shows, type_of}
-use Rattle.fidl_view.specs.Elements.{Part, part, parts_from}
+use Rattle.fidl_view.specs.Elements.{Part, part, parts_from, ShowEach}
+use Rattle.fidl_view.specs.Members.{ShowMembers}
 
 -- what a view is seen as
 abbrev pub part_of : View → Part
@@ -19,6 +26,15 @@ part_of v = part v.decoded.now v.index v.place
 abbrev pub IsShownBy : View → Value → Type 0
 IsShownBy view v = let p = part_of view in Shows p.message p.index p.place v
 
+-- a decoded message encodes the value
+abbrev pub IsEncoded : Shown → Value → Type 0
+IsEncoded d v = Encodes (declarations_of d.table) (ty.named d.entry) v d.bytes d.handles
+
+-- the one value of which a statement is true
+pub record IsOnly (p : Value → Type 0) (v : Value) : Type 0 where
+  pub holds : p v
+  pub only : (w : Value) → p w → w ≡ v
+
 -- the type of the part, and the declarations that its names refer to
 abbrev pub type_shown : View → Term
 type_shown view = let p = part_of view in type_of p.message p.index
@@ -26,9 +42,18 @@ type_shown view = let p = part_of view in type_of p.message p.index
 abbrev pub types_shown : View → Declarations
 types_shown view = declarations_of (part_of view).message.table
 
--- the bytes of the message where the part stands inline
+-- how many elements an array of the type has, or a vector of the type by its count
+abbrev pub count_at : Term → (bytes : List ℕ) → (place : ℕ) → ℕ
+count_at (ty.array t n) bytes place = n
+count_at (ty.vector optional bound t) bytes place = number_at w64 bytes place
+count_at _ bytes place = 0
+
+-- as many bytes of the message as the part has elements, where they stand: in place, or in the object of a vector's marker
 abbrev pub bytes_shown : View → List ℕ
-bytes_shown view = let p = part_of view in slice_range p.message.bytes p.place (p.place + (entry_at p.message.table p.index).size)
+bytes_shown view =
+    let p = part_of view in
+    let from = content_at p.message.links (type_shown view) p.place in
+    slice_range p.message.bytes from (from + count_at (type_shown view) p.message.bytes p.place)
 
 -- the decoded message of an iterator's parts
 abbrev pub message_left : Elements → Shown
@@ -37,3 +62,22 @@ message_left s = s.decoded.now
 -- the parts whose views are still to come
 abbrev pub parts_left : Elements → List Part
 parts_left s = parts_from s.decoded.now s.index s.size s.place s.left
+
+-- elements of the part's own elements' type, as many as it has, where they stand
+pub record IsRunOf (view : View) (elements : Elements) : Type 0 where
+  pub message : message_left elements ≡ (part_of view).message
+  pub typed : element_of (types_shown view) (type_shown view) ≡ type_of (part_of view).message elements.index
+  pub counted : elements.left ≡ count_at (type_shown view) (part_of view).message.bytes view.place
+  pub placed : 0 < elements.left → elements.place ≡ content_at (part_of view).message.links (type_shown view) view.place
+
+-- the value is a list, and the parts that are left show its elements
+abbrev pub ShowsListOf : Value → Elements → Type 0
+ShowsListOf v elements = (vs : Values) × (v ≡ list vs) × ShowEach (parts_left elements) vs
+
+-- the decoded message of members
+abbrev pub message_held : Members → Shown
+message_held members = members.decoded.now
+
+-- the value has members, and they stand where a struct's members were found
+abbrev pub ShowsMembersOf : Value → Members → Type 0
+ShowsMembersOf v members = (vs : Values) × (v ≡ fields vs) × ShowMembers members.decoded.now members.index members.place vs

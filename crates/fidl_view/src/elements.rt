@@ -1,12 +1,13 @@
-//! The elements of an array, one by one.
+//! The elements of an array or a vector, one by one.
 ghost use Rattle.std.specs.Prelude.{◌≡◌, ◌+◌, ◌*◌, ◌<◌, ◌≤◌, length};
 ghost use Rattle.fidl_wire.specs.declared.limits.TheConstants.{MAX_MESSAGE_BYTES};
 ghost use Rattle.fidl_records.specs.Section.{header_of, entry_at};
+ghost use Rattle.fidl_view.specs.Elements.{HaveValues, parts_from};
 
 use crate::view::View;
 use fidl_decode::Decoded;
 
-/// The views of an array's elements that are left, in their order (docs/views.md, "Elements").
+/// The views of the elements of an array or a vector that are left, in their order (docs/views.md, "Elements").
 #[derive(Drop)]
 pub struct Elements<'v, 'm> {
     pub(crate) decoded: &'v Decoded<'v, 'm, 'v>,
@@ -20,6 +21,7 @@ pub struct Elements<'v, 'm> {
     ghost sized: { size ≡ (entry_at decoded.now.table index).size },
     ghost room: { place + size * left ≤ length decoded.now.bytes },
     ghost short: { length decoded.now.bytes ≤ MAX_MESSAGE_BYTES },
+    ghost shown: { ∥ HaveValues (parts_from decoded.now index size place left) ∥₁ },
 }
 
 impl<'v, 'm> Iterator for Elements<'v, 'm> {

@@ -2,9 +2,15 @@
 #![tactic(auto)]
 
 mod elements;
+mod handle;
+mod kind;
+mod list;
 mod number;
+mod structs;
+mod text;
 mod view;
 mod views;
+pub mod worked;
 
 pub use elements::Elements;
 pub use view::View;

@@ -3,15 +3,16 @@
 //! What holds of a table behind a shared borrow is known here only from what its calls ensure. So some bodies read an entry,
 //! a kind or the number of rows for that alone: that the table is well-formed, or that a number of it has 32 bits. The names of
 //! what they read begin with `_`.
-ghost use Rattle.std.specs.Prelude.{◌≡◌, ◌+◌, ◌<◌, ◌≤◌, length, Some, None, IfSome};
+ghost use Rattle.std.specs.Prelude.{◌≡◌, ◌+◌, ◌<◌, ◌≤◌, length};
 ghost use Rattle.fidl_wire.specs.Value.{Value};
 ghost use Rattle.fidl_wire.specs.declared.limits.TheConstants.{MAX_MESSAGE_BYTES};
 ghost use Rattle.fidl_records.specs.Section.{header_of, entry_at};
+ghost use Rattle.fidl_view.specs.Shows.{HasValue};
 
-use crate::elements::Elements;
+use crate::kind::entry_kind;
 use crate::number::{signed, unsigned};
 use fidl_decode::Decoded;
-use fidl_records::EntryKind;
+use fidl_records::{EntryKind, u64_at};
 
 /// A part of a decoded message. It borrows the message, and every answer is a part of the value that the message encodes.
 #[derive(Clone, Copy)]
@@ -23,36 +24,54 @@ pub struct View<'v, 'm> {
     ghost in_range: { index < (header_of decoded.now.table).entries },
     ghost room: { place + (entry_at decoded.now.table index).size ≤ length decoded.now.bytes },
     ghost short: { length decoded.now.bytes ≤ MAX_MESSAGE_BYTES },
+    ghost shown: { ∥ HasValue decoded.now index place ∥₁ },
 }
 
 impl<'v, 'm> View<'v, 'm> {
-    ghost use Rattle.std.specs.Prelude.{MatchOption};
-    ghost use Rattle.std.specs.Option.{option_copied};
+    ghost use Rattle.std.specs.Int.{byte_len};
+    ghost use Rattle.fidl_wire.specs.Term.{width};
+    ghost use Rattle.fidl_records.specs.Kind.{number_type};
+    ghost use Rattle.fidl_records.specs.Terms.{as_number};
     ghost use Rattle.fidl_records.specs.Entry.{IsOf};
     ghost use Rattle.fidl_records.specs.WellFormed.{WellFormed};
-    ghost use Rattle.fidl_view.specs.Parts.{absence_of, bool_of, unsigned_of, signed_of, bytes_of, length_of, element_of, elements_of, field_of};
-    ghost use Rattle.fidl_view.specs.Elements.{ShowEach};
-    ghost use Rattle.fidl_view.specs.Views.{part_of, parts_left, message_left, IsShownBy, type_shown, types_shown, bytes_shown};
+    ghost use Rattle.fidl_view.specs.Parts.{absence_of, bool_of, numbers_of, unsigned_of, signed_of};
+    ghost use Rattle.fidl_view.specs.Views.{IsShownBy, type_shown};
 
     /// The kind of the part's type.
-    fn kind(self) -> EntryKind
+    pub(crate) fn kind(self) -> EntryKind
         ensures of { IsOf result (entry_at self.entry.decoded.now.table self.entry.index) }
         ensures well_formed { WellFormed self.entry.decoded.now.table }
     {
-        let entry = self.decoded.table().entry(self.index);
-        match EntryKind::from_number(entry.kind) {
-            Some(kind) => kind,
-            None => unreachable!(),
+        entry_kind(self.decoded, self.index)
+    }
+
+    /// The kind of the part's number: its own kind, or the underlying kind of bits and enums.
+    fn number_kind(self) -> EntryKind
+        ensures numbers { number_type result ≡ numbers_of (type_shown self.entry) }
+        ensures room { self.entry.place + byte_len (width (as_number result))
+            ≤ length self.entry.decoded.now.bytes }
+        ensures well_formed { WellFormed self.entry.decoded.now.table }
+    {
+        match self.kind() {
+            EntryKind::Bits | EntryKind::Enum => {
+                self.decoded.table().entry(self.index).underlying()
+            }
+            kind => kind,
         }
     }
 
-    /// Whether an optional or a box is absent: never, in a table of today's kinds.
+    /// Whether an optional value or a box is absent.
     pub fn is_absent(self) -> bool
         ensures { (v : Value) → IsShownBy self.entry v → result ≡ absence_of v }
     {
-        // Read, so that the kind is known to be one without absent values. No other is accepted yet.
-        let _kind = self.kind();
-        false
+        match self.kind() {
+            EntryKind::Box => self.decoded.bytes()[self.place] == 0,
+            EntryKind::Handle => self.decoded.bytes()[self.place] == 0,
+            EntryKind::String => self.decoded.bytes()[self.place + 8] == 0,
+            EntryKind::Vector => self.decoded.bytes()[self.place + 8] == 0,
+            EntryKind::Union => u64_at(self.decoded.bytes(), self.place) == 0,
+            _ => false,
+        }
     }
 
     /// A bool, none of another kind.
@@ -65,128 +84,19 @@ impl<'v, 'm> View<'v, 'm> {
         }
     }
 
-    /// The number of uint8, uint16, uint32 or uint64, none of another kind.
+    /// The number of uint8, uint16, uint32 or uint64, and of bits or an enum of one of these; none of another type.
     pub fn as_u64(self) -> Option<u64>
-        ensures { (v : Value) → IsShownBy self.entry v → result ≡ unsigned_of (type_shown self.entry) v }
+        ensures { (v : Value) → IsShownBy self.entry v → result
+            ≡ unsigned_of (type_shown self.entry) v }
     {
-        unsigned(self.kind(), self.decoded.bytes(), self.place)
+        unsigned(self.number_kind(), self.decoded.bytes(), self.place)
     }
 
-    /// The number of int8, int16, int32 or int64, none of another kind.
+    /// The number of int8, int16, int32 or int64, and of an enum of one of these; none of another type.
     pub fn as_i64(self) -> Option<i64>
-        ensures { (v : Value) → IsShownBy self.entry v → result ≡ signed_of (type_shown self.entry) v }
+        ensures { (v : Value) → IsShownBy self.entry v → result
+            ≡ signed_of (type_shown self.entry) v }
     {
-        signed(self.kind(), self.decoded.bytes(), self.place)
-    }
-
-    /// The bytes of an array of uint8, as a slice of the message itself; none of another type.
-    pub fn as_bytes(self) -> Option<&'m [u8]>
-        ensures value { (v : Value) → IsShownBy self.entry v
-            → option_copied result ≡ bytes_of (types_shown self.entry) (type_shown self.entry) v }
-        ensures slice { IfSome result (λ bytes. bytes.now ≡ bytes_shown self.entry) }
-    {
-        match self.kind() {
-            EntryKind::Array => {
-                let array = self.decoded.table().entry(self.index);
-                let first = View {
-                    decoded: self.decoded,
-                    index: array.first,
-                    place: self.place,
-                };
-                match first.kind() {
-                    EntryKind::Uint8 => Some(
-                        &self.decoded.bytes()[self.place..self.place + array.size as usize],
-                    ),
-                    _ => None,
-                }
-            }
-            _ => None,
-        }
-    }
-
-    /// How many elements an array has, none of another kind.
-    pub fn len(self) -> Option<usize>
-        ensures { (v : Value) → IsShownBy self.entry v → result ≡ length_of v }
-    {
-        match self.kind() {
-            EntryKind::Array => Some(self.decoded.table().entry(self.index).count as usize),
-            _ => None,
-        }
-    }
-
-    /// The element of an array at this place, counted from 0; none past the last, and of another kind.
-    pub fn element(self, at: usize) -> Option<View<'v, 'm>>
-        ensures message { IfSome result (λ part. (part_of part).message ≡ (part_of self.entry).message) }
-        ensures part { (v : Value) → IsShownBy self.entry v
-            → MatchOption result (element_of v at ≡ None)
-            (λ part. (x : Value) × (element_of v at ≡ Some x) × IsShownBy part x) }
-    {
-        match self.kind() {
-            EntryKind::Array => {
-                let array = self.decoded.table().entry(self.index);
-                if at >= array.count as usize {
-                    return None;
-                }
-                let size = self.decoded.table().entry(array.first).size as usize;
-                Some(View {
-                    decoded: self.decoded,
-                    index: array.first,
-                    place: self.place + at * size,
-                })
-            }
-            _ => None,
-        }
-    }
-
-    /// The elements of an array in their order; of another kind there are none.
-    pub fn elements(self) -> Elements<'v, 'm>
-        ensures message { message_left result ≡ (part_of self.entry).message }
-        ensures parts { (v : Value) → IsShownBy self.entry v
-            → ShowEach (parts_left result) (elements_of v) }
-    {
-        let array = self.decoded.table().entry(self.index);
-        let EntryKind::Array = self.kind() else {
-            return Elements {
-                decoded: self.decoded,
-                index: self.index,
-                size: array.size as usize,
-                place: self.place,
-                left: 0,
-            };
-        };
-        let element = self.decoded.table().entry(array.first);
-        Elements {
-            decoded: self.decoded,
-            index: array.first,
-            size: element.size as usize,
-            place: self.place,
-            left: array.count as usize,
-        }
-    }
-
-    /// The member of a struct at this place in its declaration, counted from 0; none past the last, and of another kind.
-    pub fn field(self, at: usize) -> Option<View<'v, 'm>>
-        ensures message { IfSome result (λ part. (part_of part).message ≡ (part_of self.entry).message) }
-        ensures part { (v : Value) → IsShownBy self.entry v
-            → MatchOption result (field_of v at ≡ None)
-            (λ part. (x : Value) × (field_of v at ≡ Some x) × IsShownBy part x) }
-    {
-        match self.kind() {
-            EntryKind::Struct => {
-                let entry = self.decoded.table().entry(self.index);
-                if at >= entry.count as usize {
-                    return None;
-                }
-                // Read, so that the number of rows, and with it each row's, is known to have 32 bits.
-                let _rows = self.decoded.table().rows();
-                let row = self.decoded.table().row(entry.first + at as u32);
-                Some(View {
-                    decoded: self.decoded,
-                    index: row.entry,
-                    place: self.place + row.key as usize,
-                })
-            }
-            _ => None,
-        }
+        signed(self.number_kind(), self.decoded.bytes(), self.place)
     }
 }

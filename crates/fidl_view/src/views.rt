@@ -1,12 +1,9 @@
 //! What gives views: a decoded message.
 ghost use Rattle.std.specs.Prelude.{◌≡◌};
 ghost use Rattle.fidl_wire.specs.Value.{Value};
-ghost use Rattle.fidl_wire.specs.Term as ty;
-ghost use Rattle.fidl_wire.specs.Message.{Encodes};
-ghost use Rattle.fidl_records.specs.Terms.{declarations_of};
 ghost use Rattle.fidl_decode.specs.Shown.{Shown};
 ghost use Rattle.fidl_view.specs.Elements.{part};
-ghost use Rattle.fidl_view.specs.Views.{part_of, IsShownBy};
+ghost use Rattle.fidl_view.specs.Views.{part_of, IsShownBy, IsEncoded, IsOnly};
 
 use crate::view::View;
 use fidl_decode::Decoded;
@@ -18,11 +15,10 @@ pub trait Views<'m> {
     /// The view of the whole value.
     fn view<'v>(&'v self) -> View<'v, 'm>
         ensures whole { part_of result ≡ part (shown self.now) (shown self.now).entry 0 }
-        // The view shows each value that the message encodes.
-        ensures shows { (v : Value)
-            → Encodes (declarations_of (shown self.now).table) (ty.named (shown self.now).entry) v
-            (shown self.now).bytes (shown self.now).handles
-            → IsShownBy result v };
+        // The message encodes one value and no other, and the view shows it.
+        ensures value { (v : Value) × IsOnly (IsEncoded (shown self.now)) v × IsShownBy result v }
+        // So the view shows each value that the message encodes.
+        ensures shows { (v : Value) → IsEncoded (shown self.now) v → IsShownBy result v };
 }
 
 impl<'t, 'm, 's> Views<'m> for Decoded<'t, 'm, 's> {

@@ -1,6 +1,7 @@
 -- Bytes that stand in a message at a place.
-use Rattle.std.proofs.Common.{◌≡◌, ℕ, suc, ◌+◌, ◌<◌, List, [], ◌∷◌, ◌++◌, length, get_or, drop, sym, ap, subst, ◌∙◌, arith, add-one, drop-cons}
+use Rattle.std.proofs.Common.{◌≡◌, ℕ, zero, suc, ◌+◌, ◌<◌, ◌≤◌, List, [], ◌∷◌, ◌++◌, length, get_or, drop, replicate, inl, inr, sym, ap, subst, ◌∙◌, arith, add-one, drop-cons}
 use Rattle.std.proofs.lemmas.List.{drop_all, length-drop}
+use Rattle.std.proofs.lemmas.Bool.{cases_lt}
 use Rattle.fidl_wire.specs.declared.handle.HandleInfo.{HandleInfo}
 use Rattle.fidl_wire.specs.Standing.{Stands, Carries}
 
@@ -19,6 +20,19 @@ module _ (m : List ℕ) where
   pub stands_both : (p : ℕ) (a b : List ℕ) → Stands m p a → Stands m (p + length a) b → Stands m p (a ++ b)
   stands_both p [] b h k = stands_to (p + 0) p b (omega arith) k
   stands_both p (x ∷ a) b h k = (h.0, h.1, stands_both (p + 1) a b h.2 (stands_to (p + length (x ∷ a)) (p + 1 + length a) b (omega arith) k))
+
+  -- a copy of one byte, by its places
+  pub copies_stand : (x n p : ℕ) → p + n ≤ length m → ((k : ℕ) → p ≤ k → k < p + n → get_or m k 0 ≡ x) → Stands m p (replicate n x)
+  copies_stand x zero p room h = tt
+  copies_stand x (suc n) p room h = (omega arith, h p (omega arith) (omega arith), copies_stand x n (p + 1) (omega arith) (λ k a b. h k (omega arith) (omega arith)))
+
+  pub copies_are : (x n p : ℕ) → Stands m p (replicate n x) → (k : ℕ) → p ≤ k → k < p + n → get_or m k 0 ≡ x
+  copies_are x zero p h k a b = absurd (omega arith)
+  copies_are x (suc n) p h k a b =
+      elim (cases_lt p k) [
+        | inl lt ↦ copies_are x n (p + 1) h.2 k (omega arith) (omega arith)
+        | inr le ↦ let e : p ≡ k = omega arith in subst (λ n. get_or m n 0 ≡ x) e h.1
+      ]
 
   -- what stands from a place to the end is the rest
   pub rest_from_stands : (p : ℕ) (a : List ℕ) → p + length a ≡ length m → Stands m p a → drop p m ≡ a

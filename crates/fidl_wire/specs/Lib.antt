@@ -1,3 +1,16 @@
+-- The definitions of the wire format, in the order in which to read them:
+--   Value          a value as plain data
+--   Term           the types, as terms
+--   Figure         sizes, alignments, nests and offsets
+--   Typed          which values a type has
+--   Encoding       how a value is encoded: inline, out of line, and its handles
+--   Marker         what markers say
+--   Depth          how deep the objects of a value lie
+--   Message        which messages encode a value
+--   Standing       parts that stand in a message at a place
+--   Text           a value as it is written
+--   Views          the plain data of the code's trees
+--   Samples        small types for worked messages and refusals
 pub mod Value
 pub mod Term
 pub mod Figure
@@ -7,5 +20,6 @@ pub mod Depth
 pub mod Message
 pub mod Text
 pub mod Standing
+pub mod Marker
 pub mod Views
 pub mod Samples

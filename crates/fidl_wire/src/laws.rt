@@ -24,10 +24,13 @@ pub fn trees_stand_for_values()
     ensures numbers { (z : ℤ) → value_view (tree.Number z) ≡ number z }
     ensures texts { (bytes : List ℕ) → value_view (tree.Text bytes) ≡ text bytes }
     ensures lists { (vs : Values) → value_view (tree.List vs) ≡ list (values_of (values_view vs)) }
-    ensures structs { (vs : Values) → value_view (tree.Fields vs) ≡ fields (values_of (values_view vs)) }
+    ensures structs { (vs : Values) → value_view (tree.Fields vs)
+        ≡ fields (values_of (values_view vs)) }
     ensures handles { (h : HandleInfo) → value_view (tree.Handle h) ≡ handle h }
-    ensures tables { (n : ℕ) (ms : Members) → value_view (tree.Table n ms) ≡ table n (members_of (members_view ms)) }
-    ensures unions { (ordinal : ℕ) (c : Content) → value_view (tree.Union ordinal c) ≡ union ordinal (content_view c) }
+    ensures tables { (n : ℕ) (ms : Members) → value_view (tree.Table n ms)
+        ≡ table n (members_of (members_view ms)) }
+    ensures unions { (ordinal : ℕ) (c : Content) → value_view (tree.Union ordinal c)
+        ≡ union ordinal (content_view c) }
 {}
 
 /// A known member stands for its value, and an unknown one for its raw parts.
@@ -51,7 +54,8 @@ pub fn inline_parts_have_their_size()
 
 /// A message's length is a multiple of 8.
 pub fn messages_are_whole_eights()
-    ensures { (ds : Declarations) (t : Term) (v : Value) → Typed ds t v → length (Message ds t v).0 % 8 ≡ 0 }
+    ensures { (ds : Declarations) (t : Term) (v : Value) → Typed ds t v
+        → length (Message ds t v).0 % 8 ≡ 0 }
 {}
 
 /// Only one value has a message.
@@ -75,5 +79,6 @@ pub fn joined_handles_stand()
 
 /// What stands from the start and is as long as the message is the message.
 pub fn whole_messages_stand()
-    ensures { (message bytes : List ℕ) → length bytes ≡ length message → Stands message 0 bytes ↔ (message ≡ bytes) }
+    ensures { (message bytes : List ℕ) → length bytes ≡ length message → Stands message 0 bytes
+        ↔ (message ≡ bytes) }
 {}

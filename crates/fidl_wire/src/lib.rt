@@ -6,6 +6,7 @@ mod bytes;
 mod handle;
 pub mod laws;
 mod limits;
+mod marker;
 pub mod refused;
 mod value;
 pub mod worked;
@@ -17,4 +18,5 @@ pub use limits::{
     MAX_MESSAGE_HANDLES, MAX_NEST, MAX_SERVICE_READS, MAX_SOURCE_BRACKETS, MAX_TABLE_ORDINAL,
     MAX_TEXT_BRACKETS, SAME_RIGHTS, STACK_PLACES, STEPS_PER_BYTE,
 };
+pub use marker::{Presence, presence_at};
 pub use value::{Content, Member, Members, Value, Values};

@@ -95,7 +95,8 @@ impl Values {
 
     /// Adds a value at the end. An error means that memory ran out; the values are then unchanged.
     pub fn push(&mut self, value: Value) -> Result<(), AllocError>
-        ensures ok { IfOk result (λ _. values_view self.new ≡ values_view self.old ++ value_view value ∷ []) }
+        ensures ok { IfOk result (λ _. values_view self.new ≡ values_view self.old
+            ++ value_view value ∷ []) }
         ensures err { OnErr result (values_view self.new ≡ values_view self.old) }
     {
         self.items.push(value)?;
@@ -158,7 +159,8 @@ impl Members {
 
     /// Adds a member at the end. An error means that memory ran out; the members are then unchanged.
     pub fn push(&mut self, ordinal: u64, member: Member) -> Result<(), AllocError>
-        ensures ok { IfOk result (λ _. members_view self.new ≡ members_view self.old ++ (ordinal, member_view member) ∷ []) }
+        ensures ok { IfOk result (λ _. members_view self.new ≡ members_view self.old
+            ++ (ordinal, member_view member) ∷ []) }
         ensures err { OnErr result (members_view self.new ≡ members_view self.old) }
     {
         self.entries.push((ordinal, member))?;

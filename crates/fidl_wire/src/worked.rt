@@ -16,6 +16,7 @@ pub mod handles;
 pub mod layouts;
 pub mod limits;
 pub mod lists;
+pub mod markers;
 pub mod scalars;
 pub mod texts;
 

@@ -72,8 +72,10 @@ pub fn offsets_of_members()
 
 /// A name has the figure of its declaration.
 pub fn figures_of_names()
-    ensures of_the_first { figure_of (figure 4 2 1 ∷ figure 8 8 2 ∷ []) (ty.named 0) ≡ figure 4 2 1 }
-    ensures of_the_second { figure_of (figure 4 2 1 ∷ figure 8 8 2 ∷ []) (ty.named 1) ≡ figure 8 8 2 }
+    ensures of_the_first { figure_of (figure 4 2 1 ∷ figure 8 8 2 ∷ []) (ty.named 0)
+        ≡ figure 4 2 1 }
+    ensures of_the_second { figure_of (figure 4 2 1 ∷ figure 8 8 2 ∷ []) (ty.named 1)
+        ≡ figure 8 8 2 }
     ensures of_nothing { figure_of (figure 4 2 1 ∷ []) (ty.named 1) ≡ figure 1 1 0 }
 {}
 

@@ -23,7 +23,8 @@ pub fn texts_of_numbers()
     ensures least { Text no_declarations (ty.number int64) (number (negsuc 9223372036854775807))
         ≡ codes "-9223372036854775808" }
     ensures bits { Text no_declarations (ty.bits uint8 None) (number (pos 10)) ≡ codes "10" }
-    ensures enum_number { Text no_declarations (ty.enum uint8 None) (number (pos 255)) ≡ codes "255" }
+    ensures enum_number { Text no_declarations (ty.enum uint8 None) (number (pos 255))
+        ≡ codes "255" }
 {}
 
 /// What is absent is a word.
@@ -31,7 +32,8 @@ pub fn texts_of_what_is_absent()
     ensures string { Text no_declarations (ty.string true 2) absent ≡ codes "absent" }
     ensures vector { Text no_declarations (ty.vector true 2 ty.bool) absent ≡ codes "absent" }
     ensures in_a_box { Text no_declarations (ty.box (ty.struct no_fields)) absent ≡ codes "absent" }
-    ensures in_a_union { Text no_declarations (ty.union true false no_rows) absent ≡ codes "absent" }
+    ensures in_a_union { Text no_declarations (ty.union true false no_rows) absent
+        ≡ codes "absent" }
     ensures handle { Text no_declarations (ty.handle true 0 0x80000000) absent ≡ codes "absent" }
 {}
 
@@ -70,12 +72,15 @@ pub fn escapes_of_one_letter()
 pub fn escapes_by_number()
     ensures of_0 { Text no_declarations (ty.string false 9) (text (0 ∷ [])) ≡ codes "\"\\u{0}\"" }
     ensures of_15 { Text no_declarations (ty.string false 9) (text (15 ∷ [])) ≡ codes "\"\\u{f}\"" }
-    ensures of_16 { Text no_declarations (ty.string false 9) (text (16 ∷ [])) ≡ codes "\"\\u{10}\"" }
-    ensures of_31 { Text no_declarations (ty.string false 9) (text (31 ∷ [])) ≡ codes "\"\\u{1f}\"" }
+    ensures of_16 { Text no_declarations (ty.string false 9) (text (16 ∷ []))
+        ≡ codes "\"\\u{10}\"" }
+    ensures of_31 { Text no_declarations (ty.string false 9) (text (31 ∷ []))
+        ≡ codes "\"\\u{1f}\"" }
     ensures of_127 { Text no_declarations (ty.string false 9) (text (127 ∷ [])) ≡ codes
         "\"\\u{7f}\"" }
     ensures none_of_32 { Text no_declarations (ty.string false 9) (text (32 ∷ [])) ≡ codes "\" \"" }
-    ensures none_of_126 { Text no_declarations (ty.string false 9) (text (126 ∷ [])) ≡ codes "\"~\"" }
+    ensures none_of_126 { Text no_declarations (ty.string false 9) (text (126 ∷ []))
+        ≡ codes "\"~\"" }
 {}
 
 /// Elements stand between square brackets, with a comma and a blank between.

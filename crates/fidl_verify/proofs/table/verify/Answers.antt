@@ -10,10 +10,10 @@ returns-in_err-sections-clause-none c =
     let h : IfErr c.from_residual.result (Breaks c.args.bytes.now) = first_of (search rules, grind (arith, common_steps)) in
     none_of c.args.bytes.now c.from_residual.result h
 
-pub returns-in_err-rows-clause-none : goal.returns-in_err-rows-clause-none
-returns-in_err-rows-clause-none c =
-    let h : IfErr c.from_residual-in_err-rows.result (Breaks c.args.bytes.now) = first_of (search rules, grind (arith, common_steps)) in
-    none_of c.args.bytes.now c.from_residual-in_err-rows.result h
+pub returns-in_err-parts-clause-none : goal.returns-in_err-parts-clause-none
+returns-in_err-parts-clause-none c =
+    let h : IfErr c.from_residual-in_err-parts.result (Breaks c.args.bytes.now) = first_of (search rules, grind (arith, common_steps)) in
+    none_of c.args.bytes.now c.from_residual-in_err-parts.result h
 
 pub returns-in_err-check_covered-clause-none : goal.returns-in_err-check_covered-clause-none
 returns-in_err-check_covered-clause-none c =
@@ -34,13 +34,13 @@ pub invariant_of-result : goal.invariant_of-result
 invariant_of-result c =
     well_formed_from c.in_ok-sections.sections.bytes.now c.in_ok-sections.sections.header c.in_ok-sections.sections.is_header
     (subst (λ bytes. HasHeader bytes c.in_ok-sections.sections.header) (sym c.in_ok-sections.ensures.value) c.in_ok-sections.ensures.ok)
-    c.in_ok-rows.ensures.ok c.in_ok-check_covered.ensures.covered c.in_ok-check_covered.ensures.no_values c.in_ok-check_roots.ensures.ok
+    c.in_ok-parts.ensures.ok c.in_ok-check_covered.ensures.covered c.in_ok-check_covered.ensures.values_covered c.in_ok-check_roots.ensures.ok
     c.in_ok-check_methods.ensures.no_protocols c.in_ok-check_methods.ensures.no_methods
 
 pub returns-clause-ok : goal.returns-clause-ok
 returns-clause-ok c = subst WellFormed c.in_ok-sections.ensures.value (
     well_formed_from c.in_ok-sections.sections.bytes.now c.in_ok-sections.sections.header c.in_ok-sections.sections.is_header
     (subst (λ bytes. HasHeader bytes c.in_ok-sections.sections.header) (sym c.in_ok-sections.ensures.value) c.in_ok-sections.ensures.ok)
-    c.in_ok-rows.ensures.ok c.in_ok-check_covered.ensures.covered c.in_ok-check_covered.ensures.no_values c.in_ok-check_roots.ensures.ok
+    c.in_ok-parts.ensures.ok c.in_ok-check_covered.ensures.covered c.in_ok-check_covered.ensures.values_covered c.in_ok-check_roots.ensures.ok
     c.in_ok-check_methods.ensures.no_protocols c.in_ok-check_methods.ensures.no_methods
     )

@@ -53,7 +53,7 @@ loop-i-preserved c =
     let own = next_size c.args.self.now.table.now c.requires.table (message_of c.args.self.now.bytes.now c.args.self.now.handles.now) c.args.frame (at_of c.args.state.now) (at_of c.loop-i.state) (c.loop-i.state.steps - c.args.state.now.steps) (going_on c.args.frame (Elements c.args.entry c.args.size (c.args.count - c.loop-i.i)) c.loop-i.done) c.loop-i.invariant.turns (let x : Row = record { offset = c.loop-i.done; entry = c.args.entry } in x) (Elements c.args.entry c.args.size (c.args.count - (c.loop-i.i + 1))) one in
     let none : c.args.frame.base + c.loop-i.done - (c.args.frame.base + c.loop-i.done) ≡ 0 = omega arith in
     let so_far = c.loop-i.invariant.steps in
-    record { turns = next_turns c.args.self.now.table.now c.requires.table (message_of c.args.self.now.bytes.now c.args.self.now.handles.now) c.args.frame (at_of c.args.state.now) (at_of c.loop-i.state) (c.loop-i.state.steps - c.args.state.now.steps) (going_on c.args.frame (Elements c.args.entry c.args.size (c.args.count - c.loop-i.i)) c.loop-i.done) c.loop-i.invariant.turns (let x : Row = record { offset = c.loop-i.done; entry = c.args.entry } in x) (Elements c.args.entry c.args.size (c.args.count - (c.loop-i.i + 1))) one is (at_of c.read_leaf.new.state) (c.loop-i.done + c.args.size) (c.read_leaf.new.state.steps - c.args.state.now.steps) (omega (arith, own, is)) (omega (arith, c.in_ok-read_leaf.ensures.steps, so_far)) (no_zeros c.args.self.now.bytes.now (c.args.frame.base + c.loop-i.done) _ none) c.in_ok-read_leaf.ensures.ok; steps = omega (arith, c.in_ok-read_leaf.ensures.steps, so_far) }
+    record { turns = next_turns c.args.self.now.table.now c.requires.table (message_of c.args.self.now.bytes.now c.args.self.now.handles.now) c.args.frame (at_of c.args.state.now) (at_of c.loop-i.state) (c.loop-i.state.steps - c.args.state.now.steps) (going_on c.args.frame (Elements c.args.entry c.args.size (c.args.count - c.loop-i.i)) c.loop-i.done) c.loop-i.invariant.turns (let x : Row = record { offset = c.loop-i.done; entry = c.args.entry } in x) (Elements c.args.entry c.args.size (c.args.count - (c.loop-i.i + 1))) one is (at_of c.read_leaf.new.state) (c.loop-i.done + c.args.size) _ (c.read_leaf.new.state.steps - c.args.state.now.steps) (omega (arith, own, is)) (omega (arith, c.in_ok-read_leaf.ensures.grows, so_far)) (no_zeros c.args.self.now.bytes.now (c.args.frame.base + c.loop-i.done) _ none) c.in_ok-read_leaf.ensures.ok; steps = omega (arith, c.in_ok-read_leaf.ensures.grows, so_far) }
 
 pub overflow_add-at : goal.overflow_add-at
 overflow_add-at c =
@@ -97,3 +97,13 @@ pub returns-clause-told : goal.returns-clause-told
 returns-clause-told c =
     let over = elements_over c.args.self.now.table.now c.args.entry c.args.size c.loop-i.i c.args.count c.loop-i.done (omega (arith, c.loop-i-test.false)) in
     IfErr-weaker c.zeros_at.result _ _ (λ fault bad. over_breaks c.args.self.now.table.now c.requires.table (message_of c.args.self.now.bytes.now c.args.self.now.handles.now) c.args.frame (at_of c.args.state.now) (at_of c.loop-i.state) (c.loop-i.state.steps - c.args.state.now.steps) (going_on c.args.frame (Elements c.args.entry c.args.size (c.args.count - c.loop-i.i)) c.loop-i.done) c.loop-i.invariant.turns over fault bad) c.zeros_at.ensures.told
+
+pub returns-in_err-read_leaf-clause-cost : goal.returns-in_err-read_leaf-clause-cost
+returns-in_err-read_leaf-clause-cost c =
+    let is = c.loop-i.invariant.turns.rest_fine.0.left in
+    let one = elements_next c.args.self.now.table.now c.args.entry c.args.size c.loop-i.i c.args.count c.loop-i.done is c.loop-i-test.true in
+    let room = next_room c.args.self.now.table.now c.requires.table (message_of c.args.self.now.bytes.now c.args.self.now.handles.now) c.args.frame (at_of c.args.state.now) (at_of c.loop-i.state) (c.loop-i.state.steps - c.args.state.now.steps) (going_on c.args.frame (Elements c.args.entry c.args.size (c.args.count - c.loop-i.i)) c.loop-i.done) c.loop-i.invariant.turns (let x : Row = record { offset = c.loop-i.done; entry = c.args.entry } in x) (Elements c.args.entry c.args.size (c.args.count - (c.loop-i.i + 1))) one in
+    let spend = room.3 in
+    let less = c.loop-i.invariant.turns.less in
+    let so_far = c.loop-i.invariant.steps in
+    omega (arith, spend, less, so_far, c.in_err-read_leaf.ensures.probes)

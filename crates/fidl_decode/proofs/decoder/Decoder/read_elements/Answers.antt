@@ -1,5 +1,6 @@
-use Rattle.std.proofs.Common.{◌≡◌, ◌+◌, ◌-◌, ◌*◌, sym, ap, subst, ◌∙◌, arith, refl}
-use Rattle.std.specs.Prelude.{Some, None}
+use Rattle.std.proofs.Common.{rules, ◌≡◌, ◌+◌, ◌-◌, ◌*◌, sym, ap, subst, ◌∙◌, arith, refl}
+use Rattle.std.specs.Prelude.{Some, None, true}
+use Rattle.fidl_decode.specs.Fine.{is_free}
 use Rattle.fidl_wire.specs.Encoding.{zeros}
 use Rattle.fidl_wire.specs.Standing.{Stands}
 use Rattle.fidl_records.specs.declared.record.Entry.{Entry}
@@ -11,7 +12,7 @@ use Rattle.fidl_decode.specs.Machine.{Reads, at_of}
 use Rattle.fidl_decode.specs.Faults.{message_of}
 use Rattle.fidl_decode.specs.Breaks.{IsPadding}
 use Rattle.fidl_decode.proofs.Turning.{passed_on, on_err}
-use Rattle.fidl_decode.proofs.Leaves.{going_on, element_known, number_turns, over_room, over_turns, over_refused, over_breaks}
+use Rattle.fidl_decode.proofs.Leaves.{going_on, element_known, free_turns, over_room, over_turns, over_refused, over_breaks}
 use Rattle.fidl_decode.proofs.decoder.Decoder.read_elements.Goals as goal
 
 no_some : {A : Type 0} (a : A) → Some a ≡ None → ⊥
@@ -33,7 +34,8 @@ read_each-requires-clause-entry c =
 
 pub overflow_add-from : goal.overflow_add-from
 overflow_add-from c =
-    let any = number_turns c.args.self.now.table.now c.requires.table (message_of c.args.self.now.bytes.now c.args.self.now.handles.now) c.args.frame (at_of c.args.state.now) c.requires.frame c.requires.state c.args.entry c.args.size c.args.count c.requires.left c.in-Some.kind (ap (λ (e : Entry). kind_of e.kind) (sym c.entry-e.ensures.value) ∙ sym c.from_number.ensures ∙ c.in-Some.is) c.in_default-kind.not-Bool c.in_default-kind.not-Array c.in_default-kind.not-Struct (λ i. omega (arith, c.args.self.now.octets i)) in
+    let free : is_free c.in-Some.kind (entry_at c.args.self.now.table.now c.args.entry) ≡ true = (let r = ap (λ (d : Entry). is_free c.in-Some.kind d) (sym c.entry-e.ensures.value) ∙ sym c.is_free.ensures in search (rules, r, c.if-not-is_free.false)) in
+    let any = free_turns c.args.self.now.table.now c.requires.table (message_of c.args.self.now.bytes.now c.args.self.now.handles.now) c.args.frame (at_of c.args.state.now) c.requires.frame c.requires.state c.args.entry c.args.size c.args.count c.requires.left c.in-Some.kind (ap (λ (e : Entry). kind_of e.kind) (sym c.entry-e.ensures.value) ∙ sym c.from_number.ensures ∙ c.in-Some.is) free (λ i. omega (arith, c.args.self.now.octets i)) in
     let room = over_room c.args.self.now.table.now c.requires.table (message_of c.args.self.now.bytes.now c.args.self.now.handles.now) c.args.frame (at_of c.args.state.now) (at_of c.args.state.now) 0 (going_on c.args.frame (Elements c.args.entry c.args.size 0) (c.args.frame.done + c.args.size * c.args.count)) any in
     let before = room.0 in
     let within = room.1 in
@@ -42,16 +44,18 @@ overflow_add-from c =
 
 pub overflow_mul-from : goal.overflow_mul-from
 overflow_mul-from c =
-    let any = number_turns c.args.self.now.table.now c.requires.table (message_of c.args.self.now.bytes.now c.args.self.now.handles.now) c.args.frame (at_of c.args.state.now) c.requires.frame c.requires.state c.args.entry c.args.size c.args.count c.requires.left c.in-Some.kind (ap (λ (e : Entry). kind_of e.kind) (sym c.entry-e.ensures.value) ∙ sym c.from_number.ensures ∙ c.in-Some.is) c.in_default-kind.not-Bool c.in_default-kind.not-Array c.in_default-kind.not-Struct (λ i. omega (arith, c.args.self.now.octets i)) in
+    let free : is_free c.in-Some.kind (entry_at c.args.self.now.table.now c.args.entry) ≡ true = (let r = ap (λ (d : Entry). is_free c.in-Some.kind d) (sym c.entry-e.ensures.value) ∙ sym c.is_free.ensures in search (rules, r, c.if-not-is_free.false)) in
+    let any = free_turns c.args.self.now.table.now c.requires.table (message_of c.args.self.now.bytes.now c.args.self.now.handles.now) c.args.frame (at_of c.args.state.now) c.requires.frame c.requires.state c.args.entry c.args.size c.args.count c.requires.left c.in-Some.kind (ap (λ (e : Entry). kind_of e.kind) (sym c.entry-e.ensures.value) ∙ sym c.from_number.ensures ∙ c.in-Some.is) free (λ i. omega (arith, c.args.self.now.octets i)) in
     let room = over_room c.args.self.now.table.now c.requires.table (message_of c.args.self.now.bytes.now c.args.self.now.handles.now) c.args.frame (at_of c.args.state.now) (at_of c.args.state.now) 0 (going_on c.args.frame (Elements c.args.entry c.args.size 0) (c.args.frame.done + c.args.size * c.args.count)) any in
     let before = room.0 in
     let within = room.1 in
     let spend = room.2 in
     record { fits = omega (arith, before, within) }
 
-pub overflow_add-from-in_default-kind : goal.overflow_add-from-in_default-kind
-overflow_add-from-in_default-kind c =
-    let any = number_turns c.args.self.now.table.now c.requires.table (message_of c.args.self.now.bytes.now c.args.self.now.handles.now) c.args.frame (at_of c.args.state.now) c.requires.frame c.requires.state c.args.entry c.args.size c.args.count c.requires.left c.in-Some.kind (ap (λ (e : Entry). kind_of e.kind) (sym c.entry-e.ensures.value) ∙ sym c.from_number.ensures ∙ c.in-Some.is) c.in_default-kind.not-Bool c.in_default-kind.not-Array c.in_default-kind.not-Struct (λ i. omega (arith, c.args.self.now.octets i)) in
+pub overflow_add-from-2 : goal.overflow_add-from-2
+overflow_add-from-2 c =
+    let free : is_free c.in-Some.kind (entry_at c.args.self.now.table.now c.args.entry) ≡ true = (let r = ap (λ (d : Entry). is_free c.in-Some.kind d) (sym c.entry-e.ensures.value) ∙ sym c.is_free.ensures in search (rules, r, c.if-not-is_free.false)) in
+    let any = free_turns c.args.self.now.table.now c.requires.table (message_of c.args.self.now.bytes.now c.args.self.now.handles.now) c.args.frame (at_of c.args.state.now) c.requires.frame c.requires.state c.args.entry c.args.size c.args.count c.requires.left c.in-Some.kind (ap (λ (e : Entry). kind_of e.kind) (sym c.entry-e.ensures.value) ∙ sym c.from_number.ensures ∙ c.in-Some.is) free (λ i. omega (arith, c.args.self.now.octets i)) in
     let room = over_room c.args.self.now.table.now c.requires.table (message_of c.args.self.now.bytes.now c.args.self.now.handles.now) c.args.frame (at_of c.args.state.now) (at_of c.args.state.now) 0 (going_on c.args.frame (Elements c.args.entry c.args.size 0) (c.args.frame.done + c.args.size * c.args.count)) any in
     let before = room.0 in
     let within = room.1 in
@@ -60,7 +64,8 @@ overflow_add-from-in_default-kind c =
 
 pub overflow_sub-state : goal.overflow_sub-state
 overflow_sub-state c =
-    let any = number_turns c.args.self.now.table.now c.requires.table (message_of c.args.self.now.bytes.now c.args.self.now.handles.now) c.args.frame (at_of c.args.state.now) c.requires.frame c.requires.state c.args.entry c.args.size c.args.count c.requires.left c.in-Some.kind (ap (λ (e : Entry). kind_of e.kind) (sym c.entry-e.ensures.value) ∙ sym c.from_number.ensures ∙ c.in-Some.is) c.in_default-kind.not-Bool c.in_default-kind.not-Array c.in_default-kind.not-Struct (λ i. omega (arith, c.args.self.now.octets i)) in
+    let free : is_free c.in-Some.kind (entry_at c.args.self.now.table.now c.args.entry) ≡ true = (let r = ap (λ (d : Entry). is_free c.in-Some.kind d) (sym c.entry-e.ensures.value) ∙ sym c.is_free.ensures in search (rules, r, c.if-not-is_free.false)) in
+    let any = free_turns c.args.self.now.table.now c.requires.table (message_of c.args.self.now.bytes.now c.args.self.now.handles.now) c.args.frame (at_of c.args.state.now) c.requires.frame c.requires.state c.args.entry c.args.size c.args.count c.requires.left c.in-Some.kind (ap (λ (e : Entry). kind_of e.kind) (sym c.entry-e.ensures.value) ∙ sym c.from_number.ensures ∙ c.in-Some.is) free (λ i. omega (arith, c.args.self.now.octets i)) in
     let room = over_room c.args.self.now.table.now c.requires.table (message_of c.args.self.now.bytes.now c.args.self.now.handles.now) c.args.frame (at_of c.args.state.now) (at_of c.args.state.now) 0 (going_on c.args.frame (Elements c.args.entry c.args.size 0) (c.args.frame.done + c.args.size * c.args.count)) any in
     let before = room.0 in
     let within = room.1 in
@@ -69,22 +74,25 @@ overflow_sub-state c =
 
 pub zeros_at-requires-clause-order : goal.zeros_at-requires-clause-order
 zeros_at-requires-clause-order c =
-    let any = number_turns c.args.self.now.table.now c.requires.table (message_of c.args.self.now.bytes.now c.args.self.now.handles.now) c.args.frame (at_of c.args.state.now) c.requires.frame c.requires.state c.args.entry c.args.size c.args.count c.requires.left c.in-Some.kind (ap (λ (e : Entry). kind_of e.kind) (sym c.entry-e.ensures.value) ∙ sym c.from_number.ensures ∙ c.in-Some.is) c.in_default-kind.not-Bool c.in_default-kind.not-Array c.in_default-kind.not-Struct (λ i. omega (arith, c.args.self.now.octets i)) in
+    let free : is_free c.in-Some.kind (entry_at c.args.self.now.table.now c.args.entry) ≡ true = (let r = ap (λ (d : Entry). is_free c.in-Some.kind d) (sym c.entry-e.ensures.value) ∙ sym c.is_free.ensures in search (rules, r, c.if-not-is_free.false)) in
+    let any = free_turns c.args.self.now.table.now c.requires.table (message_of c.args.self.now.bytes.now c.args.self.now.handles.now) c.args.frame (at_of c.args.state.now) c.requires.frame c.requires.state c.args.entry c.args.size c.args.count c.requires.left c.in-Some.kind (ap (λ (e : Entry). kind_of e.kind) (sym c.entry-e.ensures.value) ∙ sym c.from_number.ensures ∙ c.in-Some.is) free (λ i. omega (arith, c.args.self.now.octets i)) in
     let room = over_room c.args.self.now.table.now c.requires.table (message_of c.args.self.now.bytes.now c.args.self.now.handles.now) c.args.frame (at_of c.args.state.now) (at_of c.args.state.now) 0 (going_on c.args.frame (Elements c.args.entry c.args.size 0) (c.args.frame.done + c.args.size * c.args.count)) any in
     let before = room.0 in
     let within = room.1 in
     let spend = room.2 in
     omega (arith, before, within)
 
-pub returns-in_err-zeros_at-in_default-kind-clause-err : goal.returns-in_err-zeros_at-in_default-kind-clause-err
-returns-in_err-zeros_at-in_default-kind-clause-err c =
-    let any = number_turns c.args.self.now.table.now c.requires.table (message_of c.args.self.now.bytes.now c.args.self.now.handles.now) c.args.frame (at_of c.args.state.now) c.requires.frame c.requires.state c.args.entry c.args.size c.args.count c.requires.left c.in-Some.kind (ap (λ (e : Entry). kind_of e.kind) (sym c.entry-e.ensures.value) ∙ sym c.from_number.ensures ∙ c.in-Some.is) c.in_default-kind.not-Bool c.in_default-kind.not-Array c.in_default-kind.not-Struct (λ i. omega (arith, c.args.self.now.octets i)) in
+pub returns-in_err-zeros_at-clause-err : goal.returns-in_err-zeros_at-clause-err
+returns-in_err-zeros_at-clause-err c =
+    let free : is_free c.in-Some.kind (entry_at c.args.self.now.table.now c.args.entry) ≡ true = (let r = ap (λ (d : Entry). is_free c.in-Some.kind d) (sym c.entry-e.ensures.value) ∙ sym c.is_free.ensures in search (rules, r, c.if-not-is_free.false)) in
+    let any = free_turns c.args.self.now.table.now c.requires.table (message_of c.args.self.now.bytes.now c.args.self.now.handles.now) c.args.frame (at_of c.args.state.now) c.requires.frame c.requires.state c.args.entry c.args.size c.args.count c.requires.left c.in-Some.kind (ap (λ (e : Entry). kind_of e.kind) (sym c.entry-e.ensures.value) ∙ sym c.from_number.ensures ∙ c.in-Some.is) free (λ i. omega (arith, c.args.self.now.octets i)) in
     let there : c.args.frame.base + c.args.frame.done + c.args.size * c.args.count ≡ c.args.frame.base + (c.args.frame.done + c.args.size * c.args.count) = omega arith in
-    on_err _ ((to : At) → Reads c.args.self.now.table.now (message_of c.args.self.now.bytes.now c.args.self.now.handles.now) c.args.frame (at_of c.args.state.now) to → ⊥) (over_refused c.args.self.now.table.now c.requires.table (message_of c.args.self.now.bytes.now c.args.self.now.handles.now) c.args.frame (at_of c.args.state.now) (at_of c.args.state.now) 0 (going_on c.args.frame (Elements c.args.entry c.args.size 0) (c.args.frame.done + c.args.size * c.args.count)) any refl (λ z. c.in_err-zeros_at-in_default-kind.ensures.err (subst (λ k. Stands c.args.self.now.bytes.now k (zeros (c.args.frame.base + c.args.frame.size - k))) (sym there) z)))
+    on_err _ ((to : At) → Reads c.args.self.now.table.now (message_of c.args.self.now.bytes.now c.args.self.now.handles.now) c.args.frame (at_of c.args.state.now) to → ⊥) (over_refused c.args.self.now.table.now c.requires.table (message_of c.args.self.now.bytes.now c.args.self.now.handles.now) c.args.frame (at_of c.args.state.now) (at_of c.args.state.now) 0 (going_on c.args.frame (Elements c.args.entry c.args.size 0) (c.args.frame.done + c.args.size * c.args.count)) any refl (λ z. c.in_err-zeros_at.ensures.err (subst (λ k. Stands c.args.self.now.bytes.now k (zeros (c.args.frame.base + c.args.frame.size - k))) (sym there) z)))
 
-pub returns-in_err-zeros_at-in_default-kind-clause-cost : goal.returns-in_err-zeros_at-in_default-kind-clause-cost
-returns-in_err-zeros_at-in_default-kind-clause-cost c =
-    let any = number_turns c.args.self.now.table.now c.requires.table (message_of c.args.self.now.bytes.now c.args.self.now.handles.now) c.args.frame (at_of c.args.state.now) c.requires.frame c.requires.state c.args.entry c.args.size c.args.count c.requires.left c.in-Some.kind (ap (λ (e : Entry). kind_of e.kind) (sym c.entry-e.ensures.value) ∙ sym c.from_number.ensures ∙ c.in-Some.is) c.in_default-kind.not-Bool c.in_default-kind.not-Array c.in_default-kind.not-Struct (λ i. omega (arith, c.args.self.now.octets i)) in
+pub returns-in_err-zeros_at-clause-cost : goal.returns-in_err-zeros_at-clause-cost
+returns-in_err-zeros_at-clause-cost c =
+    let free : is_free c.in-Some.kind (entry_at c.args.self.now.table.now c.args.entry) ≡ true = (let r = ap (λ (d : Entry). is_free c.in-Some.kind d) (sym c.entry-e.ensures.value) ∙ sym c.is_free.ensures in search (rules, r, c.if-not-is_free.false)) in
+    let any = free_turns c.args.self.now.table.now c.requires.table (message_of c.args.self.now.bytes.now c.args.self.now.handles.now) c.args.frame (at_of c.args.state.now) c.requires.frame c.requires.state c.args.entry c.args.size c.args.count c.requires.left c.in-Some.kind (ap (λ (e : Entry). kind_of e.kind) (sym c.entry-e.ensures.value) ∙ sym c.from_number.ensures ∙ c.in-Some.is) free (λ i. omega (arith, c.args.self.now.octets i)) in
     let room = over_room c.args.self.now.table.now c.requires.table (message_of c.args.self.now.bytes.now c.args.self.now.handles.now) c.args.frame (at_of c.args.state.now) (at_of c.args.state.now) 0 (going_on c.args.frame (Elements c.args.entry c.args.size 0) (c.args.frame.done + c.args.size * c.args.count)) any in
     let before = room.0 in
     let within = room.1 in
@@ -92,15 +100,27 @@ returns-in_err-zeros_at-in_default-kind-clause-cost c =
     let there : c.args.frame.base + c.args.frame.done + c.args.size * c.args.count ≡ c.args.frame.base + (c.args.frame.done + c.args.size * c.args.count) = omega arith in
     omega (arith, before, within, spend, there)
 
-pub returns-in_ok-zeros_at-in_default-kind-clause-ok : goal.returns-in_ok-zeros_at-in_default-kind-clause-ok
-returns-in_ok-zeros_at-in_default-kind-clause-ok c =
-    let any = number_turns c.args.self.now.table.now c.requires.table (message_of c.args.self.now.bytes.now c.args.self.now.handles.now) c.args.frame (at_of c.args.state.now) c.requires.frame c.requires.state c.args.entry c.args.size c.args.count c.requires.left c.in-Some.kind (ap (λ (e : Entry). kind_of e.kind) (sym c.entry-e.ensures.value) ∙ sym c.from_number.ensures ∙ c.in-Some.is) c.in_default-kind.not-Bool c.in_default-kind.not-Array c.in_default-kind.not-Struct (λ i. omega (arith, c.args.self.now.octets i)) in
+pub returns-clause-ok : goal.returns-clause-ok
+returns-clause-ok c =
+    let free : is_free c.in-Some.kind (entry_at c.args.self.now.table.now c.args.entry) ≡ true = (let r = ap (λ (d : Entry). is_free c.in-Some.kind d) (sym c.entry-e.ensures.value) ∙ sym c.is_free.ensures in search (rules, r, c.if-not-is_free.false)) in
+    let any = free_turns c.args.self.now.table.now c.requires.table (message_of c.args.self.now.bytes.now c.args.self.now.handles.now) c.args.frame (at_of c.args.state.now) c.requires.frame c.requires.state c.args.entry c.args.size c.args.count c.requires.left c.in-Some.kind (ap (λ (e : Entry). kind_of e.kind) (sym c.entry-e.ensures.value) ∙ sym c.from_number.ensures ∙ c.in-Some.is) free (λ i. omega (arith, c.args.self.now.octets i)) in
     let there : c.args.frame.base + c.args.frame.done + c.args.size * c.args.count ≡ c.args.frame.base + (c.args.frame.done + c.args.size * c.args.count) = omega arith in
-    over_turns c.args.self.now.table.now c.requires.table (message_of c.args.self.now.bytes.now c.args.self.now.handles.now) c.args.frame (at_of c.args.state.now) (at_of c.args.state.now) 0 (going_on c.args.frame (Elements c.args.entry c.args.size 0) (c.args.frame.done + c.args.size * c.args.count)) any refl _ (omega (arith, there)) (subst (λ k. Stands c.args.self.now.bytes.now k (zeros (c.args.frame.base + c.args.frame.size - k))) there c.in_ok-zeros_at-in_default-kind.ensures.ok)
+    over_turns c.args.self.now.table.now c.requires.table (message_of c.args.self.now.bytes.now c.args.self.now.handles.now) c.args.frame (at_of c.args.state.now) (at_of c.args.state.now) 0 (going_on c.args.frame (Elements c.args.entry c.args.size 0) (c.args.frame.done + c.args.size * c.args.count)) any refl _ (omega (arith, there)) (subst (λ k. Stands c.args.self.now.bytes.now k (zeros (c.args.frame.base + c.args.frame.size - k))) there c.in_ok-zeros_at.ensures.ok)
 
-pub returns-in_err-zeros_at-in_default-kind-clause-told : goal.returns-in_err-zeros_at-in_default-kind-clause-told
-returns-in_err-zeros_at-in_default-kind-clause-told c =
-    let any = number_turns c.args.self.now.table.now c.requires.table (message_of c.args.self.now.bytes.now c.args.self.now.handles.now) c.args.frame (at_of c.args.state.now) c.requires.frame c.requires.state c.args.entry c.args.size c.args.count c.requires.left c.in-Some.kind (ap (λ (e : Entry). kind_of e.kind) (sym c.entry-e.ensures.value) ∙ sym c.from_number.ensures ∙ c.in-Some.is) c.in_default-kind.not-Bool c.in_default-kind.not-Array c.in_default-kind.not-Struct (λ i. omega (arith, c.args.self.now.octets i)) in
+pub returns-in_err-zeros_at-clause-told : goal.returns-in_err-zeros_at-clause-told
+returns-in_err-zeros_at-clause-told c =
+    let free : is_free c.in-Some.kind (entry_at c.args.self.now.table.now c.args.entry) ≡ true = (let r = ap (λ (d : Entry). is_free c.in-Some.kind d) (sym c.entry-e.ensures.value) ∙ sym c.is_free.ensures in search (rules, r, c.if-not-is_free.false)) in
+    let any = free_turns c.args.self.now.table.now c.requires.table (message_of c.args.self.now.bytes.now c.args.self.now.handles.now) c.args.frame (at_of c.args.state.now) c.requires.frame c.requires.state c.args.entry c.args.size c.args.count c.requires.left c.in-Some.kind (ap (λ (e : Entry). kind_of e.kind) (sym c.entry-e.ensures.value) ∙ sym c.from_number.ensures ∙ c.in-Some.is) free (λ i. omega (arith, c.args.self.now.octets i)) in
     let there : c.args.frame.base + c.args.frame.done + c.args.size * c.args.count ≡ c.args.frame.base + (c.args.frame.done + c.args.size * c.args.count) = omega arith in
-    passed_on c.from_residual-in_err-zeros_at-in_default-kind.result c.in_err-zeros_at-in_default-kind.field-0.0 _ c.from_residual-in_err-zeros_at-in_default-kind.ensures.1
-    (over_breaks c.args.self.now.table.now c.requires.table (message_of c.args.self.now.bytes.now c.args.self.now.handles.now) c.args.frame (at_of c.args.state.now) (at_of c.args.state.now) 0 (going_on c.args.frame (Elements c.args.entry c.args.size 0) (c.args.frame.done + c.args.size * c.args.count)) any refl c.in_err-zeros_at-in_default-kind.field-0.0 (subst (λ k. IsPadding c.args.self.now.bytes.now k (c.args.frame.base + c.args.frame.size) c.in_err-zeros_at-in_default-kind.field-0.0) there c.in_err-zeros_at-in_default-kind.ensures.told))
+    passed_on c.from_residual-in_err-zeros_at.result c.in_err-zeros_at.field-0.0 _ c.from_residual-in_err-zeros_at.ensures.1
+    (over_breaks c.args.self.now.table.now c.requires.table (message_of c.args.self.now.bytes.now c.args.self.now.handles.now) c.args.frame (at_of c.args.state.now) (at_of c.args.state.now) 0 (going_on c.args.frame (Elements c.args.entry c.args.size 0) (c.args.frame.done + c.args.size * c.args.count)) any refl c.in_err-zeros_at.field-0.0 (subst (λ k. IsPadding c.args.self.now.bytes.now k (c.args.frame.base + c.args.frame.size) c.in_err-zeros_at.field-0.0) there c.in_err-zeros_at.ensures.told))
+
+pub returns-in_err-read_each : goal.returns-in_err-read_each
+returns-in_err-read_each c = record {
+  ok = search rules;
+  grows = search rules;
+  ended = search rules;
+  cost = search (rules, c.in_err-read_each.ensures.cost);
+  err = search (rules, c.in_err-read_each.ensures.err);
+  told = passed_on c.from_residual.result c.in_err-read_each.field-0.0 _ c.from_residual.ensures.1 c.in_err-read_each.ensures.told;
+}

@@ -121,7 +121,7 @@ returns-in_err-read_leaf-clause-cost c =
     let spend = room.3 in
     let less = c.loop-i.invariant.turns.less in
     let so_far = c.loop-i.invariant.steps in
-    omega (arith, before, spend, less, so_far, c.in_err-read_leaf.ensures.steps)
+    omega (arith, before, spend, less, so_far, c.in_err-read_leaf.ensures.probes)
 
 pub overflow_add-done : goal.overflow_add-done
 overflow_add-done c =
@@ -140,7 +140,7 @@ loop-i-preserved c =
     let left : c.args.first + c.args.count ≤ (header_of c.args.self.now.table.now).rows = subst (λ (l : Left). LeftFine c.args.self.now.table.now l) c.requires.left c.requires.frame.left in
     let so_far = c.loop-i.invariant.steps in
     let size = ap (λ (d : Entry). d.size) c.entry-e.ensures.value in
-    record { turns = next_turns c.args.self.now.table.now c.requires.table (message_of c.args.self.now.bytes.now c.args.self.now.handles.now) c.args.frame (at_of c.args.state.now) (at_of c.loop-i.state) (c.loop-i.state.steps - c.args.state.now.steps) (going_on c.args.frame (Rows c.loop-i.i (c.args.first + c.args.count - c.loop-i.i)) c.loop-i.done) c.loop-i.invariant.turns (let x : Row = record { offset = c.row-row.result.key; entry = c.row-row.result.entry } in x) (Rows (c.loop-i.i + 1) (c.args.first + c.args.count - (c.loop-i.i + 1))) one (omega (arith, left, c.loop-i-test.true)) (at_of c.read_leaf.new.state) (c.row-row.result.key + c.entry-e.result.size) (c.read_leaf.new.state.steps - c.args.state.now.steps) (omega (arith, size)) (omega (arith, c.in_ok-read_leaf.ensures.steps, so_far)) c.in_ok-zeros_at.ensures.ok c.in_ok-read_leaf.ensures.ok; steps = omega (arith, c.in_ok-read_leaf.ensures.steps, so_far) }
+    record { turns = next_turns c.args.self.now.table.now c.requires.table (message_of c.args.self.now.bytes.now c.args.self.now.handles.now) c.args.frame (at_of c.args.state.now) (at_of c.loop-i.state) (c.loop-i.state.steps - c.args.state.now.steps) (going_on c.args.frame (Rows c.loop-i.i (c.args.first + c.args.count - c.loop-i.i)) c.loop-i.done) c.loop-i.invariant.turns (let x : Row = record { offset = c.row-row.result.key; entry = c.row-row.result.entry } in x) (Rows (c.loop-i.i + 1) (c.args.first + c.args.count - (c.loop-i.i + 1))) one (omega (arith, left, c.loop-i-test.true)) (at_of c.read_leaf.new.state) (c.row-row.result.key + c.entry-e.result.size) _ (c.read_leaf.new.state.steps - c.args.state.now.steps) (omega (arith, size)) (omega (arith, c.in_ok-read_leaf.ensures.grows, so_far)) c.in_ok-zeros_at.ensures.ok c.in_ok-read_leaf.ensures.ok; steps = omega (arith, c.in_ok-read_leaf.ensures.grows, so_far) }
 
 pub overflow_add-over : goal.overflow_add-over
 overflow_add-over c =

@@ -1,4 +1,4 @@
-use Rattle.std.proofs.Common.{rules, ◌≡◌, ℕ, ◌+◌, ◌-◌, sym, ap, subst, ◌∙◌, arith}
+use Rattle.std.proofs.Common.{refl, rules, ◌≡◌, ℕ, ◌+◌, ◌-◌, sym, ap, subst, ◌∙◌, arith}
 use Rattle.std.specs.Prelude.{Option, Some}
 use Rattle.fidl_records.specs.declared.record.Entry.{Entry}
 use Rattle.fidl_decode.specs.declared.frame.Frame.{Frame}
@@ -33,8 +33,8 @@ read_rows-requires-clause-frame c =
     let own = next_size c.args.self.now.table.now c.requires.table (message_of c.args.self.now.bytes.now c.args.self.now.handles.now) c.args.frame (at_of c.args.state.now) (at_of c.loop-i.state) (c.loop-i.state.steps - c.args.state.now.steps) (going_on c.args.frame (Elements c.args.entry c.args.size (c.args.count - c.loop-i.i)) c.loop-i.done) c.loop-i.invariant.turns (let x : Row = record { offset = c.loop-i.done; entry = c.args.entry } in x) (Elements c.args.entry c.args.size (c.args.count - (c.loop-i.i + 1))) one in
     let so_far = c.loop-i.invariant.steps in
     let none : (c.args.frame.base + c.loop-i.done) - (c.args.frame.base + c.loop-i.done) ≡ 0 = omega arith in
-    let seen : Visits c.args.self.now.table.now (message_of c.args.self.now.bytes.now c.args.self.now.handles.now) c.args.frame.depth c.args.entry (c.args.frame.base + c.loop-i.done) (at_of c.loop-i.state) (at_of c.loop-i.state) (Some (struct_frame c.entry-e.result (c.args.frame.base + c.loop-i.done) c.args.frame.depth)) = subst (λ (d : Entry). Visits c.args.self.now.table.now (message_of c.args.self.now.bytes.now c.args.self.now.handles.now) c.args.frame.depth c.args.entry (c.args.frame.base + c.loop-i.done) (at_of c.loop-i.state) (at_of c.loop-i.state) (Some (struct_frame d (c.args.frame.base + c.loop-i.done) c.args.frame.depth))) (sym c.entry-e.ensures.value) (visits_struct c.args.self.now.table.now c.requires.table (message_of c.args.self.now.bytes.now c.args.self.now.handles.now) c.args.frame.depth c.args.entry (c.args.frame.base + c.loop-i.done) (at_of c.loop-i.state) c.requires.entry c.loop-i.invariant.turns.state c.requires.frame.depth c.requires.kind (omega (arith, before, fits, within))) in
-    let taken : Turns c.args.self.now.table.now (message_of c.args.self.now.bytes.now c.args.self.now.handles.now) c.args.frame (at_of c.args.state.now) (at_of c.loop-i.state) (c.loop-i.state.steps + 1 - c.args.state.now.steps) (record { below = Some (struct_frame c.entry-e.result (c.args.frame.base + c.loop-i.done) c.args.frame.depth); rest = Some (going_on (going_on c.args.frame (Elements c.args.entry c.args.size (c.args.count - c.loop-i.i)) c.loop-i.done) (Elements c.args.entry c.args.size (c.args.count - (c.loop-i.i + 1))) (c.loop-i.done + c.args.size)) }) = next_takes c.args.self.now.table.now c.requires.table (message_of c.args.self.now.bytes.now c.args.self.now.handles.now) c.args.frame (at_of c.args.state.now) (at_of c.loop-i.state) (c.loop-i.state.steps - c.args.state.now.steps) (going_on c.args.frame (Elements c.args.entry c.args.size (c.args.count - c.loop-i.i)) c.loop-i.done) c.loop-i.invariant.turns (let x : Row = record { offset = c.loop-i.done; entry = c.args.entry } in x) (Elements c.args.entry c.args.size (c.args.count - (c.loop-i.i + 1))) one is (Some (struct_frame c.entry-e.result (c.args.frame.base + c.loop-i.done) c.args.frame.depth)) (at_of c.loop-i.state) (c.loop-i.done + c.args.size) (c.loop-i.state.steps + 1 - c.args.state.now.steps) (omega (arith, own, is)) (omega (arith, so_far)) (no_zeros c.args.self.now.bytes.now (c.args.frame.base + c.loop-i.done) _ none) seen in
+    let seen : Visits c.args.self.now.table.now (message_of c.args.self.now.bytes.now c.args.self.now.handles.now) c.args.frame.depth c.args.entry (c.args.frame.base + c.loop-i.done) (at_of c.loop-i.state) (at_of c.loop-i.state) 0 (Some (struct_frame c.entry-e.result (c.args.frame.base + c.loop-i.done) c.args.frame.depth)) = subst (λ (d : Entry). Visits c.args.self.now.table.now (message_of c.args.self.now.bytes.now c.args.self.now.handles.now) c.args.frame.depth c.args.entry (c.args.frame.base + c.loop-i.done) (at_of c.loop-i.state) (at_of c.loop-i.state) 0 (Some (struct_frame d (c.args.frame.base + c.loop-i.done) c.args.frame.depth))) (sym c.entry-e.ensures.value) (visits_struct c.args.self.now.table.now c.requires.table (message_of c.args.self.now.bytes.now c.args.self.now.handles.now) c.args.frame.depth c.args.entry (c.args.frame.base + c.loop-i.done) (at_of c.loop-i.state) c.requires.entry c.loop-i.invariant.turns.state c.requires.frame.depth 0 refl c.requires.kind (omega (arith, before, fits, within))) in
+    let taken : Turns c.args.self.now.table.now (message_of c.args.self.now.bytes.now c.args.self.now.handles.now) c.args.frame (at_of c.args.state.now) (at_of c.loop-i.state) (c.loop-i.state.steps + 1 - c.args.state.now.steps) (record { below = Some (struct_frame c.entry-e.result (c.args.frame.base + c.loop-i.done) c.args.frame.depth); rest = Some (going_on (going_on c.args.frame (Elements c.args.entry c.args.size (c.args.count - c.loop-i.i)) c.loop-i.done) (Elements c.args.entry c.args.size (c.args.count - (c.loop-i.i + 1))) (c.loop-i.done + c.args.size)) }) = next_takes c.args.self.now.table.now c.requires.table (message_of c.args.self.now.bytes.now c.args.self.now.handles.now) c.args.frame (at_of c.args.state.now) (at_of c.loop-i.state) (c.loop-i.state.steps - c.args.state.now.steps) (going_on c.args.frame (Elements c.args.entry c.args.size (c.args.count - c.loop-i.i)) c.loop-i.done) c.loop-i.invariant.turns (let x : Row = record { offset = c.loop-i.done; entry = c.args.entry } in x) (Elements c.args.entry c.args.size (c.args.count - (c.loop-i.i + 1))) one is (Some (struct_frame c.entry-e.result (c.args.frame.base + c.loop-i.done) c.args.frame.depth)) (at_of c.loop-i.state) (c.loop-i.done + c.args.size) 0 (c.loop-i.state.steps + 1 - c.args.state.now.steps) (omega (arith, own, is)) (omega (arith, so_far)) (no_zeros c.args.self.now.bytes.now (c.args.frame.base + c.loop-i.done) _ none) seen in
     let less = taken.less in
     taken.below_fine.0
 
@@ -49,8 +49,8 @@ read_rows-requires-clause-state c =
     let own = next_size c.args.self.now.table.now c.requires.table (message_of c.args.self.now.bytes.now c.args.self.now.handles.now) c.args.frame (at_of c.args.state.now) (at_of c.loop-i.state) (c.loop-i.state.steps - c.args.state.now.steps) (going_on c.args.frame (Elements c.args.entry c.args.size (c.args.count - c.loop-i.i)) c.loop-i.done) c.loop-i.invariant.turns (let x : Row = record { offset = c.loop-i.done; entry = c.args.entry } in x) (Elements c.args.entry c.args.size (c.args.count - (c.loop-i.i + 1))) one in
     let so_far = c.loop-i.invariant.steps in
     let none : (c.args.frame.base + c.loop-i.done) - (c.args.frame.base + c.loop-i.done) ≡ 0 = omega arith in
-    let seen : Visits c.args.self.now.table.now (message_of c.args.self.now.bytes.now c.args.self.now.handles.now) c.args.frame.depth c.args.entry (c.args.frame.base + c.loop-i.done) (at_of c.loop-i.state) (at_of c.loop-i.state) (Some (struct_frame c.entry-e.result (c.args.frame.base + c.loop-i.done) c.args.frame.depth)) = subst (λ (d : Entry). Visits c.args.self.now.table.now (message_of c.args.self.now.bytes.now c.args.self.now.handles.now) c.args.frame.depth c.args.entry (c.args.frame.base + c.loop-i.done) (at_of c.loop-i.state) (at_of c.loop-i.state) (Some (struct_frame d (c.args.frame.base + c.loop-i.done) c.args.frame.depth))) (sym c.entry-e.ensures.value) (visits_struct c.args.self.now.table.now c.requires.table (message_of c.args.self.now.bytes.now c.args.self.now.handles.now) c.args.frame.depth c.args.entry (c.args.frame.base + c.loop-i.done) (at_of c.loop-i.state) c.requires.entry c.loop-i.invariant.turns.state c.requires.frame.depth c.requires.kind (omega (arith, before, fits, within))) in
-    let taken : Turns c.args.self.now.table.now (message_of c.args.self.now.bytes.now c.args.self.now.handles.now) c.args.frame (at_of c.args.state.now) (at_of c.loop-i.state) (c.loop-i.state.steps + 1 - c.args.state.now.steps) (record { below = Some (struct_frame c.entry-e.result (c.args.frame.base + c.loop-i.done) c.args.frame.depth); rest = Some (going_on (going_on c.args.frame (Elements c.args.entry c.args.size (c.args.count - c.loop-i.i)) c.loop-i.done) (Elements c.args.entry c.args.size (c.args.count - (c.loop-i.i + 1))) (c.loop-i.done + c.args.size)) }) = next_takes c.args.self.now.table.now c.requires.table (message_of c.args.self.now.bytes.now c.args.self.now.handles.now) c.args.frame (at_of c.args.state.now) (at_of c.loop-i.state) (c.loop-i.state.steps - c.args.state.now.steps) (going_on c.args.frame (Elements c.args.entry c.args.size (c.args.count - c.loop-i.i)) c.loop-i.done) c.loop-i.invariant.turns (let x : Row = record { offset = c.loop-i.done; entry = c.args.entry } in x) (Elements c.args.entry c.args.size (c.args.count - (c.loop-i.i + 1))) one is (Some (struct_frame c.entry-e.result (c.args.frame.base + c.loop-i.done) c.args.frame.depth)) (at_of c.loop-i.state) (c.loop-i.done + c.args.size) (c.loop-i.state.steps + 1 - c.args.state.now.steps) (omega (arith, own, is)) (omega (arith, so_far)) (no_zeros c.args.self.now.bytes.now (c.args.frame.base + c.loop-i.done) _ none) seen in
+    let seen : Visits c.args.self.now.table.now (message_of c.args.self.now.bytes.now c.args.self.now.handles.now) c.args.frame.depth c.args.entry (c.args.frame.base + c.loop-i.done) (at_of c.loop-i.state) (at_of c.loop-i.state) 0 (Some (struct_frame c.entry-e.result (c.args.frame.base + c.loop-i.done) c.args.frame.depth)) = subst (λ (d : Entry). Visits c.args.self.now.table.now (message_of c.args.self.now.bytes.now c.args.self.now.handles.now) c.args.frame.depth c.args.entry (c.args.frame.base + c.loop-i.done) (at_of c.loop-i.state) (at_of c.loop-i.state) 0 (Some (struct_frame d (c.args.frame.base + c.loop-i.done) c.args.frame.depth))) (sym c.entry-e.ensures.value) (visits_struct c.args.self.now.table.now c.requires.table (message_of c.args.self.now.bytes.now c.args.self.now.handles.now) c.args.frame.depth c.args.entry (c.args.frame.base + c.loop-i.done) (at_of c.loop-i.state) c.requires.entry c.loop-i.invariant.turns.state c.requires.frame.depth 0 refl c.requires.kind (omega (arith, before, fits, within))) in
+    let taken : Turns c.args.self.now.table.now (message_of c.args.self.now.bytes.now c.args.self.now.handles.now) c.args.frame (at_of c.args.state.now) (at_of c.loop-i.state) (c.loop-i.state.steps + 1 - c.args.state.now.steps) (record { below = Some (struct_frame c.entry-e.result (c.args.frame.base + c.loop-i.done) c.args.frame.depth); rest = Some (going_on (going_on c.args.frame (Elements c.args.entry c.args.size (c.args.count - c.loop-i.i)) c.loop-i.done) (Elements c.args.entry c.args.size (c.args.count - (c.loop-i.i + 1))) (c.loop-i.done + c.args.size)) }) = next_takes c.args.self.now.table.now c.requires.table (message_of c.args.self.now.bytes.now c.args.self.now.handles.now) c.args.frame (at_of c.args.state.now) (at_of c.loop-i.state) (c.loop-i.state.steps - c.args.state.now.steps) (going_on c.args.frame (Elements c.args.entry c.args.size (c.args.count - c.loop-i.i)) c.loop-i.done) c.loop-i.invariant.turns (let x : Row = record { offset = c.loop-i.done; entry = c.args.entry } in x) (Elements c.args.entry c.args.size (c.args.count - (c.loop-i.i + 1))) one is (Some (struct_frame c.entry-e.result (c.args.frame.base + c.loop-i.done) c.args.frame.depth)) (at_of c.loop-i.state) (c.loop-i.done + c.args.size) 0 (c.loop-i.state.steps + 1 - c.args.state.now.steps) (omega (arith, own, is)) (omega (arith, so_far)) (no_zeros c.args.self.now.bytes.now (c.args.frame.base + c.loop-i.done) _ none) seen in
     let less = taken.less in
     taken.state
 
@@ -65,8 +65,8 @@ read_rows-requires-clause-budget c =
     let own = next_size c.args.self.now.table.now c.requires.table (message_of c.args.self.now.bytes.now c.args.self.now.handles.now) c.args.frame (at_of c.args.state.now) (at_of c.loop-i.state) (c.loop-i.state.steps - c.args.state.now.steps) (going_on c.args.frame (Elements c.args.entry c.args.size (c.args.count - c.loop-i.i)) c.loop-i.done) c.loop-i.invariant.turns (let x : Row = record { offset = c.loop-i.done; entry = c.args.entry } in x) (Elements c.args.entry c.args.size (c.args.count - (c.loop-i.i + 1))) one in
     let so_far = c.loop-i.invariant.steps in
     let none : (c.args.frame.base + c.loop-i.done) - (c.args.frame.base + c.loop-i.done) ≡ 0 = omega arith in
-    let seen : Visits c.args.self.now.table.now (message_of c.args.self.now.bytes.now c.args.self.now.handles.now) c.args.frame.depth c.args.entry (c.args.frame.base + c.loop-i.done) (at_of c.loop-i.state) (at_of c.loop-i.state) (Some (struct_frame c.entry-e.result (c.args.frame.base + c.loop-i.done) c.args.frame.depth)) = subst (λ (d : Entry). Visits c.args.self.now.table.now (message_of c.args.self.now.bytes.now c.args.self.now.handles.now) c.args.frame.depth c.args.entry (c.args.frame.base + c.loop-i.done) (at_of c.loop-i.state) (at_of c.loop-i.state) (Some (struct_frame d (c.args.frame.base + c.loop-i.done) c.args.frame.depth))) (sym c.entry-e.ensures.value) (visits_struct c.args.self.now.table.now c.requires.table (message_of c.args.self.now.bytes.now c.args.self.now.handles.now) c.args.frame.depth c.args.entry (c.args.frame.base + c.loop-i.done) (at_of c.loop-i.state) c.requires.entry c.loop-i.invariant.turns.state c.requires.frame.depth c.requires.kind (omega (arith, before, fits, within))) in
-    let taken : Turns c.args.self.now.table.now (message_of c.args.self.now.bytes.now c.args.self.now.handles.now) c.args.frame (at_of c.args.state.now) (at_of c.loop-i.state) (c.loop-i.state.steps + 1 - c.args.state.now.steps) (record { below = Some (struct_frame c.entry-e.result (c.args.frame.base + c.loop-i.done) c.args.frame.depth); rest = Some (going_on (going_on c.args.frame (Elements c.args.entry c.args.size (c.args.count - c.loop-i.i)) c.loop-i.done) (Elements c.args.entry c.args.size (c.args.count - (c.loop-i.i + 1))) (c.loop-i.done + c.args.size)) }) = next_takes c.args.self.now.table.now c.requires.table (message_of c.args.self.now.bytes.now c.args.self.now.handles.now) c.args.frame (at_of c.args.state.now) (at_of c.loop-i.state) (c.loop-i.state.steps - c.args.state.now.steps) (going_on c.args.frame (Elements c.args.entry c.args.size (c.args.count - c.loop-i.i)) c.loop-i.done) c.loop-i.invariant.turns (let x : Row = record { offset = c.loop-i.done; entry = c.args.entry } in x) (Elements c.args.entry c.args.size (c.args.count - (c.loop-i.i + 1))) one is (Some (struct_frame c.entry-e.result (c.args.frame.base + c.loop-i.done) c.args.frame.depth)) (at_of c.loop-i.state) (c.loop-i.done + c.args.size) (c.loop-i.state.steps + 1 - c.args.state.now.steps) (omega (arith, own, is)) (omega (arith, so_far)) (no_zeros c.args.self.now.bytes.now (c.args.frame.base + c.loop-i.done) _ none) seen in
+    let seen : Visits c.args.self.now.table.now (message_of c.args.self.now.bytes.now c.args.self.now.handles.now) c.args.frame.depth c.args.entry (c.args.frame.base + c.loop-i.done) (at_of c.loop-i.state) (at_of c.loop-i.state) 0 (Some (struct_frame c.entry-e.result (c.args.frame.base + c.loop-i.done) c.args.frame.depth)) = subst (λ (d : Entry). Visits c.args.self.now.table.now (message_of c.args.self.now.bytes.now c.args.self.now.handles.now) c.args.frame.depth c.args.entry (c.args.frame.base + c.loop-i.done) (at_of c.loop-i.state) (at_of c.loop-i.state) 0 (Some (struct_frame d (c.args.frame.base + c.loop-i.done) c.args.frame.depth))) (sym c.entry-e.ensures.value) (visits_struct c.args.self.now.table.now c.requires.table (message_of c.args.self.now.bytes.now c.args.self.now.handles.now) c.args.frame.depth c.args.entry (c.args.frame.base + c.loop-i.done) (at_of c.loop-i.state) c.requires.entry c.loop-i.invariant.turns.state c.requires.frame.depth 0 refl c.requires.kind (omega (arith, before, fits, within))) in
+    let taken : Turns c.args.self.now.table.now (message_of c.args.self.now.bytes.now c.args.self.now.handles.now) c.args.frame (at_of c.args.state.now) (at_of c.loop-i.state) (c.loop-i.state.steps + 1 - c.args.state.now.steps) (record { below = Some (struct_frame c.entry-e.result (c.args.frame.base + c.loop-i.done) c.args.frame.depth); rest = Some (going_on (going_on c.args.frame (Elements c.args.entry c.args.size (c.args.count - c.loop-i.i)) c.loop-i.done) (Elements c.args.entry c.args.size (c.args.count - (c.loop-i.i + 1))) (c.loop-i.done + c.args.size)) }) = next_takes c.args.self.now.table.now c.requires.table (message_of c.args.self.now.bytes.now c.args.self.now.handles.now) c.args.frame (at_of c.args.state.now) (at_of c.loop-i.state) (c.loop-i.state.steps - c.args.state.now.steps) (going_on c.args.frame (Elements c.args.entry c.args.size (c.args.count - c.loop-i.i)) c.loop-i.done) c.loop-i.invariant.turns (let x : Row = record { offset = c.loop-i.done; entry = c.args.entry } in x) (Elements c.args.entry c.args.size (c.args.count - (c.loop-i.i + 1))) one is (Some (struct_frame c.entry-e.result (c.args.frame.base + c.loop-i.done) c.args.frame.depth)) (at_of c.loop-i.state) (c.loop-i.done + c.args.size) 0 (c.loop-i.state.steps + 1 - c.args.state.now.steps) (omega (arith, own, is)) (omega (arith, so_far)) (no_zeros c.args.self.now.bytes.now (c.args.frame.base + c.loop-i.done) _ none) seen in
     let less = taken.less in
     omega (arith, less, so_far, c.requires.budget)
 
@@ -81,8 +81,8 @@ returns-in_err-found-clause-cost c =
     let own = next_size c.args.self.now.table.now c.requires.table (message_of c.args.self.now.bytes.now c.args.self.now.handles.now) c.args.frame (at_of c.args.state.now) (at_of c.loop-i.state) (c.loop-i.state.steps - c.args.state.now.steps) (going_on c.args.frame (Elements c.args.entry c.args.size (c.args.count - c.loop-i.i)) c.loop-i.done) c.loop-i.invariant.turns (let x : Row = record { offset = c.loop-i.done; entry = c.args.entry } in x) (Elements c.args.entry c.args.size (c.args.count - (c.loop-i.i + 1))) one in
     let so_far = c.loop-i.invariant.steps in
     let none : (c.args.frame.base + c.loop-i.done) - (c.args.frame.base + c.loop-i.done) ≡ 0 = omega arith in
-    let seen : Visits c.args.self.now.table.now (message_of c.args.self.now.bytes.now c.args.self.now.handles.now) c.args.frame.depth c.args.entry (c.args.frame.base + c.loop-i.done) (at_of c.loop-i.state) (at_of c.loop-i.state) (Some (struct_frame c.entry-e.result (c.args.frame.base + c.loop-i.done) c.args.frame.depth)) = subst (λ (d : Entry). Visits c.args.self.now.table.now (message_of c.args.self.now.bytes.now c.args.self.now.handles.now) c.args.frame.depth c.args.entry (c.args.frame.base + c.loop-i.done) (at_of c.loop-i.state) (at_of c.loop-i.state) (Some (struct_frame d (c.args.frame.base + c.loop-i.done) c.args.frame.depth))) (sym c.entry-e.ensures.value) (visits_struct c.args.self.now.table.now c.requires.table (message_of c.args.self.now.bytes.now c.args.self.now.handles.now) c.args.frame.depth c.args.entry (c.args.frame.base + c.loop-i.done) (at_of c.loop-i.state) c.requires.entry c.loop-i.invariant.turns.state c.requires.frame.depth c.requires.kind (omega (arith, before, fits, within))) in
-    let taken : Turns c.args.self.now.table.now (message_of c.args.self.now.bytes.now c.args.self.now.handles.now) c.args.frame (at_of c.args.state.now) (at_of c.loop-i.state) (c.loop-i.state.steps + 1 - c.args.state.now.steps) (record { below = Some (struct_frame c.entry-e.result (c.args.frame.base + c.loop-i.done) c.args.frame.depth); rest = Some (going_on (going_on c.args.frame (Elements c.args.entry c.args.size (c.args.count - c.loop-i.i)) c.loop-i.done) (Elements c.args.entry c.args.size (c.args.count - (c.loop-i.i + 1))) (c.loop-i.done + c.args.size)) }) = next_takes c.args.self.now.table.now c.requires.table (message_of c.args.self.now.bytes.now c.args.self.now.handles.now) c.args.frame (at_of c.args.state.now) (at_of c.loop-i.state) (c.loop-i.state.steps - c.args.state.now.steps) (going_on c.args.frame (Elements c.args.entry c.args.size (c.args.count - c.loop-i.i)) c.loop-i.done) c.loop-i.invariant.turns (let x : Row = record { offset = c.loop-i.done; entry = c.args.entry } in x) (Elements c.args.entry c.args.size (c.args.count - (c.loop-i.i + 1))) one is (Some (struct_frame c.entry-e.result (c.args.frame.base + c.loop-i.done) c.args.frame.depth)) (at_of c.loop-i.state) (c.loop-i.done + c.args.size) (c.loop-i.state.steps + 1 - c.args.state.now.steps) (omega (arith, own, is)) (omega (arith, so_far)) (no_zeros c.args.self.now.bytes.now (c.args.frame.base + c.loop-i.done) _ none) seen in
+    let seen : Visits c.args.self.now.table.now (message_of c.args.self.now.bytes.now c.args.self.now.handles.now) c.args.frame.depth c.args.entry (c.args.frame.base + c.loop-i.done) (at_of c.loop-i.state) (at_of c.loop-i.state) 0 (Some (struct_frame c.entry-e.result (c.args.frame.base + c.loop-i.done) c.args.frame.depth)) = subst (λ (d : Entry). Visits c.args.self.now.table.now (message_of c.args.self.now.bytes.now c.args.self.now.handles.now) c.args.frame.depth c.args.entry (c.args.frame.base + c.loop-i.done) (at_of c.loop-i.state) (at_of c.loop-i.state) 0 (Some (struct_frame d (c.args.frame.base + c.loop-i.done) c.args.frame.depth))) (sym c.entry-e.ensures.value) (visits_struct c.args.self.now.table.now c.requires.table (message_of c.args.self.now.bytes.now c.args.self.now.handles.now) c.args.frame.depth c.args.entry (c.args.frame.base + c.loop-i.done) (at_of c.loop-i.state) c.requires.entry c.loop-i.invariant.turns.state c.requires.frame.depth 0 refl c.requires.kind (omega (arith, before, fits, within))) in
+    let taken : Turns c.args.self.now.table.now (message_of c.args.self.now.bytes.now c.args.self.now.handles.now) c.args.frame (at_of c.args.state.now) (at_of c.loop-i.state) (c.loop-i.state.steps + 1 - c.args.state.now.steps) (record { below = Some (struct_frame c.entry-e.result (c.args.frame.base + c.loop-i.done) c.args.frame.depth); rest = Some (going_on (going_on c.args.frame (Elements c.args.entry c.args.size (c.args.count - c.loop-i.i)) c.loop-i.done) (Elements c.args.entry c.args.size (c.args.count - (c.loop-i.i + 1))) (c.loop-i.done + c.args.size)) }) = next_takes c.args.self.now.table.now c.requires.table (message_of c.args.self.now.bytes.now c.args.self.now.handles.now) c.args.frame (at_of c.args.state.now) (at_of c.loop-i.state) (c.loop-i.state.steps - c.args.state.now.steps) (going_on c.args.frame (Elements c.args.entry c.args.size (c.args.count - c.loop-i.i)) c.loop-i.done) c.loop-i.invariant.turns (let x : Row = record { offset = c.loop-i.done; entry = c.args.entry } in x) (Elements c.args.entry c.args.size (c.args.count - (c.loop-i.i + 1))) one is (Some (struct_frame c.entry-e.result (c.args.frame.base + c.loop-i.done) c.args.frame.depth)) (at_of c.loop-i.state) (c.loop-i.done + c.args.size) 0 (c.loop-i.state.steps + 1 - c.args.state.now.steps) (omega (arith, own, is)) (omega (arith, so_far)) (no_zeros c.args.self.now.bytes.now (c.args.frame.base + c.loop-i.done) _ none) seen in
     let less = taken.less in
     omega (arith, less, so_far, c.in_err-found.ensures.cost)
 
@@ -97,8 +97,8 @@ returns-in_err-found-clause-err c =
     let own = next_size c.args.self.now.table.now c.requires.table (message_of c.args.self.now.bytes.now c.args.self.now.handles.now) c.args.frame (at_of c.args.state.now) (at_of c.loop-i.state) (c.loop-i.state.steps - c.args.state.now.steps) (going_on c.args.frame (Elements c.args.entry c.args.size (c.args.count - c.loop-i.i)) c.loop-i.done) c.loop-i.invariant.turns (let x : Row = record { offset = c.loop-i.done; entry = c.args.entry } in x) (Elements c.args.entry c.args.size (c.args.count - (c.loop-i.i + 1))) one in
     let so_far = c.loop-i.invariant.steps in
     let none : (c.args.frame.base + c.loop-i.done) - (c.args.frame.base + c.loop-i.done) ≡ 0 = omega arith in
-    let seen : Visits c.args.self.now.table.now (message_of c.args.self.now.bytes.now c.args.self.now.handles.now) c.args.frame.depth c.args.entry (c.args.frame.base + c.loop-i.done) (at_of c.loop-i.state) (at_of c.loop-i.state) (Some (struct_frame c.entry-e.result (c.args.frame.base + c.loop-i.done) c.args.frame.depth)) = subst (λ (d : Entry). Visits c.args.self.now.table.now (message_of c.args.self.now.bytes.now c.args.self.now.handles.now) c.args.frame.depth c.args.entry (c.args.frame.base + c.loop-i.done) (at_of c.loop-i.state) (at_of c.loop-i.state) (Some (struct_frame d (c.args.frame.base + c.loop-i.done) c.args.frame.depth))) (sym c.entry-e.ensures.value) (visits_struct c.args.self.now.table.now c.requires.table (message_of c.args.self.now.bytes.now c.args.self.now.handles.now) c.args.frame.depth c.args.entry (c.args.frame.base + c.loop-i.done) (at_of c.loop-i.state) c.requires.entry c.loop-i.invariant.turns.state c.requires.frame.depth c.requires.kind (omega (arith, before, fits, within))) in
-    let taken : Turns c.args.self.now.table.now (message_of c.args.self.now.bytes.now c.args.self.now.handles.now) c.args.frame (at_of c.args.state.now) (at_of c.loop-i.state) (c.loop-i.state.steps + 1 - c.args.state.now.steps) (record { below = Some (struct_frame c.entry-e.result (c.args.frame.base + c.loop-i.done) c.args.frame.depth); rest = Some (going_on (going_on c.args.frame (Elements c.args.entry c.args.size (c.args.count - c.loop-i.i)) c.loop-i.done) (Elements c.args.entry c.args.size (c.args.count - (c.loop-i.i + 1))) (c.loop-i.done + c.args.size)) }) = next_takes c.args.self.now.table.now c.requires.table (message_of c.args.self.now.bytes.now c.args.self.now.handles.now) c.args.frame (at_of c.args.state.now) (at_of c.loop-i.state) (c.loop-i.state.steps - c.args.state.now.steps) (going_on c.args.frame (Elements c.args.entry c.args.size (c.args.count - c.loop-i.i)) c.loop-i.done) c.loop-i.invariant.turns (let x : Row = record { offset = c.loop-i.done; entry = c.args.entry } in x) (Elements c.args.entry c.args.size (c.args.count - (c.loop-i.i + 1))) one is (Some (struct_frame c.entry-e.result (c.args.frame.base + c.loop-i.done) c.args.frame.depth)) (at_of c.loop-i.state) (c.loop-i.done + c.args.size) (c.loop-i.state.steps + 1 - c.args.state.now.steps) (omega (arith, own, is)) (omega (arith, so_far)) (no_zeros c.args.self.now.bytes.now (c.args.frame.base + c.loop-i.done) _ none) seen in
+    let seen : Visits c.args.self.now.table.now (message_of c.args.self.now.bytes.now c.args.self.now.handles.now) c.args.frame.depth c.args.entry (c.args.frame.base + c.loop-i.done) (at_of c.loop-i.state) (at_of c.loop-i.state) 0 (Some (struct_frame c.entry-e.result (c.args.frame.base + c.loop-i.done) c.args.frame.depth)) = subst (λ (d : Entry). Visits c.args.self.now.table.now (message_of c.args.self.now.bytes.now c.args.self.now.handles.now) c.args.frame.depth c.args.entry (c.args.frame.base + c.loop-i.done) (at_of c.loop-i.state) (at_of c.loop-i.state) 0 (Some (struct_frame d (c.args.frame.base + c.loop-i.done) c.args.frame.depth))) (sym c.entry-e.ensures.value) (visits_struct c.args.self.now.table.now c.requires.table (message_of c.args.self.now.bytes.now c.args.self.now.handles.now) c.args.frame.depth c.args.entry (c.args.frame.base + c.loop-i.done) (at_of c.loop-i.state) c.requires.entry c.loop-i.invariant.turns.state c.requires.frame.depth 0 refl c.requires.kind (omega (arith, before, fits, within))) in
+    let taken : Turns c.args.self.now.table.now (message_of c.args.self.now.bytes.now c.args.self.now.handles.now) c.args.frame (at_of c.args.state.now) (at_of c.loop-i.state) (c.loop-i.state.steps + 1 - c.args.state.now.steps) (record { below = Some (struct_frame c.entry-e.result (c.args.frame.base + c.loop-i.done) c.args.frame.depth); rest = Some (going_on (going_on c.args.frame (Elements c.args.entry c.args.size (c.args.count - c.loop-i.i)) c.loop-i.done) (Elements c.args.entry c.args.size (c.args.count - (c.loop-i.i + 1))) (c.loop-i.done + c.args.size)) }) = next_takes c.args.self.now.table.now c.requires.table (message_of c.args.self.now.bytes.now c.args.self.now.handles.now) c.args.frame (at_of c.args.state.now) (at_of c.loop-i.state) (c.loop-i.state.steps - c.args.state.now.steps) (going_on c.args.frame (Elements c.args.entry c.args.size (c.args.count - c.loop-i.i)) c.loop-i.done) c.loop-i.invariant.turns (let x : Row = record { offset = c.loop-i.done; entry = c.args.entry } in x) (Elements c.args.entry c.args.size (c.args.count - (c.loop-i.i + 1))) one is (Some (struct_frame c.entry-e.result (c.args.frame.base + c.loop-i.done) c.args.frame.depth)) (at_of c.loop-i.state) (c.loop-i.done + c.args.size) 0 (c.loop-i.state.steps + 1 - c.args.state.now.steps) (omega (arith, own, is)) (omega (arith, so_far)) (no_zeros c.args.self.now.bytes.now (c.args.frame.base + c.loop-i.done) _ none) seen in
     let less = taken.less in
     on_err _ ((to : At) → Reads c.args.self.now.table.now (message_of c.args.self.now.bytes.now c.args.self.now.handles.now) c.args.frame (at_of c.args.state.now) to → ⊥) (below_refused c.args.self.now.table.now (message_of c.args.self.now.bytes.now c.args.self.now.handles.now) c.args.frame (at_of c.args.state.now) (at_of c.loop-i.state) (c.loop-i.state.steps + 1 - c.args.state.now.steps) (struct_frame c.entry-e.result (c.args.frame.base + c.loop-i.done) c.args.frame.depth) (going_on (going_on c.args.frame (Elements c.args.entry c.args.size (c.args.count - c.loop-i.i)) c.loop-i.done) (Elements c.args.entry c.args.size (c.args.count - (c.loop-i.i + 1))) (c.loop-i.done + c.args.size)) taken c.in_err-found.ensures.err)
 
@@ -124,8 +124,8 @@ returns-in-Some-clause-ok c =
     let own = next_size c.args.self.now.table.now c.requires.table (message_of c.args.self.now.bytes.now c.args.self.now.handles.now) c.args.frame (at_of c.args.state.now) (at_of c.loop-i.state) (c.loop-i.state.steps - c.args.state.now.steps) (going_on c.args.frame (Elements c.args.entry c.args.size (c.args.count - c.loop-i.i)) c.loop-i.done) c.loop-i.invariant.turns (let x : Row = record { offset = c.loop-i.done; entry = c.args.entry } in x) (Elements c.args.entry c.args.size (c.args.count - (c.loop-i.i + 1))) one in
     let so_far = c.loop-i.invariant.steps in
     let none : (c.args.frame.base + c.loop-i.done) - (c.args.frame.base + c.loop-i.done) ≡ 0 = omega arith in
-    let seen : Visits c.args.self.now.table.now (message_of c.args.self.now.bytes.now c.args.self.now.handles.now) c.args.frame.depth c.args.entry (c.args.frame.base + c.loop-i.done) (at_of c.loop-i.state) (at_of c.loop-i.state) (Some (struct_frame c.entry-e.result (c.args.frame.base + c.loop-i.done) c.args.frame.depth)) = subst (λ (d : Entry). Visits c.args.self.now.table.now (message_of c.args.self.now.bytes.now c.args.self.now.handles.now) c.args.frame.depth c.args.entry (c.args.frame.base + c.loop-i.done) (at_of c.loop-i.state) (at_of c.loop-i.state) (Some (struct_frame d (c.args.frame.base + c.loop-i.done) c.args.frame.depth))) (sym c.entry-e.ensures.value) (visits_struct c.args.self.now.table.now c.requires.table (message_of c.args.self.now.bytes.now c.args.self.now.handles.now) c.args.frame.depth c.args.entry (c.args.frame.base + c.loop-i.done) (at_of c.loop-i.state) c.requires.entry c.loop-i.invariant.turns.state c.requires.frame.depth c.requires.kind (omega (arith, before, fits, within))) in
-    let taken : Turns c.args.self.now.table.now (message_of c.args.self.now.bytes.now c.args.self.now.handles.now) c.args.frame (at_of c.args.state.now) (at_of c.loop-i.state) (c.loop-i.state.steps + 1 - c.args.state.now.steps) (record { below = Some (struct_frame c.entry-e.result (c.args.frame.base + c.loop-i.done) c.args.frame.depth); rest = Some (going_on (going_on c.args.frame (Elements c.args.entry c.args.size (c.args.count - c.loop-i.i)) c.loop-i.done) (Elements c.args.entry c.args.size (c.args.count - (c.loop-i.i + 1))) (c.loop-i.done + c.args.size)) }) = next_takes c.args.self.now.table.now c.requires.table (message_of c.args.self.now.bytes.now c.args.self.now.handles.now) c.args.frame (at_of c.args.state.now) (at_of c.loop-i.state) (c.loop-i.state.steps - c.args.state.now.steps) (going_on c.args.frame (Elements c.args.entry c.args.size (c.args.count - c.loop-i.i)) c.loop-i.done) c.loop-i.invariant.turns (let x : Row = record { offset = c.loop-i.done; entry = c.args.entry } in x) (Elements c.args.entry c.args.size (c.args.count - (c.loop-i.i + 1))) one is (Some (struct_frame c.entry-e.result (c.args.frame.base + c.loop-i.done) c.args.frame.depth)) (at_of c.loop-i.state) (c.loop-i.done + c.args.size) (c.loop-i.state.steps + 1 - c.args.state.now.steps) (omega (arith, own, is)) (omega (arith, so_far)) (no_zeros c.args.self.now.bytes.now (c.args.frame.base + c.loop-i.done) _ none) seen in
+    let seen : Visits c.args.self.now.table.now (message_of c.args.self.now.bytes.now c.args.self.now.handles.now) c.args.frame.depth c.args.entry (c.args.frame.base + c.loop-i.done) (at_of c.loop-i.state) (at_of c.loop-i.state) 0 (Some (struct_frame c.entry-e.result (c.args.frame.base + c.loop-i.done) c.args.frame.depth)) = subst (λ (d : Entry). Visits c.args.self.now.table.now (message_of c.args.self.now.bytes.now c.args.self.now.handles.now) c.args.frame.depth c.args.entry (c.args.frame.base + c.loop-i.done) (at_of c.loop-i.state) (at_of c.loop-i.state) 0 (Some (struct_frame d (c.args.frame.base + c.loop-i.done) c.args.frame.depth))) (sym c.entry-e.ensures.value) (visits_struct c.args.self.now.table.now c.requires.table (message_of c.args.self.now.bytes.now c.args.self.now.handles.now) c.args.frame.depth c.args.entry (c.args.frame.base + c.loop-i.done) (at_of c.loop-i.state) c.requires.entry c.loop-i.invariant.turns.state c.requires.frame.depth 0 refl c.requires.kind (omega (arith, before, fits, within))) in
+    let taken : Turns c.args.self.now.table.now (message_of c.args.self.now.bytes.now c.args.self.now.handles.now) c.args.frame (at_of c.args.state.now) (at_of c.loop-i.state) (c.loop-i.state.steps + 1 - c.args.state.now.steps) (record { below = Some (struct_frame c.entry-e.result (c.args.frame.base + c.loop-i.done) c.args.frame.depth); rest = Some (going_on (going_on c.args.frame (Elements c.args.entry c.args.size (c.args.count - c.loop-i.i)) c.loop-i.done) (Elements c.args.entry c.args.size (c.args.count - (c.loop-i.i + 1))) (c.loop-i.done + c.args.size)) }) = next_takes c.args.self.now.table.now c.requires.table (message_of c.args.self.now.bytes.now c.args.self.now.handles.now) c.args.frame (at_of c.args.state.now) (at_of c.loop-i.state) (c.loop-i.state.steps - c.args.state.now.steps) (going_on c.args.frame (Elements c.args.entry c.args.size (c.args.count - c.loop-i.i)) c.loop-i.done) c.loop-i.invariant.turns (let x : Row = record { offset = c.loop-i.done; entry = c.args.entry } in x) (Elements c.args.entry c.args.size (c.args.count - (c.loop-i.i + 1))) one is (Some (struct_frame c.entry-e.result (c.args.frame.base + c.loop-i.done) c.args.frame.depth)) (at_of c.loop-i.state) (c.loop-i.done + c.args.size) 0 (c.loop-i.state.steps + 1 - c.args.state.now.steps) (omega (arith, own, is)) (omega (arith, so_far)) (no_zeros c.args.self.now.bytes.now (c.args.frame.base + c.loop-i.done) _ none) seen in
     let less = taken.less in
     let on = c.in_ok-found.ensures.grows in
     let read = subst (λ (o : Option Frame). Turns c.args.self.now.table.now (message_of c.args.self.now.bytes.now c.args.self.now.handles.now) (struct_frame c.entry-e.result (c.args.frame.base + c.loop-i.done) c.args.frame.depth) (at_of c.loop-i.state) (at_of c.read_rows.new.state) (c.read_rows.new.state.steps - (c.loop-i.state.steps + 1)) (left_over o)) c.in-Some.is c.in_ok-found.ensures.ok in
@@ -142,8 +142,8 @@ loop-i-preserved c =
     let own = next_size c.args.self.now.table.now c.requires.table (message_of c.args.self.now.bytes.now c.args.self.now.handles.now) c.args.frame (at_of c.args.state.now) (at_of c.loop-i.state) (c.loop-i.state.steps - c.args.state.now.steps) (going_on c.args.frame (Elements c.args.entry c.args.size (c.args.count - c.loop-i.i)) c.loop-i.done) c.loop-i.invariant.turns (let x : Row = record { offset = c.loop-i.done; entry = c.args.entry } in x) (Elements c.args.entry c.args.size (c.args.count - (c.loop-i.i + 1))) one in
     let so_far = c.loop-i.invariant.steps in
     let none : (c.args.frame.base + c.loop-i.done) - (c.args.frame.base + c.loop-i.done) ≡ 0 = omega arith in
-    let seen : Visits c.args.self.now.table.now (message_of c.args.self.now.bytes.now c.args.self.now.handles.now) c.args.frame.depth c.args.entry (c.args.frame.base + c.loop-i.done) (at_of c.loop-i.state) (at_of c.loop-i.state) (Some (struct_frame c.entry-e.result (c.args.frame.base + c.loop-i.done) c.args.frame.depth)) = subst (λ (d : Entry). Visits c.args.self.now.table.now (message_of c.args.self.now.bytes.now c.args.self.now.handles.now) c.args.frame.depth c.args.entry (c.args.frame.base + c.loop-i.done) (at_of c.loop-i.state) (at_of c.loop-i.state) (Some (struct_frame d (c.args.frame.base + c.loop-i.done) c.args.frame.depth))) (sym c.entry-e.ensures.value) (visits_struct c.args.self.now.table.now c.requires.table (message_of c.args.self.now.bytes.now c.args.self.now.handles.now) c.args.frame.depth c.args.entry (c.args.frame.base + c.loop-i.done) (at_of c.loop-i.state) c.requires.entry c.loop-i.invariant.turns.state c.requires.frame.depth c.requires.kind (omega (arith, before, fits, within))) in
-    let taken : Turns c.args.self.now.table.now (message_of c.args.self.now.bytes.now c.args.self.now.handles.now) c.args.frame (at_of c.args.state.now) (at_of c.loop-i.state) (c.loop-i.state.steps + 1 - c.args.state.now.steps) (record { below = Some (struct_frame c.entry-e.result (c.args.frame.base + c.loop-i.done) c.args.frame.depth); rest = Some (going_on (going_on c.args.frame (Elements c.args.entry c.args.size (c.args.count - c.loop-i.i)) c.loop-i.done) (Elements c.args.entry c.args.size (c.args.count - (c.loop-i.i + 1))) (c.loop-i.done + c.args.size)) }) = next_takes c.args.self.now.table.now c.requires.table (message_of c.args.self.now.bytes.now c.args.self.now.handles.now) c.args.frame (at_of c.args.state.now) (at_of c.loop-i.state) (c.loop-i.state.steps - c.args.state.now.steps) (going_on c.args.frame (Elements c.args.entry c.args.size (c.args.count - c.loop-i.i)) c.loop-i.done) c.loop-i.invariant.turns (let x : Row = record { offset = c.loop-i.done; entry = c.args.entry } in x) (Elements c.args.entry c.args.size (c.args.count - (c.loop-i.i + 1))) one is (Some (struct_frame c.entry-e.result (c.args.frame.base + c.loop-i.done) c.args.frame.depth)) (at_of c.loop-i.state) (c.loop-i.done + c.args.size) (c.loop-i.state.steps + 1 - c.args.state.now.steps) (omega (arith, own, is)) (omega (arith, so_far)) (no_zeros c.args.self.now.bytes.now (c.args.frame.base + c.loop-i.done) _ none) seen in
+    let seen : Visits c.args.self.now.table.now (message_of c.args.self.now.bytes.now c.args.self.now.handles.now) c.args.frame.depth c.args.entry (c.args.frame.base + c.loop-i.done) (at_of c.loop-i.state) (at_of c.loop-i.state) 0 (Some (struct_frame c.entry-e.result (c.args.frame.base + c.loop-i.done) c.args.frame.depth)) = subst (λ (d : Entry). Visits c.args.self.now.table.now (message_of c.args.self.now.bytes.now c.args.self.now.handles.now) c.args.frame.depth c.args.entry (c.args.frame.base + c.loop-i.done) (at_of c.loop-i.state) (at_of c.loop-i.state) 0 (Some (struct_frame d (c.args.frame.base + c.loop-i.done) c.args.frame.depth))) (sym c.entry-e.ensures.value) (visits_struct c.args.self.now.table.now c.requires.table (message_of c.args.self.now.bytes.now c.args.self.now.handles.now) c.args.frame.depth c.args.entry (c.args.frame.base + c.loop-i.done) (at_of c.loop-i.state) c.requires.entry c.loop-i.invariant.turns.state c.requires.frame.depth 0 refl c.requires.kind (omega (arith, before, fits, within))) in
+    let taken : Turns c.args.self.now.table.now (message_of c.args.self.now.bytes.now c.args.self.now.handles.now) c.args.frame (at_of c.args.state.now) (at_of c.loop-i.state) (c.loop-i.state.steps + 1 - c.args.state.now.steps) (record { below = Some (struct_frame c.entry-e.result (c.args.frame.base + c.loop-i.done) c.args.frame.depth); rest = Some (going_on (going_on c.args.frame (Elements c.args.entry c.args.size (c.args.count - c.loop-i.i)) c.loop-i.done) (Elements c.args.entry c.args.size (c.args.count - (c.loop-i.i + 1))) (c.loop-i.done + c.args.size)) }) = next_takes c.args.self.now.table.now c.requires.table (message_of c.args.self.now.bytes.now c.args.self.now.handles.now) c.args.frame (at_of c.args.state.now) (at_of c.loop-i.state) (c.loop-i.state.steps - c.args.state.now.steps) (going_on c.args.frame (Elements c.args.entry c.args.size (c.args.count - c.loop-i.i)) c.loop-i.done) c.loop-i.invariant.turns (let x : Row = record { offset = c.loop-i.done; entry = c.args.entry } in x) (Elements c.args.entry c.args.size (c.args.count - (c.loop-i.i + 1))) one is (Some (struct_frame c.entry-e.result (c.args.frame.base + c.loop-i.done) c.args.frame.depth)) (at_of c.loop-i.state) (c.loop-i.done + c.args.size) 0 (c.loop-i.state.steps + 1 - c.args.state.now.steps) (omega (arith, own, is)) (omega (arith, so_far)) (no_zeros c.args.self.now.bytes.now (c.args.frame.base + c.loop-i.done) _ none) seen in
     let less = taken.less in
     let on = c.in_ok-found.ensures.grows in
     let read = subst (λ (o : Option Frame). Turns c.args.self.now.table.now (message_of c.args.self.now.bytes.now c.args.self.now.handles.now) (struct_frame c.entry-e.result (c.args.frame.base + c.loop-i.done) c.args.frame.depth) (at_of c.loop-i.state) (at_of c.read_rows.new.state) (c.read_rows.new.state.steps - (c.loop-i.state.steps + 1)) (left_over o)) c.in_default.is c.in_ok-found.ensures.ok in
@@ -192,8 +192,8 @@ returns-in-Some-clause-cost c =
     let own = next_size c.args.self.now.table.now c.requires.table (message_of c.args.self.now.bytes.now c.args.self.now.handles.now) c.args.frame (at_of c.args.state.now) (at_of c.loop-i.state) (c.loop-i.state.steps - c.args.state.now.steps) (going_on c.args.frame (Elements c.args.entry c.args.size (c.args.count - c.loop-i.i)) c.loop-i.done) c.loop-i.invariant.turns (let x : Row = record { offset = c.loop-i.done; entry = c.args.entry } in x) (Elements c.args.entry c.args.size (c.args.count - (c.loop-i.i + 1))) one in
     let so_far = c.loop-i.invariant.steps in
     let none : (c.args.frame.base + c.loop-i.done) - (c.args.frame.base + c.loop-i.done) ≡ 0 = omega arith in
-    let seen : Visits c.args.self.now.table.now (message_of c.args.self.now.bytes.now c.args.self.now.handles.now) c.args.frame.depth c.args.entry (c.args.frame.base + c.loop-i.done) (at_of c.loop-i.state) (at_of c.loop-i.state) (Some (struct_frame c.entry-e.result (c.args.frame.base + c.loop-i.done) c.args.frame.depth)) = subst (λ (d : Entry). Visits c.args.self.now.table.now (message_of c.args.self.now.bytes.now c.args.self.now.handles.now) c.args.frame.depth c.args.entry (c.args.frame.base + c.loop-i.done) (at_of c.loop-i.state) (at_of c.loop-i.state) (Some (struct_frame d (c.args.frame.base + c.loop-i.done) c.args.frame.depth))) (sym c.entry-e.ensures.value) (visits_struct c.args.self.now.table.now c.requires.table (message_of c.args.self.now.bytes.now c.args.self.now.handles.now) c.args.frame.depth c.args.entry (c.args.frame.base + c.loop-i.done) (at_of c.loop-i.state) c.requires.entry c.loop-i.invariant.turns.state c.requires.frame.depth c.requires.kind (omega (arith, before, fits, within))) in
-    let taken : Turns c.args.self.now.table.now (message_of c.args.self.now.bytes.now c.args.self.now.handles.now) c.args.frame (at_of c.args.state.now) (at_of c.loop-i.state) (c.loop-i.state.steps + 1 - c.args.state.now.steps) (record { below = Some (struct_frame c.entry-e.result (c.args.frame.base + c.loop-i.done) c.args.frame.depth); rest = Some (going_on (going_on c.args.frame (Elements c.args.entry c.args.size (c.args.count - c.loop-i.i)) c.loop-i.done) (Elements c.args.entry c.args.size (c.args.count - (c.loop-i.i + 1))) (c.loop-i.done + c.args.size)) }) = next_takes c.args.self.now.table.now c.requires.table (message_of c.args.self.now.bytes.now c.args.self.now.handles.now) c.args.frame (at_of c.args.state.now) (at_of c.loop-i.state) (c.loop-i.state.steps - c.args.state.now.steps) (going_on c.args.frame (Elements c.args.entry c.args.size (c.args.count - c.loop-i.i)) c.loop-i.done) c.loop-i.invariant.turns (let x : Row = record { offset = c.loop-i.done; entry = c.args.entry } in x) (Elements c.args.entry c.args.size (c.args.count - (c.loop-i.i + 1))) one is (Some (struct_frame c.entry-e.result (c.args.frame.base + c.loop-i.done) c.args.frame.depth)) (at_of c.loop-i.state) (c.loop-i.done + c.args.size) (c.loop-i.state.steps + 1 - c.args.state.now.steps) (omega (arith, own, is)) (omega (arith, so_far)) (no_zeros c.args.self.now.bytes.now (c.args.frame.base + c.loop-i.done) _ none) seen in
+    let seen : Visits c.args.self.now.table.now (message_of c.args.self.now.bytes.now c.args.self.now.handles.now) c.args.frame.depth c.args.entry (c.args.frame.base + c.loop-i.done) (at_of c.loop-i.state) (at_of c.loop-i.state) 0 (Some (struct_frame c.entry-e.result (c.args.frame.base + c.loop-i.done) c.args.frame.depth)) = subst (λ (d : Entry). Visits c.args.self.now.table.now (message_of c.args.self.now.bytes.now c.args.self.now.handles.now) c.args.frame.depth c.args.entry (c.args.frame.base + c.loop-i.done) (at_of c.loop-i.state) (at_of c.loop-i.state) 0 (Some (struct_frame d (c.args.frame.base + c.loop-i.done) c.args.frame.depth))) (sym c.entry-e.ensures.value) (visits_struct c.args.self.now.table.now c.requires.table (message_of c.args.self.now.bytes.now c.args.self.now.handles.now) c.args.frame.depth c.args.entry (c.args.frame.base + c.loop-i.done) (at_of c.loop-i.state) c.requires.entry c.loop-i.invariant.turns.state c.requires.frame.depth 0 refl c.requires.kind (omega (arith, before, fits, within))) in
+    let taken : Turns c.args.self.now.table.now (message_of c.args.self.now.bytes.now c.args.self.now.handles.now) c.args.frame (at_of c.args.state.now) (at_of c.loop-i.state) (c.loop-i.state.steps + 1 - c.args.state.now.steps) (record { below = Some (struct_frame c.entry-e.result (c.args.frame.base + c.loop-i.done) c.args.frame.depth); rest = Some (going_on (going_on c.args.frame (Elements c.args.entry c.args.size (c.args.count - c.loop-i.i)) c.loop-i.done) (Elements c.args.entry c.args.size (c.args.count - (c.loop-i.i + 1))) (c.loop-i.done + c.args.size)) }) = next_takes c.args.self.now.table.now c.requires.table (message_of c.args.self.now.bytes.now c.args.self.now.handles.now) c.args.frame (at_of c.args.state.now) (at_of c.loop-i.state) (c.loop-i.state.steps - c.args.state.now.steps) (going_on c.args.frame (Elements c.args.entry c.args.size (c.args.count - c.loop-i.i)) c.loop-i.done) c.loop-i.invariant.turns (let x : Row = record { offset = c.loop-i.done; entry = c.args.entry } in x) (Elements c.args.entry c.args.size (c.args.count - (c.loop-i.i + 1))) one is (Some (struct_frame c.entry-e.result (c.args.frame.base + c.loop-i.done) c.args.frame.depth)) (at_of c.loop-i.state) (c.loop-i.done + c.args.size) 0 (c.loop-i.state.steps + 1 - c.args.state.now.steps) (omega (arith, own, is)) (omega (arith, so_far)) (no_zeros c.args.self.now.bytes.now (c.args.frame.base + c.loop-i.done) _ none) seen in
     let less = taken.less in
     omega (arith, less, so_far, c.in_ok-found.ensures.cost)
 
@@ -214,8 +214,8 @@ returns-in_err-found-clause-told c =
     let own = next_size c.args.self.now.table.now c.requires.table (message_of c.args.self.now.bytes.now c.args.self.now.handles.now) c.args.frame (at_of c.args.state.now) (at_of c.loop-i.state) (c.loop-i.state.steps - c.args.state.now.steps) (going_on c.args.frame (Elements c.args.entry c.args.size (c.args.count - c.loop-i.i)) c.loop-i.done) c.loop-i.invariant.turns (let x : Row = record { offset = c.loop-i.done; entry = c.args.entry } in x) (Elements c.args.entry c.args.size (c.args.count - (c.loop-i.i + 1))) one in
     let so_far = c.loop-i.invariant.steps in
     let none : (c.args.frame.base + c.loop-i.done) - (c.args.frame.base + c.loop-i.done) ≡ 0 = omega arith in
-    let seen : Visits c.args.self.now.table.now (message_of c.args.self.now.bytes.now c.args.self.now.handles.now) c.args.frame.depth c.args.entry (c.args.frame.base + c.loop-i.done) (at_of c.loop-i.state) (at_of c.loop-i.state) (Some (struct_frame c.entry-e.result (c.args.frame.base + c.loop-i.done) c.args.frame.depth)) = subst (λ (d : Entry). Visits c.args.self.now.table.now (message_of c.args.self.now.bytes.now c.args.self.now.handles.now) c.args.frame.depth c.args.entry (c.args.frame.base + c.loop-i.done) (at_of c.loop-i.state) (at_of c.loop-i.state) (Some (struct_frame d (c.args.frame.base + c.loop-i.done) c.args.frame.depth))) (sym c.entry-e.ensures.value) (visits_struct c.args.self.now.table.now c.requires.table (message_of c.args.self.now.bytes.now c.args.self.now.handles.now) c.args.frame.depth c.args.entry (c.args.frame.base + c.loop-i.done) (at_of c.loop-i.state) c.requires.entry c.loop-i.invariant.turns.state c.requires.frame.depth c.requires.kind (omega (arith, before, fits, within))) in
-    let taken : Turns c.args.self.now.table.now (message_of c.args.self.now.bytes.now c.args.self.now.handles.now) c.args.frame (at_of c.args.state.now) (at_of c.loop-i.state) (c.loop-i.state.steps + 1 - c.args.state.now.steps) (record { below = Some (struct_frame c.entry-e.result (c.args.frame.base + c.loop-i.done) c.args.frame.depth); rest = Some (going_on (going_on c.args.frame (Elements c.args.entry c.args.size (c.args.count - c.loop-i.i)) c.loop-i.done) (Elements c.args.entry c.args.size (c.args.count - (c.loop-i.i + 1))) (c.loop-i.done + c.args.size)) }) = next_takes c.args.self.now.table.now c.requires.table (message_of c.args.self.now.bytes.now c.args.self.now.handles.now) c.args.frame (at_of c.args.state.now) (at_of c.loop-i.state) (c.loop-i.state.steps - c.args.state.now.steps) (going_on c.args.frame (Elements c.args.entry c.args.size (c.args.count - c.loop-i.i)) c.loop-i.done) c.loop-i.invariant.turns (let x : Row = record { offset = c.loop-i.done; entry = c.args.entry } in x) (Elements c.args.entry c.args.size (c.args.count - (c.loop-i.i + 1))) one is (Some (struct_frame c.entry-e.result (c.args.frame.base + c.loop-i.done) c.args.frame.depth)) (at_of c.loop-i.state) (c.loop-i.done + c.args.size) (c.loop-i.state.steps + 1 - c.args.state.now.steps) (omega (arith, own, is)) (omega (arith, so_far)) (no_zeros c.args.self.now.bytes.now (c.args.frame.base + c.loop-i.done) _ none) seen in
+    let seen : Visits c.args.self.now.table.now (message_of c.args.self.now.bytes.now c.args.self.now.handles.now) c.args.frame.depth c.args.entry (c.args.frame.base + c.loop-i.done) (at_of c.loop-i.state) (at_of c.loop-i.state) 0 (Some (struct_frame c.entry-e.result (c.args.frame.base + c.loop-i.done) c.args.frame.depth)) = subst (λ (d : Entry). Visits c.args.self.now.table.now (message_of c.args.self.now.bytes.now c.args.self.now.handles.now) c.args.frame.depth c.args.entry (c.args.frame.base + c.loop-i.done) (at_of c.loop-i.state) (at_of c.loop-i.state) 0 (Some (struct_frame d (c.args.frame.base + c.loop-i.done) c.args.frame.depth))) (sym c.entry-e.ensures.value) (visits_struct c.args.self.now.table.now c.requires.table (message_of c.args.self.now.bytes.now c.args.self.now.handles.now) c.args.frame.depth c.args.entry (c.args.frame.base + c.loop-i.done) (at_of c.loop-i.state) c.requires.entry c.loop-i.invariant.turns.state c.requires.frame.depth 0 refl c.requires.kind (omega (arith, before, fits, within))) in
+    let taken : Turns c.args.self.now.table.now (message_of c.args.self.now.bytes.now c.args.self.now.handles.now) c.args.frame (at_of c.args.state.now) (at_of c.loop-i.state) (c.loop-i.state.steps + 1 - c.args.state.now.steps) (record { below = Some (struct_frame c.entry-e.result (c.args.frame.base + c.loop-i.done) c.args.frame.depth); rest = Some (going_on (going_on c.args.frame (Elements c.args.entry c.args.size (c.args.count - c.loop-i.i)) c.loop-i.done) (Elements c.args.entry c.args.size (c.args.count - (c.loop-i.i + 1))) (c.loop-i.done + c.args.size)) }) = next_takes c.args.self.now.table.now c.requires.table (message_of c.args.self.now.bytes.now c.args.self.now.handles.now) c.args.frame (at_of c.args.state.now) (at_of c.loop-i.state) (c.loop-i.state.steps - c.args.state.now.steps) (going_on c.args.frame (Elements c.args.entry c.args.size (c.args.count - c.loop-i.i)) c.loop-i.done) c.loop-i.invariant.turns (let x : Row = record { offset = c.loop-i.done; entry = c.args.entry } in x) (Elements c.args.entry c.args.size (c.args.count - (c.loop-i.i + 1))) one is (Some (struct_frame c.entry-e.result (c.args.frame.base + c.loop-i.done) c.args.frame.depth)) (at_of c.loop-i.state) (c.loop-i.done + c.args.size) 0 (c.loop-i.state.steps + 1 - c.args.state.now.steps) (omega (arith, own, is)) (omega (arith, so_far)) (no_zeros c.args.self.now.bytes.now (c.args.frame.base + c.loop-i.done) _ none) seen in
     let less = taken.less in
     passed_on c.from_residual.result c.in_err-found.field-0.0 _ c.from_residual.ensures.1
     (below_breaks c.args.self.now.table.now (message_of c.args.self.now.bytes.now c.args.self.now.handles.now) c.args.frame (at_of c.args.state.now) (at_of c.loop-i.state) (c.loop-i.state.steps + 1 - c.args.state.now.steps) (struct_frame c.entry-e.result (c.args.frame.base + c.loop-i.done) c.args.frame.depth) (going_on (going_on c.args.frame (Elements c.args.entry c.args.size (c.args.count - c.loop-i.i)) c.loop-i.done) (Elements c.args.entry c.args.size (c.args.count - (c.loop-i.i + 1))) (c.loop-i.done + c.args.size)) taken _ c.in_err-found.ensures.told)

@@ -9,7 +9,7 @@ use Rattle.fidl_decode.specs.State.{At}
 use Rattle.fidl_decode.specs.Machine.{Turns, Reads, at_of}
 use Rattle.fidl_decode.specs.Faults.{message_of}
 use Rattle.fidl_decode.proofs.Visiting.{size_is, positive}
-use Rattle.fidl_decode.proofs.Turning.{done_fits, gap, spends, on_err, end_refused, end_breaks, turns_end, row_fine, row_room, gap_refused, gap_breaks, visit_refused, visit_breaks, turns_more}
+use Rattle.fidl_decode.proofs.Turning.{done_fits, gap, spends, spends_more, on_err, end_refused, end_breaks, turns_end, row_fine, row_room, gap_refused, gap_breaks, visit_refused, visit_breaks, turns_more}
 use Rattle.fidl_decode.proofs.decoder.Decoder.take_member.Goals as goal
 
 pub overflow_add-at : goal.overflow_add-at
@@ -100,8 +100,9 @@ returns-in_err-below-clause-cost c =
     let d = done_fits c.args.self.now.table.now c.requires.table (message_of c.args.self.now.bytes.now c.args.self.now.handles.now) c.args.frame (at_of c.args.state.now) c.requires.frame c.requires.state in
     let room = c.requires.frame.room in
     let g = gap c.args.self.now.table.now c.requires.table (message_of c.args.self.now.bytes.now c.args.self.now.handles.now) c.args.frame (at_of c.args.state.now) c.requires.frame c.requires.state (let x : Row = record { offset = c.in-Some.member.offset; entry = c.in-Some.member.entry } in x) c.in-Some.member.left c.in-Some.ensures.some in
-    let w = spends c.args.frame.nest (c.in-Some.member.offset - c.args.frame.done) (c.args.frame.size - c.args.frame.done) (omega arith) in
-    omega (arith, c.visit.ensures.steps)
+    let pos = positive c.args.self.now.table.now c.requires.table c.in-Some.member.entry f.0 in
+    let w = spends_more c.args.frame.nest (c.in-Some.member.offset - c.args.frame.done) (c.args.frame.size - c.args.frame.done) (omega (arith, pos, r, f.1)) in
+    omega (arith, c.visit.ensures.probes, w, g)
 
 pub returns-in_err-below-clause-err : goal.returns-in_err-below-clause-err
 returns-in_err-below-clause-err c =
@@ -122,9 +123,10 @@ returns-clause-ok c =
     let f = row_fine c.args.self.now.table.now c.requires.table (message_of c.args.self.now.bytes.now c.args.self.now.handles.now) c.args.frame (at_of c.args.state.now) c.requires.frame c.requires.state (let x : Row = record { offset = c.in-Some.member.offset; entry = c.in-Some.member.entry } in x) c.in-Some.member.left c.in-Some.ensures.some in
     let s = size_is c.args.self.now.table.now c.requires.table c.in-Some.member.entry f.0 in
     let size : c.entry.result.size ≡ size_of (declarations_of c.args.self.now.table.now) (ty.named c.in-Some.member.entry) = ap (λ (d : Entry). d.size) c.entry.ensures.value ∙ sym s in
-    let spent : (c.args.frame.base + c.in-Some.member.offset - (c.args.frame.base + c.args.frame.done) + 1) ≡ c.visit.new.state.steps - c.args.state.now.steps = omega (arith, c.visit.ensures.steps) in
+    let before = c.args.state.now.steps + (c.args.frame.base + c.in-Some.member.offset - (c.args.frame.base + c.args.frame.done) + 1) in
+    let spent : (c.args.frame.base + c.in-Some.member.offset - (c.args.frame.base + c.args.frame.done) + 1) + (c.visit.new.state.steps - before) ≡ c.visit.new.state.steps - c.args.state.now.steps = omega (arith, c.visit.ensures.grows) in
     subst (λ (n : ℕ). Turns c.args.self.now.table.now (message_of c.args.self.now.bytes.now c.args.self.now.handles.now) c.args.frame (at_of c.args.state.now) (at_of c.visit.new.state) n (record { below = c.in_ok-below.below; rest = Some (record { left = c.in-Some.member.left; base = c.args.frame.base; done = c.in-Some.member.offset + c.entry.result.size; size = c.args.frame.size; nest = c.args.frame.nest; depth = c.args.frame.depth }) })) spent
-    (turns_more c.args.self.now.table.now c.requires.table (message_of c.args.self.now.bytes.now c.args.self.now.handles.now) c.args.frame (at_of c.args.state.now) c.requires.frame c.requires.state (let x : Row = record { offset = c.in-Some.member.offset; entry = c.in-Some.member.entry } in x) c.in-Some.member.left c.in-Some.ensures.some (positive c.args.self.now.table.now c.requires.table c.in-Some.member.entry f.0) c.in-Some.ensures.left c.in_ok-below.below _ _ (ap (λ n. c.in-Some.member.offset + n) size) c.in_ok-zeros_at-2.ensures.ok c.in_ok-below.ensures.ok)
+    (turns_more c.args.self.now.table.now c.requires.table (message_of c.args.self.now.bytes.now c.args.self.now.handles.now) c.args.frame (at_of c.args.state.now) c.requires.frame c.requires.state (let x : Row = record { offset = c.in-Some.member.offset; entry = c.in-Some.member.entry } in x) c.in-Some.member.left c.in-Some.ensures.some (positive c.args.self.now.table.now c.requires.table c.in-Some.member.entry f.0) c.in-Some.ensures.left c.in_ok-below.below _ _ (c.visit.new.state.steps - before) (ap (λ n. c.in-Some.member.offset + n) size) c.in_ok-zeros_at-2.ensures.ok c.in_ok-below.ensures.ok)
 
 pub returns-clause-cost : goal.returns-clause-cost
 returns-clause-cost c =
@@ -133,8 +135,9 @@ returns-clause-cost c =
     let d = done_fits c.args.self.now.table.now c.requires.table (message_of c.args.self.now.bytes.now c.args.self.now.handles.now) c.args.frame (at_of c.args.state.now) c.requires.frame c.requires.state in
     let room = c.requires.frame.room in
     let g = gap c.args.self.now.table.now c.requires.table (message_of c.args.self.now.bytes.now c.args.self.now.handles.now) c.args.frame (at_of c.args.state.now) c.requires.frame c.requires.state (let x : Row = record { offset = c.in-Some.member.offset; entry = c.in-Some.member.entry } in x) c.in-Some.member.left c.in-Some.ensures.some in
-    let w = spends c.args.frame.nest (c.in-Some.member.offset - c.args.frame.done) (c.args.frame.size - c.args.frame.done) (omega arith) in
-    omega (arith, c.visit.ensures.steps)
+    let pos = positive c.args.self.now.table.now c.requires.table c.in-Some.member.entry f.0 in
+    let w = spends_more c.args.frame.nest (c.in-Some.member.offset - c.args.frame.done) (c.args.frame.size - c.args.frame.done) (omega (arith, pos, r, f.1)) in
+    omega (arith, c.visit.ensures.probes, w, g)
 
 pub returns-in_err-zeros_at-2-clause-told : goal.returns-in_err-zeros_at-2-clause-told
 returns-in_err-zeros_at-2-clause-told c =
@@ -147,3 +150,9 @@ returns-in_err-zeros_at-clause-told c =
 pub returns-in_err-below-clause-told : goal.returns-in_err-below-clause-told
 returns-in_err-below-clause-told c =
     let h = (visit_breaks c.args.self.now.table.now c.requires.table (message_of c.args.self.now.bytes.now c.args.self.now.handles.now) c.args.frame (at_of c.args.state.now) c.requires.frame c.requires.state (let x : Row = record { offset = c.in-Some.member.offset; entry = c.in-Some.member.entry } in x) c.in-Some.member.left c.in-Some.ensures.some _ c.in_ok-zeros_at-2.ensures.ok c.in_err-below.ensures.told) in search (rules, h)
+
+pub visit-requires-clause-budget : goal.visit-requires-clause-budget
+visit-requires-clause-budget c =
+    let r = row_room c.args.self.now.table.now c.requires.table (message_of c.args.self.now.bytes.now c.args.self.now.handles.now) c.args.frame (at_of c.args.state.now) c.requires.frame c.requires.state (let x : Row = record { offset = c.in-Some.member.offset; entry = c.in-Some.member.entry } in x) c.in-Some.member.left c.in-Some.ensures.some in
+    let room = c.requires.frame.room in
+    omega (arith, r, room, c.requires.short, c.requires.steps)

@@ -1,14 +1,17 @@
-use Rattle.std.proofs.Common.{◌≡◌, ◌<◌, sym, ap, subst, ◌∙◌}
+use Rattle.std.proofs.Common.{◌-◌, arith, ◌≡◌, ◌<◌, sym, ap, subst, ◌∙◌}
 use Rattle.std.specs.Prelude.{Some, None}
+use Rattle.std.proofs.lemmas.Result.{IfErr-weaker}
 use Rattle.fidl_records.specs.declared.record.Entry.{Entry}
 use Rattle.fidl_records.specs.declared.kind.EntryKind.{EntryKind}
-use Rattle.fidl_records.specs.declared.kind.EntryKind.TheVariants.{Array, Struct}
+use Rattle.fidl_records.specs.declared.kind.EntryKind.TheVariants.{Vector, Array, Box, Struct}
 use Rattle.fidl_records.specs.Kind.{kind_of}
 use Rattle.fidl_records.specs.Section.{header_of, entry_at}
 use Rattle.fidl_decode.specs.Machine.{at_of, Visits}
 use Rattle.fidl_decode.specs.Faults.{message_of}
-use Rattle.fidl_decode.proofs.Visiting.{fine_as, visits_struct, visits_array, struct_frame, array_frame}
-use Rattle.fidl_decode.proofs.Turning.{passed_on}
+use Rattle.fidl_decode.proofs.Visiting.{fine_as, size_as, leaf_else, visits_struct, visits_array, struct_frame, array_frame}
+use Rattle.fidl_decode.proofs.Boxed.{box_refused, box_breaks}
+use Rattle.fidl_decode.proofs.Listed.{vector_refused, vector_breaks}
+use Rattle.fidl_decode.proofs.Turning.{passed_on, refused_by}
 use Rattle.fidl_decode.proofs.decoder.Decoder.visit.Goals as goal
 
 no_some : {A : Type 0} (a : A) → Some a ≡ None → ⊥
@@ -23,8 +26,8 @@ unreachable-requires c =
 pub returns-in-Struct-clause-ok : goal.returns-in-Struct-clause-ok
 returns-in-Struct-clause-ok c =
     let is : kind_of (entry_at c.args.self.now.table.now c.args.entry).kind ≡ Some Struct = ap (λ (e : Entry). kind_of e.kind) (sym c.entry-e.ensures.value) ∙ sym c.from_number.ensures ∙ c.in-Some.is ∙ ap (λ (k : EntryKind). Some k) c.in-Struct.is in
-    subst (λ (d : Entry). Visits c.args.self.now.table.now (message_of c.args.self.now.bytes.now c.args.self.now.handles.now) c.args.depth c.args.entry c.args.place (at_of c.args.state.now) (at_of c.args.state.now) (Some (struct_frame d c.args.place c.args.depth))) (sym c.entry-e.ensures.value)
-    (visits_struct c.args.self.now.table.now c.requires.table (message_of c.args.self.now.bytes.now c.args.self.now.handles.now) c.args.depth c.args.entry c.args.place (at_of c.args.state.now) c.requires.entry c.requires.state c.requires.depth is c.requires.room)
+    subst (λ (d : Entry). Visits c.args.self.now.table.now (message_of c.args.self.now.bytes.now c.args.self.now.handles.now) c.args.depth c.args.entry c.args.place (at_of c.args.state.now) (at_of c.args.state.now) (c.args.state.now.steps - c.args.state.now.steps) (Some (struct_frame d c.args.place c.args.depth))) (sym c.entry-e.ensures.value)
+    (visits_struct c.args.self.now.table.now c.requires.table (message_of c.args.self.now.bytes.now c.args.self.now.handles.now) c.args.depth c.args.entry c.args.place (at_of c.args.state.now) c.requires.entry c.requires.state c.requires.depth (c.args.state.now.steps - c.args.state.now.steps) (omega arith) is c.requires.room)
 
 pub entry-size-requires : goal.entry-size-requires
 entry-size-requires c =
@@ -36,9 +39,52 @@ pub returns-in-Array-clause-ok : goal.returns-in-Array-clause-ok
 returns-in-Array-clause-ok c =
     let is : kind_of (entry_at c.args.self.now.table.now c.args.entry).kind ≡ Some Array = ap (λ (e : Entry). kind_of e.kind) (sym c.entry-e.ensures.value) ∙ sym c.from_number.ensures ∙ c.in-Some.is ∙ ap (λ (k : EntryKind). Some k) c.in-Array.is in
     let element : c.entry-size.result.size ≡ (entry_at c.args.self.now.table.now (entry_at c.args.self.now.table.now c.args.entry).first).size = ap (λ (d : Entry). d.size) c.entry-size.ensures.value ∙ ap (λ (d : Entry). (entry_at c.args.self.now.table.now d.first).size) c.entry-e.ensures.value in
-    subst (λ (d : Entry). Visits c.args.self.now.table.now (message_of c.args.self.now.bytes.now c.args.self.now.handles.now) c.args.depth c.args.entry c.args.place (at_of c.args.state.now) (at_of c.args.state.now) (Some (array_frame d c.entry-size.result.size c.args.place c.args.depth))) (sym c.entry-e.ensures.value)
-    (visits_array c.args.self.now.table.now c.requires.table (message_of c.args.self.now.bytes.now c.args.self.now.handles.now) c.args.depth c.args.entry c.args.place (at_of c.args.state.now) c.requires.entry c.requires.state c.requires.depth c.entry-size.result.size is element c.requires.room)
+    subst (λ (d : Entry). Visits c.args.self.now.table.now (message_of c.args.self.now.bytes.now c.args.self.now.handles.now) c.args.depth c.args.entry c.args.place (at_of c.args.state.now) (at_of c.args.state.now) (c.args.state.now.steps - c.args.state.now.steps) (Some (array_frame d c.entry-size.result.size c.args.place c.args.depth))) (sym c.entry-e.ensures.value)
+    (visits_array c.args.self.now.table.now c.requires.table (message_of c.args.self.now.bytes.now c.args.self.now.handles.now) c.args.depth c.args.entry c.args.place (at_of c.args.state.now) c.requires.entry c.requires.state c.requires.depth c.entry-size.result.size (c.args.state.now.steps - c.args.state.now.steps) (omega arith) is element c.requires.room)
 
 pub returns-in_err-read_leaf-in_default-kind-clause-told : goal.returns-in_err-read_leaf-in_default-kind-clause-told
 returns-in_err-read_leaf-in_default-kind-clause-told c =
     passed_on c.from_residual.result c.in_err-read_leaf-in_default-kind.field-0.0 _ c.from_residual.ensures.1 c.in_err-read_leaf-in_default-kind.ensures.told
+
+pub read_box-requires-clause-kind : goal.read_box-requires-clause-kind
+read_box-requires-clause-kind c = ap (λ (e : Entry). kind_of e.kind) (sym c.entry-e.ensures.value) ∙ sym c.from_number.ensures ∙ c.in-Some.is ∙ ap (λ (k : EntryKind). Some k) c.in-Box.is
+
+pub read_box-requires-clause-room : goal.read_box-requires-clause-room
+read_box-requires-clause-room c =
+    let is : kind_of (entry_at c.args.self.now.table.now c.args.entry).kind ≡ Some Box = ap (λ (e : Entry). kind_of e.kind) (sym c.entry-e.ensures.value) ∙ sym c.from_number.ensures ∙ c.in-Some.is ∙ ap (λ (k : EntryKind). Some k) c.in-Box.is in
+    let size : 8 ≡ (entry_at c.args.self.now.table.now c.args.entry).size = size_as c.args.self.now.table.now c.requires.table c.args.entry Box c.requires.entry is in
+    omega (arith, c.requires.room, size)
+
+pub returns-in-Box-clause-err : goal.returns-in-Box-clause-err
+returns-in-Box-clause-err c =
+    let is : kind_of (entry_at c.args.self.now.table.now c.args.entry).kind ≡ Some Box = ap (λ (e : Entry). kind_of e.kind) (sym c.entry-e.ensures.value) ∙ sym c.from_number.ensures ∙ c.in-Some.is ∙ ap (λ (k : EntryKind). Some k) c.in-Box.is in
+    refused_by c.read_box.result _ _ (λ fault b. box_refused c.args.self.now.table.now c.requires.table (message_of c.args.self.now.bytes.now c.args.self.now.handles.now) c.args.depth c.args.entry c.args.place (at_of c.args.state.now) c.requires.entry is c.requires.state c.requires.depth fault b) c.read_box.ensures.told
+
+pub returns-in-Box-clause-told : goal.returns-in-Box-clause-told
+returns-in-Box-clause-told c =
+    let is : kind_of (entry_at c.args.self.now.table.now c.args.entry).kind ≡ Some Box = ap (λ (e : Entry). kind_of e.kind) (sym c.entry-e.ensures.value) ∙ sym c.from_number.ensures ∙ c.in-Some.is ∙ ap (λ (k : EntryKind). Some k) c.in-Box.is in
+    IfErr-weaker c.read_box.result _ _ (λ fault b. box_breaks c.args.self.now.table.now c.requires.table (message_of c.args.self.now.bytes.now c.args.self.now.handles.now) c.args.depth c.args.entry c.args.place (at_of c.args.state.now) c.requires.entry is c.requires.state c.requires.depth fault b) c.read_box.ensures.told
+
+pub read_vector-requires-clause-kind : goal.read_vector-requires-clause-kind
+read_vector-requires-clause-kind c = ap (λ (e : Entry). kind_of e.kind) (sym c.entry-e.ensures.value) ∙ sym c.from_number.ensures ∙ c.in-Some.is ∙ ap (λ (k : EntryKind). Some k) c.in-Vector.is
+
+pub read_vector-requires-clause-room : goal.read_vector-requires-clause-room
+read_vector-requires-clause-room c =
+    let is : kind_of (entry_at c.args.self.now.table.now c.args.entry).kind ≡ Some Vector = ap (λ (e : Entry). kind_of e.kind) (sym c.entry-e.ensures.value) ∙ sym c.from_number.ensures ∙ c.in-Some.is ∙ ap (λ (k : EntryKind). Some k) c.in-Vector.is in
+    let size : 16 ≡ (entry_at c.args.self.now.table.now c.args.entry).size = size_as c.args.self.now.table.now c.requires.table c.args.entry Vector c.requires.entry is in
+    omega (arith, c.requires.room, size)
+
+pub returns-in-Vector-clause-err : goal.returns-in-Vector-clause-err
+returns-in-Vector-clause-err c =
+    let is : kind_of (entry_at c.args.self.now.table.now c.args.entry).kind ≡ Some Vector = ap (λ (e : Entry). kind_of e.kind) (sym c.entry-e.ensures.value) ∙ sym c.from_number.ensures ∙ c.in-Some.is ∙ ap (λ (k : EntryKind). Some k) c.in-Vector.is in
+    refused_by c.read_vector.result _ _ (λ fault b. vector_refused c.args.self.now.table.now c.requires.table (message_of c.args.self.now.bytes.now c.args.self.now.handles.now) c.args.depth c.args.entry c.args.place (at_of c.args.state.now) c.requires.entry is c.requires.state c.requires.depth fault b) c.read_vector.ensures.told
+
+pub returns-in-Vector-clause-told : goal.returns-in-Vector-clause-told
+returns-in-Vector-clause-told c =
+    let is : kind_of (entry_at c.args.self.now.table.now c.args.entry).kind ≡ Some Vector = ap (λ (e : Entry). kind_of e.kind) (sym c.entry-e.ensures.value) ∙ sym c.from_number.ensures ∙ c.in-Some.is ∙ ap (λ (k : EntryKind). Some k) c.in-Vector.is in
+    IfErr-weaker c.read_vector.result _ _ (λ fault b. vector_breaks c.args.self.now.table.now c.requires.table (message_of c.args.self.now.bytes.now c.args.self.now.handles.now) c.args.depth c.args.entry c.args.place (at_of c.args.state.now) c.requires.entry is c.requires.state c.requires.depth fault b) c.read_vector.ensures.told
+
+pub read_leaf-requires-clause-leaf : goal.read_leaf-requires-clause-leaf
+read_leaf-requires-clause-leaf c =
+    let is : kind_of (entry_at c.args.self.now.table.now c.args.entry).kind ≡ Some c.in-Some.kind = ap (λ (e : Entry). kind_of e.kind) (sym c.entry-e.ensures.value) ∙ sym c.from_number.ensures ∙ c.in-Some.is in
+    leaf_else c.args.self.now.table.now c.requires.table (message_of c.args.self.now.bytes.now c.args.self.now.handles.now) c.args.depth c.args.entry c.args.place (at_of c.args.state.now) c.requires.entry c.requires.state c.requires.depth c.in-Some.kind is c.in_default-kind.not-Struct c.in_default-kind.not-Array c.in_default-kind.not-Box c.in_default-kind.not-Vector

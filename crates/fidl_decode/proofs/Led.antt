@@ -1,0 +1,64 @@
+-- Worked links: a text and a handle where the links lead, and not where they lead elsewhere.
+use Rattle.std.proofs.Common.{◌≡◌, ℕ, List, [], ◌∷◌, ◌++◌, false, refl, ap, arith}
+use Rattle.std.specs.Prelude.{Some, codes, replicate}
+use Rattle.fidl_wire.specs.declared.handle.HandleInfo.{HandleInfo}
+use Rattle.fidl_wire.specs.Value.{Value, text, handle, fields, none, value}
+use Rattle.fidl_wire.specs.Term.{Term, no_fields, field}
+use Rattle.fidl_wire.specs.Term as ty
+use Rattle.fidl_wire.specs.Figure.{no_declarations}
+use Rattle.fidl_wire.specs.Encoding.{zeros}
+use Rattle.fidl_wire.specs.Standing.{Stands}
+use Rattle.fidl_wire.proofs.Stand.{stands_front, stands_from_rest}
+use Rattle.fidl_decode.specs.Faults.{message_of}
+use Rattle.fidl_decode.specs.Links.{Linked}
+use Rattle.fidl_decode.specs.Placed.{Placed}
+
+-- ---- a text
+
+abbrev texts : Term
+texts = ty.struct (field (codes "value") (ty.string false 3) no_fields)
+
+abbrev three : List ℕ
+three = 3 ∷ zeros 7 ++ replicate 8 255 ++ 97 ∷ 98 ∷ 99 ∷ zeros 5
+
+abbrev abc : Value
+abc = text (97 ∷ 98 ∷ 99 ∷ [])
+
+abbrev leads_to : ℕ → Linked
+leads_to n = record { objects = 0 ∷ n ∷ []; records = [] }
+
+marked : Stands three 0 (3 ∷ zeros 7 ++ replicate 8 255)
+marked = stands_front three 0 (3 ∷ zeros 7 ++ replicate 8 255) (97 ∷ 98 ∷ 99 ∷ zeros 5) (stands_from_rest three 0 three refl)
+
+pub text_there : Placed no_declarations (message_of three []) (leads_to 16) texts 0 (fields (value abc none))
+text_there = (marked, ((marked, stands_front three 16 (97 ∷ 98 ∷ 99 ∷ []) (zeros 5) (stands_from_rest three 16 (97 ∷ 98 ∷ 99 ∷ zeros 5) refl)), tt))
+
+pub text_elsewhere : Placed no_declarations (message_of three []) (leads_to 8) texts 0 (fields (value abc none)) → ⊥
+text_elsewhere h = let e : 255 ≡ 97 = h.1.0.1.1 in omega (arith, e)
+
+-- ---- a handle
+
+abbrev one : HandleInfo
+one = record { id = 1; object_type = 3; rights = 0 }
+
+abbrev two : HandleInfo
+two = record { id = 2; object_type = 3; rights = 0 }
+
+abbrev holder : Term
+holder = ty.struct (field (codes "h") (ty.handle false 0 0) no_fields)
+
+abbrev ones : List ℕ
+ones = replicate 4 255 ++ zeros 4
+
+abbrev second : Linked
+second = record { objects = []; records = 1 ∷ [] }
+
+pub second_there : Placed no_declarations (message_of ones (one ∷ two ∷ [])) second holder 0 (fields (value (handle two) none))
+second_there = let there = stands_from_rest ones 0 ones refl in
+    (stands_front ones 0 (replicate 4 255) (zeros 4) there, ((stands_front ones 0 (replicate 4 255) (zeros 4) there, refl), tt))
+
+pub first_not : Placed no_declarations (message_of ones (one ∷ two ∷ [])) second holder 0 (fields (value (handle one) none)) → ⊥
+first_not h = clash h.1.0.1
+  where
+    clash : Some two ≡ Some one → ⊥
+    clash e = let i : two ≡ one = cc in let n : 2 ≡ 1 = ap (λ (x : HandleInfo). x.id) i in omega (arith, n)

@@ -1,0 +1,17 @@
+use Rattle.std.proofs.Common.{rules, ◌≡◌, ap, sym, subst, refl}
+use Rattle.std.specs.Prelude.{Option, Some, None, true, Bool, ℤ, List, if◌then◌else◌}
+use Rattle.fidl_wire.specs.Term as ty
+use Rattle.fidl_records.specs.Section.{header_of}
+use Rattle.fidl_records.specs.Terms.{underlying, values_from, strict_values, is_strict}
+use Rattle.fidl_decode.specs.declared.fault.DecodeFault.TheVariants.{UnknownValue}
+use Rattle.fidl_decode.specs.Breaks.{BreaksField}
+use Rattle.fidl_decode.specs.Faults.{message_of}
+use Rattle.fidl_decode.proofs.decoder.Decoder.read_enum.Goals as goal
+
+pub returns-then-not-has_value-clause-told : goal.returns-then-not-has_value-clause-told
+returns-then-not-has_value-clause-told c =
+    let d = c.args.entry.now in
+    let t = c.args.self.now.table.now in
+    let strict : is_strict d ≡ true = (let r = sym c.is_strict.ensures in search (rules, r, c.if-not-is_strict.false)) in
+    let is : strict_values t (header_of t) d ≡ Some (values_from t (header_of t) (underlying d) d.first d.count) = ap (λ (b : Bool). if b then Some (values_from t (header_of t) (underlying d) d.first d.count) else None) strict in
+    subst (λ (o : Option (List ℤ)). BreaksField (message_of c.args.self.now.bytes.now c.args.self.now.handles.now) (ty.enum (underlying d) o) c.args.place (UnknownValue c.args.place)) (sym is) (refl, λ y. search (rules, y, c.has_value.ensures.value, c.if-not-has_value.true, c.number_bits-number.ensures))

@@ -1,0 +1,40 @@
+use Rattle.std.proofs.Common.{◌≡◌, ◌+◌, ◌<◌, length, get_or, refl, sym, subst, ◌∙◌, arith}
+use Rattle.std.proofs.lemmas.Option.{slice_get-get_or}
+use Rattle.fidl_wire.specs.declared.handle.HandleInfo.{HandleInfo}
+use Rattle.fidl_wire.specs.Term as ty
+use Rattle.fidl_records.specs.Terms.{declarations_of, is_optional}
+use Rattle.fidl_decode.specs.Faults.{message_of}
+use Rattle.fidl_decode.specs.State.{At, taken}
+use Rattle.fidl_decode.specs.Machine.{Leads, at_of}
+use Rattle.fidl_decode.proofs.Carried.{absent_leads, handle_leads, missing_refused, wrong_refused}
+use Rattle.fidl_decode.proofs.decoder.Decoder.read_handle.Goals as goal
+
+abbrev nobody : HandleInfo
+nobody = record { id = 0; object_type = 0; rights = 0 }
+
+pub returns-then-state-self-clause-err : goal.returns-then-state-self-clause-err
+returns-then-state-self-clause-err c = missing_refused (declarations_of c.args.self.now.table.now) (message_of c.args.self.now.bytes.now c.args.self.now.handles.now) c.args.depth (is_optional c.args.entry.now) c.args.entry.now.subtype c.args.entry.now.rights c.args.place (at_of c.args.state.now) c.in-Present.ensures (omega (arith, c.if-state-self.true))
+
+pub returns-then-not-is_allowed-clause-err : goal.returns-then-not-is_allowed-clause-err
+returns-then-not-is_allowed-clause-err c =
+    let within : c.args.state.now.handle < length c.args.self.now.handles.now = (let h = c.requires.state.handle in omega (arith, h, c.if-state-self.false)) in
+    let bad = c.if-not-is_allowed.true in
+    wrong_refused (declarations_of c.args.self.now.table.now) (message_of c.args.self.now.bytes.now c.args.self.now.handles.now) c.args.depth (is_optional c.args.entry.now) c.args.entry.now.subtype c.args.entry.now.rights c.args.place (at_of c.args.state.now) c.in-Present.ensures (get_or c.args.self.now.handles.now c.args.state.now.handle nobody) (slice_get-get_or c.args.self.now.handles.now c.args.state.now.handle nobody within) (λ ok. let k = c.is_allowed.ensures.allowed.1 ok in cc)
+
+pub returns-then-not-is_allowed-clause-told : goal.returns-then-not-is_allowed-clause-told
+returns-then-not-is_allowed-clause-told c =
+    let within : c.args.state.now.handle < length c.args.self.now.handles.now = (let h = c.requires.state.handle in omega (arith, h, c.if-state-self.false)) in
+    let bad = c.if-not-is_allowed.true in
+    (refl, c.in-Present.ensures, (get_or c.args.self.now.handles.now c.args.state.now.handle nobody, slice_get-get_or c.args.self.now.handles.now c.args.state.now.handle nobody within, λ ok. let k = c.is_allowed.ensures.allowed.1 ok in cc))
+
+pub returns-else-not-is_optional-clause-ok : goal.returns-else-not-is_optional-clause-ok
+returns-else-not-is_optional-clause-ok c =
+    absent_leads (declarations_of c.args.self.now.table.now) (message_of c.args.self.now.bytes.now c.args.self.now.handles.now) c.args.depth (is_optional c.args.entry.now) c.args.entry.now.subtype c.args.entry.now.rights c.args.place (at_of c.args.state.now) c.requires.depth (sym c.is_optional.ensures ∙ c.if-not-is_optional.false) c.in-Absent.ensures
+
+pub returns-else-not-is_allowed-clause-ok : goal.returns-else-not-is_allowed-clause-ok
+returns-else-not-is_allowed-clause-ok c =
+    let within : c.args.state.now.handle < length c.args.self.now.handles.now = (let h = c.requires.state.handle in omega (arith, h, c.if-state-self.false)) in
+    let same : taken c.args.place (at_of c.args.state.now) ≡ record { next = c.args.state.now.next; handle = c.args.state.now.handle + 1; objects = c.record.new.self.objects; records = c.record.new.self.records }
+    = λ i. record { next = c.args.state.now.next; handle = c.args.state.now.handle + 1; objects = sym c.record.ensures.objects i; records = sym c.record.ensures.records i } in
+    subst (λ (s : At). Leads (declarations_of c.args.self.now.table.now) (message_of c.args.self.now.bytes.now c.args.self.now.handles.now) c.args.depth (ty.handle (is_optional c.args.entry.now) c.args.entry.now.subtype c.args.entry.now.rights) c.args.place (at_of c.args.state.now) s) same
+    (handle_leads (declarations_of c.args.self.now.table.now) (message_of c.args.self.now.bytes.now c.args.self.now.handles.now) c.args.depth (is_optional c.args.entry.now) c.args.entry.now.subtype c.args.entry.now.rights c.args.place (at_of c.args.state.now) c.requires.depth c.in-Present.ensures (get_or c.args.self.now.handles.now c.args.state.now.handle nobody) (slice_get-get_or c.args.self.now.handles.now c.args.state.now.handle nobody within) c.is_allowed.ensures.handle (c.is_allowed.ensures.allowed.0 c.if-not-is_allowed.false))

@@ -1,0 +1,72 @@
+//! Boxes: a marker, and the struct that it stands for, which is the next object.
+ghost use Rattle.std.specs.Prelude.{◌≡◌, ◌+◌, ◌-◌, ◌<◌, ◌≤◌, IfOk, IfErr, Some, length};
+ghost use Rattle.fidl_wire.specs.declared.limits.TheConstants.{MAX_DEPTH, MAX_MESSAGE_BYTES};
+ghost use Rattle.fidl_records.specs.declared.kind.EntryKind.TheVariants as kinds;
+ghost use Rattle.fidl_records.specs.Kind.{kind_of};
+ghost use Rattle.fidl_records.specs.Section.{header_of, entry_at};
+ghost use Rattle.fidl_decode.specs.Fine.{IsFine};
+ghost use Rattle.fidl_decode.specs.Faults.{message_of};
+ghost use Rattle.fidl_decode.specs.Breaks.{BreaksBox};
+ghost use Rattle.fidl_decode.specs.State.{At};
+ghost use Rattle.fidl_decode.specs.Machine.{StateFine, Visits, at_of};
+
+use crate::decoder::Decoder;
+use crate::fault::DecodeFault;
+use crate::frame::{Frame, Left, State};
+use fidl_wire::{MAX_DEPTH, Presence, presence_at};
+
+impl<'t, 'm> Decoder<'t, 'm> {
+    /// Reads the marker of a box at a place, and links its content, whose members are left to read.
+    pub(crate) fn read_box(
+        &self,
+        entry: u32,
+        place: usize,
+        depth: u8,
+        state: &mut State,
+    ) -> Result<Option<Frame>, DecodeFault>
+        requires table { IsFine self.now.table.now }
+        requires entry { entry < (header_of self.now.table.now).entries }
+        requires kind { kind_of (entry_at self.now.table.now entry).kind ≡ Some kinds.Box }
+        requires short { length self.now.bytes.now ≤ MAX_MESSAGE_BYTES }
+        requires room { place + 8 ≤ length self.now.bytes.now }
+        requires state { StateFine (message_of self.now.bytes.now self.now.handles.now) (at_of state.old) }
+        requires depth { depth ≤ MAX_DEPTH }
+        ensures ok { IfOk result (λ found. Visits self.now.table.now
+            (message_of self.now.bytes.now self.now.handles.now) depth entry place
+            (at_of state.old) (at_of state.new) (state.new.steps - state.old.steps) found) }
+        ensures told { let t = self.now.table.now in
+            let content = entry_at t (entry_at t entry).first in
+            IfErr result (BreaksBox (message_of self.now.bytes.now self.now.handles.now) depth content.size
+            place state.old.next) }
+        ensures steps { state.new.steps ≡ state.old.steps }
+    {
+        match presence_at(self.bytes, place, 8) {
+            Presence::Neither => return Err(DecodeFault::BadMarker { at: place }),
+            Presence::Absent => return Ok(None),
+            Presence::Present => {}
+        }
+        if depth as usize == MAX_DEPTH {
+            return Err(DecodeFault::TooDeep { at: place });
+        }
+        let content = self.table.entry(self.table.entry(entry).first);
+        let from = state.next;
+        let size = (content.size as usize).next_multiple_of(8);
+        if size > self.bytes.len() - from {
+            return Err(DecodeFault::Truncated { at: from });
+        }
+        state.links.link(place, from);
+        state.next = from + size;
+        let left = Left::Rows {
+            first: content.first,
+            count: content.count,
+        };
+        Ok(Some(Frame {
+            left,
+            base: from,
+            done: 0,
+            size,
+            nest: content.nest,
+            depth: depth + 1,
+        }))
+    }
+}

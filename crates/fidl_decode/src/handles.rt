@@ -1,0 +1,86 @@
+//! Handles: a marker of four bytes, and the next of the records that came.
+ghost use Rattle.std.specs.Prelude.{◌≡◌, ◌+◌, ◌^◌, ◌<◌, ◌≤◌, ◌↔◌, OnOk, OnErr, IfErr, IsTrue, length};
+ghost use Rattle.fidl_wire.specs.declared.limits.TheConstants.{MAX_DEPTH, MAX_MESSAGE_BYTES};
+ghost use Rattle.fidl_wire.specs.Term as ty;
+ghost use Rattle.fidl_wire.specs.Typed.{IsHandle, IsAllowed};
+ghost use Rattle.fidl_records.specs.Terms.{declarations_of, is_optional};
+ghost use Rattle.fidl_decode.specs.Faults.{message_of};
+ghost use Rattle.fidl_decode.specs.Breaks.{BreaksHandle};
+ghost use Rattle.fidl_decode.specs.State.{At, Item};
+ghost use Rattle.fidl_decode.specs.Machine.{StateFine, Leads, at_of};
+
+use crate::decoder::Decoder;
+use crate::fault::DecodeFault;
+use crate::frame::State;
+use fidl_records::Entry;
+use fidl_wire::{HandleInfo, Presence, SAME_RIGHTS, presence_at};
+
+/// Whether values of the entry can be absent.
+pub(crate) fn is_optional(entry: &Entry) -> bool
+    ensures { result ≡ is_optional entry.now }
+{
+    entry.flags % 2 == 1
+}
+
+/// Whether a record is allowed by a handle type: a subtype of 0 takes any object.
+fn is_allowed(subtype: u32, rights: u32, info: HandleInfo) -> bool
+    ensures handle { IsHandle info }
+    ensures allowed { IsTrue result ↔ IsAllowed subtype rights info }
+{
+    let of_type = info.object_type == subtype || subtype == 0;
+    let has_rights = info.rights & rights == rights || rights == SAME_RIGHTS;
+    of_type && has_rights
+}
+
+impl<'t, 'm> Decoder<'t, 'm> {
+    /// Reads a handle at a place: its marker, and the next record, which is noted.
+    pub(crate) fn read_handle(
+        &self,
+        entry: &Entry,
+        place: usize,
+        depth: u8,
+        state: &mut State,
+    ) -> Result<(), DecodeFault>
+        requires short { length self.now.bytes.now ≤ MAX_MESSAGE_BYTES }
+        requires room { place + 4 ≤ length self.now.bytes.now }
+        requires depth { depth ≤ MAX_DEPTH }
+        requires state { StateFine (message_of self.now.bytes.now self.now.handles.now) (at_of state.old) }
+        ensures ok { OnOk result (Leads (declarations_of self.now.table.now)
+            (message_of self.now.bytes.now self.now.handles.now) depth
+            (ty.handle (is_optional entry.now) entry.now.subtype entry.now.rights) place
+            (at_of state.old) (at_of state.new)) }
+        ensures err { OnErr result ((to : At) → Item (declarations_of self.now.table.now)
+            (message_of self.now.bytes.now self.now.handles.now) depth
+            (ty.handle (is_optional entry.now) entry.now.subtype entry.now.rights) place
+            (at_of state.old) to → ⊥) }
+        ensures told { IfErr result (BreaksHandle
+            (message_of self.now.bytes.now self.now.handles.now)
+            (is_optional entry.now) entry.now.subtype entry.now.rights place state.old.handle) }
+        ensures state { OnOk result
+            (StateFine (message_of self.now.bytes.now self.now.handles.now) (at_of state.new)) }
+        ensures next { state.new.next ≡ state.old.next }
+        ensures steps { state.new.steps ≡ state.old.steps }
+    {
+        match presence_at(self.bytes, place, 4) {
+            Presence::Absent => {
+                if !is_optional(entry) {
+                    return Err(DecodeFault::AbsentRequired { at: place });
+                }
+                Ok(())
+            }
+            Presence::Neither => Err(DecodeFault::BadMarker { at: place }),
+            Presence::Present => {
+                if state.handle == self.handles.len() {
+                    return Err(DecodeFault::HandleMissing { at: place });
+                }
+                let info = self.handles[state.handle];
+                if !is_allowed(entry.subtype, entry.rights, info) {
+                    return Err(DecodeFault::WrongHandle { at: place });
+                }
+                state.links.record(place, state.handle);
+                state.handle += 1;
+                Ok(())
+            }
+        }
+    }
+}

@@ -1,0 +1,147 @@
+//! Leaves: values that hold no other.
+ghost use Rattle.std.specs.Prelude.{◌≡◌, ℕ, ◌+◌, ◌-◌, ◌^◌, ◌<◌, ◌≤◌, OnOk, OnErr, IfErr, IfSome, IsTrue, Contains, true, Some, None, length};
+ghost use Rattle.std.specs.Int.{byte_len};
+ghost use Rattle.fidl_wire.specs.declared.limits.TheConstants.{MAX_DEPTH, MAX_MESSAGE_BYTES};
+ghost use Rattle.fidl_wire.specs.Term as ty;
+ghost use Rattle.fidl_wire.specs.Term.{resolve, width};
+ghost use Rattle.fidl_wire.specs.Typed.{InMask};
+ghost use Rattle.fidl_records.specs.Kind.{kind_of};
+ghost use Rattle.fidl_records.specs.Number.{number_standing};
+ghost use Rattle.fidl_records.specs.Section.{header_of, entry_at};
+ghost use Rattle.fidl_records.specs.Entry.{subtype_is};
+ghost use Rattle.fidl_records.specs.Uses.{is_number, is_unsigned};
+ghost use Rattle.fidl_records.specs.Terms.{underlying, mask_of, strict_values, declarations_of};
+ghost use Rattle.fidl_decode.specs.Fine.{IsFine, EnumFine, is_leaf, is_free};
+ghost use Rattle.fidl_decode.specs.Faults.{message_of};
+ghost use Rattle.fidl_decode.specs.Breaks.{BreaksField, Breaks};
+ghost use Rattle.fidl_decode.specs.State.{At, Item};
+ghost use Rattle.fidl_decode.specs.Machine.{StateFine, Visits, at_of, probes};
+
+use crate::decoder::Decoder;
+use crate::fault::DecodeFault;
+use crate::frame::State;
+use crate::values::has_value;
+use fidl_records::{Entry, EntryKind, number_bits};
+
+/// Whether values of the kind hold no others.
+pub(crate) fn is_leaf(kind: EntryKind) -> bool
+    ensures { result ≡ is_leaf kind }
+{
+    match kind {
+        EntryKind::Vector
+        | EntryKind::Array
+        | EntryKind::Box
+        | EntryKind::Struct
+        | EntryKind::Table
+        | EntryKind::Union => false,
+        _ => true,
+    }
+}
+
+/// Whether any bytes are a value of the entry, which is of this kind: a number, or bits or an enum that are not strict.
+pub(crate) fn is_free(entry: &Entry, kind: EntryKind) -> bool
+    ensures { result ≡ is_free kind entry.now }
+{
+    match kind {
+        EntryKind::Bits | EntryKind::Enum => !entry.is_strict(),
+        EntryKind::Int8
+        | EntryKind::Int16
+        | EntryKind::Int32
+        | EntryKind::Int64
+        | EntryKind::Uint8
+        | EntryKind::Uint16
+        | EntryKind::Uint32
+        | EntryKind::Uint64 => true,
+        _ => false,
+    }
+}
+
+impl<'t, 'm> Decoder<'t, 'm> {
+    /// Reads bits: strict ones have no bit outside their mask.
+    fn read_bits(&self, entry: &Entry, place: usize) -> Result<(), DecodeFault>
+        requires kind { IsTrue (subtype_is is_unsigned entry.now) }
+        requires room { place + byte_len (width (underlying entry.now)) ≤ length self.now.bytes.now }
+        ensures ok { OnOk result (IfSome (mask_of entry.now)
+            (λ mask. InMask mask (number_standing (underlying entry.now) self.now.bytes.now place))) }
+        ensures err { OnErr result (IfSome (mask_of entry.now)
+            (λ mask. InMask mask (number_standing (underlying entry.now) self.now.bytes.now place)) → ⊥) }
+        ensures told { IfErr result (BreaksField (message_of self.now.bytes.now self.now.handles.now)
+            (ty.bits (underlying entry.now) (mask_of entry.now)) place) }
+    {
+        if !entry.is_strict() {
+            return Ok(());
+        }
+        let number = number_bits(entry.underlying(), self.bytes, place);
+        if number | entry.bound != entry.bound {
+            return Err(DecodeFault::UnknownBits { at: place });
+        }
+        Ok(())
+    }
+
+    /// Reads an enum: a strict one has one of its values.
+    fn read_enum(&self, entry: &Entry, place: usize, state: &mut State) -> Result<(), DecodeFault>
+        requires values { EnumFine self.now.table.now entry.now }
+        requires room { place + byte_len (width (underlying entry.now)) ≤ length self.now.bytes.now }
+        requires budget { state.old.steps < 2 ^ 41 }
+        ensures ok { OnOk result (IfSome (strict_values self.now.table.now (header_of self.now.table.now) entry.now)
+            (λ values. Contains values (number_standing (underlying entry.now) self.now.bytes.now place))) }
+        ensures err { OnErr result (IfSome (strict_values self.now.table.now (header_of self.now.table.now) entry.now)
+            (λ values. Contains values (number_standing (underlying entry.now) self.now.bytes.now place)) → ⊥) }
+        ensures told { IfErr result (BreaksField (message_of self.now.bytes.now self.now.handles.now)
+            (ty.enum (underlying entry.now) (strict_values self.now.table.now (header_of self.now.table.now) entry.now)) place) }
+        ensures same { at_of state.new ≡ at_of state.old }
+        ensures grows { state.old.steps ≤ state.new.steps }
+        ensures probes { state.new.steps ≤ state.old.steps + probes }
+    {
+        if !entry.is_strict() {
+            return Ok(());
+        }
+        let number = number_bits(entry.underlying(), self.bytes, place);
+        if !has_value(self.table, entry, number, &mut state.steps) {
+            return Err(DecodeFault::UnknownValue { at: place });
+        }
+        Ok(())
+    }
+
+    /// Reads a leaf at a place: a value that holds no other.
+    #[inline(always)]
+    pub(crate) fn read_leaf(
+        &self,
+        entry: u32,
+        kind: EntryKind,
+        place: usize,
+        depth: u8,
+        state: &mut State,
+    ) -> Result<(), DecodeFault>
+        requires table { IsFine self.now.table.now }
+        requires entry { entry < (header_of self.now.table.now).entries }
+        requires kind { kind_of (entry_at self.now.table.now entry).kind ≡ Some kind }
+        requires leaf { is_leaf kind ≡ true }
+        requires short { length self.now.bytes.now ≤ MAX_MESSAGE_BYTES }
+        requires room { place + (entry_at self.now.table.now entry).size ≤ length self.now.bytes.now }
+        requires state { StateFine (message_of self.now.bytes.now self.now.handles.now) (at_of state.old) }
+        requires depth { depth ≤ MAX_DEPTH }
+        requires budget { state.old.steps < 2 ^ 41 }
+        ensures ok { OnOk result (Visits self.now.table.now (message_of self.now.bytes.now self.now.handles.now) depth entry place (at_of state.old) (at_of state.new) (state.new.steps - state.old.steps) None) }
+        ensures err { OnErr result ((to : At) → Item (declarations_of self.now.table.now) (message_of self.now.bytes.now self.now.handles.now) depth (resolve (declarations_of self.now.table.now).terms (ty.named entry)) place (at_of state.old) to → ⊥) }
+        ensures told { IfErr result (Breaks (declarations_of self.now.table.now) (message_of self.now.bytes.now self.now.handles.now) depth (resolve (declarations_of self.now.table.now).terms (ty.named entry)) place (at_of state.old)) }
+        ensures grows { state.old.steps ≤ state.new.steps }
+        ensures probes { state.new.steps ≤ state.old.steps + probes
+            + (length self.now.bytes.now - state.old.next) }
+    {
+        match kind {
+            EntryKind::Bool => {
+                if self.bytes[place] > 1 {
+                    return Err(DecodeFault::BadBool { at: place });
+                }
+                Ok(())
+            }
+            EntryKind::Bits => self.read_bits(&self.table.entry(entry), place),
+            EntryKind::Enum => self.read_enum(&self.table.entry(entry), place, state),
+            EntryKind::Handle => { self.read_handle(&self.table.entry(entry), place, depth, state) }
+            EntryKind::String => self.read_text(&self.table.entry(entry), place, depth, state),
+            // Any bytes are a number.
+            _ => Ok(()),
+        }
+    }
+}

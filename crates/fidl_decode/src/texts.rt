@@ -1,0 +1,87 @@
+//! Strings: a count and a marker, and the text, which is the next object.
+ghost use Rattle.std.specs.Prelude.{◌≡◌, ◌+◌, ◌-◌, ◌^◌, ◌<◌, ◌≤◌, OnOk, OnErr, IfErr, length};
+ghost use Rattle.fidl_wire.specs.declared.limits.TheConstants.{MAX_DEPTH, MAX_MESSAGE_BYTES};
+ghost use Rattle.fidl_wire.specs.Term as ty;
+ghost use Rattle.fidl_records.specs.Terms.{declarations_of, is_optional};
+ghost use Rattle.fidl_decode.specs.Faults.{message_of};
+ghost use Rattle.fidl_decode.specs.Breaks.{BreaksText};
+ghost use Rattle.fidl_decode.specs.State.{At, Item};
+ghost use Rattle.fidl_decode.specs.Machine.{StateFine, Leads, at_of};
+
+use crate::decoder::{Decoder, zeros_at};
+use crate::fault::DecodeFault;
+use crate::frame::State;
+use crate::handles::is_optional;
+use fidl_records::{Entry, u64_at};
+use fidl_wire::{MAX_DEPTH, Presence, presence_at};
+use simdutf8::is_utf8;
+
+impl<'t, 'm> Decoder<'t, 'm> {
+    /// Reads a string at a place: its count and marker, and its text, which is linked.
+    pub(crate) fn read_text(
+        &self,
+        entry: &Entry,
+        place: usize,
+        depth: u8,
+        state: &mut State,
+    ) -> Result<(), DecodeFault>
+        requires short { length self.now.bytes.now ≤ MAX_MESSAGE_BYTES }
+        requires room { place + 16 ≤ length self.now.bytes.now }
+        requires depth { depth ≤ MAX_DEPTH }
+        requires state { StateFine (message_of self.now.bytes.now self.now.handles.now) (at_of state.old) }
+        requires budget { state.old.steps < 2 ^ 41 }
+        ensures ok { OnOk result (Leads (declarations_of self.now.table.now)
+            (message_of self.now.bytes.now self.now.handles.now) depth
+            (ty.string (is_optional entry.now) entry.now.bound) place
+            (at_of state.old) (at_of state.new)) }
+        ensures told { IfErr result (BreaksText
+            (message_of self.now.bytes.now self.now.handles.now) depth
+            (is_optional entry.now) entry.now.bound place state.old.next) }
+        ensures state { OnOk result
+            (StateFine (message_of self.now.bytes.now self.now.handles.now) (at_of state.new)) }
+        ensures spent { OnOk result
+            (state.new.steps + state.old.next ≡ state.old.steps + state.new.next) }
+        ensures grows { state.old.steps ≤ state.new.steps }
+        ensures cost { state.new.steps ≤ state.old.steps
+            + (length self.now.bytes.now - state.old.next) }
+    {
+        let count = u64_at(self.bytes, place);
+        match presence_at(self.bytes, place + 8, 8) {
+            Presence::Neither => return Err(DecodeFault::BadMarker { at: place + 8 }),
+            Presence::Absent => {
+                if count != 0 {
+                    return Err(DecodeFault::BadCount { at: place });
+                }
+                if !is_optional(entry) {
+                    return Err(DecodeFault::AbsentRequired { at: place });
+                }
+                return Ok(());
+            }
+            Presence::Present => {}
+        }
+        let from = state.next;
+        let rest = self.bytes.len() - from;
+        if count > rest as u64 {
+            return Err(DecodeFault::BadCount { at: place });
+        }
+        if count > entry.bound {
+            return Err(DecodeFault::OverBound { at: place });
+        }
+        if depth as usize == MAX_DEPTH {
+            return Err(DecodeFault::TooDeep { at: place });
+        }
+        let behind = count as usize;
+        let size = behind.next_multiple_of(8);
+        if size > rest {
+            return Err(DecodeFault::Truncated { at: from });
+        }
+        state.steps += size as u64;
+        if !is_utf8(&self.bytes[from..from + behind]) {
+            return Err(DecodeFault::NotUtf8 { at: from });
+        }
+        zeros_at(self.bytes, from + behind, from + size)?;
+        state.links.link(place + 8, from);
+        state.next = from + size;
+        Ok(())
+    }
+}

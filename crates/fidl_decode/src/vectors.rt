@@ -1,0 +1,100 @@
+//! Vectors: a count and a marker, and the elements, which are the next object.
+ghost use Rattle.std.specs.Prelude.{◌≡◌, ◌+◌, ◌-◌, ◌*◌, ◌<◌, ◌≤◌, IfOk, IfErr, Some, length};
+ghost use Rattle.fidl_wire.specs.declared.limits.TheConstants.{MAX_DEPTH, MAX_MESSAGE_BYTES};
+ghost use Rattle.fidl_records.specs.declared.kind.EntryKind.TheVariants as kinds;
+ghost use Rattle.fidl_records.specs.Kind.{kind_of};
+ghost use Rattle.fidl_records.specs.Section.{header_of, entry_at};
+ghost use Rattle.fidl_records.specs.Terms.{is_optional};
+ghost use Rattle.fidl_decode.specs.Fine.{IsFine};
+ghost use Rattle.fidl_decode.specs.Faults.{message_of};
+ghost use Rattle.fidl_decode.specs.Breaks.{BreaksCounted, count_at};
+ghost use Rattle.fidl_decode.specs.State.{At};
+ghost use Rattle.fidl_decode.specs.Machine.{StateFine, Visits, at_of};
+
+use crate::decoder::Decoder;
+use crate::fault::DecodeFault;
+use crate::frame::{Frame, Left, State};
+use crate::handles::is_optional;
+use fidl_records::u64_at;
+use fidl_wire::{MAX_DEPTH, Presence, presence_at};
+
+impl<'t, 'm> Decoder<'t, 'm> {
+    /// Reads the count and the marker of a vector at a place, and links its elements, which are left to read.
+    pub(crate) fn read_vector(
+        &self,
+        entry: u32,
+        place: usize,
+        depth: u8,
+        state: &mut State,
+    ) -> Result<Option<Frame>, DecodeFault>
+        requires table { IsFine self.now.table.now }
+        requires entry { entry < (header_of self.now.table.now).entries }
+        requires kind { kind_of (entry_at self.now.table.now entry).kind ≡ Some kinds.Vector }
+        requires short { length self.now.bytes.now ≤ MAX_MESSAGE_BYTES }
+        requires room { place + 16 ≤ length self.now.bytes.now }
+        requires state { StateFine (message_of self.now.bytes.now self.now.handles.now) (at_of state.old) }
+        requires depth { depth ≤ MAX_DEPTH }
+        ensures ok { IfOk result (λ found. Visits self.now.table.now
+            (message_of self.now.bytes.now self.now.handles.now) depth entry place
+            (at_of state.old) (at_of state.new) (state.new.steps - state.old.steps) found) }
+        ensures told { let t = self.now.table.now in
+            let d = entry_at t entry in
+            let size = (entry_at t d.first).size * count_at self.now.bytes.now place in
+            IfErr result (BreaksCounted (message_of self.now.bytes.now self.now.handles.now) depth
+            (is_optional d) d.bound size place state.old.next) }
+        ensures steps { state.new.steps ≡ state.old.steps }
+    {
+        let e = self.table.entry(entry);
+        let count = u64_at(self.bytes, place);
+        match presence_at(self.bytes, place + 8, 8) {
+            Presence::Neither => return Err(DecodeFault::BadMarker { at: place + 8 }),
+            Presence::Absent => {
+                if count != 0 {
+                    return Err(DecodeFault::BadCount { at: place });
+                }
+                if !is_optional(&e) {
+                    return Err(DecodeFault::AbsentRequired { at: place });
+                }
+                return Ok(None);
+            }
+            Presence::Present => {}
+        }
+        let element = self.table.entry(e.first);
+        let from = state.next;
+        let rest = self.bytes.len() - from;
+        // An element has a byte at least, so that the product of a count that is no greater is small.
+        if count > rest as u64 {
+            return Err(DecodeFault::BadCount { at: place });
+        }
+        let each = element.size as usize;
+        let used = each * count as usize;
+        if used > rest {
+            return Err(DecodeFault::BadCount { at: place });
+        }
+        if count > e.bound {
+            return Err(DecodeFault::OverBound { at: place });
+        }
+        if depth as usize == MAX_DEPTH {
+            return Err(DecodeFault::TooDeep { at: place });
+        }
+        let size = used.next_multiple_of(8);
+        if size > rest {
+            return Err(DecodeFault::Truncated { at: from });
+        }
+        state.links.link(place + 8, from);
+        state.next = from + size;
+        let left = Left::Elements {
+            entry: e.first,
+            size: each,
+            count: count as u32,
+        };
+        Ok(Some(Frame {
+            left,
+            base: from,
+            done: 0,
+            size,
+            nest: element.nest + 1,
+            depth: depth + 1,
+        }))
+    }
+}

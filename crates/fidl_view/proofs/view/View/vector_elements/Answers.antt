@@ -1,0 +1,176 @@
+use Rattle.std.proofs.Common.{◌≡◌, ℕ, ◌+◌, ◌*◌, ◌<◌, List, length, get_or, refl, ap, sym, subst, ◌∙◌, arith}
+use Rattle.std.specs.Int.{w64}
+use Rattle.std.proofs.Math.Logic.{∥∥₁_map, ∥∥₁_elim}
+use Rattle.std.proofs.Math.Bridge.{le_prop}
+use Rattle.fidl_records.specs.declared.record.Entry.{Entry}
+use Rattle.fidl_records.specs.Section.{header_of, entry_at}
+use Rattle.fidl_records.specs.Field.{number_at}
+use Rattle.fidl_records.specs.WellFormed.{WellFormed}
+use Rattle.fidl_decode.specs.Placed.{object_at}
+use Rattle.fidl_view.proofs.Viewing as viewing
+use Rattle.fidl_view.proofs.Lists as lists
+use Rattle.fidl_view.proofs.view.View.vector_elements.Goals as goal
+
+pub bounds-bytes-self : goal.bounds-bytes-self
+bounds-bytes-self c =
+    let d = c.args.self.decoded.now in
+    let i = c.args.self.index in
+    let p = c.args.self.place in
+    let lt = c.args.self.in_range in
+    let is = c.requires in
+    let w : WellFormed d.table = subst (λ (b : List ℕ). WellFormed b) c.table.ensures c.entry-vector.ensures.well_formed in
+    let wide = viewing.vector_size d w i p lt is in
+    let long = ap length c.bytes-bytes.ensures in
+    omega (arith, wide, long, c.args.self.room)
+
+pub returns-then-bytes-self-eq0-clause-parts : goal.returns-then-bytes-self-eq0-clause-parts
+returns-then-bytes-self-eq0-clause-parts c v s =
+    let d = c.args.self.decoded.now in
+    let i = c.args.self.index in
+    let p = c.args.self.place in
+    let lt = c.args.self.in_range in
+    let is = c.requires in
+    let w : WellFormed d.table = subst (λ (b : List ℕ). WellFormed b) c.table.ensures c.entry-vector.ensures.well_formed in
+    lists.no_vector d w i p lt is (subst (λ (b : List ℕ). get_or b (p + 8) 0 ≡ 0) c.bytes-bytes.ensures c.if-bytes-self-eq0.true) v s
+
+pub u64_at-count-requires : goal.u64_at-count-requires
+u64_at-count-requires c =
+    let d = c.args.self.decoded.now in
+    let i = c.args.self.index in
+    let p = c.args.self.place in
+    let lt = c.args.self.in_range in
+    let is = c.requires in
+    let w : WellFormed d.table = subst (λ (b : List ℕ). WellFormed b) c.table.ensures c.entry-vector.ensures.well_formed in
+    let wide = viewing.vector_size d w i p lt is in
+    let long = ap length c.bytes-bytes.ensures in
+    omega (arith, wide, long, c.args.self.room)
+
+pub object_at-requires : goal.object_at-requires
+object_at-requires c =
+    let d = c.args.self.decoded.now in
+    let i = c.args.self.index in
+    let p = c.args.self.place in
+    let lt = c.args.self.in_range in
+    let is = c.requires in
+    let w : WellFormed d.table = subst (λ (b : List ℕ). WellFormed b) c.table.ensures c.entry-vector.ensures.well_formed in
+    let wide = viewing.vector_size d w i p lt is in
+    omega (arith, wide, c.args.self.room, c.args.self.short)
+
+pub invariant_of-result : goal.invariant_of-result
+invariant_of-result c =
+    let d = c.args.self.decoded.now in
+    let i = c.args.self.index in
+    let p = c.args.self.place in
+    let lt = c.args.self.in_range in
+    let is = c.requires in
+    let w : WellFormed d.table = subst (λ (b : List ℕ). WellFormed b) c.table.ensures c.entry-vector.ensures.well_formed in
+    let same : c.entry-vector.result ≡ entry_at d.table i = c.entry-vector.ensures.value ∙ ap (λ (b : List ℕ). entry_at b i) c.table.ensures in
+    let begun : c.entry-vector.result.first ≡ (entry_at d.table i).first = ap (λ (e : Entry). e.first) same in
+    let own : c.entry-element.result ≡ entry_at d.table c.entry-vector.result.first = c.entry-element.ensures.value ∙ ap (λ (b : List ℕ). entry_at b c.entry-vector.result.first) c.table-2.ensures in
+    let sized : c.entry-element.result.size ≡ (entry_at d.table c.entry-vector.result.first).size = ap (λ (e : Entry). e.size) own in
+    let some = subst (λ (b : List ℕ). get_or b (p + 8) 0 ≡ 0 → ⊥) c.bytes-bytes.ensures c.if-bytes-self-eq0.false in
+    let n : c.u64_at-count.result ≡ number_at w64 d.bytes p = c.u64_at-count.ensures ∙ ap (λ (b : List ℕ). number_at w64 b p) c.bytes-bytes.ensures in
+    let f = c.entry-vector.result.first in
+    let size = c.entry-element.result.size in
+    let none : size * 0 ≡ 0 = omega arith in
+    record {
+      in_range = subst (λ k. k < (header_of d.table).entries) (sym begun) (lists.vector_element d w i p lt is);
+      sized = sized;
+      room = omega (arith, none, c.args.self.room);
+      short = c.args.self.short;
+      shown = ∥∥₁_map c.args.self.shown (λ h. let x = lists.vector_read d w i p lt is c.entry-vector.result.first c.entry-element.result.size (object_at d.links (p + 8)) c.u64_at-count.result begun sized refl n some h.0 h.1 in
+          (x.0, lists.no_parts d f size (object_at d.links (p + 8)) p c.u64_at-count.result x.0 c.if-count-eq0.true x.2));
+    }
+
+pub returns-then-count-eq0-clause-run : goal.returns-then-count-eq0-clause-run
+returns-then-count-eq0-clause-run c =
+    let d = c.args.self.decoded.now in
+    let i = c.args.self.index in
+    let p = c.args.self.place in
+    let lt = c.args.self.in_range in
+    let is = c.requires in
+    let w : WellFormed d.table = subst (λ (b : List ℕ). WellFormed b) c.table.ensures c.entry-vector.ensures.well_formed in
+    let same : c.entry-vector.result ≡ entry_at d.table i = c.entry-vector.ensures.value ∙ ap (λ (b : List ℕ). entry_at b i) c.table.ensures in
+    let begun : c.entry-vector.result.first ≡ (entry_at d.table i).first = ap (λ (e : Entry). e.first) same in
+    let n : c.u64_at-count.result ≡ number_at w64 d.bytes p = c.u64_at-count.ensures ∙ ap (λ (b : List ℕ). number_at w64 b p) c.bytes-bytes.ensures in
+    record {
+      message = refl;
+      typed = lists.vector_typed d w i p lt is c.entry-vector.result.first begun;
+      counted = lists.vector_counted d w i p lt is 0 (sym c.if-count-eq0.true ∙ n);
+      placed = λ less. absurd (omega (arith, less));
+    }
+
+pub returns-then-count-eq0-clause-parts : goal.returns-then-count-eq0-clause-parts
+returns-then-count-eq0-clause-parts c v s =
+    let d = c.args.self.decoded.now in
+    let i = c.args.self.index in
+    let p = c.args.self.place in
+    let lt = c.args.self.in_range in
+    let is = c.requires in
+    let w : WellFormed d.table = subst (λ (b : List ℕ). WellFormed b) c.table.ensures c.entry-vector.ensures.well_formed in
+    let same : c.entry-vector.result ≡ entry_at d.table i = c.entry-vector.ensures.value ∙ ap (λ (b : List ℕ). entry_at b i) c.table.ensures in
+    let begun : c.entry-vector.result.first ≡ (entry_at d.table i).first = ap (λ (e : Entry). e.first) same in
+    let own : c.entry-element.result ≡ entry_at d.table c.entry-vector.result.first = c.entry-element.ensures.value ∙ ap (λ (b : List ℕ). entry_at b c.entry-vector.result.first) c.table-2.ensures in
+    let sized : c.entry-element.result.size ≡ (entry_at d.table c.entry-vector.result.first).size = ap (λ (e : Entry). e.size) own in
+    let some = subst (λ (b : List ℕ). get_or b (p + 8) 0 ≡ 0 → ⊥) c.bytes-bytes.ensures c.if-bytes-self-eq0.false in
+    let n : c.u64_at-count.result ≡ number_at w64 d.bytes p = c.u64_at-count.ensures ∙ ap (λ (b : List ℕ). number_at w64 b p) c.bytes-bytes.ensures in
+    let x = lists.vector_read d w i p lt is c.entry-vector.result.first c.entry-element.result.size (object_at d.links (p + 8)) c.u64_at-count.result begun sized refl n some v s in
+    (x.0, x.1, lists.no_parts d c.entry-vector.result.first c.entry-element.result.size (object_at d.links (p + 8)) p c.u64_at-count.result x.0 c.if-count-eq0.true x.2)
+
+pub invariant_of-result-2 : goal.invariant_of-result-2
+invariant_of-result-2 c =
+    let d = c.args.self.decoded.now in
+    let i = c.args.self.index in
+    let p = c.args.self.place in
+    let lt = c.args.self.in_range in
+    let is = c.requires in
+    let w : WellFormed d.table = subst (λ (b : List ℕ). WellFormed b) c.table.ensures c.entry-vector.ensures.well_formed in
+    let same : c.entry-vector.result ≡ entry_at d.table i = c.entry-vector.ensures.value ∙ ap (λ (b : List ℕ). entry_at b i) c.table.ensures in
+    let begun : c.entry-vector.result.first ≡ (entry_at d.table i).first = ap (λ (e : Entry). e.first) same in
+    let own : c.entry-element.result ≡ entry_at d.table c.entry-vector.result.first = c.entry-element.ensures.value ∙ ap (λ (b : List ℕ). entry_at b c.entry-vector.result.first) c.table-2.ensures in
+    let sized : c.entry-element.result.size ≡ (entry_at d.table c.entry-vector.result.first).size = ap (λ (e : Entry). e.size) own in
+    let some = subst (λ (b : List ℕ). get_or b (p + 8) 0 ≡ 0 → ⊥) c.bytes-bytes.ensures c.if-bytes-self-eq0.false in
+    let n : c.u64_at-count.result ≡ number_at w64 d.bytes p = c.u64_at-count.ensures ∙ ap (λ (b : List ℕ). number_at w64 b p) c.bytes-bytes.ensures in
+    let begins = subst (λ k. k < (header_of d.table).entries) (sym begun) (lists.vector_element d w i p lt is) in
+    record {
+      in_range = subst (λ k. k < (header_of d.table).entries) (sym begun) (lists.vector_element d w i p lt is);
+      sized = sized;
+      room = ∥∥₁_elim c.args.self.shown le_prop (λ h. let x = lists.vector_read d w i p lt is c.entry-vector.result.first c.entry-element.result.size c.object_at.result c.u64_at-count.result begun sized c.object_at.ensures n some h.0 h.1 in
+          lists.run_room d w c.entry-vector.result.first c.entry-element.result.size c.object_at.result c.u64_at-count.result x.0 begins sized c.if-count-eq0.false x.2);
+      short = c.args.self.short;
+      shown = ∥∥₁_map c.args.self.shown (λ h. let x = lists.vector_read d w i p lt is c.entry-vector.result.first c.entry-element.result.size c.object_at.result c.u64_at-count.result begun sized c.object_at.ensures n some h.0 h.1 in (x.0, x.2));
+    }
+
+pub returns-clause-run : goal.returns-clause-run
+returns-clause-run c =
+    let d = c.args.self.decoded.now in
+    let i = c.args.self.index in
+    let p = c.args.self.place in
+    let lt = c.args.self.in_range in
+    let is = c.requires in
+    let w : WellFormed d.table = subst (λ (b : List ℕ). WellFormed b) c.table.ensures c.entry-vector.ensures.well_formed in
+    let same : c.entry-vector.result ≡ entry_at d.table i = c.entry-vector.ensures.value ∙ ap (λ (b : List ℕ). entry_at b i) c.table.ensures in
+    let begun : c.entry-vector.result.first ≡ (entry_at d.table i).first = ap (λ (e : Entry). e.first) same in
+    let n : c.u64_at-count.result ≡ number_at w64 d.bytes p = c.u64_at-count.ensures ∙ ap (λ (b : List ℕ). number_at w64 b p) c.bytes-bytes.ensures in
+    record {
+      message = refl;
+      typed = lists.vector_typed d w i p lt is c.entry-vector.result.first begun;
+      counted = lists.vector_counted d w i p lt is c.u64_at-count.result n;
+      placed = λ less. lists.vector_placed d w i p lt is c.object_at.result c.object_at.ensures;
+    }
+
+pub returns-clause-parts : goal.returns-clause-parts
+returns-clause-parts c v s =
+    let d = c.args.self.decoded.now in
+    let i = c.args.self.index in
+    let p = c.args.self.place in
+    let lt = c.args.self.in_range in
+    let is = c.requires in
+    let w : WellFormed d.table = subst (λ (b : List ℕ). WellFormed b) c.table.ensures c.entry-vector.ensures.well_formed in
+    let same : c.entry-vector.result ≡ entry_at d.table i = c.entry-vector.ensures.value ∙ ap (λ (b : List ℕ). entry_at b i) c.table.ensures in
+    let begun : c.entry-vector.result.first ≡ (entry_at d.table i).first = ap (λ (e : Entry). e.first) same in
+    let own : c.entry-element.result ≡ entry_at d.table c.entry-vector.result.first = c.entry-element.ensures.value ∙ ap (λ (b : List ℕ). entry_at b c.entry-vector.result.first) c.table-2.ensures in
+    let sized : c.entry-element.result.size ≡ (entry_at d.table c.entry-vector.result.first).size = ap (λ (e : Entry). e.size) own in
+    let some = subst (λ (b : List ℕ). get_or b (p + 8) 0 ≡ 0 → ⊥) c.bytes-bytes.ensures c.if-bytes-self-eq0.false in
+    let n : c.u64_at-count.result ≡ number_at w64 d.bytes p = c.u64_at-count.ensures ∙ ap (λ (b : List ℕ). number_at w64 b p) c.bytes-bytes.ensures in
+    lists.vector_read d w i p lt is c.entry-vector.result.first c.entry-element.result.size c.object_at.result c.u64_at-count.result begun sized c.object_at.ensures n some v s

@@ -1,0 +1,152 @@
+//! What a view answers of arrays and vectors.
+ghost use Rattle.std.specs.Prelude.{◌≡◌, Some, None, IfSome, MatchOption};
+ghost use Rattle.std.specs.Option.{option_copied};
+ghost use Rattle.fidl_wire.specs.Value.{Value};
+ghost use Rattle.fidl_records.specs.declared.kind.EntryKind.TheVariants as EntryKind;
+ghost use Rattle.fidl_records.specs.Section.{entry_at};
+ghost use Rattle.fidl_records.specs.Entry.{IsOf};
+ghost use Rattle.fidl_view.specs.Parts.{bytes_of, length_of, element_of, elements_of, IsNoList};
+ghost use Rattle.fidl_view.specs.Elements.{ShowEach};
+ghost use Rattle.fidl_view.specs.Views.{part_of, parts_left, message_left, IsShownBy, IsRunOf, ShowsListOf, type_shown, types_shown, bytes_shown};
+
+use crate::elements::Elements;
+use crate::kind::entry_kind;
+use crate::view::View;
+use fidl_records::{EntryKind, u64_at};
+
+impl<'v, 'm> View<'v, 'm> {
+    /// The elements of an array.
+    fn array_elements(self) -> Elements<'v, 'm>
+        requires { IsOf EntryKind.Array (entry_at self.decoded.now.table self.index) }
+        ensures run { IsRunOf self.entry result }
+        ensures parts { (v : Value) → IsShownBy self.entry v → ShowsListOf v result }
+    {
+        let array = self.decoded.table().entry(self.index);
+        let element = self.decoded.table().entry(array.first);
+        Elements {
+            decoded: self.decoded,
+            index: array.first,
+            size: element.size as usize,
+            place: self.place,
+            left: array.count as usize,
+        }
+    }
+
+    /// The elements of a vector, none where it is absent.
+    fn vector_elements(self) -> Option<Elements<'v, 'm>>
+        requires { IsOf EntryKind.Vector (entry_at self.decoded.now.table self.index) }
+        ensures run { IfSome result (IsRunOf self.entry) }
+        ensures parts { (v : Value) → IsShownBy self.entry v
+            → MatchOption result (IsNoList v) (ShowsListOf v) }
+    {
+        let vector = self.decoded.table().entry(self.index);
+        let element = self.decoded.table().entry(vector.first);
+        let bytes = self.decoded.bytes();
+        if bytes[self.place + 8] == 0 {
+            return None;
+        }
+        let count = u64_at(bytes, self.place) as usize;
+        // No element stands in the object of an empty vector.
+        if count == 0 {
+            return Some(Elements {
+                decoded: self.decoded,
+                index: vector.first,
+                size: element.size as usize,
+                place: self.place,
+                left: 0,
+            });
+        }
+        Some(Elements {
+            decoded: self.decoded,
+            index: vector.first,
+            size: element.size as usize,
+            place: self.decoded.object_at(self.place + 8),
+            left: count,
+        })
+    }
+
+    /// The elements of an array or a vector; none where it is absent, and of another kind.
+    fn list(self) -> Option<Elements<'v, 'm>>
+        ensures run { IfSome result (IsRunOf self.entry) }
+        ensures parts { (v : Value) → IsShownBy self.entry v
+            → MatchOption result (IsNoList v) (ShowsListOf v) }
+    {
+        match self.kind() {
+            EntryKind::Array => Some(self.array_elements()),
+            EntryKind::Vector => self.vector_elements(),
+            _ => None,
+        }
+    }
+
+    /// The bytes of an array or a vector of uint8, as a slice of the message itself; none where it is absent, and of another
+    /// type.
+    pub fn as_bytes(self) -> Option<&'m [u8]>
+        ensures value { (v : Value) → IsShownBy self.entry v
+            → option_copied result ≡ bytes_of (types_shown self.entry) (type_shown self.entry) v }
+        ensures slice { IfSome result (λ bytes. bytes.now ≡ bytes_shown self.entry) }
+    {
+        let Some(elements) = self.list() else {
+            return None;
+        };
+        match entry_kind(elements.decoded, elements.index) {
+            EntryKind::Uint8 => Some(
+                &elements.decoded.bytes()[elements.place..elements.place + elements.left],
+            ),
+            _ => None,
+        }
+    }
+
+    /// How many elements an array or a vector has, and how many bytes a string; none of an absent one, and of another kind.
+    pub fn len(self) -> Option<usize>
+        ensures { (v : Value) → IsShownBy self.entry v → result ≡ length_of v }
+    {
+        if let Some(elements) = self.list() {
+            return Some(elements.left);
+        }
+        match self.as_str() {
+            Some(text) => Some(text.len()),
+            None => None,
+        }
+    }
+
+    /// The element of an array or a vector at this place, counted from 0; none past the last, of an absent one, and of
+    /// another kind.
+    pub fn element(self, at: usize) -> Option<View<'v, 'm>>
+        ensures message { IfSome result (λ part. (part_of part).message
+            ≡ (part_of self.entry).message) }
+        ensures part { (v : Value) → IsShownBy self.entry v
+            → MatchOption result (element_of v at ≡ None)
+            (λ part. (x : Value) × (element_of v at ≡ Some x) × IsShownBy part x) }
+    {
+        let Some(elements) = self.list() else {
+            return None;
+        };
+        if at >= elements.left {
+            return None;
+        }
+        Some(View {
+            decoded: elements.decoded,
+            index: elements.index,
+            place: elements.place + at * elements.size,
+        })
+    }
+
+    /// The elements of an array or a vector in their order; of an absent one and of another kind there are none.
+    pub fn elements(self) -> Elements<'v, 'm>
+        ensures message { message_left result ≡ (part_of self.entry).message }
+        ensures parts { (v : Value) → IsShownBy self.entry v
+            → ShowEach (parts_left result) (elements_of v) }
+    {
+        if let Some(elements) = self.list() {
+            return elements;
+        }
+        let entry = self.decoded.table().entry(self.index);
+        Elements {
+            decoded: self.decoded,
+            index: self.index,
+            size: entry.size as usize,
+            place: self.place,
+            left: 0,
+        }
+    }
+}

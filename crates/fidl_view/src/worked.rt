@@ -1,0 +1,104 @@
+//! Worked facts: the parts of small values, which the calls of a view answer, and what they don't answer.
+ghost use Rattle.std.specs.Prelude.{◌≡◌, ℤ, pos, negsuc, [], ◌∷◌, true, false, Some, None};
+ghost use Rattle.fidl_wire.specs.declared.handle.HandleInfo.{HandleInfo};
+ghost use Rattle.fidl_wire.specs.declared.limits.TheConstants.{SAME_RIGHTS};
+ghost use Rattle.fidl_wire.specs.Value.{Value, absent, bool, number, text, list, fields};
+ghost use Rattle.fidl_wire.specs.Value.{handle, none, value};
+ghost use Rattle.fidl_wire.specs.Term.{uint8, uint16, int8};
+ghost use Rattle.fidl_wire.specs.Term as ty;
+ghost use Rattle.fidl_view.specs.Parts.{absence_of, bool_of, unsigned_of, signed_of, octets};
+ghost use Rattle.fidl_view.specs.Parts.{bytes_if, length_of, string_of, handle_of, granted_of};
+ghost use Rattle.fidl_view.specs.Parts.{element_of, field_of, IsNoList, IsNoStruct};
+ghost use Rattle.fidl_view.specs.Views.{IsOnly};
+
+/// Only what is absent is absent: no text of no bytes, no list without elements, and no zero.
+pub fn absence()
+    ensures absent { absence_of absent ≡ true }
+    ensures text { absence_of (text []) ≡ false }
+    ensures list { absence_of (list none) ≡ false }
+    ensures zero { absence_of (number (pos 0)) ≡ false }
+{}
+
+/// A bool is one, and a number is none.
+pub fn bools()
+    ensures yes { bool_of (bool true) ≡ Some true }
+    ensures no { bool_of (bool false) ≡ Some false }
+    ensures one { bool_of (number (pos 1)) ≡ None }
+{}
+
+/// A number is answered by its type: one with a sign by `as_i64` alone, one without by `as_u64` alone.
+pub fn numbers()
+    ensures unsigned { unsigned_of (ty.number uint8) (number (pos 3)) ≡ Some 3 }
+    ensures signed { unsigned_of (ty.number int8) (number (pos 3)) ≡ None }
+    ensures below_zero { signed_of (ty.number int8) (number (negsuc 0)) ≡ Some (negsuc 0) }
+    ensures without_sign { signed_of (ty.number uint8) (number (pos 3)) ≡ None }
+    ensures of_bits { unsigned_of (ty.bits uint16 None) (number (pos 3)) ≡ Some 3 }
+{}
+
+/// A list has as many elements as it has, and a text as many bytes; nothing else has a length.
+pub fn lengths()
+    ensures of_a_list { length_of (list (value (bool true) (value (bool true) none))) ≡ Some 2 }
+    ensures of_a_text { length_of (text (65 ∷ [])) ≡ Some 1 }
+    ensures of_an_absent_one { length_of absent ≡ None }
+    ensures of_a_struct { length_of (fields (value (bool true) none)) ≡ None }
+{}
+
+/// The elements of a list are counted from 0.
+pub fn elements_by_place()
+    ensures first { element_of (list (value (bool true) (value (bool false) none))) 0
+        ≡ Some (bool true) }
+    ensures second { element_of (list (value (bool true) (value (bool false) none))) 1
+        ≡ Some (bool false) }
+    ensures past { element_of (list (value (bool true) (value (bool false) none))) 2 ≡ None }
+    ensures of_a_struct { element_of (fields (value (bool true) none)) 0 ≡ None }
+{}
+
+/// So are the members of a struct.
+pub fn members_by_place()
+    ensures first { field_of (fields (value (bool true) (value (bool false) none))) 0
+        ≡ Some (bool true) }
+    ensures second { field_of (fields (value (bool true) (value (bool false) none))) 1
+        ≡ Some (bool false) }
+    ensures past { field_of (fields (value (bool true) (value (bool false) none))) 2 ≡ None }
+    ensures of_a_list { field_of (list (value (bool true) none)) 0 ≡ None }
+{}
+
+/// The bytes of a list are those of its numbers, in their order, where these are of uint8.
+pub fn bytes_of_lists()
+    ensures in_order { bytes_if (ty.number uint8)
+        (value (number (pos 1)) (value (number (pos 2)) none)) ≡ Some (1 ∷ 2 ∷ []) }
+    ensures none_at_all { bytes_if (ty.number uint8) none ≡ Some [] }
+    ensures with_a_sign { bytes_if (ty.number int8) (value (number (pos 1)) none) ≡ None }
+    ensures of_two_bytes { bytes_if (ty.number uint16) (value (number (pos 1)) none) ≡ None }
+{}
+
+/// A text has its bytes, and a list of bytes is no text.
+pub fn texts()
+    ensures of_one_byte { string_of (text (65 ∷ [])) ≡ Some (65 ∷ []) }
+    ensures absent { string_of absent ≡ None }
+    ensures of_a_list { string_of (list (value (number (pos 65)) none)) ≡ None }
+{}
+
+/// A handle is granted the rights that its type requires, or those that came where it requires the same.
+pub fn rights()
+    ensures required { (h : HandleInfo) → granted_of (ty.handle false 0 2) (handle h) ≡ Some 2 }
+    ensures same { (h : HandleInfo) → granted_of (ty.handle false 0 SAME_RIGHTS) (handle h)
+        ≡ Some h.rights }
+    ensures absent { granted_of (ty.handle true 0 2) absent ≡ None }
+    ensures record { (h : HandleInfo) → handle_of (handle h) ≡ Some h }
+{}
+
+/// A value that is absent, or of another kind, is no list and no struct.
+pub fn other_values()
+    ensures absent { IsNoList absent }
+    ensures of_a_struct { IsNoList (fields none) }
+    ensures of_a_list { ¬ IsNoList (list none) }
+    ensures no_struct { IsNoStruct absent }
+    ensures a_struct { ¬ IsNoStruct (fields none) }
+{}
+
+/// Of the statement to be absent one value is the only one; of the statement to be anything none is.
+pub fn only_values()
+    ensures absent { IsOnly (λ v. v ≡ absent) absent }
+    ensures anything { ¬ IsOnly (λ v. v ≡ v) absent }
+{}
