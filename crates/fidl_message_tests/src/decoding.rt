@@ -1,8 +1,6 @@
-ghost use Rattle.std.specs.Prelude.{◌<◌};
-ghost use Rattle.fidl_records.specs.Section.{header_of};
-
+use crate::tables::answer;
 use fidl_decode::{DecodeFault, Scratch, decode};
-use fidl_verify::{Table, verify};
+use fidl_verify::verify;
 use fidl_wire::HandleInfo;
 use std::test::Fail;
 
@@ -51,22 +49,6 @@ const PAIRS: [u8; 305] = [
     0, 1, 0, 0, 0, 12, 0, 0, 0, 3, 0, 0, 0, 0, 0, 0, 0, 1, 0, 0, 0, 0, 0, 0, 0, 3, 0, 0, 0, 0, 0,
     0, 0, 1, 0, 0, 0, 2, 0, 0, 0, 4, 0, 0, 0, 0, 0, 0, 0, 1, 0, 0, 0, 97,
 ];
-
-/// The refusal of a message, if it is refused.
-fn answer(
-    table: &Table,
-    entry: u32,
-    bytes: &[u8],
-    handles: &[HandleInfo],
-    scratch: &mut Scratch,
-) -> Option<DecodeFault>
-    requires { entry < (header_of table.now).entries }
-{
-    match decode(table, entry, bytes, handles, scratch) {
-        Ok(_) => None,
-        Err(fault) => Some(fault),
-    }
-}
 
 #[test]
 fn messages_are_decoded_or_refused_at_a_place(rt: HostRuntime) -> Result<(), Fail> {
@@ -201,5 +183,9 @@ fn faults_have_numbers_and_names(rt: HostRuntime) {
     assert_eq!(rt; fault.number(), 4);
     assert!(rt; fault.name() == "Padding");
     assert_eq!(rt; fault.at(), 2);
+    assert_eq!(rt; DecodeFault::UnknownValue { at: 4 }.number(), 6);
+    assert!(rt; DecodeFault::UnknownValue { at: 4 }.name() == "UnknownValue");
+    assert_eq!(rt; DecodeFault::UnknownBits { at: 5 }.number(), 7);
+    assert!(rt; DecodeFault::UnknownBits { at: 5 }.name() == "UnknownBits");
     assert_eq!(rt; DecodeFault::HandlesLeft { at: 8 }.number(), 20);
 }

@@ -2,11 +2,25 @@
 #![tactic(auto)]
 
 #[cfg(test)]
+mod below;
+#[cfg(test)]
+mod borrowed;
+#[cfg(test)]
+mod choices;
+#[cfg(test)]
+mod chosen;
+#[cfg(test)]
 mod decoding;
 #[cfg(test)]
 mod limits;
 #[cfg(test)]
+mod numbers;
+#[cfg(test)]
+mod outside;
+#[cfg(test)]
 mod records;
+#[cfg(test)]
+mod tables;
 #[cfg(test)]
 mod values;
 #[cfg(test)]

@@ -1,89 +1,17 @@
 //! Tables and messages at each limit, and one past it.
-ghost use Rattle.std.specs.Prelude.{◌<◌};
-ghost use Rattle.fidl_records.specs.Section.{header_of};
-
-use fidl_decode::{DecodeFault, Scratch, decode};
-use fidl_verify::{Table, TableFault, verify};
+use crate::tables::{EntryFields, answer, push_entry, push_row, push_value, start};
+use fidl_decode::{DecodeFault, Scratch};
+use fidl_verify::{TableFault, verify};
 use fidl_wire::HandleInfo;
 use std::alloc::{AllocError, Global};
 use std::test::Fail;
 
-/// The fields of an entry without a name.
-#[derive(Clone, Copy, Drop)]
-struct EntryFields {
-    kind: u8,
-    alignment: u8,
-    nest: u8,
-    size: u32,
-    first: u32,
-    count: u32,
-}
-
-const BOOL: EntryFields = EntryFields {
-    kind: 1,
-    alignment: 1,
-    nest: 0,
-    size: 1,
-    first: 0,
-    count: 0,
-};
-
-fn push_number(table: &mut Vec<u8>, number: u32) -> Result<(), AllocError> {
-    for byte in number.to_le_bytes() {
-        table.push(byte)?;
-    }
-    Ok(())
-}
-
-/// A table's header, for so many entries and rows, and one byte of names.
-fn start(alloc: Global, entries: u32, rows: u32) -> Result<Vec<u8>, AllocError> {
-    let mut table = Vec::new(alloc);
-    for number in [0x3254_4346, 1, entries, rows, 0, 0, 0, 0, 1, 0] {
-        push_number(&mut table, number)?;
-    }
-    Ok(table)
-}
-
-fn push_entry(table: &mut Vec<u8>, entry: EntryFields) -> Result<(), AllocError> {
-    for byte in [entry.kind, 0, entry.alignment, entry.nest] {
-        table.push(byte)?;
-    }
-    for number in [entry.size, entry.first, entry.count, 0, 0, 0, 0, 0, 0] {
-        push_number(table, number)?;
-    }
-    Ok(())
-}
-
-/// A member of this entry, at this offset. Its name is the first byte of the names.
-fn push_row(table: &mut Vec<u8>, offset: u32, entry: u32) -> Result<(), AllocError> {
-    for number in [offset, entry, 0, 1] {
-        push_number(table, number)?;
-    }
-    Ok(())
-}
-
 /// `struct {a array<bool, COUNT>;}`.
 fn table_of_bools(alloc: Global, count: u32) -> Result<Vec<u8>, AllocError> {
-    let mut table = start(alloc, 3, 1)?;
-    let holder = EntryFields {
-        kind: 16,
-        alignment: 1,
-        nest: 2,
-        size: count,
-        first: 0,
-        count: 1,
-    };
-    let array = EntryFields {
-        kind: 14,
-        alignment: 1,
-        nest: 1,
-        size: count,
-        first: 2,
-        count,
-    };
-    push_entry(&mut table, holder)?;
-    push_entry(&mut table, array)?;
-    push_entry(&mut table, BOOL)?;
+    let mut table = start(alloc, 3, 1, 0)?;
+    push_entry(&mut table, EntryFields::holder(count, 1, 0, 1).nested(2))?;
+    push_entry(&mut table, EntryFields::array(count, 1, 2, count))?;
+    push_entry(&mut table, EntryFields::boolean())?;
     push_row(&mut table, 0, 1)?;
     table.push(b'a')?;
     Ok(table)
@@ -92,19 +20,12 @@ fn table_of_bools(alloc: Global, count: u32) -> Result<Vec<u8>, AllocError> {
 /// A struct of one member, which is a struct of one member, and so on, so many deep; the last holds a bool.
 fn table_of_nest(alloc: Global, nest: u8) -> Result<Vec<u8>, AllocError> {
     let depth = u32::from(nest);
-    let mut table = start(alloc, depth + 1, depth)?;
+    let mut table = start(alloc, depth + 1, depth, 0)?;
     for level in 0..nest {
-        let holder = EntryFields {
-            kind: 16,
-            alignment: 1,
-            nest: nest - level,
-            size: 1,
-            first: u32::from(level),
-            count: 1,
-        };
-        push_entry(&mut table, holder)?;
+        let holder = EntryFields::holder(1, 1, u32::from(level), 1);
+        push_entry(&mut table, holder.nested(nest - level))?;
     }
-    push_entry(&mut table, BOOL)?;
+    push_entry(&mut table, EntryFields::boolean())?;
     for level in 0..depth {
         push_row(&mut table, 0, level + 1)?;
     }
@@ -114,17 +35,9 @@ fn table_of_nest(alloc: Global, nest: u8) -> Result<Vec<u8>, AllocError> {
 
 /// A struct of so many bools.
 fn table_of_members(alloc: Global, count: u32) -> Result<Vec<u8>, AllocError> {
-    let mut table = start(alloc, 2, count)?;
-    let holder = EntryFields {
-        kind: 16,
-        alignment: 1,
-        nest: 1,
-        size: count,
-        first: 0,
-        count,
-    };
-    push_entry(&mut table, holder)?;
-    push_entry(&mut table, BOOL)?;
+    let mut table = start(alloc, 2, count, 0)?;
+    push_entry(&mut table, EntryFields::holder(count, 1, 0, count))?;
+    push_entry(&mut table, EntryFields::boolean())?;
     for offset in 0..count {
         push_row(&mut table, offset, 1)?;
     }
@@ -133,9 +46,9 @@ fn table_of_members(alloc: Global, count: u32) -> Result<Vec<u8>, AllocError> {
 }
 
 fn table_of_entries(alloc: Global, count: u32) -> Result<Vec<u8>, AllocError> {
-    let mut table = start(alloc, count, 0)?;
+    let mut table = start(alloc, count, 0, 0)?;
     for _ in 0..count {
-        push_entry(&mut table, BOOL)?;
+        push_entry(&mut table, EntryFields::boolean())?;
     }
     table.push(b'a')?;
     Ok(table)
@@ -144,19 +57,6 @@ fn table_of_entries(alloc: Global, count: u32) -> Result<Vec<u8>, AllocError> {
 /// The fault of a table, if it is refused.
 fn fault(table: &[u8]) -> Option<TableFault> {
     verify(table).err()
-}
-
-/// The refusal of a message, if it is refused.
-fn answer(
-    table: &Table,
-    entry: u32,
-    bytes: &[u8],
-    handles: &[HandleInfo],
-    scratch: &mut Scratch,
-) -> Option<DecodeFault>
-    requires { entry < (header_of table.now).entries }
-{
-    decode(table, entry, bytes, handles, scratch).err()
 }
 
 #[test]
@@ -229,5 +129,50 @@ fn the_handles_of_a_message_have_a_limit(rt: HostRuntime) -> Result<(), Fail> {
     assert!(rt; within == Some(DecodeFault::HandlesLeft { at: 8 }));
     let over = answer(&table, 0, &bytes, &[handle; 65], &mut scratch);
     assert!(rt; over == Some(DecodeFault::TooManyHandles { at: 0 }));
+    Ok(())
+}
+
+/// A strict enum of uint32 with so many values: 1, 3, 5 and so on.
+fn table_of_values(alloc: Global, count: u32) -> Result<Vec<u8>, AllocError> {
+    let mut table = start(alloc, 1, 0, count)?;
+    push_entry(&mut table, EntryFields::strict_enum(8, 4, count))?;
+    for place in 0..count {
+        push_value(&mut table, 2 * u64::from(place) + 1)?;
+    }
+    table.push(b'a')?;
+    Ok(table)
+}
+
+/// The message of a number of 32 bits.
+fn message_of(number: u64) -> [u8; 8] {
+    number.to_le_bytes()
+}
+
+#[test]
+fn the_values_of_an_enum_have_a_limit(rt: HostRuntime) -> Result<(), Fail> {
+    let over = table_of_values(rt.alloc(), 65_536)?;
+    assert!(rt; fault(over.as_slice()) == Some(TableFault::BadKind { at: 0 }));
+    Ok(())
+}
+
+#[test]
+fn each_of_many_values_is_found(rt: HostRuntime) -> Result<(), Fail> {
+    let mut scratch = Scratch::new(rt.alloc())?;
+    let refused = Some(DecodeFault::UnknownValue { at: 0 });
+    for count in [1u32, 2, 3, 1_000, 65_535] {
+        let written = table_of_values(rt.alloc(), count)?;
+        let table = verify(written.as_slice())?;
+        assert!(rt; table.entries() == 1);
+        for place in 0..count {
+            let value = message_of(2 * u64::from(place) + 1);
+            assert!(rt; answer(&table, 0, &value, &[], &mut scratch).is_none());
+            let below = message_of(2 * u64::from(place));
+            assert!(rt; answer(&table, 0, &below, &[], &mut scratch) == refused);
+        }
+        let above = message_of(2 * u64::from(count));
+        assert!(rt; answer(&table, 0, &above, &[], &mut scratch) == refused);
+        let greatest = message_of(u64::from(u32::MAX));
+        assert!(rt; answer(&table, 0, &greatest, &[], &mut scratch) == refused);
+    }
     Ok(())
 }

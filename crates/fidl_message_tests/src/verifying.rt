@@ -110,9 +110,9 @@ const EDITS: [(usize, u8, u32, u32); 33] = [
     (36, 1, 2, 0),
     (32, 13, 3, 0),
     (32, 11, 4, 0),
-    // kinds: none, string (which is not known yet), past the last; flags, a field and a name that the kind does not use
+    // kinds: none, table (which is not known yet), past the last; flags, a field and a name that the kind does not use
     (40, 0, 5, 0),
-    (40, 12, 5, 0),
+    (40, 17, 5, 0),
     (40, 20, 5, 0),
     (41, 1, 5, 0),
     (81, 1, 5, 1),
@@ -208,7 +208,7 @@ fn other_rules(rt: HostRuntime) -> Result<(), Fail> {
     Ok(())
 }
 
-/// Of several broken rules the first in the order of the checks is told, though its record comes later.
+/// Of several broken rules the first in the order of the checks is reported, though its record comes later.
 #[test]
 fn the_first_rule_is_told(rt: HostRuntime) -> Result<(), Fail> {
     let mut bytes = POINT;

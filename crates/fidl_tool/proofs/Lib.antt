@@ -1,5 +1,8 @@
+mod Commands
+mod Quoting
 pub mod Written
 pub mod Printing
+pub mod EntryTexts
 pub mod HandleText
 pub mod Numbers
 pub mod Messages

@@ -1,31 +1,28 @@
 -- The view of a whole message shows the value that the message encodes.
-use Rattle.std.proofs.Common.{◌≡◌, ℕ, List, ◌++◌, sym, ap, subst}
-use Rattle.fidl_wire.specs.declared.handle.HandleInfo.{HandleInfo}
+use Rattle.std.proofs.Common.{◌≡◌, ◌≤◌, ℕ, List, sym, subst}
+use Rattle.fidl_wire.specs.declared.limits.TheConstants.{MAX_DEPTH}
+use Rattle.fidl_wire.specs.Depth.{Depth}
 use Rattle.fidl_wire.specs.Value.{Value}
 use Rattle.fidl_wire.specs.Term.{resolve}
 use Rattle.fidl_wire.specs.Term as ty
-use Rattle.fidl_wire.specs.Encoding.{Enc, pad8}
 use Rattle.fidl_wire.specs.Typed.{IsTyped}
 use Rattle.fidl_wire.specs.Message.{Encodes}
-use Rattle.fidl_wire.proofs.Stand.{stands_from_all, stands_front}
 use Rattle.fidl_records.specs.Terms.{declarations_of}
 use Rattle.fidl_decode.specs.Shown.{Shown}
 use Rattle.fidl_view.specs.Shows.{Shows}
 use Rattle.fidl_view.specs.declared.view.View.{View}
 use Rattle.fidl_tool.specs.Parts.{IsPart}
 
--- the primary object stands at the message's start
-pub shows_whole : (d : Shown) (v : Value) → Encodes (declarations_of d.table) (ty.named d.entry) v d.bytes d.handles → Shows d d.entry 0 v
-shows_whole d v e =
-    let p = Enc (declarations_of d.table) (ty.named d.entry) v in
-    let spelled : d.bytes ≡ pad8 p.inline ++ p.out = sym (ap (λ (x : List ℕ × List HandleInfo). x.0) e.message) in
-    let all = stands_from_all d.bytes (pad8 p.inline ++ p.out) spelled in
-    record { typed = e.typed; stands = stands_front d.bytes 0 p.inline _ (stands_front d.bytes 0 (pad8 p.inline) p.out all) }
-
 pub message_part : (d : Shown) (v : Value) → Encodes (declarations_of d.table) (ty.named d.entry) v d.bytes d.handles
-    → (view : View) (table : List ℕ) (entry : ℕ) → view.decoded.now ≡ d → view.index ≡ d.entry → view.place ≡ 0 → table ≡ d.table → entry ≡ d.entry
+    → (view : View) (table : List ℕ) (entry : ℕ) → Shows view.decoded.now view.index view.place v → table ≡ d.table → entry ≡ d.entry
     → IsPart (declarations_of table) (resolve (declarations_of table).terms (ty.named entry)) view v
-message_part d v e view table entry same index place of at = record {
-  shown = subst (λ (s : Shown). Shows s view.index view.place v) (sym same) (subst (λ k. Shows d k view.place v) (sym index) (subst (λ k. Shows d d.entry k v) (sym place) (shows_whole d v e)));
+message_part d v e view table entry shows of at = record {
+  shown = shows;
   typed = subst (λ (b : List ℕ). IsTyped (declarations_of b) (resolve (declarations_of b).terms (ty.named entry)) v) (sym of) (subst (λ k. IsTyped (declarations_of d.table) (resolve (declarations_of d.table).terms (ty.named k)) v) (sym at) e.typed);
 }
+
+-- and is not too deep
+pub message_shallow : (d : Shown) (v : Value) → Encodes (declarations_of d.table) (ty.named d.entry) v d.bytes d.handles → (table : List ℕ) (entry : ℕ) → table ≡ d.table → entry ≡ d.entry
+    → Depth (declarations_of table) (ty.named entry) v ≤ MAX_DEPTH
+message_shallow d v e table entry of at =
+    subst (λ (b : List ℕ). Depth (declarations_of b) (ty.named entry) v ≤ MAX_DEPTH) (sym of) (subst (λ k. Depth (declarations_of d.table) (ty.named k) v ≤ MAX_DEPTH) (sym at) e.shallow)

@@ -25,6 +25,11 @@ pub told_never : {T E P : Type 0} (w : Result T E) (own other r : Outcome) → r
 told_never (Ok x) own other r e q a b = absurd (a (sym e ∙ q))
 told_never (Err x) own other r e q a b = absurd (b (sym e ∙ q))
 
+-- a failed output is answered, whether its line was written or not
+pub only_unwritten : {T E : Type 0} (w : Result T E) (r : Outcome) → r ≡ (if is_ok w then Unwritten else Unwritten) → r ≡ Unwritten
+only_unwritten (Ok x) r e = e
+only_unwritten (Err x) r e = e
+
 pub root_of : (file table root name : List ℕ) (entry : ℕ) → table ≡ file → name ≡ root → WellFormed file → IsRootEntry table (header_of table) name entry → IsRootOf file root entry
 root_of file table root name entry t n w h = record {
   well_formed = w;

@@ -142,3 +142,14 @@ module _ (old mid now : Option (List ℕ)) (whole left a b c d rest : List ℕ) 
 
   pub fourth_failed : (next : Option (List ℕ)) → Appends mid next (a ++ b ++ c) → AppendsFront next now d → AppendsFront old now whole
   fourth_failed next w h = so_far_second old mid next now whole left (a ++ b ++ c) d rest s w h e
+
+-- a write behind others, one of which failed, or none
+pub writes_then : {T E : Type 0} (a b c : Option (List ℕ)) (xs ys : List ℕ) (r : Result T E) → Appends a b xs → Writes b c ys r → Writes a c (xs ++ ys) r
+writes_then a b c xs ys r h w = so_far_written a b c (xs ++ ys) ys r (so_far_begin a b (xs ++ ys) xs ys h refl) w
+
+pub failed_then : (a b c : Option (List ℕ)) (xs ys : List ℕ) → Appends a b xs → AppendsFront b c ys → AppendsFront a c (xs ++ ys)
+failed_then a b c xs ys h w = so_far_failed a b c (xs ++ ys) ys ys [] (so_far_begin a b (xs ++ ys) xs ys h refl) w (sym (append-nil ys))
+
+-- a front of more
+pub more_left : (a c : Option (List ℕ)) (xs ys : List ℕ) → AppendsFront a c xs → AppendsFront a c (xs ++ ys)
+more_left a c xs ys h = begin_failed a c (xs ++ ys) xs ys h refl

@@ -1,9 +1,8 @@
 -- What the words of a command line give, and what is told where they give no arguments (docs/program.md, "Statuses").
-use Rattle.std.specs.Prelude.{◌≡◌, ◌≢◌, ◌⊎◌, ⊤, ℕ, List, [], ◌++◌, codes, string_bytes, Some, None, Ok, IsErr}
+use Rattle.std.specs.Prelude.{◌≡◌, ◌≢◌, ◌⊎◌, ⊤, ℕ, List, [], ◌++◌, codes, string_bytes, Some, None, Ok, IsErr, false, unwrap_or}
 use Rattle.std.specs.List.{All, AllZip}
-use Rattle.std.specs.Option.{option_map_or}
-use Rattle.clap.specs.Matches.{matched_of, first_value, raw_values}
-use Rattle.clap.specs.declared.parser.matches.Found.{Found}
+use Rattle.clap.specs.Words.{Row, Text, takes, first_of}
+use Rattle.clap.specs.Walk.{all_of}
 use Rattle.clap.specs.declared.error.kind.ErrorKind.{ErrorKind}
 use Rattle.clap.specs.declared.error.kind.ErrorKind.TheVariants.{DisplayHelp, DisplayVersion, OutOfMemory}
 use Rattle.hex.specs.Hex.{decode_of}
@@ -13,6 +12,7 @@ use Rattle.fidl_tool.specs.declared.unread.Unread.{Unread}
 use Rattle.fidl_tool.specs.declared.unread.Unread.TheVariants.{Asked, Wrong, NotText, Missing, BadHex, BadHandle, Memory}
 use Rattle.fidl_tool.specs.declared.arguments.DecodeArguments.{DecodeArguments}
 use Rattle.fidl_wire.specs.declared.handle.HandleInfo.{HandleInfo}
+use Rattle.fidl_tool.specs.CommandLine.{program, GivesDecode}
 use Rattle.fidl_tool.specs.Decoding.{no_memory}
 use Rattle.fidl_tool.specs.Handles.{IsHandleText, HasNoHandleText}
 
@@ -24,26 +24,47 @@ IsTold told_wrong IsWrong IsRight told = ((told ≡ told_wrong) × IsWrong) ⊎ 
 abbrev pub AreHandleTexts : List (List ℕ) → Type 0
 AreHandleTexts texts = All (λ text. (h : HandleInfo) × IsHandleText text h) texts
 
--- the texts of the handles among the arguments that were found
-abbrev pub handle_texts : Found → List (List ℕ)
-handle_texts found = option_map_or raw_values (matched_of found (codes "handle")) []
+-- the texts of the handles among the values of the arguments
+abbrev pub handle_texts : List Row → List (List ℕ)
+handle_texts rows = unwrap_or (all_of (codes "handle") rows) []
 
--- what was found gives these arguments of `decode`
-pub record IsDecode (found : Found) (given : DecodeArguments) : Type 0 where
-  pub table : first_value found (codes "TABLE") ≡ Some given.table.now
-  pub root : first_value found (codes "ROOT") ≡ Some given.root.now
+-- the values of the arguments are these arguments of `decode`
+pub record IsDecode (rows : List Row) (given : DecodeArguments) : Type 0 where
+  pub table : first_of (codes "TABLE") rows ≡ Some given.table.now
+  pub root : first_of (codes "ROOT") rows ≡ Some given.root.now
   pub hex : List ℕ
-  pub hex_given : first_value found (codes "HEX") ≡ Some hex
+  pub hex_given : first_of (codes "HEX") rows ≡ Some hex
   pub bytes : decode_of hex ≡ Ok given.bytes.items
-  pub handles : AllZip IsHandleText (handle_texts found) given.handles.items
+  pub handles : AllZip IsHandleText (handle_texts rows) given.handles.items
 
--- why what was found gives no arguments of `decode`
-abbrev pub IsNoDecode : Found → Unread → Type 0
-IsNoDecode found Missing = (first_value found (codes "TABLE") ≡ None) ⊎ (first_value found (codes "ROOT") ≡ None) ⊎ (first_value found (codes "HEX") ≡ None)
-IsNoDecode found BadHex = (hex : List ℕ) × (first_value found (codes "HEX") ≡ Some hex) × IsErr (decode_of hex)
-IsNoDecode found BadHandle = HasNoHandleText (handle_texts found)
-IsNoDecode found Memory = ⊤
-IsNoDecode found _ = ⊥
+-- why the values of the arguments are no arguments of `decode`
+abbrev pub IsNoDecode : List Row → Unread → Type 0
+IsNoDecode rows Missing = (first_of (codes "TABLE") rows ≡ None) ⊎ (first_of (codes "ROOT") rows ≡ None) ⊎ (first_of (codes "HEX") rows ≡ None)
+IsNoDecode rows BadHex = (hex : List ℕ) × (first_of (codes "HEX") rows ≡ Some hex) × IsErr (decode_of hex)
+IsNoDecode rows BadHandle = HasNoHandleText (handle_texts rows)
+IsNoDecode rows Memory = ⊤
+IsNoDecode rows _ = ⊥
+
+-- the words give these arguments of `decode`
+pub record IsGiven (words : List Text) (given : DecodeArguments) : Type 0 where
+  pub rows : List Row
+  pub entered : GivesDecode words rows
+  pub decode : IsDecode rows given
+
+-- the words name `decode`, whose arguments have no such values
+pub record IsBadlyGiven (words : List Text) (unread : Unread) : Type 0 where
+  pub rows : List Row
+  pub entered : GivesDecode words rows
+  pub fails : IsNoDecode rows unread
+
+-- why the words give no arguments: they are no command line, or ask for help; or the arguments have no such values
+abbrev pub IsUngiven : List Text → Unread → Type 0
+IsUngiven words (Asked text) = takes program words ≡ false
+IsUngiven words (Wrong line) = takes program words ≡ false
+IsUngiven words NotText = ⊥
+IsUngiven words Missing = ((rows : List Row) → GivesDecode words rows → ⊥) ⊎ IsBadlyGiven words Missing
+IsUngiven words Memory = ⊤
+IsUngiven words unread = IsBadlyGiven words unread
 
 -- what is told where clap gives no matches, by the kind of its error; memory can run out while the text is made
 abbrev pub IsToldByKind : ErrorKind → Unread → Type 0

@@ -16,6 +16,7 @@ use Rattle.fidl_verify.specs.declared.fault.TableFault.{TableFault}
 use Rattle.fidl_decode.specs.Faults.{IsTold}
 use Rattle.fidl_decode.specs.Faults as message_faults
 use Rattle.fidl_decode.specs.declared.fault.DecodeFault.{DecodeFault}
+use Rattle.fidl_tool.specs.declared.decoding.TypedMessage.{TypedMessage}
 use Rattle.fidl_tool.specs.declared.outcome.Outcome.{Outcome}
 use Rattle.fidl_tool.specs.declared.outcome.Outcome.TheVariants.{Asked, WrongLine, NoFile}
 
@@ -78,3 +79,10 @@ pub data IsRefusal (table root bytes : List ℕ) (handles : List HandleInfo) : L
   of_table : (fault : TableFault) → ¬ WellFormed table → Breaks table fault → IsRefusal table root bytes handles (table_line fault)
   of_message : (entry : ℕ) (fault : DecodeFault) → IsRootOf table root entry → ¬ IsEncoding (declarations_of table) (ty.named entry) bytes handles
       → IsTold (declarations_of table) (ty.named entry) bytes handles fault → IsRefusal table root bytes handles (message_line fault)
+
+-- the same of a message with the name of its root
+abbrev pub IsTextOf : (table : List ℕ) → TypedMessage → List ℕ → Type 0
+IsTextOf table m = IsText table m.root.now m.bytes.now m.handles.now
+
+abbrev pub IsRefusalOf : (table : List ℕ) → TypedMessage → List ℕ → Type 0
+IsRefusalOf table m = IsRefusal table m.root.now m.bytes.now m.handles.now

@@ -1,6 +1,17 @@
+-- The definitions of the program, in the order in which to read them:
+--   CommandLine    the command line, in clap's words
+--   Arguments      what the words of a command line give
+--   Handles        handles as they are written
+--   Running        what the program answers to its words and its files
+--   Decoding       what the command `decode` answers
+--   Status         how the program ends
+--   Parts          what the printer is given, and what it writes
+--   Outputs        what a write does to the bytes of a writer
 pub mod Status
 pub mod Handles
 pub mod Outputs
 pub mod Parts
 pub mod Decoding
+pub mod CommandLine
 pub mod Arguments
+pub mod Running

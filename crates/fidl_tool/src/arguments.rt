@@ -1,10 +1,13 @@
 //! The command line.
-ghost use Rattle.std.specs.Prelude.{◌≡◌, IsErr, IsOk, ℕ, List, Ok, IfOk, IfErr, MatchBool, map};
+ghost use Rattle.std.specs.Prelude.{◌≡◌, IsErr, IsOk, ℕ, List, [], Ok, IfOk, IfErr, MatchBool};
+ghost use Rattle.std.specs.Prelude.{false, map, option_map};
 ghost use Rattle.std.specs.List.{AllZip, list_all};
-ghost use Rattle.clap.specs.Matches.{found_of};
+ghost use Rattle.clap.specs.Words.{found_of, rule_of, app_of, rows_of, first_of};
 ghost use Rattle.hex.specs.Hex.{decode_of, is_hex_digit};
 ghost use Rattle.fidl_tool.specs.Handles.{IsHandleText, HasNoHandleText};
 ghost use Rattle.fidl_tool.specs.Arguments.{IsTold, AreHandleTexts, IsDecode, IsNoDecode};
+ghost use Rattle.fidl_tool.specs.Arguments.{IsGiven, IsUngiven, handle_texts};
+ghost use Rattle.fidl_tool.specs.CommandLine.{positional, decode_command, program};
 ghost use Rattle.fidl_tool.specs.declared.unread.Unread.TheVariants as unread;
 
 use crate::decoding::TypedMessage;
@@ -41,7 +44,10 @@ impl DecodeArguments<'_> {
 }
 
 /// An argument that must be given, by its place.
-fn required<'a>(alloc: Global, id: &'a str, help: &'a str) -> Arg<'a> {
+fn required<'a>(alloc: Global, id: &'a str, help: &'a str) -> Arg<'a>
+    ensures rule { rule_of result ≡ positional id.entry.now }
+    ensures local { result.global ≡ false }
+{
     Arg::new(alloc, id)
         .required(true)
         .action(ArgAction::Set)
@@ -49,7 +55,9 @@ fn required<'a>(alloc: Global, id: &'a str, help: &'a str) -> Arg<'a> {
 }
 
 /// The command line of the program.
-fn command_line<'a>(alloc: Global) -> Result<Command<'a>, AllocError> {
+fn command_line<'a>(alloc: Global) -> Result<Command<'a>, AllocError>
+    ensures { IfOk result (λ c. app_of c ≡ program) }
+{
     let handle = Arg::new(alloc, "handle")
         .long("handle")
         .value_name("I:T:R")
@@ -91,7 +99,8 @@ fn is_hex(text: &str) -> bool
 /// The bytes of a message, from their text.
 fn read_bytes(alloc: Global, text: &str) -> Result<Vec<u8>, Unread>
     ensures ok { IfOk result (λ bytes. decode_of text.now ≡ Ok bytes.items) }
-    ensures err { IfErr result (IsTold unread.BadHex (IsErr (decode_of text.now)) (IsOk (decode_of text.now))) }
+    ensures err { IfErr result (IsTold unread.BadHex
+        (IsErr (decode_of text.now)) (IsOk (decode_of text.now))) }
 {
     match hex::decode(alloc, text) {
         Ok(bytes) => Ok(bytes),
@@ -102,7 +111,8 @@ fn read_bytes(alloc: Global, text: &str) -> Result<Vec<u8>, Unread>
 
 /// Whether each text is that of a handle.
 fn are_handles(texts: &[&str]) -> bool
-    ensures { MatchBool result (AreHandleTexts (map (λ text. text.now) texts.now)) (HasNoHandleText (map (λ text. text.now) texts.now)) }
+    ensures { MatchBool result (AreHandleTexts (map (λ text. text.now) texts.now))
+        (HasNoHandleText (map (λ text. text.now) texts.now)) }
 {
     for text in texts {
         if read_handle(*text).is_none() {
@@ -114,8 +124,11 @@ fn are_handles(texts: &[&str]) -> bool
 
 /// The handles of a message, from their texts.
 fn read_handles(alloc: Global, texts: &[&str]) -> Result<Vec<HandleInfo>, Unread>
-    ensures ok { IfOk result (λ handles. AllZip IsHandleText (map (λ text. text.now) texts.now) handles.items) }
-    ensures err { IfErr result (IsTold unread.BadHandle (HasNoHandleText (map (λ text. text.now) texts.now)) (AreHandleTexts (map (λ text. text.now) texts.now))) }
+    ensures ok { IfOk result (λ handles.
+        AllZip IsHandleText (map (λ text. text.now) texts.now) handles.items) }
+    ensures err { IfErr result (IsTold unread.BadHandle
+        (HasNoHandleText (map (λ text. text.now) texts.now))
+        (AreHandleTexts (map (λ text. text.now) texts.now))) }
 {
     let mut handles = Vec::new(alloc);
     for text in texts {
@@ -133,23 +146,41 @@ fn read_handles(alloc: Global, texts: &[&str]) -> Result<Vec<HandleInfo>, Unread
     Ok(handles)
 }
 
+/// The first value of an argument.
+fn value_of<'a>(matches: &ArgMatches<'a>, id: &str) -> Option<&'a str>
+    ensures { option_map (λ s. s.now) result ≡ first_of id.now (rows_of (found_of matches.now)) }
+{
+    matches.get_str(id)
+}
+
+/// The handles that were given.
+fn given_handles(alloc: Global, matches: &ArgMatches<'_>) -> Result<Vec<HandleInfo>, Unread>
+    ensures ok { IfOk result (λ handles.
+        AllZip IsHandleText (handle_texts (rows_of (found_of matches.now))) handles.items) }
+    ensures err { IfErr result (IsTold unread.BadHandle
+        (HasNoHandleText (handle_texts (rows_of (found_of matches.now))))
+        (AreHandleTexts (handle_texts (rows_of (found_of matches.now))))) }
+{
+    match matches.get_strs("handle") {
+        Some(texts) => read_handles(alloc, texts),
+        None => Ok(Vec::new(alloc)),
+    }
+}
+
 /// What `fidl decode` was given.
 fn read_decode<'a>(alloc: Global, matches: &ArgMatches<'a>) -> Result<DecodeArguments<'a>, Unread>
-    ensures ok { IfOk result (IsDecode (found_of matches.now)) }
-    ensures err { IfErr result (IsNoDecode (found_of matches.now)) }
+    ensures ok { IfOk result (IsDecode (rows_of (found_of matches.now))) }
+    ensures err { IfErr result (IsNoDecode (rows_of (found_of matches.now))) }
 {
     let (Some(table), Some(root), Some(hex)) = (
-        matches.get_str("TABLE"),
-        matches.get_str("ROOT"),
-        matches.get_str("HEX"),
+        value_of(matches, "TABLE"),
+        value_of(matches, "ROOT"),
+        value_of(matches, "HEX"),
     ) else {
         return Err(Unread::Missing);
     };
     let bytes = read_bytes(alloc, hex)?;
-    let handles = match matches.get_strs("handle") {
-        Some(texts) => read_handles(alloc, texts)?,
-        None => Vec::new(alloc),
-    };
+    let handles = given_handles(alloc, matches)?;
     Ok(DecodeArguments {
         table,
         root,
@@ -162,7 +193,10 @@ fn read_decode<'a>(alloc: Global, matches: &ArgMatches<'a>) -> Result<DecodeArgu
 pub(crate) fn read_arguments<'a, S: AsStr>(
     alloc: Global,
     words: &'a [S],
-) -> Result<DecodeArguments<'a>, Unread> {
+) -> Result<DecodeArguments<'a>, Unread>
+    ensures ok { IfOk result (IsGiven (map S.text words.entry.now)) }
+    ensures err { IfErr result (IsUngiven (map S.text words.entry.now)) }
+{
     let matches = match command_line(alloc)?.try_get_matches_from(words) {
         Ok(matches) => matches,
         Err(error) => return Err(Unread::from_clap(alloc, &error)),

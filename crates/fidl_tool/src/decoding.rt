@@ -1,13 +1,14 @@
 //! The command `decode`.
-ghost use Rattle.std.specs.Prelude.{◌≡◌, ◌≢◌, ◌↔◌, ℕ, ◌++◌, List, None, IfSome, OnOk, OnErr, IsSome, ◌⊎◌, codes};
+ghost use Rattle.std.specs.Prelude.{◌≡◌, ◌≢◌, ◌++◌, IfSome, OnOk, OnErr, IsSome, codes};
 ghost use Rattle.std.specs.Io.KnownBytes.{Appends};
 ghost use Rattle.fidl_wire.specs.Value.{Value};
 ghost use Rattle.fidl_wire.specs.Term as ty;
 ghost use Rattle.fidl_wire.specs.Message.{Encodes};
 ghost use Rattle.fidl_wire.specs.Text.{Text};
 ghost use Rattle.fidl_records.specs.Terms.{declarations_of};
-ghost use Rattle.fidl_tool.specs.Decoding.{HasRoot, LacksRoot, IsText, IsRefusal, CanEndDecode, no_root_line, no_memory_line};
-ghost use Rattle.fidl_tool.specs.Outputs.{Writes, AppendsFront};
+ghost use Rattle.fidl_tool.specs.Decoding.{HasRoot, LacksRoot, IsTextOf, IsRefusalOf};
+ghost use Rattle.fidl_tool.specs.Decoding.{CanEndDecode, no_root_line, no_memory_line};
+ghost use Rattle.fidl_tool.specs.Outputs.{Writes, AppendsOne, AppendsFrontOfOne, ReportsFailures};
 ghost use Rattle.fidl_tool.specs.declared.outcome.Outcome.TheVariants as outcome;
 
 use crate::files::File;
@@ -18,7 +19,7 @@ use crate::printer::write_value;
 use fidl_decode::{Decoded, Scratch};
 use fidl_verify::verify;
 use fidl_view::Views;
-use fidl_wire::HandleInfo;
+use fidl_wire::{HandleInfo, MAX_DEPTH};
 use std::alloc::Global;
 use std::io::Write;
 
@@ -32,12 +33,20 @@ pub struct TypedMessage<'m> {
 
 /// Writes the line of the text of the value that a message encodes.
 fn write_text<W: Write>(decoded: &Decoded<'_, '_, '_>, out: &mut Output<W>) -> Result<(), Failed>
-    ensures text { (v : Value) → Encodes (declarations_of decoded.now.table) (ty.named decoded.now.entry) v decoded.now.bytes decoded.now.handles
-        → Writes (W.contents out.old.writer) (W.contents out.new.writer) (Text (declarations_of decoded.now.table) (ty.named decoded.now.entry) v ++ codes "\n") result }
+    ensures text { (v : Value) → (let ds = declarations_of decoded.now.table in
+        Encodes ds (ty.named decoded.now.entry) v decoded.now.bytes decoded.now.handles
+        → Writes (W.contents out.old.writer) (W.contents out.new.writer)
+        (Text ds (ty.named decoded.now.entry) v ++ codes "\n") result) }
     ensures kept { OnOk result (out.new.failure ≡ out.old.failure) }
     ensures failed { OnErr result (IsSome out.new.failure) }
 {
-    write_value(decoded.table(), decoded.entry(), decoded.view(), out)?;
+    write_value(
+        decoded.table(),
+        decoded.entry(),
+        decoded.view(),
+        MAX_DEPTH,
+        out,
+    )?;
     out.write_all(b"\n")?;
     out.flush()
 }
@@ -55,19 +64,29 @@ pub fn decode<W: Write, E: Write>(
     errors: &mut Output<E>,
 ) -> Outcome
     ensures ends { CanEndDecode result }
-    ensures done { result ≡ outcome.Done → (line : List ℕ) × IsText file.now.bytes.now message.now.root.now message.now.bytes.now message.now.handles.now line
-        × Appends (W.contents out.old.writer) (W.contents out.new.writer) line }
-    ensures refused { result ≡ outcome.Refused → (line : List ℕ) × IsRefusal file.now.bytes.now message.now.root.now message.now.bytes.now message.now.handles.now line
-        × Appends (E.contents errors.old.writer) (E.contents errors.new.writer) line }
-    ensures no_root { result ≡ outcome.NoRoot → LacksRoot file.now.bytes.now message.now.root.now }
-    ensures no_root_line { result ≡ outcome.NoRoot → IfSome (no_root_line file.now.name.now message.now.root.now) (Appends (E.contents errors.old.writer) (E.contents errors.new.writer)) }
-    ensures memory { result ≡ outcome.NoMemory → HasRoot file.now.bytes.now message.now.root.now }
-    ensures memory_line { result ≡ outcome.NoMemory → Appends (E.contents errors.old.writer) (E.contents errors.new.writer) no_memory_line }
-    ensures unwritten { out.old.failure ≡ None → errors.old.failure ≡ None → (result ≡ outcome.Unwritten ↔ (IsSome out.new.failure ⊎ IsSome errors.new.failure)) }
-    ensures front { result ≡ outcome.Unwritten → W.contents out.new.writer ≡ W.contents out.old.writer
-        ⊎ ((line : List ℕ) × IsText file.now.bytes.now message.now.root.now message.now.bytes.now message.now.handles.now line × AppendsFront (W.contents out.old.writer) (W.contents out.new.writer) line) }
-    ensures out { result ≢ outcome.Done → result ≢ outcome.Unwritten → W.contents out.new.writer ≡ W.contents out.old.writer }
-    ensures errors { result ≡ outcome.Done → E.contents errors.new.writer ≡ E.contents errors.old.writer }
+    ensures done { result ≡ outcome.Done → AppendsOne (IsTextOf file.now.bytes.now message.now)
+        (W.contents out.old.writer) (W.contents out.new.writer) }
+    ensures refused { result ≡ outcome.Refused
+        → AppendsOne (IsRefusalOf file.now.bytes.now message.now)
+        (E.contents errors.old.writer) (E.contents errors.new.writer) }
+    ensures no_root { result ≡ outcome.NoRoot
+        → LacksRoot file.now.bytes.now message.now.root.now }
+    ensures no_root_line { result ≡ outcome.NoRoot
+        → IfSome (no_root_line file.now.name.now message.now.root.now)
+        (Appends (E.contents errors.old.writer) (E.contents errors.new.writer)) }
+    ensures memory { result ≡ outcome.NoMemory
+        → HasRoot file.now.bytes.now message.now.root.now }
+    ensures memory_line { result ≡ outcome.NoMemory
+        → Appends (E.contents errors.old.writer) (E.contents errors.new.writer) no_memory_line }
+    ensures unwritten { ReportsFailures result out.old.failure out.new.failure
+        errors.old.failure errors.new.failure }
+    ensures front { result ≡ outcome.Unwritten
+        → AppendsFrontOfOne (IsTextOf file.now.bytes.now message.now)
+        (W.contents out.old.writer) (W.contents out.new.writer) }
+    ensures out { result ≢ outcome.Done → result ≢ outcome.Unwritten
+        → W.contents out.new.writer ≡ W.contents out.old.writer }
+    ensures errors { result ≡ outcome.Done
+        → E.contents errors.new.writer ≡ E.contents errors.old.writer }
 {
     let table = match verify(file.bytes) {
         Ok(table) => table,

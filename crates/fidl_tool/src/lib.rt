@@ -14,6 +14,7 @@ mod outcome;
 mod output;
 mod printer;
 mod program;
+mod quoted;
 mod unread;
 
 pub use crate::decoding::{TypedMessage, decode};

@@ -9,7 +9,8 @@ use std::io::Write;
 
 /// A text as it is.
 pub(crate) fn write_text<W: Write>(out: &mut Output<W>, text: &str) -> Result<(), Failed>
-    ensures text { OnOk result (Appends (W.contents out.old.writer) (W.contents out.new.writer) text.now) }
+    ensures text { OnOk result
+        (Appends (W.contents out.old.writer) (W.contents out.new.writer) text.now) }
     ensures kept { OnOk result (out.new.failure ≡ out.old.failure) }
     ensures failed { OnErr result (IsSome out.new.failure) }
 {
@@ -19,7 +20,8 @@ pub(crate) fn write_text<W: Write>(out: &mut Output<W>, text: &str) -> Result<()
 
 /// A text and a line feed.
 pub(crate) fn write_line<E: Write>(errors: &mut Output<E>, text: &str) -> Result<(), Failed>
-    ensures line { OnOk result (Appends (E.contents errors.old.writer) (E.contents errors.new.writer) (text.now ++ codes "\n")) }
+    ensures line { OnOk result (Appends (E.contents errors.old.writer) (E.contents errors.new.writer)
+        (text.now ++ codes "\n")) }
     ensures kept { OnOk result (errors.new.failure ≡ errors.old.failure) }
     ensures failed { OnErr result (IsSome errors.new.failure) }
 {
@@ -36,7 +38,8 @@ pub(crate) fn write_refusal<E: Write>(
     name: &str,
     place: usize,
 ) -> Result<(), Failed>
-    ensures line { OnOk result (Appends (E.contents errors.old.writer) (E.contents errors.new.writer) (refusal_line stage.now number name.now place)) }
+    ensures line { OnOk result (Appends (E.contents errors.old.writer) (E.contents errors.new.writer)
+        (refusal_line stage.now number name.now place)) }
     ensures kept { OnOk result (errors.new.failure ≡ errors.old.failure) }
     ensures failed { OnErr result (IsSome errors.new.failure) }
 {
@@ -50,7 +53,8 @@ pub(crate) fn write_no_root<E: Write>(
     table: &str,
     root: &str,
 ) -> Result<(), Failed>
-    ensures line { OnOk result (IfSome (no_root_line table.now root.now) (Appends (E.contents errors.old.writer) (E.contents errors.new.writer))) }
+    ensures line { OnOk result (IfSome (no_root_line table.now root.now)
+        (Appends (E.contents errors.old.writer) (E.contents errors.new.writer))) }
     ensures kept { OnOk result (errors.new.failure ≡ errors.old.failure) }
     ensures failed { OnErr result (IsSome errors.new.failure) }
 {
@@ -76,7 +80,8 @@ pub(crate) fn write_no_file<E: Write>(
 
 /// The line where memory ran out.
 pub(crate) fn write_no_memory<E: Write>(errors: &mut Output<E>) -> Result<(), Failed>
-    ensures line { OnOk result (Appends (E.contents errors.old.writer) (E.contents errors.new.writer) no_memory_line) }
+    ensures line { OnOk result
+        (Appends (E.contents errors.old.writer) (E.contents errors.new.writer) no_memory_line) }
     ensures kept { OnOk result (errors.new.failure ≡ errors.old.failure) }
     ensures failed { OnErr result (IsSome errors.new.failure) }
 {

@@ -63,7 +63,8 @@ impl<W: Write> Output<W> {
 
     /// Writes all of the bytes, or a front of them and fails. A write that was interrupted is tried again.
     pub fn write_all(&mut self, bytes: &[u8]) -> Result<(), Failed>
-        ensures bytes { Writes (W.contents self.old.writer) (W.contents self.new.writer) bytes.now result }
+        ensures bytes { Writes (W.contents self.old.writer) (W.contents self.new.writer)
+            bytes.now result }
         ensures kept { OnOk result (self.new.failure ≡ self.old.failure) }
         ensures failed { OnErr result (IsSome self.new.failure) }
     {
@@ -84,7 +85,8 @@ impl<W: Write> Output<W> {
 
     /// Writes a text, as `write!` gives it. Where this fails, no contract says what was written.
     pub fn write_fmt<D: Display + Drop>(&mut self, text: D) -> Result<(), Failed>
-        ensures bytes { OnOk result (IfSome (D.output text) (Appends (W.contents self.old.writer) (W.contents self.new.writer))) }
+        ensures bytes { OnOk result (IfSome (D.output text)
+            (Appends (W.contents self.old.writer) (W.contents self.new.writer))) }
         ensures kept { OnOk result (self.new.failure ≡ self.old.failure) }
         ensures failed { OnErr result (IsSome self.new.failure) }
     {
@@ -94,7 +96,8 @@ impl<W: Write> Output<W> {
 
     /// Writes a text and a line feed, as `writeln!` gives them. Where this fails, no contract says what was written.
     pub fn writeln<D: Display + Drop>(&mut self, text: D) -> Result<(), Failed>
-        ensures bytes { OnOk result (IfSome (with_newline (D.output text)) (Appends (W.contents self.old.writer) (W.contents self.new.writer))) }
+        ensures bytes { OnOk result (IfSome (with_newline (D.output text))
+            (Appends (W.contents self.old.writer) (W.contents self.new.writer))) }
         ensures kept { OnOk result (self.new.failure ≡ self.old.failure) }
         ensures failed { OnErr result (IsSome self.new.failure) }
     {

@@ -1,7 +1,6 @@
 //! The text of a value, as a view shows it (docs/wire.md, "The written text of a value").
-ghost use Rattle.std.specs.Prelude.{◌≡◌, ℕ, ◌<◌, OnOk, OnErr, IsSome};
+ghost use Rattle.std.specs.Prelude.{◌≡◌, ℕ, ◌<◌, ◌≤◌, Bool, OnOk, OnErr, IsSome};
 ghost use Rattle.fidl_wire.specs.Term as ty;
-ghost use Rattle.fidl_wire.specs.Term.{resolve};
 ghost use Rattle.fidl_wire.specs.Figure.{Declarations};
 ghost use Rattle.fidl_wire.specs.Text.{comma_if};
 ghost use Rattle.fidl_records.specs.declared.kind.EntryKind.TheVariants as EntryKind;
@@ -9,10 +8,13 @@ ghost use Rattle.fidl_records.specs.Section.{header_of, entry_at};
 ghost use Rattle.fidl_records.specs.Terms.{declarations_of};
 ghost use Rattle.fidl_records.specs.Entry.{IsOf};
 ghost use Rattle.fidl_records.specs.WellFormed.{WellFormed};
-ghost use Rattle.fidl_tool.specs.Parts.{HasPart, Prints};
+ghost use Rattle.fidl_view.specs.Parts.{numbers_of};
+ghost use Rattle.fidl_wire.specs.declared.limits.TheConstants.{MAX_NEST};
+ghost use Rattle.fidl_tool.specs.Parts.{HasPart, HasPartWithin, Prints, HasValueWithin, PrintsValue, HasElementsWithin, PrintsElements, HasMembersWithin, PrintsMembers};
 ghost use Rattle.fidl_tool.specs.Outputs.{Writes};
 
 use crate::output::{Failed, Output};
+use crate::quoted::{write_handle, write_quoted};
 use fidl_records::EntryKind;
 use fidl_verify::Table;
 use fidl_view::View;
@@ -21,7 +23,8 @@ use std::io::Write;
 
 /// Writes what stands between one element or member and the next.
 fn write_comma<W: Write>(out: &mut Output<W>, later: bool) -> Result<(), Failed>
-    ensures text { Writes (W.contents out.old.writer) (W.contents out.new.writer) (comma_if later) result }
+    ensures text { Writes (W.contents out.old.writer) (W.contents out.new.writer)
+        (comma_if later) result }
     ensures kept { OnOk result (out.new.failure ≡ out.old.failure) }
     ensures failed { OnErr result (IsSome out.new.failure) }
 {
@@ -30,7 +33,8 @@ fn write_comma<W: Write>(out: &mut Output<W>, later: bool) -> Result<(), Failed>
 
 fn write_bool<W: Write>(view: View<'_, '_>, out: &mut Output<W>) -> Result<(), Failed>
     requires { (ds : Declarations) × HasPart ds ty.bool view }
-    ensures text { (ds : Declarations) → Prints ds ty.bool view.entry (W.contents out.old.writer) (W.contents out.new.writer) result }
+    ensures text { (ds : Declarations) → Prints ds ty.bool view.entry
+        (W.contents out.old.writer) (W.contents out.new.writer) result }
     ensures kept { OnOk result (out.new.failure ≡ out.old.failure) }
     ensures failed { OnErr result (IsSome out.new.failure) }
 {
@@ -38,10 +42,13 @@ fn write_bool<W: Write>(view: View<'_, '_>, out: &mut Output<W>) -> Result<(), F
     out.write_all(if value { b"true" } else { b"false" })
 }
 
+/// Writes a number, also of bits or an enum.
 fn write_number<W: Write>(view: View<'_, '_>, out: &mut Output<W>) -> Result<(), Failed>
     requires well_formed { WellFormed view.decoded.now.table }
-    requires part { (ds : Declarations) × (kind : ty.Kind) × HasPart ds (ty.number kind) view }
-    ensures text { (ds : Declarations) (kind : ty.Kind) → Prints ds (ty.number kind) view.entry (W.contents out.old.writer) (W.contents out.new.writer) result }
+    requires part { (ds : Declarations) × (t : ty.Term) × IsSome (numbers_of t)
+        × HasPart ds t view }
+    ensures text { (ds : Declarations) (t : ty.Term) → IsSome (numbers_of t)
+        → Prints ds t view.entry (W.contents out.old.writer) (W.contents out.new.writer) result }
     ensures kept { OnOk result (out.new.failure ≡ out.old.failure) }
     ensures failed { OnErr result (IsSome out.new.failure) }
 {
@@ -55,18 +62,48 @@ fn write_number<W: Write>(view: View<'_, '_>, out: &mut Output<W>) -> Result<(),
     }
 }
 
-/// Writes an array of elements of an entry.
+/// Writes a string between quotes, or that it is absent.
+fn write_string<W: Write>(view: View<'_, '_>, out: &mut Output<W>) -> Result<(), Failed>
+    ensures text { (ds : Declarations) (optional : Bool) (bound : ℕ)
+        → Prints ds (ty.string optional bound) view.entry
+        (W.contents out.old.writer) (W.contents out.new.writer) result }
+    ensures kept { OnOk result (out.new.failure ≡ out.old.failure) }
+    ensures failed { OnErr result (IsSome out.new.failure) }
+{
+    match view.as_str() {
+        Some(text) => write_quoted(text.as_bytes(), out),
+        None => out.write_all(b"absent"),
+    }
+}
+
+/// Writes the record of a handle, or that it is absent.
+fn write_handle_or_absent<W: Write>(view: View<'_, '_>, out: &mut Output<W>) -> Result<(), Failed>
+    ensures text { (ds : Declarations) (optional : Bool) (subtype rights : ℕ)
+        → Prints ds (ty.handle optional subtype rights) view.entry
+        (W.contents out.old.writer) (W.contents out.new.writer) result }
+    ensures kept { OnOk result (out.new.failure ≡ out.old.failure) }
+    ensures failed { OnErr result (IsSome out.new.failure) }
+{
+    match view.handle() {
+        Some(handle) => write_handle(handle, out),
+        None => out.write_all(b"absent"),
+    }
+}
+
+/// Writes the elements of an array, or of a vector that is there: values of an entry, of at most this depth.
 #[cycle(write)]
 fn write_elements<W: Write>(
     table: &Table<'_>,
     element: u32,
     view: View<'_, '_>,
+    depth: usize,
     out: &mut Output<W>,
 ) -> Result<(), Failed>
     requires table { view.decoded.now.table ≡ table.now }
     requires element { element < (header_of table.now).entries }
-    requires part { (count : ℕ) × HasPart (declarations_of table.now) (ty.array (ty.named element) count) view }
-    ensures text { (count : ℕ) → Prints (declarations_of table.now) (ty.array (ty.named element) count) view.entry (W.contents out.old.writer) (W.contents out.new.writer) result }
+    requires part { HasElementsWithin table.now element depth view }
+    ensures text { PrintsElements table.now element view.entry
+        (W.contents out.old.writer) (W.contents out.new.writer) result }
     ensures kept { OnOk result (out.new.failure ≡ out.old.failure) }
     ensures failed { OnErr result (IsSome out.new.failure) }
 {
@@ -75,24 +112,26 @@ fn write_elements<W: Write>(
     for at in 0..count {
         write_comma(out, at > 0)?;
         let part = view.element(at).unwrap();
-        write_value(table, element, part, out)?;
+        write_value(table, element, part, depth, out)?;
     }
     out.write_all(b"]")
 }
 
-/// Writes a struct of an entry.
+/// Writes a struct of an entry, or such a struct in a box that is there: its members are of at most this depth.
 #[cycle(write)]
 fn write_members<W: Write>(
     table: &Table<'_>,
     index: u32,
     view: View<'_, '_>,
+    depth: usize,
     out: &mut Output<W>,
 ) -> Result<(), Failed>
     requires table { view.decoded.now.table ≡ table.now }
     requires index { index < (header_of table.now).entries }
     requires of_struct { IsOf EntryKind.Struct (entry_at table.now index) }
-    requires part { HasPart (declarations_of table.now) (resolve (declarations_of table.now).terms (ty.named index)) view }
-    ensures text { Prints (declarations_of table.now) (resolve (declarations_of table.now).terms (ty.named index)) view.entry (W.contents out.old.writer) (W.contents out.new.writer) result }
+    requires part { HasMembersWithin table.now index depth view }
+    ensures text { PrintsMembers table.now index view.entry
+        (W.contents out.old.writer) (W.contents out.new.writer) result }
     ensures kept { OnOk result (out.new.failure ≡ out.old.failure) }
     ensures failed { OnErr result (IsSome out.new.failure) }
 {
@@ -106,23 +145,76 @@ fn write_members<W: Write>(
         out.write_all(table.row_name(&row))?;
         out.write_all(b": ")?;
         let part = view.field(at as usize).unwrap();
-        write_value(table, row.entry, part, out)?;
+        write_value(table, row.entry, part, depth, out)?;
     }
     out.write_all(b"}")
 }
 
-/// Writes the text of the value of an entry that a view shows.
+/// Writes a vector of elements of an entry, or that it is absent.
+#[cycle(write)]
+fn write_vector<W: Write>(
+    table: &Table<'_>,
+    element: u32,
+    view: View<'_, '_>,
+    depth: usize,
+    out: &mut Output<W>,
+) -> Result<(), Failed>
+    requires table { view.decoded.now.table ≡ table.now }
+    requires element { element < (header_of table.now).entries }
+    requires nest { (entry_at table.now element).nest ≤ MAX_NEST }
+    requires part { (optional : Bool) × (bound : ℕ) × HasPartWithin (declarations_of table.now)
+        (ty.vector optional bound (ty.named element)) depth view }
+    ensures text { (optional : Bool) (bound : ℕ) → Prints (declarations_of table.now)
+        (ty.vector optional bound (ty.named element)) view.entry
+        (W.contents out.old.writer) (W.contents out.new.writer) result }
+    ensures kept { OnOk result (out.new.failure ≡ out.old.failure) }
+    ensures failed { OnErr result (IsSome out.new.failure) }
+{
+    if view.is_absent() {
+        return out.write_all(b"absent");
+    }
+    write_elements(table, element, view, depth - 1, out)
+}
+
+/// Writes the struct of an entry in a box, or that it is absent.
+#[cycle(write)]
+fn write_box<W: Write>(
+    table: &Table<'_>,
+    index: u32,
+    view: View<'_, '_>,
+    depth: usize,
+    out: &mut Output<W>,
+) -> Result<(), Failed>
+    requires well_formed { WellFormed table.now }
+    requires table { view.decoded.now.table ≡ table.now }
+    requires index { index < (header_of table.now).entries }
+    requires of_struct { IsOf EntryKind.Struct (entry_at table.now index) }
+    requires part { HasPartWithin (declarations_of table.now) (ty.box (ty.named index)) depth view }
+    ensures text { Prints (declarations_of table.now) (ty.box (ty.named index)) view.entry
+        (W.contents out.old.writer) (W.contents out.new.writer) result }
+    ensures kept { OnOk result (out.new.failure ≡ out.old.failure) }
+    ensures failed { OnErr result (IsSome out.new.failure) }
+{
+    if view.is_absent() {
+        return out.write_all(b"absent");
+    }
+    write_members(table, index, view, depth - 1, out)
+}
+
+/// Writes the text of the value of an entry, of at most this depth, that a view shows.
 #[cycle(write)]
 pub(crate) fn write_value<W: Write>(
     table: &Table<'_>,
     index: u32,
     view: View<'_, '_>,
+    depth: usize,
     out: &mut Output<W>,
 ) -> Result<(), Failed>
     requires table { view.decoded.now.table ≡ table.now }
     requires index { index < (header_of table.now).entries }
-    requires part { HasPart (declarations_of table.now) (resolve (declarations_of table.now).terms (ty.named index)) view }
-    ensures text { Prints (declarations_of table.now) (resolve (declarations_of table.now).terms (ty.named index)) view.entry (W.contents out.old.writer) (W.contents out.new.writer) result }
+    requires part { HasValueWithin table.now index depth view }
+    ensures text { PrintsValue table.now index view.entry
+        (W.contents out.old.writer) (W.contents out.new.writer) result }
     ensures kept { OnOk result (out.new.failure ≡ out.old.failure) }
     ensures failed { OnErr result (IsSome out.new.failure) }
 {
@@ -130,8 +222,12 @@ pub(crate) fn write_value<W: Write>(
     let kind = EntryKind::from_number(entry.kind).unwrap();
     match kind {
         EntryKind::Bool => write_bool(view, out),
-        EntryKind::Array => write_elements(table, entry.first, view, out),
-        EntryKind::Struct => write_members(table, index, view, out),
+        EntryKind::String => write_string(view, out),
+        EntryKind::Handle => write_handle_or_absent(view, out),
+        EntryKind::Array => write_elements(table, entry.first, view, depth, out),
+        EntryKind::Vector => write_vector(table, entry.first, view, depth, out),
+        EntryKind::Struct => write_members(table, index, view, depth, out),
+        EntryKind::Box => write_box(table, entry.first, view, depth, out),
         _ => write_number(view, out),
     }
 }

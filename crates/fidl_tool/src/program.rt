@@ -1,13 +1,12 @@
 //! The program, over its words, its files and two writers.
-ghost use Rattle.std.specs.Prelude.{◌≡◌, ◌≢◌, ◌↔◌, ◌⊎◌, ℕ, List, None, IfSome, IsSome};
+ghost use Rattle.std.specs.Prelude.{◌≡◌, ◌≢◌, ◌↔◌, ◌⊎◌, ℕ, List, None, IfSome, IsSome, map};
 ghost use Rattle.std.specs.Io.KnownBytes.{Appends};
 ghost use Rattle.std.specs.IoError.{error_kind};
 ghost use Rattle.std.specs.declared.io.ErrorKind.TheVariants as error_kinds;
 ghost use Rattle.fidl_tool.specs.Arguments.{outcome_of, text_of, line_of};
-ghost use Rattle.fidl_tool.specs.Decoding.{LacksRoot, IsText, IsRefusal, no_root_line, no_memory_line, CanEndRun};
-ghost use Rattle.fidl_tool.specs.Outputs.{AppendsFront};
-ghost use Rattle.fidl_tool.specs.declared.arguments.DecodeArguments.{DecodeArguments};
-ghost use Rattle.fidl_tool.specs.declared.unread.Unread.{Unread};
+ghost use Rattle.fidl_tool.specs.Decoding.{LacksRoot, no_root_line, no_memory_line, CanEndRun};
+ghost use Rattle.fidl_tool.specs.Outputs.{AppendsFront, AppendsOne, ReportsFailures};
+ghost use Rattle.fidl_tool.specs.Running.{IsGivenText, IsGivenRefusal, OfTable, Gives, GivesNone};
 ghost use Rattle.fidl_tool.specs.declared.outcome.Outcome.TheVariants as outcome;
 
 use crate::arguments::{DecodeArguments, read_arguments};
@@ -29,9 +28,12 @@ pub(crate) fn tell<W: Write, E: Write>(
     errors: &mut Output<E>,
 ) -> Outcome
     ensures outcome { result ≢ outcome.Unwritten → result ≡ outcome_of unread.now }
-    ensures out { result ≢ outcome.Unwritten → Appends (W.contents out.old.writer) (W.contents out.new.writer) (text_of unread.now) }
-    ensures errors { result ≢ outcome.Unwritten → Appends (E.contents errors.old.writer) (E.contents errors.new.writer) (line_of unread.now) }
-    ensures unwritten { out.old.failure ≡ None → errors.old.failure ≡ None → (result ≡ outcome.Unwritten ↔ (IsSome out.new.failure ⊎ IsSome errors.new.failure)) }
+    ensures out { result ≢ outcome.Unwritten
+        → Appends (W.contents out.old.writer) (W.contents out.new.writer) (text_of unread.now) }
+    ensures errors { result ≢ outcome.Unwritten
+        → Appends (E.contents errors.old.writer) (E.contents errors.new.writer) (line_of unread.now) }
+    ensures unwritten { ReportsFailures result out.old.failure out.new.failure
+        errors.old.failure errors.new.failure }
 {
     let written = match unread {
         Unread::Asked { text } => write_text(out, text.as_str()),
@@ -45,10 +47,14 @@ pub(crate) fn tell<W: Write, E: Write>(
 
 /// Tells that a file cannot be read, or that memory ran out for it.
 fn tell_no_file<E: Write>(name: &str, error: &io::Error, errors: &mut Output<E>) -> Outcome
-    ensures ends { result ≢ outcome.Unwritten → result ≡ outcome.NoFile ⊎ result ≡ outcome.NoMemory }
-    ensures no_file { result ≡ outcome.NoFile → error_kind error.now ≢ error_kinds.OutOfMemory }
-    ensures memory_line { result ≡ outcome.NoMemory → Appends (E.contents errors.old.writer) (E.contents errors.new.writer) no_memory_line }
-    ensures unwritten { errors.old.failure ≡ None → (result ≡ outcome.Unwritten ↔ IsSome errors.new.failure) }
+    ensures ends { result ≢ outcome.Unwritten
+        → result ≡ outcome.NoFile ⊎ result ≡ outcome.NoMemory }
+    ensures no_file { result ≡ outcome.NoFile
+        → error_kind error.now ≢ error_kinds.OutOfMemory }
+    ensures memory_line { result ≡ outcome.NoMemory
+        → Appends (E.contents errors.old.writer) (E.contents errors.new.writer) no_memory_line }
+    ensures unwritten { errors.old.failure ≡ None
+        → (result ≡ outcome.Unwritten ↔ IsSome errors.new.failure) }
 {
     match error.kind() {
         io::ErrorKind::OutOfMemory => Outcome::NoMemory.where_written(&write_no_memory(errors)),
@@ -65,19 +71,32 @@ fn run_decode<F: Files, W: Write, E: Write>(
     errors: &mut Output<E>,
 ) -> Outcome
     ensures ends { CanEndRun result }
-    ensures done { result ≡ outcome.Done → IfSome (F.bytes_of files.now arguments.now.table.now) (λ table.
-        (line : List ℕ) × IsText table arguments.now.root.now arguments.now.bytes.items arguments.now.handles.items line × Appends (W.contents out.old.writer) (W.contents out.new.writer) line) }
-    ensures refused { result ≡ outcome.Refused → IfSome (F.bytes_of files.now arguments.now.table.now) (λ table.
-        (line : List ℕ) × IsRefusal table arguments.now.root.now arguments.now.bytes.items arguments.now.handles.items line × Appends (E.contents errors.old.writer) (E.contents errors.new.writer) line) }
-    ensures no_root { result ≡ outcome.NoRoot → IfSome (F.bytes_of files.now arguments.now.table.now) (λ table. LacksRoot table arguments.now.root.now) }
-    ensures no_root_line { result ≡ outcome.NoRoot → IfSome (no_root_line arguments.now.table.now arguments.now.root.now) (Appends (E.contents errors.old.writer) (E.contents errors.new.writer)) }
-    ensures no_file { result ≡ outcome.NoFile → F.bytes_of files.now arguments.now.table.now ≡ None }
-    ensures memory_line { result ≡ outcome.NoMemory → Appends (E.contents errors.old.writer) (E.contents errors.new.writer) no_memory_line }
-    ensures unwritten { out.old.failure ≡ None → errors.old.failure ≡ None → (result ≡ outcome.Unwritten ↔ (IsSome out.new.failure ⊎ IsSome errors.new.failure)) }
-    ensures front { result ≡ outcome.Unwritten → W.contents out.new.writer ≡ W.contents out.old.writer ⊎ IfSome (F.bytes_of files.now arguments.now.table.now) (λ table.
-        (line : List ℕ) × IsText table arguments.now.root.now arguments.now.bytes.items arguments.now.handles.items line × AppendsFront (W.contents out.old.writer) (W.contents out.new.writer) line) }
-    ensures out { result ≢ outcome.Done → result ≢ outcome.Unwritten → W.contents out.new.writer ≡ W.contents out.old.writer }
-    ensures errors { result ≡ outcome.Done → E.contents errors.new.writer ≡ E.contents errors.old.writer }
+    ensures done { result ≡ outcome.Done → OfTable (F.bytes_of files.now) arguments.now
+        (λ table. AppendsOne (IsGivenText arguments.now table)
+        (W.contents out.old.writer) (W.contents out.new.writer)) }
+    ensures refused { result ≡ outcome.Refused → OfTable (F.bytes_of files.now) arguments.now
+        (λ table. AppendsOne (IsGivenRefusal arguments.now table)
+        (E.contents errors.old.writer) (E.contents errors.new.writer)) }
+    ensures no_root { result ≡ outcome.NoRoot → OfTable (F.bytes_of files.now) arguments.now
+        (λ table. LacksRoot table arguments.now.root.now) }
+    ensures no_root_line { result ≡ outcome.NoRoot
+        → IfSome (no_root_line arguments.now.table.now arguments.now.root.now)
+        (Appends (E.contents errors.old.writer) (E.contents errors.new.writer)) }
+    ensures no_file { result ≡ outcome.NoFile
+        → F.bytes_of files.now arguments.now.table.now ≡ None }
+    ensures memory_line { result ≡ outcome.NoMemory
+        → Appends (E.contents errors.old.writer) (E.contents errors.new.writer) no_memory_line }
+    ensures unwritten { ReportsFailures result out.old.failure out.new.failure
+        errors.old.failure errors.new.failure }
+    ensures front { result ≡ outcome.Unwritten
+        → W.contents out.new.writer ≡ W.contents out.old.writer
+        ⊎ OfTable (F.bytes_of files.now) arguments.now (λ table. (line : List ℕ)
+        × IsGivenText arguments.now table line
+        × AppendsFront (W.contents out.old.writer) (W.contents out.new.writer) line) }
+    ensures out { result ≢ outcome.Done → result ≢ outcome.Unwritten
+        → W.contents out.new.writer ≡ W.contents out.old.writer }
+    ensures errors { result ≡ outcome.Done
+        → E.contents errors.new.writer ≡ E.contents errors.old.writer }
 {
     let name = arguments.table;
     let table = match files.read(alloc, name) {
@@ -99,15 +118,22 @@ pub fn run<S: AsStr, F: Files, W: Write, E: Write>(
     out: &mut Output<W>,
     errors: &mut Output<E>,
 ) -> Outcome
-    ensures done { result ≡ outcome.Done → (given : DecodeArguments) × IfSome (F.bytes_of files.now given.table.now) (λ table.
-        (line : List ℕ) × IsText table given.root.now given.bytes.items given.handles.items line × Appends (W.contents out.old.writer) (W.contents out.new.writer) line) }
-    ensures refused { result ≡ outcome.Refused → (given : DecodeArguments) × IfSome (F.bytes_of files.now given.table.now) (λ table.
-        (line : List ℕ) × IsRefusal table given.root.now given.bytes.items given.handles.items line × Appends (E.contents errors.old.writer) (E.contents errors.new.writer) line) }
-    ensures no_root { result ≡ outcome.NoRoot → (given : DecodeArguments) × IfSome (F.bytes_of files.now given.table.now) (λ table. LacksRoot table given.root.now) }
-    ensures no_file { result ≡ outcome.NoFile → (given : DecodeArguments) × (F.bytes_of files.now given.table.now ≡ None) }
-    ensures asked { result ≡ outcome.Asked → (unread : Unread) × (outcome_of unread ≡ outcome.Asked) × Appends (W.contents out.old.writer) (W.contents out.new.writer) (text_of unread) }
-    ensures wrong_line { result ≡ outcome.WrongLine → (unread : Unread) × (outcome_of unread ≡ outcome.WrongLine) × Appends (E.contents errors.old.writer) (E.contents errors.new.writer) (line_of unread) }
-    ensures unwritten { out.old.failure ≡ None → errors.old.failure ≡ None → (result ≡ outcome.Unwritten ↔ (IsSome out.new.failure ⊎ IsSome errors.new.failure)) }
+    ensures done { result ≡ outcome.Done → Gives (map S.text words.now)
+        (λ given. OfTable (F.bytes_of files.now) given (λ table. AppendsOne (IsGivenText given table)
+        (W.contents out.old.writer) (W.contents out.new.writer))) }
+    ensures refused { result ≡ outcome.Refused → Gives (map S.text words.now)
+        (λ given. OfTable (F.bytes_of files.now) given (λ table. AppendsOne (IsGivenRefusal given table)
+        (E.contents errors.old.writer) (E.contents errors.new.writer))) }
+    ensures no_root { result ≡ outcome.NoRoot → Gives (map S.text words.now)
+        (λ given. OfTable (F.bytes_of files.now) given (λ table. LacksRoot table given.root.now)) }
+    ensures no_file { result ≡ outcome.NoFile → Gives (map S.text words.now)
+        (λ given. F.bytes_of files.now given.table.now ≡ None) }
+    ensures asked { result ≡ outcome.Asked → GivesNone (map S.text words.now) outcome.Asked
+        (λ unread. Appends (W.contents out.old.writer) (W.contents out.new.writer) (text_of unread)) }
+    ensures wrong_line { result ≡ outcome.WrongLine → GivesNone (map S.text words.now) outcome.WrongLine
+        (λ unread. Appends (E.contents errors.old.writer) (E.contents errors.new.writer) (line_of unread)) }
+    ensures unwritten { ReportsFailures result out.old.failure out.new.failure
+        errors.old.failure errors.new.failure }
 {
     match read_arguments(alloc, words) {
         Ok(arguments) => run_decode(alloc, &arguments, files, out, errors),

@@ -28,9 +28,9 @@ pub(crate) enum Unread {
 }
 
 impl From<AllocError> for Unread {
-    fn from(_error: AllocError) -> Unread
-        ensures { result ≡ unread.Memory }
-    {
+    ghost from_gives = { λ _ u. u ≡ unread.Memory };
+
+    fn from(_error: AllocError) -> Unread {
         Unread::Memory
     }
 }

@@ -1,4 +1,4 @@
-use Rattle.std.proofs.Common.{ℕ, List, ◌++◌, sym, ap, subst, ◌∙◌, inr}
+use Rattle.std.proofs.Common.{ℕ, List, ◌++◌, sym, ap, subst, ◌∙◌, inl, inr}
 use Rattle.std.specs.Prelude.{codes}
 use Rattle.fidl_wire.specs.Term as ty
 use Rattle.fidl_wire.specs.Text.{Text}
@@ -7,9 +7,9 @@ use Rattle.fidl_records.specs.Terms.{declarations_of}
 use Rattle.fidl_verify.specs.Faults as table_faults
 use Rattle.fidl_decode.specs.Faults as message_faults
 use Rattle.fidl_tool.specs.declared.outcome.Outcome.TheVariants as outcome
-use Rattle.fidl_tool.specs.Decoding.{refusal_line, table_line, message_line, value, of_table, of_message}
+use Rattle.fidl_tool.specs.Decoding.{CanEndDecode, refusal_line, table_line, message_line, value, of_table, of_message}
 use Rattle.fidl_tool.proofs.Written.{appends_as, front_as}
-use Rattle.fidl_tool.proofs.Told.{told_written, told_never, root_of, no_root_of, encodes_as, text_as}
+use Rattle.fidl_tool.proofs.Told.{told_written, told_never, only_unwritten, root_of, no_root_of, encodes_as, text_as}
 use Rattle.fidl_decode.specs.Faults.{IsTold}
 use Rattle.fidl_tool.proofs.decoding.decode.Goals as goal
 
@@ -94,3 +94,21 @@ returns-clause-no_root g c q = told_never c.write_no_output.result outcome.Unwri
 
 pub returns-clause-memory : goal.returns-clause-memory
 returns-clause-memory g c q = told_never c.write_no_output.result outcome.Unwritten outcome.NoMemory c.where_written-in-Err-write_text.result c.where_written-in-Err-write_text.ensures q (λ e. cc) (λ e. cc)
+
+pub returns-clause-ends : goal.returns-clause-ends
+returns-clause-ends g c = subst CanEndDecode (sym (only_unwritten c.write_no_output.result c.where_written-in-Err-write_text.result c.where_written-in-Err-write_text.ensures)) tt
+
+pub returns-clause-no_root_line : goal.returns-clause-no_root_line
+returns-clause-no_root_line g c q = told_never c.write_no_output.result outcome.Unwritten outcome.NoRoot c.where_written-in-Err-write_text.result c.where_written-in-Err-write_text.ensures q (λ e. cc) (λ e. cc)
+
+pub returns-clause-memory_line : goal.returns-clause-memory_line
+returns-clause-memory_line g c q = told_never c.write_no_output.result outcome.Unwritten outcome.NoMemory c.where_written-in-Err-write_text.result c.where_written-in-Err-write_text.ensures q (λ e. cc) (λ e. cc)
+
+pub returns-clause-unwritten : goal.returns-clause-unwritten
+returns-clause-unwritten g c o e = (λ q. inl c.in-Err-write_text.ensures.failed, λ f. only_unwritten c.write_no_output.result c.where_written-in-Err-write_text.result c.where_written-in-Err-write_text.ensures)
+
+pub returns-clause-out : goal.returns-clause-out
+returns-clause-out g c a b = absurd (b (only_unwritten c.write_no_output.result c.where_written-in-Err-write_text.result c.where_written-in-Err-write_text.ensures))
+
+pub returns-clause-errors : goal.returns-clause-errors
+returns-clause-errors g c q = told_never c.write_no_output.result outcome.Unwritten outcome.Done c.where_written-in-Err-write_text.result c.where_written-in-Err-write_text.ensures q (λ e. cc) (λ e. cc)

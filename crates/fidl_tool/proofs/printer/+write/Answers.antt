@@ -1,97 +1,105 @@
-use Rattle.std.proofs.Common.{◌≡◌, ℕ, ◌+◌, ◌<◌, List, ◌++◌, refl, sym, ap, subst, ◌∙◌, arith}
+use Rattle.std.proofs.Common.{◌≡◌, ℕ, ◌+◌, ◌<◌, ◌≤◌, List, ◌++◌, refl, sym, ap, subst, ◌∙◌, arith}
 use Rattle.std.specs.Prelude.{Option, Some, IsSome, nat_lt, codes}
 use Rattle.fidl_wire.specs.Term.{Term, resolve}
 use Rattle.fidl_wire.specs.Term as ty
+use Rattle.fidl_wire.specs.Value.{Value, list, fields}
 use Rattle.fidl_wire.specs.Typed.{IsTyped}
+use Rattle.fidl_wire.specs.Depth.{depth_of, fields_depth}
 use Rattle.fidl_wire.specs.Text.{text_of, comma_if}
 use Rattle.fidl_records.specs.declared.record.Entry.{Entry}
 use Rattle.fidl_records.specs.declared.record.Row.{Row}
 use Rattle.fidl_records.specs.declared.kind.EntryKind.{EntryKind}
-use Rattle.fidl_records.specs.declared.kind.EntryKind.TheVariants.{Bool as Boolean, Array, Struct}
+use Rattle.fidl_records.specs.declared.kind.EntryKind.TheVariants.{Bool as Boolean, String, Vector, Array, Box, Struct, Handle}
 use Rattle.fidl_records.specs.Kind.{kind_of}
 use Rattle.fidl_records.specs.Section.{header_of, entry_at, row_at, name_at}
-use Rattle.fidl_records.specs.Terms.{declarations_of}
+use Rattle.fidl_records.specs.Terms.{declarations_of, term_as, is_optional}
 use Rattle.fidl_records.specs.Entry.{IsOf}
 use Rattle.fidl_records.specs.WellFormed.{WellFormed}
 use Rattle.fidl_decode.specs.Shown.{Shown}
 use Rattle.fidl_view.specs.Parts.{element_of, field_of}
-use Rattle.fidl_tool.proofs.Written.{appends_as, appends_then, front_as, first_failed, second_failed, third_failed, fourth_failed, failed_as, so_far_first, so_far_second, so_far_begin, so_far_more, so_far_written, begin_failed, so_far_as}
+use Rattle.fidl_tool.proofs.Written.{writes_as, appends_as, appends_then, front_as, first_failed, second_failed, third_failed, fourth_failed, failed_as, so_far_first, so_far_second, so_far_begin, so_far_more, so_far_written, begin_failed, so_far_as}
 use Rattle.fidl_tool.specs.Outputs.{Writes}
 use Rattle.fidl_tool.proofs.Printing as printing
-use Rattle.fidl_tool.proofs.Printing.{parts_of, part_as}
+use Rattle.fidl_tool.proofs.EntryTexts as entries
+use Rattle.fidl_tool.proofs.Printing.{part_as}
 use Rattle.fidl_tool.proofs.printer.+write.Goals as goal
+
+pub write_elements-unwrap-count-requires : goal.write_elements-unwrap-count-requires
+write_elements-unwrap-count-requires g t c = subst (λ (o : Option ℕ). IsSome o) (sym (c.len.ensures (list c.requires.part.1) c.requires.part.2.part.shown)) refl
 
 pub write_elements-unwrap-part-requires : goal.write_elements-unwrap-part-requires
 write_elements-unwrap-part-requires g t c =
-    let ds = declarations_of c.args.table.now in
-    let v = c.requires.part.1.0 in
-    let p = c.requires.part.1.1 in
-    let size = printing.array_count ds (ty.named c.args.element) c.requires.part.0 v p.typed c.len.result c.unwrap-count.result (c.len.ensures v p.shown) c.unwrap-count.ensures in
-    let x = printing.array_there ds (ty.named c.args.element) c.requires.part.0 v p.typed c.loop-at.at (omega (arith, c.loop-at-test.true, size)) in
-    printing.part_some c.args.view.decoded.now (element_of v c.loop-at.at) x.0 c.element.result x.1 (c.element.ensures.part v p.shown)
+    let b = c.args.table.now in
+    let vs = c.requires.part.1 in
+    let p = c.requires.part.2 in
+    let size = printing.list_count b c.args.element c.args.view c.requires.part.0 vs p c.len.result c.unwrap-count.result (c.len.ensures (list vs) p.part.shown) c.unwrap-count.ensures in
+    let x = printing.nth_there vs c.loop-at.at (omega (arith, c.loop-at-test.true, size)) in
+    printing.part_some c.args.view.decoded.now (element_of (list vs) c.loop-at.at) x.0 c.element.result x.1 (c.element.ensures.part (list vs) p.part.shown)
 
 pub write_elements-write_value-requires : goal.write_elements-write_value-requires
 write_elements-write_value-requires g t c κs within =
-    let ds = declarations_of c.args.table.now in
+    let b = c.args.table.now in
     let d = c.args.view.decoded.now in
-    let v = c.requires.part.1.0 in
-    let p = c.requires.part.1.1 in
-    let x = printing.part_shown d (element_of v c.loop-at.at) c.element.result c.unwrap-part.result c.unwrap-part.ensures (c.element.ensures.part v p.shown) in
-    let typed = printing.array_nth ds (ty.named c.args.element) c.requires.part.0 v p.typed c.loop-at.at x.0 x.1 in
-    let message = printing.same_message d c.element.result c.unwrap-part.result c.unwrap-part.ensures c.element.ensures.message in
-    (omega (arith, c.decreases), (within, (ap (λ (s : Shown). s.table) message ∙ c.requires.table, (c.requires.element, (x.0, record { shown = x.2; typed = typed.1 })))))
+    let vs = c.requires.part.1 in
+    let p = c.requires.part.2 in
+    let x = printing.part_shown d (element_of (list vs) c.loop-at.at) c.element.result c.unwrap-part.result c.unwrap-part.ensures (c.element.ensures.part (list vs) p.part.shown) in
+    let typed = printing.list_nth b c.args.element c.args.view c.requires.part.0 vs p c.loop-at.at x.0 x.1 in
+    let deep = printing.nth_depth (declarations_of b) (resolve (declarations_of b).terms (ty.named c.args.element)) vs c.loop-at.at x.0 x.1 in
+    let message = printing.same_message d c.element.result c.unwrap-part.result c.unwrap-part.ensures c.element.ensures.message in (
+      omega (arith, c.decreases),
+      (within, (ap (λ (s : Shown). s.table) message ∙ c.requires.table, (c.requires.element, (x.0, record { shown = x.2; typed = typed }, omega (arith, deep, c.requires.part.3))))),
+    )
 
 pub write_elements-loop-at-init : goal.write_elements-loop-at-init
 write_elements-loop-at-init g t c = (
-  record { left = λ n v p. so_far_begin _ _ _ _ _ c.in_ok-write_all.ensures.bytes (printing.array_text (declarations_of c.args.table.now) (ty.named c.args.element) n v p.typed) },
+  record { left = λ t vs p. so_far_begin _ _ _ _ _ c.in_ok-write_all.ensures.bytes (printing.list_text c.args.table.now c.args.element c.args.view t vs p) },
   c.in_ok-write_all.ensures.kept,
 )
 
 pub write_elements-loop-at-preserved : goal.write_elements-loop-at-preserved
 write_elements-loop-at-preserved g t c = (
   record {
-    left = λ n v p.
-        let ds = declarations_of c.args.table.now in
-        let x = printing.part_shown c.args.view.decoded.now (element_of v c.loop-at.at) c.element.result c.unwrap-part.result c.unwrap-part.ensures (c.element.ensures.part v p.shown) in
-        let typed = printing.array_nth ds (ty.named c.args.element) n v p.typed c.loop-at.at x.0 x.1 in
-        let wrote = appends_then _ _ _ _ _ c.in_ok-write_comma.ensures.text (c.in_ok-write_value.ensures.text x.0 (record { shown = x.2; typed = typed.1 })) in
-        so_far_more _ _ _ _ _ _ _ (c.loop-at.invariant.0.left n v p) wrote (printing.elements_at ds (resolve ds.terms (ty.named c.args.element)) (parts_of v) c.loop-at.at (c.loop-at.at + 1) x.0 (codes "]") typed.0 (omega arith));
+    left = λ t vs p.
+        let b = c.args.table.now in
+        let x = printing.part_shown c.args.view.decoded.now (element_of (list vs) c.loop-at.at) c.element.result c.unwrap-part.result c.unwrap-part.ensures (c.element.ensures.part (list vs) p.part.shown) in
+        let typed = printing.list_nth b c.args.element c.args.view t vs p c.loop-at.at x.0 x.1 in
+        let wrote = appends_then _ _ _ _ _ c.in_ok-write_comma.ensures.text (c.in_ok-write_value.ensures.text x.0 (record { shown = x.2; typed = typed })) in
+        so_far_more _ _ _ _ _ _ _ (c.loop-at.invariant.0.left t vs p) wrote (printing.elements_at (declarations_of b) (resolve (declarations_of b).terms (ty.named c.args.element)) vs c.loop-at.at (c.loop-at.at + 1) x.0 (codes "]") x.1 (omega arith));
   },
   c.in_ok-write_value.ensures.kept ∙ c.in_ok-write_comma.ensures.kept ∙ c.loop-at.invariant.1,
 )
 
 pub write_elements-returns-clause-text : goal.write_elements-returns-clause-text
-write_elements-returns-clause-text g t c n v p =
-    let ds = declarations_of c.args.table.now in
-    let size = printing.array_count ds (ty.named c.args.element) n v p.typed c.len.result c.unwrap-count.result (c.len.ensures v p.shown) c.unwrap-count.ensures in
-    let end = so_far_as _ _ _ _ (codes "]") (c.loop-at.invariant.0.left n v p) (printing.elements_end ds (resolve ds.terms (ty.named c.args.element)) (parts_of v) c.loop-at.at _ (codes "]") (omega (arith, c.loop-at-test.false, c.loop-at.auto.at-end, size))) in
+write_elements-returns-clause-text g t c n vs p =
+    let b = c.args.table.now in
+    let size = printing.list_count b c.args.element c.args.view n vs p c.len.result c.unwrap-count.result (c.len.ensures (list vs) p.part.shown) c.unwrap-count.ensures in
+    let end = so_far_as _ _ _ _ (codes "]") (c.loop-at.invariant.0.left n vs p) (printing.elements_end (declarations_of b) (resolve (declarations_of b).terms (ty.named c.args.element)) vs c.loop-at.at _ (codes "]") (omega (arith, c.loop-at-test.false, c.loop-at.auto.at-end, size))) in
     so_far_written _ _ _ _ _ c.write_all-2.result end c.write_all-2.ensures.bytes
 
 pub write_elements-returns-in_err-write_all-clause-text : goal.write_elements-returns-in_err-write_all-clause-text
-write_elements-returns-in_err-write_all-clause-text g t c n v p =
-    failed_as _ _ _ c.from_residual.result c.from_residual.ensures.0 (begin_failed _ _ _ _ _ c.in_err-write_all.ensures.bytes (printing.array_text (declarations_of c.args.table.now) (ty.named c.args.element) n v p.typed))
+write_elements-returns-in_err-write_all-clause-text g t c n vs p =
+    failed_as _ _ _ c.from_residual.result c.from_residual.ensures.0 (begin_failed _ _ _ _ _ c.in_err-write_all.ensures.bytes (printing.list_text c.args.table.now c.args.element c.args.view n vs p))
 
 pub write_elements-returns-in_err-write_comma-clause-text : goal.write_elements-returns-in_err-write_comma-clause-text
-write_elements-returns-in_err-write_comma-clause-text g t c n v p =
-    let ds = declarations_of c.args.table.now in
-    let size = printing.array_count ds (ty.named c.args.element) n v p.typed c.len.result c.unwrap-count.result (c.len.ensures v p.shown) c.unwrap-count.ensures in
-    let x = printing.array_there ds (ty.named c.args.element) n v p.typed c.loop-at.at (omega (arith, c.loop-at-test.true, size)) in
-    let typed = printing.array_nth ds (ty.named c.args.element) n v p.typed c.loop-at.at x.0 x.1 in
-    let step = printing.elements_at ds (resolve ds.terms (ty.named c.args.element)) (parts_of v) c.loop-at.at (c.loop-at.at + 1) x.0 (codes "]") typed.0 (omega arith) in
-    failed_as _ _ _ c.from_residual-in_err-write_comma.result c.from_residual-in_err-write_comma.ensures.0 (so_far_first _ _ _ _ _ _ _ _ (c.loop-at.invariant.0.left n v p) c.in_err-write_comma.ensures.text step)
+write_elements-returns-in_err-write_comma-clause-text g t c n vs p =
+    let b = c.args.table.now in
+    let size = printing.list_count b c.args.element c.args.view n vs p c.len.result c.unwrap-count.result (c.len.ensures (list vs) p.part.shown) c.unwrap-count.ensures in
+    let x = printing.nth_there vs c.loop-at.at (omega (arith, c.loop-at-test.true, size)) in
+    let step = printing.elements_at (declarations_of b) (resolve (declarations_of b).terms (ty.named c.args.element)) vs c.loop-at.at (c.loop-at.at + 1) x.0 (codes "]") x.1 (omega arith) in
+    failed_as _ _ _ c.from_residual-in_err-write_comma.result c.from_residual-in_err-write_comma.ensures.0 (so_far_first _ _ _ _ _ _ _ _ (c.loop-at.invariant.0.left n vs p) c.in_err-write_comma.ensures.text step)
 
 pub write_elements-returns-in_err-write_value-clause-text : goal.write_elements-returns-in_err-write_value-clause-text
-write_elements-returns-in_err-write_value-clause-text g t c n v p =
-    let ds = declarations_of c.args.table.now in
-    let x = printing.part_shown c.args.view.decoded.now (element_of v c.loop-at.at) c.element.result c.unwrap-part.result c.unwrap-part.ensures (c.element.ensures.part v p.shown) in
-    let typed = printing.array_nth ds (ty.named c.args.element) n v p.typed c.loop-at.at x.0 x.1 in
-    let step = printing.elements_at ds (resolve ds.terms (ty.named c.args.element)) (parts_of v) c.loop-at.at (c.loop-at.at + 1) x.0 (codes "]") typed.0 (omega arith) in
+write_elements-returns-in_err-write_value-clause-text g t c n vs p =
+    let b = c.args.table.now in
+    let x = printing.part_shown c.args.view.decoded.now (element_of (list vs) c.loop-at.at) c.element.result c.unwrap-part.result c.unwrap-part.ensures (c.element.ensures.part (list vs) p.part.shown) in
+    let typed = printing.list_nth b c.args.element c.args.view n vs p c.loop-at.at x.0 x.1 in
+    let step = printing.elements_at (declarations_of b) (resolve (declarations_of b).terms (ty.named c.args.element)) vs c.loop-at.at (c.loop-at.at + 1) x.0 (codes "]") x.1 (omega arith) in
     failed_as _ _ _ c.from_residual-in_err-write_value.result c.from_residual-in_err-write_value.ensures.0
-    (so_far_second _ _ _ _ _ _ _ _ _ (c.loop-at.invariant.0.left n v p) c.in_ok-write_comma.ensures.text (c.in_err-write_value.ensures.text x.0 (record { shown = x.2; typed = typed.1 })) step)
+    (so_far_second _ _ _ _ _ _ _ _ _ (c.loop-at.invariant.0.left n vs p) c.in_ok-write_comma.ensures.text (c.in_err-write_value.ensures.text x.0 (record { shown = x.2; typed = typed })) step)
 
 pub write_members-loop-at-init : goal.write_members-loop-at-init
 write_members-loop-at-init g t c = (
-  record { left = λ v p. so_far_begin _ _ _ _ _ c.in_ok-write_all.ensures.bytes (printing.members_begin c.args.table.now c.entry-entry.ensures.well_formed c.args.index c.requires.index c.requires.of_struct v p.typed) },
+  record { left = λ n vs p. so_far_begin _ _ _ _ _ c.in_ok-write_all.ensures.bytes (entries.members_begin c.args.table.now c.entry-entry.ensures.well_formed c.args.index c.requires.index c.args.view n vs p) },
   c.in_ok-write_all.ensures.kept,
 )
 
@@ -99,23 +107,24 @@ pub write_members-overflow_add-entry : goal.write_members-overflow_add-entry
 write_members-overflow_add-entry g t c =
     let counted = ap (λ (e : Entry). e.count) c.entry-entry.ensures.value in
     let begun = ap (λ (e : Entry). e.first) c.entry-entry.ensures.value in
-    let inside = printing.row_lt c.args.table.now c.entry-entry.ensures.well_formed c.args.index c.requires.index c.requires.of_struct c.loop-at.at (omega (arith, c.loop-at-test.true, counted)) in
+    let inside = entries.row_lt c.args.table.now c.entry-entry.ensures.well_formed c.args.index c.requires.index c.requires.of_struct c.loop-at.at (omega (arith, c.loop-at-test.true, counted)) in
     record { fits = omega (arith, inside, begun, c.rows-rows.ensures.value) }
 
 pub write_members-row-row-requires : goal.write_members-row-row-requires
 write_members-row-row-requires g t c =
     let counted = ap (λ (e : Entry). e.count) c.entry-entry.ensures.value in
     let begun = ap (λ (e : Entry). e.first) c.entry-entry.ensures.value in
-    let inside = printing.row_lt c.args.table.now c.entry-entry.ensures.well_formed c.args.index c.requires.index c.requires.of_struct c.loop-at.at (omega (arith, c.loop-at-test.true, counted)) in
+    let inside = entries.row_lt c.args.table.now c.entry-entry.ensures.well_formed c.args.index c.requires.index c.requires.of_struct c.loop-at.at (omega (arith, c.loop-at-test.true, counted)) in
     subst (λ k. k + c.loop-at.at < (header_of c.args.table.now).rows) (sym begun) inside
 
 pub write_members-unwrap-part-requires : goal.write_members-unwrap-part-requires
 write_members-unwrap-part-requires g t c =
-    let v = c.requires.part.0 in
-    let p = c.requires.part.1 in
+    let n = c.requires.part.0 in
+    let vs = c.requires.part.1 in
+    let p = c.requires.part.2 in
     let counted = ap (λ (e : Entry). e.count) c.entry-entry.ensures.value in
-    let x = printing.member_there c.args.table.now c.entry-entry.ensures.well_formed c.args.index c.requires.index c.requires.of_struct v p.typed c.loop-at.at (omega (arith, c.loop-at-test.true, counted)) in
-    printing.part_some c.args.view.decoded.now (field_of v c.loop-at.at) x.0 c.field.result x.1 (c.field.ensures.part v p.shown)
+    let x = entries.member_there c.args.table.now c.entry-entry.ensures.well_formed c.args.index c.requires.index c.args.view n vs p c.loop-at.at (omega (arith, c.loop-at-test.true, counted)) in
+    printing.part_some c.args.view.decoded.now (field_of (fields vs) c.loop-at.at) x.0 c.field.result x.1 (c.field.ensures.part (fields vs) p.part.shown)
 
 pub write_members-write_value-requires : goal.write_members-write_value-requires
 write_members-write_value-requires g t c κs within =
@@ -125,17 +134,20 @@ write_members-write_value-requires g t c κs within =
     let lt = c.requires.index in
     let is = c.requires.of_struct in
     let d = c.args.view.decoded.now in
-    let v = c.requires.part.0 in
-    let p = c.requires.part.1 in
+    let n = c.requires.part.0 in
+    let vs = c.requires.part.1 in
+    let p = c.requires.part.2 in
     let counted = ap (λ (e : Entry). e.count) c.entry-entry.ensures.value in
     let begun = ap (λ (e : Entry). e.first) c.entry-entry.ensures.value in
     let less : c.loop-at.at < (entry_at b i).count = omega (arith, c.loop-at-test.true, counted) in
     let here : c.row-row.result ≡ row_at b (header_of b) ((entry_at b i).first + c.loop-at.at) = c.row-row.ensures.value ∙ ap (λ k. row_at b (header_of b) (k + c.loop-at.at)) begun in
     let entered : c.row-row.result.entry ≡ (row_at b (header_of b) ((entry_at b i).first + c.loop-at.at)).entry = ap (λ (r : Row). r.entry) here in
-    let x = printing.part_shown d (field_of v c.loop-at.at) c.field.result c.unwrap-part.result c.unwrap-part.ensures (c.field.ensures.part v p.shown) in
-    let typed = printing.member_typed b w i lt is v p.typed c.loop-at.at less x.0 x.1 in
+    let x = printing.part_shown d (field_of (fields vs) c.loop-at.at) c.field.result c.unwrap-part.result c.unwrap-part.ensures (c.field.ensures.part (fields vs) p.part.shown) in
+    let typed = entries.member_typed b w i lt c.args.view n vs p c.loop-at.at less x.0 x.1 in
     let message = printing.same_message d c.field.result c.unwrap-part.result c.unwrap-part.ensures c.field.ensures.message in
-    let nest = printing.member_less b w i lt is c.loop-at.at less in
+    let nest = entries.member_less b w i lt is c.loop-at.at less in
+    let deep : depth_of (declarations_of b) (resolve (declarations_of b).terms (ty.named c.row-row.result.entry)) x.0 ≤ fields_depth (declarations_of b) (entries.members_at b w i lt) vs =
+    subst (λ k. depth_of (declarations_of b) (resolve (declarations_of b).terms (ty.named k)) x.0 ≤ fields_depth (declarations_of b) (entries.members_at b w i lt) vs) (sym entered) (entries.member_depth b w i lt c.args.view n vs p c.loop-at.at less x.0 x.1) in
     let lower : (entry_at b c.row-row.result.entry).nest < (entry_at b i).nest = subst (λ k. (entry_at b k).nest < (entry_at b i).nest) (sym entered) nest in (
       omega (arith, c.decreases, lower),
       (
@@ -148,8 +160,9 @@ write_members-write_value-requires g t c κs within =
               x.0,
               record {
                 shown = x.2;
-                typed = subst (λ k. IsTyped (declarations_of b) (resolve (declarations_of b).terms (ty.named k)) x.0) (sym entered) typed.1;
+                typed = subst (λ k. IsTyped (declarations_of b) (resolve (declarations_of b).terms (ty.named k)) x.0) (sym entered) typed;
               },
+              omega (arith, deep, c.requires.part.3),
             ),
           ),
         ),
@@ -159,7 +172,7 @@ write_members-write_value-requires g t c κs within =
 pub write_members-loop-at-preserved : goal.write_members-loop-at-preserved
 write_members-loop-at-preserved g t c = (
   record {
-    left = λ v p.
+    left = λ n vs p.
         let b = c.args.table.now in
         let w = c.entry-entry.ensures.well_formed in
         let i = c.args.index in
@@ -169,9 +182,9 @@ write_members-loop-at-preserved g t c = (
         let begun = ap (λ (e : Entry). e.first) c.entry-entry.ensures.value in
         let less : c.loop-at.at < (entry_at b i).count = omega (arith, c.loop-at-test.true, counted) in
         let here : c.row-row.result ≡ row_at b (header_of b) ((entry_at b i).first + c.loop-at.at) = c.row-row.ensures.value ∙ ap (λ k. row_at b (header_of b) (k + c.loop-at.at)) begun in
-        let x = printing.part_shown c.args.view.decoded.now (field_of v c.loop-at.at) c.field.result c.unwrap-part.result c.unwrap-part.ensures (c.field.ensures.part v p.shown) in
-        let typed = printing.member_typed b w i lt is v p.typed c.loop-at.at less x.0 x.1 in
-        let own = subst (λ (r : Row). IsTyped (declarations_of b) (resolve (declarations_of b).terms (ty.named r.entry)) x.0) (sym here) typed.1 in
+        let x = printing.part_shown c.args.view.decoded.now (field_of (fields vs) c.loop-at.at) c.field.result c.unwrap-part.result c.unwrap-part.ensures (c.field.ensures.part (fields vs) p.part.shown) in
+        let typed = entries.member_typed b w i lt c.args.view n vs p c.loop-at.at less x.0 x.1 in
+        let own = subst (λ (r : Row). IsTyped (declarations_of b) (resolve (declarations_of b).terms (ty.named r.entry)) x.0) (sym here) typed in
         let c0 = g.W.Write.contents c.loop-at.out.writer in
         let c1 = g.W.Write.contents c.write_comma.new.out.writer in
         let c2 = g.W.Write.contents c.write_all-in-loop-at.new.self.writer in
@@ -186,26 +199,26 @@ write_members-loop-at-preserved g t c = (
         let w1 = appends_then c0 c1 c2 comma name c.in_ok-write_comma.ensures.text (appends_as c1 c2 c.row_name.result.now name named c.in_ok-write_all-2.ensures.bytes) in
         let w2 = appends_then c0 c2 c3 (comma ++ name) (codes ": ") w1 c.in_ok-write_all-3.ensures.bytes in
         let w3 = appends_then c0 c3 c4 (comma ++ name ++ codes ": ") text w2 (appends_as c3 c4 _ text texted (c.in_ok-write_value.ensures.text x.0 (record { shown = x.2; typed = own }))) in
-        let step = printing.members_step b w i lt is v c.loop-at.at (c.loop-at.at + 1) x.0 typed.0 less (omega arith) in
-        so_far_more _ _ _ _ _ _ _ (c.loop-at.invariant.0.left v p) w3 step;
+        let step = entries.members_step b w i lt c.args.view n vs p c.loop-at.at (c.loop-at.at + 1) x.0 x.1 less (omega arith) in
+        so_far_more _ _ _ _ _ _ _ (c.loop-at.invariant.0.left n vs p) w3 step;
   },
   c.in_ok-write_value.ensures.kept ∙ c.in_ok-write_all-3.ensures.kept ∙ c.in_ok-write_all-2.ensures.kept ∙ c.in_ok-write_comma.ensures.kept ∙ c.loop-at.invariant.1,
 )
 
 pub write_members-returns-clause-text : goal.write_members-returns-clause-text
-write_members-returns-clause-text g t c v p =
+write_members-returns-clause-text g t c n vs p =
     let counted = ap (λ (e : Entry). e.count) c.entry-entry.ensures.value in
-    let end = so_far_as _ _ _ _ (codes "}") (c.loop-at.invariant.0.left v p)
-    (printing.members_end c.args.table.now c.entry-entry.ensures.well_formed c.args.index c.requires.index c.requires.of_struct v c.loop-at.at (omega (arith, c.loop-at-test.false, c.loop-at.auto.at-end, counted))) in
+    let end = so_far_as _ _ _ _ (codes "}") (c.loop-at.invariant.0.left n vs p)
+    (entries.members_end c.args.table.now c.entry-entry.ensures.well_formed c.args.index c.requires.index c.args.view n vs p c.loop-at.at (omega (arith, c.loop-at-test.false, c.loop-at.auto.at-end, counted))) in
     so_far_written _ _ _ _ _ c.write_all-2.result end c.write_all-2.ensures.bytes
 
 pub write_members-returns-in_err-write_all-clause-text : goal.write_members-returns-in_err-write_all-clause-text
-write_members-returns-in_err-write_all-clause-text g t c v p =
+write_members-returns-in_err-write_all-clause-text g t c n vs p =
     failed_as _ _ _ c.from_residual.result c.from_residual.ensures.0
-    (begin_failed _ _ _ _ _ c.in_err-write_all.ensures.bytes (printing.members_begin c.args.table.now c.entry-entry.ensures.well_formed c.args.index c.requires.index c.requires.of_struct v p.typed))
+    (begin_failed _ _ _ _ _ c.in_err-write_all.ensures.bytes (entries.members_begin c.args.table.now c.entry-entry.ensures.well_formed c.args.index c.requires.index c.args.view n vs p))
 
 pub write_members-returns-in_err-write_comma-clause-text : goal.write_members-returns-in_err-write_comma-clause-text
-write_members-returns-in_err-write_comma-clause-text g t c v p =
+write_members-returns-in_err-write_comma-clause-text g t c n vs p =
     let b = c.args.table.now in
     let w = c.entry-entry.ensures.well_formed in
     let i = c.args.index in
@@ -213,18 +226,18 @@ write_members-returns-in_err-write_comma-clause-text g t c v p =
     let is = c.requires.of_struct in
     let counted = ap (λ (e : Entry). e.count) c.entry-entry.ensures.value in
     let less : c.loop-at.at < (entry_at b i).count = omega (arith, c.loop-at-test.true, counted) in
-    let x = printing.member_there b w i lt is v p.typed c.loop-at.at less in
-    let typed = printing.member_typed b w i lt is v p.typed c.loop-at.at less x.0 x.1 in
+    let x = entries.member_there b w i lt c.args.view n vs p c.loop-at.at less in
+    let typed = entries.member_typed b w i lt c.args.view n vs p c.loop-at.at less x.0 x.1 in
     let row = row_at b (header_of b) ((entry_at b i).first + c.loop-at.at) in
     let name = name_at b (header_of b) row.name_place row.name_length in
     let comma = comma_if (nat_lt 0 c.loop-at.at) in
-    let step = printing.members_step b w i lt is v c.loop-at.at (c.loop-at.at + 1) x.0 typed.0 less (omega arith) in
+    let step = entries.members_step b w i lt c.args.view n vs p c.loop-at.at (c.loop-at.at + 1) x.0 x.1 less (omega arith) in
     let text = text_of (declarations_of b) (resolve (declarations_of b).terms (ty.named row.entry)) x.0 in
     failed_as _ _ _ c.from_residual-in_err-write_comma.result c.from_residual-in_err-write_comma.ensures.0
-    (first_failed _ _ _ _ _ comma name (codes ": ") text _ (c.loop-at.invariant.0.left v p) step c.in_err-write_comma.ensures.text)
+    (first_failed _ _ _ _ _ comma name (codes ": ") text _ (c.loop-at.invariant.0.left n vs p) step c.in_err-write_comma.ensures.text)
 
 pub write_members-returns-in_err-write_all-2-clause-text : goal.write_members-returns-in_err-write_all-2-clause-text
-write_members-returns-in_err-write_all-2-clause-text g t c v p =
+write_members-returns-in_err-write_all-2-clause-text g t c n vs p =
     let b = c.args.table.now in
     let w = c.entry-entry.ensures.well_formed in
     let i = c.args.index in
@@ -232,9 +245,9 @@ write_members-returns-in_err-write_all-2-clause-text g t c v p =
     let is = c.requires.of_struct in
     let counted = ap (λ (e : Entry). e.count) c.entry-entry.ensures.value in
     let less : c.loop-at.at < (entry_at b i).count = omega (arith, c.loop-at-test.true, counted) in
-    let x = printing.member_there b w i lt is v p.typed c.loop-at.at less in
-    let typed = printing.member_typed b w i lt is v p.typed c.loop-at.at less x.0 x.1 in
-    let step = printing.members_step b w i lt is v c.loop-at.at (c.loop-at.at + 1) x.0 typed.0 less (omega arith) in
+    let x = entries.member_there b w i lt c.args.view n vs p c.loop-at.at less in
+    let typed = entries.member_typed b w i lt c.args.view n vs p c.loop-at.at less x.0 x.1 in
+    let step = entries.members_step b w i lt c.args.view n vs p c.loop-at.at (c.loop-at.at + 1) x.0 x.1 less (omega arith) in
     let begun = ap (λ (e : Entry). e.first) c.entry-entry.ensures.value in
     let row = row_at b (header_of b) ((entry_at b i).first + c.loop-at.at) in
     let here : c.row-row.result ≡ row = c.row-row.ensures.value ∙ ap (λ k. row_at b (header_of b) (k + c.loop-at.at)) begun in
@@ -246,10 +259,10 @@ write_members-returns-in_err-write_all-2-clause-text g t c v p =
     let c2 = g.W.Write.contents c.write_all-in-loop-at.new.self.writer in
     let text = text_of (declarations_of b) (resolve (declarations_of b).terms (ty.named row.entry)) x.0 in
     failed_as _ _ _ c.from_residual-in_err-write_all-2.result c.from_residual-in_err-write_all-2.ensures.0
-    (second_failed _ _ _ _ _ comma name (codes ": ") text _ (c.loop-at.invariant.0.left v p) step c1 c.in_ok-write_comma.ensures.text (front_as c1 _ _ name named c.in_err-write_all-2.ensures.bytes))
+    (second_failed _ _ _ _ _ comma name (codes ": ") text _ (c.loop-at.invariant.0.left n vs p) step c1 c.in_ok-write_comma.ensures.text (front_as c1 _ _ name named c.in_err-write_all-2.ensures.bytes))
 
 pub write_members-returns-in_err-write_all-3-clause-text : goal.write_members-returns-in_err-write_all-3-clause-text
-write_members-returns-in_err-write_all-3-clause-text g t c v p =
+write_members-returns-in_err-write_all-3-clause-text g t c n vs p =
     let b = c.args.table.now in
     let w = c.entry-entry.ensures.well_formed in
     let i = c.args.index in
@@ -257,9 +270,9 @@ write_members-returns-in_err-write_all-3-clause-text g t c v p =
     let is = c.requires.of_struct in
     let counted = ap (λ (e : Entry). e.count) c.entry-entry.ensures.value in
     let less : c.loop-at.at < (entry_at b i).count = omega (arith, c.loop-at-test.true, counted) in
-    let x = printing.member_there b w i lt is v p.typed c.loop-at.at less in
-    let typed = printing.member_typed b w i lt is v p.typed c.loop-at.at less x.0 x.1 in
-    let step = printing.members_step b w i lt is v c.loop-at.at (c.loop-at.at + 1) x.0 typed.0 less (omega arith) in
+    let x = entries.member_there b w i lt c.args.view n vs p c.loop-at.at less in
+    let typed = entries.member_typed b w i lt c.args.view n vs p c.loop-at.at less x.0 x.1 in
+    let step = entries.members_step b w i lt c.args.view n vs p c.loop-at.at (c.loop-at.at + 1) x.0 x.1 less (omega arith) in
     let begun = ap (λ (e : Entry). e.first) c.entry-entry.ensures.value in
     let row = row_at b (header_of b) ((entry_at b i).first + c.loop-at.at) in
     let here : c.row-row.result ≡ row = c.row-row.ensures.value ∙ ap (λ k. row_at b (header_of b) (k + c.loop-at.at)) begun in
@@ -272,10 +285,10 @@ write_members-returns-in_err-write_all-3-clause-text g t c v p =
     let w1 = appends_then c0 c1 c2 comma name c.in_ok-write_comma.ensures.text (appends_as c1 c2 c.row_name.result.now name named c.in_ok-write_all-2.ensures.bytes) in
     let text = text_of (declarations_of b) (resolve (declarations_of b).terms (ty.named row.entry)) x.0 in
     failed_as _ _ _ c.from_residual-in_err-write_all-3.result c.from_residual-in_err-write_all-3.ensures.0
-    (third_failed _ _ _ _ _ comma name (codes ": ") text _ (c.loop-at.invariant.0.left v p) step c2 w1 c.in_err-write_all-3.ensures.bytes)
+    (third_failed _ _ _ _ _ comma name (codes ": ") text _ (c.loop-at.invariant.0.left n vs p) step c2 w1 c.in_err-write_all-3.ensures.bytes)
 
 pub write_members-returns-in_err-write_value-clause-text : goal.write_members-returns-in_err-write_value-clause-text
-write_members-returns-in_err-write_value-clause-text g t c v p =
+write_members-returns-in_err-write_value-clause-text g t c n vs p =
     let b = c.args.table.now in
     let w = c.entry-entry.ensures.well_formed in
     let i = c.args.index in
@@ -293,27 +306,27 @@ write_members-returns-in_err-write_value-clause-text g t c v p =
     let c1 = g.W.Write.contents c.write_comma.new.out.writer in
     let c2 = g.W.Write.contents c.write_all-in-loop-at.new.self.writer in
     let c3 = g.W.Write.contents c.write_all-in-loop-at-2.new.self.writer in
-    let x = printing.part_shown c.args.view.decoded.now (field_of v c.loop-at.at) c.field.result c.unwrap-part.result c.unwrap-part.ensures (c.field.ensures.part v p.shown) in
-    let typed = printing.member_typed b w i lt is v p.typed c.loop-at.at less x.0 x.1 in
-    let own = subst (λ (r : Row). IsTyped (declarations_of b) (resolve (declarations_of b).terms (ty.named r.entry)) x.0) (sym here) typed.1 in
+    let x = printing.part_shown c.args.view.decoded.now (field_of (fields vs) c.loop-at.at) c.field.result c.unwrap-part.result c.unwrap-part.ensures (c.field.ensures.part (fields vs) p.part.shown) in
+    let typed = entries.member_typed b w i lt c.args.view n vs p c.loop-at.at less x.0 x.1 in
+    let own = subst (λ (r : Row). IsTyped (declarations_of b) (resolve (declarations_of b).terms (ty.named r.entry)) x.0) (sym here) typed in
     let texted = ap (λ (r : Row). text_of (declarations_of b) (resolve (declarations_of b).terms (ty.named r.entry)) x.0) here in
-    let step = printing.members_step b w i lt is v c.loop-at.at (c.loop-at.at + 1) x.0 typed.0 less (omega arith) in
+    let step = entries.members_step b w i lt c.args.view n vs p c.loop-at.at (c.loop-at.at + 1) x.0 x.1 less (omega arith) in
     let w1 = appends_then c0 c1 c2 comma name c.in_ok-write_comma.ensures.text (appends_as c1 c2 c.row_name.result.now name named c.in_ok-write_all-2.ensures.bytes) in
     let w2 = appends_then c0 c2 c3 (comma ++ name) (codes ": ") w1 c.in_ok-write_all-3.ensures.bytes in
     let text = text_of (declarations_of b) (resolve (declarations_of b).terms (ty.named row.entry)) x.0 in
     failed_as _ _ _ c.from_residual-in_err-write_value.result c.from_residual-in_err-write_value.ensures.0
-    (fourth_failed _ _ _ _ _ comma name (codes ": ") text _ (c.loop-at.invariant.0.left v p) step c3 w2 (front_as c3 _ _ _ texted (c.in_err-write_value.ensures.text x.0 (record { shown = x.2; typed = own }))))
+    (fourth_failed _ _ _ _ _ comma name (codes ": ") text _ (c.loop-at.invariant.0.left n vs p) step c3 w2 (front_as c3 _ _ _ texted (c.in_err-write_value.ensures.text x.0 (record { shown = x.2; typed = own }))))
 
 pub write_value-unwrap-kind-requires : goal.write_value-unwrap-kind-requires
 write_value-unwrap-kind-requires g t c =
-    let k = printing.kind_at c.args.table.now c.entry-entry.ensures.well_formed c.args.index c.requires.index in
+    let k = entries.kind_at c.args.table.now c.entry-entry.ensures.well_formed c.args.index c.requires.index in
     subst (λ (o : Option EntryKind). IsSome o) (sym (c.from_number.ensures ∙ ap (λ (e : Entry). kind_of e.kind) c.entry-entry.ensures.value ∙ k.2)) refl
 
 pub write_value-write_bool-requires : goal.write_value-write_bool-requires
 write_value-write_bool-requires g t c =
     let b = c.args.table.now in
     let is : IsOf Boolean (entry_at b c.args.index) = sym (c.from_number.ensures ∙ ap (λ (e : Entry). kind_of e.kind) c.entry-entry.ensures.value) ∙ c.unwrap-kind.ensures ∙ ap (λ (k : EntryKind). Some k) c.in-Bool.is in
-    (declarations_of b, (c.requires.part.0, part_as _ _ _ _ _ (printing.term_at b c.entry-entry.ensures.well_formed c.args.index c.requires.index Boolean is) c.requires.part.1))
+    (declarations_of b, (c.requires.part.0, part_as _ _ _ _ _ (entries.term_at b c.entry-entry.ensures.well_formed c.args.index c.requires.index Boolean is) c.requires.part.1))
 
 pub write_value-write_elements-requires : goal.write_value-write_elements-requires
 write_value-write_elements-requires g t c κs within =
@@ -323,31 +336,59 @@ write_value-write_elements-requires g t c κs within =
     let lt = c.requires.index in
     let is : IsOf Array (entry_at b i) = sym (c.from_number.ensures ∙ ap (λ (e : Entry). kind_of e.kind) c.entry-entry.ensures.value) ∙ c.unwrap-kind.ensures ∙ ap (λ (k : EntryKind). Some k) c.in-Array.is in
     let begun = ap (λ (e : Entry). e.first) c.entry-entry.ensures.value in
-    let lower : (entry_at b c.entry-entry.result.first).nest < (entry_at b i).nest = subst (λ k. (entry_at b k).nest < (entry_at b i).nest) (sym begun) (printing.element_less b w i lt is) in (
+    let e = entries.term_at b w i lt Array is ∙ ap (λ k. ty.array (ty.named k) (entry_at b i).count) (sym begun) in
+    let x = printing.elements_of_array b c.entry-entry.result.first (entry_at b i).count (resolve (declarations_of b).terms (ty.named i)) c.args.view c.requires.part.0 e c.requires.part.1 in
+    let lower : (entry_at b c.entry-entry.result.first).nest < (entry_at b i).nest = subst (λ k. (entry_at b k).nest < (entry_at b i).nest) (sym begun) (entries.element_less b w i lt is) in
+    let inside = subst (λ k. k < (header_of b).entries) (sym begun) (entries.element_lt b w i lt is) in (
       omega (arith, c.decreases, lower),
-      (
-        within,
-        (
-          c.requires.table,
-          (
-            subst (λ k. k < (header_of b).entries) (sym begun) (printing.element_lt b w i lt is),
-            (
-              (entry_at b i).count,
-              (
-                c.requires.part.0,
-                part_as _ _ _ _ _ (printing.term_at b w i lt Array is ∙ ap (λ k. ty.array (ty.named k) (entry_at b i).count) (sym begun)) c.requires.part.1,
-              ),
-            ),
-          ),
-        ),
-      ),
+      (within, (c.requires.table, (inside, (ty.array (ty.named c.entry-entry.result.first) (entry_at b i).count, x.0, x.2, omega (arith, x.3, c.requires.part.2))))),
+    )
+
+pub write_value-write_vector-requires : goal.write_value-write_vector-requires
+write_value-write_vector-requires g t c κs within =
+    let b = c.args.table.now in
+    let w = c.entry-entry.ensures.well_formed in
+    let i = c.args.index in
+    let lt = c.requires.index in
+    let is : IsOf Vector (entry_at b i) = sym (c.from_number.ensures ∙ ap (λ (e : Entry). kind_of e.kind) c.entry-entry.ensures.value) ∙ c.unwrap-kind.ensures ∙ ap (λ (k : EntryKind). Some k) c.in-Vector.is in
+    let begun = ap (λ (e : Entry). e.first) c.entry-entry.ensures.value in
+    let e = entries.term_at b w i lt Vector is ∙ ap (λ k. ty.vector (is_optional (entry_at b i)) (entry_at b i).bound (ty.named k)) (sym begun) in
+    let v = c.requires.part.0 in
+    let inside = subst (λ k. k < (header_of b).entries) (sym begun) (entries.vector_lt b w i lt is) in
+    let few = entries.nest_few b w c.entry-entry.result.first inside in
+    let deep = subst (λ (u : Term). depth_of (declarations_of b) u v ≤ c.args.depth) e c.requires.part.2 in (
+      omega (arith, c.decreases),
+      (within, (c.requires.table, (inside, (few, (is_optional (entry_at b i), (entry_at b i).bound, (v, part_as _ _ _ _ _ e c.requires.part.1, deep)))))),
     )
 
 pub write_value-write_members-requires : goal.write_value-write_members-requires
 write_value-write_members-requires g t c κs within =
     let b = c.args.table.now in
-    let is : IsOf Struct (entry_at b c.args.index) = sym (c.from_number.ensures ∙ ap (λ (e : Entry). kind_of e.kind) c.entry-entry.ensures.value) ∙ c.unwrap-kind.ensures ∙ ap (λ (k : EntryKind). Some k) c.in-Struct.is in
-    (omega (arith, c.decreases), (within, (c.requires.table, (c.requires.index, (is, c.requires.part)))))
+    let w = c.entry-entry.ensures.well_formed in
+    let i = c.args.index in
+    let lt = c.requires.index in
+    let is : IsOf Struct (entry_at b i) = sym (c.from_number.ensures ∙ ap (λ (e : Entry). kind_of e.kind) c.entry-entry.ensures.value) ∙ c.unwrap-kind.ensures ∙ ap (λ (k : EntryKind). Some k) c.in-Struct.is in
+    let x = entries.members_of_struct b w i lt is c.args.view c.requires.part.0 c.requires.part.1 in (
+      omega (arith, c.decreases),
+      (within, (c.requires.table, (lt, (is, ((resolve (declarations_of b).terms (ty.named i)), x.0, x.2, omega (arith, x.3, c.requires.part.2)))))),
+    )
+
+pub write_value-write_box-requires : goal.write_value-write_box-requires
+write_value-write_box-requires g t c κs within =
+    let b = c.args.table.now in
+    let w = c.entry-entry.ensures.well_formed in
+    let i = c.args.index in
+    let lt = c.requires.index in
+    let is : IsOf Box (entry_at b i) = sym (c.from_number.ensures ∙ ap (λ (e : Entry). kind_of e.kind) c.entry-entry.ensures.value) ∙ c.unwrap-kind.ensures ∙ ap (λ (k : EntryKind). Some k) c.in-Box.is in
+    let begun = ap (λ (e : Entry). e.first) c.entry-entry.ensures.value in
+    let e = entries.term_at b w i lt Box is ∙ ap (λ k. ty.box (ty.named k)) (sym begun) in
+    let v = c.requires.part.0 in
+    let inside = subst (λ k. k < (header_of b).entries) (sym begun) (entries.box_lt b w i lt is) in
+    let of = subst (λ k. IsOf Struct (entry_at b k)) (sym begun) (entries.box_struct b w i lt is) in
+    let deep = subst (λ (u : Term). depth_of (declarations_of b) u v ≤ c.args.depth) e c.requires.part.2 in (
+      omega (arith, c.decreases),
+      (within, (w, (c.requires.table, (inside, (of, (v, part_as _ _ _ _ _ e c.requires.part.1, deep)))))),
+    )
 
 pub write_value-write_number-requires : goal.write_value-write_number-requires
 write_value-write_number-requires g t c =
@@ -356,30 +397,79 @@ write_value-write_number-requires g t c =
     let i = c.args.index in
     let lt = c.requires.index in
     let is : IsOf c.unwrap-kind.result (entry_at b i) = sym (c.from_number.ensures ∙ ap (λ (e : Entry). kind_of e.kind) c.entry-entry.ensures.value) ∙ c.unwrap-kind.ensures in
-    let kind = printing.plain_kind b (header_of b) (entry_at b i) c.unwrap-kind.result (printing.known_at b w i lt c.unwrap-kind.result is) c.in_default.not-Bool c.in_default.not-Array c.in_default.not-Struct in
+    let number = printing.number_kind b (header_of b) (entry_at b i) c.unwrap-kind.result (entries.known_at b w i lt c.unwrap-kind.result is) c.in_default.not-Bool c.in_default.not-Array c.in_default.not-Struct c.in_default.not-String c.in_default.not-Handle c.in_default.not-Vector c.in_default.not-Box in
     record {
       well_formed = subst (λ (t : List ℕ). WellFormed t) (sym c.requires.table) w;
-      part = (declarations_of b, kind.0, (c.requires.part.0, part_as _ _ _ _ _ (printing.term_at b w i lt c.unwrap-kind.result is ∙ kind.1) c.requires.part.1));
+      part = (declarations_of b, term_as c.unwrap-kind.result b (header_of b) (entry_at b i), number, (c.requires.part.0, part_as _ _ _ _ _ (entries.term_at b w i lt c.unwrap-kind.result is) c.requires.part.1));
     }
 
 pub write_value-returns-in-Bool-clause-text : goal.write_value-returns-in-Bool-clause-text
 write_value-returns-in-Bool-clause-text g t c v p =
     let b = c.args.table.now in
     let is : IsOf Boolean (entry_at b c.args.index) = sym (c.from_number.ensures ∙ ap (λ (e : Entry). kind_of e.kind) c.entry-entry.ensures.value) ∙ c.unwrap-kind.ensures ∙ ap (λ (k : EntryKind). Some k) c.in-Bool.is in
-    let e = printing.term_at b c.entry-entry.ensures.well_formed c.args.index c.requires.index Boolean is in
+    let e = entries.term_at b c.entry-entry.ensures.well_formed c.args.index c.requires.index Boolean is in
     subst (λ (u : Term). Writes (g.W.Write.contents c.args.out.now.writer) (g.W.Write.contents c.write_bool.new.out.writer) (text_of (declarations_of b) u v) c.write_bool.result) (sym e) (c.write_bool.ensures.text (declarations_of b) v (part_as _ _ _ _ _ e p))
+
+pub write_value-returns-in-String-clause-text : goal.write_value-returns-in-String-clause-text
+write_value-returns-in-String-clause-text g t c v p =
+    let b = c.args.table.now in
+    let i = c.args.index in
+    let is : IsOf String (entry_at b i) = sym (c.from_number.ensures ∙ ap (λ (e : Entry). kind_of e.kind) c.entry-entry.ensures.value) ∙ c.unwrap-kind.ensures ∙ ap (λ (k : EntryKind). Some k) c.in-String.is in
+    let e = entries.term_at b c.entry-entry.ensures.well_formed i c.requires.index String is in
+    subst (λ (u : Term). Writes (g.W.Write.contents c.args.out.now.writer) (g.W.Write.contents c.write_string.new.out.writer) (text_of (declarations_of b) u v) c.write_string.result) (sym e) (c.write_string.ensures.text (declarations_of b) (is_optional (entry_at b i)) (entry_at b i).bound v (part_as _ _ _ _ _ e p))
+
+pub write_value-returns-in-Handle-clause-text : goal.write_value-returns-in-Handle-clause-text
+write_value-returns-in-Handle-clause-text g t c v p =
+    let b = c.args.table.now in
+    let i = c.args.index in
+    let is : IsOf Handle (entry_at b i) = sym (c.from_number.ensures ∙ ap (λ (e : Entry). kind_of e.kind) c.entry-entry.ensures.value) ∙ c.unwrap-kind.ensures ∙ ap (λ (k : EntryKind). Some k) c.in-Handle.is in
+    let e = entries.term_at b c.entry-entry.ensures.well_formed i c.requires.index Handle is in
+    subst (λ (u : Term). Writes (g.W.Write.contents c.args.out.now.writer) (g.W.Write.contents c.write_handle_or_absent.new.out.writer) (text_of (declarations_of b) u v) c.write_handle_or_absent.result) (sym e) (c.write_handle_or_absent.ensures.text (declarations_of b) (is_optional (entry_at b i)) (entry_at b i).subtype (entry_at b i).rights v (part_as _ _ _ _ _ e p))
 
 pub write_value-returns-in-Array-clause-text : goal.write_value-returns-in-Array-clause-text
 write_value-returns-in-Array-clause-text g t c v p =
     let b = c.args.table.now in
+    let w = c.entry-entry.ensures.well_formed in
     let i = c.args.index in
+    let lt = c.requires.index in
     let is : IsOf Array (entry_at b i) = sym (c.from_number.ensures ∙ ap (λ (e : Entry). kind_of e.kind) c.entry-entry.ensures.value) ∙ c.unwrap-kind.ensures ∙ ap (λ (k : EntryKind). Some k) c.in-Array.is in
     let begun = ap (λ (e : Entry). e.first) c.entry-entry.ensures.value in
-    let e = printing.term_at b c.entry-entry.ensures.well_formed i c.requires.index Array is ∙ ap (λ k. ty.array (ty.named k) (entry_at b i).count) (sym begun) in
-    subst (λ (u : Term). Writes (g.W.Write.contents c.args.out.now.writer) (g.W.Write.contents c.write_elements.new.out.writer) (text_of (declarations_of b) u v) c.write_elements.result) (sym e) (c.write_elements.ensures.text (entry_at b i).count v (part_as _ _ _ _ _ e p))
+    let e = entries.term_at b w i lt Array is ∙ ap (λ k. ty.array (ty.named k) (entry_at b i).count) (sym begun) in
+    let x = printing.elements_of_array b c.entry-entry.result.first (entry_at b i).count (resolve (declarations_of b).terms (ty.named i)) c.args.view v e p in
+    subst (λ (u : Term). Writes (g.W.Write.contents c.args.out.now.writer) (g.W.Write.contents c.write_elements.new.out.writer) (text_of (declarations_of b) u v) c.write_elements.result) (sym e)
+    (subst (λ (u : Value). Writes (g.W.Write.contents c.args.out.now.writer) (g.W.Write.contents c.write_elements.new.out.writer) (text_of (declarations_of b) (ty.array (ty.named c.entry-entry.result.first) (entry_at b i).count) u) c.write_elements.result) (sym x.1) (c.write_elements.ensures.text (ty.array (ty.named c.entry-entry.result.first) (entry_at b i).count) x.0 x.2))
+
+pub write_value-returns-in-Vector-clause-text : goal.write_value-returns-in-Vector-clause-text
+write_value-returns-in-Vector-clause-text g t c v p =
+    let b = c.args.table.now in
+    let w = c.entry-entry.ensures.well_formed in
+    let i = c.args.index in
+    let lt = c.requires.index in
+    let is : IsOf Vector (entry_at b i) = sym (c.from_number.ensures ∙ ap (λ (e : Entry). kind_of e.kind) c.entry-entry.ensures.value) ∙ c.unwrap-kind.ensures ∙ ap (λ (k : EntryKind). Some k) c.in-Vector.is in
+    let begun = ap (λ (e : Entry). e.first) c.entry-entry.ensures.value in
+    let e = entries.term_at b w i lt Vector is ∙ ap (λ k. ty.vector (is_optional (entry_at b i)) (entry_at b i).bound (ty.named k)) (sym begun) in
+    subst (λ (u : Term). Writes (g.W.Write.contents c.args.out.now.writer) (g.W.Write.contents c.write_vector.new.out.writer) (text_of (declarations_of b) u v) c.write_vector.result) (sym e) (c.write_vector.ensures.text (is_optional (entry_at b i)) (entry_at b i).bound v (part_as _ _ _ _ _ e p))
 
 pub write_value-returns-in-Struct-clause-text : goal.write_value-returns-in-Struct-clause-text
-write_value-returns-in-Struct-clause-text g t c v p = c.write_members.ensures.text v p
+write_value-returns-in-Struct-clause-text g t c v p =
+    let b = c.args.table.now in
+    let w = c.entry-entry.ensures.well_formed in
+    let i = c.args.index in
+    let lt = c.requires.index in
+    let is : IsOf Struct (entry_at b i) = sym (c.from_number.ensures ∙ ap (λ (e : Entry). kind_of e.kind) c.entry-entry.ensures.value) ∙ c.unwrap-kind.ensures ∙ ap (λ (k : EntryKind). Some k) c.in-Struct.is in
+    let x = entries.members_of_struct b w i lt is c.args.view v p in
+    subst (λ (u : Value). Writes (g.W.Write.contents c.args.out.now.writer) (g.W.Write.contents c.write_members.new.out.writer) (text_of (declarations_of b) (resolve (declarations_of b).terms (ty.named i)) u) c.write_members.result) (sym x.1) (c.write_members.ensures.text (resolve (declarations_of b).terms (ty.named i)) x.0 x.2)
+
+pub write_value-returns-in-Box-clause-text : goal.write_value-returns-in-Box-clause-text
+write_value-returns-in-Box-clause-text g t c v p =
+    let b = c.args.table.now in
+    let w = c.entry-entry.ensures.well_formed in
+    let i = c.args.index in
+    let lt = c.requires.index in
+    let is : IsOf Box (entry_at b i) = sym (c.from_number.ensures ∙ ap (λ (e : Entry). kind_of e.kind) c.entry-entry.ensures.value) ∙ c.unwrap-kind.ensures ∙ ap (λ (k : EntryKind). Some k) c.in-Box.is in
+    let begun = ap (λ (e : Entry). e.first) c.entry-entry.ensures.value in
+    let e = entries.term_at b w i lt Box is ∙ ap (λ k. ty.box (ty.named k)) (sym begun) in
+    subst (λ (u : Term). Writes (g.W.Write.contents c.args.out.now.writer) (g.W.Write.contents c.write_box.new.out.writer) (text_of (declarations_of b) u v) c.write_box.result) (sym e) (c.write_box.ensures.text v (part_as _ _ _ _ _ e p))
 
 pub write_value-returns-in_default-clause-text : goal.write_value-returns-in_default-clause-text
 write_value-returns-in_default-clause-text g t c v p =
@@ -388,6 +478,55 @@ write_value-returns-in_default-clause-text g t c v p =
     let i = c.args.index in
     let lt = c.requires.index in
     let is : IsOf c.unwrap-kind.result (entry_at b i) = sym (c.from_number.ensures ∙ ap (λ (e : Entry). kind_of e.kind) c.entry-entry.ensures.value) ∙ c.unwrap-kind.ensures in
-    let kind = printing.plain_kind b (header_of b) (entry_at b i) c.unwrap-kind.result (printing.known_at b w i lt c.unwrap-kind.result is) c.in_default.not-Bool c.in_default.not-Array c.in_default.not-Struct in
-    let e = printing.term_at b w i lt c.unwrap-kind.result is ∙ kind.1 in
-    subst (λ (u : Term). Writes (g.W.Write.contents c.args.out.now.writer) (g.W.Write.contents c.write_number.new.out.writer) (text_of (declarations_of b) u v) c.write_number.result) (sym e) (c.write_number.ensures.text (declarations_of b) kind.0 v (part_as _ _ _ _ _ e p))
+    let number = printing.number_kind b (header_of b) (entry_at b i) c.unwrap-kind.result (entries.known_at b w i lt c.unwrap-kind.result is) c.in_default.not-Bool c.in_default.not-Array c.in_default.not-Struct c.in_default.not-String c.in_default.not-Handle c.in_default.not-Vector c.in_default.not-Box in
+    let e = entries.term_at b w i lt c.unwrap-kind.result is in
+    subst (λ (u : Term). Writes (g.W.Write.contents c.args.out.now.writer) (g.W.Write.contents c.write_number.new.out.writer) (text_of (declarations_of b) u v) c.write_number.result) (sym e) (c.write_number.ensures.text (declarations_of b) (term_as c.unwrap-kind.result b (header_of b) (entry_at b i)) number v (part_as _ _ _ _ _ e p))
+
+pub write_vector-returns-then-is_absent-clause-text : goal.write_vector-returns-then-is_absent-clause-text
+write_vector-returns-then-is_absent-clause-text g t c optional bound v p =
+    writes_as _ _ _ _ c.write_all.result (printing.absent_text (declarations_of c.args.table.now) (ty.vector optional bound (ty.named c.args.element)) v (sym c.if-is_absent.true ∙ c.is_absent.ensures v p.shown)) c.write_all.ensures.bytes
+
+pub write_vector-overflow_sub-depth : goal.write_vector-overflow_sub-depth
+write_vector-overflow_sub-depth g t c =
+    let q = c.requires.part in
+    let x = printing.elements_of_vector c.args.table.now c.args.element q.0 q.1 c.args.view q.2.0 q.2.1 (sym c.if-is_absent.false ∙ c.is_absent.ensures q.2.0 q.2.1.shown) in
+    omega (arith, x.3, q.2.2)
+
+pub write_vector-write_elements-requires : goal.write_vector-write_elements-requires
+write_vector-write_elements-requires g t c κs within =
+    let q = c.requires.part in
+    let x = printing.elements_of_vector c.args.table.now c.args.element q.0 q.1 c.args.view q.2.0 q.2.1 (sym c.if-is_absent.false ∙ c.is_absent.ensures q.2.0 q.2.1.shown) in (
+      omega (arith, c.decreases, c.requires.nest, x.3, q.2.2),
+      (within, (c.requires.table, (c.requires.element, (ty.vector q.0 q.1 (ty.named c.args.element), x.0, x.2, omega (arith, x.3, q.2.2))))),
+    )
+
+pub write_vector-returns-clause-text : goal.write_vector-returns-clause-text
+write_vector-returns-clause-text g t c optional bound v p =
+    let ty' = ty.vector optional bound (ty.named c.args.element) in
+    let x = printing.elements_of_vector c.args.table.now c.args.element optional bound c.args.view v p (sym c.if-is_absent.false ∙ c.is_absent.ensures v p.shown) in
+    subst (λ (u : Value). Writes (g.W.Write.contents c.args.out.now.writer) (g.W.Write.contents c.write_elements.new.out.writer) (text_of (declarations_of c.args.table.now) ty' u) c.write_elements.result) (sym x.1) (c.write_elements.ensures.text ty' x.0 x.2)
+
+pub write_box-returns-then-is_absent-clause-text : goal.write_box-returns-then-is_absent-clause-text
+write_box-returns-then-is_absent-clause-text g t c v p =
+    writes_as _ _ _ _ c.write_all.result (printing.absent_text (declarations_of c.args.table.now) (ty.box (ty.named c.args.index)) v (sym c.if-is_absent.true ∙ c.is_absent.ensures v p.shown)) c.write_all.ensures.bytes
+
+pub write_box-overflow_sub-depth : goal.write_box-overflow_sub-depth
+write_box-overflow_sub-depth g t c =
+    let q = c.requires.part in
+    let x = entries.members_of_box c.args.table.now c.requires.well_formed c.args.index c.requires.index c.requires.of_struct c.args.view q.0 q.1 (sym c.if-is_absent.false ∙ c.is_absent.ensures q.0 q.1.shown) in
+    omega (arith, x.3, q.2)
+
+pub write_box-write_members-requires : goal.write_box-write_members-requires
+write_box-write_members-requires g t c κs within =
+    let q = c.requires.part in
+    let x = entries.members_of_box c.args.table.now c.requires.well_formed c.args.index c.requires.index c.requires.of_struct c.args.view q.0 q.1 (sym c.if-is_absent.false ∙ c.is_absent.ensures q.0 q.1.shown) in
+    let few = entries.nest_few c.args.table.now c.requires.well_formed c.args.index c.requires.index in (
+      omega (arith, c.decreases, few, x.3, q.2),
+      (within, (c.requires.table, (c.requires.index, (c.requires.of_struct, (ty.box (ty.named c.args.index), x.0, x.2, omega (arith, x.3, q.2)))))),
+    )
+
+pub write_box-returns-clause-text : goal.write_box-returns-clause-text
+write_box-returns-clause-text g t c v p =
+    let ty' = ty.box (ty.named c.args.index) in
+    let x = entries.members_of_box c.args.table.now c.requires.well_formed c.args.index c.requires.index c.requires.of_struct c.args.view v p (sym c.if-is_absent.false ∙ c.is_absent.ensures v p.shown) in
+    subst (λ (u : Value). Writes (g.W.Write.contents c.args.out.now.writer) (g.W.Write.contents c.write_members.new.out.writer) (text_of (declarations_of c.args.table.now) ty' u) c.write_members.result) (sym x.1) (c.write_members.ensures.text ty' x.0 x.2)
