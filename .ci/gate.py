@@ -8,7 +8,8 @@ It proves every crate from nothing and runs every test and program by `rt ci`, a
     .ci/run --record    the gate; where all passes it adds to .ci/tried what it tried
     .ci/run --whole     `rt ci` as it is, with every wrong body; where all passes it writes .ci/tried anew
 
-It prints first which wrong bodies it does not try again. Its last line is rt ci's: `N passed, M failed`.
+It prints first which wrong bodies it does not try again. After rt ci it tries the programs that must not compile
+(.ci/must_not_compile.py). Its last line is rt ci's: `N passed, M failed`.
 
 A line of .ci/tried is `NAME KEY`: every wrong body of the crate was refused at that key. The key is a sum of the
 toolchain, of HANDLES, of the crate's line in crates.txt, of its sources and wrong bodies, and of the lines and
@@ -20,6 +21,10 @@ import shutil
 import subprocess
 import sys
 import tempfile
+
+sys.dont_write_bytecode = True
+sys.path.insert(0, os.path.dirname(os.path.realpath(__file__)))
+import must_not_compile  # noqa: E402
 
 PARTS = ("src", "specs", "proofs")
 
@@ -133,6 +138,8 @@ def run(repository, mode):
     with tempfile.TemporaryDirectory(prefix="gate-") as room:
         repository.copy(room, kept)
         status, last = rt_ci(room)
+        if not status and not must_not_compile.run(room):
+            status, last = 1, "0 passed, 1 failed"
     if not status and Repository(repository.root, repository.kit).keys() != now:
         status, last = 1, "0 passed, 1 failed"
         print("gate: files changed while it ran: run it again")
