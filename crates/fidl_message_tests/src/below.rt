@@ -177,49 +177,79 @@ fn third(view: View<'_, '_>) -> Option<u64> {
     view.field(0)?.element(2)?.field(0)?.as_u64()
 }
 
-/// A vector of structs is decoded, or refused at a place.
+/// A vector of three structs, of 1, 2 and 3, with its padding.
+const THREE: [u8; 32] = [
+    3, 0, 0, 0, 0, 0, 0, 0, 255, 255, 255, 255, 255, 255, 255, 255, 1, 0, 0, 0, 2, 0, 0, 0, 3, 0, 0,
+    0, 0, 0, 0, 0,
+];
+
+/// A vector of structs is decoded.
 #[test]
-fn vectors_are_decoded_or_refused(rt: HostRuntime) -> Result<(), Fail> {
+fn vectors_are_decoded(rt: HostRuntime) -> Result<(), Fail> {
     let written = table_of_objects(rt.alloc())?;
     let table = verify(written.as_slice())?;
     assert!(rt; table.entries() == 11);
     let mut scratch = Scratch::new(rt.alloc())?;
-    let three = [
-        3, 0, 0, 0, 0, 0, 0, 0, 255, 255, 255, 255, 255, 255, 255, 255, 1, 0, 0, 0, 2, 0, 0, 0, 3,
-        0, 0, 0, 0, 0, 0, 0,
-    ];
+    let three = THREE;
     let decoded = decode(&table, 9, &three, &[], &mut scratch)?;
     assert!(rt; third(decoded.view()) == Some(3));
-    let mut padded = three;
+    Ok(())
+}
+
+/// A vector whose marker or padding is bad, or that is absent where one is wanted, is refused at a
+/// place.
+#[test]
+fn bad_vectors_are_refused(rt: HostRuntime) -> Result<(), Fail> {
+    let written = table_of_objects(rt.alloc())?;
+    let table = verify(written.as_slice())?;
+    assert!(rt; table.entries() == 11);
+    let mut scratch = Scratch::new(rt.alloc())?;
+    let mut padded = THREE;
     padded[30] = 1;
-    let mut marked = three;
+    let refused = answer(&table, 9, &padded, &[], &mut scratch);
+    assert!(rt; refused == Some(DecodeFault::Padding { at: 30 }));
+    let mut marked = THREE;
     marked[8] = 254;
-    let mut huge = three;
+    let refused = answer(&table, 9, &marked, &[], &mut scratch);
+    assert!(rt; refused == Some(DecodeFault::BadMarker { at: 8 }));
+    let absent = [0; 16];
+    let refused = answer(&table, 9, &absent, &[], &mut scratch);
+    assert!(rt; refused == Some(DecodeFault::AbsentRequired { at: 0 }));
+    Ok(())
+}
+
+/// A vector with a count of 2^61 and more, or of 2^64 - 1, of over its bound, or of more than the
+/// message holds, is refused at a place.
+#[test]
+fn counts_of_vectors_are_refused(rt: HostRuntime) -> Result<(), Fail> {
+    let written = table_of_objects(rt.alloc())?;
+    let table = verify(written.as_slice())?;
+    assert!(rt; table.entries() == 11);
+    let mut scratch = Scratch::new(rt.alloc())?;
+    let mut huge = THREE;
     huge[7] = 32;
-    let mut none = three;
-    none[0] = 255;
-    for at in 1..8 {
+    let refused = answer(&table, 9, &huge, &[], &mut scratch);
+    assert!(rt; refused == Some(DecodeFault::BadCount { at: 0 }));
+    let mut none = THREE;
+    for at in 0..8 {
         none[at] = 255;
     }
-    let five = [
-        5, 0, 0, 0, 0, 0, 0, 0, 255, 255, 255, 255, 255, 255, 255, 255, 0, 0, 0, 0, 0, 0, 0, 0, 0,
-        0, 0, 0, 0, 0, 0, 0, 0, 0, 0, 0, 0, 0, 0, 0,
-    ];
-    let cases: [(&[u8], DecodeFault); 8] = [
-        (&padded, DecodeFault::Padding { at: 30 }),
-        (&marked, DecodeFault::BadMarker { at: 8 }),
-        // counts of 2^61 and more, and of 2^64 - 1
-        (&huge, DecodeFault::BadCount { at: 0 }),
-        (&none, DecodeFault::BadCount { at: 0 }),
-        (&five, DecodeFault::OverBound { at: 0 }),
-        // the padding is cut off, and the elements are
-        (&three[..28], DecodeFault::Truncated { at: 16 }),
-        (&three[..24], DecodeFault::BadCount { at: 0 }),
-        (&[0; 16], DecodeFault::AbsentRequired { at: 0 }),
-    ];
-    for (bytes, fault) in cases {
-        assert!(rt; answer(&table, 9, bytes, &[], &mut scratch) == Some(fault));
+    let refused = answer(&table, 9, &none, &[], &mut scratch);
+    assert!(rt; refused == Some(DecodeFault::BadCount { at: 0 }));
+    let mut five = [0; 40];
+    five[0] = 5;
+    for at in 8..16 {
+        five[at] = 255;
     }
+    let refused = answer(&table, 9, &five, &[], &mut scratch);
+    assert!(rt; refused == Some(DecodeFault::OverBound { at: 0 }));
+    let three = THREE;
+    // The padding is cut off.
+    let refused = answer(&table, 9, &three[..28], &[], &mut scratch);
+    assert!(rt; refused == Some(DecodeFault::Truncated { at: 16 }));
+    // An element is cut off.
+    let refused = answer(&table, 9, &three[..24], &[], &mut scratch);
+    assert!(rt; refused == Some(DecodeFault::BadCount { at: 0 }));
     Ok(())
 }
 
