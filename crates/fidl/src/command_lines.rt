@@ -20,7 +20,8 @@ impl Files for Desk {
     }
 }
 
-/// Runs a command line, and compares the status and what is printed on the output and on the errors.
+/// Runs a command line, and compares the status and what is printed on the output and on the
+/// errors.
 fn expect(alloc: Global, words: &[&str], status: u8, out: &str, errors: &str) -> Result<(), Fail> {
     let mut printed = Output::new(Vec::new(alloc));
     let mut told = Output::new(Vec::new(alloc));

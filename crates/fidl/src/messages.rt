@@ -221,7 +221,8 @@ fn strings_are_printed_or_refused(rt: HostRuntime) -> Result<(), Fail> {
     Ok(())
 }
 
-/// Vectors are printed between brackets, and present boxes as their struct; absent ones by that word.
+/// Vectors are printed between brackets, and present boxes as their struct; absent ones by that
+/// word.
 #[test]
 fn vectors_and_boxes_are_printed_or_refused(rt: HostRuntime) -> Result<(), Fail> {
     let full = [

@@ -52,8 +52,9 @@ pub(crate) const SHAPES: [u8; 527] = [
     0x00, 0x00, 0x00, 0x00, 0x53, 0x45, 0x4c, 0x61, 0x62, 0x74, 0x6c, 0x6e, 0x45, 0x4c, 0x53,
 ];
 
-/// A table written by hand, with four roots, each a struct with one member `e`: of `B` strict bits of uint32 with the mask 5, of `E` a strict
-/// enum of uint32 with 1 and 2, of `F` a flexible enum of uint32, of `N` a strict enum of int8 with -1.
+/// A table written by hand, with four roots, each a struct with one member `e`: of `B` strict bits
+/// of uint32 with the mask 5, of `E` a strict enum of uint32 with 1 and 2, of `F` a flexible enum
+/// of uint32, of `N` a strict enum of int8 with -1.
 pub(crate) const CHOICES: [u8; 501] = [
     0x46, 0x43, 0x54, 0x32, 0x01, 0x00, 0x00, 0x00, 0x08, 0x00, 0x00, 0x00, 0x04, 0x00, 0x00, 0x00,
     0x03, 0x00, 0x00, 0x00, 0x04, 0x00, 0x00, 0x00, 0x00, 0x00, 0x00, 0x00, 0x00, 0x00, 0x00, 0x00,
@@ -89,9 +90,10 @@ pub(crate) const CHOICES: [u8; 501] = [
     0x42, 0x45, 0x46, 0x4e, 0x65,
 ];
 
-/// A table written by hand, with six roots: `H` is a struct of two handles `h`, of subtype 3, and `i`, of subtype 5; `O` of an optional
-/// string `value` and an optional handle `h`; `P` of two strings `a` and `b`; `R` of a handle `h` with the right 2; `S` of a handle `h`
-/// with the rights that came; `T` of a string `value` of at most two bytes.
+/// A table written by hand, with six roots: `H` is a struct of two handles `h`, of subtype 3, and
+/// `i`, of subtype 5; `O` of an optional string `value` and an optional handle `h`; `P` of two
+/// strings `a` and `b`; `R` of a handle `h` with the right 2; `S` of a handle `h` with the rights
+/// that came; `T` of a string `value` of at most two bytes.
 pub(crate) const OUTSIDE: [u8; 839] = [
     0x46, 0x43, 0x54, 0x32, 0x01, 0x00, 0x00, 0x00, 0x0e, 0x00, 0x00, 0x00, 0x09, 0x00, 0x00, 0x00,
     0x00, 0x00, 0x00, 0x00, 0x06, 0x00, 0x00, 0x00, 0x00, 0x00, 0x00, 0x00, 0x00, 0x00, 0x00, 0x00,
@@ -148,8 +150,9 @@ pub(crate) const OUTSIDE: [u8; 839] = [
     0x65, 0x48, 0x4f, 0x50, 0x52, 0x53, 0x54,
 ];
 
-/// A table written by hand, with two roots: `C` is a struct of a box `n` of itself; `H` of a vector `a` of at most three uint32, an
-/// optional vector `b` of at most two uint8, and a box `c` of a struct of a uint32 `x`.
+/// A table written by hand, with two roots: `C` is a struct of a box `n` of itself; `H` of a vector
+/// `a` of at most three uint32, an optional vector `b` of at most two uint8, and a box `c` of a
+/// struct of a uint32 `x`.
 pub(crate) const BELOW: [u8; 512] = [
     0x46, 0x43, 0x54, 0x32, 0x01, 0x00, 0x00, 0x00, 0x09, 0x00, 0x00, 0x00, 0x05, 0x00, 0x00, 0x00,
     0x00, 0x00, 0x00, 0x00, 0x02, 0x00, 0x00, 0x00, 0x00, 0x00, 0x00, 0x00, 0x00, 0x00, 0x00, 0x00,

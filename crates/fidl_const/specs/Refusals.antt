@@ -4,8 +4,10 @@ use Rattle.std.specs.Prelude.{ℕ, ◌≡◌, ◌-◌, true, List, length, Optio
 use Rattle.std.specs.List.{Contains}
 use Rattle.fidl_span.specs.declared.words.Span.{Span}
 use Rattle.fidl_tree.specs.declared.file.File.{File}
-use Rattle.fidl_tree.specs.Syntax.{Path, Value, Operand, number_operand, string_operand, bool_operand}
-use Rattle.fidl_tree.specs.Syntax.{path_operand, group_operand, TypeUse, named_type, layout_type, Layout}
+use Rattle.fidl_tree.specs.Syntax.{Path, Value, Operand, number_operand, string_operand}
+use Rattle.fidl_tree.specs.Syntax.{bool_operand}
+use Rattle.fidl_tree.specs.Syntax.{path_operand, group_operand, TypeUse, named_type, layout_type}
+use Rattle.fidl_tree.specs.Syntax.{Layout}
 use Rattle.fidl_tree.specs.Syntax.{values_layout, struct_layout, table_layout, union_layout}
 use Rattle.fidl_names.specs.declared.place.Place.{Place}
 use Rattle.fidl_names.specs.declared.meaning.Wanted.TheVariants as wanted
@@ -18,7 +20,8 @@ use Rattle.fidl_const.specs.declared.fault.ConstFault.TheVariants.{OutOfRange, W
 use Rattle.fidl_const.specs.declared.const_type.ConstType.{ConstType}
 use Rattle.fidl_const.specs.PlainValues.{PlainValue, Fits, Suits, is_literal_of}
 use Rattle.fidl_const.specs.Types.{Joins}
-use Rattle.fidl_const.specs.Values.{first_operand, later_operands, literal, name_in, inside, is_member}
+use Rattle.fidl_const.specs.Values.{first_operand, later_operands, literal, name_in, inside}
+use Rattle.fidl_const.specs.Values.{is_member}
 use Rattle.fidl_const.specs.Values.{HasValue, OrOperandsAre, OperandIs, Offers}
 
 -- Places in a source.
@@ -114,7 +117,8 @@ mutual
         → OperandFails files f number t fault e
     group : (e : Operand) (v : Value) → inside e ≡ Some v → ValueFails files f number t fault v
         → OperandFails files f number t fault e
-    named : (e : Operand) (path : Path) → name_in e ≡ Some path → NameFails files f number t path fault
+    named : (e : Operand) (path : Path) → name_in e ≡ Some path
+        → NameFails files f number t path fault
         → OperandFails files f number t fault e
 
 -- one of the operands after the first is refused

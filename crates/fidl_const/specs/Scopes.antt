@@ -7,7 +7,8 @@ use Rattle.std.specs.List.{AllByRecursion}
 use Rattle.fidl_span.specs.declared.words.Span.{Span}
 use Rattle.fidl_tree.specs.Syntax as plain
 use Rattle.fidl_tree.specs.Syntax.{operands_of}
-use Rattle.fidl_tree.specs.Views.{path_view, value_view, operand_view, or_operand_view, constraints_view}
+use Rattle.fidl_tree.specs.Views.{path_view, value_view, operand_view, or_operand_view}
+use Rattle.fidl_tree.specs.Views.{constraints_view}
 use Rattle.fidl_tree.specs.Views.{kind_view, value_member_view, declared_view}
 use Rattle.fidl_tree.specs.declared.path.Path.{Path}
 use Rattle.fidl_tree.specs.declared.keyword.ValuesKeyword.{ValuesKeyword}
@@ -110,13 +111,15 @@ abbrev pub RefusesOperand : FileScope → ConstType → Operand → ConstFault �
 RefusesOperand s t e fault =
     OperandFails s.file.named.now s.file.tree.now s.file.file_index t fault (operand_view e)
 
-abbrev pub ReadsOrOperands : FileScope → ConstType → ConstValue → List OrOperand → ConstValue → Type 0
+abbrev pub ReadsOrOperands : FileScope → ConstType → ConstValue → List OrOperand → ConstValue
+    → Type 0
 ReadsOrOperands s t before os k = OrOperandsAre s.file.named.now s.file.tree.now t (seen before)
     (map or_operand_view os) (seen k)
 
 abbrev pub RefusesOrOperands : FileScope → ConstType → List OrOperand → ConstFault → Type 0
 RefusesOrOperands s t os fault =
-    OrOperandsFail s.file.named.now s.file.tree.now s.file.file_index t (map or_operand_view os) fault
+    OrOperandsFail s.file.named.now s.file.tree.now s.file.file_index t (map or_operand_view os)
+        fault
 
 abbrev pub ReadsValue : FileScope → ConstType → Value → ConstValue → Type 0
 ReadsValue s t v k = ValueIs s.file.named.now s.file.tree.now t (value_view v) (seen k)

@@ -3,8 +3,10 @@
 use Rattle.std.specs.Prelude.{ℕ, ◌≡◌, ℤ, pos, neg_ℤ, Bool, true, false, List, [], ◌∷◌, Option, Some}
 use Rattle.std.specs.Prelude.{None, is_some}
 use Rattle.fidl_tree.specs.Leaf.{text_at}
-use Rattle.fidl_tree.specs.Syntax.{Path, Value, bitwise_or, Operands, no_operands, next_operand, Operand}
-use Rattle.fidl_tree.specs.Syntax.{number_operand, string_operand, bool_operand, path_operand, group_operand}
+use Rattle.fidl_tree.specs.Syntax.{Path, Value, bitwise_or, Operands, no_operands, next_operand}
+use Rattle.fidl_tree.specs.Syntax.{Operand}
+use Rattle.fidl_tree.specs.Syntax.{number_operand, string_operand, bool_operand, path_operand}
+use Rattle.fidl_tree.specs.Syntax.{group_operand}
 use Rattle.fidl_tree.specs.Views.{value_view}
 use Rattle.fidl_tree.specs.declared.file.File.{File}
 use Rattle.fidl_tree.specs.declared.value_member.ValueMember.{ValueMember}
@@ -80,8 +82,8 @@ pub data HasValue (files : List File) : Meaning → Type 0 where
       → HasValue files (meaning.Member p i)
 
 mutual
-  -- an expression has this value where this type is wanted: its only operand's or, where values of the
-  -- type are joined, what its operands' values join to
+  -- an expression has this value where this type is wanted: its only operand's or, where values of
+  -- the type are joined, what its operands' values join to
   pub data ValueIs (files : List File) : File → ConstType → Value → PlainValue → Type 0 where
     alone : (f : File) (t : ConstType) (v : Value) (k : PlainValue) → later_operands v ≡ []
         → OperandIs files f t (first_operand v) k → ValueIs files f t v k
@@ -91,7 +93,8 @@ mutual
         → ValueIs files f t v all
 
   -- what a value is joined to by the operands after it
-  pub data OrOperandsAre (files : List File) : File → ConstType → (before : PlainValue) → List Operand
+  pub data OrOperandsAre (files : List File) : File → ConstType → (before : PlainValue)
+      → List Operand
       → (all : PlainValue) → Type 0 where
     none : (f : File) (t : ConstType) (k : PlainValue) → OrOperandsAre files f t k [] k
     one_more : (f : File) (t : ConstType) (before next all : PlainValue) (e : Operand)
@@ -99,12 +102,13 @@ mutual
         → OrOperandsAre files f t (joined before next) es all
         → OrOperandsAre files f t before (e ∷ es) all
 
-  -- an operand has this value where this type is wanted: a literal of the type that fits it, the value
-  -- in parentheses, or what a name gives
+  -- an operand has this value where this type is wanted: a literal of the type that fits it, the
+  -- value in parentheses, or what a name gives
   pub data OperandIs (files : List File) : File → ConstType → Operand → PlainValue → Type 0 where
     literal_fits : (f : File) (t : ConstType) (e : Operand) (k : PlainValue) → literal f e ≡ Some k
         → is_literal_of t k ≡ true → Fits t k → OperandIs files f t e k
-    group : (f : File) (t : ConstType) (e : Operand) (v : Value) (k : PlainValue) → inside e ≡ Some v
+    group : (f : File) (t : ConstType) (e : Operand) (v : Value) (k : PlainValue) → inside e
+        ≡ Some v
         → ValueIs files f t v k → OperandIs files f t e k
     named : (f : File) (t : ConstType) (e : Operand) (path : Path) (m : Meaning) (k : PlainValue)
         → name_in e ≡ Some path → Means files f wanted.Value (texts f.src.now path) m

@@ -2,8 +2,10 @@
 ghost use Rattle.std.specs.Prelude.{ℕ, ◌≡◌, ◌≢◌, [], ◌∷◌, List, Some, None, true, false};
 ghost use Rattle.fidl_span.specs.declared.words.Span.{Span};
 ghost use Rattle.fidl_tree.specs.Syntax.{Path, Value, Operand, Arguments, Members, bitwise_or};
-ghost use Rattle.fidl_tree.specs.Syntax.{no_operands, next_operand, bits_kind, enum_kind, number_operand};
-ghost use Rattle.fidl_tree.specs.Syntax.{bool_operand, path_operand, group_operand, named_type, layout_type};
+ghost use Rattle.fidl_tree.specs.Syntax.{no_operands, next_operand, bits_kind, enum_kind};
+ghost use Rattle.fidl_tree.specs.Syntax.{number_operand};
+ghost use Rattle.fidl_tree.specs.Syntax.{bool_operand, path_operand, group_operand, named_type};
+ghost use Rattle.fidl_tree.specs.Syntax.{layout_type};
 ghost use Rattle.fidl_tree.specs.Syntax.{struct_layout};
 ghost use Rattle.fidl_tree.specs.Views.{path_view, value_view};
 ghost use Rattle.fidl_tree.specs.declared.file.File.{File};

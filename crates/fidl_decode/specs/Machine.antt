@@ -1,5 +1,6 @@
 -- What a state of the decoder still has to read, said by values and never by a run.
-use Rattle.std.specs.Prelude.{◌≡◌, ℕ, suc, ◌+◌, ◌-◌, ◌*◌, ◌<◌, ◌≤◌, ◌⊎◌, ◌↔◌, List, [], ◌∷◌, length, Option, Some, None}
+use Rattle.std.specs.Prelude.{◌≡◌, ℕ, suc, ◌+◌, ◌-◌, ◌*◌, ◌<◌, ◌≤◌, ◌⊎◌, ◌↔◌, List, [], ◌∷◌, length}
+use Rattle.std.specs.Prelude.{Option, Some, None}
 use Rattle.fidl_wire.specs.declared.limits.TheConstants.{MAX_DEPTH, MAX_NEST, MAX_MESSAGE_HANDLES}
 use Rattle.fidl_wire.specs.Term as ty
 use Rattle.fidl_wire.specs.Term.{Term, resolve}
@@ -24,7 +25,8 @@ rows_left t done (Elements entry size count) = element_rows entry size count don
 
 -- what a frame still has to read
 abbrev pub Reads : List ℕ → Message → Frame → At → At → Type 0
-Reads t m f from to = Members (declarations_of t) m f.depth f.size f.base f.done (rows_left t f.done f.left) from to
+Reads t m f from to =
+    Members (declarations_of t) m f.depth f.size f.base f.done (rows_left t f.done f.left) from to
 
 -- the same where there may be none
 abbrev pub ReadsIf : List ℕ → Message → Option Frame → At → At → Type 0
@@ -43,7 +45,9 @@ row_parts (r ∷ rs) = record { offset = r.offset; term = ty.named r.entry } ∷
 
 -- what a frame still has to read breaks a rule
 abbrev pub BreaksFrame : List ℕ → Message → Frame → At → DecodeFault → Type 0
-BreaksFrame t m f from fault = BreaksParts (declarations_of t) m f.depth f.size f.base f.done (row_parts (rows_left t f.done f.left)) from fault
+BreaksFrame t m f from fault =
+    BreaksParts (declarations_of t) m f.depth f.size f.base f.done
+    (row_parts (rows_left t f.done f.left)) from fault
 
 -- the same where there may be none
 abbrev pub BreaksIf : List ℕ → Message → Option Frame → At → DecodeFault → Type 0
@@ -52,12 +56,14 @@ BreaksIf t m (Some f) from fault = BreaksFrame t m f from fault
 
 -- what is left after a turn breaks a rule: what is below, or, behind that, the rest
 abbrev pub BreaksAfter : List ℕ → Message → Turn → At → DecodeFault → Type 0
-BreaksAfter t m x from fault = BreaksIf t m x.below from fault ⊎ ((mid : At) × ReadsIf t m x.below from mid × BreaksIf t m x.rest mid fault)
+BreaksAfter t m x from fault = BreaksIf t m x.below from fault
+    ⊎ ((mid : At) × ReadsIf t m x.below from mid × BreaksIf t m x.rest mid fault)
 
 -- what a stack of frames still has to read breaks a rule
 abbrev pub BreaksStack : List ℕ → Message → List Frame → At → DecodeFault → Type 0
 BreaksStack t m [] from fault = ⊥
-BreaksStack t m (f ∷ fs) from fault = BreaksStack t m fs from fault ⊎ ((mid : At) × Finishes t m fs from mid × BreaksFrame t m f mid fault)
+BreaksStack t m (f ∷ fs) from fault = BreaksStack t m fs from fault
+    ⊎ ((mid : At) × Finishes t m fs from mid × BreaksFrame t m f mid fault)
 
 -- the greatest nest of a frame: that of a vector is one more than its elements have
 abbrev pub most_nest : ℕ
@@ -74,14 +80,16 @@ height f = level f.depth f.nest
 -- a struct's rows that are left lie in the table; elements have their size
 abbrev pub LeftFine : List ℕ → Left → Type 0
 LeftFine t (Rows first count) = first + count ≤ (header_of t).rows
-LeftFine t (Elements entry size count) = (figure_of (declarations_of t).figures (ty.named entry)).size ≡ size
+LeftFine t (Elements entry size count) =
+    (figure_of (declarations_of t).figures (ty.named entry)).size ≡ size
 
 pub record FrameFine (t : List ℕ) (m : List ℕ) (f : Frame) : Type 0 where
   pub left : LeftFine t f.left
   pub room : f.base + f.size ≤ length m
   pub nest : f.nest ≤ most_nest
   pub depth : f.depth ≤ MAX_DEPTH
-  pub rise : RowsRise (declarations_of t) (header_of t).entries f.nest f.size f.done (rows_left t f.done f.left)
+  pub rise : RowsRise (declarations_of t) (header_of t).entries f.nest f.size f.done
+      (rows_left t f.done f.left)
 
 -- a frame, if any, is fine, and lies at least so deep
 abbrev pub FineIf : List ℕ → List ℕ → ℕ → Option Frame → Type 0
@@ -97,7 +105,8 @@ StackFine t m k (f ∷ fs) = FrameFine t m f × (k ≤ height f) × StackFine t 
 abbrev pub probes : ℕ
 probes = 16
 
--- the work that one byte inline may make at most, in a frame of this nest: two turns for each nest, two more, and a search
+-- the work that one byte inline may make at most, in a frame of this nest: two turns for each nest,
+-- two more, and a search
 abbrev pub inline_work : (nest : ℕ) → ℕ
 inline_work nest = 2 * nest + 2 + probes
 
@@ -113,7 +122,8 @@ abbrev pub stack_work : List Frame → ℕ
 stack_work [] = 0
 stack_work (f ∷ fs) = frame_work f + stack_work fs
 
--- the work that one byte out of line may still make: that of a byte inline at the greatest nest, and the turns of an object
+-- the work that one byte out of line may still make: that of a byte inline at the greatest nest,
+-- and the turns of an object
 abbrev pub byte_work : ℕ
 byte_work = inline_work most_nest + 4
 
@@ -135,35 +145,52 @@ pub record StateFine (m : Message) (s : At) : Type 0 where
 abbrev pub Leads : Declarations → Message → (held : ℕ) → Term → (place : ℕ) → At → At → Type 0
 Leads ds m held t place old new = (to : At) → Item ds m held t place old to ↔ (new ≡ to)
 
--- a visit of an entry at a place, in so many steps, gives what of it is left to read, if any, and the state then
-pub record Visits (t : List ℕ) (m : Message) (held e place : ℕ) (old new : At) (spent : ℕ) (found : Option Frame) : Type 0 where
-  pub same : (to : At) → Item (declarations_of t) m held (resolve (declarations_of t).terms (ty.named e)) place old to ↔ ReadsIf t m found new to
-  pub breaks : (fault : DecodeFault) → BreaksIf t m found new fault → Breaks (declarations_of t) m held (resolve (declarations_of t).terms (ty.named e)) place old fault
+-- a visit of an entry at a place, in so many steps, gives what of it is left to read, if any, and
+-- the state then
+pub record Visits (t : List ℕ) (m : Message) (held e place : ℕ) (old new : At) (spent : ℕ)
+    (found : Option Frame) : Type 0 where
+  pub same : (to : At)
+      → Item (declarations_of t) m held (resolve (declarations_of t).terms (ty.named e)) place old
+      to ↔ ReadsIf t m found new to
+  pub breaks : (fault : DecodeFault) → BreaksIf t m found new fault
+      → Breaks (declarations_of t) m held (resolve (declarations_of t).terms (ty.named e)) place old
+      fault
   pub state : StateFine m new
-  pub fine : FineIf t m.bytes (level held (figure_of (declarations_of t).figures (ty.named e)).nest) found
+  pub fine : FineIf t m.bytes (level held (figure_of (declarations_of t).figures (ty.named e)).nest)
+      found
   pub less : let f = figure_of (declarations_of t).figures (ty.named e) in
-      byte_work * (length m.bytes - new.next) + frame_work_if found + spent ≤ byte_work * (length m.bytes - old.next) + inline_work f.nest * f.size + 1
+      byte_work * (length m.bytes - new.next) + frame_work_if found + spent
+          ≤ byte_work * (length m.bytes - old.next) + inline_work f.nest * f.size + 1
 
 -- a turn on a frame: what is left of it, what is to be read before that, and the state then
-pub record Turns (t : List ℕ) (m : Message) (f : Frame) (old new : At) (spent : ℕ) (x : Turn) : Type 0 where
-  pub same : (to : At) → Reads t m f old to ↔ ((mid : At) × ReadsIf t m x.below new mid × ReadsIf t m x.rest mid to)
+pub record Turns (t : List ℕ) (m : Message) (f : Frame) (old new : At) (spent : ℕ) (x : Turn) : Type
+    0 where
+  pub same : (to : At) → Reads t m f old to
+      ↔ ((mid : At) × ReadsIf t m x.below new mid × ReadsIf t m x.rest mid to)
   pub breaks : (fault : DecodeFault) → BreaksAfter t m x new fault → BreaksFrame t m f old fault
   pub state : StateFine m new
   pub below_fine : FineIf t m.bytes (height f + 1) x.below
   pub rest_fine : FineIf t m.bytes (height f) x.rest
-  pub less : byte_work * (length m.bytes - new.next) + frame_work_if x.below + frame_work_if x.rest + spent ≤ byte_work * (length m.bytes - old.next) + frame_work f
+  pub less : byte_work * (length m.bytes - new.next) + frame_work_if x.below + frame_work_if x.rest
+      + spent ≤ byte_work * (length m.bytes - old.next) + frame_work f
 
 -- the whole message is read
 pub record IsWhole (m : Message) (s : At) : Type 0 where
   pub bytes : s.next ≡ length m.bytes
   pub handles : s.handle ≡ length m.handles
 
--- why a stack of frames is not read to the message's end: it breaks a rule, or the frames end before bytes or handles do
+-- why a stack of frames is not read to the message's end: it breaks a rule, or the frames end
+-- before bytes or handles do
 abbrev pub IsStopped : List ℕ → Message → List Frame → At → DecodeFault → Type 0
-IsStopped t m fs from (BytesLeft at) = (at < length m.bytes) × ((to : At) × Finishes t m fs from to × StateFine m to × (to.next ≡ at))
-IsStopped t m fs from (HandlesLeft at) = (at ≡ length m.bytes) × ((to : At) × Finishes t m fs from to × (to.next ≡ length m.bytes) × (to.handle < length m.handles))
+IsStopped t m fs from (BytesLeft at) = (at < length m.bytes)
+    × ((to : At) × Finishes t m fs from to × StateFine m to × (to.next ≡ at))
+IsStopped t m fs from (HandlesLeft at) = (at ≡ length m.bytes)
+    × ((to : At) × Finishes t m fs from to × (to.next ≡ length m.bytes)
+    × (to.handle < length m.handles))
 IsStopped t m fs from fault = BreaksStack t m fs from fault
 
 -- how far a state has read, and what it has linked
 abbrev pub at_of : State → At
-at_of s = record { next = s.next; handle = s.handle; objects = s.links.objects; records = s.links.records }
+at_of s =
+    record { next = s.next; handle = s.handle; objects = s.links.objects; records =
+    s.links.records }

@@ -1,8 +1,10 @@
--- Values that stand in a message, and what lies below them where the links say (docs/decoding.md, "Links").
+-- Values that stand in a message, and what lies below them where the links say (docs/decoding.md,
+-- "Links").
 use Rattle.std.specs.Prelude.{◌≡◌, ℕ, ◌+◌, ◌/◌, List, Some, slice_index, slice_get}
 use Rattle.std.specs.Int.{next_multiple_of}
 use Rattle.fidl_wire.specs.declared.handle.HandleInfo.{HandleInfo}
-use Rattle.fidl_wire.specs.Value.{Value, absent, bool, number, text, list, fields, handle, table, union, Values, none, value}
+use Rattle.fidl_wire.specs.Value.{Value, absent, bool, number, text, list, fields, handle, table}
+use Rattle.fidl_wire.specs.Value.{union, Values, none, value}
 use Rattle.fidl_wire.specs.Term.{Term, Fields, no_fields, field, resolve}
 use Rattle.fidl_wire.specs.Term as ty
 use Rattle.fidl_wire.specs.Figure.{Declarations, figure_of}
@@ -21,7 +23,8 @@ object_at l marker = slice_index l.objects (marker / 8)
 abbrev pub record_at : Linked → (place : ℕ) → ℕ
 record_at l place = slice_index l.records (place / 4)
 
--- where the content of a value at a place stands: that of a vector or box is the object of its marker
+-- where the content of a value at a place stands: that of a vector or box is the object of its
+-- marker
 abbrev pub content_at : Linked → Term → (place : ℕ) → ℕ
 content_at l (ty.vector optional bound t) place = object_at l (place + 8)
 content_at l (ty.box t) place = object_at l place
@@ -32,19 +35,24 @@ abbrev pub Inline : Declarations → Message → Term → (place : ℕ) → Valu
 Inline ds m t place v = Stands m.bytes place (encoding_of ds t v).inline
 
 abbrev mutual
-  -- the value of a term that is no name stands at the place, and what lies below it where the links say
+  -- the value of a term that is no name stands at the place, and what lies below it where the links
+  -- say
   pub Placed : Declarations → Message → Linked → Term → (place : ℕ) → Value → Type 0
   Placed ds m l t place absent = Inline ds m t place absent
   Placed ds m l t place (bool b) = Inline ds m t place (bool b)
   Placed ds m l t place (number z) = Inline ds m t place (number z)
   -- the handle is the one of its record
-  Placed ds m l t place (handle h) = Inline ds m t place (handle h) × (slice_get m.handles (record_at l place) ≡ Some h)
+  Placed ds m l t place (handle h) = Inline ds m t place (handle h)
+      × (slice_get m.handles (record_at l place) ≡ Some h)
   -- the text is the object of its marker, behind the count
-  Placed ds m l t place (text bytes) = Inline ds m t place (text bytes) × Stands m.bytes (object_at l (place + 8)) bytes
+  Placed ds m l t place (text bytes) = Inline ds m t place (text bytes)
+      × Stands m.bytes (object_at l (place + 8)) bytes
   -- elements stand one behind the other, in place or as the object of the marker
-  Placed ds m l t place (list vs) = Inline ds m t place (list vs) × ArePlaced ds m l (element_of ds t) (element_size ds t) (content_at l t place) vs
+  Placed ds m l t place (list vs) = Inline ds m t place (list vs)
+      × ArePlaced ds m l (element_of ds t) (element_size ds t) (content_at l t place) vs
   -- members stand at their offsets, in place or in the object of the marker
-  Placed ds m l t place (fields vs) = Inline ds m t place (fields vs) × AreFieldsPlaced ds m l (content_of ds t) 0 (content_at l t place) vs
+  Placed ds m l t place (fields vs) = Inline ds m t place (fields vs)
+      × AreFieldsPlaced ds m l (content_of ds t) 0 (content_at l t place) vs
   -- of tables and unions, which the decoder does not read yet, only the bytes inline
   Placed ds m l t place (table n ms) = Inline ds m t place (table n ms)
   Placed ds m l t place (union ordinal x) = Inline ds m t place (union ordinal x)
@@ -52,7 +60,8 @@ abbrev mutual
   -- the same of elements of this size, the first of them at a place
   pub ArePlaced : Declarations → Message → Linked → Term → (size place : ℕ) → Values → Type 0
   ArePlaced ds m l t size place none = Unit {0}
-  ArePlaced ds m l t size place (value v vs) = Placed ds m l t place v × ArePlaced ds m l t size (place + size) vs
+  ArePlaced ds m l t size place (value v vs) = Placed ds m l t place v
+      × ArePlaced ds m l t size (place + size) vs
 
   -- the same of members that begin behind `from`, in a struct at a base
   pub AreFieldsPlaced : Declarations → Message → Linked → Fields → (from base : ℕ) → Values → Type 0
@@ -61,12 +70,15 @@ abbrev mutual
   AreFieldsPlaced ds m l (field name t fs) from base (value v vs) =
       let f = figure_of ds.figures t in
       let at = next_multiple_of from f.align in
-      Placed ds m l (resolve ds.terms t) (base + at) v × AreFieldsPlaced ds m l fs (at + f.size) base vs
+      Placed ds m l (resolve ds.terms t) (base + at) v
+          × AreFieldsPlaced ds m l fs (at + f.size) base vs
 
 -- the links of a state
 abbrev pub links_of : At → Linked
 links_of s = record { objects = s.objects; records = s.records }
 
--- some value of the term has this message, and stands in it from 0 on, with all below it where the links say
+-- some value of the term has this message, and stands in it from 0 on, with all below it where the
+-- links say
 abbrev pub StandsIn : Declarations → Term → List ℕ → List HandleInfo → Linked → Type 0
-StandsIn ds t bytes handles l = (v : Value) × Encodes ds t v bytes handles × Placed ds (message_of bytes handles) l (resolve ds.terms t) 0 v
+StandsIn ds t bytes handles l = (v : Value) × Encodes ds t v bytes handles
+    × Placed ds (message_of bytes handles) l (resolve ds.terms t) 0 v

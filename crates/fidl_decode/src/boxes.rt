@@ -29,7 +29,8 @@ impl<'t, 'm> Decoder<'t, 'm> {
         requires kind { kind_of (entry_at self.now.table.now entry).kind ≡ Some kinds.Box }
         requires short { length self.now.bytes.now ≤ MAX_MESSAGE_BYTES }
         requires room { place + 8 ≤ length self.now.bytes.now }
-        requires state { StateFine (message_of self.now.bytes.now self.now.handles.now) (at_of state.old) }
+        requires state { StateFine (message_of self.now.bytes.now self.now.handles.now)
+            (at_of state.old) }
         requires depth { depth ≤ MAX_DEPTH }
         ensures ok { IfOk result (λ found. Visits self.now.table.now
             (message_of self.now.bytes.now self.now.handles.now) depth entry place

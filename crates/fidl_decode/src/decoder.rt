@@ -1,5 +1,6 @@
 //! The decoder: one field, and one member of a frame.
-ghost use Rattle.std.specs.Prelude.{◌≡◌, ◌≢◌, ℕ, ◌+◌, ◌-◌, ◌^◌, ◌<◌, ◌≤◌, ◌∷◌, [], OnOk, OnErr, IfOk, IfErr, IfSome, IfNone, Some, None, length, slice_index};
+ghost use Rattle.std.specs.Prelude.{◌≡◌, ◌≢◌, ℕ, ◌+◌, ◌-◌, ◌^◌, ◌<◌, ◌≤◌, ◌∷◌, [], OnOk, OnErr};
+ghost use Rattle.std.specs.Prelude.{IfOk, IfErr, IfSome, IfNone, Some, None, length, slice_index};
 ghost use Rattle.fidl_wire.specs.declared.limits.TheConstants.{MAX_DEPTH, MAX_MESSAGE_BYTES};
 ghost use Rattle.fidl_wire.specs.Term as ty;
 ghost use Rattle.fidl_wire.specs.Term.{resolve};
@@ -14,7 +15,8 @@ ghost use Rattle.fidl_decode.specs.Fine.{IsFine};
 ghost use Rattle.fidl_decode.specs.Faults.{message_of};
 ghost use Rattle.fidl_decode.specs.Breaks.{IsPadding, Breaks};
 ghost use Rattle.fidl_decode.specs.State.{At, Item};
-ghost use Rattle.fidl_decode.specs.Machine.{rows_left, LeftFine, Reads, StateFine, FrameFine, BreaksFrame, Visits, Turns, turn_work, at_of, probes};
+ghost use Rattle.fidl_decode.specs.Machine.{rows_left, LeftFine, Reads, StateFine, FrameFine};
+ghost use Rattle.fidl_decode.specs.Machine.{BreaksFrame, Visits, Turns, turn_work, at_of, probes};
 
 use crate::fault::DecodeFault;
 use crate::frame::{Frame, Left, Member, State, Turn};
@@ -102,13 +104,27 @@ impl<'t, 'm> Decoder<'t, 'm> {
         requires table { IsFine self.now.table.now }
         requires entry { entry < (header_of self.now.table.now).entries }
         requires short { length self.now.bytes.now ≤ MAX_MESSAGE_BYTES }
-        requires room { place + (entry_at self.now.table.now entry).size ≤ length self.now.bytes.now }
-        requires state { StateFine (message_of self.now.bytes.now self.now.handles.now) (at_of state.old) }
+        requires room { place + (entry_at self.now.table.now entry).size
+            ≤ length self.now.bytes.now }
+        requires state { StateFine (message_of self.now.bytes.now self.now.handles.now)
+            (at_of state.old) }
         requires depth { depth ≤ MAX_DEPTH }
         requires budget { state.old.steps < 2 ^ 41 }
-        ensures ok { IfOk result (λ found. Visits self.now.table.now (message_of self.now.bytes.now self.now.handles.now) depth entry place (at_of state.old) (at_of state.new) (state.new.steps - state.old.steps) found) }
-        ensures err { OnErr result ((to : At) → Item (declarations_of self.now.table.now) (message_of self.now.bytes.now self.now.handles.now) depth (resolve (declarations_of self.now.table.now).terms (ty.named entry)) place (at_of state.old) to → ⊥) }
-        ensures told { IfErr result (Breaks (declarations_of self.now.table.now) (message_of self.now.bytes.now self.now.handles.now) depth (resolve (declarations_of self.now.table.now).terms (ty.named entry)) place (at_of state.old)) }
+        ensures ok { IfOk result
+            (λ found. Visits self.now.table.now (message_of self.now.bytes.now self.now.handles.now)
+            depth entry place (at_of state.old) (at_of state.new)
+            (state.new.steps - state.old.steps) found) }
+        ensures err { OnErr result
+            ((to : At)
+            → Item (declarations_of self.now.table.now)
+            (message_of self.now.bytes.now self.now.handles.now) depth
+            (resolve (declarations_of self.now.table.now).terms (ty.named entry)) place
+            (at_of state.old) to → ⊥) }
+        ensures told { IfErr result
+            (Breaks (declarations_of self.now.table.now)
+            (message_of self.now.bytes.now self.now.handles.now) depth
+            (resolve (declarations_of self.now.table.now).terms (ty.named entry)) place
+            (at_of state.old)) }
         ensures grows { state.old.steps ≤ state.new.steps }
         ensures probes { state.new.steps ≤ state.old.steps + probes
             + (length self.now.bytes.now - state.old.next) }
@@ -162,14 +178,22 @@ impl<'t, 'm> Decoder<'t, 'm> {
         requires table { IsFine self.now.table.now }
         requires short { length self.now.bytes.now ≤ MAX_MESSAGE_BYTES }
         requires frame { FrameFine self.now.table.now self.now.bytes.now frame }
-        requires state { StateFine (message_of self.now.bytes.now self.now.handles.now) (at_of state.old) }
+        requires state { StateFine (message_of self.now.bytes.now self.now.handles.now)
+            (at_of state.old) }
         requires steps { state.old.steps < 2 ^ 40 }
-        ensures ok { IfOk result (λ turn. Turns self.now.table.now (message_of self.now.bytes.now self.now.handles.now) frame (at_of state.old) (at_of state.new) (state.new.steps - state.old.steps) turn) }
+        ensures ok { IfOk result
+            (λ turn. Turns self.now.table.now (message_of self.now.bytes.now self.now.handles.now)
+            frame (at_of state.old) (at_of state.new) (state.new.steps - state.old.steps) turn) }
         ensures rises { state.old.steps < state.new.steps }
         ensures cost { state.new.steps ≤ state.old.steps
             + turn_work self.now.bytes.now state.old.next frame }
-        ensures err { OnErr result ((to : At) → Reads self.now.table.now (message_of self.now.bytes.now self.now.handles.now) frame (at_of state.old) to → ⊥) }
-        ensures told { IfErr result (BreaksFrame self.now.table.now (message_of self.now.bytes.now self.now.handles.now) frame (at_of state.old)) }
+        ensures err { OnErr result
+            ((to : At)
+            → Reads self.now.table.now (message_of self.now.bytes.now self.now.handles.now) frame
+            (at_of state.old) to → ⊥) }
+        ensures told { IfErr result
+            (BreaksFrame self.now.table.now (message_of self.now.bytes.now self.now.handles.now)
+            frame (at_of state.old)) }
     {
         let at = frame.base + frame.done;
         let Some(member) = next_member(self.table, frame.left, frame.done) else {

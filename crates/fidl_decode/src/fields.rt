@@ -1,5 +1,7 @@
-//! The fields of a frame, read in place: the rows of a struct, and the elements of an array or vector.
-ghost use Rattle.std.specs.Prelude.{◌≡◌, ◌+◌, ◌-◌, ◌*◌, ◌^◌, ◌<◌, ◌≤◌, OnOk, OnErr, IfOk, IfErr, IfNone, true, Some, None, length};
+//! The fields of a frame, read in place: the rows of a struct, and the elements of an array or
+//! vector.
+ghost use Rattle.std.specs.Prelude.{◌≡◌, ◌+◌, ◌-◌, ◌*◌, ◌^◌, ◌<◌, ◌≤◌, OnOk, OnErr, IfOk, IfErr};
+ghost use Rattle.std.specs.Prelude.{IfNone, true, Some, None, length};
 ghost use Rattle.fidl_wire.specs.declared.limits.TheConstants.{MAX_MESSAGE_BYTES};
 ghost use Rattle.fidl_records.specs.Kind.{kind_of};
 ghost use Rattle.fidl_records.specs.Section.{header_of, entry_at};
@@ -7,7 +9,8 @@ ghost use Rattle.fidl_decode.specs.Fine.{IsFine, is_leaf};
 ghost use Rattle.fidl_decode.specs.Faults.{message_of};
 ghost use Rattle.fidl_decode.specs.State.{At};
 ghost use Rattle.fidl_decode.specs.declared.frame.Left.TheVariants as left;
-ghost use Rattle.fidl_decode.specs.Machine.{Reads, StateFine, FrameFine, BreaksFrame, Turns, turn_work, at_of};
+ghost use Rattle.fidl_decode.specs.Machine.{Reads, StateFine, FrameFine, BreaksFrame, Turns};
+ghost use Rattle.fidl_decode.specs.Machine.{turn_work, at_of};
 
 use crate::decoder::{Decoder, zeros_at};
 use crate::fault::DecodeFault;
@@ -16,7 +19,8 @@ use crate::leaf::{is_free, is_leaf};
 use fidl_records::EntryKind;
 
 impl<'t, 'm> Decoder<'t, 'm> {
-    /// Reads the rows of a struct in place, up to the first that is no leaf. Nothing is left at the struct's end.
+    /// Reads the rows of a struct in place, up to the first that is no leaf. Nothing is left at the
+    /// struct's end.
     pub(crate) fn read_rows(
         &self,
         frame: Frame,
@@ -28,14 +32,25 @@ impl<'t, 'm> Decoder<'t, 'm> {
         requires short { length self.now.bytes.now ≤ MAX_MESSAGE_BYTES }
         requires frame { FrameFine self.now.table.now self.now.bytes.now frame }
         requires left { frame.left ≡ left.Rows first count }
-        requires state { StateFine (message_of self.now.bytes.now self.now.handles.now) (at_of state.old) }
-        requires budget { state.old.steps + turn_work self.now.bytes.now state.old.next frame < 2 ^ 40 }
-        ensures ok { IfOk result (λ rest. Turns self.now.table.now (message_of self.now.bytes.now self.now.handles.now) frame (at_of state.old) (at_of state.new) (state.new.steps - state.old.steps) (record { below = None; rest = rest })) }
+        requires state { StateFine (message_of self.now.bytes.now self.now.handles.now)
+            (at_of state.old) }
+        requires budget { state.old.steps + turn_work self.now.bytes.now state.old.next frame
+            < 2 ^ 40 }
+        ensures ok { IfOk result
+            (λ rest. Turns self.now.table.now (message_of self.now.bytes.now self.now.handles.now)
+            frame (at_of state.old) (at_of state.new) (state.new.steps - state.old.steps)
+            (record { below = None; rest = rest })) }
         ensures grows { state.old.steps ≤ state.new.steps }
         ensures ended { IfOk result (λ rest. IfNone rest (state.old.steps < state.new.steps)) }
-        ensures cost { state.new.steps ≤ state.old.steps + turn_work self.now.bytes.now state.old.next frame }
-        ensures err { OnErr result ((to : At) → Reads self.now.table.now (message_of self.now.bytes.now self.now.handles.now) frame (at_of state.old) to → ⊥) }
-        ensures told { IfErr result (BreaksFrame self.now.table.now (message_of self.now.bytes.now self.now.handles.now) frame (at_of state.old)) }
+        ensures cost { state.new.steps
+            ≤ state.old.steps + turn_work self.now.bytes.now state.old.next frame }
+        ensures err { OnErr result
+            ((to : At)
+            → Reads self.now.table.now (message_of self.now.bytes.now self.now.handles.now) frame
+            (at_of state.old) to → ⊥) }
+        ensures told { IfErr result
+            (BreaksFrame self.now.table.now (message_of self.now.bytes.now self.now.handles.now)
+            frame (at_of state.old)) }
     {
         let _rows = self.table.rows();
         let end = first + count;
@@ -90,13 +105,24 @@ impl<'t, 'm> Decoder<'t, 'm> {
         requires entry { entry < (header_of self.now.table.now).entries }
         requires kind { kind_of (entry_at self.now.table.now entry).kind ≡ Some kind }
         requires leaf { is_leaf kind ≡ true }
-        requires state { StateFine (message_of self.now.bytes.now self.now.handles.now) (at_of state.old) }
-        requires budget { state.old.steps + turn_work self.now.bytes.now state.old.next frame < 2 ^ 40 }
-        ensures ok { OnOk result (Turns self.now.table.now (message_of self.now.bytes.now self.now.handles.now) frame (at_of state.old) (at_of state.new) (state.new.steps - state.old.steps) (record { below = None; rest = None })) }
+        requires state { StateFine (message_of self.now.bytes.now self.now.handles.now)
+            (at_of state.old) }
+        requires budget { state.old.steps + turn_work self.now.bytes.now state.old.next frame
+            < 2 ^ 40 }
+        ensures ok { OnOk result
+            (Turns self.now.table.now (message_of self.now.bytes.now self.now.handles.now) frame
+            (at_of state.old) (at_of state.new) (state.new.steps - state.old.steps)
+            (record { below = None; rest = None })) }
         ensures ended { OnOk result (state.old.steps < state.new.steps) }
-        ensures cost { state.new.steps ≤ state.old.steps + turn_work self.now.bytes.now state.old.next frame }
-        ensures err { OnErr result ((to : At) → Reads self.now.table.now (message_of self.now.bytes.now self.now.handles.now) frame (at_of state.old) to → ⊥) }
-        ensures told { IfErr result (BreaksFrame self.now.table.now (message_of self.now.bytes.now self.now.handles.now) frame (at_of state.old)) }
+        ensures cost { state.new.steps
+            ≤ state.old.steps + turn_work self.now.bytes.now state.old.next frame }
+        ensures err { OnErr result
+            ((to : At)
+            → Reads self.now.table.now (message_of self.now.bytes.now self.now.handles.now) frame
+            (at_of state.old) to → ⊥) }
+        ensures told { IfErr result
+            (BreaksFrame self.now.table.now (message_of self.now.bytes.now self.now.handles.now)
+            frame (at_of state.old)) }
     {
         let mut done = frame.done;
         for i in 0..count {
@@ -111,7 +137,8 @@ impl<'t, 'm> Decoder<'t, 'm> {
         zeros_at(self.bytes, at, stop)
     }
 
-    /// Reads the elements of an array or vector in place, where they are leaves. Nothing is left at their end.
+    /// Reads the elements of an array or vector in place, where they are leaves. Nothing is left at
+    /// their end.
     fn read_elements(
         &self,
         frame: Frame,
@@ -124,14 +151,25 @@ impl<'t, 'm> Decoder<'t, 'm> {
         requires short { length self.now.bytes.now ≤ MAX_MESSAGE_BYTES }
         requires frame { FrameFine self.now.table.now self.now.bytes.now frame }
         requires left { frame.left ≡ left.Elements entry size count }
-        requires state { StateFine (message_of self.now.bytes.now self.now.handles.now) (at_of state.old) }
-        requires budget { state.old.steps + turn_work self.now.bytes.now state.old.next frame < 2 ^ 40 }
-        ensures ok { IfOk result (λ rest. Turns self.now.table.now (message_of self.now.bytes.now self.now.handles.now) frame (at_of state.old) (at_of state.new) (state.new.steps - state.old.steps) (record { below = None; rest = rest })) }
+        requires state { StateFine (message_of self.now.bytes.now self.now.handles.now)
+            (at_of state.old) }
+        requires budget { state.old.steps + turn_work self.now.bytes.now state.old.next frame
+            < 2 ^ 40 }
+        ensures ok { IfOk result
+            (λ rest. Turns self.now.table.now (message_of self.now.bytes.now self.now.handles.now)
+            frame (at_of state.old) (at_of state.new) (state.new.steps - state.old.steps)
+            (record { below = None; rest = rest })) }
         ensures grows { OnOk result (state.old.steps ≤ state.new.steps) }
         ensures ended { IfOk result (λ rest. IfNone rest (state.old.steps < state.new.steps)) }
-        ensures cost { state.new.steps ≤ state.old.steps + turn_work self.now.bytes.now state.old.next frame }
-        ensures err { OnErr result ((to : At) → Reads self.now.table.now (message_of self.now.bytes.now self.now.handles.now) frame (at_of state.old) to → ⊥) }
-        ensures told { IfErr result (BreaksFrame self.now.table.now (message_of self.now.bytes.now self.now.handles.now) frame (at_of state.old)) }
+        ensures cost { state.new.steps
+            ≤ state.old.steps + turn_work self.now.bytes.now state.old.next frame }
+        ensures err { OnErr result
+            ((to : At)
+            → Reads self.now.table.now (message_of self.now.bytes.now self.now.handles.now) frame
+            (at_of state.old) to → ⊥) }
+        ensures told { IfErr result
+            (BreaksFrame self.now.table.now (message_of self.now.bytes.now self.now.handles.now)
+            frame (at_of state.old)) }
     {
         if count == 0 {
             return Ok(Some(frame));
@@ -154,7 +192,8 @@ impl<'t, 'm> Decoder<'t, 'm> {
         Ok(None)
     }
 
-    /// Reads the leaves of a frame in place, up to the first member that is none. Nothing is left at the frame's end.
+    /// Reads the leaves of a frame in place, up to the first member that is none. Nothing is left
+    /// at the frame's end.
     #[inline(always)]
     pub(crate) fn read_leaves(
         &self,
@@ -164,14 +203,25 @@ impl<'t, 'm> Decoder<'t, 'm> {
         requires table { IsFine self.now.table.now }
         requires short { length self.now.bytes.now ≤ MAX_MESSAGE_BYTES }
         requires frame { FrameFine self.now.table.now self.now.bytes.now frame }
-        requires state { StateFine (message_of self.now.bytes.now self.now.handles.now) (at_of state.old) }
-        requires budget { state.old.steps + turn_work self.now.bytes.now state.old.next frame < 2 ^ 40 }
-        ensures ok { IfOk result (λ rest. Turns self.now.table.now (message_of self.now.bytes.now self.now.handles.now) frame (at_of state.old) (at_of state.new) (state.new.steps - state.old.steps) (record { below = None; rest = rest })) }
+        requires state { StateFine (message_of self.now.bytes.now self.now.handles.now)
+            (at_of state.old) }
+        requires budget { state.old.steps + turn_work self.now.bytes.now state.old.next frame
+            < 2 ^ 40 }
+        ensures ok { IfOk result
+            (λ rest. Turns self.now.table.now (message_of self.now.bytes.now self.now.handles.now)
+            frame (at_of state.old) (at_of state.new) (state.new.steps - state.old.steps)
+            (record { below = None; rest = rest })) }
         ensures grows { OnOk result (state.old.steps ≤ state.new.steps) }
         ensures ended { IfOk result (λ rest. IfNone rest (state.old.steps < state.new.steps)) }
-        ensures cost { state.new.steps ≤ state.old.steps + turn_work self.now.bytes.now state.old.next frame }
-        ensures err { OnErr result ((to : At) → Reads self.now.table.now (message_of self.now.bytes.now self.now.handles.now) frame (at_of state.old) to → ⊥) }
-        ensures told { IfErr result (BreaksFrame self.now.table.now (message_of self.now.bytes.now self.now.handles.now) frame (at_of state.old)) }
+        ensures cost { state.new.steps
+            ≤ state.old.steps + turn_work self.now.bytes.now state.old.next frame }
+        ensures err { OnErr result
+            ((to : At)
+            → Reads self.now.table.now (message_of self.now.bytes.now self.now.handles.now) frame
+            (at_of state.old) to → ⊥) }
+        ensures told { IfErr result
+            (BreaksFrame self.now.table.now (message_of self.now.bytes.now self.now.handles.now)
+            frame (at_of state.old)) }
     {
         match frame.left {
             Left::Rows { first, count } => { self.read_rows(frame, first, count, state) }

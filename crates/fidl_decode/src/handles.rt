@@ -1,5 +1,6 @@
 //! Handles: a marker of four bytes, and the next of the records that came.
-ghost use Rattle.std.specs.Prelude.{◌≡◌, ◌+◌, ◌^◌, ◌<◌, ◌≤◌, ◌↔◌, OnOk, OnErr, IfErr, IsTrue, length};
+ghost use Rattle.std.specs.Prelude.{◌≡◌, ◌+◌, ◌^◌, ◌<◌, ◌≤◌, ◌↔◌, OnOk, OnErr, IfErr, IsTrue};
+ghost use Rattle.std.specs.Prelude.{length};
 ghost use Rattle.fidl_wire.specs.declared.limits.TheConstants.{MAX_DEPTH, MAX_MESSAGE_BYTES};
 ghost use Rattle.fidl_wire.specs.Term as ty;
 ghost use Rattle.fidl_wire.specs.Typed.{IsHandle, IsAllowed};
@@ -44,7 +45,8 @@ impl<'t, 'm> Decoder<'t, 'm> {
         requires short { length self.now.bytes.now ≤ MAX_MESSAGE_BYTES }
         requires room { place + 4 ≤ length self.now.bytes.now }
         requires depth { depth ≤ MAX_DEPTH }
-        requires state { StateFine (message_of self.now.bytes.now self.now.handles.now) (at_of state.old) }
+        requires state { StateFine (message_of self.now.bytes.now self.now.handles.now)
+            (at_of state.old) }
         ensures ok { OnOk result (Leads (declarations_of self.now.table.now)
             (message_of self.now.bytes.now self.now.handles.now) depth
             (ty.handle (is_optional entry.now) entry.now.subtype entry.now.rights) place

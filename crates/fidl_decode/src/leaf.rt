@@ -1,5 +1,6 @@
 //! Leaves: values that hold no other.
-ghost use Rattle.std.specs.Prelude.{◌≡◌, ℕ, ◌+◌, ◌-◌, ◌^◌, ◌<◌, ◌≤◌, OnOk, OnErr, IfErr, IfSome, IsTrue, Contains, true, Some, None, length};
+ghost use Rattle.std.specs.Prelude.{◌≡◌, ℕ, ◌+◌, ◌-◌, ◌^◌, ◌<◌, ◌≤◌, OnOk, OnErr, IfErr, IfSome};
+ghost use Rattle.std.specs.Prelude.{IsTrue, Contains, true, Some, None, length};
 ghost use Rattle.std.specs.Int.{byte_len};
 ghost use Rattle.fidl_wire.specs.declared.limits.TheConstants.{MAX_DEPTH, MAX_MESSAGE_BYTES};
 ghost use Rattle.fidl_wire.specs.Term as ty;
@@ -38,7 +39,8 @@ pub(crate) fn is_leaf(kind: EntryKind) -> bool
     }
 }
 
-/// Whether any bytes are a value of the entry, which is of this kind: a number, or bits or an enum that are not strict.
+/// Whether any bytes are a value of the entry, which is of this kind: a number, or bits or an enum
+/// that are not strict.
 pub(crate) fn is_free(entry: &Entry, kind: EntryKind) -> bool
     ensures { result ≡ is_free kind entry.now }
 {
@@ -60,12 +62,14 @@ impl<'t, 'm> Decoder<'t, 'm> {
     /// Reads bits: strict ones have no bit outside their mask.
     fn read_bits(&self, entry: &Entry, place: usize) -> Result<(), DecodeFault>
         requires kind { IsTrue (subtype_is is_unsigned entry.now) }
-        requires room { place + byte_len (width (underlying entry.now)) ≤ length self.now.bytes.now }
+        requires room { place + byte_len (width (underlying entry.now))
+            ≤ length self.now.bytes.now }
         ensures ok { OnOk result (IfSome (mask_of entry.now)
             (λ mask. InMask mask (number_standing (underlying entry.now) self.now.bytes.now place))) }
         ensures err { OnErr result (IfSome (mask_of entry.now)
             (λ mask. InMask mask (number_standing (underlying entry.now) self.now.bytes.now place)) → ⊥) }
-        ensures told { IfErr result (BreaksField (message_of self.now.bytes.now self.now.handles.now)
+        ensures told { IfErr result
+            (BreaksField (message_of self.now.bytes.now self.now.handles.now)
             (ty.bits (underlying entry.now) (mask_of entry.now)) place) }
     {
         if !entry.is_strict() {
@@ -81,13 +85,17 @@ impl<'t, 'm> Decoder<'t, 'm> {
     /// Reads an enum: a strict one has one of its values.
     fn read_enum(&self, entry: &Entry, place: usize, state: &mut State) -> Result<(), DecodeFault>
         requires values { EnumFine self.now.table.now entry.now }
-        requires room { place + byte_len (width (underlying entry.now)) ≤ length self.now.bytes.now }
+        requires room { place + byte_len (width (underlying entry.now))
+            ≤ length self.now.bytes.now }
         requires budget { state.old.steps < 2 ^ 41 }
-        ensures ok { OnOk result (IfSome (strict_values self.now.table.now (header_of self.now.table.now) entry.now)
+        ensures ok { OnOk result
+            (IfSome (strict_values self.now.table.now (header_of self.now.table.now) entry.now)
             (λ values. Contains values (number_standing (underlying entry.now) self.now.bytes.now place))) }
-        ensures err { OnErr result (IfSome (strict_values self.now.table.now (header_of self.now.table.now) entry.now)
+        ensures err { OnErr result
+            (IfSome (strict_values self.now.table.now (header_of self.now.table.now) entry.now)
             (λ values. Contains values (number_standing (underlying entry.now) self.now.bytes.now place)) → ⊥) }
-        ensures told { IfErr result (BreaksField (message_of self.now.bytes.now self.now.handles.now)
+        ensures told { IfErr result
+            (BreaksField (message_of self.now.bytes.now self.now.handles.now)
             (ty.enum (underlying entry.now) (strict_values self.now.table.now (header_of self.now.table.now) entry.now)) place) }
         ensures same { at_of state.new ≡ at_of state.old }
         ensures grows { state.old.steps ≤ state.new.steps }
@@ -118,13 +126,27 @@ impl<'t, 'm> Decoder<'t, 'm> {
         requires kind { kind_of (entry_at self.now.table.now entry).kind ≡ Some kind }
         requires leaf { is_leaf kind ≡ true }
         requires short { length self.now.bytes.now ≤ MAX_MESSAGE_BYTES }
-        requires room { place + (entry_at self.now.table.now entry).size ≤ length self.now.bytes.now }
-        requires state { StateFine (message_of self.now.bytes.now self.now.handles.now) (at_of state.old) }
+        requires room { place + (entry_at self.now.table.now entry).size
+            ≤ length self.now.bytes.now }
+        requires state { StateFine (message_of self.now.bytes.now self.now.handles.now)
+            (at_of state.old) }
         requires depth { depth ≤ MAX_DEPTH }
         requires budget { state.old.steps < 2 ^ 41 }
-        ensures ok { OnOk result (Visits self.now.table.now (message_of self.now.bytes.now self.now.handles.now) depth entry place (at_of state.old) (at_of state.new) (state.new.steps - state.old.steps) None) }
-        ensures err { OnErr result ((to : At) → Item (declarations_of self.now.table.now) (message_of self.now.bytes.now self.now.handles.now) depth (resolve (declarations_of self.now.table.now).terms (ty.named entry)) place (at_of state.old) to → ⊥) }
-        ensures told { IfErr result (Breaks (declarations_of self.now.table.now) (message_of self.now.bytes.now self.now.handles.now) depth (resolve (declarations_of self.now.table.now).terms (ty.named entry)) place (at_of state.old)) }
+        ensures ok { OnOk result
+            (Visits self.now.table.now (message_of self.now.bytes.now self.now.handles.now) depth
+            entry place (at_of state.old) (at_of state.new) (state.new.steps - state.old.steps)
+            None) }
+        ensures err { OnErr result
+            ((to : At)
+            → Item (declarations_of self.now.table.now)
+            (message_of self.now.bytes.now self.now.handles.now) depth
+            (resolve (declarations_of self.now.table.now).terms (ty.named entry)) place
+            (at_of state.old) to → ⊥) }
+        ensures told { IfErr result
+            (Breaks (declarations_of self.now.table.now)
+            (message_of self.now.bytes.now self.now.handles.now) depth
+            (resolve (declarations_of self.now.table.now).terms (ty.named entry)) place
+            (at_of state.old)) }
         ensures grows { state.old.steps ≤ state.new.steps }
         ensures probes { state.new.steps ≤ state.old.steps + probes
             + (length self.now.bytes.now - state.old.next) }

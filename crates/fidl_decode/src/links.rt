@@ -1,4 +1,5 @@
-//! The links of a message: where the object of each marker begins, and which record each handle has.
+//! The links of a message: where the object of each marker begins, and which record each handle
+//! has.
 ghost use Rattle.std.specs.Prelude.{◌≡◌, ◌/◌, ◌^◌, ◌<◌, ◌≤◌, length, slice_set};
 ghost use Rattle.fidl_wire.specs.declared.limits.TheConstants.{MAX_MESSAGE_BYTES};
 ghost use Rattle.fidl_decode.specs.Placed.{object_at, record_at};
@@ -7,8 +8,8 @@ use fidl_wire::MAX_MESSAGE_BYTES;
 use std::alloc::{AllocError, Global};
 use std::marker::Model;
 
-/// Cells for the links of one message: one for each eight bytes, where a marker can stand, and one for each four, where a
-/// handle can.
+/// Cells for the links of one message: one for each eight bytes, where a marker can stand, and one
+/// for each four, where a handle can.
 #[derive(Drop)]
 pub(crate) struct Links {
     objects: Vec<u32>,

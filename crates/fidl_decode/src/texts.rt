@@ -28,7 +28,8 @@ impl<'t, 'm> Decoder<'t, 'm> {
         requires short { length self.now.bytes.now ≤ MAX_MESSAGE_BYTES }
         requires room { place + 16 ≤ length self.now.bytes.now }
         requires depth { depth ≤ MAX_DEPTH }
-        requires state { StateFine (message_of self.now.bytes.now self.now.handles.now) (at_of state.old) }
+        requires state { StateFine (message_of self.now.bytes.now self.now.handles.now)
+            (at_of state.old) }
         requires budget { state.old.steps < 2 ^ 41 }
         ensures ok { OnOk result (Leads (declarations_of self.now.table.now)
             (message_of self.now.bytes.now self.now.handles.now) depth

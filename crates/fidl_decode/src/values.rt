@@ -1,5 +1,6 @@
 //! The values of strict enums.
-ghost use Rattle.std.specs.Prelude.{◌≡◌, ℕ, suc, ◌+◌, ◌^◌, ◌<◌, ◌≤◌, ◌<ℤ◌, ◌↔◌, IsTrue, Some, Contains};
+ghost use Rattle.std.specs.Prelude.{◌≡◌, ℕ, suc, ◌+◌, ◌^◌, ◌<◌, ◌≤◌, ◌<ℤ◌, ◌↔◌, IsTrue, Some};
+ghost use Rattle.std.specs.Prelude.{Contains};
 ghost use Rattle.fidl_records.specs.Section.{header_of};
 ghost use Rattle.fidl_records.specs.Terms.{underlying, value_number, values_from};
 ghost use Rattle.fidl_decode.specs.Fine.{EnumFine};
@@ -8,7 +9,8 @@ ghost use Rattle.fidl_decode.specs.Machine.{probes};
 use fidl_records::{Entry, is_less};
 use fidl_verify::Table;
 
-/// Whether a number, in 64 bits, is a value of a strict enum. Each probe halves the values that are left.
+/// Whether a number, in 64 bits, is a value of a strict enum. Each probe halves the values that are
+/// left.
 pub(crate) fn has_value(table: &Table, entry: &Entry, number: u64, steps: &mut u64) -> bool
     requires values { EnumFine table.now entry.now }
     requires budget { steps.old < 2 ^ 41 }

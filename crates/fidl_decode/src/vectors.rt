@@ -19,7 +19,8 @@ use fidl_records::u64_at;
 use fidl_wire::{MAX_DEPTH, Presence, presence_at};
 
 impl<'t, 'm> Decoder<'t, 'm> {
-    /// Reads the count and the marker of a vector at a place, and links its elements, which are left to read.
+    /// Reads the count and the marker of a vector at a place, and links its elements, which are
+    /// left to read.
     pub(crate) fn read_vector(
         &self,
         entry: u32,
@@ -32,7 +33,8 @@ impl<'t, 'm> Decoder<'t, 'm> {
         requires kind { kind_of (entry_at self.now.table.now entry).kind ≡ Some kinds.Vector }
         requires short { length self.now.bytes.now ≤ MAX_MESSAGE_BYTES }
         requires room { place + 16 ≤ length self.now.bytes.now }
-        requires state { StateFine (message_of self.now.bytes.now self.now.handles.now) (at_of state.old) }
+        requires state { StateFine (message_of self.now.bytes.now self.now.handles.now)
+            (at_of state.old) }
         requires depth { depth ≤ MAX_DEPTH }
         ensures ok { IfOk result (λ found. Visits self.now.table.now
             (message_of self.now.bytes.now self.now.handles.now) depth entry place
@@ -62,7 +64,8 @@ impl<'t, 'm> Decoder<'t, 'm> {
         let element = self.table.entry(e.first);
         let from = state.next;
         let rest = self.bytes.len() - from;
-        // An element has a byte at least, so that the product of a count that is no greater is small.
+        // An element has a byte at least, so that the product of a count that is no greater is
+        // small.
         if count > rest as u64 {
             return Err(DecodeFault::BadCount { at: place });
         }

@@ -6,8 +6,10 @@ use fidl_view::{View, Views};
 use std::alloc::{AllocError, Global};
 use std::test::Fail;
 
-/// A table of eleven types: 0 `struct {a vector<uint32>:3; a vector<uint8>:<2, optional>; a box<Pair>;}`, 1 `Pair = struct {a uint32;}`,
-/// 2 to 4 the types of the members of 0, 5 `uint32`, 6 `uint8`, 7 `Chain = struct {a box<Chain>;}`, 8 its box,
+/// A table of eleven types: 0 `struct {a vector<uint32>:3; a vector<uint8>:<2, optional>; a
+/// box<Pair>;}`, 1 `Pair = struct {a uint32;}`,
+/// 2 to 4 the types of the members of 0, 5 `uint32`, 6 `uint8`, 7 `Chain = struct {a box<Chain>;}`,
+/// 8 its box,
 /// 9 `struct {a vector<Pair>:4;}`, 10 its vector.
 fn table_of_objects(alloc: Global) -> Result<Vec<u8>, AllocError> {
     let mut table = start(alloc, 11, 6, 0)?;
@@ -34,7 +36,8 @@ fn table_of_objects(alloc: Global) -> Result<Vec<u8>, AllocError> {
     Ok(table)
 }
 
-/// The number and the place of the fault of this table with one byte of an entry changed, or zeros where it is accepted.
+/// The number and the place of the fault of this table with one byte of an entry changed, or zeros
+/// where it is accepted.
 fn refusal(alloc: Global, entry: usize, place: usize, byte: u8) -> Result<(u32, u32), AllocError> {
     let written = table_of_objects(alloc)?;
     let mut table = Vec::new(alloc);
@@ -48,9 +51,11 @@ fn refusal(alloc: Global, entry: usize, place: usize, byte: u8) -> Result<(u32, 
     }
 }
 
-/// Changes of one byte: the entry, the byte's place in it, the byte, and the fault's number and place.
+/// Changes of one byte: the entry, the byte's place in it, the byte, and the fault's number and
+/// place.
 const CHANGES: [(usize, usize, u8, u32, u32); 20] = [
-    // accepted: a vector of structs, one of itself, one that is not optional, a box of another struct, a bound of 0
+    // accepted: a vector of structs, one of itself, one that is not optional, a box of another
+    // struct, a bound of 0
     (2, 8, 1, 0, 0),
     (10, 8, 10, 0, 0),
     (3, 1, 0, 0, 0),

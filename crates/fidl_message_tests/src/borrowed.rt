@@ -1,5 +1,7 @@
-//! What a view gives out borrows the message: a text outlives its view and the links, and never its message. The cases in
-//! `.ci/must-not-compile` edit these tests so that they break this, and the compiler has to refuse each.
+//! What a view gives out borrows the message: a text outlives its view and the links, and never its
+//! message. The cases in
+//! `.ci/must-not-compile` edit these tests so that they break this, and the compiler has to refuse
+//! each.
 ghost use Rattle.std.specs.Prelude.{◌<◌};
 ghost use Rattle.fidl_records.specs.Section.{header_of};
 

@@ -26,7 +26,8 @@ fn a_strict_enum_has_its_values_alone(rt: HostRuntime) -> Result<(), Fail> {
     let table = verify(written.as_slice())?;
     assert!(rt; table.entries() == 2);
     let mut scratch = Scratch::new(rt.alloc())?;
-    // A message that is refused is followed by one that is decoded: a refusal leaves the scratch good.
+    // A message that is refused is followed by one that is decoded: a refusal leaves the scratch
+    // good.
     let cases: [(&[u8], Option<DecodeFault>); 9] = [
         (&[1, 0, 0, 0, 0, 0, 0, 0], None),
         (&[3, 0, 0, 0, 0, 0, 0, 0], NO_VALUE),
@@ -93,7 +94,8 @@ fn flexible_ones_have_any_bytes(rt: HostRuntime) -> Result<(), Fail> {
 
 #[test]
 fn values_are_read_with_their_sign(rt: HostRuntime) -> Result<(), Fail> {
-    // The kind and the size of the underlying type; in a message of it, -2, and then 254, 126, 7, 3 and 0.
+    // The kind and the size of the underlying type; in a message of it, -2, and then 254, 126, 7, 3
+    // and 0.
     let minus_two = u64::MAX - 1;
     let mut scratch = Scratch::new(rt.alloc())?;
     for (kind, size) in [(2, 1u8), (3, 2), (4, 4), (5, 8)] {
@@ -123,7 +125,8 @@ fn values_are_read_with_their_sign(rt: HostRuntime) -> Result<(), Fail> {
     Ok(())
 }
 
-/// `struct {a uint8; l array<E, 3>; b B;}` with a strict enum E of uint16 with 1 and 256, and strict bits B of uint8 with 6.
+/// `struct {a uint8; l array<E, 3>; b B;}` with a strict enum E of uint16 with 1 and 256, and
+/// strict bits B of uint8 with 6.
 fn table_of_many(alloc: Global) -> Result<Vec<u8>, AllocError> {
     let mut table = start(alloc, 5, 3, 2)?;
     push_entry(&mut table, EntryFields::holder(10, 2, 0, 3).nested(2))?;

@@ -5,7 +5,8 @@ use fidl_wire::HandleInfo;
 use std::test::Fail;
 
 /// A table of seven types, written by hand after the table's rules:
-/// 0 `struct {a uint8; b uint32;}`, 1 `uint8`, 2 `uint32`, 3 `struct {}`, 4 `struct {t bool; l array<uint8, 3>;}`,
+/// 0 `struct {a uint8; b uint32;}`, 1 `uint8`, 2 `uint32`, 3 `struct {}`, 4 `struct {t bool; l
+/// array<uint8, 3>;}`,
 /// 5 `bool`, 6 `array<uint8, 3>`.
 const SHAPES: [u8; 388] = [
     0x46, 0x43, 0x54, 0x32, 0x01, 0x00, 0x00, 0x00, 0x07, 0x00, 0x00, 0x00, 0x04, 0x00, 0x00, 0x00,
@@ -35,7 +36,8 @@ const SHAPES: [u8; 388] = [
     0x61, 0x62, 0x74, 0x6c,
 ];
 
-/// A table of five types without names but `a`, written by hand after the table's rules: 0 `struct {a array<Pair, 3>; a bool;}`,
+/// A table of five types without names but `a`, written by hand after the table's rules: 0 `struct
+/// {a array<Pair, 3>; a bool;}`,
 /// 1 `array<Pair, 3>`, 2 `Pair = struct {a bool; a uint16;}`, 3 `bool`, 4 `uint16`.
 const PAIRS: [u8; 305] = [
     70, 67, 84, 50, 1, 0, 0, 0, 5, 0, 0, 0, 4, 0, 0, 0, 0, 0, 0, 0, 0, 0, 0, 0, 0, 0, 0, 0, 0, 0,

@@ -17,7 +17,8 @@ fn table_of_bools(alloc: Global, count: u32) -> Result<Vec<u8>, AllocError> {
     Ok(table)
 }
 
-/// A struct of one member, which is a struct of one member, and so on, so many deep; the last holds a bool.
+/// A struct of one member, which is a struct of one member, and so on, so many deep; the last holds
+/// a bool.
 fn table_of_nest(alloc: Global, nest: u8) -> Result<Vec<u8>, AllocError> {
     let depth = u32::from(nest);
     let mut table = start(alloc, depth + 1, depth, 0)?;

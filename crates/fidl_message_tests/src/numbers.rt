@@ -1,10 +1,12 @@
-//! Tables of bits and enums that are accepted or refused, and the rule that each refused one breaks.
+//! Tables of bits and enums that are accepted or refused, and the rule that each refused one
+//! breaks.
 use fidl_records::{read_header, read_value};
 use fidl_verify::verify;
 use std::test::Fail;
 
-/// Five types: strict bits `B` of uint8 with the mask 15, a strict enum `E` of int8 with -1, 0 and 5, a flexible enum `F`
-/// of uint16, a strict enum of uint64 with 1 and the greatest number, and flexible bits of uint64.
+/// Five types: strict bits `B` of uint8 with the mask 15, a strict enum `E` of int8 with -1, 0 and
+/// 5, a flexible enum `F` of uint16, a strict enum of uint64 with 1 and the greatest number, and
+/// flexible bits of uint64.
 pub(crate) const NUMBERS: [u8; 319] = [
     70, 67, 84, 50, 1, 0, 0, 0, 5, 0, 0, 0, 0, 0, 0, 0, 5, 0, 0, 0, 3, 0, 0, 0, 0, 0, 0, 0, 0, 0,
     0, 0, 3, 0, 0, 0, 0, 0, 0, 0, 10, 2, 1, 0, 1, 0, 0, 0, 0, 0, 0, 0, 0, 0, 0, 0, 15, 0, 0, 0, 0,
@@ -113,7 +115,8 @@ const EDITS: [(usize, u8, u32, u32); 43] = [
     // nest
     (43, 1, 9, 0),
     (123, 1, 9, 2),
-    // values: equal to the next, over the next, over 127, below -128, over 255, falling as signed numbers
+    // values: equal to the next, over the next, over 127, below -128, over 255, falling as signed
+    // numbers
     (248, 5, 10, 1),
     (248, 6, 10, 1),
     (256, 133, 10, 1),
@@ -156,7 +159,8 @@ fn the_first_rule_is_told(rt: HostRuntime) {
     assert_eq!(rt; refusal(&bytes), (5, 1));
 }
 
-/// Each byte takes each value: each table is judged, none with another header is accepted, and some other one is.
+/// Each byte takes each value: each table is judged, none with another header is accepted, and some
+/// other one is.
 #[test]
 fn every_change_of_a_byte_is_judged(rt: HostRuntime) {
     let mut another_is_accepted = false;

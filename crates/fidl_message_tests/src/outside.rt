@@ -5,9 +5,11 @@ use fidl_view::{View, Views};
 use fidl_wire::HandleInfo;
 use std::test::Fail;
 
-/// A table written by hand after the table's rules: entry 0 is a struct of two handles, of the subtypes 3 and 5; 1 of an optional string
-/// and an optional handle; 2 of two strings; 3 of a handle with the right 2; 4 of a handle with the rights that came; 5 of a
-/// string of at most two bytes. Entries 6 and 7 are the handles of 0, 8 and 9 the string and the handle of 1, 10 the strings of 2,
+/// A table written by hand after the table's rules: entry 0 is a struct of two handles, of the
+/// subtypes 3 and 5; 1 of an optional string and an optional handle; 2 of two strings; 3 of a
+/// handle with the right 2; 4 of a handle with the rights that came; 5 of a string of at most two
+/// bytes. Entries 6 and 7 are the handles of 0, 8 and 9 the string and the handle of 1, 10 the
+/// strings of 2,
 /// 11 and 12 the handles of 3 and 4, 13 the string of 5.
 const OUTSIDE: [u8; 839] = [
     0x46, 0x43, 0x54, 0x32, 0x01, 0x00, 0x00, 0x00, 0x0e, 0x00, 0x00, 0x00, 0x09, 0x00, 0x00, 0x00,
@@ -73,7 +75,8 @@ fn refusal(bytes: &[u8]) -> (u32, u32) {
     }
 }
 
-/// Changes of one byte that leave a table that is accepted: the entry, the byte's place in it, and the byte.
+/// Changes of one byte that leave a table that is accepted: the entry, the byte's place in it, and
+/// the byte.
 const ACCEPTED: [(usize, usize, u8); 10] = [
     // a string and a handle that are optional, or not
     (10, 1, 1),
@@ -91,7 +94,8 @@ const ACCEPTED: [(usize, usize, u8); 10] = [
     (13, 0, 13),
 ];
 
-/// Changes of one byte that break a rule: the entry, the byte's place in it, the byte, and the fault's number and place.
+/// Changes of one byte that break a rule: the entry, the byte's place in it, the byte, and the
+/// fault's number and place.
 const REFUSED: [(usize, usize, u8, u32, u32); 20] = [
     // strings: strict, an element, a count, a subtype, rights, a name, a bound of 33 bits
     (13, 1, 2, 5, 13),
@@ -209,7 +213,8 @@ fn is_record(view: View<'_, '_>, member: usize, id: u32, granted: u32) -> bool {
     }
 }
 
-/// A handle has the record that came with it; it is granted the rights that its type requires, or those that came.
+/// A handle has the record that came with it; it is granted the rights that its type requires, or
+/// those that came.
 #[test]
 fn handles_are_read(rt: HostRuntime) -> Result<(), Fail> {
     let table = verify(&OUTSIDE)?;

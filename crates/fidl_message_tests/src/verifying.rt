@@ -2,7 +2,8 @@
 use fidl_verify::{TableFault, verify};
 use std::test::Fail;
 
-/// `type Point = struct {x uint32; y uint32;};`: entry 0 is the struct, entry 1 is `uint32`, and the root is `Point`.
+/// `type Point = struct {x uint32; y uint32;};`: entry 0 is the struct, entry 1 is `uint32`, and
+/// the root is `Point`.
 const POINT: [u8; 176] = [
     70, 67, 84, 50, 1, 0, 0, 0, 2, 0, 0, 0, 2, 0, 0, 0, 0, 0, 0, 0, 1, 0, 0, 0, 0, 0, 0, 0, 0, 0,
     0, 0, 12, 0, 0, 0, 0, 0, 0, 0, 16, 0, 4, 1, 8, 0, 0, 0, 0, 0, 0, 0, 2, 0, 0, 0, 0, 0, 0, 0, 0,
@@ -110,7 +111,8 @@ const EDITS: [(usize, u8, u32, u32); 33] = [
     (36, 1, 2, 0),
     (32, 13, 3, 0),
     (32, 11, 4, 0),
-    // kinds: none, table (which is not known yet), past the last; flags, a field and a name that the kind does not use
+    // kinds: none, table (which is not known yet), past the last; flags, a field and a name that
+    // the kind does not use
     (40, 0, 5, 0),
     (40, 17, 5, 0),
     (40, 20, 5, 0),
@@ -208,7 +210,8 @@ fn other_rules(rt: HostRuntime) -> Result<(), Fail> {
     Ok(())
 }
 
-/// Of several broken rules the first in the order of the checks is reported, though its record comes later.
+/// Of several broken rules the first in the order of the checks is reported, though its record
+/// comes later.
 #[test]
 fn the_first_rule_is_told(rt: HostRuntime) -> Result<(), Fail> {
     let mut bytes = POINT;

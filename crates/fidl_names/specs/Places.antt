@@ -3,7 +3,8 @@
 use Rattle.std.specs.Prelude.{List, [], ◌∷◌, ◌++◌, Option, Some, None, map, flat_map}
 use Rattle.fidl_span.specs.declared.words.Span.{Span}
 use Rattle.fidl_tree.specs.Syntax.{Path, Value, bitwise_or, Operands, no_operands, next_operand}
-use Rattle.fidl_tree.specs.Syntax.{Operand, number_operand, string_operand, bool_operand, path_operand, group_operand}
+use Rattle.fidl_tree.specs.Syntax.{Operand, number_operand, string_operand, bool_operand}
+use Rattle.fidl_tree.specs.Syntax.{path_operand, group_operand}
 use Rattle.fidl_tree.specs.Syntax.{ValueMember, ValuesKind, TypeUse, named_type, layout_type}
 use Rattle.fidl_tree.specs.Syntax.{Layout, values_layout, struct_layout, table_layout, union_layout}
 use Rattle.fidl_tree.specs.Syntax.{Underlying, no_underlying, underlying_type}

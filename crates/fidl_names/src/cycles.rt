@@ -3,7 +3,8 @@ ghost use Rattle.std.specs.Prelude.{◌≡◌, ◌<◌, ◌≤◌, ◌↔◌, �
 ghost use Rattle.std.specs.Prelude.{slice_index_or, IfOk, IfErr, IsOk, OnOk, IfSome, IsNone};
 ghost use Rattle.std.specs.List.{Contains};
 ghost use Rattle.fidl_names.specs.Cycles.{EdgesWithin, Leads, IsEdge, IsFirstEdge, IsOrder};
-ghost use Rattle.fidl_names.specs.Cycles.{IsMarked, HasNoCycle, IsOrdered, IsPoint, IsTrail, points_of};
+ghost use Rattle.fidl_names.specs.Cycles.{IsMarked, HasNoCycle, IsOrdered, IsPoint, IsTrail};
+ghost use Rattle.fidl_names.specs.Cycles.{points_of};
 ghost use Rattle.fidl_names.specs.Cycles.{trail_of};
 
 use std::alloc::{AllocError, Global};

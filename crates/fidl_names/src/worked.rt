@@ -3,7 +3,8 @@ ghost use Rattle.std.specs.Prelude.{◌≡◌, ◌≢◌, ℕ, List, [], ◌∷�
 ghost use Rattle.fidl_span.specs.declared.words.Span.{Span};
 ghost use Rattle.fidl_tree.specs.Leaf.{text_at};
 ghost use Rattle.fidl_tree.specs.Syntax.{Path, Value, Layout, named_type, layout_type};
-ghost use Rattle.fidl_tree.specs.Syntax.{bitwise_or, no_operands, next_operand, path_operand, group_operand};
+ghost use Rattle.fidl_tree.specs.Syntax.{bitwise_or, no_operands, next_operand, path_operand};
+ghost use Rattle.fidl_tree.specs.Syntax.{group_operand};
 ghost use Rattle.fidl_tree.specs.Syntax.{number_argument};
 ghost use Rattle.fidl_tree.specs.Syntax.{no_arguments, next_argument, type_argument};
 ghost use Rattle.fidl_tree.specs.Syntax.{struct_layout, union_layout, no_members, next_member};

@@ -1,6 +1,6 @@
--- The words that a choice of the grammar excludes (docs/language.md, "Choices"). `fidl_tree` states the same lists beside
--- the productions that they belong to, and keeps them to itself: a contract here that named other words would not give
--- the leaves of the tree.
+-- The words that a choice of the grammar excludes (docs/language.md, "Choices"). `fidl_tree` states
+-- the same lists beside the productions that they belong to, and keeps them to itself: a contract
+-- here that named other words would not give the leaves of the tree.
 use Rattle.std.specs.Prelude.{◌≡◌, ℕ, List, [], ◌∷◌, codes, slice_get, Some}
 use Rattle.fidl_span.specs.declared.words.Word.{Word}
 use Rattle.fidl_span.specs.declared.words.WordKind.TheVariants as kind

@@ -1,5 +1,6 @@
 -- What may follow a part of the tree, so that the part ends there.
-use Rattle.std.specs.Prelude.{◌≡◌, ⊤, ℕ, Bool, true, false, not, ◌||◌, ◌&&◌, eqb, ◌⊎◌, List, [], ◌∷◌, codes}
+use Rattle.std.specs.Prelude.{◌≡◌, ⊤, ℕ, Bool, true, false, not, ◌||◌, ◌&&◌, eqb, ◌⊎◌, List, []}
+use Rattle.std.specs.Prelude.{◌∷◌, codes}
 use Rattle.std.specs.List.{list_any}
 use Rattle.fidl_span.specs.declared.words.WordKind.{WordKind}
 use Rattle.fidl_span.specs.declared.words.WordKind.TheVariants as kind
@@ -74,7 +75,8 @@ abbrev pub BeginsMethod : List Leaf → Type 0
 BeginsMethod [] = ⊥
 BeginsMethod (l ∷ []) = ⊥
 BeginsMethod (l ∷ m ∷ rest) =
-    (l.word.kind ≡ kind.Arrow) ⊎ ((l.word.kind ≡ kind.Identifier) × (m.word.kind ≡ kind.LeftParenthesis))
+    (l.word.kind ≡ kind.Arrow)
+        ⊎ ((l.word.kind ≡ kind.Identifier) × (m.word.kind ≡ kind.LeftParenthesis))
 
 -- the two texts are one
 abbrev pub same_text : List ℕ → List ℕ → Bool

@@ -1,5 +1,7 @@
--- The parts of the tree that stand behind a front which is read before it is known what it belongs to.
-use Rattle.std.specs.Prelude.{◌≡◌, ℕ, Bool, true, false, Result, IfOk, List, ◌++◌, Option, is_some, codes}
+-- The parts of the tree that stand behind a front which is read before it is known what it belongs
+-- to.
+use Rattle.std.specs.Prelude.{◌≡◌, ℕ, Bool, true, false, Result, IfOk, List, ◌++◌, Option, is_some}
+use Rattle.std.specs.Prelude.{codes}
 use Rattle.fidl_span.specs.declared.words.Span.{Span}
 use Rattle.fidl_span.specs.declared.words.WordKind.TheVariants as kind
 use Rattle.fidl_tree.specs.Leaf.{Leaf, symbol, keyword, optional, braced}
@@ -11,7 +13,8 @@ use Rattle.fidl_tree.specs.Declaration.{declaration_body_leaves}
 use Rattle.fidl_tree.specs.File.{import_alias_leaves}
 use Rattle.fidl_tree.specs.declared.keyword.ValuesKeyword.{ValuesKeyword}
 use Rattle.fidl_tree.specs.declared.keyword.UnionModifiers.{UnionModifiers}
-use Rattle.fidl_tree.specs.declared.keyword.UnionModifiers.TheVariants.{StrictnessFirst, ResourceFirst}
+use Rattle.fidl_tree.specs.declared.keyword.UnionModifiers.TheVariants.{StrictnessFirst}
+use Rattle.fidl_tree.specs.declared.keyword.UnionModifiers.TheVariants.{ResourceFirst}
 use Rattle.fidl_tree.specs.declared.value_member.ValueMember.{ValueMember}
 use Rattle.fidl_tree.specs.declared.type_constructor.Underlying.{Underlying}
 use Rattle.fidl_tree.specs.declared.declaration.Declaration.{Declaration}
@@ -34,7 +37,8 @@ has_resource (ResourceFirst resource strictness) = true
 -- Where the modifiers that stand ahead have none of these words, those that are read have none.
 abbrev pub Lacks : (UnionModifiers → Bool) → Parser → ℕ → Result UnionModifiers Stop → Type 0
 Lacks has p from result =
-    (x : UnionModifiers) → (rest : List Leaf) → NotWord modifier_words rest → Ahead p from (union_modifiers_leaves x ++ rest)
+    (x : UnionModifiers) → (rest : List Leaf) → NotWord modifier_words rest
+        → Ahead p from (union_modifiers_leaves x ++ rest)
     → has x ≡ false
     → IfOk result (λ modifiers. has modifiers ≡ false)
 

@@ -2,10 +2,13 @@
 ghost use Rattle.std.specs.Prelude.{◌+◌, ◌↔◌, IfOk, IsTrue, map};
 ghost use Rattle.fidl_span.specs.declared.words.WordKind.TheVariants as kind;
 ghost use Rattle.fidl_tree.specs.Leaf.{joined, optional};
-ghost use Rattle.fidl_tree.specs.Attribute.{attributes_leaves, attribute_leaves, arguments_leaves, argument_list_leaves, next_argument_leaves, argument_leaves, argument_name_leaves};
+ghost use Rattle.fidl_tree.specs.Attribute.{attributes_leaves, attribute_leaves, arguments_leaves};
+ghost use Rattle.fidl_tree.specs.Attribute.{argument_list_leaves, next_argument_leaves};
+ghost use Rattle.fidl_tree.specs.Attribute.{argument_leaves, argument_name_leaves};
 ghost use Rattle.fidl_parse.specs.Reading.{Reads, IsKindAt};
 ghost use Rattle.fidl_parse.specs.Completeness.{Finds, row};
-ghost use Rattle.fidl_parse.specs.FollowSets.{Begins, Not, extends_attribute, extends_attributes, EndsArgument, NotNamed};
+ghost use Rattle.fidl_parse.specs.FollowSets.{Begins, Not, extends_attribute, extends_attributes};
+ghost use Rattle.fidl_parse.specs.FollowSets.{EndsArgument, NotNamed};
 
 use crate::fault::Stop;
 use crate::parser::Parser;

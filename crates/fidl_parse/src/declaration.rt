@@ -2,7 +2,11 @@
 ghost use Rattle.std.specs.Prelude.{IfOk, OnOk, ◌<◌, length, map};
 ghost use Rattle.fidl_tree.specs.Leaf.{joined};
 ghost use Rattle.fidl_tree.specs.Attribute.{attributes_leaves};
-ghost use Rattle.fidl_tree.specs.Declaration.{declaration_leaves, declaration_body_leaves, const_leaves, alias_leaves, type_declaration_leaves, protocol_leaves, service_leaves, resource_definition_leaves, properties_leaves, property_leaves};
+ghost use Rattle.fidl_tree.specs.Declaration.{declaration_leaves, declaration_body_leaves};
+ghost use Rattle.fidl_tree.specs.Declaration.{const_leaves, alias_leaves, type_declaration_leaves};
+ghost use Rattle.fidl_tree.specs.Declaration.{protocol_leaves, service_leaves};
+ghost use Rattle.fidl_tree.specs.Declaration.{resource_definition_leaves, properties_leaves};
+ghost use Rattle.fidl_tree.specs.Declaration.{property_leaves};
 ghost use Rattle.fidl_parse.specs.Reading.{Reads, ReadsBehind};
 ghost use Rattle.fidl_parse.specs.Completeness.{Finds, row};
 ghost use Rattle.fidl_parse.specs.FollowSets.{Anything, Begins};

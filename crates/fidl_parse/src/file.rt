@@ -2,7 +2,8 @@
 ghost use Rattle.std.specs.Prelude.{◌≡◌, ◌↔◌, IsTrue, codes, IfOk, OnOk, ◌<◌, ◌≤◌, length};
 ghost use Rattle.fidl_tree.specs.Leaf.{optional};
 ghost use Rattle.fidl_tree.specs.Attribute.{attributes_leaves};
-ghost use Rattle.fidl_tree.specs.File.{file_leaves, library_leaves, import_leaves, import_alias_leaves};
+ghost use Rattle.fidl_tree.specs.File.{file_leaves, library_leaves, import_leaves};
+ghost use Rattle.fidl_tree.specs.File.{import_alias_leaves};
 ghost use Rattle.fidl_parse.specs.Reading.{Reads, ReadsBehind, IsTextAt};
 ghost use Rattle.fidl_parse.specs.Completeness.{Finds};
 ghost use Rattle.fidl_parse.specs.FollowSets.{Anything, IsNothing, Begins};

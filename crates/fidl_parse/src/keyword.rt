@@ -1,7 +1,8 @@
 // The words of the grammar that there is a choice of.
 ghost use Rattle.std.specs.Prelude.{◌≡◌, IfOk, IsOk, false, [], ◌∷◌, codes};
 ghost use Rattle.fidl_tree.specs.Leaf.{optional};
-ghost use Rattle.fidl_tree.specs.Keyword.{strictness_leaves, resource_leaves, openness_leaves, values_keyword_leaves, union_modifiers_leaves};
+ghost use Rattle.fidl_tree.specs.Keyword.{strictness_leaves, resource_leaves, openness_leaves};
+ghost use Rattle.fidl_tree.specs.Keyword.{values_keyword_leaves, union_modifiers_leaves};
 ghost use Rattle.fidl_parse.specs.Reading.{Reads, IsTextAt};
 ghost use Rattle.fidl_parse.specs.Completeness.{Finds, Skips};
 ghost use Rattle.fidl_parse.specs.FollowSets.{Anything, NotWord, modifier_words, strictness_words};

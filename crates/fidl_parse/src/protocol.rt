@@ -1,9 +1,11 @@
 // The members of protocols.
-ghost use Rattle.std.specs.Prelude.{◌≡◌, ◌+◌, ◌<◌, ◌↔◌, IfOk, OnOk, IsTrue, Ok, None, codes, length, map};
+ghost use Rattle.std.specs.Prelude.{◌≡◌, ◌+◌, ◌<◌, ◌↔◌, IfOk, OnOk, IsTrue, Ok, None, codes};
+ghost use Rattle.std.specs.Prelude.{length, map};
 ghost use Rattle.fidl_span.specs.declared.words.WordKind.TheVariants as kind;
 ghost use Rattle.fidl_tree.specs.Leaf.{joined, optional};
 ghost use Rattle.fidl_tree.specs.Keyword.{strictness_leaves};
-ghost use Rattle.fidl_tree.specs.Protocol.{protocol_member_leaves, protocol_member_body_leaves, response_leaves, error_type_leaves, payload_leaves};
+ghost use Rattle.fidl_tree.specs.Protocol.{protocol_member_leaves, protocol_member_body_leaves};
+ghost use Rattle.fidl_tree.specs.Protocol.{response_leaves, error_type_leaves, payload_leaves};
 ghost use Rattle.fidl_tree.specs.TypeConstructor.{type_leaves};
 ghost use Rattle.fidl_parse.specs.Reading.{Reads, IsKindAt, IsTextAt};
 ghost use Rattle.fidl_parse.specs.Completeness.{Finds, row};

@@ -17,10 +17,10 @@ use std::alloc::Global;
 /// Reads the words of a source as a syntax tree, which keeps the span of each of them.
 ///
 /// The words may be any: those that `lex` returns of the source are its own. `Unexpected` and
-/// `TooNested` are returned only where the words have no tree. The span of `Unexpected` is a word's,
-/// or the end of the source: which word is reported is tested, not proved. The span of `TooNested`
-/// is the first bracket with which more brackets are open than the limit. `Memory` says nothing of
-/// the words.
+/// `TooNested` are returned only where the words have no tree. The span of `Unexpected` is a
+/// word's, or the end of the source: which word is reported is tested, not proved. The span of
+/// `TooNested` is the first bracket with which more brackets are open than the limit. `Memory` says
+/// nothing of the words.
 pub fn parse<'s>(alloc: Global, tokens: &Tokens, src: &'s [u8]) -> Result<File<'s>, ParseFault>
     ensures source { IfOk result (λ tree. tree.src.now ≡ src.now) }
     ensures proper { IfOk result (λ tree. IsProper tree) }

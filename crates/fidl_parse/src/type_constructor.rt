@@ -1,14 +1,22 @@
 // Types and layouts.
-ghost use Rattle.std.specs.Prelude.{◌+◌, IfOk, OnOk, IsTrue, IsFalse, ◌↔◌, ◌⊎◌, ◌<◌, length, map, codes, ◌≡◌, false};
+ghost use Rattle.std.specs.Prelude.{◌+◌, IfOk, OnOk, IsTrue, IsFalse, ◌↔◌, ◌⊎◌, ◌<◌, length, map};
+ghost use Rattle.std.specs.Prelude.{codes, ◌≡◌, false};
 ghost use Rattle.fidl_tree.specs.Leaf.{joined, leaf, optional, none_of, Meets, text_at};
 ghost use Rattle.fidl_tree.specs.Keyword.{union_modifiers_leaves};
 ghost use Rattle.fidl_tree.specs.Path.{path_from};
-ghost use Rattle.fidl_tree.specs.TypeConstructor.{type_leaves, named_leaves, type_arguments_leaves, next_type_argument_leaves, type_argument_leaves, layout_leaves, layout_body_leaves, struct_layout_leaves, table_layout_leaves, union_layout_leaves, values_layout_leaves, underlying_leaves, member_leaves, ordinal_member_leaves, ordinal_body_leaves};
+ghost use Rattle.fidl_tree.specs.TypeConstructor.{type_leaves, named_leaves, type_arguments_leaves};
+ghost use Rattle.fidl_tree.specs.TypeConstructor.{next_type_argument_leaves, type_argument_leaves};
+ghost use Rattle.fidl_tree.specs.TypeConstructor.{layout_leaves, layout_body_leaves};
+ghost use Rattle.fidl_tree.specs.TypeConstructor.{struct_layout_leaves, table_layout_leaves};
+ghost use Rattle.fidl_tree.specs.TypeConstructor.{union_layout_leaves, values_layout_leaves};
+ghost use Rattle.fidl_tree.specs.TypeConstructor.{underlying_leaves, member_leaves};
+ghost use Rattle.fidl_tree.specs.TypeConstructor.{ordinal_member_leaves, ordinal_body_leaves};
 ghost use Rattle.fidl_span.specs.declared.words.WordKind.TheVariants as kind;
 ghost use Rattle.fidl_parse.specs.Choices.{layout_words, IsLayoutWordAt};
 ghost use Rattle.fidl_parse.specs.Reading.{Reads, ReadsBehind, IsKindAt, IsTextAt};
 ghost use Rattle.fidl_parse.specs.Completeness.{Finds, row};
-ghost use Rattle.fidl_parse.specs.FollowSets.{Anything, Begins, Not, extends_path, extends_name, extends_type};
+ghost use Rattle.fidl_parse.specs.FollowSets.{Anything, Begins, Not, extends_path, extends_name};
+ghost use Rattle.fidl_parse.specs.FollowSets.{extends_type};
 ghost use Rattle.fidl_parse.specs.Suffixes.{has_strictness, has_resource, block, values_block};
 
 use crate::fault::Stop;

@@ -1,17 +1,23 @@
 -- The rules of an entry, in the order in which they are asked (docs/table.md, "Verification").
-use Rattle.std.specs.Prelude.{◌≡◌, ℕ, zero, suc, ◌+◌, ◌^◌, ◌<◌, ◌≤◌, ℤ, pos, ◌<ℤ◌, Bool, false, if◌then◌else◌, List, [], ◌∷◌, map, Some, IsTrue, IsFalse}
+use Rattle.std.specs.Prelude.{◌≡◌, ℕ, zero, suc, ◌+◌, ◌^◌, ◌<◌, ◌≤◌, ℤ, pos, ◌<ℤ◌, Bool, false}
+use Rattle.std.specs.Prelude.{if◌then◌else◌, List, [], ◌∷◌, map, Some, IsTrue, IsFalse}
 use Rattle.std.specs.Option.{option_map_or}
-use Rattle.fidl_wire.specs.declared.limits.TheConstants.{MAX_INLINE_SIZE, MAX_LAYOUT_MEMBERS, MAX_NEST}
+use Rattle.fidl_wire.specs.declared.limits.TheConstants.{MAX_INLINE_SIZE, MAX_LAYOUT_MEMBERS}
+use Rattle.fidl_wire.specs.declared.limits.TheConstants.{MAX_NEST}
 use Rattle.fidl_wire.specs.Figure.{Figure, figure_of, offsets}
 use Rattle.fidl_wire.specs.Typed.{InRange}
 use Rattle.fidl_records.specs.declared.record.Header.{Header}
 use Rattle.fidl_records.specs.declared.record.Entry.{Entry}
 use Rattle.fidl_records.specs.declared.kind.EntryKind.{EntryKind}
-use Rattle.fidl_records.specs.declared.kind.EntryKind.TheVariants.{Bits, Enum, String, Vector, Array, Box, Struct}
+use Rattle.fidl_records.specs.declared.kind.EntryKind.TheVariants.{Bits, Enum, String, Vector}
+use Rattle.fidl_records.specs.declared.kind.EntryKind.TheVariants.{Array, Box, Struct}
 use Rattle.fidl_records.specs.Kind.{kind_of, number_type}
 use Rattle.fidl_records.specs.Section.{entry_at, row_at, value_at}
-use Rattle.fidl_records.specs.Terms.{is_strict, underlying, value_number, term_of, fields_from, stated_figure, below}
-use Rattle.fidl_records.specs.Uses.{is_number, is_unsigned, is_known, allows, uses_entry, uses_rows, uses_values, uses_first, uses_count, uses_bound, uses_subtype, uses_rights, uses_name}
+use Rattle.fidl_records.specs.Terms.{is_strict, underlying, value_number, term_of, fields_from}
+use Rattle.fidl_records.specs.Terms.{stated_figure, below}
+use Rattle.fidl_records.specs.Uses.{is_number, is_unsigned, is_known, allows, uses_entry, uses_rows}
+use Rattle.fidl_records.specs.Uses.{uses_values, uses_first, uses_count, uses_bound, uses_subtype}
+use Rattle.fidl_records.specs.Uses.{uses_rights, uses_name}
 use Rattle.fidl_records.specs.Name.{IsName, IsMemberName}
 
 -- the entry is of this kind
@@ -38,7 +44,8 @@ pub record IsZeroElsewhere (e : Entry) : Type 0 where
 
 -- the subtype is the number of a kind of numbers, whose number type is the underlying type
 abbrev pub HasNumberKind : Entry → Type 0
-HasNumberKind e = (k : EntryKind) × (kind_of e.subtype ≡ Some k) × (number_type k ≡ Some (underlying e))
+HasNumberKind e = (k : EntryKind) × (kind_of e.subtype ≡ Some k)
+    × (number_type k ≡ Some (underlying e))
 
 -- bits have an underlying type without a sign, which their mask fits
 pub record HasMask (e : Entry) : Type 0 where
@@ -50,7 +57,8 @@ pub record HasValues (e : Entry) : Type 0 where
   pub subtype : IsTrue (subtype_is is_number e)
   pub some : IsTrue (is_strict e) → 0 < e.count
 
--- a known kind with flags of its own, and only what that kind uses is not zero; rows and values are not too many, and bounds have 32 bits
+-- a known kind with flags of its own, and only what that kind uses is not zero; rows and values are
+-- not too many, and bounds have 32 bits
 pub record HasShape (e : Entry) : Type 0 where
   pub known : IsTrue (kind_is is_known e)
   pub flags : IsTrue (kind_is (allows e.flags) e)
@@ -69,7 +77,8 @@ parts_of uses e = if kind_is uses e then e.count else 0
 -- how many of them the entries before this one have together
 abbrev pub parts_before : (uses : EntryKind → Bool) → List ℕ → (index : ℕ) → ℕ
 parts_before uses bytes zero = 0
-parts_before uses bytes (suc index) = parts_before uses bytes index + parts_of uses (entry_at bytes index)
+parts_before uses bytes (suc index) =
+    parts_before uses bytes index + parts_of uses (entry_at bytes index)
 
 -- how many rows an entry has
 abbrev pub rows_of : Entry → ℕ
@@ -88,12 +97,14 @@ pub record IsRowOf (e : Entry) (row : ℕ) : Type 0 where
   pub from : e.first ≤ row
   pub to : row < e.first + e.count
 
--- what `first` refers to is in the table: an entry, which is a struct where it stands in a box, rows whose types have entries, or values
+-- what `first` refers to is in the table: an entry, which is a struct where it stands in a box,
+-- rows whose types have entries, or values
 pub record HasChildren (bytes : List ℕ) (h : Header) (e : Entry) : Type 0 where
   pub elements : IsTrue (kind_is uses_entry e) → e.first < h.entries
   pub content : IsOf Box e → IsOf Struct (entry_at bytes e.first)
   pub within : IsTrue (kind_is uses_rows e) → e.first + e.count ≤ h.rows
-  pub members : IsTrue (kind_is uses_rows e) → (k : ℕ) → k < e.count → (row_at bytes h (e.first + k)).entry < h.entries
+  pub members : IsTrue (kind_is uses_rows e) → (k : ℕ) → k < e.count
+      → (row_at bytes h (e.first + k)).entry < h.entries
   pub values : IsTrue (kind_is uses_values e) → e.first + e.count ≤ h.values
 
 -- an entry's rows, or values, follow those of the entries before it, of which there are `before`
@@ -102,8 +113,10 @@ Follows uses before e = IsTrue (kind_is uses e) → e.first ≡ before
 
 -- the member of this place in a struct lies within it, and ends before the next begins
 pub record IsApart (bytes : List ℕ) (h : Header) (e : Entry) (k : ℕ) : Type 0 where
-  pub within : let r = row_at bytes h (e.first + k) in r.key + (entry_at bytes r.entry).size ≤ e.size
-  pub before : suc k < e.count → let r = row_at bytes h (e.first + k) in r.key + (entry_at bytes r.entry).size ≤ (row_at bytes h (e.first + suc k)).key
+  pub within : let r = row_at bytes h (e.first + k) in r.key + (entry_at bytes r.entry).size
+      ≤ e.size
+  pub before : suc k < e.count → let r = row_at bytes h (e.first + k) in
+      r.key + (entry_at bytes r.entry).size ≤ (row_at bytes h (e.first + suc k)).key
 
 -- the figures that the entries state
 abbrev pub figures_of : List ℕ → Header → List Figure
@@ -120,13 +133,15 @@ keys_from bytes h first (suc n) = (row_at bytes h first).key ∷ keys_from bytes
 
 -- the keys are the offsets that members of these types have
 abbrev pub AreOffsets : List ℕ → Header → (first count : ℕ) → Type 0
-AreOffsets bytes h first count = keys_from bytes h first count ≡ offsets (figures_of bytes h) 0 (fields_from bytes h first count)
+AreOffsets bytes h first count = keys_from bytes h first count
+    ≡ offsets (figures_of bytes h) 0 (fields_from bytes h first count)
 
 -- a struct's keys are the offsets of its members
 abbrev pub HasOffsets : List ℕ → Header → Entry → Type 0
 HasOffsets bytes h e = IsOf Struct e → AreOffsets bytes h e.first e.count
 
--- size and alignment are those of this figure, the size is within the limit, and an array has elements
+-- size and alignment are those of this figure, the size is within the limit, and an array has
+-- elements
 pub record HasSize (f : Figure) (e : Entry) : Type 0 where
   pub size : e.size ≡ f.size
   pub alignment : e.alignment ≡ f.align

@@ -2,13 +2,19 @@
 use Rattle.std.specs.Prelude.{ℕ, List, [], ◌∷◌, Option, Some, None, get_or}
 use Rattle.fidl_wire.specs.Term as ty
 use Rattle.fidl_records.specs.declared.kind.EntryKind.{EntryKind}
-use Rattle.fidl_records.specs.declared.kind.EntryKind.TheVariants.{Bool, Int8, Int16, Int32, Int64, Uint8, Uint16, Uint32, Uint64, Bits, Enum, String, Vector, Array, Box, Struct, Table, Union, Handle}
+use Rattle.fidl_records.specs.declared.kind.EntryKind.TheVariants.{Bool, Int8, Int16, Int32, Int64}
+use Rattle.fidl_records.specs.declared.kind.EntryKind.TheVariants.{Uint8, Uint16, Uint32, Uint64}
+use Rattle.fidl_records.specs.declared.kind.EntryKind.TheVariants.{Bits, Enum, String, Vector}
+use Rattle.fidl_records.specs.declared.kind.EntryKind.TheVariants.{Array, Box, Struct, Table, Union}
+use Rattle.fidl_records.specs.declared.kind.EntryKind.TheVariants.{Handle}
 
 -- the kinds, by their numbers from 1 on
 abbrev pub kinds : List (Option EntryKind)
 kinds =
-    None ∷ Some Bool ∷ Some Int8 ∷ Some Int16 ∷ Some Int32 ∷ Some Int64 ∷ Some Uint8 ∷ Some Uint16 ∷ Some Uint32 ∷ Some Uint64
-    ∷ Some Bits ∷ Some Enum ∷ Some String ∷ Some Vector ∷ Some Array ∷ Some Box ∷ Some Struct ∷ Some Table ∷ Some Union ∷ Some Handle ∷ []
+    None ∷ Some Bool ∷ Some Int8 ∷ Some Int16 ∷ Some Int32 ∷ Some Int64 ∷ Some Uint8 ∷ Some Uint16
+        ∷ Some Uint32 ∷ Some Uint64
+    ∷ Some Bits ∷ Some Enum ∷ Some String ∷ Some Vector ∷ Some Array ∷ Some Box ∷ Some Struct
+        ∷ Some Table ∷ Some Union ∷ Some Handle ∷ []
 
 -- the kind of a number
 abbrev pub kind_of : ℕ → Option EntryKind

@@ -1,5 +1,6 @@
 -- Which bytes the names of a table have (docs/table.md, "Names").
-use Rattle.std.specs.Prelude.{◌≢◌, ℕ, ◌+◌, ◌-◌, ◌<◌, ◌≤◌, ◌==◌, ◌&&◌, ◌||◌, nat_le, Bool, List, length, slice_index, IsTrue}
+use Rattle.std.specs.Prelude.{◌≢◌, ℕ, ◌+◌, ◌-◌, ◌<◌, ◌≤◌, ◌==◌, ◌&&◌, ◌||◌, nat_le, Bool, List}
+use Rattle.std.specs.Prelude.{length, slice_index, IsTrue}
 use Rattle.std.specs.List.{list_all}
 use Rattle.fidl_records.specs.declared.record.Header.{Header}
 use Rattle.fidl_records.specs.Section.{name_at}
@@ -16,7 +17,8 @@ is_word_byte b = is_letter b || (nat_le 48 b && nat_le b 57) || (b == 95)
 abbrev pub is_name_byte : ℕ → Bool
 is_name_byte b = is_word_byte b || (b == 46) || (b == 47)
 
--- an identifier of the language: letters, digits and `_`, with a letter at its start and no `_` at its end
+-- an identifier of the language: letters, digits and `_`, with a letter at its start and no `_` at
+-- its end
 pub record IsIdentifier (name : List ℕ) : Type 0 where
   pub some : 0 < length name
   pub begins : IsTrue (is_letter (slice_index name 0))

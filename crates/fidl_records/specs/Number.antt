@@ -4,7 +4,8 @@ use Rattle.std.specs.Int.{w8, w16, w32, w64, cast_signed}
 use Rattle.fidl_wire.specs.Term.{Kind, int8, int16, int32, int64, uint8, uint16, uint32, uint64}
 use Rattle.fidl_records.specs.Field.{number_at}
 
--- the number whose little-endian bytes stand at a place, in two's complement where its type is signed
+-- the number whose little-endian bytes stand at a place, in two's complement where its type is
+-- signed
 abbrev pub number_standing : Kind → List ℕ → (place : ℕ) → ℤ
 number_standing int8 bytes place = cast_signed w8 (slice_index bytes place)
 number_standing int16 bytes place = cast_signed w16 (number_at w16 bytes place)

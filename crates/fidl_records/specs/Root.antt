@@ -9,7 +9,8 @@ use Rattle.fidl_records.specs.Name.{IsName}
 
 -- the name of the root of this number
 abbrev pub root_name : List ℕ → Header → (index : ℕ) → List ℕ
-root_name bytes h index = let r = root_at bytes h index in name_at bytes h r.name_place r.name_length
+root_name bytes h index = let r = root_at bytes h index in
+    name_at bytes h r.name_place r.name_length
 
 -- the root has an entry
 abbrev pub HasEntry : List ℕ → Header → (index : ℕ) → Type 0
@@ -26,7 +27,8 @@ IsBefore a b = slice_cmp nat_cmp a b ≡ Less
 
 -- the name stands behind that of the root before
 abbrev pub Rises : List ℕ → Header → (index : ℕ) → Type 0
-Rises bytes h index = (before : ℕ) → suc before ≡ index → IsBefore (root_name bytes h before) (root_name bytes h index)
+Rises bytes h index = (before : ℕ) → suc before ≡ index
+    → IsBefore (root_name bytes h before) (root_name bytes h index)
 
 -- all the rules of the root of this number
 pub record IsRoot (bytes : List ℕ) (h : Header) (index : ℕ) : Type 0 where
@@ -42,7 +44,8 @@ pub record IsFirstRoot (bytes : List ℕ) (h : Header) (name : List ℕ) (index 
 
 -- the entry of the first root of this name
 abbrev pub IsRootEntry : List ℕ → Header → (name : List ℕ) → (entry : ℕ) → Type 0
-IsRootEntry bytes h name entry = (index : ℕ) × IsFirstRoot bytes h name index × (entry ≡ (root_at bytes h index).entry)
+IsRootEntry bytes h name entry = (index : ℕ) × IsFirstRoot bytes h name index
+    × (entry ≡ (root_at bytes h index).entry)
 
 -- no root has this name
 abbrev pub HasNoRoot : List ℕ → Header → (name : List ℕ) → Type 0

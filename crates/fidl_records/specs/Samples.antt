@@ -21,12 +21,14 @@ an_entry kind flags first count bound subtype = record {
 
 -- the header of a table with only entries and values
 abbrev pub header_bytes : (entries values : ℕ) → List ℕ
-header_bytes entries values = codes "FCT2" ++ 1 ∷ 0 ∷ 0 ∷ 0 ∷ entries ∷ replicate 7 0 ++ values ∷ replicate 23 0
+header_bytes entries values = codes "FCT2" ++ 1 ∷ 0 ∷ 0 ∷ 0 ∷ entries ∷ replicate 7 0 ++ values
+    ∷ replicate 23 0
 
 -- the bytes of an entry of this size and alignment, without a bound, rights and a name
 abbrev pub entry_bytes : (kind flags size first count subtype : ℕ) → List ℕ
 entry_bytes kind flags size first count subtype =
-    kind ∷ flags ∷ size ∷ 0 ∷ size ∷ 0 ∷ 0 ∷ 0 ∷ first ∷ 0 ∷ 0 ∷ 0 ∷ count ∷ replicate 11 0 ++ subtype ∷ replicate 15 0
+    kind ∷ flags ∷ size ∷ 0 ∷ size ∷ 0 ∷ 0 ∷ 0 ∷ first ∷ 0 ∷ 0 ∷ 0 ∷ count ∷ replicate 11 0
+        ++ subtype ∷ replicate 15 0
 
 -- the bytes of an enum of this size, with its values from `first` on
 abbrev pub enum_bytes : (flags size first count subtype : ℕ) → List ℕ
@@ -43,14 +45,17 @@ all_ones = replicate 8 255
 abbrev pub two_values : (size subtype : ℕ) → List ℕ → List ℕ → List ℕ
 two_values size subtype a b = header_bytes 1 2 ++ enum_bytes 2 size 0 2 subtype ++ a ++ b
 
--- a table of a strict enum of int8 with the values -1 and 1, a flexible one, and a strict one with the value 7
+-- a table of a strict enum of int8 with the values -1 and 1, a flexible one, and a strict one with
+-- the value 7
 abbrev pub three_enums : (first values : ℕ) → List ℕ
 three_enums first values =
-    header_bytes 3 values ++ enum_bytes 2 1 0 2 2 ++ enum_bytes 0 1 first 0 6 ++ enum_bytes 2 1 2 1 6 ++ all_ones ++ value_bytes 1 ++ value_bytes 7
+    header_bytes 3 values ++ enum_bytes 2 1 0 2 2 ++ enum_bytes 0 1 first 0 6
+        ++ enum_bytes 2 1 2 1 6 ++ all_ones ++ value_bytes 1 ++ value_bytes 7
 
 -- the bytes of a vector of at most `bound` elements of the entry `first`
 abbrev pub vector_bytes : (flags first bound : ℕ) → List ℕ
-vector_bytes flags first bound = 13 ∷ flags ∷ 8 ∷ 0 ∷ 16 ∷ 0 ∷ 0 ∷ 0 ∷ first ∷ replicate 7 0 ++ bound ∷ replicate 23 0
+vector_bytes flags first bound = 13 ∷ flags ∷ 8 ∷ 0 ∷ 16 ∷ 0 ∷ 0 ∷ 0 ∷ first ∷ replicate 7 0
+    ++ bound ∷ replicate 23 0
 
 -- the bytes of a box of the entry `first`
 abbrev pub box_bytes : (first : ℕ) → List ℕ
@@ -64,7 +69,8 @@ number_and_vector first = header_bytes 2 0 ++ entry_bytes 6 0 1 0 0 0 ++ vector_
 abbrev pub number_and_box : (first : ℕ) → List ℕ
 number_and_box first = header_bytes 2 0 ++ entry_bytes 6 0 1 0 0 0 ++ box_bytes first
 
--- a table of a struct whose one member, of this key, has the entry 1, which is a box of the entry `first`; the member's name is "n"
+-- a table of a struct whose one member, of this key, has the entry 1, which is a box of the entry
+-- `first`; the member's name is "n"
 abbrev pub struct_and_box : (key first : ℕ) → List ℕ
 struct_and_box key first =
     codes "FCT2" ++ 1 ∷ 0 ∷ 0 ∷ 0 ∷ 2 ∷ 0 ∷ 0 ∷ 0 ∷ 1 ∷ replicate 19 0 ++ 1 ∷ replicate 7 0

@@ -1,5 +1,6 @@
 -- What the entries of a table declare (docs/table.md, "Declarations").
-use Rattle.std.specs.Prelude.{ℕ, zero, suc, ◌/◌, ◌%◌, ◌==◌, ℤ, pos, Bool, if◌then◌else◌, List, [], ◌∷◌, ◌++◌, map, Option, Some, None, unwrap_or}
+use Rattle.std.specs.Prelude.{ℕ, zero, suc, ◌/◌, ◌%◌, ◌==◌, ℤ, pos, Bool, if◌then◌else◌, List, []}
+use Rattle.std.specs.Prelude.{◌∷◌, ◌++◌, map, Option, Some, None, unwrap_or}
 use Rattle.std.specs.Option.{option_map_or}
 use Rattle.std.specs.Int.{w64, cast_signed}
 use Rattle.fidl_wire.specs.Term as ty
@@ -8,7 +9,9 @@ use Rattle.fidl_wire.specs.Figure.{Figure, figure, Declarations}
 use Rattle.fidl_records.specs.declared.record.Header.{Header}
 use Rattle.fidl_records.specs.declared.record.Entry.{Entry}
 use Rattle.fidl_records.specs.declared.kind.EntryKind.{EntryKind}
-use Rattle.fidl_records.specs.declared.kind.EntryKind.TheVariants.{Bool as Boolean, Bits, Enum, String, Vector, Array, Box, Struct, Table, Union, Handle}
+use Rattle.fidl_records.specs.declared.kind.EntryKind.TheVariants.{Bool as Boolean, Bits, Enum}
+use Rattle.fidl_records.specs.declared.kind.EntryKind.TheVariants.{String, Vector, Array, Box}
+use Rattle.fidl_records.specs.declared.kind.EntryKind.TheVariants.{Struct, Table, Union, Handle}
 use Rattle.fidl_records.specs.Kind.{kind_of, number_type}
 use Rattle.fidl_records.specs.Section.{header_of, entry_at, row_at, value_at, name_at}
 
@@ -28,7 +31,8 @@ as_number k = unwrap_or (number_type k) ty.uint8
 abbrev pub underlying : Entry → ty.Kind
 underlying e = option_map_or as_number (kind_of e.subtype) ty.uint8
 
--- the number that the eight bytes of a value stand for: in two's complement where its number type is signed, else as it is
+-- the number that the eight bytes of a value stand for: in two's complement where its number type
+-- is signed, else as it is
 abbrev pub value_number : ty.Kind → ℕ → ℤ
 value_number ty.int8 n = cast_signed w64 n
 value_number ty.int16 n = cast_signed w64 n
@@ -39,7 +43,8 @@ value_number _ n = pos n
 -- the numbers of a strict enum of this number type: `count` values from the `first` on
 abbrev pub values_from : List ℕ → Header → ty.Kind → (first count : ℕ) → List ℤ
 values_from bytes h kind first zero = []
-values_from bytes h kind first (suc n) = value_number kind (value_at bytes h first) ∷ values_from bytes h kind (suc first) n
+values_from bytes h kind first (suc n) = value_number kind (value_at bytes h first)
+    ∷ values_from bytes h kind (suc first) n
 
 -- the mask of bits, where they are strict
 abbrev pub mask_of : Entry → Option ℕ
@@ -47,23 +52,28 @@ mask_of e = if is_strict e then Some e.bound else None
 
 -- the values of an enum, where it is strict
 abbrev pub strict_values : List ℕ → Header → Entry → Option (List ℤ)
-strict_values bytes h e = if is_strict e then Some (values_from bytes h (underlying e) e.first e.count) else None
+strict_values bytes h e =
+    if is_strict e then Some (values_from bytes h (underlying e) e.first e.count) else None
 
--- the members of a struct: `count` rows from the `first` on, each with its name and the entry of its type
+-- the members of a struct: `count` rows from the `first` on, each with its name and the entry of
+-- its type
 abbrev pub fields_from : List ℕ → Header → (first count : ℕ) → Fields
 fields_from bytes h first zero = no_fields
 fields_from bytes h first (suc n) =
     let r = row_at bytes h first in
-    field (name_at bytes h r.name_place r.name_length) (ty.named r.entry) (fields_from bytes h (suc first) n)
+    field (name_at bytes h r.name_place r.name_length) (ty.named r.entry)
+        (fields_from bytes h (suc first) n)
 
 -- the members of a table or union, each with its ordinal too
 abbrev pub rows_from : List ℕ → Header → (first count : ℕ) → Rows
 rows_from bytes h first zero = no_rows
 rows_from bytes h first (suc n) =
     let r = row_at bytes h first in
-    row r.key (name_at bytes h r.name_place r.name_length) (ty.named r.entry) (rows_from bytes h (suc first) n)
+    row r.key (name_at bytes h r.name_place r.name_length) (ty.named r.entry)
+        (rows_from bytes h (suc first) n)
 
--- the type that an entry of this kind declares, one level deep: what it holds is named by its entry's number
+-- the type that an entry of this kind declares, one level deep: what it holds is named by its
+-- entry's number
 abbrev pub term_as : EntryKind → List ℕ → Header → Entry → Term
 term_as Boolean bytes h e = ty.bool
 term_as Bits bytes h e = ty.bits (underlying e) (mask_of e)
@@ -95,4 +105,5 @@ below (suc n) = below n ++ n ∷ []
 abbrev pub declarations_of : List ℕ → Declarations
 declarations_of bytes =
     let h = header_of bytes in
-    record { terms = map (λ i. term_of bytes h (entry_at bytes i)) (below h.entries); figures = map (λ i. stated_figure (entry_at bytes i)) (below h.entries) }
+    record { terms = map (λ i. term_of bytes h (entry_at bytes i)) (below h.entries); figures =
+        map (λ i. stated_figure (entry_at bytes i)) (below h.entries) }

@@ -2,7 +2,11 @@
 use Rattle.std.specs.Prelude.{ℕ, ◌==◌, ◌||◌, Bool, true, false, is_some}
 use Rattle.fidl_records.specs.Kind.{number_type}
 use Rattle.fidl_records.specs.declared.kind.EntryKind.{EntryKind}
-use Rattle.fidl_records.specs.declared.kind.EntryKind.TheVariants.{Bool as Boolean, Int16, Int32, Int64, Uint8, Uint16, Uint32, Uint64, Bits, Enum, String, Vector, Array, Box, Struct, Table, Union, Handle}
+use Rattle.fidl_records.specs.declared.kind.EntryKind.TheVariants.{Bool as Boolean, Int16, Int32}
+use Rattle.fidl_records.specs.declared.kind.EntryKind.TheVariants.{Int64, Uint8, Uint16, Uint32}
+use Rattle.fidl_records.specs.declared.kind.EntryKind.TheVariants.{Uint64, Bits, Enum, String}
+use Rattle.fidl_records.specs.declared.kind.EntryKind.TheVariants.{Vector, Array, Box, Struct}
+use Rattle.fidl_records.specs.declared.kind.EntryKind.TheVariants.{Table, Union, Handle}
 
 -- the numbers
 abbrev pub is_number : EntryKind → Bool

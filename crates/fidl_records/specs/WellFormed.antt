@@ -26,7 +26,8 @@ pub record HasHeader (bytes : List ℕ) (h : Header) : Type 0 where
 -- a table of the known kinds, with all its rules; each row and each value is of just one entry
 pub record WellFormed (bytes : List ℕ) : Type 0 where
   pub header : HasHeader bytes (header_of bytes)
-  pub entries : (index : ℕ) → index < (header_of bytes).entries → IsEntry bytes (header_of bytes) index
+  pub entries : (index : ℕ) → index < (header_of bytes).entries
+      → IsEntry bytes (header_of bytes) index
   pub covered : rows_before bytes (header_of bytes).entries ≡ (header_of bytes).rows
   pub values_covered : values_before bytes (header_of bytes).entries ≡ (header_of bytes).values
   pub roots : (index : ℕ) → index < (header_of bytes).roots → IsRoot bytes (header_of bytes) index

@@ -1,5 +1,5 @@
-//! The records of a coding table: readers for their fields, what the entries declare, and which tables are well formed
-//! (`specs/`, docs/table.md).
+//! The records of a coding table: readers for their fields, what the entries declare, and which
+//! tables are well formed (`specs/`, docs/table.md).
 #![tactic(auto)]
 
 mod field;

@@ -61,7 +61,8 @@ impl Entry {
         self.flags / 2 % 2 == 1
     }
 
-    /// The kind of the underlying type of bits or an enum; uint8 where the subtype is the number of no kind.
+    /// The kind of the underlying type of bits or an enum; uint8 where the subtype is the number of
+    /// no kind.
     pub fn underlying(&self) -> EntryKind
         ensures number { as_number result ≡ underlying self.now }
         ensures kind { IsTrue (subtype_is is_number self.now) → IsTrue (is_number result) }

@@ -1,6 +1,8 @@
 //! Readers of the records of a table's sections.
 ghost use Rattle.std.specs.Prelude.{◌≡◌, ◌+◌, ◌*◌, ◌≤◌, length, slice_range};
-ghost use Rattle.fidl_records.specs.Section.{header_of, entry_at, row_at, value_at, root_at, entry_place, row_place, value_place, root_place, names_place, name_at};
+ghost use Rattle.fidl_records.specs.Section.{header_of, entry_at, row_at, value_at, root_at};
+ghost use Rattle.fidl_records.specs.Section.{entry_place, row_place, value_place, root_place};
+ghost use Rattle.fidl_records.specs.Section.{names_place, name_at};
 
 use crate::field::{u16_at, u32_at, u64_at};
 use crate::record::{Entry, Header, Root, Row};

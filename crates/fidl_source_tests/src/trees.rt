@@ -38,8 +38,8 @@ fn whole_file(alloc: Global, at: &mut Places) -> Result<File<'static>, AllocErro
     })
 }
 
-/// The words of `source`, which has one letter for each: its kind by its symbol, `i` for an identifier, `1` for a
-/// number, `s` for a string and `A` for an arrow. Blanks stand for nothing.
+/// The words of `source`, which has one letter for each: its kind by its symbol, `i` for an
+/// identifier, `1` for a number, `s` for a string and `A` for an arrow. Blanks stand for nothing.
 fn words_of(alloc: Global, source: &[u8]) -> Result<Vec<Word>, AllocError> {
     let mut words = Vec::new(alloc);
     for letter in source {

@@ -39,7 +39,8 @@ abbrev pub begins : (ℕ → Bool) → List ℕ → Bool
 begins test [] = false
 begins test (b ∷ bs) = test b
 
--- longest run: each byte of the text passes the test, and what follows doesn't begin with one that does
+-- longest run: each byte of the text passes the test, and what follows doesn't begin with one that
+-- does
 pub record IsRun (test : ℕ → Bool) (text rest : List ℕ) : Type 0 where
   pub passes : IsTrue (list_all test text)
   pub stops : IsFalse (begins test rest)

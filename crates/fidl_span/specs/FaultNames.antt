@@ -2,7 +2,9 @@
 use Rattle.std.specs.Prelude.{ℕ, List, Option, Some, None, codes}
 use Rattle.fidl_span.specs.declared.words.Span.{Span}
 use Rattle.fidl_span.specs.declared.faults.LexFault.{LexFault}
-use Rattle.fidl_span.specs.declared.faults.LexFault.TheVariants.{NotUtf8, BadByte, BadIdentifier, OpenString, BadEscape, BadNumber, Memory}
+use Rattle.fidl_span.specs.declared.faults.LexFault.TheVariants.{NotUtf8, BadByte, BadIdentifier}
+use Rattle.fidl_span.specs.declared.faults.LexFault.TheVariants.{OpenString, BadEscape, BadNumber}
+use Rattle.fidl_span.specs.declared.faults.LexFault.TheVariants.{Memory}
 
 abbrev pub number_of : LexFault → ℕ
 number_of (NotUtf8 span) = 1

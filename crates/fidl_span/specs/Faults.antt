@@ -1,12 +1,15 @@
 -- What each fault says of the source.
-use Rattle.std.specs.Prelude.{◌≡◌, ℕ, ◌+◌, ◌≤◌, ◌==◌, min, List, [], ◌∷◌, length, drop, slice_range, IsTrue, IsFalse, IsUtf8}
+use Rattle.std.specs.Prelude.{◌≡◌, ℕ, ◌+◌, ◌≤◌, ◌==◌, min, List, [], ◌∷◌, length, drop, slice_range}
+use Rattle.std.specs.Prelude.{IsTrue, IsFalse, IsUtf8}
 use Rattle.std.specs.Char.{is_ascii_digit}
 use Rattle.std.specs.Str.Lossy.{utf8_valid_len}
 use Rattle.fidl_span.specs.declared.words.Span.{Span}
 use Rattle.fidl_span.specs.declared.words.Word.{Word}
 use Rattle.fidl_span.specs.declared.words.WordKind.{WordKind}
 use Rattle.fidl_span.specs.declared.faults.LexFault.{LexFault}
-use Rattle.fidl_span.specs.declared.faults.LexFault.TheVariants.{NotUtf8, BadByte, BadIdentifier, OpenString, BadEscape, BadNumber, Memory}
+use Rattle.fidl_span.specs.declared.faults.LexFault.TheVariants.{NotUtf8, BadByte, BadIdentifier}
+use Rattle.fidl_span.specs.declared.faults.LexFault.TheVariants.{OpenString, BadEscape, BadNumber}
+use Rattle.fidl_span.specs.declared.faults.LexFault.TheVariants.{Memory}
 use Rattle.fidl_span.specs.Bytes.{backslash, is_word_byte, begins, IsRun, EndsLine}
 use Rattle.fidl_span.specs.Gaps.{BeginsNoGap}
 use Rattle.fidl_span.specs.Names.{is_bad_identifier, is_number}
@@ -30,7 +33,8 @@ pub record IsBadByte (src : List ℕ) (span : Span) : Type 0 where
   pub one_byte : span.to ≡ span.from + 1
   pub begins_nothing : BeginsNothing (drop span.from src)
 
--- bad identifier: the longest run of word bytes, which begins as a name does, begins or ends with `_`
+-- bad identifier: the longest run of word bytes, which begins as a name does, begins or ends with
+-- `_`
 pub record IsBadIdentifier (text rest : List ℕ) : Type 0 where
   pub run : IsRun is_word_byte text rest
   pub bad : IsTrue (is_bad_identifier text)
@@ -46,8 +50,8 @@ pub record IsOpen (text rest : List ℕ) : Type 0 where
   pub front : IsOpenString text
   pub line_end : EndsLine rest
 
--- bad escape: behind the open string from `quote` on, the span's backslash begins no escape. The span is
--- the backslash and the byte behind it, if there is one
+-- bad escape: behind the open string from `quote` on, the span's backslash begins no escape. The
+-- span is the backslash and the byte behind it, if there is one
 pub record IsBadEscape (src : List ℕ) (quote : ℕ) (span : Span) : Type 0 where
   pub behind : quote ≤ span.from
   pub front : IsOpenString (slice_range src quote span.from)
@@ -58,10 +62,13 @@ pub record IsBadEscape (src : List ℕ) (quote : ℕ) (span : Span) : Type 0 whe
 -- where a word would have to begin, the fault stands
 abbrev pub IsFaultAt : List ℕ → ℕ → LexFault → Type 0
 IsFaultAt src place (BadByte span) = (span.from ≡ place) × IsSpan src span × IsBadByte src span
-IsFaultAt src place (BadIdentifier span) = (span.from ≡ place) × IsSpan src span × IsBadIdentifier (text_at src span) (rest_behind src span)
-IsFaultAt src place (OpenString span) = (span.from ≡ place) × IsSpan src span × IsOpen (text_at src span) (rest_behind src span)
+IsFaultAt src place (BadIdentifier span) = (span.from ≡ place) × IsSpan src span
+    × IsBadIdentifier (text_at src span) (rest_behind src span)
+IsFaultAt src place (OpenString span) = (span.from ≡ place) × IsSpan src span
+    × IsOpen (text_at src span) (rest_behind src span)
 IsFaultAt src place (BadEscape span) = IsSpan src span × IsBadEscape src place span
-IsFaultAt src place (BadNumber span) = (span.from ≡ place) × IsSpan src span × IsBadNumber (text_at src span) (rest_behind src span)
+IsFaultAt src place (BadNumber span) = (span.from ≡ place) × IsSpan src span
+    × IsBadNumber (text_at src span) (rest_behind src span)
 IsFaultAt src place (NotUtf8 span) = ⊥
 IsFaultAt src place Memory = ⊥
 

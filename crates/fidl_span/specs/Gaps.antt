@@ -21,4 +21,5 @@ abbrev mutual
 -- neither a blank nor a comment begins here
 abbrev pub BeginsNoGap : List ℕ → Type 0
 BeginsNoGap [] = Unit {0}
-BeginsNoGap (b ∷ rest) = IsFalse (is_blank b) × (b ≡ slash → IsFalse (begins (λ c. c == slash) rest))
+BeginsNoGap (b ∷ rest) = IsFalse (is_blank b)
+    × (b ≡ slash → IsFalse (begins (λ c. c == slash) rest))

@@ -14,7 +14,9 @@ is_identifier text = begins is_ascii_alphabetic text && not (last_byte text == u
 
 -- bad identifier: it begins with a letter or `_`, and it begins or ends with `_`
 unfoldable pub is_bad_identifier : List ℕ → Bool
-is_bad_identifier text = begins (λ b. b == underscore) text || (begins is_ascii_alphabetic text && last_byte text == underscore)
+is_bad_identifier text =
+    begins (λ b. b == underscore) text ||
+    (begins is_ascii_alphabetic text && last_byte text == underscore)
 
 -- at least one digit, and nothing else
 abbrev pub are_digits : (ℕ → Bool) → List ℕ → Bool
@@ -22,7 +24,8 @@ are_digits digit text = not (length text == 0) && list_all digit text
 
 -- whether `0` stands first, and one of two letters behind it
 abbrev pub has_prefix : ℕ → ℕ → List ℕ → Bool
-has_prefix lower upper text = slice_index text 0 == 48 && (slice_index text 1 == lower || slice_index text 1 == upper)
+has_prefix lower upper text =
+    slice_index text 0 == 48 && (slice_index text 1 == lower || slice_index text 1 == upper)
 
 -- `0`, a letter in either case, and digits of the letter's base
 abbrev pub is_prefixed : ℕ → ℕ → (ℕ → Bool) → List ℕ → Bool

@@ -1,5 +1,6 @@
 -- String literals.
-use Rattle.std.specs.Prelude.{◌≡◌, ◌≢◌, ℕ, ◌+◌, ◌*◌, ◌<◌, ◌≤◌, Bool, ◌||◌, ◌==◌, List, [], ◌∷◌, ◌++◌, length, fold, IsTrue}
+use Rattle.std.specs.Prelude.{◌≡◌, ◌≢◌, ℕ, ◌+◌, ◌*◌, ◌<◌, ◌≤◌, Bool, ◌||◌, ◌==◌, List, [], ◌∷◌}
+use Rattle.std.specs.Prelude.{◌++◌, length, fold, IsTrue}
 use Rattle.std.specs.Char.{IsScalar, digit_value, is_ascii_hexdigit}
 use Rattle.std.specs.List.{list_all, concat, AllByRecursion}
 use Rattle.fidl_span.specs.Bytes.{quotation_mark, backslash, line_feed}
@@ -34,7 +35,8 @@ pub data IsPiece : List ℕ → Type 0 where
 
 -- a quote and pieces, with no quote to close it
 abbrev pub IsOpenString : List ℕ → Type 0
-IsOpenString text = (pieces : List (List ℕ)) × AllByRecursion IsPiece pieces × (text ≡ quotation_mark ∷ concat pieces)
+IsOpenString text = (pieces : List (List ℕ)) × AllByRecursion IsPiece pieces
+    × (text ≡ quotation_mark ∷ concat pieces)
 
 -- string literal: a quote, pieces and a quote
 abbrev pub IsString : List ℕ → Type 0

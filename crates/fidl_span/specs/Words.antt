@@ -1,9 +1,15 @@
 -- What the words of a source are.
-use Rattle.std.specs.Prelude.{◌≡◌, ℕ, ◌≤◌, ◌==◌, List, [], ◌∷◌, length, drop, slice_range, codes, IsTrue, IsFalse, IsUtf8}
+use Rattle.std.specs.Prelude.{◌≡◌, ℕ, ◌≤◌, ◌==◌, List, [], ◌∷◌, length, drop, slice_range, codes}
+use Rattle.std.specs.Prelude.{IsTrue, IsFalse, IsUtf8}
 use Rattle.fidl_span.specs.declared.words.Span.{Span}
 use Rattle.fidl_span.specs.declared.words.Word.{Word}
 use Rattle.fidl_span.specs.declared.words.WordKind.{WordKind}
-use Rattle.fidl_span.specs.declared.words.WordKind.TheVariants.{Identifier, Number, String, Semicolon, Colon, Comma, Dot, Equals, Bar, At, LeftParenthesis, RightParenthesis, LeftBrace, RightBrace, Less, Greater, Minus, Arrow}
+use Rattle.fidl_span.specs.declared.words.WordKind.TheVariants.{Identifier, Number, String}
+use Rattle.fidl_span.specs.declared.words.WordKind.TheVariants.{Semicolon, Colon, Comma, Dot}
+use Rattle.fidl_span.specs.declared.words.WordKind.TheVariants.{Equals, Bar, At, LeftParenthesis}
+use Rattle.fidl_span.specs.declared.words.WordKind.TheVariants.{RightParenthesis, LeftBrace}
+use Rattle.fidl_span.specs.declared.words.WordKind.TheVariants.{RightBrace, Less, Greater, Minus}
+use Rattle.fidl_span.specs.declared.words.WordKind.TheVariants.{Arrow}
 use Rattle.fidl_span.specs.Bytes.{greater_than, is_word_byte, begins, IsRun}
 use Rattle.fidl_span.specs.Gaps.{IsGap}
 use Rattle.fidl_span.specs.Names.{is_identifier, is_number}
@@ -53,11 +59,13 @@ pub record IsGapBetween (src : List ℕ) (from to : ℕ) : Type 0 where
   pub within : to ≤ length src
   pub gap : IsGap (slice_range src from to) (drop to src)
 
--- from one place to another these words stand, in this order, and only gaps before, between and after them
+-- from one place to another these words stand, in this order, and only gaps before, between and
+-- after them
 abbrev pub AreWordsBetween : List ℕ → ℕ → List Word → ℕ → Type 0
 AreWordsBetween src from [] to = IsGapBetween src from to
 AreWordsBetween src from (word ∷ words) to =
-    IsGapBetween src from word.span.from × StandsAt src word × AreWordsBetween src word.span.to words to
+    IsGapBetween src from word.span.from × StandsAt src word
+        × AreWordsBetween src word.span.to words to
 
 -- the words of a source: it is UTF-8, and they stand in it from its start to its end
 abbrev pub Words : List ℕ → List Word → Type 0
@@ -65,4 +73,5 @@ Words src words = IsUtf8 src × AreWordsBetween src 0 words (length src)
 
 -- a source is cut into words in at most one way
 abbrev pub WordsAreUnique : Type 0
-WordsAreUnique = (src : List ℕ) (words others : List Word) → Words src words → Words src others → words ≡ others
+WordsAreUnique = (src : List ℕ) (words others : List Word) → Words src words → Words src others
+    → words ≡ others

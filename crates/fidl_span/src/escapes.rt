@@ -1,9 +1,11 @@
 // The escapes of a string literal.
-ghost use Rattle.std.specs.Prelude.{◌≡◌, ◌≢◌, ℕ, ◌<◌, ◌≤◌, ◌↔◌, ◌++◌, ◌∷◌, [], List, length, drop, slice_index, slice_range, IsTrue, IfSome, IfNone};
+ghost use Rattle.std.specs.Prelude.{◌≡◌, ◌≢◌, ℕ, ◌<◌, ◌≤◌, ◌↔◌, ◌++◌, ◌∷◌, [], List, length, drop};
+ghost use Rattle.std.specs.Prelude.{slice_index, slice_range, IsTrue, IfSome, IfNone};
 ghost use Rattle.std.specs.Char.{is_ascii_hexdigit, digit_value};
 ghost use Rattle.std.specs.List.{list_all};
 ghost use Rattle.fidl_span.specs.Bytes.{IsRun};
-ghost use Rattle.fidl_span.specs.Strings.{IsPiece, BeginsNoPiece, IsCodePoint, is_escape_letter, hex_value};
+ghost use Rattle.fidl_span.specs.Strings.{IsPiece, BeginsNoPiece, IsCodePoint, is_escape_letter};
+ghost use Rattle.fidl_span.specs.Strings.{hex_value};
 
 /// Whether this byte and a backslash before it are an escape.
 #[tactic(auto, unfolding(crate::specs::Strings::is_escape_letter))]

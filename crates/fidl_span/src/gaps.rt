@@ -1,5 +1,6 @@
 // What stands between words: blanks and comments.
-ghost use Rattle.std.specs.Prelude.{◌≡◌, ℕ, ◌+◌, ◌<◌, ◌≤◌, ◌==◌, not, length, drop, slice_range, IfSome, IfNone};
+ghost use Rattle.std.specs.Prelude.{◌≡◌, ℕ, ◌+◌, ◌<◌, ◌≤◌, ◌==◌, not, length, drop, slice_range};
+ghost use Rattle.std.specs.Prelude.{IfSome, IfNone};
 ghost use Rattle.fidl_span.specs.Bytes.{IsRun};
 ghost use Rattle.fidl_span.specs.Gaps.{BeginsNoGap};
 ghost use Rattle.fidl_span.specs.Words.{IsGapBetween};

@@ -1,5 +1,6 @@
 // String literals.
-ghost use Rattle.std.specs.Prelude.{◌≡◌, ◌≢◌, ℕ, ◌<◌, ◌≤◌, length, drop, slice_index, slice_range, IfSome, IfNone, IfOk, IfErr};
+ghost use Rattle.std.specs.Prelude.{◌≡◌, ◌≢◌, ℕ, ◌<◌, ◌≤◌, length, drop, slice_index, slice_range};
+ghost use Rattle.std.specs.Prelude.{IfSome, IfNone, IfOk, IfErr};
 ghost use Rattle.fidl_span.specs.Strings.{IsPiece, BeginsNoPiece};
 ghost use Rattle.fidl_span.specs.Words.{StandsAt};
 ghost use Rattle.fidl_span.specs.Faults.{IsFaultAt};

@@ -1,5 +1,6 @@
 // Identifiers and numbers: the longest runs of word bytes.
-ghost use Rattle.std.specs.Prelude.{◌≡◌, ℕ, ◌<◌, ◌≤◌, length, drop, slice_index, slice_range, IsTrue, List, [], if◌then◌else◌, IfOk, IfErr};
+ghost use Rattle.std.specs.Prelude.{◌≡◌, ℕ, ◌<◌, ◌≤◌, length, drop, slice_index, slice_range};
+ghost use Rattle.std.specs.Prelude.{IsTrue, List, [], if◌then◌else◌, IfOk, IfErr};
 ghost use Rattle.std.specs.Char.{is_ascii_digit, is_ascii_hexdigit};
 ghost use Rattle.std.specs.List.{list_all};
 ghost use Rattle.fidl_span.specs.Bytes.{is_word_byte, is_binary_digit, IsRun};

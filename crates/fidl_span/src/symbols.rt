@@ -33,8 +33,8 @@ fn symbol_of(byte: u8) -> Option<WordKind>
     }
 }
 
-/// The symbol that begins at `at`, where no gap, no word byte and no quote stands. Where `->` can be
-/// read, it is read.
+/// The symbol that begins at `at`, where no gap, no word byte and no quote stands. Where `->` can
+/// be read, it is read.
 pub fn symbol(src: &[u8], at: usize) -> Result<Word, LexFault>
     requires within { at < length src.now }
     requires no_gap { BeginsNoGap (drop at src.now) }

@@ -1,15 +1,19 @@
--- What the words of a command line give, and what is told where they give no arguments (docs/program.md, "Statuses").
-use Rattle.std.specs.Prelude.{◌≡◌, ◌≢◌, ◌⊎◌, ⊤, ℕ, List, [], ◌++◌, codes, string_bytes, Some, None, Ok, IsErr, false, unwrap_or}
+-- What the words of a command line give, and what is told where they give no arguments
+-- (docs/program.md, "Statuses").
+use Rattle.std.specs.Prelude.{◌≡◌, ◌≢◌, ◌⊎◌, ⊤, ℕ, List, [], ◌++◌, codes, string_bytes, Some, None}
+use Rattle.std.specs.Prelude.{Ok, IsErr, false, unwrap_or}
 use Rattle.std.specs.List.{All, AllZip}
 use Rattle.clap.specs.Words.{Row, Text, takes, first_of}
 use Rattle.clap.specs.Walk.{all_of}
 use Rattle.clap.specs.declared.error.kind.ErrorKind.{ErrorKind}
-use Rattle.clap.specs.declared.error.kind.ErrorKind.TheVariants.{DisplayHelp, DisplayVersion, OutOfMemory}
+use Rattle.clap.specs.declared.error.kind.ErrorKind.TheVariants.{DisplayHelp, DisplayVersion}
+use Rattle.clap.specs.declared.error.kind.ErrorKind.TheVariants.{OutOfMemory}
 use Rattle.hex.specs.Hex.{decode_of}
 use Rattle.fidl_tool.specs.declared.outcome.Outcome.{Outcome}
 use Rattle.fidl_tool.specs.declared.outcome.Outcome.TheVariants as outcome
 use Rattle.fidl_tool.specs.declared.unread.Unread.{Unread}
-use Rattle.fidl_tool.specs.declared.unread.Unread.TheVariants.{Asked, Wrong, NotText, Missing, BadHex, BadHandle, Memory}
+use Rattle.fidl_tool.specs.declared.unread.Unread.TheVariants.{Asked, Wrong, NotText, Missing}
+use Rattle.fidl_tool.specs.declared.unread.Unread.TheVariants.{BadHex, BadHandle, Memory}
 use Rattle.fidl_tool.specs.declared.arguments.DecodeArguments.{DecodeArguments}
 use Rattle.fidl_wire.specs.declared.handle.HandleInfo.{HandleInfo}
 use Rattle.fidl_tool.specs.CommandLine.{program, GivesDecode}
@@ -18,7 +22,8 @@ use Rattle.fidl_tool.specs.Handles.{IsHandleText, HasNoHandleText}
 
 -- an argument is not read: it is wrong and told so, or it is right and memory ran out
 abbrev pub IsTold : (told_wrong : Unread) (IsWrong IsRight : Type 0) → Unread → Type 0
-IsTold told_wrong IsWrong IsRight told = ((told ≡ told_wrong) × IsWrong) ⊎ ((told ≡ Memory) × IsRight)
+IsTold told_wrong IsWrong IsRight told = ((told ≡ told_wrong) × IsWrong)
+    ⊎ ((told ≡ Memory) × IsRight)
 
 -- each text is that of a handle
 abbrev pub AreHandleTexts : List (List ℕ) → Type 0
@@ -39,8 +44,10 @@ pub record IsDecode (rows : List Row) (given : DecodeArguments) : Type 0 where
 
 -- why the values of the arguments are no arguments of `decode`
 abbrev pub IsNoDecode : List Row → Unread → Type 0
-IsNoDecode rows Missing = (first_of (codes "TABLE") rows ≡ None) ⊎ (first_of (codes "ROOT") rows ≡ None) ⊎ (first_of (codes "HEX") rows ≡ None)
-IsNoDecode rows BadHex = (hex : List ℕ) × (first_of (codes "HEX") rows ≡ Some hex) × IsErr (decode_of hex)
+IsNoDecode rows Missing = (first_of (codes "TABLE") rows ≡ None)
+    ⊎ (first_of (codes "ROOT") rows ≡ None) ⊎ (first_of (codes "HEX") rows ≡ None)
+IsNoDecode rows BadHex = (hex : List ℕ) × (first_of (codes "HEX") rows ≡ Some hex)
+    × IsErr (decode_of hex)
 IsNoDecode rows BadHandle = HasNoHandleText (handle_texts rows)
 IsNoDecode rows Memory = ⊤
 IsNoDecode rows _ = ⊥
@@ -57,19 +64,23 @@ pub record IsBadlyGiven (words : List Text) (unread : Unread) : Type 0 where
   pub entered : GivesDecode words rows
   pub fails : IsNoDecode rows unread
 
--- why the words give no arguments: they are no command line, or ask for help; or the arguments have no such values
+-- why the words give no arguments: they are no command line, or ask for help; or the arguments have
+-- no such values
 abbrev pub IsUngiven : List Text → Unread → Type 0
 IsUngiven words (Asked text) = takes program words ≡ false
 IsUngiven words (Wrong line) = takes program words ≡ false
 IsUngiven words NotText = ⊥
-IsUngiven words Missing = ((rows : List Row) → GivesDecode words rows → ⊥) ⊎ IsBadlyGiven words Missing
+IsUngiven words Missing = ((rows : List Row) → GivesDecode words rows → ⊥)
+    ⊎ IsBadlyGiven words Missing
 IsUngiven words Memory = ⊤
 IsUngiven words unread = IsBadlyGiven words unread
 
--- what is told where clap gives no matches, by the kind of its error; memory can run out while the text is made
+-- what is told where clap gives no matches, by the kind of its error; memory can run out while the
+-- text is made
 abbrev pub IsToldByKind : ErrorKind → Unread → Type 0
 IsToldByKind kind (Asked text) = (kind ≡ DisplayHelp) ⊎ (kind ≡ DisplayVersion)
-IsToldByKind kind (Wrong line) = (kind ≢ DisplayHelp) × (kind ≢ DisplayVersion) × (kind ≢ OutOfMemory)
+IsToldByKind kind (Wrong line) = (kind ≢ DisplayHelp) × (kind ≢ DisplayVersion)
+    × (kind ≢ OutOfMemory)
 IsToldByKind kind Memory = ⊤
 IsToldByKind kind _ = ⊥
 
@@ -91,7 +102,8 @@ complaint_of (Wrong line) = string_bytes line
 complaint_of NotText = codes "error: the arguments: UTF-8 is wanted"
 complaint_of Missing = codes "error: the arguments: decode TABLE ROOT HEX is wanted"
 complaint_of BadHex = codes "error: HEX: an even number of hexadecimal digits is wanted"
-complaint_of BadHandle = codes "error: --handle: three decimal numbers of 32 bits are wanted, as in 1:3:0"
+complaint_of BadHandle =
+    codes "error: --handle: three decimal numbers of 32 bits are wanted, as in 1:3:0"
 complaint_of Memory = no_memory
 
 -- what is printed on the errors

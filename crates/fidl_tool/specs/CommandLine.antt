@@ -19,13 +19,16 @@ handle_option = record (new_rule (codes "handle")) {
 -- `decode [--handle I:T:R].. TABLE ROOT HEX`
 abbrev pub decode_command : Shape
 decode_command = record (new_shape (codes "decode")) {
-  rules = handle_option ∷ positional (codes "TABLE") ∷ positional (codes "ROOT") ∷ positional (codes "HEX") ∷ [];
+  rules = handle_option ∷ positional (codes "TABLE") ∷ positional (codes "ROOT")
+      ∷ positional (codes "HEX") ∷ [];
 }
 
 -- `fidl COMMAND`; clap adds help and version
 abbrev pub program : App
 program = record {
-  top = record (new_shape (codes "fidl")) { has_version = true; subcommand_required = true; is_leaf = false };
+  top = record
+      (new_shape (codes "fidl")) { has_version = true; subcommand_required = true; is_leaf =
+      false };
   subs = decode_command ∷ [];
 }
 

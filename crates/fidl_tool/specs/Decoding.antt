@@ -36,18 +36,28 @@ pub record LacksRoot (table root : List ℕ) : Type 0 where
 
 -- the line of a refusal
 abbrev pub refusal_line : (stage : List ℕ) (number : ℕ) (name : List ℕ) (place : ℕ) → List ℕ
-refusal_line stage number name place = stage ++ codes " " ++ decimal number ++ codes " " ++ name ++ codes " at " ++ decimal place ++ codes "\n"
+refusal_line stage number name place = stage ++ codes " " ++ decimal number ++ codes " " ++ name
+    ++ codes " at " ++ decimal place ++ codes "\n"
 
 -- the line of a table's fault, and of a message's
 abbrev pub table_line : TableFault → List ℕ
-table_line f = refusal_line (codes "table") (table_faults.number_of f) (table_faults.name_of f) (table_faults.place_of f)
+table_line f =
+    refusal_line (codes "table") (table_faults.number_of f) (table_faults.name_of f)
+    (table_faults.place_of f)
 
 abbrev pub message_line : DecodeFault → List ℕ
-message_line f = refusal_line (codes "decode") (message_faults.number_of f) (message_faults.name_of f) (message_faults.place_of f)
+message_line f =
+    refusal_line (codes "decode") (message_faults.number_of f) (message_faults.name_of f)
+    (message_faults.place_of f)
 
--- the line for a root that the table of a file does not have; std tells what quoted names look like where all is ASCII
+-- the line for a root that the table of a file does not have; std tells what quoted names look like
+-- where all is ASCII
 abbrev pub no_root_line : (file root : List ℕ) → Option (List ℕ)
-no_root_line file root = option_append (Some (codes "error: ROOT: no root of ")) (option_append (debug_str file) (option_append (Some (codes " has the name ")) (option_append (debug_str root) (Some (codes "\n")))))
+no_root_line file root =
+    option_append (Some (codes "error: ROOT: no root of "))
+    (option_append (debug_str file)
+    (option_append (Some (codes " has the name "))
+    (option_append (debug_str root) (Some (codes "\n")))))
 
 -- what is said where memory ran out, and its line
 abbrev pub no_memory : List ℕ
@@ -71,14 +81,20 @@ CanEndRun _ = ⊤
 
 -- the line of the text that bytes and handles encode, as a value of the root's type
 pub data IsText (table root bytes : List ℕ) (handles : List HandleInfo) : List ℕ → Type 0 where
-  value : (entry : ℕ) (v : Value) → IsRootOf table root entry → Encodes (declarations_of table) (ty.named entry) v bytes handles
-      → IsText table root bytes handles (Text (declarations_of table) (ty.named entry) v ++ codes "\n")
+  value : (entry : ℕ) (v : Value) → IsRootOf table root entry
+      → Encodes (declarations_of table) (ty.named entry) v bytes handles
+      → IsText table root bytes handles
+          (Text (declarations_of table) (ty.named entry) v ++ codes "\n")
 
--- the lines that are true refusals: of a table, which is told by a rule that it breaks, or of a message that encodes no value of the root's type
+-- the lines that are true refusals: of a table, which is told by a rule that it breaks, or of a
+-- message that encodes no value of the root's type
 pub data IsRefusal (table root bytes : List ℕ) (handles : List HandleInfo) : List ℕ → Type 0 where
-  of_table : (fault : TableFault) → ¬ WellFormed table → Breaks table fault → IsRefusal table root bytes handles (table_line fault)
-  of_message : (entry : ℕ) (fault : DecodeFault) → IsRootOf table root entry → ¬ IsEncoding (declarations_of table) (ty.named entry) bytes handles
-      → IsTold (declarations_of table) (ty.named entry) bytes handles fault → IsRefusal table root bytes handles (message_line fault)
+  of_table : (fault : TableFault) → ¬ WellFormed table → Breaks table fault
+      → IsRefusal table root bytes handles (table_line fault)
+  of_message : (entry : ℕ) (fault : DecodeFault) → IsRootOf table root entry
+      → ¬ IsEncoding (declarations_of table) (ty.named entry) bytes handles
+      → IsTold (declarations_of table) (ty.named entry) bytes handles fault
+          → IsRefusal table root bytes handles (message_line fault)
 
 -- the same of a message with the name of its root
 abbrev pub IsTextOf : (table : List ℕ) → TypedMessage → List ℕ → Type 0

@@ -21,4 +21,5 @@ pub record IsHandleText (text : List ℕ) (h : HandleInfo) : Type 0 where
 
 -- one of the texts is not that of a handle
 abbrev pub HasNoHandleText : List (List ℕ) → Type 0
-HasNoHandleText texts = (at : ℕ) × (text : List ℕ) × (slice_get texts at ≡ Some text) × ((h : HandleInfo) → ¬ IsHandleText text h)
+HasNoHandleText texts = (at : ℕ) × (text : List ℕ) × (slice_get texts at ≡ Some text)
+    × ((h : HandleInfo) → ¬ IsHandleText text h)

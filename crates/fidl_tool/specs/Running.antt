@@ -16,7 +16,8 @@ abbrev pub IsGivenRefusal : DecodeArguments → (table : List ℕ) → List ℕ 
 IsGivenRefusal given table = IsRefusal table given.root.now given.bytes.items given.handles.items
 
 -- where the bytes of the arguments' file are known, this holds of them
-abbrev pub OfTable : (bytes_of : List ℕ → Option (List ℕ)) → DecodeArguments → (List ℕ → Type 0) → Type 0
+abbrev pub OfTable : (bytes_of : List ℕ → Option (List ℕ)) → DecodeArguments → (List ℕ → Type 0)
+    → Type 0
 OfTable bytes_of given Holds = IfSome (bytes_of given.table.now) Holds
 
 -- the words give arguments of `decode` of which this holds
@@ -25,4 +26,5 @@ Gives words Holds = (given : DecodeArguments) × IsGiven words given × Holds gi
 
 -- the words give no arguments, for a reason that has this outcome, and of which this holds
 abbrev pub GivesNone : List Text → Outcome → (Unread → Type 0) → Type 0
-GivesNone words ends Holds = (unread : Unread) × IsUngiven words unread × (outcome_of unread ≡ ends) × Holds unread
+GivesNone words ends Holds = (unread : Unread) × IsUngiven words unread × (outcome_of unread ≡ ends)
+    × Holds unread

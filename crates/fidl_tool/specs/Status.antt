@@ -3,7 +3,8 @@ use Rattle.std.specs.Prelude.{ℕ}
 use Rattle.fidl_tool.specs.declared.outcome.Outcome.{Outcome}
 use Rattle.fidl_tool.specs.declared.outcome.Outcome.TheVariants as outcome
 use Rattle.fidl_tool.specs.declared.outcome.Status.{Status}
-use Rattle.fidl_tool.specs.declared.outcome.Status.TheVariants.{Done, Refused, Usage, FileFault, Memory}
+use Rattle.fidl_tool.specs.declared.outcome.Status.TheVariants.{Done, Refused, Usage, FileFault}
+use Rattle.fidl_tool.specs.declared.outcome.Status.TheVariants.{Memory}
 
 -- the status that follows from what happened
 abbrev pub status_of : Outcome → Status

@@ -53,9 +53,10 @@ fn write_text<W: Write>(decoded: &Decoded<'_, '_, '_>, out: &mut Output<W>) -> R
 
 /// Prints the text of the value that a message encodes, by the type of a root of a table.
 ///
-/// `Done` where all of the text stands on `out`; `Refused` where the table is not accepted, or the message encodes no value
-/// of the type; `NoRoot` where the table has no such root. All but `Done` print one line on `errors`. `Unwritten` comes where
-/// a write of this call fails, and `NoMemory` where memory ran out.
+/// `Done` where all of the text stands on `out`; `Refused` where the table is not accepted, or the
+/// message encodes no value of the type; `NoRoot` where the table has no such root. All but `Done`
+/// print one line on `errors`. `Unwritten` comes where a write of this call fails, and `NoMemory`
+/// where memory ran out.
 pub fn decode<W: Write, E: Write>(
     alloc: Global,
     file: &File<'_>,

@@ -22,5 +22,6 @@ pub trait Files {
     fn read(&self, alloc: Global, name: &str) -> io::Result<Vec<u8>>
         ensures bytes { IfOk result (λ read. IfSome (bytes_of self.now name.now)
             (λ bytes. read.items ≡ bytes)) }
-        ensures fault { IfErr result (λ e. error_kind e ≢ error_kinds.OutOfMemory → bytes_of self.now name.now ≡ None) };
+        ensures fault { IfErr result
+            (λ e. error_kind e ≢ error_kinds.OutOfMemory → bytes_of self.now name.now ≡ None) };
 }

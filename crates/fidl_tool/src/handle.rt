@@ -16,7 +16,8 @@ fn read_number(text: &str) -> Option<u32>
     text.parse::<u32>().ok()
 }
 
-/// A handle written as `I:T:R`: its id, its object type and its rights, each a decimal number of 32 bits.
+/// A handle written as `I:T:R`: its id, its object type and its rights, each a decimal number of 32
+/// bits.
 pub fn read_handle(text: &str) -> Option<HandleInfo>
     ensures some { IfSome result (IsHandleText text.now) }
     ensures none { IfNone result ((h : HandleInfo) → IsHandleText text.now h → ⊥) }

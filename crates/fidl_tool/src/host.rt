@@ -61,7 +61,8 @@ fn run_words<W: Write, E: Write>(
     }
 }
 
-/// Runs the program: its words are those of the command line, and it prints on the standard output and the standard error.
+/// Runs the program: its words are those of the command line, and it prints on the standard output
+/// and the standard error.
 pub fn run_on_host(rt: &HostRuntime) -> Ran {
     let mut errors = Output::new(rt.stderr());
     let outcome = match BufWriter::new(rt.alloc(), rt.stdout()) {

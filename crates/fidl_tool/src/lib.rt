@@ -1,7 +1,8 @@
 //! The commands of the program `fidl`, as functions over values (docs/program.md).
 //!
-//! `decode` is a command: it takes files, arguments that were read already, and two outputs, and answers what happened,
-//! from which the exit status follows. `run` reads a command line and runs its command; `run_on_host` is the whole program.
+//! `decode` is a command: it takes files, arguments that were read already, and two outputs, and
+//! answers what happened, from which the exit status follows. `run` reads a command line and runs
+//! its command; `run_on_host` is the whole program.
 #![tactic(auto)]
 
 mod arguments;

@@ -20,7 +20,8 @@ pub(crate) fn write_text<W: Write>(out: &mut Output<W>, text: &str) -> Result<()
 
 /// A text and a line feed.
 pub(crate) fn write_line<E: Write>(errors: &mut Output<E>, text: &str) -> Result<(), Failed>
-    ensures line { OnOk result (Appends (E.contents errors.old.writer) (E.contents errors.new.writer)
+    ensures line { OnOk result
+        (Appends (E.contents errors.old.writer) (E.contents errors.new.writer)
         (text.now ++ codes "\n")) }
     ensures kept { OnOk result (errors.new.failure ≡ errors.old.failure) }
     ensures failed { OnErr result (IsSome errors.new.failure) }
@@ -38,7 +39,8 @@ pub(crate) fn write_refusal<E: Write>(
     name: &str,
     place: usize,
 ) -> Result<(), Failed>
-    ensures line { OnOk result (Appends (E.contents errors.old.writer) (E.contents errors.new.writer)
+    ensures line { OnOk result
+        (Appends (E.contents errors.old.writer) (E.contents errors.new.writer)
         (refusal_line stage.now number name.now place)) }
     ensures kept { OnOk result (errors.new.failure ≡ errors.old.failure) }
     ensures failed { OnErr result (IsSome errors.new.failure) }

@@ -61,7 +61,8 @@ impl<W: Write> Output<W> {
         }
     }
 
-    /// Writes all of the bytes, or a front of them and fails. A write that was interrupted is tried again.
+    /// Writes all of the bytes, or a front of them and fails. A write that was interrupted is tried
+    /// again.
     pub fn write_all(&mut self, bytes: &[u8]) -> Result<(), Failed>
         ensures bytes { Writes (W.contents self.old.writer) (W.contents self.new.writer)
             bytes.now result }
@@ -94,7 +95,8 @@ impl<W: Write> Output<W> {
         self.note(written)
     }
 
-    /// Writes a text and a line feed, as `writeln!` gives them. Where this fails, no contract says what was written.
+    /// Writes a text and a line feed, as `writeln!` gives them. Where this fails, no contract says
+    /// what was written.
     pub fn writeln<D: Display + Drop>(&mut self, text: D) -> Result<(), Failed>
         ensures bytes { OnOk result (IfSome (with_newline (D.output text))
             (Appends (W.contents self.old.writer) (W.contents self.new.writer))) }

@@ -10,7 +10,9 @@ ghost use Rattle.fidl_records.specs.Entry.{IsOf};
 ghost use Rattle.fidl_records.specs.WellFormed.{WellFormed};
 ghost use Rattle.fidl_view.specs.Parts.{numbers_of};
 ghost use Rattle.fidl_wire.specs.declared.limits.TheConstants.{MAX_NEST};
-ghost use Rattle.fidl_tool.specs.Parts.{HasPart, HasPartWithin, Prints, HasValueWithin, PrintsValue, HasElementsWithin, PrintsElements, HasMembersWithin, PrintsMembers};
+ghost use Rattle.fidl_tool.specs.Parts.{HasPart, HasPartWithin, Prints, HasValueWithin};
+ghost use Rattle.fidl_tool.specs.Parts.{PrintsValue, HasElementsWithin, PrintsElements};
+ghost use Rattle.fidl_tool.specs.Parts.{HasMembersWithin, PrintsMembers};
 ghost use Rattle.fidl_tool.specs.Outputs.{Writes};
 
 use crate::output::{Failed, Output};
@@ -90,7 +92,8 @@ fn write_handle_or_absent<W: Write>(view: View<'_, '_>, out: &mut Output<W>) -> 
     }
 }
 
-/// Writes the elements of an array, or of a vector that is there: values of an entry, of at most this depth.
+/// Writes the elements of an array, or of a vector that is there: values of an entry, of at most
+/// this depth.
 #[cycle(write)]
 fn write_elements<W: Write>(
     table: &Table<'_>,
@@ -117,7 +120,8 @@ fn write_elements<W: Write>(
     out.write_all(b"]")
 }
 
-/// Writes a struct of an entry, or such a struct in a box that is there: its members are of at most this depth.
+/// Writes a struct of an entry, or such a struct in a box that is there: its members are of at most
+/// this depth.
 #[cycle(write)]
 fn write_members<W: Write>(
     table: &Table<'_>,

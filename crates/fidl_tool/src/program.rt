@@ -21,7 +21,8 @@ use std::convert::AsStr;
 use std::io;
 use std::io::Write;
 
-/// Prints why there are no arguments: help and version on the output, all else as a line on the errors.
+/// Prints why there are no arguments: help and version on the output, all else as a line on the
+/// errors.
 pub(crate) fn tell<W: Write, E: Write>(
     unread: &Unread,
     out: &mut Output<W>,
@@ -130,7 +131,8 @@ pub fn run<S: AsStr, F: Files, W: Write, E: Write>(
         (λ given. F.bytes_of files.now given.table.now ≡ None) }
     ensures asked { result ≡ outcome.Asked → GivesNone (map S.text words.now) outcome.Asked
         (λ unread. Appends (W.contents out.old.writer) (W.contents out.new.writer) (text_of unread)) }
-    ensures wrong_line { result ≡ outcome.WrongLine → GivesNone (map S.text words.now) outcome.WrongLine
+    ensures wrong_line { result ≡ outcome.WrongLine
+        → GivesNone (map S.text words.now) outcome.WrongLine
         (λ unread. Appends (E.contents errors.old.writer) (E.contents errors.new.writer) (line_of unread)) }
     ensures unwritten { ReportsFailures result out.old.failure out.new.failure
         errors.old.failure errors.new.failure }

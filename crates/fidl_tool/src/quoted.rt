@@ -1,4 +1,5 @@
-//! Texts between quotes, and handles by their numbers (docs/wire.md, "The written text of a value").
+//! Texts between quotes, and handles by their numbers (docs/wire.md, "The written text of a
+//! value").
 ghost use Rattle.std.specs.Prelude.{◌≡◌, ◌++◌, ◌<◌, OnOk, OnErr, IsSome, flat_map, codes, decimal};
 ghost use Rattle.fidl_wire.specs.Text.{quoted_byte, handle_text, hex_digit};
 ghost use Rattle.fidl_tool.specs.Outputs.{Writes};

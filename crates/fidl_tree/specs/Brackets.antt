@@ -22,7 +22,8 @@ closes _ = false
 -- in no beginning of the words are more brackets left open than the limit
 abbrev pub IsWithinLimit : List Word → Type 0
 IsWithinLimit ws = (n : ℕ) →
-    count_by (λ w. opens w.kind) (take n ws) ≤ count_by (λ w. closes w.kind) (take n ws) + MAX_SOURCE_BRACKETS
+    count_by (λ w. opens w.kind) (take n ws)
+        ≤ count_by (λ w. closes w.kind) (take n ws) + MAX_SOURCE_BRACKETS
 
 -- a parenthesis that opens
 abbrev pub parenthesis : Word

@@ -13,7 +13,8 @@ next_constraint_leaves n = symbol kind.Comma n.comma ++ value_leaves n.value
 
 -- constraints = ":" value | ":" "<" value { next_constraint } ">"
 abbrev pub constraints_leaves : Constraints → List Leaf
-constraints_leaves (constraints.Single colon value) = symbol kind.Colon colon ++ value_leaves value.value
+constraints_leaves (constraints.Single colon value) = symbol kind.Colon colon
+    ++ value_leaves value.value
 constraints_leaves (constraints.List colon less first rest greater) =
     symbol kind.Colon colon ++ symbol kind.Less less ++ value_leaves first.value
     ++ joined (map next_constraint_leaves rest.items) ++ symbol kind.Greater greater

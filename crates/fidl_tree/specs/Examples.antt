@@ -15,16 +15,21 @@ use Rattle.fidl_tree.specs.declared.value_member.ValueMember.{ValueMember}
 use Rattle.fidl_tree.specs.declared.constraint.Constraints.{Constraints}
 use Rattle.fidl_tree.specs.declared.type_constructor.TypeConstructor.{TypeConstructor}
 use Rattle.fidl_tree.specs.declared.type_constructor.NamedType.{NamedType, roll-NamedType}
-use Rattle.fidl_tree.specs.declared.type_constructor.TypeArguments.{TypeArguments, roll-TypeArguments}
-use Rattle.fidl_tree.specs.declared.type_constructor.NextTypeArgument.{NextTypeArgument, roll-NextTypeArgument}
+use Rattle.fidl_tree.specs.declared.type_constructor.TypeArguments.{TypeArguments}
+use Rattle.fidl_tree.specs.declared.type_constructor.TypeArguments.{roll-TypeArguments}
+use Rattle.fidl_tree.specs.declared.type_constructor.NextTypeArgument.{NextTypeArgument}
+use Rattle.fidl_tree.specs.declared.type_constructor.NextTypeArgument.{roll-NextTypeArgument}
 use Rattle.fidl_tree.specs.declared.type_constructor.TypeArgument.{TypeArgument, roll-TypeArgument}
 use Rattle.fidl_tree.specs.declared.type_constructor.ValuesLayout.{ValuesLayout, roll-ValuesLayout}
 use Rattle.fidl_tree.specs.declared.type_constructor.StructLayout.{StructLayout, roll-StructLayout}
 use Rattle.fidl_tree.specs.declared.type_constructor.UnionLayout.{UnionLayout, roll-UnionLayout}
 use Rattle.fidl_tree.specs.declared.type_constructor.LayoutBody.{LayoutBody, roll-LayoutBody}
-use Rattle.fidl_tree.specs.declared.type_constructor.LayoutBody.TheOpen.{TypeArgument-F, LayoutBody-F, OrdinalBody-F}
+use Rattle.fidl_tree.specs.declared.type_constructor.LayoutBody.TheOpen.{TypeArgument-F}
+use Rattle.fidl_tree.specs.declared.type_constructor.LayoutBody.TheOpen.{LayoutBody-F}
+use Rattle.fidl_tree.specs.declared.type_constructor.LayoutBody.TheOpen.{OrdinalBody-F}
 use Rattle.fidl_tree.specs.declared.type_constructor.Member.{Member}
-use Rattle.fidl_tree.specs.declared.type_constructor.OrdinalMember.{OrdinalMember, roll-OrdinalMember}
+use Rattle.fidl_tree.specs.declared.type_constructor.OrdinalMember.{OrdinalMember}
+use Rattle.fidl_tree.specs.declared.type_constructor.OrdinalMember.{roll-OrdinalMember}
 use Rattle.fidl_tree.specs.declared.type_constructor.OrdinalBody.{roll-OrdinalBody}
 
 -- a word at the start
@@ -37,13 +42,15 @@ path_or path rest = roll-Value record { first = roll-Operand (Operand-F.Path pat
 
 -- `| number`
 abbrev pub or_number : Span → OrOperand
-or_number digits = roll-OrOperand record { bar = word; operand = roll-Operand (Operand-F.Number None digits) }
+or_number digits =
+    roll-OrOperand record { bar = word; operand = roll-Operand (Operand-F.Number None digits) }
 
 -- `name<..>:..`, with these arguments and constraints
 abbrev pub named_with : Path → Box TypeArgument → Vec NextTypeArgument → Constraints → NamedType
 named_with path first rest constraints = roll-NamedType record {
   path = path;
-  arguments = Some (roll-TypeArguments record { less = word; first = first; rest = rest; greater = word });
+  arguments =
+      Some (roll-TypeArguments record { less = word; first = first; rest = rest; greater = word });
   constraints = Some constraints;
 }
 
@@ -52,7 +59,9 @@ abbrev pub type_tree : TypeConstructor → TypeArgument
 type_tree t = roll-TypeArgument (TypeArgument-F.Type t)
 
 abbrev pub next_number : Span → NextTypeArgument
-next_number n = roll-NextTypeArgument record { comma = word; argument = roll-TypeArgument (TypeArgument-F.Number n) }
+next_number n =
+    roll-NextTypeArgument
+    record { comma = word; argument = roll-TypeArgument (TypeArgument-F.Number n) }
 
 -- `struct {..}`
 abbrev pub struct_with : Vec Member → LayoutBody

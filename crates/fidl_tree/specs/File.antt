@@ -15,7 +15,8 @@ use Rattle.fidl_tree.specs.declared.file.ImportAlias.{ImportAlias}
 -- library = attributes "library" path ";"
 abbrev pub library_leaves : Library → List Leaf
 library_leaves l =
-    attributes_leaves l.attributes.items ++ keyword (codes "library") l.keyword ++ path_leaves l.path
+    attributes_leaves l.attributes.items ++ keyword (codes "library") l.keyword
+        ++ path_leaves l.path
     ++ symbol kind.Semicolon l.semicolon
 
 -- import_alias = "as" ident

@@ -9,7 +9,8 @@ use Rattle.fidl_tree.specs.declared.keyword.Openness.TheVariants.{Open, Ajar, Cl
 use Rattle.fidl_tree.specs.declared.keyword.ValuesKeyword.{ValuesKeyword}
 use Rattle.fidl_tree.specs.declared.keyword.ValuesKeyword.TheVariants.{Bits, Enum}
 use Rattle.fidl_tree.specs.declared.keyword.UnionModifiers.{UnionModifiers}
-use Rattle.fidl_tree.specs.declared.keyword.UnionModifiers.TheVariants.{StrictnessFirst, ResourceFirst}
+use Rattle.fidl_tree.specs.declared.keyword.UnionModifiers.TheVariants.{StrictnessFirst}
+use Rattle.fidl_tree.specs.declared.keyword.UnionModifiers.TheVariants.{ResourceFirst}
 
 -- strictness = "strict" | "flexible"
 abbrev pub strictness_leaves : Strictness → List Leaf
@@ -35,4 +36,5 @@ values_keyword_leaves (Enum s) = keyword (codes "enum") s
 abbrev pub union_modifiers_leaves : UnionModifiers → List Leaf
 union_modifiers_leaves (StrictnessFirst strictness resource) =
     optional strictness_leaves strictness ++ optional resource_leaves resource
-union_modifiers_leaves (ResourceFirst resource strictness) = resource_leaves resource ++ strictness_leaves strictness
+union_modifiers_leaves (ResourceFirst resource strictness) = resource_leaves resource
+    ++ strictness_leaves strictness

@@ -1,5 +1,7 @@
--- The leaves of a syntax tree (docs/language.md, "Grammar"): its words, each with what the grammar asks of its text.
-use Rattle.std.specs.Prelude.{ℕ, ◌-◌, ◌≡◌, ◌≢◌, ⊤, List, [], ◌∷◌, ◌++◌, map, take, drop, Option, None, Some}
+-- The leaves of a syntax tree (docs/language.md, "Grammar"): its words, each with what the grammar
+-- asks of its text.
+use Rattle.std.specs.Prelude.{ℕ, ◌-◌, ◌≡◌, ◌≢◌, ⊤, List, [], ◌∷◌, ◌++◌, map, take, drop, Option}
+use Rattle.std.specs.Prelude.{None, Some}
 use Rattle.std.specs.List.{AllByRecursion}
 use Rattle.fidl_span.specs.declared.words.Span.{Span}
 use Rattle.fidl_span.specs.declared.words.Word.{Word}

@@ -1,5 +1,6 @@
--- The members of protocols (docs/language.md, "Grammar"). Method names: `compose`, `strict` and `flexible` before `(`
--- are names of methods, since no production has `(` behind these words but where they are a method's name.
+-- The members of protocols (docs/language.md, "Grammar"). Method names: `compose`, `strict` and
+-- `flexible` before `(` are names of methods, since no production has `(` behind these words but
+-- where they are a method's name.
 use Rattle.std.specs.Prelude.{List, ◌++◌, codes}
 use Rattle.fidl_span.specs.declared.words.WordKind.TheVariants as kind
 use Rattle.fidl_tree.specs.Leaf.{Leaf, symbol, name, keyword, optional}
@@ -20,7 +21,8 @@ use Rattle.fidl_tree.specs.declared.protocol.Payload.{Payload}
 -- payload = "(" [type] ")"
 abbrev pub payload_leaves : Payload → List Leaf
 payload_leaves p =
-    symbol kind.LeftParenthesis p.left ++ optional type_leaves p.constructor ++ symbol kind.RightParenthesis p.right
+    symbol kind.LeftParenthesis p.left ++ optional type_leaves p.constructor
+        ++ symbol kind.RightParenthesis p.right
 
 -- compose = "compose" path
 abbrev pub compose_leaves : Compose → List Leaf
@@ -32,7 +34,8 @@ error_type_leaves e = keyword (codes "error") e.keyword ++ type_leaves e.constru
 
 -- response = "->" payload [error_type]
 abbrev pub response_leaves : Response → List Leaf
-response_leaves r = symbol kind.Arrow r.arrow ++ payload_leaves r.payload ++ optional error_type_leaves r.error
+response_leaves r = symbol kind.Arrow r.arrow ++ payload_leaves r.payload
+    ++ optional error_type_leaves r.error
 
 -- method = [strictness] ident payload [response]
 abbrev pub method_leaves : Method → List Leaf
@@ -43,7 +46,8 @@ method_leaves m =
 -- event = [strictness] "->" ident payload
 abbrev pub event_leaves : Event → List Leaf
 event_leaves e =
-    optional strictness_leaves e.strictness ++ symbol kind.Arrow e.arrow ++ name e.name ++ payload_leaves e.payload
+    optional strictness_leaves e.strictness ++ symbol kind.Arrow e.arrow ++ name e.name
+        ++ payload_leaves e.payload
 
 -- protocol_member_body = compose | method | event
 abbrev pub protocol_member_body_leaves : ProtocolMemberBody → List Leaf
@@ -54,4 +58,5 @@ protocol_member_body_leaves (body.Event event) = event_leaves event
 -- protocol_member = attributes protocol_member_body ";"
 abbrev pub protocol_member_leaves : ProtocolMember → List Leaf
 protocol_member_leaves m =
-    attributes_leaves m.attributes.items ++ protocol_member_body_leaves m.body ++ symbol kind.Semicolon m.semicolon
+    attributes_leaves m.attributes.items ++ protocol_member_body_leaves m.body
+        ++ symbol kind.Semicolon m.semicolon

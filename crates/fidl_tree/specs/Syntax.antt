@@ -1,5 +1,6 @@
--- A source file as plain data: what its meaning depends on (docs/language.md, "Syntax"). Names, numbers and strings are
--- spans, whose texts are those of the file's source; the other spans are where faults may point.
+-- A source file as plain data: what its meaning depends on (docs/language.md, "Syntax"). Names,
+-- numbers and strings are spans, whose texts are those of the file's source; the other spans are
+-- where faults may point.
 use Rattle.std.specs.Prelude.{ℕ, Bool, List, [], ◌∷◌, Option}
 use Rattle.fidl_span.specs.declared.words.Span.{Span}
 
@@ -67,7 +68,8 @@ mutual
   -- a layout, with the place of its keyword
   pub data Layout : Type 0 where
     -- bits or an enum
-    values_layout : ValuesKind → (strict : Bool) → (keyword : Span) → Underlying → List ValueMember → Layout
+    values_layout : ValuesKind → (strict : Bool) → (keyword : Span) → Underlying → List ValueMember
+        → Layout
     struct_layout : (resource : Bool) → (keyword : Span) → Members → Layout
     table_layout : (resource : Bool) → (keyword : Span) → Members → Layout
     union_layout : (strict resource : Bool) → (keyword : Span) → Members → Layout
@@ -100,8 +102,10 @@ pub record Response : Type 0 where
 pub data ProtocolMember : Type 0 where
   compose_member : List Attribute → Path → ProtocolMember
   method_member :
-      List Attribute → (strict : Bool) → (name : Span) → (request : Option TypeUse) → Option Response → ProtocolMember
-  event_member : List Attribute → (strict : Bool) → (name : Span) → (payload : Option TypeUse) → ProtocolMember
+      List Attribute → (strict : Bool) → (name : Span) → (request : Option TypeUse)
+          → Option Response → ProtocolMember
+  event_member : List Attribute → (strict : Bool) → (name : Span) → (payload : Option TypeUse)
+      → ProtocolMember
 
 pub data Openness : Type 0 where
   open_protocol : Openness

@@ -1,12 +1,14 @@
--- Types and layouts (docs/language.md, "Grammar"). Since they hold one another, a step says which leaves one level has,
--- with the leaves of each part in the part's place, and the leaves of a whole type are those by all steps together.
+-- Types and layouts (docs/language.md, "Grammar"). Since they hold one another, a step says which
+-- leaves one level has, with the leaves of each part in the part's place, and the leaves of a whole
+-- type are those by all steps together.
 use Rattle.std.specs.Prelude.{ℕ, List, [], ◌∷◌, ◌++◌, Option, map, codes}
 use Rattle.fidl_span.specs.declared.words.WordKind.TheVariants as kind
 use Rattle.fidl_tree.specs.Leaf.{Leaf, none_of, symbol, name, keyword, optional, joined, braced}
 use Rattle.fidl_tree.specs.Path.{path_from}
 use Rattle.fidl_tree.specs.Attribute.{attributes_leaves}
 use Rattle.fidl_tree.specs.Constraint.{constraints_leaves}
-use Rattle.fidl_tree.specs.Keyword.{strictness_leaves, resource_leaves, values_keyword_leaves, union_modifiers_leaves}
+use Rattle.fidl_tree.specs.Keyword.{strictness_leaves, resource_leaves, values_keyword_leaves}
+use Rattle.fidl_tree.specs.Keyword.{union_modifiers_leaves}
 use Rattle.fidl_tree.specs.ValueMember.{value_member_leaves}
 use Rattle.fidl_tree.specs.declared.type_constructor.TypeConstructor.{TypeConstructor}
 use Rattle.fidl_tree.specs.declared.type_constructor.NamedType.{NamedType}
@@ -23,19 +25,33 @@ use Rattle.fidl_tree.specs.declared.type_constructor.Underlying.{Underlying}
 use Rattle.fidl_tree.specs.declared.type_constructor.Member.{Member}
 use Rattle.fidl_tree.specs.declared.type_constructor.OrdinalMember.{OrdinalMember}
 use Rattle.fidl_tree.specs.declared.type_constructor.OrdinalBody.{OrdinalBody}
-use Rattle.fidl_tree.specs.declared.type_constructor.LayoutBody.TheOpen.{TypeConstructor-F, NamedType-F}
-use Rattle.fidl_tree.specs.declared.type_constructor.LayoutBody.TheOpen.{TypeArguments-F, NextTypeArgument-F}
-use Rattle.fidl_tree.specs.declared.type_constructor.LayoutBody.TheOpen.{TypeArgument-F, Layout-F, LayoutBody-F}
-use Rattle.fidl_tree.specs.declared.type_constructor.LayoutBody.TheOpen.{ValuesLayout-F, StructLayout-F}
-use Rattle.fidl_tree.specs.declared.type_constructor.LayoutBody.TheOpen.{TableLayout-F, UnionLayout-F, Underlying-F}
-use Rattle.fidl_tree.specs.declared.type_constructor.LayoutBody.TheOpen.{Member-F, OrdinalMember-F, OrdinalBody-F}
-use Rattle.fidl_tree.specs.declared.type_constructor.LayoutBody.TheFolds.{fold-TypeConstructor, fold-NamedType}
-use Rattle.fidl_tree.specs.declared.type_constructor.LayoutBody.TheFolds.{fold-TypeArguments, fold-NextTypeArgument}
-use Rattle.fidl_tree.specs.declared.type_constructor.LayoutBody.TheFolds.{fold-TypeArgument, fold-Layout}
-use Rattle.fidl_tree.specs.declared.type_constructor.LayoutBody.TheFolds.{fold-LayoutBody, fold-ValuesLayout}
-use Rattle.fidl_tree.specs.declared.type_constructor.LayoutBody.TheFolds.{fold-StructLayout, fold-TableLayout}
-use Rattle.fidl_tree.specs.declared.type_constructor.LayoutBody.TheFolds.{fold-UnionLayout, fold-Underlying}
-use Rattle.fidl_tree.specs.declared.type_constructor.LayoutBody.TheFolds.{fold-Member, fold-OrdinalMember}
+use Rattle.fidl_tree.specs.declared.type_constructor.LayoutBody.TheOpen.{TypeConstructor-F}
+use Rattle.fidl_tree.specs.declared.type_constructor.LayoutBody.TheOpen.{NamedType-F}
+use Rattle.fidl_tree.specs.declared.type_constructor.LayoutBody.TheOpen.{TypeArguments-F}
+use Rattle.fidl_tree.specs.declared.type_constructor.LayoutBody.TheOpen.{NextTypeArgument-F}
+use Rattle.fidl_tree.specs.declared.type_constructor.LayoutBody.TheOpen.{TypeArgument-F, Layout-F}
+use Rattle.fidl_tree.specs.declared.type_constructor.LayoutBody.TheOpen.{LayoutBody-F}
+use Rattle.fidl_tree.specs.declared.type_constructor.LayoutBody.TheOpen.{ValuesLayout-F}
+use Rattle.fidl_tree.specs.declared.type_constructor.LayoutBody.TheOpen.{StructLayout-F}
+use Rattle.fidl_tree.specs.declared.type_constructor.LayoutBody.TheOpen.{TableLayout-F}
+use Rattle.fidl_tree.specs.declared.type_constructor.LayoutBody.TheOpen.{UnionLayout-F}
+use Rattle.fidl_tree.specs.declared.type_constructor.LayoutBody.TheOpen.{Underlying-F}
+use Rattle.fidl_tree.specs.declared.type_constructor.LayoutBody.TheOpen.{Member-F, OrdinalMember-F}
+use Rattle.fidl_tree.specs.declared.type_constructor.LayoutBody.TheOpen.{OrdinalBody-F}
+use Rattle.fidl_tree.specs.declared.type_constructor.LayoutBody.TheFolds.{fold-TypeConstructor}
+use Rattle.fidl_tree.specs.declared.type_constructor.LayoutBody.TheFolds.{fold-NamedType}
+use Rattle.fidl_tree.specs.declared.type_constructor.LayoutBody.TheFolds.{fold-TypeArguments}
+use Rattle.fidl_tree.specs.declared.type_constructor.LayoutBody.TheFolds.{fold-NextTypeArgument}
+use Rattle.fidl_tree.specs.declared.type_constructor.LayoutBody.TheFolds.{fold-TypeArgument}
+use Rattle.fidl_tree.specs.declared.type_constructor.LayoutBody.TheFolds.{fold-Layout}
+use Rattle.fidl_tree.specs.declared.type_constructor.LayoutBody.TheFolds.{fold-LayoutBody}
+use Rattle.fidl_tree.specs.declared.type_constructor.LayoutBody.TheFolds.{fold-ValuesLayout}
+use Rattle.fidl_tree.specs.declared.type_constructor.LayoutBody.TheFolds.{fold-StructLayout}
+use Rattle.fidl_tree.specs.declared.type_constructor.LayoutBody.TheFolds.{fold-TableLayout}
+use Rattle.fidl_tree.specs.declared.type_constructor.LayoutBody.TheFolds.{fold-UnionLayout}
+use Rattle.fidl_tree.specs.declared.type_constructor.LayoutBody.TheFolds.{fold-Underlying}
+use Rattle.fidl_tree.specs.declared.type_constructor.LayoutBody.TheFolds.{fold-Member}
+use Rattle.fidl_tree.specs.declared.type_constructor.LayoutBody.TheFolds.{fold-OrdinalMember}
 use Rattle.fidl_tree.specs.declared.type_constructor.LayoutBody.TheFolds.{fold-OrdinalBody}
 
 abbrev L : Type 0
@@ -43,7 +59,8 @@ L = List Leaf
 
 -- one level of a type of the tree, with leaves in the place of each part
 abbrev Level :
-    (Type 0 → Type 0 → Type 0 → Type 0 → Type 0 → Type 0 → Type 0 → Type 0 → Type 0 → Type 0 → Type 0 → Type 0 → Type 0
+    (Type 0 → Type 0 → Type 0 → Type 0 → Type 0 → Type 0 → Type 0 → Type 0 → Type 0 → Type 0
+        → Type 0 → Type 0 → Type 0
     → Type 0 → Type 0 → Type 0)
     → Type 0
 Level F = F L L L L L L L L L L L L L L L
@@ -52,24 +69,29 @@ Level F = F L L L L L L L L L L L L L L L
 abbrev given : Option L → L
 given = optional (λ part. part)
 
--- Layout words: where a type may stand these always begin a layout, so a named type does not begin with them.
+-- Layout words: where a type may stand these always begin a layout, so a named type does not begin
+-- with them.
 abbrev layout_words : List (List ℕ)
 layout_words =
-    codes "bits" ∷ codes "enum" ∷ codes "struct" ∷ codes "table" ∷ codes "union" ∷ codes "strict" ∷ codes "flexible"
+    codes "bits" ∷ codes "enum" ∷ codes "struct" ∷ codes "table" ∷ codes "union" ∷ codes "strict"
+        ∷ codes "flexible"
     ∷ codes "resource" ∷ []
 
 -- type = layout [constraints] | named
 abbrev type_step : Level TypeConstructor-F → L
-type_step (TypeConstructor-F.Layout layout constraints) = layout.value ++ optional constraints_leaves constraints
+type_step (TypeConstructor-F.Layout layout constraints) = layout.value
+    ++ optional constraints_leaves constraints
 type_step (TypeConstructor-F.Named named) = named.value
 
 -- named = path [type_arguments] [constraints]
 abbrev named_step : Level NamedType-F → L
-named_step n = path_from (none_of layout_words) n.path ++ given n.arguments ++ optional constraints_leaves n.constraints
+named_step n = path_from (none_of layout_words) n.path ++ given n.arguments
+    ++ optional constraints_leaves n.constraints
 
 -- type_arguments = "<" type_argument { next_type_argument } ">"
 abbrev type_arguments_step : Level TypeArguments-F → L
-type_arguments_step a = symbol kind.Less a.less ++ a.first.value ++ joined a.rest.items ++ symbol kind.Greater a.greater
+type_arguments_step a = symbol kind.Less a.less ++ a.first.value ++ joined a.rest.items
+    ++ symbol kind.Greater a.greater
 
 -- next_type_argument = "," type_argument
 abbrev next_type_argument_step : Level NextTypeArgument-F → L
@@ -80,7 +102,8 @@ abbrev type_argument_step : Level TypeArgument-F → L
 type_argument_step (TypeArgument-F.Number number) = symbol kind.Number number
 type_argument_step (TypeArgument-F.Type constructor) = constructor
 
--- layout = attributes layout_body. Attributes of a layout: those before its first word belong to it.
+-- layout = attributes layout_body. Attributes of a layout: those before its first word belong to
+-- it.
 abbrev layout_step : Level Layout-F → L
 layout_step l = attributes_leaves l.attributes.items ++ l.body
 
@@ -115,19 +138,22 @@ union_layout_step l =
     union_modifiers_leaves l.modifiers ++ keyword (codes "union") l.keyword
     ++ braced l.left (joined l.members.items) l.right
 
--- underlying = ":" named. Underlying type: a colon behind `bits` or `enum` gives it, and it is never a layout.
+-- underlying = ":" named. Underlying type: a colon behind `bits` or `enum` gives it, and it is
+-- never a layout.
 abbrev underlying_step : Level Underlying-F → L
 underlying_step u = symbol kind.Colon u.colon ++ u.named
 
 -- member = attributes ident type ";"
 abbrev member_step : Level Member-F → L
 member_step m =
-    attributes_leaves m.attributes.items ++ name m.name ++ m.constructor ++ symbol kind.Semicolon m.semicolon
+    attributes_leaves m.attributes.items ++ name m.name ++ m.constructor
+        ++ symbol kind.Semicolon m.semicolon
 
 -- ordinal_member = attributes number ":" ordinal_body ";"
 abbrev ordinal_member_step : Level OrdinalMember-F → L
 ordinal_member_step m =
-    attributes_leaves m.attributes.items ++ symbol kind.Number m.ordinal ++ symbol kind.Colon m.colon ++ m.body
+    attributes_leaves m.attributes.items ++ symbol kind.Number m.ordinal
+        ++ symbol kind.Colon m.colon ++ m.body
     ++ symbol kind.Semicolon m.semicolon
 
 -- ordinal_body = "reserved" | ident type
@@ -157,8 +183,10 @@ abbrev by_steps : {R : Type 0}
     → R)
     → R
 by_steps fold =
-    fold layout_body_step ordinal_body_step type_argument_step type_step layout_step member_step named_step
-    next_type_argument_step ordinal_member_step struct_layout_step table_layout_step type_arguments_step
+    fold layout_body_step ordinal_body_step type_argument_step type_step layout_step member_step
+        named_step
+    next_type_argument_step ordinal_member_step struct_layout_step table_layout_step
+        type_arguments_step
     underlying_step union_layout_step values_layout_step
 
 abbrev pub type_leaves : TypeConstructor → List Leaf

@@ -1,6 +1,8 @@
--- The plain data that a tree of the code represents (docs/language.md, "Syntax"). Since types hold one another, a step
--- gives it for one level, with what the parts represent in their places; all steps together give it for a whole type.
-use Rattle.std.specs.Prelude.{ℕ, Bool, true, false, List, [], ◌∷◌, Option, Some, None, map, option_map, is_some}
+-- The plain data that a tree of the code represents (docs/language.md, "Syntax"). Since types hold
+-- one another, a step gives it for one level, with what the parts represent in their places; all
+-- steps together give it for a whole type.
+use Rattle.std.specs.Prelude.{ℕ, Bool, true, false, List, [], ◌∷◌, Option, Some, None, map}
+use Rattle.std.specs.Prelude.{option_map, is_some}
 use Rattle.fidl_span.specs.declared.words.Span.{Span}
 use Rattle.fidl_tree.specs.Syntax as plain
 use Rattle.fidl_tree.specs.declared.path.Path.{Path}
@@ -12,12 +14,14 @@ use Rattle.fidl_tree.specs.declared.keyword.Openness.TheVariants.{Open, Ajar, Cl
 use Rattle.fidl_tree.specs.declared.keyword.ValuesKeyword.{ValuesKeyword}
 use Rattle.fidl_tree.specs.declared.keyword.ValuesKeyword.TheVariants.{Bits, Enum}
 use Rattle.fidl_tree.specs.declared.keyword.UnionModifiers.{UnionModifiers}
-use Rattle.fidl_tree.specs.declared.keyword.UnionModifiers.TheVariants.{StrictnessFirst, ResourceFirst}
+use Rattle.fidl_tree.specs.declared.keyword.UnionModifiers.TheVariants.{StrictnessFirst}
+use Rattle.fidl_tree.specs.declared.keyword.UnionModifiers.TheVariants.{ResourceFirst}
 use Rattle.fidl_tree.specs.declared.value.Value.{Value}
 use Rattle.fidl_tree.specs.declared.value.OrOperand.{OrOperand}
 use Rattle.fidl_tree.specs.declared.value.Operand.{Operand}
 use Rattle.fidl_tree.specs.declared.value.Operand.TheOpen.{Value-F, OrOperand-F, Operand-F}
-use Rattle.fidl_tree.specs.declared.value.Operand.TheFolds.{fold-Value, fold-OrOperand, fold-Operand}
+use Rattle.fidl_tree.specs.declared.value.Operand.TheFolds.{fold-Value, fold-OrOperand}
+use Rattle.fidl_tree.specs.declared.value.Operand.TheFolds.{fold-Operand}
 use Rattle.fidl_tree.specs.declared.attribute.Attribute.{Attribute}
 use Rattle.fidl_tree.specs.declared.attribute.Arguments.{Arguments}
 use Rattle.fidl_tree.specs.declared.attribute.ArgumentList.{ArgumentList}
@@ -38,17 +42,29 @@ use Rattle.fidl_tree.specs.declared.type_constructor.LayoutBody.{LayoutBody}
 use Rattle.fidl_tree.specs.declared.type_constructor.ValuesLayout.{ValuesLayout}
 use Rattle.fidl_tree.specs.declared.type_constructor.Member.{Member}
 use Rattle.fidl_tree.specs.declared.type_constructor.OrdinalMember.{OrdinalMember}
-use Rattle.fidl_tree.specs.declared.type_constructor.LayoutBody.TheOpen.{TypeConstructor-F, NamedType-F}
-use Rattle.fidl_tree.specs.declared.type_constructor.LayoutBody.TheOpen.{TypeArguments-F, NextTypeArgument-F}
-use Rattle.fidl_tree.specs.declared.type_constructor.LayoutBody.TheOpen.{TypeArgument-F, Layout-F, LayoutBody-F}
-use Rattle.fidl_tree.specs.declared.type_constructor.LayoutBody.TheOpen.{ValuesLayout-F, StructLayout-F}
-use Rattle.fidl_tree.specs.declared.type_constructor.LayoutBody.TheOpen.{TableLayout-F, UnionLayout-F, Underlying-F}
-use Rattle.fidl_tree.specs.declared.type_constructor.LayoutBody.TheOpen.{Member-F, OrdinalMember-F, OrdinalBody-F}
-use Rattle.fidl_tree.specs.declared.type_constructor.LayoutBody.TheFolds.{fold-TypeConstructor, fold-NamedType}
-use Rattle.fidl_tree.specs.declared.type_constructor.LayoutBody.TheFolds.{fold-TypeArguments, fold-NextTypeArgument}
-use Rattle.fidl_tree.specs.declared.type_constructor.LayoutBody.TheFolds.{fold-TypeArgument, fold-Layout}
-use Rattle.fidl_tree.specs.declared.type_constructor.LayoutBody.TheFolds.{fold-LayoutBody, fold-ValuesLayout}
-use Rattle.fidl_tree.specs.declared.type_constructor.LayoutBody.TheFolds.{fold-Member, fold-OrdinalMember}
+use Rattle.fidl_tree.specs.declared.type_constructor.LayoutBody.TheOpen.{TypeConstructor-F}
+use Rattle.fidl_tree.specs.declared.type_constructor.LayoutBody.TheOpen.{NamedType-F}
+use Rattle.fidl_tree.specs.declared.type_constructor.LayoutBody.TheOpen.{TypeArguments-F}
+use Rattle.fidl_tree.specs.declared.type_constructor.LayoutBody.TheOpen.{NextTypeArgument-F}
+use Rattle.fidl_tree.specs.declared.type_constructor.LayoutBody.TheOpen.{TypeArgument-F, Layout-F}
+use Rattle.fidl_tree.specs.declared.type_constructor.LayoutBody.TheOpen.{LayoutBody-F}
+use Rattle.fidl_tree.specs.declared.type_constructor.LayoutBody.TheOpen.{ValuesLayout-F}
+use Rattle.fidl_tree.specs.declared.type_constructor.LayoutBody.TheOpen.{StructLayout-F}
+use Rattle.fidl_tree.specs.declared.type_constructor.LayoutBody.TheOpen.{TableLayout-F}
+use Rattle.fidl_tree.specs.declared.type_constructor.LayoutBody.TheOpen.{UnionLayout-F}
+use Rattle.fidl_tree.specs.declared.type_constructor.LayoutBody.TheOpen.{Underlying-F}
+use Rattle.fidl_tree.specs.declared.type_constructor.LayoutBody.TheOpen.{Member-F, OrdinalMember-F}
+use Rattle.fidl_tree.specs.declared.type_constructor.LayoutBody.TheOpen.{OrdinalBody-F}
+use Rattle.fidl_tree.specs.declared.type_constructor.LayoutBody.TheFolds.{fold-TypeConstructor}
+use Rattle.fidl_tree.specs.declared.type_constructor.LayoutBody.TheFolds.{fold-NamedType}
+use Rattle.fidl_tree.specs.declared.type_constructor.LayoutBody.TheFolds.{fold-TypeArguments}
+use Rattle.fidl_tree.specs.declared.type_constructor.LayoutBody.TheFolds.{fold-NextTypeArgument}
+use Rattle.fidl_tree.specs.declared.type_constructor.LayoutBody.TheFolds.{fold-TypeArgument}
+use Rattle.fidl_tree.specs.declared.type_constructor.LayoutBody.TheFolds.{fold-Layout}
+use Rattle.fidl_tree.specs.declared.type_constructor.LayoutBody.TheFolds.{fold-LayoutBody}
+use Rattle.fidl_tree.specs.declared.type_constructor.LayoutBody.TheFolds.{fold-ValuesLayout}
+use Rattle.fidl_tree.specs.declared.type_constructor.LayoutBody.TheFolds.{fold-Member}
+use Rattle.fidl_tree.specs.declared.type_constructor.LayoutBody.TheFolds.{fold-OrdinalMember}
 use Rattle.fidl_tree.specs.declared.protocol.ProtocolMember.{ProtocolMember}
 use Rattle.fidl_tree.specs.declared.protocol.ProtocolMemberBody.{ProtocolMemberBody}
 use Rattle.fidl_tree.specs.declared.protocol.ProtocolMemberBody.TheVariants as protocol
@@ -101,12 +117,14 @@ abbrev pub argument_name_view : ArgumentName → Span
 argument_name_view n = n.name
 
 abbrev pub attribute_argument_view : Argument → plain.AttributeArgument
-attribute_argument_view a = record { name = option_map argument_name_view a.name; value = value_view a.value }
+attribute_argument_view a =
+    record { name = option_map argument_name_view a.name; value = value_view a.value }
 
 abbrev pub argument_list_view : Option ArgumentList → List plain.AttributeArgument
 argument_list_view None = []
 argument_list_view (Some l) =
-    attribute_argument_view l.first ∷ map (λ (n : NextArgument). attribute_argument_view n.argument) l.rest.items
+    attribute_argument_view l.first
+        ∷ map (λ (n : NextArgument). attribute_argument_view n.argument) l.rest.items
 
 abbrev pub attribute_arguments_view : Option Arguments → List plain.AttributeArgument
 attribute_arguments_view None = []
@@ -165,11 +183,13 @@ AtOrdinal = List plain.Attribute → Span → plain.Member
 
 -- one level of a type of the tree, with what its parts represent in their places
 abbrev Level :
-    (Type 0 → Type 0 → Type 0 → Type 0 → Type 0 → Type 0 → Type 0 → Type 0 → Type 0 → Type 0 → Type 0 → Type 0 → Type 0
+    (Type 0 → Type 0 → Type 0 → Type 0 → Type 0 → Type 0 → Type 0 → Type 0 → Type 0 → Type 0
+        → Type 0 → Type 0 → Type 0
     → Type 0 → Type 0 → Type 0)
     → Type 0
 Level F =
-    F plain.Layout AtOrdinal plain.Argument plain.TypeUse WithAttributes plain.Member plain.TypeUse plain.Argument
+    F plain.Layout AtOrdinal plain.Argument plain.TypeUse WithAttributes plain.Member plain.TypeUse
+        plain.Argument
     plain.Member plain.Layout plain.Layout plain.Arguments plain.TypeUse plain.Layout plain.Layout
 
 abbrev type_step : Level TypeConstructor-F → plain.TypeUse
@@ -182,7 +202,8 @@ in_brackets None = plain.no_arguments
 in_brackets (Some arguments) = arguments
 
 abbrev named_step : Level NamedType-F → plain.TypeUse
-named_step n = plain.named_type (path_view n.path) (in_brackets n.arguments) (constraints_view n.constraints)
+named_step n =
+    plain.named_type (path_view n.path) (in_brackets n.arguments) (constraints_view n.constraints)
 
 abbrev type_arguments_step : Level TypeArguments-F → plain.Arguments
 type_arguments_step a = plain.next_argument a.first.value (plain.arguments_of a.rest.items)
@@ -213,10 +234,12 @@ values_layout_step l =
     (after_colon l.underlying) (map value_member_view l.members.items)
 
 abbrev struct_layout_step : Level StructLayout-F → plain.Layout
-struct_layout_step l = plain.struct_layout (is_some l.resource) l.keyword (plain.members_of l.members.items)
+struct_layout_step l =
+    plain.struct_layout (is_some l.resource) l.keyword (plain.members_of l.members.items)
 
 abbrev table_layout_step : Level TableLayout-F → plain.Layout
-table_layout_step l = plain.table_layout (is_some l.resource) l.keyword (plain.members_of l.members.items)
+table_layout_step l =
+    plain.table_layout (is_some l.resource) l.keyword (plain.members_of l.members.items)
 
 abbrev union_layout_step : Level UnionLayout-F → plain.Layout
 union_layout_step l =
@@ -233,7 +256,8 @@ abbrev ordinal_member_step : Level OrdinalMember-F → plain.Member
 ordinal_member_step m = m.body (attributes_view m.attributes.items) m.ordinal
 
 abbrev ordinal_body_step : Level OrdinalBody-F → AtOrdinal
-ordinal_body_step (OrdinalBody-F.Reserved s) attributes ordinal = plain.reserved_member attributes ordinal
+ordinal_body_step (OrdinalBody-F.Reserved s) attributes ordinal =
+    plain.reserved_member attributes ordinal
 ordinal_body_step (OrdinalBody-F.Typed s constructor) attributes ordinal =
     plain.ordinal_member attributes ordinal s constructor
 
@@ -257,8 +281,10 @@ abbrev by_steps : {R : Type 0}
     → R)
     → R
 by_steps fold =
-    fold layout_body_step ordinal_body_step type_argument_step type_step layout_step member_step named_step
-    next_type_argument_step ordinal_member_step struct_layout_step table_layout_step type_arguments_step
+    fold layout_body_step ordinal_body_step type_argument_step type_step layout_step member_step
+        named_step
+    next_type_argument_step ordinal_member_step struct_layout_step table_layout_step
+        type_arguments_step
     underlying_step union_layout_step values_layout_step
 
 abbrev pub type_view : TypeConstructor → plain.TypeUse
@@ -305,7 +331,8 @@ response_view r = record { payload = payload_view r.payload; error = option_map 
 
 -- what a protocol has, with these attributes
 abbrev pub protocol_body_view : List plain.Attribute → ProtocolMemberBody → plain.ProtocolMember
-protocol_body_view attributes (protocol.Compose c) = plain.compose_member attributes (path_view c.path)
+protocol_body_view attributes (protocol.Compose c) =
+    plain.compose_member attributes (path_view c.path)
 protocol_body_view attributes (protocol.Method m) =
     plain.method_member attributes (is_strict m.strictness) m.name (payload_view m.request)
     (option_map response_view m.response)
@@ -333,9 +360,11 @@ declared_view (body.Alias d) = plain.alias_body (type_view d.constructor)
 declared_view (body.«Type» d) = plain.type_body (layout_view d.layout).0 (layout_view d.layout).1
 declared_view (body.Protocol d) =
     plain.protocol_body (openness_view d.openness) (map protocol_member_view d.members.items)
-declared_view (body.Service d) = plain.service_body (plain.members_of (map member_view d.members.items))
+declared_view (body.Service d) =
+    plain.service_body (plain.members_of (map member_view d.members.items))
 declared_view (body.Resource d) =
-    plain.resource_body (type_view d.constructor) (plain.members_of (map property_view d.properties.members.items))
+    plain.resource_body (type_view d.constructor)
+        (plain.members_of (map property_view d.properties.members.items))
 
 -- where the name of a declaration stands
 abbrev pub declared_name : DeclarationBody → Span

@@ -1,4 +1,6 @@
-ghost use Rattle.fidl_tree.specs.Attribute.{attribute_leaves, arguments_leaves, argument_list_leaves, next_argument_leaves, argument_leaves, argument_name_leaves};
+ghost use Rattle.fidl_tree.specs.Attribute.{attribute_leaves, arguments_leaves};
+ghost use Rattle.fidl_tree.specs.Attribute.{argument_list_leaves, next_argument_leaves};
+ghost use Rattle.fidl_tree.specs.Attribute.{argument_leaves, argument_name_leaves};
 
 use crate::production::{Production, push_all, push_optional, push_word};
 use crate::value::Value;

@@ -1,4 +1,8 @@
-ghost use Rattle.fidl_tree.specs.Declaration.{declaration_leaves, declaration_body_leaves, const_leaves, alias_leaves, type_declaration_leaves, protocol_leaves, service_leaves, resource_definition_leaves, properties_leaves, property_leaves};
+ghost use Rattle.fidl_tree.specs.Declaration.{declaration_leaves, declaration_body_leaves};
+ghost use Rattle.fidl_tree.specs.Declaration.{const_leaves, alias_leaves, type_declaration_leaves};
+ghost use Rattle.fidl_tree.specs.Declaration.{protocol_leaves, service_leaves};
+ghost use Rattle.fidl_tree.specs.Declaration.{resource_definition_leaves, properties_leaves};
+ghost use Rattle.fidl_tree.specs.Declaration.{property_leaves};
 
 use crate::attribute::Attribute;
 use crate::keyword::Openness;

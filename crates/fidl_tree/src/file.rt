@@ -1,6 +1,7 @@
 ghost use Rattle.std.specs.Prelude.{◌≡◌, IfOk};
 ghost use Rattle.fidl_tree.specs.Leaf.{text_at};
-ghost use Rattle.fidl_tree.specs.File.{library_leaves, import_leaves, import_alias_leaves, yield_of};
+ghost use Rattle.fidl_tree.specs.File.{library_leaves, import_leaves, import_alias_leaves};
+ghost use Rattle.fidl_tree.specs.File.{yield_of};
 
 use crate::attribute::Attribute;
 use crate::declaration::Declaration;
@@ -45,8 +46,8 @@ pub struct ImportAlias {
 }
 
 impl<'s> File<'s> {
-    /// The bytes of the source that lie in the span: none where it begins at the end of the source or later, or
-    /// where it ends before it begins.
+    /// The bytes of the source that lie in the span: none where it begins at the end of the source
+    /// or later, or where it ends before it begins.
     pub fn text(&self, span: Span) -> &'s [u8]
         ensures bytes { result.now ≡ text_at self.now.src.now span }
     {

@@ -1,4 +1,5 @@
-ghost use Rattle.fidl_tree.specs.Keyword.{strictness_leaves, resource_leaves, openness_leaves, values_keyword_leaves, union_modifiers_leaves};
+ghost use Rattle.fidl_tree.specs.Keyword.{strictness_leaves, resource_leaves, openness_leaves};
+ghost use Rattle.fidl_tree.specs.Keyword.{values_keyword_leaves, union_modifiers_leaves};
 
 use crate::production::{Production, push_optional, push_word};
 use fidl_span::{Span, Word, WordKind};

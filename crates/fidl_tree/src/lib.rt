@@ -1,7 +1,8 @@
 //! The syntax tree of a FIDL source file, over spans of the source.
 //!
-//! The tree is lossless: it keeps the span of each word that it was read from, so that its yield is the list of
-//! those words. The grammar is that of the FIDL language specification, as `docs/language.md` states it.
+//! The tree is lossless: it keeps the span of each word that it was read from, so that its yield is
+//! the list of those words. The grammar is that of the FIDL language specification, as
+//! `docs/language.md` states it.
 #![tactic(auto)]
 
 mod attribute;

@@ -1,4 +1,6 @@
-ghost use Rattle.fidl_tree.specs.Protocol.{protocol_member_leaves, protocol_member_body_leaves, compose_leaves, method_leaves, response_leaves, error_type_leaves, event_leaves, payload_leaves};
+ghost use Rattle.fidl_tree.specs.Protocol.{protocol_member_leaves, protocol_member_body_leaves};
+ghost use Rattle.fidl_tree.specs.Protocol.{compose_leaves, method_leaves, response_leaves};
+ghost use Rattle.fidl_tree.specs.Protocol.{error_type_leaves, event_leaves, payload_leaves};
 
 use crate::attribute::Attribute;
 use crate::keyword::Strictness;

@@ -1,6 +1,12 @@
 ghost use Rattle.std.specs.Prelude.{◌≡◌, ◌++◌, OnOk, map};
 ghost use Rattle.fidl_tree.specs.Leaf.{words, joined};
-ghost use Rattle.fidl_tree.specs.TypeConstructor.{type_leaves, named_leaves, next_type_argument_leaves, type_argument_leaves, layout_leaves, layout_body_leaves, values_layout_leaves, struct_layout_leaves, table_layout_leaves, union_layout_leaves, member_leaves, ordinal_member_leaves, ordinal_body_leaves};
+ghost use Rattle.fidl_tree.specs.TypeConstructor.{type_leaves, named_leaves};
+ghost use Rattle.fidl_tree.specs.TypeConstructor.{next_type_argument_leaves, type_argument_leaves};
+ghost use Rattle.fidl_tree.specs.TypeConstructor.{layout_leaves, layout_body_leaves};
+ghost use Rattle.fidl_tree.specs.TypeConstructor.{values_layout_leaves, struct_layout_leaves};
+ghost use Rattle.fidl_tree.specs.TypeConstructor.{table_layout_leaves, union_layout_leaves};
+ghost use Rattle.fidl_tree.specs.TypeConstructor.{member_leaves, ordinal_member_leaves};
+ghost use Rattle.fidl_tree.specs.TypeConstructor.{ordinal_body_leaves};
 
 use crate::attribute::Attribute;
 use crate::constraint::Constraints;

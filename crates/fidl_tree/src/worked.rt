@@ -16,7 +16,8 @@ ghost use Rattle.fidl_tree.specs.declared.type_constructor.OrdinalMember.{Ordina
 ghost use Rattle.fidl_tree.specs.declared.type_constructor.NextTypeArgument.{NextTypeArgument};
 ghost use Rattle.fidl_tree.specs.declared.type_constructor.TypeArgument.{TypeArgument};
 ghost use Rattle.fidl_tree.specs.declared.type_constructor.TypeConstructor.{TypeConstructor};
-ghost use Rattle.fidl_tree.specs.Syntax.{bitwise_or, no_operands, next_operand, number_operand, path_operand};
+ghost use Rattle.fidl_tree.specs.Syntax.{bitwise_or, no_operands, next_operand, number_operand};
+ghost use Rattle.fidl_tree.specs.Syntax.{path_operand};
 ghost use Rattle.fidl_tree.specs.Syntax.{named_type, no_arguments, next_argument, number_argument};
 ghost use Rattle.fidl_tree.specs.Syntax.{type_argument, values_layout, struct_layout, enum_kind};
 ghost use Rattle.fidl_tree.specs.Syntax.{table_layout, union_layout, no_underlying, no_members};

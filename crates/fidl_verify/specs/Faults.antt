@@ -4,12 +4,16 @@ use Rattle.fidl_wire.specs.declared.limits.TheConstants.{MAX_ENTRIES}
 use Rattle.fidl_records.specs.declared.section.TheConstants.{HEADER_SIZE}
 use Rattle.fidl_records.specs.declared.record.Header.{Header}
 use Rattle.fidl_records.specs.Section.{header_of, entry_at, table_length}
-use Rattle.fidl_records.specs.Entry.{HasShape, HasChildren, Follows, HasOffsets, HasSize, HasNest, IsSorted, HasNames, rows_before, values_before, entry_figure}
+use Rattle.fidl_records.specs.Entry.{HasShape, HasChildren, Follows, HasOffsets, HasSize, HasNest}
+use Rattle.fidl_records.specs.Entry.{IsSorted, HasNames, rows_before, values_before, entry_figure}
 use Rattle.fidl_records.specs.Uses.{uses_rows, uses_values}
 use Rattle.fidl_records.specs.Root.{HasEntry, HasRootName, Rises}
 use Rattle.fidl_records.specs.WellFormed.{table_magic, IsVersion}
 use Rattle.fidl_verify.specs.declared.fault.TableFault.{TableFault}
-use Rattle.fidl_verify.specs.declared.fault.TableFault.TheVariants.{BadMagic, BadVersion, Truncated, Surplus, BadKind, BadIndex, BadOffset, BadSize, BadNest, NotSorted, BadName, BadMethod}
+use Rattle.fidl_verify.specs.declared.fault.TableFault.TheVariants.{BadMagic, BadVersion, Truncated}
+use Rattle.fidl_verify.specs.declared.fault.TableFault.TheVariants.{Surplus, BadKind, BadIndex}
+use Rattle.fidl_verify.specs.declared.fault.TableFault.TheVariants.{BadOffset, BadSize, BadNest}
+use Rattle.fidl_verify.specs.declared.fault.TableFault.TheVariants.{NotSorted, BadName, BadMethod}
 
 -- the fault's number
 abbrev pub number_of : TableFault → ℕ
@@ -66,26 +70,43 @@ pub data BreaksHeader (bytes : List ℕ) (h : Header) : TableFault → Type 0 wh
 -- a record that breaks the rule that is named, or too many or too few of them
 pub data BreaksRecord (bytes : List ℕ) (h : Header) : TableFault → Type 0 where
   many_entries : MAX_ENTRIES < h.entries → BreaksRecord bytes h (BadIndex 0)
-  shape : (at : ℕ) → at < h.entries → ¬ HasShape (entry_at bytes at) → BreaksRecord bytes h (BadKind at)
-  children : (at : ℕ) → at < h.entries → ¬ HasChildren bytes h (entry_at bytes at) → BreaksRecord bytes h (BadIndex at)
-  rows : (at : ℕ) → at < h.entries → ¬ Follows uses_rows (rows_before bytes at) (entry_at bytes at) → BreaksRecord bytes h (BadIndex at)
-  values : (at : ℕ) → at < h.entries → ¬ Follows uses_values (values_before bytes at) (entry_at bytes at) → BreaksRecord bytes h (BadIndex at)
-  offsets : (at : ℕ) → at < h.entries → ¬ HasOffsets bytes h (entry_at bytes at) → BreaksRecord bytes h (BadOffset at)
-  size : (at : ℕ) → at < h.entries → ¬ HasSize (entry_figure bytes h (entry_at bytes at)) (entry_at bytes at) → BreaksRecord bytes h (BadSize at)
-  nest : (at : ℕ) → at < h.entries → ¬ HasNest (entry_figure bytes h (entry_at bytes at)) (entry_at bytes at) → BreaksRecord bytes h (BadNest at)
-  sorted : (at : ℕ) → at < h.entries → ¬ IsSorted bytes h (entry_at bytes at) → BreaksRecord bytes h (NotSorted at)
-  names : (at : ℕ) → at < h.entries → ¬ HasNames bytes h (entry_at bytes at) → BreaksRecord bytes h (BadName at)
+  shape : (at : ℕ) → at < h.entries → ¬ HasShape (entry_at bytes at)
+      → BreaksRecord bytes h (BadKind at)
+  children : (at : ℕ) → at < h.entries → ¬ HasChildren bytes h (entry_at bytes at)
+      → BreaksRecord bytes h (BadIndex at)
+  rows : (at : ℕ) → at < h.entries → ¬ Follows uses_rows (rows_before bytes at) (entry_at bytes at)
+      → BreaksRecord bytes h (BadIndex at)
+  values : (at : ℕ) → at < h.entries
+      → ¬ Follows uses_values (values_before bytes at) (entry_at bytes at)
+      → BreaksRecord bytes h (BadIndex at)
+  offsets : (at : ℕ) → at < h.entries → ¬ HasOffsets bytes h (entry_at bytes at)
+      → BreaksRecord bytes h (BadOffset at)
+  size : (at : ℕ) → at < h.entries
+      → ¬ HasSize (entry_figure bytes h (entry_at bytes at)) (entry_at bytes at)
+      → BreaksRecord bytes h (BadSize at)
+  nest : (at : ℕ) → at < h.entries
+      → ¬ HasNest (entry_figure bytes h (entry_at bytes at)) (entry_at bytes at)
+      → BreaksRecord bytes h (BadNest at)
+  sorted : (at : ℕ) → at < h.entries → ¬ IsSorted bytes h (entry_at bytes at)
+      → BreaksRecord bytes h (NotSorted at)
+  names : (at : ℕ) → at < h.entries → ¬ HasNames bytes h (entry_at bytes at)
+      → BreaksRecord bytes h (BadName at)
   -- the first row that no entry has, and the first value that no entry has
-  row : rows_before bytes h.entries < h.rows → BreaksRecord bytes h (BadIndex (rows_before bytes h.entries))
-  value : values_before bytes h.entries < h.values → BreaksRecord bytes h (BadIndex (values_before bytes h.entries))
+  row : rows_before bytes h.entries < h.rows
+      → BreaksRecord bytes h (BadIndex (rows_before bytes h.entries))
+  value : values_before bytes h.entries < h.values
+      → BreaksRecord bytes h (BadIndex (values_before bytes h.entries))
   root : (at : ℕ) → at < h.roots → ¬ HasEntry bytes h at → BreaksRecord bytes h (BadIndex at)
   root_name : (at : ℕ) → at < h.roots → ¬ HasRootName bytes h at → BreaksRecord bytes h (BadName at)
   root_order : (at : ℕ) → at < h.roots → ¬ Rises bytes h at → BreaksRecord bytes h (NotSorted at)
   protocols : h.protocols ≢ 0 → BreaksRecord bytes h (BadMethod 0)
   methods : h.methods ≢ 0 → BreaksRecord bytes h (BadMethod 0)
 
--- what each fault says of a table: it has no header, or its header breaks the rule, or, in a table whose sections fill it, a record does
+-- what each fault says of a table: it has no header, or its header breaks the rule, or, in a table
+-- whose sections fill it, a record does
 pub data Breaks (bytes : List ℕ) : TableFault → Type 0 where
   no_header : length bytes < HEADER_SIZE → Breaks bytes (Truncated 0)
-  header : (fault : TableFault) → HEADER_SIZE ≤ length bytes → BreaksHeader bytes (header_of bytes) fault → Breaks bytes fault
-  record_at : (fault : TableFault) → length bytes ≡ table_length (header_of bytes) → BreaksRecord bytes (header_of bytes) fault → Breaks bytes fault
+  header : (fault : TableFault) → HEADER_SIZE ≤ length bytes
+      → BreaksHeader bytes (header_of bytes) fault → Breaks bytes fault
+  record_at : (fault : TableFault) → length bytes ≡ table_length (header_of bytes)
+      → BreaksRecord bytes (header_of bytes) fault → Breaks bytes fault

@@ -1,10 +1,13 @@
 //! The rules of entries.
-ghost use Rattle.std.specs.Prelude.{◌≡◌, ℕ, suc, ◌+◌, ◌^◌, ◌<◌, ◌≤◌, ◌↔◌, IsTrue, IsFalse, OnOk, IfOk, IfErr};
+ghost use Rattle.std.specs.Prelude.{◌≡◌, ℕ, suc, ◌+◌, ◌^◌, ◌<◌, ◌≤◌, ◌↔◌, IsTrue, IsFalse, OnOk};
+ghost use Rattle.std.specs.Prelude.{IfOk, IfErr};
 ghost use Rattle.fidl_records.specs.Section.{entry_at, row_at};
 ghost use Rattle.fidl_records.specs.Name.{IsMemberName};
 ghost use Rattle.fidl_records.specs.declared.kind.EntryKind.TheVariants as EntryKind;
 ghost use Rattle.fidl_records.specs.Uses.{uses_entry, uses_rows, uses_values};
-ghost use Rattle.fidl_records.specs.Entry.{IsOf, kind_is, HasMask, HasValues, IsZeroElsewhere, HasShape, HasChildren, Follows, HasOffsets, HasSize, HasNest, HasNames, IsEntry, parts_of, entry_figure};
+ghost use Rattle.fidl_records.specs.Entry.{IsOf, kind_is, HasMask, HasValues, IsZeroElsewhere};
+ghost use Rattle.fidl_records.specs.Entry.{HasShape, HasChildren, Follows, HasOffsets, HasSize};
+ghost use Rattle.fidl_records.specs.Entry.{HasNest, HasNames, IsEntry, parts_of, entry_figure};
 ghost use Rattle.fidl_verify.specs.Measured.{measured, AreBefore, HasRoom};
 ghost use Rattle.fidl_verify.specs.Faults.{Breaks};
 
@@ -172,7 +175,8 @@ fn has_nest(entry: &Entry, figure: Measure) -> bool
 /// Whether the names of members are identifiers.
 fn rows_have_names(table: &Sections<'_>, first: u32, count: u32) -> bool
     requires { first + count ≤ table.now.header.rows }
-    ensures { IsTrue result ↔ ((k : ℕ) → k < count → let r = row_at table.now.bytes.now table.now.header (first + k) in
+    ensures { IsTrue result
+        ↔ ((k : ℕ) → k < count → let r = row_at table.now.bytes.now table.now.header (first + k) in
         IsMemberName table.now.bytes.now table.now.header r.name_place r.name_length) }
 {
     for index in first..table.rows_end(first, count) {

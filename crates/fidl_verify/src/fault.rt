@@ -3,8 +3,8 @@ ghost use Rattle.std.specs.Prelude.{◌≡◌};
 
 use thiserror::Error;
 
-/// The rule that a table breaks (docs/table.md, "Faults"). `at` is the number of the record that breaks it; it is 0 for
-/// the header.
+/// The rule that a table breaks (docs/table.md, "Faults"). `at` is the number of the record that
+/// breaks it; it is 0 for the header.
 #[derive(Clone, Copy, PartialEq, Eq, Debug, Drop, Error)]
 pub enum TableFault {
     /// The table does not begin with "FCT2".
@@ -19,31 +19,32 @@ pub enum TableFault {
     /// The table is longer than its header and sections.
     #[error("the table is longer than its sections")]
     Surplus { at: u32 },
-    /// An entry has an unknown kind, or a flag or field that its kind does not use is not zero; bits or an enum have no
-    /// underlying type, a mask over it, or no values though strict; a bound has over 32 bits; or there are more than
+    /// An entry has an unknown kind, or a flag or field that its kind does not use is not zero;
+    /// bits or an enum have no underlying type, a mask over it, or no values though strict; a bound
+    /// has over 32 bits; or there are more than
     /// 65,535 members or values.
     #[error("entry {at}: a kind or field that is not allowed")]
     BadKind { at: u32 },
-    /// A record refers to what does not exist, or rows or values do not follow one another, or belong to no entry, or
-    /// there are more than 65,535 entries.
+    /// A record refers to what does not exist, or rows or values do not follow one another, or
+    /// belong to no entry, or there are more than 65,535 entries.
     #[error("record {at}: an index that is wrong")]
     BadIndex { at: u32 },
     /// A struct states another offset than its member has.
     #[error("entry {at}: an offset that is wrong")]
     BadOffset { at: u32 },
-    /// An entry states another size or alignment than its type has, or a size over 65,535 bytes, or an array without
-    /// elements.
+    /// An entry states another size or alignment than its type has, or a size over 65,535 bytes, or
+    /// an array without elements.
     #[error("entry {at}: a size or alignment that is wrong")]
     BadSize { at: u32 },
     /// An entry states another nest than its type has, or one over the limit.
     #[error("entry {at}: a nest that is wrong")]
     BadNest { at: u32 },
-    /// The values of an enum do not rise or fit its underlying type, or a root's name does not stand behind that of the
-    /// root before.
+    /// The values of an enum do not rise or fit its underlying type, or a root's name does not
+    /// stand behind that of the root before.
     #[error("record {at}: not in order")]
     NotSorted { at: u32 },
-    /// A name lies past the names, has a byte that is not allowed, is empty where it must not be, or is a member's name
-    /// and no identifier.
+    /// A name lies past the names, has a byte that is not allowed, is empty where it must not be,
+    /// or is a member's name and no identifier.
     #[error("record {at}: a name that is not allowed")]
     BadName { at: u32 },
     /// The table has protocols or methods, which are not read yet.

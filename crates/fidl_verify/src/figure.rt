@@ -6,7 +6,8 @@ ghost use Rattle.fidl_wire.specs.Figure.{figure, figure_of};
 ghost use Rattle.fidl_records.specs.Section.{row_at};
 ghost use Rattle.fidl_records.specs.Terms.{fields_from};
 ghost use Rattle.fidl_records.specs.Uses.{plain_size};
-ghost use Rattle.fidl_records.specs.Entry.{IsOf, figures_of, entry_figure, AreOffsets, HasOffsets, HasShape, HasChildren};
+ghost use Rattle.fidl_records.specs.Entry.{IsOf, figures_of, entry_figure, AreOffsets, HasOffsets};
+ghost use Rattle.fidl_records.specs.Entry.{HasShape, HasChildren};
 ghost use Rattle.fidl_verify.specs.Measured.{measured};
 
 use crate::kind::plain_size;
@@ -75,7 +76,8 @@ fn struct_measure(table: &Sections<'_>, first: u32, count: u32) -> Option<Measur
         < table.now.header.entries }
     ensures none { IfNone result (¬ AreOffsets table.now.bytes.now table.now.header first count) }
     ensures offsets { OnSome result (AreOffsets table.now.bytes.now table.now.header first count) }
-    ensures figure { IfSome result (λ m. measured m ≡ figure_of (figures_of table.now.bytes.now table.now.header)
+    ensures figure { IfSome result
+        (λ m. measured m ≡ figure_of (figures_of table.now.bytes.now table.now.header)
         (ty.struct (fields_from table.now.bytes.now table.now.header first count))) }
 {
     let mut end = 0;
@@ -99,8 +101,8 @@ fn struct_measure(table: &Sections<'_>, first: u32, count: u32) -> Option<Measur
     })
 }
 
-/// The figure of an entry's type, over the figures that the entries state; none for a struct whose keys are not the
-/// offsets of its members.
+/// The figure of an entry's type, over the figures that the entries state; none for a struct whose
+/// keys are not the offsets of its members.
 pub(crate) fn entry_measure(table: &Sections<'_>, entry: &Entry, kind: EntryKind) -> Option<Measure>
     requires of_kind { IsOf kind entry.now }
     requires shape { HasShape entry.now }

@@ -1,6 +1,9 @@
 //! What the entries of each kind use.
 ghost use Rattle.std.specs.Prelude.{◌≡◌, ◌↔◌, IsTrue};
-ghost use Rattle.fidl_records.specs.Uses.{is_number, is_unsigned, is_plain, is_known, allows, uses_entry, uses_rows, uses_values, uses_first, uses_count, uses_bound, uses_subtype, uses_rights, uses_name, plain_size};
+ghost use Rattle.fidl_records.specs.Uses.{is_number, is_unsigned, is_plain, is_known, allows};
+ghost use Rattle.fidl_records.specs.Uses.{uses_entry, uses_rows, uses_values, uses_first};
+ghost use Rattle.fidl_records.specs.Uses.{uses_count, uses_bound, uses_subtype, uses_rights};
+ghost use Rattle.fidl_records.specs.Uses.{uses_name, plain_size};
 ghost use Rattle.fidl_records.specs.declared.kind.EntryKind.TheVariants as EntryKind;
 
 use fidl_records::EntryKind;

@@ -56,9 +56,11 @@ pub fn members_stand_apart()
 
 /// The underlying type of bits or an enum is that of a kind of numbers.
 pub fn underlying_types_are_numbers()
-    ensures of_bits { (bytes : List ℕ) → WellFormed bytes → (index : ℕ) → index < (header_of bytes).entries
+    ensures of_bits { (bytes : List ℕ) → WellFormed bytes → (index : ℕ) → index
+        < (header_of bytes).entries
         → IsOf EntryKind.Bits (entry_at bytes index) → HasNumberKind (entry_at bytes index) }
-    ensures of_enums { (bytes : List ℕ) → WellFormed bytes → (index : ℕ) → index < (header_of bytes).entries
+    ensures of_enums { (bytes : List ℕ) → WellFormed bytes → (index : ℕ) → index
+        < (header_of bytes).entries
         → IsOf EntryKind.Enum (entry_at bytes index) → HasNumberKind (entry_at bytes index) }
 {}
 

@@ -1,4 +1,5 @@
-//! Which coding tables are accepted: `verify` answers a `Table` exactly for the well-formed ones (`specs/`, docs/table.md).
+//! Which coding tables are accepted: `verify` answers a `Table` exactly for the well-formed ones
+//! (`specs/`, docs/table.md).
 #![tactic(auto)]
 
 mod entry;

@@ -1,7 +1,8 @@
 //! The bytes of names.
 ghost use Rattle.std.specs.Prelude.{◌≡◌, ◌↔◌, IsTrue};
 ghost use Rattle.std.specs.List.{list_all};
-ghost use Rattle.fidl_records.specs.Name.{is_letter, is_word_byte, is_name_byte, IsIdentifier, IsName, IsMemberName};
+ghost use Rattle.fidl_records.specs.Name.{is_letter, is_word_byte, is_name_byte, IsIdentifier};
+ghost use Rattle.fidl_records.specs.Name.{IsName, IsMemberName};
 
 use crate::sections::Sections;
 

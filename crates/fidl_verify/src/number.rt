@@ -2,7 +2,8 @@
 ghost use Rattle.std.specs.Prelude.{◌≡◌, ℕ, ◌+◌, ◌<◌, ◌≤◌, ◌↔◌, ◌<ℤ◌, IsTrue};
 ghost use Rattle.fidl_wire.specs.Typed.{InRange};
 ghost use Rattle.fidl_records.specs.Terms.{as_number, underlying, value_number};
-ghost use Rattle.fidl_records.specs.Entry.{IsOf, HasMask, HasValues, HasChildren, enum_value, IsEnumValue, IsSorted};
+ghost use Rattle.fidl_records.specs.Entry.{IsOf, HasMask, HasValues, HasChildren, enum_value};
+ghost use Rattle.fidl_records.specs.Entry.{IsEnumValue, IsSorted};
 
 use crate::kind::{is_number, is_unsigned};
 use crate::sections::Sections;

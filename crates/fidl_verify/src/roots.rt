@@ -1,7 +1,9 @@
 //! The rules of roots, and finding one by its name.
-ghost use Rattle.std.specs.Prelude.{◌≡◌, ℕ, suc, ◌<◌, ◌≤◌, ◌↔◌, IsTrue, OnOk, IfErr, IfSome, IfNone};
+ghost use Rattle.std.specs.Prelude.{◌≡◌, ℕ, suc, ◌<◌, ◌≤◌, ◌↔◌, IsTrue, OnOk, IfErr, IfSome};
+ghost use Rattle.std.specs.Prelude.{IfNone};
 ghost use Rattle.fidl_records.specs.Section.{root_at};
-ghost use Rattle.fidl_records.specs.Root.{root_name, HasEntry, HasRootName, IsBefore, Rises, IsRoot, IsRootEntry, HasNoRoot};
+ghost use Rattle.fidl_records.specs.Root.{root_name, HasEntry, HasRootName, IsBefore, Rises};
+ghost use Rattle.fidl_records.specs.Root.{IsRoot, IsRootEntry, HasNoRoot};
 ghost use Rattle.fidl_verify.specs.Faults.{Breaks};
 
 use crate::fault::TableFault;

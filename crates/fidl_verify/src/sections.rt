@@ -1,6 +1,7 @@
 //! The sections of a table whose header is right.
 ghost use Rattle.std.specs.Prelude.{◌≡◌, ◌+◌, ◌≤◌, ◌<◌, length};
-ghost use Rattle.fidl_records.specs.Section.{header_of, table_length, entry_at, row_at, value_at, root_at, name_at};
+ghost use Rattle.fidl_records.specs.Section.{header_of, table_length, entry_at, row_at, value_at};
+ghost use Rattle.fidl_records.specs.Section.{root_at, name_at};
 
 use fidl_records::{
     Entry, Header, Root, Row, name_bytes, read_entry, read_root, read_row, read_value,

@@ -1,5 +1,6 @@
 //! Tables that are verified.
-ghost use Rattle.std.specs.Prelude.{◌≡◌, ℕ, ◌+◌, ◌<◌, ◌≤◌, OnOk, OnErr, IfOk, IfErr, IfSome, IfNone};
+ghost use Rattle.std.specs.Prelude.{◌≡◌, ℕ, ◌+◌, ◌<◌, ◌≤◌, OnOk, OnErr, IfOk, IfErr, IfSome};
+ghost use Rattle.std.specs.Prelude.{IfNone};
 ghost use Rattle.fidl_records.specs.Section.{header_of, entry_at, row_at, value_at, name_at};
 ghost use Rattle.fidl_records.specs.Entry.{rows_before, values_before};
 ghost use Rattle.fidl_records.specs.Root.{IsRootEntry, HasNoRoot};
@@ -63,8 +64,8 @@ fn check_methods(table: &Sections<'_>) -> Result<(), TableFault>
     Ok(())
 }
 
-/// Checks a table's rules in their order, and keeps its bytes where all hold; the fault names the first that does not,
-/// with the number of the record.
+/// Checks a table's rules in their order, and keeps its bytes where all hold; the fault names the
+/// first that does not, with the number of the record.
 pub fn verify(bytes: &[u8]) -> Result<Table<'_>, TableFault>
     ensures ok { OnOk result (WellFormed bytes.now) }
     ensures value { IfOk result (λ table. table ≡ bytes.now) }

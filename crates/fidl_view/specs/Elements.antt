@@ -4,7 +4,8 @@ use Rattle.fidl_wire.specs.Value.{Values, none, value}
 use Rattle.fidl_decode.specs.Shown.{Shown}
 use Rattle.fidl_view.specs.Shows.{Shows}
 
--- what a view is seen as: a decoded message, the entry of a part's type, and the part's place in the message
+-- what a view is seen as: a decoded message, the entry of a part's type, and the part's place in
+-- the message
 pub record Part : Type 0 where
   pub message : Shown
   pub index : ℕ
@@ -17,7 +18,8 @@ part d index place = record { message = d; index = index; place = place }
 -- parts of one entry, each of this size, one behind the other from a place on
 abbrev pub parts_from : Shown → (index size place count : ℕ) → List Part
 parts_from d index size place zero = []
-parts_from d index size place (suc n) = part d index place ∷ parts_from d index size (place + size) n
+parts_from d index size place (suc n) = part d index place
+    ∷ parts_from d index size (place + size) n
 
 -- as many parts as values, each of which shows its value
 abbrev pub ShowEach : List Part → Values → Type 0

@@ -11,12 +11,15 @@ use Rattle.fidl_decode.specs.Shown.{Shown}
 
 -- the members that a struct's entry declares
 abbrev pub fields_at : Shown → (index : ℕ) → Fields
-fields_at d index = let e = entry_at d.table index in fields_from d.table (header_of d.table) e.first e.count
+fields_at d index = let e = entry_at d.table index in
+    fields_from d.table (header_of d.table) e.first e.count
 
--- the values are those of the members of a struct of this entry, and stand at their offsets in a struct at this place
+-- the values are those of the members of a struct of this entry, and stand at their offsets in a
+-- struct at this place
 pub record ShowMembers (d : Shown) (index place : ℕ) (vs : Values) : Type 0 where
   pub typed : EachTyped (declarations_of d.table) (fields_at d index) vs
-  pub placed : AreFieldsPlaced (declarations_of d.table) (message_of d.bytes d.handles) d.links (fields_at d index) 0 place vs
+  pub placed : AreFieldsPlaced (declarations_of d.table) (message_of d.bytes d.handles) d.links
+      (fields_at d index) 0 place vs
 
 -- some values are
 abbrev pub HaveMembers : Shown → (index place : ℕ) → Type 0

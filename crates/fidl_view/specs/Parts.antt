@@ -1,8 +1,10 @@
 -- The parts of a value that the calls of a view answer (docs/views.md).
-use Rattle.std.specs.Prelude.{◌≢◌, ℕ, zero, suc, ◌==◌, Bool, true, false, if◌then◌else◌, ℤ, pos, List, [], ◌∷◌, length, Option, Some, None}
+use Rattle.std.specs.Prelude.{◌≢◌, ℕ, zero, suc, ◌==◌, Bool, true, false, if◌then◌else◌, ℤ, pos}
+use Rattle.std.specs.Prelude.{List, [], ◌∷◌, length, Option, Some, None}
 use Rattle.fidl_wire.specs.declared.handle.HandleInfo.{HandleInfo}
 use Rattle.fidl_wire.specs.declared.limits.TheConstants.{SAME_RIGHTS}
-use Rattle.fidl_wire.specs.Value.{Value, Values, absent, bool, number, text, list, fields, handle, none, value, count}
+use Rattle.fidl_wire.specs.Value.{Value, Values, absent, bool, number, text, list, fields, handle}
+use Rattle.fidl_wire.specs.Value.{none, value, count}
 use Rattle.fidl_wire.specs.Term.{Term, Kind, uint8}
 use Rattle.fidl_wire.specs.Term as ty
 use Rattle.fidl_wire.specs.Figure.{Declarations}
@@ -76,7 +78,8 @@ abbrev pub handle_of : Value → Option HandleInfo
 handle_of (handle h) = Some h
 handle_of _ = None
 
--- the rights that a type grants to a handle: those that it requires, or those that came, where it requires the same rights
+-- the rights that a type grants to a handle: those that it requires, or those that came, where it
+-- requires the same rights
 abbrev pub rights_of : (required : ℕ) → HandleInfo → ℕ
 rights_of required h = if required == SAME_RIGHTS then h.rights else required
 

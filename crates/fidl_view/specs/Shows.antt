@@ -13,10 +13,12 @@ use Rattle.fidl_decode.specs.Shown.{Shown}
 abbrev pub type_of : Shown → (index : ℕ) → Term
 type_of d index = resolve (declarations_of d.table).terms (ty.named index)
 
--- the value is one of the entry's type, and stands in the message at the place, with all below it where the links say
+-- the value is one of the entry's type, and stands in the message at the place, with all below it
+-- where the links say
 pub record Shows (d : Shown) (index place : ℕ) (v : Value) : Type 0 where
   pub typed : Typed (declarations_of d.table) (ty.named index) v
-  pub placed : Placed (declarations_of d.table) (message_of d.bytes d.handles) d.links (type_of d index) place v
+  pub placed : Placed (declarations_of d.table) (message_of d.bytes d.handles) d.links
+      (type_of d index) place v
 
 -- some value is shown
 abbrev pub HasValue : Shown → (index place : ℕ) → Type 0

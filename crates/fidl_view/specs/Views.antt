@@ -1,4 +1,5 @@
--- Views as parts of a message, and what an iterator of elements has left (docs/views.md, "Shows" and "Elements").
+-- Views as parts of a message, and what an iterator of elements has left (docs/views.md, "Shows"
+-- and "Elements").
 use Rattle.std.specs.Prelude.{◌≡◌, ◌<◌, ℕ, ◌+◌, List, slice_range}
 use Rattle.std.specs.Int.{w64}
 use Rattle.fidl_wire.specs.Value.{Value, Values, list, fields}
@@ -48,7 +49,8 @@ count_at (ty.array t n) bytes place = n
 count_at (ty.vector optional bound t) bytes place = number_at w64 bytes place
 count_at _ bytes place = 0
 
--- as many bytes of the message as the part has elements, where they stand: in place, or in the object of a vector's marker
+-- as many bytes of the message as the part has elements, where they stand: in place, or in the
+-- object of a vector's marker
 abbrev pub bytes_shown : View → List ℕ
 bytes_shown view =
     let p = part_of view in
@@ -66,9 +68,11 @@ parts_left s = parts_from s.decoded.now s.index s.size s.place s.left
 -- elements of the part's own elements' type, as many as it has, where they stand
 pub record IsRunOf (view : View) (elements : Elements) : Type 0 where
   pub message : message_left elements ≡ (part_of view).message
-  pub typed : element_of (types_shown view) (type_shown view) ≡ type_of (part_of view).message elements.index
+  pub typed : element_of (types_shown view) (type_shown view)
+      ≡ type_of (part_of view).message elements.index
   pub counted : elements.left ≡ count_at (type_shown view) (part_of view).message.bytes view.place
-  pub placed : 0 < elements.left → elements.place ≡ content_at (part_of view).message.links (type_shown view) view.place
+  pub placed : 0 < elements.left → elements.place
+      ≡ content_at (part_of view).message.links (type_shown view) view.place
 
 -- the value is a list, and the parts that are left show its elements
 abbrev pub ShowsListOf : Value → Elements → Type 0
@@ -80,4 +84,5 @@ message_held members = members.decoded.now
 
 -- the value has members, and they stand where a struct's members were found
 abbrev pub ShowsMembersOf : Value → Members → Type 0
-ShowsMembersOf v members = (vs : Values) × (v ≡ fields vs) × ShowMembers members.decoded.now members.index members.place vs
+ShowsMembersOf v members = (vs : Values) × (v ≡ fields vs)
+    × ShowMembers members.decoded.now members.index members.place vs

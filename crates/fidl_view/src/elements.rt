@@ -7,7 +7,8 @@ ghost use Rattle.fidl_view.specs.Elements.{HaveValues, parts_from};
 use crate::view::View;
 use fidl_decode::Decoded;
 
-/// The views of the elements of an array or a vector that are left, in their order (docs/views.md, "Elements").
+/// The views of the elements of an array or a vector that are left, in their order (docs/views.md,
+/// "Elements").
 #[derive(Drop)]
 pub struct Elements<'v, 'm> {
     pub(crate) decoded: &'v Decoded<'v, 'm, 'v>,

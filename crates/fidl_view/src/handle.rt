@@ -27,8 +27,8 @@ impl<'v, 'm> View<'v, 'm> {
         }
     }
 
-    /// The rights that a handle is granted: those that its type requires, or those that came, where it requires the
-    /// same rights; none where it is absent, and of another kind.
+    /// The rights that a handle is granted: those that its type requires, or those that came, where
+    /// it requires the same rights; none where it is absent, and of another kind.
     pub fn granted(self) -> Option<u32>
         ensures { (v : Value) → IsShownBy self.entry v → result
             ≡ granted_of (type_shown self.entry) v }

@@ -1,4 +1,5 @@
-//! Views of a decoded message: each call answers the part of the value that it names, borrowed from the message.
+//! Views of a decoded message: each call answers the part of the value that it names, borrowed from
+//! the message.
 #![tactic(auto)]
 
 mod elements;

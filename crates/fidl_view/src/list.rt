@@ -7,7 +7,8 @@ ghost use Rattle.fidl_records.specs.Section.{entry_at};
 ghost use Rattle.fidl_records.specs.Entry.{IsOf};
 ghost use Rattle.fidl_view.specs.Parts.{bytes_of, length_of, element_of, elements_of, IsNoList};
 ghost use Rattle.fidl_view.specs.Elements.{ShowEach};
-ghost use Rattle.fidl_view.specs.Views.{part_of, parts_left, message_left, IsShownBy, IsRunOf, ShowsListOf, type_shown, types_shown, bytes_shown};
+ghost use Rattle.fidl_view.specs.Views.{part_of, parts_left, message_left, IsShownBy, IsRunOf};
+ghost use Rattle.fidl_view.specs.Views.{ShowsListOf, type_shown, types_shown, bytes_shown};
 
 use crate::elements::Elements;
 use crate::kind::entry_kind;
@@ -78,8 +79,8 @@ impl<'v, 'm> View<'v, 'm> {
         }
     }
 
-    /// The bytes of an array or a vector of uint8, as a slice of the message itself; none where it is absent, and of another
-    /// type.
+    /// The bytes of an array or a vector of uint8, as a slice of the message itself; none where it
+    /// is absent, and of another type.
     pub fn as_bytes(self) -> Option<&'m [u8]>
         ensures value { (v : Value) → IsShownBy self.entry v
             → option_copied result ≡ bytes_of (types_shown self.entry) (type_shown self.entry) v }
@@ -96,7 +97,8 @@ impl<'v, 'm> View<'v, 'm> {
         }
     }
 
-    /// How many elements an array or a vector has, and how many bytes a string; none of an absent one, and of another kind.
+    /// How many elements an array or a vector has, and how many bytes a string; none of an absent
+    /// one, and of another kind.
     pub fn len(self) -> Option<usize>
         ensures { (v : Value) → IsShownBy self.entry v → result ≡ length_of v }
     {
@@ -109,8 +111,8 @@ impl<'v, 'm> View<'v, 'm> {
         }
     }
 
-    /// The element of an array or a vector at this place, counted from 0; none past the last, of an absent one, and of
-    /// another kind.
+    /// The element of an array or a vector at this place, counted from 0; none past the last, of an
+    /// absent one, and of another kind.
     pub fn element(self, at: usize) -> Option<View<'v, 'm>>
         ensures message { IfSome result (λ part. (part_of part).message
             ≡ (part_of self.entry).message) }
@@ -131,7 +133,8 @@ impl<'v, 'm> View<'v, 'm> {
         })
     }
 
-    /// The elements of an array or a vector in their order; of an absent one and of another kind there are none.
+    /// The elements of an array or a vector in their order; of an absent one and of another kind
+    /// there are none.
     pub fn elements(self) -> Elements<'v, 'm>
         ensures message { message_left result ≡ (part_of self.entry).message }
         ensures parts { (v : Value) → IsShownBy self.entry v

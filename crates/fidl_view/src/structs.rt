@@ -12,7 +12,8 @@ use crate::view::View;
 use fidl_decode::Decoded;
 use fidl_records::EntryKind;
 
-/// The members of a struct, or of the struct in a box: the struct's entry, and where it stands in the message.
+/// The members of a struct, or of the struct in a box: the struct's entry, and where it stands in
+/// the message.
 #[derive(Clone, Copy)]
 pub(crate) struct Members<'v, 'm> {
     pub(crate) decoded: &'v Decoded<'v, 'm, 'v>,
@@ -27,7 +28,8 @@ pub(crate) struct Members<'v, 'm> {
 impl<'v, 'm> View<'v, 'm> {
     ghost use Rattle.fidl_view.specs.Views.{part_of, message_held, ShowsMembersOf, IsShownBy};
 
-    /// The members of a struct, or of the struct in a box; none where the box is absent, and of another kind.
+    /// The members of a struct, or of the struct in a box; none where the box is absent, and of
+    /// another kind.
     fn members(self) -> Option<Members<'v, 'm>>
         ensures message { IfSome result (λ members. message_held members
             ≡ (part_of self.entry).message) }
@@ -54,8 +56,8 @@ impl<'v, 'm> View<'v, 'm> {
         }
     }
 
-    /// The member of a struct, or of the struct in a box, at this place in its declaration, counted from 0; none past the
-    /// last, of an absent box, and of another kind.
+    /// The member of a struct, or of the struct in a box, at this place in its declaration, counted
+    /// from 0; none past the last, of an absent box, and of another kind.
     pub fn field(self, at: usize) -> Option<View<'v, 'm>>
         ensures message { IfSome result (λ part. (part_of part).message
             ≡ (part_of self.entry).message) }

@@ -10,8 +10,8 @@ use fidl_records::{EntryKind, u64_at};
 use std::str::from_utf8_unchecked;
 
 impl<'v, 'm> View<'v, 'm> {
-    /// The text of a string, a slice of the message itself where it is not empty; none where it is absent, and of another kind.
-    /// The decoder checked it as UTF-8.
+    /// The text of a string, a slice of the message itself where it is not empty; none where it is
+    /// absent, and of another kind. The decoder checked it as UTF-8.
     pub fn as_str(self) -> Option<&'m str>
         ensures { (v : Value) → IsShownBy self.entry v → option_copied result ≡ string_of v }
     {

@@ -1,8 +1,8 @@
 //! Views of a decoded message and its parts (docs/views.md).
 //!
-//! What holds of a table behind a shared borrow is known here only from what its calls ensure. So some bodies read an entry,
-//! a kind or the number of rows for that alone: that the table is well-formed, or that a number of it has 32 bits. The names of
-//! what they read begin with `_`.
+//! What holds of a table behind a shared borrow is known here only from what its calls ensure. So
+//! some bodies read an entry, a kind or the number of rows for that alone: that the table is
+//! well-formed, or that a number of it has 32 bits. The names of what they read begin with `_`.
 ghost use Rattle.std.specs.Prelude.{◌≡◌, ◌+◌, ◌<◌, ◌≤◌, length};
 ghost use Rattle.fidl_wire.specs.Value.{Value};
 ghost use Rattle.fidl_wire.specs.declared.limits.TheConstants.{MAX_MESSAGE_BYTES};
@@ -14,7 +14,8 @@ use crate::number::{signed, unsigned};
 use fidl_decode::Decoded;
 use fidl_records::{EntryKind, u64_at};
 
-/// A part of a decoded message. It borrows the message, and every answer is a part of the value that the message encodes.
+/// A part of a decoded message. It borrows the message, and every answer is a part of the value
+/// that the message encodes.
 #[derive(Clone, Copy)]
 pub struct View<'v, 'm> {
     pub(crate) decoded: &'v Decoded<'v, 'm, 'v>,
@@ -34,7 +35,8 @@ impl<'v, 'm> View<'v, 'm> {
     ghost use Rattle.fidl_records.specs.Terms.{as_number};
     ghost use Rattle.fidl_records.specs.Entry.{IsOf};
     ghost use Rattle.fidl_records.specs.WellFormed.{WellFormed};
-    ghost use Rattle.fidl_view.specs.Parts.{absence_of, bool_of, numbers_of, unsigned_of, signed_of};
+    ghost use Rattle.fidl_view.specs.Parts.{absence_of, bool_of, numbers_of, unsigned_of};
+    ghost use Rattle.fidl_view.specs.Parts.{signed_of};
     ghost use Rattle.fidl_view.specs.Views.{IsShownBy, type_shown};
 
     /// The kind of the part's type.
@@ -84,7 +86,8 @@ impl<'v, 'm> View<'v, 'm> {
         }
     }
 
-    /// The number of uint8, uint16, uint32 or uint64, and of bits or an enum of one of these; none of another type.
+    /// The number of uint8, uint16, uint32 or uint64, and of bits or an enum of one of these; none
+    /// of another type.
     pub fn as_u64(self) -> Option<u64>
         ensures { (v : Value) → IsShownBy self.entry v → result
             ≡ unsigned_of (type_shown self.entry) v }
@@ -92,7 +95,8 @@ impl<'v, 'm> View<'v, 'm> {
         unsigned(self.number_kind(), self.decoded.bytes(), self.place)
     }
 
-    /// The number of int8, int16, int32 or int64, and of an enum of one of these; none of another type.
+    /// The number of int8, int16, int32 or int64, and of an enum of one of these; none of another
+    /// type.
     pub fn as_i64(self) -> Option<i64>
         ensures { (v : Value) → IsShownBy self.entry v → result
             ≡ signed_of (type_shown self.entry) v }

@@ -26,7 +26,8 @@ impl<'t, 'm, 's> Views<'m> for Decoded<'t, 'm, 's> {
 
     fn view<'v>(&'v self) -> View<'v, 'm> {
         let index = self.entry();
-        // Read, so that the table is known to be well-formed: a message of the entry then has room for its inline part.
+        // Read, so that the table is known to be well-formed: a message of the entry then has room
+        // for its inline part.
         let _entry = self.table().entry(index);
         View {
             decoded: self,

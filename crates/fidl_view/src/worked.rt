@@ -1,4 +1,5 @@
-//! Worked facts: the parts of small values, which the calls of a view answer, and what they don't answer.
+//! Worked facts: the parts of small values, which the calls of a view answer, and what they don't
+//! answer.
 ghost use Rattle.std.specs.Prelude.{◌≡◌, ℤ, pos, negsuc, [], ◌∷◌, true, false, Some, None};
 ghost use Rattle.fidl_wire.specs.declared.handle.HandleInfo.{HandleInfo};
 ghost use Rattle.fidl_wire.specs.declared.limits.TheConstants.{SAME_RIGHTS};
@@ -26,7 +27,8 @@ pub fn bools()
     ensures one { bool_of (number (pos 1)) ≡ None }
 {}
 
-/// A number is answered by its type: one with a sign by `as_i64` alone, one without by `as_u64` alone.
+/// A number is answered by its type: one with a sign by `as_i64` alone, one without by `as_u64`
+/// alone.
 pub fn numbers()
     ensures unsigned { unsigned_of (ty.number uint8) (number (pos 3)) ≡ Some 3 }
     ensures signed { unsigned_of (ty.number int8) (number (pos 3)) ≡ None }
@@ -79,7 +81,8 @@ pub fn texts()
     ensures of_a_list { string_of (list (value (number (pos 65)) none)) ≡ None }
 {}
 
-/// A handle is granted the rights that its type requires, or those that came where it requires the same.
+/// A handle is granted the rights that its type requires, or those that came where it requires the
+/// same.
 pub fn rights()
     ensures required { (h : HandleInfo) → granted_of (ty.handle false 0 2) (handle h) ≡ Some 2 }
     ensures same { (h : HandleInfo) → granted_of (ty.handle false 0 SAME_RIGHTS) (handle h)
@@ -97,7 +100,8 @@ pub fn other_values()
     ensures a_struct { ¬ IsNoStruct (fields none) }
 {}
 
-/// Of the statement to be absent one value is the only one; of the statement to be anything none is.
+/// Of the statement to be absent one value is the only one; of the statement to be anything none
+/// is.
 pub fn only_values()
     ensures absent { IsOnly (λ v. v ≡ absent) absent }
     ensures anything { ¬ IsOnly (λ v. v ≡ v) absent }

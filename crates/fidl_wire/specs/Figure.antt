@@ -15,7 +15,8 @@ pub record Figure : Type 0 where
 abbrev pub figure : ℕ → ℕ → ℕ → Figure
 figure size align nest = record { size = size; align = align; nest = nest }
 
--- a struct's figure, from the end of its members, their greatest alignment and their greatest nest: an empty struct has one byte
+-- a struct's figure, from the end of its members, their greatest alignment and their greatest nest:
+-- an empty struct has one byte
 abbrev pub struct_figure : ℕ → ℕ → ℕ → Figure
 struct_figure end align nest = figure (next_multiple_of (max end 1) align) align (suc nest)
 
@@ -29,9 +30,11 @@ abbrev mutual
   figure_of figures (ty.handle optional subtype rights) = figure 4 4 0
   figure_of figures (ty.string optional bound) = figure 16 8 0
   figure_of figures (ty.vector optional bound t) = figure 16 8 0
-  figure_of figures (ty.array t n) = let f = figure_of figures t in figure (f.size * n) f.align (suc f.nest)
+  figure_of figures (ty.array t n) = let f = figure_of figures t in
+      figure (f.size * n) f.align (suc f.nest)
   figure_of figures (ty.box t) = figure 8 8 0
-  figure_of figures (ty.struct fs) = struct_figure (end_of figures 0 fs) (align_of figures fs) (nest_of figures fs)
+  figure_of figures (ty.struct fs) =
+      struct_figure (end_of figures 0 fs) (align_of figures fs) (nest_of figures fs)
   figure_of figures (ty.table rows) = figure 16 8 0
   figure_of figures (ty.union optional strict rows) = figure 16 8 0
   figure_of figures (ty.named i) = get_or figures i (figure 1 1 0)
@@ -39,7 +42,8 @@ abbrev mutual
   -- where members that begin behind `from` end, each at the next place of its alignment
   pub end_of : List Figure → (from : ℕ) → Fields → ℕ
   end_of figures from no_fields = from
-  end_of figures from (field name t fs) = let f = figure_of figures t in end_of figures (next_multiple_of from f.align + f.size) fs
+  end_of figures from (field name t fs) = let f = figure_of figures t in
+      end_of figures (next_multiple_of from f.align + f.size) fs
 
   -- the greatest alignment of members, 1 where there are none
   pub align_of : List Figure → Fields → ℕ

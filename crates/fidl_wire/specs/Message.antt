@@ -1,7 +1,8 @@
 -- The message of a value, and which messages encode a value (docs/wire.md, "Messages").
 use Rattle.std.specs.Prelude.{◌≡◌, ◌≤◌, ℕ, List, length}
 use Rattle.fidl_wire.specs.declared.handle.HandleInfo.{HandleInfo}
-use Rattle.fidl_wire.specs.declared.limits.TheConstants.{MAX_MESSAGE_BYTES, MAX_MESSAGE_HANDLES, MAX_DEPTH}
+use Rattle.fidl_wire.specs.declared.limits.TheConstants.{MAX_MESSAGE_BYTES, MAX_MESSAGE_HANDLES}
+use Rattle.fidl_wire.specs.declared.limits.TheConstants.{MAX_DEPTH}
 use Rattle.fidl_wire.specs.Value.{Value}
 use Rattle.fidl_wire.specs.Term.{Term}
 use Rattle.fidl_wire.specs.Figure.{Declarations}
@@ -14,7 +15,8 @@ abbrev pub Message : Declarations → Term → Value → List ℕ × List Handle
 Message ds t v = (object (Enc ds t v), (Enc ds t v).handles)
 
 -- the value is one of the term, not too deep, and has this message, which is within the limits
-pub record Encodes (ds : Declarations) (t : Term) (v : Value) (bytes : List ℕ) (handles : List HandleInfo) : Type 0 where
+pub record Encodes (ds : Declarations) (t : Term) (v : Value) (bytes : List ℕ)
+    (handles : List HandleInfo) : Type 0 where
   pub typed : Typed ds t v
   pub shallow : Depth ds t v ≤ MAX_DEPTH
   pub message : Message ds t v ≡ (bytes, handles)

@@ -1,5 +1,6 @@
 -- The types of FIDL, as terms (docs/wire.md, "Terms and declarations").
-use Rattle.std.specs.Prelude.{ℕ, ◌<◌, ◌^◌, ◌==◌, ℤ, List, [], Bool, Option, Some, None, get_or, if◌then◌else◌}
+use Rattle.std.specs.Prelude.{ℕ, ◌<◌, ◌^◌, ◌==◌, ℤ, List, [], Bool, Option, Some, None, get_or}
+use Rattle.std.specs.Prelude.{if◌then◌else◌}
 use Rattle.std.specs.Int.{Width, w8, w16, w32, w64}
 
 -- the types of whole numbers
@@ -7,7 +8,8 @@ pub data Kind : Type 0 where
   int8 int16 int32 int64 uint8 uint16 uint32 uint64 : Kind
 
 mutual
-  -- a type; bits have their mask and enums their values where they are strict; `named` is a declaration, by its number
+  -- a type; bits have their mask and enums their values where they are strict; `named` is a
+  -- declaration, by its number
   pub data Term : Type 0 where
     bool : Term
     number : Kind → Term

@@ -3,7 +3,8 @@ use Rattle.std.specs.Prelude.{ℕ, suc, ℤ, List, [], ◌∷◌, Bool}
 use Rattle.fidl_wire.specs.declared.handle.HandleInfo.{HandleInfo}
 
 mutual
-  -- a value of any type; bits and enums are numbers, arrays are lists, present boxes are their struct's fields
+  -- a value of any type; bits and enums are numbers, arrays are lists, present boxes are their
+  -- struct's fields
   pub data Value : Type 0 where
     absent : Value
     bool : Bool → Value
@@ -20,7 +21,8 @@ mutual
     none : Values
     value : Value → Values → Values
 
-  -- what a table or union holds at an ordinal: a value, or the raw parts of a member that its layout doesn't know
+  -- what a table or union holds at an ordinal: a value, or the raw parts of a member that its
+  -- layout doesn't know
   pub data Member : Type 0 where
     known : Value → Member
     unknown : (inline : Bool) (bytes : List ℕ) (handles : List HandleInfo) → Member

@@ -1,4 +1,5 @@
--- What a tree of the code stands for: steps say it of one level, with what the parts stand for in their places, and folds of a whole tree.
+-- What a tree of the code stands for: steps say it of one level, with what the parts stand for in
+-- their places, and folds of a whole tree.
 use Rattle.std.specs.Prelude.{ℕ, List, map}
 use Rattle.fidl_wire.specs.Value as data_of
 use Rattle.fidl_wire.specs.declared.value.Value.{Value, Value-F, fold-Value}
@@ -8,7 +9,8 @@ use Rattle.fidl_wire.specs.declared.value.Members.{Members}
 use Rattle.fidl_wire.specs.declared.value.Content.{Content}
 
 -- a value, by its variant
-abbrev value_step : Value-F data_of.Member data_of.Value data_of.Member data_of.Members data_of.Values → data_of.Value
+abbrev value_step : Value-F data_of.Member data_of.Value data_of.Member data_of.Members
+    data_of.Values → data_of.Value
 value_step Value-F.Absent = data_of.absent
 value_step (Value-F.Bool b) = data_of.bool b
 value_step (Value-F.Number n) = data_of.number n
@@ -20,17 +22,22 @@ value_step (Value-F.Table n ms) = data_of.table n ms
 value_step (Value-F.Union ordinal m) = data_of.union ordinal m
 
 -- a member, by its variant
-abbrev member_step : Member-F data_of.Member data_of.Value data_of.Member data_of.Members data_of.Values → data_of.Member
+abbrev member_step : Member-F data_of.Member data_of.Value data_of.Member data_of.Members
+    data_of.Values → data_of.Member
 member_step (Member-F.Known v) = data_of.known v
 member_step (Member-F.Unknown inline bytes handles) = data_of.unknown inline bytes handles
 
 -- the value of a tree
 abbrev pub value_view : Value → data_of.Value
-value_view = fold-Value _ _ _ _ _ member_step value_step (λ c. c.member.value) (λ ms. data_of.members_of ms.entries.items) (λ vs. data_of.values_of vs.items.items)
+value_view =
+    fold-Value _ _ _ _ _ member_step value_step (λ c. c.member.value)
+    (λ ms. data_of.members_of ms.entries.items) (λ vs. data_of.values_of vs.items.items)
 
 -- the member of a tree
 abbrev pub member_view : Member → data_of.Member
-member_view = fold-Member _ _ _ _ _ member_step value_step (λ c. c.member.value) (λ ms. data_of.members_of ms.entries.items) (λ vs. data_of.values_of vs.items.items)
+member_view =
+    fold-Member _ _ _ _ _ member_step value_step (λ c. c.member.value)
+    (λ ms. data_of.members_of ms.entries.items) (λ vs. data_of.values_of vs.items.items)
 
 -- the member of a union
 abbrev pub content_view : Content → data_of.Member

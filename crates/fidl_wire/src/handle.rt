@@ -57,7 +57,8 @@ impl Handles {
         items
     }
 
-    /// Adds a handle at the end. An error means that memory ran out; the handles are then unchanged.
+    /// Adds a handle at the end. An error means that memory ran out; the handles are then
+    /// unchanged.
     pub fn push(&mut self, handle: HandleInfo) -> Result<(), AllocError>
         ensures ok { IfOk result (λ _. self.new ≡ self.old ++ handle ∷ []) }
         ensures err { OnErr result (self.new ≡ self.old) }

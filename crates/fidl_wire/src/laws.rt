@@ -8,16 +8,20 @@ ghost use Rattle.fidl_wire.specs.declared.value.Member.TheVariants as part;
 ghost use Rattle.fidl_wire.specs.declared.value.Values.{Values};
 ghost use Rattle.fidl_wire.specs.declared.value.Members.{Members};
 ghost use Rattle.fidl_wire.specs.declared.value.Content.{Content};
-ghost use Rattle.fidl_wire.specs.Value.{Value, absent, bool, number, text, list, fields, handle, table, union, known, unknown, values_of, members_of};
-ghost use Rattle.fidl_wire.specs.Views.{content_view, member_view, members_view, value_view, values_view};
+ghost use Rattle.fidl_wire.specs.Value.{Value, absent, bool, number, text, list, fields, handle};
+ghost use Rattle.fidl_wire.specs.Value.{table, union, known, unknown, values_of, members_of};
+ghost use Rattle.fidl_wire.specs.Views.{content_view, member_view, members_view, value_view};
+ghost use Rattle.fidl_wire.specs.Views.{values_view};
 ghost use Rattle.fidl_wire.specs.Term.{Term, IsNoName, IsBounded};
-ghost use Rattle.fidl_wire.specs.Figure.{Declarations, Figure, figure_of, IsLaidOut, IsSound, size_of};
+ghost use Rattle.fidl_wire.specs.Figure.{Declarations, Figure, figure_of, IsLaidOut, IsSound};
+ghost use Rattle.fidl_wire.specs.Figure.{size_of};
 ghost use Rattle.fidl_wire.specs.Typed.{Typed};
 ghost use Rattle.fidl_wire.specs.Encoding.{Enc};
 ghost use Rattle.fidl_wire.specs.Message.{Message, Encodes};
 ghost use Rattle.fidl_wire.specs.Standing.{Stands, Carries};
 
-/// A tree of each variant stands for the value of that kind, made of what the tree's parts stand for.
+/// A tree of each variant stands for the value of that kind, made of what the tree's parts stand
+/// for.
 pub fn trees_stand_for_values()
     ensures absence { value_view tree.Absent ≡ absent }
     ensures bools { (b : Bool) → value_view (tree.Bool b) ≡ bool b }
@@ -71,7 +75,8 @@ pub fn joined_bytes_stand()
         → Stands message place (a ++ b) ↔ (Stands message place a × Stands message (place + length a) b) }
 {}
 
-/// Joined handles stand beside a message where the first of them stand and the others stand right behind.
+/// Joined handles stand beside a message where the first of them stand and the others stand right
+/// behind.
 pub fn joined_handles_stand()
     ensures { (beside : List HandleInfo) (index : ℕ) (a b : List HandleInfo)
         → Carries beside index (a ++ b) ↔ (Carries beside index a × Carries beside (index + length a) b) }

@@ -1,7 +1,8 @@
 //! The owned tree of a value, and the lists that it consists of.
 ghost use Rattle.std.specs.Prelude.{◌≡◌, ◌↔◌, [], ◌∷◌, ◌++◌, length, map, IfOk, OnErr, IsTrue};
 ghost use Rattle.std.specs.Slice.Iter.{iter_rest};
-ghost use Rattle.fidl_wire.specs.Views.{content_view, entry_view, member_view, members_view, value_view, values_view};
+ghost use Rattle.fidl_wire.specs.Views.{content_view, entry_view, member_view, members_view};
+ghost use Rattle.fidl_wire.specs.Views.{value_view, values_view};
 
 use crate::bytes::Bytes;
 use crate::handle::{HandleInfo, Handles};
@@ -38,8 +39,8 @@ pub enum Value {
 pub enum Member {
     /// A member that the layout has.
     Known(Value),
-    /// A member that the layout does not have, raw: the four bytes of an inline envelope or all bytes
-    /// out of line, and its handles.
+    /// A member that the layout does not have, raw: the four bytes of an inline envelope or all
+    /// bytes out of line, and its handles.
     Unknown {
         inline: bool,
         bytes: Bytes,
@@ -157,7 +158,8 @@ impl Members {
         entries
     }
 
-    /// Adds a member at the end. An error means that memory ran out; the members are then unchanged.
+    /// Adds a member at the end. An error means that memory ran out; the members are then
+    /// unchanged.
     pub fn push(&mut self, ordinal: u64, member: Member) -> Result<(), AllocError>
         ensures ok { IfOk result (λ _. members_view self.new ≡ members_view self.old
             ++ (ordinal, member_view member) ∷ []) }

@@ -1,7 +1,10 @@
-//! Worked messages: values of small types with their bytes, handles and written texts, computed by the definitions.
-ghost use Rattle.std.specs.Prelude.{◌≡◌, ℕ, [], ◌∷◌, ◌++◌, replicate, fold, codes, true, false, pos};
+//! Worked messages: values of small types with their bytes, handles and written texts, computed by
+//! the definitions.
+ghost use Rattle.std.specs.Prelude.{◌≡◌, ℕ, [], ◌∷◌, ◌++◌, replicate, fold, codes, true, false};
+ghost use Rattle.std.specs.Prelude.{pos};
 ghost use Rattle.fidl_wire.specs.declared.handle.HandleInfo.{HandleInfo};
-ghost use Rattle.fidl_wire.specs.Value.{Value, absent, number, text, fields, handle, table, union, none, value, known, unknown, empty, member};
+ghost use Rattle.fidl_wire.specs.Value.{Value, absent, number, text, fields, handle, table, union};
+ghost use Rattle.fidl_wire.specs.Value.{none, value, known, unknown, empty, member};
 ghost use Rattle.fidl_wire.specs.Term.{Term, no_fields, field, no_rows, row, uint8, uint32};
 ghost use Rattle.fidl_wire.specs.Term as ty;
 ghost use Rattle.fidl_wire.specs.Figure.{Declarations, IsLaidOut, no_declarations, figure};

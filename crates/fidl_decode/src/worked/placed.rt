@@ -10,21 +10,25 @@ ghost use Rattle.fidl_decode.specs.Faults.{message_of};
 ghost use Rattle.fidl_decode.specs.Links.{Linked};
 ghost use Rattle.fidl_decode.specs.Placed.{Placed};
 
-/// `struct {value string:3;}` with "abc" at 16: placed where the cell of its marker, at 8, says 16, and not where it says 8.
+/// `struct {value string:3;}` with "abc" at 16: placed where the cell of its marker, at 8, says 16,
+/// and not where it says 8.
 pub fn a_text_lies_where_its_marker_leads()
-    ensures there { let t : Term = ty.struct (field (codes "value") (ty.string false 3) no_fields) in
+    ensures there { let t : Term = ty.struct (field (codes "value") (ty.string false 3) no_fields)
+        in
         let v : Value = fields (value (text (97 ∷ 98 ∷ 99 ∷ [])) none) in
         let bytes = 3 ∷ zeros 7 ++ replicate 8 255 ++ 97 ∷ 98 ∷ 99 ∷ zeros 5 in
         let l : Linked = record { objects = 0 ∷ 16 ∷ []; records = [] } in
         Placed no_declarations (message_of bytes []) l t 0 v }
-    ensures elsewhere { let t : Term = ty.struct (field (codes "value") (ty.string false 3) no_fields) in
+    ensures elsewhere { let t : Term =
+        ty.struct (field (codes "value") (ty.string false 3) no_fields) in
         let v : Value = fields (value (text (97 ∷ 98 ∷ 99 ∷ [])) none) in
         let bytes = 3 ∷ zeros 7 ++ replicate 8 255 ++ 97 ∷ 98 ∷ 99 ∷ zeros 5 in
         let l : Linked = record { objects = 0 ∷ 8 ∷ []; records = [] } in
         ¬ (Placed no_declarations (message_of bytes []) l t 0 v) }
 {}
 
-/// `resource struct {h zx.Handle;}` beside two records: its handle is the one of the record that is linked, and not the other.
+/// `resource struct {h zx.Handle;}` beside two records: its handle is the one of the record that is
+/// linked, and not the other.
 pub fn a_handle_is_that_of_its_record()
     ensures second { let t : Term = ty.struct (field (codes "h") (ty.handle false 0 0) no_fields) in
         let a : HandleInfo = record { id = 1; object_type = 3; rights = 0 } in

@@ -85,7 +85,8 @@ fn constraints_have_their_meanings(rt: HostRuntime) -> Result<(), Fail> {
     Ok(())
 }
 
-/// What a name in the second file of a set means as a type and as a value, and what the second argument of a type of that name wants.
+/// What a name in the second file of a set means as a type and as a value, and what the second
+/// argument of a type of that name wants.
 type Meant = (Option<Meaning>, Option<Meaning>, Wanted);
 
 fn meant(named: &Named<'_, '_>, path: &Path) -> Result<Option<Meant>, AllocError> {

@@ -3,7 +3,8 @@ use fidl_span::Span;
 use fidl_tree::{Attribute, NamedType, Operand, Path, PathPart, TypeConstructor, Value};
 use std::alloc::{AllocError, Global};
 
-/// Hands out the places of words one after another: the word number n, from 0, gets the span from n to n.
+/// Hands out the places of words one after another: the word number n, from 0, gets the span from n
+/// to n.
 #[derive(Drop)]
 pub(super) struct Places {
     pub(super) next: usize,

@@ -1,7 +1,8 @@
 //! Refused: structs, boxes, tables and unions.
 ghost use Rattle.std.specs.Prelude.{[], ◌∷◌, ◌++◌, codes, true, false, pos};
 ghost use Rattle.fidl_wire.specs.declared.handle.HandleInfo.{HandleInfo};
-ghost use Rattle.fidl_wire.specs.Value.{absent, empty, fields, known, list, member, none, number, table, union, unknown, value};
+ghost use Rattle.fidl_wire.specs.Value.{absent, empty, fields, known, list, member, none, number};
+ghost use Rattle.fidl_wire.specs.Value.{table, union, unknown, value};
 ghost use Rattle.fidl_wire.specs.Term.{Term, no_fields, field, no_rows, row, uint8, uint32, uint64};
 ghost use Rattle.fidl_wire.specs.Term as ty;
 ghost use Rattle.fidl_wire.specs.Figure.{no_declarations};

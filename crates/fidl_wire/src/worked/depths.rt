@@ -1,7 +1,8 @@
 //! The depth of values of each kind.
 ghost use Rattle.std.specs.Prelude.{◌≡◌, [], codes, true, false, pos};
 ghost use Rattle.fidl_wire.specs.declared.handle.HandleInfo.{HandleInfo};
-ghost use Rattle.fidl_wire.specs.Value.{absent, bool, empty, fields, handle, known, list, member, none, number, table, text, union, unknown, value};
+ghost use Rattle.fidl_wire.specs.Value.{absent, bool, empty, fields, handle, known, list, member};
+ghost use Rattle.fidl_wire.specs.Value.{none, number, table, text, union, unknown, value};
 ghost use Rattle.fidl_wire.specs.Term.{no_fields, field, no_rows, row, uint8, uint32, uint64};
 ghost use Rattle.fidl_wire.specs.Term as ty;
 ghost use Rattle.fidl_wire.specs.Figure.{no_declarations};

@@ -1,9 +1,12 @@
 //! Size, alignment and nest of each kind, and what terms and ordinals stand for.
 ghost use Rattle.std.specs.Prelude.{◌≡◌, [], ◌∷◌, codes, false, pos, Some, None};
 ghost use Rattle.fidl_wire.specs.Value.{Value};
-ghost use Rattle.fidl_wire.specs.Term.{find, no_fields, field, no_rows, row, resolve, int8, int16, int32, int64, uint8, uint16, uint32, uint64, IsBounded, IsNoName};
+ghost use Rattle.fidl_wire.specs.Term.{find, no_fields, field, no_rows, row, resolve, int8, int16};
+ghost use Rattle.fidl_wire.specs.Term.{int32, int64, uint8, uint16, uint32, uint64, IsBounded};
+ghost use Rattle.fidl_wire.specs.Term.{IsNoName};
 ghost use Rattle.fidl_wire.specs.Term as ty;
-ghost use Rattle.fidl_wire.specs.Figure.{Declarations, IsLaidOut, figure, figure_of, no_declarations, offsets};
+ghost use Rattle.fidl_wire.specs.Figure.{Declarations, IsLaidOut, figure, figure_of};
+ghost use Rattle.fidl_wire.specs.Figure.{no_declarations, offsets};
 ghost use Rattle.fidl_wire.specs.Typed.{Typed};
 
 /// Bools and numbers have the size and alignment of their width.

@@ -1,8 +1,10 @@
 //! Worked messages of structs, boxes, tables and unions, each as a message of its own.
 ghost use Rattle.std.specs.Prelude.{[], ◌∷◌, ◌++◌, codes, replicate, true, false, pos};
 ghost use Rattle.fidl_wire.specs.declared.handle.HandleInfo.{HandleInfo};
-ghost use Rattle.fidl_wire.specs.Value.{absent, bool, empty, fields, handle, known, list, member, none, number, table, text, union, unknown, value};
-ghost use Rattle.fidl_wire.specs.Term.{Term, no_fields, field, no_rows, row, uint8, uint16, uint32, uint64};
+ghost use Rattle.fidl_wire.specs.Value.{absent, bool, empty, fields, handle, known, list, member};
+ghost use Rattle.fidl_wire.specs.Value.{none, number, table, text, union, unknown, value};
+ghost use Rattle.fidl_wire.specs.Term.{Term, no_fields, field, no_rows, row, uint8, uint16, uint32};
+ghost use Rattle.fidl_wire.specs.Term.{uint64};
 ghost use Rattle.fidl_wire.specs.Term as ty;
 ghost use Rattle.fidl_wire.specs.Figure.{no_declarations};
 ghost use Rattle.fidl_wire.specs.Samples.{byte_struct, declared_bool, number_union};
@@ -141,7 +143,8 @@ pub fn unknown_members_of_a_union()
         (replicate 8 255 ++ 8 ∷ zeros 7 ++ 1 ∷ 2 ∷ 3 ∷ 4 ∷ 5 ∷ 6 ∷ 7 ∷ 255 ∷ []) [] }
 {}
 
-/// `type S = struct {b bool;};` in a struct, a box, an array, a table and a union, by its declaration.
+/// `type S = struct {b bool;};` in a struct, a box, an array, a table and a union, by its
+/// declaration.
 pub fn declared_types()
     ensures in_a_struct { Encodes declared_bool
         (ty.struct (field (codes "a") (ty.named 0) (field (codes "c") (ty.number uint8) no_fields)))

@@ -1,8 +1,10 @@
 //! The written text of values of each kind.
 ghost use Rattle.std.specs.Prelude.{◌≡◌, [], ◌∷◌, codes, true, false, pos, negsuc, None};
 ghost use Rattle.fidl_wire.specs.declared.handle.HandleInfo.{HandleInfo};
-ghost use Rattle.fidl_wire.specs.Value.{absent, bool, empty, fields, handle, known, list, member, none, number, table, text, union, unknown, value};
-ghost use Rattle.fidl_wire.specs.Term.{no_fields, field, no_rows, row, int64, uint8, uint32, uint64};
+ghost use Rattle.fidl_wire.specs.Value.{absent, bool, empty, fields, handle, known, list, member};
+ghost use Rattle.fidl_wire.specs.Value.{none, number, table, text, union, unknown, value};
+ghost use Rattle.fidl_wire.specs.Term.{no_fields, field, no_rows, row, int64, uint8, uint32};
+ghost use Rattle.fidl_wire.specs.Term.{uint64};
 ghost use Rattle.fidl_wire.specs.Term as ty;
 ghost use Rattle.fidl_wire.specs.Figure.{no_declarations};
 ghost use Rattle.fidl_wire.specs.Samples.{declared_bool};
