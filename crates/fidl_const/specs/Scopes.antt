@@ -119,7 +119,7 @@ ReadsOrOperands s t before os k = OrOperandsAre s.file.named.now s.file.tree.now
 abbrev pub RefusesOrOperands : FileScope → ConstType → List OrOperand → ConstFault → Type 0
 RefusesOrOperands s t os fault =
     OrOperandsFail s.file.named.now s.file.tree.now s.file.file_index t (map or_operand_view os)
-        fault
+    fault
 
 abbrev pub ReadsValue : FileScope → ConstType → Value → ConstValue → Type 0
 ReadsValue s t v k = ValueIs s.file.named.now s.file.tree.now t (value_view v) (seen k)

@@ -93,7 +93,7 @@ BreaksCounted m held optional bound size place next (AbsentRequired at) = (at �
     × IsFalse optional × Stands m.bytes (place + 8) (zeros 8)
 BreaksCounted m held optional bound size place next (BadCount at) = (at ≡ place)
     × ((Stands m.bytes (place + 8) (zeros 8) × (count_at m.bytes place ≢ 0))
-        ⊎ (Stands m.bytes (place + 8) present × (length m.bytes - next < size)))
+    ⊎ (Stands m.bytes (place + 8) present × (length m.bytes - next < size)))
 BreaksCounted m held optional bound size place next (OverBound at) = (at ≡ place)
     × Stands m.bytes (place + 8) present × (bound < count_at m.bytes place)
 BreaksCounted m held optional bound size place next (TooDeep at) = (at ≡ place)
@@ -111,7 +111,7 @@ BreaksText m held optional bound place next (NotUtf8 at) = (at ≡ next)
     × ¬ (IsUtf8 (slice_range m.bytes next (next + count_at m.bytes place)))
 BreaksText m held optional bound place next (Padding at) = let n = count_at m.bytes place in
     Stands m.bytes (place + 8) present
-        × IsPadding m.bytes (next + n) (next + next_multiple_of n 8) (Padding at)
+    × IsPadding m.bytes (next + n) (next + next_multiple_of n 8) (Padding at)
 BreaksText m held optional bound place next fault =
     BreaksCounted m held optional bound (count_at m.bytes place) place next fault
 
@@ -172,7 +172,7 @@ mutual
         → object_of ds m.bytes t place ≡ Some o → Stands m.bytes o.marker present
         → ((other : DecodeFault) → ¬ (BreaksRule ds m held t place from.next from.handle other))
         → BreaksParts ds m (held + 1) (next_multiple_of o.size 8) from.next 0 o.parts
-            (linked o.marker o.size from) fault → Breaks ds m held t place from fault
+        (linked o.marker o.size from) fault → Breaks ds m held t place from fault
 
   -- the same of the parts of an object of this size at a base, where `done` bytes of it are right
   pub data BreaksParts (ds : Declarations) (m : Message) : (held size base done : ℕ) → List Part
@@ -185,13 +185,13 @@ mutual
     in_next : {held : ℕ} (size base done : ℕ) (p : Part) (ps : List Part) (from : At)
         (fault : DecodeFault) → Stands m.bytes (base + done) (zeros (p.offset - done))
         → Breaks ds m held (resolve ds.terms p.term) (base + p.offset) from fault
-            → BreaksParts ds m held size base done (p ∷ ps) from fault
+        → BreaksParts ds m held size base done (p ∷ ps) from fault
     -- a later one, where a value stands as the next part
     in_later : {held : ℕ} (size base done : ℕ) (p : Part) (ps : List Part) (from mid : At)
         (fault : DecodeFault) → Stands m.bytes (base + done) (zeros (p.offset - done))
         → Item ds m held (resolve ds.terms p.term) (base + p.offset) from mid
-            → BreaksParts ds m held size base (p.offset + size_of ds p.term) ps mid fault
-            → BreaksParts ds m held size base done (p ∷ ps) from fault
+        → BreaksParts ds m held size base (p.offset + size_of ds p.term) ps mid fault
+        → BreaksParts ds m held size base done (p ∷ ps) from fault
     -- the gap at the object's end
     in_end : {held : ℕ} (size base done : ℕ) (from : At) (fault : DecodeFault)
         → IsPadding m.bytes (base + done) (base + size) fault

@@ -160,7 +160,7 @@ pub record Visits (t : List ℕ) (m : Message) (held e place : ℕ) (old new : A
       found
   pub less : let f = figure_of (declarations_of t).figures (ty.named e) in
       byte_work * (length m.bytes - new.next) + frame_work_if found + spent
-          ≤ byte_work * (length m.bytes - old.next) + inline_work f.nest * f.size + 1
+      ≤ byte_work * (length m.bytes - old.next) + inline_work f.nest * f.size + 1
 
 -- a turn on a frame: what is left of it, what is to be read before that, and the state then
 pub record Turns (t : List ℕ) (m : Message) (f : Frame) (old new : At) (spent : ℕ) (x : Turn) : Type
@@ -192,5 +192,10 @@ IsStopped t m fs from fault = BreaksStack t m fs from fault
 -- how far a state has read, and what it has linked
 abbrev pub at_of : State → At
 at_of s =
-    record { next = s.next; handle = s.handle; objects = s.links.objects; records =
-    s.links.records }
+    record {
+      next = s.next;
+      handle = s.handle;
+      objects = s.links.objects;
+      records =
+          s.links.records;
+    }

@@ -71,7 +71,7 @@ abbrev mutual
       let f = figure_of ds.figures t in
       let at = next_multiple_of from f.align in
       Placed ds m l (resolve ds.terms t) (base + at) v
-          × AreFieldsPlaced ds m l fs (at + f.size) base vs
+      × AreFieldsPlaced ds m l fs (at + f.size) base vs
 
 -- the links of a state
 abbrev pub links_of : At → Linked

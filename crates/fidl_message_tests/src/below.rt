@@ -184,8 +184,8 @@ fn third(view: View<'_, '_>) -> Option<u64> {
 
 /// A vector of three structs, of 1, 2 and 3, with its padding.
 const THREE: [u8; 32] = [
-    3, 0, 0, 0, 0, 0, 0, 0, 255, 255, 255, 255, 255, 255, 255, 255, 1, 0, 0, 0, 2, 0, 0, 0, 3, 0, 0,
-    0, 0, 0, 0, 0,
+    3, 0, 0, 0, 0, 0, 0, 0, 255, 255, 255, 255, 255, 255, 255, 255, 1, 0, 0, 0, 2, 0, 0, 0, 3, 0,
+    0, 0, 0, 0, 0, 0,
 ];
 
 /// A vector of structs is decoded.

@@ -23,7 +23,7 @@ abbrev pub Finds : {X : Type 0} {R : Type 0} → Parser → ℕ → ℕ → (X �
     → Result R Stop → Type 0
 Finds {X = X} p from to leaves_of May result =
     (x : X) → (rest : List Leaf) → May rest → Ahead p from (leaves_of x ++ rest)
-        → Goes result (Ahead p to rest)
+    → Goes result (Ahead p to rest)
 
 -- Wherever no such part stands, but what may stand in its place, none is read.
 abbrev pub Skips : {R : Type 0} → Parser → ℕ → ℕ → (List Leaf → Type 0) → Result (Option R) Stop

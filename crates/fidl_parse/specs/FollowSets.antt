@@ -76,7 +76,7 @@ BeginsMethod [] = ⊥
 BeginsMethod (l ∷ []) = ⊥
 BeginsMethod (l ∷ m ∷ rest) =
     (l.word.kind ≡ kind.Arrow)
-        ⊎ ((l.word.kind ≡ kind.Identifier) × (m.word.kind ≡ kind.LeftParenthesis))
+    ⊎ ((l.word.kind ≡ kind.Identifier) × (m.word.kind ≡ kind.LeftParenthesis))
 
 -- the two texts are one
 abbrev pub same_text : List ℕ → List ℕ → Bool

@@ -28,4 +28,4 @@ IsKindAt p at k = (w : Word) × (slice_get p.words.now at ≡ Some w) × (w.kind
 abbrev pub IsTextAt : Parser → ℕ → List ℕ → Type 0
 IsTextAt p at text =
     (w : Word) × (slice_get p.words.now at ≡ Some w) × (w.kind ≡ kind.Identifier)
-        × (text_at p.src.now w.span ≡ text)
+    × (text_at p.src.now w.span ≡ text)

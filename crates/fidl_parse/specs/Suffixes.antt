@@ -38,7 +38,7 @@ has_resource (ResourceFirst resource strictness) = true
 abbrev pub Lacks : (UnionModifiers → Bool) → Parser → ℕ → Result UnionModifiers Stop → Type 0
 Lacks has p from result =
     (x : UnionModifiers) → (rest : List Leaf) → NotWord modifier_words rest
-        → Ahead p from (union_modifiers_leaves x ++ rest)
+    → Ahead p from (union_modifiers_leaves x ++ rest)
     → has x ≡ false
     → IfOk result (λ modifiers. has modifiers ≡ false)
 

@@ -12,9 +12,9 @@ use Rattle.fidl_records.specs.declared.kind.EntryKind.TheVariants.{Handle}
 abbrev pub kinds : List (Option EntryKind)
 kinds =
     None ∷ Some Bool ∷ Some Int8 ∷ Some Int16 ∷ Some Int32 ∷ Some Int64 ∷ Some Uint8 ∷ Some Uint16
-        ∷ Some Uint32 ∷ Some Uint64
+    ∷ Some Uint32 ∷ Some Uint64
     ∷ Some Bits ∷ Some Enum ∷ Some String ∷ Some Vector ∷ Some Array ∷ Some Box ∷ Some Struct
-        ∷ Some Table ∷ Some Union ∷ Some Handle ∷ []
+    ∷ Some Table ∷ Some Union ∷ Some Handle ∷ []
 
 -- the kind of a number
 abbrev pub kind_of : ℕ → Option EntryKind

@@ -28,7 +28,7 @@ header_bytes entries values = codes "FCT2" ++ 1 ∷ 0 ∷ 0 ∷ 0 ∷ entries �
 abbrev pub entry_bytes : (kind flags size first count subtype : ℕ) → List ℕ
 entry_bytes kind flags size first count subtype =
     kind ∷ flags ∷ size ∷ 0 ∷ size ∷ 0 ∷ 0 ∷ 0 ∷ first ∷ 0 ∷ 0 ∷ 0 ∷ count ∷ replicate 11 0
-        ++ subtype ∷ replicate 15 0
+    ++ subtype ∷ replicate 15 0
 
 -- the bytes of an enum of this size, with its values from `first` on
 abbrev pub enum_bytes : (flags size first count subtype : ℕ) → List ℕ
@@ -50,7 +50,7 @@ two_values size subtype a b = header_bytes 1 2 ++ enum_bytes 2 size 0 2 subtype 
 abbrev pub three_enums : (first values : ℕ) → List ℕ
 three_enums first values =
     header_bytes 3 values ++ enum_bytes 2 1 0 2 2 ++ enum_bytes 0 1 first 0 6
-        ++ enum_bytes 2 1 2 1 6 ++ all_ones ++ value_bytes 1 ++ value_bytes 7
+    ++ enum_bytes 2 1 2 1 6 ++ all_ones ++ value_bytes 1 ++ value_bytes 7
 
 -- the bytes of a vector of at most `bound` elements of the entry `first`
 abbrev pub vector_bytes : (flags first bound : ℕ) → List ℕ

@@ -72,8 +72,13 @@ entry_at bytes index =
 abbrev pub row_at : List ℕ → Header → (index : ℕ) → Row
 row_at bytes h index =
     let place = row_place h index in
-    record { key = number_at w32 bytes place; entry = number_at w32 bytes (place + 4); name_place =
-        number_at w32 bytes (place + 8); name_length = number_at w32 bytes (place + 12) }
+    record {
+      key = number_at w32 bytes place;
+      entry = number_at w32 bytes (place + 4);
+      name_place =
+          number_at w32 bytes (place + 8);
+      name_length = number_at w32 bytes (place + 12);
+    }
 
 -- the eight bytes of a strict enum's value as a number; negative values are sign-extended to 64
 -- bits
@@ -84,8 +89,12 @@ value_at bytes h index = number_at w64 bytes (value_place h index)
 abbrev pub root_at : List ℕ → Header → (index : ℕ) → Root
 root_at bytes h index =
     let place = root_place h index in
-    record { name_place = number_at w32 bytes place; name_length =
-        number_at w32 bytes (place + 4); entry = number_at w32 bytes (place + 8) }
+    record {
+      name_place = number_at w32 bytes place;
+      name_length =
+          number_at w32 bytes (place + 4);
+      entry = number_at w32 bytes (place + 8);
+    }
 
 -- the bytes of a name, by its place in the names
 abbrev pub name_at : List ℕ → Header → (place name_length : ℕ) → List ℕ

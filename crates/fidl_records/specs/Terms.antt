@@ -62,7 +62,7 @@ fields_from bytes h first zero = no_fields
 fields_from bytes h first (suc n) =
     let r = row_at bytes h first in
     field (name_at bytes h r.name_place r.name_length) (ty.named r.entry)
-        (fields_from bytes h (suc first) n)
+    (fields_from bytes h (suc first) n)
 
 -- the members of a table or union, each with its ordinal too
 abbrev pub rows_from : List ℕ → Header → (first count : ℕ) → Rows
@@ -70,7 +70,7 @@ rows_from bytes h first zero = no_rows
 rows_from bytes h first (suc n) =
     let r = row_at bytes h first in
     row r.key (name_at bytes h r.name_place r.name_length) (ty.named r.entry)
-        (rows_from bytes h (suc first) n)
+    (rows_from bytes h (suc first) n)
 
 -- the type that an entry of this kind declares, one level deep: what it holds is named by its
 -- entry's number
@@ -105,5 +105,8 @@ below (suc n) = below n ++ n ∷ []
 abbrev pub declarations_of : List ℕ → Declarations
 declarations_of bytes =
     let h = header_of bytes in
-    record { terms = map (λ i. term_of bytes h (entry_at bytes i)) (below h.entries); figures =
-        map (λ i. stated_figure (entry_at bytes i)) (below h.entries) }
+    record {
+      terms = map (λ i. term_of bytes h (entry_at bytes i)) (below h.entries);
+      figures =
+          map (λ i. stated_figure (entry_at bytes i)) (below h.entries);
+    }

@@ -65,7 +65,7 @@ abbrev pub AreWordsBetween : List ℕ → ℕ → List Word → ℕ → Type 0
 AreWordsBetween src from [] to = IsGapBetween src from to
 AreWordsBetween src from (word ∷ words) to =
     IsGapBetween src from word.span.from × StandsAt src word
-        × AreWordsBetween src word.span.to words to
+    × AreWordsBetween src word.span.to words to
 
 -- the words of a source: it is UTF-8, and they stand in it from its start to its end
 abbrev pub Words : List ℕ → List Word → Type 0

@@ -27,8 +27,12 @@ decode_command = record (new_shape (codes "decode")) {
 abbrev pub program : App
 program = record {
   top = record
-      (new_shape (codes "fidl")) { has_version = true; subcommand_required = true; is_leaf =
-      false };
+      (new_shape (codes "fidl")) {
+        has_version = true;
+        subcommand_required = true;
+        is_leaf =
+            false;
+      };
   subs = decode_command ∷ [];
 }
 

@@ -84,7 +84,7 @@ pub data IsText (table root bytes : List ℕ) (handles : List HandleInfo) : List
   value : (entry : ℕ) (v : Value) → IsRootOf table root entry
       → Encodes (declarations_of table) (ty.named entry) v bytes handles
       → IsText table root bytes handles
-          (Text (declarations_of table) (ty.named entry) v ++ codes "\n")
+      (Text (declarations_of table) (ty.named entry) v ++ codes "\n")
 
 -- the lines that are true refusals: of a table, which is told by a rule that it breaks, or of a
 -- message that encodes no value of the root's type
@@ -94,7 +94,7 @@ pub data IsRefusal (table root bytes : List ℕ) (handles : List HandleInfo) : L
   of_message : (entry : ℕ) (fault : DecodeFault) → IsRootOf table root entry
       → ¬ IsEncoding (declarations_of table) (ty.named entry) bytes handles
       → IsTold (declarations_of table) (ty.named entry) bytes handles fault
-          → IsRefusal table root bytes handles (message_line fault)
+      → IsRefusal table root bytes handles (message_line fault)
 
 -- the same of a message with the name of its root
 abbrev pub IsTextOf : (table : List ℕ) → TypedMessage → List ℕ → Type 0

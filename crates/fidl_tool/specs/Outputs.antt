@@ -30,4 +30,4 @@ abbrev pub ReportsFailures : {F G : Type 0} → Outcome → (old_out new_out : O
     → (old_errors new_errors : Option G) → Type 0
 ReportsFailures result old_out new_out old_errors new_errors =
     old_out ≡ None → old_errors ≡ None → (result ≡ outcome.Unwritten)
-        ↔ (IsSome new_out ⊎ IsSome new_errors)
+    ↔ (IsSome new_out ⊎ IsSome new_errors)

@@ -46,42 +46,42 @@ PrintsValue table index view old new result = let ds = declarations_of table in
 
 -- the view shows these elements, each of this entry
 pub record IsElements (table : List ℕ) (element : ℕ) (view : View) (t : Term) (vs : Values) : Type 0
-    where
-  pub part : IsPart (declarations_of table) t view (list vs)
-  pub each : let ds = declarations_of table in element_of ds t ≡ resolve ds.terms (ty.named element)
+  where
+    pub part : IsPart (declarations_of table) t view (list vs)
+    pub each : let ds = declarations_of table in element_of ds t ≡ resolve ds.terms (ty.named element)
 
 -- the view shows some, each of at most this depth
 abbrev pub HasElementsWithin : (table : List ℕ) (element depth : ℕ) → View → Type 0
 HasElementsWithin table element depth view =
     let ds = declarations_of table in
     (t : Term) × (vs : Values) × IsElements table element view t vs
-        × (elements_depth ds (resolve ds.terms (ty.named element)) vs ≤ depth)
+    × (elements_depth ds (resolve ds.terms (ty.named element)) vs ≤ depth)
 
 -- the text of the elements that the view shows is written
 abbrev pub PrintsElements : {T E : Type 0} → (table : List ℕ) (element : ℕ) → View
     → (old new : Option (List ℕ)) → Result T E → Type 0
 PrintsElements table element view old new result =
     (t : Term) (vs : Values) → IsElements table element view t vs
-        → Writes old new (text_of (declarations_of table) t (list vs)) result
+    → Writes old new (text_of (declarations_of table) t (list vs)) result
 
 -- the view shows these members, of the struct of this entry
 pub record IsMembers (table : List ℕ) (index : ℕ) (view : View) (t : Term) (vs : Values) : Type 0
-    where
-  pub part : IsPart (declarations_of table) t view (fields vs)
-  pub each : let e = entry_at table index in content_of (declarations_of table) t
-      ≡ fields_from table (header_of table) e.first e.count
+  where
+    pub part : IsPart (declarations_of table) t view (fields vs)
+    pub each : let e = entry_at table index in content_of (declarations_of table) t
+        ≡ fields_from table (header_of table) e.first e.count
 
 -- the view shows some, each of at most this depth
 abbrev pub HasMembersWithin : (table : List ℕ) (index depth : ℕ) → View → Type 0
 HasMembersWithin table index depth view =
     (t : Term) × (vs : Values) × IsMembers table index view t vs
     × (let e = entry_at table index in
-        fields_depth (declarations_of table) (fields_from table (header_of table) e.first e.count)
-        vs ≤ depth)
+    fields_depth (declarations_of table) (fields_from table (header_of table) e.first e.count)
+    vs ≤ depth)
 
 -- the text of the members that the view shows is written
 abbrev pub PrintsMembers : {T E : Type 0} → (table : List ℕ) (index : ℕ) → View
     → (old new : Option (List ℕ)) → Result T E → Type 0
 PrintsMembers table index view old new result =
     (t : Term) (vs : Values) → IsMembers table index view t vs
-        → Writes old new (text_of (declarations_of table) t (fields vs)) result
+    → Writes old new (text_of (declarations_of table) t (fields vs)) result

@@ -23,7 +23,7 @@ closes _ = false
 abbrev pub IsWithinLimit : List Word → Type 0
 IsWithinLimit ws = (n : ℕ) →
     count_by (λ w. opens w.kind) (take n ws)
-        ≤ count_by (λ w. closes w.kind) (take n ws) + MAX_SOURCE_BRACKETS
+    ≤ count_by (λ w. closes w.kind) (take n ws) + MAX_SOURCE_BRACKETS
 
 -- a parenthesis that opens
 abbrev pub parenthesis : Word

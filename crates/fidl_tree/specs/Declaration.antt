@@ -23,20 +23,20 @@ use Rattle.fidl_tree.specs.declared.declaration.Property.{Property}
 abbrev pub const_leaves : ConstDeclaration → List Leaf
 const_leaves d =
     keyword (codes "const") d.keyword ++ name d.name ++ type_leaves d.constructor
-        ++ symbol kind.Equals d.equals
+    ++ symbol kind.Equals d.equals
     ++ value_leaves d.value
 
 -- alias = "alias" ident "=" type
 abbrev pub alias_leaves : AliasDeclaration → List Leaf
 alias_leaves d =
     keyword (codes "alias") d.keyword ++ name d.name ++ symbol kind.Equals d.equals
-        ++ type_leaves d.constructor
+    ++ type_leaves d.constructor
 
 -- type_declaration = "type" ident "=" layout
 abbrev pub type_declaration_leaves : TypeDeclaration → List Leaf
 type_declaration_leaves d =
     keyword (codes "type") d.keyword ++ name d.name ++ symbol kind.Equals d.equals
-        ++ layout_leaves d.layout
+    ++ layout_leaves d.layout
 
 -- protocol = [openness] "protocol" ident "{" { protocol_member } "}"
 abbrev pub protocol_leaves : ProtocolDeclaration → List Leaf
@@ -58,7 +58,7 @@ property_leaves p = name p.name ++ type_leaves p.constructor ++ symbol kind.Semi
 abbrev pub properties_leaves : Properties → List Leaf
 properties_leaves p =
     keyword (codes "properties") p.keyword
-        ++ braced p.left (joined (map property_leaves p.members.items)) p.right
+    ++ braced p.left (joined (map property_leaves p.members.items)) p.right
     ++ symbol kind.Semicolon p.semicolon
 
 -- resource_definition = "resource_definition" ident ":" type "{" properties "}"
@@ -81,4 +81,4 @@ declaration_body_leaves (body.Resource d) = resource_definition_leaves d
 abbrev pub declaration_leaves : Declaration → List Leaf
 declaration_leaves d =
     attributes_leaves d.attributes.items ++ declaration_body_leaves d.body
-        ++ symbol kind.Semicolon d.semicolon
+    ++ symbol kind.Semicolon d.semicolon

@@ -16,7 +16,7 @@ use Rattle.fidl_tree.specs.declared.file.ImportAlias.{ImportAlias}
 abbrev pub library_leaves : Library → List Leaf
 library_leaves l =
     attributes_leaves l.attributes.items ++ keyword (codes "library") l.keyword
-        ++ path_leaves l.path
+    ++ path_leaves l.path
     ++ symbol kind.Semicolon l.semicolon
 
 -- import_alias = "as" ident

@@ -22,7 +22,7 @@ use Rattle.fidl_tree.specs.declared.protocol.Payload.{Payload}
 abbrev pub payload_leaves : Payload → List Leaf
 payload_leaves p =
     symbol kind.LeftParenthesis p.left ++ optional type_leaves p.constructor
-        ++ symbol kind.RightParenthesis p.right
+    ++ symbol kind.RightParenthesis p.right
 
 -- compose = "compose" path
 abbrev pub compose_leaves : Compose → List Leaf
@@ -47,7 +47,7 @@ method_leaves m =
 abbrev pub event_leaves : Event → List Leaf
 event_leaves e =
     optional strictness_leaves e.strictness ++ symbol kind.Arrow e.arrow ++ name e.name
-        ++ payload_leaves e.payload
+    ++ payload_leaves e.payload
 
 -- protocol_member_body = compose | method | event
 abbrev pub protocol_member_body_leaves : ProtocolMemberBody → List Leaf
@@ -59,4 +59,4 @@ protocol_member_body_leaves (body.Event event) = event_leaves event
 abbrev pub protocol_member_leaves : ProtocolMember → List Leaf
 protocol_member_leaves m =
     attributes_leaves m.attributes.items ++ protocol_member_body_leaves m.body
-        ++ symbol kind.Semicolon m.semicolon
+    ++ symbol kind.Semicolon m.semicolon

@@ -103,7 +103,7 @@ pub data ProtocolMember : Type 0 where
   compose_member : List Attribute → Path → ProtocolMember
   method_member :
       List Attribute → (strict : Bool) → (name : Span) → (request : Option TypeUse)
-          → Option Response → ProtocolMember
+      → Option Response → ProtocolMember
   event_member : List Attribute → (strict : Bool) → (name : Span) → (payload : Option TypeUse)
       → ProtocolMember
 

@@ -60,7 +60,7 @@ L = List Leaf
 -- one level of a type of the tree, with leaves in the place of each part
 abbrev Level :
     (Type 0 → Type 0 → Type 0 → Type 0 → Type 0 → Type 0 → Type 0 → Type 0 → Type 0 → Type 0
-        → Type 0 → Type 0 → Type 0
+    → Type 0 → Type 0 → Type 0
     → Type 0 → Type 0 → Type 0)
     → Type 0
 Level F = F L L L L L L L L L L L L L L L
@@ -74,7 +74,7 @@ given = optional (λ part. part)
 abbrev layout_words : List (List ℕ)
 layout_words =
     codes "bits" ∷ codes "enum" ∷ codes "struct" ∷ codes "table" ∷ codes "union" ∷ codes "strict"
-        ∷ codes "flexible"
+    ∷ codes "flexible"
     ∷ codes "resource" ∷ []
 
 -- type = layout [constraints] | named
@@ -147,13 +147,13 @@ underlying_step u = symbol kind.Colon u.colon ++ u.named
 abbrev member_step : Level Member-F → L
 member_step m =
     attributes_leaves m.attributes.items ++ name m.name ++ m.constructor
-        ++ symbol kind.Semicolon m.semicolon
+    ++ symbol kind.Semicolon m.semicolon
 
 -- ordinal_member = attributes number ":" ordinal_body ";"
 abbrev ordinal_member_step : Level OrdinalMember-F → L
 ordinal_member_step m =
     attributes_leaves m.attributes.items ++ symbol kind.Number m.ordinal
-        ++ symbol kind.Colon m.colon ++ m.body
+    ++ symbol kind.Colon m.colon ++ m.body
     ++ symbol kind.Semicolon m.semicolon
 
 -- ordinal_body = "reserved" | ident type
@@ -184,9 +184,9 @@ abbrev by_steps : {R : Type 0}
     → R
 by_steps fold =
     fold layout_body_step ordinal_body_step type_argument_step type_step layout_step member_step
-        named_step
+    named_step
     next_type_argument_step ordinal_member_step struct_layout_step table_layout_step
-        type_arguments_step
+    type_arguments_step
     underlying_step union_layout_step values_layout_step
 
 abbrev pub type_leaves : TypeConstructor → List Leaf

@@ -10,5 +10,5 @@ use Rattle.fidl_tree.specs.declared.value_member.ValueMember.{ValueMember}
 abbrev pub value_member_leaves : ValueMember → List Leaf
 value_member_leaves m =
     attributes_leaves m.attributes.items ++ name m.name ++ symbol kind.Equals m.equals
-        ++ value_leaves m.value
+    ++ value_leaves m.value
     ++ symbol kind.Semicolon m.semicolon

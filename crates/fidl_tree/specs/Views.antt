@@ -124,7 +124,7 @@ abbrev pub argument_list_view : Option ArgumentList → List plain.AttributeArgu
 argument_list_view None = []
 argument_list_view (Some l) =
     attribute_argument_view l.first
-        ∷ map (λ (n : NextArgument). attribute_argument_view n.argument) l.rest.items
+    ∷ map (λ (n : NextArgument). attribute_argument_view n.argument) l.rest.items
 
 abbrev pub attribute_arguments_view : Option Arguments → List plain.AttributeArgument
 attribute_arguments_view None = []
@@ -184,12 +184,12 @@ AtOrdinal = List plain.Attribute → Span → plain.Member
 -- one level of a type of the tree, with what its parts represent in their places
 abbrev Level :
     (Type 0 → Type 0 → Type 0 → Type 0 → Type 0 → Type 0 → Type 0 → Type 0 → Type 0 → Type 0
-        → Type 0 → Type 0 → Type 0
+    → Type 0 → Type 0 → Type 0
     → Type 0 → Type 0 → Type 0)
     → Type 0
 Level F =
     F plain.Layout AtOrdinal plain.Argument plain.TypeUse WithAttributes plain.Member plain.TypeUse
-        plain.Argument
+    plain.Argument
     plain.Member plain.Layout plain.Layout plain.Arguments plain.TypeUse plain.Layout plain.Layout
 
 abbrev type_step : Level TypeConstructor-F → plain.TypeUse
@@ -282,9 +282,9 @@ abbrev by_steps : {R : Type 0}
     → R
 by_steps fold =
     fold layout_body_step ordinal_body_step type_argument_step type_step layout_step member_step
-        named_step
+    named_step
     next_type_argument_step ordinal_member_step struct_layout_step table_layout_step
-        type_arguments_step
+    type_arguments_step
     underlying_step union_layout_step values_layout_step
 
 abbrev pub type_view : TypeConstructor → plain.TypeUse
@@ -364,7 +364,7 @@ declared_view (body.Service d) =
     plain.service_body (plain.members_of (map member_view d.members.items))
 declared_view (body.Resource d) =
     plain.resource_body (type_view d.constructor)
-        (plain.members_of (map property_view d.properties.members.items))
+    (plain.members_of (map property_view d.properties.members.items))
 
 -- where the name of a declaration stands
 abbrev pub declared_name : DeclarationBody → Span

@@ -66,8 +66,12 @@ inline_envelope bytes handles =
 -- an envelope that counts the bytes out of line: flags 0
 abbrev pub out_envelope : List ℕ → List HandleInfo → Encoding
 out_envelope bytes handles =
-    record { inline = to_le_bytes w32 (length bytes) ++ envelope_end 0 handles; out =
-    bytes; handles = handles }
+    record {
+      inline = to_le_bytes w32 (length bytes) ++ envelope_end 0 handles;
+      out =
+          bytes;
+      handles = handles;
+    }
 
 -- the envelope of a member of this inline size
 abbrev pub envelope : (size : ℕ) → Encoding → Encoding
@@ -138,7 +142,7 @@ abbrev mutual
       let f = figure_of ds.figures t in
       let at = next_multiple_of from f.align in
       joined (inline_only (zeros (at - from)))
-          (joined (encoding_of ds (resolve ds.terms t) v) (members ds size (at + f.size) fs vs))
+      (joined (encoding_of ds (resolve ds.terms t) v) (members ds size (at + f.size) fs vs))
 
   -- the envelope of a member of a table or union
   pub enveloped : Declarations → Option Term → Member → Encoding
@@ -152,7 +156,7 @@ abbrev mutual
   envelopes ds rows next n empty = inline_only (zeros (8 * (suc n - next)))
   envelopes ds rows next n (member ordinal m ms) =
       joined (inline_only (zeros (8 * (ordinal - next))))
-          (joined (enveloped ds (find rows ordinal) m) (envelopes ds rows (suc ordinal) n ms))
+      (joined (enveloped ds (find rows ordinal) m) (envelopes ds rows (suc ordinal) n ms))
 
 -- inline part, out-of-line part and handles of a value of the term
 abbrev pub Enc : Declarations → Term → Value → Encoding

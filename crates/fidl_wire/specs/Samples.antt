@@ -20,11 +20,17 @@ number_union = ty.union false false (row 1 (codes "n") (ty.number uint32) no_row
 -- `type S = struct {s string:2;};`
 abbrev pub declared_text : Declarations
 declared_text =
-    record { terms = ty.struct (field (codes "s") (ty.string false 2) no_fields) ∷ []; figures =
-    figure 16 8 1 ∷ [] }
+    record {
+      terms = ty.struct (field (codes "s") (ty.string false 2) no_fields) ∷ [];
+      figures =
+          figure 16 8 1 ∷ [];
+    }
 
 -- `type S = struct {b bool;};`
 abbrev pub declared_bool : Declarations
 declared_bool =
-    record { terms = ty.struct (field (codes "b") ty.bool no_fields) ∷ []; figures = figure 1 1 1
-    ∷ [] }
+    record {
+      terms = ty.struct (field (codes "b") ty.bool no_fields) ∷ [];
+      figures = figure 1 1 1
+          ∷ [];
+    }
