@@ -18,7 +18,7 @@ use Rattle.fidl_records.specs.declared.kind.EntryKind.TheVariants.{Box, Struct}
 use Rattle.fidl_records.specs.Kind.{kind_of}
 use Rattle.fidl_records.specs.Section.{header_of, entry_at}
 use Rattle.fidl_records.specs.Terms.{declarations_of, fields_from}
-use Rattle.fidl_decode.specs.Fine.{Keys, IsFine}
+use Rattle.fidl_decode.specs.Invariants.{Keys, IsFine}
 use Rattle.fidl_decode.specs.declared.fault.DecodeFault.{DecodeFault}
 use Rattle.fidl_decode.specs.declared.fault.DecodeFault.TheVariants.{BadMarker, TooDeep, Truncated}
 use Rattle.fidl_decode.specs.declared.frame.Left.TheVariants.{Rows}

@@ -21,7 +21,7 @@ use Rattle.fidl_records.specs.declared.kind.EntryKind.{EntryKind}
 use Rattle.fidl_records.specs.declared.kind.EntryKind.TheVariants.{Vector, Array, Box, Struct}
 use Rattle.fidl_records.specs.Section.{header_of, entry_at}
 use Rattle.fidl_records.specs.Terms.{term_as, declarations_of, fields_from}
-use Rattle.fidl_decode.specs.Fine.{EntryFine, IsFine}
+use Rattle.fidl_decode.specs.Invariants.{EntryFine, IsFine}
 use Rattle.fidl_decode.specs.declared.fault.DecodeFault.{DecodeFault}
 use Rattle.fidl_decode.specs.declared.fault.DecodeFault.TheVariants.{TooLong, TooManyHandles, Truncated, Padding, BadBool, UnknownValue, UnknownBits, BadMarker, AbsentRequired, BadCount, OverBound, NotUtf8, TooDeep, HandleMissing, WrongHandle, BytesLeft, HandlesLeft}
 use Rattle.fidl_decode.specs.Rows.{Row, table_rows, element_rows, RowsRise}

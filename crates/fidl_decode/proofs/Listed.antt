@@ -20,7 +20,7 @@ use Rattle.fidl_records.specs.declared.kind.EntryKind.TheVariants.{Vector}
 use Rattle.fidl_records.specs.Kind.{kind_of}
 use Rattle.fidl_records.specs.Section.{header_of, entry_at}
 use Rattle.fidl_records.specs.Terms.{declarations_of, is_optional}
-use Rattle.fidl_decode.specs.Fine.{IsFine}
+use Rattle.fidl_decode.specs.Invariants.{IsFine}
 use Rattle.fidl_decode.specs.declared.fault.DecodeFault.{DecodeFault}
 use Rattle.fidl_decode.specs.declared.fault.DecodeFault.TheVariants.{BadMarker, AbsentRequired, BadCount, OverBound, TooDeep, Truncated}
 use Rattle.fidl_decode.specs.declared.frame.Left.TheVariants.{Elements}

@@ -17,7 +17,7 @@ use Rattle.fidl_wire.proofs.Sizes.{le-next_multiple_of}
 use Rattle.fidl_wire.proofs.Stand.{stands_front, stands_back, stands_both}
 use Rattle.fidl_records.specs.Section.{header_of}
 use Rattle.fidl_records.specs.Terms.{declarations_of}
-use Rattle.fidl_decode.specs.Fine.{IsFine}
+use Rattle.fidl_decode.specs.Invariants.{IsFine}
 use Rattle.fidl_decode.specs.declared.fault.DecodeFault.{DecodeFault}
 use Rattle.fidl_decode.specs.declared.frame.Frame.{Frame}
 use Rattle.fidl_decode.specs.declared.frame.Left.{Left}

@@ -17,7 +17,7 @@ use Rattle.fidl_decode.specs.Links.{Linked}
 use Rattle.fidl_decode.specs.State.{Message, At, linked, past, after, after_elements, after_fields, StandsAt, Item}
 use Rattle.fidl_records.specs.Section.{header_of, entry_at}
 use Rattle.fidl_records.specs.Terms.{declarations_of}
-use Rattle.fidl_decode.specs.Fine.{IsFine}
+use Rattle.fidl_decode.specs.Invariants.{IsFine}
 use Rattle.fidl_decode.specs.Machine.{IsWhole}
 use Rattle.fidl_decode.specs.Placed.{Placed, ArePlaced, AreFieldsPlaced, StandsIn, links_of}
 use Rattle.fidl_decode.proofs.Visiting.{size_is}

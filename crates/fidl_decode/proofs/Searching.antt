@@ -14,7 +14,7 @@ use Rattle.fidl_records.specs.declared.record.Entry.{Entry}
 use Rattle.fidl_records.specs.Section.{header_of, value_at}
 use Rattle.fidl_records.specs.Terms.{underlying, value_number, values_from}
 use Rattle.fidl_records.specs.Entry.{enum_value}
-use Rattle.fidl_decode.specs.Fine.{EnumFine}
+use Rattle.fidl_decode.specs.Invariants.{EnumFine}
 
 -- numbers neither of which is less are equal
 pub neither : (a b : ℤ) → (a <ℤ b → ⊥) → (b <ℤ a → ⊥) → a ≡ b

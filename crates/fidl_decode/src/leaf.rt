@@ -12,7 +12,7 @@ ghost use Rattle.fidl_records.specs.Section.{header_of, entry_at};
 ghost use Rattle.fidl_records.specs.Entry.{subtype_is};
 ghost use Rattle.fidl_records.specs.Uses.{is_number, is_unsigned};
 ghost use Rattle.fidl_records.specs.Terms.{underlying, mask_of, strict_values, declarations_of};
-ghost use Rattle.fidl_decode.specs.Fine.{IsFine, EnumFine, is_leaf, is_free};
+ghost use Rattle.fidl_decode.specs.Invariants.{IsFine, EnumFine, is_leaf, is_free};
 ghost use Rattle.fidl_decode.specs.Faults.{message_of};
 ghost use Rattle.fidl_decode.specs.Breaks.{BreaksField, Breaks};
 ghost use Rattle.fidl_decode.specs.State.{At, Item};

@@ -3,7 +3,7 @@ ghost use Rattle.std.specs.Prelude.{◌≡◌, ℕ, suc, ◌+◌, ◌^◌, ◌<�
 ghost use Rattle.std.specs.Prelude.{Contains};
 ghost use Rattle.fidl_records.specs.Section.{header_of};
 ghost use Rattle.fidl_records.specs.Terms.{underlying, value_number, values_from};
-ghost use Rattle.fidl_decode.specs.Fine.{EnumFine};
+ghost use Rattle.fidl_decode.specs.Invariants.{EnumFine};
 ghost use Rattle.fidl_decode.specs.Machine.{probes};
 
 use fidl_records::{Entry, is_less};

@@ -19,7 +19,7 @@ use Rattle.fidl_records.specs.declared.kind.EntryKind.TheVariants.{Bool as Boole
 use Rattle.fidl_records.specs.Section.{header_of, entry_at, row_at, name_at}
 use Rattle.fidl_records.specs.Terms.{declarations_of, fields_from, term_as}
 use Rattle.fidl_records.specs.Uses.{is_known}
-use Rattle.fidl_decode.specs.Shown.{Shown}
+use Rattle.fidl_decode.specs.Model.{Shown}
 use Rattle.fidl_view.specs.Shows.{Shows}
 use Rattle.fidl_view.specs.declared.view.View.{View}
 use Rattle.fidl_tool.specs.Parts.{IsPart, IsElements, IsMembers}

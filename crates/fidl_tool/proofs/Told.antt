@@ -10,7 +10,7 @@ use Rattle.fidl_records.specs.Section.{header_of}
 use Rattle.fidl_records.specs.Terms.{declarations_of}
 use Rattle.fidl_records.specs.Root.{IsRootEntry, HasNoRoot}
 use Rattle.fidl_records.specs.WellFormed.{WellFormed}
-use Rattle.fidl_decode.specs.Shown.{Shown}
+use Rattle.fidl_decode.specs.Model.{Shown}
 use Rattle.fidl_tool.specs.declared.outcome.Outcome.{Outcome}
 use Rattle.fidl_tool.specs.declared.outcome.Outcome.TheVariants.{Unwritten}
 use Rattle.fidl_tool.specs.Decoding.{IsRootOf, LacksRoot}

@@ -48,7 +48,8 @@ PrintsValue table index view old new result = let ds = declarations_of table in
 pub record IsElements (table : List ℕ) (element : ℕ) (view : View) (t : Term) (vs : Values) : Type 0
   where
     pub part : IsPart (declarations_of table) t view (list vs)
-    pub each : let ds = declarations_of table in element_of ds t ≡ resolve ds.terms (ty.named element)
+    pub each : let ds = declarations_of table in element_of ds t
+        ≡ resolve ds.terms (ty.named element)
 
 -- the view shows some, each of at most this depth
 abbrev pub HasElementsWithin : (table : List ℕ) (element depth : ℕ) → View → Type 0

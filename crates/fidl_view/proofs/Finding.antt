@@ -11,7 +11,7 @@ use Rattle.fidl_wire.specs.Encoding.{encoding_of}
 use Rattle.fidl_wire.specs.Standing.{Stands}
 use Rattle.fidl_records.specs.Section.{header_of, row_at}
 use Rattle.fidl_records.specs.Terms.{declarations_of, fields_from}
-use Rattle.fidl_decode.specs.Fine.{Keys}
+use Rattle.fidl_decode.specs.Invariants.{Keys}
 use Rattle.fidl_decode.specs.Links.{Linked}
 use Rattle.fidl_decode.specs.State.{Message}
 use Rattle.fidl_decode.specs.Placed.{Placed, ArePlaced, AreFieldsPlaced}

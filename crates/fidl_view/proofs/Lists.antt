@@ -22,12 +22,12 @@ use Rattle.fidl_records.specs.Field.{number_at}
 use Rattle.fidl_records.specs.Terms.{declarations_of, term_as, is_optional}
 use Rattle.fidl_records.specs.Entry.{IsOf}
 use Rattle.fidl_records.specs.WellFormed.{WellFormed}
-use Rattle.fidl_decode.specs.Shown.{Shown}
+use Rattle.fidl_decode.specs.Model.{Shown}
 use Rattle.fidl_decode.specs.Faults.{message_of}
 use Rattle.fidl_decode.specs.State.{Message}
 use Rattle.fidl_decode.specs.Links.{Linked}
 use Rattle.fidl_decode.specs.Placed.{ArePlaced, object_at, content_at}
-use Rattle.fidl_decode.specs.Fine.{IsFine}
+use Rattle.fidl_decode.specs.Invariants.{IsFine}
 use Rattle.fidl_decode.proofs.Bridge.{fine_of}
 use Rattle.fidl_decode.proofs.Numbers.{slice_is, number_64}
 use Rattle.fidl_decode.proofs.Visiting.{fine_as, term_is, figure_is, size_is}

@@ -14,10 +14,10 @@ use Rattle.fidl_records.specs.Section.{header_of, entry_at, row_at}
 use Rattle.fidl_records.specs.Terms.{declarations_of, term_as}
 use Rattle.fidl_records.specs.Entry.{IsOf}
 use Rattle.fidl_records.specs.WellFormed.{WellFormed}
-use Rattle.fidl_decode.specs.Shown.{Shown}
+use Rattle.fidl_decode.specs.Model.{Shown}
 use Rattle.fidl_decode.specs.Faults.{message_of}
 use Rattle.fidl_decode.specs.Placed.{AreFieldsPlaced, object_at}
-use Rattle.fidl_decode.specs.Fine.{IsFine, EntryFine}
+use Rattle.fidl_decode.specs.Invariants.{IsFine, EntryFine}
 use Rattle.fidl_decode.specs.Rows.{table_rows, TypedRows}
 use Rattle.fidl_decode.proofs.Bridge.{fine_of}
 use Rattle.fidl_decode.proofs.Visiting.{fine_as, term_is}

@@ -22,8 +22,8 @@ use Rattle.fidl_records.specs.Terms.{is_optional, declarations_of, term_as, as_n
 use Rattle.fidl_records.specs.Uses.{is_known, is_number, is_unsigned}
 use Rattle.fidl_records.specs.Entry.{IsOf, subtype_is}
 use Rattle.fidl_records.specs.WellFormed.{WellFormed}
-use Rattle.fidl_decode.specs.Shown.{Shown}
-use Rattle.fidl_decode.specs.Fine.{IsFine}
+use Rattle.fidl_decode.specs.Model.{Shown}
+use Rattle.fidl_decode.specs.Invariants.{IsFine}
 use Rattle.fidl_decode.proofs.Bridge.{fine_of}
 use Rattle.fidl_decode.proofs.Visiting.{fine_as, term_is, figure_is, size_is, positive}
 use Rattle.fidl_wire.specs.Message.{IsEncoding, Encodes}

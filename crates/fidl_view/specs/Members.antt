@@ -7,7 +7,7 @@ use Rattle.fidl_records.specs.Section.{header_of, entry_at}
 use Rattle.fidl_records.specs.Terms.{declarations_of, fields_from}
 use Rattle.fidl_decode.specs.Faults.{message_of}
 use Rattle.fidl_decode.specs.Placed.{AreFieldsPlaced}
-use Rattle.fidl_decode.specs.Shown.{Shown}
+use Rattle.fidl_decode.specs.Model.{Shown}
 
 -- the members that a struct's entry declares
 abbrev pub fields_at : Shown → (index : ℕ) → Fields

@@ -7,7 +7,7 @@ use Rattle.fidl_wire.specs.Typed.{Typed}
 use Rattle.fidl_records.specs.Terms.{declarations_of}
 use Rattle.fidl_decode.specs.Faults.{message_of}
 use Rattle.fidl_decode.specs.Placed.{Placed}
-use Rattle.fidl_decode.specs.Shown.{Shown}
+use Rattle.fidl_decode.specs.Model.{Shown}
 
 -- the type that an entry declares
 abbrev pub type_of : Shown → (index : ℕ) → Term

@@ -11,7 +11,7 @@ use Rattle.fidl_wire.specs.Message.{Encodes}
 use Rattle.fidl_records.specs.Field.{number_at}
 use Rattle.fidl_records.specs.Terms.{declarations_of}
 use Rattle.fidl_decode.specs.Placed.{content_at}
-use Rattle.fidl_decode.specs.Shown.{Shown}
+use Rattle.fidl_decode.specs.Model.{Shown}
 use Rattle.fidl_view.specs.declared.view.View.{View}
 use Rattle.fidl_view.specs.declared.elements.Elements.{Elements}
 use Rattle.fidl_view.specs.declared.structs.Members.{Members}

@@ -15,7 +15,7 @@ use Rattle.fidl_records.specs.Section.{header_of, entry_at, row_at, name_at}
 use Rattle.fidl_records.specs.Terms.{declarations_of, term_as, is_optional}
 use Rattle.fidl_records.specs.Entry.{IsOf}
 use Rattle.fidl_records.specs.WellFormed.{WellFormed}
-use Rattle.fidl_decode.specs.Shown.{Shown}
+use Rattle.fidl_decode.specs.Model.{Shown}
 use Rattle.fidl_view.specs.Parts.{element_of, field_of}
 use Rattle.fidl_tool.proofs.Written.{writes_as, appends_as, appends_then, front_as, first_failed, second_failed, third_failed, fourth_failed, failed_as, so_far_first, so_far_second, so_far_begin, so_far_more, so_far_written, begin_failed, so_far_as}
 use Rattle.fidl_tool.specs.Outputs.{Writes}

@@ -1,6 +1,6 @@
 use Rattle.std.proofs.Common.{rules, ◌≡◌, ◌+◌, ◌-◌, ◌*◌, sym, ap, subst, ◌∙◌, arith, refl}
 use Rattle.std.specs.Prelude.{Some, None, true}
-use Rattle.fidl_decode.specs.Fine.{is_free}
+use Rattle.fidl_decode.specs.Invariants.{is_free}
 use Rattle.fidl_wire.specs.Encoding.{zeros}
 use Rattle.fidl_wire.specs.Standing.{Stands}
 use Rattle.fidl_records.specs.declared.record.Entry.{Entry}

@@ -8,7 +8,7 @@ use Rattle.fidl_wire.specs.Typed.{InMask}
 use Rattle.fidl_records.specs.Number.{number_standing}
 use Rattle.fidl_records.specs.Terms.{underlying, mask_of, strict_values, declarations_of, is_optional}
 use Rattle.fidl_records.specs.declared.record.Entry.{Entry}
-use Rattle.fidl_decode.specs.Fine.{EnumFine}
+use Rattle.fidl_decode.specs.Invariants.{EnumFine}
 use Rattle.fidl_decode.specs.Breaks.{BreaksField, BreaksHandle, BreaksText}
 use Rattle.fidl_decode.specs.State.{At, Item}
 use Rattle.fidl_decode.proofs.Turning.{on_ok_from, on_ok_two, on_ok_three, refused_by}
