@@ -25,6 +25,6 @@ differ_once files =
     (distinct_once (member_names f d))))))
 
 -- that a file stands there
-pub stands_once : (files : List File) (n : ℕ) (f : File) → IsProp (slice_get files n ≡ Some f)
-stands_once files n f =
+pub once : (files : List File) (n : ℕ) (f : File) → IsProp (slice_get files n ≡ Some f)
+once files n f =
     Coded-set (coded_option (file.the_row any_lifetime).coded) (slice_get files n) (Some f)

@@ -4,7 +4,7 @@ ghost use Rattle.std.specs.List.{AllByRecursion};
 ghost use Rattle.fidl_names.specs.Imports.{visible as visible_in, ImportsAreApart};
 ghost use Rattle.fidl_names.specs.Meanings.{MembersDiffer};
 ghost use Rattle.fidl_names.specs.NameMaps.{seen_texts};
-ghost use Rattle.fidl_names.specs.ScopeFacts.{is_apart_once, differ_once, stands_once};
+ghost use Rattle.fidl_names.specs.ScopeFacts.{is_apart_once, differ_once, once};
 
 use crate::library_set::LibrarySet;
 use fidl_tree::File;
@@ -26,7 +26,7 @@ pub(crate) struct FileScope<'a, 'f, 's> {
     pub names: SetScope<'a, 'f, 's>,
     pub file_index: usize,
     pub file: &'f File<'s>,
-    ghost file_at: { slice_get names.set.now file_index ≡ Some file.now } by { stands_once names.set.now file_index file.now },
+    ghost file_at: { slice_get names.set.now file_index ≡ Some file.now } by { once names.set.now file_index file.now },
 }
 
 impl<'a, 'f, 's> FileScope<'a, 'f, 's> {

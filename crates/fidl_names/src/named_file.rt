@@ -1,6 +1,6 @@
 //! The names of one file, where all rules but the names' own hold.
 ghost use Rattle.std.specs.Prelude.{◌≡◌, Some, slice_get};
-ghost use Rattle.fidl_names.specs.ScopeFacts.{stands_once};
+ghost use Rattle.fidl_names.specs.ScopeFacts.{once};
 
 use crate::fault::NameFault;
 use crate::meaning::{Meaning, Wanted};
@@ -14,7 +14,7 @@ pub(crate) struct NamedFile<'a, 'f, 's> {
     pub named: &'a Named<'f, 's>,
     pub file_index: usize,
     pub file: &'f File<'s>,
-    ghost file_at: { slice_get named.now file_index ≡ Some file.now } by { stands_once named.now file_index file.now },
+    ghost file_at: { slice_get named.now file_index ≡ Some file.now } by { once named.now file_index file.now },
 }
 
 impl<'a, 'f, 's> NamedFile<'a, 'f, 's> {
