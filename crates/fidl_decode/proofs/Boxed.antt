@@ -1,7 +1,7 @@
 -- Boxes: which values of a box stand at a place, and what a visit of one finds.
 use Rattle.std.proofs.Common.{◌≡◌, ℕ, ◌+◌, ◌-◌, ◌<◌, ◌≤◌, List, length, refl, sym, ap, subst, ◌∙◌, arith, inl, inr}
 use Rattle.std.specs.Prelude.{◌⊎◌, Some, None}
-use Rattle.fidl_wire.specs.declared.limits.TheConstants.{MAX_DEPTH}
+use Rattle.fidl_limits.specs.declared.limits.TheConstants.{MAX_DEPTH}
 use Rattle.fidl_wire.specs.Value.{Value, Values, absent, fields}
 use Rattle.fidl_wire.specs.Term.{Term, Fields, resolve, fields_of}
 use Rattle.fidl_wire.specs.Term as ty
@@ -26,11 +26,11 @@ use Rattle.fidl_decode.specs.Rows.{Row, table_rows, RowsRise}
 use Rattle.fidl_decode.specs.State.{Message, At, linked, after, after_fields, StandsAt, Item}
 use Rattle.fidl_decode.specs.Breaks.{Part, Object, object_of, member_parts, BreaksBox, BreaksRule, Breaks, BreaksParts}
 use Rattle.fidl_decode.specs.Breaks as broken
-use Rattle.fidl_decode.specs.Machine.{row_parts, StateFine, Visits}
+use Rattle.fidl_decode.specs.Machine.{row_parts, StateFine, Visits, VisitFine}
 use Rattle.fidl_decode.proofs.After.{length-pad8}
 use Rattle.fidl_decode.proofs.Stated.{typed_rows, rows_typed, enc_rows-table, depth_rows-table, after_rows-table, table_rise, table_parts}
 use Rattle.fidl_decode.proofs.Visiting.{fine_as, term_is, figure_is, size_as}
-use Rattle.fidl_decode.proofs.Objects.{padded_size, zeros_or_ones, stands_within, Opened, inline_is, object_room, stands_object, object_stands, object_carries, object_frame, visits_absent, visits_object}
+use Rattle.fidl_decode.proofs.Objects.{padded_size, zeros_or_ones, stands_within, Opened, inline_is, object_room, stands_object, object_stands, object_carries, object_frame, visits_absent, visits_object, object_fine}
 
 some_object : (a b : Object) → Some a ≡ Some b → a ≡ b
 some_object a b e = cc
@@ -223,7 +223,7 @@ module _ (t : List ℕ) (fine : IsFine t) (m : Message) (held e place : ℕ) (fr
         let small = f.nest in
         let room' : padded_size size ≤ length m.bytes - from.next = omega (arith, room, ap padded_size content_size) in
         subst (λ s. Visits t m held e place from (linked place s from) spent (Some (object_frame (Rows inner.first inner.count) s inner.nest held from))) content_size
-        (visits_object t fine m held e place from lt state place size inner.nest (Rows inner.first inner.count) spent nothing (f.content.0) (omega (arith, small)) shallow room' box_rise
+        (visits_object t fine m held e place from lt state place size inner.nest (Rows inner.first inner.count) spent nothing tt (omega (arith, small)) shallow room'
         (λ to. (
           (λ x. (box_item to (subst (λ (w : Term). Item ds m held w place from to) own x) ones).members),
           (λ y. subst (λ (w : Term). Item ds m held w place from to) (sym own) (item_box to (record { ones = ones; shallow = omega (arith, shallow); room = room'; members = y }))),
@@ -233,6 +233,15 @@ module _ (t : List ℕ) (fine : IsFine t) (m : Message) (held e place : ℕ) (fr
         (box_right ds fine.laid_out m held u place from ones shallow (omega (arith, room, ap padded_size rule_size)))
         (subst (λ (w : Term). BreaksParts ds m (held + 1) (padded_size (size_of ds (ty.struct (fields_of w)))) from.next 0 (member_parts ds 0 (fields_of w)) (linked place (size_of ds (ty.struct (fields_of w))) from) fault) (sym content_is)
         (subst (λ (ps : List Part). BreaksParts ds m (held + 1) (padded_size size) from.next 0 ps (linked place size from) fault) (table_parts t inner.first inner.count 0 keys) b)))))
+
+    pub box_fine : held < MAX_DEPTH → padded_size inner.size ≤ length m.bytes - from.next → (around : ℕ) → around ≤ 1 → VisitFine t m held around e (Some (object_frame (Rows inner.first inner.count) inner.size inner.nest held from))
+    box_fine shallow room around few =
+        let f = fine_as t fine c Struct inside struct_is in
+        let small = f.nest in
+        let some : (figure_of ds.figures (ty.struct fs)).nest ≡ inner.nest = ap (λ (g : Figure). g.nest) (figure_is t fine c Struct inside struct_is) in
+        let room' : padded_size size ≤ length m.bytes - from.next = omega (arith, room, ap padded_size content_size) in
+        subst (λ s. VisitFine t m held around e (Some (object_frame (Rows inner.first inner.count) s inner.nest held from))) content_size
+        (object_fine t fine m held e place from lt state size inner.nest (Rows inner.first inner.count) (f.content.0) tt (omega (arith, some)) (omega (arith, small)) shallow room' box_rise around few)
 
     pub box_refused : (fault : DecodeFault) → BreaksBox m held inner.size place from.next fault → (to : At) → Item ds m held (resolve ds.terms (ty.named e)) place from to → ⊥
     box_refused fault b to x =

@@ -1,7 +1,7 @@
 -- Handles: which values of a handle type stand at a place.
 use Rattle.std.proofs.Common.{◌≡◌, ℕ, ◌≤◌, List, length, replicate, refl, sym, subst, ◌∙◌, arith, inl, inr}
 use Rattle.std.specs.Prelude.{Bool, ◌⊎◌, Some, None, IsTrue, slice_get}
-use Rattle.fidl_wire.specs.declared.limits.TheConstants.{MAX_DEPTH}
+use Rattle.fidl_limits.specs.declared.limits.TheConstants.{MAX_DEPTH}
 use Rattle.fidl_wire.specs.declared.handle.HandleInfo.{HandleInfo}
 use Rattle.fidl_wire.specs.Value.{Value, absent, handle}
 use Rattle.fidl_wire.specs.Term as ty

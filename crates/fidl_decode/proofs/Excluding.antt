@@ -1,21 +1,20 @@
 -- A refusal that is true of a message excludes that the message is an encoding.
-use Rattle.std.proofs.Common.{◌≡◌, ℕ, suc, ◌+◌, ◌-◌, ◌*◌, ◌^◌, ◌<◌, ◌≤◌, List, [], ◌∷◌, ◌++◌, length, get_or, take, drop, refl, sym, ap, subst, ◌∙◌, arith, inl, inr, false, true, add-one, drop-cons}
-use Rattle.std.specs.Prelude.{Bool, Some, None, IfSome, Contains, replicate}
-use Rattle.std.proofs.lemmas.List.{length-drop, length-take, length-take-le, get_or-take}
+use Rattle.std.proofs.Common.{◌≡◌, ℕ, suc, ◌+◌, ◌-◌, ◌*◌, ◌^◌, ◌<◌, ◌≤◌, List, [], ◌∷◌, length, get_or, take, refl, sym, ap, subst, ◌∙◌, arith, inl, inr, false, true}
+use Rattle.std.specs.Prelude.{Bool, Option, Some, None, IfSome, Contains, replicate}
+use Rattle.std.proofs.lemmas.List.{length-take, length-take-le, get_or-take}
 use Rattle.std.proofs.lemmas.Option.{slice_get-get_or, slice_get_within, slice_get_past}
 use Rattle.fidl_wire.specs.declared.handle.HandleInfo.{HandleInfo}
-use Rattle.fidl_wire.specs.Value.{Value}
-use Rattle.fidl_wire.specs.Term.{Term, resolve, IsBounded}
+use Rattle.fidl_wire.specs.Term.{Term, Rows, resolve, find, IsBounded}
 use Rattle.fidl_wire.specs.Term as ty
 use Rattle.fidl_wire.specs.Figure.{Declarations, Figure, figure_of, size_of, IsLaidOut, IsSound}
-use Rattle.fidl_wire.specs.Encoding.{zeros, present, encoding_of}
+use Rattle.fidl_wire.specs.Encoding.{zeros, present}
 use Rattle.fidl_wire.specs.Standing.{Stands, Carries}
 use Rattle.fidl_wire.specs.Typed.{InMask, IsAllowed}
 use Rattle.fidl_records.specs.Number.{number_standing}
 use Rattle.fidl_wire.specs.Message.{IsEncoding}
-use Rattle.fidl_wire.proofs.Sizes.{length-inline, end_of-le, le-next_multiple_of}
+use Rattle.fidl_wire.proofs.Sizes.{end_of-le, le-next_multiple_of}
 use Rattle.std.specs.Int.{next_multiple_of}
-use Rattle.fidl_wire.proofs.Unique.{only, bounded-resolve}
+use Rattle.fidl_wire.proofs.Unique.{bounded-resolve}
 use Rattle.fidl_records.specs.declared.record.Header.{Header}
 use Rattle.fidl_records.specs.declared.kind.EntryKind.{EntryKind}
 use Rattle.fidl_records.specs.declared.kind.EntryKind.TheVariants.{Vector, Array, Box, Struct}
@@ -23,13 +22,20 @@ use Rattle.fidl_records.specs.Section.{header_of, entry_at}
 use Rattle.fidl_records.specs.Terms.{term_as, declarations_of, fields_from}
 use Rattle.fidl_decode.specs.Invariants.{EntryFine, IsFine}
 use Rattle.fidl_decode.specs.declared.fault.DecodeFault.{DecodeFault}
-use Rattle.fidl_decode.specs.declared.fault.DecodeFault.TheVariants.{TooLong, TooManyHandles, Truncated, Padding, BadBool, UnknownValue, UnknownBits, BadMarker, AbsentRequired, BadCount, OverBound, NotUtf8, TooDeep, HandleMissing, WrongHandle, BytesLeft, HandlesLeft}
+use Rattle.fidl_decode.specs.declared.fault.DecodeFault.TheVariants.{TooLong, TooManyHandles, Truncated, Padding, BadBool, UnknownValue, UnknownBits, BadMarker, AbsentRequired, BadCount, OverBound, NotUtf8, BadEnvelope, WrongCounts, UnknownOrdinal, TooDeep, HandleMissing, WrongHandle, BytesLeft, HandlesLeft}
 use Rattle.fidl_decode.specs.Rows.{Row, table_rows, element_rows, RowsRise}
-use Rattle.fidl_decode.specs.State.{Message, At, linked, after, Item, Members}
-use Rattle.fidl_decode.specs.Breaks.{Part, parts_of, Object, object_of, count_at, IsPadding, BreaksField, BreaksHandle, BreaksRule, Breaks, BreaksParts, in_field, in_parts, in_object, in_gap, in_next, in_later, in_end}
-use Rattle.fidl_decode.specs.Faults.{IsTold, BreaksMessage, message_of, start_of}
+use Rattle.fidl_decode.specs.State.{Message, At, opened, linked, envelope_place, Item, Members, Slots}
+use Rattle.fidl_decode.specs.Envelopes.{Contained}
+use Rattle.fidl_decode.specs.Breaks.{Part, parts_of, Object, object_of, count_at, ordinal_at, IsPadding, BreaksField, BreaksHandle, BreaksRule, Breaks, BreaksParts, BreaksEnvelopes, BreaksMember}
+use Rattle.fidl_decode.specs.Breaks.{in_field, in_parts, in_object, in_table, in_union, at_member, behind_none, behind_member, by_numbers, in_envelope, out_of_line, by_counts, in_gap, in_next, in_later, in_end}
+use Rattle.fidl_decode.specs.Faults.{IsWithin, IsTold, BreaksMessage, message_of, start_of}
 use Rattle.fidl_decode.specs.Machine.{row_parts}
 use Rattle.fidl_decode.proofs.Messages.{message_item}
+use Rattle.fidl_decode.proofs.Single.{same_some, short_message, few_handles, item_unique, contained_unique, miscounts_excluded}
+use Rattle.fidl_decode.proofs.Enclosed.{small_inline, large_out, contained_some, slots_step}
+use Rattle.fidl_decode.proofs.Named.{NamedIf, bounded_if, named_rows, entry_row, content_rows}
+use Rattle.fidl_decode.proofs.Broken.{union_chosen, union_excluded, table_value, table_excluded}
+use Rattle.fidl_decode.proofs.Enveloped.{envelope_excluded}
 use Rattle.fidl_decode.proofs.Rows.{members_end, members_more}
 use Rattle.fidl_decode.proofs.Stated.{table_rise, struct_item, table_parts}
 use Rattle.fidl_decode.proofs.Elements.{elements_rise, array_item, row_parts-elements}
@@ -40,57 +46,6 @@ use Rattle.fidl_decode.proofs.Boxed.{box_excluded, box_object, box_item, box_ris
 use Rattle.fidl_decode.proofs.Listed.{vector_excluded, vector_object, vector_item, vector_rise}
 use Rattle.fidl_decode.proofs.Carried.{handle_item, no_both}
 use Rattle.fidl_decode.proofs.Scalars.{bool_item, numeric_item, numeric_enum, numeric_bits}
-
--- ---- what stands at a place
-
-same_stand : (m : List ℕ) (p : ℕ) (a b : List ℕ) → length a ≡ length b → Stands m p a → Stands m p b → a ≡ b
-same_stand m p [] [] e h k = refl
-same_stand m p (x ∷ a) (y ∷ b) e h k =
-    let is : x ≡ y = sym h.1 ∙ k.1 in
-    let rest = same_stand m (p + 1) a b (omega (arith, e)) h.2 k.2 in
-    λ i. is i ∷ rest i
-same_stand m p [] (y ∷ b) e h k = absurd (omega (arith, e))
-same_stand m p (x ∷ a) [] e h k = absurd (omega (arith, e))
-
--- it is the front of what is left from there
-front_of : (m : List ℕ) (p : ℕ) (a : List ℕ) → Stands m p a → a ++ drop (p + length a) m ≡ drop p m
-front_of m p [] h = let e : p + 0 ≡ p = omega arith in ap (λ n. drop n m) e
-front_of m p (x ∷ a) h =
-    let more = front_of m (p + 1) a h.2 in
-    let there : p + length (x ∷ a) ≡ p + 1 + length a = omega arith in
-    let one : x ∷ drop (p + 1) m ≡ drop p m = ap (λ n. x ∷ drop n m) (add-one p) ∙ sym (ap (λ y. y ∷ drop (suc p) m) h.1) ∙ sym (drop-cons m p 0 h.0) in
-    ap (λ n. x ∷ (a ++ drop n m)) there ∙ ap (λ l. x ∷ l) more ∙ one
-
-same_some : {A : Type 0} (a b : A) → Some a ≡ Some b → a ≡ b
-same_some a b e = cc
-
-front_of_handles : (hs : List HandleInfo) (p : ℕ) (a : List HandleInfo) → Carries hs p a → a ++ drop (p + length a) hs ≡ drop p hs
-front_of_handles hs p [] h = let e : p + 0 ≡ p = omega arith in ap (λ n. drop n hs) e
-front_of_handles hs p (x ∷ a) h =
-    let more = front_of_handles hs (p + 1) a h.1 in
-    let there : p + length (x ∷ a) ≡ p + 1 + length a = omega arith in
-    let lt = slice_get_within hs p x h.0 in
-    let is : get_or hs p x ≡ x = same_some _ _ (sym (slice_get-get_or hs p x lt) ∙ h.0) in
-    let one : x ∷ drop (p + 1) hs ≡ drop p hs = ap (λ n. x ∷ drop n hs) (add-one p) ∙ sym (ap (λ y. y ∷ drop (suc p) hs) is) ∙ sym (drop-cons hs p x lt) in
-    ap (λ n. x ∷ (a ++ drop n hs)) there ∙ ap (λ l. x ∷ l) more ∙ one
-
--- ---- one value of a type stands at a place, and leads to one state
-
-pub item_unique : (ds : Declarations) → IsSound ds → (m : Message) → length m.bytes < 2 ^ 32 → length m.handles < 2 ^ 16 → (held held' : ℕ) (t : Term) → IsBounded t → (place : ℕ) (from to to' : At)
-    → Item ds m held t place from to → Item ds m held' t place from to' → to ≡ to'
-item_unique ds sound m short few held held' t g place from to to' x y =
-    let a = encoding_of ds t x.value in
-    let b = encoding_of ds t y.value in
-    let same = length-inline ds sound.laid_out t x.value x.typed ∙ sym (length-inline ds sound.laid_out t y.value y.typed) in
-    let inline = same_stand m.bytes place a.inline b.inline same x.stands.inline y.stands.inline in
-    let out_a = front_of m.bytes from.next a.out x.stands.out in
-    let out_b = front_of m.bytes from.next b.out y.stands.out in
-    let handles_a = front_of_handles m.handles from.handle a.handles x.stands.carried in
-    let handles_b = front_of_handles m.handles from.handle b.handles y.stands.carried in
-    let small : length (a.out ++ drop (from.next + length a.out) m.bytes) < 2 ^ 32 = subst (λ (l : List ℕ). length l < 2 ^ 32) (sym out_a) (omega (arith, length-drop from.next m.bytes)) in
-    let fewer : length (a.handles ++ drop (from.handle + length a.handles) m.handles) < 2 ^ 16 = subst (λ (l : List HandleInfo). length l < 2 ^ 16) (sym handles_a) (omega (arith, length-drop from.handle m.handles)) in
-    let one = (only ds sound t x.value g x.typed y.value y.typed _ _ _ _ inline (out_a ∙ sym out_b) (handles_a ∙ sym handles_b) small fewer).0 in
-    x.end ∙ ap (λ (v : Value). after ds t v place from) one ∙ sym y.end
 
 -- ---- gaps and fields
 
@@ -137,6 +92,8 @@ rule_excluded ds laid m short held (ty.string optional bound) few place from to 
 rule_excluded ds laid m short held (ty.vector optional bound u) few place from to fault b x = vector_excluded ds laid m held optional bound few.0 u place from to fault b x
 rule_excluded ds laid m short held (ty.box u) few place from to fault b x = box_excluded ds laid m held u place from to fault b x
 rule_excluded ds laid m short held (ty.handle optional subtype rights) few place from to fault b x = handle_excluded ds m held optional subtype rights place from to fault b x
+rule_excluded ds laid m short held (ty.table rows) few place from to fault b x = table_excluded ds laid m held rows place from to fault b x
+rule_excluded ds laid m short held (ty.union optional strict rows) few place from to fault b x = union_excluded ds m held optional strict rows place from to fault b x
 rule_excluded ds laid m short held t few place from to fault b x = field_excluded ds m held t place from to fault b x
 
 no_parts : (ps : List Part) → None ≡ Some ps → ⊥
@@ -157,7 +114,7 @@ heads p q ps qs e = cc
 tails : (p q : Part) (ps qs : List Part) → p ∷ ps ≡ q ∷ qs → ps ≡ qs
 tails p q ps qs e = cc
 
-module _ (t : List ℕ) (fine : IsFine t) (sound : IsSound (declarations_of t)) (m : Message) (short : length m.bytes < 2 ^ 32) (few : length m.handles < 2 ^ 16) where
+module _ (t : List ℕ) (fine : IsFine t) (sound : IsSound (declarations_of t)) (m : Message) (within : IsWithin m.bytes m.handles) where
   abbrev ds : Declarations
   ds = declarations_of t
 
@@ -257,7 +214,7 @@ module _ (t : List ℕ) (fine : IsFine t) (sound : IsSound (declarations_of t)) 
     pub item_excluded : (held e place : ℕ) (from to : At) (fault : DecodeFault) (u : Term) → e < h.entries → u ≡ term e → Breaks ds m held u place from fault → Item ds m held u place from to → ⊥
     item_excluded held e place from to fault u lt is (in_field u' place' from' fault' b) x =
         let few = bounded-resolve ds.terms (ty.named e) sound.bounded tt in
-        rule_excluded ds fine.laid_out m short held u (subst IsBounded (sym is) few) place from to fault b x
+        rule_excluded ds fine.laid_out m (short_message m within) held u (subst IsBounded (sym is) few) place from to fault b x
     item_excluded held e place from to fault u lt is (in_parts u' place' from' fault' ps has b) x =
         let r = rowed e lt held place from to ps (fine.each e lt).0 (fine.each e lt).1 (ap (λ (u : Term). parts_of ds u) (sym is) ∙ has) (subst (λ (u : Term). Item ds m held u place from to) is x) in
         let size : size_of ds (term e) ≡ size_of ds u = ap (λ (u : Term). size_of ds u) (sym is) in
@@ -265,6 +222,45 @@ module _ (t : List ℕ) (fine : IsFine t) (sound : IsSound (declarations_of t)) 
     item_excluded held e place from to fault u lt is (in_object u' place' from' fault' o has ones right b) x =
         let r = below e lt held place from to o (fine.each e lt).0 (fine.each e lt).1 (ap (λ (u : Term). object_of ds m.bytes u place) (sym is) ∙ has) ones (subst (λ (u : Term). Item ds m held u place from to) is x) in
         parts_excluded (held + 1) (padded_size o.size) from.next 0 o.parts r.0 r.1 (linked o.marker o.size from) to fault r.2 r.3 b r.4
+    item_excluded held e place from to fault u lt is (in_table rows place' from' fault' ones right b) x =
+        envelopes_excluded (held + 1) rows (named_rows t fine e u lt is) 0 (count_at m.bytes place) from.next (linked (place + 8) (8 * count_at m.bytes place) from) to 1 fault refl b (table_value ds fine.laid_out m held rows place from to x).slots
+    item_excluded held e place from to fault u lt is (in_union optional strict rows place' from' fault' some right b) x =
+        member_excluded held (find rows (ordinal_at m.bytes place)) (named_rows t fine e u lt is (ordinal_at m.bytes place)) (place + 8) from to fault b (union_chosen ds m held optional strict rows place from to some x).contained
+
+    envelopes_excluded : (held : ℕ) (rows : Rows) (named : (ordinal : ℕ) → NamedIf (find rows ordinal)) (read n base : ℕ) (from to : At) (ordinal : ℕ) (fault : DecodeFault) → suc read ≡ ordinal → BreaksEnvelopes ds m held rows ordinal n base from fault
+        → Slots ds m held rows read n base from to → ⊥
+    envelopes_excluded held rows named read n base from to ordinal fault same (at_member rows' ordinal' n' base' from' fault' le some b) y =
+        let some' = subst (λ o. Stands m.bytes (envelope_place base o) (zeros 8) → ⊥) (sym same) some in
+        elim (slots_step ds fine.laid_out m held rows n base read from to (omega (arith, le, same)) y) [
+          | inl z ↦ some' z.0
+          | inr c ↦ member_excluded held (find rows ordinal) (named ordinal) (envelope_place base ordinal) from c.mid fault b (subst (λ o. Contained ds m held (find rows o) (envelope_place base o) from c.mid) same c.contained)
+        ]
+    envelopes_excluded held rows named read n base from to ordinal fault same (behind_none rows' ordinal' n' base' from' fault' le z b) y =
+        elim (slots_step ds fine.laid_out m held rows n base read from to (omega (arith, le, same)) y) [
+          | inl s ↦ envelopes_excluded held rows named (suc read) n base from to (suc ordinal) fault (ap suc same) b s.1
+          | inr c ↦ contained_some ds fine.laid_out m within held (find rows (suc read)) (envelope_place base (suc read)) from c.mid c.contained (subst (λ o. Stands m.bytes (envelope_place base o) (zeros 8)) (sym same) z)
+        ]
+    envelopes_excluded held rows named read n base from to ordinal fault same (behind_member rows' ordinal' n' base' from' mid fault' le c b) y =
+        let own = subst (λ o. Contained ds m held (find rows o) (envelope_place base o) from mid) (sym same) c in
+        elim (slots_step ds fine.laid_out m held rows n base read from to (omega (arith, le, same)) y) [
+          | inl s ↦ contained_some ds fine.laid_out m within held (find rows (suc read)) (envelope_place base (suc read)) from mid own s.0
+          | inr d ↦
+              let one = contained_unique ds sound m within held held (find rows (suc read)) (bounded_if (find rows (suc read)) (named (suc read))) (envelope_place base (suc read)) from d.mid mid d.contained own in
+              envelopes_excluded held rows named (suc read) n base mid to (suc ordinal) fault (ap suc same) b (subst (λ (s : At). Slots ds m held rows (suc read) n base s to) one d.slots)
+        ]
+
+    member_excluded : (held : ℕ) (o : Option Term) → NamedIf o → (p : ℕ) (from to : At) (fault : DecodeFault) → BreaksMember ds m held o p from fault → Contained ds m held o p from to → ⊥
+    member_excluded held o named p from to fault (by_numbers o' p' from' fault' b) x = envelope_excluded ds fine.laid_out m within held p from o to fault b x
+    member_excluded held o named p from to fault (in_envelope v p' from' fault' can le b) x =
+        let e = named.0 in
+        let y = content_rows t fine m within held v e named.1 p from to true (small_inline (size_of ds v) le) x in
+        parts_excluded held 4 p 0 (record { offset = 0; term = v } ∷ []) (suc (fig e).nest) (entry_row e) (opened p from) to fault (ap (λ (v : Term). (let q : Part = record { offset = 0; term = v } in q) ∷ []) named.1) y.0 b y.1
+    member_excluded held o named p from to fault (out_of_line v p' from' fault' can gt right b) x =
+        let e = named.0 in
+        let y = content_rows t fine m within held v e named.1 p from to false (large_out (size_of ds v) gt) x in
+        parts_excluded (held + 1) (next_multiple_of (size_of ds v) 8) from.next 0 (record { offset = 0; term = v } ∷ []) (suc (fig e).nest) (entry_row e) (linked p (size_of ds v) (opened p from)) to fault
+        (ap (λ (v : Term). (let q : Part = record { offset = 0; term = v } in q) ∷ []) named.1) y.0 b y.1
+    member_excluded held o named p from to fault (by_counts v p' from' wrong) x = miscounts_excluded ds sound m within held v (bounded_if (Some v) named) p from to wrong x
 
     parts_excluded : (held size base done : ℕ) (ps : List Part) (nest : ℕ) (rs : List Row) (from to : At) (fault : DecodeFault) → ps ≡ row_parts rs → RowsRise ds h.entries nest size done rs → BreaksParts ds m held size base done ps from fault → Members ds m held size base done rs from to → ⊥
     parts_excluded held size base done ps nest (r ∷ rs) from to fault e rise (in_gap size' base' done' p qs from' fault' b) y =
@@ -281,7 +277,7 @@ module _ (t : List ℕ) (fine : IsFine t) (sound : IsSound (declarations_of t)) 
         let a = members_more ds fine.laid_out m held h.entries nest size base done r rs from to rise y in
         let q = heads p (part_of r) qs (row_parts rs) e in
         let i' = subst (λ (p : Part). Item ds m held (resolve ds.terms p.term) (base + p.offset) from mid) q i in
-        let same : a.1.0 ≡ mid = item_unique ds sound m short few held held (term r.entry) (bounded-resolve ds.terms (ty.named r.entry) sound.bounded tt) (base + r.offset) from a.1.0 mid a.1.1 i' in
+        let same : a.1.0 ≡ mid = item_unique ds sound m (short_message m within) (few_handles m within) held held (term r.entry) (bounded-resolve ds.terms (ty.named r.entry) sound.bounded tt) (base + r.offset) from a.1.0 mid a.1.1 i' in
         let done' : r.offset + size_of ds (ty.named r.entry) ≡ p.offset + size_of ds p.term = ap (λ (p : Part). p.offset + size_of ds p.term) (sym q) in
         parts_excluded held size base (p.offset + size_of ds p.term) qs nest rs mid to fault (tails p (part_of r) qs (row_parts rs) e) (subst (λ n. RowsRise ds h.entries nest size n rs) done' rise.3) b
         (subst (λ (s : At). Members ds m held size base (p.offset + size_of ds p.term) rs s to) same (subst (λ n. Members ds m held size base n rs a.1.0 to) done' a.1.2))
@@ -326,11 +322,8 @@ module _ (t : List ℕ) (fine : IsFine t) (sound : IsSound (declarations_of t)) 
   abbrev whole : Message
   whole = message_of bytes handles
 
-  short : length bytes < 2 ^ 32
-  short = let s = y.1.short in omega arith
-
-  few : length handles < 2 ^ 16
-  few = let s = y.1.few in omega arith
+  within : IsWithin bytes handles
+  within = (y.1.short, y.1.few)
 
   size : size_of (declarations_of t) (ty.named e) ≡ (entry_at t e).size
   size = size_is t fine e lt
@@ -342,7 +335,7 @@ module _ (t : List ℕ) (fine : IsFine t) (sound : IsSound (declarations_of t)) 
       let a = (message_item t fine part e lt [] [] z).2 in
       let b = (message_item t fine whole e lt [] [] y).2 in
       let bounded = bounded-resolve (declarations_of t).terms (ty.named e) sound.bounded tt in
-      let same = item_unique (declarations_of t) sound whole short few 0 0 (resolve (declarations_of t).terms (ty.named e)) bounded 0 (start_of (entry_at t e).size) a.0 b.0 (item_wider (declarations_of t) part whole 0 (resolve (declarations_of t).terms (ty.named e)) 0 (start_of (entry_at t e).size) a.0 f g a.2) b.2 in
+      let same = item_unique (declarations_of t) sound whole (short_message whole within) (few_handles whole within) 0 0 (resolve (declarations_of t).terms (ty.named e)) bounded 0 (start_of (entry_at t e).size) a.0 b.0 (item_wider (declarations_of t) part whole 0 (resolve (declarations_of t).terms (ty.named e)) 0 (start_of (entry_at t e).size) a.0 f g a.2) b.2 in
       (sym a.1.bytes ∙ ap (λ (s : At). s.next) same ∙ b.1.bytes, sym a.1.handles ∙ ap (λ (s : At). s.handle) same ∙ b.1.handles)
 
   part_excluded : (fault : DecodeFault) → BreaksMessage (declarations_of t) (ty.named e) whole fault → ⊥
@@ -351,7 +344,7 @@ module _ (t : List ℕ) (fine : IsFine t) (sound : IsSound (declarations_of t)) 
       elim b [
         | inl p ↦ let far = le-next_multiple_of (entry_at t e).size 8 in
             padding_excluded bytes (entry_at t e).size (next_multiple_of (entry_at t e).size 8) (next_multiple_of (entry_at t e).size 8 - (entry_at t e).size) fault (omega (arith, far)) r.1 (subst (λ (s : ℕ). IsPadding bytes s (next_multiple_of s 8) fault) size p)
-        | inr i ↦ item_excluded t fine sound whole short few 0 e 0 (start_of (entry_at t e).size) r.2.0 fault (resolve (declarations_of t).terms (ty.named e)) lt refl (subst (λ (s : ℕ). Breaks (declarations_of t) whole 0 (resolve (declarations_of t).terms (ty.named e)) 0 (start_of s) fault) size i) r.2.2
+        | inr i ↦ item_excluded t fine sound whole within 0 e 0 (start_of (entry_at t e).size) r.2.0 fault (resolve (declarations_of t).terms (ty.named e)) lt refl (subst (λ (s : ℕ). Breaks (declarations_of t) whole 0 (resolve (declarations_of t).terms (ty.named e)) 0 (start_of s) fault) size i) r.2.2
       ]
 
   pub told_excluded : (fault : DecodeFault) → IsTold (declarations_of t) (ty.named e) bytes handles fault → ⊥
@@ -372,6 +365,9 @@ module _ (t : List ℕ) (fine : IsFine t) (sound : IsSound (declarations_of t)) 
   told_excluded (BadCount at) h = part_excluded (BadCount at) h.1
   told_excluded (OverBound at) h = part_excluded (OverBound at) h.1
   told_excluded (NotUtf8 at) h = part_excluded (NotUtf8 at) h.1
+  told_excluded (BadEnvelope at) h = part_excluded (BadEnvelope at) h.1
+  told_excluded (WrongCounts at) h = part_excluded (WrongCounts at) h.1
+  told_excluded (UnknownOrdinal at) h = part_excluded (UnknownOrdinal at) h.1
   told_excluded (TooDeep at) h = part_excluded (TooDeep at) h.1
   told_excluded (HandleMissing at) h = part_excluded (HandleMissing at) h.1
   told_excluded (WrongHandle at) h = part_excluded (WrongHandle at) h.1

@@ -47,7 +47,7 @@ module _ (optional : Bool) (subtype rights : ℕ) (bytes : List ℕ) (handles : 
         | inr b ↦ elim (of_parts no_declarations m 0 4 0 0 (only optional subtype rights) [] (start_of 4) fault (of_object no_declarations m 0 (holder optional subtype rights) 0 (start_of 4) fault (only optional subtype rights ∷ []) none (refl, refl) b)) [
           | inl p ↦ absurd (before p)
           | inr c ↦ elim c [
-            | inl x ↦ of_field no_declarations m 0 t 0 (start_of 4) fault (refl, refl) x
+            | inl x ↦ of_field no_declarations m 0 t 0 (start_of 4) fault (refl, refl, tt) x
             | inr l ↦ absurd (between (of_end no_declarations m 0 4 0 4 l.0 fault l.1))
           ]
         ]

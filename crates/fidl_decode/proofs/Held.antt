@@ -73,7 +73,7 @@ box_padded h =
         | inr c ↦ elim (of_parts no_declarations m 1 8 8 0 (part 0 (ty.number uint32)) [] (behind_box 4) (Truncated 8) c) [
           | inl p ↦ p
           | inr d ↦ elim d [
-            | inl n ↦ of_field no_declarations m 1 (ty.number uint32) 8 (behind_box 4) (Truncated 8) (refl, refl) n
+            | inl n ↦ of_field no_declarations m 1 (ty.number uint32) 8 (behind_box 4) (Truncated 8) (refl, refl, tt) n
             | inr l ↦ of_end no_declarations m 1 8 8 4 l.0 (Truncated 8) l.1
           ]
         ]
@@ -104,7 +104,7 @@ box_one h =
       | inr c ↦ elim (of_parts no_declarations m 1 8 8 0 (part 0 ty.bool) [] (behind_box 1) (BadBool 8) c) [
         | inl p ↦ p
         | inr d ↦ elim d [
-          | inl n ↦ let b = of_field no_declarations m 1 ty.bool 8 (behind_box 1) (BadBool 8) (refl, refl) n in omega (arith, b.1)
+          | inl n ↦ let b = of_field no_declarations m 1 ty.bool 8 (behind_box 1) (BadBool 8) (refl, refl, tt) n in omega (arith, b.1)
           | inr l ↦ of_end no_declarations m 1 8 8 1 l.0 (BadBool 8) l.1
         ]
       ]
@@ -224,7 +224,7 @@ numbers_hold m kind each size base (suc n) done from fault no_gap b =
     elim (of_parts no_declarations m 1 size base done (part each (ty.number kind)) (element_parts no_declarations (ty.number kind) n (each + size_of no_declarations (ty.number kind))) from fault b) [
       | inl p ↦ no_gap _ _ p
       | inr d ↦ elim d [
-        | inl x ↦ of_field no_declarations m 1 (ty.number kind) (base + each) from fault (refl, refl) x
+        | inl x ↦ of_field no_declarations m 1 (ty.number kind) (base + each) from fault (refl, refl, tt) x
         | inr l ↦ numbers_hold m kind (each + size_of no_declarations (ty.number kind)) size base n (each + size_of no_declarations (ty.number kind)) l.0 fault no_gap l.1
       ]
     ]
@@ -280,11 +280,11 @@ first_element h =
       | inr c ↦ elim (of_parts no_declarations m 1 8 16 0 (part 0 ty.bool) (part 1 ty.bool ∷ []) (held_at 2) (BadBool 16) c) [
         | inl p ↦ p
         | inr d ↦ elim d [
-          | inl n ↦ let b = of_field no_declarations m 1 ty.bool 16 (held_at 2) (BadBool 16) (refl, refl) n in omega (arith, b.1)
+          | inl n ↦ let b = of_field no_declarations m 1 ty.bool 16 (held_at 2) (BadBool 16) (refl, refl, tt) n in omega (arith, b.1)
           | inr l ↦ elim (of_parts no_declarations m 1 8 16 1 (part 1 ty.bool) [] l.0 (BadBool 16) l.1) [
             | inl p ↦ p
             | inr e ↦ elim e [
-              | inl n ↦ let b = of_field no_declarations m 1 ty.bool 17 l.0 (BadBool 16) (refl, refl) n in omega (arith, b.0)
+              | inl n ↦ let b = of_field no_declarations m 1 ty.bool 17 l.0 (BadBool 16) (refl, refl, tt) n in omega (arith, b.0)
               | inr z ↦ of_end no_declarations m 1 8 16 2 z.0 (BadBool 16) z.1
             ]
           ]

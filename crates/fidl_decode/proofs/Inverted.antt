@@ -1,16 +1,18 @@
 -- What a message that breaks a rule says of its parts, and worked refusals.
-use Rattle.std.proofs.Common.{◌≡◌, ℕ, ◌+◌, List, [], ◌∷◌, refl, sym, subst, ◌∙◌, arith, inl, inr, true, pos}
-use Rattle.std.specs.Prelude.{◌⊎◌, Some, None, codes}
+use Rattle.std.proofs.Common.{◌≡◌, ◌≢◌, ℕ, ◌+◌, ◌*◌, ◌<◌, ◌≤◌, List, [], ◌∷◌, refl, sym, subst, ◌∙◌, arith, inl, inr, true, pos}
+use Rattle.std.specs.Prelude.{◌⊎◌, Bool, Some, None, codes}
 use Rattle.std.specs.Int.{next_multiple_of}
 use Rattle.fidl_wire.specs.Value.{bool, number}
-use Rattle.fidl_wire.specs.Term.{Term, no_fields, field, uint8, uint32, resolve}
+use Rattle.fidl_wire.specs.Term.{Term, Rows, find, no_fields, field, uint8, uint32, resolve}
 use Rattle.fidl_wire.specs.Term as ty
 use Rattle.fidl_wire.specs.Figure.{Declarations, no_declarations, size_of}
 use Rattle.fidl_wire.specs.Encoding.{zeros}
 use Rattle.fidl_decode.specs.declared.fault.DecodeFault.{DecodeFault}
-use Rattle.fidl_decode.specs.declared.fault.DecodeFault.TheVariants.{Padding, BadBool}
-use Rattle.fidl_decode.specs.State.{Message, At, linked, Item}
-use Rattle.fidl_decode.specs.Breaks.{Part, parts_of, Object, object_of, IsPadding, BreaksRule, Breaks, BreaksParts, in_field, in_parts, in_object, in_gap, in_next, in_later, in_end}
+use Rattle.fidl_decode.specs.declared.fault.DecodeFault.TheVariants.{Padding, BadBool, WrongCounts}
+use Rattle.fidl_decode.specs.State.{Message, At, opened, linked, Item}
+use Rattle.fidl_decode.specs.Breaks.{Part, parts_of, Object, object_of, count_at, ordinal_at, IsPadding, BreaksTable, BreaksUnion, BreaksRule, Breaks, BreaksParts, BreaksEnvelopes, BreaksMember}
+use Rattle.fidl_decode.specs.Breaks.{in_field, in_parts, in_object, in_table, in_union, by_numbers, in_envelope, out_of_line, by_counts, in_gap, in_next, in_later, in_end}
+use Rattle.fidl_decode.specs.Envelopes.{BreaksEnvelope, Miscounts}
 use Rattle.fidl_decode.specs.Faults.{IsTold, message_of, start_of}
 
 no_part : (ps : List Part) → None ≡ Some ps → ⊥
@@ -25,18 +27,28 @@ only_object o p e = cc
 only_parts : (ps qs : List Part) → Some ps ≡ Some qs → ps ≡ qs
 only_parts ps qs e = cc
 
+-- neither a table nor a union
+abbrev pub HasNoEnvelope : Term → Type 0
+HasNoEnvelope (ty.table rows) = ⊥
+HasNoEnvelope (ty.union optional strict rows) = ⊥
+HasNoEnvelope t = Unit {0}
+
 module _ (ds : Declarations) (m : Message) (held : ℕ) where
   -- a field breaks its own rule
-  pub of_field : (t : Term) (place : ℕ) (from : At) (fault : DecodeFault) → (parts_of ds t ≡ None) × (object_of ds m.bytes t place ≡ None) → Breaks ds m held t place from fault → BreaksRule ds m held t place from.next from.handle fault
+  pub of_field : (t : Term) (place : ℕ) (from : At) (fault : DecodeFault) → (parts_of ds t ≡ None) × (object_of ds m.bytes t place ≡ None) × HasNoEnvelope t → Breaks ds m held t place from fault → BreaksRule ds m held t place from.next from.handle fault
   of_field t place from fault none (in_field t' place' from' fault' b) = b
   of_field t place from fault none (in_parts t' place' from' fault' ps is b) = absurd (no_part ps (sym none.0 ∙ is))
   of_field t place from fault none (in_object t' place' from' fault' o is ones right b) = absurd (no_object o (sym none.1 ∙ is))
+  of_field t place from fault none (in_table rows place' from' fault' ones right b) = absurd none.2
+  of_field t place from fault none (in_union optional strict rows place' from' fault' some right b) = absurd none.2
 
   -- an object with parts breaks a rule in one of them, or in a gap
   pub of_object : (t : Term) (place : ℕ) (from : At) (fault : DecodeFault) (ps : List Part) → (BreaksRule ds m held t place from.next from.handle fault → ⊥) → (parts_of ds t ≡ Some ps) × (object_of ds m.bytes t place ≡ None) → Breaks ds m held t place from fault → BreaksParts ds m held (size_of ds t) place 0 ps from fault
   of_object t place from fault ps none is (in_field t' place' from' fault' b) = absurd (none b)
   of_object t place from fault ps none is (in_parts t' place' from' fault' qs has b) = subst (λ (l : List Part). BreaksParts ds m held (size_of ds t) place 0 l from fault) (only_parts qs ps (sym has ∙ is.0)) b
   of_object t place from fault ps none is (in_object t' place' from' fault' o has ones right b) = absurd (no_object o (sym is.1 ∙ has))
+  of_object t place from fault ps none is (in_table rows place' from' fault' ones right b) = absurd (no_part ps is.0)
+  of_object t place from fault ps none is (in_union optional strict rows place' from' fault' some right b) = absurd (no_part ps is.0)
 
   -- what points to an object breaks its own rule, or the object does
   pub of_pointed : (t : Term) (place : ℕ) (from : At) (fault : DecodeFault) (o : Object) → (parts_of ds t ≡ None) × (object_of ds m.bytes t place ≡ Some o) → Breaks ds m held t place from fault
@@ -45,6 +57,41 @@ module _ (ds : Declarations) (m : Message) (held : ℕ) where
   of_pointed t place from fault o is (in_parts t' place' from' fault' ps has b) = absurd (no_part ps (sym is.0 ∙ has))
   of_pointed t place from fault o is (in_object t' place' from' fault' p has ones right b) =
       inr (subst (λ (o : Object). BreaksParts ds m (held + 1) (next_multiple_of o.size 8) from.next 0 o.parts (linked o.marker o.size from) fault) (only_object p o (sym has ∙ is.1)) b)
+  of_pointed t place from fault o is (in_table rows place' from' fault' ones right b) = absurd (no_object o is.1)
+  of_pointed t place from fault o is (in_union optional strict rows place' from' fault' some right b) = absurd (no_object o is.1)
+
+  -- a table breaks its own rule, or its envelopes do
+  pub of_table : (rows : Rows) (place : ℕ) (from : At) (fault : DecodeFault) → Breaks ds m held (ty.table rows) place from fault
+      → BreaksTable m held place from.next fault ⊎ BreaksEnvelopes ds m (held + 1) rows 1 (count_at m.bytes place) from.next (linked (place + 8) (8 * count_at m.bytes place) from) fault
+  of_table rows place from fault (in_field t' place' from' fault' b) = inl b
+  of_table rows place from fault (in_parts t' place' from' fault' ps has b) = absurd (no_part ps has)
+  of_table rows place from fault (in_object t' place' from' fault' o has ones right b) = absurd (no_object o has)
+  of_table rows place from fault (in_table rows' place' from' fault' ones right b) = inr b
+
+  -- a union breaks its own rule, or its member does
+  pub of_union : (optional strict : Bool) (rows : Rows) (place : ℕ) (from : At) (fault : DecodeFault) → Breaks ds m held (ty.union optional strict rows) place from fault
+      → BreaksUnion m optional strict rows place fault ⊎ ((ordinal_at m.bytes place ≢ 0) × BreaksMember ds m held (find rows (ordinal_at m.bytes place)) (place + 8) from fault)
+  of_union optional strict rows place from fault (in_field t' place' from' fault' b) = inl b
+  of_union optional strict rows place from fault (in_parts t' place' from' fault' ps has b) = absurd (no_part ps has)
+  of_union optional strict rows place from fault (in_object t' place' from' fault' o has ones right b) = absurd (no_object o has)
+  of_union optional strict rows place from fault (in_union optional' strict' rows' place' from' fault' some right b) = inr (some, b)
+
+  -- an unknown member breaks a rule by its envelope's numbers
+  pub of_unknown : (envelope : ℕ) (from : At) (fault : DecodeFault) → BreaksMember ds m held None envelope from fault → BreaksEnvelope ds m held None envelope from.next from.handle fault
+  of_unknown envelope from fault (by_numbers t' envelope' from' fault' b) = b
+
+  -- a known one does, or in its content, or by what its envelope counts
+  abbrev pub Known : Term → (envelope : ℕ) → At → DecodeFault → Type 0
+  Known t envelope from fault = BreaksEnvelope ds m held (Some t) envelope from.next from.handle fault
+      ⊎ (((size_of ds t ≤ 4) × BreaksParts ds m held 4 envelope 0 (record { offset = 0; term = t } ∷ []) (opened envelope from) fault)
+      ⊎ (((4 < size_of ds t) × BreaksParts ds m (held + 1) (next_multiple_of (size_of ds t) 8) from.next 0 (record { offset = 0; term = t } ∷ []) (linked envelope (size_of ds t) (opened envelope from)) fault)
+      ⊎ ((fault ≡ WrongCounts envelope) × Miscounts ds m held t envelope from)))
+
+  pub of_known : (t : Term) (envelope : ℕ) (from : At) (fault : DecodeFault) → BreaksMember ds m held (Some t) envelope from fault → Known t envelope from fault
+  of_known t envelope from fault (by_numbers t' envelope' from' fault' b) = inl b
+  of_known t envelope from fault (in_envelope u envelope' from' fault' can le b) = inr (inl (le, b))
+  of_known t envelope from fault (out_of_line u envelope' from' fault' can gt right b) = inr (inr (inl (gt, b)))
+  of_known t envelope from fault (by_counts u envelope' from' wrong) = inr (inr (inr (refl, wrong)))
 
   pub of_parts : (size base done : ℕ) (p : Part) (ps : List Part) (from : At) (fault : DecodeFault) → BreaksParts ds m held size base done (p ∷ ps) from fault
       → IsPadding m.bytes (base + done) (base + p.offset) fault ⊎ (Breaks ds m held (resolve ds.terms p.term) (base + p.offset) from fault ⊎ ((mid : At) × BreaksParts ds m held size base (p.offset + size_of ds p.term) ps mid fault))
@@ -87,11 +134,11 @@ only_there at behind before between h = elim h.1 [
   | inr b ↦ elim (of_parts no_declarations two_bad 0 8 0 0 part_a (part_b ∷ []) (start_of 8) (Padding at) (of_object no_declarations two_bad 0 pair 0 (start_of 8) (Padding at) (part_a ∷ part_b ∷ []) (λ x. x) (refl, refl) b)) [
     | inl p ↦ before p
     | inr c ↦ elim c [
-      | inl n ↦ of_field no_declarations two_bad 0 (ty.number uint8) 0 (start_of 8) (Padding at) (refl, refl) n
+      | inl n ↦ of_field no_declarations two_bad 0 (ty.number uint8) 0 (start_of 8) (Padding at) (refl, refl, tt) n
       | inr l ↦ elim (of_parts no_declarations two_bad 0 8 0 1 part_b [] l.0 (Padding at) l.1) [
         | inl p ↦ between p
         | inr d ↦ elim d [
-          | inl n ↦ of_field no_declarations two_bad 0 (ty.number uint32) 4 l.0 (Padding at) (refl, refl) n
+          | inl n ↦ of_field no_declarations two_bad 0 (ty.number uint32) 4 l.0 (Padding at) (refl, refl, tt) n
           | inr e ↦ behind (of_end no_declarations two_bad 0 8 0 8 e.0 (Padding at) e.1)
         ]
       ]
@@ -133,7 +180,7 @@ bad_element = (
 )
 
 no_bool : (place : ℕ) (from : At) → Breaks no_declarations ones 0 (ty.number uint8) place from (BadBool 1) → ⊥
-no_bool place from b = of_field no_declarations ones 0 (ty.number uint8) place from (BadBool 1) (refl, refl) b
+no_bool place from b = of_field no_declarations ones 0 (ty.number uint8) place from (BadBool 1) (refl, refl, tt) b
 
 no_element : (from : At) → Breaks no_declarations ones 0 (ty.array (ty.number uint8) 2) 0 from (BadBool 1) → ⊥
 no_element from b = elim (of_parts no_declarations ones 0 2 0 0 (first_of_type (ty.number uint8)) (second_of_type (ty.number uint8) ∷ []) from (BadBool 1)

@@ -1,14 +1,14 @@
 -- What a value links lies in its own bytes, and in those of the objects behind it.
-use Rattle.std.proofs.Common.{◌≡◌, ◌≢◌, ℕ, ◌+◌, ◌*◌, ◌/◌, ◌<◌, ◌≤◌, length, get_or, refl, sym, ap, subst, ◌∙◌, arith, mul-suc, get_or-set_other, length-set, zero-add}
+use Rattle.std.proofs.Common.{◌≡◌, ◌≢◌, ℕ, ◌+◌, ◌*◌, ◌/◌, ◌<◌, ◌≤◌, Bool, true, false, nat_le, Option, Some, None, length, get_or, refl, sym, ap, subst, ◌∙◌, arith, mul-suc, get_or-set_other, length-set, zero-add}
 use Rattle.std.specs.Int.{next_multiple_of}
-use Rattle.fidl_wire.specs.Value.{Value, absent, bool, number, text, list, fields, handle, table, union, Values, none, value, count}
-use Rattle.fidl_wire.specs.Term.{Term, Fields, no_fields, field, resolve, fields_of}
+use Rattle.fidl_wire.specs.Value.{Value, absent, bool, number, text, list, fields, handle, table, union, Values, none, value, count, Member, known, unknown, Members, empty, member}
+use Rattle.fidl_wire.specs.Term.{Term, Fields, no_fields, field, Rows, resolve, fields_of, find}
 use Rattle.fidl_wire.specs.Term as ty
 use Rattle.fidl_wire.specs.Figure.{Declarations, figure_of, end_of, size_of, IsLaidOut}
-use Rattle.fidl_wire.specs.Typed.{IsTyped, AllTyped, EachTyped}
+use Rattle.fidl_wire.specs.Typed.{IsTyped, AllTyped, EachTyped, IsTypedMember, RiseTyped}
 use Rattle.fidl_wire.specs.Encoding.{elements, members}
-use Rattle.fidl_wire.proofs.Sizes.{size_of-resolve, length-elements, length-members, end_of-le, le-next_multiple_of}
-use Rattle.fidl_decode.specs.State.{At, taken, linked, after, after_elements, after_fields}
+use Rattle.fidl_wire.proofs.Sizes.{size_of-resolve, length-elements, length-members, end_of-le, le-next_multiple_of, le_of_test}
+use Rattle.fidl_decode.specs.State.{At, taken, passed, opened, linked, member_at, begun, envelope_place, after, after_elements, after_fields, after_member, after_envelopes}
 
 -- n bytes at k don't meet the bytes from a up to b
 abbrev pub Apart : (k n a b : ℕ) → Type 0
@@ -67,6 +67,45 @@ keeps_taken place c d s = record {
     other : (k : ℕ) → Apart k 4 place (place + 4) → k / 4 ≢ place / 4
     other k x e = x (omega arith) (omega arith)
 
+-- the cell of an envelope's second half is no other's
+keeps_opened : (place c d : ℕ) (s : At) → Keeps place (place + 8) c d s (opened place s)
+keeps_opened place c d s = record {
+  objects = λ k x y. refl;
+  records = λ k x y. get_or-set_other s.records ((place + 4) / 4) (k / 4) s.handle 0 (other k x);
+  as_many = refl;
+  as_many_records = length-set s.records ((place + 4) / 4) s.handle;
+  grows = omega arith;
+}
+  where
+    other : (k : ℕ) → Apart k 4 place (place + 8) → k / 4 ≢ (place + 4) / 4
+    other k x e = x (omega arith) (omega arith)
+
+keeps_begun : (inline : Bool) (place size c d : ℕ) (s : At) → Keeps place (place + 8) c d s (begun inline place size s)
+keeps_begun true place size c d s = keeps_opened place c d s
+keeps_begun false place size c d s = keeps_both _ _ _ _ s (opened place s) (begun false place size s) (keeps_opened place c d s) (keeps_linked place (place + 8) c d place size (opened place s) (omega arith) (omega arith))
+
+keeps_passed : (a b c d n : ℕ) (s r : At) → Keeps a b c d s r → Keeps a b c d s (passed n r)
+keeps_passed a b c d n s r h = record { objects = h.objects; records = h.records; as_many = h.as_many; as_many_records = h.as_many_records; grows = h.grows }
+
+-- a member of this size, in its envelope or as the next object, keeps what lies outside of both
+keeps_member_at : (size place : ℕ) (s r : At) → Keeps (member_at (nat_le size 4) place s) (member_at (nat_le size 4) place s + size) (begun (nat_le size 4) place size s).next r.next (begun (nat_le size 4) place size s) r
+    → Keeps place (place + 8) s.next r.next s r
+keeps_member_at size place s r = go (nat_le size 4) refl
+  where
+    go : (b : Bool) → nat_le size 4 ≡ b → Keeps (member_at b place s) (member_at b place s + size) (begun b place size s).next r.next (begun b place size s) r → Keeps place (place + 8) s.next r.next s r
+    go true e h =
+        let small = le_of_test size e in
+        keeps_both _ _ _ _ s (opened place s) r
+        (keeps_opened place s.next r.next s)
+        (keeps_wider place (place + size) s.next r.next place (place + 8) s.next r.next (opened place s) r (λ k i x y. ((λ p q. x (omega arith) (omega arith)), y)) h)
+    go false e h =
+        let mid = begun false place size s in
+        let grows = h.grows in
+        let up = le-next_multiple_of size 8 in
+        keeps_both _ _ _ _ s mid r
+        (keeps_begun false place size s.next r.next s)
+        (keeps_wider s.next (s.next + size) mid.next r.next place (place + 8) s.next r.next mid r (λ k i x y. ((λ p q. y (omega arith) (omega arith)), (λ p q. y (omega arith) (omega arith)))) h)
+
 -- members end behind where they begin
 pub ends_behind : (ds : Declarations) (fs : Fields) (from : ℕ) → from ≤ end_of ds.figures from fs
 ends_behind ds no_fields from = omega arith
@@ -120,8 +159,18 @@ module _ (ds : Declarations) (laid : IsLaidOut ds) where
         keeps_both _ _ _ _ s mid r
         (keeps_linked place (place + 8) s.next r.next place n s (omega arith) (omega arith))
         (keeps_wider (s.next + 0) (s.next + size) mid.next r.next place (place + 8) s.next r.next mid r (λ k i x y. ((λ p q. y (omega arith) (omega arith)), (λ p q. y (omega arith) (omega arith)))) more)
-    keeps t (table n ms) place s h = record { objects = λ k x y. refl; records = λ k x y. refl; as_many = refl; as_many_records = refl; grows = omega arith }
-    keeps t (union ordinal x) place s h = record { objects = λ k x y. refl; records = λ k x y. refl; as_many = refl; as_many_records = refl; grows = omega arith }
+    keeps (ty.table rows) (table n ms) place s h =
+        let mid = linked (place + 8) (8 * n) s in
+        let r = after_envelopes ds rows ms s.next mid in
+        let more = keeps_envelopes rows 0 n s.next ms mid h.1 in
+        let grows = more.grows in
+        let up = le-next_multiple_of (8 * n) 8 in
+        keeps_both _ _ _ _ s mid r
+        (keeps_linked place (place + 16) s.next r.next (place + 8) (8 * n) s (omega arith) (omega arith))
+        (keeps_wider (s.next + 8 * 0) (s.next + 8 * n) mid.next r.next place (place + 16) s.next r.next mid r (λ k i x y. ((λ p q. y (omega arith) (omega arith)), (λ p q. y (omega arith) (omega arith)))) more)
+    keeps (ty.union optional strict rows) (union ordinal x) place s h =
+        let r = after_member ds (find rows ordinal) x (place + 8) s in
+        keeps_wider (place + 8) (place + 8 + 8) s.next r.next place (place + 16) s.next r.next s r (λ k i x y. ((λ p q. x (omega arith) (omega arith)), y)) (keeps_member strict (find rows ordinal) x (place + 8) s h.2)
     keeps _ _ place s h = absurd h
 
     pub keeps_elements : (u : Term) (size : ℕ) → size ≡ size_of ds u → (vs : Values) (place : ℕ) (s : At) → AllTyped ds u vs → Keeps place (place + size * count vs) s.next (after_elements ds u size vs place s).next s (after_elements ds u size vs place s)
@@ -157,3 +206,33 @@ module _ (ds : Declarations) (laid : IsLaidOut ds) where
         (keeps_wider (base + at) (base + at + size_of ds u) s.next mid.next (base + from) (base + size) s.next r.next s mid (λ k i x y. ((λ p q. x (omega arith) (omega arith)), (λ p q. y (omega arith) (omega arith)))) one)
         (keeps_wider (base + (at + f.size)) (base + size) mid.next r.next (base + from) (base + size) s.next r.next mid r (λ k i x y. ((λ p q. x (omega arith) (omega arith)), (λ p q. y (omega arith) (omega arith)))) two)
     keeps_fields _ size from base _ s le h = absurd h
+
+    -- an envelope at a place
+    pub keeps_member : (strict : Bool) (o : Option Term) (x : Member) (place : ℕ) (s : At) → IsTypedMember ds strict o x → Keeps place (place + 8) s.next (after_member ds o x place s).next s (after_member ds o x place s)
+    keeps_member strict (Some t) (known v) place s h =
+        let u = resolve ds.terms t in
+        let size = size_of ds t in
+        let at = member_at (nat_le size 4) place s in
+        let mid = begun (nat_le size 4) place size s in
+        let r = after ds u v at mid in
+        keeps_member_at size place s r (subst (λ k. Keeps at (at + k) mid.next r.next mid r) (size_of-resolve ds laid t) (keeps u v at mid h))
+    keeps_member strict None (unknown inline bytes handles) place s h =
+        keeps_passed _ _ _ _ (length handles) s (begun inline place (length bytes) s) (keeps_begun inline place (length bytes) s.next (begun inline place (length bytes) s).next s)
+    keeps_member strict _ _ place s h = absurd h
+
+    -- the envelopes behind `last`
+    pub keeps_envelopes : (rows : Rows) (last n base : ℕ) (ms : Members) (s : At) → RiseTyped ds rows last n ms → Keeps (base + 8 * last) (base + 8 * n) s.next (after_envelopes ds rows ms base s).next s (after_envelopes ds rows ms base s)
+    keeps_envelopes rows last n base empty s h = keeps_all _ _ _ _ s
+    keeps_envelopes rows last n base (member ordinal x ms) s h =
+        let at = envelope_place base ordinal in
+        let mid = after_member ds (find rows ordinal) x at s in
+        let r = after_envelopes ds rows ms base mid in
+        let one = keeps_member false (find rows ordinal) x at s h.2 in
+        let two = keeps_envelopes rows ordinal n base ms mid h.3 in
+        let above = h.0 in
+        let within = h.1 in
+        let up = one.grows in
+        let on = two.grows in
+        keeps_both _ _ _ _ s mid r
+        (keeps_wider at (at + 8) s.next mid.next (base + 8 * last) (base + 8 * n) s.next r.next s mid (λ k i x y. ((λ p q. x (omega arith) (omega arith)), (λ p q. y (omega arith) (omega arith)))) one)
+        (keeps_wider (base + 8 * ordinal) (base + 8 * n) mid.next r.next (base + 8 * last) (base + 8 * n) s.next r.next mid r (λ k i x y. ((λ p q. x (omega arith) (omega arith)), (λ p q. y (omega arith) (omega arith)))) two)

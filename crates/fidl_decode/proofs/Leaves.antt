@@ -20,17 +20,17 @@ use Rattle.fidl_decode.specs.Rows.{Row, table_rows, element_rows}
 use Rattle.fidl_decode.specs.State.{Message, At, Item}
 use Rattle.fidl_decode.specs.declared.fault.DecodeFault.{DecodeFault}
 use Rattle.fidl_decode.specs.Breaks.{IsPadding, Breaks}
-use Rattle.fidl_decode.specs.Machine.{rows_left, Reads, ReadsIf, BreaksFrame, LeftFine, height, FrameFine, frame_work, probes, StateFine, Visits, Turns}
+use Rattle.fidl_decode.specs.Machine.{rows_left, Reads, ReadsIf, BreaksFrame, LeftFine, IsPlain, VisitFine, height, FrameFine, frame_work, probes, StateFine, Visits, Turns}
 use Rattle.fidl_decode.proofs.Stated.{table_rows-more, element_rows-more}
 use Rattle.fidl_decode.proofs.Visiting.{size_is, positive, visits_free}
 use Rattle.fidl_decode.proofs.Turning.{fine_from, done_fits, spends, spends_more, end_refused, turns_end, row_fine, row_room, gap_refused, visit_refused, turns_more, end_breaks, gap_breaks, visit_breaks}
 
 -- a frame with other members left, so many of its bytes read
 abbrev pub going_on : Frame → Left → (done : ℕ) → Frame
-going_on f left done = record { left = left; base = f.base; done = done; size = f.size; nest = f.nest; depth = f.depth }
+going_on f left done = record { left = left; base = f.base; done = done; size = f.size; nest = f.nest; depth = f.depth; inside = f.inside }
 
 pub same_frame : (f : Frame) (left : Left) → f.left ≡ left → f ≡ going_on f left f.done
-same_frame f left is = λ i. record { left = is i; base = f.base; done = f.done; size = f.size; nest = f.nest; depth = f.depth }
+same_frame f left is = λ i. record { left = is i; base = f.base; done = f.done; size = f.size; nest = f.nest; depth = f.depth; inside = f.inside }
 
 -- only a frame is left
 abbrev pub left_over : Option Frame → Turn
@@ -108,15 +108,15 @@ module _ (t : List ℕ) (fine : IsFine t) (m : Message) (f : Frame) (old now : A
   gf = turns.rest_fine.0
 
   -- the members are read: zeros to the end
-  module _ (over : rows_left t g.done g.left ≡ []) where
+  module _ (over : rows_left t g.done g.left ≡ []) (plain : IsPlain g.left) where
     pub over_turns : (n : ℕ) → n ≤ a + (g.base + g.size - (g.base + g.done) + 1) → Stands m.bytes (g.base + g.done) (zeros (g.base + g.size - (g.base + g.done))) → Turns t m f old now n (left_over None)
-    over_turns n le z = turns_then t m f old now a g turns now (g.base + g.size - (g.base + g.done) + 1) n (left_over None) le (turns_end t fine m g now gf turns.state over z)
+    over_turns n le z = turns_then t m f old now a g turns now (g.base + g.size - (g.base + g.done) + 1) n (left_over None) le (turns_end t fine m g now gf turns.state over plain z)
 
     pub over_refused : (Stands m.bytes (g.base + g.done) (zeros (g.base + g.size - (g.base + g.done))) → ⊥) → (to : At) → Reads t m f old to → ⊥
-    over_refused bad = turns_refused t m f old now a g turns (λ to. end_refused t fine m g now gf turns.state over to bad)
+    over_refused bad = turns_refused t m f old now a g turns (λ to. end_refused t fine m g now gf turns.state over plain to bad)
 
     pub over_breaks : (fault : DecodeFault) → IsPadding m.bytes (g.base + g.done) (g.base + g.size) fault → BreaksFrame t m f old fault
-    over_breaks fault p = turns_break t m f old now a g turns fault (end_breaks t fine m g now gf turns.state over fault p)
+    over_breaks fault p = turns_break t m f old now a g turns fault (end_breaks t fine m g now gf turns.state over plain fault p)
 
   -- the bytes that are left lie within the message, and there is work for them
   pub over_room : (g.done ≤ g.size) × (g.base + g.size ≤ length m.bytes) × (g.size - g.done + 1 ≤ frame_work g)
@@ -139,30 +139,31 @@ module _ (t : List ℕ) (fine : IsFine t) (m : Message) (f : Frame) (old now : A
         let pos = positive t fine r.entry next_known in
         (known.1, omega (arith, size), gf.room, spends_more g.nest (r.offset - g.done) (g.size - g.done) (omega (arith, fits, known.1, pos)))
 
-    pub next_gap_refused : (Stands m.bytes (g.base + g.done) (zeros (g.base + r.offset - (g.base + g.done))) → ⊥) → (to : At) → Reads t m f old to → ⊥
-    next_gap_refused bad = turns_refused t m f old now a g turns (λ to. gap_refused t fine m g now gf turns.state r left one to bad)
+    module _ (plain : IsPlain g.left) where
+      pub next_gap_refused : (Stands m.bytes (g.base + g.done) (zeros (g.base + r.offset - (g.base + g.done))) → ⊥) → (to : At) → Reads t m f old to → ⊥
+      next_gap_refused bad = turns_refused t m f old now a g turns (λ to. gap_refused t fine m g now gf turns.state r left one plain to bad)
 
-    pub next_leaf_refused : ((to : At) → Item ds m g.depth (resolve ds.terms (ty.named r.entry)) (g.base + r.offset) now to → ⊥) → (to : At) → Reads t m f old to → ⊥
-    next_leaf_refused bad = turns_refused t m f old now a g turns (λ to. visit_refused t fine m g now gf turns.state r left one to bad)
+      pub next_leaf_refused : ((to : At) → Item ds m g.depth (resolve ds.terms (ty.named r.entry)) (g.base + r.offset) now to → ⊥) → (to : At) → Reads t m f old to → ⊥
+      next_leaf_refused bad = turns_refused t m f old now a g turns (λ to. visit_refused t fine m g now gf turns.state r left one plain to bad)
 
-    pub next_gap_breaks : (fault : DecodeFault) → IsPadding m.bytes (g.base + g.done) (g.base + r.offset) fault → BreaksFrame t m f old fault
-    next_gap_breaks fault p = turns_break t m f old now a g turns fault (gap_breaks t fine m g now gf turns.state r left one fault p)
+      pub next_gap_breaks : (fault : DecodeFault) → IsPadding m.bytes (g.base + g.done) (g.base + r.offset) fault → BreaksFrame t m f old fault
+      next_gap_breaks fault p = turns_break t m f old now a g turns fault (gap_breaks t fine m g now gf turns.state r left one plain fault p)
 
-    pub next_leaf_breaks : (fault : DecodeFault) → Stands m.bytes (g.base + g.done) (zeros (g.base + r.offset - (g.base + g.done))) → Breaks ds m g.depth (resolve ds.terms (ty.named r.entry)) (g.base + r.offset) now fault → BreaksFrame t m f old fault
-    next_leaf_breaks fault z b = turns_break t m f old now a g turns fault (visit_breaks t fine m g now gf turns.state r left one fault z b)
+      pub next_leaf_breaks : (fault : DecodeFault) → Stands m.bytes (g.base + g.done) (zeros (g.base + r.offset - (g.base + g.done))) → Breaks ds m g.depth (resolve ds.terms (ty.named r.entry)) (g.base + r.offset) now fault → BreaksFrame t m f old fault
+      next_leaf_breaks fault z b = turns_break t m f old now a g turns fault (visit_breaks t fine m g now gf turns.state r left one plain fault z b)
 
-    -- it is a leaf, or leads to what is below
-    pub next_takes : LeftFine t left → (below : Option Frame) (new : At) (done spent n : ℕ) → done ≡ r.offset + (entry_at t r.entry).size → n ≤ a + (g.base + r.offset - (g.base + g.done) + 1 + spent)
-        → Stands m.bytes (g.base + g.done) (zeros (g.base + r.offset - (g.base + g.done))) → Visits t m g.depth r.entry (g.base + r.offset) now new spent below
-        → Turns t m f old new n (record { below = below; rest = Some (going_on g left done) })
-    next_takes left_fine below new done spent n is le z v =
-        turns_then t m f old now a g turns new (g.base + r.offset - (g.base + g.done) + 1 + spent) n (record { below = below; rest = Some (going_on g left done) }) le
-        (turns_more t fine m g now gf turns.state r left one (positive t fine r.entry next_known) left_fine below new done spent (omega (arith, is, next_size)) z v)
+      -- it is a leaf, or leads to what is below
+      pub next_takes : LeftFine t left → IsPlain left → (below : Option Frame) (new : At) (done spent n : ℕ) → done ≡ r.offset + (entry_at t r.entry).size → n ≤ a + (g.base + r.offset - (g.base + g.done) + 1 + spent)
+          → Stands m.bytes (g.base + g.done) (zeros (g.base + r.offset - (g.base + g.done))) → Visits t m g.depth r.entry (g.base + r.offset) now new spent below → VisitFine t m g.depth g.inside r.entry below
+          → Turns t m f old new n (record { below = below; rest = Some (going_on g left done) })
+      next_takes left_fine left_plain below new done spent n is le z v vf =
+          turns_then t m f old now a g turns new (g.base + r.offset - (g.base + g.done) + 1 + spent) n (record { below = below; rest = Some (going_on g left done) }) le
+          (turns_more t fine m g now gf turns.state r left one plain (positive t fine r.entry next_known) left_fine left_plain below new done spent (omega (arith, is, next_size)) z v vf)
 
-    pub next_turns : LeftFine t left → (new : At) (done spent n : ℕ) → done ≡ r.offset + (entry_at t r.entry).size → n ≤ a + (g.base + r.offset - (g.base + g.done) + 1 + spent)
-        → Stands m.bytes (g.base + g.done) (zeros (g.base + r.offset - (g.base + g.done))) → Visits t m g.depth r.entry (g.base + r.offset) now new spent None
-        → Turns t m f old new n (left_over (Some (going_on g left done)))
-    next_turns left_fine new done spent n is le z v = next_takes left_fine None new done spent n is le z v
+      pub next_turns : LeftFine t left → IsPlain left → (new : At) (done spent n : ℕ) → done ≡ r.offset + (entry_at t r.entry).size → n ≤ a + (g.base + r.offset - (g.base + g.done) + 1 + spent)
+          → Stands m.bytes (g.base + g.done) (zeros (g.base + r.offset - (g.base + g.done))) → Visits t m g.depth r.entry (g.base + r.offset) now new spent None
+          → Turns t m f old new n (left_over (Some (going_on g left done)))
+      next_turns left_fine left_plain new done spent n is le z v = next_takes left_fine left_plain None new done spent n is le z v tt
 
 -- the next of a struct's rows
 pub rows_next : (t : List ℕ) (first end done d : ℕ) (w : raw.Row) → w ≡ row_at t (header_of t) first → first < end → rows_left t done (Rows first (end - first)) ≡ (let x : Row = record { offset = w.key; entry = w.entry } in x) ∷ rows_left t d (Rows (first + 1) (end - (first + 1)))
@@ -210,7 +211,7 @@ module _ (t : List ℕ) (fine : IsFine t) (m : Message) (e size : ℕ) (f : Fram
       let own = next_size t fine m g at at 0 g start r left one in
       let room = next_room t fine m g at at 0 g start r left one in
       let none : f.base + done - (f.base + done) ≡ 0 = omega arith in
-      let step = next_turns t fine m g at at 0 g start r left one is at (done + size) 0 0 (omega (arith, is, own)) (omega arith) (no_zeros m.bytes (f.base + done) _ none) (v (f.base + done) known (omega (arith, room.1, room.2))) in
+      let step = next_turns t fine m g at at 0 g start r left one tt is tt at (done + size) 0 0 (omega (arith, is, own)) (omega arith) (no_zeros m.bytes (f.base + done) _ none) (v (f.base + done) known (omega (arith, room.1, room.2))) in
       let on = any_elements n (done + size) step.rest_fine.0 state v in
       let more : size * suc n ≡ size * n + size = mul-suc size n in
       let same : done + size + size * n ≡ done + size * suc n = omega arith in

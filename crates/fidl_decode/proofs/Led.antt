@@ -1,9 +1,9 @@
--- Worked links: a text and a handle where the links lead, and not where they lead elsewhere.
-use Rattle.std.proofs.Common.{◌≡◌, ℕ, List, [], ◌∷◌, ◌++◌, false, refl, ap, arith}
+-- Worked links: a text, a handle and members where the links lead, and not where they lead elsewhere.
+use Rattle.std.proofs.Common.{◌≡◌, ℕ, List, [], ◌∷◌, ◌++◌, true, false, pos, refl, ap, arith}
 use Rattle.std.specs.Prelude.{Some, codes, replicate}
 use Rattle.fidl_wire.specs.declared.handle.HandleInfo.{HandleInfo}
-use Rattle.fidl_wire.specs.Value.{Value, text, handle, fields, none, value}
-use Rattle.fidl_wire.specs.Term.{Term, no_fields, field}
+use Rattle.fidl_wire.specs.Value.{Value, number, text, handle, fields, table, union, none, value, known, unknown, member, empty}
+use Rattle.fidl_wire.specs.Term.{Term, no_fields, field, no_rows, row, uint64}
 use Rattle.fidl_wire.specs.Term as ty
 use Rattle.fidl_wire.specs.Figure.{no_declarations}
 use Rattle.fidl_wire.specs.Encoding.{zeros}
@@ -53,12 +53,53 @@ ones = replicate 4 255 ++ zeros 4
 abbrev second : Linked
 second = record { objects = []; records = 1 ∷ [] }
 
+same_record : Some two ≡ Some one → ⊥
+same_record e = let i : two ≡ one = cc in let n : 2 ≡ 1 = ap (λ (x : HandleInfo). x.id) i in omega (arith, n)
+
 pub second_there : Placed no_declarations (message_of ones (one ∷ two ∷ [])) second holder 0 (fields (value (handle two) none))
 second_there = let there = stands_from_rest ones 0 ones refl in
     (stands_front ones 0 (replicate 4 255) (zeros 4) there, ((stands_front ones 0 (replicate 4 255) (zeros 4) there, refl), tt))
 
 pub first_not : Placed no_declarations (message_of ones (one ∷ two ∷ [])) second holder 0 (fields (value (handle one) none)) → ⊥
-first_not h = clash h.1.0.1
-  where
-    clash : Some two ≡ Some one → ⊥
-    clash e = let i : two ≡ one = cc in let n : 2 ≡ 1 = ap (λ (x : HandleInfo). x.id) i in omega (arith, n)
+first_not h = same_record h.1.0.1
+
+-- ---- a member out of line
+
+abbrev numbers : Term
+numbers = ty.table (row 1 (codes "n") (ty.number uint64) no_rows)
+
+abbrev seven : List ℕ
+seven = 1 ∷ zeros 7 ++ replicate 8 255 ++ 8 ∷ zeros 7 ++ 7 ∷ zeros 7
+
+abbrev points_to : ℕ → Linked
+points_to n = record { objects = 0 ∷ 16 ∷ n ∷ []; records = [] }
+
+pub member_there : Placed no_declarations (message_of seven []) (points_to 24) numbers 0 (table 1 (member 1 (known (number (pos 7))) empty))
+member_there = (
+  stands_front seven 0 (1 ∷ zeros 7 ++ replicate 8 255) (8 ∷ zeros 7 ++ 7 ∷ zeros 7) (stands_from_rest seven 0 seven refl),
+  stands_front seven 16 (8 ∷ zeros 7) (7 ∷ zeros 7) (stands_from_rest seven 16 (8 ∷ zeros 7 ++ 7 ∷ zeros 7) refl),
+  (stands_from_rest seven 24 (7 ∷ zeros 7) refl, tt),
+)
+
+pub member_elsewhere : Placed no_declarations (message_of seven []) (points_to 16) numbers 0 (table 1 (member 1 (known (number (pos 7))) empty)) → ⊥
+member_elsewhere h = let e : 8 ≡ 7 = h.2.0.1 in omega (arith, e)
+
+-- ---- the handles of an unknown member
+
+abbrev others : Term
+others = ty.union false false no_rows
+
+abbrev ninth : List ℕ
+ninth = 9 ∷ zeros 7 ++ 1 ∷ 2 ∷ 3 ∷ 4 ∷ 1 ∷ 0 ∷ 1 ∷ 0 ∷ []
+
+abbrev from_second : Linked
+from_second = record { objects = []; records = 0 ∷ 0 ∷ 0 ∷ 1 ∷ [] }
+
+pub own_handle : Placed no_declarations (message_of ninth (one ∷ two ∷ [])) from_second others 0 (union 9 (unknown true (1 ∷ 2 ∷ 3 ∷ 4 ∷ []) (two ∷ [])))
+own_handle = (
+  stands_from_rest ninth 0 ninth refl,
+  (stands_front ninth 8 (1 ∷ 2 ∷ 3 ∷ 4 ∷ []) (1 ∷ 0 ∷ 1 ∷ 0 ∷ []) (stands_from_rest ninth 8 (1 ∷ 2 ∷ 3 ∷ 4 ∷ 1 ∷ 0 ∷ 1 ∷ 0 ∷ []) refl), (refl, tt)),
+)
+
+pub other_handle : Placed no_declarations (message_of ninth (one ∷ two ∷ [])) from_second others 0 (union 9 (unknown true (1 ∷ 2 ∷ 3 ∷ 4 ∷ []) (one ∷ []))) → ⊥
+other_handle h = same_record h.1.1.0

@@ -3,7 +3,7 @@ use Rattle.std.proofs.Common.{◌≡◌, ℕ, ◌+◌, ◌-◌, ◌*◌, ◌^◌
 use Rattle.std.specs.Prelude.{Bool, ◌⊎◌, Some, None, IsTrue}
 use Rattle.std.proofs.Math.Nat.{mul-le-mul_right}
 use Rattle.std.specs.Int.{w64, to_le_bytes}
-use Rattle.fidl_wire.specs.declared.limits.TheConstants.{MAX_DEPTH}
+use Rattle.fidl_limits.specs.declared.limits.TheConstants.{MAX_DEPTH}
 use Rattle.fidl_wire.specs.Value.{Value, Values, absent, list, count}
 use Rattle.fidl_wire.specs.Term.{Term, resolve, uint64}
 use Rattle.fidl_wire.specs.Term as ty
@@ -28,13 +28,13 @@ use Rattle.fidl_decode.specs.Rows.{Row, element_rows, enc_rows, RowsRise}
 use Rattle.fidl_decode.specs.State.{Message, At, linked, after, after_elements, StandsAt, Item}
 use Rattle.fidl_decode.specs.Breaks.{Part, Object, object_of, count_at, element_parts, BreaksCounted, BreaksRule, Breaks, BreaksParts}
 use Rattle.fidl_decode.specs.Breaks as broken
-use Rattle.fidl_decode.specs.Machine.{row_parts, StateFine, Visits}
+use Rattle.fidl_decode.specs.Machine.{row_parts, StateFine, Visits, VisitFine}
 use Rattle.fidl_decode.proofs.After.{length-pad8}
 use Rattle.fidl_decode.proofs.Numbers.{number_64}
 use Rattle.fidl_decode.proofs.Scalars.{standing}
 use Rattle.fidl_decode.proofs.Elements.{elements_rise, typed_elements, elements_typed, enc_rows-elements, depth_rows-elements, after_rows-elements, row_parts-elements}
 use Rattle.fidl_decode.proofs.Visiting.{fine_as, term_is, size_is, nest_is, positive}
-use Rattle.fidl_decode.proofs.Objects.{padded_size, zeros_or_ones, stands_within, Opened, inline_is, object_room, stands_object, object_stands, object_carries, object_frame, visits_absent, visits_object}
+use Rattle.fidl_decode.proofs.Objects.{padded_size, zeros_or_ones, stands_within, Opened, inline_is, object_room, stands_object, object_stands, object_carries, object_frame, visits_absent, visits_object, object_fine}
 
 clash : true ≡ false → ⊥
 clash e = cc
@@ -278,7 +278,7 @@ module _ (t : List ℕ) (fine : IsFine t) (m : Message) (held e place : ℕ) (fr
         let wide : padded_size (size * n) ≡ padded_size (inner.size * n) = ap (λ s. padded_size (s * n)) element_size in
         let room' : padded_size (size * n) ≤ length m.bytes - from.next = omega (arith, room, wide) in
         subst (λ s. Visits t m held e place from (linked (place + 8) (s * n) from) spent (Some (object_frame (Elements d.first s n) (s * n) (inner.nest + 1) held from))) element_size
-        (visits_object t fine m held e place from lt state (place + 8) (size * n) (inner.nest + 1) (Elements d.first size n) spent nothing refl (omega (arith, small_nest)) shallow room' vector_rise
+        (visits_object t fine m held e place from lt state (place + 8) (size * n) (inner.nest + 1) (Elements d.first size n) spent nothing tt (omega (arith, small_nest)) shallow room'
         (λ to. (
           (λ x. (vector_item to (subst (λ (w : Term). Item ds m held w place from to) own x) ones).members),
           (λ y. subst (λ (w : Term). Item ds m held w place from to) (sym own)
@@ -288,6 +288,14 @@ module _ (t : List ℕ) (fine : IsFine t) (m : Message) (held e place : ℕ) (fr
         (broken.in_object vector place from fault (let x : Object = record { marker = place + 8; size = size * n; parts = element_parts ds (ty.named d.first) n 0 } in x) refl ones
         (vector_right ds fine.laid_out m held (is_optional d) d.bound few (ty.named d.first) place from ones shallow le room')
         (subst (λ (ps : List Part). BreaksParts ds m (held + 1) (padded_size (size * n)) from.next 0 ps (linked (place + 8) (size * n) from) fault) (row_parts-elements ds d.first n 0) b))))
+
+    pub vector_fine : held < MAX_DEPTH → padded_size (inner.size * n) ≤ length m.bytes - from.next → (around : ℕ) → around ≤ 1 → VisitFine t m held around e (Some (object_frame (Elements d.first inner.size n) (inner.size * n) (inner.nest + 1) held from))
+    vector_fine shallow room around few =
+        let small_nest = (fine.each d.first inside).1.nest in
+        let wide : padded_size (size * n) ≡ padded_size (inner.size * n) = ap (λ s. padded_size (s * n)) element_size in
+        let room' : padded_size (size * n) ≤ length m.bytes - from.next = omega (arith, room, wide) in
+        subst (λ s. VisitFine t m held around e (Some (object_frame (Elements d.first s n) (s * n) (inner.nest + 1) held from))) element_size
+        (object_fine t fine m held e place from lt state (size * n) (inner.nest + 1) (Elements d.first size n) refl tt (omega arith) (omega (arith, small_nest)) shallow room' vector_rise around few)
 
     pub vector_refused : (fault : DecodeFault) → BreaksCounted m held (is_optional d) d.bound (inner.size * n) place from.next fault → (to : At) → Item ds m held (resolve ds.terms (ty.named e)) place from to → ⊥
     vector_refused fault b to x =

@@ -1,12 +1,12 @@
 -- Objects out of line: the rows that one has, with its padding, and the visit of what points to one.
-use Rattle.std.proofs.Common.{◌≡◌, ℕ, ◌+◌, ◌-◌, ◌*◌, ◌<◌, ◌≤◌, List, [], ◌∷◌, ◌++◌, length, refl, sym, ap, subst, ◌∙◌, arith, length-append, append_assoc}
+use Rattle.std.proofs.Common.{◌≡◌, ℕ, ◌+◌, ◌-◌, ◌*◌, ◌<◌, ◌≤◌, List, [], ◌∷◌, ◌++◌, length, refl, sym, ap, subst, ◌∙◌, arith, length-append, append_assoc, inl}
 use Rattle.std.specs.Prelude.{◌↔◌, Some, None}
 use Rattle.std.specs.Int.{next_multiple_of}
 use Rattle.std.proofs.Math.ListN.{length-replicate}
 use Rattle.std.proofs.Math.Nat.{mul-le-mul_right}
 use Rattle.std.proofs.lemmas.List.{replicate-append-replicate}
 use Rattle.fidl_wire.specs.declared.handle.HandleInfo.{HandleInfo}
-use Rattle.fidl_wire.specs.declared.limits.TheConstants.{MAX_DEPTH}
+use Rattle.fidl_limits.specs.declared.limits.TheConstants.{MAX_DEPTH}
 use Rattle.fidl_wire.specs.Value.{Values, none, value}
 use Rattle.fidl_wire.specs.Term.{Term, resolve}
 use Rattle.fidl_wire.specs.Term as ty
@@ -24,9 +24,10 @@ use Rattle.fidl_decode.specs.declared.frame.Left.{Left}
 use Rattle.fidl_decode.specs.Rows.{Row, TypedRows, enc_rows, RowsRise}
 use Rattle.fidl_decode.specs.State.{Message, At, linked, StandsAt, Item, Members}
 use Rattle.fidl_decode.specs.Breaks.{Breaks, BreaksParts}
-use Rattle.fidl_decode.specs.Machine.{rows_left, row_parts, LeftFine, StateFine, Visits, most_nest, inline_work, byte_work}
+use Rattle.fidl_decode.specs.Machine.{rows_left, row_parts, IsPlain, LeftFine, StateFine, Visits, VisitFine, most_nest, inline_work, byte_work}
 use Rattle.fidl_decode.proofs.After.{length-pad8}
 use Rattle.fidl_decode.proofs.Rows.{rows_fit, length-entry}
+use Rattle.fidl_decode.proofs.Turning.{plain_reads, plain_breaks, plain_fits}
 use Rattle.fidl_decode.proofs.Visiting.{work_none}
 
 -- the size of an object with its padding
@@ -146,7 +147,7 @@ module _ (ds : Declarations) (laid : IsLaidOut ds) where
 
 -- the frame of the next object, of this size
 abbrev pub object_frame : Left → (size nest held : ℕ) → At → Frame
-object_frame left size nest held from = record { left = left; base = from.next; done = 0; size = padded_size size; nest = nest; depth = held + 1 }
+object_frame left size nest held from = record { left = left; base = from.next; done = 0; size = padded_size size; nest = nest; depth = held + 1; inside = 0 }
 
 -- the bytes of an object pay for its frame
 object_work : (n w nest : ℕ) → nest ≤ most_nest → inline_work nest * (w - 0) + 1 ≤ byte_work * w + 1
@@ -161,28 +162,39 @@ module _ (t : List ℕ) (fine : IsFine t) (m : Message) (held e place : ℕ) (fr
 
   -- nothing is there
   pub visits_absent : (spent : ℕ) → spent ≡ 0 → ((to : At) → Item ds m held (resolve ds.terms (ty.named e)) place from to ↔ (from ≡ to)) → Visits t m held e place from from spent None
-  visits_absent spent nothing same = record { same = same; breaks = λ fault b. absurd b; state = state; fine = tt; less = omega (arith, nothing) }
+  visits_absent spent nothing same = record { same = same; breaks = λ fault b. absurd b; state = state; less = omega (arith, nothing) }
 
   -- the object is left to read
-  pub visits_object : (marker size nest : ℕ) (left : Left) (spent : ℕ) → spent ≡ 0 → LeftFine t left → nest ≤ most_nest → held < MAX_DEPTH → padded_size size ≤ length m.bytes - from.next → RowsRise ds (header_of t).entries nest size 0 (rows_left t 0 left)
+  pub visits_object : (marker size nest : ℕ) (left : Left) (spent : ℕ) → spent ≡ 0 → IsPlain left → nest ≤ most_nest → held < MAX_DEPTH → padded_size size ≤ length m.bytes - from.next
       → ((to : At) → Item ds m held (resolve ds.terms (ty.named e)) place from to ↔ Members ds m (held + 1) (padded_size size) from.next 0 (rows_left t 0 left) (linked marker size from) to)
       → ((fault : DecodeFault) → BreaksParts ds m (held + 1) (padded_size size) from.next 0 (row_parts (rows_left t 0 left)) (linked marker size from) fault → Breaks ds m held (resolve ds.terms (ty.named e)) place from fault)
       → Visits t m held e place from (linked marker size from) spent (Some (object_frame left size nest held from))
-  visits_object marker size nest left spent nothing left_fine deep shallow room rise same breaks =
+  visits_object marker size nest left spent nothing plain deep shallow room same breaks =
       let within = state.next in
       record {
-        same = same;
-        breaks = breaks;
-        state = record { next = omega (arith, within, room); handle = state.handle; few = state.few };
-        fine = (
-          record {
-            left = left_fine;
-            room = omega (arith, within, room);
-            nest = deep;
-            depth = omega (arith, shallow);
-            rise = rows_wider ds fine.laid_out (header_of t).entries nest size (padded_size size) 0 (rows_left t 0 left) (le-next_multiple_of size 8) rise;
-          },
-          omega arith,
+        same = λ to. (
+          (λ x. (plain_reads t m (object_frame left size nest held from) left plain (linked marker size from) to).1 ((same to).0 x)),
+          (λ y. (same to).1 ((plain_reads t m (object_frame left size nest held from) left plain (linked marker size from) to).0 y)),
         );
+        breaks = λ fault b. breaks fault ((plain_breaks t m (object_frame left size nest held from) left plain (linked marker size from) fault).0 b);
+        state = record { next = omega (arith, within, room); handle = state.handle; few = state.few };
         less = omega (arith, nothing, object_work (length m.bytes) (padded_size size) nest deep, split_work (length m.bytes) from.next (padded_size size) room);
       }
+
+  -- and its frame is fine, wherever what points to it lies
+  pub object_fine : (size nest : ℕ) (left : Left) → LeftFine t left → IsPlain left → 0 < nest → nest ≤ most_nest → held < MAX_DEPTH → padded_size size ≤ length m.bytes - from.next → RowsRise ds (header_of t).entries nest size 0 (rows_left t 0 left)
+      → (inside : ℕ) → inside ≤ 1 → VisitFine t m held inside e (Some (object_frame left size nest held from))
+  object_fine size nest left left_fine plain some deep shallow room rise inside few =
+      let within = state.next in (
+        record {
+          left = left_fine;
+          slots = plain_fits (object_frame left size nest held from) left plain;
+          room = omega (arith, within, room);
+          some = some;
+          nest = deep;
+          depth = omega (arith, shallow);
+          inside = inl refl;
+          rise = rows_wider ds fine.laid_out (header_of t).entries nest size (padded_size size) 0 (rows_left t 0 left) (le-next_multiple_of size 8) rise;
+        },
+        omega (arith, few, deep),
+      )

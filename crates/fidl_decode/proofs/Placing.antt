@@ -1,67 +1,34 @@
 -- The links that a run leaves lead from each marker to its object, and from each handle to its record.
-use Rattle.std.proofs.Common.{◌≡◌, ℕ, ◌+◌, ◌-◌, ◌*◌, ◌/◌, ◌<◌, ◌≤◌, List, ◌++◌, length, get_or, refl, sym, ap, subst, ◌∙◌, arith, mul-suc, get_or-set_same, length-set, zero-add}
-use Rattle.std.specs.Prelude.{Some, slice_get}
+use Rattle.std.proofs.Common.{◌≡◌, ℕ, suc, ◌+◌, ◌-◌, ◌*◌, ◌/◌, ◌<◌, ◌≤◌, List, length, get_or, refl, sym, ap, subst, ◌∙◌, arith, mul-suc, get_or-set_same, length-set, zero-add}
+use Rattle.std.specs.Prelude.{Bool, true, false, nat_le, Option, Some, None, slice_get}
 use Rattle.std.proofs.Math.ListN.{length-replicate}
-use Rattle.std.specs.Int.{next_multiple_of}
-use Rattle.fidl_wire.specs.declared.limits.TheConstants.{MAX_MESSAGE_BYTES, MAX_MESSAGE_HANDLES}
-use Rattle.fidl_wire.specs.Value.{Value, absent, bool, number, text, list, fields, handle, table, union, Values, none, value, count}
-use Rattle.fidl_wire.specs.Term.{Term, Fields, no_fields, field, resolve, fields_of}
+use Rattle.std.specs.Int.{next_multiple_of, to_le_bytes, w64}
+use Rattle.fidl_limits.specs.declared.limits.TheConstants.{MAX_MESSAGE_BYTES, MAX_MESSAGE_HANDLES}
+use Rattle.fidl_wire.specs.Value.{Value, absent, bool, number, text, list, fields, handle, table, union, Values, none, value, count, Member, known, unknown, Members, empty, member}
+use Rattle.fidl_wire.specs.Term.{Term, Fields, no_fields, field, Rows, resolve, fields_of, find}
 use Rattle.fidl_wire.specs.Term as ty
 use Rattle.fidl_wire.specs.Figure.{Declarations, figure_of, end_of, size_of, IsLaidOut}
-use Rattle.fidl_wire.specs.Typed.{IsTyped, AllTyped, EachTyped}
-use Rattle.fidl_wire.specs.Encoding.{Encoding, zeros, pad8, inline_only, joined, encoding_of, elements, members}
+use Rattle.fidl_wire.specs.Typed.{IsTyped, AllTyped, EachTyped, IsTypedMember, RiseTyped}
+use Rattle.fidl_wire.specs.Encoding.{zeros, inline_only, joined, envelope_end, encoding_of, elements, members, enveloped, envelopes}
 use Rattle.fidl_wire.specs.Standing.{Stands, Carries}
-use Rattle.fidl_wire.proofs.Sizes.{size_of-resolve, length-inline, length-elements, length-members, end_of-le, le-next_multiple_of}
-use Rattle.fidl_wire.proofs.Stand.{stands_to, stands_front, stands_back}
+use Rattle.fidl_wire.proofs.Sizes.{size_of-resolve, length-inline, length-elements, length-members, length-enveloped, end_of-le, le-next_multiple_of}
+use Rattle.fidl_wire.proofs.Unique.{no_out}
+use Rattle.fidl_wire.proofs.Stand.{stands_front}
 use Rattle.fidl_decode.specs.Links.{Linked}
-use Rattle.fidl_decode.specs.State.{Message, At, linked, past, after, after_elements, after_fields, StandsAt, Item}
+use Rattle.fidl_decode.specs.State.{Message, At, linked, member_at, begun, envelope_place, after, after_elements, after_fields, after_member, after_envelopes, StandsAt, Item}
 use Rattle.fidl_records.specs.Section.{header_of, entry_at}
 use Rattle.fidl_records.specs.Terms.{declarations_of}
 use Rattle.fidl_decode.specs.Invariants.{IsFine}
 use Rattle.fidl_decode.specs.Machine.{IsWhole}
-use Rattle.fidl_decode.specs.Placed.{Placed, ArePlaced, AreFieldsPlaced, StandsIn, links_of}
+use Rattle.fidl_decode.specs.Placed.{Placed, ArePlaced, AreFieldsPlaced, IsMemberPlaced, AreMembersPlaced, StandsIn, links_of}
 use Rattle.fidl_decode.proofs.Visiting.{size_is}
 use Rattle.fidl_decode.proofs.Messages.{begins, item_encodes}
-use Rattle.fidl_decode.proofs.After.{length-pad8, after_past, stands_alike}
+use Rattle.fidl_decode.proofs.After.{past, length-table, after_past, member_past, stands_alike}
 use Rattle.fidl_decode.proofs.Rows.{stands_joined, stands_at, past_inline}
-use Rattle.fidl_decode.proofs.Keeping.{Apart, Keeps, ends_behind, keeps, keeps_elements, keeps_fields}
-
--- links agree with a state on the cells of the places from a up to b
-record Covers (l : Linked) (r : At) (a b : ℕ) : Type 0 where
-  objects : (k : ℕ) → a ≤ k → k + 8 ≤ b → get_or l.objects (k / 8) 0 ≡ get_or r.objects (k / 8) 0
-  records : (k : ℕ) → a ≤ k → k + 4 ≤ b → get_or l.records (k / 4) 0 ≡ get_or r.records (k / 4) 0
-
-covers_within : (l : Linked) (r : At) (a b c d : ℕ) → a ≤ c → d ≤ b → Covers l r a b → Covers l r c d
-covers_within l r a b c d le lt h = record { objects = λ k x y. h.objects k (omega arith) (omega arith); records = λ k x y. h.records k (omega arith) (omega arith) }
-
--- also with an earlier state, where nothing is linked there in between
-covers_before : (l : Linked) (mid r : At) (a b c d e f : ℕ) → ((k n : ℕ) → a ≤ k → k + n ≤ b → Apart k n c d × Apart k n e f) → Keeps c d e f mid r → Covers l r a b → Covers l mid a b
-covers_before l mid r a b c d e f out g h = record {
-  objects = λ k x y. h.objects k x y ∙ g.objects k (out k 8 x y).0 (out k 8 x y).1;
-  records = λ k x y. h.records k x y ∙ g.records k (out k 4 x y).0 (out k 4 x y).1;
-}
-
--- the bytes from a place up to an end lie before the objects that a run from s to r reads, which have cells, and links agree with r on both
-record Fits (l : Linked) (place to : ℕ) (s r : At) : Type 0 where
-  before : to ≤ s.next
-  objects : r.next ≤ 8 * length s.objects
-  records : r.next ≤ 4 * length s.records
-  near : Covers l r place to
-  far : Covers l r s.next r.next
+use Rattle.fidl_decode.proofs.Covering.{Covers, covers_within, covers_before, Fits, object_stands, envelope_stands, member_fits, first_is}
+use Rattle.fidl_decode.proofs.Keeping.{Keeps, ends_behind, keeps, keeps_elements, keeps_fields, keeps_member, keeps_envelopes}
 
 module _ (ds : Declarations) (laid : IsLaidOut ds) (m : Message) (l : Linked) where
-  -- the object out of line of an encoding
-  object_stands : (e : Encoding) (n : ℕ) (s mid : At) → n ≡ length e.inline → mid.next ≡ s.next + next_multiple_of n 8 → mid.handle ≡ s.handle
-      → Stands m.bytes s.next (pad8 e.inline ++ e.out) → Carries m.handles s.handle e.handles → StandsAt m e s.next mid
-  object_stands e n s mid len next hand o c =
-      let front = stands_front m.bytes s.next (pad8 e.inline) e.out o in
-      let pads = length-pad8 e.inline ∙ ap (λ k. next_multiple_of k 8) (sym len) in
-      record {
-        inline = stands_front m.bytes s.next e.inline (zeros (next_multiple_of (length e.inline) 8 - length e.inline)) front;
-        out = stands_to m.bytes (s.next + length (pad8 e.inline)) mid.next e.out (omega arith) (stands_back m.bytes s.next (pad8 e.inline) e.out o);
-        carried = subst (λ k. Carries m.handles k e.handles) (sym hand) c;
-      }
-
   mutual
     placed : (t : Term) (v : Value) (place : ℕ) (s : At) → IsTyped ds t v → StandsAt m (encoding_of ds t v) place s → Fits l place (place + size_of ds t) s (after ds t v place s) → Placed ds m l t place v
     placed t absent place s h st fit = st.inline
@@ -78,7 +45,7 @@ module _ (ds : Declarations) (laid : IsLaidOut ds) (m : Message) (l : Linked) wh
         let room = fit.objects in
         let in_range : (place + 8) / 8 < length s.objects = omega arith in
         let link = fit.near.objects (place + 8) (omega arith) (omega arith) ∙ get_or-set_same s.objects ((place + 8) / 8) s.next 0 in_range in
-        let own = object_stands (inline_only bytes) (length bytes) s (linked (place + 8) (length bytes) s) refl refl refl st.out tt in
+        let own = object_stands m (inline_only bytes) (length bytes) s (linked (place + 8) (length bytes) s) refl refl refl st.out tt in
         (st.inline, subst (λ p. Stands m.bytes p bytes) (sym link) own.inline)
     placed (ty.vector optional bound t) (list vs) place s h st fit =
         let u = resolve ds.terms t in
@@ -98,7 +65,7 @@ module _ (ds : Declarations) (laid : IsLaidOut ds) (m : Message) (l : Linked) wh
         let in_range : (place + 8) / 8 < length s.objects = omega arith in
         let many = length-set s.objects ((place + 8) / 8) s.next in
         let link = fit.near.objects (place + 8) (omega arith) (omega arith) ∙ more.objects (place + 8) (λ p q. omega arith) (λ p q. omega arith) ∙ get_or-set_same s.objects ((place + 8) / 8) s.next 0 in_range in
-        let own = object_stands e n s mid refl refl refl st.out st.carried in
+        let own = object_stands m e n s mid refl refl refl st.out st.carried in
         let inside = placed_elements u size (sym same) vs s.next mid h.1 own (record {
           before = omega arith;
           objects = omega arith;
@@ -134,7 +101,7 @@ module _ (ds : Declarations) (laid : IsLaidOut ds) (m : Message) (l : Linked) wh
         let in_range : place / 8 < length s.objects = omega arith in
         let many = length-set s.objects (place / 8) s.next in
         let link = fit.near.objects place (omega arith) (omega arith) ∙ more.objects place (λ p q. omega arith) (λ p q. omega arith) ∙ get_or-set_same s.objects (place / 8) s.next 0 in_range in
-        let own = object_stands e n s mid refl refl refl st.out st.carried in
+        let own = object_stands m e n s mid refl refl refl st.out st.carried in
         let here : s.next ≡ s.next + 0 = omega arith in
         let inside = placed_fields fs size 0 s.next vs mid (end_of-le ds fs) h.1 (stands_at m e s.next (s.next + 0) mid here own) (record {
           before = omega arith;
@@ -144,8 +111,44 @@ module _ (ds : Declarations) (laid : IsLaidOut ds) (m : Message) (l : Linked) wh
           far = covers_within l r s.next r.next mid.next r.next (omega arith) (omega arith) fit.far;
         }) in
         (st.inline, subst (λ p. AreFieldsPlaced ds m l fs 0 p vs) (sym link) inside)
-    placed t (table n ms) place s h st fit = st.inline
-    placed t (union ordinal x) place s h st fit = st.inline
+    placed (ty.table rows) (table n ms) place s h st fit =
+        let e = envelopes ds rows 1 n ms in
+        let mid = linked (place + 8) (8 * n) s in
+        let r = after_envelopes ds rows ms s.next mid in
+        let long = length-table ds laid rows n ms h.1 in
+        let more = keeps_envelopes ds laid rows 0 n s.next ms mid h.1 in
+        let grows = more.grows in
+        let up = le-next_multiple_of (8 * n) 8 in
+        let before = fit.before in
+        let room = fit.objects in
+        let room_records = fit.records in
+        let in_range : (place + 8) / 8 < length s.objects = omega arith in
+        let many = length-set s.objects ((place + 8) / 8) s.next in
+        let link = fit.near.objects (place + 8) (omega arith) (omega arith) ∙ more.objects (place + 8) (λ p q. omega arith) (λ p q. omega arith) ∙ get_or-set_same s.objects ((place + 8) / 8) s.next 0 in_range in
+        let own = object_stands m e (8 * n) s mid (sym long) refl refl st.out st.carried in
+        let here : s.next ≡ s.next + 8 * 0 = omega arith in
+        let inside = placed_envelopes rows 0 n s.next ms mid h.1 (stands_at m e s.next (s.next + 8 * 0) mid here own) (record {
+          before = omega arith;
+          objects = omega arith;
+          records = room_records;
+          near = covers_within l r s.next r.next (s.next + 8 * 0) (s.next + 8 * n) (omega arith) (omega arith) fit.far;
+          far = covers_within l r s.next r.next mid.next r.next (omega arith) (omega arith) fit.far;
+        }) in
+        (st.inline, subst (λ p. Stands m.bytes p e.inline) (sym link) own.inline, subst (λ p. AreMembersPlaced ds m l rows p ms) (sym link) inside)
+    placed (ty.union optional strict rows) (union ordinal x) place s h st fit =
+        let r = after_member ds (find rows ordinal) x (place + 8) s in
+        let before = fit.before in
+        let own = (stands_joined m (inline_only (to_le_bytes w64 ordinal)) (enveloped ds (find rows ordinal) x) place s st).1 in
+        let own' = subst (λ (q : At). StandsAt m (enveloped ds (find rows ordinal) x) (place + 8) q) (past_inline (to_le_bytes w64 ordinal) s) own in (
+          st.inline,
+          placed_member strict (find rows ordinal) x (place + 8) s h.2 own' (record {
+            before = omega arith;
+            objects = fit.objects;
+            records = fit.records;
+            near = covers_within l r place (place + 16) (place + 8) (place + 8 + 8) (omega arith) (omega arith) fit.near;
+            far = fit.far;
+          }),
+        )
     placed _ _ place s h st fit = absurd h
 
     placed_elements : (u : Term) (size : ℕ) → size ≡ size_of ds u → (vs : Values) (place : ℕ) (s : At) → AllTyped ds u vs → StandsAt m (elements ds u vs) place s
@@ -168,7 +171,7 @@ module _ (ds : Declarations) (laid : IsLaidOut ds) (m : Message) (l : Linked) wh
         let b = elements ds u vs in
         let wide : length a.inline ≡ size_of ds u = length-inline ds laid u v h.0 in
         let parts = stands_joined m a b place s st in
-        let led = after_past ds u v place s in
+        let led = after_past ds laid u v place s h.0 in
         let rest = stands_alike m b (place + size) (past a s) mid (sym led.0, sym led.1) (stands_at m b (place + length a.inline) (place + size) (past a s) (omega arith) parts.1) in (
           placed u v place s h.0 parts.0 (record {
             before = omega arith;
@@ -216,7 +219,7 @@ module _ (ds : Declarations) (laid : IsLaidOut ds) (m : Message) (l : Linked) wh
         let wide : length a.inline ≡ size_of ds u = length-inline ds laid u v h.0 in
         let behind = subst (λ (q : At). StandsAt m (joined a b) (base + from + length g.inline) q) (past_inline (zeros (at - from)) s) (stands_joined m g (joined a b) (base + from) s st).1 in
         let parts = stands_joined m a b (base + at) s (stands_at m (joined a b) (base + from + length g.inline) (base + at) s (omega arith) behind) in
-        let led = after_past ds u v (base + at) s in
+        let led = after_past ds laid u v (base + at) s h.0 in
         let rest = stands_alike m b (base + (at + f.size)) (past a s) mid (sym led.0, sym led.1) (stands_at m b (base + at + length a.inline) (base + (at + f.size)) (past a s) (omega arith) parts.1) in (
           placed u v (base + at) s h.0 parts.0 (record {
             before = omega arith;
@@ -236,6 +239,80 @@ module _ (ds : Declarations) (laid : IsLaidOut ds) (m : Message) (l : Linked) wh
           }),
         )
     placed_fields _ size from base _ s le h st fit = absurd h
+
+    placed_member : (strict : Bool) (o : Option Term) (x : Member) (place : ℕ) (s : At) → IsTypedMember ds strict o x → StandsAt m (enveloped ds o x) place s → Fits l place (place + 8) s (after_member ds o x place s) → IsMemberPlaced ds m l o place x
+    placed_member strict (Some t) (known v) place s h st fit =
+        let u = resolve ds.terms t in
+        let size = size_of ds t in
+        let at = member_at (nat_le size 4) place s in
+        let mid = begun (nat_le size 4) place size s in
+        let r = after ds u v at mid in
+        let same = size_of-resolve ds laid t in
+        let a = encoding_of ds u v in
+        let kept = subst (λ k. Keeps at (at + k) mid.next r.next mid r) same (keeps ds laid u v at mid h) in
+        let fits = member_fits l size place s r kept fit in
+        let own = envelope_stands m size place a s (length-inline ds laid u v h ∙ same) (λ small. no_out ds laid u v h (subst (λ k. k ≤ 4) (sym same) small)) st in
+        let inside = placed u v at mid h own (subst (λ k. Fits l at (at + k) mid r) (sym same) fits.0) in
+        subst (λ p. Placed ds m l u p v) (sym fits.1) inside
+    placed_member strict None (unknown true bytes handles) place s h st fit =
+        let r = after_member ds None (unknown true bytes handles) place s in
+        let first = first_is l place s r (omega arith) refl fit in
+        (stands_front m.bytes place bytes (envelope_end 1 handles) st.inline, subst (λ k. Carries m.handles k handles) (sym first) st.carried)
+    placed_member strict None (unknown false bytes handles) place s h st fit =
+        let r = after_member ds None (unknown false bytes handles) place s in
+        let first = first_is l place s r (omega arith) refl fit in
+        let before = fit.before in
+        let room = fit.objects in
+        let in_range : place / 8 < length s.objects = omega arith in
+        let link = fit.near.objects place (omega arith) (omega arith) ∙ get_or-set_same s.objects (place / 8) s.next 0 in_range in
+        (subst (λ p. Stands m.bytes p bytes) (sym link) st.out, subst (λ k. Carries m.handles k handles) (sym first) st.carried)
+    placed_member strict _ _ place s h st fit = absurd h
+
+    placed_envelopes : (rows : Rows) (last n base : ℕ) (ms : Members) (s : At) → RiseTyped ds rows last n ms → StandsAt m (envelopes ds rows (suc last) n ms) (base + 8 * last) s
+        → Fits l (base + 8 * last) (base + 8 * n) s (after_envelopes ds rows ms base s) → AreMembersPlaced ds m l rows base ms
+    placed_envelopes rows last n base empty s h st fit = tt
+    placed_envelopes rows last n base (member ordinal x ms) s h st fit =
+        let o = find rows ordinal in
+        let at = envelope_place base ordinal in
+        let mid = after_member ds o x at s in
+        let r = after_envelopes ds rows ms base mid in
+        let above = h.0 in
+        let within = h.1 in
+        let one = keeps_member ds laid false o x at s h.2 in
+        let two = keeps_envelopes ds laid rows ordinal n base ms mid h.3 in
+        let grows = one.grows in
+        let on = two.grows in
+        let many = one.as_many in
+        let many_records = one.as_many_records in
+        let before = fit.before in
+        let room = fit.objects in
+        let room_records = fit.records in
+        let g = inline_only (zeros (8 * (ordinal - suc last))) in
+        let gap : length (zeros (8 * (ordinal - suc last))) ≡ 8 * (ordinal - suc last) = length-replicate {A = ℕ} (8 * (ordinal - suc last)) 0 in
+        let a = enveloped ds o x in
+        let b = envelopes ds rows (suc ordinal) n ms in
+        let wide : length a.inline ≡ 8 = length-enveloped ds laid false o x h.2 in
+        let behind = subst (λ (q : At). StandsAt m (joined a b) (base + 8 * last + length g.inline) q) (past_inline (zeros (8 * (ordinal - suc last))) s) (stands_joined m g (joined a b) (base + 8 * last) s st).1 in
+        let parts = stands_joined m a b at s (stands_at m (joined a b) (base + 8 * last + length g.inline) at s (omega arith) behind) in
+        let led = member_past ds laid false o x at s h.2 in
+        let rest = stands_alike m b (base + 8 * ordinal) (past a s) mid (sym led.0, sym led.1) (stands_at m b (at + length a.inline) (base + 8 * ordinal) (past a s) (omega arith) parts.1) in (
+          placed_member false o x at s h.2 parts.0 (record {
+            before = omega arith;
+            objects = omega arith;
+            records = omega arith;
+            near = covers_before l mid r at (at + 8) (base + 8 * ordinal) (base + 8 * n) mid.next r.next (λ k i x y. ((λ p q. omega arith), (λ p q. omega arith))) two
+                (covers_within l r (base + 8 * last) (base + 8 * n) at (at + 8) (omega arith) (omega arith) fit.near);
+            far = covers_before l mid r s.next mid.next (base + 8 * ordinal) (base + 8 * n) mid.next r.next (λ k i x y. ((λ p q. omega arith), (λ p q. omega arith))) two
+                (covers_within l r s.next r.next s.next mid.next (omega arith) (omega arith) fit.far);
+          }),
+          placed_envelopes rows ordinal n base ms mid h.3 rest (record {
+            before = omega arith;
+            objects = omega arith;
+            records = omega arith;
+            near = covers_within l r (base + 8 * last) (base + 8 * n) (base + 8 * ordinal) (base + 8 * n) (omega arith) (omega arith) fit.near;
+            far = covers_within l r s.next r.next mid.next r.next (omega arith) (omega arith) fit.far;
+          }),
+        )
 
 module _ (t : List ℕ) (fine : IsFine t) (m : Message) (e : ℕ) (lt : e < (header_of t).entries) (objects records : List ℕ) where
   abbrev ds : Declarations

@@ -40,7 +40,7 @@ module _ (optional : Bool) (bound : ℕ) (bytes : List ℕ) (fault : DecodeFault
         | inr b ↦ elim (of_parts no_declarations m 0 16 0 0 (only optional bound) [] (start_of 16) fault (of_object no_declarations m 0 (holder optional bound) 0 (start_of 16) fault (only optional bound ∷ []) none (refl, refl) b)) [
           | inl p ↦ absurd (before p)
           | inr c ↦ elim c [
-            | inl x ↦ of_field no_declarations m 0 t 0 (start_of 16) fault (refl, refl) x
+            | inl x ↦ of_field no_declarations m 0 t 0 (start_of 16) fault (refl, refl, tt) x
             | inr l ↦ absurd (behind (of_end no_declarations m 0 16 0 16 l.0 fault l.1))
           ]
         ]

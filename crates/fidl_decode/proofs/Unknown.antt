@@ -52,7 +52,7 @@ of_choice values n h =
       | inr b ↦ elim (of_parts no_declarations m 0 4 0 0 (only (choice values)) [] (start_of 4) (UnknownValue 0) (of_object no_declarations m 0 (holder (codes "e") (choice values)) 0 (start_of 4) (UnknownValue 0) (only (choice values) ∷ []) (λ x. x) (refl, refl) b)) [
         | inl p ↦ absurd p
         | inr c ↦ elim c [
-          | inl x ↦ of_field no_declarations m 0 (choice values) 0 (start_of 4) (UnknownValue 0) (refl, refl) x
+          | inl x ↦ of_field no_declarations m 0 (choice values) 0 (start_of 4) (UnknownValue 0) (refl, refl, tt) x
           | inr l ↦ absurd (of_end no_declarations m 0 4 0 4 l.0 (UnknownValue 0) l.1)
         ]
       ]
@@ -66,7 +66,7 @@ of_flags n h =
       | inr b ↦ elim (of_parts no_declarations m 0 4 0 0 (only flags) [] (start_of 4) (UnknownBits 0) (of_object no_declarations m 0 (holder (codes "b") flags) 0 (start_of 4) (UnknownBits 0) (only flags ∷ []) (λ x. x) (refl, refl) b)) [
         | inl p ↦ absurd p
         | inr c ↦ elim c [
-          | inl x ↦ of_field no_declarations m 0 flags 0 (start_of 4) (UnknownBits 0) (refl, refl) x
+          | inl x ↦ of_field no_declarations m 0 flags 0 (start_of 4) (UnknownBits 0) (refl, refl, tt) x
           | inr l ↦ absurd (of_end no_declarations m 0 4 0 4 l.0 (UnknownBits 0) l.1)
         ]
       ]

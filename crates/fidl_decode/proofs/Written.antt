@@ -2,7 +2,7 @@
 use Rattle.std.proofs.Common.{◌≡◌, ℕ, suc, ◌+◌, ◌-◌, ◌<◌, ◌≤◌, ◌^◌, List, [], ◌∷◌, length, get_or, refl, sym, ap, subst, ◌∙◌, arith, inl, inr, true, false}
 use Rattle.std.specs.Prelude.{Bool, ◌⊎◌, IsTrue, IsUtf8, slice_range}
 use Rattle.std.specs.Int.{next_multiple_of, w64, to_le_bytes}
-use Rattle.fidl_wire.specs.declared.limits.TheConstants.{MAX_DEPTH}
+use Rattle.fidl_limits.specs.declared.limits.TheConstants.{MAX_DEPTH}
 use Rattle.fidl_wire.specs.Value.{Value, absent, text}
 use Rattle.fidl_wire.specs.Term.{uint64}
 use Rattle.fidl_wire.specs.Term as ty

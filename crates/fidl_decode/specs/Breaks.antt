@@ -1,13 +1,14 @@
 -- Where a message breaks a rule of its type (docs/decoding.md, "Refusals"): a part that stands in
 -- it, with all before that part right.
-use Rattle.std.specs.Prelude.{◌≡◌, ◌≢◌, ◌⊎◌, ℕ, zero, suc, ◌+◌, ◌-◌, ◌*◌, ◌<◌, ◌≤◌, Bool, IsFalse}
+use Rattle.std.specs.Prelude.{◌≡◌, ◌≢◌, ◌⊎◌, ℕ, zero, suc, ◌+◌, ◌-◌, ◌*◌, ◌^◌, ◌<◌, ◌≤◌, Bool}
+use Rattle.std.specs.Prelude.{false, IsTrue, IsFalse}
 use Rattle.std.specs.Prelude.{List, [], ◌∷◌, length, replicate, Option, Some, None, slice_index}
 use Rattle.std.specs.Prelude.{slice_get, slice_range, Contains, IsUtf8}
 use Rattle.std.specs.Int.{next_multiple_of, w64}
-use Rattle.fidl_wire.specs.Term.{Term, Fields, no_fields, field, resolve, fields_of}
+use Rattle.fidl_wire.specs.Term.{Term, Fields, no_fields, field, Rows, resolve, fields_of, find}
 use Rattle.fidl_wire.specs.Term as ty
 use Rattle.fidl_wire.specs.Figure.{Declarations, figure_of, size_of}
-use Rattle.fidl_wire.specs.declared.limits.TheConstants.{MAX_DEPTH}
+use Rattle.fidl_limits.specs.declared.limits.TheConstants.{MAX_DEPTH}
 use Rattle.fidl_wire.specs.Encoding.{zeros, present}
 use Rattle.fidl_wire.specs.declared.handle.HandleInfo.{HandleInfo}
 use Rattle.fidl_wire.specs.Typed.{InMask, IsAllowed}
@@ -20,8 +21,11 @@ use Rattle.fidl_decode.specs.declared.fault.DecodeFault.TheVariants.{UnknownBits
 use Rattle.fidl_decode.specs.declared.fault.DecodeFault.TheVariants.{AbsentRequired, BadCount}
 use Rattle.fidl_decode.specs.declared.fault.DecodeFault.TheVariants.{OverBound, NotUtf8, TooDeep}
 use Rattle.fidl_decode.specs.declared.fault.DecodeFault.TheVariants.{Truncated, HandleMissing}
-use Rattle.fidl_decode.specs.declared.fault.DecodeFault.TheVariants.{WrongHandle}
-use Rattle.fidl_decode.specs.State.{Message, At, linked, Item}
+use Rattle.fidl_decode.specs.declared.fault.DecodeFault.TheVariants.{BadEnvelope, WrongCounts}
+use Rattle.fidl_decode.specs.declared.fault.DecodeFault.TheVariants.{UnknownOrdinal, WrongHandle}
+use Rattle.fidl_decode.specs.State.{Message, At, opened, linked, envelope_place, Item}
+use Rattle.fidl_decode.specs.Envelopes.{Contained, CanHold, BreaksEnvelope, IsRightEnvelope}
+use Rattle.fidl_decode.specs.Envelopes.{Miscounts}
 
 -- a part of an object: its offset from the object's start, and its type
 pub record Part : Type 0 where
@@ -126,6 +130,29 @@ BreaksBox m held size place next (Truncated at) = (at ≡ next) × Stands m.byte
     × (length m.bytes - next < next_multiple_of size 8)
 BreaksBox m held size place next fault = ⊥
 
+-- the rule that a table at a place breaks: that of a required vector with eight bytes for each
+-- envelope, whose bound is the greatest count
+abbrev pub BreaksTable : Message → (held place next : ℕ) → DecodeFault → Type 0
+BreaksTable m held place next fault =
+    BreaksCounted m held false (2 ^ 64 - 1) (8 * count_at m.bytes place) place next fault
+
+-- the ordinal of a union at a place
+abbrev pub ordinal_at : List ℕ → (place : ℕ) → ℕ
+ordinal_at bytes place = number_at w64 bytes place
+
+-- the rule that a union at a place breaks by its ordinal: it is absent where one is required, or
+-- has no ordinal and an envelope that is not zeros; or a strict one has an ordinal that is no
+-- member's
+abbrev pub BreaksUnion : Message → (optional strict : Bool) → Rows → (place : ℕ) → DecodeFault
+    → Type 0
+BreaksUnion m optional strict rows place (AbsentRequired at) = (at ≡ place) × IsFalse optional
+    × (ordinal_at m.bytes place ≡ 0) × Stands m.bytes (place + 8) (zeros 8)
+BreaksUnion m optional strict rows place (BadEnvelope at) = (at ≡ place + 8)
+    × (ordinal_at m.bytes place ≡ 0) × ¬ (Stands m.bytes (place + 8) (zeros 8))
+BreaksUnion m optional strict rows place (UnknownOrdinal at) = (at ≡ place) × IsTrue strict
+    × (ordinal_at m.bytes place ≢ 0) × (find rows (ordinal_at m.bytes place) ≡ None)
+BreaksUnion m optional strict rows place fault = ⊥
+
 -- an object out of line: the place of its marker, its size without padding, and its parts
 pub record Object : Type 0 where
   pub marker : ℕ
@@ -153,7 +180,16 @@ BreaksRule ds m held (ty.vector optional bound t) place next k fault =
     BreaksCounted m held optional bound (size_of ds t * count_at m.bytes place) place next fault
 BreaksRule ds m held (ty.box t) place next k fault =
     BreaksBox m held (size_of ds (ty.struct (fields_of (resolve ds.terms t)))) place next fault
+BreaksRule ds m held (ty.table rows) place next k fault =
+    BreaksTable m held place next fault
+BreaksRule ds m held (ty.union optional strict rows) place next k fault =
+    BreaksUnion m optional strict rows place fault
 BreaksRule ds m held t place next k fault = BreaksField m t place fault
+
+-- a value at a place breaks no rule by itself
+abbrev pub IsRight : Declarations → Message → (held : ℕ) → Term → (place : ℕ) → At → Type 0
+IsRight ds m held t place from = (other : DecodeFault)
+    → ¬ (BreaksRule ds m held t place from.next from.handle other)
 
 mutual
   -- an object of the type, which is no name, at a place, whose objects out of line begin at a
@@ -170,9 +206,65 @@ mutual
     -- multiple of 8, which is the next one
     in_object : {held : ℕ} (t : Term) (place : ℕ) (from : At) (fault : DecodeFault) (o : Object)
         → object_of ds m.bytes t place ≡ Some o → Stands m.bytes o.marker present
-        → ((other : DecodeFault) → ¬ (BreaksRule ds m held t place from.next from.handle other))
+        → IsRight ds m held t place from
         → BreaksParts ds m (held + 1) (next_multiple_of o.size 8) from.next 0 o.parts
         (linked o.marker o.size from) fault → Breaks ds m held t place from fault
+    -- the envelopes of a table that is right by itself, which are the next object
+    in_table : {held : ℕ} (rows : Rows) (place : ℕ) (from : At) (fault : DecodeFault)
+        → Stands m.bytes (place + 8) present → IsRight ds m held (ty.table rows) place from
+        → BreaksEnvelopes ds m (held + 1) rows 1 (count_at m.bytes place) from.next
+        (linked (place + 8) (8 * count_at m.bytes place) from) fault
+        → Breaks ds m held (ty.table rows) place from fault
+    -- the member of a union that is right by itself
+    in_union : {held : ℕ} (optional strict : Bool) (rows : Rows) (place : ℕ) (from : At)
+        (fault : DecodeFault) → ordinal_at m.bytes place ≢ 0
+        → IsRight ds m held (ty.union optional strict rows) place from
+        → BreaksMember ds m held (find rows (ordinal_at m.bytes place)) (place + 8) from fault
+        → Breaks ds m held (ty.union optional strict rows) place from fault
+
+  -- the same of the envelopes of a table, from an ordinal up to the count, which stand from a base
+  -- on
+  pub data BreaksEnvelopes (ds : Declarations) (m : Message) : (held : ℕ) → Rows
+      → (ordinal n base : ℕ) → At → DecodeFault → Type 0 where
+    -- the next one has a member that is not right
+    at_member : {held : ℕ} (rows : Rows) (ordinal n base : ℕ) (from : At) (fault : DecodeFault)
+        → ordinal ≤ n → ¬ (Stands m.bytes (envelope_place base ordinal) (zeros 8))
+        → BreaksMember ds m held (find rows ordinal) (envelope_place base ordinal) from fault
+        → BreaksEnvelopes ds m held rows ordinal n base from fault
+    -- a later one, where the next is zeros, or a member stands in it
+    behind_none : {held : ℕ} (rows : Rows) (ordinal n base : ℕ) (from : At) (fault : DecodeFault)
+        → ordinal ≤ n → Stands m.bytes (envelope_place base ordinal) (zeros 8)
+        → BreaksEnvelopes ds m held rows (suc ordinal) n base from fault
+        → BreaksEnvelopes ds m held rows ordinal n base from fault
+    behind_member : {held : ℕ} (rows : Rows) (ordinal n base : ℕ) (from mid : At)
+        (fault : DecodeFault) → ordinal ≤ n
+        → Contained ds m held (find rows ordinal) (envelope_place base ordinal) from mid
+        → BreaksEnvelopes ds m held rows (suc ordinal) n base mid fault
+        → BreaksEnvelopes ds m held rows ordinal n base from fault
+
+  -- the same of the member of an envelope at a place
+  pub data BreaksMember (ds : Declarations) (m : Message) : (held : ℕ) → Option Term
+      → (envelope : ℕ) → At → DecodeFault → Type 0 where
+    by_numbers : {held : ℕ} (t : Option Term) (envelope : ℕ) (from : At) (fault : DecodeFault)
+        → BreaksEnvelope ds m held t envelope from.next from.handle fault
+        → BreaksMember ds m held t envelope from fault
+    -- in a known one, which stands in the four bytes of its envelope, padded with zeros
+    in_envelope : {held : ℕ} (t : Term) (envelope : ℕ) (from : At) (fault : DecodeFault)
+        → CanHold ds m.bytes (Some t) envelope → size_of ds t ≤ 4
+        → BreaksParts ds m held 4 envelope 0 (record { offset = 0; term = t } ∷ [])
+        (opened envelope from) fault → BreaksMember ds m held (Some t) envelope from fault
+    -- in a known one out of line, which is the next object, padded to a multiple of 8
+    out_of_line : {held : ℕ} (t : Term) (envelope : ℕ) (from : At) (fault : DecodeFault)
+        → CanHold ds m.bytes (Some t) envelope → 4 < size_of ds t
+        → IsRightEnvelope ds m held (Some t) envelope from
+        → BreaksParts ds m (held + 1) (next_multiple_of (size_of ds t) 8) from.next 0
+        (record { offset = 0; term = t } ∷ [])
+        (linked envelope (size_of ds t) (opened envelope from)) fault
+        → BreaksMember ds m held (Some t) envelope from fault
+    -- a known one stands, and its envelope counts other bytes or handles
+    by_counts : {held : ℕ} (t : Term) (envelope : ℕ) (from : At)
+        → Miscounts ds m held t envelope from
+        → BreaksMember ds m held (Some t) envelope from (WrongCounts envelope)
 
   -- the same of the parts of an object of this size at a base, where `done` bytes of it are right
   pub data BreaksParts (ds : Declarations) (m : Message) : (held size base done : ℕ) → List Part

@@ -1,32 +1,66 @@
 -- What a state of the decoder still has to read, said by values and never by a run.
 use Rattle.std.specs.Prelude.{◌≡◌, ℕ, suc, ◌+◌, ◌-◌, ◌*◌, ◌<◌, ◌≤◌, ◌⊎◌, ◌↔◌, List, [], ◌∷◌, length}
 use Rattle.std.specs.Prelude.{Option, Some, None}
-use Rattle.fidl_wire.specs.declared.limits.TheConstants.{MAX_DEPTH, MAX_NEST, MAX_MESSAGE_HANDLES}
+use Rattle.fidl_limits.specs.declared.limits.TheConstants.{MAX_DEPTH, MAX_NEST, MAX_MESSAGE_HANDLES}
 use Rattle.fidl_wire.specs.Term as ty
 use Rattle.fidl_wire.specs.Term.{Term, resolve}
 use Rattle.fidl_wire.specs.Figure.{Declarations, figure_of}
-use Rattle.fidl_records.specs.Section.{header_of}
-use Rattle.fidl_records.specs.Terms.{declarations_of}
+use Rattle.fidl_records.specs.declared.kind.EntryKind.TheVariants.{Table}
+use Rattle.fidl_records.specs.declared.record.Row as raw
+use Rattle.fidl_records.specs.Kind.{kind_of}
+use Rattle.fidl_records.specs.Section.{header_of, entry_at}
+use Rattle.fidl_records.specs.Terms.{declarations_of, members_of}
 use Rattle.fidl_decode.specs.declared.fault.DecodeFault.{DecodeFault}
 use Rattle.fidl_decode.specs.declared.fault.DecodeFault.TheVariants.{BytesLeft, HandlesLeft}
+use Rattle.fidl_decode.specs.declared.fault.DecodeFault.TheVariants.{WrongCounts}
 use Rattle.fidl_decode.specs.declared.frame.Frame.{Frame}
 use Rattle.fidl_decode.specs.declared.frame.Left.{Left}
-use Rattle.fidl_decode.specs.declared.frame.Left.TheVariants.{Rows, Elements}
+use Rattle.fidl_decode.specs.declared.frame.Left.TheVariants.{Rows, Elements, Envelopes, Content}
+use Rattle.fidl_decode.specs.declared.frame.Until.{Until}
 use Rattle.fidl_decode.specs.declared.frame.Turn.{Turn}
 use Rattle.fidl_decode.specs.declared.frame.State.{State}
 use Rattle.fidl_decode.specs.Rows.{Row, table_rows, element_rows, RowsRise}
-use Rattle.fidl_decode.specs.Breaks.{Part, Breaks, BreaksParts}
-use Rattle.fidl_decode.specs.State.{Message, At, Item, Members}
+use Rattle.fidl_decode.specs.Breaks.{Part, Breaks, BreaksParts, BreaksEnvelopes}
+use Rattle.fidl_decode.specs.Breaks.{BreaksMember}
+use Rattle.fidl_decode.specs.Envelopes.{Contained}
+use Rattle.fidl_decode.specs.State.{Message, At, Item, Members, Slots}
 
--- the rows that a frame has left
+-- the rows that a frame has left; envelopes are no rows
 abbrev pub rows_left : List ℕ → (done : ℕ) → Left → List Row
 rows_left t done (Rows first count) = table_rows t (header_of t) first count
 rows_left t done (Elements entry size count) = element_rows entry size count done
+rows_left t done (Content entry size count until) = element_rows entry size count done
+rows_left t done (Envelopes entry read count) = []
+
+-- the rows of a frame, behind what is read of it
+abbrev pub ReadsRows : List ℕ → Message → Frame → List Row → At → At → Type 0
+ReadsRows t m f rs from to = Members (declarations_of t) m f.depth f.size f.base f.done rs from to
+
+-- a state at the end of an envelope's content is the one that the envelope counts up to
+abbrev pub IsUntil : Until → At → Type 0
+IsUntil until to = (to.next ≡ until.next) × (to.handle ≡ until.handle)
+
+-- what a frame still has to read, where this is left of it
+abbrev pub ReadsLeft : List ℕ → Message → Frame → Left → At → At → Type 0
+ReadsLeft t m f (Rows first count) from to =
+    ReadsRows t m f (rows_left t f.done (Rows first count)) from to
+ReadsLeft t m f (Elements entry size count) from to =
+    ReadsRows t m f (rows_left t f.done (Elements entry size count)) from to
+ReadsLeft t m f (Envelopes entry read count) from to =
+    Slots (declarations_of t) m f.depth (members_of t entry) read (read + count) f.base from to
+ReadsLeft t m f (Content entry size count until) from to =
+    ReadsRows t m f (element_rows entry size count f.done) from to × IsUntil until to
+
+-- what is left are rows alone
+abbrev pub IsPlain : Left → Type 0
+IsPlain (Rows first count) = Unit {0}
+IsPlain (Elements entry size count) = Unit {0}
+IsPlain (Envelopes entry read count) = ⊥
+IsPlain (Content entry size count until) = ⊥
 
 -- what a frame still has to read
 abbrev pub Reads : List ℕ → Message → Frame → At → At → Type 0
-Reads t m f from to =
-    Members (declarations_of t) m f.depth f.size f.base f.done (rows_left t f.done f.left) from to
+Reads t m f from to = ReadsLeft t m f f.left from to
 
 -- the same where there may be none
 abbrev pub ReadsIf : List ℕ → Message → Option Frame → At → At → Type 0
@@ -43,11 +77,29 @@ abbrev pub row_parts : List Row → List Part
 row_parts [] = []
 row_parts (r ∷ rs) = record { offset = r.offset; term = ty.named r.entry } ∷ row_parts rs
 
+-- rows of a frame break a rule
+abbrev pub BreaksRows : List ℕ → Message → Frame → List Row → At → DecodeFault → Type 0
+BreaksRows t m f rs from fault =
+    BreaksParts (declarations_of t) m f.depth f.size f.base f.done (row_parts rs) from fault
+
+-- what a frame still has to read breaks a rule, where this is left of it: content also by an end
+-- that its envelope does not count up to
+abbrev pub BreaksLeft : List ℕ → Message → Frame → Left → At → DecodeFault → Type 0
+BreaksLeft t m f (Rows first count) from fault =
+    BreaksRows t m f (rows_left t f.done (Rows first count)) from fault
+BreaksLeft t m f (Elements entry size count) from fault =
+    BreaksRows t m f (rows_left t f.done (Elements entry size count)) from fault
+BreaksLeft t m f (Envelopes entry read count) from fault =
+    BreaksEnvelopes (declarations_of t) m f.depth (members_of t entry) (suc read) (read + count)
+    f.base from fault
+BreaksLeft t m f (Content entry size count until) from fault =
+    BreaksRows t m f (element_rows entry size count f.done) from fault
+    ⊎ ((to : At) × ReadsRows t m f (element_rows entry size count f.done) from to
+    × (¬ IsUntil until to) × (fault ≡ WrongCounts until.envelope))
+
 -- what a frame still has to read breaks a rule
 abbrev pub BreaksFrame : List ℕ → Message → Frame → At → DecodeFault → Type 0
-BreaksFrame t m f from fault =
-    BreaksParts (declarations_of t) m f.depth f.size f.base f.done
-    (row_parts (rows_left t f.done f.left)) from fault
+BreaksFrame t m f from fault = BreaksLeft t m f f.left from fault
 
 -- the same where there may be none
 abbrev pub BreaksIf : List ℕ → Message → Option Frame → At → DecodeFault → Type 0
@@ -65,29 +117,48 @@ BreaksStack t m [] from fault = ⊥
 BreaksStack t m (f ∷ fs) from fault = BreaksStack t m fs from fault
     ⊎ ((mid : At) × Finishes t m fs from mid × BreaksFrame t m f mid fault)
 
--- the greatest nest of a frame: that of a vector is one more than its elements have
+-- the greatest nest of a frame: that of a vector, and of an envelope's content, is one more than
+-- what it holds has
 abbrev pub most_nest : ℕ
 most_nest = MAX_NEST + 1
 
--- how deep something lies, by depth and nest
-abbrev pub level : (depth nest : ℕ) → ℕ
-level depth nest = depth * (most_nest + 1) + (most_nest - nest)
+-- how deep something lies, by depth, by whether it is in the four bytes of an envelope, and by nest
+abbrev pub level : (depth inside nest : ℕ) → ℕ
+level depth inside nest = (2 * depth + inside) * most_nest + (most_nest - nest)
 
 -- how deep a frame lies
 abbrev pub height : Frame → ℕ
-height f = level f.depth f.nest
+height f = level f.depth f.inside f.nest
 
--- a struct's rows that are left lie in the table; elements have their size
+-- a struct's rows that are left lie in the table; elements have their size; envelopes are those of a
+-- table
 abbrev pub LeftFine : List ℕ → Left → Type 0
 LeftFine t (Rows first count) = first + count ≤ (header_of t).rows
 LeftFine t (Elements entry size count) =
     (figure_of (declarations_of t).figures (ty.named entry)).size ≡ size
+LeftFine t (Content entry size count until) =
+    (figure_of (declarations_of t).figures (ty.named entry)).size ≡ size
+LeftFine t (Envelopes entry read count) = (entry < (header_of t).entries)
+    × (kind_of (entry_at t entry).kind ≡ Some Table)
+
+-- envelopes have eight bytes each
+abbrev pub EnvelopesFit : Frame → Left → Type 0
+EnvelopesFit f (Envelopes entry read count) = (f.done ≡ 8 * read) × (f.size ≡ 8 * (read + count))
+    × (f.nest ≡ most_nest) × (f.inside ≡ 0)
+EnvelopesFit f left = Unit {0}
+
+-- a frame lies in the four bytes of an envelope, or outside of such
+abbrev pub IsInside : (inside size : ℕ) → Type 0
+IsInside inside size = (inside ≡ 0) ⊎ ((inside ≡ 1) × (size ≤ 4))
 
 pub record FrameFine (t : List ℕ) (m : List ℕ) (f : Frame) : Type 0 where
   pub left : LeftFine t f.left
+  pub slots : EnvelopesFit f f.left
   pub room : f.base + f.size ≤ length m
+  pub some : 0 < f.nest
   pub nest : f.nest ≤ most_nest
   pub depth : f.depth ≤ MAX_DEPTH
+  pub inside : IsInside f.inside f.size
   pub rise : RowsRise (declarations_of t) (header_of t).entries f.nest f.size f.done
       (rows_left t f.done f.left)
 
@@ -106,13 +177,17 @@ abbrev pub probes : ℕ
 probes = 16
 
 -- the work that one byte inline may make at most, in a frame of this nest: two turns for each nest,
--- two more, and a search
+-- two more, and a search; with six more, an envelope pays for the four bytes in it
 abbrev pub inline_work : (nest : ℕ) → ℕ
-inline_work nest = 2 * nest + 2 + probes
+inline_work nest = 2 * nest + 8 + probes
 
 -- the work that a frame may still make: one turn to end it, and that of its bytes
 abbrev pub frame_work : Frame → ℕ
 frame_work f = inline_work f.nest * (f.size - f.done) + 1
+
+-- the work that the four bytes of an envelope may make
+abbrev pub envelope_work : ℕ
+envelope_work = inline_work most_nest * 4 + 1
 
 abbrev pub frame_work_if : Option Frame → ℕ
 frame_work_if None = 0
@@ -156,11 +231,32 @@ pub record Visits (t : List ℕ) (m : Message) (held e place : ℕ) (old new : A
       → Breaks (declarations_of t) m held (resolve (declarations_of t).terms (ty.named e)) place old
       fault
   pub state : StateFine m new
-  pub fine : FineIf t m.bytes (level held (figure_of (declarations_of t).figures (ty.named e)).nest)
-      found
   pub less : let f = figure_of (declarations_of t).figures (ty.named e) in
       byte_work * (length m.bytes - new.next) + frame_work_if found + spent
       ≤ byte_work * (length m.bytes - old.next) + inline_work f.nest * f.size + 1
+
+-- what a visit of an entry leaves to read is fine, and lies no less deep than the entry
+abbrev pub VisitFine : List ℕ → Message → (held inside e : ℕ) → Option Frame → Type 0
+VisitFine t m held inside e found =
+    FineIf t m.bytes (level held inside (figure_of (declarations_of t).figures (ty.named e)).nest)
+    found
+
+-- the type of a member that has this row, if any
+abbrev pub member_term : Option raw.Row → Option Term
+member_term None = None
+member_term (Some row) = Some (ty.named row.entry)
+
+-- an envelope at a place is opened: what of its member is left to read, if any, and the state then
+pub record Opens (t : List ℕ) (m : Message) (held : ℕ) (member : Option Term) (envelope : ℕ)
+    (old new : At) (found : Option Frame) : Type 0 where
+  pub same : (to : At) → Contained (declarations_of t) m held member envelope old to
+      ↔ ReadsIf t m found new to
+  pub breaks : (fault : DecodeFault) → BreaksIf t m found new fault
+      → BreaksMember (declarations_of t) m held member envelope old fault
+  pub state : StateFine m new
+  pub fine : FineIf t m.bytes (level held 1 most_nest) found
+  pub less : byte_work * (length m.bytes - new.next) + frame_work_if found
+      ≤ byte_work * (length m.bytes - old.next) + envelope_work
 
 -- a turn on a frame: what is left of it, what is to be read before that, and the state then
 pub record Turns (t : List ℕ) (m : Message) (f : Frame) (old new : At) (spent : ℕ) (x : Turn) : Type

@@ -1,21 +1,23 @@
 -- Values that stand in a message, and what lies below them where the links say (docs/decoding.md,
 -- "Links").
-use Rattle.std.specs.Prelude.{◌≡◌, ℕ, ◌+◌, ◌/◌, List, Some, slice_index, slice_get}
+use Rattle.std.specs.Prelude.{◌≡◌, ℕ, ◌+◌, ◌/◌, Bool, true, false, nat_le, List, Option, Some}
+use Rattle.std.specs.Prelude.{slice_index, slice_get}
 use Rattle.std.specs.Int.{next_multiple_of}
 use Rattle.fidl_wire.specs.declared.handle.HandleInfo.{HandleInfo}
 use Rattle.fidl_wire.specs.Value.{Value, absent, bool, number, text, list, fields, handle, table}
-use Rattle.fidl_wire.specs.Value.{union, Values, none, value}
-use Rattle.fidl_wire.specs.Term.{Term, Fields, no_fields, field, resolve}
+use Rattle.fidl_wire.specs.Value.{union, Values, none, value, Member, known, unknown, Members}
+use Rattle.fidl_wire.specs.Value.{empty, member}
+use Rattle.fidl_wire.specs.Term.{Term, Fields, no_fields, field, Rows, resolve, rows_of, find}
 use Rattle.fidl_wire.specs.Term as ty
-use Rattle.fidl_wire.specs.Figure.{Declarations, figure_of}
-use Rattle.fidl_wire.specs.Encoding.{encoding_of, element_of, content_of}
-use Rattle.fidl_wire.specs.Standing.{Stands}
+use Rattle.fidl_wire.specs.Figure.{Declarations, figure_of, size_of}
+use Rattle.fidl_wire.specs.Encoding.{encoding_of, element_of, content_of, term_or, envelopes}
+use Rattle.fidl_wire.specs.Standing.{Stands, Carries}
 use Rattle.fidl_wire.specs.Message.{Encodes}
 use Rattle.fidl_decode.specs.Links.{Linked}
-use Rattle.fidl_decode.specs.State.{Message, At, element_size}
+use Rattle.fidl_decode.specs.State.{Message, At, element_size, envelope_place}
 use Rattle.fidl_decode.specs.Faults.{message_of}
 
--- where the object of the marker at a place begins
+-- where the object of the marker or envelope at a place begins
 abbrev pub object_at : Linked → (marker : ℕ) → ℕ
 object_at l marker = slice_index l.objects (marker / 8)
 
@@ -29,6 +31,15 @@ abbrev pub content_at : Linked → Term → (place : ℕ) → ℕ
 content_at l (ty.vector optional bound t) place = object_at l (place + 8)
 content_at l (ty.box t) place = object_at l place
 content_at l _ place = place
+
+-- which record the member of the envelope at a place has first
+abbrev pub first_record_at : Linked → (envelope : ℕ) → ℕ
+first_record_at l envelope = record_at l (envelope + 4)
+
+-- where the member of the envelope at a place stands: in the envelope, or as its object
+abbrev pub enclosed_at : Linked → (inline : Bool) → (envelope : ℕ) → ℕ
+enclosed_at l true envelope = envelope
+enclosed_at l false envelope = object_at l envelope
 
 -- the value's own bytes stand at the place
 abbrev pub Inline : Declarations → Message → Term → (place : ℕ) → Value → Type 0
@@ -53,9 +64,13 @@ abbrev mutual
   -- members stand at their offsets, in place or in the object of the marker
   Placed ds m l t place (fields vs) = Inline ds m t place (fields vs)
       × AreFieldsPlaced ds m l (content_of ds t) 0 (content_at l t place) vs
-  -- of tables and unions, which the decoder does not read yet, only the bytes inline
+  -- the envelopes are the object of the marker, and members stand where their envelopes say
   Placed ds m l t place (table n ms) = Inline ds m t place (table n ms)
+      × Stands m.bytes (object_at l (place + 8)) (envelopes ds (rows_of t) 1 n ms).inline
+      × AreMembersPlaced ds m l (rows_of t) (object_at l (place + 8)) ms
+  -- the envelope stands behind the ordinal
   Placed ds m l t place (union ordinal x) = Inline ds m t place (union ordinal x)
+      × IsMemberPlaced ds m l (find (rows_of t) ordinal) (place + 8) x
 
   -- the same of elements of this size, the first of them at a place
   pub ArePlaced : Declarations → Message → Linked → Term → (size place : ℕ) → Values → Type 0
@@ -72,6 +87,24 @@ abbrev mutual
       let at = next_multiple_of from f.align in
       Placed ds m l (resolve ds.terms t) (base + at) v
       × AreFieldsPlaced ds m l fs (at + f.size) base vs
+
+  -- the same of the member of the envelope at a place: a known one is a value; of an unknown one
+  -- the bytes stand there, and the handles are those from its first record on
+  pub IsMemberPlaced : Declarations → Message → Linked → Option Term → (envelope : ℕ) → Member
+      → Type 0
+  IsMemberPlaced ds m l t envelope (known v) =
+      Placed ds m l (resolve ds.terms (term_or t))
+      (enclosed_at l (nat_le (size_of ds (term_or t)) 4) envelope) v
+  IsMemberPlaced ds m l t envelope (unknown inline bytes handles) =
+      Stands m.bytes (enclosed_at l inline envelope) bytes
+      × Carries m.handles (first_record_at l envelope) handles
+
+  -- the same of a table's members, whose envelopes stand from a base on
+  pub AreMembersPlaced : Declarations → Message → Linked → Rows → (base : ℕ) → Members → Type 0
+  AreMembersPlaced ds m l rows base empty = Unit {0}
+  AreMembersPlaced ds m l rows base (member ordinal x ms) =
+      IsMemberPlaced ds m l (find rows ordinal) (envelope_place base ordinal) x
+      × AreMembersPlaced ds m l rows base ms
 
 -- the links of a state
 abbrev pub links_of : At → Linked

@@ -1,7 +1,7 @@
 //! The decoder: one field, and one member of a frame.
 ghost use Rattle.std.specs.Prelude.{◌≡◌, ◌≢◌, ℕ, ◌+◌, ◌-◌, ◌^◌, ◌<◌, ◌≤◌, ◌∷◌, [], OnOk, OnErr};
 ghost use Rattle.std.specs.Prelude.{IfOk, IfErr, IfSome, IfNone, Some, None, length, slice_index};
-ghost use Rattle.fidl_wire.specs.declared.limits.TheConstants.{MAX_DEPTH, MAX_MESSAGE_BYTES};
+ghost use Rattle.fidl_limits.specs.declared.limits.TheConstants.{MAX_DEPTH, MAX_MESSAGE_BYTES};
 ghost use Rattle.fidl_wire.specs.Term as ty;
 ghost use Rattle.fidl_wire.specs.Term.{resolve};
 ghost use Rattle.fidl_wire.specs.Figure.{size_of};
@@ -16,6 +16,7 @@ ghost use Rattle.fidl_decode.specs.Faults.{message_of};
 ghost use Rattle.fidl_decode.specs.Breaks.{IsPadding, Breaks};
 ghost use Rattle.fidl_decode.specs.State.{At, Item};
 ghost use Rattle.fidl_decode.specs.Machine.{rows_left, LeftFine, Reads, StateFine, FrameFine};
+ghost use Rattle.fidl_decode.specs.Machine.{IsInside, IsPlain, VisitFine};
 ghost use Rattle.fidl_decode.specs.Machine.{BreaksFrame, Visits, Turns, turn_work, at_of, probes};
 
 use crate::fault::DecodeFault;
@@ -44,10 +45,12 @@ pub(crate) fn zeros_at(bytes: &[u8], from: usize, to: usize) -> Result<(), Decod
 fn next_member(table: &Table, left: Left, done: usize) -> Option<Member>
     requires table { IsFine table.now }
     requires left { LeftFine table.now left }
+    requires plain { IsPlain left }
     ensures none { IfNone result (rows_left table.now done left ≡ []) }
     ensures some { IfSome result (λ m. rows_left table.now done left
         ≡ record { offset = m.offset; entry = m.entry } ∷ rows_left table.now (m.offset + size_of (declarations_of table.now) (ty.named m.entry)) m.left) }
     ensures left { IfSome result (λ m. LeftFine table.now m.left) }
+    ensures plain { IfSome result (λ m. IsPlain m.left) }
 {
     match left {
         Left::Rows { first, count } => {
@@ -80,6 +83,7 @@ fn next_member(table: &Table, left: Left, done: usize) -> Option<Member>
                 },
             })
         }
+        Left::Envelopes { .. } | Left::Content { .. } => unreachable!(),
     }
 }
 
@@ -99,6 +103,7 @@ impl<'t, 'm> Decoder<'t, 'm> {
         entry: u32,
         place: usize,
         depth: u8,
+        inside: u8,
         state: &mut State,
     ) -> Result<Option<Frame>, DecodeFault>
         requires table { IsFine self.now.table.now }
@@ -109,11 +114,14 @@ impl<'t, 'm> Decoder<'t, 'm> {
         requires state { StateFine (message_of self.now.bytes.now self.now.handles.now)
             (at_of state.old) }
         requires depth { depth ≤ MAX_DEPTH }
+        requires inside { IsInside inside (entry_at self.now.table.now entry).size }
         requires budget { state.old.steps < 2 ^ 41 }
         ensures ok { IfOk result
             (λ found. Visits self.now.table.now (message_of self.now.bytes.now self.now.handles.now)
             depth entry place (at_of state.old) (at_of state.new)
             (state.new.steps - state.old.steps) found) }
+        ensures fine { IfOk result (VisitFine self.now.table.now
+            (message_of self.now.bytes.now self.now.handles.now) depth inside entry) }
         ensures err { OnErr result
             ((to : At)
             → Item (declarations_of self.now.table.now)
@@ -146,6 +154,7 @@ impl<'t, 'm> Decoder<'t, 'm> {
                     size: e.size as usize,
                     nest: e.nest,
                     depth,
+                    inside,
                 }))
             }
             EntryKind::Array => {
@@ -162,10 +171,13 @@ impl<'t, 'm> Decoder<'t, 'm> {
                     size: e.size as usize,
                     nest: e.nest,
                     depth,
+                    inside,
                 }))
             }
             EntryKind::Box => self.read_box(entry, place, depth, state),
             EntryKind::Vector => self.read_vector(entry, place, depth, state),
+            EntryKind::Table => self.read_table(entry, place, depth, state),
+            EntryKind::Union => self.read_union(entry, place, depth, state),
             _ => {
                 self.read_leaf(entry, kind, place, depth, state)?;
                 Ok(None)
@@ -174,10 +186,11 @@ impl<'t, 'm> Decoder<'t, 'm> {
     }
 
     /// Reads the zeros before the next member and that member, or the zeros at the end.
-    pub(crate) fn take_member(&self, frame: Frame, state: &mut State) -> Result<Turn, DecodeFault>
+    pub(crate) fn take_row(&self, frame: Frame, state: &mut State) -> Result<Turn, DecodeFault>
         requires table { IsFine self.now.table.now }
         requires short { length self.now.bytes.now ≤ MAX_MESSAGE_BYTES }
         requires frame { FrameFine self.now.table.now self.now.bytes.now frame }
+        requires plain { IsPlain frame.left }
         requires state { StateFine (message_of self.now.bytes.now self.now.handles.now)
             (at_of state.old) }
         requires steps { state.old.steps < 2 ^ 40 }
@@ -208,7 +221,7 @@ impl<'t, 'm> Decoder<'t, 'm> {
         let place = frame.base + member.offset;
         state.steps += (place - at) as u64 + 1;
         zeros_at(self.bytes, at, place)?;
-        let below = self.visit(member.entry, place, frame.depth, state)?;
+        let below = self.visit(member.entry, place, frame.depth, frame.inside, state)?;
         let done = member.offset + self.table.entry(member.entry).size as usize;
         let rest = Frame {
             left: member.left,
@@ -217,6 +230,7 @@ impl<'t, 'm> Decoder<'t, 'm> {
             size: frame.size,
             nest: frame.nest,
             depth: frame.depth,
+            inside: frame.inside,
         };
         Ok(Turn {
             below,

@@ -2,7 +2,7 @@
 //! vector.
 ghost use Rattle.std.specs.Prelude.{◌≡◌, ◌+◌, ◌-◌, ◌*◌, ◌^◌, ◌<◌, ◌≤◌, OnOk, OnErr, IfOk, IfErr};
 ghost use Rattle.std.specs.Prelude.{IfNone, true, Some, None, length};
-ghost use Rattle.fidl_wire.specs.declared.limits.TheConstants.{MAX_MESSAGE_BYTES};
+ghost use Rattle.fidl_limits.specs.declared.limits.TheConstants.{MAX_MESSAGE_BYTES};
 ghost use Rattle.fidl_records.specs.Kind.{kind_of};
 ghost use Rattle.fidl_records.specs.Section.{header_of, entry_at};
 ghost use Rattle.fidl_decode.specs.Invariants.{IsFine, is_leaf};
@@ -72,6 +72,7 @@ impl<'t, 'm> Decoder<'t, 'm> {
                     size: frame.size,
                     nest: frame.nest,
                     depth: frame.depth,
+                    inside: frame.inside,
                 }));
             }
             let read = frame.base + done;
@@ -228,6 +229,7 @@ impl<'t, 'm> Decoder<'t, 'm> {
             Left::Elements { entry, size, count } => {
                 self.read_elements(frame, entry, size, count, state)
             }
+            Left::Envelopes { .. } | Left::Content { .. } => Ok(Some(frame)),
         }
     }
 }

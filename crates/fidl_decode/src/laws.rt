@@ -1,13 +1,17 @@
 //! Laws of the definitions: each is the contract of a function that does nothing.
-ghost use Rattle.std.specs.Prelude.{ℕ, ◌<◌, List};
+ghost use Rattle.std.specs.Prelude.{ℕ, ◌<◌, List, Option};
 ghost use Rattle.fidl_wire.specs.declared.handle.HandleInfo.{HandleInfo};
+ghost use Rattle.fidl_wire.specs.Term.{Term};
 ghost use Rattle.fidl_wire.specs.Term as ty;
+ghost use Rattle.fidl_wire.specs.Figure.{Declarations, IsLaidOut};
 ghost use Rattle.fidl_wire.specs.Message.{IsEncoding};
 ghost use Rattle.fidl_records.specs.Section.{header_of};
 ghost use Rattle.fidl_records.specs.Terms.{declarations_of};
 ghost use Rattle.fidl_records.specs.WellFormed.{WellFormed};
 ghost use Rattle.fidl_decode.specs.declared.fault.DecodeFault.{DecodeFault};
-ghost use Rattle.fidl_decode.specs.Faults.{IsTold};
+ghost use Rattle.fidl_decode.specs.State.{Message, At};
+ghost use Rattle.fidl_decode.specs.Envelopes.{Contained, BreaksEnvelope};
+ghost use Rattle.fidl_decode.specs.Faults.{IsTold, IsWithin};
 
 /// A message of which a refusal is true encodes no value of the type.
 pub fn refused_messages_encode_nothing()
@@ -15,4 +19,12 @@ pub fn refused_messages_encode_nothing()
         → (bytes : List ℕ) (handles : List HandleInfo) (fault : DecodeFault)
         → IsTold (declarations_of table) (ty.named entry) bytes handles fault
         → IsEncoding (declarations_of table) (ty.named entry) bytes handles → ⊥ }
+{}
+
+/// An envelope that breaks a rule by its numbers holds no member, and has none behind it.
+pub fn broken_envelopes_have_no_member()
+    ensures { (ds : Declarations) → IsLaidOut ds → (m : Message) → IsWithin m.bytes m.handles
+        → (held : ℕ) (t : Option Term) (envelope : ℕ) (from to : At) (fault : DecodeFault)
+        → BreaksEnvelope ds m held t envelope from.next from.handle fault
+        → Contained ds m held t envelope from to → ⊥ }
 {}

@@ -2,7 +2,7 @@
 ghost use Rattle.std.specs.Prelude.{◌≡◌, ℕ, ◌+◌, ◌-◌, ◌^◌, ◌<◌, ◌≤◌, OnOk, OnErr, IfErr, IfSome};
 ghost use Rattle.std.specs.Prelude.{IsTrue, Contains, true, Some, None, length};
 ghost use Rattle.std.specs.Int.{byte_len};
-ghost use Rattle.fidl_wire.specs.declared.limits.TheConstants.{MAX_DEPTH, MAX_MESSAGE_BYTES};
+ghost use Rattle.fidl_limits.specs.declared.limits.TheConstants.{MAX_DEPTH, MAX_MESSAGE_BYTES};
 ghost use Rattle.fidl_wire.specs.Term as ty;
 ghost use Rattle.fidl_wire.specs.Term.{resolve, width};
 ghost use Rattle.fidl_wire.specs.Typed.{InMask};

@@ -1,7 +1,7 @@
 //! The links of a message: where the object of each marker begins, and which record each handle
 //! has.
 ghost use Rattle.std.specs.Prelude.{◌≡◌, ◌/◌, ◌^◌, ◌<◌, ◌≤◌, length, slice_set};
-ghost use Rattle.fidl_wire.specs.declared.limits.TheConstants.{MAX_MESSAGE_BYTES};
+ghost use Rattle.fidl_limits.specs.declared.limits.TheConstants.{MAX_MESSAGE_BYTES};
 ghost use Rattle.fidl_decode.specs.Placed.{object_at, record_at};
 
 use fidl_wire::MAX_MESSAGE_BYTES;
@@ -18,7 +18,7 @@ pub(crate) struct Links {
 
 impl Model for Links {
     ghost use Rattle.std.specs.Prelude.{◌≡◌, ◌/◌, length};
-    ghost use Rattle.fidl_wire.specs.declared.limits.TheConstants.{MAX_MESSAGE_BYTES};
+    ghost use Rattle.fidl_limits.specs.declared.limits.TheConstants.{MAX_MESSAGE_BYTES};
     ghost use Rattle.fidl_decode.specs.Links.{Linked};
 
     ghost Value = { Linked };

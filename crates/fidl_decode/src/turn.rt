@@ -2,7 +2,7 @@
 //! it reads there.
 ghost use Rattle.std.specs.Prelude.{◌≡◌, ◌+◌, ◌-◌, ◌^◌, ◌<◌, ◌≤◌, OnOk, OnErr, IfOk, IfErr, Some};
 ghost use Rattle.std.specs.Prelude.{None, length};
-ghost use Rattle.fidl_wire.specs.declared.limits.TheConstants.{MAX_MESSAGE_BYTES};
+ghost use Rattle.fidl_limits.specs.declared.limits.TheConstants.{MAX_MESSAGE_BYTES};
 ghost use Rattle.fidl_records.specs.declared.kind.EntryKind.TheVariants as kinds;
 ghost use Rattle.fidl_records.specs.Kind.{kind_of};
 ghost use Rattle.fidl_records.specs.Section.{header_of, entry_at};
@@ -67,6 +67,7 @@ impl<'t, 'm> Decoder<'t, 'm> {
                 size: e.size as usize,
                 nest: e.nest,
                 depth: frame.depth,
+                inside: frame.inside,
             };
             state.steps += 1;
             let found = self.read_rows(below, e.first, e.count, state)?;
@@ -85,6 +86,7 @@ impl<'t, 'm> Decoder<'t, 'm> {
                         size: frame.size,
                         nest: frame.nest,
                         depth: frame.depth,
+                        inside: frame.inside,
                     }),
                 });
             }

@@ -9,7 +9,10 @@ ghost use Rattle.fidl_wire.specs.Encoding.{zeros};
 ghost use Rattle.fidl_decode.specs.Faults.{IsTold};
 ghost use Rattle.fidl_decode.specs.declared.fault.DecodeFault.TheVariants as fault;
 
+pub mod envelopes;
 pub mod placed;
+pub mod tables;
+pub mod unions;
 
 /// `struct {a uint8; b uint32;}` with two bytes between the members that are not zero: Padding at
 /// the first, not at the second, nor at a byte of a member.

@@ -12,6 +12,8 @@ mod chosen;
 #[cfg(test)]
 mod decoding;
 #[cfg(test)]
+mod envelopes;
+#[cfg(test)]
 mod limits;
 #[cfg(test)]
 mod numbers;

@@ -112,7 +112,7 @@ const REFUSED: [(usize, usize, u8, u32, u32); 20] = [
     (6, 12, 1, 5, 6),
     (6, 16, 1, 5, 6),
     (6, 36, 1, 5, 6),
-    // a box has no bound; tables and unions are not known yet
+    // a box, a table and a union have no bound
     (13, 0, 15, 5, 13),
     (13, 0, 17, 5, 13),
     (13, 0, 18, 5, 13),

@@ -82,6 +82,16 @@ impl EntryFields {
         }
     }
 
+    /// A flexible union with so many rows from this one on.
+    pub(crate) fn flexible_union(first: u32, count: u32) -> EntryFields {
+        EntryFields {
+            size: 16,
+            first,
+            count,
+            ..EntryFields::plain(18, 8)
+        }
+    }
+
     /// A strict enum of this underlying type, with so many values from the first of the table on.
     pub(crate) fn strict_enum(subtype: u32, size: u8, count: u32) -> EntryFields {
         EntryFields {

@@ -111,10 +111,10 @@ const EDITS: [(usize, u8, u32, u32); 33] = [
     (36, 1, 2, 0),
     (32, 13, 3, 0),
     (32, 11, 4, 0),
-    // kinds: none, table (which is not known yet), past the last; flags, a field and a name that
-    // the kind does not use
+    // kinds: none, table (whose size is another), past the last; flags, a field and a name that the
+    // kind does not use
     (40, 0, 5, 0),
-    (40, 17, 5, 0),
+    (40, 17, 8, 0),
     (40, 20, 5, 0),
     (41, 1, 5, 0),
     (81, 1, 5, 1),

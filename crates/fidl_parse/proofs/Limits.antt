@@ -3,7 +3,7 @@ use Rattle.std.proofs.Common.{ℕ, ◌+◌, ◌≤◌, List, length, take, min, 
 use Rattle.std.specs.List.{count_by}
 use Rattle.std.proofs.lemmas.List.{take-take, take_min, length-take}
 use Rattle.fidl_span.specs.declared.words.Word.{Word}
-use Rattle.fidl_wire.specs.declared.limits.TheConstants.{MAX_SOURCE_BRACKETS}
+use Rattle.fidl_limits.specs.declared.limits.TheConstants.{MAX_SOURCE_BRACKETS}
 use Rattle.fidl_tree.specs.Brackets.{IsWithinLimit, opens, closes}
 
 -- a beginning of a beginning within the limit is within it

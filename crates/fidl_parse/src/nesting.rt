@@ -4,8 +4,8 @@ ghost use Rattle.fidl_span.specs.declared.words.Word.{Word};
 ghost use Rattle.fidl_tree.specs.Brackets.{IsWithinLimit, opens, closes};
 ghost use Rattle.fidl_parse.specs.Nesting.{IsTooDeepAt};
 
+use fidl_limits::MAX_SOURCE_BRACKETS;
 use fidl_span::{Word, WordKind};
-use fidl_wire::MAX_SOURCE_BRACKETS;
 
 /// How many words there are before the first bracket with which more are open than the limit; all,
 /// where there is no such bracket.

@@ -2,22 +2,22 @@
 use Rattle.std.specs.Prelude.{◌≡◌, ℕ, zero, suc, ◌+◌, ◌^◌, ◌<◌, ◌≤◌, ℤ, pos, ◌<ℤ◌, Bool, false}
 use Rattle.std.specs.Prelude.{if◌then◌else◌, List, [], ◌∷◌, map, Some, IsTrue, IsFalse}
 use Rattle.std.specs.Option.{option_map_or}
-use Rattle.fidl_wire.specs.declared.limits.TheConstants.{MAX_INLINE_SIZE, MAX_LAYOUT_MEMBERS}
-use Rattle.fidl_wire.specs.declared.limits.TheConstants.{MAX_NEST}
+use Rattle.fidl_limits.specs.declared.limits.TheConstants.{MAX_INLINE_SIZE, MAX_LAYOUT_MEMBERS}
+use Rattle.fidl_limits.specs.declared.limits.TheConstants.{MAX_NEST, MAX_TABLE_ORDINAL}
 use Rattle.fidl_wire.specs.Figure.{Figure, figure_of, offsets}
 use Rattle.fidl_wire.specs.Typed.{InRange}
 use Rattle.fidl_records.specs.declared.record.Header.{Header}
 use Rattle.fidl_records.specs.declared.record.Entry.{Entry}
 use Rattle.fidl_records.specs.declared.kind.EntryKind.{EntryKind}
 use Rattle.fidl_records.specs.declared.kind.EntryKind.TheVariants.{Bits, Enum, String, Vector}
-use Rattle.fidl_records.specs.declared.kind.EntryKind.TheVariants.{Array, Box, Struct}
+use Rattle.fidl_records.specs.declared.kind.EntryKind.TheVariants.{Array, Box, Struct, Table, Union}
 use Rattle.fidl_records.specs.Kind.{kind_of, number_type}
 use Rattle.fidl_records.specs.Section.{entry_at, row_at, value_at}
 use Rattle.fidl_records.specs.Terms.{is_strict, underlying, value_number, term_of, fields_from}
 use Rattle.fidl_records.specs.Terms.{stated_figure, below}
 use Rattle.fidl_records.specs.Uses.{is_number, is_unsigned, is_known, allows, uses_entry, uses_rows}
 use Rattle.fidl_records.specs.Uses.{uses_values, uses_first, uses_count, uses_bound, uses_subtype}
-use Rattle.fidl_records.specs.Uses.{uses_rights, uses_name}
+use Rattle.fidl_records.specs.Uses.{uses_rights, uses_name, uses_ordinals}
 use Rattle.fidl_records.specs.Name.{IsName, IsMemberName}
 
 -- the entry is of this kind
@@ -58,13 +58,15 @@ pub record HasValues (e : Entry) : Type 0 where
   pub some : IsTrue (is_strict e) → 0 < e.count
 
 -- a known kind with flags of its own, and only what that kind uses is not zero; rows and values are
--- not too many, and bounds have 32 bits
+-- not too many, a strict union has rows, and bounds have 32 bits
 pub record HasShape (e : Entry) : Type 0 where
   pub known : IsTrue (kind_is is_known e)
   pub flags : IsTrue (kind_is (allows e.flags) e)
   pub unused : IsZeroElsewhere e
   pub few_rows : IsTrue (kind_is uses_rows e) → e.count ≤ MAX_LAYOUT_MEMBERS
   pub few_values : IsTrue (kind_is uses_values e) → e.count ≤ MAX_LAYOUT_MEMBERS
+  pub table_rows : IsOf Table e → e.count ≤ MAX_TABLE_ORDINAL
+  pub union_rows : IsOf Union e → IsTrue (is_strict e) → 0 < e.count
   pub bits : IsOf Bits e → HasMask e
   pub enum : IsOf Enum e → HasValues e
   pub text_bound : IsOf String e → e.bound < 2 ^ 32
@@ -93,7 +95,7 @@ values_before = parts_before uses_values
 
 -- the row of this number is a member of this entry
 pub record IsRowOf (e : Entry) (row : ℕ) : Type 0 where
-  pub of_struct : IsOf Struct e
+  pub has_rows : IsTrue (kind_is uses_rows e)
   pub from : e.first ≤ row
   pub to : row < e.first + e.count
 
@@ -162,8 +164,20 @@ pub record IsEnumValue (bytes : List ℕ) (h : Header) (e : Entry) (k : ℕ) : T
   pub fits : InRange (underlying e) (enum_value bytes h e k)
   pub rises : suc k < e.count → enum_value bytes h e k <ℤ enum_value bytes h e (suc k)
 
--- the numbers of a strict enum rise
+-- the key of the row of this place in an entry: in a table or union, an ordinal
+abbrev pub row_key : List ℕ → Header → Entry → (k : ℕ) → ℕ
+row_key bytes h e k = (row_at bytes h (e.first + k)).key
+
+-- the ordinal of this place in a table or union is at least 1, in a table at most the greatest, and
+-- less than the next
+pub record IsOrdinal (bytes : List ℕ) (h : Header) (e : Entry) (k : ℕ) : Type 0 where
+  pub some : 0 < row_key bytes h e k
+  pub limit : IsOf Table e → row_key bytes h e k ≤ MAX_TABLE_ORDINAL
+  pub rises : suc k < e.count → row_key bytes h e k < row_key bytes h e (suc k)
+
+-- the ordinals of a table or union rise, and so do the numbers of a strict enum
 pub record IsSorted (bytes : List ℕ) (h : Header) (e : Entry) : Type 0 where
+  pub ordinals : IsTrue (kind_is uses_ordinals e) → (k : ℕ) → k < e.count → IsOrdinal bytes h e k
   pub values : IsOf Enum e → (k : ℕ) → k < e.count → IsEnumValue bytes h e k
 
 -- the names of the entry and of its rows

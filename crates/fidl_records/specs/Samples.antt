@@ -1,5 +1,5 @@
 -- The entries and tables of the worked facts.
-use Rattle.std.specs.Prelude.{ℕ, List, ◌∷◌, ◌++◌, replicate, codes}
+use Rattle.std.specs.Prelude.{ℕ, List, [], ◌∷◌, ◌++◌, replicate, codes}
 use Rattle.fidl_records.specs.declared.record.Entry.{Entry}
 
 -- an entry of one byte without a name and rights
@@ -77,3 +77,20 @@ struct_and_box key first =
     ++ 16 ∷ 0 ∷ 8 ∷ 1 ∷ 8 ∷ replicate 7 0 ++ 1 ∷ replicate 27 0
     ++ box_bytes first
     ++ key ∷ 0 ∷ 0 ∷ 0 ∷ 1 ∷ replicate 7 0 ++ 1 ∷ 0 ∷ 0 ∷ 0 ∷ codes "n"
+
+-- the bytes of a table or union without a name, with its rows from `first` on
+abbrev pub ordinal_bytes : (kind flags first count : ℕ) → List ℕ
+ordinal_bytes kind flags first count = kind ∷ flags ∷ 8 ∷ 0 ∷ 16 ∷ 0 ∷ 0 ∷ 0 ∷ first ∷ 0 ∷ 0 ∷ 0
+    ∷ count ∷ replicate 27 0
+
+-- the bytes of a row of the entry 0; its name is the first byte of the names
+abbrev pub row_bytes : (key : ℕ) → List ℕ
+row_bytes key = key ∷ replicate 11 0 ++ 1 ∷ 0 ∷ 0 ∷ 0 ∷ []
+
+-- a table of uint8, and of a table and a strict union with two members of it each, which have these
+-- ordinals; each member's name is "n"
+abbrev pub table_and_union : (a b c d : ℕ) → List ℕ
+table_and_union a b c d =
+    codes "FCT2" ++ 1 ∷ 0 ∷ 0 ∷ 0 ∷ 3 ∷ 0 ∷ 0 ∷ 0 ∷ 4 ∷ replicate 19 0 ++ 1 ∷ replicate 7 0
+    ++ entry_bytes 6 0 1 0 0 0 ++ ordinal_bytes 17 0 0 2 ++ ordinal_bytes 18 2 2 2
+    ++ row_bytes a ++ row_bytes b ++ row_bytes c ++ row_bytes d ++ codes "n"

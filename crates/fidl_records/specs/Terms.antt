@@ -5,6 +5,7 @@ use Rattle.std.specs.Option.{option_map_or}
 use Rattle.std.specs.Int.{w64, cast_signed}
 use Rattle.fidl_wire.specs.Term as ty
 use Rattle.fidl_wire.specs.Term.{Term, Fields, no_fields, field, Rows, no_rows, row, nothing}
+use Rattle.fidl_wire.specs.Term.{rows_of}
 use Rattle.fidl_wire.specs.Figure.{Figure, figure, Declarations}
 use Rattle.fidl_records.specs.declared.record.Header.{Header}
 use Rattle.fidl_records.specs.declared.record.Entry.{Entry}
@@ -91,6 +92,10 @@ term_as k bytes h e = option_map_or ty.number (number_type k) nothing
 -- the type that an entry declares; one of no kind declares a type without values
 abbrev pub term_of : List ℕ → Header → Entry → Term
 term_of bytes h e = option_map_or (λ k. term_as k bytes h e) (kind_of e.kind) nothing
+
+-- the members of the table or union that the entry of this number declares
+abbrev pub members_of : List ℕ → (entry : ℕ) → Rows
+members_of bytes entry = rows_of (term_of bytes (header_of bytes) (entry_at bytes entry))
 
 -- the figure that an entry states
 abbrev pub stated_figure : Entry → Figure

@@ -1,8 +1,8 @@
 -- What the entries of each kind use (docs/table.md, "Kinds").
-use Rattle.std.specs.Prelude.{ℕ, ◌==◌, ◌||◌, Bool, true, false, is_some}
+use Rattle.std.specs.Prelude.{ℕ, ◌==◌, ◌||◌, nat_le, Bool, true, false, is_some}
 use Rattle.fidl_records.specs.Kind.{number_type}
 use Rattle.fidl_records.specs.declared.kind.EntryKind.{EntryKind}
-use Rattle.fidl_records.specs.declared.kind.EntryKind.TheVariants.{Bool as Boolean, Int16, Int32}
+use Rattle.fidl_records.specs.declared.kind.EntryKind.TheVariants.{Int16, Int32}
 use Rattle.fidl_records.specs.declared.kind.EntryKind.TheVariants.{Int64, Uint8, Uint16, Uint32}
 use Rattle.fidl_records.specs.declared.kind.EntryKind.TheVariants.{Uint64, Bits, Enum, String}
 use Rattle.fidl_records.specs.declared.kind.EntryKind.TheVariants.{Vector, Array, Box, Struct}
@@ -20,22 +20,9 @@ is_unsigned Uint32 = true
 is_unsigned Uint64 = true
 is_unsigned _ = false
 
--- bool and the numbers
-abbrev pub is_plain : EntryKind → Bool
-is_plain Boolean = true
-is_plain k = is_number k
-
--- the kinds that a table may have: a table with another kind is refused
+-- the kinds that a table may have: all of them
 abbrev pub is_known : EntryKind → Bool
-is_known Bits = true
-is_known Enum = true
-is_known String = true
-is_known Vector = true
-is_known Array = true
-is_known Box = true
-is_known Struct = true
-is_known Handle = true
-is_known k = is_plain k
+is_known _ = true
 
 -- the flags that an entry of the kind may have: 1 is optional, 2 strict
 abbrev pub allows : (flags : ℕ) → EntryKind → Bool
@@ -44,6 +31,7 @@ allows flags Enum = flags == 0 || flags == 2
 allows flags String = flags == 0 || flags == 1
 allows flags Vector = flags == 0 || flags == 1
 allows flags Handle = flags == 0 || flags == 1
+allows flags Union = nat_le flags 3
 allows flags _ = flags == 0
 
 -- `first` is an entry
@@ -59,6 +47,12 @@ uses_rows Struct = true
 uses_rows Table = true
 uses_rows Union = true
 uses_rows _ = false
+
+-- the keys of its rows are ordinals
+abbrev pub uses_ordinals : EntryKind → Bool
+uses_ordinals Table = true
+uses_ordinals Union = true
+uses_ordinals _ = false
 
 -- `first` is a value, the first of `count`
 abbrev pub uses_values : EntryKind → Bool
@@ -99,6 +93,8 @@ abbrev pub uses_name : EntryKind → Bool
 uses_name Bits = true
 uses_name Enum = true
 uses_name Struct = true
+uses_name Table = true
+uses_name Union = true
 uses_name _ = false
 
 -- the size of bool and the numbers, in bytes, which is their alignment too

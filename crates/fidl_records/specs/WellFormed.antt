@@ -1,6 +1,6 @@
 -- Which tables are accepted (docs/table.md, "Verification").
 use Rattle.std.specs.Prelude.{◌≡◌, ℕ, ◌<◌, ◌≤◌, List, length}
-use Rattle.fidl_wire.specs.declared.limits.TheConstants.{MAX_ENTRIES}
+use Rattle.fidl_limits.specs.declared.limits.TheConstants.{MAX_ENTRIES}
 use Rattle.fidl_records.specs.declared.record.Header.{Header}
 use Rattle.fidl_records.specs.Section.{header_of, table_length}
 use Rattle.fidl_records.specs.Entry.{IsEntry, rows_before, values_before}

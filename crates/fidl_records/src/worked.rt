@@ -8,6 +8,7 @@ ghost use Rattle.fidl_records.specs.Terms.{declarations_of, value_number};
 
 pub mod below;
 pub mod numbers;
+pub mod ordinals;
 pub mod tables;
 pub mod unknown;
 

@@ -6,7 +6,7 @@ use Rattle.fidl_wire.specs.Value.{Value, Values, number, fields, none, value}
 use Rattle.fidl_wire.specs.Term.{Term, Kind, Fields, fields_of, resolve, int8, int16, int32, int64, uint8, uint16, uint32, uint64}
 use Rattle.fidl_wire.specs.Term as ty
 use Rattle.fidl_wire.specs.Typed.{IsTyped, EachTyped}
-use Rattle.fidl_wire.specs.declared.limits.TheConstants.{MAX_NEST}
+use Rattle.fidl_limits.specs.declared.limits.TheConstants.{MAX_NEST}
 use Rattle.fidl_wire.specs.Encoding as encoding
 use Rattle.fidl_wire.specs.Depth.{depth_of, fields_depth}
 use Rattle.fidl_wire.specs.Text.{text_of, fields_text, comma_if}
@@ -29,11 +29,8 @@ use Rattle.fidl_tool.proofs.Printing.{box_is, by_term, each_nth, each_typed, fie
 
 module _ (b : List ℕ) (w : WellFormed b) (i : ℕ) (lt : i < (header_of b).entries) where
   -- the entry's kind
-  pub kind_at : (k : EntryKind) × (is_known k ≡ true) × IsOf k (entry_at b i)
-  kind_at = let f = (fine_of b w).each i lt in (f.0, f.1.known, f.1.is)
-
-  pub known_at : (k : EntryKind) → IsOf k (entry_at b i) → is_known k ≡ true
-  known_at k is = (fine_as b (fine_of b w) i k lt is).known
+  pub kind_at : (k : EntryKind) × IsOf k (entry_at b i)
+  kind_at = let f = (fine_of b w).each i lt in (f.0, f.1.is)
 
   -- the type of the entry, by its kind
   pub term_at : (k : EntryKind) → IsOf k (entry_at b i) → resolve (declarations_of b).terms (ty.named i) ≡ term_as k b (header_of b) (entry_at b i)
@@ -71,10 +68,12 @@ module _ (b : List ℕ) (w : WellFormed b) (i : ℕ) (lt : i < (header_of b).ent
       → let t = resolve (declarations_of b).terms (ty.named i) in ((n : ℕ) × (z ≡ pos n) × (unsigned_of t (number z) ≡ Some n)) ⊎ ((unsigned_of t (number z) ≡ None) × (signed_of t (number z) ≡ Some z))
   number_answered z typed =
       let k = kind_at.0 in
-      let e = term_at k kind_at.2 in
+      let e = term_at k kind_at.1 in
       let h = header_of b in
       let here = subst (λ (u : Term). IsTyped (declarations_of b) u (number z)) e typed in
-      let is = number_kind b h (entry_at b i) k kind_at.1
+      let is = number_kind b h (entry_at b i) k
+      (λ q. subst (λ (j : EntryKind). IsTyped (declarations_of b) (term_as j b h (entry_at b i)) (number z)) q here)
+      (λ q. subst (λ (j : EntryKind). IsTyped (declarations_of b) (term_as j b h (entry_at b i)) (number z)) q here)
       (λ q. subst (λ (j : EntryKind). IsTyped (declarations_of b) (term_as j b h (entry_at b i)) (number z)) q here)
       (λ q. subst (λ (j : EntryKind). IsTyped (declarations_of b) (term_as j b h (entry_at b i)) (number z)) q here)
       (λ q. subst (λ (j : EntryKind). IsTyped (declarations_of b) (term_as j b h (entry_at b i)) (number z)) q here)

@@ -262,27 +262,27 @@ absent_handle ds optional subtype rights (handle i) h e = cc
 absent_handle ds optional subtype rights absent h e = refl
 absent_handle ds optional subtype rights _ h e = absurd h
 
--- the kinds besides bool, string, vector, array, box, struct and handle are those of numbers, bits and enums
-pub number_kind : (b : List ℕ) (h : Header) (e : Entry) (k : EntryKind) → is_known k ≡ true → (k ≡ Boolean → ⊥) → (k ≡ Array → ⊥) → (k ≡ Struct → ⊥) → (k ≡ String → ⊥) → (k ≡ Handle → ⊥) → (k ≡ Vector → ⊥) → (k ≡ Box → ⊥) → IsSome (numbers_of (term_as k b h e))
-number_kind b h e Int8 known nb na ns nt nh nv nx = refl
-number_kind b h e Int16 known nb na ns nt nh nv nx = refl
-number_kind b h e Int32 known nb na ns nt nh nv nx = refl
-number_kind b h e Int64 known nb na ns nt nh nv nx = refl
-number_kind b h e Uint8 known nb na ns nt nh nv nx = refl
-number_kind b h e Uint16 known nb na ns nt nh nv nx = refl
-number_kind b h e Uint32 known nb na ns nt nh nv nx = refl
-number_kind b h e Uint64 known nb na ns nt nh nv nx = refl
-number_kind b h e Bits known nb na ns nt nh nv nx = refl
-number_kind b h e Enum known nb na ns nt nh nv nx = refl
-number_kind b h e Boolean known nb na ns nt nh nv nx = absurd (nb refl)
-number_kind b h e Array known nb na ns nt nh nv nx = absurd (na refl)
-number_kind b h e Struct known nb na ns nt nh nv nx = absurd (ns refl)
-number_kind b h e String known nb na ns nt nh nv nx = absurd (nt refl)
-number_kind b h e Vector known nb na ns nt nh nv nx = absurd (nv refl)
-number_kind b h e Box known nb na ns nt nh nv nx = absurd (nx refl)
-number_kind b h e Table known nb na ns nt nh nv nx = unknown known
-number_kind b h e Union known nb na ns nt nh nv nx = unknown known
-number_kind b h e Handle known nb na ns nt nh nv nx = absurd (nh refl)
+-- the kinds besides bool, string, vector, array, box, struct, table, union and handle are those of numbers, bits and enums
+pub number_kind : (b : List ℕ) (h : Header) (e : Entry) (k : EntryKind) → (k ≡ Boolean → ⊥) → (k ≡ Array → ⊥) → (k ≡ Struct → ⊥) → (k ≡ String → ⊥) → (k ≡ Handle → ⊥) → (k ≡ Vector → ⊥) → (k ≡ Box → ⊥) → (k ≡ Table → ⊥) → (k ≡ Union → ⊥) → IsSome (numbers_of (term_as k b h e))
+number_kind b h e Int8 nb na ns nt nh nv nx nm nu = refl
+number_kind b h e Int16 nb na ns nt nh nv nx nm nu = refl
+number_kind b h e Int32 nb na ns nt nh nv nx nm nu = refl
+number_kind b h e Int64 nb na ns nt nh nv nx nm nu = refl
+number_kind b h e Uint8 nb na ns nt nh nv nx nm nu = refl
+number_kind b h e Uint16 nb na ns nt nh nv nx nm nu = refl
+number_kind b h e Uint32 nb na ns nt nh nv nx nm nu = refl
+number_kind b h e Uint64 nb na ns nt nh nv nx nm nu = refl
+number_kind b h e Bits nb na ns nt nh nv nx nm nu = refl
+number_kind b h e Enum nb na ns nt nh nv nx nm nu = refl
+number_kind b h e Boolean nb na ns nt nh nv nx nm nu = absurd (nb refl)
+number_kind b h e Array nb na ns nt nh nv nx nm nu = absurd (na refl)
+number_kind b h e Struct nb na ns nt nh nv nx nm nu = absurd (ns refl)
+number_kind b h e String nb na ns nt nh nv nx nm nu = absurd (nt refl)
+number_kind b h e Vector nb na ns nt nh nv nx nm nu = absurd (nv refl)
+number_kind b h e Box nb na ns nt nh nv nx nm nu = absurd (nx refl)
+number_kind b h e Table nb na ns nt nh nv nx nm nu = absurd (nm refl)
+number_kind b h e Union nb na ns nt nh nv nx nm nu = absurd (nu refl)
+number_kind b h e Handle nb na ns nt nh nv nx nm nu = absurd (nh refl)
 
 -- the elements of an array that is shown, and of a vector that is not absent
 pub elements_of_array : (b : List ℕ) (f n : ℕ) (own : Term) (view : View) (v : Value) → own ≡ ty.array (ty.named f) n → IsPart (declarations_of b) own view v

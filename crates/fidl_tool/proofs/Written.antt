@@ -153,3 +153,7 @@ failed_then a b c xs ys h w = so_far_failed a b c (xs ++ ys) ys ys [] (so_far_be
 -- a front of more
 pub more_left : (a c : Option (List ℕ)) (xs ys : List ℕ) → AppendsFront a c xs → AppendsFront a c (xs ++ ys)
 more_left a c xs ys h = begin_failed a c (xs ++ ys) xs ys h refl
+
+-- where nothing was written, it is the empty front of any text
+pub none_written : (old : Option (List ℕ)) (bytes : List ℕ) → AppendsFront old old bytes
+none_written old bytes = ([], bytes, refl, Appends-nil old)

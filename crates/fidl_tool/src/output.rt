@@ -1,5 +1,5 @@
 //! A writer that keeps the error that it has failed with.
-ghost use Rattle.std.specs.Prelude.{◌≡◌, IfSome, IsSome, OnOk, OnErr, is_ok, None, option_map};
+ghost use Rattle.std.specs.Prelude.{◌≡◌, ℕ, List, IfSome, IsSome, OnOk, OnErr, is_ok, None, option_map};
 ghost use Rattle.std.specs.Io.KnownBytes.{Appends, Keeps};
 ghost use Rattle.std.specs.Fmt.{with_newline};
 ghost use Rattle.fidl_tool.specs.Outputs.{Writes};
@@ -82,6 +82,17 @@ impl<W: Write> Output<W> {
             }
         }
         self.note(Err(io::Error::from(io::ErrorKind::Interrupted)))
+    }
+
+    /// Fails without a write, as the text of a table or a union is not written yet.
+    pub(crate) fn fail_unsupported(&mut self) -> Result<(), Failed>
+        ensures text { (bytes : List ℕ) → Writes (W.contents self.old.writer)
+            (W.contents self.new.writer) bytes result }
+        ensures kept { OnOk result (self.new.failure ≡ self.old.failure) }
+        ensures failed { OnErr result (IsSome self.new.failure) }
+    {
+        self.failure = Some(io::Error::from(io::ErrorKind::Unsupported));
+        Err(Failed)
     }
 
     /// Writes a text, as `write!` gives it. Where this fails, no contract says what was written.

@@ -9,7 +9,7 @@ ghost use Rattle.fidl_records.specs.Terms.{declarations_of};
 ghost use Rattle.fidl_records.specs.Entry.{IsOf};
 ghost use Rattle.fidl_records.specs.WellFormed.{WellFormed};
 ghost use Rattle.fidl_view.specs.Parts.{numbers_of};
-ghost use Rattle.fidl_wire.specs.declared.limits.TheConstants.{MAX_NEST};
+ghost use Rattle.fidl_limits.specs.declared.limits.TheConstants.{MAX_NEST};
 ghost use Rattle.fidl_tool.specs.Parts.{HasPart, HasPartWithin, Prints, HasValueWithin};
 ghost use Rattle.fidl_tool.specs.Parts.{PrintsValue, HasElementsWithin, PrintsElements};
 ghost use Rattle.fidl_tool.specs.Parts.{HasMembersWithin, PrintsMembers};
@@ -232,6 +232,7 @@ pub(crate) fn write_value<W: Write>(
         EntryKind::Vector => write_vector(table, entry.first, view, depth, out),
         EntryKind::Struct => write_members(table, index, view, depth, out),
         EntryKind::Box => write_box(table, entry.first, view, depth, out),
+        EntryKind::Table | EntryKind::Union => out.fail_unsupported(),
         _ => write_number(view, out),
     }
 }

@@ -1,6 +1,6 @@
 -- How many brackets may be open at once (docs/language.md, "Limit of open brackets").
 use Rattle.std.specs.Prelude.{ℕ, ◌+◌, ◌≤◌, Bool, true, false, List, take, count_by}
-use Rattle.fidl_wire.specs.declared.limits.TheConstants.{MAX_SOURCE_BRACKETS}
+use Rattle.fidl_limits.specs.declared.limits.TheConstants.{MAX_SOURCE_BRACKETS}
 use Rattle.fidl_span.specs.declared.words.Word.{Word}
 use Rattle.fidl_span.specs.declared.words.WordKind.{WordKind}
 use Rattle.fidl_span.specs.declared.words.WordKind.TheVariants as kind

@@ -1,6 +1,6 @@
 //! Laws of the definitions: the contracts of functions that do nothing.
 ghost use Rattle.std.specs.Prelude.{◌≡◌, ◌+◌, length, replicate};
-ghost use Rattle.fidl_wire.specs.declared.limits.TheConstants.{MAX_SOURCE_BRACKETS};
+ghost use Rattle.fidl_limits.specs.declared.limits.TheConstants.{MAX_SOURCE_BRACKETS};
 ghost use Rattle.fidl_tree.specs.Brackets.{IsWithinLimit, parenthesis};
 ghost use Rattle.fidl_tree.specs.Views.{file_view};
 ghost use Rattle.fidl_tree.specs.declared.file.File.{File};

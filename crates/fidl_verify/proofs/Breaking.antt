@@ -10,7 +10,7 @@ use Rattle.fidl_records.specs.Uses.{is_known, uses_rows, uses_values}
 use Rattle.fidl_records.specs.Entry.{HasShape, HasChildren, Follows, HasOffsets, HasSize, HasNest, IsSorted, HasNames, entry_figure, rows_before, values_before}
 use Rattle.fidl_records.specs.Root.{HasEntry, HasRootName, Rises}
 use Rattle.fidl_records.specs.WellFormed.{table_magic, IsVersion}
-use Rattle.fidl_wire.specs.declared.limits.TheConstants.{MAX_ENTRIES}
+use Rattle.fidl_limits.specs.declared.limits.TheConstants.{MAX_ENTRIES}
 use Rattle.fidl_verify.specs.declared.fault.TableFault.{TableFault}
 use Rattle.fidl_verify.specs.Faults.{Breaks, BreaksHeader, BreaksRecord}
 use Rattle.fidl_verify.specs.Faults as breaks

@@ -3,15 +3,15 @@ use Rattle.std.proofs.Common.{◌≡◌, ℕ, zero, suc, ◌+◌, ◌<◌, ◌�
 use Rattle.std.proofs.lemmas.List.{map-append}
 use Rattle.std.specs.List.{AllByRecursion}
 use Rattle.std.specs.Option.{option_map_or}
-use Rattle.fidl_wire.specs.Term.{IsBounded, AreFieldsBounded, nothing}
+use Rattle.fidl_wire.specs.Term.{IsBounded, AreFieldsBounded, AreRowsBounded, nothing}
 use Rattle.fidl_wire.specs.Figure.{figure, figure_of, nest_of, IsLaidOut, IsSound}
 use Rattle.fidl_records.specs.declared.record.Header.{Header}
 use Rattle.fidl_records.specs.declared.record.Entry.{Entry}
 use Rattle.fidl_records.specs.declared.kind.EntryKind.{EntryKind}
-use Rattle.fidl_records.specs.declared.kind.EntryKind.TheVariants.{Bool as Boolean, Int8, Int16, Int32, Int64, Uint8, Uint16, Uint32, Uint64, Bits, Enum, String, Vector, Array, Box, Struct, Handle}
+use Rattle.fidl_records.specs.declared.kind.EntryKind.TheVariants.{Bool as Boolean, Int8, Int16, Int32, Int64, Uint8, Uint16, Uint32, Uint64, Bits, Enum, String, Vector, Array, Box, Struct, Table, Union, Handle}
 use Rattle.fidl_records.specs.Kind.{kind_of}
 use Rattle.fidl_records.specs.Section.{header_of, entry_at, row_at}
-use Rattle.fidl_records.specs.Terms.{below, term_of, term_as, stated_figure, fields_from, declarations_of}
+use Rattle.fidl_records.specs.Terms.{below, term_of, term_as, stated_figure, fields_from, rows_from, declarations_of}
 use Rattle.fidl_records.specs.Uses.{is_known}
 use Rattle.fidl_records.specs.Entry.{IsOf, IsEntry, HasShape, figures_of, entry_figure}
 use Rattle.fidl_records.specs.WellFormed.{WellFormed}
@@ -39,39 +39,44 @@ laid_out bytes w =
     map-map (figure_of (figures_of bytes h)) (λ i. term_of bytes h (entry_at bytes i)) (below h.entries)
     ∙ same_below (λ i. entry_figure bytes h (entry_at bytes i)) (λ i. stated_figure (entry_at bytes i)) h.entries (λ i p. states bytes h i (w.entries i p))
 
--- an entry of the right shape has a known kind
-pub kind_known : (o : Option EntryKind) → option_map_or is_known o false ≡ true → (k : EntryKind) × (o ≡ Some k) × (is_known k ≡ true)
+-- an entry of the right shape has a kind
+kind_known : (o : Option EntryKind) → option_map_or is_known o false ≡ true → (k : EntryKind) × (o ≡ Some k)
 kind_known None e = absurd (let never : false ≡ true = e in cc)
-kind_known (Some k) e = (k, refl, e)
+kind_known (Some k) e = (k, refl)
 
 fields_bounded : (bytes : List ℕ) (h : Header) (first count : ℕ) → AreFieldsBounded (fields_from bytes h first count)
 fields_bounded bytes h first zero = tt
 fields_bounded bytes h first (suc n) = (tt, fields_bounded bytes h (suc first) n)
 
-term_bounded : (bytes : List ℕ) (h : Header) (k : EntryKind) (e : Entry) → is_known k ≡ true → IsOf k e → HasShape e → IsBounded (term_as k bytes h e)
-term_bounded bytes h Boolean e known is s = tt
-term_bounded bytes h Int8 e known is s = tt
-term_bounded bytes h Int16 e known is s = tt
-term_bounded bytes h Int32 e known is s = tt
-term_bounded bytes h Int64 e known is s = tt
-term_bounded bytes h Uint8 e known is s = tt
-term_bounded bytes h Uint16 e known is s = tt
-term_bounded bytes h Uint32 e known is s = tt
-term_bounded bytes h Uint64 e known is s = tt
-term_bounded bytes h Bits e known is s = tt
-term_bounded bytes h Enum e known is s = tt
-term_bounded bytes h String e known is s = s.text_bound is
-term_bounded bytes h Vector e known is s = (s.count_bound is, tt)
-term_bounded bytes h Array e known is s = tt
-term_bounded bytes h Box e known is s = tt
-term_bounded bytes h Struct e known is s = fields_bounded bytes h e.first e.count
-term_bounded bytes h Handle e known is s = tt
-term_bounded bytes h _ e known is s = absurd (let never : false ≡ true = known in cc)
+rows_bounded : (bytes : List ℕ) (h : Header) (first count : ℕ) → AreRowsBounded (rows_from bytes h first count)
+rows_bounded bytes h first zero = tt
+rows_bounded bytes h first (suc n) = (tt, rows_bounded bytes h (suc first) n)
+
+term_bounded : (bytes : List ℕ) (h : Header) (k : EntryKind) (e : Entry) → IsOf k e → HasShape e → IsBounded (term_as k bytes h e)
+term_bounded bytes h Boolean e is s = tt
+term_bounded bytes h Int8 e is s = tt
+term_bounded bytes h Int16 e is s = tt
+term_bounded bytes h Int32 e is s = tt
+term_bounded bytes h Int64 e is s = tt
+term_bounded bytes h Uint8 e is s = tt
+term_bounded bytes h Uint16 e is s = tt
+term_bounded bytes h Uint32 e is s = tt
+term_bounded bytes h Uint64 e is s = tt
+term_bounded bytes h Bits e is s = tt
+term_bounded bytes h Enum e is s = tt
+term_bounded bytes h String e is s = s.text_bound is
+term_bounded bytes h Vector e is s = (s.count_bound is, tt)
+term_bounded bytes h Array e is s = tt
+term_bounded bytes h Box e is s = tt
+term_bounded bytes h Struct e is s = fields_bounded bytes h e.first e.count
+term_bounded bytes h Handle e is s = tt
+term_bounded bytes h Table e is s = rows_bounded bytes h e.first e.count
+term_bounded bytes h Union e is s = rows_bounded bytes h e.first e.count
 
 entry_bounded : (bytes : List ℕ) (h : Header) (e : Entry) → HasShape e → IsBounded (term_of bytes h e)
 entry_bounded bytes h e s =
     let k = kind_known (kind_of e.kind) s.known in
-    subst (λ o. IsBounded (option_map_or (λ k. term_as k bytes h e) o nothing)) (sym k.1) (term_bounded bytes h k.0 e k.2 k.1 s)
+    subst (λ o. IsBounded (option_map_or (λ k. term_as k bytes h e) o nothing)) (sym k.1) (term_bounded bytes h k.0 e k.1 s)
 
 all-append : {X : Type 0} (P : X → Type 0) (xs ys : List X) → AllByRecursion P xs → AllByRecursion P ys → AllByRecursion P (xs ++ ys)
 all-append P [] ys a b = b

@@ -6,10 +6,8 @@ use Rattle.fidl_wire.specs.Term.{nothing}
 use Rattle.fidl_records.specs.declared.record.Header.{Header}
 use Rattle.fidl_records.specs.declared.record.Entry.{Entry}
 use Rattle.fidl_records.specs.declared.kind.EntryKind.{EntryKind}
-use Rattle.fidl_records.specs.declared.kind.EntryKind.TheVariants.{Struct}
 use Rattle.fidl_records.specs.Terms.{term_as}
-use Rattle.fidl_records.specs.Uses.{uses_rows}
-use Rattle.fidl_records.specs.Entry.{IsOf, kind_is, Follows, parts_of, rows_of, figures_of, entry_figure}
+use Rattle.fidl_records.specs.Entry.{IsOf, kind_is, Follows, parts_of, figures_of, entry_figure}
 
 -- a test of the kind of an entry
 pub test_of : (test : EntryKind → Bool) (k : EntryKind) (e : Entry) → IsOf k e → kind_is test e ≡ test k
@@ -31,9 +29,3 @@ unfollowed uses k e used before n is u same not f = not (λ t. f (sym (same_test
 -- how many rows or values an entry of a kind that has them has
 pub parts_used : (uses : EntryKind → Bool) (e : Entry) → IsTrue (kind_is uses e) → parts_of uses e ≡ e.count
 parts_used uses e used = ap (λ b. if b then e.count else 0) used
-
-pub parts_unused : (uses : EntryKind → Bool) (e : Entry) → kind_is uses e ≡ false → parts_of uses e ≡ 0
-parts_unused uses e unused = ap (λ b. if b then e.count else 0) unused
-
-pub rows_of_struct : (e : Entry) → IsOf Struct e → rows_of e ≡ e.count
-rows_of_struct e is = parts_used uses_rows e (test_of uses_rows Struct e is)

@@ -9,3 +9,5 @@ pub mod Declared
 pub mod Owning
 pub mod Standing
 pub mod Enumerated
+pub mod Ordered
+pub mod Members

@@ -1,6 +1,6 @@
 -- What each fault says of a table (docs/table.md, "Faults").
 use Rattle.std.specs.Prelude.{◌≡◌, ◌≢◌, ℕ, ◌<◌, ◌≤◌, List, length, codes}
-use Rattle.fidl_wire.specs.declared.limits.TheConstants.{MAX_ENTRIES}
+use Rattle.fidl_limits.specs.declared.limits.TheConstants.{MAX_ENTRIES}
 use Rattle.fidl_records.specs.declared.section.TheConstants.{HEADER_SIZE}
 use Rattle.fidl_records.specs.declared.record.Header.{Header}
 use Rattle.fidl_records.specs.Section.{header_of, entry_at, table_length}

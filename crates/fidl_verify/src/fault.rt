@@ -21,8 +21,8 @@ pub enum TableFault {
     Surplus { at: u32 },
     /// An entry has an unknown kind, or a flag or field that its kind does not use is not zero;
     /// bits or an enum have no underlying type, a mask over it, or no values though strict; a bound
-    /// has over 32 bits; or there are more than
-    /// 65,535 members or values.
+    /// has over 32 bits; there are more than 65,535 members or values, or more than 64 members of a
+    /// table; or a strict union has no members.
     #[error("entry {at}: a kind or field that is not allowed")]
     BadKind { at: u32 },
     /// A record refers to what does not exist, or rows or values do not follow one another, or
@@ -39,8 +39,9 @@ pub enum TableFault {
     /// An entry states another nest than its type has, or one over the limit.
     #[error("entry {at}: a nest that is wrong")]
     BadNest { at: u32 },
-    /// The values of an enum do not rise or fit its underlying type, or a root's name does not
-    /// stand behind that of the root before.
+    /// The ordinals of a table or union do not rise from 1 on, or are over 64 in a table; the
+    /// values of an enum do not rise or fit its underlying type; or a root's name does not stand
+    /// behind that of the root before.
     #[error("record {at}: not in order")]
     NotSorted { at: u32 },
     /// A name lies past the names, has a byte that is not allowed, is empty where it must not be,

@@ -2,7 +2,7 @@
 use Rattle.std.proofs.Common.{◌≡◌, ℕ, ◌+◌, ◌-◌, ◌<◌, ◌≤◌, false, List, [], ◌∷◌, ◌++◌, length, get_or, Bor, refl, sym, ap, subst, ◌∙◌, arith, inl, inr, zero, suc}
 use Rattle.std.specs.Prelude.{Bool, if◌then◌else◌, Option, Some, None, ◌==◌, IsUtf8, slice_get, slice_range}
 use Rattle.std.specs.Int.{w64, to_le_bytes}
-use Rattle.fidl_wire.specs.declared.limits.TheConstants.{MAX_MESSAGE_BYTES, SAME_RIGHTS}
+use Rattle.fidl_limits.specs.declared.limits.TheConstants.{MAX_MESSAGE_BYTES, SAME_RIGHTS}
 use Rattle.fidl_wire.specs.declared.handle.HandleInfo.{HandleInfo}
 use Rattle.fidl_wire.specs.Value.{Value, absent, text, list, fields, handle, union, count}
 use Rattle.fidl_wire.specs.Term.{Term, Rows, find}
@@ -84,7 +84,7 @@ module _ (ds : Declarations) (m : Message) (l : Linked) (place : ℕ) where
   pub union_absence : (optional strict : Bool) (rows : Rows) (v : Value) → Held (ty.union optional strict rows) v → (number_at w64 m.bytes place == 0) ≡ absence_of v
   union_absence optional strict rows absent h = ap (λ n. n == 0) (number_64 m.bytes place 0 (omega arith) (stands_front m.bytes place (zeros 8) (zeros 8) h.1))
   union_absence optional strict rows (union ordinal x) h =
-      ap (λ n. n == 0) (number_64 m.bytes place ordinal h.0.1 (stands_front m.bytes place (to_le_bytes w64 ordinal) (enveloped ds (find rows ordinal) x).inline h.1)) ∙ positive ordinal h.0.0
+      ap (λ n. n == 0) (number_64 m.bytes place ordinal h.0.1 (stands_front m.bytes place (to_le_bytes w64 ordinal) (enveloped ds (find rows ordinal) x).inline h.1.0)) ∙ positive ordinal h.0.0
   union_absence optional strict rows _ h = absurd h.0
 
   -- ---- handles and strings

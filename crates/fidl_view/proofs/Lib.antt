@@ -6,3 +6,5 @@ pub mod Viewing
 pub mod Parts
 pub mod Lists
 pub mod MemberPlaces
+pub mod Envelopes
+pub mod Keyed

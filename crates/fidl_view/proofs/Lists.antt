@@ -1,9 +1,9 @@
 -- The elements of arrays and vectors, as the parts that show them.
-use Rattle.std.proofs.Common.{◌≡◌, ℕ, zero, suc, ◌+◌, ◌-◌, ◌*◌, ◌^◌, ◌<◌, ◌≤◌, ◌%◌, List, [], ◌∷◌, length, get_or, refl, sym, ap, subst, ◌∙◌, arith, suc-mul, mul_comm, mul-suc, pos, negsuc}
+use Rattle.std.proofs.Common.{◌≡◌, ℕ, zero, suc, ◌+◌, ◌-◌, ◌*◌, ◌^◌, ◌<◌, ◌≤◌, ◌%◌, List, [], ◌∷◌, length, get_or, refl, sym, ap, subst, ◌∙◌, arith, suc-mul, mul_comm, mul-suc, pos, negsuc, length-append}
 use Rattle.std.specs.Prelude.{Bool, Some, None, take, drop, slice_range}
 use Rattle.std.specs.Int.{w64, to_le_bytes}
 use Rattle.std.proofs.Math.Nat.{mul-le-mul_right}
-use Rattle.fidl_wire.specs.Value.{Value, Values, absent, number, text, list, none, value, count}
+use Rattle.fidl_wire.specs.Value.{Value, Values, absent, number, text, list, table, Members, none, value, count}
 use Rattle.fidl_wire.specs.Term.{Term, resolve, uint8}
 use Rattle.fidl_wire.specs.Term as ty
 use Rattle.fidl_wire.specs.Figure.{Figure, Declarations, size_of}
@@ -62,10 +62,36 @@ text_long (list vs) lacks bytes e = no_list (list vs) lacks vs refl
 text_long (text own) lacks bytes e = let same : bytes ≡ own = cc in ap (λ (b : List ℕ). Some (length b)) same
 text_long _ lacks bytes e = cc
 
-pub no_length : (v : Value) → IsNoList v → None ≡ string_of v → None ≡ length_of v
-no_length (list vs) lacks e = no_list (list vs) lacks vs refl
-no_length (text own) lacks e = cc
-no_length _ lacks e = refl
+pub no_length : (v : Value) → IsNoList v → None ≡ string_of v → ((n : ℕ) (ms : Members) → v ≡ table n ms → ⊥) → None ≡ length_of v
+no_length (list vs) lacks e other = no_list (list vs) lacks vs refl
+no_length (text own) lacks e other = cc
+no_length (table n ms) lacks e other = absurd (other n ms refl)
+no_length _ lacks e other = refl
+
+-- only tables have envelopes to count
+pub no_table_of : (ds : Declarations) (t : List ℕ) (h : Header) (e : Entry) (k : EntryKind) → (k ≡ Table → ⊥) → (v : Value) → IsTyped ds (term_as k t h e) v → (n : ℕ) (ms : Members) → v ≡ table n ms → ⊥
+no_table_of ds t h e k a v x n ms is = go k a (subst (λ (u : Value). IsTyped ds (term_as k t h e) u) is x)
+  where
+    go : (k : EntryKind) → (k ≡ Table → ⊥) → IsTyped ds (term_as k t h e) (table n ms) → ⊥
+    go Table a x = a refl
+    go Boolean a x = x
+    go Int8 a x = x
+    go Int16 a x = x
+    go Int32 a x = x
+    go Int64 a x = x
+    go Uint8 a x = x
+    go Uint16 a x = x
+    go Uint32 a x = x
+    go Uint64 a x = x
+    go Bits a x = x
+    go Enum a x = x
+    go String a x = x
+    go Vector a x = x
+    go Array a x = x
+    go Box a x = x
+    go Struct a x = x
+    go Union a x = x
+    go Handle a x = x
 
 -- only arrays and vectors have lists
 pub no_list_of : (ds : Declarations) (t : List ℕ) (h : Header) (e : Entry) (k : EntryKind) → (k ≡ Array → ⊥) → (k ≡ Vector → ⊥) → (v : Value) → IsTyped ds (term_as k t h e) v → IsNoList v
@@ -168,9 +194,11 @@ one_room k n size less = omega (arith, mul-le-mul_right size less)
 
 module _ (d : Shown) where
   pub shown_each : (i size p : ℕ) (vs : Values) → AllTyped (declarations_of d.table) (type_of d i) vs → ArePlaced (declarations_of d.table) (message_of d.bytes d.handles) d.links (type_of d i) size p vs
-      → ShowEach (parts_from d i size p (count vs)) vs
-  shown_each i size p none x h = tt
-  shown_each i size p (value v vs) x h = (record { typed = x.0; placed = h.0 }, shown_each i size (p + size) vs x.1 h.1)
+      → length (encoding.elements (declarations_of d.table) (type_of d i) vs).out ≤ length d.bytes → ShowEach (parts_from d i size p (count vs)) vs
+  shown_each i size p none x h within = tt
+  shown_each i size p (value v vs) x h within =
+      let both = length-append (encoding_of (declarations_of d.table) (type_of d i) v).out (encoding.elements (declarations_of d.table) (type_of d i) vs).out in
+      (record { typed = x.0; placed = h.0; within = omega (arith, both, within) }, shown_each i size (p + size) vs x.1 h.1 (omega (arith, both, within)))
 
   -- as many parts as elements
   pub shown_count : (i size p n : ℕ) (vs : Values) → ShowEach (parts_from d i size p n) vs → n ≡ count vs
@@ -261,20 +289,20 @@ module _ (d : Shown) where
       -- the elements of an array, as parts
       pub array_shown : IsOf Array (entry_at d.table index) → (v : Value) → Shows d index place v
           → (vs : Values) × (v ≡ list vs) × ShowEach (parts_from d (entry_at d.table index).first (entry_at d.table (entry_at d.table index).first).size place (entry_at d.table index).count) vs
-      array_shown is v s = go v (viewing.lies d w index place lt Array is v s)
+      array_shown is v s = go v (viewing.lies d w index place lt Array is v s) (viewing.lies_within d w index place lt Array is v s)
         where
           c : ℕ
           c = (entry_at d.table index).first
 
-          go : (v : Value) → viewing.Lies d w index place lt Array v → (vs : Values) × (v ≡ list vs) × ShowEach (parts_from d c (entry_at d.table c).size place (entry_at d.table index).count) vs
-          go (list vs) s =
+          go : (v : Value) → viewing.Lies d w index place lt Array v → length (encoding_of (declarations_of d.table) (ty.array (ty.named c) (entry_at d.table index).count) v).out ≤ length d.bytes → (vs : Values) × (v ≡ list vs) × ShowEach (parts_from d c (entry_at d.table c).size place (entry_at d.table index).count) vs
+          go (list vs) s within =
               let size = size_is d.table fine c (array_element is) in (
                 vs,
                 refl,
                 subst (λ n. ShowEach (parts_from d c (entry_at d.table c).size place n) vs) s.0.0
-                    (subst (λ k. ShowEach (parts_from d c k place (count vs)) vs) size (shown_each c (size_of (declarations_of d.table) (ty.named c)) place vs s.0.1 s.1.1)),
+                    (subst (λ k. ShowEach (parts_from d c k place (count vs)) vs) size (shown_each c (size_of (declarations_of d.table) (ty.named c)) place vs s.0.1 s.1.1 within)),
               )
-          go _ s = absurd s.0
+          go _ s within = absurd s.0
 
       -- the elements of a vector, as parts in its object
       pub vector_shown : IsOf Vector (entry_at d.table index) → (get_or d.bytes (place + 8) 0 ≡ 0 → ⊥) → (v : Value) → Shows d index place v
@@ -284,7 +312,9 @@ module _ (d : Shown) where
           let c = e.first in
           let size = size_is d.table fine c (vector_element is) in
           let x = (vector_found (declarations_of d.table) (message_of d.bytes d.handles) d.links place (is_optional e) e.bound (ty.named c) (fine_as d.table fine index Vector lt is).content.1 v (viewing.lies d w index place lt Vector is v s)).1 some in
-          let parts = shown_each c (size_of (declarations_of d.table) (ty.named c)) (object_at d.links (place + 8)) x.vs x.typed x.placed in (
+          let out = subst (λ (u : Value). length (encoding_of (declarations_of d.table) (ty.vector (is_optional e) e.bound (ty.named c)) u).out ≤ length d.bytes) x.is (viewing.lies_within d w index place lt Vector is v s) in
+          let own = encoding.elements (declarations_of d.table) (type_of d c) x.vs in
+          let parts = shown_each c (size_of (declarations_of d.table) (ty.named c)) (object_at d.links (place + 8)) x.vs x.typed x.placed (omega (arith, out, length-append (encoding.pad8 own.inline) own.out)) in (
             x.vs,
             x.is,
             subst (λ n. ShowEach (parts_from d c (entry_at d.table c).size (object_at d.links (place + 8)) n) x.vs) (sym x.counted)

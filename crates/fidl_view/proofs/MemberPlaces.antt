@@ -1,10 +1,11 @@
 -- The members of structs and of the structs in boxes.
-use Rattle.std.proofs.Common.{◌≡◌, ℕ, zero, suc, ◌+◌, ◌<◌, ◌≤◌, List, get_or, refl, ap, subst, arith}
+use Rattle.std.proofs.Common.{◌≡◌, ℕ, zero, suc, ◌+◌, ◌<◌, ◌≤◌, List, length, get_or, refl, ap, subst, arith, length-append}
 use Rattle.std.specs.Prelude.{Some, None}
 use Rattle.fidl_wire.specs.Value.{Value, Values, absent, fields, none, value}
 use Rattle.fidl_wire.specs.Term.{Term, Fields, resolve, fields_of}
 use Rattle.fidl_wire.specs.Term as ty
-use Rattle.fidl_wire.specs.Figure.{Declarations}
+use Rattle.fidl_wire.specs.Figure.{Declarations, size_of}
+use Rattle.fidl_wire.specs.Encoding.{encoding_of, members, pad8}
 use Rattle.fidl_wire.specs.Typed.{IsTyped, EachTyped}
 use Rattle.fidl_records.specs.declared.record.Header.{Header}
 use Rattle.fidl_records.specs.declared.record.Entry.{Entry}
@@ -23,7 +24,7 @@ use Rattle.fidl_decode.proofs.Bridge.{fine_of}
 use Rattle.fidl_decode.proofs.Visiting.{fine_as, term_is}
 use Rattle.fidl_decode.proofs.Stated.{typed_rows}
 use Rattle.fidl_view.specs.Parts.{nth, field_of, IsNoStruct}
-use Rattle.fidl_view.specs.Shows.{Shows}
+use Rattle.fidl_view.specs.Shows.{Shows, type_of}
 use Rattle.fidl_view.specs.Members.{ShowMembers, fields_at}
 use Rattle.fidl_view.proofs.Finding.{nth_field}
 use Rattle.fidl_view.proofs.Viewing as viewing
@@ -73,14 +74,14 @@ module _ (d : Shown) (w : WellFormed d.table) where
     box_struct is = (fine_as d.table fine index Box lt is).content
 
     pub struct_shown : IsOf Struct (entry_at d.table index) → (v : Value) → Shows d index place v → (vs : Values) × (v ≡ fields vs) × ShowMembers d index place vs
-    struct_shown is v s = go v (viewing.lies d w index place lt Struct is v s)
+    struct_shown is v s = go v (viewing.lies d w index place lt Struct is v s) (viewing.lies_within d w index place lt Struct is v s)
       where
-        go : (v : Value) → viewing.Lies d w index place lt Struct v → (vs : Values) × (v ≡ fields vs) × ShowMembers d index place vs
-        go (fields vs) s = (vs, refl, record { typed = s.0; placed = s.1.1 })
-        go _ s = absurd s.0
+        go : (v : Value) → viewing.Lies d w index place lt Struct v → length (encoding_of (declarations_of d.table) (ty.struct (fields_at d index)) v).out ≤ length d.bytes → (vs : Values) × (v ≡ fields vs) × ShowMembers d index place vs
+        go (fields vs) s within = (vs, refl, record { typed = s.0; placed = s.1.1; within = within })
+        go _ s within = absurd s.0
 
     pub box_shown : IsOf Box (entry_at d.table index) → (get_or d.bytes place 0 ≡ 0 → ⊥) → (v : Value) → Shows d index place v → (vs : Values) × (v ≡ fields vs) × ShowMembers d (entry_at d.table index).first (object_at d.links place) vs
-    box_shown is some v s = go v (viewing.lies d w index place lt Box is v s)
+    box_shown is some v s = go v (viewing.lies d w index place lt Box is v s) (viewing.lies_within d w index place lt Box is v s)
       where
         c : ℕ
         c = (entry_at d.table index).first
@@ -88,17 +89,19 @@ module _ (d : Shown) (w : WellFormed d.table) where
         own : fields_of (resolve (declarations_of d.table).terms (ty.named c)) ≡ fields_at d c
         own = let b = box_struct is in ap (λ (t : Term). fields_of t) (term_is d.table fine c Struct b.0 b.1)
 
-        go : (v : Value) → viewing.Lies d w index place lt Box v → (vs : Values) × (v ≡ fields vs) × ShowMembers d c (object_at d.links place) vs
-        go absent s = absurd (some s.1.1)
-        go (fields vs) s = (
+        go : (v : Value) → viewing.Lies d w index place lt Box v → length (encoding_of (declarations_of d.table) (ty.box (ty.named c)) v).out ≤ length d.bytes → (vs : Values) × (v ≡ fields vs) × ShowMembers d c (object_at d.links place) vs
+        go absent s within = absurd (some s.1.1)
+        go (fields vs) s within = (
           vs,
           refl,
           record {
             typed = subst (λ (fs : Fields). EachTyped (declarations_of d.table) fs vs) own s.0.1;
             placed = subst (λ (fs : Fields). AreFieldsPlaced (declarations_of d.table) (message_of d.bytes d.handles) d.links fs 0 (object_at d.links place) vs) own s.1.1;
+            within = subst (λ (fs : Fields). length (members (declarations_of d.table) (size_of (declarations_of d.table) (ty.struct fs)) 0 fs vs).out ≤ length d.bytes) own
+                (let e = members (declarations_of d.table) (size_of (declarations_of d.table) (ty.struct (fields_of (type_of d c)))) 0 (fields_of (type_of d c)) vs in omega (arith, within, length-append (pad8 e.inline) e.out));
           },
         )
-        go _ s = absurd s.0
+        go _ s within = absurd s.0
 
     pub no_box : IsOf Box (entry_at d.table index) → get_or d.bytes place 0 ≡ 0 → (v : Value) → Shows d index place v → IsNoStruct v
     no_box is zeros v s = go v (viewing.lies d w index place lt Box is v s)
@@ -121,8 +124,8 @@ module _ (d : Shown) (w : WellFormed d.table) where
         → let r = row_at d.table (header_of d.table) ((entry_at d.table index).first + i) in (x : Value) × (nth vs i ≡ Some x) × Shows d r.entry (place + r.key) x
     member_shown i less vs s =
         let e = entry_at d.table index in
-        let r = nth_field d.table (message_of d.bytes d.handles) d.links e.first e.count 0 place vs i less struct_fine.content.1 s.typed s.placed in
-        (r.0, r.1, record { typed = r.2.0; placed = r.2.1 })
+        let r = nth_field d.table (message_of d.bytes d.handles) d.links e.first e.count (size_of (declarations_of d.table) (ty.struct (fields_at d index))) 0 place vs i less struct_fine.content.1 s.typed s.placed s.within in
+        (r.0, r.1, record { typed = r.2.0; placed = r.2.1; within = r.2.2 })
 
     pub no_member : (i : ℕ) → (entry_at d.table index).count ≤ i → (vs : Values) → ShowMembers d index place vs → nth vs i ≡ None
     no_member i le vs s = none_past (entry_at d.table index).count (entry_at d.table index).first vs i (typed_rows d.table (entry_at d.table index).first (entry_at d.table index).count vs s.typed) le

@@ -1,7 +1,7 @@
 -- What the parts of a value that a view shows are.
 use Rattle.std.proofs.Common.{◌≡◌, ℕ, true, false, ℤ, List, get_or, refl, sym, ap, subst, ◌∙◌}
 use Rattle.std.specs.Prelude.{Bool, Option, Some, None, ◌==◌}
-use Rattle.fidl_wire.specs.Value.{Value, absent, bool, number, text, handle, list, fields}
+use Rattle.fidl_wire.specs.Value.{Value, absent, bool, number, text, handle, list, fields, table, union}
 use Rattle.fidl_wire.specs.declared.handle.HandleInfo.{HandleInfo}
 use Rattle.fidl_wire.specs.Term.{Term, Kind, int8, int16, int32, int64, uint8, uint16, uint32, uint64, resolve}
 use Rattle.fidl_wire.specs.Term as ty
@@ -13,7 +13,7 @@ use Rattle.fidl_records.specs.declared.record.Header.{Header}
 use Rattle.fidl_records.specs.declared.record.Entry.{Entry}
 use Rattle.fidl_records.specs.declared.kind.EntryKind.{EntryKind}
 use Rattle.fidl_records.specs.declared.kind.EntryKind.TheVariants.{Bool as Boolean, Bits, Enum, String, Handle}
-use Rattle.fidl_records.specs.Terms.{is_optional, term_as, fields_from, underlying, mask_of, strict_values}
+use Rattle.fidl_records.specs.Terms.{is_optional, is_strict, term_as, fields_from, rows_from, underlying, mask_of, strict_values}
 use Rattle.fidl_records.specs.Uses.{is_known}
 use Rattle.fidl_view.specs.Parts.{bool_of, numbers_of, unsigned_of, signed_of}
 use Rattle.fidl_view.specs.Numbers.{unsigned_in, signed_in, unsigned_at, signed_at}
@@ -76,6 +76,15 @@ module _ (ds : Declarations) (t : List ℕ) (h : Header) (d : Entry) (m : List �
   struct_no_bool fs (fields vs) x = refl
   struct_no_bool fs _ x = absurd x
 
+  table_no_bool : (rows : ty.Rows) (v : Value) → IsTyped ds (ty.table rows) v → None ≡ bool_of v
+  table_no_bool rows (table n ms) x = refl
+  table_no_bool rows _ x = absurd x
+
+  union_no_bool : (optional strict : Bool) (rows : ty.Rows) (v : Value) → IsTyped ds (ty.union optional strict rows) v → None ≡ bool_of v
+  union_no_bool optional strict rows (union ordinal m) x = refl
+  union_no_bool optional strict rows absent x = refl
+  union_no_bool optional strict rows _ x = absurd x
+
   pub no_bool : (k : EntryKind) → is_known k ≡ true → (k ≡ Boolean → ⊥) → (v : Value) → Stood k v → None ≡ bool_of v
   no_bool k known other v s = by_sort (λ k. (k ≡ Boolean → ⊥) → (v : Value) → IsTyped ds (term_as k t h d) v → None ≡ bool_of v)
       (λ other v x. absurd (other refl))
@@ -94,7 +103,9 @@ module _ (ds : Declarations) (t : List ℕ) (h : Header) (d : Entry) (m : List �
       (λ other. of_string (λ v. None ≡ bool_of v) (λ bytes. refl) refl)
       (λ other. of_handle (λ v. None ≡ bool_of v) (λ i. refl) refl)
       (λ other. vector_no_bool (is_optional d) d.bound (ty.named d.first))
-      (λ other. box_no_bool (ty.named d.first)) k known other v s.0
+      (λ other. box_no_bool (ty.named d.first))
+      (λ other. table_no_bool (rows_from t h d.first d.count))
+      (λ other. union_no_bool (is_optional d) (is_strict d) (rows_from t h d.first d.count)) k known other v s.0
 
   -- ---- numbers
 
@@ -121,7 +132,7 @@ module _ (ds : Declarations) (t : List ℕ) (h : Header) (d : Entry) (m : List �
       (λ v s. refl) (λ v s. refl) (λ v s. refl)
       (read_there unsigned_of unsigned_in _ _ _ (numeric_bits ds (underlying d) (mask_of d)) (λ z. refl))
       (read_there unsigned_of unsigned_in _ _ _ (numeric_enum ds (underlying d) (strict_values t h d)) (λ z. refl))
-      (one int8) (one int16) (one int32) (one int64) (one uint8) (one uint16) (one uint32) (one uint64) (λ v s. refl) (λ v s. refl) (λ v s. refl) (λ v s. refl) k known v s
+      (one int8) (one int16) (one int32) (one int64) (one uint8) (one uint16) (one uint32) (one uint64) (λ v s. refl) (λ v s. refl) (λ v s. refl) (λ v s. refl) (λ v s. refl) (λ v s. refl) k known v s
     where
       one : (kind : Kind) (v : Value) → IsTyped ds (ty.number kind) v × Stands m p (encoding_of ds (ty.number kind) v).inline → unsigned_in kind (number_standing kind m p) ≡ unsigned_of (ty.number kind) v
       one = of_number unsigned_of unsigned_in (λ kind z. refl)
@@ -131,7 +142,7 @@ module _ (ds : Declarations) (t : List ℕ) (h : Header) (d : Entry) (m : List �
       (λ v s. refl) (λ v s. refl) (λ v s. refl)
       (read_there signed_of signed_in _ _ _ (numeric_bits ds (underlying d) (mask_of d)) (λ z. refl))
       (read_there signed_of signed_in _ _ _ (numeric_enum ds (underlying d) (strict_values t h d)) (λ z. refl))
-      (one int8) (one int16) (one int32) (one int64) (one uint8) (one uint16) (one uint32) (one uint64) (λ v s. refl) (λ v s. refl) (λ v s. refl) (λ v s. refl) k known v s
+      (one int8) (one int16) (one int32) (one int64) (one uint8) (one uint16) (one uint32) (one uint64) (λ v s. refl) (λ v s. refl) (λ v s. refl) (λ v s. refl) (λ v s. refl) (λ v s. refl) k known v s
     where
       one : (kind : Kind) (v : Value) → IsTyped ds (ty.number kind) v × Stands m p (encoding_of ds (ty.number kind) v).inline → signed_in kind (number_standing kind m p) ≡ signed_of (ty.number kind) v
       one = of_number signed_of signed_in (λ kind z. refl)

@@ -1,16 +1,16 @@
 -- What a view of a well-formed table rests on.
 use Rattle.std.specs.Int.{w64, byte_len}
 use Rattle.std.specs.Option.{option_map_or}
-use Rattle.std.proofs.Common.{◌≡◌, ℕ, ◌+◌, ◌<◌, ◌≤◌, true, length, refl, sym, ap, subst, ◌∙◌, arith, inl, inr, get_or}
+use Rattle.std.proofs.Common.{◌≡◌, ℕ, List, ◌+◌, ◌<◌, ◌≤◌, true, length, refl, sym, ap, subst, ◌∙◌, arith, inl, inr, get_or, length-append}
 use Rattle.std.specs.Prelude.{◌⊎◌, Option, Some, None, false, IsTrue, is_some, unwrap_or, []}
-use Rattle.fidl_wire.specs.declared.limits.TheConstants.{MAX_MESSAGE_BYTES}
+use Rattle.fidl_limits.specs.declared.limits.TheConstants.{MAX_MESSAGE_BYTES}
 use Rattle.fidl_wire.specs.declared.handle.HandleInfo.{HandleInfo}
 use Rattle.fidl_wire.specs.Value.{Value}
 use Rattle.fidl_wire.specs.Term.{Term, Kind, width, resolve, Fields, int8, int16, int32, int64, uint8, uint16, uint32, uint64}
 use Rattle.fidl_wire.specs.Term as ty
 use Rattle.fidl_wire.specs.Figure.{Figure, size_of}
 use Rattle.fidl_wire.specs.Typed.{IsTyped}
-use Rattle.fidl_wire.specs.Encoding.{encoding_of}
+use Rattle.fidl_wire.specs.Encoding.{encoding_of, object, pad8}
 use Rattle.fidl_wire.specs.Standing.{Stands}
 use Rattle.fidl_wire.proofs.Sizes.{le-next_multiple_of}
 use Rattle.fidl_records.specs.declared.kind.EntryKind.{EntryKind}
@@ -61,7 +61,9 @@ message_shown d w index same x v y =
     let ds = declarations_of d.table in
     let one : x.0 ≡ v = one_value ds (sound d.table w) (ty.named d.entry) tt x.0 v d.bytes d.handles x.1 y in
     let placed = subst (λ (u : Value). Placed ds (message_of d.bytes d.handles) d.links (type_of d d.entry) 0 u) one x.2 in
-    let whole : Shows d d.entry 0 v = record { typed = y.typed; placed = placed } in
+    let e = encoding_of ds (type_of d d.entry) v in
+    let long : length (object e) ≡ length d.bytes = ap (λ (m : List ℕ × List HandleInfo). length m.0) y.message in
+    let whole : Shows d d.entry 0 v = record { typed = y.typed; placed = placed; within = omega (arith, long, length-append (pad8 e.inline) e.out) } in
     subst (λ k. Shows d k 0 v) (sym same) whole
 
 -- which is the only one
@@ -97,8 +99,12 @@ module _ (d : Shown) (w : WellFormed d.table) (index place : ℕ) (lt : index < 
       let e = term_is d.table fine index k lt is in
       (subst (λ (u : Term). IsTyped ds u v) e s.typed, subst (λ (u : Term). Placed ds (message_of d.bytes d.handles) d.links u place v) e s.placed)
 
+  -- and what it has out of line is no longer than the message
+  pub lies_within : (k : EntryKind) → IsOf k (entry_at d.table index) → (v : Value) → Shows d index place v → length (encoding_of (declarations_of d.table) (term_as k d.table (header_of d.table) (entry_at d.table index)) v).out ≤ length d.bytes
+  lies_within k is v s = subst (λ (u : Term). length (encoding_of (declarations_of d.table) u v).out ≤ length d.bytes) (term_is d.table fine index k lt is) s.within
+
   pub known : (k : EntryKind) → IsOf k (entry_at d.table index) → is_known k ≡ true
-  known k is = (fine_as d.table fine index k lt is).known
+  known k is = refl
 
   pub has_byte : 0 < (entry_at d.table index).size
   has_byte = let p = positive d.table fine index lt in let s = size_is d.table fine index lt in omega arith
@@ -159,7 +165,7 @@ module _ (d : Shown) (w : WellFormed d.table) (index place : ℕ) (lt : index < 
   own_numbers : (k : EntryKind) → is_known k ≡ true → (k ≡ Bits → ⊥) → (k ≡ Enum → ⊥) → number_type k ≡ numbers_of (term_as k d.table (header_of d.table) (entry_at d.table index))
   own_numbers k known b e = by_sort (λ k. (k ≡ Bits → ⊥) → (k ≡ Enum → ⊥) → number_type k ≡ numbers_of (term_as k d.table (header_of d.table) (entry_at d.table index)))
       (λ b e. refl) (λ b e. refl) (λ b e. refl) (λ b e. absurd (b refl)) (λ b e. absurd (e refl))
-      (λ b e. refl) (λ b e. refl) (λ b e. refl) (λ b e. refl) (λ b e. refl) (λ b e. refl) (λ b e. refl) (λ b e. refl) (λ b e. refl) (λ b e. refl) (λ b e. refl) (λ b e. refl) k known b e
+      (λ b e. refl) (λ b e. refl) (λ b e. refl) (λ b e. refl) (λ b e. refl) (λ b e. refl) (λ b e. refl) (λ b e. refl) (λ b e. refl) (λ b e. refl) (λ b e. refl) (λ b e. refl) (λ b e. refl) (λ b e. refl) k known b e
 
   pub numbers_else : (k : EntryKind) → IsOf k (entry_at d.table index) → (k ≡ Bits → ⊥) → (k ≡ Enum → ⊥) → number_type k ≡ numbers_of (type_of d index)
   numbers_else k is b e = own_numbers k (known k is) b e ∙ sym (ap (λ (u : Term). numbers_of u) (own_type k is))
@@ -202,7 +208,7 @@ module _ (d : Shown) (w : WellFormed d.table) (index place : ℕ) (lt : index < 
   pub fits_else : (k : EntryKind) → IsOf k (entry_at d.table index) → (k ≡ Bits → ⊥) → (k ≡ Enum → ⊥) → byte_len (width (as_number k)) ≤ (entry_at d.table index).size
   fits_else k is b e = by_sort (λ k. IsOf k (entry_at d.table index) → (k ≡ Bits → ⊥) → (k ≡ Enum → ⊥) → byte_len (width (as_number k)) ≤ (entry_at d.table index).size)
       (λ is b e. omega (arith, has_byte)) (λ is b e. omega (arith, has_byte)) (λ is b e. omega (arith, has_byte)) (λ is b e. absurd (b refl)) (λ is b e. absurd (e refl))
-      (number Int8 int8 refl) (number Int16 int16 refl) (number Int32 int32 refl) (number Int64 int64 refl) (number Uint8 uint8 refl) (number Uint16 uint16 refl) (number Uint32 uint32 refl) (number Uint64 uint64 refl) (λ is b e. omega (arith, has_byte)) (λ is b e. omega (arith, has_byte)) (λ is b e. omega (arith, has_byte)) (λ is b e. omega (arith, has_byte)) k (known k is) is b e
+      (number Int8 int8 refl) (number Int16 int16 refl) (number Int32 int32 refl) (number Int64 int64 refl) (number Uint8 uint8 refl) (number Uint16 uint16 refl) (number Uint32 uint32 refl) (number Uint64 uint64 refl) (λ is b e. omega (arith, has_byte)) (λ is b e. omega (arith, has_byte)) (λ is b e. omega (arith, has_byte)) (λ is b e. omega (arith, has_byte)) (λ is b e. omega (arith, has_byte)) (λ is b e. omega (arith, has_byte)) k (known k is) is b e
     where
       number : (k : EntryKind) (kind : Kind) → term_as k d.table (header_of d.table) (entry_at d.table index) ≡ ty.number kind → IsOf k (entry_at d.table index) → (k ≡ Bits → ⊥) → (k ≡ Enum → ⊥) → byte_len (width kind) ≤ (entry_at d.table index).size
       number k kind own is b e =

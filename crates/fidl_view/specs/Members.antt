@@ -1,12 +1,17 @@
--- The members of a struct, where they stand in a message (docs/views.md, "Calls").
-use Rattle.std.specs.Prelude.{ℕ}
-use Rattle.fidl_wire.specs.Value.{Values}
-use Rattle.fidl_wire.specs.Term.{Fields}
-use Rattle.fidl_wire.specs.Typed.{EachTyped}
+-- The members of a struct, a table or a union, where they stand in a message (docs/views.md,
+-- "Calls").
+use Rattle.std.specs.Prelude.{ℕ, ◌≤◌, false, length, Option}
+use Rattle.fidl_wire.specs.Value.{Values, Member}
+use Rattle.fidl_wire.specs.Term.{Term, Fields, find}
+use Rattle.fidl_wire.specs.Term as ty
+use Rattle.fidl_wire.specs.Figure.{size_of}
+use Rattle.fidl_wire.specs.Typed.{EachTyped, IsTypedMember}
+use Rattle.fidl_wire.specs.Encoding.{members, enveloped}
+use Rattle.fidl_wire.specs.Standing.{Stands}
 use Rattle.fidl_records.specs.Section.{header_of, entry_at}
-use Rattle.fidl_records.specs.Terms.{declarations_of, fields_from}
+use Rattle.fidl_records.specs.Terms.{declarations_of, fields_from, members_of}
 use Rattle.fidl_decode.specs.Faults.{message_of}
-use Rattle.fidl_decode.specs.Placed.{AreFieldsPlaced}
+use Rattle.fidl_decode.specs.Placed.{AreFieldsPlaced, IsMemberPlaced}
 use Rattle.fidl_decode.specs.Model.{Shown}
 
 -- the members that a struct's entry declares
@@ -15,12 +20,36 @@ fields_at d index = let e = entry_at d.table index in
     fields_from d.table (header_of d.table) e.first e.count
 
 -- the values are those of the members of a struct of this entry, and stand at their offsets in a
--- struct at this place
+-- struct at this place, and what they have out of line is no longer than the message
 pub record ShowMembers (d : Shown) (index place : ℕ) (vs : Values) : Type 0 where
   pub typed : EachTyped (declarations_of d.table) (fields_at d index) vs
   pub placed : AreFieldsPlaced (declarations_of d.table) (message_of d.bytes d.handles) d.links
       (fields_at d index) 0 place vs
+  pub within : length (members (declarations_of d.table)
+      (size_of (declarations_of d.table) (ty.struct (fields_at d index))) 0 (fields_at d index)
+      vs).out ≤ length d.bytes
 
 -- some values are
 abbrev pub HaveMembers : Shown → (index place : ℕ) → Type 0
 HaveMembers d index place = (vs : Values) × ShowMembers d index place vs
+
+-- the type that the layout of a table's or union's entry gives the member of an ordinal, where it
+-- has that
+abbrev pub term_at : Shown → (index ordinal : ℕ) → Option Term
+term_at d index ordinal = find (members_of d.table index) ordinal
+
+-- the member is one of this ordinal in the layout of an entry, its envelope stands at the place, and
+-- it stands in the envelope or where the links say; what it has out of line is no longer than the
+-- message
+pub record ShowMember (d : Shown) (index ordinal place : ℕ) (x : Member) : Type 0 where
+  pub typed : IsTypedMember (declarations_of d.table) false (term_at d index ordinal) x
+  pub stands : Stands d.bytes place
+      (enveloped (declarations_of d.table) (term_at d index ordinal) x).inline
+  pub placed : IsMemberPlaced (declarations_of d.table) (message_of d.bytes d.handles) d.links
+      (term_at d index ordinal) place x
+  pub within : length (enveloped (declarations_of d.table) (term_at d index ordinal) x).out
+      ≤ length d.bytes
+
+-- some member is
+abbrev pub HaveMember : Shown → (index ordinal place : ℕ) → Type 0
+HaveMember d index ordinal place = (x : Member) × ShowMember d index ordinal place x

@@ -2,9 +2,10 @@
 use Rattle.std.specs.Prelude.{◌≢◌, ℕ, zero, suc, ◌==◌, Bool, true, false, if◌then◌else◌, ℤ, pos}
 use Rattle.std.specs.Prelude.{List, [], ◌∷◌, length, Option, Some, None}
 use Rattle.fidl_wire.specs.declared.handle.HandleInfo.{HandleInfo}
-use Rattle.fidl_wire.specs.declared.limits.TheConstants.{SAME_RIGHTS}
+use Rattle.fidl_limits.specs.declared.limits.TheConstants.{SAME_RIGHTS}
 use Rattle.fidl_wire.specs.Value.{Value, Values, absent, bool, number, text, list, fields, handle}
-use Rattle.fidl_wire.specs.Value.{none, value, count}
+use Rattle.fidl_wire.specs.Value.{none, value, count, table, union, Member, known, unknown, Members}
+use Rattle.fidl_wire.specs.Value.{empty, member}
 use Rattle.fidl_wire.specs.Term.{Term, Kind, uint8}
 use Rattle.fidl_wire.specs.Term as ty
 use Rattle.fidl_wire.specs.Figure.{Declarations}
@@ -62,10 +63,12 @@ abbrev pub bytes_of : Declarations → Term → Value → Option (List ℕ)
 bytes_of ds t (list vs) = bytes_if (encoding.element_of ds t) vs
 bytes_of ds t _ = None
 
--- how many elements an array or a vector has, and how many bytes a string
+-- how many elements an array or a vector has, how many bytes a string, and how many envelopes a
+-- table
 abbrev pub length_of : Value → Option ℕ
 length_of (list vs) = Some (count vs)
 length_of (text bytes) = Some (length bytes)
+length_of (table n ms) = Some n
 length_of _ = None
 
 -- the bytes of a string
@@ -108,6 +111,46 @@ elements_of _ = none
 abbrev pub field_of : Value → ℕ → Option Value
 field_of (fields vs) i = nth vs i
 field_of _ i = None
+
+-- a table's member at an ordinal
+abbrev pub at_ordinal : Members → ℕ → Option Member
+at_ordinal empty ordinal = None
+at_ordinal (member key x ms) ordinal = if key == ordinal then Some x else at_ordinal ms ordinal
+
+-- the value of a known member
+abbrev pub known_of : Member → Option Value
+known_of (known v) = Some v
+known_of _ = None
+
+-- the value of a member that is there and known
+abbrev pub known_in : Option Member → Option Value
+known_in None = None
+known_in (Some x) = known_of x
+
+-- the known member of a table at an ordinal
+abbrev pub member_of : Value → ℕ → Option Value
+member_of (table n ms) ordinal = known_in (at_ordinal ms ordinal)
+member_of _ ordinal = None
+
+-- a union's ordinal, and its member
+abbrev pub variant_of : Value → Option (ℕ × Member)
+variant_of (union ordinal x) = Some (ordinal, x)
+variant_of _ = None
+
+-- what a table or a union holds at an ordinal
+abbrev pub held_of : Value → ℕ → Option Member
+held_of (table n ms) ordinal = at_ordinal ms ordinal
+held_of (union key x) ordinal = if key == ordinal then Some x else None
+held_of _ ordinal = None
+
+-- a member that is there and unknown
+abbrev pub unknown_in : Option Member → Option Member
+unknown_in (Some (unknown inline bytes handles)) = Some (unknown inline bytes handles)
+unknown_in _ = None
+
+-- the unknown member of a table or a union at an ordinal
+abbrev pub unknown_of : Value → ℕ → Option Member
+unknown_of v ordinal = unknown_in (held_of v ordinal)
 
 -- no array, and no vector that is there
 abbrev pub IsNoList : Value → Type 0

@@ -1,8 +1,9 @@
 -- Views as parts of a message, and what an iterator of elements has left (docs/views.md, "Shows"
 -- and "Elements").
-use Rattle.std.specs.Prelude.{◌≡◌, ◌<◌, ℕ, ◌+◌, List, slice_range}
+use Rattle.std.specs.Prelude.{◌≡◌, ◌<◌, ℕ, ◌+◌, List, slice_range, Option, Some, None}
+use Rattle.std.specs.Prelude.{MatchOption}
 use Rattle.std.specs.Int.{w64}
-use Rattle.fidl_wire.specs.Value.{Value, Values, list, fields}
+use Rattle.fidl_wire.specs.Value.{Value, Values, list, fields, Member}
 use Rattle.fidl_wire.specs.Term.{Term}
 use Rattle.fidl_wire.specs.Term as ty
 use Rattle.fidl_wire.specs.Figure.{Declarations}
@@ -15,9 +16,11 @@ use Rattle.fidl_decode.specs.Model.{Shown}
 use Rattle.fidl_view.specs.declared.view.View.{View}
 use Rattle.fidl_view.specs.declared.elements.Elements.{Elements}
 use Rattle.fidl_view.specs.declared.structs.Members.{Members}
+use Rattle.fidl_view.specs.declared.envelope.Envelope.{Envelope}
+use Rattle.fidl_view.specs.Parts.{known_of}
 use Rattle.fidl_view.specs.Shows.{Shows, type_of}
 use Rattle.fidl_view.specs.Elements.{Part, part, parts_from, ShowEach}
-use Rattle.fidl_view.specs.Members.{ShowMembers}
+use Rattle.fidl_view.specs.Members.{ShowMembers, ShowMember}
 
 -- what a view is seen as
 abbrev pub part_of : View → Part
@@ -86,3 +89,17 @@ message_held members = members.decoded.now
 abbrev pub ShowsMembersOf : Value → Members → Type 0
 ShowsMembersOf v members = (vs : Values) × (v ≡ fields vs)
     × ShowMembers members.decoded.now members.index members.place vs
+
+-- the decoded message of an envelope
+abbrev pub message_in : Envelope → Shown
+message_in envelope = envelope.decoded.now
+
+-- the member is the one that the envelope holds
+abbrev pub IsHeldBy : Envelope → Member → Type 0
+IsHeldBy envelope x =
+    ShowMember envelope.decoded.now envelope.index envelope.ordinal envelope.place x
+
+-- of a known member there is a view, which shows its value, and of an unknown one none
+abbrev pub ShowsKnown : Option View → Member → Type 0
+ShowsKnown found x = MatchOption found (known_of x ≡ None)
+    (λ part. (v : Value) × (known_of x ≡ Some v) × IsShownBy part v)

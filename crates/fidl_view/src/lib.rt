@@ -3,8 +3,10 @@
 #![tactic(auto)]
 
 mod elements;
+mod envelope;
 mod handle;
 mod kind;
+mod layouts;
 mod list;
 mod number;
 mod structs;
@@ -14,5 +16,6 @@ mod views;
 pub mod worked;
 
 pub use elements::Elements;
+pub use envelope::Unknown;
 pub use view::View;
 pub use views::Views;

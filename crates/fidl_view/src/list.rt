@@ -1,4 +1,4 @@
-//! What a view answers of arrays and vectors.
+//! What a view answers of arrays and vectors, and the lengths of what has one.
 ghost use Rattle.std.specs.Prelude.{◌≡◌, Some, None, IfSome, MatchOption};
 ghost use Rattle.std.specs.Option.{option_copied};
 ghost use Rattle.fidl_wire.specs.Value.{Value};
@@ -97,17 +97,20 @@ impl<'v, 'm> View<'v, 'm> {
         }
     }
 
-    /// How many elements an array or a vector has, and how many bytes a string; none of an absent
-    /// one, and of another kind.
+    /// How many elements an array or a vector has, how many bytes a string, and how many envelopes a
+    /// table; none of an absent one, and of another kind.
     pub fn len(self) -> Option<usize>
         ensures { (v : Value) → IsShownBy self.entry v → result ≡ length_of v }
     {
         if let Some(elements) = self.list() {
             return Some(elements.left);
         }
-        match self.as_str() {
-            Some(text) => Some(text.len()),
-            None => None,
+        if let Some(text) = self.as_str() {
+            return Some(text.len());
+        }
+        match self.kind() {
+            EntryKind::Table => Some(u64_at(self.decoded.bytes(), self.place) as usize),
+            _ => None,
         }
     }
 

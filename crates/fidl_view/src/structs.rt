@@ -1,7 +1,7 @@
 //! What a view answers of structs and boxes.
 ghost use Rattle.std.specs.Prelude.{◌≡◌, ◌<◌, ◌≤◌, length, Some, None, IfSome, MatchOption};
 ghost use Rattle.fidl_wire.specs.Value.{Value};
-ghost use Rattle.fidl_wire.specs.declared.limits.TheConstants.{MAX_MESSAGE_BYTES};
+ghost use Rattle.fidl_limits.specs.declared.limits.TheConstants.{MAX_MESSAGE_BYTES};
 ghost use Rattle.fidl_records.specs.declared.kind.EntryKind.TheVariants as EntryKind;
 ghost use Rattle.fidl_records.specs.Section.{header_of, entry_at};
 ghost use Rattle.fidl_records.specs.Entry.{IsOf};

@@ -2,14 +2,16 @@
 //! answer.
 ghost use Rattle.std.specs.Prelude.{◌≡◌, ℤ, pos, negsuc, [], ◌∷◌, true, false, Some, None};
 ghost use Rattle.fidl_wire.specs.declared.handle.HandleInfo.{HandleInfo};
-ghost use Rattle.fidl_wire.specs.declared.limits.TheConstants.{SAME_RIGHTS};
+ghost use Rattle.fidl_limits.specs.declared.limits.TheConstants.{SAME_RIGHTS};
 ghost use Rattle.fidl_wire.specs.Value.{Value, absent, bool, number, text, list, fields};
-ghost use Rattle.fidl_wire.specs.Value.{handle, none, value};
+ghost use Rattle.fidl_wire.specs.Value.{handle, none, value, table, union, known, unknown};
+ghost use Rattle.fidl_wire.specs.Value.{member, empty};
 ghost use Rattle.fidl_wire.specs.Term.{uint8, uint16, int8};
 ghost use Rattle.fidl_wire.specs.Term as ty;
 ghost use Rattle.fidl_view.specs.Parts.{absence_of, bool_of, unsigned_of, signed_of, octets};
 ghost use Rattle.fidl_view.specs.Parts.{bytes_if, length_of, string_of, handle_of, granted_of};
 ghost use Rattle.fidl_view.specs.Parts.{element_of, field_of, IsNoList, IsNoStruct};
+ghost use Rattle.fidl_view.specs.Parts.{member_of, variant_of, known_of, unknown_of};
 ghost use Rattle.fidl_view.specs.Views.{IsOnly};
 
 /// Only what is absent is absent: no text of no bytes, no list without elements, and no zero.
@@ -37,10 +39,12 @@ pub fn numbers()
     ensures of_bits { unsigned_of (ty.bits uint16 None) (number (pos 3)) ≡ Some 3 }
 {}
 
-/// A list has as many elements as it has, and a text as many bytes; nothing else has a length.
+/// A list has as many elements as it has, a text as many bytes, and a table as many envelopes as it
+/// counts; nothing else has a length.
 pub fn lengths()
     ensures of_a_list { length_of (list (value (bool true) (value (bool true) none))) ≡ Some 2 }
     ensures of_a_text { length_of (text (65 ∷ [])) ≡ Some 1 }
+    ensures of_a_table { length_of (table 3 empty) ≡ Some 3 }
     ensures of_an_absent_one { length_of absent ≡ None }
     ensures of_a_struct { length_of (fields (value (bool true) none)) ≡ None }
 {}
@@ -79,6 +83,34 @@ pub fn texts()
     ensures of_one_byte { string_of (text (65 ∷ [])) ≡ Some (65 ∷ []) }
     ensures absent { string_of absent ≡ None }
     ensures of_a_list { string_of (list (value (number (pos 65)) none)) ≡ None }
+{}
+
+/// A table's known member is found by its ordinal, and a union's at no ordinal; an unknown member is
+/// no known one.
+pub fn members_by_ordinal()
+    ensures known { member_of (table 3 (member 2 (known (bool true)) empty)) 2 ≡ Some (bool true) }
+    ensures absent { member_of (table 3 (member 2 (known (bool true)) empty)) 3 ≡ None }
+    ensures zero { member_of (table 3 (member 2 (known (bool true)) empty)) 0 ≡ None }
+    ensures unknown { member_of (table 3 (member 2 (unknown true [] []) empty)) 2 ≡ None }
+    ensures of_a_union { member_of (union 2 (known (bool true))) 2 ≡ None }
+{}
+
+/// A union has its ordinal and its member, and nothing else has one.
+pub fn variants()
+    ensures known { variant_of (union 2 (known (bool true))) ≡ Some (2, known (bool true)) }
+    ensures absent { variant_of absent ≡ None }
+    ensures of_a_table { variant_of (table 2 (member 2 (known (bool true)) empty)) ≡ None }
+    ensures value { known_of (known (bool true)) ≡ Some (bool true) }
+    ensures no_value { known_of (unknown true [] []) ≡ None }
+{}
+
+/// An unknown member is that of a table or a union at its own ordinal, and no known member is one.
+pub fn unknown_members()
+    ensures of_a_table { unknown_of (table 2 (member 2 (unknown false [] []) empty)) 2
+        ≡ Some (unknown false [] []) }
+    ensures of_a_union { unknown_of (union 2 (unknown true [] [])) 2 ≡ Some (unknown true [] []) }
+    ensures elsewhere { unknown_of (union 2 (unknown true [] [])) 1 ≡ None }
+    ensures known { unknown_of (union 2 (known (bool true))) 2 ≡ None }
 {}
 
 /// A handle is granted the rights that its type requires, or those that came where it requires the

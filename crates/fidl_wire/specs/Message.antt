@@ -1,8 +1,8 @@
 -- The message of a value, and which messages encode a value (docs/wire.md, "Messages").
 use Rattle.std.specs.Prelude.{◌≡◌, ◌≤◌, ℕ, List, length}
 use Rattle.fidl_wire.specs.declared.handle.HandleInfo.{HandleInfo}
-use Rattle.fidl_wire.specs.declared.limits.TheConstants.{MAX_MESSAGE_BYTES, MAX_MESSAGE_HANDLES}
-use Rattle.fidl_wire.specs.declared.limits.TheConstants.{MAX_DEPTH}
+use Rattle.fidl_limits.specs.declared.limits.TheConstants.{MAX_MESSAGE_BYTES, MAX_MESSAGE_HANDLES}
+use Rattle.fidl_limits.specs.declared.limits.TheConstants.{MAX_DEPTH}
 use Rattle.fidl_wire.specs.Value.{Value}
 use Rattle.fidl_wire.specs.Term.{Term}
 use Rattle.fidl_wire.specs.Figure.{Declarations}

@@ -5,7 +5,7 @@ use Rattle.std.specs.Prelude.{Contains, bit_and, bit_or, FitsSigned}
 use Rattle.std.specs.Int.{w8, w16, w32, w64, FitsUnsignedBits}
 use Rattle.std.specs.List.{AllByRecursion}
 use Rattle.fidl_wire.specs.declared.handle.HandleInfo.{HandleInfo}
-use Rattle.fidl_wire.specs.declared.limits.TheConstants.{SAME_RIGHTS}
+use Rattle.fidl_limits.specs.declared.limits.TheConstants.{SAME_RIGHTS}
 use Rattle.fidl_wire.specs.Value.{Value, absent, bool, number, text, list, fields, handle, table}
 use Rattle.fidl_wire.specs.Value.{union, Values, none, value, Member, known, unknown, Members}
 use Rattle.fidl_wire.specs.Value.{empty, member, count}

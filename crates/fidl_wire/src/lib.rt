@@ -5,18 +5,17 @@
 mod bytes;
 mod handle;
 pub mod laws;
-mod limits;
 mod marker;
 pub mod refused;
 mod value;
 pub mod worked;
 
 pub use bytes::Bytes;
-pub use handle::{HandleInfo, Handles};
-pub use limits::{
+pub use fidl_limits::{
     MAX_DEPTH, MAX_ENTRIES, MAX_INLINE_SIZE, MAX_LAYOUT_MEMBERS, MAX_MESSAGE_BYTES,
     MAX_MESSAGE_HANDLES, MAX_NEST, MAX_SERVICE_READS, MAX_SOURCE_BRACKETS, MAX_TABLE_ORDINAL,
     MAX_TEXT_BRACKETS, SAME_RIGHTS, STACK_PLACES, STEPS_PER_BYTE,
 };
+pub use handle::{HandleInfo, Handles};
 pub use marker::{Presence, presence_at};
 pub use value::{Content, Member, Members, Value, Values};

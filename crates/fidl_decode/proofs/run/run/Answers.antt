@@ -1,12 +1,12 @@
-use Rattle.std.proofs.Common.{rules, refl, false, true, ◌≡◌, ◌++◌, ◌<◌, List, length, sym, ap, ◌∙◌, subst, arith}
+use Rattle.std.proofs.Common.{rules, refl, false, true, ◌≡◌, ◌+◌, ◌++◌, ◌<◌, List, length, sym, ap, ◌∙◌, subst, arith}
 use Rattle.std.specs.Option.{option_to_list}
 use Rattle.fidl_decode.specs.declared.frame.Frame.{Frame}
 use Rattle.fidl_decode.specs.State.{At}
 use Rattle.fidl_decode.specs.declared.fault.DecodeFault.{DecodeFault}
-use Rattle.fidl_decode.specs.Machine.{IsWhole, at_of, BreaksFrame, BreaksStack, IsStopped, Finishes, StackFine, work}
+use Rattle.fidl_decode.specs.Machine.{IsWhole, at_of, BreaksFrame, BreaksStack, IsStopped, Finishes, StackFine, height, work}
 use Rattle.fidl_decode.specs.Faults.{message_of}
 use Rattle.fidl_decode.proofs.Turning.{on_err}
-use Rattle.fidl_decode.proofs.Running.{read_all, stack_work_top, fine_top, height_room, length_if, turn_same, turn_fine, turn_less, finishes_top, top_breaks, turn_breaks}
+use Rattle.fidl_decode.proofs.Running.{read_all, stack_work_top, fine_top, room_if, length_if, turn_same, turn_fine, turn_less, finishes_top, top_breaks, turn_breaks}
 use Rattle.fidl_decode.proofs.Refusing.{broken_stopped}
 use Rattle.fidl_decode.proofs.run.run.Goals as goal
 
@@ -28,13 +28,13 @@ returns-in_err-turn-clause-err c =
 pub push_if-requires : goal.push_if-requires
 push_if-requires c =
     let top = fine_top c.args.decoder.now.table.now (message_of c.args.decoder.now.bytes.now c.args.decoder.now.handles.now) 0 c.pop.new.self.items c.in-Some.frame (subst (λ (l : List Frame). StackFine c.args.decoder.now.table.now c.args.decoder.now.bytes.now 0 l) c.in-Some.ensures.items c.loop-frame.invariant.fine) in
-    omega (arith, top.2, height_room c.args.decoder.now.table.now (message_of c.args.decoder.now.bytes.now c.args.decoder.now.handles.now) c.in-Some.frame top.1)
+    room_if c.args.decoder.now.table.now (message_of c.args.decoder.now.bytes.now c.args.decoder.now.handles.now) (height c.in-Some.frame) (length c.pop.new.self.items) c.in_ok-turn.turn.rest c.in_ok-turn.ensures.ok.rest_fine (omega (arith, top.2))
 
 pub push_if-requires-in-Some : goal.push_if-requires-in-Some
 push_if-requires-in-Some c =
     let top = fine_top c.args.decoder.now.table.now (message_of c.args.decoder.now.bytes.now c.args.decoder.now.handles.now) 0 c.pop.new.self.items c.in-Some.frame (subst (λ (l : List Frame). StackFine c.args.decoder.now.table.now c.args.decoder.now.bytes.now 0 l) c.in-Some.ensures.items c.loop-frame.invariant.fine) in
     let one = ap length c.push_if.ensures in
-    omega (arith, top.2, height_room c.args.decoder.now.table.now (message_of c.args.decoder.now.bytes.now c.args.decoder.now.handles.now) c.in-Some.frame top.1, one, length_if c.args.decoder.now.table.now (message_of c.args.decoder.now.bytes.now c.args.decoder.now.handles.now) c.pop.new.self.items c.in_ok-turn.turn.rest)
+    room_if c.args.decoder.now.table.now (message_of c.args.decoder.now.bytes.now c.args.decoder.now.handles.now) (height c.in-Some.frame + 1) (length c.push_if.new.stack.items) c.in_ok-turn.turn.below c.in_ok-turn.ensures.ok.below_fine (omega (arith, top.2, one, length_if c.args.decoder.now.table.now (message_of c.args.decoder.now.bytes.now c.args.decoder.now.handles.now) c.pop.new.self.items c.in_ok-turn.turn.rest))
 
 pub loop-frame-smaller : goal.loop-frame-smaller
 loop-frame-smaller c =

@@ -1,6 +1,6 @@
 use Rattle.std.proofs.Common.{◌≡◌, ℕ, ◌+◌, ◌<◌, ◌≤◌, take}
 use Rattle.std.specs.List.{count_by}
-use Rattle.fidl_wire.specs.declared.limits.TheConstants.{MAX_SOURCE_BRACKETS}
+use Rattle.fidl_limits.specs.declared.limits.TheConstants.{MAX_SOURCE_BRACKETS}
 use Rattle.fidl_tree.specs.Brackets.{opens, closes}
 use Rattle.fidl_parse.proofs.nesting.nesting_end.Given as goal
 

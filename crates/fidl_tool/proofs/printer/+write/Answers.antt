@@ -320,7 +320,7 @@ write_members-returns-in_err-write_value-clause-text g t c n vs p =
 pub write_value-unwrap-kind-requires : goal.write_value-unwrap-kind-requires
 write_value-unwrap-kind-requires g t c =
     let k = entries.kind_at c.args.table.now c.entry-entry.ensures.well_formed c.args.index c.requires.index in
-    subst (λ (o : Option EntryKind). IsSome o) (sym (c.from_number.ensures ∙ ap (λ (e : Entry). kind_of e.kind) c.entry-entry.ensures.value ∙ k.2)) refl
+    subst (λ (o : Option EntryKind). IsSome o) (sym (c.from_number.ensures ∙ ap (λ (e : Entry). kind_of e.kind) c.entry-entry.ensures.value ∙ k.1)) refl
 
 pub write_value-write_bool-requires : goal.write_value-write_bool-requires
 write_value-write_bool-requires g t c =
@@ -397,7 +397,7 @@ write_value-write_number-requires g t c =
     let i = c.args.index in
     let lt = c.requires.index in
     let is : IsOf c.unwrap-kind.result (entry_at b i) = sym (c.from_number.ensures ∙ ap (λ (e : Entry). kind_of e.kind) c.entry-entry.ensures.value) ∙ c.unwrap-kind.ensures in
-    let number = printing.number_kind b (header_of b) (entry_at b i) c.unwrap-kind.result (entries.known_at b w i lt c.unwrap-kind.result is) c.in_default.not-Bool c.in_default.not-Array c.in_default.not-Struct c.in_default.not-String c.in_default.not-Handle c.in_default.not-Vector c.in_default.not-Box in
+    let number = printing.number_kind b (header_of b) (entry_at b i) c.unwrap-kind.result c.in_default.not-Bool c.in_default.not-Array c.in_default.not-Struct c.in_default.not-String c.in_default.not-Handle c.in_default.not-Vector c.in_default.not-Box c.in_default.not-Table c.in_default.not-Union in
     record {
       well_formed = subst (λ (t : List ℕ). WellFormed t) (sym c.requires.table) w;
       part = (declarations_of b, term_as c.unwrap-kind.result b (header_of b) (entry_at b i), number, (c.requires.part.0, part_as _ _ _ _ _ (entries.term_at b w i lt c.unwrap-kind.result is) c.requires.part.1));
@@ -478,7 +478,7 @@ write_value-returns-in_default-clause-text g t c v p =
     let i = c.args.index in
     let lt = c.requires.index in
     let is : IsOf c.unwrap-kind.result (entry_at b i) = sym (c.from_number.ensures ∙ ap (λ (e : Entry). kind_of e.kind) c.entry-entry.ensures.value) ∙ c.unwrap-kind.ensures in
-    let number = printing.number_kind b (header_of b) (entry_at b i) c.unwrap-kind.result (entries.known_at b w i lt c.unwrap-kind.result is) c.in_default.not-Bool c.in_default.not-Array c.in_default.not-Struct c.in_default.not-String c.in_default.not-Handle c.in_default.not-Vector c.in_default.not-Box in
+    let number = printing.number_kind b (header_of b) (entry_at b i) c.unwrap-kind.result c.in_default.not-Bool c.in_default.not-Array c.in_default.not-Struct c.in_default.not-String c.in_default.not-Handle c.in_default.not-Vector c.in_default.not-Box c.in_default.not-Table c.in_default.not-Union in
     let e = entries.term_at b w i lt c.unwrap-kind.result is in
     subst (λ (u : Term). Writes (g.W.Write.contents c.args.out.now.writer) (g.W.Write.contents c.write_number.new.out.writer) (text_of (declarations_of b) u v) c.write_number.result) (sym e) (c.write_number.ensures.text (declarations_of b) (term_as c.unwrap-kind.result b (header_of b) (entry_at b i)) number v (part_as _ _ _ _ _ e p))
 
@@ -530,3 +530,6 @@ write_box-returns-clause-text g t c v p =
     let ty' = ty.box (ty.named c.args.index) in
     let x = entries.members_of_box c.args.table.now c.requires.well_formed c.args.index c.requires.index c.requires.of_struct c.args.view v p (sym c.if-is_absent.false ∙ c.is_absent.ensures v p.shown) in
     subst (λ (u : Value). Writes (g.W.Write.contents c.args.out.now.writer) (g.W.Write.contents c.write_members.new.out.writer) (text_of (declarations_of c.args.table.now) ty' u) c.write_members.result) (sym x.1) (c.write_members.ensures.text ty' x.0 x.2)
+
+pub write_value-returns-in-Table-clause-text : goal.write_value-returns-in-Table-clause-text
+write_value-returns-in-Table-clause-text g t c v p = c.fail_unsupported.ensures.text _

@@ -1,7 +1,7 @@
 use Rattle.std.proofs.Common.{◌+◌, arith, take, replicate}
 use Rattle.std.proofs.lemmas.List.{length-take, length-replicate}
 use Rattle.std.proofs.lemmas.List.Sums.{count_by-le-length}
-use Rattle.fidl_wire.specs.declared.limits.TheConstants.{MAX_SOURCE_BRACKETS}
+use Rattle.fidl_limits.specs.declared.limits.TheConstants.{MAX_SOURCE_BRACKETS}
 use Rattle.fidl_tree.specs.Brackets.{opens, parenthesis}
 use Rattle.fidl_tree.proofs.laws.bracket_limit_is_sixty_four.Goals as goal
 

@@ -1,5 +1,5 @@
 use Rattle.std.proofs.Common.{◌≡◌, refl, []}
-use Rattle.fidl_wire.specs.Value.{Value, absent, text}
+use Rattle.fidl_wire.specs.Value.{absent, text}
 use Rattle.fidl_view.proofs.worked.only_values.Goals as goal
 
 unlike : text [] ≡ absent → ⊥

@@ -33,7 +33,7 @@ pub returns-in_err-read_leaf-clause-err : goal.returns-in_err-read_leaf-clause-e
 returns-in_err-read_leaf-clause-err c =
     let is = c.loop-i.invariant.turns.rest_fine.0.left in
     let one = elements_next c.args.self.now.table.now c.args.entry c.args.size c.loop-i.i c.args.count c.loop-i.done is c.loop-i-test.true in
-    on_err _ ((to : At) → Reads c.args.self.now.table.now (message_of c.args.self.now.bytes.now c.args.self.now.handles.now) c.args.frame (at_of c.args.state.now) to → ⊥) (next_leaf_refused c.args.self.now.table.now c.requires.table (message_of c.args.self.now.bytes.now c.args.self.now.handles.now) c.args.frame (at_of c.args.state.now) (at_of c.loop-i.state) (c.loop-i.state.steps - c.args.state.now.steps) (going_on c.args.frame (Elements c.args.entry c.args.size (c.args.count - c.loop-i.i)) c.loop-i.done) c.loop-i.invariant.turns (let x : Row = record { offset = c.loop-i.done; entry = c.args.entry } in x) (Elements c.args.entry c.args.size (c.args.count - (c.loop-i.i + 1))) one c.in_err-read_leaf.ensures.err)
+    on_err _ ((to : At) → Reads c.args.self.now.table.now (message_of c.args.self.now.bytes.now c.args.self.now.handles.now) c.args.frame (at_of c.args.state.now) to → ⊥) (next_leaf_refused c.args.self.now.table.now c.requires.table (message_of c.args.self.now.bytes.now c.args.self.now.handles.now) c.args.frame (at_of c.args.state.now) (at_of c.loop-i.state) (c.loop-i.state.steps - c.args.state.now.steps) (going_on c.args.frame (Elements c.args.entry c.args.size (c.args.count - c.loop-i.i)) c.loop-i.done) c.loop-i.invariant.turns (let x : Row = record { offset = c.loop-i.done; entry = c.args.entry } in x) (Elements c.args.entry c.args.size (c.args.count - (c.loop-i.i + 1))) one tt c.in_err-read_leaf.ensures.err)
 
 pub overflow_add-done : goal.overflow_add-done
 overflow_add-done c =
@@ -53,7 +53,7 @@ loop-i-preserved c =
     let own = next_size c.args.self.now.table.now c.requires.table (message_of c.args.self.now.bytes.now c.args.self.now.handles.now) c.args.frame (at_of c.args.state.now) (at_of c.loop-i.state) (c.loop-i.state.steps - c.args.state.now.steps) (going_on c.args.frame (Elements c.args.entry c.args.size (c.args.count - c.loop-i.i)) c.loop-i.done) c.loop-i.invariant.turns (let x : Row = record { offset = c.loop-i.done; entry = c.args.entry } in x) (Elements c.args.entry c.args.size (c.args.count - (c.loop-i.i + 1))) one in
     let none : c.args.frame.base + c.loop-i.done - (c.args.frame.base + c.loop-i.done) ≡ 0 = omega arith in
     let so_far = c.loop-i.invariant.steps in
-    record { turns = next_turns c.args.self.now.table.now c.requires.table (message_of c.args.self.now.bytes.now c.args.self.now.handles.now) c.args.frame (at_of c.args.state.now) (at_of c.loop-i.state) (c.loop-i.state.steps - c.args.state.now.steps) (going_on c.args.frame (Elements c.args.entry c.args.size (c.args.count - c.loop-i.i)) c.loop-i.done) c.loop-i.invariant.turns (let x : Row = record { offset = c.loop-i.done; entry = c.args.entry } in x) (Elements c.args.entry c.args.size (c.args.count - (c.loop-i.i + 1))) one is (at_of c.read_leaf.new.state) (c.loop-i.done + c.args.size) _ (c.read_leaf.new.state.steps - c.args.state.now.steps) (omega (arith, own, is)) (omega (arith, c.in_ok-read_leaf.ensures.grows, so_far)) (no_zeros c.args.self.now.bytes.now (c.args.frame.base + c.loop-i.done) _ none) c.in_ok-read_leaf.ensures.ok; steps = omega (arith, c.in_ok-read_leaf.ensures.grows, so_far) }
+    record { turns = next_turns c.args.self.now.table.now c.requires.table (message_of c.args.self.now.bytes.now c.args.self.now.handles.now) c.args.frame (at_of c.args.state.now) (at_of c.loop-i.state) (c.loop-i.state.steps - c.args.state.now.steps) (going_on c.args.frame (Elements c.args.entry c.args.size (c.args.count - c.loop-i.i)) c.loop-i.done) c.loop-i.invariant.turns (let x : Row = record { offset = c.loop-i.done; entry = c.args.entry } in x) (Elements c.args.entry c.args.size (c.args.count - (c.loop-i.i + 1))) one tt is tt (at_of c.read_leaf.new.state) (c.loop-i.done + c.args.size) _ (c.read_leaf.new.state.steps - c.args.state.now.steps) (omega (arith, own, is)) (omega (arith, c.in_ok-read_leaf.ensures.grows, so_far)) (no_zeros c.args.self.now.bytes.now (c.args.frame.base + c.loop-i.done) _ none) c.in_ok-read_leaf.ensures.ok; steps = omega (arith, c.in_ok-read_leaf.ensures.grows, so_far) }
 
 pub overflow_add-at : goal.overflow_add-at
 overflow_add-at c =
@@ -80,23 +80,23 @@ pub returns-clause-ok : goal.returns-clause-ok
 returns-clause-ok c =
     let over = elements_over c.args.self.now.table.now c.args.entry c.args.size c.loop-i.i c.args.count c.loop-i.done (omega (arith, c.loop-i-test.false)) in
     let so_far = c.loop-i.invariant.steps in
-    on_ok_from c.zeros_at.result (λ z. over_turns c.args.self.now.table.now c.requires.table (message_of c.args.self.now.bytes.now c.args.self.now.handles.now) c.args.frame (at_of c.args.state.now) (at_of c.loop-i.state) (c.loop-i.state.steps - c.args.state.now.steps) (going_on c.args.frame (Elements c.args.entry c.args.size (c.args.count - c.loop-i.i)) c.loop-i.done) c.loop-i.invariant.turns over _ (omega (arith, so_far)) z) c.zeros_at.ensures.ok
+    on_ok_from c.zeros_at.result (λ z. over_turns c.args.self.now.table.now c.requires.table (message_of c.args.self.now.bytes.now c.args.self.now.handles.now) c.args.frame (at_of c.args.state.now) (at_of c.loop-i.state) (c.loop-i.state.steps - c.args.state.now.steps) (going_on c.args.frame (Elements c.args.entry c.args.size (c.args.count - c.loop-i.i)) c.loop-i.done) c.loop-i.invariant.turns over tt _ (omega (arith, so_far)) z) c.zeros_at.ensures.ok
 
 pub returns-clause-err : goal.returns-clause-err
 returns-clause-err c =
     let over = elements_over c.args.self.now.table.now c.args.entry c.args.size c.loop-i.i c.args.count c.loop-i.done (omega (arith, c.loop-i-test.false)) in
-    on_err_weaker c.zeros_at.result (λ bad. over_refused c.args.self.now.table.now c.requires.table (message_of c.args.self.now.bytes.now c.args.self.now.handles.now) c.args.frame (at_of c.args.state.now) (at_of c.loop-i.state) (c.loop-i.state.steps - c.args.state.now.steps) (going_on c.args.frame (Elements c.args.entry c.args.size (c.args.count - c.loop-i.i)) c.loop-i.done) c.loop-i.invariant.turns over bad) c.zeros_at.ensures.err
+    on_err_weaker c.zeros_at.result (λ bad. over_refused c.args.self.now.table.now c.requires.table (message_of c.args.self.now.bytes.now c.args.self.now.handles.now) c.args.frame (at_of c.args.state.now) (at_of c.loop-i.state) (c.loop-i.state.steps - c.args.state.now.steps) (going_on c.args.frame (Elements c.args.entry c.args.size (c.args.count - c.loop-i.i)) c.loop-i.done) c.loop-i.invariant.turns over tt bad) c.zeros_at.ensures.err
 
 pub returns-in_err-read_leaf-clause-told : goal.returns-in_err-read_leaf-clause-told
 returns-in_err-read_leaf-clause-told c =
     let is = c.loop-i.invariant.turns.rest_fine.0.left in
     let one = elements_next c.args.self.now.table.now c.args.entry c.args.size c.loop-i.i c.args.count c.loop-i.done is c.loop-i-test.true in
-    let h = (next_leaf_breaks c.args.self.now.table.now c.requires.table (message_of c.args.self.now.bytes.now c.args.self.now.handles.now) c.args.frame (at_of c.args.state.now) (at_of c.loop-i.state) (c.loop-i.state.steps - c.args.state.now.steps) (going_on c.args.frame (Elements c.args.entry c.args.size (c.args.count - c.loop-i.i)) c.loop-i.done) c.loop-i.invariant.turns (let x : Row = record { offset = c.loop-i.done; entry = c.args.entry } in x) (Elements c.args.entry c.args.size (c.args.count - (c.loop-i.i + 1))) one _ (no_zeros c.args.self.now.bytes.now (c.args.frame.base + c.loop-i.done) _ (let none : (c.args.frame.base + c.loop-i.done) - (c.args.frame.base + c.loop-i.done) ≡ 0 = omega arith in none)) c.in_err-read_leaf.ensures.told) in search (rules, h)
+    let h = (next_leaf_breaks c.args.self.now.table.now c.requires.table (message_of c.args.self.now.bytes.now c.args.self.now.handles.now) c.args.frame (at_of c.args.state.now) (at_of c.loop-i.state) (c.loop-i.state.steps - c.args.state.now.steps) (going_on c.args.frame (Elements c.args.entry c.args.size (c.args.count - c.loop-i.i)) c.loop-i.done) c.loop-i.invariant.turns (let x : Row = record { offset = c.loop-i.done; entry = c.args.entry } in x) (Elements c.args.entry c.args.size (c.args.count - (c.loop-i.i + 1))) one tt _ (no_zeros c.args.self.now.bytes.now (c.args.frame.base + c.loop-i.done) _ (let none : (c.args.frame.base + c.loop-i.done) - (c.args.frame.base + c.loop-i.done) ≡ 0 = omega arith in none)) c.in_err-read_leaf.ensures.told) in search (rules, h)
 
 pub returns-clause-told : goal.returns-clause-told
 returns-clause-told c =
     let over = elements_over c.args.self.now.table.now c.args.entry c.args.size c.loop-i.i c.args.count c.loop-i.done (omega (arith, c.loop-i-test.false)) in
-    IfErr-weaker c.zeros_at.result _ _ (λ fault bad. over_breaks c.args.self.now.table.now c.requires.table (message_of c.args.self.now.bytes.now c.args.self.now.handles.now) c.args.frame (at_of c.args.state.now) (at_of c.loop-i.state) (c.loop-i.state.steps - c.args.state.now.steps) (going_on c.args.frame (Elements c.args.entry c.args.size (c.args.count - c.loop-i.i)) c.loop-i.done) c.loop-i.invariant.turns over fault bad) c.zeros_at.ensures.told
+    IfErr-weaker c.zeros_at.result _ _ (λ fault bad. over_breaks c.args.self.now.table.now c.requires.table (message_of c.args.self.now.bytes.now c.args.self.now.handles.now) c.args.frame (at_of c.args.state.now) (at_of c.loop-i.state) (c.loop-i.state.steps - c.args.state.now.steps) (going_on c.args.frame (Elements c.args.entry c.args.size (c.args.count - c.loop-i.i)) c.loop-i.done) c.loop-i.invariant.turns over tt fault bad) c.zeros_at.ensures.told
 
 pub returns-in_err-read_leaf-clause-cost : goal.returns-in_err-read_leaf-clause-cost
 returns-in_err-read_leaf-clause-cost c =

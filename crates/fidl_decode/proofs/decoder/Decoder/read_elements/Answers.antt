@@ -87,7 +87,7 @@ returns-in_err-zeros_at-clause-err c =
     let free : is_free c.in-Some.kind (entry_at c.args.self.now.table.now c.args.entry) ≡ true = (let r = ap (λ (d : Entry). is_free c.in-Some.kind d) (sym c.entry-e.ensures.value) ∙ sym c.is_free.ensures in search (rules, r, c.if-not-is_free.false)) in
     let any = free_turns c.args.self.now.table.now c.requires.table (message_of c.args.self.now.bytes.now c.args.self.now.handles.now) c.args.frame (at_of c.args.state.now) c.requires.frame c.requires.state c.args.entry c.args.size c.args.count c.requires.left c.in-Some.kind (ap (λ (e : Entry). kind_of e.kind) (sym c.entry-e.ensures.value) ∙ sym c.from_number.ensures ∙ c.in-Some.is) free (λ i. omega (arith, c.args.self.now.octets i)) in
     let there : c.args.frame.base + c.args.frame.done + c.args.size * c.args.count ≡ c.args.frame.base + (c.args.frame.done + c.args.size * c.args.count) = omega arith in
-    on_err _ ((to : At) → Reads c.args.self.now.table.now (message_of c.args.self.now.bytes.now c.args.self.now.handles.now) c.args.frame (at_of c.args.state.now) to → ⊥) (over_refused c.args.self.now.table.now c.requires.table (message_of c.args.self.now.bytes.now c.args.self.now.handles.now) c.args.frame (at_of c.args.state.now) (at_of c.args.state.now) 0 (going_on c.args.frame (Elements c.args.entry c.args.size 0) (c.args.frame.done + c.args.size * c.args.count)) any refl (λ z. c.in_err-zeros_at.ensures.err (subst (λ k. Stands c.args.self.now.bytes.now k (zeros (c.args.frame.base + c.args.frame.size - k))) (sym there) z)))
+    on_err _ ((to : At) → Reads c.args.self.now.table.now (message_of c.args.self.now.bytes.now c.args.self.now.handles.now) c.args.frame (at_of c.args.state.now) to → ⊥) (over_refused c.args.self.now.table.now c.requires.table (message_of c.args.self.now.bytes.now c.args.self.now.handles.now) c.args.frame (at_of c.args.state.now) (at_of c.args.state.now) 0 (going_on c.args.frame (Elements c.args.entry c.args.size 0) (c.args.frame.done + c.args.size * c.args.count)) any refl tt (λ z. c.in_err-zeros_at.ensures.err (subst (λ k. Stands c.args.self.now.bytes.now k (zeros (c.args.frame.base + c.args.frame.size - k))) (sym there) z)))
 
 pub returns-in_err-zeros_at-clause-cost : goal.returns-in_err-zeros_at-clause-cost
 returns-in_err-zeros_at-clause-cost c =
@@ -105,7 +105,7 @@ returns-clause-ok c =
     let free : is_free c.in-Some.kind (entry_at c.args.self.now.table.now c.args.entry) ≡ true = (let r = ap (λ (d : Entry). is_free c.in-Some.kind d) (sym c.entry-e.ensures.value) ∙ sym c.is_free.ensures in search (rules, r, c.if-not-is_free.false)) in
     let any = free_turns c.args.self.now.table.now c.requires.table (message_of c.args.self.now.bytes.now c.args.self.now.handles.now) c.args.frame (at_of c.args.state.now) c.requires.frame c.requires.state c.args.entry c.args.size c.args.count c.requires.left c.in-Some.kind (ap (λ (e : Entry). kind_of e.kind) (sym c.entry-e.ensures.value) ∙ sym c.from_number.ensures ∙ c.in-Some.is) free (λ i. omega (arith, c.args.self.now.octets i)) in
     let there : c.args.frame.base + c.args.frame.done + c.args.size * c.args.count ≡ c.args.frame.base + (c.args.frame.done + c.args.size * c.args.count) = omega arith in
-    over_turns c.args.self.now.table.now c.requires.table (message_of c.args.self.now.bytes.now c.args.self.now.handles.now) c.args.frame (at_of c.args.state.now) (at_of c.args.state.now) 0 (going_on c.args.frame (Elements c.args.entry c.args.size 0) (c.args.frame.done + c.args.size * c.args.count)) any refl _ (omega (arith, there)) (subst (λ k. Stands c.args.self.now.bytes.now k (zeros (c.args.frame.base + c.args.frame.size - k))) there c.in_ok-zeros_at.ensures.ok)
+    over_turns c.args.self.now.table.now c.requires.table (message_of c.args.self.now.bytes.now c.args.self.now.handles.now) c.args.frame (at_of c.args.state.now) (at_of c.args.state.now) 0 (going_on c.args.frame (Elements c.args.entry c.args.size 0) (c.args.frame.done + c.args.size * c.args.count)) any refl tt _ (omega (arith, there)) (subst (λ k. Stands c.args.self.now.bytes.now k (zeros (c.args.frame.base + c.args.frame.size - k))) there c.in_ok-zeros_at.ensures.ok)
 
 pub returns-in_err-zeros_at-clause-told : goal.returns-in_err-zeros_at-clause-told
 returns-in_err-zeros_at-clause-told c =
@@ -113,7 +113,7 @@ returns-in_err-zeros_at-clause-told c =
     let any = free_turns c.args.self.now.table.now c.requires.table (message_of c.args.self.now.bytes.now c.args.self.now.handles.now) c.args.frame (at_of c.args.state.now) c.requires.frame c.requires.state c.args.entry c.args.size c.args.count c.requires.left c.in-Some.kind (ap (λ (e : Entry). kind_of e.kind) (sym c.entry-e.ensures.value) ∙ sym c.from_number.ensures ∙ c.in-Some.is) free (λ i. omega (arith, c.args.self.now.octets i)) in
     let there : c.args.frame.base + c.args.frame.done + c.args.size * c.args.count ≡ c.args.frame.base + (c.args.frame.done + c.args.size * c.args.count) = omega arith in
     passed_on c.from_residual-in_err-zeros_at.result c.in_err-zeros_at.field-0.0 _ c.from_residual-in_err-zeros_at.ensures.1
-    (over_breaks c.args.self.now.table.now c.requires.table (message_of c.args.self.now.bytes.now c.args.self.now.handles.now) c.args.frame (at_of c.args.state.now) (at_of c.args.state.now) 0 (going_on c.args.frame (Elements c.args.entry c.args.size 0) (c.args.frame.done + c.args.size * c.args.count)) any refl c.in_err-zeros_at.field-0.0 (subst (λ k. IsPadding c.args.self.now.bytes.now k (c.args.frame.base + c.args.frame.size) c.in_err-zeros_at.field-0.0) there c.in_err-zeros_at.ensures.told))
+    (over_breaks c.args.self.now.table.now c.requires.table (message_of c.args.self.now.bytes.now c.args.self.now.handles.now) c.args.frame (at_of c.args.state.now) (at_of c.args.state.now) 0 (going_on c.args.frame (Elements c.args.entry c.args.size 0) (c.args.frame.done + c.args.size * c.args.count)) any refl tt c.in_err-zeros_at.field-0.0 (subst (λ k. IsPadding c.args.self.now.bytes.now k (c.args.frame.base + c.args.frame.size) c.in_err-zeros_at.field-0.0) there c.in_err-zeros_at.ensures.told))
 
 pub returns-in_err-read_each : goal.returns-in_err-read_each
 returns-in_err-read_each c = record {

@@ -78,7 +78,7 @@ zeros_at-requires-clause-room c =
 pub returns-in_err-zeros_at-clause-err : goal.returns-in_err-zeros_at-clause-err
 returns-in_err-zeros_at-clause-err c =
     let one = rows_next c.args.self.now.table.now c.loop-i.i (c.args.first + c.args.count) c.loop-i.done (c.row-row.result.key + size_of (declarations_of c.args.self.now.table.now) (ty.named c.row-row.result.entry)) c.row-row.result c.row-row.ensures.value c.loop-i-test.true in
-    on_err _ ((to : At) → Reads c.args.self.now.table.now (message_of c.args.self.now.bytes.now c.args.self.now.handles.now) c.args.frame (at_of c.args.state.now) to → ⊥) (next_gap_refused c.args.self.now.table.now c.requires.table (message_of c.args.self.now.bytes.now c.args.self.now.handles.now) c.args.frame (at_of c.args.state.now) (at_of c.loop-i.state) (c.loop-i.state.steps - c.args.state.now.steps) (going_on c.args.frame (Rows c.loop-i.i (c.args.first + c.args.count - c.loop-i.i)) c.loop-i.done) c.loop-i.invariant.turns (let x : Row = record { offset = c.row-row.result.key; entry = c.row-row.result.entry } in x) (Rows (c.loop-i.i + 1) (c.args.first + c.args.count - (c.loop-i.i + 1))) one c.in_err-zeros_at.ensures.err)
+    on_err _ ((to : At) → Reads c.args.self.now.table.now (message_of c.args.self.now.bytes.now c.args.self.now.handles.now) c.args.frame (at_of c.args.state.now) to → ⊥) (next_gap_refused c.args.self.now.table.now c.requires.table (message_of c.args.self.now.bytes.now c.args.self.now.handles.now) c.args.frame (at_of c.args.state.now) (at_of c.loop-i.state) (c.loop-i.state.steps - c.args.state.now.steps) (going_on c.args.frame (Rows c.loop-i.i (c.args.first + c.args.count - c.loop-i.i)) c.loop-i.done) c.loop-i.invariant.turns (let x : Row = record { offset = c.row-row.result.key; entry = c.row-row.result.entry } in x) (Rows (c.loop-i.i + 1) (c.args.first + c.args.count - (c.loop-i.i + 1))) one tt c.in_err-zeros_at.ensures.err)
 
 pub returns-in_err-zeros_at-clause-cost : goal.returns-in_err-zeros_at-clause-cost
 returns-in_err-zeros_at-clause-cost c =
@@ -109,7 +109,7 @@ read_leaf-requires-clause-kind c =
 pub returns-in_err-read_leaf-clause-err : goal.returns-in_err-read_leaf-clause-err
 returns-in_err-read_leaf-clause-err c =
     let one = rows_next c.args.self.now.table.now c.loop-i.i (c.args.first + c.args.count) c.loop-i.done (c.row-row.result.key + size_of (declarations_of c.args.self.now.table.now) (ty.named c.row-row.result.entry)) c.row-row.result c.row-row.ensures.value c.loop-i-test.true in
-    on_err _ ((to : At) → Reads c.args.self.now.table.now (message_of c.args.self.now.bytes.now c.args.self.now.handles.now) c.args.frame (at_of c.args.state.now) to → ⊥) (next_leaf_refused c.args.self.now.table.now c.requires.table (message_of c.args.self.now.bytes.now c.args.self.now.handles.now) c.args.frame (at_of c.args.state.now) (at_of c.loop-i.state) (c.loop-i.state.steps - c.args.state.now.steps) (going_on c.args.frame (Rows c.loop-i.i (c.args.first + c.args.count - c.loop-i.i)) c.loop-i.done) c.loop-i.invariant.turns (let x : Row = record { offset = c.row-row.result.key; entry = c.row-row.result.entry } in x) (Rows (c.loop-i.i + 1) (c.args.first + c.args.count - (c.loop-i.i + 1))) one c.in_err-read_leaf.ensures.err)
+    on_err _ ((to : At) → Reads c.args.self.now.table.now (message_of c.args.self.now.bytes.now c.args.self.now.handles.now) c.args.frame (at_of c.args.state.now) to → ⊥) (next_leaf_refused c.args.self.now.table.now c.requires.table (message_of c.args.self.now.bytes.now c.args.self.now.handles.now) c.args.frame (at_of c.args.state.now) (at_of c.loop-i.state) (c.loop-i.state.steps - c.args.state.now.steps) (going_on c.args.frame (Rows c.loop-i.i (c.args.first + c.args.count - c.loop-i.i)) c.loop-i.done) c.loop-i.invariant.turns (let x : Row = record { offset = c.row-row.result.key; entry = c.row-row.result.entry } in x) (Rows (c.loop-i.i + 1) (c.args.first + c.args.count - (c.loop-i.i + 1))) one tt c.in_err-read_leaf.ensures.err)
 
 pub returns-in_err-read_leaf-clause-cost : goal.returns-in_err-read_leaf-clause-cost
 returns-in_err-read_leaf-clause-cost c =
@@ -140,7 +140,7 @@ loop-i-preserved c =
     let left : c.args.first + c.args.count ≤ (header_of c.args.self.now.table.now).rows = subst (λ (l : Left). LeftFine c.args.self.now.table.now l) c.requires.left c.requires.frame.left in
     let so_far = c.loop-i.invariant.steps in
     let size = ap (λ (d : Entry). d.size) c.entry-e.ensures.value in
-    record { turns = next_turns c.args.self.now.table.now c.requires.table (message_of c.args.self.now.bytes.now c.args.self.now.handles.now) c.args.frame (at_of c.args.state.now) (at_of c.loop-i.state) (c.loop-i.state.steps - c.args.state.now.steps) (going_on c.args.frame (Rows c.loop-i.i (c.args.first + c.args.count - c.loop-i.i)) c.loop-i.done) c.loop-i.invariant.turns (let x : Row = record { offset = c.row-row.result.key; entry = c.row-row.result.entry } in x) (Rows (c.loop-i.i + 1) (c.args.first + c.args.count - (c.loop-i.i + 1))) one (omega (arith, left, c.loop-i-test.true)) (at_of c.read_leaf.new.state) (c.row-row.result.key + c.entry-e.result.size) _ (c.read_leaf.new.state.steps - c.args.state.now.steps) (omega (arith, size)) (omega (arith, c.in_ok-read_leaf.ensures.grows, so_far)) c.in_ok-zeros_at.ensures.ok c.in_ok-read_leaf.ensures.ok; steps = omega (arith, c.in_ok-read_leaf.ensures.grows, so_far) }
+    record { turns = next_turns c.args.self.now.table.now c.requires.table (message_of c.args.self.now.bytes.now c.args.self.now.handles.now) c.args.frame (at_of c.args.state.now) (at_of c.loop-i.state) (c.loop-i.state.steps - c.args.state.now.steps) (going_on c.args.frame (Rows c.loop-i.i (c.args.first + c.args.count - c.loop-i.i)) c.loop-i.done) c.loop-i.invariant.turns (let x : Row = record { offset = c.row-row.result.key; entry = c.row-row.result.entry } in x) (Rows (c.loop-i.i + 1) (c.args.first + c.args.count - (c.loop-i.i + 1))) one tt (omega (arith, left, c.loop-i-test.true)) tt (at_of c.read_leaf.new.state) (c.row-row.result.key + c.entry-e.result.size) _ (c.read_leaf.new.state.steps - c.args.state.now.steps) (omega (arith, size)) (omega (arith, c.in_ok-read_leaf.ensures.grows, so_far)) c.in_ok-zeros_at.ensures.ok c.in_ok-read_leaf.ensures.ok; steps = omega (arith, c.in_ok-read_leaf.ensures.grows, so_far) }
 
 pub overflow_add-over : goal.overflow_add-over
 overflow_add-over c =
@@ -152,30 +152,30 @@ overflow_add-over c =
 pub returns-in_err-zeros_at-2-clause-err : goal.returns-in_err-zeros_at-2-clause-err
 returns-in_err-zeros_at-2-clause-err c =
     let over = rows_over c.args.self.now.table.now c.loop-i.i (c.args.first + c.args.count) c.loop-i.done (omega (arith, c.loop-i-test.false)) in
-    on_err _ ((to : At) → Reads c.args.self.now.table.now (message_of c.args.self.now.bytes.now c.args.self.now.handles.now) c.args.frame (at_of c.args.state.now) to → ⊥) (over_refused c.args.self.now.table.now c.requires.table (message_of c.args.self.now.bytes.now c.args.self.now.handles.now) c.args.frame (at_of c.args.state.now) (at_of c.loop-i.state) (c.loop-i.state.steps - c.args.state.now.steps) (going_on c.args.frame (Rows c.loop-i.i (c.args.first + c.args.count - c.loop-i.i)) c.loop-i.done) c.loop-i.invariant.turns over c.in_err-zeros_at-2.ensures.err)
+    on_err _ ((to : At) → Reads c.args.self.now.table.now (message_of c.args.self.now.bytes.now c.args.self.now.handles.now) c.args.frame (at_of c.args.state.now) to → ⊥) (over_refused c.args.self.now.table.now c.requires.table (message_of c.args.self.now.bytes.now c.args.self.now.handles.now) c.args.frame (at_of c.args.state.now) (at_of c.loop-i.state) (c.loop-i.state.steps - c.args.state.now.steps) (going_on c.args.frame (Rows c.loop-i.i (c.args.first + c.args.count - c.loop-i.i)) c.loop-i.done) c.loop-i.invariant.turns over tt c.in_err-zeros_at-2.ensures.err)
 
 pub returns-clause-ok : goal.returns-clause-ok
 returns-clause-ok c =
     let over = rows_over c.args.self.now.table.now c.loop-i.i (c.args.first + c.args.count) c.loop-i.done (omega (arith, c.loop-i-test.false)) in
     let so_far = c.loop-i.invariant.steps in
-    over_turns c.args.self.now.table.now c.requires.table (message_of c.args.self.now.bytes.now c.args.self.now.handles.now) c.args.frame (at_of c.args.state.now) (at_of c.loop-i.state) (c.loop-i.state.steps - c.args.state.now.steps) (going_on c.args.frame (Rows c.loop-i.i (c.args.first + c.args.count - c.loop-i.i)) c.loop-i.done) c.loop-i.invariant.turns over _ (omega (arith, so_far)) c.in_ok-zeros_at-2.ensures.ok
+    over_turns c.args.self.now.table.now c.requires.table (message_of c.args.self.now.bytes.now c.args.self.now.handles.now) c.args.frame (at_of c.args.state.now) (at_of c.loop-i.state) (c.loop-i.state.steps - c.args.state.now.steps) (going_on c.args.frame (Rows c.loop-i.i (c.args.first + c.args.count - c.loop-i.i)) c.loop-i.done) c.loop-i.invariant.turns over tt _ (omega (arith, so_far)) c.in_ok-zeros_at-2.ensures.ok
 
 pub returns-in_err-zeros_at-clause-told : goal.returns-in_err-zeros_at-clause-told
 returns-in_err-zeros_at-clause-told c =
     let one = rows_next c.args.self.now.table.now c.loop-i.i (c.args.first + c.args.count) c.loop-i.done (c.row-row.result.key + size_of (declarations_of c.args.self.now.table.now) (ty.named c.row-row.result.entry)) c.row-row.result c.row-row.ensures.value c.loop-i-test.true in
     passed_on c.from_residual.result c.in_err-zeros_at.field-0.0 _ c.from_residual.ensures.1
-    (next_gap_breaks c.args.self.now.table.now c.requires.table (message_of c.args.self.now.bytes.now c.args.self.now.handles.now) c.args.frame (at_of c.args.state.now) (at_of c.loop-i.state) (c.loop-i.state.steps - c.args.state.now.steps) (going_on c.args.frame (Rows c.loop-i.i (c.args.first + c.args.count - c.loop-i.i)) c.loop-i.done) c.loop-i.invariant.turns (let x : Row = record { offset = c.row-row.result.key; entry = c.row-row.result.entry } in x) (Rows (c.loop-i.i + 1) (c.args.first + c.args.count - (c.loop-i.i + 1))) one _ c.in_err-zeros_at.ensures.told)
+    (next_gap_breaks c.args.self.now.table.now c.requires.table (message_of c.args.self.now.bytes.now c.args.self.now.handles.now) c.args.frame (at_of c.args.state.now) (at_of c.loop-i.state) (c.loop-i.state.steps - c.args.state.now.steps) (going_on c.args.frame (Rows c.loop-i.i (c.args.first + c.args.count - c.loop-i.i)) c.loop-i.done) c.loop-i.invariant.turns (let x : Row = record { offset = c.row-row.result.key; entry = c.row-row.result.entry } in x) (Rows (c.loop-i.i + 1) (c.args.first + c.args.count - (c.loop-i.i + 1))) one tt _ c.in_err-zeros_at.ensures.told)
 
 pub returns-in_err-read_leaf-clause-told : goal.returns-in_err-read_leaf-clause-told
 returns-in_err-read_leaf-clause-told c =
     let one = rows_next c.args.self.now.table.now c.loop-i.i (c.args.first + c.args.count) c.loop-i.done (c.row-row.result.key + size_of (declarations_of c.args.self.now.table.now) (ty.named c.row-row.result.entry)) c.row-row.result c.row-row.ensures.value c.loop-i-test.true in
     passed_on c.from_residual-in_err-read_leaf.result c.in_err-read_leaf.field-0.0 _ c.from_residual-in_err-read_leaf.ensures.1
-    (next_leaf_breaks c.args.self.now.table.now c.requires.table (message_of c.args.self.now.bytes.now c.args.self.now.handles.now) c.args.frame (at_of c.args.state.now) (at_of c.loop-i.state) (c.loop-i.state.steps - c.args.state.now.steps) (going_on c.args.frame (Rows c.loop-i.i (c.args.first + c.args.count - c.loop-i.i)) c.loop-i.done) c.loop-i.invariant.turns (let x : Row = record { offset = c.row-row.result.key; entry = c.row-row.result.entry } in x) (Rows (c.loop-i.i + 1) (c.args.first + c.args.count - (c.loop-i.i + 1))) one _ c.in_ok-zeros_at.ensures.ok c.in_err-read_leaf.ensures.told)
+    (next_leaf_breaks c.args.self.now.table.now c.requires.table (message_of c.args.self.now.bytes.now c.args.self.now.handles.now) c.args.frame (at_of c.args.state.now) (at_of c.loop-i.state) (c.loop-i.state.steps - c.args.state.now.steps) (going_on c.args.frame (Rows c.loop-i.i (c.args.first + c.args.count - c.loop-i.i)) c.loop-i.done) c.loop-i.invariant.turns (let x : Row = record { offset = c.row-row.result.key; entry = c.row-row.result.entry } in x) (Rows (c.loop-i.i + 1) (c.args.first + c.args.count - (c.loop-i.i + 1))) one tt _ c.in_ok-zeros_at.ensures.ok c.in_err-read_leaf.ensures.told)
 
 pub returns-in_err-zeros_at-2-clause-told : goal.returns-in_err-zeros_at-2-clause-told
 returns-in_err-zeros_at-2-clause-told c =
     let over = rows_over c.args.self.now.table.now c.loop-i.i (c.args.first + c.args.count) c.loop-i.done (omega (arith, c.loop-i-test.false)) in
-    let h = (over_breaks c.args.self.now.table.now c.requires.table (message_of c.args.self.now.bytes.now c.args.self.now.handles.now) c.args.frame (at_of c.args.state.now) (at_of c.loop-i.state) (c.loop-i.state.steps - c.args.state.now.steps) (going_on c.args.frame (Rows c.loop-i.i (c.args.first + c.args.count - c.loop-i.i)) c.loop-i.done) c.loop-i.invariant.turns over _ c.in_err-zeros_at-2.ensures.told) in search (rules, h)
+    let h = (over_breaks c.args.self.now.table.now c.requires.table (message_of c.args.self.now.bytes.now c.args.self.now.handles.now) c.args.frame (at_of c.args.state.now) (at_of c.loop-i.state) (c.loop-i.state.steps - c.args.state.now.steps) (going_on c.args.frame (Rows c.loop-i.i (c.args.first + c.args.count - c.loop-i.i)) c.loop-i.done) c.loop-i.invariant.turns over tt _ c.in_err-zeros_at-2.ensures.told) in search (rules, h)
 
 pub overflow_sub-state-2 : goal.overflow_sub-state-2
 overflow_sub-state-2 c =

@@ -74,7 +74,7 @@ returns-clause-a_box c = record {
     offsets = search rules;
     size = search rules;
     nest = search rules;
-    sorted = record { values = search rules };
+    sorted = record { ordinals = search rules; values = search rules };
     names = record { own = search rules; members = λ is. below_more _ 0 (below_none _) (search rules) };
   })) (record {
     shape = search rules;

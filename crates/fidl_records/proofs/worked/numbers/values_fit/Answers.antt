@@ -3,5 +3,6 @@ use Rattle.fidl_records.proofs.worked.numbers.values_fit.Goals as goal
 
 pub returns-clause-ends : goal.returns-clause-ends
 returns-clause-ends c = record {
+  ordinals = search rules;
   values = λ is. below_more _ 1 (below_more _ 0 (below_none _) (record { fits = search rules; rises = λ p. search rules })) (record { fits = search rules; rises = λ p. search rules });
 }

@@ -15,6 +15,7 @@ returns-clause-whole c = record {
         size = search rules;
         nest = search rules;
         sorted = record {
+          ordinals = search rules;
           values = λ is. below_more _ 1 (below_more _ 0 (below_none _) (record { fits = search rules; rises = λ p. search rules })) (record { fits = search rules; rises = λ p. search rules });
         };
         names = search rules;
@@ -27,7 +28,7 @@ returns-clause-whole c = record {
         offsets = search rules;
         size = search rules;
         nest = search rules;
-        sorted = record { values = λ is. below_none _ };
+        sorted = record { ordinals = search rules; values = λ is. below_none _ };
         names = search rules;
       })
       ) (record {
@@ -39,6 +40,7 @@ returns-clause-whole c = record {
         size = search rules;
         nest = search rules;
         sorted = record {
+          ordinals = search rules;
           values = λ is. below_more _ 0 (below_none _) (record { fits = search rules; rises = λ p. search rules });
         };
         names = search rules;

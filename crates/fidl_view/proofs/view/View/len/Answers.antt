@@ -1,4 +1,10 @@
-use Rattle.std.proofs.Common.{ap, sym, ◌∙◌}
+use Rattle.std.proofs.Common.{ℕ, List, ap, sym, ◌∙◌}
+use Rattle.std.specs.Int.{w64}
+use Rattle.fidl_records.specs.Section.{header_of, entry_at}
+use Rattle.fidl_records.specs.Field.{number_at}
+use Rattle.fidl_records.specs.Terms.{declarations_of}
+use Rattle.fidl_view.proofs.Viewing as viewing
+use Rattle.fidl_view.proofs.Keyed as keyed
 use Rattle.std.specs.Prelude.{Some}
 use Rattle.fidl_wire.specs.Value.{Value}
 use Rattle.fidl_view.specs.Parts.{length_of}
@@ -14,5 +20,22 @@ returns-in-Some c v h =
 pub returns-in-Some-as_str : goal.returns-in-Some-as_str
 returns-in-Some-as_str c v h = lists.text_long v (c.in_default.ensures.parts v h) c.in-Some-as_str.text.now (c.in-Some-as_str.ensures v h)
 
-pub returns-in-None : goal.returns-in-None
-returns-in-None c v h = lists.no_length v (c.in_default.ensures.parts v h) (c.in-None.ensures v h)
+pub returns-in-Table : goal.returns-in-Table
+returns-in-Table c v h =
+    let d = c.args.self.decoded.now in
+    let i = c.args.self.index in
+    let p = c.args.self.place in
+    let lt = c.args.self.in_range in
+    let w = c.kind.ensures.well_formed in
+    let x = keyed.table_shown d w i p lt c.in-Table.ensures.of v h in
+    ap (λ n. Some n) (c.u64_at.ensures ∙ ap (λ (b : List ℕ). number_at w64 b p) c.bytes.ensures ∙ x.counted) ∙ sym (ap (λ (u : Value). length_of u) x.is)
+
+pub returns-in_default-kind : goal.returns-in_default-kind
+returns-in_default-kind c v h =
+    let d = c.args.self.decoded.now in
+    let i = c.args.self.index in
+    let p = c.args.self.place in
+    let lt = c.args.self.in_range in
+    let w = c.kind.ensures.well_formed in
+    lists.no_length v (c.in_default.ensures.parts v h) (c.in_default-as_str.ensures v h)
+    (lists.no_table_of (declarations_of d.table) d.table (header_of d.table) (entry_at d.table i) c.kind.result c.in_default-kind.not-Table v (viewing.lies d w i p lt c.kind.result c.kind.ensures.of v h).0)

@@ -1,0 +1,168 @@
+-- Unions in a message: the visit of a union, whose member is in the envelope behind its ordinal.
+use Rattle.std.proofs.Common.{◌≡◌, ◌≢◌, ℕ, ◌+◌, ◌-◌, ◌*◌, ◌<◌, ◌≤◌, Bool, true, false, List, length, get_or, Some, None, refl, sym, ap, subst, ◌∙◌, arith}
+use Rattle.std.specs.Prelude.{Option, IsTrue, IsFalse, IfSome, IfNone}
+use Rattle.std.specs.Option.{option_map_or, is_some}
+use Rattle.std.specs.Int.{w64, to_le_bytes}
+use Rattle.fidl_limits.specs.declared.limits.TheConstants.{MAX_DEPTH}
+use Rattle.fidl_wire.specs.Value.{union, Member, known, unknown}
+use Rattle.fidl_wire.specs.Term.{Term, Rows, uint64, resolve, rows_of, nothing, find}
+use Rattle.fidl_wire.specs.Term as ty
+use Rattle.fidl_wire.specs.Figure.{Declarations, Figure, figure, figure_of}
+use Rattle.fidl_wire.specs.Typed.{IsTypedMember}
+use Rattle.fidl_wire.specs.Encoding.{zeros, inline_only, enveloped}
+use Rattle.fidl_wire.specs.Standing.{Stands}
+use Rattle.fidl_wire.specs.Marker.{Says}
+use Rattle.fidl_wire.specs.declared.marker.Presence.{Presence}
+use Rattle.fidl_wire.specs.declared.marker.Presence.TheVariants.{Absent, Present, Neither}
+use Rattle.fidl_wire.proofs.Stand.{stands_both}
+use Rattle.fidl_records.specs.declared.record.Row as raw
+use Rattle.fidl_records.specs.declared.kind.EntryKind.TheVariants.{Union}
+use Rattle.fidl_records.specs.declared.kind.EntryKind.{EntryKind}
+use Rattle.fidl_records.specs.declared.record.Entry.{Entry}
+use Rattle.fidl_records.specs.Kind.{kind_of}
+use Rattle.fidl_records.specs.Section.{header_of, entry_at}
+use Rattle.fidl_records.specs.Terms.{declarations_of, members_of, term_as, rows_from, is_optional, is_strict}
+use Rattle.fidl_decode.specs.declared.fault.DecodeFault.{DecodeFault}
+use Rattle.fidl_decode.specs.declared.frame.Frame.{Frame}
+use Rattle.fidl_decode.specs.Invariants.{IsFine}
+use Rattle.fidl_decode.specs.State.{Message, At, StandsAt, Item}
+use Rattle.fidl_decode.specs.Envelopes.{Contained}
+use Rattle.fidl_decode.specs.Breaks.{Breaks, BreaksUnion, BreaksMember, ordinal_at}
+use Rattle.fidl_decode.specs.Breaks as broken
+use Rattle.fidl_decode.specs.Machine.{StateFine, Visits, VisitFine, Opens, FineIf, member_term, level, most_nest, inline_work, byte_work, probes, frame_work_if}
+use Rattle.fidl_decode.proofs.Broken.{union_absent, absent_union, union_chosen, union_excluded, union_right}
+use Rattle.fidl_decode.proofs.Rows.{joined_stands, past_inline}
+use Rattle.fidl_decode.proofs.Scalars.{standing}
+use Rattle.fidl_decode.proofs.Stated.{stated}
+use Rattle.fidl_decode.proofs.Turning.{fine_from}
+use Rattle.fidl_decode.proofs.Visiting.{term_is, figure_is}
+
+clash : true ≡ false → ⊥
+clash e = cc
+
+some_none : {A : Type 0} (a : A) → Some a ≡ None → ⊥
+some_none a e = cc
+
+-- the row that is found has the type of the member
+pub member_is : (o : Option raw.Row) (t : Option Term) → IfNone o (t ≡ None) → IfSome o (λ row. t ≡ Some (ty.named row.entry)) → t ≡ member_term o
+member_is None t none some = none
+member_is (Some row) t none some = some
+
+pub no_member : (o : Option raw.Row) (t : Option Term) → IfNone o (t ≡ None) → is_some o ≡ false → t ≡ None
+no_member None t none is = none
+no_member (Some row) t none is = absurd (clash is)
+
+pub one_member : (o : Option raw.Row) (t : Option Term) → IfSome o (λ row. t ≡ Some (ty.named row.entry)) → is_some o ≡ true → t ≡ None → ⊥
+one_member None t some is none = clash (sym is)
+one_member (Some row) t some is none = some_none (ty.named row.entry) (sym some ∙ none)
+
+-- a member of a flexible layout is one of the layout too, where that has the member or is flexible
+strict_too : (ds : Declarations) (strict : Bool) (o : Option Term) (x : Member) → (o ≡ None → IsFalse strict) → IsTypedMember ds false o x → IsTypedMember ds strict o x
+strict_too ds strict (Some t) (known v) may h = h
+strict_too ds strict None (unknown inline bytes handles) may h = (may refl, h.1, h.2, h.3)
+strict_too ds strict _ _ may h = absurd h
+
+module _ (ds : Declarations) (m : Message) (held : ℕ) (optional strict : Bool) (rows : Rows) (place : ℕ) (from : At) (here : place + 8 ≤ length m.bytes) (small : (i : ℕ) → get_or m.bytes i 0 < 256) where
+  abbrev ordinal : ℕ
+  ordinal = ordinal_at m.bytes place
+
+  -- a union stands where its member does, behind the ordinal
+  chosen_union : (to : At) → (ordinal ≢ 0) → (find rows ordinal ≡ None → IsFalse strict) → Contained ds m held (find rows ordinal) (place + 8) from to → Item ds m held (ty.union optional strict rows) place from to
+  chosen_union to some may x =
+      let number = standing uint64 m.bytes place here small in
+      let few = number.0 in
+      let front : List ℕ = to_le_bytes w64 ordinal in
+      let b = enveloped ds (find rows ordinal) x.content in
+      record {
+        value = union ordinal x.content;
+        typed = (omega (arith, some), omega (arith, few), strict_too ds strict (find rows ordinal) x.content may x.typed);
+        shallow = x.shallow;
+        stands = joined_stands m (inline_only front) b place from (record { inline = number.1; out = tt; carried = tt }) (subst (λ (s : At). StandsAt m b (place + 8) s) (sym (past_inline front from)) x.stands);
+        end = x.end;
+      }
+
+-- a marker that is not absent says no zeros
+pub not_zeros : (bytes : List ℕ) (place : ℕ) (p : Presence) → (p ≡ Absent → ⊥) → Says bytes place 8 p → Stands bytes place (zeros 8) → ⊥
+not_zeros bytes place Absent other says z = other refl
+not_zeros bytes place Present other says z = let a = z.1 in let b = says.1 in omega (arith, a, b)
+not_zeros bytes place Neither other says z = says.0 z
+
+module _ (t : List ℕ) (fine : IsFine t) (m : Message) (held e place : ℕ) (from : At) (lt : e < (header_of t).entries) (is : kind_of (entry_at t e).kind ≡ Some Union) where
+  abbrev ds : Declarations
+  ds = declarations_of t
+
+  abbrev d : Entry
+  d = entry_at t e
+
+  abbrev rows : Rows
+  rows = members_of t e
+
+  abbrev own_ordinal : ℕ
+  own_ordinal = ordinal_at m.bytes place
+
+  abbrev term : Term
+  term = resolve ds.terms (ty.named e)
+
+  union_is : term ≡ ty.union (is_optional d) (is_strict d) rows
+  union_is =
+      let own : members_of t e ≡ rows_from t (header_of t) d.first d.count = ap (λ (o : Option EntryKind). rows_of (option_map_or (λ (k : EntryKind). term_as k t (header_of t) d) o nothing)) is in
+      term_is t fine e Union lt is ∙ ap (λ (r : Rows). ty.union (is_optional d) (is_strict d) r) (sym own)
+
+  union_figure : figure_of ds.figures (ty.named e) ≡ figure 16 8 0
+  union_figure = stated t e lt ∙ sym (figure_is t fine e Union lt is)
+
+  to_union : (to : At) → Item ds m held term place from to → Item ds m held (ty.union (is_optional d) (is_strict d) rows) place from to
+  to_union to x = subst (λ (u : Term). Item ds m held u place from to) union_is x
+
+  from_union : (to : At) → Item ds m held (ty.union (is_optional d) (is_strict d) rows) place from to → Item ds m held term place from to
+  from_union to x = subst (λ (u : Term). Item ds m held u place from to) (sym union_is) x
+
+  -- a union that breaks a rule by itself
+  pub union_refused : (fault : DecodeFault) → BreaksUnion m (is_optional d) (is_strict d) rows place fault → (to : At) → Item ds m held term place from to → ⊥
+  union_refused fault b to x = union_excluded ds m held (is_optional d) (is_strict d) rows place from to fault b (to_union to x)
+
+  pub union_breaks : (fault : DecodeFault) → BreaksUnion m (is_optional d) (is_strict d) rows place fault → Breaks ds m held term place from fault
+  union_breaks fault b = subst (λ (u : Term). Breaks ds m held u place from fault) (sym union_is) (broken.in_field (ty.union (is_optional d) (is_strict d) rows) place from fault b)
+
+  -- an absent union
+  pub visits_absent_union : StateFine m from → held ≤ MAX_DEPTH → (spent : ℕ) → spent ≡ 0 → IsTrue (is_optional d) → Stands m.bytes (place + 8) (zeros 8) → place + 8 ≤ length m.bytes → ((i : ℕ) → get_or m.bytes i 0 < 256) → own_ordinal ≡ 0 → Visits t m held e place from from spent None
+  visits_absent_union state deep spent nothing may z here small none =
+      let all : Stands m.bytes place (zeros 16) = stands_both m.bytes place (zeros 8) (zeros 8) (subst (λ k. Stands m.bytes place (to_le_bytes w64 k)) none (standing uint64 m.bytes place here small).1) z in
+      record {
+        same = λ to. (
+          (λ x. (union_absent ds m held (is_optional d) (is_strict d) rows place from to none (to_union to x)).2),
+          (λ same. subst (λ (s : At). Item ds m held term place from s) same (from_union from (absent_union ds m held (is_optional d) (is_strict d) rows place from may all deep))),
+        );
+        breaks = λ fault b. absurd b;
+        state = state;
+        less = omega (arith, nothing);
+      }
+
+  -- one with the ordinal of a member, or of none where the layout is flexible
+  module _ (some : own_ordinal ≢ 0) (may : find rows own_ordinal ≡ None → IsFalse (is_strict d)) where
+    -- what breaks a rule in its member
+    pub member_breaks : (fault : DecodeFault) → BreaksMember ds m held (find rows own_ordinal) (place + 8) from fault → Breaks ds m held term place from fault
+    member_breaks fault b = subst (λ (u : Term). Breaks ds m held u place from fault) (sym union_is)
+        (broken.in_union (is_optional d) (is_strict d) rows place from fault some (union_right ds m held (is_optional d) (is_strict d) rows place from some (λ strict none. clash (sym strict ∙ may none))) b)
+
+    -- one whose member is in the envelope, which is opened
+    pub visits_union : (new : At) (spent : ℕ) (found : Option Frame) → spent ≤ probes → place + 8 ≤ length m.bytes → ((i : ℕ) → get_or m.bytes i 0 < 256) → Opens t m held (find rows own_ordinal) (place + 8) from new found → Visits t m held e place from new spent found
+    visits_union new spent found few here small o =
+        let less = o.less in
+        record {
+          same = λ to. (
+            (λ x. (o.same to).0 (union_chosen ds m held (is_optional d) (is_strict d) rows place from to some (to_union to x)).contained),
+            (λ y. from_union to (chosen_union ds m held (is_optional d) (is_strict d) rows place from here small to some may ((o.same to).1 y))),
+          );
+          breaks = λ fault b. member_breaks fault (o.breaks fault b);
+          state = o.state;
+          less = subst (λ (f : Figure). byte_work * (length m.bytes - new.next) + frame_work_if found + spent ≤ byte_work * (length m.bytes - from.next) + inline_work f.nest * f.size + 1) (sym union_figure) (omega (arith, less, few));
+        }
+
+  -- no member, no union
+  pub member_refused : (own_ordinal ≢ 0) → ((to : At) → Contained ds m held (find rows own_ordinal) (place + 8) from to → ⊥) → (to : At) → Item ds m held term place from to → ⊥
+  member_refused some bad to x = bad to (union_chosen ds m held (is_optional d) (is_strict d) rows place from to some (to_union to x)).contained
+
+  -- and its frame is fine
+  pub union_fine : (found : Option Frame) → FineIf t m.bytes (level held 1 most_nest) found → VisitFine t m held 0 e found
+  union_fine found x = fine_from t m.bytes (level held 1 most_nest) (level held 0 (figure_of ds.figures (ty.named e)).nest) found (omega arith) x

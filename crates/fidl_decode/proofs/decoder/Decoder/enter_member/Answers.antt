@@ -1,0 +1,101 @@
+use Rattle.std.specs.Prelude.{◌/◌, List, slice_set}
+use Rattle.std.proofs.Common.{subst, ◌≡◌, ◌+◌, ℕ, refl, sym, ap, ◌∙◌, arith}
+use Rattle.std.specs.Int.{next_multiple_of}
+use Rattle.fidl_records.specs.declared.record.Entry.{Entry}
+use Rattle.fidl_records.specs.Section.{entry_at}
+use Rattle.fidl_decode.specs.declared.fault.DecodeFault.TheVariants.{BadEnvelope, TooDeep, Truncated}
+use Rattle.fidl_decode.specs.declared.frame.Frame.{Frame}
+use Rattle.fidl_decode.specs.Faults.{message_of}
+use Rattle.fidl_decode.specs.State.{At, opened, linked}
+use Rattle.fidl_decode.specs.Machine.{at_of}
+use Rattle.fidl_decode.proofs.Entered.{Enters, enters_inside_as, enters_below_as, numbers_refuse, not_inside, not_below, cut_off}
+use Rattle.fidl_decode.proofs.decoder.Decoder.enter_member.Goals.{then-flags-ne0-via-then-flags-ne0, then-flags-ne0-via-else-flags-ne0+then-counted-eq0, then-flags-ne0-via-else-flags-ne0+else-counted-eq0+then-counted-ne0}
+use Rattle.fidl_decode.proofs.decoder.Decoder.enter_member.Goals as goal
+
+pub content_frame-requires : goal.content_frame-requires
+content_frame-requires c =
+    let n = (c.requires.table.each c.args.entry c.requires.entry).1.nest in
+    let nest = ap (λ (d : Entry). d.nest) c.entry-content.ensures.value in
+    omega (arith, n, nest)
+
+pub content_frame-requires-2 : goal.content_frame-requires-2
+content_frame-requires-2 c =
+    let n = (c.requires.table.each c.args.entry c.requires.entry).1.nest in
+    let nest = ap (λ (d : Entry). d.nest) c.entry-content.ensures.value in
+    omega (arith, n, nest)
+
+pub returns-then-flags-ne1 : goal.returns-then-flags-ne1
+returns-then-flags-ne1 c =
+    let t = c.args.self.now.table.now in
+    let m = message_of c.args.self.now.bytes.now c.args.self.now.handles.now in
+    let old = at_of c.args.state.now in
+    let size = ap (λ (d : Entry). d.size) c.entry-content.ensures.value in
+    let r = numbers_refuse t c.requires.table m (c.requires.short, c.requires.state.few) c.args.depth c.args.entry c.args.envelope old c.requires.entry c.requires.room (λ i. omega (arith, c.args.self.now.octets i)) c.requires.state c.requires.depth (BadEnvelope c.args.envelope) (refl, not_inside t c.requires.table m (c.requires.short, c.requires.state.few) c.args.depth c.args.entry c.args.envelope old c.requires.entry c.requires.room (λ i. omega (arith, c.args.self.now.octets i)) c.requires.state c.requires.depth (omega (arith, size, c.if-size-le4.true)) (λ f. c.if-flags-ne1.true (c.u16_at-flags.ensures ∙ f))) in
+    record { ok = tt; breaks = tt; fine = tt; deeper = tt; state = c.requires.state; told = r.0; err = r.1; steps = refl; grows = omega arith; work = tt }
+
+pub returns-then-size-le4 : goal.returns-then-size-le4
+returns-then-size-le4 c =
+    let t = c.args.self.now.table.now in
+    let m = message_of c.args.self.now.bytes.now c.args.self.now.handles.now in
+    let old = at_of c.args.state.now in
+    let size = ap (λ (d : Entry). d.size) c.entry-content.ensures.value in
+    let led : opened c.args.envelope old ≡ record { next = old.next; handle = old.handle; objects = c.record.new.self.objects; records = c.record.new.self.records }
+    = λ i. record { next = old.next; handle = old.handle; objects = sym c.record.ensures.objects i; records = sym c.record.ensures.records i } in
+    let x = enters_inside_as t c.requires.table m (c.requires.short, c.requires.state.few) c.args.depth c.args.entry c.args.envelope old c.requires.entry c.requires.room (λ i. omega (arith, c.args.self.now.octets i)) c.requires.state c.requires.depth c.entry-content.result c.u16_at-handles.result (record { next = old.next; handle = old.handle; objects = c.record.new.self.objects; records = c.record.new.self.records }) c.entry-content.ensures.value c.u16_at-handles.ensures led c.if-size-le4.true (sym c.u16_at-flags.ensures ∙ c.if-flags-ne1.false) in
+    let y = subst (λ (f : Frame). Enters t m c.args.depth c.args.entry c.args.envelope old (record { next = old.next; handle = old.handle; objects = c.record.new.self.objects; records = c.record.new.self.records }) f) (sym c.content_frame.ensures) x in
+    record { ok = y.same; breaks = y.breaks; fine = y.fine; deeper = y.deeper; state = y.state; told = tt; err = tt; steps = refl; grows = omega arith; work = y.work }
+
+pub returns-then-flags-ne0 : goal.returns-then-flags-ne0
+returns-then-flags-ne0 c =
+    let t = c.args.self.now.table.now in
+    let m = message_of c.args.self.now.bytes.now c.args.self.now.handles.now in
+    let old = at_of c.args.state.now in
+    let size = ap (λ (d : Entry). d.size) c.entry-content.ensures.value in
+    let r = numbers_refuse t c.requires.table m (c.requires.short, c.requires.state.few) c.args.depth c.args.entry c.args.envelope old c.requires.entry c.requires.room (λ i. omega (arith, c.args.self.now.octets i)) c.requires.state c.requires.depth (BadEnvelope c.args.envelope) (
+      refl,
+      not_below t c.requires.table m (c.requires.short, c.requires.state.few) c.args.depth c.args.entry c.args.envelope old c.requires.entry c.requires.room (λ i. omega (arith, c.args.self.now.octets i)) c.requires.state c.requires.depth (omega (arith, size, c.if-size-le4.false)) (λ f u. elim c.then-flags-ne0.branch [
+        | then-flags-ne0-via-then-flags-ne0 w ↦ w.if-flags-ne0.true (c.u16_at-flags.ensures ∙ f)
+        | then-flags-ne0-via-else-flags-ne0+then-counted-eq0 w ↦ omega (arith, w.if-counted-eq0.true, c.u32_at-counted.ensures, u.0)
+        | then-flags-ne0-via-else-flags-ne0+else-counted-eq0+then-counted-ne0 w ↦ omega (arith, w.if-counted-ne0.true, c.u32_at-counted.ensures, u.1)
+      ]),
+    ) in
+    record { ok = tt; breaks = tt; fine = tt; deeper = tt; state = c.requires.state; told = r.0; err = r.1; steps = refl; grows = omega arith; work = tt }
+
+pub returns-then-depth-eq-MAX_DEPTH : goal.returns-then-depth-eq-MAX_DEPTH
+returns-then-depth-eq-MAX_DEPTH c =
+    let t = c.args.self.now.table.now in
+    let m = message_of c.args.self.now.bytes.now c.args.self.now.handles.now in
+    let old = at_of c.args.state.now in
+    let size = ap (λ (d : Entry). d.size) c.entry-content.ensures.value in
+    let r = numbers_refuse t c.requires.table m (c.requires.short, c.requires.state.few) c.args.depth c.args.entry c.args.envelope old c.requires.entry c.requires.room (λ i. omega (arith, c.args.self.now.octets i)) c.requires.state c.requires.depth (TooDeep c.args.envelope) (refl, sym c.u16_at-flags.ensures ∙ c.if-flags-ne0.false, omega (arith, c.if-depth-eq-MAX_DEPTH.true)) in
+    record { ok = tt; breaks = tt; fine = tt; deeper = tt; state = c.requires.state; told = r.0; err = r.1; steps = refl; grows = omega arith; work = tt }
+
+pub returns-then-whole-self : goal.returns-then-whole-self
+returns-then-whole-self c =
+    let t = c.args.self.now.table.now in
+    let m = message_of c.args.self.now.bytes.now c.args.self.now.handles.now in
+    let old = at_of c.args.state.now in
+    let size = ap (λ (d : Entry). d.size) c.entry-content.ensures.value in
+    let up = cut_off t c.requires.table m (c.requires.short, c.requires.state.few) c.args.depth c.args.entry c.args.envelope old c.requires.entry c.requires.room (λ i. omega (arith, c.args.self.now.octets i)) c.requires.state c.requires.depth in
+    let whole : c.next_multiple_of-whole.result ≡ next_multiple_of (entry_at t c.args.entry).size 8 = c.next_multiple_of-whole.ensures.value ∙ ap (λ k. next_multiple_of k 8) size in
+    let r = numbers_refuse t c.requires.table m (c.requires.short, c.requires.state.few) c.args.depth c.args.entry c.args.envelope old c.requires.entry c.requires.room (λ i. omega (arith, c.args.self.now.octets i)) c.requires.state c.requires.depth (Truncated old.next) (refl, sym c.u16_at-flags.ensures ∙ c.if-flags-ne0.false, omega (arith, c.if-whole-self.true, whole, up)) in
+    record { ok = tt; breaks = tt; fine = tt; deeper = tt; state = c.requires.state; told = r.0; err = r.1; steps = refl; grows = omega arith; work = tt }
+
+pub returns : goal.returns
+returns c =
+    let t = c.args.self.now.table.now in
+    let m = message_of c.args.self.now.bytes.now c.args.self.now.handles.now in
+    let old = at_of c.args.state.now in
+    let size = ap (λ (d : Entry). d.size) c.entry-content.ensures.value in
+    let whole : c.next_multiple_of-whole.result ≡ next_multiple_of c.entry-content.result.size 8 = c.next_multiple_of-whole.ensures.value in
+    let wide : next_multiple_of (entry_at t c.args.entry).size 8 ≡ c.next_multiple_of-whole.result = sym (whole ∙ ap (λ k. next_multiple_of k 8) size) in
+    let new : At = record { next = old.next + c.next_multiple_of-whole.result; handle = old.handle; objects = c.link.new.self.objects; records = c.link.new.self.records } in
+    let objects = c.link.ensures.objects ∙ ap (λ (l : List ℕ). slice_set l (c.args.envelope / 8) old.next) c.record-2.ensures.objects in
+    let records = c.link.ensures.records ∙ c.record-2.ensures.records in
+    let led : linked c.args.envelope (entry_at t c.args.entry).size (opened c.args.envelope old) ≡ new
+    = λ i. record { next = old.next + wide i; handle = old.handle; objects = sym objects i; records = sym records i } in
+    let x = enters_below_as t c.requires.table m (c.requires.short, c.requires.state.few) c.args.depth c.args.entry c.args.envelope old c.requires.entry c.requires.room (λ i. omega (arith, c.args.self.now.octets i)) c.requires.state c.requires.depth c.entry-content.result c.u32_at-counted.result c.u16_at-handles.result c.next_multiple_of-whole.result new
+    c.entry-content.ensures.value c.u32_at-counted.ensures c.u16_at-handles.ensures whole led c.if-size-le4.false (sym c.u16_at-flags.ensures ∙ c.if-flags-ne0.false)
+    (omega (arith, c.if-counted-eq0.false), omega (arith, c.if-counted-ne0.false)) (omega (arith, c.requires.depth, c.if-depth-eq-MAX_DEPTH.false)) (omega (arith, c.if-whole-self.false)) in
+    let y = subst (λ (f : Frame). Enters t m c.args.depth c.args.entry c.args.envelope old new f) (sym c.content_frame-2.ensures) x in
+    record { ok = y.same; breaks = y.breaks; fine = y.fine; deeper = y.deeper; state = y.state; told = tt; err = tt; steps = refl; grows = omega arith; work = y.work }

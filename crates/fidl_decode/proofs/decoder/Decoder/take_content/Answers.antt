@@ -1,0 +1,213 @@
+use Rattle.std.proofs.Common.{◌+◌, ◌-◌, sym, subst, arith}
+use Rattle.std.specs.Prelude.{Some, None}
+use Rattle.fidl_decode.specs.declared.fault.DecodeFault.TheVariants.{WrongCounts}
+use Rattle.fidl_decode.specs.declared.frame.Frame.{Frame}
+use Rattle.fidl_decode.specs.declared.frame.Left.TheVariants.{Content}
+use Rattle.fidl_decode.specs.State.{At}
+use Rattle.fidl_decode.specs.Machine.{Turns, Reads, BreaksFrame, FrameFine, IsUntil, at_of}
+use Rattle.fidl_decode.specs.Faults.{message_of}
+use Rattle.fidl_decode.proofs.Leaves.{going_on, same_frame}
+use Rattle.fidl_decode.proofs.Turning.{on_err, passed_on}
+use Rattle.fidl_decode.proofs.ContentTurns.{content_end_room, content_over, content_elsewhere, content_miscounted, content_end_refused, content_end_breaks, content_known, content_size, content_room, content_inside, content_refused, content_breaks, content_turns}
+use Rattle.fidl_decode.proofs.decoder.Decoder.take_content.Goals.{then-state-until-via-then-state-until, then-state-until-via-else-state-until+then-state-until-2}
+use Rattle.fidl_decode.proofs.decoder.Decoder.take_content.Goals as goal
+
+pub overflow_add-at : goal.overflow_add-at
+overflow_add-at c =
+    let t = c.args.self.now.table.now in
+    let m = message_of c.args.self.now.bytes.now c.args.self.now.handles.now in
+    let same = same_frame c.args.frame (Content c.args.entry c.args.size c.args.count c.args.until) c.requires.left in
+    let own = subst (λ (f : Frame). FrameFine t m.bytes f) same c.requires.frame in
+    let room = content_end_room t c.requires.table m c.args.frame c.args.entry c.args.size c.args.count c.args.until (at_of c.args.state.now) own c.requires.state in record { fits = omega (arith, room.0, room.1, c.requires.short) }
+
+pub overflow_add-stop : goal.overflow_add-stop
+overflow_add-stop c =
+    let t = c.args.self.now.table.now in
+    let m = message_of c.args.self.now.bytes.now c.args.self.now.handles.now in
+    let same = same_frame c.args.frame (Content c.args.entry c.args.size c.args.count c.args.until) c.requires.left in
+    let own = subst (λ (f : Frame). FrameFine t m.bytes f) same c.requires.frame in
+    let room = content_end_room t c.requires.table m c.args.frame c.args.entry c.args.size c.args.count c.args.until (at_of c.args.state.now) own c.requires.state in record { fits = omega (arith, room.1, c.requires.short) }
+
+pub overflow_sub-state : goal.overflow_sub-state
+overflow_sub-state c =
+    let t = c.args.self.now.table.now in
+    let m = message_of c.args.self.now.bytes.now c.args.self.now.handles.now in
+    let same = same_frame c.args.frame (Content c.args.entry c.args.size c.args.count c.args.until) c.requires.left in
+    let own = subst (λ (f : Frame). FrameFine t m.bytes f) same c.requires.frame in
+    let room = content_end_room t c.requires.table m c.args.frame c.args.entry c.args.size c.args.count c.args.until (at_of c.args.state.now) own c.requires.state in omega (arith, room.0)
+
+pub overflow_add-state : goal.overflow_add-state
+overflow_add-state c =
+    let t = c.args.self.now.table.now in
+    let m = message_of c.args.self.now.bytes.now c.args.self.now.handles.now in
+    let same = same_frame c.args.frame (Content c.args.entry c.args.size c.args.count c.args.until) c.requires.left in
+    let own = subst (λ (f : Frame). FrameFine t m.bytes f) same c.requires.frame in
+    let room = content_end_room t c.requires.table m c.args.frame c.args.entry c.args.size c.args.count c.args.until (at_of c.args.state.now) own c.requires.state in record { fits = omega (arith, room.1, c.requires.short) }
+
+pub overflow_add-state-then-count-eq0 : goal.overflow_add-state-then-count-eq0
+overflow_add-state-then-count-eq0 c =
+    let t = c.args.self.now.table.now in
+    let m = message_of c.args.self.now.bytes.now c.args.self.now.handles.now in
+    let same = same_frame c.args.frame (Content c.args.entry c.args.size c.args.count c.args.until) c.requires.left in
+    let own = subst (λ (f : Frame). FrameFine t m.bytes f) same c.requires.frame in
+    let room = content_end_room t c.requires.table m c.args.frame c.args.entry c.args.size c.args.count c.args.until (at_of c.args.state.now) own c.requires.state in record { fits = omega (arith, room.1, c.requires.short, c.requires.steps) }
+
+pub zeros_at-requires-clause-order : goal.zeros_at-requires-clause-order
+zeros_at-requires-clause-order c =
+    let t = c.args.self.now.table.now in
+    let m = message_of c.args.self.now.bytes.now c.args.self.now.handles.now in
+    let same = same_frame c.args.frame (Content c.args.entry c.args.size c.args.count c.args.until) c.requires.left in
+    let own = subst (λ (f : Frame). FrameFine t m.bytes f) same c.requires.frame in
+    let room = content_end_room t c.requires.table m c.args.frame c.args.entry c.args.size c.args.count c.args.until (at_of c.args.state.now) own c.requires.state in omega (arith, room.0)
+
+pub zeros_at-requires-clause-room : goal.zeros_at-requires-clause-room
+zeros_at-requires-clause-room c =
+    let t = c.args.self.now.table.now in
+    let m = message_of c.args.self.now.bytes.now c.args.self.now.handles.now in
+    let same = same_frame c.args.frame (Content c.args.entry c.args.size c.args.count c.args.until) c.requires.left in
+    let own = subst (λ (f : Frame). FrameFine t m.bytes f) same c.requires.frame in
+    let room = content_end_room t c.requires.table m c.args.frame c.args.entry c.args.size c.args.count c.args.until (at_of c.args.state.now) own c.requires.state in room.1
+
+pub returns-in_err-zeros_at-clause-cost : goal.returns-in_err-zeros_at-clause-cost
+returns-in_err-zeros_at-clause-cost c =
+    let t = c.args.self.now.table.now in
+    let m = message_of c.args.self.now.bytes.now c.args.self.now.handles.now in
+    let same = same_frame c.args.frame (Content c.args.entry c.args.size c.args.count c.args.until) c.requires.left in
+    let own = subst (λ (f : Frame). FrameFine t m.bytes f) same c.requires.frame in
+    let room = content_end_room t c.requires.table m c.args.frame c.args.entry c.args.size c.args.count c.args.until (at_of c.args.state.now) own c.requires.state in omega (arith, room.2)
+
+pub returns-in_err-zeros_at-clause-err : goal.returns-in_err-zeros_at-clause-err
+returns-in_err-zeros_at-clause-err c =
+    let t = c.args.self.now.table.now in
+    let m = message_of c.args.self.now.bytes.now c.args.self.now.handles.now in
+    let same = same_frame c.args.frame (Content c.args.entry c.args.size c.args.count c.args.until) c.requires.left in
+    let own = subst (λ (f : Frame). FrameFine t m.bytes f) same c.requires.frame in
+    on_err _ ((to : At) → Reads t m c.args.frame (at_of c.args.state.now) to → ⊥) (subst (λ (f : Frame). (to : At) → Reads t m f (at_of c.args.state.now) to → ⊥) (sym same) (content_end_refused t c.requires.table m c.args.frame c.args.entry c.args.size c.args.count c.args.until (at_of c.args.state.now) own c.requires.state c.if-count-eq0.true c.in_err-zeros_at.ensures.err))
+
+pub returns-in_err-zeros_at-clause-told : goal.returns-in_err-zeros_at-clause-told
+returns-in_err-zeros_at-clause-told c =
+    let t = c.args.self.now.table.now in
+    let m = message_of c.args.self.now.bytes.now c.args.self.now.handles.now in
+    let same = same_frame c.args.frame (Content c.args.entry c.args.size c.args.count c.args.until) c.requires.left in
+    let own = subst (λ (f : Frame). FrameFine t m.bytes f) same c.requires.frame in
+    passed_on c.from_residual.result c.in_err-zeros_at.field-0.0 _ c.from_residual.ensures.1 (subst (λ (f : Frame). BreaksFrame t m f (at_of c.args.state.now) c.in_err-zeros_at.field-0.0) (sym same) (content_end_breaks t c.requires.table m c.args.frame c.args.entry c.args.size c.args.count c.args.until (at_of c.args.state.now) own c.requires.state c.if-count-eq0.true c.in_err-zeros_at.field-0.0 c.in_err-zeros_at.ensures.told))
+
+pub returns-then-state-until-clause-cost : goal.returns-then-state-until-clause-cost
+returns-then-state-until-clause-cost c =
+    let t = c.args.self.now.table.now in
+    let m = message_of c.args.self.now.bytes.now c.args.self.now.handles.now in
+    let same = same_frame c.args.frame (Content c.args.entry c.args.size c.args.count c.args.until) c.requires.left in
+    let own = subst (λ (f : Frame). FrameFine t m.bytes f) same c.requires.frame in
+    let room = content_end_room t c.requires.table m c.args.frame c.args.entry c.args.size c.args.count c.args.until (at_of c.args.state.now) own c.requires.state in omega (arith, room.2)
+
+pub returns-then-state-until-clause-err : goal.returns-then-state-until-clause-err
+returns-then-state-until-clause-err c =
+    let t = c.args.self.now.table.now in
+    let m = message_of c.args.self.now.bytes.now c.args.self.now.handles.now in
+    let same = same_frame c.args.frame (Content c.args.entry c.args.size c.args.count c.args.until) c.requires.left in
+    let own = subst (λ (f : Frame). FrameFine t m.bytes f) same c.requires.frame in
+    let other : IsUntil c.args.until (at_of c.args.state.now) → ⊥ = elim c.then-state-until.branch [
+      | then-state-until-via-then-state-until w ↦ (λ u. w.if-state-until.true u.0)
+      | then-state-until-via-else-state-until+then-state-until-2 w ↦ (λ u. w.if-state-until-2.true u.1)
+    ] in
+    subst (λ (f : Frame). (to : At) → Reads t m f (at_of c.args.state.now) to → ⊥) (sym same) (content_elsewhere t c.requires.table m c.args.frame c.args.entry c.args.size c.args.count c.args.until (at_of c.args.state.now) own c.requires.state c.if-count-eq0.true c.in_ok-zeros_at.ensures.ok other)
+
+pub returns-then-state-until-clause-told : goal.returns-then-state-until-clause-told
+returns-then-state-until-clause-told c =
+    let t = c.args.self.now.table.now in
+    let m = message_of c.args.self.now.bytes.now c.args.self.now.handles.now in
+    let same = same_frame c.args.frame (Content c.args.entry c.args.size c.args.count c.args.until) c.requires.left in
+    let own = subst (λ (f : Frame). FrameFine t m.bytes f) same c.requires.frame in
+    let other : IsUntil c.args.until (at_of c.args.state.now) → ⊥ = elim c.then-state-until.branch [
+      | then-state-until-via-then-state-until w ↦ (λ u. w.if-state-until.true u.0)
+      | then-state-until-via-else-state-until+then-state-until-2 w ↦ (λ u. w.if-state-until-2.true u.1)
+    ] in
+    subst (λ (f : Frame). BreaksFrame t m f (at_of c.args.state.now) (WrongCounts c.args.until.envelope)) (sym same) (content_miscounted t c.requires.table m c.args.frame c.args.entry c.args.size c.args.count c.args.until (at_of c.args.state.now) own c.requires.state c.if-count-eq0.true c.in_ok-zeros_at.ensures.ok other)
+
+pub returns-then-count-eq0-clause-ok : goal.returns-then-count-eq0-clause-ok
+returns-then-count-eq0-clause-ok c =
+    let t = c.args.self.now.table.now in
+    let m = message_of c.args.self.now.bytes.now c.args.self.now.handles.now in
+    let same = same_frame c.args.frame (Content c.args.entry c.args.size c.args.count c.args.until) c.requires.left in
+    let own = subst (λ (f : Frame). FrameFine t m.bytes f) same c.requires.frame in
+    subst (λ (f : Frame). Turns t m f (at_of c.args.state.now) (at_of c.args.state.now) (c.args.state.now.steps + (c.args.frame.base + c.args.frame.size - (c.args.frame.base + c.args.frame.done) + 1) - c.args.state.now.steps) (record { below = None; rest = None })) (sym same) (content_over t c.requires.table m c.args.frame c.args.entry c.args.size c.args.count c.args.until (at_of c.args.state.now) own c.requires.state c.if-count-eq0.true c.in_ok-zeros_at.ensures.ok (c.if-state-until.false, c.if-state-until-2.false) _ (omega arith))
+
+pub returns-then-count-eq0-clause-cost : goal.returns-then-count-eq0-clause-cost
+returns-then-count-eq0-clause-cost c =
+    let t = c.args.self.now.table.now in
+    let m = message_of c.args.self.now.bytes.now c.args.self.now.handles.now in
+    let same = same_frame c.args.frame (Content c.args.entry c.args.size c.args.count c.args.until) c.requires.left in
+    let own = subst (λ (f : Frame). FrameFine t m.bytes f) same c.requires.frame in
+    let room = content_end_room t c.requires.table m c.args.frame c.args.entry c.args.size c.args.count c.args.until (at_of c.args.state.now) own c.requires.state in omega (arith, room.2)
+
+pub visit-requires-clause-entry : goal.visit-requires-clause-entry
+visit-requires-clause-entry c =
+    let t = c.args.self.now.table.now in
+    let m = message_of c.args.self.now.bytes.now c.args.self.now.handles.now in
+    let same = same_frame c.args.frame (Content c.args.entry c.args.size c.args.count c.args.until) c.requires.left in
+    let own = subst (λ (f : Frame). FrameFine t m.bytes f) same c.requires.frame in
+    content_known t c.requires.table m c.args.frame c.args.entry c.args.size c.args.count c.args.until (at_of c.args.state.now) own c.requires.state (omega (arith, c.if-count-eq0.false))
+
+pub visit-requires-clause-room : goal.visit-requires-clause-room
+visit-requires-clause-room c =
+    let t = c.args.self.now.table.now in
+    let m = message_of c.args.self.now.bytes.now c.args.self.now.handles.now in
+    let same = same_frame c.args.frame (Content c.args.entry c.args.size c.args.count c.args.until) c.requires.left in
+    let own = subst (λ (f : Frame). FrameFine t m.bytes f) same c.requires.frame in
+    let fits = content_room t c.requires.table m c.args.frame c.args.entry c.args.size c.args.count c.args.until (at_of c.args.state.now) own c.requires.state (omega (arith, c.if-count-eq0.false)) in omega (arith, fits.0, fits.1)
+
+pub visit-requires-clause-inside : goal.visit-requires-clause-inside
+visit-requires-clause-inside c =
+    let t = c.args.self.now.table.now in
+    let m = message_of c.args.self.now.bytes.now c.args.self.now.handles.now in
+    let same = same_frame c.args.frame (Content c.args.entry c.args.size c.args.count c.args.until) c.requires.left in
+    let own = subst (λ (f : Frame). FrameFine t m.bytes f) same c.requires.frame in
+    content_inside t c.requires.table m c.args.frame c.args.entry c.args.size c.args.count c.args.until (at_of c.args.state.now) own c.requires.state (omega (arith, c.if-count-eq0.false))
+
+pub returns-in_err-below-clause-cost : goal.returns-in_err-below-clause-cost
+returns-in_err-below-clause-cost c =
+    let t = c.args.self.now.table.now in
+    let m = message_of c.args.self.now.bytes.now c.args.self.now.handles.now in
+    let same = same_frame c.args.frame (Content c.args.entry c.args.size c.args.count c.args.until) c.requires.left in
+    let own = subst (λ (f : Frame). FrameFine t m.bytes f) same c.requires.frame in
+    let fits = content_room t c.requires.table m c.args.frame c.args.entry c.args.size c.args.count c.args.until (at_of c.args.state.now) own c.requires.state (omega (arith, c.if-count-eq0.false)) in let probed = c.in_err-below.ensures.probes in let work = fits.2 in omega (arith, probed, work)
+
+pub returns-in_err-below-clause-err : goal.returns-in_err-below-clause-err
+returns-in_err-below-clause-err c =
+    let t = c.args.self.now.table.now in
+    let m = message_of c.args.self.now.bytes.now c.args.self.now.handles.now in
+    let same = same_frame c.args.frame (Content c.args.entry c.args.size c.args.count c.args.until) c.requires.left in
+    let own = subst (λ (f : Frame). FrameFine t m.bytes f) same c.requires.frame in
+    on_err _ ((to : At) → Reads t m c.args.frame (at_of c.args.state.now) to → ⊥) (subst (λ (f : Frame). (to : At) → Reads t m f (at_of c.args.state.now) to → ⊥) (sym same) (content_refused t c.requires.table m c.args.frame c.args.entry c.args.size c.args.count c.args.until (at_of c.args.state.now) own c.requires.state (omega (arith, c.if-count-eq0.false)) c.in_err-below.ensures.err))
+
+pub returns-in_err-below-clause-told : goal.returns-in_err-below-clause-told
+returns-in_err-below-clause-told c =
+    let t = c.args.self.now.table.now in
+    let m = message_of c.args.self.now.bytes.now c.args.self.now.handles.now in
+    let same = same_frame c.args.frame (Content c.args.entry c.args.size c.args.count c.args.until) c.requires.left in
+    let own = subst (λ (f : Frame). FrameFine t m.bytes f) same c.requires.frame in
+    passed_on c.from_residual-in_err-below.result c.in_err-below.field-0.0 _ c.from_residual-in_err-below.ensures.1 (subst (λ (f : Frame). BreaksFrame t m f (at_of c.args.state.now) c.in_err-below.field-0.0) (sym same) (content_breaks t c.requires.table m c.args.frame c.args.entry c.args.size c.args.count c.args.until (at_of c.args.state.now) own c.requires.state (omega (arith, c.if-count-eq0.false)) c.in_err-below.field-0.0 c.in_err-below.ensures.told))
+
+pub overflow_add-rest : goal.overflow_add-rest
+overflow_add-rest c =
+    let t = c.args.self.now.table.now in
+    let m = message_of c.args.self.now.bytes.now c.args.self.now.handles.now in
+    let same = same_frame c.args.frame (Content c.args.entry c.args.size c.args.count c.args.until) c.requires.left in
+    let own = subst (λ (f : Frame). FrameFine t m.bytes f) same c.requires.frame in
+    let fits = content_room t c.requires.table m c.args.frame c.args.entry c.args.size c.args.count c.args.until (at_of c.args.state.now) own c.requires.state (omega (arith, c.if-count-eq0.false)) in let size = content_size t c.requires.table m c.args.frame c.args.entry c.args.size c.args.count c.args.until (at_of c.args.state.now) own c.requires.state (omega (arith, c.if-count-eq0.false)) in record { fits = omega (arith, fits.0, fits.1, size, c.requires.short) }
+
+pub returns-clause-ok : goal.returns-clause-ok
+returns-clause-ok c =
+    let t = c.args.self.now.table.now in
+    let m = message_of c.args.self.now.bytes.now c.args.self.now.handles.now in
+    let same = same_frame c.args.frame (Content c.args.entry c.args.size c.args.count c.args.until) c.requires.left in
+    let own = subst (λ (f : Frame). FrameFine t m.bytes f) same c.requires.frame in
+    let grows = c.in_ok-below.ensures.grows in subst (λ (f : Frame). Turns t m f (at_of c.args.state.now) (at_of c.visit.new.state) (c.visit.new.state.steps - c.args.state.now.steps) (record { below = c.in_ok-below.below; rest = Some (going_on c.args.frame (Content c.args.entry c.args.size (c.args.count - 1) c.args.until) (c.args.frame.done + c.args.size)) })) (sym same) (content_turns t c.requires.table m c.args.frame c.args.entry c.args.size c.args.count c.args.until (at_of c.args.state.now) own c.requires.state (omega (arith, c.if-count-eq0.false)) c.in_ok-below.below (at_of c.visit.new.state) (c.visit.new.state.steps - (c.args.state.now.steps + 1)) (c.visit.new.state.steps - c.args.state.now.steps) (omega (arith, grows)) c.in_ok-below.ensures.ok c.in_ok-below.ensures.fine)
+
+pub returns-clause-cost : goal.returns-clause-cost
+returns-clause-cost c =
+    let t = c.args.self.now.table.now in
+    let m = message_of c.args.self.now.bytes.now c.args.self.now.handles.now in
+    let same = same_frame c.args.frame (Content c.args.entry c.args.size c.args.count c.args.until) c.requires.left in
+    let own = subst (λ (f : Frame). FrameFine t m.bytes f) same c.requires.frame in
+    let fits = content_room t c.requires.table m c.args.frame c.args.entry c.args.size c.args.count c.args.until (at_of c.args.state.now) own c.requires.state (omega (arith, c.if-count-eq0.false)) in let probed = c.in_ok-below.ensures.probes in let work = fits.2 in omega (arith, probed, work)

@@ -1,0 +1,120 @@
+//! The content of envelopes, and the members that are left of any frame.
+ghost use Rattle.std.specs.Prelude.{◌≡◌, ◌+◌, ◌-◌, ◌^◌, ◌<◌, ◌≤◌, OnErr, IfOk, IfErr, length};
+ghost use Rattle.fidl_limits.specs.declared.limits.TheConstants.{MAX_MESSAGE_BYTES};
+ghost use Rattle.fidl_decode.specs.Invariants.{IsFine};
+ghost use Rattle.fidl_decode.specs.Faults.{message_of};
+ghost use Rattle.fidl_decode.specs.State.{At};
+ghost use Rattle.fidl_decode.specs.declared.frame.Left.TheVariants as left;
+ghost use Rattle.fidl_decode.specs.Machine.{StateFine, FrameFine, Turns, Reads, BreaksFrame};
+ghost use Rattle.fidl_decode.specs.Machine.{turn_work, at_of};
+
+use crate::decoder::{Decoder, zeros_at};
+use crate::fault::DecodeFault;
+use crate::frame::{Frame, Left, State, Turn, Until};
+
+impl<'t, 'm> Decoder<'t, 'm> {
+    /// Reads the value of an envelope's content, or its end, which has to be where the envelope
+    /// counts up to.
+    fn take_content(
+        &self,
+        frame: Frame,
+        entry: u32,
+        size: usize,
+        count: u32,
+        until: Until,
+        state: &mut State,
+    ) -> Result<Turn, DecodeFault>
+        requires table { IsFine self.now.table.now }
+        requires left { frame.left ≡ left.Content entry size count until }
+        requires short { length self.now.bytes.now ≤ MAX_MESSAGE_BYTES }
+        requires frame { FrameFine self.now.table.now self.now.bytes.now frame }
+        requires state { StateFine (message_of self.now.bytes.now self.now.handles.now)
+            (at_of state.old) }
+        requires steps { state.old.steps < 2 ^ 40 }
+        ensures ok { IfOk result
+            (λ turn. Turns self.now.table.now (message_of self.now.bytes.now self.now.handles.now)
+            frame (at_of state.old) (at_of state.new) (state.new.steps - state.old.steps) turn) }
+        ensures rises { state.old.steps < state.new.steps }
+        ensures cost { state.new.steps ≤ state.old.steps
+            + turn_work self.now.bytes.now state.old.next frame }
+        ensures err { OnErr result
+            ((to : At)
+            → Reads self.now.table.now (message_of self.now.bytes.now self.now.handles.now) frame
+            (at_of state.old) to → ⊥) }
+        ensures told { IfErr result
+            (BreaksFrame self.now.table.now (message_of self.now.bytes.now self.now.handles.now)
+            frame (at_of state.old)) }
+    {
+        let at = frame.base + frame.done;
+        if count == 0 {
+            let stop = frame.base + frame.size;
+            state.steps += (stop - at) as u64 + 1;
+            zeros_at(self.bytes, at, stop)?;
+            if state.next != until.next || state.handle != until.handle {
+                return Err(DecodeFault::WrongCounts { at: until.envelope });
+            }
+            return Ok(Turn {
+                below: None,
+                rest: None,
+            });
+        }
+        state.steps += 1;
+        let below = self.visit(entry, at, frame.depth, frame.inside, state)?;
+        let left = Left::Content {
+            entry,
+            size,
+            count: count - 1,
+            until,
+        };
+        let rest = Frame {
+            left,
+            base: frame.base,
+            done: frame.done + size,
+            size: frame.size,
+            nest: frame.nest,
+            depth: frame.depth,
+            inside: frame.inside,
+        };
+        Ok(Turn {
+            below,
+            rest: Some(rest),
+        })
+    }
+
+    /// Reads the next member of a frame, or its end.
+    pub(crate) fn take_member(&self, frame: Frame, state: &mut State) -> Result<Turn, DecodeFault>
+        requires table { IsFine self.now.table.now }
+        requires short { length self.now.bytes.now ≤ MAX_MESSAGE_BYTES }
+        requires frame { FrameFine self.now.table.now self.now.bytes.now frame }
+        requires state { StateFine (message_of self.now.bytes.now self.now.handles.now)
+            (at_of state.old) }
+        requires steps { state.old.steps < 2 ^ 40 }
+        ensures ok { IfOk result
+            (λ turn. Turns self.now.table.now (message_of self.now.bytes.now self.now.handles.now)
+            frame (at_of state.old) (at_of state.new) (state.new.steps - state.old.steps) turn) }
+        ensures rises { state.old.steps < state.new.steps }
+        ensures cost { state.new.steps ≤ state.old.steps
+            + turn_work self.now.bytes.now state.old.next frame }
+        ensures err { OnErr result
+            ((to : At)
+            → Reads self.now.table.now (message_of self.now.bytes.now self.now.handles.now) frame
+            (at_of state.old) to → ⊥) }
+        ensures told { IfErr result
+            (BreaksFrame self.now.table.now (message_of self.now.bytes.now self.now.handles.now)
+            frame (at_of state.old)) }
+    {
+        match frame.left {
+            Left::Envelopes { entry, read, count } => {
+                self.take_envelope(frame, entry, read, count, state)
+            }
+            Left::Content {
+                entry,
+                size,
+                count,
+                until,
+            } => self.take_content(frame, entry, size, count, until, state),
+            Left::Rows { .. } => self.take_row(frame, state),
+            Left::Elements { .. } => self.take_row(frame, state),
+        }
+    }
+}

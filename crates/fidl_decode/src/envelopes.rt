@@ -1,0 +1,230 @@
+//! Envelopes: the three numbers of one, and the member that it holds, in it or as the next object.
+ghost use Rattle.std.specs.Prelude.{◌≡◌, ◌⊎◌, ◌+◌, ◌-◌, ◌*◌, ◌<◌, ◌≤◌, ◌↔◌, IfOk, IfErr, OnOk};
+ghost use Rattle.std.specs.Prelude.{ℕ, OnErr, Some, None, length, slice_get};
+ghost use Rattle.fidl_limits.specs.declared.limits.TheConstants.{MAX_DEPTH, MAX_MESSAGE_BYTES};
+ghost use Rattle.fidl_wire.specs.declared.handle.HandleInfo.{HandleInfo};
+ghost use Rattle.fidl_wire.specs.Typed.{IsHandle};
+ghost use Rattle.fidl_wire.specs.Term as ty;
+ghost use Rattle.fidl_records.specs.Section.{header_of};
+ghost use Rattle.fidl_records.specs.Terms.{declarations_of};
+ghost use Rattle.fidl_decode.specs.declared.fault.DecodeFault.{DecodeFault};
+ghost use Rattle.fidl_decode.specs.declared.frame.Left.TheVariants as left;
+ghost use Rattle.fidl_decode.specs.Invariants.{IsFine};
+ghost use Rattle.fidl_decode.specs.Faults.{message_of};
+ghost use Rattle.fidl_decode.specs.Envelopes.{Contained};
+ghost use Rattle.fidl_decode.specs.Breaks.{BreaksMember};
+ghost use Rattle.fidl_decode.specs.State.{At};
+ghost use Rattle.fidl_decode.specs.Machine.{Reads, BreaksFrame, FrameFine, StateFine, at_of};
+ghost use Rattle.fidl_decode.specs.Machine.{level, height, most_nest, inline_work, frame_work};
+
+use crate::decoder::Decoder;
+use crate::fault::DecodeFault;
+use crate::frame::{Frame, Left, State, Until};
+use fidl_records::{Entry, u16_at, u32_at};
+use fidl_wire::{HandleInfo, MAX_DEPTH};
+
+/// The frame of the content of an envelope, which is one value of an entry, and zeros behind it.
+fn content_frame(
+    entry: u32,
+    content: &Entry,
+    until: Until,
+    base: usize,
+    size: usize,
+    depth: u8,
+    inside: u8,
+) -> Frame
+    requires { content.now.nest < 255 }
+    ensures { result ≡ record {
+      left = left.Content entry content.now.size 1 until;
+      base = base;
+      done = 0;
+      size = size;
+      nest = content.now.nest + 1;
+      depth = depth;
+      inside = inside;
+    } }
+{
+    let left = Left::Content {
+        entry,
+        size: content.size as usize,
+        count: 1,
+        until,
+    };
+    Frame {
+        left,
+        base,
+        done: 0,
+        size,
+        nest: content.nest + 1,
+        depth,
+        inside,
+    }
+}
+
+/// The numbers of a record have 32 bits.
+fn is_handle(info: HandleInfo)
+    ensures { IsHandle info }
+{}
+
+/// Reads so many records from one on, so that their numbers are known to have 32 bits.
+fn are_handles(handles: &[HandleInfo], from: usize, count: usize)
+    requires { from + count ≤ length handles.now }
+    ensures { (i : ℕ) → (h : HandleInfo) → from ≤ i → i < from + count
+        → slice_get handles.now i ≡ Some h → IsHandle h }
+{
+    for i in from..from + count {
+        is_handle(handles[i]);
+    }
+}
+
+impl<'t, 'm> Decoder<'t, 'm> {
+    /// Reads the numbers of the envelope at a place, which holds a known member: its content, in
+    /// the envelope or linked as the next object, is left to read.
+    pub(crate) fn enter_member(
+        &self,
+        entry: u32,
+        envelope: usize,
+        depth: u8,
+        state: &mut State,
+    ) -> Result<Frame, DecodeFault>
+        requires table { IsFine self.now.table.now }
+        requires entry { entry < (header_of self.now.table.now).entries }
+        requires short { length self.now.bytes.now ≤ MAX_MESSAGE_BYTES }
+        requires room { envelope + 8 ≤ length self.now.bytes.now }
+        requires state { StateFine (message_of self.now.bytes.now self.now.handles.now)
+            (at_of state.old) }
+        requires depth { depth ≤ MAX_DEPTH }
+        ensures ok { IfOk result (λ frame. (to : At)
+            → Contained (declarations_of self.now.table.now)
+            (message_of self.now.bytes.now self.now.handles.now) depth (Some (ty.named entry))
+            envelope (at_of state.old) to
+            ↔ Reads self.now.table.now (message_of self.now.bytes.now self.now.handles.now) frame
+            (at_of state.new) to) }
+        ensures breaks { IfOk result (λ frame. (fault : DecodeFault)
+            → BreaksFrame self.now.table.now (message_of self.now.bytes.now self.now.handles.now)
+            frame (at_of state.new) fault
+            → BreaksMember (declarations_of self.now.table.now)
+            (message_of self.now.bytes.now self.now.handles.now) depth (Some (ty.named entry))
+            envelope (at_of state.old) fault) }
+        ensures fine { IfOk result
+            (λ frame. FrameFine self.now.table.now self.now.bytes.now frame) }
+        ensures deeper { IfOk result (λ frame. level depth 1 most_nest ≤ height frame) }
+        ensures state { StateFine (message_of self.now.bytes.now self.now.handles.now)
+            (at_of state.new) }
+        ensures told { IfErr result (BreaksMember (declarations_of self.now.table.now)
+            (message_of self.now.bytes.now self.now.handles.now) depth (Some (ty.named entry))
+            envelope (at_of state.old)) }
+        ensures err { OnErr result ((to : At)
+            → Contained (declarations_of self.now.table.now)
+            (message_of self.now.bytes.now self.now.handles.now) depth (Some (ty.named entry))
+            envelope (at_of state.old) to → ⊥) }
+        ensures steps { state.new.steps ≡ state.old.steps }
+        ensures grows { state.old.next ≤ state.new.next }
+        ensures work { IfOk result (λ frame.
+            ((state.new.next ≡ state.old.next)
+            × (frame_work frame ≤ inline_work most_nest * 4 + 1))
+            ⊎ (frame_work frame
+            ≤ inline_work most_nest * (state.new.next - state.old.next) + 1)) }
+    {
+        let content = self.table.entry(entry);
+        let counted = u32_at(self.bytes, envelope) as usize;
+        let handles = u16_at(self.bytes, envelope + 4) as usize;
+        let flags = u16_at(self.bytes, envelope + 6);
+        let size = content.size as usize;
+        let next = state.next;
+        if size <= 4 {
+            if flags != 1 {
+                return Err(DecodeFault::BadEnvelope { at: envelope });
+            }
+            state.links.record(envelope + 4, state.handle);
+            let until = Until {
+                envelope,
+                next,
+                handle: state.handle + handles,
+            };
+            return Ok(content_frame(entry, &content, until, envelope, 4, depth, 1));
+        }
+        if flags != 0 || counted == 0 || counted % 8 != 0 {
+            return Err(DecodeFault::BadEnvelope { at: envelope });
+        }
+        if depth as usize == MAX_DEPTH {
+            return Err(DecodeFault::TooDeep { at: envelope });
+        }
+        let whole = size.next_multiple_of(8);
+        if whole > self.bytes.len() - next {
+            return Err(DecodeFault::Truncated { at: next });
+        }
+        state.links.record(envelope + 4, state.handle);
+        state.links.link(envelope, next);
+        state.next = next + whole;
+        let until = Until {
+            envelope,
+            next: next + counted,
+            handle: state.handle + handles,
+        };
+        Ok(content_frame(entry, &content, until, next, whole, depth + 1, 0))
+    }
+
+    /// Reads the numbers of the envelope at a place, which holds an unknown member, and skips what
+    /// it counts: bytes, in it or the next ones out of line, and handles.
+    pub(crate) fn skip_member(
+        &self,
+        envelope: usize,
+        depth: u8,
+        state: &mut State,
+    ) -> Result<(), DecodeFault>
+        requires table { IsFine self.now.table.now }
+        requires short { length self.now.bytes.now ≤ MAX_MESSAGE_BYTES }
+        requires room { envelope + 8 ≤ length self.now.bytes.now }
+        requires state { StateFine (message_of self.now.bytes.now self.now.handles.now)
+            (at_of state.old) }
+        requires depth { depth ≤ MAX_DEPTH }
+        ensures ok { OnOk result ((to : At)
+            → Contained (declarations_of self.now.table.now)
+            (message_of self.now.bytes.now self.now.handles.now) depth None envelope
+            (at_of state.old) to ↔ (at_of state.new ≡ to)) }
+        ensures state { StateFine (message_of self.now.bytes.now self.now.handles.now)
+            (at_of state.new) }
+        ensures told { IfErr result (BreaksMember (declarations_of self.now.table.now)
+            (message_of self.now.bytes.now self.now.handles.now) depth None envelope
+            (at_of state.old)) }
+        ensures err { OnErr result ((to : At)
+            → Contained (declarations_of self.now.table.now)
+            (message_of self.now.bytes.now self.now.handles.now) depth None envelope
+            (at_of state.old) to → ⊥) }
+        ensures steps { state.new.steps ≡ state.old.steps }
+        ensures grows { state.old.next ≤ state.new.next }
+    {
+        let counted = u32_at(self.bytes, envelope) as usize;
+        let handles = u16_at(self.bytes, envelope + 4) as usize;
+        let flags = u16_at(self.bytes, envelope + 6);
+        if flags == 1 {
+            if handles > self.handles.len() - state.handle {
+                return Err(DecodeFault::HandleMissing { at: envelope });
+            }
+            are_handles(self.handles, state.handle, handles);
+            state.links.record(envelope + 4, state.handle);
+            state.handle += handles;
+            return Ok(());
+        }
+        if flags != 0 || counted == 0 || counted % 8 != 0 {
+            return Err(DecodeFault::BadEnvelope { at: envelope });
+        }
+        if depth as usize == MAX_DEPTH {
+            return Err(DecodeFault::TooDeep { at: envelope });
+        }
+        let next = state.next;
+        if counted > self.bytes.len() - next {
+            return Err(DecodeFault::Truncated { at: next });
+        }
+        if handles > self.handles.len() - state.handle {
+            return Err(DecodeFault::HandleMissing { at: envelope });
+        }
+        are_handles(self.handles, state.handle, handles);
+        state.links.record(envelope + 4, state.handle);
+        state.links.link(envelope, next);
+        state.next = next + counted;
+        state.handle += handles;
+        Ok(())
+    }
+}

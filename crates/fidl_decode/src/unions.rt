@@ -1,0 +1,115 @@
+//! Unions: an ordinal and an envelope; and envelopes, whose members are known by their ordinals or
+//! skipped.
+ghost use Rattle.std.specs.Prelude.{◌≡◌, ℕ, ◌+◌, ◌-◌, ◌*◌, ◌^◌, ◌<◌, ◌≤◌, OnErr, IfOk, IfErr, IfSome};
+ghost use Rattle.std.specs.Prelude.{Some, length};
+ghost use Rattle.fidl_limits.specs.declared.limits.TheConstants.{MAX_DEPTH, MAX_MESSAGE_BYTES};
+ghost use Rattle.fidl_wire.specs.Term as ty;
+ghost use Rattle.fidl_wire.specs.Term.{resolve};
+ghost use Rattle.fidl_records.specs.declared.kind.EntryKind.TheVariants as kinds;
+ghost use Rattle.fidl_records.specs.Kind.{kind_of};
+ghost use Rattle.fidl_records.specs.Section.{header_of, entry_at};
+ghost use Rattle.fidl_records.specs.Terms.{declarations_of};
+ghost use Rattle.fidl_decode.specs.Invariants.{IsFine};
+ghost use Rattle.fidl_decode.specs.Faults.{message_of};
+ghost use Rattle.fidl_decode.specs.Envelopes.{Contained};
+ghost use Rattle.fidl_decode.specs.Breaks.{Breaks, BreaksMember};
+ghost use Rattle.fidl_decode.specs.State.{At, Item};
+ghost use Rattle.fidl_decode.specs.Machine.{StateFine, Visits, VisitFine, Opens, member_term, at_of};
+ghost use Rattle.fidl_decode.specs.Machine.{probes};
+
+use crate::decoder::Decoder;
+use crate::fault::DecodeFault;
+use crate::frame::{Frame, State};
+use crate::handles::is_optional;
+use fidl_records::{Row, u64_at};
+use fidl_wire::{Presence, presence_at};
+
+impl<'t, 'm> Decoder<'t, 'm> {
+    /// Opens the envelope of a member at a place: a known one is left to read, one without a row is
+    /// skipped.
+    pub(crate) fn open_envelope(
+        &self,
+        member: Option<Row>,
+        envelope: usize,
+        depth: u8,
+        state: &mut State,
+    ) -> Result<Option<Frame>, DecodeFault>
+        requires table { IsFine self.now.table.now }
+        requires member { IfSome member (λ row. row.entry < (header_of self.now.table.now).entries) }
+        requires short { length self.now.bytes.now ≤ MAX_MESSAGE_BYTES }
+        requires room { envelope + 8 ≤ length self.now.bytes.now }
+        requires state { StateFine (message_of self.now.bytes.now self.now.handles.now)
+            (at_of state.old) }
+        requires depth { depth ≤ MAX_DEPTH }
+        ensures ok { IfOk result (Opens self.now.table.now
+            (message_of self.now.bytes.now self.now.handles.now) depth (member_term member) envelope
+            (at_of state.old) (at_of state.new)) }
+        ensures err { OnErr result ((to : At) → Contained (declarations_of self.now.table.now)
+            (message_of self.now.bytes.now self.now.handles.now) depth (member_term member) envelope
+            (at_of state.old) to → ⊥) }
+        ensures told { IfErr result (BreaksMember (declarations_of self.now.table.now)
+            (message_of self.now.bytes.now self.now.handles.now) depth (member_term member) envelope
+            (at_of state.old)) }
+        ensures steps { state.new.steps ≡ state.old.steps }
+    {
+        let Some(row) = member else {
+            self.skip_member(envelope, depth, state)?;
+            return Ok(None);
+        };
+        let frame = self.enter_member(row.entry, envelope, depth, state)?;
+        Ok(Some(frame))
+    }
+
+    /// Reads the ordinal of a union at a place, and opens its envelope.
+    pub(crate) fn read_union(
+        &self,
+        entry: u32,
+        place: usize,
+        depth: u8,
+        state: &mut State,
+    ) -> Result<Option<Frame>, DecodeFault>
+        requires table { IsFine self.now.table.now }
+        requires entry { entry < (header_of self.now.table.now).entries }
+        requires kind { kind_of (entry_at self.now.table.now entry).kind ≡ Some kinds.Union }
+        requires short { length self.now.bytes.now ≤ MAX_MESSAGE_BYTES }
+        requires room { place + 16 ≤ length self.now.bytes.now }
+        requires state { StateFine (message_of self.now.bytes.now self.now.handles.now)
+            (at_of state.old) }
+        requires depth { depth ≤ MAX_DEPTH }
+        requires budget { state.old.steps < 2 ^ 41 }
+        ensures ok { IfOk result (λ found. Visits self.now.table.now
+            (message_of self.now.bytes.now self.now.handles.now) depth entry place
+            (at_of state.old) (at_of state.new) (state.new.steps - state.old.steps) found) }
+        ensures fine { IfOk result (VisitFine self.now.table.now
+            (message_of self.now.bytes.now self.now.handles.now) depth 0 entry) }
+        ensures err { OnErr result ((to : At) → Item (declarations_of self.now.table.now)
+            (message_of self.now.bytes.now self.now.handles.now) depth
+            (resolve (declarations_of self.now.table.now).terms (ty.named entry)) place
+            (at_of state.old) to → ⊥) }
+        ensures told { IfErr result (Breaks (declarations_of self.now.table.now)
+            (message_of self.now.bytes.now self.now.handles.now) depth
+            (resolve (declarations_of self.now.table.now).terms (ty.named entry)) place
+            (at_of state.old)) }
+        ensures grows { state.old.steps ≤ state.new.steps }
+        ensures probes { state.new.steps ≤ state.old.steps + probes }
+    {
+        let e = self.table.entry(entry);
+        let ordinal = u64_at(self.bytes, place);
+        let envelope = place + 8;
+        if ordinal == 0 {
+            match presence_at(self.bytes, envelope, 8) {
+                Presence::Absent => {}
+                _ => return Err(DecodeFault::BadEnvelope { at: envelope }),
+            }
+            if !is_optional(&e) {
+                return Err(DecodeFault::AbsentRequired { at: place });
+            }
+            return Ok(None);
+        }
+        let member = self.table.member(entry, ordinal, &mut state.steps);
+        if member.is_none() && e.is_strict() {
+            return Err(DecodeFault::UnknownOrdinal { at: place });
+        }
+        self.open_envelope(member, envelope, depth, state)
+    }
+}

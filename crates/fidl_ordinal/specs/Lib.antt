@@ -1,0 +1,2 @@
+-- The definition of ordinals.
+pub mod Ordinal

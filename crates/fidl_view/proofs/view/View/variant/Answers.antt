@@ -1,0 +1,19 @@
+use Rattle.fidl_records.specs.Section.{header_of, entry_at}
+use Rattle.fidl_records.specs.Terms.{declarations_of}
+use Rattle.fidl_view.proofs.Viewing as viewing
+use Rattle.fidl_view.proofs.Keyed as keyed
+use Rattle.fidl_view.proofs.view.View.variant.Goals as goal
+
+pub returns-in-Some-clause-part : goal.returns-in-Some-clause-part
+returns-in-Some-clause-part c v h =
+    let x = c.in-Some.ensures.held v h in
+    (x.0, x.1, c.known.ensures.part x.0 x.2)
+
+pub returns-in_default : goal.returns-in_default
+returns-in_default c =
+    let d = c.args.self.decoded.now in
+    let i = c.args.self.index in
+    let p = c.args.self.place in
+    let lt = c.args.self.in_range in
+    let w = c.kind.ensures.well_formed in
+    record { message = tt; part = λ v h. keyed.no_variant (declarations_of d.table) d.table (header_of d.table) (entry_at d.table i) c.kind.result c.in_default.not-Union v (viewing.lies d w i p lt c.kind.result c.kind.ensures.of v h).0 }

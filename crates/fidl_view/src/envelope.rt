@@ -1,0 +1,135 @@
+//! Envelopes that hold a member of a table or a union, and what they hold.
+//!
+//! Where no type is known for an ordinal, the member is unknown: its bytes and handles are given out
+//! as they came.
+ghost use Rattle.std.specs.Prelude.{◌≡◌, ◌+◌, ◌<◌, ◌≤◌, ℕ, Bool, nat_le, List, length, IsTrue};
+ghost use Rattle.std.specs.Prelude.{Some, None, IfSome, MatchOption};
+ghost use Rattle.fidl_limits.specs.declared.limits.TheConstants.{MAX_MESSAGE_BYTES};
+ghost use Rattle.fidl_limits.specs.declared.limits.TheConstants.{MAX_MESSAGE_HANDLES};
+ghost use Rattle.fidl_wire.specs.declared.handle.HandleInfo.{HandleInfo};
+ghost use Rattle.fidl_wire.specs.Value.{Value, Member, unknown};
+ghost use Rattle.fidl_records.specs.Section.{header_of, entry_at};
+ghost use Rattle.fidl_records.specs.Entry.{kind_is};
+ghost use Rattle.fidl_records.specs.Uses.{uses_ordinals};
+ghost use Rattle.fidl_decode.specs.Placed.{enclosed_at};
+ghost use Rattle.fidl_view.specs.Members.{HaveMember, term_at};
+
+use crate::view::View;
+use fidl_decode::Decoded;
+use fidl_records::{u16_at, u32_at};
+use fidl_wire::HandleInfo;
+
+/// A member of a table or a union that the layout does not know, borrowed from the message.
+#[derive(Clone, Copy)]
+pub struct Unknown<'m> {
+    /// Whether its bytes stand in its envelope.
+    pub inline: bool,
+    /// Its bytes: the four in its envelope, or those out of line.
+    pub bytes: &'m [u8],
+    /// Its handles.
+    pub handles: &'m [HandleInfo],
+}
+
+/// An envelope that holds a member of a value of a table's or union's entry: the member's ordinal,
+/// and where the envelope stands in the message.
+#[derive(Clone, Copy)]
+pub(crate) struct Envelope<'v, 'm> {
+    pub(crate) decoded: &'v Decoded<'v, 'm, 'v>,
+    pub(crate) index: u32,
+    pub(crate) ordinal: u64,
+    pub(crate) place: usize,
+    ghost in_range: { index < (header_of decoded.now.table).entries },
+    ghost of_ordinals: { IsTrue (kind_is uses_ordinals (entry_at decoded.now.table index)) },
+    ghost room: { place + 8 ≤ length decoded.now.bytes },
+    ghost short: { length decoded.now.bytes ≤ MAX_MESSAGE_BYTES },
+    ghost few: { length decoded.now.handles ≤ MAX_MESSAGE_HANDLES },
+    ghost shown: { ∥ HaveMember decoded.now index ordinal place ∥₁ },
+}
+
+impl<'v, 'm> Envelope<'v, 'm> {
+    ghost use Rattle.fidl_view.specs.Parts.{known_of, unknown_in};
+    ghost use Rattle.fidl_view.specs.Views.{part_of, message_in, IsHeldBy, IsShownBy, ShowsKnown};
+
+    /// Where a known member of this size stands: in the envelope, or as its object.
+    fn content_place(self, size: u32) -> usize
+        ensures { result ≡ enclosed_at self.entry.decoded.now.links (nat_le size 4)
+            self.entry.place }
+    {
+        if size <= 4 {
+            self.place
+        } else {
+            self.decoded.object_at(self.place)
+        }
+    }
+
+    /// The view of the member, where it is known.
+    pub(crate) fn known(self) -> Option<View<'v, 'm>>
+        ensures message { IfSome result (λ part. (part_of part).message ≡ message_in self.entry) }
+        ensures part { (x : Member) → IsHeldBy self.entry x → ShowsKnown result x }
+    {
+        let mut probes = 0;
+        let Some(row) = self
+            .decoded
+            .table()
+            .member(self.index, self.ordinal, &mut probes)
+        else {
+            return None;
+        };
+        let entry = self.decoded.table().entry(row.entry);
+        Some(View {
+            decoded: self.decoded,
+            index: row.entry,
+            place: self.content_place(entry.size),
+        })
+    }
+
+    /// The bytes of an unknown member.
+    fn raw_bytes(self) -> &'m [u8]
+        requires { term_at self.decoded.now self.index self.ordinal ≡ None }
+        ensures { (inline : Bool) (bytes : List ℕ) (handles : List HandleInfo)
+            → IsHeldBy self.entry (unknown inline bytes handles) → result.now ≡ bytes }
+    {
+        let bytes = self.decoded.bytes();
+        if u16_at(bytes, self.place + 6) == 1 {
+            return &bytes[self.place..self.place + 4];
+        }
+        let count = u32_at(bytes, self.place) as usize;
+        let from = self.decoded.object_at(self.place);
+        &bytes[from..from + count]
+    }
+
+    /// The handles of an unknown member.
+    fn raw_handles(self) -> &'m [HandleInfo]
+        requires { term_at self.decoded.now self.index self.ordinal ≡ None }
+        ensures { (inline : Bool) (bytes : List ℕ) (handles : List HandleInfo)
+            → IsHeldBy self.entry (unknown inline bytes handles) → result.now ≡ handles }
+    {
+        let count = u16_at(self.decoded.bytes(), self.place + 4) as usize;
+        if count == 0 {
+            return &[];
+        }
+        let first = self.decoded.record_at(self.place + 4);
+        &self.decoded.handles()[first..first + count]
+    }
+
+    /// The member, where it is unknown.
+    pub(crate) fn unknown(self) -> Option<Unknown<'m>>
+        ensures { (x : Member) → IsHeldBy self.entry x
+            → MatchOption result (unknown_in (Some x) ≡ None)
+            (λ u. x ≡ unknown u.inline u.bytes.now u.handles.now) }
+    {
+        let mut probes = 0;
+        if let Some(_row) = self
+            .decoded
+            .table()
+            .member(self.index, self.ordinal, &mut probes)
+        {
+            return None;
+        }
+        Some(Unknown {
+            inline: u16_at(self.decoded.bytes(), self.place + 6) == 1,
+            bytes: self.raw_bytes(),
+            handles: self.raw_handles(),
+        })
+    }
+}
