@@ -1,0 +1,100 @@
+// The bench (docs/performance.md): the lines of each shape, codec and operation.
+#include <cstdlib>
+#include <cstring>
+#include <string>
+#include <vector>
+
+#include "capn.h"
+#include "fidl.h"
+#include "flat.h"
+#include "line.h"
+#include "proto.h"
+#include "values.h"
+
+static const uint8_t* start(const std::string& bytes) { return reinterpret_cast<const uint8_t*>(bytes.data()); }
+
+// ---------------------------------------------------------------- the decoder
+
+static uint32_t decode(const std::string& table, const std::string& root, const std::string& message, uint64_t times) {
+  return fidl_bench_decode(start(table), table.size(), start(root), root.size(), start(message), message.size(), times - 1);
+}
+
+static uint64_t decode_and_read(const std::string& table, const FidlShape& fidl, uint64_t times) {
+  uint64_t sum = 0;
+  uint32_t failure = fidl.read(start(table), table.size(), start(fidl.message), fidl.message.size(), times - 1, &sum);
+  must(failure == 0, "the decoder refuses a message");
+  return sum;
+}
+
+static void fidl_lines(const Printer& printer, const char* shape, const FidlShape& fidl, uint64_t want) {
+  static const std::string table = fidl_table();
+  size_t size = fidl.message.size();
+  std::vector<char> copy(size);
+  must(decode(table, fidl.root, fidl.message, 1) == 0, "the decoder refuses a message");
+  must(decode(table, fidl.root, fidl.message.substr(0, size - 8), 1) == 4, "the decoder accepts a message that is cut off");
+  must(decode_and_read(table, fidl, 1) == want, "the decoder reads another sum");
+  printer.line(shape, "memcpy", "copy", size, each([&] {
+                 memcpy(copy.data(), fidl.message.data(), size);
+                 asm volatile("" : : "r"(copy.data()) : "memory");
+                 return 1;
+               }));
+  printer.line(shape, "rongkhab", "decode", size, [&](uint64_t times) {
+    must(decode(table, fidl.root, fidl.message, times) == 0, "the decoder refuses a message");
+    return 0;
+  });
+  printer.line(shape, "rongkhab", "decode + read", size, [&](uint64_t times) { return decode_and_read(table, fidl, times); });
+}
+
+// ---------------------------------------------------------------- its peers
+
+template <class Shape>
+static void flat_lines(const Printer& printer, const char* shape, uint64_t want) {
+  const std::string message = Shape::make();
+  auto verify = [&] {
+    must(flat::verifies<typename Shape::Root>(message), "FlatBuffers refuses a message");
+    return 1;
+  };
+  must(verify() && Shape::read(message) == want, "FlatBuffers reads another sum");
+  printer.line(shape, "flatbuffers", "verify", message.size(), each(verify));
+  printer.line(shape, "flatbuffers", "verify + read", message.size(), each([&] { return verify() + Shape::read(message); }));
+}
+
+template <class Shape>
+static void capn_lines(const Printer& printer, const char* shape, uint64_t want) {
+  const std::string message = Shape::make();
+  must(Shape::read(message) == want, "Cap'n Proto reads another sum");
+  printer.line(shape, "capnproto", "read", message.size(), each([&] { return Shape::read(message); }));
+}
+
+template <class Shape>
+static void proto_lines(const Printer& printer, const char* shape, uint64_t want) {
+  const std::string message = Shape::make();
+  typename Shape::Message parsed;
+  auto parse = [&] {
+    must(parsed.ParseFromArray(message.data(), int(message.size())), "protobuf refuses a message");
+    return 1;
+  };
+  must(parse() && Shape::read(parsed) == want, "protobuf reads another sum");
+  printer.line(shape, "protobuf", "parse", message.size(), each(parse));
+}
+
+int main(int count, char** words) {
+  Printer printer{count > 1 ? words[1] : nullptr, count > 2 ? strtoull(words[2], nullptr, 10) : 0};
+  printf("%-8s %-12s %-24s %7s %12s %12s\n", "shape", "codec", "operation", "bytes", "ns/message", "allocations");
+
+  fidl_lines(printer, "records", {"bench/Records", fidl_records(), fidl_bench_read_records}, sum_of_records());
+  flat_lines<flat::Records>(printer, "records", sum_of_records());
+  capn_lines<capn::Records>(printer, "records", sum_of_records());
+  proto_lines<proto::Records>(printer, "records", sum_of_records());
+
+  fidl_lines(printer, "chain", {"bench/Node", fidl_chain(), fidl_bench_read_chain}, sum_of_chain());
+  flat_lines<flat::Chain>(printer, "chain", sum_of_chain());
+  capn_lines<capn::Chain>(printer, "chain", sum_of_chain());
+  proto_lines<proto::Chain>(printer, "chain", sum_of_chain());
+
+  fidl_lines(printer, "wide", {"bench/Wide", fidl_wide(), fidl_bench_read_wide}, sum_of_wide());
+  flat_lines<flat::Wide>(printer, "wide", sum_of_wide());
+  capn_lines<capn::Wide>(printer, "wide", sum_of_wide());
+  proto_lines<proto::Wide>(printer, "wide", sum_of_wide());
+  return 0;
+}
