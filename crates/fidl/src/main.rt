@@ -4,7 +4,11 @@
 #[cfg(test)]
 mod command_lines;
 #[cfg(test)]
+mod envelopes;
+#[cfg(test)]
 mod messages;
+#[cfg(test)]
+mod runs;
 #[cfg(test)]
 mod tables;
 #[cfg(test)]

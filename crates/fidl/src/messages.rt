@@ -1,34 +1,9 @@
 //! Tests of `decode`: the worked messages and refusals, and handles as they are written.
+use crate::runs::{PrintedCase, is_printed, run_decode};
 use crate::tables::{BELOW, CHOICES, OUTSIDE, POINT, SHAPES};
-use fidl_tool::{File, Outcome, Output, TypedMessage, decode, read_handle};
+use fidl_tool::{Outcome, TypedMessage, read_handle};
 use fidl_wire::HandleInfo;
-use std::alloc::{AllocError, Global};
 use std::test::Fail;
-
-/// What a run of `decode` answered and printed.
-#[derive(Drop)]
-struct Ran {
-    outcome: Outcome,
-    failed: bool,
-    out: Vec<u8>,
-    errors: Vec<u8>,
-}
-
-fn run_decode(alloc: Global, table: &[u8], message: &TypedMessage<'_>) -> Ran {
-    let file = File {
-        name: "a.fct",
-        bytes: table,
-    };
-    let mut out = Output::new(Vec::new(alloc));
-    let mut errors = Output::new(Vec::new(alloc));
-    let outcome = decode(alloc, &file, message, &mut out, &mut errors);
-    Ran {
-        outcome,
-        failed: out.failure().is_some() || errors.failure().is_some(),
-        out: out.into_writer(),
-        errors: errors.into_writer(),
-    }
-}
 
 #[test]
 fn messages_are_printed_or_refused(rt: HostRuntime) -> Result<(), Fail> {
@@ -118,40 +93,6 @@ fn messages_are_printed_or_refused(rt: HostRuntime) -> Result<(), Fail> {
     Ok(())
 }
 
-/// A message by a root of a table, its handles, the exit status, and what is printed.
-type OutsideCase<'a> = (
-    &'a str,
-    &'a [u8],
-    &'a [(u32, u32, u32)],
-    u8,
-    &'a str,
-    &'a str,
-);
-
-/// Whether a message by a root of a table has the status and the output of its case.
-fn is_printed(alloc: Global, table: &[u8], case: &OutsideCase<'_>) -> Result<bool, AllocError> {
-    let (root, bytes, records, status, out, errors) = *case;
-    let mut handles = Vec::new(alloc);
-    for (id, object_type, rights) in records {
-        handles.push(HandleInfo {
-            id: *id,
-            object_type: *object_type,
-            rights: *rights,
-        })?;
-    }
-    let message = TypedMessage {
-        root,
-        bytes,
-        handles: handles.as_slice(),
-    };
-    let ran = run_decode(alloc, table, &message);
-    Ok(
-        ran.out.as_slice() == out.as_bytes()
-            && ran.errors.as_slice() == errors.as_bytes()
-            && ran.outcome.status().number() == status,
-    )
-}
-
 /// Texts are printed between quotes, or refused.
 #[test]
 fn strings_are_printed_or_refused(rt: HostRuntime) -> Result<(), Fail> {
@@ -190,7 +131,7 @@ fn strings_are_printed_or_refused(rt: HostRuntime) -> Result<(), Fail> {
     counted[0] = 1;
     let mut marked = [0u8; 24];
     marked[8] = 1;
-    let cases: [OutsideCase<'_>; 12] = [
+    let cases: [PrintedCase<'_>; 12] = [
         ("P", &pair, &[], 0, "{a: \"\", b: \"A\"}\n", ""),
         (
             "P",
@@ -244,7 +185,7 @@ fn vectors_and_boxes_are_printed_or_refused(rt: HostRuntime) -> Result<(), Fail>
         0, 0, 0, 0,
     ];
     let deep = [255u8; 272];
-    let cases: [OutsideCase<'_>; 6] = [
+    let cases: [PrintedCase<'_>; 6] = [
         (
             "H",
             &full,
@@ -276,7 +217,7 @@ fn handles_are_printed_or_refused(rt: HostRuntime) -> Result<(), Fail> {
     let one = [255, 255, 255, 255, 0, 0, 0, 0];
     let mut marked = both;
     marked[4] = 254;
-    let cases: [OutsideCase<'_>; 11] = [
+    let cases: [PrintedCase<'_>; 11] = [
         (
             "H",
             &both,

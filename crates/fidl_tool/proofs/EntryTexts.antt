@@ -1,12 +1,12 @@
 -- What is written of an entry's value, by the entry's kind and members.
-use Rattle.std.proofs.Common.{◌≡◌, ℕ, zero, suc, ◌+◌, ◌-◌, ◌<◌, ◌≤◌, List, ◌++◌, sym, ap, subst, ◌∙◌, arith}
+use Rattle.std.proofs.Common.{◌≡◌, ℕ, zero, suc, ◌+◌, ◌-◌, ◌*◌, ◌<◌, ◌≤◌, List, ◌++◌, sym, ap, subst, ◌∙◌, arith, mul-suc}
 use Rattle.std.specs.Prelude.{Some, None, nat_lt, codes, pos, ℤ, ◌⊎◌, true, false}
 use mathlib.Core.List.{append_assoc}
 use Rattle.fidl_wire.specs.Value.{Value, Values, number, fields, none, value}
 use Rattle.fidl_wire.specs.Term.{Term, Kind, Fields, fields_of, resolve, int8, int16, int32, int64, uint8, uint16, uint32, uint64}
 use Rattle.fidl_wire.specs.Term as ty
 use Rattle.fidl_wire.specs.Typed.{IsTyped, EachTyped}
-use Rattle.fidl_limits.specs.declared.limits.TheConstants.{MAX_NEST}
+use Rattle.fidl_limits.specs.declared.limits.TheConstants.{MAX_INLINE_SIZE, MAX_NEST}
 use Rattle.fidl_wire.specs.Encoding as encoding
 use Rattle.fidl_wire.specs.Depth.{depth_of, fields_depth}
 use Rattle.fidl_wire.specs.Text.{text_of, fields_text, comma_if}
@@ -18,14 +18,20 @@ use Rattle.fidl_records.specs.Terms.{declarations_of, fields_from, term_as}
 use Rattle.fidl_records.specs.Uses.{is_known, uses_entry, uses_rows}
 use Rattle.fidl_records.specs.Entry.{IsOf}
 use Rattle.fidl_records.specs.WellFormed.{WellFormed}
+use Rattle.fidl_wire.specs.Figure.{Figure, size_of}
 use Rattle.fidl_verify.proofs.Known.{test_of}
+use Rattle.fidl_verify.proofs.Standing.{members_stand}
 use Rattle.fidl_verify.proofs.Declared.{element_nests, member_nests}
 use Rattle.fidl_decode.proofs.Bridge.{fine_of}
-use Rattle.fidl_decode.proofs.Visiting.{fine_as, term_is}
+use Rattle.fidl_decode.proofs.Visiting.{fine_as, term_is, figure_is, size_is}
 use Rattle.fidl_view.specs.declared.view.View.{View}
 use Rattle.fidl_tool.specs.Parts.{IsPart, IsMembers}
 use Rattle.fidl_view.specs.Parts.{absence_of, nth, unsigned_of, signed_of}
 use Rattle.fidl_tool.proofs.Printing.{box_is, by_term, each_nth, each_typed, fields_at, fields_end, number_kind, struct_is, values_after}
+
+le_product : (a n own whole : ℕ) → own ≡ a → 0 < n → a * n ≡ whole → own ≤ whole
+le_product a (suc n) own whole e some is = let more : a * n + a ≡ whole = sym (mul-suc a n) ∙ is in omega (arith, e, more)
+le_product a zero own whole e some is = absurd (omega (arith, some))
 
 module _ (b : List ℕ) (w : WellFormed b) (i : ℕ) (lt : i < (header_of b).entries) where
   -- the entry's kind
@@ -50,6 +56,20 @@ module _ (b : List ℕ) (w : WellFormed b) (i : ℕ) (lt : i < (header_of b).ent
 
   pub box_struct : IsOf Box (entry_at b i) → IsOf Struct (entry_at b (entry_at b i).first)
   box_struct is = (w.entries i lt).children.content is
+
+  -- neither an element nor a member is larger than what holds it
+  pub element_fits : IsOf Array (entry_at b i) → (entry_at b (entry_at b i).first).size ≤ (entry_at b i).size
+  element_fits is =
+      let c = (entry_at b i).first in
+      let g : size_of (declarations_of b) (ty.named c) * (entry_at b i).count ≡ (entry_at b i).size = ap (λ (f : Figure). f.size) (figure_is b (fine_of b w) i Array lt is) in
+      let own = size_is b (fine_of b w) c (element_lt is) in
+      le_product (size_of (declarations_of b) (ty.named c)) (entry_at b i).count (entry_at b c).size (entry_at b i).size (sym own) ((w.entries i lt).size.elements is) g
+
+  pub member_fits : IsOf Struct (entry_at b i) → (k : ℕ) → k < (entry_at b i).count → (entry_at b (row_at b (header_of b) ((entry_at b i).first + k)).entry).size ≤ (entry_at b i).size
+  member_fits is k less = let apart = (members_stand b w i lt is k less).within in omega (arith, apart)
+
+  pub size_few : (entry_at b i).size ≤ MAX_INLINE_SIZE
+  size_few = (w.entries i lt).size.limit
 
   pub nest_few : (entry_at b i).nest ≤ MAX_NEST
   nest_few = (w.entries i lt).nest.limit

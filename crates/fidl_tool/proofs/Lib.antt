@@ -1,4 +1,6 @@
 mod Commands
+pub mod Slots
+pub mod Tables
 mod Quoting
 pub mod Written
 pub mod Printing
@@ -9,3 +11,4 @@ pub mod Messages
 pub mod Told
 mod HandleTexts
 mod HexText
+mod RawText

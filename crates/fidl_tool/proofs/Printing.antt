@@ -161,7 +161,7 @@ nth_depth ds t none i x e = cc
 nth_depth ds t (value v vs) zero x e = let same : v ≡ x = cc in subst (λ (y : Value). depth_of ds t y ≤ elements_depth ds t (value v vs)) same (omega arith)
 nth_depth ds t (value v vs) (suc i) x e = omega (arith, nth_depth ds t vs i x e)
 
-some_same : (a b : ℕ) → Some a ≡ Some b → a ≡ b
+pub some_same : (a b : ℕ) → Some a ≡ Some b → a ≡ b
 some_same a b e = cc
 
 -- elements, as their view answers them

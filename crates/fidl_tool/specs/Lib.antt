@@ -6,11 +6,13 @@
 --   Decoding       what the command `decode` answers
 --   Status         how the program ends
 --   Parts          what the printer is given, and what it writes
+--   Slots          the same of the members of tables and unions
 --   Outputs        what a write does to the bytes of a writer
 pub mod Status
 pub mod Handles
 pub mod Outputs
 pub mod Parts
+pub mod Slots
 pub mod Decoding
 pub mod CommandLine
 pub mod Arguments

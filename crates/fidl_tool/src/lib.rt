@@ -16,6 +16,7 @@ mod output;
 mod printer;
 mod program;
 mod quoted;
+mod unknown;
 mod unread;
 
 pub use crate::decoding::{TypedMessage, decode};

@@ -84,17 +84,6 @@ impl<W: Write> Output<W> {
         self.note(Err(io::Error::from(io::ErrorKind::Interrupted)))
     }
 
-    /// Fails without a write, as the text of a table or a union is not written yet.
-    pub(crate) fn fail_unsupported(&mut self) -> Result<(), Failed>
-        ensures text { (bytes : List ℕ) → Writes (W.contents self.old.writer)
-            (W.contents self.new.writer) bytes result }
-        ensures kept { OnOk result (self.new.failure ≡ self.old.failure) }
-        ensures failed { OnErr result (IsSome self.new.failure) }
-    {
-        self.failure = Some(io::Error::from(io::ErrorKind::Unsupported));
-        Err(Failed)
-    }
-
     /// Writes a text, as `write!` gives it. Where this fails, no contract says what was written.
     pub fn write_fmt<D: Display + Drop>(&mut self, text: D) -> Result<(), Failed>
         ensures bytes { OnOk result (IfSome (D.output text)

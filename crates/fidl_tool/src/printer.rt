@@ -1,37 +1,30 @@
 //! The text of a value, as a view shows it (docs/wire.md, "The written text of a value").
-ghost use Rattle.std.specs.Prelude.{◌≡◌, ℕ, ◌<◌, ◌≤◌, Bool, OnOk, OnErr, IsSome};
+ghost use Rattle.std.specs.Prelude.{◌≡◌, ℕ, ◌+◌, ◌<◌, Bool, OnOk, OnErr, IfOk, IsSome, IsTrue};
+ghost use Rattle.fidl_wire.specs.Value.{Value};
 ghost use Rattle.fidl_wire.specs.Term as ty;
 ghost use Rattle.fidl_wire.specs.Figure.{Declarations};
-ghost use Rattle.fidl_wire.specs.Text.{comma_if};
 ghost use Rattle.fidl_records.specs.declared.kind.EntryKind.TheVariants as EntryKind;
 ghost use Rattle.fidl_records.specs.Section.{header_of, entry_at};
 ghost use Rattle.fidl_records.specs.Terms.{declarations_of};
-ghost use Rattle.fidl_records.specs.Entry.{IsOf};
+ghost use Rattle.fidl_records.specs.Entry.{IsOf, kind_is};
+ghost use Rattle.fidl_records.specs.Uses.{uses_ordinals};
 ghost use Rattle.fidl_records.specs.WellFormed.{WellFormed};
-ghost use Rattle.fidl_view.specs.Parts.{numbers_of};
-ghost use Rattle.fidl_limits.specs.declared.limits.TheConstants.{MAX_NEST};
+ghost use Rattle.fidl_view.specs.Parts.{numbers_of, held_of};
 ghost use Rattle.fidl_tool.specs.Parts.{HasPart, HasPartWithin, Prints, HasValueWithin};
 ghost use Rattle.fidl_tool.specs.Parts.{PrintsValue, HasElementsWithin, PrintsElements};
 ghost use Rattle.fidl_tool.specs.Parts.{HasMembersWithin, PrintsMembers};
+ghost use Rattle.fidl_tool.specs.Slots.{IsValueOf, HasMemberWithin, PrintsMember, PrintsSlot};
+ghost use Rattle.fidl_tool.specs.Slots.{later_behind};
 ghost use Rattle.fidl_tool.specs.Outputs.{Writes};
 
 use crate::output::{Failed, Output};
-use crate::quoted::{write_handle, write_quoted};
+use crate::quoted::{write_comma, write_decimal, write_handle, write_quoted};
+use crate::unknown::write_unknown;
 use fidl_records::EntryKind;
 use fidl_verify::Table;
 use fidl_view::View;
 use itoa::Buffer;
 use std::io::Write;
-
-/// Writes what stands between one element or member and the next.
-fn write_comma<W: Write>(out: &mut Output<W>, later: bool) -> Result<(), Failed>
-    ensures text { Writes (W.contents out.old.writer) (W.contents out.new.writer)
-        (comma_if later) result }
-    ensures kept { OnOk result (out.new.failure ≡ out.old.failure) }
-    ensures failed { OnErr result (IsSome out.new.failure) }
-{
-    out.write_all(if later { b", " } else { b"" })
-}
 
 fn write_bool<W: Write>(view: View<'_, '_>, out: &mut Output<W>) -> Result<(), Failed>
     requires { (ds : Declarations) × HasPart ds ty.bool view }
@@ -165,7 +158,7 @@ fn write_vector<W: Write>(
 ) -> Result<(), Failed>
     requires table { view.decoded.now.table ≡ table.now }
     requires element { element < (header_of table.now).entries }
-    requires nest { (entry_at table.now element).nest ≤ MAX_NEST }
+    requires well_formed { WellFormed table.now }
     requires part { (optional : Bool) × (bound : ℕ) × HasPartWithin (declarations_of table.now)
         (ty.vector optional bound (ty.named element)) depth view }
     ensures text { (optional : Bool) (bound : ℕ) → Prints (declarations_of table.now)
@@ -205,6 +198,149 @@ fn write_box<W: Write>(
     write_members(table, index, view, depth - 1, out)
 }
 
+/// An ordinal of the layout of a table's or union's entry; what it holds lies no deeper than this.
+#[derive(Clone, Copy)]
+struct Slot {
+    index: u32,
+    ordinal: u64,
+    depth: usize,
+}
+
+/// Writes a known member of a table or a union behind its name.
+#[cycle(write)]
+fn write_member<W: Write>(
+    table: &Table<'_>,
+    slot: Slot,
+    view: View<'_, '_>,
+    out: &mut Output<W>,
+) -> Result<(), Failed>
+    requires table { view.decoded.now.table ≡ table.now }
+    requires well_formed { WellFormed table.now }
+    requires index { slot.index < (header_of table.now).entries }
+    requires kind { IsTrue (kind_is uses_ordinals (entry_at table.now slot.index)) }
+    requires part { HasMemberWithin table.now slot view }
+    ensures text { PrintsMember table.now slot view.entry
+        (W.contents out.old.writer) (W.contents out.new.writer) result }
+    ensures kept { OnOk result (out.new.failure ≡ out.old.failure) }
+    ensures failed { OnErr result (IsSome out.new.failure) }
+{
+    let mut probes = 0;
+    let row = table.member(slot.index, slot.ordinal, &mut probes).unwrap();
+    out.write_all(table.row_name(&row))?;
+    out.write_all(b": ")?;
+    if table.entry(row.entry).size <= 4 {
+        return write_value(table, row.entry, view, slot.depth, out);
+    }
+    write_value(table, row.entry, view, slot.depth - 1, out)
+}
+
+/// Writes what a table holds at an ordinal, behind a comma where another member stands before it,
+/// and answers whether a member stands before the next ordinal.
+#[cycle(write)]
+fn write_slot<W: Write>(
+    table: &Table<'_>,
+    slot: Slot,
+    view: View<'_, '_>,
+    later: bool,
+    out: &mut Output<W>,
+) -> Result<bool, Failed>
+    requires table { view.decoded.now.table ≡ table.now }
+    requires well_formed { WellFormed table.now }
+    requires index { slot.index < (header_of table.now).entries }
+    requires of_table { IsOf EntryKind.Table (entry_at table.now slot.index) }
+    requires part { HasValueWithin table.now slot.index (slot.depth + 1) view }
+    ensures text { PrintsSlot table.now slot view.entry later
+        (W.contents out.old.writer) (W.contents out.new.writer) result }
+    ensures later { IfOk result (λ l. (v : Value) → IsValueOf table.now slot.index view.entry v
+        → l ≡ later_behind later (held_of v slot.ordinal)) }
+    ensures kept { OnOk result (out.new.failure ≡ out.old.failure) }
+    ensures failed { OnErr result (IsSome out.new.failure) }
+{
+    if let Some(part) = view.member(slot.ordinal) {
+        write_comma(out, later)?;
+        write_member(table, slot, part, out)?;
+        return Ok(true);
+    }
+    if let Some(member) = view.unknown(slot.ordinal) {
+        write_comma(out, later)?;
+        write_unknown(slot.ordinal, member, out)?;
+        return Ok(true);
+    }
+    Ok(later)
+}
+
+/// Writes a table of an entry: how many envelopes it has, and its members by their ordinals.
+#[cycle(write)]
+fn write_table<W: Write>(
+    table: &Table<'_>,
+    index: u32,
+    view: View<'_, '_>,
+    depth: usize,
+    out: &mut Output<W>,
+) -> Result<(), Failed>
+    requires table { view.decoded.now.table ≡ table.now }
+    requires well_formed { WellFormed table.now }
+    requires index { index < (header_of table.now).entries }
+    requires of_table { IsOf EntryKind.Table (entry_at table.now index) }
+    requires part { HasValueWithin table.now index depth view }
+    ensures text { PrintsValue table.now index view.entry
+        (W.contents out.old.writer) (W.contents out.new.writer) result }
+    ensures kept { OnOk result (out.new.failure ≡ out.old.failure) }
+    ensures failed { OnErr result (IsSome out.new.failure) }
+{
+    let count = view.len().unwrap();
+    out.write_all(b"table(")?;
+    write_decimal(count as u64, out)?;
+    out.write_all(b") {")?;
+    let mut later = false;
+    for at in 0..count {
+        let slot = Slot {
+            index,
+            ordinal: at as u64 + 1,
+            depth: depth - 1,
+        };
+        later = write_slot(table, slot, view, later, out)?;
+    }
+    out.write_all(b"}")
+}
+
+/// Writes a union of an entry, or that it is absent.
+#[cycle(write)]
+fn write_union<W: Write>(
+    table: &Table<'_>,
+    index: u32,
+    view: View<'_, '_>,
+    depth: usize,
+    out: &mut Output<W>,
+) -> Result<(), Failed>
+    requires table { view.decoded.now.table ≡ table.now }
+    requires well_formed { WellFormed table.now }
+    requires index { index < (header_of table.now).entries }
+    requires of_union { IsOf EntryKind.Union (entry_at table.now index) }
+    requires part { HasValueWithin table.now index depth view }
+    ensures text { PrintsValue table.now index view.entry
+        (W.contents out.old.writer) (W.contents out.new.writer) result }
+    ensures kept { OnOk result (out.new.failure ≡ out.old.failure) }
+    ensures failed { OnErr result (IsSome out.new.failure) }
+{
+    let Some((ordinal, known)) = view.variant() else {
+        return out.write_all(b"absent");
+    };
+    out.write_all(b"union(")?;
+    if let Some(part) = known {
+        let slot = Slot {
+            index,
+            ordinal,
+            depth,
+        };
+        write_member(table, slot, part, out)?;
+        return out.write_all(b")");
+    }
+    let member = view.unknown(ordinal).unwrap();
+    write_unknown(ordinal, member, out)?;
+    out.write_all(b")")
+}
+
 /// Writes the text of the value of an entry, of at most this depth, that a view shows.
 #[cycle(write)]
 pub(crate) fn write_value<W: Write>(
@@ -232,7 +368,8 @@ pub(crate) fn write_value<W: Write>(
         EntryKind::Vector => write_vector(table, entry.first, view, depth, out),
         EntryKind::Struct => write_members(table, index, view, depth, out),
         EntryKind::Box => write_box(table, entry.first, view, depth, out),
-        EntryKind::Table | EntryKind::Union => out.fail_unsupported(),
+        EntryKind::Table => write_table(table, index, view, depth, out),
+        EntryKind::Union => write_union(table, index, view, depth, out),
         _ => write_number(view, out),
     }
 }

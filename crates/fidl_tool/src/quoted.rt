@@ -1,7 +1,7 @@
-//! Texts between quotes, and handles by their numbers (docs/wire.md, "The written text of a
-//! value").
+//! Texts between quotes, handles by their numbers, and what stands between elements (docs/wire.md,
+//! "The written text of a value").
 ghost use Rattle.std.specs.Prelude.{◌≡◌, ◌++◌, ◌<◌, OnOk, OnErr, IsSome, flat_map, codes, decimal};
-ghost use Rattle.fidl_wire.specs.Text.{quoted_byte, handle_text, hex_digit};
+ghost use Rattle.fidl_wire.specs.Text.{quoted_byte, handle_text, hex_digit, comma_if};
 ghost use Rattle.fidl_tool.specs.Outputs.{Writes};
 
 use crate::output::{Failed, Output};
@@ -9,8 +9,18 @@ use fidl_wire::HandleInfo;
 use itoa::Buffer;
 use std::io::Write;
 
+/// Writes what stands between one element or member and the next.
+pub(crate) fn write_comma<W: Write>(out: &mut Output<W>, later: bool) -> Result<(), Failed>
+    ensures text { Writes (W.contents out.old.writer) (W.contents out.new.writer)
+        (comma_if later) result }
+    ensures kept { OnOk result (out.new.failure ≡ out.old.failure) }
+    ensures failed { OnErr result (IsSome out.new.failure) }
+{
+    out.write_all(if later { b", " } else { b"" })
+}
+
 /// The hex digit of a number below 16, in lower case.
-fn hex_digit(digit: u8) -> u8
+pub(crate) fn hex_digit(digit: u8) -> u8
     requires { digit < 16 }
     ensures { result ≡ hex_digit digit }
 {
@@ -53,8 +63,8 @@ pub(crate) fn write_quoted<W: Write>(text: &[u8], out: &mut Output<W>) -> Result
     out.write_all(b"\"")
 }
 
-/// Writes a number of 32 bits.
-fn write_decimal<W: Write>(number: u32, out: &mut Output<W>) -> Result<(), Failed>
+/// Writes a number without a sign.
+pub(crate) fn write_decimal<W: Write>(number: u64, out: &mut Output<W>) -> Result<(), Failed>
     ensures text { Writes (W.contents out.old.writer) (W.contents out.new.writer)
         (decimal number) result }
     ensures kept { OnOk result (out.new.failure ≡ out.old.failure) }
@@ -71,10 +81,10 @@ pub(crate) fn write_handle<W: Write>(handle: HandleInfo, out: &mut Output<W>) ->
     ensures failed { OnErr result (IsSome out.new.failure) }
 {
     out.write_all(b"handle(")?;
-    write_decimal(handle.id, out)?;
+    write_decimal(handle.id as u64, out)?;
     out.write_all(b", ")?;
-    write_decimal(handle.object_type, out)?;
+    write_decimal(handle.object_type as u64, out)?;
     out.write_all(b", ")?;
-    write_decimal(handle.rights, out)?;
+    write_decimal(handle.rights as u64, out)?;
     out.write_all(b")")
 }

@@ -1,26 +1,32 @@
 use Rattle.std.proofs.Common.{◌≡◌, ℕ, ◌+◌, ◌<◌, ◌≤◌, List, ◌++◌, refl, sym, ap, subst, ◌∙◌, arith}
-use Rattle.std.specs.Prelude.{Option, Some, IsSome, nat_lt, codes}
-use Rattle.fidl_wire.specs.Term.{Term, resolve}
+use Rattle.std.specs.Prelude.{Option, Some, IsSome, IfSome, nat_lt, codes, decimal}
+use Rattle.fidl_wire.specs.Term.{Term, resolve, find}
 use Rattle.fidl_wire.specs.Term as ty
-use Rattle.fidl_wire.specs.Value.{Value, list, fields}
+use Rattle.fidl_wire.specs.Value.{Value, list, fields, table, Member, known, unknown, Members}
 use Rattle.fidl_wire.specs.Typed.{IsTyped}
-use Rattle.fidl_wire.specs.Depth.{depth_of, fields_depth}
-use Rattle.fidl_wire.specs.Text.{text_of, comma_if}
+use Rattle.fidl_wire.specs.Depth.{depth_of, fields_depth, member_depth}
+use Rattle.fidl_wire.specs.Text.{text_of, comma_if, member_text}
 use Rattle.fidl_records.specs.declared.record.Entry.{Entry}
 use Rattle.fidl_records.specs.declared.record.Row.{Row}
 use Rattle.fidl_records.specs.declared.kind.EntryKind.{EntryKind}
-use Rattle.fidl_records.specs.declared.kind.EntryKind.TheVariants.{Bool as Boolean, String, Vector, Array, Box, Struct, Handle}
+use Rattle.fidl_records.specs.declared.kind.EntryKind.TheVariants.{Bool as Boolean, String, Vector, Array, Box, Struct, Table, Union, Handle}
 use Rattle.fidl_records.specs.Kind.{kind_of}
 use Rattle.fidl_records.specs.Section.{header_of, entry_at, row_at, name_at}
-use Rattle.fidl_records.specs.Terms.{declarations_of, term_as, is_optional}
+use Rattle.fidl_records.specs.Terms.{declarations_of, members_of, term_as, is_optional}
 use Rattle.fidl_records.specs.Entry.{IsOf}
 use Rattle.fidl_records.specs.WellFormed.{WellFormed}
 use Rattle.fidl_decode.specs.Model.{Shown}
-use Rattle.fidl_view.specs.Parts.{element_of, field_of}
-use Rattle.fidl_tool.proofs.Written.{writes_as, appends_as, appends_then, front_as, first_failed, second_failed, third_failed, fourth_failed, failed_as, so_far_first, so_far_second, so_far_begin, so_far_more, so_far_written, begin_failed, so_far_as}
+use Rattle.fidl_view.specs.declared.view.View.{View}
+use Rattle.fidl_view.specs.Parts.{element_of, field_of, held_of, length_of}
+use Rattle.fidl_view.specs.Views.{ShowsKnown}
+use Rattle.fidl_tool.proofs.Written.{writes_as, appends_as, appends_then, front_as, first_failed, second_failed, third_failed, fourth_failed, failed_as, so_far_first, so_far_second, so_far_begin, so_far_more, so_far_written, begin_failed, so_far_as, more_left, failed_then, writes_then}
 use Rattle.fidl_tool.specs.Outputs.{Writes}
 use Rattle.fidl_tool.proofs.Printing as printing
 use Rattle.fidl_tool.proofs.EntryTexts as entries
+use Rattle.fidl_tool.proofs.Slots as slots
+use Rattle.fidl_tool.proofs.Tables as tables
+use Rattle.fidl_tool.specs.Slots.{slot_text, later_behind}
+use Rattle.std.proofs.KnownBytes.{Appends-nil}
 use Rattle.fidl_tool.proofs.Printing.{part_as}
 use Rattle.fidl_tool.proofs.printer.+write.Goals as goal
 
@@ -148,8 +154,9 @@ write_members-write_value-requires g t c κs within =
     let nest = entries.member_less b w i lt is c.loop-at.at less in
     let deep : depth_of (declarations_of b) (resolve (declarations_of b).terms (ty.named c.row-row.result.entry)) x.0 ≤ fields_depth (declarations_of b) (entries.members_at b w i lt) vs =
     subst (λ k. depth_of (declarations_of b) (resolve (declarations_of b).terms (ty.named k)) x.0 ≤ fields_depth (declarations_of b) (entries.members_at b w i lt) vs) (sym entered) (entries.member_depth b w i lt c.args.view n vs p c.loop-at.at less x.0 x.1) in
-    let lower : (entry_at b c.row-row.result.entry).nest < (entry_at b i).nest = subst (λ k. (entry_at b k).nest < (entry_at b i).nest) (sym entered) nest in (
-      omega (arith, c.decreases, lower),
+    let lower : (entry_at b c.row-row.result.entry).nest < (entry_at b i).nest = subst (λ k. (entry_at b k).nest < (entry_at b i).nest) (sym entered) nest in
+    let fits : (entry_at b c.row-row.result.entry).size ≤ (entry_at b i).size = subst (λ k. (entry_at b k).size ≤ (entry_at b i).size) (sym entered) (entries.member_fits b w i lt is c.loop-at.at less) in (
+      omega (arith, c.decreases, lower, fits),
       (
         within,
         (
@@ -339,8 +346,9 @@ write_value-write_elements-requires g t c κs within =
     let e = entries.term_at b w i lt Array is ∙ ap (λ k. ty.array (ty.named k) (entry_at b i).count) (sym begun) in
     let x = printing.elements_of_array b c.entry-entry.result.first (entry_at b i).count (resolve (declarations_of b).terms (ty.named i)) c.args.view c.requires.part.0 e c.requires.part.1 in
     let lower : (entry_at b c.entry-entry.result.first).nest < (entry_at b i).nest = subst (λ k. (entry_at b k).nest < (entry_at b i).nest) (sym begun) (entries.element_less b w i lt is) in
+    let fits : (entry_at b c.entry-entry.result.first).size ≤ (entry_at b i).size = subst (λ k. (entry_at b k).size ≤ (entry_at b i).size) (sym begun) (entries.element_fits b w i lt is) in
     let inside = subst (λ k. k < (header_of b).entries) (sym begun) (entries.element_lt b w i lt is) in (
-      omega (arith, c.decreases, lower),
+      omega (arith, c.decreases, lower, fits),
       (within, (c.requires.table, (inside, (ty.array (ty.named c.entry-entry.result.first) (entry_at b i).count, x.0, x.2, omega (arith, x.3, c.requires.part.2))))),
     )
 
@@ -355,10 +363,9 @@ write_value-write_vector-requires g t c κs within =
     let e = entries.term_at b w i lt Vector is ∙ ap (λ k. ty.vector (is_optional (entry_at b i)) (entry_at b i).bound (ty.named k)) (sym begun) in
     let v = c.requires.part.0 in
     let inside = subst (λ k. k < (header_of b).entries) (sym begun) (entries.vector_lt b w i lt is) in
-    let few = entries.nest_few b w c.entry-entry.result.first inside in
     let deep = subst (λ (u : Term). depth_of (declarations_of b) u v ≤ c.args.depth) e c.requires.part.2 in (
       omega (arith, c.decreases),
-      (within, (c.requires.table, (inside, (few, (is_optional (entry_at b i), (entry_at b i).bound, (v, part_as _ _ _ _ _ e c.requires.part.1, deep)))))),
+      (within, (c.requires.table, (inside, (w, (is_optional (entry_at b i), (entry_at b i).bound, (v, part_as _ _ _ _ _ e c.requires.part.1, deep)))))),
     )
 
 pub write_value-write_members-requires : goal.write_value-write_members-requires
@@ -495,8 +502,10 @@ write_vector-overflow_sub-depth g t c =
 pub write_vector-write_elements-requires : goal.write_vector-write_elements-requires
 write_vector-write_elements-requires g t c κs within =
     let q = c.requires.part in
-    let x = printing.elements_of_vector c.args.table.now c.args.element q.0 q.1 c.args.view q.2.0 q.2.1 (sym c.if-is_absent.false ∙ c.is_absent.ensures q.2.0 q.2.1.shown) in (
-      omega (arith, c.decreases, c.requires.nest, x.3, q.2.2),
+    let x = printing.elements_of_vector c.args.table.now c.args.element q.0 q.1 c.args.view q.2.0 q.2.1 (sym c.if-is_absent.false ∙ c.is_absent.ensures q.2.0 q.2.1.shown) in
+    let few = entries.nest_few c.args.table.now c.requires.well_formed c.args.element c.requires.element in
+    let small = entries.size_few c.args.table.now c.requires.well_formed c.args.element c.requires.element in (
+      omega (arith, c.decreases, few, small, x.3, q.2.2),
       (within, (c.requires.table, (c.requires.element, (ty.vector q.0 q.1 (ty.named c.args.element), x.0, x.2, omega (arith, x.3, q.2.2))))),
     )
 
@@ -520,8 +529,9 @@ pub write_box-write_members-requires : goal.write_box-write_members-requires
 write_box-write_members-requires g t c κs within =
     let q = c.requires.part in
     let x = entries.members_of_box c.args.table.now c.requires.well_formed c.args.index c.requires.index c.requires.of_struct c.args.view q.0 q.1 (sym c.if-is_absent.false ∙ c.is_absent.ensures q.0 q.1.shown) in
-    let few = entries.nest_few c.args.table.now c.requires.well_formed c.args.index c.requires.index in (
-      omega (arith, c.decreases, few, x.3, q.2),
+    let few = entries.nest_few c.args.table.now c.requires.well_formed c.args.index c.requires.index in
+    let small = entries.size_few c.args.table.now c.requires.well_formed c.args.index c.requires.index in (
+      omega (arith, c.decreases, few, small, x.3, q.2),
       (within, (c.requires.table, (c.requires.index, (c.requires.of_struct, (ty.box (ty.named c.args.index), x.0, x.2, omega (arith, x.3, q.2)))))),
     )
 
@@ -531,5 +541,387 @@ write_box-returns-clause-text g t c v p =
     let x = entries.members_of_box c.args.table.now c.requires.well_formed c.args.index c.requires.index c.requires.of_struct c.args.view v p (sym c.if-is_absent.false ∙ c.is_absent.ensures v p.shown) in
     subst (λ (u : Value). Writes (g.W.Write.contents c.args.out.now.writer) (g.W.Write.contents c.write_members.new.out.writer) (text_of (declarations_of c.args.table.now) ty' u) c.write_members.result) (sym x.1) (c.write_members.ensures.text ty' x.0 x.2)
 
+pub write_member-unwrap-row-requires : goal.write_member-unwrap-row-requires
+write_member-unwrap-row-requires g t c =
+    let p = c.requires.part in
+    tables.row_there c.args.table.now c.requires.well_formed c.args.slot.index c.requires.index c.args.slot.ordinal p.0 c.member.result c.member.ensures.none p.1.typed
+
+pub write_member-row_name-requires : goal.write_member-row_name-requires
+write_member-row_name-requires g t c = tables.of_some (λ r. r.name_place + r.name_length ≤ (header_of c.args.table.now).names) c.member.result c.unwrap-row.result c.unwrap-row.ensures c.member.ensures.name
+
+pub write_member-entry-requires : goal.write_member-entry-requires
+write_member-entry-requires g t c = tables.of_some (λ r. r.entry < (header_of c.args.table.now).entries) c.member.result c.unwrap-row.result c.unwrap-row.ensures c.member.ensures.entry_below
+
+pub write_member-returns-in_err-write_all-clause-text : goal.write_member-returns-in_err-write_all-clause-text
+write_member-returns-in_err-write_all-clause-text g t c v m =
+    let b = c.args.table.now in
+    let i = c.args.slot.index in
+    let row = c.unwrap-row.result in
+    let at = tables.of_some (λ r. tables.IsRowAt b c.requires.well_formed i c.requires.index c.args.slot.ordinal r) c.member.result row c.unwrap-row.ensures c.member.ensures.row in
+    let found = tables.of_some (λ r. find (members_of b i) c.args.slot.ordinal ≡ Some (ty.named r.entry)) c.member.result row c.unwrap-row.ensures c.member.ensures.some in
+    let whole = tables.member_whole b c.requires.well_formed i c.requires.index c.requires.kind c.args.slot.ordinal v row c.row_name.result.now at found c.row_name.ensures in
+    failed_as _ _ _ c.from_residual.result c.from_residual.ensures.0
+    (front_as _ _ _ _ (sym whole) (more_left _ _ _ (text_of (declarations_of b) (resolve (declarations_of b).terms (ty.named row.entry)) v) (more_left _ _ _ (codes ": ") c.in_err-write_all.ensures.bytes)))
+
+pub write_member-returns-in_err-write_all-2-clause-text : goal.write_member-returns-in_err-write_all-2-clause-text
+write_member-returns-in_err-write_all-2-clause-text g t c v m =
+    let b = c.args.table.now in
+    let i = c.args.slot.index in
+    let row = c.unwrap-row.result in
+    let at = tables.of_some (λ r. tables.IsRowAt b c.requires.well_formed i c.requires.index c.args.slot.ordinal r) c.member.result row c.unwrap-row.ensures c.member.ensures.row in
+    let found = tables.of_some (λ r. find (members_of b i) c.args.slot.ordinal ≡ Some (ty.named r.entry)) c.member.result row c.unwrap-row.ensures c.member.ensures.some in
+    let whole = tables.member_whole b c.requires.well_formed i c.requires.index c.requires.kind c.args.slot.ordinal v row c.row_name.result.now at found c.row_name.ensures in
+    failed_as _ _ _ c.from_residual-in_err-write_all-2.result c.from_residual-in_err-write_all-2.ensures.0
+    (front_as _ _ _ _ (sym whole) (more_left _ _ _ (text_of (declarations_of b) (resolve (declarations_of b).terms (ty.named row.entry)) v) (failed_then _ _ _ _ _ c.in_ok-write_all.ensures.bytes c.in_err-write_all-2.ensures.bytes)))
+
+pub write_member-write_value-requires : goal.write_member-write_value-requires
+write_member-write_value-requires g t c κs within =
+    let b = c.args.table.now in
+    let w = c.requires.well_formed in
+    let i = c.args.slot.index in
+    let lt = c.requires.index in
+    let row = c.unwrap-row.result in
+    let p = c.requires.part in
+    let below = tables.of_some (λ r. r.entry < (header_of b).entries) c.member.result row c.unwrap-row.ensures c.member.ensures.entry_below in
+    let found = tables.of_some (λ r. find (members_of b i) c.args.slot.ordinal ≡ Some (ty.named r.entry)) c.member.result row c.unwrap-row.ensures c.member.ensures.some in
+    let typed = tables.member_typed b w i lt c.args.slot.ordinal row.entry p.0 found p.1.typed in
+    let sized = ap (λ (e : Entry). e.size) c.entry.ensures.value in
+    let deep = tables.inline_depth b w i lt row.entry below p.0 typed (omega (arith, c.if-entry-le4.true, sized)) in
+    let few = entries.nest_few b w row.entry below in (
+      omega (arith, c.decreases, c.if-entry-le4.true, sized, few),
+      (within, (c.requires.table, (below, (p.0, record { shown = p.1.shown; typed = typed }, omega (arith, deep))))),
+    )
+
+pub write_member-write_value-requires-2 : goal.write_member-write_value-requires-2
+write_member-write_value-requires-2 g t c κs within =
+    let b = c.args.table.now in
+    let w = c.requires.well_formed in
+    let i = c.args.slot.index in
+    let lt = c.requires.index in
+    let row = c.unwrap-row.result in
+    let p = c.requires.part in
+    let below = tables.of_some (λ r. r.entry < (header_of b).entries) c.member.result row c.unwrap-row.ensures c.member.ensures.entry_below in
+    let found = tables.of_some (λ r. find (members_of b i) c.args.slot.ordinal ≡ Some (ty.named r.entry)) c.member.result row c.unwrap-row.ensures c.member.ensures.some in
+    let typed = tables.member_typed b w i lt c.args.slot.ordinal row.entry p.0 found p.1.typed in
+    let sized = ap (λ (e : Entry). e.size) c.entry.ensures.value in
+    let deep = tables.out_depth b w i lt c.args.slot.ordinal row.entry below p.0 c.args.slot.depth found p.2 (omega (arith, c.if-entry-le4.false, sized)) in
+    let few = entries.nest_few b w row.entry below in
+    let small = entries.size_few b w row.entry below in (
+      omega (arith, c.decreases, few, small, deep),
+      (within, (c.requires.table, (below, (p.0, record { shown = p.1.shown; typed = typed }, omega (arith, deep))))),
+    )
+
+pub write_member-overflow_sub-slot : goal.write_member-overflow_sub-slot
+write_member-overflow_sub-slot g t c =
+    let b = c.args.table.now in
+    let w = c.requires.well_formed in
+    let i = c.args.slot.index in
+    let row = c.unwrap-row.result in
+    let p = c.requires.part in
+    let below = tables.of_some (λ r. r.entry < (header_of b).entries) c.member.result row c.unwrap-row.ensures c.member.ensures.entry_below in
+    let found = tables.of_some (λ r. find (members_of b i) c.args.slot.ordinal ≡ Some (ty.named r.entry)) c.member.result row c.unwrap-row.ensures c.member.ensures.some in
+    let sized = ap (λ (e : Entry). e.size) c.entry.ensures.value in
+    let deep = tables.out_depth b w i c.requires.index c.args.slot.ordinal row.entry below p.0 c.args.slot.depth found p.2 (omega (arith, c.if-entry-le4.false, sized)) in
+    omega (arith, deep)
+
+pub write_member-returns-then-entry-le4-clause-text : goal.write_member-returns-then-entry-le4-clause-text
+write_member-returns-then-entry-le4-clause-text g t c v m =
+    let b = c.args.table.now in
+    let w = c.requires.well_formed in
+    let i = c.args.slot.index in
+    let lt = c.requires.index in
+    let row = c.unwrap-row.result in
+    let at = tables.of_some (λ r. tables.IsRowAt b w i lt c.args.slot.ordinal r) c.member.result row c.unwrap-row.ensures c.member.ensures.row in
+    let found = tables.of_some (λ r. find (members_of b i) c.args.slot.ordinal ≡ Some (ty.named r.entry)) c.member.result row c.unwrap-row.ensures c.member.ensures.some in
+    let whole = tables.member_whole b w i lt c.requires.kind c.args.slot.ordinal v row c.row_name.result.now at found c.row_name.ensures in
+    let typed = tables.member_typed b w i lt c.args.slot.ordinal row.entry v found m.typed in
+    writes_as _ _ _ _ c.write_value.result (sym whole) (writes_then _ _ _ _ _ c.write_value.result (appends_then _ _ _ _ _ c.in_ok-write_all.ensures.bytes c.in_ok-write_all-2.ensures.bytes) (c.write_value.ensures.text v (record { shown = m.shown; typed = typed })))
+
+pub write_member-returns-clause-text : goal.write_member-returns-clause-text
+write_member-returns-clause-text g t c v m =
+    let b = c.args.table.now in
+    let w = c.requires.well_formed in
+    let i = c.args.slot.index in
+    let lt = c.requires.index in
+    let row = c.unwrap-row.result in
+    let at = tables.of_some (λ r. tables.IsRowAt b w i lt c.args.slot.ordinal r) c.member.result row c.unwrap-row.ensures c.member.ensures.row in
+    let found = tables.of_some (λ r. find (members_of b i) c.args.slot.ordinal ≡ Some (ty.named r.entry)) c.member.result row c.unwrap-row.ensures c.member.ensures.some in
+    let whole = tables.member_whole b w i lt c.requires.kind c.args.slot.ordinal v row c.row_name.result.now at found c.row_name.ensures in
+    let typed = tables.member_typed b w i lt c.args.slot.ordinal row.entry v found m.typed in
+    writes_as _ _ _ _ c.write_value-2.result (sym whole) (writes_then _ _ _ _ _ c.write_value-2.result (appends_then _ _ _ _ _ c.in_ok-write_all.ensures.bytes c.in_ok-write_all-2.ensures.bytes) (c.write_value-2.ensures.text v (record { shown = m.shown; typed = typed })))
+
+pub write_slot-returns-in_err-write_comma-clause-text : goal.write_slot-returns-in_err-write_comma-clause-text
+write_slot-returns-in_err-write_comma-clause-text g t c v p =
+    let b = c.args.table.now in
+    let w = c.requires.well_formed in
+    let i = c.args.slot.index in
+    let lt = c.requires.index in
+    let is = c.requires.of_table in
+    let f = c.in-Some.ensures.part v p.shown in
+    let held = tables.held_known b w i lt is c.args.view v p c.args.slot.ordinal f.0 f.1 in
+    failed_as _ _ _ c.from_residual.result c.from_residual.ensures.0
+    (front_as _ _ _ _ (ap (λ (o : Option Member). slot_text (declarations_of b) (members_of b i) c.args.later c.args.slot.ordinal o) (sym held)) (more_left _ _ _ (member_text (declarations_of b) (members_of b i) c.args.slot.ordinal (known f.0)) c.in_err-write_comma.ensures.text))
+
+pub write_slot-write_member-requires : goal.write_slot-write_member-requires
+write_slot-write_member-requires g t c κs within =
+    let v = c.requires.part.0 in
+    let p = c.requires.part.1 in
+    let b = c.args.table.now in
+    let w = c.requires.well_formed in
+    let i = c.args.slot.index in
+    let lt = c.requires.index in
+    let is = c.requires.of_table in
+    let f = c.in-Some.ensures.part v p.shown in
+    let held = tables.held_known b w i lt is c.args.view v p c.args.slot.ordinal f.0 f.1 in
+    let typed = tables.held_typed b w i lt is c.args.view v p c.args.slot.ordinal (known f.0) held in
+    let deep = tables.held_depth b w i lt is c.args.view v p c.args.slot.ordinal (known f.0) c.args.slot.depth held (omega (arith, c.requires.part.2)) in (
+      omega (arith, c.decreases),
+      (within, (ap (λ (s : Shown). s.table) c.in-Some.ensures.message ∙ c.requires.table, (w, (lt, (tables.has_ordinals b w i lt Table refl is, (f.0, record { shown = f.2; typed = typed }, deep)))))),
+    )
+
+pub write_slot-returns-in_err-write_member-clause-text : goal.write_slot-returns-in_err-write_member-clause-text
+write_slot-returns-in_err-write_member-clause-text g t c v p =
+    let b = c.args.table.now in
+    let w = c.requires.well_formed in
+    let i = c.args.slot.index in
+    let lt = c.requires.index in
+    let is = c.requires.of_table in
+    let f = c.in-Some.ensures.part v p.shown in
+    let held = tables.held_known b w i lt is c.args.view v p c.args.slot.ordinal f.0 f.1 in
+    let typed = tables.held_typed b w i lt is c.args.view v p c.args.slot.ordinal (known f.0) held in
+    failed_as _ _ _ c.from_residual-in_err-write_member.result c.from_residual-in_err-write_member.ensures.0
+    (front_as _ _ _ _ (ap (λ (o : Option Member). slot_text (declarations_of b) (members_of b i) c.args.later c.args.slot.ordinal o) (sym held)) (failed_then _ _ _ _ _ c.in_ok-write_comma.ensures.text (c.in_err-write_member.ensures.text f.0 (record { shown = f.2; typed = typed }))))
+
+pub write_slot-returns-in-Some-clause-text : goal.write_slot-returns-in-Some-clause-text
+write_slot-returns-in-Some-clause-text g t c v p =
+    let b = c.args.table.now in
+    let w = c.requires.well_formed in
+    let i = c.args.slot.index in
+    let lt = c.requires.index in
+    let is = c.requires.of_table in
+    let f = c.in-Some.ensures.part v p.shown in
+    let held = tables.held_known b w i lt is c.args.view v p c.args.slot.ordinal f.0 f.1 in
+    let typed = tables.held_typed b w i lt is c.args.view v p c.args.slot.ordinal (known f.0) held in
+    appends_as _ _ _ _ (ap (λ (o : Option Member). slot_text (declarations_of b) (members_of b i) c.args.later c.args.slot.ordinal o) (sym held)) (appends_then _ _ _ _ _ c.in_ok-write_comma.ensures.text (c.in_ok-write_member.ensures.text f.0 (record { shown = f.2; typed = typed })))
+
+pub write_slot-returns-in-Some-clause-later : goal.write_slot-returns-in-Some-clause-later
+write_slot-returns-in-Some-clause-later g t c v p =
+    let b = c.args.table.now in
+    let w = c.requires.well_formed in
+    let i = c.args.slot.index in
+    let lt = c.requires.index in
+    let is = c.requires.of_table in
+    let f = c.in-Some.ensures.part v p.shown in
+    let held = tables.held_known b w i lt is c.args.view v p c.args.slot.ordinal f.0 f.1 in
+    ap (λ (o : Option Member). later_behind c.args.later o) (sym held)
+
+pub write_slot-returns-in_err-write_comma-2-clause-text : goal.write_slot-returns-in_err-write_comma-2-clause-text
+write_slot-returns-in_err-write_comma-2-clause-text g t c v p =
+    let b = c.args.table.now in
+    let i = c.args.slot.index in
+    let u = c.in-Some-unknown.member in
+    let held = slots.unknown_held (held_of v c.args.slot.ordinal) (unknown u.inline u.bytes.now u.handles.now) (c.in-Some-unknown.ensures v p.shown) in
+    failed_as _ _ _ c.from_residual-in_err-write_comma-2.result c.from_residual-in_err-write_comma-2.ensures.0
+    (front_as _ _ _ _ (ap (λ (o : Option Member). slot_text (declarations_of b) (members_of b i) c.args.later c.args.slot.ordinal o) (sym held)) (more_left _ _ _ (member_text (declarations_of b) (members_of b i) c.args.slot.ordinal (unknown u.inline u.bytes.now u.handles.now)) c.in_err-write_comma-2.ensures.text))
+
+pub write_slot-returns-in_err-write_unknown-clause-text : goal.write_slot-returns-in_err-write_unknown-clause-text
+write_slot-returns-in_err-write_unknown-clause-text g t c v p =
+    let b = c.args.table.now in
+    let i = c.args.slot.index in
+    let u = c.in-Some-unknown.member in
+    let held = slots.unknown_held (held_of v c.args.slot.ordinal) (unknown u.inline u.bytes.now u.handles.now) (c.in-Some-unknown.ensures v p.shown) in
+    failed_as _ _ _ c.from_residual-in_err-write_unknown.result c.from_residual-in_err-write_unknown.ensures.0
+    (front_as _ _ _ _ (ap (λ (o : Option Member). slot_text (declarations_of b) (members_of b i) c.args.later c.args.slot.ordinal o) (sym held)) (failed_then _ _ _ _ _ c.in_ok-write_comma-2.ensures.text (c.in_err-write_unknown.ensures.text (declarations_of b) (members_of b i))))
+
+pub write_slot-returns-in-Some-unknown-clause-text : goal.write_slot-returns-in-Some-unknown-clause-text
+write_slot-returns-in-Some-unknown-clause-text g t c v p =
+    let b = c.args.table.now in
+    let i = c.args.slot.index in
+    let u = c.in-Some-unknown.member in
+    let held = slots.unknown_held (held_of v c.args.slot.ordinal) (unknown u.inline u.bytes.now u.handles.now) (c.in-Some-unknown.ensures v p.shown) in
+    appends_as _ _ _ _ (ap (λ (o : Option Member). slot_text (declarations_of b) (members_of b i) c.args.later c.args.slot.ordinal o) (sym held)) (appends_then _ _ _ _ _ c.in_ok-write_comma-2.ensures.text (c.in_ok-write_unknown.ensures.text (declarations_of b) (members_of b i)))
+
+pub write_slot-returns-in-Some-unknown-clause-later : goal.write_slot-returns-in-Some-unknown-clause-later
+write_slot-returns-in-Some-unknown-clause-later g t c v p =
+    let b = c.args.table.now in
+    let i = c.args.slot.index in
+    let u = c.in-Some-unknown.member in
+    let held = slots.unknown_held (held_of v c.args.slot.ordinal) (unknown u.inline u.bytes.now u.handles.now) (c.in-Some-unknown.ensures v p.shown) in
+    ap (λ (o : Option Member). later_behind c.args.later o) (sym held)
+
+pub write_slot-returns-clause-text : goal.write_slot-returns-clause-text
+write_slot-returns-clause-text g t c v p =
+    let b = c.args.table.now in
+    let i = c.args.slot.index in
+    let held = tables.held_none b c.requires.well_formed i c.requires.index c.requires.of_table c.args.view v p c.args.slot.ordinal (c.in_default.ensures.part v p.shown) (c.in_default-unknown.ensures v p.shown) in
+    appends_as _ _ _ _ (ap (λ (o : Option Member). slot_text (declarations_of b) (members_of b i) c.args.later c.args.slot.ordinal o) (sym held)) (Appends-nil _)
+
+pub write_slot-returns-clause-later : goal.write_slot-returns-clause-later
+write_slot-returns-clause-later g t c v p =
+    let b = c.args.table.now in
+    let i = c.args.slot.index in
+    let held = tables.held_none b c.requires.well_formed i c.requires.index c.requires.of_table c.args.view v p c.args.slot.ordinal (c.in_default.ensures.part v p.shown) (c.in_default-unknown.ensures v p.shown) in
+    ap (λ (o : Option Member). later_behind c.args.later o) (sym held)
+
+pub write_table-unwrap-count-requires : goal.write_table-unwrap-count-requires
+write_table-unwrap-count-requires g t c =
+    let v = c.requires.part.0 in
+    let p = c.requires.part.1 in
+    let f = tables.as_table c.args.table.now c.requires.well_formed c.args.index c.requires.index c.requires.of_table c.args.view v p in
+    subst (λ (o : Option ℕ). IsSome o) (sym (c.len.ensures v p.shown ∙ ap (λ (u : Value). length_of u) f.2)) refl
+
+pub write_table-returns-in_err-write_all-clause-text : goal.write_table-returns-in_err-write_all-clause-text
+write_table-returns-in_err-write_all-clause-text g t c v p =
+    failed_as _ _ _ c.from_residual.result c.from_residual.ensures.0
+    (tables.head_failed c.args.table.now c.requires.well_formed c.args.index c.requires.index c.requires.of_table c.args.view (g.W.Write.contents c.args.out.now.writer) _ c.unwrap-count.result (λ v p. sym c.unwrap-count.ensures ∙ c.len.ensures v p.shown) (more_left _ _ _ (codes ") {") (more_left _ _ _ (decimal c.unwrap-count.result) c.in_err-write_all.ensures.bytes)) v p)
+
+pub write_table-returns-in_err-write_decimal-clause-text : goal.write_table-returns-in_err-write_decimal-clause-text
+write_table-returns-in_err-write_decimal-clause-text g t c v p =
+    failed_as _ _ _ c.from_residual-in_err-write_decimal.result c.from_residual-in_err-write_decimal.ensures.0
+    (tables.head_failed c.args.table.now c.requires.well_formed c.args.index c.requires.index c.requires.of_table c.args.view (g.W.Write.contents c.args.out.now.writer) _ c.unwrap-count.result (λ v p. sym c.unwrap-count.ensures ∙ c.len.ensures v p.shown) (more_left _ _ _ (codes ") {") (failed_then _ _ _ _ _ c.in_ok-write_all.ensures.bytes c.in_err-write_decimal.ensures.text)) v p)
+
+pub write_table-returns-in_err-write_all-2-clause-text : goal.write_table-returns-in_err-write_all-2-clause-text
+write_table-returns-in_err-write_all-2-clause-text g t c v p =
+    failed_as _ _ _ c.from_residual-in_err-write_all-2.result c.from_residual-in_err-write_all-2.ensures.0
+    (tables.head_failed c.args.table.now c.requires.well_formed c.args.index c.requires.index c.requires.of_table c.args.view (g.W.Write.contents c.args.out.now.writer) _ c.unwrap-count.result (λ v p. sym c.unwrap-count.ensures ∙ c.len.ensures v p.shown) (failed_then _ _ _ _ _ (appends_then _ _ _ _ _ c.in_ok-write_all.ensures.bytes c.in_ok-write_decimal.ensures.text) c.in_err-write_all-2.ensures.bytes) v p)
+
+pub write_table-loop-at-init : goal.write_table-loop-at-init
+write_table-loop-at-init g t c = (
+  tables.table_begin c.args.table.now c.requires.well_formed c.args.index c.requires.index c.requires.of_table c.args.view (g.W.Write.contents c.args.out.now.writer) _ c.unwrap-count.result (λ v p. sym c.unwrap-count.ensures ∙ c.len.ensures v p.shown) (appends_then _ _ _ _ _ (appends_then _ _ _ _ _ c.in_ok-write_all.ensures.bytes c.in_ok-write_decimal.ensures.text) c.in_ok-write_all-2.ensures.bytes),
+  c.in_ok-write_all-2.ensures.kept ∙ c.in_ok-write_decimal.ensures.kept ∙ c.in_ok-write_all.ensures.kept,
+)
+
+pub write_table-overflow_sub-slot : goal.write_table-overflow_sub-slot
+write_table-overflow_sub-slot g t c =
+    let v = c.requires.part.0 in
+    let p = c.requires.part.1 in
+    let deep = tables.some_depth c.args.table.now c.requires.well_formed c.args.index c.requires.index c.requires.of_table c.args.view v p c.args.depth c.requires.part.2 in
+    omega (arith, deep)
+
+pub write_table-write_slot-requires : goal.write_table-write_slot-requires
+write_table-write_slot-requires g t c κs within =
+    let v = c.requires.part.0 in
+    let p = c.requires.part.1 in
+    let deep = tables.some_depth c.args.table.now c.requires.well_formed c.args.index c.requires.index c.requires.of_table c.args.view v p c.args.depth c.requires.part.2 in (
+      omega (arith, c.decreases, deep),
+      (within, (c.requires.table, (c.requires.well_formed, (c.requires.index, (c.requires.of_table, (v, p, omega (arith, deep, c.requires.part.2))))))),
+    )
+
+pub write_table-returns-in_err-later-clause-text : goal.write_table-returns-in_err-later-clause-text
+write_table-returns-in_err-later-clause-text g t c v p =
+    failed_as _ _ _ c.from_residual-in_err-later.result c.from_residual-in_err-later.ensures.0
+    (tables.table_failed c.args.table.now c.requires.well_formed c.args.index c.requires.index c.requires.of_table c.args.view (g.W.Write.contents c.args.out.now.writer) _ _ c.loop-at.at (c.loop-at.at + 1) c.loop-at.later (omega arith) c.loop-at.invariant.0 v p (c.in_err-later.ensures.text v p))
+
+pub write_table-loop-at-preserved : goal.write_table-loop-at-preserved
+write_table-loop-at-preserved g t c = (
+  tables.table_next c.args.table.now c.requires.well_formed c.args.index c.requires.index c.requires.of_table c.args.view (g.W.Write.contents c.args.out.now.writer) _ _ c.loop-at.at (c.loop-at.at + 1) c.loop-at.later _ (omega arith) c.loop-at.invariant.0 c.in_ok-later.ensures.text c.in_ok-later.ensures.later,
+  c.in_ok-later.ensures.kept ∙ c.loop-at.invariant.1,
+)
+
+pub write_table-returns-clause-text : goal.write_table-returns-clause-text
+write_table-returns-clause-text g t c v p =
+    so_far_written _ _ _ _ _ c.write_all-3.result
+    (tables.table_end c.args.table.now c.requires.well_formed c.args.index c.requires.index c.requires.of_table c.args.view (g.W.Write.contents c.args.out.now.writer) _ c.loop-at.at c.loop-at.later c.loop-at.invariant.0 v p
+    (λ n ms e. let same = printing.some_same c.unwrap-count.result n (sym c.unwrap-count.ensures ∙ c.len.ensures v p.shown ∙ ap (λ (u : Value). length_of u) e) in omega (arith, c.loop-at-test.false, c.loop-at.auto.at-end, same)))
+    c.write_all-3.ensures.bytes
+
+pub write_union-returns-in_default-clause-text : goal.write_union-returns-in_default-clause-text
+write_union-returns-in_default-clause-text g t c v p =
+    writes_as _ _ _ _ c.write_all.result (sym (tables.union_absent c.args.table.now c.requires.well_formed c.args.index c.requires.index c.requires.of_union c.args.view v p (c.in_default.ensures.part v p.shown))) c.write_all.ensures.bytes
+
+pub write_union-returns-in_err-write_all-clause-text : goal.write_union-returns-in_err-write_all-clause-text
+write_union-returns-in_err-write_all-clause-text g t c v p =
+    let f = c.in-Some.ensures.part v p.shown in
+    let own = tables.union_is c.args.table.now c.requires.well_formed c.args.index c.requires.index c.requires.of_union c.args.view v p c.in-Some.ordinal f.0 f.1 in
+    failed_as _ _ _ c.from_residual.result c.from_residual.ensures.0
+    (front_as _ _ _ _ (sym own.text) (more_left _ _ _ (codes ")") (more_left _ _ _ (member_text (declarations_of c.args.table.now) (members_of c.args.table.now c.args.index) c.in-Some.ordinal f.0) c.in_err-write_all.ensures.bytes)))
+
+pub write_union-write_member-requires : goal.write_union-write_member-requires
+write_union-write_member-requires g t c κs within =
+    let b = c.args.table.now in
+    let w = c.requires.well_formed in
+    let i = c.args.index in
+    let lt = c.requires.index in
+    let v = c.requires.part.0 in
+    let p = c.requires.part.1 in
+    let f = c.in-Some.ensures.part v p.shown in
+    let own = tables.union_is c.args.table.now c.requires.well_formed c.args.index c.requires.index c.requires.of_union c.args.view v p c.in-Some.ordinal f.0 f.1 in
+    let k = subst (λ (o : Option View). ShowsKnown o f.0) c.in-Some-known.is f.2 in
+    let same = tables.known_is f.0 k.0 k.1 in
+    let message = subst (λ (o : Option View). IfSome o (λ part. part.decoded.now ≡ c.args.view.decoded.now)) c.in-Some-known.is c.in-Some.ensures.message in
+    let all : member_depth (declarations_of b) (find (members_of b i) c.in-Some.ordinal) f.0 ≤ c.args.depth = let whole = own.deep in omega (arith, whole, c.requires.part.2) in
+    let deep = subst (λ (x : Member). member_depth (declarations_of b) (find (members_of b i) c.in-Some.ordinal) x ≤ c.args.depth) same all in (
+      omega (arith, c.decreases),
+      (within, (ap (λ (s : Shown). s.table) message ∙ c.requires.table, (w, (lt, (tables.has_ordinals b w i lt Union refl c.requires.of_union, (k.0, record { shown = k.2; typed = own.typed k.0 same }, deep)))))),
+    )
+
+pub write_union-returns-in_err-write_member-clause-text : goal.write_union-returns-in_err-write_member-clause-text
+write_union-returns-in_err-write_member-clause-text g t c v p =
+    let f = c.in-Some.ensures.part v p.shown in
+    let own = tables.union_is c.args.table.now c.requires.well_formed c.args.index c.requires.index c.requires.of_union c.args.view v p c.in-Some.ordinal f.0 f.1 in
+    let k = subst (λ (o : Option View). ShowsKnown o f.0) c.in-Some-known.is f.2 in
+    let same = tables.known_is f.0 k.0 k.1 in
+    failed_as _ _ _ c.from_residual-in_err-write_member.result c.from_residual-in_err-write_member.ensures.0
+    (front_as _ _ _ _ (sym own.text) (more_left _ _ _ (codes ")") (failed_then _ _ _ _ _ c.in_ok-write_all.ensures.bytes (front_as _ _ _ _ (ap (λ (x : Member). member_text (declarations_of c.args.table.now) (members_of c.args.table.now c.args.index) c.in-Some.ordinal x) (sym same)) (c.in_err-write_member.ensures.text k.0 (record { shown = k.2; typed = own.typed k.0 same }))))))
+
+pub write_union-returns-in-Some-known-clause-text : goal.write_union-returns-in-Some-known-clause-text
+write_union-returns-in-Some-known-clause-text g t c v p =
+    let f = c.in-Some.ensures.part v p.shown in
+    let own = tables.union_is c.args.table.now c.requires.well_formed c.args.index c.requires.index c.requires.of_union c.args.view v p c.in-Some.ordinal f.0 f.1 in
+    let k = subst (λ (o : Option View). ShowsKnown o f.0) c.in-Some-known.is f.2 in
+    let same = tables.known_is f.0 k.0 k.1 in
+    writes_as _ _ _ _ c.write_all-in-Some-known.result (sym own.text)
+    (writes_then _ _ _ _ _ c.write_all-in-Some-known.result (appends_then _ _ _ _ _ c.in_ok-write_all.ensures.bytes (appends_as _ _ _ _ (ap (λ (x : Member). member_text (declarations_of c.args.table.now) (members_of c.args.table.now c.args.index) c.in-Some.ordinal x) (sym same)) (c.in_ok-write_member.ensures.text k.0 (record { shown = k.2; typed = own.typed k.0 same })))) c.write_all-in-Some-known.ensures.bytes)
+
+pub write_union-unwrap-member-requires : goal.write_union-unwrap-member-requires
+write_union-unwrap-member-requires g t c =
+    let v = c.requires.part.0 in
+    let p = c.requires.part.1 in
+    let f = c.in-Some.ensures.part v p.shown in
+    let none = subst (λ (o : Option View). ShowsKnown o f.0) c.in_default-known.is f.2 in
+    tables.unknown_there c.unknown.result v c.in-Some.ordinal f.0 f.1 none (c.unknown.ensures v p.shown)
+
+pub write_union-returns-in_err-write_unknown-clause-text : goal.write_union-returns-in_err-write_unknown-clause-text
+write_union-returns-in_err-write_unknown-clause-text g t c v p =
+    let f = c.in-Some.ensures.part v p.shown in
+    let own = tables.union_is c.args.table.now c.requires.well_formed c.args.index c.requires.index c.requires.of_union c.args.view v p c.in-Some.ordinal f.0 f.1 in
+    let none = subst (λ (o : Option View). ShowsKnown o f.0) c.in_default-known.is f.2 in
+    let u = c.unwrap-member.result in
+    let same = tables.unknown_same c.unknown.result u v c.in-Some.ordinal f.0 f.1 none c.unwrap-member.ensures (c.unknown.ensures v p.shown) in
+    failed_as _ _ _ c.from_residual-in_err-write_unknown.result c.from_residual-in_err-write_unknown.ensures.0
+    (front_as _ _ _ _ (sym own.text) (more_left _ _ _ (codes ")") (failed_then _ _ _ _ _ c.in_ok-write_all.ensures.bytes (front_as _ _ _ _ (ap (λ (x : Member). member_text (declarations_of c.args.table.now) (members_of c.args.table.now c.args.index) c.in-Some.ordinal x) (sym same)) (c.in_err-write_unknown.ensures.text (declarations_of c.args.table.now) (members_of c.args.table.now c.args.index))))))
+
+pub write_union-returns-clause-text : goal.write_union-returns-clause-text
+write_union-returns-clause-text g t c v p =
+    let f = c.in-Some.ensures.part v p.shown in
+    let own = tables.union_is c.args.table.now c.requires.well_formed c.args.index c.requires.index c.requires.of_union c.args.view v p c.in-Some.ordinal f.0 f.1 in
+    let none = subst (λ (o : Option View). ShowsKnown o f.0) c.in_default-known.is f.2 in
+    let u = c.unwrap-member.result in
+    let same = tables.unknown_same c.unknown.result u v c.in-Some.ordinal f.0 f.1 none c.unwrap-member.ensures (c.unknown.ensures v p.shown) in
+    writes_as _ _ _ _ c.write_all-3.result (sym own.text)
+    (writes_then _ _ _ _ _ c.write_all-3.result (appends_then _ _ _ _ _ c.in_ok-write_all.ensures.bytes (appends_as _ _ _ _ (ap (λ (x : Member). member_text (declarations_of c.args.table.now) (members_of c.args.table.now c.args.index) c.in-Some.ordinal x) (sym same)) (c.in_ok-write_unknown.ensures.text (declarations_of c.args.table.now) (members_of c.args.table.now c.args.index)))) c.write_all-3.ensures.bytes)
+
+pub write_value-write_table-requires : goal.write_value-write_table-requires
+write_value-write_table-requires g t c κs within =
+    let b = c.args.table.now in
+    let w = c.entry-entry.ensures.well_formed in
+    let is : IsOf Table (entry_at b c.args.index) = sym (c.from_number.ensures ∙ ap (λ (e : Entry). kind_of e.kind) c.entry-entry.ensures.value) ∙ c.unwrap-kind.ensures ∙ ap (λ (k : EntryKind). Some k) c.in-Table.is in (
+      omega (arith, c.decreases),
+      (within, (c.requires.table, (w, (c.requires.index, (is, c.requires.part))))),
+    )
+
+pub write_value-write_union-requires : goal.write_value-write_union-requires
+write_value-write_union-requires g t c κs within =
+    let b = c.args.table.now in
+    let w = c.entry-entry.ensures.well_formed in
+    let is : IsOf Union (entry_at b c.args.index) = sym (c.from_number.ensures ∙ ap (λ (e : Entry). kind_of e.kind) c.entry-entry.ensures.value) ∙ c.unwrap-kind.ensures ∙ ap (λ (k : EntryKind). Some k) c.in-Union.is in
+    let size = tables.union_size b w c.args.index c.requires.index is in (
+      omega (arith, c.decreases, size),
+      (within, (c.requires.table, (w, (c.requires.index, (is, c.requires.part))))),
+    )
+
 pub write_value-returns-in-Table-clause-text : goal.write_value-returns-in-Table-clause-text
-write_value-returns-in-Table-clause-text g t c v p = c.fail_unsupported.ensures.text _
+write_value-returns-in-Table-clause-text g t c = c.write_table.ensures.text
+
+pub write_value-returns-in-Union-clause-text : goal.write_value-returns-in-Union-clause-text
+write_value-returns-in-Union-clause-text g t c = c.write_union.ensures.text
