@@ -10,7 +10,7 @@ use std::test::Fail;
 /// A table written by hand after the table's rules: 0 `table {1: a uint8; 2: b string;}`, 1 `uint8`,
 /// 2 `string`, 3 `struct {u U;}`, 4 `U = union {1: n uint32;}`, 5 `uint32`, 6 `struct {u
 /// U:optional;}`, 7 `U:optional`, 8 `struct {u S;}`, 9 `S = strict union {1: n uint32;}`.
-const ENVELOPES: [u8; 572] = [
+pub(crate) const ENVELOPES: [u8; 572] = [
     0x46, 0x43, 0x54, 0x32, 0x01, 0x00, 0x00, 0x00, 0x0a, 0x00, 0x00, 0x00, 0x08, 0x00, 0x00, 0x00,
     0x00, 0x00, 0x00, 0x00, 0x00, 0x00, 0x00, 0x00, 0x00, 0x00, 0x00, 0x00, 0x00, 0x00, 0x00, 0x00,
     0x04, 0x00, 0x00, 0x00, 0x00, 0x00, 0x00, 0x00, 0x11, 0x00, 0x08, 0x00, 0x10, 0x00, 0x00, 0x00,
@@ -90,18 +90,18 @@ fn one_byte_breaks_one_rule(rt: HostRuntime) {
 }
 
 /// A table of one member, whose number stands in its envelope.
-const INLINE: [u8; 24] = [
+pub(crate) const INLINE: [u8; 24] = [
     1, 0, 0, 0, 0, 0, 0, 0, 255, 255, 255, 255, 255, 255, 255, 255, 5, 0, 0, 0, 0, 0, 1, 0,
 ];
 
 /// The same with an absent envelope behind it.
-const ABSENT: [u8; 32] = [
+pub(crate) const ABSENT: [u8; 32] = [
     2, 0, 0, 0, 0, 0, 0, 0, 255, 255, 255, 255, 255, 255, 255, 255, 5, 0, 0, 0, 0, 0, 1, 0, 0, 0,
     0, 0, 0, 0, 0, 0,
 ];
 
 /// A table whose third member, which is unknown, stands in its envelope.
-const UNKNOWN: [u8; 40] = [
+pub(crate) const UNKNOWN: [u8; 40] = [
     3, 0, 0, 0, 0, 0, 0, 0, 255, 255, 255, 255, 255, 255, 255, 255, 0, 0, 0, 0, 0, 0, 0, 0, 0, 0,
     0, 0, 0, 0, 0, 0, 1, 2, 3, 4, 0, 0, 1, 0,
 ];
@@ -152,7 +152,7 @@ fn members_in_their_envelopes_are_decoded(rt: HostRuntime) -> Result<(), Fail> {
 }
 
 /// A table whose second member is the text `hi`. Its envelope, at 24, counts 24 bytes.
-const TEXT: [u8; 56] = [
+pub(crate) const TEXT: [u8; 56] = [
     2, 0, 0, 0, 0, 0, 0, 0, 255, 255, 255, 255, 255, 255, 255, 255, 0, 0, 0, 0, 0, 0, 0, 0, 24, 0,
     0, 0, 0, 0, 0, 0, 2, 0, 0, 0, 0, 0, 0, 0, 255, 255, 255, 255, 255, 255, 255, 255, 104, 105, 0,
     0, 0, 0, 0, 0,
@@ -160,7 +160,7 @@ const TEXT: [u8; 56] = [
 
 /// A table whose fifth member, which is unknown, stands behind the envelopes, with a handle. Its
 /// envelope is at 48.
-const UNKNOWN_OUTSIDE: [u8; 64] = [
+pub(crate) const UNKNOWN_OUTSIDE: [u8; 64] = [
     5, 0, 0, 0, 0, 0, 0, 0, 255, 255, 255, 255, 255, 255, 255, 255, 0, 0, 0, 0, 0, 0, 0, 0, 0, 0,
     0, 0, 0, 0, 0, 0, 0, 0, 0, 0, 0, 0, 0, 0, 0, 0, 0, 0, 0, 0, 0, 0, 8, 0, 0, 0, 1, 0, 0, 0, 0x11,
     0x22, 0x33, 0x44, 0x55, 0x66, 0x77, 0x88,

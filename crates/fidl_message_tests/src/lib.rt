@@ -12,7 +12,11 @@ mod chosen;
 #[cfg(test)]
 mod decoding;
 #[cfg(test)]
+mod depths;
+#[cfg(test)]
 mod envelopes;
+#[cfg(test)]
+mod hostile;
 #[cfg(test)]
 mod limits;
 #[cfg(test)]
