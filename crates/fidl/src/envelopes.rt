@@ -3,7 +3,8 @@ use crate::runs::{PrintedCase, is_printed};
 use crate::tables::ENVELOPES;
 use std::test::Fail;
 
-/// Tables are printed by the number of their envelopes and the members that are present, or refused.
+/// Tables are printed by the number of their envelopes and the members that are present, or
+/// refused.
 #[test]
 fn tables_are_printed_or_refused(rt: HostRuntime) -> Result<(), Fail> {
     let cases: [PrintedCase<'_>; 8] = [

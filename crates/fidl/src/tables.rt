@@ -188,10 +188,10 @@ pub(crate) const BELOW: [u8; 512] = [
     0x01, 0x00, 0x00, 0x00, 0x00, 0x00, 0x00, 0x00, 0x61, 0x62, 0x63, 0x78, 0x6e, 0x43, 0x48, 0x50,
 ];
 
-/// A table written by hand, with five roots: `T` is `table {1: a uint8; 2: b string;}`; `U`, `O` and
-/// `S` are structs of a union `u` of a uint32 `n` at ordinal 1, which is flexible, flexible and
-/// optional, and strict; `D` is a struct of a union `v` of `T` as `t` at 1, a struct `p` of two uint8
-/// `x` and `y` at 2, a vector `l` of unions like that of `U` at 3, and a handle `h` at 9.
+/// A table written by hand, with five roots: `T` is `table {1: a uint8; 2: b string;}`; `U`, `O`
+/// and `S` are structs of a union `u` of a uint32 `n` at ordinal 1, which is flexible, flexible and
+/// optional, and strict; `D` is a struct of a union `v` of `T` as `t` at 1, a struct `p` of two
+/// uint8 `x` and `y` at 2, a vector `l` of unions like that of `U` at 3, and a handle `h` at 9.
 pub(crate) const ENVELOPES: [u8; 960] = [
     0x46, 0x43, 0x54, 0x32, 0x01, 0x00, 0x00, 0x00, 0x0f, 0x00, 0x00, 0x00, 0x0f, 0x00, 0x00, 0x00,
     0x00, 0x00, 0x00, 0x00, 0x05, 0x00, 0x00, 0x00, 0x00, 0x00, 0x00, 0x00, 0x00, 0x00, 0x00, 0x00,

@@ -1,5 +1,5 @@
 //! A writer that keeps the error that it has failed with.
-ghost use Rattle.std.specs.Prelude.{◌≡◌, ℕ, List, IfSome, IsSome, OnOk, OnErr, is_ok, None, option_map};
+ghost use Rattle.std.specs.Prelude.{◌≡◌, IfSome, IsSome, OnOk, OnErr, is_ok, None, option_map};
 ghost use Rattle.std.specs.Io.KnownBytes.{Appends, Keeps};
 ghost use Rattle.std.specs.Fmt.{with_newline};
 ghost use Rattle.fidl_tool.specs.Outputs.{Writes};

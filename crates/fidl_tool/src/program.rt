@@ -32,7 +32,8 @@ pub(crate) fn tell<W: Write, E: Write>(
     ensures out { result ≢ outcome.Unwritten
         → Appends (W.contents out.old.writer) (W.contents out.new.writer) (text_of unread.now) }
     ensures errors { result ≢ outcome.Unwritten
-        → Appends (E.contents errors.old.writer) (E.contents errors.new.writer) (line_of unread.now) }
+        → Appends (E.contents errors.old.writer) (E.contents errors.new.writer)
+        (line_of unread.now) }
     ensures unwritten { ReportsFailures result out.old.failure out.new.failure
         errors.old.failure errors.new.failure }
 {
@@ -120,20 +121,24 @@ pub fn run<S: AsStr, F: Files, W: Write, E: Write>(
     errors: &mut Output<E>,
 ) -> Outcome
     ensures done { result ≡ outcome.Done → Gives (map S.text words.now)
-        (λ given. OfTable (F.bytes_of files.now) given (λ table. AppendsOne (IsGivenText given table)
+        (λ given. OfTable (F.bytes_of files.now) given
+        (λ table. AppendsOne (IsGivenText given table)
         (W.contents out.old.writer) (W.contents out.new.writer))) }
     ensures refused { result ≡ outcome.Refused → Gives (map S.text words.now)
-        (λ given. OfTable (F.bytes_of files.now) given (λ table. AppendsOne (IsGivenRefusal given table)
+        (λ given. OfTable (F.bytes_of files.now) given
+        (λ table. AppendsOne (IsGivenRefusal given table)
         (E.contents errors.old.writer) (E.contents errors.new.writer))) }
     ensures no_root { result ≡ outcome.NoRoot → Gives (map S.text words.now)
         (λ given. OfTable (F.bytes_of files.now) given (λ table. LacksRoot table given.root.now)) }
     ensures no_file { result ≡ outcome.NoFile → Gives (map S.text words.now)
         (λ given. F.bytes_of files.now given.table.now ≡ None) }
     ensures asked { result ≡ outcome.Asked → GivesNone (map S.text words.now) outcome.Asked
-        (λ unread. Appends (W.contents out.old.writer) (W.contents out.new.writer) (text_of unread)) }
+        (λ unread. Appends (W.contents out.old.writer) (W.contents out.new.writer)
+        (text_of unread)) }
     ensures wrong_line { result ≡ outcome.WrongLine
         → GivesNone (map S.text words.now) outcome.WrongLine
-        (λ unread. Appends (E.contents errors.old.writer) (E.contents errors.new.writer) (line_of unread)) }
+        (λ unread. Appends (E.contents errors.old.writer) (E.contents errors.new.writer)
+        (line_of unread)) }
     ensures unwritten { ReportsFailures result out.old.failure out.new.failure
         errors.old.failure errors.new.failure }
 {
