@@ -16,6 +16,8 @@ mod envelopes;
 #[cfg(test)]
 mod limits;
 #[cfg(test)]
+mod members;
+#[cfg(test)]
 mod numbers;
 #[cfg(test)]
 mod outside;
