@@ -20,6 +20,8 @@ mod hostile;
 #[cfg(test)]
 mod limits;
 #[cfg(test)]
+mod members;
+#[cfg(test)]
 mod numbers;
 #[cfg(test)]
 mod outside;

@@ -1,21 +1,19 @@
 -- The members of tables and unions, as the parts that show them.
-use Rattle.std.proofs.Common.{◌≡◌, ℕ, suc, ◌+◌, ◌-◌, ◌*◌, ◌<◌, ◌≤◌, Bool, true, false, cond, nat_le, List, [], ◌∷◌, length, get_or, refl, sym, ap, subst, ◌∙◌, arith, inl, inr, length-append, take, drop, add-one, drop-cons}
-use Rattle.std.specs.Prelude.{Option, Some, None, ◌==◌, if◌then◌else◌, IsTrue, slice_range, MatchOption}
+use Rattle.std.proofs.Common.{◌≡◌, ℕ, ◌+◌, ◌*◌, ◌<◌, ◌≤◌, Bool, true, false, cond, nat_le, List, [], length, refl, sym, ap, subst, ◌∙◌, arith, inl, inr, length-append}
+use Rattle.std.specs.Prelude.{Option, Some, None, if◌then◌else◌, IsTrue, MatchOption}
 use Rattle.std.specs.Option.{option_map_or}
-use Rattle.std.specs.Int.{w16, w32, w64, to_le_bytes}
+use Rattle.std.specs.Int.{w64, to_le_bytes}
 use Rattle.std.proofs.lemmas.Bool.Decides.{eqb_tells}
-use Rattle.std.proofs.lemmas.Option.{slice_get_within, slice_get-get_or}
-use Rattle.fidl_limits.specs.declared.limits.TheConstants.{MAX_MESSAGE_BYTES, MAX_MESSAGE_HANDLES}
-use Rattle.fidl_wire.specs.declared.handle.HandleInfo.{HandleInfo}
+use Rattle.fidl_limits.specs.declared.limits.TheConstants.{MAX_MESSAGE_BYTES}
 use Rattle.fidl_wire.specs.Value.{Value, absent, table, union, Member, known, unknown, Members}
 use Rattle.fidl_wire.specs.Term.{Term, Rows, resolve, rows_of, find, nothing}
 use Rattle.fidl_wire.specs.Term as ty
 use Rattle.fidl_wire.specs.Figure.{Figure, Declarations, size_of}
 use Rattle.fidl_wire.specs.Typed.{IsTyped, IsTypedMember, RiseTyped}
-use Rattle.fidl_wire.specs.Encoding.{Encoding, zeros, present, padded, pad8, object, envelope_end, inline_envelope, out_envelope, encoding_of, enveloped, envelopes}
-use Rattle.fidl_wire.specs.Standing.{Stands, Carries}
+use Rattle.fidl_wire.specs.Encoding.{Encoding, zeros, present, padded, pad8, object, inline_envelope, out_envelope, encoding_of, enveloped, envelopes}
+use Rattle.fidl_wire.specs.Standing.{Stands}
 use Rattle.fidl_wire.proofs.Stand.{stands_to, stands_front, stands_back}
-use Rattle.fidl_wire.proofs.Sizes.{size_of-resolve, length-enveloped, le_of_test}
+use Rattle.fidl_wire.proofs.Sizes.{size_of-resolve, le_of_test}
 use Rattle.fidl_wire.proofs.Unique.{no_out}
 use Rattle.fidl_records.specs.declared.kind.EntryKind.{EntryKind}
 use Rattle.fidl_records.specs.declared.record.Header.{Header}
@@ -30,11 +28,10 @@ use Rattle.fidl_records.specs.WellFormed.{WellFormed}
 use Rattle.fidl_decode.specs.Model.{Shown}
 use Rattle.fidl_decode.specs.Faults.{message_of}
 use Rattle.fidl_decode.specs.State.{Message, envelope_place}
-use Rattle.fidl_decode.specs.Placed.{Placed, IsMemberPlaced, AreMembersPlaced, object_at, enclosed_at, first_record_at}
+use Rattle.fidl_decode.specs.Placed.{Placed, IsMemberPlaced, AreMembersPlaced, object_at, enclosed_at}
 use Rattle.fidl_decode.specs.Invariants.{IsFine}
 use Rattle.fidl_decode.proofs.Bridge.{fine_of}
-use Rattle.fidl_decode.proofs.Numbers.{number_16, number_32, number_64, slice_is}
-use Rattle.fidl_decode.specs.Links.{Linked}
+use Rattle.fidl_decode.proofs.Numbers.{number_64}
 use Rattle.fidl_decode.proofs.Visiting.{figure_is, size_is}
 use Rattle.fidl_decode.proofs.After.{length-table}
 use Rattle.fidl_view.specs.Parts.{held_of, member_of, known_of, known_in, unknown_in, variant_of, unknown_of}
@@ -46,7 +43,7 @@ use Rattle.fidl_wire.specs.Marker.{Says}
 use Rattle.fidl_wire.specs.declared.marker.Presence.{Presence}
 use Rattle.fidl_wire.specs.declared.marker.Presence.TheVariants.{Absent, Present, Neither}
 use Rattle.fidl_view.specs.Members.{ShowMember, term_at}
-use Rattle.fidl_view.proofs.Content.{stands_short, nonzero}
+use Rattle.fidl_view.proofs.Content.{stands_short}
 use Rattle.fidl_view.proofs.Envelopes as slots
 use Rattle.fidl_view.proofs.Viewing as viewing
 
@@ -55,11 +52,6 @@ weaker : (ds : Declarations) (strict : Bool) (t : Option Term) (x : Member) → 
 weaker ds strict (Some t) (known v) h = h
 weaker ds strict None (unknown inline bytes handles) h = (refl, h.1, h.2, h.3)
 weaker ds strict _ _ h = absurd h
-
--- so many handles stand in a list from a place on
-pub carries_room : (hs : List HandleInfo) (p : ℕ) (a : List HandleInfo) → Carries hs p a → length a ≤ length hs - p
-carries_room hs p [] h = omega arith
-carries_room hs p (x ∷ a) h = let lt = slice_get_within hs p x h.0 in let more = carries_room hs (p + 1) a h.1 in omega (arith, lt, more)
 
 -- only unions have a variant
 pub no_variant : (ds : Declarations) (t : List ℕ) (h : Header) (e : Entry) (k : EntryKind) → (k ≡ Union → ⊥) → (v : Value) → IsTyped ds (term_as k t h e) v → variant_of v ≡ None
@@ -215,47 +207,6 @@ absent_holds_none _ e n other = refl
 pub union_no_table : Union ≡ Table → ⊥
 union_no_table e = cc
 
--- where a member of a size stands
-pub enclosed_in : (l : Linked) (n p : ℕ) → n ≤ 4 → p ≡ enclosed_at l (nat_le n 4) p
-enclosed_in l n p le = go (nat_le n 4) refl
-  where
-    go : (b : Bool) → nat_le n 4 ≡ b → p ≡ enclosed_at l b p
-    go true e = refl
-    go false e = absurd (omega (arith, le, slots.over_four n e))
-
-pub enclosed_out : (l : Linked) (n p : ℕ) → 4 < n → object_at l p ≡ enclosed_at l (nat_le n 4) p
-enclosed_out l n p lt = go (nat_le n 4) refl
-  where
-    go : (b : Bool) → nat_le n 4 ≡ b → object_at l p ≡ enclosed_at l b p
-    go false e = refl
-    go true e = absurd (omega (arith, lt, le_of_test n e))
-
--- the bytes and the handles of an unknown member
-abbrev pub raw_bytes_of : Member → List ℕ
-raw_bytes_of (unknown inline bytes handles) = bytes
-raw_bytes_of _ = []
-
-abbrev pub raw_handles_of : Member → List HandleInfo
-raw_handles_of (unknown inline bytes handles) = handles
-raw_handles_of _ = []
-
-some_handle : (a b : HandleInfo) → Some a ≡ Some b → a ≡ b
-some_handle a b e = cc
-
--- handles that stand in a list are a slice of it
-handles_slice : (hs : List HandleInfo) (p : ℕ) (a : List HandleInfo) → Carries hs p a → slice_range hs p (p + length a) ≡ a
-handles_slice hs p a h = let len : p + length a - p ≡ length a = omega arith in ap (λ k. take k (drop p hs)) len ∙ front hs p a h
-  where
-    front : (hs : List HandleInfo) (p : ℕ) (a : List HandleInfo) → Carries hs p a → take (length a) (drop p hs) ≡ a
-    front hs p [] h = refl
-    front hs p (x ∷ a) h =
-        let lt = slice_get_within hs p x h.0 in
-        let is : get_or hs p x ≡ x = some_handle _ _ (sym (slice_get-get_or hs p x lt) ∙ h.0) in
-        ap (λ (l : List HandleInfo). take (suc (length a)) l) (drop-cons hs p x lt)
-        ∙ ap (λ y. y ∷ take (length a) (drop (suc p) hs)) is
-        ∙ ap (λ n. x ∷ take (length a) (drop n hs)) (sym (add-one p))
-        ∙ ap (λ l. x ∷ l) (front hs (p + 1) a h.1)
-
 module _ (d : Shown) (w : WellFormed d.table) where
   abbrev fine : IsFine d.table
   fine = fine_of d.table w
@@ -385,13 +336,6 @@ module _ (d : Shown) (w : WellFormed d.table) where
   -- ---- what an envelope holds
 
   module _ (index ordinal place : ℕ) where
-    -- its eight bytes
-    pub envelope_room : (x : Member) → ShowMember d index ordinal place x → place + 8 ≤ length d.bytes
-    envelope_room x s =
-        let wide = length-enveloped ds fine.laid_out false (term_at d index ordinal) x s.typed in
-        let short = stands_short d.bytes place (enveloped ds (term_at d index ordinal) x).inline s.stands in
-        omega (arith, wide, short)
-
     -- a known member
     pub known_shown : (e : ℕ) → e < (header_of d.table).entries → term_at d index ordinal ≡ Some (ty.named e) → (x : Member) → ShowMember d index ordinal place x
         → (u : Value) × (known_of x ≡ Some u) × Shows d e (enclosed_at d.links (nat_le (entry_at d.table e).size 4) place) u
@@ -417,120 +361,3 @@ module _ (d : Shown) (w : WellFormed d.table) where
             } in
             (v, refl, subst (λ k. Shows d e (enclosed_at d.links (nat_le k 4) place) v) size mine)
         go _ h p within = absurd h
-
--- ---- members that are known, or came as they are
-
-module _ (d : Shown) (index ordinal place : ℕ) where
-  pub known_no_other : (t : Term) → term_at d index ordinal ≡ Some t → (x : Member) → ShowMember d index ordinal place x → unknown_in (Some x) ≡ None
-  known_no_other t is x s = go x (subst (λ (t : Option Term). IsTypedMember (declarations_of d.table) false t x) is s.typed)
-    where
-      go : (x : Member) → IsTypedMember (declarations_of d.table) false (Some t) x → unknown_in (Some x) ≡ None
-      go (known v) h = refl
-      go _ h = absurd h
-
-  -- an unknown one
-  pub unknown_no_value : term_at d index ordinal ≡ None → (x : Member) → ShowMember d index ordinal place x → known_of x ≡ None
-  unknown_no_value is x s = go x (subst (λ (t : Option Term). IsTypedMember (declarations_of d.table) false t x) is s.typed)
-    where
-      go : (x : Member) → IsTypedMember (declarations_of d.table) false None x → known_of x ≡ None
-      go (unknown inline bytes handles) h = refl
-      go _ h = absurd h
-
-  -- its numbers, its bytes and its handles
-  pub record Raw (x : Member) : Type 0 where
-    pub inline : Bool
-    pub bytes : List ℕ
-    pub handles : List HandleInfo
-    pub is : x ≡ unknown inline bytes handles
-    pub flags : number_at w16 d.bytes (place + 6) ≡ (if inline then 1 else 0)
-    pub handles_counted : number_at w16 d.bytes (place + 4) ≡ length handles
-    pub four : inline ≡ true → length bytes ≡ 4
-    pub counted : inline ≡ false → (number_at w32 d.bytes place ≡ length bytes) × (0 < length bytes)
-    pub stand : Stands d.bytes (enclosed_at d.links inline place) bytes
-    pub carried : Carries d.handles (first_record_at d.links place) handles
-
-  end_numbers : (flags : ℕ) (handles : List HandleInfo) → flags < 65536 → length handles < 65536 → Stands d.bytes (place + 4) (envelope_end flags handles) → (number_at w16 d.bytes (place + 6) ≡ flags) × (number_at w16 d.bytes (place + 4) ≡ length handles)
-  end_numbers flags handles few fewer end =
-      let last = stands_to d.bytes (place + 4 + 2) (place + 6) (to_le_bytes w16 flags) (omega arith) (stands_back d.bytes (place + 4) (to_le_bytes w16 (length handles)) (to_le_bytes w16 flags) end) in
-      (number_16 d.bytes (place + 6) flags few last, number_16 d.bytes (place + 4) (length handles) fewer (stands_front d.bytes (place + 4) (to_le_bytes w16 (length handles)) (to_le_bytes w16 flags) end))
-
-  not_false : true ≡ false → ⊥
-  not_false e = cc
-
-  not_true : false ≡ true → ⊥
-  not_true e = cc
-
-  pub raw_there : length d.bytes ≤ MAX_MESSAGE_BYTES → length d.handles ≤ MAX_MESSAGE_HANDLES → term_at d index ordinal ≡ None → (x : Member) → ShowMember d index ordinal place x → Raw x
-  raw_there short few is x s =
-      go x (subst (λ (t : Option Term). IsTypedMember (declarations_of d.table) false t x) is s.typed) (subst (λ (t : Option Term). Stands d.bytes place (enveloped (declarations_of d.table) t x).inline) is s.stands) (subst (λ (t : Option Term). IsMemberPlaced (declarations_of d.table) (message_of d.bytes d.handles) d.links t place x) is s.placed)
-    where
-      go : (x : Member) → IsTypedMember (declarations_of d.table) false None x → Stands d.bytes place (enveloped (declarations_of d.table) None x).inline → IsMemberPlaced (declarations_of d.table) (message_of d.bytes d.handles) d.links None place x → Raw x
-      go (unknown true bytes handles) h st p =
-          let room = carries_room d.handles (first_record_at d.links place) handles p.1 in
-          let four = h.2 in
-          let end = stands_to d.bytes (place + length bytes) (place + 4) (envelope_end 1 handles) (omega (arith, four)) (stands_back d.bytes place bytes (envelope_end 1 handles) st) in
-          let both = end_numbers 1 handles (omega arith) (omega (arith, room, few)) end in
-          record { inline = true; bytes = bytes; handles = handles; is = refl; flags = both.0; handles_counted = both.1; four = λ e. four; counted = λ e. absurd (not_false e); stand = p.0; carried = p.1 }
-      go (unknown false bytes handles) h st p =
-          let room = carries_room d.handles (first_record_at d.links place) handles p.1 in
-          let fits = stands_short d.bytes (object_at d.links place) bytes p.0 in
-          let end = stands_back d.bytes place (to_le_bytes w32 (length bytes)) (envelope_end 0 handles) st in
-          let both = end_numbers 0 handles (omega arith) (omega (arith, room, few)) end in
-          let count = number_32 d.bytes place (length bytes) (omega (arith, fits, short)) (stands_front d.bytes place (to_le_bytes w32 (length bytes)) (envelope_end 0 handles) st) in
-          record { inline = false; bytes = bytes; handles = handles; is = refl; flags = both.0; handles_counted = both.1; four = λ e. absurd (not_true e); counted = λ e. (count, let l = h.2 in l.0); stand = p.0; carried = p.1 }
-      go _ h st p = absurd h
-
-  -- its bytes and its handles lie within the message
-  pub raw_inline : (x : Member) → Raw x → number_at w16 d.bytes (place + 6) ≡ 1 → slice_range d.bytes place (place + 4) ≡ raw_bytes_of x
-  raw_inline x r one = go r.inline r.bytes r.is r.flags r.four r.stand
-    where
-      go : (inline : Bool) (bytes : List ℕ) → x ≡ unknown inline bytes r.handles → number_at w16 d.bytes (place + 6) ≡ (if inline then 1 else 0) → (inline ≡ true → length bytes ≡ 4) → Stands d.bytes (enclosed_at d.links inline place) bytes
-          → slice_range d.bytes place (place + 4) ≡ raw_bytes_of x
-      go true bytes is flags four st = slice_is d.bytes place 4 bytes (four refl) st ∙ ap (λ (y : Member). raw_bytes_of y) (sym is)
-      go false bytes is flags four st = absurd (omega (arith, flags, one))
-
-  pub raw_out : (x : Member) → Raw x → (number_at w16 d.bytes (place + 6) ≡ 1 → ⊥)
-      → (object_at d.links place + number_at w32 d.bytes place ≤ length d.bytes)
-      × (slice_range d.bytes (object_at d.links place) (object_at d.links place + number_at w32 d.bytes place) ≡ raw_bytes_of x)
-  raw_out x r other = go r.inline r.bytes r.is r.flags r.counted r.stand
-    where
-      go : (inline : Bool) (bytes : List ℕ) → x ≡ unknown inline bytes r.handles → number_at w16 d.bytes (place + 6) ≡ (if inline then 1 else 0)
-          → (inline ≡ false → (number_at w32 d.bytes place ≡ length bytes) × (0 < length bytes)) → Stands d.bytes (enclosed_at d.links inline place) bytes
-          → (object_at d.links place + number_at w32 d.bytes place ≤ length d.bytes)
-          × (slice_range d.bytes (object_at d.links place) (object_at d.links place + number_at w32 d.bytes place) ≡ raw_bytes_of x)
-      go true bytes is flags counted st = absurd (other flags)
-      go false bytes is flags counted st =
-          let n = counted refl in
-          let count = n.0 in
-          let some = n.1 in
-          let short = stands_short d.bytes (object_at d.links place) bytes st in (
-            omega (arith, count, some, short),
-            ap (λ k. slice_range d.bytes (object_at d.links place) (object_at d.links place + k)) count ∙ slice_is d.bytes (object_at d.links place) (length bytes) bytes refl st ∙ ap (λ (y : Member). raw_bytes_of y) (sym is),
-          )
-
-  pub raw_none : (x : Member) → Raw x → number_at w16 d.bytes (place + 4) ≡ 0 → [] ≡ raw_handles_of x
-  raw_none x r none = go r.handles r.is r.handles_counted
-    where
-      go : (handles : List HandleInfo) → x ≡ unknown r.inline r.bytes handles → number_at w16 d.bytes (place + 4) ≡ length handles → [] ≡ raw_handles_of x
-      go [] is e = ap (λ (y : Member). raw_handles_of y) (sym is)
-      go (h ∷ handles) is e = absurd (omega (arith, e, none))
-
-  pub raw_some : (x : Member) → Raw x → (number_at w16 d.bytes (place + 4) ≡ 0 → ⊥)
-      → (first_record_at d.links place + number_at w16 d.bytes (place + 4) ≤ length d.handles)
-      × (slice_range d.handles (first_record_at d.links place) (first_record_at d.links place + number_at w16 d.bytes (place + 4)) ≡ raw_handles_of x)
-  raw_some x r some =
-      let from = first_record_at d.links place in
-      let room = carries_room d.handles from r.handles r.carried in
-      let count = r.handles_counted in
-      let more = nonzero (number_at w16 d.bytes (place + 4)) some in (
-        omega (arith, room, count, more),
-        ap (λ k. slice_range d.handles from (from + k)) count ∙ handles_slice d.handles from r.handles r.carried ∙ ap (λ (y : Member). raw_handles_of y) (sym r.is),
-      )
-
-  pub raw_flag : (x : Member) → Raw x → (bytes : List ℕ) (handles : List HandleInfo) → bytes ≡ raw_bytes_of x → handles ≡ raw_handles_of x → x ≡ unknown (number_at w16 d.bytes (place + 6) == 1) bytes handles
-  raw_flag x r bytes handles a b =
-      r.is ∙ (λ i. unknown (flag r.inline r.flags i) (sym (a ∙ ap (λ (y : Member). raw_bytes_of y) r.is) i) (sym (b ∙ ap (λ (y : Member). raw_handles_of y) r.is) i))
-    where
-      flag : (inline : Bool) → number_at w16 d.bytes (place + 6) ≡ (if inline then 1 else 0) → inline ≡ (number_at w16 d.bytes (place + 6) == 1)
-      flag true e = sym (ap (λ n. n == 1) e)
-      flag false e = sym (ap (λ n. n == 1) e)

@@ -8,3 +8,4 @@ pub mod Lists
 pub mod MemberPlaces
 pub mod Envelopes
 pub mod Keyed
+pub mod Raw

@@ -52,9 +52,16 @@ pub no_elements : (v : Value) → IsNoList v → ShowEach [] (elements_of v)
 no_elements (list vs) lacks = no_list (list vs) lacks vs refl
 no_elements _ lacks = tt
 
-pub no_bytes : (ds : Declarations) (t : Term) (v : Value) → IsNoList v → None ≡ bytes_of ds t v
-no_bytes ds t (list vs) lacks = no_list (list vs) lacks vs refl
-no_bytes ds t _ lacks = refl
+pub no_bytes : (ds : Declarations) (t : Term) (v : Value) → IsNoList v → string_of v ≡ None → None ≡ bytes_of ds t v
+no_bytes ds t (list vs) lacks e = no_list (list vs) lacks vs refl
+no_bytes ds t (text own) lacks e = cc
+no_bytes ds t _ lacks e = refl
+
+-- the bytes of a string are those of its text
+pub text_bytes : (ds : Declarations) (t : Term) (optional : Bool) (bound : ℕ) (v : Value) → IsTyped ds (ty.string optional bound) v → string_of v ≡ bytes_of ds t v
+text_bytes ds t optional bound (text own) x = refl
+text_bytes ds t optional bound absent x = refl
+text_bytes ds t optional bound _ x = absurd x
 
 -- such a value has the length of its text
 pub text_long : (v : Value) → IsNoList v → (bytes : List ℕ) → Some bytes ≡ string_of v → Some (length bytes) ≡ length_of v

@@ -3,7 +3,7 @@ use Rattle.std.proofs.Common.{◌≡◌, ℕ, true, false, ℤ, List, get_or, re
 use Rattle.std.specs.Prelude.{Bool, Option, Some, None, ◌==◌}
 use Rattle.fidl_wire.specs.Value.{Value, absent, bool, number, text, handle, list, fields, table, union}
 use Rattle.fidl_wire.specs.declared.handle.HandleInfo.{HandleInfo}
-use Rattle.fidl_wire.specs.Term.{Term, Kind, int8, int16, int32, int64, uint8, uint16, uint32, uint64, resolve}
+use Rattle.fidl_wire.specs.Term.{Term, Kind, int8, int16, int32, int64, uint8, uint16, uint32, uint64}
 use Rattle.fidl_wire.specs.Term as ty
 use Rattle.fidl_wire.specs.Figure.{Declarations}
 use Rattle.fidl_wire.specs.Typed.{IsTyped}
@@ -14,7 +14,6 @@ use Rattle.fidl_records.specs.declared.record.Entry.{Entry}
 use Rattle.fidl_records.specs.declared.kind.EntryKind.{EntryKind}
 use Rattle.fidl_records.specs.declared.kind.EntryKind.TheVariants.{Bool as Boolean, Bits, Enum, String, Handle}
 use Rattle.fidl_records.specs.Terms.{is_optional, is_strict, term_as, fields_from, rows_from, underlying, mask_of, strict_values}
-use Rattle.fidl_records.specs.Uses.{is_known}
 use Rattle.fidl_view.specs.Parts.{bool_of, numbers_of, unsigned_of, signed_of}
 use Rattle.fidl_view.specs.Numbers.{unsigned_in, signed_in, unsigned_at, signed_at}
 use Rattle.fidl_view.proofs.Sorts.{by_sort}
@@ -85,8 +84,8 @@ module _ (ds : Declarations) (t : List ℕ) (h : Header) (d : Entry) (m : List �
   union_no_bool optional strict rows absent x = refl
   union_no_bool optional strict rows _ x = absurd x
 
-  pub no_bool : (k : EntryKind) → is_known k ≡ true → (k ≡ Boolean → ⊥) → (v : Value) → Stood k v → None ≡ bool_of v
-  no_bool k known other v s = by_sort (λ k. (k ≡ Boolean → ⊥) → (v : Value) → IsTyped ds (term_as k t h d) v → None ≡ bool_of v)
+  pub no_bool : (k : EntryKind) → (k ≡ Boolean → ⊥) → (v : Value) → Stood k v → None ≡ bool_of v
+  no_bool k other v s = by_sort (λ k. (k ≡ Boolean → ⊥) → (v : Value) → IsTyped ds (term_as k t h d) v → None ≡ bool_of v)
       (λ other v x. absurd (other refl))
       (λ other. array_no_bool (ty.named d.first) d.count)
       (λ other. struct_no_bool (fields_from t h d.first d.count))
@@ -105,7 +104,7 @@ module _ (ds : Declarations) (t : List ℕ) (h : Header) (d : Entry) (m : List �
       (λ other. vector_no_bool (is_optional d) d.bound (ty.named d.first))
       (λ other. box_no_bool (ty.named d.first))
       (λ other. table_no_bool (rows_from t h d.first d.count))
-      (λ other. union_no_bool (is_optional d) (is_strict d) (rows_from t h d.first d.count)) k known other v s.0
+      (λ other. union_no_bool (is_optional d) (is_strict d) (rows_from t h d.first d.count)) k other v s.0
 
   -- ---- numbers
 
@@ -127,22 +126,22 @@ module _ (ds : Declarations) (t : List ℕ) (h : Header) (d : Entry) (m : List �
     of_number : (kind : Kind) (v : Value) → IsTyped ds (ty.number kind) v × Stands m p (encoding_of ds (ty.number kind) v).inline → in' kind (number_standing kind m p) ≡ of (ty.number kind) v
     of_number kind = read_there of in' (ty.number kind) kind (λ z. Unit {0}) (numeric_number ds kind) (reads kind)
 
-  pub unsigned_is : (k : EntryKind) → is_known k ≡ true → (v : Value) → Stood k v → unsigned_at (numbers_of (term_as k t h d)) m p ≡ unsigned_of (term_as k t h d) v
-  unsigned_is k known v s = by_sort (λ k. (v : Value) → Stood k v → unsigned_at (numbers_of (term_as k t h d)) m p ≡ unsigned_of (term_as k t h d) v)
+  pub unsigned_is : (k : EntryKind) → (v : Value) → Stood k v → unsigned_at (numbers_of (term_as k t h d)) m p ≡ unsigned_of (term_as k t h d) v
+  unsigned_is k v s = by_sort (λ k. (v : Value) → Stood k v → unsigned_at (numbers_of (term_as k t h d)) m p ≡ unsigned_of (term_as k t h d) v)
       (λ v s. refl) (λ v s. refl) (λ v s. refl)
       (read_there unsigned_of unsigned_in _ _ _ (numeric_bits ds (underlying d) (mask_of d)) (λ z. refl))
       (read_there unsigned_of unsigned_in _ _ _ (numeric_enum ds (underlying d) (strict_values t h d)) (λ z. refl))
-      (one int8) (one int16) (one int32) (one int64) (one uint8) (one uint16) (one uint32) (one uint64) (λ v s. refl) (λ v s. refl) (λ v s. refl) (λ v s. refl) (λ v s. refl) (λ v s. refl) k known v s
+      (one int8) (one int16) (one int32) (one int64) (one uint8) (one uint16) (one uint32) (one uint64) (λ v s. refl) (λ v s. refl) (λ v s. refl) (λ v s. refl) (λ v s. refl) (λ v s. refl) k v s
     where
       one : (kind : Kind) (v : Value) → IsTyped ds (ty.number kind) v × Stands m p (encoding_of ds (ty.number kind) v).inline → unsigned_in kind (number_standing kind m p) ≡ unsigned_of (ty.number kind) v
       one = of_number unsigned_of unsigned_in (λ kind z. refl)
 
-  pub signed_is : (k : EntryKind) → is_known k ≡ true → (v : Value) → Stood k v → signed_at (numbers_of (term_as k t h d)) m p ≡ signed_of (term_as k t h d) v
-  signed_is k known v s = by_sort (λ k. (v : Value) → Stood k v → signed_at (numbers_of (term_as k t h d)) m p ≡ signed_of (term_as k t h d) v)
+  pub signed_is : (k : EntryKind) → (v : Value) → Stood k v → signed_at (numbers_of (term_as k t h d)) m p ≡ signed_of (term_as k t h d) v
+  signed_is k v s = by_sort (λ k. (v : Value) → Stood k v → signed_at (numbers_of (term_as k t h d)) m p ≡ signed_of (term_as k t h d) v)
       (λ v s. refl) (λ v s. refl) (λ v s. refl)
       (read_there signed_of signed_in _ _ _ (numeric_bits ds (underlying d) (mask_of d)) (λ z. refl))
       (read_there signed_of signed_in _ _ _ (numeric_enum ds (underlying d) (strict_values t h d)) (λ z. refl))
-      (one int8) (one int16) (one int32) (one int64) (one uint8) (one uint16) (one uint32) (one uint64) (λ v s. refl) (λ v s. refl) (λ v s. refl) (λ v s. refl) (λ v s. refl) (λ v s. refl) k known v s
+      (one int8) (one int16) (one int32) (one int64) (one uint8) (one uint16) (one uint32) (one uint64) (λ v s. refl) (λ v s. refl) (λ v s. refl) (λ v s. refl) (λ v s. refl) (λ v s. refl) k v s
     where
       one : (kind : Kind) (v : Value) → IsTyped ds (ty.number kind) v × Stands m p (encoding_of ds (ty.number kind) v).inline → signed_in kind (number_standing kind m p) ≡ signed_of (ty.number kind) v
       one = of_number signed_of signed_in (λ kind z. refl)

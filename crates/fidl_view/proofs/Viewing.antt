@@ -1,12 +1,12 @@
 -- What a view of a well-formed table rests on.
 use Rattle.std.specs.Int.{w64, byte_len}
 use Rattle.std.specs.Option.{option_map_or}
-use Rattle.std.proofs.Common.{◌≡◌, ℕ, List, ◌+◌, ◌<◌, ◌≤◌, true, length, refl, sym, ap, subst, ◌∙◌, arith, inl, inr, get_or, length-append}
-use Rattle.std.specs.Prelude.{◌⊎◌, Option, Some, None, false, IsTrue, is_some, unwrap_or, []}
+use Rattle.std.proofs.Common.{◌≡◌, ℕ, List, ◌+◌, ◌-◌, ◌<◌, ◌≤◌, true, length, refl, sym, ap, subst, ◌∙◌, arith, inl, inr, get_or, length-append}
+use Rattle.std.specs.Prelude.{◌⊎◌, Option, Some, None, false, IsTrue, is_some, unwrap_or, [], slice_range, take, drop}
 use Rattle.fidl_limits.specs.declared.limits.TheConstants.{MAX_MESSAGE_BYTES}
 use Rattle.fidl_wire.specs.declared.handle.HandleInfo.{HandleInfo}
 use Rattle.fidl_wire.specs.Value.{Value}
-use Rattle.fidl_wire.specs.Term.{Term, Kind, width, resolve, Fields, int8, int16, int32, int64, uint8, uint16, uint32, uint64}
+use Rattle.fidl_wire.specs.Term.{Term, Kind, width, int8, int16, int32, int64, uint8, uint16, uint32, uint64}
 use Rattle.fidl_wire.specs.Term as ty
 use Rattle.fidl_wire.specs.Figure.{Figure, size_of}
 use Rattle.fidl_wire.specs.Typed.{IsTyped}
@@ -19,7 +19,7 @@ use Rattle.fidl_records.specs.Section.{header_of, entry_at}
 use Rattle.fidl_records.specs.Field.{number_at}
 use Rattle.fidl_records.specs.Kind.{kind_of, number_type}
 use Rattle.fidl_records.specs.Terms.{is_optional, declarations_of, term_as, as_number, underlying}
-use Rattle.fidl_records.specs.Uses.{is_known, is_number, is_unsigned}
+use Rattle.fidl_records.specs.Uses.{is_number, is_unsigned}
 use Rattle.fidl_records.specs.Entry.{IsOf, subtype_is}
 use Rattle.fidl_records.specs.WellFormed.{WellFormed}
 use Rattle.fidl_decode.specs.Model.{Shown}
@@ -31,7 +31,7 @@ use Rattle.fidl_decode.specs.State.{Message}
 use Rattle.fidl_decode.proofs.Messages.{message_item}
 use Rattle.fidl_view.specs.Numbers.{unsigned_at, signed_at}
 use Rattle.fidl_view.specs.Parts.{numbers_of, unsigned_of, signed_of, string_of, handle_of, rights_of, granted_of}
-use Rattle.fidl_view.specs.Views.{IsEncoded, IsOnly}
+use Rattle.fidl_view.specs.Views.{IsEncoded, IsOnly, elements_at, bytes_at}
 use Rattle.fidl_view.specs.Shows.{Shows, type_of}
 use Rattle.fidl_view.proofs.Sorts.{by_sort}
 use Rattle.fidl_view.proofs.Content.{TextThere, text_found, granted_is}
@@ -74,6 +74,16 @@ message_value d w index same x =
     let only : (u : Value) → IsEncoded d u → u ≡ x.0 = λ u y. one_value ds (sound d.table w) (ty.named d.entry) tt u x.0 d.bytes d.handles y x.1 in
     (x.0, record { holds = x.1; only = only }, message_shown d w index same x x.0 x.1)
 
+-- the same, by what the decoded message was made of
+pub value_of : (d : Shown) (table : List ℕ) (entry : ℕ) (bytes : List ℕ) (handles : List HandleInfo) → d.table ≡ table → d.entry ≡ entry → d.bytes ≡ bytes → d.handles ≡ handles
+    → (Q : Value → Type 0) → (v : Value) × IsOnly (IsEncoded d) v × Q v
+    → (v : Value) × IsOnly (λ w. Encodes (declarations_of table) (ty.named entry) w bytes handles) v × Q v
+value_of d table entry bytes handles t e b h Q x =
+    let one = subst (λ (m : List ℕ). (v : Value) × IsOnly (λ w. Encodes (declarations_of m) (ty.named d.entry) w d.bytes d.handles) v × Q v) t x in
+    let two = subst (λ k. (v : Value) × IsOnly (λ w. Encodes (declarations_of table) (ty.named k) w d.bytes d.handles) v × Q v) e one in
+    let three = subst (λ (m : List ℕ). (v : Value) × IsOnly (λ w. Encodes (declarations_of table) (ty.named entry) w m d.handles) v × Q v) b two in
+    subst (λ (hs : List HandleInfo). (v : Value) × IsOnly (λ w. Encodes (declarations_of table) (ty.named entry) w bytes hs) v × Q v) h three
+
 module _ (d : Shown) (w : WellFormed d.table) (index place : ℕ) (lt : index < (header_of d.table).entries) where
   abbrev fine : IsFine d.table
   fine = fine_of d.table w
@@ -103,9 +113,6 @@ module _ (d : Shown) (w : WellFormed d.table) (index place : ℕ) (lt : index < 
   pub lies_within : (k : EntryKind) → IsOf k (entry_at d.table index) → (v : Value) → Shows d index place v → length (encoding_of (declarations_of d.table) (term_as k d.table (header_of d.table) (entry_at d.table index)) v).out ≤ length d.bytes
   lies_within k is v s = subst (λ (u : Term). length (encoding_of (declarations_of d.table) u v).out ≤ length d.bytes) (term_is d.table fine index k lt is) s.within
 
-  pub known : (k : EntryKind) → IsOf k (entry_at d.table index) → is_known k ≡ true
-  known k is = refl
-
   pub has_byte : 0 < (entry_at d.table index).size
   has_byte = let p = positive d.table fine index lt in let s = size_is d.table fine index lt in omega arith
 
@@ -121,13 +128,13 @@ module _ (d : Shown) (w : WellFormed d.table) (index place : ℕ) (lt : index < 
   unsigned_shown v s =
       let k = kind_there in
       subst (λ (u : Term). unsigned_at (numbers_of u) d.bytes place ≡ unsigned_of u v) (sym (own_type k.0 k.1))
-      (unsigned_is (declarations_of d.table) d.table (header_of d.table) (entry_at d.table index) d.bytes place k.0 (known k.0 k.1) v (stood k.0 k.1 v s))
+      (unsigned_is (declarations_of d.table) d.table (header_of d.table) (entry_at d.table index) d.bytes place k.0 v (stood k.0 k.1 v s))
 
   pub signed_shown : (v : Value) → Shows d index place v → signed_at (numbers_of (type_of d index)) d.bytes place ≡ signed_of (type_of d index) v
   signed_shown v s =
       let k = kind_there in
       subst (λ (u : Term). signed_at (numbers_of u) d.bytes place ≡ signed_of u v) (sym (own_type k.0 k.1))
-      (signed_is (declarations_of d.table) d.table (header_of d.table) (entry_at d.table index) d.bytes place k.0 (known k.0 k.1) v (stood k.0 k.1 v s))
+      (signed_is (declarations_of d.table) d.table (header_of d.table) (entry_at d.table index) d.bytes place k.0 v (stood k.0 k.1 v s))
 
   -- a string has a count and a marker
   pub string_size : IsOf String (entry_at d.table index) → 16 ≡ (entry_at d.table index).size
@@ -154,6 +161,26 @@ module _ (d : Shown) (w : WellFormed d.table) (index place : ℕ) (lt : index < 
       let e = entry_at d.table index in
       ((text_found (declarations_of d.table) (message_of d.bytes d.handles) d.links place short (is_optional e) e.bound v (lies String is v s)).0 zeros).1
 
+  -- its bytes are those of its object
+  pub bytes_of_string : IsOf String (entry_at d.table index) → slice_range d.bytes (object_at d.links (place + 8)) (object_at d.links (place + 8) + number_at w64 d.bytes place) ≡ bytes_at d (type_of d index) place
+  bytes_of_string is = ap (λ (t : Term). bytes_at d t place) (sym (own_type String is))
+
+  -- none, where its count is 0
+  pub no_bytes_shown : IsOf String (entry_at d.table index) → number_at w64 d.bytes place ≡ 0 → [] ≡ bytes_at d (type_of d index) place
+  no_bytes_shown is zero =
+      let from = object_at d.links (place + 8) in
+      let none : from + number_at w64 d.bytes place - from ≡ 0 = omega (arith, zero) in
+      sym (ap (λ n. take n (drop from d.bytes)) none) ∙ bytes_of_string is
+
+  -- those of another part are those of its elements
+  pub bytes_of_elements : (k : EntryKind) → IsOf k (entry_at d.table index) → (k ≡ String → ⊥) → elements_at d (type_of d index) place ≡ bytes_at d (type_of d index) place
+  bytes_of_elements k is other = subst (λ (t : Term). elements_at d t place ≡ bytes_at d t place) (sym (own_type k is)) (same k other)
+    where
+      same : (k : EntryKind) → (k ≡ String → ⊥) → elements_at d (term_as k d.table (header_of d.table) (entry_at d.table index)) place ≡ bytes_at d (term_as k d.table (header_of d.table) (entry_at d.table index)) place
+      same = by_sort (λ k. (k ≡ String → ⊥) → elements_at d (term_as k d.table (header_of d.table) (entry_at d.table index)) place ≡ bytes_at d (term_as k d.table (header_of d.table) (entry_at d.table index)) place)
+          (λ o. refl) (λ o. refl) (λ o. refl) (λ o. refl) (λ o. refl)
+          (λ o. refl) (λ o. refl) (λ o. refl) (λ o. refl) (λ o. refl) (λ o. refl) (λ o. refl) (λ o. refl) (λ o. absurd (o refl)) (λ o. refl) (λ o. refl) (λ o. refl) (λ o. refl) (λ o. refl)
+
   -- the rights that a handle is granted
   pub granted_shown : (v : Value) → Shows d index place v → (h : HandleInfo) → Some h ≡ handle_of v → Some (rights_of (entry_at d.table index).rights h) ≡ granted_of (type_of d index) v
   granted_shown v s h is =
@@ -162,13 +189,13 @@ module _ (d : Shown) (w : WellFormed d.table) (index place : ℕ) (lt : index < 
       (granted_is (declarations_of d.table) d.table (header_of d.table) (entry_at d.table index) k.0 v (lies k.0 k.1 v s).0 h is)
 
   -- the kind of the number of a part: its own, or the underlying one of bits and enums
-  own_numbers : (k : EntryKind) → is_known k ≡ true → (k ≡ Bits → ⊥) → (k ≡ Enum → ⊥) → number_type k ≡ numbers_of (term_as k d.table (header_of d.table) (entry_at d.table index))
-  own_numbers k known b e = by_sort (λ k. (k ≡ Bits → ⊥) → (k ≡ Enum → ⊥) → number_type k ≡ numbers_of (term_as k d.table (header_of d.table) (entry_at d.table index)))
+  own_numbers : (k : EntryKind) → (k ≡ Bits → ⊥) → (k ≡ Enum → ⊥) → number_type k ≡ numbers_of (term_as k d.table (header_of d.table) (entry_at d.table index))
+  own_numbers k b e = by_sort (λ k. (k ≡ Bits → ⊥) → (k ≡ Enum → ⊥) → number_type k ≡ numbers_of (term_as k d.table (header_of d.table) (entry_at d.table index)))
       (λ b e. refl) (λ b e. refl) (λ b e. refl) (λ b e. absurd (b refl)) (λ b e. absurd (e refl))
-      (λ b e. refl) (λ b e. refl) (λ b e. refl) (λ b e. refl) (λ b e. refl) (λ b e. refl) (λ b e. refl) (λ b e. refl) (λ b e. refl) (λ b e. refl) (λ b e. refl) (λ b e. refl) (λ b e. refl) (λ b e. refl) k known b e
+      (λ b e. refl) (λ b e. refl) (λ b e. refl) (λ b e. refl) (λ b e. refl) (λ b e. refl) (λ b e. refl) (λ b e. refl) (λ b e. refl) (λ b e. refl) (λ b e. refl) (λ b e. refl) (λ b e. refl) (λ b e. refl) k b e
 
   pub numbers_else : (k : EntryKind) → IsOf k (entry_at d.table index) → (k ≡ Bits → ⊥) → (k ≡ Enum → ⊥) → number_type k ≡ numbers_of (type_of d index)
-  numbers_else k is b e = own_numbers k (known k is) b e ∙ sym (ap (λ (u : Term). numbers_of u) (own_type k is))
+  numbers_else k is b e = own_numbers k b e ∙ sym (ap (λ (u : Term). numbers_of u) (own_type k is))
 
   -- the underlying kind is one of numbers
   as_type : (k : EntryKind) → IsTrue (is_number k) → number_type k ≡ Some (as_number k)
@@ -208,7 +235,7 @@ module _ (d : Shown) (w : WellFormed d.table) (index place : ℕ) (lt : index < 
   pub fits_else : (k : EntryKind) → IsOf k (entry_at d.table index) → (k ≡ Bits → ⊥) → (k ≡ Enum → ⊥) → byte_len (width (as_number k)) ≤ (entry_at d.table index).size
   fits_else k is b e = by_sort (λ k. IsOf k (entry_at d.table index) → (k ≡ Bits → ⊥) → (k ≡ Enum → ⊥) → byte_len (width (as_number k)) ≤ (entry_at d.table index).size)
       (λ is b e. omega (arith, has_byte)) (λ is b e. omega (arith, has_byte)) (λ is b e. omega (arith, has_byte)) (λ is b e. absurd (b refl)) (λ is b e. absurd (e refl))
-      (number Int8 int8 refl) (number Int16 int16 refl) (number Int32 int32 refl) (number Int64 int64 refl) (number Uint8 uint8 refl) (number Uint16 uint16 refl) (number Uint32 uint32 refl) (number Uint64 uint64 refl) (λ is b e. omega (arith, has_byte)) (λ is b e. omega (arith, has_byte)) (λ is b e. omega (arith, has_byte)) (λ is b e. omega (arith, has_byte)) (λ is b e. omega (arith, has_byte)) (λ is b e. omega (arith, has_byte)) k (known k is) is b e
+      (number Int8 int8 refl) (number Int16 int16 refl) (number Int32 int32 refl) (number Int64 int64 refl) (number Uint8 uint8 refl) (number Uint16 uint16 refl) (number Uint32 uint32 refl) (number Uint64 uint64 refl) (λ is b e. omega (arith, has_byte)) (λ is b e. omega (arith, has_byte)) (λ is b e. omega (arith, has_byte)) (λ is b e. omega (arith, has_byte)) (λ is b e. omega (arith, has_byte)) (λ is b e. omega (arith, has_byte)) k is b e
     where
       number : (k : EntryKind) (kind : Kind) → term_as k d.table (header_of d.table) (entry_at d.table index) ≡ ty.number kind → IsOf k (entry_at d.table index) → (k ≡ Bits → ⊥) → (k ≡ Enum → ⊥) → byte_len (width kind) ≤ (entry_at d.table index).size
       number k kind own is b e =

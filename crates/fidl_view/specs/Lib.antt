@@ -2,7 +2,7 @@
 --   Shows          which value a view shows
 --   Parts          the part of a value that each call answers
 --   Elements       the elements of a list, one by one
---   Members        the members of a struct
+--   Members        the members of a struct, a table or a union
 --   Numbers        the numbers that stand at a place
 --   Views          what a view and an iterator are seen as
 pub mod Parts

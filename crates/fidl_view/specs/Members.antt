@@ -38,9 +38,9 @@ HaveMembers d index place = (vs : Values) × ShowMembers d index place vs
 abbrev pub term_at : Shown → (index ordinal : ℕ) → Option Term
 term_at d index ordinal = find (members_of d.table index) ordinal
 
--- the member is one of this ordinal in the layout of an entry, its envelope stands at the place, and
--- it stands in the envelope or where the links say; what it has out of line is no longer than the
--- message
+-- the member is one of this ordinal in the layout of an entry, its envelope stands at the place,
+-- and it stands in the envelope or where the links say; what it has out of line is no longer than
+-- the message
 pub record ShowMember (d : Shown) (index ordinal place : ℕ) (x : Member) : Type 0 where
   pub typed : IsTypedMember (declarations_of d.table) false (term_at d index ordinal) x
   pub stands : Stands d.bytes place

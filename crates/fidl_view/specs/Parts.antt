@@ -58,8 +58,9 @@ abbrev pub bytes_if : (element : Term) → Values → Option (List ℕ)
 bytes_if (ty.number uint8) vs = Some (octets vs)
 bytes_if _ vs = None
 
--- the bytes of an array or a vector of uint8
+-- the bytes of a string, and of an array or a vector of uint8
 abbrev pub bytes_of : Declarations → Term → Value → Option (List ℕ)
+bytes_of ds t (text bytes) = Some bytes
 bytes_of ds t (list vs) = bytes_if (encoding.element_of ds t) vs
 bytes_of ds t _ = None
 

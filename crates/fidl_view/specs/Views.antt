@@ -11,7 +11,7 @@ use Rattle.fidl_wire.specs.Encoding.{element_of}
 use Rattle.fidl_wire.specs.Message.{Encodes}
 use Rattle.fidl_records.specs.Field.{number_at}
 use Rattle.fidl_records.specs.Terms.{declarations_of}
-use Rattle.fidl_decode.specs.Placed.{content_at}
+use Rattle.fidl_decode.specs.Placed.{content_at, object_at}
 use Rattle.fidl_decode.specs.Model.{Shown}
 use Rattle.fidl_view.specs.declared.view.View.{View}
 use Rattle.fidl_view.specs.declared.elements.Elements.{Elements}
@@ -52,13 +52,27 @@ count_at (ty.array t n) bytes place = n
 count_at (ty.vector optional bound t) bytes place = number_at w64 bytes place
 count_at _ bytes place = 0
 
--- as many bytes of the message as the part has elements, where they stand: in place, or in the
--- object of a vector's marker
+-- as many bytes of the message as an array or a vector of the type has elements, where they stand:
+-- in place, or in the object of a vector's marker
+abbrev pub elements_at : Shown → Term → (place : ℕ) → List ℕ
+elements_at d t place =
+    let from = content_at d.links t place in
+    slice_range d.bytes from (from + count_at t d.bytes place)
+
+-- the bytes of a string, which are as many as its count says in the object of its marker, and those
+-- of another type's elements
+abbrev pub bytes_at : Shown → Term → (place : ℕ) → List ℕ
+bytes_at d (ty.string optional bound) place =
+    let from = object_at d.links (place + 8) in
+    slice_range d.bytes from (from + number_at w64 d.bytes place)
+bytes_at d t place = elements_at d t place
+
+-- those of the part
+abbrev pub elements_shown : View → List ℕ
+elements_shown view = let p = part_of view in elements_at p.message (type_shown view) p.place
+
 abbrev pub bytes_shown : View → List ℕ
-bytes_shown view =
-    let p = part_of view in
-    let from = content_at p.message.links (type_shown view) p.place in
-    slice_range p.message.bytes from (from + count_at (type_shown view) p.message.bytes p.place)
+bytes_shown view = let p = part_of view in bytes_at p.message (type_shown view) p.place
 
 -- the decoded message of an iterator's parts
 abbrev pub message_left : Elements → Shown

@@ -1,7 +1,7 @@
 //! Envelopes that hold a member of a table or a union, and what they hold.
 //!
-//! Where no type is known for an ordinal, the member is unknown: its bytes and handles are given out
-//! as they came.
+//! Where no type is known for an ordinal, the member is unknown: its bytes and handles are given
+//! out as they came.
 ghost use Rattle.std.specs.Prelude.{◌≡◌, ◌+◌, ◌<◌, ◌≤◌, ℕ, Bool, nat_le, List, length, IsTrue};
 ghost use Rattle.std.specs.Prelude.{Some, None, IfSome, MatchOption};
 ghost use Rattle.fidl_limits.specs.declared.limits.TheConstants.{MAX_MESSAGE_BYTES};

@@ -2,10 +2,12 @@
 //! the message.
 #![tactic(auto)]
 
+mod bytes;
 mod elements;
 mod envelope;
 mod handle;
 mod kind;
+pub mod laws;
 mod layouts;
 mod list;
 mod number;

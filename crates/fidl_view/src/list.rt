@@ -1,17 +1,15 @@
 //! What a view answers of arrays and vectors, and the lengths of what has one.
 ghost use Rattle.std.specs.Prelude.{◌≡◌, Some, None, IfSome, MatchOption};
-ghost use Rattle.std.specs.Option.{option_copied};
 ghost use Rattle.fidl_wire.specs.Value.{Value};
 ghost use Rattle.fidl_records.specs.declared.kind.EntryKind.TheVariants as EntryKind;
 ghost use Rattle.fidl_records.specs.Section.{entry_at};
 ghost use Rattle.fidl_records.specs.Entry.{IsOf};
-ghost use Rattle.fidl_view.specs.Parts.{bytes_of, length_of, element_of, elements_of, IsNoList};
+ghost use Rattle.fidl_view.specs.Parts.{length_of, element_of, elements_of, IsNoList};
 ghost use Rattle.fidl_view.specs.Elements.{ShowEach};
 ghost use Rattle.fidl_view.specs.Views.{part_of, parts_left, message_left, IsShownBy, IsRunOf};
-ghost use Rattle.fidl_view.specs.Views.{ShowsListOf, type_shown, types_shown, bytes_shown};
+ghost use Rattle.fidl_view.specs.Views.{ShowsListOf};
 
 use crate::elements::Elements;
-use crate::kind::entry_kind;
 use crate::view::View;
 use fidl_records::{EntryKind, u64_at};
 
@@ -67,7 +65,7 @@ impl<'v, 'm> View<'v, 'm> {
     }
 
     /// The elements of an array or a vector; none where it is absent, and of another kind.
-    fn list(self) -> Option<Elements<'v, 'm>>
+    pub(crate) fn list(self) -> Option<Elements<'v, 'm>>
         ensures run { IfSome result (IsRunOf self.entry) }
         ensures parts { (v : Value) → IsShownBy self.entry v
             → MatchOption result (IsNoList v) (ShowsListOf v) }
@@ -79,26 +77,8 @@ impl<'v, 'm> View<'v, 'm> {
         }
     }
 
-    /// The bytes of an array or a vector of uint8, as a slice of the message itself; none where it
-    /// is absent, and of another type.
-    pub fn as_bytes(self) -> Option<&'m [u8]>
-        ensures value { (v : Value) → IsShownBy self.entry v
-            → option_copied result ≡ bytes_of (types_shown self.entry) (type_shown self.entry) v }
-        ensures slice { IfSome result (λ bytes. bytes.now ≡ bytes_shown self.entry) }
-    {
-        let Some(elements) = self.list() else {
-            return None;
-        };
-        match entry_kind(elements.decoded, elements.index) {
-            EntryKind::Uint8 => Some(
-                &elements.decoded.bytes()[elements.place..elements.place + elements.left],
-            ),
-            _ => None,
-        }
-    }
-
-    /// How many elements an array or a vector has, how many bytes a string, and how many envelopes a
-    /// table; none of an absent one, and of another kind.
+    /// How many elements an array or a vector has, how many bytes a string, and how many envelopes
+    /// a table; none of an absent one, and of another kind.
     pub fn len(self) -> Option<usize>
         ensures { (v : Value) → IsShownBy self.entry v → result ≡ length_of v }
     {

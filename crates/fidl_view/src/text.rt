@@ -1,32 +1,51 @@
 //! What a view answers of a string.
-ghost use Rattle.std.specs.Prelude.{◌≡◌};
+ghost use Rattle.std.specs.Prelude.{◌≡◌, IfSome, IsUtf8};
 ghost use Rattle.std.specs.Option.{option_copied};
 ghost use Rattle.fidl_wire.specs.Value.{Value};
+ghost use Rattle.fidl_records.specs.declared.kind.EntryKind.TheVariants as EntryKind;
+ghost use Rattle.fidl_records.specs.Section.{entry_at};
+ghost use Rattle.fidl_records.specs.Entry.{IsOf};
 ghost use Rattle.fidl_view.specs.Parts.{string_of};
-ghost use Rattle.fidl_view.specs.Views.{IsShownBy};
+ghost use Rattle.fidl_view.specs.Views.{IsShownBy, bytes_shown};
 
 use crate::view::View;
 use fidl_records::{EntryKind, u64_at};
 use std::str::from_utf8_unchecked;
 
 impl<'v, 'm> View<'v, 'm> {
-    /// The text of a string, a slice of the message itself where it is not empty; none where it is
-    /// absent, and of another kind. The decoder checked it as UTF-8.
+    /// The bytes of a string, a slice of the message itself; none where it is absent.
+    pub(crate) fn string_bytes(self) -> Option<&'m [u8]>
+        requires { IsOf EntryKind.String (entry_at self.decoded.now.table self.index) }
+        ensures value { (v : Value) → IsShownBy self.entry v → option_copied result ≡ string_of v }
+        ensures slice { IfSome result (λ bytes. bytes.now ≡ bytes_shown self.entry) }
+        ensures utf8 { IfSome result (λ bytes. IsUtf8 bytes.now) }
+    {
+        // Read, so that the table is known to be well-formed.
+        let _rows = self.decoded.table().rows();
+        let bytes = self.decoded.bytes();
+        if bytes[self.place + 8] == 0 {
+            return None;
+        }
+        let count = u64_at(bytes, self.place) as usize;
+        // No byte stands in the object of an empty string.
+        if count == 0 {
+            return Some(&bytes[..0]);
+        }
+        let from = self.decoded.object_at(self.place + 8);
+        Some(&bytes[from..from + count])
+    }
+
+    /// The text of a string, a slice of the message itself; none where it is absent, and of another
+    /// kind. The decoder checked it as UTF-8.
     pub fn as_str(self) -> Option<&'m str>
         ensures { (v : Value) → IsShownBy self.entry v → option_copied result ≡ string_of v }
     {
         match self.kind() {
             EntryKind::String => {
-                let bytes = self.decoded.bytes();
-                if bytes[self.place + 8] == 0 {
+                let Some(bytes) = self.string_bytes() else {
                     return None;
-                }
-                let count = u64_at(bytes, self.place) as usize;
-                if count == 0 {
-                    return Some("");
-                }
-                let from = self.decoded.object_at(self.place + 8);
-                Some(unsafe { from_utf8_unchecked(&bytes[from..from + count]) })
+                };
+                Some(unsafe { from_utf8_unchecked(bytes) })
             }
             _ => None,
         }

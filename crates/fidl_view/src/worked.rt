@@ -1,6 +1,7 @@
 //! Worked facts: the parts of small values, which the calls of a view answer, and what they don't
 //! answer.
-ghost use Rattle.std.specs.Prelude.{◌≡◌, ℤ, pos, negsuc, [], ◌∷◌, true, false, Some, None};
+ghost use Rattle.std.specs.Prelude.{◌≡◌, ℤ, pos, negsuc, [], ◌∷◌, ◌++◌, replicate, true, false};
+ghost use Rattle.std.specs.Prelude.{Some, None};
 ghost use Rattle.fidl_wire.specs.declared.handle.HandleInfo.{HandleInfo};
 ghost use Rattle.fidl_limits.specs.declared.limits.TheConstants.{SAME_RIGHTS};
 ghost use Rattle.fidl_wire.specs.Value.{Value, absent, bool, number, text, list, fields};
@@ -8,11 +9,15 @@ ghost use Rattle.fidl_wire.specs.Value.{handle, none, value, table, union, known
 ghost use Rattle.fidl_wire.specs.Value.{member, empty};
 ghost use Rattle.fidl_wire.specs.Term.{uint8, uint16, int8};
 ghost use Rattle.fidl_wire.specs.Term as ty;
+ghost use Rattle.fidl_wire.specs.Figure.{Declarations};
+ghost use Rattle.fidl_wire.specs.Encoding.{zeros};
+ghost use Rattle.fidl_decode.specs.Model.{Shown};
 ghost use Rattle.fidl_view.specs.Parts.{absence_of, bool_of, unsigned_of, signed_of, octets};
-ghost use Rattle.fidl_view.specs.Parts.{bytes_if, length_of, string_of, handle_of, granted_of};
+ghost use Rattle.fidl_view.specs.Parts.{bytes_if, bytes_of, length_of, string_of, handle_of};
+ghost use Rattle.fidl_view.specs.Parts.{granted_of};
 ghost use Rattle.fidl_view.specs.Parts.{element_of, field_of, IsNoList, IsNoStruct};
 ghost use Rattle.fidl_view.specs.Parts.{member_of, variant_of, known_of, unknown_of};
-ghost use Rattle.fidl_view.specs.Views.{IsOnly};
+ghost use Rattle.fidl_view.specs.Views.{IsOnly, bytes_at};
 
 /// Only what is absent is absent: no text of no bytes, no list without elements, and no zero.
 pub fn absence()
@@ -78,6 +83,45 @@ pub fn bytes_of_lists()
     ensures of_two_bytes { bytes_if (ty.number uint16) (value (number (pos 1)) none) ≡ None }
 {}
 
+/// The bytes of a string are those of its text; one that is absent has none, and no number has.
+pub fn bytes_of_strings()
+    ensures in_order { (ds : Declarations) → bytes_of ds (ty.string false 2) (text (65 ∷ 66 ∷ []))
+        ≡ Some (65 ∷ 66 ∷ []) }
+    ensures empty { (ds : Declarations) → bytes_of ds (ty.string false 2) (text []) ≡ Some [] }
+    ensures absent { (ds : Declarations) → bytes_of ds (ty.string true 2) absent ≡ None }
+    ensures of_a_number { (ds : Declarations) → bytes_of ds (ty.number uint8) (number (pos 1))
+        ≡ None }
+{}
+
+/// "hi" behind 16 bytes, read as bytes of the message: of a string they are those of the object
+/// that the cell of its marker leads to, as many as the count says; of an array those in place.
+pub fn bytes_that_stand()
+    ensures of_a_string { let d : Shown = record {
+      table = [];
+      entry = 0;
+      bytes = 2 ∷ zeros 7 ++ replicate 8 255 ++ 104 ∷ 105 ∷ zeros 6;
+      handles = [];
+      links = record { objects = 0 ∷ 16 ∷ []; records = [] };
+    } in
+        bytes_at d (ty.string false 2) 0 ≡ 104 ∷ 105 ∷ [] }
+    ensures elsewhere { let d : Shown = record {
+      table = [];
+      entry = 0;
+      bytes = 2 ∷ zeros 7 ++ replicate 8 255 ++ 104 ∷ 105 ∷ zeros 6;
+      handles = [];
+      links = record { objects = 0 ∷ 8 ∷ []; records = [] };
+    } in
+        bytes_at d (ty.string false 2) 0 ≡ 255 ∷ 255 ∷ [] }
+    ensures of_an_array { let d : Shown = record {
+      table = [];
+      entry = 0;
+      bytes = 2 ∷ zeros 7 ++ replicate 8 255 ++ 104 ∷ 105 ∷ zeros 6;
+      handles = [];
+      links = record { objects = 0 ∷ 16 ∷ []; records = [] };
+    } in
+        bytes_at d (ty.array (ty.number uint8) 3) 15 ≡ 255 ∷ 104 ∷ 105 ∷ [] }
+{}
+
 /// A text has its bytes, and a list of bytes is no text.
 pub fn texts()
     ensures of_one_byte { string_of (text (65 ∷ [])) ≡ Some (65 ∷ []) }
@@ -85,8 +129,8 @@ pub fn texts()
     ensures of_a_list { string_of (list (value (number (pos 65)) none)) ≡ None }
 {}
 
-/// A table's known member is found by its ordinal, and a union's at no ordinal; an unknown member is
-/// no known one.
+/// A table's known member is found by its ordinal, and a union's at no ordinal; an unknown member
+/// is no known one.
 pub fn members_by_ordinal()
     ensures known { member_of (table 3 (member 2 (known (bool true)) empty)) 2 ≡ Some (bool true) }
     ensures absent { member_of (table 3 (member 2 (known (bool true)) empty)) 3 ≡ None }

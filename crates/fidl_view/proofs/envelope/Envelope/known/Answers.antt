@@ -13,6 +13,7 @@ use Rattle.fidl_view.specs.Shows.{Shows}
 use Rattle.fidl_view.specs.Members.{term_at}
 use Rattle.fidl_view.proofs.Lists as lists
 use Rattle.fidl_view.proofs.Keyed as keyed
+use Rattle.fidl_view.proofs.Raw as raw
 use Rattle.fidl_view.proofs.envelope.Envelope.known.Goals as goal
 
 pub invariant_of-result : goal.invariant_of-result
@@ -55,4 +56,4 @@ returns-in_default-clause-part c x h =
     let d = c.args.self.decoded.now in
     let i = c.args.self.index in
     let o = c.args.self.ordinal in
-    keyed.unknown_no_value d i o c.args.self.place (subst (λ (b : List ℕ). find (members_of b i) o ≡ None) c.table.ensures c.in_default.ensures.none) x h
+    raw.unknown_no_value d i o c.args.self.place (subst (λ (b : List ℕ). find (members_of b i) o ≡ None) c.table.ensures c.in_default.ensures.none) x h

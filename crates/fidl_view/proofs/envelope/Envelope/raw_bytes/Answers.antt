@@ -6,7 +6,7 @@ use Rattle.std.proofs.Math.Bridge.{le_prop}
 use Rattle.fidl_wire.specs.Value.{unknown}
 use Rattle.fidl_records.specs.Field.{number_at}
 use Rattle.fidl_decode.specs.Placed.{object_at}
-use Rattle.fidl_view.proofs.Keyed as keyed
+use Rattle.fidl_view.proofs.Raw as raw
 use Rattle.fidl_view.proofs.envelope.Envelope.raw_bytes.Goals as goal
 
 pub returns-then-u16_at-eq1 : goal.returns-then-u16_at-eq1
@@ -17,7 +17,7 @@ returns-then-u16_at-eq1 c inline bytes handles h =
     let p = c.args.self.place in
     let flag : c.u16_at.result ≡ number_at w16 d.bytes (p + 6) = c.u16_at.ensures ∙ ap (λ (b : List ℕ). number_at w16 b (p + 6)) c.bytes-bytes.ensures in
     ap (λ (b : List ℕ). slice_range b p (p + 4)) c.bytes-bytes.ensures
-    ∙ keyed.raw_inline d i o p (unknown inline bytes handles) (keyed.raw_there d i o p c.args.self.short c.args.self.few c.requires (unknown inline bytes handles) h) (sym flag ∙ c.if-u16_at-eq1.true)
+    ∙ raw.raw_inline d i o p (unknown inline bytes handles) (raw.raw_there d i o p c.args.self.short c.args.self.few c.requires (unknown inline bytes handles) h) (sym flag ∙ c.if-u16_at-eq1.true)
 
 pub overflow_add-result-2 : goal.overflow_add-result-2
 overflow_add-result-2 c =
@@ -29,7 +29,7 @@ overflow_add-result-2 c =
     let other = λ (e : number_at w16 d.bytes (p + 6) ≡ 1). c.if-u16_at-eq1.false (flag ∙ e) in
     let count : c.u32_at-count.result ≡ number_at w32 d.bytes p = c.u32_at-count.ensures ∙ ap (λ (b : List ℕ). number_at w32 b p) c.bytes-bytes.ensures in
     let from : c.object_at-from.result ≡ object_at d.links p = c.object_at-from.ensures in
-    let room = ∥∥₁_elim c.args.self.shown le_prop (λ h. (keyed.raw_out d i o p h.0 (keyed.raw_there d i o p c.args.self.short c.args.self.few c.requires h.0 h.1) other).0) in
+    let room = ∥∥₁_elim c.args.self.shown le_prop (λ h. (raw.raw_out d i o p h.0 (raw.raw_there d i o p c.args.self.short c.args.self.few c.requires h.0 h.1) other).0) in
     record { fits = omega (arith, room, count, from, c.args.self.short) }
 
 pub slice_bounds-result-end-2 : goal.slice_bounds-result-end-2
@@ -42,7 +42,7 @@ slice_bounds-result-end-2 c =
     let other = λ (e : number_at w16 d.bytes (p + 6) ≡ 1). c.if-u16_at-eq1.false (flag ∙ e) in
     let count : c.u32_at-count.result ≡ number_at w32 d.bytes p = c.u32_at-count.ensures ∙ ap (λ (b : List ℕ). number_at w32 b p) c.bytes-bytes.ensures in
     let from : c.object_at-from.result ≡ object_at d.links p = c.object_at-from.ensures in
-    let room = ∥∥₁_elim c.args.self.shown le_prop (λ h. (keyed.raw_out d i o p h.0 (keyed.raw_there d i o p c.args.self.short c.args.self.few c.requires h.0 h.1) other).0) in
+    let room = ∥∥₁_elim c.args.self.shown le_prop (λ h. (raw.raw_out d i o p h.0 (raw.raw_there d i o p c.args.self.short c.args.self.few c.requires h.0 h.1) other).0) in
     let long = ap length c.bytes-bytes.ensures in
     omega (arith, room, count, from, long)
 
@@ -56,4 +56,4 @@ returns c inline bytes handles h =
     let other = λ (e : number_at w16 d.bytes (p + 6) ≡ 1). c.if-u16_at-eq1.false (flag ∙ e) in
     let count : c.u32_at-count.result ≡ number_at w32 d.bytes p = c.u32_at-count.ensures ∙ ap (λ (b : List ℕ). number_at w32 b p) c.bytes-bytes.ensures in
     let from : c.object_at-from.result ≡ object_at d.links p = c.object_at-from.ensures in
-    (λ j. slice_range (c.bytes-bytes.ensures j) (from j) (from j + count j)) ∙ (keyed.raw_out d i o p (unknown inline bytes handles) (keyed.raw_there d i o p c.args.self.short c.args.self.few c.requires (unknown inline bytes handles) h) other).1
+    (λ j. slice_range (c.bytes-bytes.ensures j) (from j) (from j + count j)) ∙ (raw.raw_out d i o p (unknown inline bytes handles) (raw.raw_there d i o p c.args.self.short c.args.self.few c.requires (unknown inline bytes handles) h) other).1

@@ -6,7 +6,7 @@ use Rattle.std.proofs.Math.Bridge.{le_prop}
 use Rattle.fidl_wire.specs.Value.{unknown}
 use Rattle.fidl_records.specs.Field.{number_at}
 use Rattle.fidl_decode.specs.Placed.{first_record_at}
-use Rattle.fidl_view.proofs.Keyed as keyed
+use Rattle.fidl_view.proofs.Raw as raw
 use Rattle.fidl_view.proofs.envelope.Envelope.raw_handles.Goals as goal
 
 pub returns-then-count-eq0 : goal.returns-then-count-eq0
@@ -16,7 +16,7 @@ returns-then-count-eq0 c inline bytes handles h =
     let o = c.args.self.ordinal in
     let p = c.args.self.place in
     let count : c.u16_at-count.result ≡ number_at w16 d.bytes (p + 4) = c.u16_at-count.ensures ∙ ap (λ (b : List ℕ). number_at w16 b (p + 4)) c.bytes.ensures in
-    keyed.raw_none d i o p (unknown inline bytes handles) (keyed.raw_there d i o p c.args.self.short c.args.self.few c.requires (unknown inline bytes handles) h) (sym count ∙ c.if-count-eq0.true)
+    raw.raw_none d i o p (unknown inline bytes handles) (raw.raw_there d i o p c.args.self.short c.args.self.few c.requires (unknown inline bytes handles) h) (sym count ∙ c.if-count-eq0.true)
 
 pub overflow_add-result : goal.overflow_add-result
 overflow_add-result c =
@@ -27,7 +27,7 @@ overflow_add-result c =
     let count : c.u16_at-count.result ≡ number_at w16 d.bytes (p + 4) = c.u16_at-count.ensures ∙ ap (λ (b : List ℕ). number_at w16 b (p + 4)) c.bytes.ensures in
     let some = λ (e : number_at w16 d.bytes (p + 4) ≡ 0). c.if-count-eq0.false (count ∙ e) in
     let from : c.record_at-first.result ≡ first_record_at d.links p = c.record_at-first.ensures in
-    let room = ∥∥₁_elim c.args.self.shown le_prop (λ h. (keyed.raw_some d i o p h.0 (keyed.raw_there d i o p c.args.self.short c.args.self.few c.requires h.0 h.1) some).0) in
+    let room = ∥∥₁_elim c.args.self.shown le_prop (λ h. (raw.raw_some d i o p h.0 (raw.raw_there d i o p c.args.self.short c.args.self.few c.requires h.0 h.1) some).0) in
     record { fits = omega (arith, room, count, from, c.args.self.few) }
 
 pub offset_bounds-handles-first : goal.offset_bounds-handles-first
@@ -39,7 +39,7 @@ offset_bounds-handles-first c =
     let count : c.u16_at-count.result ≡ number_at w16 d.bytes (p + 4) = c.u16_at-count.ensures ∙ ap (λ (b : List ℕ). number_at w16 b (p + 4)) c.bytes.ensures in
     let some = λ (e : number_at w16 d.bytes (p + 4) ≡ 0). c.if-count-eq0.false (count ∙ e) in
     let from : c.record_at-first.result ≡ first_record_at d.links p = c.record_at-first.ensures in
-    let room = ∥∥₁_elim c.args.self.shown le_prop (λ h. (keyed.raw_some d i o p h.0 (keyed.raw_there d i o p c.args.self.short c.args.self.few c.requires h.0 h.1) some).0) in
+    let room = ∥∥₁_elim c.args.self.shown le_prop (λ h. (raw.raw_some d i o p h.0 (raw.raw_there d i o p c.args.self.short c.args.self.few c.requires h.0 h.1) some).0) in
     record { fits = omega (arith, room, from, c.args.self.few) }
 
 pub slice_bounds-result-end-2 : goal.slice_bounds-result-end-2
@@ -51,7 +51,7 @@ slice_bounds-result-end-2 c =
     let count : c.u16_at-count.result ≡ number_at w16 d.bytes (p + 4) = c.u16_at-count.ensures ∙ ap (λ (b : List ℕ). number_at w16 b (p + 4)) c.bytes.ensures in
     let some = λ (e : number_at w16 d.bytes (p + 4) ≡ 0). c.if-count-eq0.false (count ∙ e) in
     let from : c.record_at-first.result ≡ first_record_at d.links p = c.record_at-first.ensures in
-    let room = ∥∥₁_elim c.args.self.shown le_prop (λ h. (keyed.raw_some d i o p h.0 (keyed.raw_there d i o p c.args.self.short c.args.self.few c.requires h.0 h.1) some).0) in
+    let room = ∥∥₁_elim c.args.self.shown le_prop (λ h. (raw.raw_some d i o p h.0 (raw.raw_there d i o p c.args.self.short c.args.self.few c.requires h.0 h.1) some).0) in
     let long = ap length c.handles.ensures in
     omega (arith, room, count, from, long)
 
@@ -64,4 +64,4 @@ returns c inline bytes handles h =
     let count : c.u16_at-count.result ≡ number_at w16 d.bytes (p + 4) = c.u16_at-count.ensures ∙ ap (λ (b : List ℕ). number_at w16 b (p + 4)) c.bytes.ensures in
     let some = λ (e : number_at w16 d.bytes (p + 4) ≡ 0). c.if-count-eq0.false (count ∙ e) in
     let from : c.record_at-first.result ≡ first_record_at d.links p = c.record_at-first.ensures in
-    (λ j. slice_range (c.handles.ensures j) (from j) (from j + count j)) ∙ (keyed.raw_some d i o p (unknown inline bytes handles) (keyed.raw_there d i o p c.args.self.short c.args.self.few c.requires (unknown inline bytes handles) h) some).1
+    (λ j. slice_range (c.handles.ensures j) (from j) (from j + count j)) ∙ (raw.raw_some d i o p (unknown inline bytes handles) (raw.raw_there d i o p c.args.self.short c.args.self.few c.requires (unknown inline bytes handles) h) some).1

@@ -6,7 +6,7 @@ use Rattle.fidl_wire.specs.Term.{find}
 use Rattle.fidl_records.specs.Field.{number_at}
 use Rattle.fidl_records.specs.Terms.{members_of}
 use Rattle.fidl_view.specs.Members.{ShowMember, term_at}
-use Rattle.fidl_view.proofs.Keyed as keyed
+use Rattle.fidl_view.proofs.Raw as raw
 use Rattle.fidl_view.proofs.envelope.Envelope.unknown.Goals as goal
 
 pub returns : goal.returns
@@ -17,9 +17,9 @@ returns c x h =
     let p = c.args.self.place in
     let lacks : term_at d i o ≡ None = subst (λ (b : List ℕ). find (members_of b i) o ≡ None) c.table.ensures c.in_default.ensures.none in
     let flag : c.u16_at.result ≡ number_at w16 d.bytes (p + 6) = c.u16_at.ensures ∙ ap (λ (b : List ℕ). number_at w16 b (p + 6)) c.bytes.ensures in
-    let r = keyed.raw_there d i o p c.args.self.short c.args.self.few lacks x h in
+    let r = raw.raw_there d i o p c.args.self.short c.args.self.few lacks x h in
     let own = subst (λ (y : Member). ShowMember d i o p y) r.is h in
     subst (λ n. x ≡ unknown (n == 1) c.raw_bytes.result.now c.raw_handles.result.now) (sym flag)
-    (keyed.raw_flag d i o p x r c.raw_bytes.result.now c.raw_handles.result.now
-    (c.raw_bytes.ensures r.inline r.bytes r.handles own ∙ sym (ap (λ (y : Member). keyed.raw_bytes_of y) r.is))
-    (c.raw_handles.ensures r.inline r.bytes r.handles own ∙ sym (ap (λ (y : Member). keyed.raw_handles_of y) r.is)))
+    (raw.raw_flag d i o p x r c.raw_bytes.result.now c.raw_handles.result.now
+    (c.raw_bytes.ensures r.inline r.bytes r.handles own ∙ sym (ap (λ (y : Member). raw.raw_bytes_of y) r.is))
+    (c.raw_handles.ensures r.inline r.bytes r.handles own ∙ sym (ap (λ (y : Member). raw.raw_handles_of y) r.is)))

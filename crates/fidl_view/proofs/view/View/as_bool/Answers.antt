@@ -20,4 +20,4 @@ returns-in_default c v s =
     let d = c.args.self.decoded.now in
     let i = c.args.self.index in
     let p = c.args.self.place in
-    reading.no_bool (declarations_of d.table) d.table (header_of d.table) (entry_at d.table i) d.bytes p c.kind.result (viewing.known d c.kind.ensures.well_formed i p c.args.self.in_range c.kind.result c.kind.ensures.of) c.in_default.not-Bool v (viewing.stood d c.kind.ensures.well_formed i p c.args.self.in_range c.kind.result c.kind.ensures.of v s)
+    reading.no_bool (declarations_of d.table) d.table (header_of d.table) (entry_at d.table i) d.bytes p c.kind.result c.in_default.not-Bool v (viewing.stood d c.kind.ensures.well_formed i p c.args.self.in_range c.kind.result c.kind.ensures.of v s)

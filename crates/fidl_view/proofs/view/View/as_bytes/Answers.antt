@@ -1,65 +1,38 @@
-use Rattle.std.proofs.Common.{◌≡◌, ℕ, ◌+◌, ◌*◌, List, length, ap, sym, subst, ◌∙◌, arith}
-use Rattle.std.specs.Prelude.{Some, slice_range}
-use Rattle.fidl_wire.specs.Value.{Value}
-use Rattle.fidl_wire.specs.Term.{Term}
-use Rattle.fidl_records.specs.declared.kind.EntryKind.TheVariants.{Uint8}
+use Rattle.std.proofs.Common.{◌≡◌, ℕ, List, sym, subst, ◌∙◌}
+use Rattle.std.specs.Prelude.{IfSome}
+use Rattle.fidl_records.specs.declared.kind.EntryKind.TheVariants.{String}
 use Rattle.fidl_records.specs.Section.{header_of, entry_at}
-use Rattle.fidl_decode.specs.Model.{Shown}
-use Rattle.fidl_decode.specs.Placed.{content_at}
-use Rattle.fidl_view.specs.Parts.{bytes_if, bytes_of}
-use Rattle.fidl_view.specs.Shows.{type_of}
-use Rattle.fidl_view.specs.Elements.{parts_from, ShowEach}
-use Rattle.fidl_view.specs.Views.{type_shown, types_shown, count_at}
+use Rattle.fidl_records.specs.Terms.{declarations_of, is_optional}
+use Rattle.fidl_view.specs.Views.{type_shown, types_shown}
+use Rattle.fidl_view.proofs.Viewing as viewing
+use Rattle.fidl_view.proofs.Content as content
 use Rattle.fidl_view.proofs.Lists as lists
 use Rattle.fidl_view.proofs.view.View.as_bytes.Goals as goal
 
-pub overflow_add-result : goal.overflow_add-result
-overflow_add-result c =
-    let s = c.in-Some.elements in
-    let one : s.size ≡ 1 = s.sized ∙ sym (lists.octet_size s.decoded.now c.entry_kind.ensures.well_formed s.index s.in_range c.in-Uint8.ensures.of) in
-    let all : s.size * s.left ≡ 1 * s.left = ap (λ n. n * s.left) one in
-    record { fits = omega (arith, all, s.room, s.short) }
-
-pub slice_bounds-result-end : goal.slice_bounds-result-end
-slice_bounds-result-end c =
-    let s = c.in-Some.elements in
-    let one : s.size ≡ 1 = s.sized ∙ sym (lists.octet_size s.decoded.now c.entry_kind.ensures.well_formed s.index s.in_range c.in-Uint8.ensures.of) in
-    let all : s.size * s.left ≡ 1 * s.left = ap (λ n. n * s.left) one in
-    let long = ap length c.bytes.ensures in
-    omega (arith, all, s.room, long)
-
-pub returns-in-Uint8-clause-value : goal.returns-in-Uint8-clause-value
-returns-in-Uint8-clause-value c v h =
-    let s = c.in-Some.elements in
-    let d = s.decoded.now in
-    let w = c.entry_kind.ensures.well_formed in
-    let of = c.in-Uint8.ensures.of in
-    let one : s.size ≡ 1 = s.sized ∙ sym (lists.octet_size d w s.index s.in_range of) in
-    let x = c.in-Some.ensures.parts v h in
-    let parts = subst (λ n. ShowEach (parts_from d s.index n s.place s.left) x.0) one x.2 in
-    ap (λ (b : List ℕ). Some (slice_range b s.place (s.place + s.left))) c.bytes.ensures
-    ∙ ap (λ (b : List ℕ). Some b) (lists.octets_shown d w s.index s.place s.left x.0 s.in_range of parts)
-    ∙ sym (ap (λ (t : Term). bytes_if t x.0) (c.in-Some.ensures.run.typed ∙ ap (λ (m : Shown). type_of m s.index) (sym c.in-Some.ensures.run.message) ∙ lists.own_term d w s.index Uint8 s.in_range of))
-    ∙ sym (ap (λ (u : Value). bytes_of (types_shown c.args.self) (type_shown c.args.self) u) x.1)
-
-pub returns-in-Uint8-clause-slice : goal.returns-in-Uint8-clause-slice
-returns-in-Uint8-clause-slice c =
-    let s = c.in-Some.elements in
+pub returns-in-String : goal.returns-in-String
+returns-in-String c =
     let d = c.args.self.decoded.now in
-    let t = type_shown c.args.self in
-    ap (λ (b : List ℕ). slice_range b s.place (s.place + s.left)) (c.bytes.ensures ∙ ap (λ (m : Shown). m.bytes) c.in-Some.ensures.run.message)
-    ∙ lists.same_slice d.bytes s.place (content_at d.links t c.args.self.place) s.left (count_at t d.bytes c.args.self.place) c.in-Some.ensures.run.counted c.in-Some.ensures.run.placed
-
-pub returns-in_default-entry_kind : goal.returns-in_default-entry_kind
-returns-in_default-entry_kind c =
-    let s = c.in-Some.elements in
-    let d = s.decoded.now in
-    let w = c.entry_kind.ensures.well_formed in
+    let i = c.args.self.index in
+    let p = c.args.self.place in
+    let e = entry_at d.table i in
     record {
       value = λ v h.
-          let x = c.in-Some.ensures.parts v h in
-          lists.no_octets d.table (header_of d.table) (entry_at d.table s.index) c.entry_kind.result c.in_default-entry_kind.not-Uint8 x.0
-          ∙ sym (ap (λ (t : Term). bytes_if t x.0) (c.in-Some.ensures.run.typed ∙ ap (λ (m : Shown). type_of m s.index) (sym c.in-Some.ensures.run.message) ∙ lists.own_term d w s.index c.entry_kind.result s.in_range c.entry_kind.ensures.of))
-          ∙ sym (ap (λ (u : Value). bytes_of (types_shown c.args.self) (type_shown c.args.self) u) x.1);
-      slice = tt;
+          c.string_bytes.ensures.value v h
+          ∙ lists.text_bytes (types_shown c.args.self) (type_shown c.args.self) (is_optional e) e.bound v (viewing.lies d c.kind.ensures.well_formed i p c.args.self.in_range String c.in-String.ensures.of v h).0;
+      slice = c.string_bytes.ensures.slice;
+    }
+
+pub returns-in_default : goal.returns-in_default
+returns-in_default c =
+    let d = c.args.self.decoded.now in
+    let i = c.args.self.index in
+    let p = c.args.self.place in
+    let w = c.kind.ensures.well_formed in
+    let e = entry_at d.table i in
+    record {
+      value = λ v h.
+          c.octets.ensures.value v h
+          (sym (content.no_string (declarations_of d.table) d.table (header_of d.table) e c.kind.result c.in_default.not-String v
+          (viewing.lies d w i p c.args.self.in_range c.kind.result c.kind.ensures.of v h).0));
+      slice = subst (λ (m : List ℕ). IfSome c.octets.result (λ b. b.now ≡ m)) (viewing.bytes_of_elements d w i p c.args.self.in_range c.kind.result c.kind.ensures.of c.in_default.not-String) c.octets.ensures.slice;
     }
