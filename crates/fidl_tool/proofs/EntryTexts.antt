@@ -26,6 +26,7 @@ use Rattle.fidl_decode.proofs.Bridge.{fine_of}
 use Rattle.fidl_decode.proofs.Visiting.{fine_as, term_is, figure_is, size_is}
 use Rattle.fidl_view.specs.declared.view.View.{View}
 use Rattle.fidl_tool.specs.Parts.{IsPart, IsMembers}
+use Rattle.fidl_tool.specs.Slots.{named_text}
 use Rattle.fidl_view.specs.Parts.{absence_of, nth, unsigned_of, signed_of}
 use Rattle.fidl_tool.proofs.Printing.{box_is, by_term, each_nth, each_typed, fields_at, fields_end, number_kind, struct_is, values_after}
 
@@ -175,8 +176,13 @@ module _ (b : List ℕ) (w : WellFormed b) (i : ℕ) (lt : i < (header_of b).ent
         subst (λ (y : Value). IsTyped (declarations_of b) (type_at k) y) (same_value r.0 x (sym r.1 ∙ e)) r.2
 
     pub members_step : (k next : ℕ) (x : Value) → nth vs k ≡ Some x → k < (entry_at b i).count → next ≡ suc k
-        → left_at k ≡ (comma_if (nat_lt 0 k) ++ name_at b (header_of b) (member k).name_place (member k).name_length ++ codes ": " ++ text_of (declarations_of b) (type_at k) x) ++ left_at next
-    members_step k next x e less is = fields_at (declarations_of b) b (header_of b) (entry_at b i).first (entry_at b i).count vs k next x (codes "}") e less is
+        → left_at k ≡ (comma_if (nat_lt 0 k) ++ named_text b (member k) x) ++ left_at next
+    members_step k next x e less is =
+        let comma = comma_if (nat_lt 0 k) in
+        let name = name_at b (header_of b) (member k).name_place (member k).name_length in
+        let text = text_of (declarations_of b) (type_at k) x in
+        fields_at (declarations_of b) b (header_of b) (entry_at b i).first (entry_at b i).count vs k next x (codes "}") e less is
+        ∙ ap (λ (l : List ℕ). l ++ left_at next) (ap (λ (l : List ℕ). l ++ text) (append_assoc comma name (codes ": ")) ∙ append_assoc comma (name ++ codes ": ") text)
 
     pub members_end : (k : ℕ) → k ≡ (entry_at b i).count → left_at k ≡ codes "}"
     members_end k e =

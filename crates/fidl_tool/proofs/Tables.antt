@@ -35,7 +35,7 @@ use Rattle.fidl_view.proofs.Keyed.{held_variant}
 use Rattle.fidl_view.specs.declared.view.View.{View}
 use Rattle.fidl_tool.specs.Parts.{IsPart}
 use Rattle.fidl_tool.specs.Outputs.{AppendsFront}
-use Rattle.fidl_tool.specs.Slots.{IsValueOf, slot_text, later_behind}
+use Rattle.fidl_tool.specs.Slots.{IsValueOf, named_text, slot_text, later_behind}
 use Rattle.fidl_tool.proofs.Written.{IsSoFar, so_far_begin, so_far_more, so_far_failed, so_far_as, begin_failed}
 use Rattle.fidl_tool.proofs.Printing.{some_same}
 use Rattle.fidl_tool.proofs.EntryTexts as entries
@@ -243,11 +243,11 @@ module _ (b : List ℕ) (w : WellFormed b) (i : ℕ) (lt : i < (header_of b).ent
   abbrev pub IsRowAt : (ordinal : ℕ) → Row → Type 0
   IsRowAt ordinal row = (k : ℕ) × (k < (entry_at b i).count) × (row ≡ row_at b (header_of b) ((entry_at b i).first + k)) × (row.key ≡ ordinal)
 
-  pub member_whole : IsTrue (kind_is uses_ordinals (entry_at b i)) → (ordinal : ℕ) (v : Value) (row : Row) (name : List ℕ) → IsRowAt ordinal row → find rows ordinal ≡ Some (ty.named row.entry)
-      → name ≡ name_at b (header_of b) row.name_place row.name_length → member_text ds rows ordinal (known v) ≡ name ++ codes ": " ++ text_of ds (resolve ds.terms (ty.named row.entry)) v
-  member_whole uses ordinal v row name x found named =
-      known_text ordinal row.entry v name found
-      (member_name uses ordinal x.0 x.1 (ap (λ (r : Row). r.key) (sym x.2) ∙ x.3) ∙ ap (λ (r : Row). name_at b (header_of b) r.name_place r.name_length) (sym x.2) ∙ sym named)
+  pub member_whole : IsTrue (kind_is uses_ordinals (entry_at b i)) → (ordinal : ℕ) (v : Value) (row : Row) → IsRowAt ordinal row → find rows ordinal ≡ Some (ty.named row.entry)
+      → member_text ds rows ordinal (known v) ≡ named_text b row v
+  member_whole uses ordinal v row x found =
+      known_text ordinal row.entry v (name_at b (header_of b) row.name_place row.name_length) found
+      (member_name uses ordinal x.0 x.1 (ap (λ (r : Row). r.key) (sym x.2) ∙ x.3) ∙ ap (λ (r : Row). name_at b (header_of b) r.name_place r.name_length) (sym x.2))
 
   -- the depth of its value: none in an envelope, and one less out of line
   pub inline_depth : (e : ℕ) → e < (header_of b).entries → (v : Value) → IsTyped ds (resolve ds.terms (ty.named e)) v → (entry_at b e).size ≤ 4 → depth_of ds (resolve ds.terms (ty.named e)) v ≡ 0

@@ -123,26 +123,6 @@ pub so_far_second : (old mid next now : Option (List ℕ)) (whole left xs ys res
 so_far_second old mid next now whole left xs ys rest s w h e =
     so_far_failed old next now whole (ys ++ rest) ys rest (so_far_more old mid next whole left xs (ys ++ rest) s w (e ∙ append_assoc xs ys rest)) h refl
 
--- one of four writes failed
-module _ (old mid now : Option (List ℕ)) (whole left a b c d rest : List ℕ) (s : IsSoFar old mid whole left) (e : left ≡ a ++ b ++ c ++ d ++ rest) where
-  third : left ≡ a ++ b ++ c ++ (d ++ rest)
-  third = e ∙ append_assoc (a ++ b ++ c) d rest
-
-  second : left ≡ a ++ b ++ (c ++ (d ++ rest))
-  second = third ∙ append_assoc (a ++ b) c (d ++ rest)
-
-  pub first_failed : AppendsFront mid now a → AppendsFront old now whole
-  first_failed h = so_far_first old mid now whole left a b (c ++ (d ++ rest)) s h second
-
-  pub second_failed : (next : Option (List ℕ)) → Appends mid next a → AppendsFront next now b → AppendsFront old now whole
-  second_failed next w h = so_far_second old mid next now whole left a b (c ++ (d ++ rest)) s w h second
-
-  pub third_failed : (next : Option (List ℕ)) → Appends mid next (a ++ b) → AppendsFront next now c → AppendsFront old now whole
-  third_failed next w h = so_far_second old mid next now whole left (a ++ b) c (d ++ rest) s w h third
-
-  pub fourth_failed : (next : Option (List ℕ)) → Appends mid next (a ++ b ++ c) → AppendsFront next now d → AppendsFront old now whole
-  fourth_failed next w h = so_far_second old mid next now whole left (a ++ b ++ c) d rest s w h e
-
 -- a write behind others, one of which failed, or none
 pub writes_then : {T E : Type 0} (a b c : Option (List ℕ)) (xs ys : List ℕ) (r : Result T E) → Appends a b xs → Writes b c ys r → Writes a c (xs ++ ys) r
 writes_then a b c xs ys r h w = so_far_written a b c (xs ++ ys) ys r (so_far_begin a b (xs ++ ys) xs ys h refl) w

@@ -1,12 +1,14 @@
 -- What the printer is given of tables and unions, and what it writes of their members.
-use Rattle.std.specs.Prelude.{◌≤◌, ℕ, List, [], ◌++◌, Bool, true, false, Option, Some, None, Result}
+use Rattle.std.specs.Prelude.{◌≤◌, ℕ, List, [], ◌++◌, Bool, true, false, Option, Some, None, Result, codes}
 use Rattle.fidl_wire.specs.Value.{Value, Member, known}
 use Rattle.fidl_wire.specs.Term.{Rows, resolve, find}
 use Rattle.fidl_wire.specs.Term as ty
 use Rattle.fidl_wire.specs.Figure.{Declarations}
-use Rattle.fidl_wire.specs.Text.{comma_if, member_text}
+use Rattle.fidl_wire.specs.Text.{text_of, comma_if, member_text}
 use Rattle.fidl_wire.specs.Typed.{IsTypedMember}
 use Rattle.fidl_wire.specs.Depth.{member_depth}
+use Rattle.fidl_records.specs.declared.record.Row.{Row}
+use Rattle.fidl_records.specs.Section.{header_of, name_at}
 use Rattle.fidl_records.specs.Terms.{declarations_of, members_of}
 use Rattle.fidl_view.specs.Parts.{held_of}
 use Rattle.fidl_view.specs.Shows.{Shows}
@@ -19,6 +21,19 @@ use Rattle.fidl_tool.specs.Parts.{IsPart}
 abbrev pub IsValueOf : (table : List ℕ) (index : ℕ) → View → Value → Type 0
 IsValueOf table index view v = let ds = declarations_of table in
     IsPart ds (resolve ds.terms (ty.named index)) view v
+
+-- a value of a row's entry, behind the row's name
+abbrev pub named_text : (table : List ℕ) → Row → Value → List ℕ
+named_text table row v =
+    let ds = declarations_of table in
+    name_at table (header_of table) row.name_place row.name_length ++ codes ": "
+    ++ text_of ds (resolve ds.terms (ty.named row.entry)) v
+
+-- the value of the row's entry that the view shows is written behind the row's name
+abbrev pub PrintsNamed : {T E : Type 0} → (table : List ℕ) → Row → View
+    → (old new : Option (List ℕ)) → Result T E → Type 0
+PrintsNamed table row view old new result = (v : Value) → IsValueOf table row.entry view v
+    → Writes old new (named_text table row v) result
 
 -- the view shows this value, which is one of the type that the layout gives to the ordinal
 pub record IsMember (table : List ℕ) (slot : Slot) (view : View) (v : Value) : Type 0 where

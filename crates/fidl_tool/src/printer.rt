@@ -1,5 +1,6 @@
 //! The text of a value, as a view shows it (docs/wire.md, "The written text of a value").
-ghost use Rattle.std.specs.Prelude.{◌≡◌, ℕ, ◌+◌, ◌<◌, Bool, OnOk, OnErr, IfOk, IsSome, IsTrue};
+ghost use Rattle.std.specs.Prelude.{◌≡◌, ℕ, ◌+◌, ◌<◌, ◌≤◌, Bool, OnOk, OnErr, IfOk, IsSome};
+ghost use Rattle.std.specs.Prelude.{IsTrue};
 ghost use Rattle.fidl_wire.specs.Value.{Value};
 ghost use Rattle.fidl_wire.specs.Term as ty;
 ghost use Rattle.fidl_wire.specs.Figure.{Declarations};
@@ -13,14 +14,14 @@ ghost use Rattle.fidl_view.specs.Parts.{numbers_of, held_of};
 ghost use Rattle.fidl_tool.specs.Parts.{HasPart, HasPartWithin, Prints, HasValueWithin};
 ghost use Rattle.fidl_tool.specs.Parts.{PrintsValue, HasElementsWithin, PrintsElements};
 ghost use Rattle.fidl_tool.specs.Parts.{HasMembersWithin, PrintsMembers};
-ghost use Rattle.fidl_tool.specs.Slots.{IsValueOf, HasMemberWithin, PrintsMember, PrintsSlot};
-ghost use Rattle.fidl_tool.specs.Slots.{later_behind};
+ghost use Rattle.fidl_tool.specs.Slots.{IsValueOf, PrintsNamed, HasMemberWithin, PrintsMember};
+ghost use Rattle.fidl_tool.specs.Slots.{PrintsSlot, later_behind};
 ghost use Rattle.fidl_tool.specs.Outputs.{Writes};
 
 use crate::output::{Failed, Output};
 use crate::quoted::{write_comma, write_decimal, write_handle, write_quoted};
 use crate::unknown::write_unknown;
-use fidl_records::EntryKind;
+use fidl_records::{EntryKind, Row};
 use fidl_verify::Table;
 use fidl_view::View;
 use itoa::Buffer;
@@ -113,6 +114,29 @@ fn write_elements<W: Write>(
     out.write_all(b"]")
 }
 
+/// Writes the value of a row's entry, of at most this depth, behind the row's name.
+#[cycle(write)]
+fn write_named<W: Write>(
+    table: &Table<'_>,
+    row: &Row,
+    view: View<'_, '_>,
+    depth: usize,
+    out: &mut Output<W>,
+) -> Result<(), Failed>
+    requires table { view.decoded.now.table ≡ table.now }
+    requires name { row.now.name_place + row.now.name_length ≤ (header_of table.now).names }
+    requires entry { row.now.entry < (header_of table.now).entries }
+    requires part { HasValueWithin table.now row.now.entry depth view }
+    ensures text { PrintsNamed table.now row.now view.entry
+        (W.contents out.old.writer) (W.contents out.new.writer) result }
+    ensures kept { OnOk result (out.new.failure ≡ out.old.failure) }
+    ensures failed { OnErr result (IsSome out.new.failure) }
+{
+    out.write_all(table.row_name(row))?;
+    out.write_all(b": ")?;
+    write_value(table, row.entry, view, depth, out)
+}
+
 /// Writes a struct of an entry, or such a struct in a box that is there: its members are of at most
 /// this depth.
 #[cycle(write)]
@@ -139,10 +163,8 @@ fn write_members<W: Write>(
     for at in 0..entry.count {
         write_comma(out, at > 0)?;
         let row = table.row(entry.first + at);
-        out.write_all(table.row_name(&row))?;
-        out.write_all(b": ")?;
         let part = view.field(at as usize).unwrap();
-        write_value(table, row.entry, part, depth, out)?;
+        write_named(table, &row, part, depth, out)?;
     }
     out.write_all(b"}")
 }
@@ -226,12 +248,10 @@ fn write_member<W: Write>(
 {
     let mut probes = 0;
     let row = table.member(slot.index, slot.ordinal, &mut probes).unwrap();
-    out.write_all(table.row_name(&row))?;
-    out.write_all(b": ")?;
     if table.entry(row.entry).size <= 4 {
-        return write_value(table, row.entry, view, slot.depth, out);
+        return write_named(table, &row, view, slot.depth, out);
     }
-    write_value(table, row.entry, view, slot.depth - 1, out)
+    write_named(table, &row, view, slot.depth - 1, out)
 }
 
 /// Writes what a table holds at an ordinal, behind a comma where another member stands before it,

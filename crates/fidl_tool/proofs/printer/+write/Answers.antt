@@ -19,13 +19,13 @@ use Rattle.fidl_decode.specs.Model.{Shown}
 use Rattle.fidl_view.specs.declared.view.View.{View}
 use Rattle.fidl_view.specs.Parts.{element_of, field_of, held_of, length_of}
 use Rattle.fidl_view.specs.Views.{ShowsKnown}
-use Rattle.fidl_tool.proofs.Written.{writes_as, appends_as, appends_then, front_as, first_failed, second_failed, third_failed, fourth_failed, failed_as, so_far_first, so_far_second, so_far_begin, so_far_more, so_far_written, begin_failed, so_far_as, more_left, failed_then, writes_then}
+use Rattle.fidl_tool.proofs.Written.{writes_as, appends_as, appends_then, front_as, failed_as, so_far_first, so_far_second, so_far_begin, so_far_more, so_far_written, begin_failed, so_far_as, more_left, failed_then, writes_then}
 use Rattle.fidl_tool.specs.Outputs.{Writes}
 use Rattle.fidl_tool.proofs.Printing as printing
 use Rattle.fidl_tool.proofs.EntryTexts as entries
 use Rattle.fidl_tool.proofs.Slots as slots
 use Rattle.fidl_tool.proofs.Tables as tables
-use Rattle.fidl_tool.specs.Slots.{slot_text, later_behind}
+use Rattle.fidl_tool.specs.Slots.{named_text, slot_text, later_behind}
 use Rattle.std.proofs.KnownBytes.{Appends-nil}
 use Rattle.fidl_tool.proofs.Printing.{part_as}
 use Rattle.fidl_tool.proofs.printer.+write.Goals as goal
@@ -103,6 +103,20 @@ write_elements-returns-in_err-write_value-clause-text g t c n vs p =
     failed_as _ _ _ c.from_residual-in_err-write_value.result c.from_residual-in_err-write_value.ensures.0
     (so_far_second _ _ _ _ _ _ _ _ _ (c.loop-at.invariant.0.left n vs p) c.in_ok-write_comma.ensures.text (c.in_err-write_value.ensures.text x.0 (record { shown = x.2; typed = typed })) step)
 
+pub write_named-returns-in_err-write_all-clause-text : goal.write_named-returns-in_err-write_all-clause-text
+write_named-returns-in_err-write_all-clause-text g t c v p =
+    failed_as _ _ _ c.from_residual.result c.from_residual.ensures.0
+    (more_left _ _ _ (text_of (declarations_of c.args.table.now) (resolve (declarations_of c.args.table.now).terms (ty.named c.args.row.now.entry)) v) (more_left _ _ _ (codes ": ") (front_as _ _ _ _ c.row_name.ensures c.in_err-write_all.ensures.bytes)))
+
+pub write_named-returns-in_err-write_all-2-clause-text : goal.write_named-returns-in_err-write_all-2-clause-text
+write_named-returns-in_err-write_all-2-clause-text g t c v p =
+    failed_as _ _ _ c.from_residual-in_err-write_all-2.result c.from_residual-in_err-write_all-2.ensures.0
+    (more_left _ _ _ (text_of (declarations_of c.args.table.now) (resolve (declarations_of c.args.table.now).terms (ty.named c.args.row.now.entry)) v) (failed_then _ _ _ _ _ (appends_as _ _ _ _ c.row_name.ensures c.in_ok-write_all.ensures.bytes) c.in_err-write_all-2.ensures.bytes))
+
+pub write_named-returns-clause-text : goal.write_named-returns-clause-text
+write_named-returns-clause-text g t c v p =
+    writes_then _ _ _ _ _ c.write_value.result (appends_then _ _ _ _ _ (appends_as _ _ _ _ c.row_name.ensures c.in_ok-write_all.ensures.bytes) c.in_ok-write_all-2.ensures.bytes) (c.write_value.ensures.text v p)
+
 pub write_members-loop-at-init : goal.write_members-loop-at-init
 write_members-loop-at-init g t c = (
   record { left = λ n vs p. so_far_begin _ _ _ _ _ c.in_ok-write_all.ensures.bytes (entries.members_begin c.args.table.now c.entry-entry.ensures.well_formed c.args.index c.requires.index c.args.view n vs p) },
@@ -132,8 +146,8 @@ write_members-unwrap-part-requires g t c =
     let x = entries.member_there c.args.table.now c.entry-entry.ensures.well_formed c.args.index c.requires.index c.args.view n vs p c.loop-at.at (omega (arith, c.loop-at-test.true, counted)) in
     printing.part_some c.args.view.decoded.now (field_of (fields vs) c.loop-at.at) x.0 c.field.result x.1 (c.field.ensures.part (fields vs) p.part.shown)
 
-pub write_members-write_value-requires : goal.write_members-write_value-requires
-write_members-write_value-requires g t c κs within =
+pub write_members-write_named-requires : goal.write_members-write_named-requires
+write_members-write_named-requires g t c κs within =
     let b = c.args.table.now in
     let w = c.entry-entry.ensures.well_formed in
     let i = c.args.index in
@@ -162,14 +176,17 @@ write_members-write_value-requires g t c κs within =
         (
           ap (λ (s : Shown). s.table) message ∙ c.requires.table,
           (
-            c.row-row.ensures.entry,
+            c.row-row.ensures.name,
             (
-              x.0,
-              record {
-                shown = x.2;
-                typed = subst (λ k. IsTyped (declarations_of b) (resolve (declarations_of b).terms (ty.named k)) x.0) (sym entered) typed;
-              },
-              omega (arith, deep, c.requires.part.3),
+              c.row-row.ensures.entry,
+              (
+                x.0,
+                record {
+                  shown = x.2;
+                  typed = subst (λ k. IsTyped (declarations_of b) (resolve (declarations_of b).terms (ty.named k)) x.0) (sym entered) typed;
+                },
+                omega (arith, deep, c.requires.part.3),
+              ),
             ),
           ),
         ),
@@ -184,7 +201,6 @@ write_members-loop-at-preserved g t c = (
         let w = c.entry-entry.ensures.well_formed in
         let i = c.args.index in
         let lt = c.requires.index in
-        let is = c.requires.of_struct in
         let counted = ap (λ (e : Entry). e.count) c.entry-entry.ensures.value in
         let begun = ap (λ (e : Entry). e.first) c.entry-entry.ensures.value in
         let less : c.loop-at.at < (entry_at b i).count = omega (arith, c.loop-at-test.true, counted) in
@@ -192,24 +208,11 @@ write_members-loop-at-preserved g t c = (
         let x = printing.part_shown c.args.view.decoded.now (field_of (fields vs) c.loop-at.at) c.field.result c.unwrap-part.result c.unwrap-part.ensures (c.field.ensures.part (fields vs) p.part.shown) in
         let typed = entries.member_typed b w i lt c.args.view n vs p c.loop-at.at less x.0 x.1 in
         let own = subst (λ (r : Row). IsTyped (declarations_of b) (resolve (declarations_of b).terms (ty.named r.entry)) x.0) (sym here) typed in
-        let c0 = g.W.Write.contents c.loop-at.out.writer in
-        let c1 = g.W.Write.contents c.write_comma.new.out.writer in
-        let c2 = g.W.Write.contents c.write_all-in-loop-at.new.self.writer in
-        let c3 = g.W.Write.contents c.write_all-in-loop-at-2.new.self.writer in
-        let c4 = g.W.Write.contents c.write_value.new.out.writer in
-        let comma = comma_if (nat_lt 0 c.loop-at.at) in
-        let row = row_at b (header_of b) ((entry_at b i).first + c.loop-at.at) in
-        let name = name_at b (header_of b) row.name_place row.name_length in
-        let text = text_of (declarations_of b) (resolve (declarations_of b).terms (ty.named row.entry)) x.0 in
-        let named : c.row_name.result.now ≡ name = c.row_name.ensures ∙ ap (λ (r : Row). name_at b (header_of b) r.name_place r.name_length) here in
-        let texted = ap (λ (r : Row). text_of (declarations_of b) (resolve (declarations_of b).terms (ty.named r.entry)) x.0) here in
-        let w1 = appends_then c0 c1 c2 comma name c.in_ok-write_comma.ensures.text (appends_as c1 c2 c.row_name.result.now name named c.in_ok-write_all-2.ensures.bytes) in
-        let w2 = appends_then c0 c2 c3 (comma ++ name) (codes ": ") w1 c.in_ok-write_all-3.ensures.bytes in
-        let w3 = appends_then c0 c3 c4 (comma ++ name ++ codes ": ") text w2 (appends_as c3 c4 _ text texted (c.in_ok-write_value.ensures.text x.0 (record { shown = x.2; typed = own }))) in
+        let named = ap (λ (r : Row). named_text b r x.0) here in
         let step = entries.members_step b w i lt c.args.view n vs p c.loop-at.at (c.loop-at.at + 1) x.0 x.1 less (omega arith) in
-        so_far_more _ _ _ _ _ _ _ (c.loop-at.invariant.0.left n vs p) w3 step;
+        so_far_more _ _ _ _ _ _ _ (c.loop-at.invariant.0.left n vs p) (appends_then _ _ _ _ _ c.in_ok-write_comma.ensures.text (appends_as _ _ _ _ named (c.in_ok-write_named.ensures.text x.0 (record { shown = x.2; typed = own })))) step;
   },
-  c.in_ok-write_value.ensures.kept ∙ c.in_ok-write_all-3.ensures.kept ∙ c.in_ok-write_all-2.ensures.kept ∙ c.in_ok-write_comma.ensures.kept ∙ c.loop-at.invariant.1,
+  c.in_ok-write_named.ensures.kept ∙ c.in_ok-write_comma.ensures.kept ∙ c.loop-at.invariant.1,
 )
 
 pub write_members-returns-clause-text : goal.write_members-returns-clause-text
@@ -230,99 +233,30 @@ write_members-returns-in_err-write_comma-clause-text g t c n vs p =
     let w = c.entry-entry.ensures.well_formed in
     let i = c.args.index in
     let lt = c.requires.index in
-    let is = c.requires.of_struct in
     let counted = ap (λ (e : Entry). e.count) c.entry-entry.ensures.value in
     let less : c.loop-at.at < (entry_at b i).count = omega (arith, c.loop-at-test.true, counted) in
     let x = entries.member_there b w i lt c.args.view n vs p c.loop-at.at less in
-    let typed = entries.member_typed b w i lt c.args.view n vs p c.loop-at.at less x.0 x.1 in
-    let row = row_at b (header_of b) ((entry_at b i).first + c.loop-at.at) in
-    let name = name_at b (header_of b) row.name_place row.name_length in
-    let comma = comma_if (nat_lt 0 c.loop-at.at) in
     let step = entries.members_step b w i lt c.args.view n vs p c.loop-at.at (c.loop-at.at + 1) x.0 x.1 less (omega arith) in
-    let text = text_of (declarations_of b) (resolve (declarations_of b).terms (ty.named row.entry)) x.0 in
     failed_as _ _ _ c.from_residual-in_err-write_comma.result c.from_residual-in_err-write_comma.ensures.0
-    (first_failed _ _ _ _ _ comma name (codes ": ") text _ (c.loop-at.invariant.0.left n vs p) step c.in_err-write_comma.ensures.text)
+    (so_far_first _ _ _ _ _ _ _ _ (c.loop-at.invariant.0.left n vs p) c.in_err-write_comma.ensures.text step)
 
-pub write_members-returns-in_err-write_all-2-clause-text : goal.write_members-returns-in_err-write_all-2-clause-text
-write_members-returns-in_err-write_all-2-clause-text g t c n vs p =
+pub write_members-returns-in_err-write_named-clause-text : goal.write_members-returns-in_err-write_named-clause-text
+write_members-returns-in_err-write_named-clause-text g t c n vs p =
     let b = c.args.table.now in
     let w = c.entry-entry.ensures.well_formed in
     let i = c.args.index in
     let lt = c.requires.index in
-    let is = c.requires.of_struct in
     let counted = ap (λ (e : Entry). e.count) c.entry-entry.ensures.value in
-    let less : c.loop-at.at < (entry_at b i).count = omega (arith, c.loop-at-test.true, counted) in
-    let x = entries.member_there b w i lt c.args.view n vs p c.loop-at.at less in
-    let typed = entries.member_typed b w i lt c.args.view n vs p c.loop-at.at less x.0 x.1 in
-    let step = entries.members_step b w i lt c.args.view n vs p c.loop-at.at (c.loop-at.at + 1) x.0 x.1 less (omega arith) in
     let begun = ap (λ (e : Entry). e.first) c.entry-entry.ensures.value in
-    let row = row_at b (header_of b) ((entry_at b i).first + c.loop-at.at) in
-    let here : c.row-row.result ≡ row = c.row-row.ensures.value ∙ ap (λ k. row_at b (header_of b) (k + c.loop-at.at)) begun in
-    let name = name_at b (header_of b) row.name_place row.name_length in
-    let comma = comma_if (nat_lt 0 c.loop-at.at) in
-    let named : c.row_name.result.now ≡ name = c.row_name.ensures ∙ ap (λ (r : Row). name_at b (header_of b) r.name_place r.name_length) here in
-    let c0 = g.W.Write.contents c.loop-at.out.writer in
-    let c1 = g.W.Write.contents c.write_comma.new.out.writer in
-    let c2 = g.W.Write.contents c.write_all-in-loop-at.new.self.writer in
-    let text = text_of (declarations_of b) (resolve (declarations_of b).terms (ty.named row.entry)) x.0 in
-    failed_as _ _ _ c.from_residual-in_err-write_all-2.result c.from_residual-in_err-write_all-2.ensures.0
-    (second_failed _ _ _ _ _ comma name (codes ": ") text _ (c.loop-at.invariant.0.left n vs p) step c1 c.in_ok-write_comma.ensures.text (front_as c1 _ _ name named c.in_err-write_all-2.ensures.bytes))
-
-pub write_members-returns-in_err-write_all-3-clause-text : goal.write_members-returns-in_err-write_all-3-clause-text
-write_members-returns-in_err-write_all-3-clause-text g t c n vs p =
-    let b = c.args.table.now in
-    let w = c.entry-entry.ensures.well_formed in
-    let i = c.args.index in
-    let lt = c.requires.index in
-    let is = c.requires.of_struct in
-    let counted = ap (λ (e : Entry). e.count) c.entry-entry.ensures.value in
     let less : c.loop-at.at < (entry_at b i).count = omega (arith, c.loop-at-test.true, counted) in
-    let x = entries.member_there b w i lt c.args.view n vs p c.loop-at.at less in
-    let typed = entries.member_typed b w i lt c.args.view n vs p c.loop-at.at less x.0 x.1 in
-    let step = entries.members_step b w i lt c.args.view n vs p c.loop-at.at (c.loop-at.at + 1) x.0 x.1 less (omega arith) in
-    let begun = ap (λ (e : Entry). e.first) c.entry-entry.ensures.value in
-    let row = row_at b (header_of b) ((entry_at b i).first + c.loop-at.at) in
-    let here : c.row-row.result ≡ row = c.row-row.ensures.value ∙ ap (λ k. row_at b (header_of b) (k + c.loop-at.at)) begun in
-    let name = name_at b (header_of b) row.name_place row.name_length in
-    let comma = comma_if (nat_lt 0 c.loop-at.at) in
-    let named : c.row_name.result.now ≡ name = c.row_name.ensures ∙ ap (λ (r : Row). name_at b (header_of b) r.name_place r.name_length) here in
-    let c0 = g.W.Write.contents c.loop-at.out.writer in
-    let c1 = g.W.Write.contents c.write_comma.new.out.writer in
-    let c2 = g.W.Write.contents c.write_all-in-loop-at.new.self.writer in
-    let w1 = appends_then c0 c1 c2 comma name c.in_ok-write_comma.ensures.text (appends_as c1 c2 c.row_name.result.now name named c.in_ok-write_all-2.ensures.bytes) in
-    let text = text_of (declarations_of b) (resolve (declarations_of b).terms (ty.named row.entry)) x.0 in
-    failed_as _ _ _ c.from_residual-in_err-write_all-3.result c.from_residual-in_err-write_all-3.ensures.0
-    (third_failed _ _ _ _ _ comma name (codes ": ") text _ (c.loop-at.invariant.0.left n vs p) step c2 w1 c.in_err-write_all-3.ensures.bytes)
-
-pub write_members-returns-in_err-write_value-clause-text : goal.write_members-returns-in_err-write_value-clause-text
-write_members-returns-in_err-write_value-clause-text g t c n vs p =
-    let b = c.args.table.now in
-    let w = c.entry-entry.ensures.well_formed in
-    let i = c.args.index in
-    let lt = c.requires.index in
-    let is = c.requires.of_struct in
-    let counted = ap (λ (e : Entry). e.count) c.entry-entry.ensures.value in
-    let less : c.loop-at.at < (entry_at b i).count = omega (arith, c.loop-at-test.true, counted) in
-    let begun = ap (λ (e : Entry). e.first) c.entry-entry.ensures.value in
-    let row = row_at b (header_of b) ((entry_at b i).first + c.loop-at.at) in
-    let here : c.row-row.result ≡ row = c.row-row.ensures.value ∙ ap (λ k. row_at b (header_of b) (k + c.loop-at.at)) begun in
-    let name = name_at b (header_of b) row.name_place row.name_length in
-    let comma = comma_if (nat_lt 0 c.loop-at.at) in
-    let named : c.row_name.result.now ≡ name = c.row_name.ensures ∙ ap (λ (r : Row). name_at b (header_of b) r.name_place r.name_length) here in
-    let c0 = g.W.Write.contents c.loop-at.out.writer in
-    let c1 = g.W.Write.contents c.write_comma.new.out.writer in
-    let c2 = g.W.Write.contents c.write_all-in-loop-at.new.self.writer in
-    let c3 = g.W.Write.contents c.write_all-in-loop-at-2.new.self.writer in
+    let here : c.row-row.result ≡ row_at b (header_of b) ((entry_at b i).first + c.loop-at.at) = c.row-row.ensures.value ∙ ap (λ k. row_at b (header_of b) (k + c.loop-at.at)) begun in
     let x = printing.part_shown c.args.view.decoded.now (field_of (fields vs) c.loop-at.at) c.field.result c.unwrap-part.result c.unwrap-part.ensures (c.field.ensures.part (fields vs) p.part.shown) in
     let typed = entries.member_typed b w i lt c.args.view n vs p c.loop-at.at less x.0 x.1 in
     let own = subst (λ (r : Row). IsTyped (declarations_of b) (resolve (declarations_of b).terms (ty.named r.entry)) x.0) (sym here) typed in
-    let texted = ap (λ (r : Row). text_of (declarations_of b) (resolve (declarations_of b).terms (ty.named r.entry)) x.0) here in
+    let named = ap (λ (r : Row). named_text b r x.0) here in
     let step = entries.members_step b w i lt c.args.view n vs p c.loop-at.at (c.loop-at.at + 1) x.0 x.1 less (omega arith) in
-    let w1 = appends_then c0 c1 c2 comma name c.in_ok-write_comma.ensures.text (appends_as c1 c2 c.row_name.result.now name named c.in_ok-write_all-2.ensures.bytes) in
-    let w2 = appends_then c0 c2 c3 (comma ++ name) (codes ": ") w1 c.in_ok-write_all-3.ensures.bytes in
-    let text = text_of (declarations_of b) (resolve (declarations_of b).terms (ty.named row.entry)) x.0 in
-    failed_as _ _ _ c.from_residual-in_err-write_value.result c.from_residual-in_err-write_value.ensures.0
-    (fourth_failed _ _ _ _ _ comma name (codes ": ") text _ (c.loop-at.invariant.0.left n vs p) step c3 w2 (front_as c3 _ _ _ texted (c.in_err-write_value.ensures.text x.0 (record { shown = x.2; typed = own }))))
+    failed_as _ _ _ c.from_residual-in_err-write_named.result c.from_residual-in_err-write_named.ensures.0
+    (so_far_second _ _ _ _ _ _ _ _ _ (c.loop-at.invariant.0.left n vs p) c.in_ok-write_comma.ensures.text (front_as _ _ _ _ named (c.in_err-write_named.ensures.text x.0 (record { shown = x.2; typed = own }))) step)
 
 pub write_value-unwrap-kind-requires : goal.write_value-unwrap-kind-requires
 write_value-unwrap-kind-requires g t c =
@@ -546,36 +480,11 @@ write_member-unwrap-row-requires g t c =
     let p = c.requires.part in
     tables.row_there c.args.table.now c.requires.well_formed c.args.slot.index c.requires.index c.args.slot.ordinal p.0 c.member.result c.member.ensures.none p.1.typed
 
-pub write_member-row_name-requires : goal.write_member-row_name-requires
-write_member-row_name-requires g t c = tables.of_some (λ r. r.name_place + r.name_length ≤ (header_of c.args.table.now).names) c.member.result c.unwrap-row.result c.unwrap-row.ensures c.member.ensures.name
-
 pub write_member-entry-requires : goal.write_member-entry-requires
 write_member-entry-requires g t c = tables.of_some (λ r. r.entry < (header_of c.args.table.now).entries) c.member.result c.unwrap-row.result c.unwrap-row.ensures c.member.ensures.entry_below
 
-pub write_member-returns-in_err-write_all-clause-text : goal.write_member-returns-in_err-write_all-clause-text
-write_member-returns-in_err-write_all-clause-text g t c v m =
-    let b = c.args.table.now in
-    let i = c.args.slot.index in
-    let row = c.unwrap-row.result in
-    let at = tables.of_some (λ r. tables.IsRowAt b c.requires.well_formed i c.requires.index c.args.slot.ordinal r) c.member.result row c.unwrap-row.ensures c.member.ensures.row in
-    let found = tables.of_some (λ r. find (members_of b i) c.args.slot.ordinal ≡ Some (ty.named r.entry)) c.member.result row c.unwrap-row.ensures c.member.ensures.some in
-    let whole = tables.member_whole b c.requires.well_formed i c.requires.index c.requires.kind c.args.slot.ordinal v row c.row_name.result.now at found c.row_name.ensures in
-    failed_as _ _ _ c.from_residual.result c.from_residual.ensures.0
-    (front_as _ _ _ _ (sym whole) (more_left _ _ _ (text_of (declarations_of b) (resolve (declarations_of b).terms (ty.named row.entry)) v) (more_left _ _ _ (codes ": ") c.in_err-write_all.ensures.bytes)))
-
-pub write_member-returns-in_err-write_all-2-clause-text : goal.write_member-returns-in_err-write_all-2-clause-text
-write_member-returns-in_err-write_all-2-clause-text g t c v m =
-    let b = c.args.table.now in
-    let i = c.args.slot.index in
-    let row = c.unwrap-row.result in
-    let at = tables.of_some (λ r. tables.IsRowAt b c.requires.well_formed i c.requires.index c.args.slot.ordinal r) c.member.result row c.unwrap-row.ensures c.member.ensures.row in
-    let found = tables.of_some (λ r. find (members_of b i) c.args.slot.ordinal ≡ Some (ty.named r.entry)) c.member.result row c.unwrap-row.ensures c.member.ensures.some in
-    let whole = tables.member_whole b c.requires.well_formed i c.requires.index c.requires.kind c.args.slot.ordinal v row c.row_name.result.now at found c.row_name.ensures in
-    failed_as _ _ _ c.from_residual-in_err-write_all-2.result c.from_residual-in_err-write_all-2.ensures.0
-    (front_as _ _ _ _ (sym whole) (more_left _ _ _ (text_of (declarations_of b) (resolve (declarations_of b).terms (ty.named row.entry)) v) (failed_then _ _ _ _ _ c.in_ok-write_all.ensures.bytes c.in_err-write_all-2.ensures.bytes)))
-
-pub write_member-write_value-requires : goal.write_member-write_value-requires
-write_member-write_value-requires g t c κs within =
+pub write_member-write_named-requires : goal.write_member-write_named-requires
+write_member-write_named-requires g t c κs within =
     let b = c.args.table.now in
     let w = c.requires.well_formed in
     let i = c.args.slot.index in
@@ -585,15 +494,16 @@ write_member-write_value-requires g t c κs within =
     let below = tables.of_some (λ r. r.entry < (header_of b).entries) c.member.result row c.unwrap-row.ensures c.member.ensures.entry_below in
     let found = tables.of_some (λ r. find (members_of b i) c.args.slot.ordinal ≡ Some (ty.named r.entry)) c.member.result row c.unwrap-row.ensures c.member.ensures.some in
     let typed = tables.member_typed b w i lt c.args.slot.ordinal row.entry p.0 found p.1.typed in
+    let name = tables.of_some (λ r. r.name_place + r.name_length ≤ (header_of b).names) c.member.result row c.unwrap-row.ensures c.member.ensures.name in
     let sized = ap (λ (e : Entry). e.size) c.entry.ensures.value in
     let deep = tables.inline_depth b w i lt row.entry below p.0 typed (omega (arith, c.if-entry-le4.true, sized)) in
     let few = entries.nest_few b w row.entry below in (
       omega (arith, c.decreases, c.if-entry-le4.true, sized, few),
-      (within, (c.requires.table, (below, (p.0, record { shown = p.1.shown; typed = typed }, omega (arith, deep))))),
+      (within, (c.requires.table, (name, (below, (p.0, record { shown = p.1.shown; typed = typed }, omega (arith, deep)))))),
     )
 
-pub write_member-write_value-requires-2 : goal.write_member-write_value-requires-2
-write_member-write_value-requires-2 g t c κs within =
+pub write_member-write_named-requires-2 : goal.write_member-write_named-requires-2
+write_member-write_named-requires-2 g t c κs within =
     let b = c.args.table.now in
     let w = c.requires.well_formed in
     let i = c.args.slot.index in
@@ -603,12 +513,13 @@ write_member-write_value-requires-2 g t c κs within =
     let below = tables.of_some (λ r. r.entry < (header_of b).entries) c.member.result row c.unwrap-row.ensures c.member.ensures.entry_below in
     let found = tables.of_some (λ r. find (members_of b i) c.args.slot.ordinal ≡ Some (ty.named r.entry)) c.member.result row c.unwrap-row.ensures c.member.ensures.some in
     let typed = tables.member_typed b w i lt c.args.slot.ordinal row.entry p.0 found p.1.typed in
+    let name = tables.of_some (λ r. r.name_place + r.name_length ≤ (header_of b).names) c.member.result row c.unwrap-row.ensures c.member.ensures.name in
     let sized = ap (λ (e : Entry). e.size) c.entry.ensures.value in
     let deep = tables.out_depth b w i lt c.args.slot.ordinal row.entry below p.0 c.args.slot.depth found p.2 (omega (arith, c.if-entry-le4.false, sized)) in
     let few = entries.nest_few b w row.entry below in
     let small = entries.size_few b w row.entry below in (
       omega (arith, c.decreases, few, small, deep),
-      (within, (c.requires.table, (below, (p.0, record { shown = p.1.shown; typed = typed }, omega (arith, deep))))),
+      (within, (c.requires.table, (name, (below, (p.0, record { shown = p.1.shown; typed = typed }, omega (arith, deep)))))),
     )
 
 pub write_member-overflow_sub-slot : goal.write_member-overflow_sub-slot
@@ -620,6 +531,7 @@ write_member-overflow_sub-slot g t c =
     let p = c.requires.part in
     let below = tables.of_some (λ r. r.entry < (header_of b).entries) c.member.result row c.unwrap-row.ensures c.member.ensures.entry_below in
     let found = tables.of_some (λ r. find (members_of b i) c.args.slot.ordinal ≡ Some (ty.named r.entry)) c.member.result row c.unwrap-row.ensures c.member.ensures.some in
+    let name = tables.of_some (λ r. r.name_place + r.name_length ≤ (header_of b).names) c.member.result row c.unwrap-row.ensures c.member.ensures.name in
     let sized = ap (λ (e : Entry). e.size) c.entry.ensures.value in
     let deep = tables.out_depth b w i c.requires.index c.args.slot.ordinal row.entry below p.0 c.args.slot.depth found p.2 (omega (arith, c.if-entry-le4.false, sized)) in
     omega (arith, deep)
@@ -633,9 +545,9 @@ write_member-returns-then-entry-le4-clause-text g t c v m =
     let row = c.unwrap-row.result in
     let at = tables.of_some (λ r. tables.IsRowAt b w i lt c.args.slot.ordinal r) c.member.result row c.unwrap-row.ensures c.member.ensures.row in
     let found = tables.of_some (λ r. find (members_of b i) c.args.slot.ordinal ≡ Some (ty.named r.entry)) c.member.result row c.unwrap-row.ensures c.member.ensures.some in
-    let whole = tables.member_whole b w i lt c.requires.kind c.args.slot.ordinal v row c.row_name.result.now at found c.row_name.ensures in
+    let whole = tables.member_whole b w i lt c.requires.kind c.args.slot.ordinal v row at found in
     let typed = tables.member_typed b w i lt c.args.slot.ordinal row.entry v found m.typed in
-    writes_as _ _ _ _ c.write_value.result (sym whole) (writes_then _ _ _ _ _ c.write_value.result (appends_then _ _ _ _ _ c.in_ok-write_all.ensures.bytes c.in_ok-write_all-2.ensures.bytes) (c.write_value.ensures.text v (record { shown = m.shown; typed = typed })))
+    writes_as _ _ _ _ c.write_named.result (sym whole) (c.write_named.ensures.text v (record { shown = m.shown; typed = typed }))
 
 pub write_member-returns-clause-text : goal.write_member-returns-clause-text
 write_member-returns-clause-text g t c v m =
@@ -646,9 +558,9 @@ write_member-returns-clause-text g t c v m =
     let row = c.unwrap-row.result in
     let at = tables.of_some (λ r. tables.IsRowAt b w i lt c.args.slot.ordinal r) c.member.result row c.unwrap-row.ensures c.member.ensures.row in
     let found = tables.of_some (λ r. find (members_of b i) c.args.slot.ordinal ≡ Some (ty.named r.entry)) c.member.result row c.unwrap-row.ensures c.member.ensures.some in
-    let whole = tables.member_whole b w i lt c.requires.kind c.args.slot.ordinal v row c.row_name.result.now at found c.row_name.ensures in
+    let whole = tables.member_whole b w i lt c.requires.kind c.args.slot.ordinal v row at found in
     let typed = tables.member_typed b w i lt c.args.slot.ordinal row.entry v found m.typed in
-    writes_as _ _ _ _ c.write_value-2.result (sym whole) (writes_then _ _ _ _ _ c.write_value-2.result (appends_then _ _ _ _ _ c.in_ok-write_all.ensures.bytes c.in_ok-write_all-2.ensures.bytes) (c.write_value-2.ensures.text v (record { shown = m.shown; typed = typed })))
+    writes_as _ _ _ _ c.write_named-2.result (sym whole) (c.write_named-2.ensures.text v (record { shown = m.shown; typed = typed }))
 
 pub write_slot-returns-in_err-write_comma-clause-text : goal.write_slot-returns-in_err-write_comma-clause-text
 write_slot-returns-in_err-write_comma-clause-text g t c v p =

@@ -9,13 +9,16 @@ use Rattle.fidl_tool.proofs.printer.+write.Given as goal
 -- one size it nests less.
 
 abbrev pub decreases-write_elements : goal.decreases-write_elements
-decreases-write_elements g l = 10000000 * l.depth + 100 * (entry_at l.table.now l.element).size + 2 * (entry_at l.table.now l.element).nest + 2
+decreases-write_elements g l = 10000000 * l.depth + 100 * (entry_at l.table.now l.element).size + 3 * (entry_at l.table.now l.element).nest + 2
+
+abbrev pub decreases-write_named : goal.decreases-write_named
+decreases-write_named g l = 10000000 * l.depth + 100 * (entry_at l.table.now l.row.now.entry).size + 3 * (entry_at l.table.now l.row.now.entry).nest + 2
 
 abbrev pub decreases-write_members : goal.decreases-write_members
-decreases-write_members g l = 10000000 * l.depth + 100 * (entry_at l.table.now l.index).size + 2 * (entry_at l.table.now l.index).nest
+decreases-write_members g l = 10000000 * l.depth + 100 * (entry_at l.table.now l.index).size + 3 * (entry_at l.table.now l.index).nest
 
 abbrev pub decreases-write_value : goal.decreases-write_value
-decreases-write_value g l = 10000000 * l.depth + 100 * (entry_at l.table.now l.index).size + 2 * (entry_at l.table.now l.index).nest + 1
+decreases-write_value g l = 10000000 * l.depth + 100 * (entry_at l.table.now l.index).size + 3 * (entry_at l.table.now l.index).nest + 1
 
 abbrev pub decreases-write_vector : goal.decreases-write_vector
 decreases-write_vector g l = 10000000 * l.depth
