@@ -229,7 +229,13 @@ impl<'t, 'm> Decoder<'t, 'm> {
             Left::Elements { entry, size, count } => {
                 self.read_elements(frame, entry, size, count, state)
             }
-            Left::Envelopes { .. } | Left::Content { .. } => Ok(Some(frame)),
+            Left::Content {
+                entry,
+                size,
+                count,
+                until,
+            } => self.read_content(frame, entry, size, count, until, state),
+            Left::Envelopes { .. } => Ok(Some(frame)),
         }
     }
 }
