@@ -18,6 +18,7 @@ use fidl_records::EntryKind;
 impl<'t, 'm> Decoder<'t, 'm> {
     /// Reads the value of an envelope's content, or its end, which has to be where the envelope
     /// counts up to.
+    #[inline(always)]
     fn take_content(
         &self,
         frame: Frame,
@@ -86,6 +87,7 @@ impl<'t, 'm> Decoder<'t, 'm> {
 
     /// Reads the content of an envelope in place, where it is a leaf, up to its end. Nothing is left
     /// then.
+    #[inline(always)]
     pub(crate) fn read_content(
         &self,
         frame: Frame,
@@ -144,6 +146,7 @@ impl<'t, 'm> Decoder<'t, 'm> {
     }
 
     /// Reads the next member of a frame, or its end.
+    #[inline(always)]
     pub(crate) fn take_member(&self, frame: Frame, state: &mut State) -> Result<Turn, DecodeFault>
         requires table { IsFine self.now.table.now }
         requires short { length self.now.bytes.now ≤ MAX_MESSAGE_BYTES }
