@@ -48,3 +48,4 @@ pub mod UnionFacts
 pub mod TableFacts
 pub mod LeafContent
 pub mod Tail
+pub mod Last

@@ -82,7 +82,7 @@ impl<'t, 'm> Decoder<'t, 'm> {
                 inside: frame.inside,
             };
             state.steps += 1;
-            let found = self.read_rows(below, e.first, e.count, state)?;
+            let found = self.read_struct(below, e.first, e.count, state)?;
             done += size;
             if let Some(inner) = found {
                 return Ok(Turn {
