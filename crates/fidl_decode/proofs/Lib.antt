@@ -46,3 +46,6 @@ pub mod Entered
 pub mod Skipped
 pub mod UnionFacts
 pub mod TableFacts
+pub mod LeafContent
+pub mod Tail
+pub mod Last

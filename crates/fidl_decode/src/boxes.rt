@@ -17,6 +17,7 @@ use fidl_wire::{MAX_DEPTH, Presence, presence_at};
 
 impl<'t, 'm> Decoder<'t, 'm> {
     /// Reads the marker of a box at a place, and links its content, whose members are left to read.
+    #[inline(always)]
     pub(crate) fn read_box(
         &self,
         entry: u32,

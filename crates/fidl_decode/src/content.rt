@@ -1,5 +1,6 @@
 //! The content of envelopes, and the members that are left of any frame.
-ghost use Rattle.std.specs.Prelude.{◌≡◌, ◌+◌, ◌-◌, ◌^◌, ◌<◌, ◌≤◌, OnErr, IfOk, IfErr, length};
+ghost use Rattle.std.specs.Prelude.{◌≡◌, ◌+◌, ◌-◌, ◌^◌, ◌<◌, ◌≤◌, OnOk, OnErr, IfOk, IfErr, IfNone};
+ghost use Rattle.std.specs.Prelude.{None, length};
 ghost use Rattle.fidl_limits.specs.declared.limits.TheConstants.{MAX_MESSAGE_BYTES};
 ghost use Rattle.fidl_decode.specs.Invariants.{IsFine};
 ghost use Rattle.fidl_decode.specs.Faults.{message_of};
@@ -11,10 +12,13 @@ ghost use Rattle.fidl_decode.specs.Machine.{turn_work, at_of};
 use crate::decoder::{Decoder, zeros_at};
 use crate::fault::DecodeFault;
 use crate::frame::{Frame, Left, State, Turn, Until};
+use crate::leaf::is_leaf;
+use fidl_records::EntryKind;
 
 impl<'t, 'm> Decoder<'t, 'm> {
     /// Reads the value of an envelope's content, or its end, which has to be where the envelope
     /// counts up to.
+    #[inline(always)]
     fn take_content(
         &self,
         frame: Frame,
@@ -81,7 +85,68 @@ impl<'t, 'm> Decoder<'t, 'm> {
         })
     }
 
+    /// Reads the content of an envelope in place, where it is a leaf, up to its end. Nothing is left
+    /// then.
+    #[inline(always)]
+    pub(crate) fn read_content(
+        &self,
+        frame: Frame,
+        entry: u32,
+        size: usize,
+        count: u32,
+        until: Until,
+        state: &mut State,
+    ) -> Result<Option<Frame>, DecodeFault>
+        requires table { IsFine self.now.table.now }
+        requires short { length self.now.bytes.now ≤ MAX_MESSAGE_BYTES }
+        requires frame { FrameFine self.now.table.now self.now.bytes.now frame }
+        requires left { frame.left ≡ left.Content entry size count until }
+        requires state { StateFine (message_of self.now.bytes.now self.now.handles.now)
+            (at_of state.old) }
+        requires budget { state.old.steps + turn_work self.now.bytes.now state.old.next frame
+            < 2 ^ 40 }
+        ensures ok { IfOk result
+            (λ rest. Turns self.now.table.now (message_of self.now.bytes.now self.now.handles.now)
+            frame (at_of state.old) (at_of state.new) (state.new.steps - state.old.steps)
+            (record { below = None; rest = rest })) }
+        ensures grows { OnOk result (state.old.steps ≤ state.new.steps) }
+        ensures ended { IfOk result (λ rest. IfNone rest (state.old.steps < state.new.steps)) }
+        ensures cost { state.new.steps
+            ≤ state.old.steps + turn_work self.now.bytes.now state.old.next frame }
+        ensures err { OnErr result
+            ((to : At)
+            → Reads self.now.table.now (message_of self.now.bytes.now self.now.handles.now) frame
+            (at_of state.old) to → ⊥) }
+        ensures told { IfErr result
+            (BreaksFrame self.now.table.now (message_of self.now.bytes.now self.now.handles.now)
+            frame (at_of state.old)) }
+    {
+        if count != 1 {
+            return Ok(Some(frame));
+        }
+        let e = self.table.entry(entry);
+        let Some(kind) = EntryKind::from_number(e.kind) else {
+            unreachable!()
+        };
+        if !is_leaf(kind) {
+            return Ok(Some(frame));
+        }
+        let at = frame.base + frame.done;
+        state.steps += 1;
+        self.read_leaf(entry, kind, at, frame.depth, state)?;
+        let done = frame.done + size;
+        let over = frame.base + done;
+        let stop = frame.base + frame.size;
+        state.steps += (stop - over) as u64 + 1;
+        zeros_at(self.bytes, over, stop)?;
+        if state.next != until.next || state.handle != until.handle {
+            return Err(DecodeFault::WrongCounts { at: until.envelope });
+        }
+        Ok(None)
+    }
+
     /// Reads the next member of a frame, or its end.
+    #[inline(always)]
     pub(crate) fn take_member(&self, frame: Frame, state: &mut State) -> Result<Turn, DecodeFault>
         requires table { IsFine self.now.table.now }
         requires short { length self.now.bytes.now ≤ MAX_MESSAGE_BYTES }

@@ -98,6 +98,7 @@ pub(crate) struct Decoder<'t, 'm> {
 
 impl<'t, 'm> Decoder<'t, 'm> {
     /// Reads an entry at a place, up to what it holds.
+    #[inline(always)]
     pub(crate) fn visit(
         &self,
         entry: u32,
@@ -186,6 +187,7 @@ impl<'t, 'm> Decoder<'t, 'm> {
     }
 
     /// Reads the zeros before the next member and that member, or the zeros at the end.
+    #[inline(always)]
     pub(crate) fn take_row(&self, frame: Frame, state: &mut State) -> Result<Turn, DecodeFault>
         requires table { IsFine self.now.table.now }
         requires short { length self.now.bytes.now ≤ MAX_MESSAGE_BYTES }

@@ -80,6 +80,7 @@ fn are_handles(handles: &[HandleInfo], from: usize, count: usize)
 impl<'t, 'm> Decoder<'t, 'm> {
     /// Reads the numbers of the envelope at a place, which holds a known member: its content, in
     /// the envelope or linked as the next object, is left to read.
+    #[inline(always)]
     pub(crate) fn enter_member(
         &self,
         entry: u32,

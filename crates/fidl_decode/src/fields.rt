@@ -89,6 +89,109 @@ impl<'t, 'm> Decoder<'t, 'm> {
         Ok(None)
     }
 
+    /// Reads the last member of a struct, where nothing is left behind it: what it leads to takes
+    /// the struct's place. Else the frame is left as it is.
+    fn read_last(
+        &self,
+        frame: Frame,
+        first: u32,
+        count: u32,
+        state: &mut State,
+    ) -> Result<Option<Frame>, DecodeFault>
+        requires table { IsFine self.now.table.now }
+        requires short { length self.now.bytes.now ≤ MAX_MESSAGE_BYTES }
+        requires frame { FrameFine self.now.table.now self.now.bytes.now frame }
+        requires left { frame.left ≡ left.Rows first count }
+        requires state { StateFine (message_of self.now.bytes.now self.now.handles.now)
+            (at_of state.old) }
+        requires budget { state.old.steps + turn_work self.now.bytes.now state.old.next frame
+            < 2 ^ 40 }
+        ensures ok { IfOk result
+            (λ rest. Turns self.now.table.now (message_of self.now.bytes.now self.now.handles.now)
+            frame (at_of state.old) (at_of state.new) (state.new.steps - state.old.steps)
+            (record { below = None; rest = rest })) }
+        ensures grows { OnOk result (state.old.steps ≤ state.new.steps) }
+        ensures ended { IfOk result (λ rest. IfNone rest (state.old.steps < state.new.steps)) }
+        ensures cost { state.new.steps
+            ≤ state.old.steps + turn_work self.now.bytes.now state.old.next frame }
+        ensures err { OnErr result
+            ((to : At)
+            → Reads self.now.table.now (message_of self.now.bytes.now self.now.handles.now) frame
+            (at_of state.old) to → ⊥) }
+        ensures told { IfErr result
+            (BreaksFrame self.now.table.now (message_of self.now.bytes.now self.now.handles.now)
+            frame (at_of state.old)) }
+    {
+        if count != 1 {
+            return Ok(Some(frame));
+        }
+        let row = self.table.row(first);
+        let e = self.table.entry(row.entry);
+        let done = row.key as usize + e.size as usize;
+        if done != frame.size {
+            return Ok(Some(frame));
+        }
+        let read = frame.base + frame.done;
+        let place = frame.base + row.key as usize;
+        state.steps += (place - read) as u64 + 1;
+        zeros_at(self.bytes, read, place)?;
+        let below = self.visit(row.entry, place, frame.depth, frame.inside, state)?;
+        Ok(below)
+    }
+
+    /// Reads a struct in place, and what its last member leads to, up to the first member that is no
+    /// leaf. Nothing is left at the end.
+    pub(crate) fn read_struct(
+        &self,
+        frame: Frame,
+        first: u32,
+        count: u32,
+        state: &mut State,
+    ) -> Result<Option<Frame>, DecodeFault>
+        requires table { IsFine self.now.table.now }
+        requires short { length self.now.bytes.now ≤ MAX_MESSAGE_BYTES }
+        requires frame { FrameFine self.now.table.now self.now.bytes.now frame }
+        requires left { frame.left ≡ left.Rows first count }
+        requires state { StateFine (message_of self.now.bytes.now self.now.handles.now)
+            (at_of state.old) }
+        requires budget { state.old.steps + turn_work self.now.bytes.now state.old.next frame
+            < 2 ^ 40 }
+        ensures ok { IfOk result
+            (λ rest. Turns self.now.table.now (message_of self.now.bytes.now self.now.handles.now)
+            frame (at_of state.old) (at_of state.new) (state.new.steps - state.old.steps)
+            (record { below = None; rest = rest })) }
+        ensures grows { OnOk result (state.old.steps ≤ state.new.steps) }
+        ensures ended { IfOk result (λ rest. IfNone rest (state.old.steps < state.new.steps)) }
+        ensures cost { state.new.steps
+            ≤ state.old.steps + turn_work self.now.bytes.now state.old.next frame }
+        ensures err { OnErr result
+            ((to : At)
+            → Reads self.now.table.now (message_of self.now.bytes.now self.now.handles.now) frame
+            (at_of state.old) to → ⊥) }
+        ensures told { IfErr result
+            (BreaksFrame self.now.table.now (message_of self.now.bytes.now self.now.handles.now)
+            frame (at_of state.old)) }
+    {
+        let Some(now) = self.read_rows(frame, first, count, state)? else {
+            return Ok(None);
+        };
+        let Left::Rows {
+            first: next,
+            count: left,
+        } = now.left
+        else {
+            return Ok(Some(now));
+        };
+        if left != 1 {
+            return Ok(Some(now));
+        }
+        let Some(below) = self.read_last(now, next, left, state)? else {
+            return Ok(None);
+        };
+        let inner = self.read_leaves(below, state)?;
+        Ok(inner)
+    }
+
     /// Reads the elements of an array or vector, which are leaves.
     fn read_each(
         &self,
@@ -229,7 +332,13 @@ impl<'t, 'm> Decoder<'t, 'm> {
             Left::Elements { entry, size, count } => {
                 self.read_elements(frame, entry, size, count, state)
             }
-            Left::Envelopes { .. } | Left::Content { .. } => Ok(Some(frame)),
+            Left::Content {
+                entry,
+                size,
+                count,
+                until,
+            } => self.read_content(frame, entry, size, count, until, state),
+            Left::Envelopes { .. } => Ok(Some(frame)),
         }
     }
 }

@@ -99,6 +99,7 @@ impl<'t, 'm> Decoder<'t, 'm> {
     }
 
     /// Reads the next envelope of a table: zeros, or a member, which is opened.
+    #[inline(always)]
     pub(crate) fn take_envelope(
         &self,
         frame: Frame,

@@ -1,7 +1,7 @@
 //! A turn of the decoder: it reads members of a frame in place, up to one that leads to more than
 //! it reads there.
-ghost use Rattle.std.specs.Prelude.{◌≡◌, ◌+◌, ◌-◌, ◌^◌, ◌<◌, ◌≤◌, OnOk, OnErr, IfOk, IfErr, Some};
-ghost use Rattle.std.specs.Prelude.{None, length};
+ghost use Rattle.std.specs.Prelude.{◌≡◌, ◌+◌, ◌-◌, ◌^◌, ◌<◌, ◌≤◌, ◌↔◌, OnOk, OnErr, IfOk, IfErr, Some};
+ghost use Rattle.std.specs.Prelude.{None, IsTrue, length};
 ghost use Rattle.fidl_limits.specs.declared.limits.TheConstants.{MAX_MESSAGE_BYTES};
 ghost use Rattle.fidl_records.specs.declared.kind.EntryKind.TheVariants as kinds;
 ghost use Rattle.fidl_records.specs.Kind.{kind_of};
@@ -12,11 +12,23 @@ ghost use Rattle.fidl_decode.specs.State.{At};
 ghost use Rattle.fidl_decode.specs.declared.frame.Left.TheVariants as left;
 ghost use Rattle.fidl_decode.specs.Machine.{Reads, StateFine, FrameFine, BreaksFrame, Turns};
 ghost use Rattle.fidl_decode.specs.Machine.{turn_work, at_of};
+ghost use Rattle.fidl_decode.specs.Over.{IsOver};
 
 use crate::decoder::{Decoder, zeros_at};
 use crate::fault::DecodeFault;
 use crate::frame::{Frame, Left, State, Turn};
 use fidl_records::EntryKind;
+
+/// Whether all of a frame is read, up to its end: nothing is left behind what is below.
+fn is_over(frame: &Frame) -> bool
+    ensures { IsTrue result ↔ IsOver frame.now }
+{
+    match frame.left {
+        Left::Rows { count, .. } => count == 0 && frame.done == frame.size,
+        Left::Elements { count, .. } => count == 0 && frame.done == frame.size,
+        Left::Envelopes { .. } | Left::Content { .. } => false,
+    }
+}
 
 impl<'t, 'm> Decoder<'t, 'm> {
     /// Reads structs of an array or vector in place, up to a struct that holds more than leaves:
@@ -70,7 +82,7 @@ impl<'t, 'm> Decoder<'t, 'm> {
                 inside: frame.inside,
             };
             state.steps += 1;
-            let found = self.read_rows(below, e.first, e.count, state)?;
+            let found = self.read_struct(below, e.first, e.count, state)?;
             done += size;
             if let Some(inner) = found {
                 return Ok(Turn {
@@ -102,7 +114,7 @@ impl<'t, 'm> Decoder<'t, 'm> {
     }
 
     /// Reads a frame in place, and what it holds, up to a frame that holds another: that one, where
-    /// it stopped, is to be read next.
+    /// it stopped, is to be read next. The last object that a frame holds takes its place.
     fn read_frame(&self, frame: Frame, state: &mut State) -> Result<Turn, DecodeFault>
         requires table { IsFine self.now.table.now }
         requires short { length self.now.bytes.now ≤ MAX_MESSAGE_BYTES }
@@ -141,6 +153,10 @@ impl<'t, 'm> Decoder<'t, 'm> {
                 rest = after;
                 continue;
             };
+            if is_over(&after) {
+                rest = below;
+                continue;
+            }
             let Some(inner) = self.read_leaves(below, state)? else {
                 rest = after;
                 continue;

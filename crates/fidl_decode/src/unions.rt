@@ -27,6 +27,7 @@ use fidl_wire::{Presence, presence_at};
 impl<'t, 'm> Decoder<'t, 'm> {
     /// Opens the envelope of a member at a place: a known one is left to read, one without a row is
     /// skipped.
+    #[inline(always)]
     pub(crate) fn open_envelope(
         &self,
         member: Option<Row>,

@@ -8,6 +8,7 @@ use Rattle.fidl_decode.specs.Machine.{Reads, Turns, at_of}
 use Rattle.fidl_decode.specs.Faults.{message_of}
 use Rattle.fidl_decode.proofs.Turning.{passed_on, on_err}
 use Rattle.fidl_decode.proofs.Leaves.{left_over, turns_start, turns_then, turns_refused, turns_break, turns_below, turns_over, below_refused, below_breaks}
+use Rattle.fidl_decode.proofs.Tail.{turns_tail}
 use Rattle.fidl_decode.proofs.decoder.Decoder.read_frame.Goals as goal
 
 pub loop-now-init : goal.loop-now-init
@@ -246,6 +247,22 @@ loop-now-preserved-in_default-below c =
     let alone = subst (λ (x : Turn). Turns c.args.self.now.table.now (message_of c.args.self.now.bytes.now c.args.self.now.handles.now) c.args.frame (at_of c.args.state.now) (at_of c.take_member.new.state) (c.take_member.new.state.steps - c.args.state.now.steps) x) turn read in
     let less_alone = alone.less in
     record { turns = alone; steps = omega (arith, so_far, grows, rises) }
+
+pub loop-now-preserved-then-is_over : goal.loop-now-preserved-then-is_over
+loop-now-preserved-then-is_over c =
+    let so_far = c.loop-now.invariant.steps in
+    let less = c.loop-now.invariant.turns.less in
+    let grows = c.in_ok-now.ensures.grows in
+    let two = subst (λ (o : Option Frame). Turns c.args.self.now.table.now (message_of c.args.self.now.bytes.now c.args.self.now.handles.now) c.loop-now.rest (at_of c.loop-now.state) (at_of c.read_leaves.new.state) (c.read_leaves.new.state.steps - c.loop-now.state.steps) (left_over o)) c.in-Some.is c.in_ok-now.ensures.ok in
+    let held : Turns c.args.self.now.table.now (message_of c.args.self.now.bytes.now c.args.self.now.handles.now) c.args.frame (at_of c.args.state.now) (at_of c.read_leaves.new.state) (c.read_leaves.new.state.steps - c.args.state.now.steps) (left_over (Some c.in-Some.now)) = turns_then c.args.self.now.table.now (message_of c.args.self.now.bytes.now c.args.self.now.handles.now) c.args.frame (at_of c.args.state.now) (at_of c.loop-now.state) (c.loop-now.state.steps - c.args.state.now.steps) c.loop-now.rest c.loop-now.invariant.turns (at_of c.read_leaves.new.state) _ _ (left_over (Some c.in-Some.now)) (omega (arith, so_far, grows)) two in
+    let less_now = held.less in
+    let rises = c.in_ok-turn.ensures.rises in
+    let read : Turns c.args.self.now.table.now (message_of c.args.self.now.bytes.now c.args.self.now.handles.now) c.args.frame (at_of c.args.state.now) (at_of c.take_member.new.state) (c.take_member.new.state.steps - c.args.state.now.steps) c.in_ok-turn.turn = turns_then c.args.self.now.table.now (message_of c.args.self.now.bytes.now c.args.self.now.handles.now) c.args.frame (at_of c.args.state.now) (at_of c.read_leaves.new.state) (c.read_leaves.new.state.steps - c.args.state.now.steps) c.in-Some.now held (at_of c.take_member.new.state) _ _ c.in_ok-turn.turn (omega (arith, so_far, grows, rises)) c.in_ok-turn.ensures.ok in
+    let turn : c.in_ok-turn.turn ≡ record { below = Some c.in-Some-below.below; rest = Some c.in-Some-rest.after } = λ i. record { below = c.in-Some-below.is i; rest = c.in-Some-rest.is i } in
+    let both = subst (λ (x : Turn). Turns c.args.self.now.table.now (message_of c.args.self.now.bytes.now c.args.self.now.handles.now) c.args.frame (at_of c.args.state.now) (at_of c.take_member.new.state) (c.take_member.new.state.steps - c.args.state.now.steps) x) turn read in
+    let less_both = both.less in
+    let over = c.is_over.ensures.0 c.if-is_over.true in
+    record { turns = turns_tail c.args.self.now.table.now c.requires.table (message_of c.args.self.now.bytes.now c.args.self.now.handles.now) c.args.frame c.in-Some-below.below c.in-Some-rest.after (at_of c.args.state.now) (at_of c.take_member.new.state) (c.take_member.new.state.steps - c.args.state.now.steps) both over; steps = omega (arith, so_far, grows, rises) }
 
 pub loop-now-preserved : goal.loop-now-preserved
 loop-now-preserved c =

@@ -1,0 +1,16 @@
+-- Frames of which nothing is left to read.
+use Rattle.std.specs.Prelude.{◌≡◌}
+use Rattle.fidl_decode.specs.declared.frame.Frame.{Frame}
+use Rattle.fidl_decode.specs.declared.frame.Left.{Left}
+use Rattle.fidl_decode.specs.declared.frame.Left.TheVariants.{Rows, Elements, Envelopes, Content}
+
+-- there are rows alone, and none is left
+abbrev pub NoRows : Left → Type 0
+NoRows (Rows first count) = count ≡ 0
+NoRows (Elements entry size count) = count ≡ 0
+NoRows (Envelopes entry read count) = ⊥
+NoRows (Content entry size count until) = ⊥
+
+-- all of a frame is read, up to its end
+abbrev pub IsOver : Frame → Type 0
+IsOver f = NoRows f.left × (f.done ≡ f.size)
