@@ -4,6 +4,7 @@
 
 mod declarations;
 mod form;
+mod laws;
 mod numbering;
 mod site;
 mod step;
@@ -12,6 +13,7 @@ pub mod worked;
 
 pub use declarations::file_sites;
 pub use form::{Form, FormKind};
+pub use laws::declarations_keep_their_full_names;
 pub use numbering::forms;
 pub use site::{Role, Site};
 pub use step::Step;
