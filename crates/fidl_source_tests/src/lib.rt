@@ -4,6 +4,8 @@
 #[cfg(test)]
 mod constants;
 #[cfg(test)]
+mod layouts;
+#[cfg(test)]
 mod names;
 #[cfg(test)]
 mod parsing;
