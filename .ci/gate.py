@@ -6,6 +6,9 @@ It proves every crate from nothing and runs every test and program by `rt ci`, a
 
     .ci/run             the gate
     .ci/run --record    the gate; where all passes it adds to .ci/tried what it tried
+    .ci/run --record NAME..
+                        `rt ci` of these crates and those below them alone, which is not the gate; where all passes, it adds
+                        to .ci/tried what it tried of them
     .ci/run --whole     `rt ci` as it is, with every wrong body; where all passes it writes .ci/tried anew
 
 It prints first which wrong bodies it does not try again. After rt ci it tries the programs that must not compile
@@ -89,6 +92,20 @@ class Repository:
 
         return {it: key(it) for it in self.lines if self.edits(it)}
 
+    def up_to(self, names):
+        """Returns these crates and all below them."""
+        found = set()
+
+        def visit(name):
+            if name not in found:
+                found.add(name)
+                for it in self.below[name]:
+                    visit(it)
+
+        for name in names:
+            visit(name)
+        return found
+
     def recorded(self):
         tried = f"{self.root}/.ci/tried"
         if not os.path.isfile(tried):
@@ -117,9 +134,9 @@ class Repository:
                 shutil.copy2(f"{self.root}/{file}", f"{room}/{file}", follow_symlinks=False)
 
 
-def rt_ci(room):
-    """Runs `rt ci` there and prints what it prints, but for the last line: returns its status and that line."""
-    words, last = ["rt", "ci"], None
+def rt_ci(room, names):
+    """Runs `rt ci` there, of these crates or of all, and prints what it prints, but for the last line: returns its status and that line."""
+    words, last = ["rt", "ci", *names], None
     with subprocess.Popen(words, cwd=room, stdin=subprocess.DEVNULL, stdout=subprocess.PIPE, text=True, errors="replace") as ran:
         for line in ran.stdout:
             if last is not None:
@@ -128,7 +145,7 @@ def rt_ci(room):
     return ran.returncode, last or "0 passed, 1 failed"
 
 
-def run(repository, mode):
+def run(repository, mode, names=()):
     now = repository.keys()
     known = {} if mode == "--whole" else repository.recorded()
     kept = [it for it in now if known.get(it) == now[it]]
@@ -137,13 +154,17 @@ def run(repository, mode):
     # In a copy, so that a run neither reads nor moves what checks keep in out/.
     with tempfile.TemporaryDirectory(prefix="gate-") as room:
         repository.copy(room, kept)
-        status, last = rt_ci(room)
-        if not status and not must_not_compile.run(room):
+        status, last = rt_ci(room, names)
+        if not status and not names and not must_not_compile.run(room):
             status, last = 1, "0 passed, 1 failed"
     if not status and Repository(repository.root, repository.kit).keys() != now:
         status, last = 1, "0 passed, 1 failed"
         print("gate: files changed while it ran: run it again")
-    if not status and mode:
+    if not status and names:
+        tried = repository.up_to(names)
+        repository.record({it: now[it] for it in now if it in tried or it in kept})
+        print("gate: .ci/tried names these crates and those below them, at these sources")
+    elif not status and mode:
         repository.record(now)
         print("gate: .ci/tried names every crate with wrong bodies, at these sources")
     print(last, flush=True)
@@ -151,10 +172,12 @@ def run(repository, mode):
 
 
 def main(words):
-    if words not in ([], ["--whole"], ["--record"]):
-        sys.exit(__doc__)
     root = os.path.dirname(os.path.dirname(os.path.realpath(__file__)))
-    return run(Repository(root, toolchain()), words[0] if words else None)
+    repository = Repository(root, toolchain())
+    names = words[1:] if words[:1] == ["--record"] else []
+    if words[: len(words) - len(names)] not in ([], ["--whole"], ["--record"]) or not set(names) <= set(repository.lines):
+        sys.exit(__doc__)
+    return run(repository, words[0] if words else None, names)
 
 
 if __name__ == "__main__":

@@ -95,7 +95,7 @@ class GateTest(unittest.TestCase):
     def test_a_comment_in_crates_changes_nothing(self):
         self.assertEqual(self.changed("crates.txt", "# a comment\n" + FILES["crates.txt"]), set())
 
-    def run_with(self, mode, script):
+    def run_with(self, mode, script, names=()):
         """Runs the gate with this script in the place of rt; returns its status and lines."""
         programs = f"{self.root}/out/bin"
         os.makedirs(programs, exist_ok=True)
@@ -106,7 +106,7 @@ class GateTest(unittest.TestCase):
         os.environ["PATH"] = f"{programs}:{before}"
         try:
             with contextlib.redirect_stdout(printed):
-                status = gate.run(self.repository(), mode)
+                status = gate.run(self.repository(), mode, names)
         finally:
             os.environ["PATH"] = before
         return status, printed.getvalue().splitlines()
@@ -132,6 +132,20 @@ class GateTest(unittest.TestCase):
         self.assertEqual(lines[2:], ["crates/high/must-fail/one.edit", "crates/high/must-fail/two.edit", "7 passed, 0 failed"])
         self.assertTrue(lines[0].startswith("gate: low: its 1 wrong bodies"))
         self.assertTrue(lines[1].startswith("gate: aside: its 1 wrong bodies"))
+
+    def test_a_run_of_one_crate_records_it_and_those_below(self):
+        status, lines = self.run_with("--record", 'echo "$*"; echo "2 passed, 0 failed"', ["plain"])
+        self.assertEqual((status, lines[0], lines[-1]), (0, "ci plain", "2 passed, 0 failed"))
+        self.assertEqual(self.tried_again(), {"high", "aside"})
+        self.run_with("--record", 'echo "1 passed, 0 failed"', ["aside"])
+        self.assertEqual(self.tried_again(), {"high"})
+        self.write("crates/low/src/lib.rt", "other\n")
+        self.run_with("--record", 'echo "1 passed, 0 failed"', ["aside"])
+        self.assertEqual(self.tried_again(), {"low", "high"})
+
+    def test_a_run_of_one_crate_that_fails_records_nothing(self):
+        self.run_with("--record", 'echo "0 passed, 1 failed"; exit 1', ["high"])
+        self.assertEqual(self.tried_again(), ALL)
 
     def test_a_whole_run_tries_all_again(self):
         self.run_with("--record", 'echo "9 passed, 0 failed"')
