@@ -35,3 +35,5 @@ pub use laws::{
     only_bounds_of_strings_are_read, refused_expressions_have_no_value,
     refused_files_do_not_evaluate, values_are_unique, values_end_with_their_last_operand,
 };
+pub use numbers::number_value;
+pub use strings::string_bytes;

@@ -39,8 +39,9 @@ fn has_prefix(text: &[u8], lower: u8, upper: u8) -> bool
     text.len() > 1 && text[0] == b'0' && (text[1] == lower || text[1] == upper)
 }
 
-/// The number that a number word writes, where it is below 2^64.
-pub(crate) fn number_value(text: &[u8]) -> Option<u64>
+/// The number that a number word writes: decimal, hexadecimal after `0x`, and binary after `0b`.
+/// `None`: it is 2^64 or more.
+pub fn number_value(text: &[u8]) -> Option<u64>
     ensures found { IfSome result (λ n. n ≡ number_of text.now) }
     ensures none { IfNone result (2 ^ 64 ≤ number_of text.now) }
 {

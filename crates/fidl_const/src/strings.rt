@@ -91,8 +91,8 @@ fn push_piece(bytes: &mut Vec<u8>, text: &[u8], at: usize) -> Result<usize, Allo
     }
 }
 
-/// The bytes that a string word writes.
-pub(crate) fn string_bytes(alloc: Global, text: &[u8]) -> Result<Vec<u8>, AllocError>
+/// The bytes that a string word writes. `AllocError`: memory ran out.
+pub fn string_bytes(alloc: Global, text: &[u8]) -> Result<Vec<u8>, AllocError>
     ensures { IfOk result (λ bytes. bytes.items ≡ string_of text.now) }
 {
     let mut bytes = Vec::new(alloc);
