@@ -23,7 +23,7 @@ pub data Role : Type 0 where
   aliased_type : Role
   -- an underlying type, or that of a property: neither arguments nor constraints
   bare_type : Role
-  -- a member of a table or a union, or what stands behind `error`: it is never absent
+  -- a member of a table or a union, or the type after `error`: it is never absent
   present_type : Role
   -- a member of a service
   service_type : Role

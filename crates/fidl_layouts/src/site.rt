@@ -12,7 +12,7 @@ pub enum Role<'f> {
     Aliased,
     /// An underlying type, or that of a property: neither arguments nor constraints.
     Bare,
-    /// A member of a table or a union, or what stands behind `error`: never absent.
+    /// A member of a table or a union, or the type after `error`: never absent.
     Present,
     /// A member of a service.
     Service,
