@@ -12,7 +12,7 @@ It proves every crate from nothing and runs every test and program by `rt ci`, a
     .ci/run --whole     `rt ci` as it is, with every wrong body; where all passes it writes .ci/tried anew
 
 It prints first which wrong bodies it does not try again. After rt ci it tries the programs that must not compile
-(.ci/must_not_compile.py). Its last line is rt ci's: `N passed, M failed`.
+(.ci/must_not_compile.py). Its last line but one says how long it took, and the last is rt ci's: `N passed, M failed`.
 
 A line of .ci/tried is `NAME KEY`: every wrong body of the crate was refused at that key. The key is a sum of the
 toolchain, of HANDLES, of the crate's line in crates.txt, of its sources and wrong bodies, and of the lines and
@@ -24,6 +24,7 @@ import shutil
 import subprocess
 import sys
 import tempfile
+import time
 
 sys.dont_write_bytecode = True
 sys.path.insert(0, os.path.dirname(os.path.realpath(__file__)))
@@ -146,7 +147,7 @@ def rt_ci(room, names):
 
 
 def run(repository, mode, names=()):
-    now = repository.keys()
+    now, begun = repository.keys(), time.monotonic()
     known = {} if mode == "--whole" else repository.recorded()
     kept = [it for it in now if known.get(it) == now[it]]
     for name in kept:
@@ -167,6 +168,7 @@ def run(repository, mode, names=()):
     elif not status and mode:
         repository.record(now)
         print("gate: .ci/tried names every crate with wrong bodies, at these sources")
+    print(f"gate: {(time.monotonic() - begun) / 60:.0f} minutes on {os.cpu_count()} cores")
     print(last, flush=True)
     return status
 

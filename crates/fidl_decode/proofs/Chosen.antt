@@ -11,9 +11,6 @@ use Rattle.fidl_wire.specs.Figure.{Declarations, Figure, figure, figure_of}
 use Rattle.fidl_wire.specs.Typed.{IsTypedMember}
 use Rattle.fidl_wire.specs.Encoding.{zeros, inline_only, enveloped}
 use Rattle.fidl_wire.specs.Standing.{Stands}
-use Rattle.fidl_wire.specs.Marker.{Says}
-use Rattle.fidl_wire.specs.declared.marker.Presence.{Presence}
-use Rattle.fidl_wire.specs.declared.marker.Presence.TheVariants.{Absent, Present, Neither}
 use Rattle.fidl_wire.proofs.Stand.{stands_both}
 use Rattle.fidl_records.specs.declared.record.Row as raw
 use Rattle.fidl_records.specs.declared.kind.EntryKind.TheVariants.{Union}
@@ -80,12 +77,6 @@ module _ (ds : Declarations) (m : Message) (held : ℕ) (optional strict : Bool)
         stands = joined_stands m (inline_only front) b place from (record { inline = number.1; out = tt; carried = tt }) (subst (λ (s : At). StandsAt m b (place + 8) s) (sym (past_inline front from)) x.stands);
         end = x.end;
       }
-
--- a marker that is not absent says no zeros
-pub not_zeros : (bytes : List ℕ) (place : ℕ) (p : Presence) → (p ≡ Absent → ⊥) → Says bytes place 8 p → Stands bytes place (zeros 8) → ⊥
-not_zeros bytes place Absent other says z = other refl
-not_zeros bytes place Present other says z = let a = z.1 in let b = says.1 in omega (arith, a, b)
-not_zeros bytes place Neither other says z = says.0 z
 
 module _ (t : List ℕ) (fine : IsFine t) (m : Message) (held e place : ℕ) (from : At) (lt : e < (header_of t).entries) (is : kind_of (entry_at t e).kind ≡ Some Union) where
   abbrev ds : Declarations

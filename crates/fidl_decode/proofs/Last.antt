@@ -1,5 +1,5 @@
 -- The last member of a struct, behind which nothing is left: what it leads to takes the struct's place.
-use Rattle.std.proofs.Common.{◌≡◌, ℕ, ◌+◌, ◌-◌, ◌<◌, ◌≤◌, List, [], ◌∷◌, length, refl, sym, ap, subst, arith}
+use Rattle.std.proofs.Common.{◌≡◌, ℕ, ◌+◌, ◌-◌, ◌<◌, ◌≤◌, List, [], ◌∷◌, length, refl, sym, ap, arith}
 use Rattle.std.specs.Prelude.{Option, Some, None}
 use Rattle.fidl_wire.specs.Term.{resolve}
 use Rattle.fidl_wire.specs.Term as ty
@@ -18,7 +18,6 @@ use Rattle.fidl_decode.specs.Rows.{Row}
 use Rattle.fidl_decode.specs.State.{Message, At, Item}
 use Rattle.fidl_decode.specs.Breaks.{IsPadding, Breaks}
 use Rattle.fidl_decode.specs.Machine.{rows_left, Reads, BreaksFrame, IsInside, StateFine, FrameFine, Visits, VisitFine, Turns, frame_work, probes}
-use Rattle.fidl_decode.proofs.Visiting.{size_is}
 use Rattle.fidl_decode.proofs.Turning.{row_inside}
 use Rattle.fidl_decode.proofs.Leaves.{going_on, same_frame, left_over, no_zeros, turns_start, next_known, next_size, next_room, next_gap_refused, next_gap_breaks, next_leaf_refused, next_leaf_breaks, next_takes, over_turns}
 use Rattle.fidl_decode.proofs.Tail.{turns_tail}

@@ -3,6 +3,7 @@ pub mod After
 pub mod Rows
 pub mod Numbers
 pub mod Scalars
+pub mod Marked
 pub mod Carried
 pub mod Written
 pub mod Searching

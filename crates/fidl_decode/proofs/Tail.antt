@@ -1,9 +1,7 @@
 -- The last object that a frame holds takes the frame's place.
-use Rattle.std.proofs.Common.{◌≡◌, ℕ, ◌+◌, ◌-◌, ◌<◌, ◌≤◌, List, [], ◌∷◌, refl, sym, ap, subst, arith, inl, inr}
+use Rattle.std.proofs.Common.{◌≡◌, ℕ, ◌+◌, ◌-◌, List, [], refl, sym, ap, subst, arith, inl, inr}
 use Rattle.std.specs.Prelude.{Some}
 use Rattle.fidl_wire.specs.Figure.{Declarations}
-use Rattle.fidl_wire.specs.Encoding.{zeros}
-use Rattle.fidl_wire.specs.Standing.{Stands}
 use Rattle.fidl_records.specs.Section.{header_of}
 use Rattle.fidl_records.specs.Terms.{declarations_of}
 use Rattle.fidl_decode.specs.declared.frame.Frame.{Frame}

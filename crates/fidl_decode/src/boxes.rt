@@ -13,7 +13,7 @@ ghost use Rattle.fidl_decode.specs.Machine.{StateFine, Visits, VisitFine, at_of}
 use crate::decoder::Decoder;
 use crate::fault::DecodeFault;
 use crate::frame::{Frame, Left, State};
-use fidl_wire::{MAX_DEPTH, Presence, presence_at};
+use fidl_wire::MAX_DEPTH;
 
 impl<'t, 'm> Decoder<'t, 'm> {
     /// Reads the marker of a box at a place, and links its content, whose members are left to read.
@@ -44,10 +44,11 @@ impl<'t, 'm> Decoder<'t, 'm> {
             place state.old.next) }
         ensures steps { state.new.steps ≡ state.old.steps }
     {
-        match presence_at(self.bytes, place, 8) {
-            Presence::Neither => return Err(DecodeFault::BadMarker { at: place }),
-            Presence::Absent => return Ok(None),
-            Presence::Present => {}
+        if !self.is_present(place) {
+            if self.is_absent(place) {
+                return Ok(None);
+            }
+            return Err(DecodeFault::BadMarker { at: place });
         }
         if depth as usize == MAX_DEPTH {
             return Err(DecodeFault::TooDeep { at: place });

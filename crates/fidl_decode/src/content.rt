@@ -145,7 +145,7 @@ impl<'t, 'm> Decoder<'t, 'm> {
         Ok(None)
     }
 
-    /// Reads the next member of a frame, or its end.
+    /// Reads the next member of a frame, or its end; of a table all members that are read in place.
     #[inline(always)]
     pub(crate) fn take_member(&self, frame: Frame, state: &mut State) -> Result<Turn, DecodeFault>
         requires table { IsFine self.now.table.now }
@@ -153,11 +153,12 @@ impl<'t, 'm> Decoder<'t, 'm> {
         requires frame { FrameFine self.now.table.now self.now.bytes.now frame }
         requires state { StateFine (message_of self.now.bytes.now self.now.handles.now)
             (at_of state.old) }
-        requires steps { state.old.steps < 2 ^ 40 }
+        requires budget { state.old.steps + turn_work self.now.bytes.now state.old.next frame
+            < 2 ^ 40 }
         ensures ok { IfOk result
             (λ turn. Turns self.now.table.now (message_of self.now.bytes.now self.now.handles.now)
             frame (at_of state.old) (at_of state.new) (state.new.steps - state.old.steps) turn) }
-        ensures rises { state.old.steps < state.new.steps }
+        ensures rises { OnOk result (state.old.steps < state.new.steps) }
         ensures cost { state.new.steps ≤ state.old.steps
             + turn_work self.now.bytes.now state.old.next frame }
         ensures err { OnErr result
@@ -170,7 +171,7 @@ impl<'t, 'm> Decoder<'t, 'm> {
     {
         match frame.left {
             Left::Envelopes { entry, read, count } => {
-                self.take_envelope(frame, entry, read, count, state)
+                self.read_envelopes(frame, entry, read, count, state)
             }
             Left::Content {
                 entry,
@@ -179,7 +180,9 @@ impl<'t, 'm> Decoder<'t, 'm> {
                 until,
             } => self.take_content(frame, entry, size, count, until, state),
             Left::Rows { .. } => self.take_row(frame, state),
-            Left::Elements { .. } => self.take_row(frame, state),
+            Left::Elements { entry, size, count } => {
+                self.take_elements(frame, entry, size, count, state)
+            }
         }
     }
 }

@@ -47,8 +47,10 @@ fn next_member(table: &Table, left: Left, done: usize) -> Option<Member>
     requires left { LeftFine table.now left }
     requires plain { IsPlain left }
     ensures none { IfNone result (rows_left table.now done left ≡ []) }
-    ensures some { IfSome result (λ m. rows_left table.now done left
-        ≡ record { offset = m.offset; entry = m.entry } ∷ rows_left table.now (m.offset + size_of (declarations_of table.now) (ty.named m.entry)) m.left) }
+    ensures some { IfSome result (λ m.
+        let size = size_of (declarations_of table.now) (ty.named m.entry) in
+        rows_left table.now done left ≡ record { offset = m.offset; entry = m.entry }
+        ∷ rows_left table.now (m.offset + size) m.left) }
     ensures left { IfSome result (λ m. LeftFine table.now m.left) }
     ensures plain { IfSome result (λ m. IsPlain m.left) }
 {

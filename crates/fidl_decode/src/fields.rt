@@ -21,6 +21,7 @@ use fidl_records::EntryKind;
 impl<'t, 'm> Decoder<'t, 'm> {
     /// Reads the rows of a struct in place, up to the first that is no leaf. Nothing is left at the
     /// struct's end.
+    #[inline(always)]
     pub(crate) fn read_rows(
         &self,
         frame: Frame,
@@ -144,14 +145,11 @@ impl<'t, 'm> Decoder<'t, 'm> {
     pub(crate) fn read_struct(
         &self,
         frame: Frame,
-        first: u32,
-        count: u32,
         state: &mut State,
     ) -> Result<Option<Frame>, DecodeFault>
         requires table { IsFine self.now.table.now }
         requires short { length self.now.bytes.now ≤ MAX_MESSAGE_BYTES }
         requires frame { FrameFine self.now.table.now self.now.bytes.now frame }
-        requires left { frame.left ≡ left.Rows first count }
         requires state { StateFine (message_of self.now.bytes.now self.now.handles.now)
             (at_of state.old) }
         requires budget { state.old.steps + turn_work self.now.bytes.now state.old.next frame
@@ -172,7 +170,7 @@ impl<'t, 'm> Decoder<'t, 'm> {
             (BreaksFrame self.now.table.now (message_of self.now.bytes.now self.now.handles.now)
             frame (at_of state.old)) }
     {
-        let Some(now) = self.read_rows(frame, first, count, state)? else {
+        let Some(now) = self.read_nested(frame, state)? else {
             return Ok(None);
         };
         let Left::Rows {
@@ -328,7 +326,7 @@ impl<'t, 'm> Decoder<'t, 'm> {
             frame (at_of state.old)) }
     {
         match frame.left {
-            Left::Rows { first, count } => { self.read_rows(frame, first, count, state) }
+            Left::Rows { .. } => self.read_boxed(frame, state),
             Left::Elements { entry, size, count } => {
                 self.read_elements(frame, entry, size, count, state)
             }

@@ -1,8 +1,6 @@
 //! Tables: a count and a marker, and the envelopes, which are the next object.
 ghost use Rattle.std.specs.Prelude.{◌≡◌, ℕ, ◌+◌, ◌-◌, ◌^◌, ◌<◌, ◌≤◌, OnErr, IfOk};
-ghost use Rattle.std.specs.Prelude.{◌↔◌, IfErr, IsTrue, Some, length};
-ghost use Rattle.fidl_wire.specs.Encoding.{zeros};
-ghost use Rattle.fidl_wire.specs.Standing.{Stands};
+ghost use Rattle.std.specs.Prelude.{IfErr, Some, length};
 ghost use Rattle.fidl_limits.specs.declared.limits.TheConstants.{MAX_DEPTH, MAX_MESSAGE_BYTES};
 ghost use Rattle.fidl_records.specs.declared.kind.EntryKind.TheVariants as kinds;
 ghost use Rattle.fidl_records.specs.Kind.{kind_of};
@@ -19,19 +17,7 @@ use crate::decoder::Decoder;
 use crate::fault::DecodeFault;
 use crate::frame::{Frame, Left, State, Turn};
 use fidl_records::u64_at;
-use fidl_wire::{MAX_DEPTH, MAX_NEST, Presence, presence_at};
-
-/// Whether the envelope at a place is zeros: nothing is in it or behind it.
-fn is_absent(bytes: &[u8], envelope: usize) -> bool
-    requires room { envelope + 8 ≤ length bytes.now }
-    ensures { IsTrue result ↔ Stands bytes.now envelope (zeros 8) }
-{
-    match presence_at(bytes, envelope, 8) {
-        Presence::Absent => true,
-        Presence::Present => false,
-        Presence::Neither => false,
-    }
-}
+use fidl_wire::{MAX_DEPTH, MAX_NEST, Presence};
 
 impl<'t, 'm> Decoder<'t, 'm> {
     /// Reads the count and the marker of a table at a place, and links its envelopes, which are left
@@ -61,7 +47,7 @@ impl<'t, 'm> Decoder<'t, 'm> {
         ensures steps { state.new.steps ≡ state.old.steps }
     {
         let count = u64_at(self.bytes, place);
-        match presence_at(self.bytes, place + 8, 8) {
+        match self.presence(place + 8) {
             Presence::Neither => return Err(DecodeFault::BadMarker { at: place + 8 }),
             Presence::Absent => {
                 if count != 0 {
@@ -96,71 +82,5 @@ impl<'t, 'm> Decoder<'t, 'm> {
             depth: depth + 1,
             inside: 0,
         }))
-    }
-
-    /// Reads the next envelope of a table: zeros, or a member, which is opened.
-    #[inline(always)]
-    pub(crate) fn take_envelope(
-        &self,
-        frame: Frame,
-        entry: u32,
-        read: u32,
-        count: u32,
-        state: &mut State,
-    ) -> Result<Turn, DecodeFault>
-        requires table { IsFine self.now.table.now }
-        requires left { frame.left ≡ left.Envelopes entry read count }
-        requires short { length self.now.bytes.now ≤ MAX_MESSAGE_BYTES }
-        requires frame { FrameFine self.now.table.now self.now.bytes.now frame }
-        requires state { StateFine (message_of self.now.bytes.now self.now.handles.now)
-            (at_of state.old) }
-        requires steps { state.old.steps < 2 ^ 40 }
-        ensures ok { IfOk result
-            (λ turn. Turns self.now.table.now (message_of self.now.bytes.now self.now.handles.now)
-            frame (at_of state.old) (at_of state.new) (state.new.steps - state.old.steps) turn) }
-        ensures rises { state.old.steps < state.new.steps }
-        ensures cost { state.new.steps ≤ state.old.steps
-            + turn_work self.now.bytes.now state.old.next frame }
-        ensures err { OnErr result
-            ((to : At)
-            → Reads self.now.table.now (message_of self.now.bytes.now self.now.handles.now) frame
-            (at_of state.old) to → ⊥) }
-        ensures told { IfErr result
-            (BreaksFrame self.now.table.now (message_of self.now.bytes.now self.now.handles.now)
-            frame (at_of state.old)) }
-    {
-        state.steps += 1;
-        if count == 0 {
-            return Ok(Turn {
-                below: None,
-                rest: None,
-            });
-        }
-        let place = frame.base + frame.done;
-        let rest = Frame {
-            left: Left::Envelopes {
-                entry,
-                read: read + 1,
-                count: count - 1,
-            },
-            base: frame.base,
-            done: frame.done + 8,
-            size: frame.size,
-            nest: frame.nest,
-            depth: frame.depth,
-            inside: frame.inside,
-        };
-        if is_absent(self.bytes, place) {
-            return Ok(Turn {
-                below: None,
-                rest: Some(rest),
-            });
-        }
-        let member = self.table.member(entry, read as u64 + 1, &mut state.steps);
-        let below = self.open_envelope(member, place, frame.depth, state)?;
-        Ok(Turn {
-            below,
-            rest: Some(rest),
-        })
     }
 }

@@ -1,5 +1,6 @@
 //! Strings: a count and a marker, and the text, which is the next object.
 ghost use Rattle.std.specs.Prelude.{◌≡◌, ◌+◌, ◌-◌, ◌^◌, ◌<◌, ◌≤◌, OnOk, OnErr, IfErr, length};
+ghost use Rattle.std.specs.Prelude.{◌↔◌, IsTrue, IsUtf8};
 ghost use Rattle.fidl_limits.specs.declared.limits.TheConstants.{MAX_DEPTH, MAX_MESSAGE_BYTES};
 ghost use Rattle.fidl_wire.specs.Term as ty;
 ghost use Rattle.fidl_records.specs.Terms.{declarations_of, is_optional};
@@ -13,8 +14,27 @@ use crate::fault::DecodeFault;
 use crate::frame::State;
 use crate::handles::is_optional;
 use fidl_records::{Entry, u64_at};
-use fidl_wire::{MAX_DEPTH, Presence, presence_at};
+use fidl_wire::MAX_DEPTH;
 use simdutf8::is_utf8;
+
+/// The length up to which a text is looked at byte by byte, before it is as blocks.
+const SHORT: usize = 8;
+
+/// Whether a text is UTF-8. Of a short one the bytes are looked at first, since most are ASCII.
+#[inline(always)]
+fn is_text(text: &[u8]) -> bool
+    ensures { IsTrue result ↔ IsUtf8 text.now }
+{
+    if text.len() > SHORT {
+        return is_utf8(text);
+    }
+    for i in 0..text.len() {
+        if text[i] >= 128 {
+            return is_utf8(text);
+        }
+    }
+    true
+}
 
 impl<'t, 'm> Decoder<'t, 'm> {
     /// Reads a string at a place: its count and marker, and its text, which is linked.
@@ -47,18 +67,17 @@ impl<'t, 'm> Decoder<'t, 'm> {
             + (length self.now.bytes.now - state.old.next) }
     {
         let count = u64_at(self.bytes, place);
-        match presence_at(self.bytes, place + 8, 8) {
-            Presence::Neither => return Err(DecodeFault::BadMarker { at: place + 8 }),
-            Presence::Absent => {
-                if count != 0 {
-                    return Err(DecodeFault::BadCount { at: place });
-                }
-                if !is_optional(entry) {
-                    return Err(DecodeFault::AbsentRequired { at: place });
-                }
-                return Ok(());
+        if !self.is_present(place + 8) {
+            if !self.is_absent(place + 8) {
+                return Err(DecodeFault::BadMarker { at: place + 8 });
             }
-            Presence::Present => {}
+            if count != 0 {
+                return Err(DecodeFault::BadCount { at: place });
+            }
+            if !is_optional(entry) {
+                return Err(DecodeFault::AbsentRequired { at: place });
+            }
+            return Ok(());
         }
         let from = state.next;
         let rest = self.bytes.len() - from;
@@ -77,7 +96,7 @@ impl<'t, 'm> Decoder<'t, 'm> {
             return Err(DecodeFault::Truncated { at: from });
         }
         state.steps += size as u64;
-        if !is_utf8(&self.bytes[from..from + behind]) {
+        if !is_text(&self.bytes[from..from + behind]) {
             return Err(DecodeFault::NotUtf8 { at: from });
         }
         zeros_at(self.bytes, from + behind, from + size)?;

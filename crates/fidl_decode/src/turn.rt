@@ -82,7 +82,7 @@ impl<'t, 'm> Decoder<'t, 'm> {
                 inside: frame.inside,
             };
             state.steps += 1;
-            let found = self.read_struct(below, e.first, e.count, state)?;
+            let found = self.read_struct(below, state)?;
             done += size;
             if let Some(inner) = found {
                 return Ok(Turn {
@@ -113,9 +113,51 @@ impl<'t, 'm> Decoder<'t, 'm> {
         })
     }
 
+    /// Reads elements of an array or vector: structs in place, up to one that holds more than is read
+    /// there; of others the next.
+    #[inline(always)]
+    pub(crate) fn take_elements(
+        &self,
+        frame: Frame,
+        entry: u32,
+        size: usize,
+        count: u32,
+        state: &mut State,
+    ) -> Result<Turn, DecodeFault>
+        requires table { IsFine self.now.table.now }
+        requires left { frame.left ≡ left.Elements entry size count }
+        requires short { length self.now.bytes.now ≤ MAX_MESSAGE_BYTES }
+        requires frame { FrameFine self.now.table.now self.now.bytes.now frame }
+        requires state { StateFine (message_of self.now.bytes.now self.now.handles.now)
+            (at_of state.old) }
+        requires budget { state.old.steps + turn_work self.now.bytes.now state.old.next frame
+            < 2 ^ 40 }
+        ensures ok { IfOk result
+            (λ turn. Turns self.now.table.now (message_of self.now.bytes.now self.now.handles.now)
+            frame (at_of state.old) (at_of state.new) (state.new.steps - state.old.steps) turn) }
+        ensures rises { OnOk result (state.old.steps < state.new.steps) }
+        ensures cost { state.new.steps
+            ≤ state.old.steps + turn_work self.now.bytes.now state.old.next frame }
+        ensures err { OnErr result
+            ((to : At)
+            → Reads self.now.table.now (message_of self.now.bytes.now self.now.handles.now) frame
+            (at_of state.old) to → ⊥) }
+        ensures told { IfErr result
+            (BreaksFrame self.now.table.now (message_of self.now.bytes.now self.now.handles.now)
+            frame (at_of state.old)) }
+    {
+        if count != 0 {
+            let e = self.table.entry(entry);
+            if let Some(EntryKind::Struct) = EntryKind::from_number(e.kind) {
+                return self.read_structs(frame, entry, size, count, state);
+            }
+        }
+        self.take_row(frame, state)
+    }
+
     /// Reads a frame in place, and what it holds, up to a frame that holds another: that one, where
     /// it stopped, is to be read next. The last object that a frame holds takes its place.
-    fn read_frame(&self, frame: Frame, state: &mut State) -> Result<Turn, DecodeFault>
+    pub(crate) fn take_turn(&self, frame: Frame, state: &mut State) -> Result<Turn, DecodeFault>
         requires table { IsFine self.now.table.now }
         requires short { length self.now.bytes.now ≤ MAX_MESSAGE_BYTES }
         requires frame { FrameFine self.now.table.now self.now.bytes.now frame }
@@ -166,39 +208,5 @@ impl<'t, 'm> Decoder<'t, 'm> {
                 rest: Some(after),
             });
         }
-    }
-
-    /// Reads what can be read in place of a frame, and answers what is left.
-    pub(crate) fn take_turn(&self, frame: Frame, state: &mut State) -> Result<Turn, DecodeFault>
-        requires table { IsFine self.now.table.now }
-        requires short { length self.now.bytes.now ≤ MAX_MESSAGE_BYTES }
-        requires frame { FrameFine self.now.table.now self.now.bytes.now frame }
-        requires state { StateFine (message_of self.now.bytes.now self.now.handles.now)
-            (at_of state.old) }
-        requires budget { state.old.steps + turn_work self.now.bytes.now state.old.next frame
-            < 2 ^ 40 }
-        ensures ok { IfOk result
-            (λ turn. Turns self.now.table.now (message_of self.now.bytes.now self.now.handles.now)
-            frame (at_of state.old) (at_of state.new) (state.new.steps - state.old.steps) turn) }
-        ensures rises { OnOk result (state.old.steps < state.new.steps) }
-        ensures cost { state.new.steps
-            ≤ state.old.steps + turn_work self.now.bytes.now state.old.next frame }
-        ensures err { OnErr result
-            ((to : At)
-            → Reads self.now.table.now (message_of self.now.bytes.now self.now.handles.now) frame
-            (at_of state.old) to → ⊥) }
-        ensures told { IfErr result
-            (BreaksFrame self.now.table.now (message_of self.now.bytes.now self.now.handles.now)
-            frame (at_of state.old)) }
-    {
-        if let Left::Elements { entry, size, count } = frame.left {
-            if count != 0 {
-                let e = self.table.entry(entry);
-                if let Some(EntryKind::Struct) = EntryKind::from_number(e.kind) {
-                    return self.read_structs(frame, entry, size, count, state);
-                }
-            }
-        }
-        self.read_frame(frame, state)
     }
 }

@@ -22,7 +22,6 @@ use crate::fault::DecodeFault;
 use crate::frame::{Frame, State};
 use crate::handles::is_optional;
 use fidl_records::{Row, u64_at};
-use fidl_wire::{Presence, presence_at};
 
 impl<'t, 'm> Decoder<'t, 'm> {
     /// Opens the envelope of a member at a place: a known one is left to read, one without a row is
@@ -98,9 +97,8 @@ impl<'t, 'm> Decoder<'t, 'm> {
         let ordinal = u64_at(self.bytes, place);
         let envelope = place + 8;
         if ordinal == 0 {
-            match presence_at(self.bytes, envelope, 8) {
-                Presence::Absent => {}
-                _ => return Err(DecodeFault::BadEnvelope { at: envelope }),
+            if !self.is_absent(envelope) {
+                return Err(DecodeFault::BadEnvelope { at: envelope });
             }
             if !is_optional(&e) {
                 return Err(DecodeFault::AbsentRequired { at: place });

@@ -16,7 +16,7 @@ use crate::fault::DecodeFault;
 use crate::frame::{Frame, Left, State};
 use crate::handles::is_optional;
 use fidl_records::u64_at;
-use fidl_wire::{MAX_DEPTH, Presence, presence_at};
+use fidl_wire::{MAX_DEPTH, Presence};
 
 impl<'t, 'm> Decoder<'t, 'm> {
     /// Reads the count and the marker of a vector at a place, and links its elements, which are
@@ -50,7 +50,7 @@ impl<'t, 'm> Decoder<'t, 'm> {
     {
         let e = self.table.entry(entry);
         let count = u64_at(self.bytes, place);
-        match presence_at(self.bytes, place + 8, 8) {
+        match self.presence(place + 8) {
             Presence::Neither => return Err(DecodeFault::BadMarker { at: place + 8 }),
             Presence::Absent => {
                 if count != 0 {

@@ -1,16 +1,8 @@
-//! Tests of the source side's public calls, from words to the values of constants.
+//! Tests of the public calls of `fidl_span`, `fidl_tree` and `fidl_parse`, from words to trees.
 #![tactic(auto)]
 
 #[cfg(test)]
-mod constants;
-#[cfg(test)]
-mod layouts;
-#[cfg(test)]
-mod names;
-#[cfg(test)]
 mod parsing;
-#[cfg(test)]
-mod sources;
 #[cfg(test)]
 mod trees;
 #[cfg(test)]

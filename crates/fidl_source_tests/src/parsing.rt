@@ -1,6 +1,7 @@
 // Worked cases: sources whose trees keep all their words, and faults with their places.
 use fidl_parse::{ParseFault, parse};
 use fidl_span::{lex, line_col};
+use fidl_test_cases::cases;
 use fidl_tree::{File, yield_tokens};
 use std::alloc::Global;
 use std::test::Fail;
@@ -9,64 +10,70 @@ use std::test::Fail;
 const POINT: &[u8] = b"library point; type Point = struct {x uint32; y uint32;};";
 
 /// Each production with each of its parts, and each choice where a word could be read in two ways.
-const SOURCES: [&[u8]; 39] = [
-    // The library and its imports.
-    b"library t;",
-    b"@a @b() @c(1) @d(x=\"s\", y=-1, z) @e(true | x.y) library a.b.c;",
-    b"library library.using; using a.b; using as as as; @x using using;",
-    // Constants and values.
-    b"library t; const A uint8 = 1; @a const B a.b.C = -0x1F;",
-    b"library t; const A bool = true; const B bool = false; const C string = \"c\";",
-    b"library t; const A B = a.b.C | (D | -1) | 0b1; const E F = ((G));",
-    b"library t; const A B = struct; const C D = a.true.false; const const const = const;",
-    // Aliases, type arguments and constraints.
-    b"library t; alias A = b; alias C = d.e.f; alias alias = alias;",
-    b"library t; alias A = vector<uint8>:16; alias B = array<vector<C>:optional, 4>;",
-    b"library t; alias A = string:<8, optional>; alias B = string:(8 | C.D);",
-    b"library t; alias A = B<1, C, struct {}:optional>:<D, E, F>;",
-    b"library t; alias A = @a @b(c) table {}; alias D = strict union {}:optional;",
-    // Layouts.
-    POINT,
-    b"library t; type A = struct {}; @a type B = @b struct {@c d @e struct {f g;};};",
-    b"library t; type A = resource struct {a b:c;}; type D = resource table {};",
-    b"library t; type A = table {1: a b; @c 2: reserved; 3: reserved d; 4: reserved reserved;};",
-    b"library t; type A = union {1: a b;}; type C = resource union {};",
-    b"library t; type A = strict union {}; type B = flexible union {1: reserved;};",
-    b"library t; type A = strict resource union {}; type B = flexible resource union {};",
-    b"library t; type A = resource strict union {}; type B = resource flexible union {};",
-    b"library t; type A = bits {B = 1; @c D = 2 | B;}; type E = enum {F = -1;};",
-    b"library t; type A = strict bits : uint8 {}; type B = flexible enum : a.b {C = d;};",
-    b"library t; type A = enum : B<C, 1>:D {}; type E = bits : F:<G> {};",
-    b"library t; type struct = struct {}; type type = table {};",
-    // Words of a layout as names of members, and a layout of values inside a member.
-    b"library t; type A = struct {struct uint8; table uint8; strict uint8; bits resource struct {};};",
-    b"library t; type A = struct {b enum : uint8 {C = 1;}; d @e strict bits : uint8 {f = 1;};};",
-    b"library t; type A = table {1: flexible flexible enum {b = 1;}; 2: union union {};};",
-    // Protocols.
-    b"library t; protocol P {}; open protocol Q {}; ajar protocol R {}; closed protocol S {};",
-    b"library t; protocol P {compose A; @a compose b.C;};",
-    b"library t; protocol P {A(); B(C); D(struct {e f;}); @g H(struct {});};",
-    b"library t; protocol P {A() -> (); B(C) -> (D); E() -> (struct {f g;}) error uint32;};",
-    b"library t; protocol P {A() -> () error strict enum {b = 1;}; C(error) -> (error) error error;};",
-    b"library t; protocol P {-> A(); -> B(C); @d strict -> E(); flexible -> F(table {});};",
-    b"library t; protocol P {strict A(); flexible B() -> ();};",
-    // A parenthesis makes a method's name of these words.
-    b"library t; protocol P {compose(); strict(); flexible() -> ();};",
-    b"library t; protocol P {strict compose(); flexible strict(); strict flexible(); -> compose();};",
-    // Services and resource definitions.
-    b"library t; service S {}; @a service T {b client_end:P; @c d client_end:<P, optional>;};",
-    b"library t; resource_definition R : uint32 {properties {subtype A; rights b.C;};};",
-    b"library t; @a resource_definition properties : strict enum {b = 1;} {properties {};};",
-];
+const SOURCES: &str = r#"
+    # The library and its imports.
+    none && library t;
+    none && @a @b() @c(1) @d(x="s", y=-1, z) @e(true | x.y) library a.b.c;
+    none && library library.using; using a.b; using as as as; @x using using;
+    # Constants and values.
+    none && library t; const A uint8 = 1; @a const B a.b.C = -0x1F;
+    none && library t; const A bool = true; const B bool = false; const C string = "c";
+    none && library t; const A B = a.b.C | (D | -1) | 0b1; const E F = ((G));
+    none && library t; const A B = struct; const C D = a.true.false; const const const = const;
+    # Aliases, type arguments and constraints.
+    none && library t; alias A = b; alias C = d.e.f; alias alias = alias;
+    none && library t; alias A = vector<uint8>:16; alias B = array<vector<C>:optional, 4>;
+    none && library t; alias A = string:<8, optional>; alias B = string:(8 | C.D);
+    none && library t; alias A = B<1, C, struct {}:optional>:<D, E, F>;
+    none && library t; alias A = @a @b(c) table {}; alias D = strict union {}:optional;
+    # Layouts.
+    none && library point; type Point = struct {x uint32; y uint32;};
+    none && library t; type A = struct {}; @a type B = @b struct {@c d @e struct {f g;};};
+    none && library t; type A = resource struct {a b:c;}; type D = resource table {};
+    none && library t; type A = table {1: a b; @c 2: reserved; 3: reserved d; 4: reserved reserved;};
+    none && library t; type A = union {1: a b;}; type C = resource union {};
+    none && library t; type A = strict union {}; type B = flexible union {1: reserved;};
+    none && library t; type A = strict resource union {}; type B = flexible resource union {};
+    none && library t; type A = resource strict union {}; type B = resource flexible union {};
+    none && library t; type A = bits {B = 1; @c D = 2 | B;}; type E = enum {F = -1;};
+    none && library t; type A = strict bits : uint8 {}; type B = flexible enum : a.b {C = d;};
+    none && library t; type A = enum : B<C, 1>:D {}; type E = bits : F:<G> {};
+    none && library t; type struct = struct {}; type type = table {};
+    # Words of a layout as names of members, and a layout of values inside a member.
+    none && library t; type A = struct {struct uint8; table uint8; strict uint8; bits resource struct {};};
+    none && library t; type A = struct {b enum : uint8 {C = 1;}; d @e strict bits : uint8 {f = 1;};};
+    none && library t; type A = table {1: flexible flexible enum {b = 1;}; 2: union union {};};
+    # Protocols.
+    none && library t; protocol P {}; open protocol Q {}; ajar protocol R {}; closed protocol S {};
+    none && library t; protocol P {compose A; @a compose b.C;};
+    none && library t; protocol P {A(); B(C); D(struct {e f;}); @g H(struct {});};
+    none && library t; protocol P {A() -> (); B(C) -> (D); E() -> (struct {f g;}) error uint32;};
+    none && library t; protocol P {A() -> () error strict enum {b = 1;}; C(error) -> (error) error error;};
+    none && library t; protocol P {-> A(); -> B(C); @d strict -> E(); flexible -> F(table {});};
+    none && library t; protocol P {strict A(); flexible B() -> ();};
+    # A parenthesis makes a method's name of these words.
+    none && library t; protocol P {compose(); strict(); flexible() -> ();};
+    none && library t; protocol P {strict compose(); flexible strict(); strict flexible(); -> compose();};
+    # Services and resource definitions.
+    none && library t; service S {}; @a service T {b client_end:P; @c d client_end:<P, optional>;};
+    none && library t; resource_definition R : uint32 {properties {subtype A; rights b.C;};};
+    none && library t; @a resource_definition properties : strict enum {b = 1;} {properties {};};
+"#;
 
 #[test]
 fn trees_keep_their_words(rt: HostRuntime) -> Result<(), Fail> {
-    for src in SOURCES {
+    for case in &cases(rt.alloc(), SOURCES)? {
+        let src = case.only()?;
         let tokens = lex(rt.alloc(), src)?;
         let tree = parse(rt.alloc(), &tokens, src);
-        assert!(rt; tree.is_ok(), "{src:?} has a tree");
+        assert!(rt; tree.is_ok(), "{} has a tree", case.line);
         let words = yield_tokens(rt.alloc(), &tree?)?;
-        assert_eq!(rt; words.as_slice(), tokens.as_slice(), "the words of {src:?}");
+        assert_eq!(rt;
+            words.as_slice(),
+            tokens.as_slice(),
+            "the words of {}",
+            case.line
+        );
     }
     Ok(())
 }
@@ -83,61 +90,56 @@ fn point_has_16_words(rt: HostRuntime) -> Result<(), Fail> {
 
 #[test]
 fn unexpected_words_have_their_places(rt: HostRuntime) -> Result<(), Fail> {
-    let cases: [(&[u8], (u64, u64)); 38] = [
-        // The source ends early.
-        (b"", (1, 1)),
-        (b"// nothing", (1, 11)),
-        (b"library", (1, 8)),
-        (b"library t", (1, 10)),
-        (b"library t; @a", (1, 14)),
-        (b"library t; protocol P {};\nprotocol Q {M();}", (2, 18)),
-        (b"library t;\n\ntype X = struct {a b;\n", (4, 1)),
-        // A word that does not fit, and is the first such.
-        (b"using t;", (1, 1)),
-        (b"library t; type X = uint8;", (1, 21)),
-        (b"library t; struct S {};", (1, 12)),
-        (b"library t; ;", (1, 12)),
-        (b"library a.b.;", (1, 13)),
-        (b"library t; using a as b.c;", (1, 24)),
-        (b"library t; const X uint8 = 1; using b;", (1, 31)),
-        (b"library t; @1;", (1, 13)),
-        (b"library t; @a(1,);", (1, 17)),
-        (b"library t; @a(1=2);", (1, 16)),
-        (b"library t; const A uint8 = ;", (1, 28)),
-        (b"library t; const A uint8 = - x;", (1, 30)),
-        (b"library t; const A uint8 = true.x;", (1, 32)),
-        (b"library t; const A uint8 = ();", (1, 29)),
-        (b"library t; alias A = vector<>;", (1, 29)),
-        (b"library t; alias A = string:<8 optional>;", (1, 32)),
-        (b"library t; alias A = struct.x;", (1, 28)),
-        (b"library t;\ntype X = struct {a;};", (2, 19)),
-        (b"library t; type X = strict struct {};", (1, 28)),
-        (b"library t; type X = resource enum {A = 1;};", (1, 30)),
-        (b"library t; type X = strict flexible union {};", (1, 28)),
-        (b"library t; type X = enum : struct {};", (1, 28)),
-        (b"library t; type X = enum : @a b {};", (1, 28)),
-        (b"library t; type X = table {a b;};", (1, 28)),
-        (b"library t; protocol P {compose;};", (1, 31)),
-        (b"library t; protocol P {strict compose A;};", (1, 39)),
-        (b"library t; protocol P {M() error uint32;};", (1, 28)),
-        (b"library t; protocol P {-> M() -> ();};", (1, 31)),
-        (
-            b"library t; resource_definition R {properties {};};",
-            (1, 34),
-        ),
-        (b"library t; resource_definition R : a {};", (1, 39)),
-        // The word stands before too many brackets.
-        (
-            b"library t; ; ((((((((((((((((((((((((((((((((((((((((((((((((((((((((((((((((((((((",
-            (1, 12),
-        ),
-    ];
-    for (src, place) in cases {
+    let table = r#"
+            # The source ends early.
+            Unexpected 0:1:1 &&
+            Unexpected 0:1:11 && // nothing
+            Unexpected 0:1:8 && library
+            Unexpected 0:1:10 && library t
+            Unexpected 0:1:14 && library t; @a
+            Unexpected 0:2:18 && library t; protocol P {};^protocol Q {M();}
+            Unexpected 0:4:1 && library t;^^type X = struct {a b;^
+            # A word that does not fit, and is the first such.
+            Unexpected 0:1:1 && using t;
+            Unexpected 0:1:21 && library t; type X = uint8;
+            Unexpected 0:1:12 && library t; struct S {};
+            Unexpected 0:1:12 && library t; ;
+            Unexpected 0:1:13 && library a.b.;
+            Unexpected 0:1:24 && library t; using a as b.c;
+            Unexpected 0:1:31 && library t; const X uint8 = 1; using b;
+            Unexpected 0:1:13 && library t; @1;
+            Unexpected 0:1:17 && library t; @a(1,);
+            Unexpected 0:1:16 && library t; @a(1=2);
+            Unexpected 0:1:28 && library t; const A uint8 = ;
+            Unexpected 0:1:30 && library t; const A uint8 = - x;
+            Unexpected 0:1:32 && library t; const A uint8 = true.x;
+            Unexpected 0:1:29 && library t; const A uint8 = ();
+            Unexpected 0:1:29 && library t; alias A = vector<>;
+            Unexpected 0:1:32 && library t; alias A = string:<8 optional>;
+            Unexpected 0:1:28 && library t; alias A = struct.x;
+            Unexpected 0:2:19 && library t;^type X = struct {a;};
+            Unexpected 0:1:28 && library t; type X = strict struct {};
+            Unexpected 0:1:30 && library t; type X = resource enum {A = 1;};
+            Unexpected 0:1:28 && library t; type X = strict flexible union {};
+            Unexpected 0:1:28 && library t; type X = enum : struct {};
+            Unexpected 0:1:28 && library t; type X = enum : @a b {};
+            Unexpected 0:1:28 && library t; type X = table {a b;};
+            Unexpected 0:1:31 && library t; protocol P {compose;};
+            Unexpected 0:1:39 && library t; protocol P {strict compose A;};
+            Unexpected 0:1:28 && library t; protocol P {M() error uint32;};
+            Unexpected 0:1:31 && library t; protocol P {-> M() -> ();};
+            Unexpected 0:1:34 && library t; resource_definition R {properties {};};
+            Unexpected 0:1:39 && library t; resource_definition R : a {};
+            # The word stands before too many brackets.
+            Unexpected 0:1:12 && library t; ; ((((((((((((((((((((((((((((((((((((((((((((((((((((((((((((((((((((((
+    "#;
+    for case in &cases(rt.alloc(), table)? {
+        let src = case.only()?;
         let tokens = lex(rt.alloc(), src)?;
-        let Err(ParseFault::Unexpected { span }) = parse(rt.alloc(), &tokens, src) else {
-            panic!(rt; "{src:?} has an unexpected word");
-        };
-        assert_eq!(rt; line_col(src, span.from), place, "in {src:?}");
+        let fault = parse(rt.alloc(), &tokens, src).err().ok_or("a fault")?;
+        let from = fault.span().ok_or("a place")?.from;
+        let found = Some((fault.name(), 0, line_col(src, from)));
+        assert_eq!(rt; found, case.want, "the answer to {}", case.line);
     }
     Ok(())
 }

@@ -1,4 +1,4 @@
-use Rattle.std.proofs.Common.{◌≡◌, ◌-◌, subst, arith}
+use Rattle.std.proofs.Common.{◌-◌, subst, arith}
 use Rattle.std.specs.Prelude.{Option, Some, None, IfNone, ◌<◌}
 use Rattle.fidl_decode.specs.declared.frame.Frame.{Frame}
 use Rattle.fidl_decode.specs.State.{At}
@@ -16,20 +16,20 @@ pub returns-in_default-clause-ok : goal.returns-in_default-clause-ok
 returns-in_default-clause-ok c =
     let t = c.args.self.now.table.now in
     let m = message_of c.args.self.now.bytes.now c.args.self.now.handles.now in
-    let one : Turns t m c.args.frame (at_of c.args.state.now) (at_of c.read_rows.new.state) (c.read_rows.new.state.steps - c.args.state.now.steps) (left_over None) = subst (λ (o : Option Frame). Turns t m c.args.frame (at_of c.args.state.now) (at_of c.read_rows.new.state) (c.read_rows.new.state.steps - c.args.state.now.steps) (left_over o)) c.in_default.is c.in_ok-now.ensures.ok in
+    let one : Turns t m c.args.frame (at_of c.args.state.now) (at_of c.read_nested.new.state) (c.read_nested.new.state.steps - c.args.state.now.steps) (left_over None) = subst (λ (o : Option Frame). Turns t m c.args.frame (at_of c.args.state.now) (at_of c.read_nested.new.state) (c.read_nested.new.state.steps - c.args.state.now.steps) (left_over o)) c.in_default.is c.in_ok-now.ensures.ok in
     one
 
 pub returns-in_default-clause-ended : goal.returns-in_default-clause-ended
 returns-in_default-clause-ended c =
     let t = c.args.self.now.table.now in
     let m = message_of c.args.self.now.bytes.now c.args.self.now.handles.now in
-    subst (λ (o : Option Frame). IfNone o (c.args.state.now.steps < c.read_rows.new.state.steps)) c.in_default.is c.in_ok-now.ensures.ended
+    subst (λ (o : Option Frame). IfNone o (c.args.state.now.steps < c.read_nested.new.state.steps)) c.in_default.is c.in_ok-now.ensures.ended
 
 pub returns-in_default-left : goal.returns-in_default-left
 returns-in_default-left c =
     let t = c.args.self.now.table.now in
     let m = message_of c.args.self.now.bytes.now c.args.self.now.handles.now in
-    let one : Turns t m c.args.frame (at_of c.args.state.now) (at_of c.read_rows.new.state) (c.read_rows.new.state.steps - c.args.state.now.steps) (left_over (Some c.in-Some.now)) = subst (λ (o : Option Frame). Turns t m c.args.frame (at_of c.args.state.now) (at_of c.read_rows.new.state) (c.read_rows.new.state.steps - c.args.state.now.steps) (left_over o)) c.in-Some.is c.in_ok-now.ensures.ok in
+    let one : Turns t m c.args.frame (at_of c.args.state.now) (at_of c.read_nested.new.state) (c.read_nested.new.state.steps - c.args.state.now.steps) (left_over (Some c.in-Some.now)) = subst (λ (o : Option Frame). Turns t m c.args.frame (at_of c.args.state.now) (at_of c.read_nested.new.state) (c.read_nested.new.state.steps - c.args.state.now.steps) (left_over o)) c.in-Some.is c.in_ok-now.ensures.ok in
     let rows_on = c.in_ok-now.ensures.grows in
     record { ok = one; grows = rows_on; ended = tt; cost = c.in_ok-now.ensures.cost; err = tt; told = tt }
 
@@ -37,28 +37,28 @@ pub returns-then-left-ne1-clause-ok : goal.returns-then-left-ne1-clause-ok
 returns-then-left-ne1-clause-ok c =
     let t = c.args.self.now.table.now in
     let m = message_of c.args.self.now.bytes.now c.args.self.now.handles.now in
-    let one : Turns t m c.args.frame (at_of c.args.state.now) (at_of c.read_rows.new.state) (c.read_rows.new.state.steps - c.args.state.now.steps) (left_over (Some c.in-Some.now)) = subst (λ (o : Option Frame). Turns t m c.args.frame (at_of c.args.state.now) (at_of c.read_rows.new.state) (c.read_rows.new.state.steps - c.args.state.now.steps) (left_over o)) c.in-Some.is c.in_ok-now.ensures.ok in
+    let one : Turns t m c.args.frame (at_of c.args.state.now) (at_of c.read_nested.new.state) (c.read_nested.new.state.steps - c.args.state.now.steps) (left_over (Some c.in-Some.now)) = subst (λ (o : Option Frame). Turns t m c.args.frame (at_of c.args.state.now) (at_of c.read_nested.new.state) (c.read_nested.new.state.steps - c.args.state.now.steps) (left_over o)) c.in-Some.is c.in_ok-now.ensures.ok in
     one
 
 pub read_last-requires-clause-frame : goal.read_last-requires-clause-frame
 read_last-requires-clause-frame c =
     let t = c.args.self.now.table.now in
     let m = message_of c.args.self.now.bytes.now c.args.self.now.handles.now in
-    let one : Turns t m c.args.frame (at_of c.args.state.now) (at_of c.read_rows.new.state) (c.read_rows.new.state.steps - c.args.state.now.steps) (left_over (Some c.in-Some.now)) = subst (λ (o : Option Frame). Turns t m c.args.frame (at_of c.args.state.now) (at_of c.read_rows.new.state) (c.read_rows.new.state.steps - c.args.state.now.steps) (left_over o)) c.in-Some.is c.in_ok-now.ensures.ok in
+    let one : Turns t m c.args.frame (at_of c.args.state.now) (at_of c.read_nested.new.state) (c.read_nested.new.state.steps - c.args.state.now.steps) (left_over (Some c.in-Some.now)) = subst (λ (o : Option Frame). Turns t m c.args.frame (at_of c.args.state.now) (at_of c.read_nested.new.state) (c.read_nested.new.state.steps - c.args.state.now.steps) (left_over o)) c.in-Some.is c.in_ok-now.ensures.ok in
     one.rest_fine.0
 
 pub read_last-requires-clause-state : goal.read_last-requires-clause-state
 read_last-requires-clause-state c =
     let t = c.args.self.now.table.now in
     let m = message_of c.args.self.now.bytes.now c.args.self.now.handles.now in
-    let one : Turns t m c.args.frame (at_of c.args.state.now) (at_of c.read_rows.new.state) (c.read_rows.new.state.steps - c.args.state.now.steps) (left_over (Some c.in-Some.now)) = subst (λ (o : Option Frame). Turns t m c.args.frame (at_of c.args.state.now) (at_of c.read_rows.new.state) (c.read_rows.new.state.steps - c.args.state.now.steps) (left_over o)) c.in-Some.is c.in_ok-now.ensures.ok in
+    let one : Turns t m c.args.frame (at_of c.args.state.now) (at_of c.read_nested.new.state) (c.read_nested.new.state.steps - c.args.state.now.steps) (left_over (Some c.in-Some.now)) = subst (λ (o : Option Frame). Turns t m c.args.frame (at_of c.args.state.now) (at_of c.read_nested.new.state) (c.read_nested.new.state.steps - c.args.state.now.steps) (left_over o)) c.in-Some.is c.in_ok-now.ensures.ok in
     one.state
 
 pub read_last-requires-clause-budget : goal.read_last-requires-clause-budget
 read_last-requires-clause-budget c =
     let t = c.args.self.now.table.now in
     let m = message_of c.args.self.now.bytes.now c.args.self.now.handles.now in
-    let one : Turns t m c.args.frame (at_of c.args.state.now) (at_of c.read_rows.new.state) (c.read_rows.new.state.steps - c.args.state.now.steps) (left_over (Some c.in-Some.now)) = subst (λ (o : Option Frame). Turns t m c.args.frame (at_of c.args.state.now) (at_of c.read_rows.new.state) (c.read_rows.new.state.steps - c.args.state.now.steps) (left_over o)) c.in-Some.is c.in_ok-now.ensures.ok in
+    let one : Turns t m c.args.frame (at_of c.args.state.now) (at_of c.read_nested.new.state) (c.read_nested.new.state.steps - c.args.state.now.steps) (left_over (Some c.in-Some.now)) = subst (λ (o : Option Frame). Turns t m c.args.frame (at_of c.args.state.now) (at_of c.read_nested.new.state) (c.read_nested.new.state.steps - c.args.state.now.steps) (left_over o)) c.in-Some.is c.in_ok-now.ensures.ok in
     let less_one = one.less in
     let rows_on = c.in_ok-now.ensures.grows in
     omega (arith, less_one, rows_on, c.requires.budget)
@@ -67,7 +67,7 @@ pub returns-in_err-below-clause-cost : goal.returns-in_err-below-clause-cost
 returns-in_err-below-clause-cost c =
     let t = c.args.self.now.table.now in
     let m = message_of c.args.self.now.bytes.now c.args.self.now.handles.now in
-    let one : Turns t m c.args.frame (at_of c.args.state.now) (at_of c.read_rows.new.state) (c.read_rows.new.state.steps - c.args.state.now.steps) (left_over (Some c.in-Some.now)) = subst (λ (o : Option Frame). Turns t m c.args.frame (at_of c.args.state.now) (at_of c.read_rows.new.state) (c.read_rows.new.state.steps - c.args.state.now.steps) (left_over o)) c.in-Some.is c.in_ok-now.ensures.ok in
+    let one : Turns t m c.args.frame (at_of c.args.state.now) (at_of c.read_nested.new.state) (c.read_nested.new.state.steps - c.args.state.now.steps) (left_over (Some c.in-Some.now)) = subst (λ (o : Option Frame). Turns t m c.args.frame (at_of c.args.state.now) (at_of c.read_nested.new.state) (c.read_nested.new.state.steps - c.args.state.now.steps) (left_over o)) c.in-Some.is c.in_ok-now.ensures.ok in
     let less_one = one.less in
     let rows_on = c.in_ok-now.ensures.grows in
     omega (arith, less_one, rows_on, c.in_err-below.ensures.cost)
@@ -76,25 +76,25 @@ pub returns-in_err-below-clause-err : goal.returns-in_err-below-clause-err
 returns-in_err-below-clause-err c =
     let t = c.args.self.now.table.now in
     let m = message_of c.args.self.now.bytes.now c.args.self.now.handles.now in
-    let one : Turns t m c.args.frame (at_of c.args.state.now) (at_of c.read_rows.new.state) (c.read_rows.new.state.steps - c.args.state.now.steps) (left_over (Some c.in-Some.now)) = subst (λ (o : Option Frame). Turns t m c.args.frame (at_of c.args.state.now) (at_of c.read_rows.new.state) (c.read_rows.new.state.steps - c.args.state.now.steps) (left_over o)) c.in-Some.is c.in_ok-now.ensures.ok in
-    on_err _ ((to : At) → Reads t m c.args.frame (at_of c.args.state.now) to → ⊥) (turns_refused t m c.args.frame (at_of c.args.state.now) (at_of c.read_rows.new.state) (c.read_rows.new.state.steps - c.args.state.now.steps) c.in-Some.now one c.in_err-below.ensures.err)
+    let one : Turns t m c.args.frame (at_of c.args.state.now) (at_of c.read_nested.new.state) (c.read_nested.new.state.steps - c.args.state.now.steps) (left_over (Some c.in-Some.now)) = subst (λ (o : Option Frame). Turns t m c.args.frame (at_of c.args.state.now) (at_of c.read_nested.new.state) (c.read_nested.new.state.steps - c.args.state.now.steps) (left_over o)) c.in-Some.is c.in_ok-now.ensures.ok in
+    on_err _ ((to : At) → Reads t m c.args.frame (at_of c.args.state.now) to → ⊥) (turns_refused t m c.args.frame (at_of c.args.state.now) (at_of c.read_nested.new.state) (c.read_nested.new.state.steps - c.args.state.now.steps) c.in-Some.now one c.in_err-below.ensures.err)
 
 pub returns-in_err-below-clause-told : goal.returns-in_err-below-clause-told
 returns-in_err-below-clause-told c =
     let t = c.args.self.now.table.now in
     let m = message_of c.args.self.now.bytes.now c.args.self.now.handles.now in
-    let one : Turns t m c.args.frame (at_of c.args.state.now) (at_of c.read_rows.new.state) (c.read_rows.new.state.steps - c.args.state.now.steps) (left_over (Some c.in-Some.now)) = subst (λ (o : Option Frame). Turns t m c.args.frame (at_of c.args.state.now) (at_of c.read_rows.new.state) (c.read_rows.new.state.steps - c.args.state.now.steps) (left_over o)) c.in-Some.is c.in_ok-now.ensures.ok in
-    passed_on c.from_residual-in_err-below.result c.in_err-below.field-0.0 _ c.from_residual-in_err-below.ensures.1 (turns_break t m c.args.frame (at_of c.args.state.now) (at_of c.read_rows.new.state) (c.read_rows.new.state.steps - c.args.state.now.steps) c.in-Some.now one c.in_err-below.field-0.0 c.in_err-below.ensures.told)
+    let one : Turns t m c.args.frame (at_of c.args.state.now) (at_of c.read_nested.new.state) (c.read_nested.new.state.steps - c.args.state.now.steps) (left_over (Some c.in-Some.now)) = subst (λ (o : Option Frame). Turns t m c.args.frame (at_of c.args.state.now) (at_of c.read_nested.new.state) (c.read_nested.new.state.steps - c.args.state.now.steps) (left_over o)) c.in-Some.is c.in_ok-now.ensures.ok in
+    passed_on c.from_residual-in_err-below.result c.in_err-below.field-0.0 _ c.from_residual-in_err-below.ensures.1 (turns_break t m c.args.frame (at_of c.args.state.now) (at_of c.read_nested.new.state) (c.read_nested.new.state.steps - c.args.state.now.steps) c.in-Some.now one c.in_err-below.field-0.0 c.in_err-below.ensures.told)
 
 pub returns-in_default-2-clause-ok : goal.returns-in_default-2-clause-ok
 returns-in_default-2-clause-ok c =
     let t = c.args.self.now.table.now in
     let m = message_of c.args.self.now.bytes.now c.args.self.now.handles.now in
-    let one : Turns t m c.args.frame (at_of c.args.state.now) (at_of c.read_rows.new.state) (c.read_rows.new.state.steps - c.args.state.now.steps) (left_over (Some c.in-Some.now)) = subst (λ (o : Option Frame). Turns t m c.args.frame (at_of c.args.state.now) (at_of c.read_rows.new.state) (c.read_rows.new.state.steps - c.args.state.now.steps) (left_over o)) c.in-Some.is c.in_ok-now.ensures.ok in
+    let one : Turns t m c.args.frame (at_of c.args.state.now) (at_of c.read_nested.new.state) (c.read_nested.new.state.steps - c.args.state.now.steps) (left_over (Some c.in-Some.now)) = subst (λ (o : Option Frame). Turns t m c.args.frame (at_of c.args.state.now) (at_of c.read_nested.new.state) (c.read_nested.new.state.steps - c.args.state.now.steps) (left_over o)) c.in-Some.is c.in_ok-now.ensures.ok in
     let rows_on = c.in_ok-now.ensures.grows in
     let last_on = c.in_ok-below.ensures.grows in
-    let two : Turns t m c.in-Some.now (at_of c.read_rows.new.state) (at_of c.read_last.new.state) (c.read_last.new.state.steps - c.read_rows.new.state.steps) (left_over None) = subst (λ (o : Option Frame). Turns t m c.in-Some.now (at_of c.read_rows.new.state) (at_of c.read_last.new.state) (c.read_last.new.state.steps - c.read_rows.new.state.steps) (left_over o)) c.in_default-2.is c.in_ok-below.ensures.ok in
-    let held : Turns t m c.args.frame (at_of c.args.state.now) (at_of c.read_last.new.state) (c.read_last.new.state.steps - c.args.state.now.steps) (left_over None) = turns_then t m c.args.frame (at_of c.args.state.now) (at_of c.read_rows.new.state) (c.read_rows.new.state.steps - c.args.state.now.steps) c.in-Some.now one (at_of c.read_last.new.state) (c.read_last.new.state.steps - c.read_rows.new.state.steps) (c.read_last.new.state.steps - c.args.state.now.steps) (left_over None) (omega (arith, rows_on, last_on)) two in
+    let two : Turns t m c.in-Some.now (at_of c.read_nested.new.state) (at_of c.read_last.new.state) (c.read_last.new.state.steps - c.read_nested.new.state.steps) (left_over None) = subst (λ (o : Option Frame). Turns t m c.in-Some.now (at_of c.read_nested.new.state) (at_of c.read_last.new.state) (c.read_last.new.state.steps - c.read_nested.new.state.steps) (left_over o)) c.in_default-2.is c.in_ok-below.ensures.ok in
+    let held : Turns t m c.args.frame (at_of c.args.state.now) (at_of c.read_last.new.state) (c.read_last.new.state.steps - c.args.state.now.steps) (left_over None) = turns_then t m c.args.frame (at_of c.args.state.now) (at_of c.read_nested.new.state) (c.read_nested.new.state.steps - c.args.state.now.steps) c.in-Some.now one (at_of c.read_last.new.state) (c.read_last.new.state.steps - c.read_nested.new.state.steps) (c.read_last.new.state.steps - c.args.state.now.steps) (left_over None) (omega (arith, rows_on, last_on)) two in
     held
 
 pub returns-in_default-2-clause-grows : goal.returns-in_default-2-clause-grows
@@ -110,14 +110,14 @@ returns-in_default-2-clause-ended c =
     let t = c.args.self.now.table.now in
     let m = message_of c.args.self.now.bytes.now c.args.self.now.handles.now in
     let rows_on = c.in_ok-now.ensures.grows in
-    let ended : c.read_rows.new.state.steps < c.read_last.new.state.steps = subst (λ (o : Option Frame). IfNone o (c.read_rows.new.state.steps < c.read_last.new.state.steps)) c.in_default-2.is c.in_ok-below.ensures.ended in
+    let ended : c.read_nested.new.state.steps < c.read_last.new.state.steps = subst (λ (o : Option Frame). IfNone o (c.read_nested.new.state.steps < c.read_last.new.state.steps)) c.in_default-2.is c.in_ok-below.ensures.ended in
     omega (arith, rows_on, ended)
 
 pub returns-in_default-2-clause-cost : goal.returns-in_default-2-clause-cost
 returns-in_default-2-clause-cost c =
     let t = c.args.self.now.table.now in
     let m = message_of c.args.self.now.bytes.now c.args.self.now.handles.now in
-    let one : Turns t m c.args.frame (at_of c.args.state.now) (at_of c.read_rows.new.state) (c.read_rows.new.state.steps - c.args.state.now.steps) (left_over (Some c.in-Some.now)) = subst (λ (o : Option Frame). Turns t m c.args.frame (at_of c.args.state.now) (at_of c.read_rows.new.state) (c.read_rows.new.state.steps - c.args.state.now.steps) (left_over o)) c.in-Some.is c.in_ok-now.ensures.ok in
+    let one : Turns t m c.args.frame (at_of c.args.state.now) (at_of c.read_nested.new.state) (c.read_nested.new.state.steps - c.args.state.now.steps) (left_over (Some c.in-Some.now)) = subst (λ (o : Option Frame). Turns t m c.args.frame (at_of c.args.state.now) (at_of c.read_nested.new.state) (c.read_nested.new.state.steps - c.args.state.now.steps) (left_over o)) c.in-Some.is c.in_ok-now.ensures.ok in
     let less_one = one.less in
     let rows_on = c.in_ok-now.ensures.grows in
     omega (arith, less_one, rows_on, c.in_ok-below.ensures.cost)
@@ -126,11 +126,11 @@ pub read_leaves-requires-clause-frame : goal.read_leaves-requires-clause-frame
 read_leaves-requires-clause-frame c =
     let t = c.args.self.now.table.now in
     let m = message_of c.args.self.now.bytes.now c.args.self.now.handles.now in
-    let one : Turns t m c.args.frame (at_of c.args.state.now) (at_of c.read_rows.new.state) (c.read_rows.new.state.steps - c.args.state.now.steps) (left_over (Some c.in-Some.now)) = subst (λ (o : Option Frame). Turns t m c.args.frame (at_of c.args.state.now) (at_of c.read_rows.new.state) (c.read_rows.new.state.steps - c.args.state.now.steps) (left_over o)) c.in-Some.is c.in_ok-now.ensures.ok in
+    let one : Turns t m c.args.frame (at_of c.args.state.now) (at_of c.read_nested.new.state) (c.read_nested.new.state.steps - c.args.state.now.steps) (left_over (Some c.in-Some.now)) = subst (λ (o : Option Frame). Turns t m c.args.frame (at_of c.args.state.now) (at_of c.read_nested.new.state) (c.read_nested.new.state.steps - c.args.state.now.steps) (left_over o)) c.in-Some.is c.in_ok-now.ensures.ok in
     let rows_on = c.in_ok-now.ensures.grows in
     let last_on = c.in_ok-below.ensures.grows in
-    let two : Turns t m c.in-Some.now (at_of c.read_rows.new.state) (at_of c.read_last.new.state) (c.read_last.new.state.steps - c.read_rows.new.state.steps) (left_over (Some c.in-Some-2.below)) = subst (λ (o : Option Frame). Turns t m c.in-Some.now (at_of c.read_rows.new.state) (at_of c.read_last.new.state) (c.read_last.new.state.steps - c.read_rows.new.state.steps) (left_over o)) c.in-Some-2.is c.in_ok-below.ensures.ok in
-    let held : Turns t m c.args.frame (at_of c.args.state.now) (at_of c.read_last.new.state) (c.read_last.new.state.steps - c.args.state.now.steps) (left_over (Some c.in-Some-2.below)) = turns_then t m c.args.frame (at_of c.args.state.now) (at_of c.read_rows.new.state) (c.read_rows.new.state.steps - c.args.state.now.steps) c.in-Some.now one (at_of c.read_last.new.state) (c.read_last.new.state.steps - c.read_rows.new.state.steps) (c.read_last.new.state.steps - c.args.state.now.steps) (left_over (Some c.in-Some-2.below)) (omega (arith, rows_on, last_on)) two in
+    let two : Turns t m c.in-Some.now (at_of c.read_nested.new.state) (at_of c.read_last.new.state) (c.read_last.new.state.steps - c.read_nested.new.state.steps) (left_over (Some c.in-Some-2.below)) = subst (λ (o : Option Frame). Turns t m c.in-Some.now (at_of c.read_nested.new.state) (at_of c.read_last.new.state) (c.read_last.new.state.steps - c.read_nested.new.state.steps) (left_over o)) c.in-Some-2.is c.in_ok-below.ensures.ok in
+    let held : Turns t m c.args.frame (at_of c.args.state.now) (at_of c.read_last.new.state) (c.read_last.new.state.steps - c.args.state.now.steps) (left_over (Some c.in-Some-2.below)) = turns_then t m c.args.frame (at_of c.args.state.now) (at_of c.read_nested.new.state) (c.read_nested.new.state.steps - c.args.state.now.steps) c.in-Some.now one (at_of c.read_last.new.state) (c.read_last.new.state.steps - c.read_nested.new.state.steps) (c.read_last.new.state.steps - c.args.state.now.steps) (left_over (Some c.in-Some-2.below)) (omega (arith, rows_on, last_on)) two in
     let less_held = held.less in
     held.rest_fine.0
 
@@ -138,11 +138,11 @@ pub read_leaves-requires-clause-state : goal.read_leaves-requires-clause-state
 read_leaves-requires-clause-state c =
     let t = c.args.self.now.table.now in
     let m = message_of c.args.self.now.bytes.now c.args.self.now.handles.now in
-    let one : Turns t m c.args.frame (at_of c.args.state.now) (at_of c.read_rows.new.state) (c.read_rows.new.state.steps - c.args.state.now.steps) (left_over (Some c.in-Some.now)) = subst (λ (o : Option Frame). Turns t m c.args.frame (at_of c.args.state.now) (at_of c.read_rows.new.state) (c.read_rows.new.state.steps - c.args.state.now.steps) (left_over o)) c.in-Some.is c.in_ok-now.ensures.ok in
+    let one : Turns t m c.args.frame (at_of c.args.state.now) (at_of c.read_nested.new.state) (c.read_nested.new.state.steps - c.args.state.now.steps) (left_over (Some c.in-Some.now)) = subst (λ (o : Option Frame). Turns t m c.args.frame (at_of c.args.state.now) (at_of c.read_nested.new.state) (c.read_nested.new.state.steps - c.args.state.now.steps) (left_over o)) c.in-Some.is c.in_ok-now.ensures.ok in
     let rows_on = c.in_ok-now.ensures.grows in
     let last_on = c.in_ok-below.ensures.grows in
-    let two : Turns t m c.in-Some.now (at_of c.read_rows.new.state) (at_of c.read_last.new.state) (c.read_last.new.state.steps - c.read_rows.new.state.steps) (left_over (Some c.in-Some-2.below)) = subst (λ (o : Option Frame). Turns t m c.in-Some.now (at_of c.read_rows.new.state) (at_of c.read_last.new.state) (c.read_last.new.state.steps - c.read_rows.new.state.steps) (left_over o)) c.in-Some-2.is c.in_ok-below.ensures.ok in
-    let held : Turns t m c.args.frame (at_of c.args.state.now) (at_of c.read_last.new.state) (c.read_last.new.state.steps - c.args.state.now.steps) (left_over (Some c.in-Some-2.below)) = turns_then t m c.args.frame (at_of c.args.state.now) (at_of c.read_rows.new.state) (c.read_rows.new.state.steps - c.args.state.now.steps) c.in-Some.now one (at_of c.read_last.new.state) (c.read_last.new.state.steps - c.read_rows.new.state.steps) (c.read_last.new.state.steps - c.args.state.now.steps) (left_over (Some c.in-Some-2.below)) (omega (arith, rows_on, last_on)) two in
+    let two : Turns t m c.in-Some.now (at_of c.read_nested.new.state) (at_of c.read_last.new.state) (c.read_last.new.state.steps - c.read_nested.new.state.steps) (left_over (Some c.in-Some-2.below)) = subst (λ (o : Option Frame). Turns t m c.in-Some.now (at_of c.read_nested.new.state) (at_of c.read_last.new.state) (c.read_last.new.state.steps - c.read_nested.new.state.steps) (left_over o)) c.in-Some-2.is c.in_ok-below.ensures.ok in
+    let held : Turns t m c.args.frame (at_of c.args.state.now) (at_of c.read_last.new.state) (c.read_last.new.state.steps - c.args.state.now.steps) (left_over (Some c.in-Some-2.below)) = turns_then t m c.args.frame (at_of c.args.state.now) (at_of c.read_nested.new.state) (c.read_nested.new.state.steps - c.args.state.now.steps) c.in-Some.now one (at_of c.read_last.new.state) (c.read_last.new.state.steps - c.read_nested.new.state.steps) (c.read_last.new.state.steps - c.args.state.now.steps) (left_over (Some c.in-Some-2.below)) (omega (arith, rows_on, last_on)) two in
     let less_held = held.less in
     held.state
 
@@ -150,11 +150,11 @@ pub read_leaves-requires-clause-budget : goal.read_leaves-requires-clause-budget
 read_leaves-requires-clause-budget c =
     let t = c.args.self.now.table.now in
     let m = message_of c.args.self.now.bytes.now c.args.self.now.handles.now in
-    let one : Turns t m c.args.frame (at_of c.args.state.now) (at_of c.read_rows.new.state) (c.read_rows.new.state.steps - c.args.state.now.steps) (left_over (Some c.in-Some.now)) = subst (λ (o : Option Frame). Turns t m c.args.frame (at_of c.args.state.now) (at_of c.read_rows.new.state) (c.read_rows.new.state.steps - c.args.state.now.steps) (left_over o)) c.in-Some.is c.in_ok-now.ensures.ok in
+    let one : Turns t m c.args.frame (at_of c.args.state.now) (at_of c.read_nested.new.state) (c.read_nested.new.state.steps - c.args.state.now.steps) (left_over (Some c.in-Some.now)) = subst (λ (o : Option Frame). Turns t m c.args.frame (at_of c.args.state.now) (at_of c.read_nested.new.state) (c.read_nested.new.state.steps - c.args.state.now.steps) (left_over o)) c.in-Some.is c.in_ok-now.ensures.ok in
     let rows_on = c.in_ok-now.ensures.grows in
     let last_on = c.in_ok-below.ensures.grows in
-    let two : Turns t m c.in-Some.now (at_of c.read_rows.new.state) (at_of c.read_last.new.state) (c.read_last.new.state.steps - c.read_rows.new.state.steps) (left_over (Some c.in-Some-2.below)) = subst (λ (o : Option Frame). Turns t m c.in-Some.now (at_of c.read_rows.new.state) (at_of c.read_last.new.state) (c.read_last.new.state.steps - c.read_rows.new.state.steps) (left_over o)) c.in-Some-2.is c.in_ok-below.ensures.ok in
-    let held : Turns t m c.args.frame (at_of c.args.state.now) (at_of c.read_last.new.state) (c.read_last.new.state.steps - c.args.state.now.steps) (left_over (Some c.in-Some-2.below)) = turns_then t m c.args.frame (at_of c.args.state.now) (at_of c.read_rows.new.state) (c.read_rows.new.state.steps - c.args.state.now.steps) c.in-Some.now one (at_of c.read_last.new.state) (c.read_last.new.state.steps - c.read_rows.new.state.steps) (c.read_last.new.state.steps - c.args.state.now.steps) (left_over (Some c.in-Some-2.below)) (omega (arith, rows_on, last_on)) two in
+    let two : Turns t m c.in-Some.now (at_of c.read_nested.new.state) (at_of c.read_last.new.state) (c.read_last.new.state.steps - c.read_nested.new.state.steps) (left_over (Some c.in-Some-2.below)) = subst (λ (o : Option Frame). Turns t m c.in-Some.now (at_of c.read_nested.new.state) (at_of c.read_last.new.state) (c.read_last.new.state.steps - c.read_nested.new.state.steps) (left_over o)) c.in-Some-2.is c.in_ok-below.ensures.ok in
+    let held : Turns t m c.args.frame (at_of c.args.state.now) (at_of c.read_last.new.state) (c.read_last.new.state.steps - c.args.state.now.steps) (left_over (Some c.in-Some-2.below)) = turns_then t m c.args.frame (at_of c.args.state.now) (at_of c.read_nested.new.state) (c.read_nested.new.state.steps - c.args.state.now.steps) c.in-Some.now one (at_of c.read_last.new.state) (c.read_last.new.state.steps - c.read_nested.new.state.steps) (c.read_last.new.state.steps - c.args.state.now.steps) (left_over (Some c.in-Some-2.below)) (omega (arith, rows_on, last_on)) two in
     let less_held = held.less in
     omega (arith, less_held, rows_on, last_on, c.requires.budget)
 
@@ -162,11 +162,11 @@ pub returns-in_err-inner-clause-cost : goal.returns-in_err-inner-clause-cost
 returns-in_err-inner-clause-cost c =
     let t = c.args.self.now.table.now in
     let m = message_of c.args.self.now.bytes.now c.args.self.now.handles.now in
-    let one : Turns t m c.args.frame (at_of c.args.state.now) (at_of c.read_rows.new.state) (c.read_rows.new.state.steps - c.args.state.now.steps) (left_over (Some c.in-Some.now)) = subst (λ (o : Option Frame). Turns t m c.args.frame (at_of c.args.state.now) (at_of c.read_rows.new.state) (c.read_rows.new.state.steps - c.args.state.now.steps) (left_over o)) c.in-Some.is c.in_ok-now.ensures.ok in
+    let one : Turns t m c.args.frame (at_of c.args.state.now) (at_of c.read_nested.new.state) (c.read_nested.new.state.steps - c.args.state.now.steps) (left_over (Some c.in-Some.now)) = subst (λ (o : Option Frame). Turns t m c.args.frame (at_of c.args.state.now) (at_of c.read_nested.new.state) (c.read_nested.new.state.steps - c.args.state.now.steps) (left_over o)) c.in-Some.is c.in_ok-now.ensures.ok in
     let rows_on = c.in_ok-now.ensures.grows in
     let last_on = c.in_ok-below.ensures.grows in
-    let two : Turns t m c.in-Some.now (at_of c.read_rows.new.state) (at_of c.read_last.new.state) (c.read_last.new.state.steps - c.read_rows.new.state.steps) (left_over (Some c.in-Some-2.below)) = subst (λ (o : Option Frame). Turns t m c.in-Some.now (at_of c.read_rows.new.state) (at_of c.read_last.new.state) (c.read_last.new.state.steps - c.read_rows.new.state.steps) (left_over o)) c.in-Some-2.is c.in_ok-below.ensures.ok in
-    let held : Turns t m c.args.frame (at_of c.args.state.now) (at_of c.read_last.new.state) (c.read_last.new.state.steps - c.args.state.now.steps) (left_over (Some c.in-Some-2.below)) = turns_then t m c.args.frame (at_of c.args.state.now) (at_of c.read_rows.new.state) (c.read_rows.new.state.steps - c.args.state.now.steps) c.in-Some.now one (at_of c.read_last.new.state) (c.read_last.new.state.steps - c.read_rows.new.state.steps) (c.read_last.new.state.steps - c.args.state.now.steps) (left_over (Some c.in-Some-2.below)) (omega (arith, rows_on, last_on)) two in
+    let two : Turns t m c.in-Some.now (at_of c.read_nested.new.state) (at_of c.read_last.new.state) (c.read_last.new.state.steps - c.read_nested.new.state.steps) (left_over (Some c.in-Some-2.below)) = subst (λ (o : Option Frame). Turns t m c.in-Some.now (at_of c.read_nested.new.state) (at_of c.read_last.new.state) (c.read_last.new.state.steps - c.read_nested.new.state.steps) (left_over o)) c.in-Some-2.is c.in_ok-below.ensures.ok in
+    let held : Turns t m c.args.frame (at_of c.args.state.now) (at_of c.read_last.new.state) (c.read_last.new.state.steps - c.args.state.now.steps) (left_over (Some c.in-Some-2.below)) = turns_then t m c.args.frame (at_of c.args.state.now) (at_of c.read_nested.new.state) (c.read_nested.new.state.steps - c.args.state.now.steps) c.in-Some.now one (at_of c.read_last.new.state) (c.read_last.new.state.steps - c.read_nested.new.state.steps) (c.read_last.new.state.steps - c.args.state.now.steps) (left_over (Some c.in-Some-2.below)) (omega (arith, rows_on, last_on)) two in
     let less_held = held.less in
     omega (arith, less_held, rows_on, last_on, c.in_err-inner.ensures.cost)
 
@@ -174,11 +174,11 @@ pub returns-in_err-inner-clause-err : goal.returns-in_err-inner-clause-err
 returns-in_err-inner-clause-err c =
     let t = c.args.self.now.table.now in
     let m = message_of c.args.self.now.bytes.now c.args.self.now.handles.now in
-    let one : Turns t m c.args.frame (at_of c.args.state.now) (at_of c.read_rows.new.state) (c.read_rows.new.state.steps - c.args.state.now.steps) (left_over (Some c.in-Some.now)) = subst (λ (o : Option Frame). Turns t m c.args.frame (at_of c.args.state.now) (at_of c.read_rows.new.state) (c.read_rows.new.state.steps - c.args.state.now.steps) (left_over o)) c.in-Some.is c.in_ok-now.ensures.ok in
+    let one : Turns t m c.args.frame (at_of c.args.state.now) (at_of c.read_nested.new.state) (c.read_nested.new.state.steps - c.args.state.now.steps) (left_over (Some c.in-Some.now)) = subst (λ (o : Option Frame). Turns t m c.args.frame (at_of c.args.state.now) (at_of c.read_nested.new.state) (c.read_nested.new.state.steps - c.args.state.now.steps) (left_over o)) c.in-Some.is c.in_ok-now.ensures.ok in
     let rows_on = c.in_ok-now.ensures.grows in
     let last_on = c.in_ok-below.ensures.grows in
-    let two : Turns t m c.in-Some.now (at_of c.read_rows.new.state) (at_of c.read_last.new.state) (c.read_last.new.state.steps - c.read_rows.new.state.steps) (left_over (Some c.in-Some-2.below)) = subst (λ (o : Option Frame). Turns t m c.in-Some.now (at_of c.read_rows.new.state) (at_of c.read_last.new.state) (c.read_last.new.state.steps - c.read_rows.new.state.steps) (left_over o)) c.in-Some-2.is c.in_ok-below.ensures.ok in
-    let held : Turns t m c.args.frame (at_of c.args.state.now) (at_of c.read_last.new.state) (c.read_last.new.state.steps - c.args.state.now.steps) (left_over (Some c.in-Some-2.below)) = turns_then t m c.args.frame (at_of c.args.state.now) (at_of c.read_rows.new.state) (c.read_rows.new.state.steps - c.args.state.now.steps) c.in-Some.now one (at_of c.read_last.new.state) (c.read_last.new.state.steps - c.read_rows.new.state.steps) (c.read_last.new.state.steps - c.args.state.now.steps) (left_over (Some c.in-Some-2.below)) (omega (arith, rows_on, last_on)) two in
+    let two : Turns t m c.in-Some.now (at_of c.read_nested.new.state) (at_of c.read_last.new.state) (c.read_last.new.state.steps - c.read_nested.new.state.steps) (left_over (Some c.in-Some-2.below)) = subst (λ (o : Option Frame). Turns t m c.in-Some.now (at_of c.read_nested.new.state) (at_of c.read_last.new.state) (c.read_last.new.state.steps - c.read_nested.new.state.steps) (left_over o)) c.in-Some-2.is c.in_ok-below.ensures.ok in
+    let held : Turns t m c.args.frame (at_of c.args.state.now) (at_of c.read_last.new.state) (c.read_last.new.state.steps - c.args.state.now.steps) (left_over (Some c.in-Some-2.below)) = turns_then t m c.args.frame (at_of c.args.state.now) (at_of c.read_nested.new.state) (c.read_nested.new.state.steps - c.args.state.now.steps) c.in-Some.now one (at_of c.read_last.new.state) (c.read_last.new.state.steps - c.read_nested.new.state.steps) (c.read_last.new.state.steps - c.args.state.now.steps) (left_over (Some c.in-Some-2.below)) (omega (arith, rows_on, last_on)) two in
     let less_held = held.less in
     on_err _ ((to : At) → Reads t m c.args.frame (at_of c.args.state.now) to → ⊥) (turns_refused t m c.args.frame (at_of c.args.state.now) (at_of c.read_last.new.state) (c.read_last.new.state.steps - c.args.state.now.steps) c.in-Some-2.below held c.in_err-inner.ensures.err)
 
@@ -186,11 +186,11 @@ pub returns-in_err-inner-clause-told : goal.returns-in_err-inner-clause-told
 returns-in_err-inner-clause-told c =
     let t = c.args.self.now.table.now in
     let m = message_of c.args.self.now.bytes.now c.args.self.now.handles.now in
-    let one : Turns t m c.args.frame (at_of c.args.state.now) (at_of c.read_rows.new.state) (c.read_rows.new.state.steps - c.args.state.now.steps) (left_over (Some c.in-Some.now)) = subst (λ (o : Option Frame). Turns t m c.args.frame (at_of c.args.state.now) (at_of c.read_rows.new.state) (c.read_rows.new.state.steps - c.args.state.now.steps) (left_over o)) c.in-Some.is c.in_ok-now.ensures.ok in
+    let one : Turns t m c.args.frame (at_of c.args.state.now) (at_of c.read_nested.new.state) (c.read_nested.new.state.steps - c.args.state.now.steps) (left_over (Some c.in-Some.now)) = subst (λ (o : Option Frame). Turns t m c.args.frame (at_of c.args.state.now) (at_of c.read_nested.new.state) (c.read_nested.new.state.steps - c.args.state.now.steps) (left_over o)) c.in-Some.is c.in_ok-now.ensures.ok in
     let rows_on = c.in_ok-now.ensures.grows in
     let last_on = c.in_ok-below.ensures.grows in
-    let two : Turns t m c.in-Some.now (at_of c.read_rows.new.state) (at_of c.read_last.new.state) (c.read_last.new.state.steps - c.read_rows.new.state.steps) (left_over (Some c.in-Some-2.below)) = subst (λ (o : Option Frame). Turns t m c.in-Some.now (at_of c.read_rows.new.state) (at_of c.read_last.new.state) (c.read_last.new.state.steps - c.read_rows.new.state.steps) (left_over o)) c.in-Some-2.is c.in_ok-below.ensures.ok in
-    let held : Turns t m c.args.frame (at_of c.args.state.now) (at_of c.read_last.new.state) (c.read_last.new.state.steps - c.args.state.now.steps) (left_over (Some c.in-Some-2.below)) = turns_then t m c.args.frame (at_of c.args.state.now) (at_of c.read_rows.new.state) (c.read_rows.new.state.steps - c.args.state.now.steps) c.in-Some.now one (at_of c.read_last.new.state) (c.read_last.new.state.steps - c.read_rows.new.state.steps) (c.read_last.new.state.steps - c.args.state.now.steps) (left_over (Some c.in-Some-2.below)) (omega (arith, rows_on, last_on)) two in
+    let two : Turns t m c.in-Some.now (at_of c.read_nested.new.state) (at_of c.read_last.new.state) (c.read_last.new.state.steps - c.read_nested.new.state.steps) (left_over (Some c.in-Some-2.below)) = subst (λ (o : Option Frame). Turns t m c.in-Some.now (at_of c.read_nested.new.state) (at_of c.read_last.new.state) (c.read_last.new.state.steps - c.read_nested.new.state.steps) (left_over o)) c.in-Some-2.is c.in_ok-below.ensures.ok in
+    let held : Turns t m c.args.frame (at_of c.args.state.now) (at_of c.read_last.new.state) (c.read_last.new.state.steps - c.args.state.now.steps) (left_over (Some c.in-Some-2.below)) = turns_then t m c.args.frame (at_of c.args.state.now) (at_of c.read_nested.new.state) (c.read_nested.new.state.steps - c.args.state.now.steps) c.in-Some.now one (at_of c.read_last.new.state) (c.read_last.new.state.steps - c.read_nested.new.state.steps) (c.read_last.new.state.steps - c.args.state.now.steps) (left_over (Some c.in-Some-2.below)) (omega (arith, rows_on, last_on)) two in
     let less_held = held.less in
     passed_on c.from_residual-in_err-inner.result c.in_err-inner.field-0.0 _ c.from_residual-in_err-inner.ensures.1 (turns_break t m c.args.frame (at_of c.args.state.now) (at_of c.read_last.new.state) (c.read_last.new.state.steps - c.args.state.now.steps) c.in-Some-2.below held c.in_err-inner.field-0.0 c.in_err-inner.ensures.told)
 
@@ -198,11 +198,11 @@ pub returns-clause-ok : goal.returns-clause-ok
 returns-clause-ok c =
     let t = c.args.self.now.table.now in
     let m = message_of c.args.self.now.bytes.now c.args.self.now.handles.now in
-    let one : Turns t m c.args.frame (at_of c.args.state.now) (at_of c.read_rows.new.state) (c.read_rows.new.state.steps - c.args.state.now.steps) (left_over (Some c.in-Some.now)) = subst (λ (o : Option Frame). Turns t m c.args.frame (at_of c.args.state.now) (at_of c.read_rows.new.state) (c.read_rows.new.state.steps - c.args.state.now.steps) (left_over o)) c.in-Some.is c.in_ok-now.ensures.ok in
+    let one : Turns t m c.args.frame (at_of c.args.state.now) (at_of c.read_nested.new.state) (c.read_nested.new.state.steps - c.args.state.now.steps) (left_over (Some c.in-Some.now)) = subst (λ (o : Option Frame). Turns t m c.args.frame (at_of c.args.state.now) (at_of c.read_nested.new.state) (c.read_nested.new.state.steps - c.args.state.now.steps) (left_over o)) c.in-Some.is c.in_ok-now.ensures.ok in
     let rows_on = c.in_ok-now.ensures.grows in
     let last_on = c.in_ok-below.ensures.grows in
-    let two : Turns t m c.in-Some.now (at_of c.read_rows.new.state) (at_of c.read_last.new.state) (c.read_last.new.state.steps - c.read_rows.new.state.steps) (left_over (Some c.in-Some-2.below)) = subst (λ (o : Option Frame). Turns t m c.in-Some.now (at_of c.read_rows.new.state) (at_of c.read_last.new.state) (c.read_last.new.state.steps - c.read_rows.new.state.steps) (left_over o)) c.in-Some-2.is c.in_ok-below.ensures.ok in
-    let held : Turns t m c.args.frame (at_of c.args.state.now) (at_of c.read_last.new.state) (c.read_last.new.state.steps - c.args.state.now.steps) (left_over (Some c.in-Some-2.below)) = turns_then t m c.args.frame (at_of c.args.state.now) (at_of c.read_rows.new.state) (c.read_rows.new.state.steps - c.args.state.now.steps) c.in-Some.now one (at_of c.read_last.new.state) (c.read_last.new.state.steps - c.read_rows.new.state.steps) (c.read_last.new.state.steps - c.args.state.now.steps) (left_over (Some c.in-Some-2.below)) (omega (arith, rows_on, last_on)) two in
+    let two : Turns t m c.in-Some.now (at_of c.read_nested.new.state) (at_of c.read_last.new.state) (c.read_last.new.state.steps - c.read_nested.new.state.steps) (left_over (Some c.in-Some-2.below)) = subst (λ (o : Option Frame). Turns t m c.in-Some.now (at_of c.read_nested.new.state) (at_of c.read_last.new.state) (c.read_last.new.state.steps - c.read_nested.new.state.steps) (left_over o)) c.in-Some-2.is c.in_ok-below.ensures.ok in
+    let held : Turns t m c.args.frame (at_of c.args.state.now) (at_of c.read_last.new.state) (c.read_last.new.state.steps - c.args.state.now.steps) (left_over (Some c.in-Some-2.below)) = turns_then t m c.args.frame (at_of c.args.state.now) (at_of c.read_nested.new.state) (c.read_nested.new.state.steps - c.args.state.now.steps) c.in-Some.now one (at_of c.read_last.new.state) (c.read_last.new.state.steps - c.read_nested.new.state.steps) (c.read_last.new.state.steps - c.args.state.now.steps) (left_over (Some c.in-Some-2.below)) (omega (arith, rows_on, last_on)) two in
     let less_held = held.less in
     let leaves_on = c.in_ok-inner.ensures.grows in
     turns_then t m c.args.frame (at_of c.args.state.now) (at_of c.read_last.new.state) (c.read_last.new.state.steps - c.args.state.now.steps) c.in-Some-2.below held (at_of c.read_leaves.new.state) (c.read_leaves.new.state.steps - c.read_last.new.state.steps) (c.read_leaves.new.state.steps - c.args.state.now.steps) (left_over c.in_ok-inner.inner) (omega (arith, rows_on, last_on, leaves_on)) c.in_ok-inner.ensures.ok
@@ -228,10 +228,10 @@ pub returns-clause-cost : goal.returns-clause-cost
 returns-clause-cost c =
     let t = c.args.self.now.table.now in
     let m = message_of c.args.self.now.bytes.now c.args.self.now.handles.now in
-    let one : Turns t m c.args.frame (at_of c.args.state.now) (at_of c.read_rows.new.state) (c.read_rows.new.state.steps - c.args.state.now.steps) (left_over (Some c.in-Some.now)) = subst (λ (o : Option Frame). Turns t m c.args.frame (at_of c.args.state.now) (at_of c.read_rows.new.state) (c.read_rows.new.state.steps - c.args.state.now.steps) (left_over o)) c.in-Some.is c.in_ok-now.ensures.ok in
+    let one : Turns t m c.args.frame (at_of c.args.state.now) (at_of c.read_nested.new.state) (c.read_nested.new.state.steps - c.args.state.now.steps) (left_over (Some c.in-Some.now)) = subst (λ (o : Option Frame). Turns t m c.args.frame (at_of c.args.state.now) (at_of c.read_nested.new.state) (c.read_nested.new.state.steps - c.args.state.now.steps) (left_over o)) c.in-Some.is c.in_ok-now.ensures.ok in
     let rows_on = c.in_ok-now.ensures.grows in
     let last_on = c.in_ok-below.ensures.grows in
-    let two : Turns t m c.in-Some.now (at_of c.read_rows.new.state) (at_of c.read_last.new.state) (c.read_last.new.state.steps - c.read_rows.new.state.steps) (left_over (Some c.in-Some-2.below)) = subst (λ (o : Option Frame). Turns t m c.in-Some.now (at_of c.read_rows.new.state) (at_of c.read_last.new.state) (c.read_last.new.state.steps - c.read_rows.new.state.steps) (left_over o)) c.in-Some-2.is c.in_ok-below.ensures.ok in
-    let held : Turns t m c.args.frame (at_of c.args.state.now) (at_of c.read_last.new.state) (c.read_last.new.state.steps - c.args.state.now.steps) (left_over (Some c.in-Some-2.below)) = turns_then t m c.args.frame (at_of c.args.state.now) (at_of c.read_rows.new.state) (c.read_rows.new.state.steps - c.args.state.now.steps) c.in-Some.now one (at_of c.read_last.new.state) (c.read_last.new.state.steps - c.read_rows.new.state.steps) (c.read_last.new.state.steps - c.args.state.now.steps) (left_over (Some c.in-Some-2.below)) (omega (arith, rows_on, last_on)) two in
+    let two : Turns t m c.in-Some.now (at_of c.read_nested.new.state) (at_of c.read_last.new.state) (c.read_last.new.state.steps - c.read_nested.new.state.steps) (left_over (Some c.in-Some-2.below)) = subst (λ (o : Option Frame). Turns t m c.in-Some.now (at_of c.read_nested.new.state) (at_of c.read_last.new.state) (c.read_last.new.state.steps - c.read_nested.new.state.steps) (left_over o)) c.in-Some-2.is c.in_ok-below.ensures.ok in
+    let held : Turns t m c.args.frame (at_of c.args.state.now) (at_of c.read_last.new.state) (c.read_last.new.state.steps - c.args.state.now.steps) (left_over (Some c.in-Some-2.below)) = turns_then t m c.args.frame (at_of c.args.state.now) (at_of c.read_nested.new.state) (c.read_nested.new.state.steps - c.args.state.now.steps) c.in-Some.now one (at_of c.read_last.new.state) (c.read_last.new.state.steps - c.read_nested.new.state.steps) (c.read_last.new.state.steps - c.args.state.now.steps) (left_over (Some c.in-Some-2.below)) (omega (arith, rows_on, last_on)) two in
     let less_held = held.less in
     omega (arith, less_held, rows_on, last_on, c.in_ok-inner.ensures.cost)

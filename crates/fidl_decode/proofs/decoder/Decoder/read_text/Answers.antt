@@ -11,10 +11,10 @@ use Rattle.fidl_decode.specs.Machine.{Leads, at_of}
 use Rattle.fidl_decode.proofs.Written.{absent_leads, text_leads}
 use Rattle.fidl_decode.proofs.decoder.Decoder.read_text.Goals as goal
 
-pub returns-in-Absent-clause-ok : goal.returns-in-Absent-clause-ok
-returns-in-Absent-clause-ok c =
+pub returns-then-not-is_present-clause-ok : goal.returns-then-not-is_present-clause-ok
+returns-then-not-is_present-clause-ok c =
     let short = c.requires.short in
-    absent_leads (declarations_of c.args.self.now.table.now) (message_of c.args.self.now.bytes.now c.args.self.now.handles.now) (omega (arith, short)) c.args.depth (is_optional c.args.entry.now) c.args.entry.now.bound c.args.place (at_of c.args.state.now) c.requires.depth (sym c.is_optional.ensures ∙ c.if-not-is_optional.false) c.in-Absent.ensures (omega (arith, c.requires.room)) (λ i. omega (arith, c.args.self.now.octets i)) (sym c.u64_at-count.ensures ∙ c.if-count-ne0.false)
+    absent_leads (declarations_of c.args.self.now.table.now) (message_of c.args.self.now.bytes.now c.args.self.now.handles.now) (omega (arith, short)) c.args.depth (is_optional c.args.entry.now) c.args.entry.now.bound c.args.place (at_of c.args.state.now) c.requires.depth (sym c.is_optional.ensures ∙ c.if-not-is_optional.false) (c.is_absent.ensures.0 c.if-not-is_absent.false) (omega (arith, c.requires.room)) (λ i. omega (arith, c.args.self.now.octets i)) (sym c.u64_at-count.ensures ∙ c.if-count-ne0.false)
 
 pub returns-clause-ok : goal.returns-clause-ok
 returns-clause-ok c =
@@ -27,5 +27,5 @@ returns-clause-ok c =
     let same : linked (c.args.place + 8) n (at_of c.args.state.now) ≡ record { next = from + c.next_multiple_of-size.result; handle = c.args.state.now.handle; objects = c.link.new.self.objects; records = c.link.new.self.records }
     = λ i. record { next = from + sym value i; handle = c.args.state.now.handle; objects = sym c.link.ensures.objects i; records = sym c.link.ensures.records i } in
     subst (λ (s : At). Leads (declarations_of c.args.self.now.table.now) (message_of c.args.self.now.bytes.now c.args.self.now.handles.now) c.args.depth (ty.string (is_optional c.args.entry.now) c.args.entry.now.bound) c.args.place (at_of c.args.state.now) s) same
-    (text_leads (declarations_of c.args.self.now.table.now) (message_of c.args.self.now.bytes.now c.args.self.now.handles.now) (omega (arith, short)) c.args.depth (is_optional c.args.entry.now) c.args.entry.now.bound c.args.place (at_of c.args.state.now) (omega (arith, c.requires.depth, c.if-depth-eq-MAX_DEPTH.false)) c.in-Present.ensures (omega (arith, c.requires.room)) (λ i. omega (arith, c.args.self.now.octets i)) n (sym c.u64_at-count.ensures) (omega (arith, c.if-count-entry.false)) (omega (arith, value, within, c.if-size-rest.false)) (le-next_multiple_of n 8)
-    (c.is_utf8.ensures.0 c.if-not-is_utf8.false) (subst (λ k. Stands c.args.self.now.bytes.now (from + n) (zeros k)) gap c.in_ok-zeros_at.ensures.ok))
+    (text_leads (declarations_of c.args.self.now.table.now) (message_of c.args.self.now.bytes.now c.args.self.now.handles.now) (omega (arith, short)) c.args.depth (is_optional c.args.entry.now) c.args.entry.now.bound c.args.place (at_of c.args.state.now) (omega (arith, c.requires.depth, c.if-depth-eq-MAX_DEPTH.false)) (c.is_present.ensures.0 c.if-not-is_present.false) (omega (arith, c.requires.room)) (λ i. omega (arith, c.args.self.now.octets i)) n (sym c.u64_at-count.ensures) (omega (arith, c.if-count-entry.false)) (omega (arith, value, within, c.if-size-rest.false)) (le-next_multiple_of n 8)
+    (c.is_text.ensures.0 c.if-not-is_text.false) (subst (λ k. Stands c.args.self.now.bytes.now (from + n) (zeros k)) gap c.in_ok-zeros_at.ensures.ok))

@@ -1,4 +1,4 @@
-use Rattle.std.proofs.Common.{◌≡◌, ◌≢◌, ◌+◌, ◌-◌, refl, sym, ap, subst, ◌∙◌, arith}
+use Rattle.std.proofs.Common.{true, false, ◌≡◌, ◌≢◌, ◌+◌, ◌-◌, refl, sym, ap, subst, ◌∙◌, arith}
 use Rattle.std.specs.Prelude.{Option, None, not, IsFalse}
 use Rattle.std.proofs.lemmas.Result.{IfOk-weaker, IfErr-weaker, on_err_weaker}
 use Rattle.fidl_wire.specs.Term.{Term, find}
@@ -10,33 +10,36 @@ use Rattle.fidl_decode.specs.State.{At}
 use Rattle.fidl_decode.specs.Envelopes.{Contained}
 use Rattle.fidl_decode.specs.Breaks.{BreaksUnion, BreaksMember, ordinal_at}
 use Rattle.fidl_decode.specs.Machine.{Opens, member_term, at_of}
-use Rattle.fidl_decode.proofs.Chosen.{not_zeros, member_is, no_member, one_member, union_refused, union_breaks, visits_absent_union, visits_union, member_breaks, member_refused, union_fine}
+use Rattle.fidl_decode.proofs.Chosen.{member_is, no_member, one_member, union_refused, union_breaks, visits_absent_union, visits_union, member_breaks, member_refused, union_fine}
 use Rattle.fidl_decode.proofs.decoder.Decoder.read_union.Goals.{else-is_none-via-then-is_none+else-is_strict, else-is_none-via-else-is_none}
 use Rattle.fidl_decode.proofs.decoder.Decoder.read_union.Goals as goal
 
-pub returns-in_default-clause-err : goal.returns-in_default-clause-err
-returns-in_default-clause-err c =
-    let b : BreaksUnion (message_of c.args.self.now.bytes.now c.args.self.now.handles.now) (is_optional (entry_at c.args.self.now.table.now c.args.entry)) (is_strict (entry_at c.args.self.now.table.now c.args.entry)) (members_of c.args.self.now.table.now c.args.entry) c.args.place (BadEnvelope (c.args.place + 8)) = (refl, sym c.u64_at-ordinal.ensures ∙ c.if-ordinal-eq0.true, not_zeros c.args.self.now.bytes.now (c.args.place + 8) c.presence_at.result c.in_default.not-Absent c.presence_at.ensures) in
+no_true : false ≡ true → ⊥
+no_true e = cc
+
+pub returns-then-not-is_absent-clause-err : goal.returns-then-not-is_absent-clause-err
+returns-then-not-is_absent-clause-err c =
+    let b : BreaksUnion (message_of c.args.self.now.bytes.now c.args.self.now.handles.now) (is_optional (entry_at c.args.self.now.table.now c.args.entry)) (is_strict (entry_at c.args.self.now.table.now c.args.entry)) (members_of c.args.self.now.table.now c.args.entry) c.args.place (BadEnvelope (c.args.place + 8)) = (refl, sym c.u64_at-ordinal.ensures ∙ c.if-ordinal-eq0.true, λ z. no_true (sym c.if-not-is_absent.true ∙ c.is_absent.ensures.1 z)) in
     union_refused c.args.self.now.table.now c.requires.table (message_of c.args.self.now.bytes.now c.args.self.now.handles.now) c.args.depth c.args.entry c.args.place (at_of c.args.state.now) c.requires.entry c.requires.kind (BadEnvelope (c.args.place + 8)) b
 
-pub returns-in_default-clause-told : goal.returns-in_default-clause-told
-returns-in_default-clause-told c =
-    let b : BreaksUnion (message_of c.args.self.now.bytes.now c.args.self.now.handles.now) (is_optional (entry_at c.args.self.now.table.now c.args.entry)) (is_strict (entry_at c.args.self.now.table.now c.args.entry)) (members_of c.args.self.now.table.now c.args.entry) c.args.place (BadEnvelope (c.args.place + 8)) = (refl, sym c.u64_at-ordinal.ensures ∙ c.if-ordinal-eq0.true, not_zeros c.args.self.now.bytes.now (c.args.place + 8) c.presence_at.result c.in_default.not-Absent c.presence_at.ensures) in
+pub returns-then-not-is_absent-clause-told : goal.returns-then-not-is_absent-clause-told
+returns-then-not-is_absent-clause-told c =
+    let b : BreaksUnion (message_of c.args.self.now.bytes.now c.args.self.now.handles.now) (is_optional (entry_at c.args.self.now.table.now c.args.entry)) (is_strict (entry_at c.args.self.now.table.now c.args.entry)) (members_of c.args.self.now.table.now c.args.entry) c.args.place (BadEnvelope (c.args.place + 8)) = (refl, sym c.u64_at-ordinal.ensures ∙ c.if-ordinal-eq0.true, λ z. no_true (sym c.if-not-is_absent.true ∙ c.is_absent.ensures.1 z)) in
     union_breaks c.args.self.now.table.now c.requires.table (message_of c.args.self.now.bytes.now c.args.self.now.handles.now) c.args.depth c.args.entry c.args.place (at_of c.args.state.now) c.requires.entry c.requires.kind (BadEnvelope (c.args.place + 8)) b
 
 pub returns-then-not-is_optional-clause-err : goal.returns-then-not-is_optional-clause-err
 returns-then-not-is_optional-clause-err c =
-    let b : BreaksUnion (message_of c.args.self.now.bytes.now c.args.self.now.handles.now) (is_optional (entry_at c.args.self.now.table.now c.args.entry)) (is_strict (entry_at c.args.self.now.table.now c.args.entry)) (members_of c.args.self.now.table.now c.args.entry) c.args.place (AbsentRequired c.args.place) = (refl, sym (ap is_optional c.entry-e.ensures.value) ∙ sym c.is_optional.ensures ∙ c.if-not-is_optional.true, sym c.u64_at-ordinal.ensures ∙ c.if-ordinal-eq0.true, c.in-Absent.ensures) in
+    let b : BreaksUnion (message_of c.args.self.now.bytes.now c.args.self.now.handles.now) (is_optional (entry_at c.args.self.now.table.now c.args.entry)) (is_strict (entry_at c.args.self.now.table.now c.args.entry)) (members_of c.args.self.now.table.now c.args.entry) c.args.place (AbsentRequired c.args.place) = (refl, sym (ap is_optional c.entry-e.ensures.value) ∙ sym c.is_optional.ensures ∙ c.if-not-is_optional.true, sym c.u64_at-ordinal.ensures ∙ c.if-ordinal-eq0.true, (c.is_absent.ensures.0 c.if-not-is_absent.false)) in
     union_refused c.args.self.now.table.now c.requires.table (message_of c.args.self.now.bytes.now c.args.self.now.handles.now) c.args.depth c.args.entry c.args.place (at_of c.args.state.now) c.requires.entry c.requires.kind (AbsentRequired c.args.place) b
 
 pub returns-then-not-is_optional-clause-told : goal.returns-then-not-is_optional-clause-told
 returns-then-not-is_optional-clause-told c =
-    let b : BreaksUnion (message_of c.args.self.now.bytes.now c.args.self.now.handles.now) (is_optional (entry_at c.args.self.now.table.now c.args.entry)) (is_strict (entry_at c.args.self.now.table.now c.args.entry)) (members_of c.args.self.now.table.now c.args.entry) c.args.place (AbsentRequired c.args.place) = (refl, sym (ap is_optional c.entry-e.ensures.value) ∙ sym c.is_optional.ensures ∙ c.if-not-is_optional.true, sym c.u64_at-ordinal.ensures ∙ c.if-ordinal-eq0.true, c.in-Absent.ensures) in
+    let b : BreaksUnion (message_of c.args.self.now.bytes.now c.args.self.now.handles.now) (is_optional (entry_at c.args.self.now.table.now c.args.entry)) (is_strict (entry_at c.args.self.now.table.now c.args.entry)) (members_of c.args.self.now.table.now c.args.entry) c.args.place (AbsentRequired c.args.place) = (refl, sym (ap is_optional c.entry-e.ensures.value) ∙ sym c.is_optional.ensures ∙ c.if-not-is_optional.true, sym c.u64_at-ordinal.ensures ∙ c.if-ordinal-eq0.true, (c.is_absent.ensures.0 c.if-not-is_absent.false)) in
     union_breaks c.args.self.now.table.now c.requires.table (message_of c.args.self.now.bytes.now c.args.self.now.handles.now) c.args.depth c.args.entry c.args.place (at_of c.args.state.now) c.requires.entry c.requires.kind (AbsentRequired c.args.place) b
 
 pub returns-then-ordinal-eq0-clause-ok : goal.returns-then-ordinal-eq0-clause-ok
 returns-then-ordinal-eq0-clause-ok c =
-    visits_absent_union c.args.self.now.table.now c.requires.table (message_of c.args.self.now.bytes.now c.args.self.now.handles.now) c.args.depth c.args.entry c.args.place (at_of c.args.state.now) c.requires.entry c.requires.kind c.requires.state c.requires.depth (c.args.state.now.steps - c.args.state.now.steps) (omega arith) (sym (ap is_optional c.entry-e.ensures.value) ∙ sym c.is_optional.ensures ∙ c.if-not-is_optional.false) c.in-Absent.ensures (omega (arith, c.requires.room)) (λ i. omega (arith, c.args.self.now.octets i)) (sym c.u64_at-ordinal.ensures ∙ c.if-ordinal-eq0.true)
+    visits_absent_union c.args.self.now.table.now c.requires.table (message_of c.args.self.now.bytes.now c.args.self.now.handles.now) c.args.depth c.args.entry c.args.place (at_of c.args.state.now) c.requires.entry c.requires.kind c.requires.state c.requires.depth (c.args.state.now.steps - c.args.state.now.steps) (omega arith) (sym (ap is_optional c.entry-e.ensures.value) ∙ sym c.is_optional.ensures ∙ c.if-not-is_optional.false) (c.is_absent.ensures.0 c.if-not-is_absent.false) (omega (arith, c.requires.room)) (λ i. omega (arith, c.args.self.now.octets i)) (sym c.u64_at-ordinal.ensures ∙ c.if-ordinal-eq0.true)
 
 pub returns-then-is_strict-clause-err : goal.returns-then-is_strict-clause-err
 returns-then-is_strict-clause-err c =

@@ -1,0 +1,112 @@
+// Worked cases: the constraints of handles, and the members that properties are written with.
+use crate::evaluated::check;
+use fidl_const::{ConstValue, Constraint, evaluate};
+use fidl_names::{DeclarationId, Meaning, PropertyId, items};
+use fidl_test_sources::{named, trees};
+use fidl_tree::{DeclarationBody, File, LayoutBody, TypeConstructor, Value};
+use std::alloc::Global;
+use std::test::Fail;
+
+const HANDLES: &[u8] =
+    b"library zx; type ObjType = enum : uint32 { VMO = 3; CHANNEL = 4; EVENT = 5; }; type Rights = bits { READ = 1; WRITE = 2; }; resource_definition Handle : uint32 { properties { subtype ObjType; rights Rights; }; };";
+
+#[test]
+fn refuses_constraints_of_another_kind(rt: HostRuntime) -> Result<(), Fail> {
+    check(
+        &rt,
+        rt.alloc(),
+        r#"
+            zx := library zx; type ObjType = enum : uint32 { VMO = 3; CHANNEL = 4; EVENT = 5; }; type Rights = bits { READ = 1; WRITE = 2; }; resource_definition Handle : uint32 { properties { subtype ObjType; rights Rights; }; };
+            WrongKind 1:1:61 && zx && library t; using zx; type S = resource struct { h zx.Handle:5; };
+            WrongKind 1:1:61 && zx && library t; using zx; type S = resource struct { h zx.Handle:zx.Rights.READ; };
+            WrongKind 1:1:67 && zx && library t; using zx; type S = resource struct { h zx.Handle:<VMO, zx.ObjType.VMO>; };
+            WrongKind 1:1:82 && zx && library t; using zx; const N uint32 = 3; type S = resource struct { h zx.Handle:<N, READ>; };
+        "#,
+    )
+}
+
+#[test]
+fn accepts_constraints_of_handles(rt: HostRuntime) -> Result<(), Fail> {
+    check(
+        &rt,
+        rt.alloc(),
+        r#"
+            zx := library zx; type ObjType = enum : uint32 { VMO = 3; CHANNEL = 4; EVENT = 5; }; type Rights = bits { READ = 1; WRITE = 2; }; resource_definition Handle : uint32 { properties { subtype ObjType; rights Rights; }; };
+            none && zx && library t; using zx; type S = resource struct { h zx.Handle:VMO; };
+            none && zx && library t; using zx; const V zx.ObjType = zx.ObjType.EVENT; type S = resource struct { h zx.Handle:<V, READ>; };
+            none && zx && library t; using zx; type S = resource struct { h zx.Handle:<CHANNEL, zx.Rights.READ | zx.Rights.WRITE, optional>; };
+            none && zx && library t; using zx; alias H = zx.Handle:VMO; type S = resource struct { h H:optional; };
+        "#,
+    )
+}
+
+/// The value of the first constraint of the type of the first member of a file's first struct.
+fn first_constraint<'f>(alloc: Global, file: &'f File<'_>) -> Result<&'f Value, Fail> {
+    let declaration = file.declarations.first().ok_or("a declaration")?;
+    let DeclarationBody::Type(declared) = &declaration.body else {
+        return Err("a type".into());
+    };
+    let LayoutBody::Struct(layout) = &declared.layout.body else {
+        return Err("a struct".into());
+    };
+    let member = layout.members.first().ok_or("a member")?;
+    let TypeConstructor::Named(named) = &member.constructor else {
+        return Err("a name".into());
+    };
+    let values = items(alloc, named.constraints.as_ref())?;
+    Ok(*values.first().ok_or("a constraint")?)
+}
+
+#[test]
+fn gives_the_values_of_constraints_of_handles(rt: HostRuntime) -> Result<(), Fail> {
+    let alloc = rt.alloc();
+    let source = b"library t; using zx; type S = resource struct { h zx.Handle:VMO; };";
+    let files = trees(alloc, &[HANDLES, source])?;
+    let named = named(alloc, &files)?;
+    if named.count() < 2 {
+        return Err("two files".into());
+    }
+    let consts = evaluate(alloc, &named)?;
+    let value = first_constraint(alloc, files.get(1).ok_or("a file")?)?;
+    let end = Meaning::Declared(DeclarationId { file: 0, index: 2 });
+    let cases: [(usize, Result<Option<i128>, u32>); 3] = [
+        (0, Ok(Some(3))),
+        (1, Err(2)),
+        (2, Ok(None)),
+    ];
+    for (rank, want) in cases {
+        let constraint = Constraint { end, rank, value };
+        let found = match consts.handle_value(alloc, &named, 1, constraint) {
+            Ok(Some(ConstValue::Number(number))) => Ok(Some(number)),
+            Ok(Some(_)) => Err(0),
+            Ok(None) => Ok(None),
+            Err(fault) => Err(fault.number()),
+        };
+        assert_eq!(rt; found, want, "the value of the constraint numbered {rank}");
+    }
+    Ok(())
+}
+
+#[test]
+fn gives_the_members_that_properties_are_written_with(rt: HostRuntime) -> Result<(), Fail> {
+    let alloc = rt.alloc();
+    let source =
+        b"library zx; resource_definition H : uint32 { properties { subtype enum : uint8 { VMO = 7; }; }; };";
+    let files = trees(alloc, &[source])?;
+    let named = named(alloc, &files)?;
+    let consts = evaluate(alloc, &named)?;
+    let at = PropertyId {
+        id: DeclarationId { file: 0, index: 0 },
+        number: 0,
+    };
+    let first = consts
+        .property_member(alloc, &named, at, 0)?
+        .map(|entry| entry.value);
+    assert!(rt;
+        matches!(first, Some(ConstValue::Number(7))),
+        "the number of the member"
+    );
+    let none = consts.property_member(alloc, &named, at, 1)?;
+    assert!(rt; none.is_none(), "no second member");
+    Ok(())
+}

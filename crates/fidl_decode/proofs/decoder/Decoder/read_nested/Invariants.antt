@@ -1,0 +1,16 @@
+use Rattle.std.proofs.Common.{◌-◌, ◌≤◌}
+use Rattle.std.specs.Prelude.{Some}
+use Rattle.fidl_decode.specs.Machine.{at_of, Turns, turn_work}
+use Rattle.fidl_decode.specs.Faults.{message_of}
+use Rattle.fidl_decode.proofs.Leaves.{left_over}
+use Rattle.fidl_decode.proofs.decoder.Decoder.read_nested.Given as goal
+
+-- what is read so far is a turn that leaves this frame
+abbrev pub invariant-loop-now : goal.invariant-loop-now
+invariant-loop-now l = record {
+  turns : Turns l.self.table.now (message_of l.self.bytes.now l.self.handles.now) l.fn.frame (at_of l.fn.state) (at_of l.state) (l.state.steps - l.fn.state.steps) (left_over (Some l.now));
+  steps : l.fn.state.steps ≤ l.state.steps;
+}
+
+abbrev pub decreases-loop-now : goal.decreases-loop-now
+decreases-loop-now l = turn_work l.self.bytes.now l.state.next l.now

@@ -1,0 +1,10 @@
+pub mod Lists
+pub mod Flat
+pub mod Parts
+pub mod Fields
+pub mod Agree
+pub mod Nests
+pub mod Visits
+pub mod Laid
+pub mod Excluded
+pub mod Chains

@@ -1,0 +1,9 @@
+//! Tests of the calls over definitions: their figures and their rules.
+#![tactic(auto)]
+
+#[cfg(test)]
+mod figures;
+#[cfg(test)]
+mod rules;
+#[cfg(test)]
+mod samples;

@@ -1,0 +1,5 @@
+pub mod Counting
+pub mod Descending
+pub mod Finding
+pub mod Heads
+pub mod OneTerm

@@ -1,0 +1,27 @@
+-- What types are at once, as the code has it, and what the code knows of the files.
+use Rattle.std.specs.Prelude.{◌≡◌, List, [], ◌∷◌}
+use Rattle.fidl_const.specs.Tables.{AreConsts}
+use Rattle.fidl_layouts.specs.FormViews.{seen_forms}
+use Rattle.fidl_behind.specs.BehindViews.{seen_use}
+use Rattle.fidl_term.specs.Terms.{seen_type}
+use Rattle.fidl_terms.specs.declared.sources.Sources.{Sources}
+use Rattle.fidl_terms.specs.declared.node.Node.{Node as CodeNode}
+use Rattle.fidl_terms.specs.declared.node.Node.TheVariants as code
+use Rattle.fidl_terms.specs.Numbers.{all_forms}
+use Rattle.fidl_terms.specs.declared.node.Shape.{Shape}
+use Rattle.fidl_wire.specs.Term.{Term}
+use Rattle.fidl_terms.specs.Terms.{Node, leaf, holds, made_of}
+
+abbrev pub seen_node : CodeNode → Node
+seen_node (code.Leaf t) = leaf (seen_type t)
+seen_node (code.Elements number next s) = holds number (seen_use next) s
+
+-- the files with the values of their constants and all their forms
+pub record AreKnown (s : Sources) : Type 0 where
+  pub consts : AreConsts s.named.now s.consts.now
+  pub forms : seen_forms s.forms.now ≡ all_forms s.named.now
+
+-- the first shape of the second, that of the third and so on, the last one of this term
+abbrev pub made_of_all : List Shape → Term → Term
+made_of_all [] e = e
+made_of_all (s ∷ ss) e = made_of s (made_of_all ss e)

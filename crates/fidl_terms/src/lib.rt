@@ -1,0 +1,16 @@
+//! The terms of types, aliases followed (docs/language.md, "Terms of types").
+#![tactic(auto)]
+
+mod arguments;
+mod counts;
+mod laws;
+mod node;
+mod numbers;
+mod sources;
+mod terms;
+mod words;
+pub mod worked;
+
+pub use laws::the_term_of_a_type_is_one;
+pub use sources::Sources;
+pub use terms::term_of;
