@@ -66,7 +66,7 @@ abbrev pub word_term : Predeclared → List Part → Option Term
 word_term w parts = number_or (word_kind w) (other_term w parts)
 
 abbrev pub is_struct : Layout → Bool
-is_struct (struct_layout is_resource keyword members) = true
+is_struct (struct_layout _ _ _) = true
 is_struct _ = false
 
 -- a type in the file of this number is a struct of this number
