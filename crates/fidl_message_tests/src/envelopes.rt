@@ -1,237 +1,129 @@
 //! Tables of tables and unions that are accepted or refused, and messages of them with known,
 //! unknown and absent members.
-use crate::tables::{EntryFields, answer, push_entry, push_row, push_value, start};
-use fidl_decode::{DecodeFault, Scratch};
-use fidl_verify::verify;
-use fidl_wire::HandleInfo;
-use std::alloc::{AllocError, Global};
+use crate::judging::{Asked, Suite, judge_all};
 use std::test::Fail;
 
-/// A table written by hand after the table's rules: 0 `table {1: a uint8; 2: b string;}`, 1 `uint8`,
-/// 2 `string`, 3 `struct {u U;}`, 4 `U = union {1: n uint32;}`, 5 `uint32`, 6 `struct {u
-/// U:optional;}`, 7 `U:optional`, 8 `struct {u S;}`, 9 `S = strict union {1: n uint32;}`.
-pub(crate) const ENVELOPES: [u8; 572] = [
-    0x46, 0x43, 0x54, 0x32, 0x01, 0x00, 0x00, 0x00, 0x0a, 0x00, 0x00, 0x00, 0x08, 0x00, 0x00, 0x00,
-    0x00, 0x00, 0x00, 0x00, 0x00, 0x00, 0x00, 0x00, 0x00, 0x00, 0x00, 0x00, 0x00, 0x00, 0x00, 0x00,
-    0x04, 0x00, 0x00, 0x00, 0x00, 0x00, 0x00, 0x00, 0x11, 0x00, 0x08, 0x00, 0x10, 0x00, 0x00, 0x00,
-    0x00, 0x00, 0x00, 0x00, 0x02, 0x00, 0x00, 0x00, 0x00, 0x00, 0x00, 0x00, 0x00, 0x00, 0x00, 0x00,
-    0x00, 0x00, 0x00, 0x00, 0x00, 0x00, 0x00, 0x00, 0x00, 0x00, 0x00, 0x00, 0x00, 0x00, 0x00, 0x00,
-    0x06, 0x00, 0x01, 0x00, 0x01, 0x00, 0x00, 0x00, 0x00, 0x00, 0x00, 0x00, 0x00, 0x00, 0x00, 0x00,
-    0x00, 0x00, 0x00, 0x00, 0x00, 0x00, 0x00, 0x00, 0x00, 0x00, 0x00, 0x00, 0x00, 0x00, 0x00, 0x00,
-    0x00, 0x00, 0x00, 0x00, 0x00, 0x00, 0x00, 0x00, 0x0c, 0x00, 0x08, 0x00, 0x10, 0x00, 0x00, 0x00,
-    0x00, 0x00, 0x00, 0x00, 0x00, 0x00, 0x00, 0x00, 0xff, 0xff, 0xff, 0xff, 0x00, 0x00, 0x00, 0x00,
-    0x00, 0x00, 0x00, 0x00, 0x00, 0x00, 0x00, 0x00, 0x00, 0x00, 0x00, 0x00, 0x00, 0x00, 0x00, 0x00,
-    0x10, 0x00, 0x08, 0x01, 0x10, 0x00, 0x00, 0x00, 0x02, 0x00, 0x00, 0x00, 0x01, 0x00, 0x00, 0x00,
-    0x00, 0x00, 0x00, 0x00, 0x00, 0x00, 0x00, 0x00, 0x00, 0x00, 0x00, 0x00, 0x00, 0x00, 0x00, 0x00,
-    0x00, 0x00, 0x00, 0x00, 0x00, 0x00, 0x00, 0x00, 0x12, 0x00, 0x08, 0x00, 0x10, 0x00, 0x00, 0x00,
-    0x03, 0x00, 0x00, 0x00, 0x01, 0x00, 0x00, 0x00, 0x00, 0x00, 0x00, 0x00, 0x00, 0x00, 0x00, 0x00,
-    0x00, 0x00, 0x00, 0x00, 0x00, 0x00, 0x00, 0x00, 0x00, 0x00, 0x00, 0x00, 0x00, 0x00, 0x00, 0x00,
-    0x08, 0x00, 0x04, 0x00, 0x04, 0x00, 0x00, 0x00, 0x00, 0x00, 0x00, 0x00, 0x00, 0x00, 0x00, 0x00,
-    0x00, 0x00, 0x00, 0x00, 0x00, 0x00, 0x00, 0x00, 0x00, 0x00, 0x00, 0x00, 0x00, 0x00, 0x00, 0x00,
-    0x00, 0x00, 0x00, 0x00, 0x00, 0x00, 0x00, 0x00, 0x10, 0x00, 0x08, 0x01, 0x10, 0x00, 0x00, 0x00,
-    0x04, 0x00, 0x00, 0x00, 0x01, 0x00, 0x00, 0x00, 0x00, 0x00, 0x00, 0x00, 0x00, 0x00, 0x00, 0x00,
-    0x00, 0x00, 0x00, 0x00, 0x00, 0x00, 0x00, 0x00, 0x00, 0x00, 0x00, 0x00, 0x00, 0x00, 0x00, 0x00,
-    0x12, 0x01, 0x08, 0x00, 0x10, 0x00, 0x00, 0x00, 0x05, 0x00, 0x00, 0x00, 0x01, 0x00, 0x00, 0x00,
-    0x00, 0x00, 0x00, 0x00, 0x00, 0x00, 0x00, 0x00, 0x00, 0x00, 0x00, 0x00, 0x00, 0x00, 0x00, 0x00,
-    0x00, 0x00, 0x00, 0x00, 0x00, 0x00, 0x00, 0x00, 0x10, 0x00, 0x08, 0x01, 0x10, 0x00, 0x00, 0x00,
-    0x06, 0x00, 0x00, 0x00, 0x01, 0x00, 0x00, 0x00, 0x00, 0x00, 0x00, 0x00, 0x00, 0x00, 0x00, 0x00,
-    0x00, 0x00, 0x00, 0x00, 0x00, 0x00, 0x00, 0x00, 0x00, 0x00, 0x00, 0x00, 0x00, 0x00, 0x00, 0x00,
-    0x12, 0x02, 0x08, 0x00, 0x10, 0x00, 0x00, 0x00, 0x07, 0x00, 0x00, 0x00, 0x01, 0x00, 0x00, 0x00,
-    0x00, 0x00, 0x00, 0x00, 0x00, 0x00, 0x00, 0x00, 0x00, 0x00, 0x00, 0x00, 0x00, 0x00, 0x00, 0x00,
-    0x00, 0x00, 0x00, 0x00, 0x00, 0x00, 0x00, 0x00, 0x01, 0x00, 0x00, 0x00, 0x01, 0x00, 0x00, 0x00,
-    0x00, 0x00, 0x00, 0x00, 0x01, 0x00, 0x00, 0x00, 0x02, 0x00, 0x00, 0x00, 0x02, 0x00, 0x00, 0x00,
-    0x01, 0x00, 0x00, 0x00, 0x01, 0x00, 0x00, 0x00, 0x00, 0x00, 0x00, 0x00, 0x04, 0x00, 0x00, 0x00,
-    0x02, 0x00, 0x00, 0x00, 0x01, 0x00, 0x00, 0x00, 0x01, 0x00, 0x00, 0x00, 0x05, 0x00, 0x00, 0x00,
-    0x03, 0x00, 0x00, 0x00, 0x01, 0x00, 0x00, 0x00, 0x00, 0x00, 0x00, 0x00, 0x07, 0x00, 0x00, 0x00,
-    0x02, 0x00, 0x00, 0x00, 0x01, 0x00, 0x00, 0x00, 0x01, 0x00, 0x00, 0x00, 0x05, 0x00, 0x00, 0x00,
-    0x03, 0x00, 0x00, 0x00, 0x01, 0x00, 0x00, 0x00, 0x00, 0x00, 0x00, 0x00, 0x09, 0x00, 0x00, 0x00,
-    0x02, 0x00, 0x00, 0x00, 0x01, 0x00, 0x00, 0x00, 0x01, 0x00, 0x00, 0x00, 0x05, 0x00, 0x00, 0x00,
-    0x03, 0x00, 0x00, 0x00, 0x01, 0x00, 0x00, 0x00, 0x61, 0x62, 0x75, 0x6e,
-];
+/// A table written by hand after the table's rules: 0 `table {1: a uint8; 2: b string;}`, 1
+/// `uint8`, 2 `string`, 3 `struct {u U;}`, 4 `U = union {1: n uint32;}`, 5 `uint32`, 6 `struct
+/// {u U:optional;}`, 7 `U:optional`, 8 `struct {u S;}`, 9 `S = strict union {1: n uint32;}`.
+pub(crate) const ENVELOPES: &str = "
+    46435432 0100 0000 0a000000 08000000 00000000 00000000 00000000 00000000 04000000 00000000
+    11 00 08 00 10000000 00000000 02000000 0000000000000000 00000000 00000000 00000000 00000000
+    06 00 01 00 01000000 00000000 00000000 0000000000000000 00000000 00000000 00000000 00000000
+    0c 00 08 00 10000000 00000000 00000000 ffffffff00000000 00000000 00000000 00000000 00000000
+    10 00 08 01 10000000 02000000 01000000 0000000000000000 00000000 00000000 00000000 00000000
+    12 00 08 00 10000000 03000000 01000000 0000000000000000 00000000 00000000 00000000 00000000
+    08 00 04 00 04000000 00000000 00000000 0000000000000000 00000000 00000000 00000000 00000000
+    10 00 08 01 10000000 04000000 01000000 0000000000000000 00000000 00000000 00000000 00000000
+    12 01 08 00 10000000 05000000 01000000 0000000000000000 00000000 00000000 00000000 00000000
+    10 00 08 01 10000000 06000000 01000000 0000000000000000 00000000 00000000 00000000 00000000
+    12 02 08 00 10000000 07000000 01000000 0000000000000000 00000000 00000000 00000000 00000000
+    01000000 01000000 00000000 01000000
+    02000000 02000000 01000000 01000000
+    00000000 04000000 02000000 01000000
+    01000000 05000000 03000000 01000000
+    00000000 07000000 02000000 01000000
+    01000000 05000000 03000000 01000000
+    00000000 09000000 02000000 01000000
+    01000000 05000000 03000000 01000000
+    6162756e
+";
 
-/// The number and the place of the fault, or zeros where the table is accepted.
-fn refusal(bytes: &[u8]) -> (u32, u32) {
-    match verify(bytes) {
-        Ok(_) => (0, 0),
-        Err(fault) => (fault.number(), fault.at()),
-    }
-}
+/// `struct {v vector<U>;}`, where U is a union of 60,000 members, which are `uint32`.
+const MANY_MEMBERS: &str = "
+    46435432 0100 0000 04000000 61ea0000 00000000*4 01000000 00000000
+    10 00 08 01 10000000 00000000 01000000 0000000000000000 00000000 00000000 00000000 00000000
+    0d 00 08 00 10000000 02000000 00000000 ffffffff00000000 00000000 00000000 00000000 00000000
+    12 00 08 00 10000000 01000000 60ea0000 0000000000000000 00000000 00000000 00000000 00000000
+    08 00 04 00 04000000 00000000 00000000 0000000000000000 00000000 00000000 00000000 00000000
+    00000000 01000000 00000000 01000000
+    0100000003000000:1,0000000001000000*60000
+    61
+";
 
-/// `ENVELOPES` with one byte changed: its place, the byte, and the fault's number and place.
-const EDITS: [(usize, u8, u32, u32); 13] = [
-    // the ordinals of the table: 1 twice, none, the last, one more
-    (456, 1, 10, 0),
-    (440, 0, 10, 0),
-    (456, 64, 0, 0),
-    (456, 65, 10, 0),
-    // the ordinal of a union: none, any
-    (488, 0, 10, 4),
-    (491, 255, 0, 0),
-    // unions: strict and optional, another flag, strict without members
-    (401, 3, 0, 0),
-    (401, 4, 5, 9),
-    (412, 0, 5, 9),
-    // tables: optional, of 65 members, of another size and nest
-    (41, 1, 5, 0),
-    (52, 65, 5, 0),
-    (44, 8, 8, 0),
-    (43, 1, 9, 0),
-];
-
-#[test]
-fn one_byte_breaks_one_rule(rt: HostRuntime) {
-    assert_eq!(rt; refusal(&ENVELOPES), (0, 0));
-    for (place, byte, number, at) in EDITS {
-        let mut bytes = ENVELOPES;
-        assert!(rt; place < bytes.len());
-        bytes[place] = byte;
-        assert_eq!(rt; refusal(&bytes), (number, at), "byte {place}");
-    }
-}
-
-/// A table of one member, whose number stands in its envelope.
-pub(crate) const INLINE: [u8; 24] = [
-    1, 0, 0, 0, 0, 0, 0, 0, 255, 255, 255, 255, 255, 255, 255, 255, 5, 0, 0, 0, 0, 0, 1, 0,
-];
-
-/// The same with an absent envelope behind it.
-pub(crate) const ABSENT: [u8; 32] = [
-    2, 0, 0, 0, 0, 0, 0, 0, 255, 255, 255, 255, 255, 255, 255, 255, 5, 0, 0, 0, 0, 0, 1, 0, 0, 0,
-    0, 0, 0, 0, 0, 0,
-];
-
-/// A table whose third member, which is unknown, stands in its envelope.
-pub(crate) const UNKNOWN: [u8; 40] = [
-    3, 0, 0, 0, 0, 0, 0, 0, 255, 255, 255, 255, 255, 255, 255, 255, 0, 0, 0, 0, 0, 0, 0, 0, 0, 0,
-    0, 0, 0, 0, 0, 0, 1, 2, 3, 4, 0, 0, 1, 0,
-];
-
-/// Messages: their type, their bytes, and the refusal.
-const MESSAGES: [(u32, &[u8], Option<DecodeFault>); 11] = [
-    (0, &INLINE, None),
-    (0, &ABSENT, None),
-    (0, &UNKNOWN, None),
-    // a union, whose member stands in the envelope, and may not stand behind it
-    (3, &[1, 0, 0, 0, 0, 0, 0, 0, 7, 0, 0, 0, 0, 0, 1, 0], None),
-    (
-        3,
-        &[
-            1, 0, 0, 0, 0, 0, 0, 0, 8, 0, 0, 0, 0, 0, 0, 0, 7, 0, 0, 0, 0, 0, 0, 0,
-        ],
-        Some(DecodeFault::BadEnvelope { at: 8 }),
-    ),
-    // an absent one
-    (3, &[0; 16], Some(DecodeFault::AbsentRequired { at: 0 })),
-    (6, &[0; 16], None),
-    (
-        6,
-        &[0, 0, 0, 0, 0, 0, 0, 0, 5, 0, 0, 0, 0, 0, 1, 0],
-        Some(DecodeFault::BadEnvelope { at: 8 }),
-    ),
-    // an unknown member, of a flexible union and of a strict one
-    (3, &[2, 0, 0, 0, 0, 0, 0, 0, 7, 0, 0, 0, 0, 0, 1, 0], None),
-    (8, &[1, 0, 0, 0, 0, 0, 0, 0, 7, 0, 0, 0, 0, 0, 1, 0], None),
-    (
-        8,
-        &[2, 0, 0, 0, 0, 0, 0, 0, 7, 0, 0, 0, 0, 0, 1, 0],
-        Some(DecodeFault::UnknownOrdinal { at: 0 }),
-    ),
+const SUITES: [Suite<'_>; 5] = [
+    Suite {
+        asked: Asked::Verdict,
+        table: ENVELOPES,
+        count: 14,
+        cases: "
+            -> accepted 10
+            # the ordinals of the table: 1 twice, none, the last, one more
+            456=01 -> 10 NotSorted 0
+            440=00 -> 10 NotSorted 0
+            456=40 -> accepted 10
+            456=41 -> 10 NotSorted 0
+            # the ordinal of a union: none, any
+            488=00 -> 10 NotSorted 4
+            491=ff -> accepted 10
+            # unions: strict and optional, another flag, strict without members
+            401=03 -> accepted 10
+            401=04 -> 5 BadKind 9
+            412=00 -> 5 BadKind 9
+            # tables: optional, of 65 members, of another size and nest
+            41=01 -> 5 BadKind 0
+            52=41 -> 5 BadKind 0
+            44=08 -> 8 BadSize 0
+            43=01 -> 9 BadNest 0
+        ",
+    },
+    // A number in its envelope, with an absent envelope behind it, an unknown member; and unions: a
+    // member may not stand behind an envelope that it fits into.
+    Suite {
+        asked: Asked::Message,
+        table: ENVELOPES,
+        count: 11,
+        cases: "
+            0 0100000000000000 ffffffffffffffff 0500000000000100 -> decoded
+            0 0200000000000000 ffffffffffffffff 0500000000000100 0000000000000000 -> decoded
+            0 0300000000000000 ffffffffffffffff 0000000000000000 0000000000000000 0102030400000100 -> decoded
+            3 0100000000000000 0700000000000100 -> decoded
+            3 0100000000000000 0800000000000000 0700000000000000 -> 13 BadEnvelope 8
+            3 0000000000000000 0000000000000000 -> 9 AbsentRequired 0
+            6 0000000000000000 0000000000000000 -> decoded
+            6 0000000000000000 0500000000000100 -> 13 BadEnvelope 8
+            3 0200000000000000 0700000000000100 -> decoded
+            8 0100000000000000 0700000000000100 -> decoded
+            8 0200000000000000 0700000000000100 -> 15 UnknownOrdinal 0
+        ",
+    },
+    Suite {
+        asked: Asked::Message,
+        table: ENVELOPES,
+        count: 7,
+        cases: "
+            # The text `hi`: its envelope, at 24, counts 24 bytes.
+            0 0200000000000000 ffffffffffffffff 0000000000000000 1800000000000000 0200000000000000 ffffffffffffffff 6869000000000000 -> decoded
+            0 0200000000000000 ffffffffffffffff 0000000000000000 1000000000000000 0200000000000000 ffffffffffffffff 6869000000000000 -> 14 WrongCounts 24
+            0 0200000000000000 ffffffffffffffff 0000000000000000 2000000000000000 0200000000000000 ffffffffffffffff 6869000000000000 -> 14 WrongCounts 24
+            0 0200000000000000 ffffffffffffffff 0000000000000000 1400000000000000 0200000000000000 ffffffffffffffff 6869000000000000 -> 13 BadEnvelope 24
+            # An unknown member behind the envelopes, with a handle. Its envelope is at 48.
+            0 0500000000000000 ffffffffffffffff 0000000000000000 0000000000000000 0000000000000000 0000000000000000 0800000001000000 1122334455667788 with 9:3:1 -> decoded
+            0 0500000000000000 ffffffffffffffff 0000000000000000 0000000000000000 0000000000000000 0000000000000000 0800000001000000 1122334455667788 -> 17 HandleMissing 48
+            0 0500000000000000 ffffffffffffffff 0000000000000000 0000000000000000 0000000000000000 0000000000000000 0400000001000000 1122334455667788 with 9:3:1 -> 13 BadEnvelope 48
+        ",
+    },
+    Suite {
+        asked: Asked::Verdict,
+        table: MANY_MEMBERS,
+        count: 1,
+        cases: "
+            -> accepted 4
+        ",
+    },
+    // A message of the greatest length, 65,536 bytes, in which the last of many members is searched
+    // for each time.
+    Suite {
+        asked: Asked::Message,
+        table: MANY_MEMBERS,
+        count: 1,
+        cases: "
+            0 ff0f000000000000 ffffffffffffffff 60ea000000000000,0700000000000100*4095 -> decoded
+        ",
+    },
 ];
 
 #[test]
-fn members_in_their_envelopes_are_decoded(rt: HostRuntime) -> Result<(), Fail> {
-    let table = verify(&ENVELOPES)?;
-    assert!(rt; table.entries() == 10);
-    let mut scratch = Scratch::new(rt.alloc())?;
-    for (entry, bytes, wanted) in MESSAGES {
-        if entry < 10 {
-            assert!(rt; answer(&table, entry, bytes, &[], &mut scratch) == wanted);
-        }
-    }
-    Ok(())
-}
-
-/// A table whose second member is the text `hi`. Its envelope, at 24, counts 24 bytes.
-pub(crate) const TEXT: [u8; 56] = [
-    2, 0, 0, 0, 0, 0, 0, 0, 255, 255, 255, 255, 255, 255, 255, 255, 0, 0, 0, 0, 0, 0, 0, 0, 24, 0,
-    0, 0, 0, 0, 0, 0, 2, 0, 0, 0, 0, 0, 0, 0, 255, 255, 255, 255, 255, 255, 255, 255, 104, 105, 0,
-    0, 0, 0, 0, 0,
-];
-
-/// A table whose fifth member, which is unknown, stands behind the envelopes, with a handle. Its
-/// envelope is at 48.
-pub(crate) const UNKNOWN_OUTSIDE: [u8; 64] = [
-    5, 0, 0, 0, 0, 0, 0, 0, 255, 255, 255, 255, 255, 255, 255, 255, 0, 0, 0, 0, 0, 0, 0, 0, 0, 0,
-    0, 0, 0, 0, 0, 0, 0, 0, 0, 0, 0, 0, 0, 0, 0, 0, 0, 0, 0, 0, 0, 0, 8, 0, 0, 0, 1, 0, 0, 0, 0x11,
-    0x22, 0x33, 0x44, 0x55, 0x66, 0x77, 0x88,
-];
-
-#[test]
-fn members_behind_their_envelopes_are_counted(rt: HostRuntime) -> Result<(), Fail> {
-    let table = verify(&ENVELOPES)?;
-    assert!(rt; table.entries() == 10);
-    let mut scratch = Scratch::new(rt.alloc())?;
-    for (count, wanted) in [
-        (24, None),
-        (16, Some(DecodeFault::WrongCounts { at: 24 })),
-        (32, Some(DecodeFault::WrongCounts { at: 24 })),
-        (20, Some(DecodeFault::BadEnvelope { at: 24 })),
-    ] {
-        let mut bytes = TEXT;
-        bytes[24] = count;
-        assert!(rt; answer(&table, 0, &bytes, &[], &mut scratch) == wanted);
-    }
-    let handle = HandleInfo {
-        id: 9,
-        object_type: 3,
-        rights: 1,
-    };
-    let mut bytes = UNKNOWN_OUTSIDE;
-    assert!(rt; answer(&table, 0, &bytes, &[handle], &mut scratch).is_none());
-    let missing = answer(&table, 0, &bytes, &[], &mut scratch);
-    assert!(rt; missing == Some(DecodeFault::HandleMissing { at: 48 }));
-    bytes[48] = 4;
-    let refused = answer(&table, 0, &bytes, &[handle], &mut scratch);
-    assert!(rt; refused == Some(DecodeFault::BadEnvelope { at: 48 }));
-    Ok(())
-}
-
-/// `struct {v vector<U>;}`, where U is a union of so many members, which are `uint32`.
-fn table_of_unions(alloc: Global, members: u32) -> Result<Vec<u8>, AllocError> {
-    let mut table = start(alloc, 4, members.saturating_add(1), 0)?;
-    push_entry(&mut table, EntryFields::holder(16, 8, 0, 1))?;
-    push_entry(&mut table, EntryFields::vector(2, 4_294_967_295))?;
-    push_entry(&mut table, EntryFields::flexible_union(1, members))?;
-    push_entry(&mut table, EntryFields::plain(8, 4))?;
-    push_row(&mut table, 0, 1)?;
-    for place in 0..members {
-        push_row(&mut table, place + 1, 3)?;
-    }
-    table.push(b'a')?;
-    Ok(table)
-}
-
-/// A vector of so many unions of this ordinal, whose member is 7.
-fn message_of_unions(alloc: Global, count: u64, ordinal: u64) -> Result<Vec<u8>, AllocError> {
-    let mut bytes = Vec::new(alloc);
-    push_value(&mut bytes, count)?;
-    push_value(&mut bytes, u64::MAX)?;
-    for _ in 0..count {
-        push_value(&mut bytes, ordinal)?;
-        push_value(&mut bytes, 0x0001_0000_0000_0007)?;
-    }
-    Ok(bytes)
-}
-
-/// A message of the greatest length, in which the last of many members is searched for each time.
-#[test]
-fn a_union_has_many_members(rt: HostRuntime) -> Result<(), Fail> {
-    let written = table_of_unions(rt.alloc(), 60_000)?;
-    let table = verify(written.as_slice())?;
-    assert!(rt; table.entries() == 4);
-    let mut scratch = Scratch::new(rt.alloc())?;
-    let bytes = message_of_unions(rt.alloc(), 4_095, 60_000)?;
-    assert!(rt; bytes.len() == 65_536);
-    assert!(rt; answer(&table, 0, bytes.as_slice(), &[], &mut scratch).is_none());
-    Ok(())
+fn tables_and_unions_are_decoded(rt: HostRuntime) -> Result<(), Fail> {
+    judge_all(&rt, rt.alloc(), &SUITES)
 }

@@ -1,4 +1,7 @@
 //! Tests of the message side's public calls, from the records of a table to the views of a message.
+//!
+//! A case is a line of text: `reading` says how it is written, and `judging` has the loop that goes
+//! through the cases, with what is asked in them.
 #![tactic(auto)]
 
 #[cfg(test)]
@@ -18,7 +21,11 @@ mod envelopes;
 #[cfg(test)]
 mod hostile;
 #[cfg(test)]
+mod judging;
+#[cfg(test)]
 mod limits;
+#[cfg(test)]
+mod lookups;
 #[cfg(test)]
 mod members;
 #[cfg(test)]
@@ -26,12 +33,16 @@ mod numbers;
 #[cfg(test)]
 mod outside;
 #[cfg(test)]
+mod reading;
+#[cfg(test)]
 mod records;
 #[cfg(test)]
-mod tables;
+mod rules;
+#[cfg(test)]
+mod showing;
+#[cfg(test)]
+mod structs;
 #[cfg(test)]
 mod values;
 #[cfg(test)]
 mod verifying;
-#[cfg(test)]
-mod views;

@@ -1,179 +1,172 @@
 //! Tables and messages at each limit, and one past it.
-use crate::tables::{EntryFields, answer, push_entry, push_row, push_value, start};
-use fidl_decode::{DecodeFault, Scratch};
-use fidl_verify::{TableFault, verify};
-use fidl_wire::HandleInfo;
-use std::alloc::{AllocError, Global};
+use crate::judging::{Asked, Suite, judge_all};
+use crate::showing::text;
+use fidl_decode::{DecodeFault, Scratch, decode};
+use fidl_verify::Table;
+use std::alloc::Global;
 use std::test::Fail;
 
-/// `struct {a array<bool, COUNT>;}`.
-fn table_of_bools(alloc: Global, count: u32) -> Result<Vec<u8>, AllocError> {
-    let mut table = start(alloc, 3, 1, 0)?;
-    push_entry(&mut table, EntryFields::holder(count, 1, 0, 1).nested(2))?;
-    push_entry(&mut table, EntryFields::array(count, 1, 2, count))?;
-    push_entry(&mut table, EntryFields::boolean())?;
-    push_row(&mut table, 0, 1)?;
-    table.push(b'a')?;
-    Ok(table)
-}
+/// `struct {a array<bool, 65535>;}`.
+const LONG: &str = "
+    46435432 0100 0000 03000000 01000000 00000000 00000000 00000000 00000000 01000000 00000000
+    10 00 01 02 ffff0000 00000000 01000000 0000000000000000 00000000 00000000 00000000 00000000
+    0e 00 01 01 ffff0000 02000000 ffff0000 0000000000000000 00000000 00000000 00000000 00000000
+    01 00 01 00 01000000 00000000 00000000 0000000000000000 00000000 00000000 00000000 00000000
+    00000000 01000000 00000000 01000000
+    61
+";
 
-/// A struct of one member, which is a struct of one member, and so on, so many deep; the last holds
-/// a bool.
-fn table_of_nest(alloc: Global, nest: u8) -> Result<Vec<u8>, AllocError> {
-    let depth = u32::from(nest);
-    let mut table = start(alloc, depth + 1, depth, 0)?;
-    for level in 0..nest {
-        let holder = EntryFields::holder(1, 1, u32::from(level), 1);
-        push_entry(&mut table, holder.nested(nest - level))?;
+/// 32 structs in one another, each of one member; the last holds a bool. The first has the nest
+/// 32, and each next one less; each is the member of the one before.
+const DEEP: &str = "
+    46435432 0100 0000 21000000 20000000 00000000 00000000 00000000 00000000 01000000 00000000
+    1000012001000000:-16777216,0000000001000000:1,000000000000000000000000000000000000000000000000*32
+    01000100 01000000 00*32
+    0000000001000000:4294967296,0000000001000000*32 61
+";
+
+/// A struct of 65,535 bools without its rows, and without the one byte of names. A row has the
+/// offset of its member and the entry 1.
+const MEMBERS: &str = "
+    46435432 0100 0000 02000000 ffff0000 00000000 00000000 00000000 00000000 01000000 00000000
+    10 00 01 01 ffff0000 00000000 ffff0000 0000000000000000 00000000 00000000 00000000 00000000
+    01 00 01 00 01000000 00000000 00000000 0000000000000000 00000000 00000000 00000000 00000000
+";
+
+/// The header of a table of 65,535 entries, and no more.
+const ENTRIES: &str = "
+    46435432 0100 0000 ffff0000 00000000 00000000 00000000 00000000 00000000 01000000 00000000
+";
+
+/// A strict enum of uint32 of one value, without that value and the one byte of names. The
+/// number of its values is at 16 and at 52.
+const ENUM: &str = "
+    46435432 0100 0000 01000000 00000000 01000000 00000000 00000000 00000000 01000000 00000000
+    0b 02 04 00 04000000 00000000 01000000 0000000000000000 08000000 00000000 00000000 00000000
+";
+
+/// What is answered to a number of 64 bits: with so many values 1, 3, 5 and so on just these are
+/// decoded.
+fn is_told(table: &Table<'_>, count: u64, number: u64, scratch: &mut Scratch) -> bool {
+    if table.entries() != 1 {
+        return false;
     }
-    push_entry(&mut table, EntryFields::boolean())?;
-    for level in 0..depth {
-        push_row(&mut table, 0, level + 1)?;
+    let refused = decode(table, 0, &number.to_le_bytes(), &[], scratch).err();
+    if number % 2 == 1 && number / 2 < count {
+        refused.is_none()
+    } else {
+        refused == Some(DecodeFault::UnknownValue { at: 0 })
     }
-    table.push(b'a')?;
-    Ok(table)
 }
 
-/// A struct of so many bools.
-fn table_of_members(alloc: Global, count: u32) -> Result<Vec<u8>, AllocError> {
-    let mut table = start(alloc, 2, count, 0)?;
-    push_entry(&mut table, EntryFields::holder(count, 1, 0, count))?;
-    push_entry(&mut table, EntryFields::boolean())?;
-    for offset in 0..count {
-        push_row(&mut table, offset, 1)?;
-    }
-    table.push(b'a')?;
-    Ok(table)
-}
-
-fn table_of_entries(alloc: Global, count: u32) -> Result<Vec<u8>, AllocError> {
-    let mut table = start(alloc, count, 0, 0)?;
-    for _ in 0..count {
-        push_entry(&mut table, EntryFields::boolean())?;
-    }
-    table.push(b'a')?;
-    Ok(table)
-}
-
-/// The fault of a table, if it is refused.
-fn fault(table: &[u8]) -> Option<TableFault> {
-    verify(table).err()
-}
-
-#[test]
-fn an_inline_size_has_a_limit(rt: HostRuntime) -> Result<(), Fail> {
-    let within = table_of_bools(rt.alloc(), 65_535)?;
-    assert!(rt; fault(within.as_slice()).is_none());
-    let over = table_of_bools(rt.alloc(), 65_536)?;
-    assert!(rt; fault(over.as_slice()) == Some(TableFault::BadSize { at: 0 }));
-    Ok(())
-}
-
-#[test]
-fn a_nest_has_a_limit(rt: HostRuntime) -> Result<(), Fail> {
-    let within = table_of_nest(rt.alloc(), 32)?;
-    assert!(rt; fault(within.as_slice()).is_none());
-    let over = table_of_nest(rt.alloc(), 33)?;
-    assert!(rt; fault(over.as_slice()) == Some(TableFault::BadNest { at: 0 }));
-    Ok(())
-}
-
-#[test]
-fn the_members_of_a_struct_have_a_limit(rt: HostRuntime) -> Result<(), Fail> {
-    let within = table_of_members(rt.alloc(), 65_535)?;
-    assert!(rt; fault(within.as_slice()).is_none());
-    let over = table_of_members(rt.alloc(), 65_536)?;
-    assert!(rt; fault(over.as_slice()) == Some(TableFault::BadKind { at: 0 }));
-    Ok(())
-}
-
-#[test]
-fn the_entries_of_a_table_have_a_limit(rt: HostRuntime) -> Result<(), Fail> {
-    let within = table_of_entries(rt.alloc(), 65_535)?;
-    assert!(rt; fault(within.as_slice()).is_none());
-    let over = table_of_entries(rt.alloc(), 65_536)?;
-    assert!(rt; fault(over.as_slice()) == Some(TableFault::BadIndex { at: 0 }));
-    Ok(())
-}
-
-#[test]
-fn the_bytes_of_a_message_have_a_limit(rt: HostRuntime) -> Result<(), Fail> {
-    let written = table_of_bools(rt.alloc(), 65_535)?;
-    let table = verify(written.as_slice())?;
-    assert!(rt; table.entries() == 3);
-    let mut scratch = Scratch::new(rt.alloc())?;
-    let mut bytes = [1; 65_536];
-    bytes[65_535] = 0;
-    assert!(rt; answer(&table, 0, &bytes, &[], &mut scratch).is_none());
-    bytes[65_534] = 2;
-    let last = answer(&table, 0, &bytes, &[], &mut scratch);
-    assert!(rt; last == Some(DecodeFault::BadBool { at: 65_534 }));
-    let over = answer(&table, 0, &[0; 65_537], &[], &mut scratch);
-    assert!(rt; over == Some(DecodeFault::TooLong { at: 0 }));
-    Ok(())
-}
-
-#[test]
-fn the_handles_of_a_message_have_a_limit(rt: HostRuntime) -> Result<(), Fail> {
-    let written = table_of_nest(rt.alloc(), 32)?;
-    let table = verify(written.as_slice())?;
-    assert!(rt; table.entries() == 33);
-    let mut scratch = Scratch::new(rt.alloc())?;
-    let handle = HandleInfo {
-        id: 1,
-        object_type: 3,
-        rights: 0,
-    };
-    let bytes = [1, 0, 0, 0, 0, 0, 0, 0];
-    assert!(rt; answer(&table, 0, &bytes, &[], &mut scratch).is_none());
-    let within = answer(&table, 0, &bytes, &[handle; 64], &mut scratch);
-    assert!(rt; within == Some(DecodeFault::HandlesLeft { at: 8 }));
-    let over = answer(&table, 0, &bytes, &[handle; 65], &mut scratch);
-    assert!(rt; over == Some(DecodeFault::TooManyHandles { at: 0 }));
-    Ok(())
-}
-
-/// A strict enum of uint32 with so many values: 1, 3, 5 and so on.
-fn table_of_values(alloc: Global, count: u32) -> Result<Vec<u8>, AllocError> {
-    let mut table = start(alloc, 1, 0, count)?;
-    push_entry(&mut table, EntryFields::strict_enum(8, 4, count))?;
-    for place in 0..count {
-        push_value(&mut table, 2 * u64::from(place) + 1)?;
-    }
-    table.push(b'a')?;
-    Ok(table)
-}
-
-/// The message of a number of 32 bits.
-fn message_of(number: u64) -> [u8; 8] {
-    number.to_le_bytes()
-}
-
-#[test]
-fn the_values_of_an_enum_have_a_limit(rt: HostRuntime) -> Result<(), Fail> {
-    let over = table_of_values(rt.alloc(), 65_536)?;
-    assert!(rt; fault(over.as_slice()) == Some(TableFault::BadKind { at: 0 }));
-    Ok(())
-}
-
-#[test]
-fn each_of_many_values_is_found(rt: HostRuntime) -> Result<(), Fail> {
-    let mut scratch = Scratch::new(rt.alloc())?;
-    let refused = Some(DecodeFault::UnknownValue { at: 0 });
-    for count in [1u32, 2, 3, 1_000, 65_535] {
-        let written = table_of_values(rt.alloc(), count)?;
-        let table = verify(written.as_slice())?;
-        assert!(rt; table.entries() == 1);
-        for place in 0..count {
-            let value = message_of(2 * u64::from(place) + 1);
-            assert!(rt; answer(&table, 0, &value, &[], &mut scratch).is_none());
-            let below = message_of(2 * u64::from(place));
-            assert!(rt; answer(&table, 0, &below, &[], &mut scratch) == refused);
+/// How many of the numbers from 0 to twice the count of values, and of 2^32 - 1, are decoded just
+/// where they are values.
+pub(crate) fn values_found(
+    alloc: Global,
+    table: &Table<'_>,
+    given: &str,
+    scratch: &mut Scratch,
+) -> Option<String> {
+    let count = u64::from(given.parse::<u32>().ok()?);
+    let mut told = 0u32;
+    for number in 0..=2 * count {
+        if is_told(table, count, number, scratch) {
+            told = told.saturating_add(1);
         }
-        let above = message_of(2 * u64::from(count));
-        assert!(rt; answer(&table, 0, &above, &[], &mut scratch) == refused);
-        let greatest = message_of(u64::from(u32::MAX));
-        assert!(rt; answer(&table, 0, &greatest, &[], &mut scratch) == refused);
     }
-    Ok(())
+    if is_told(table, count, u64::from(u32::MAX), scratch) {
+        told = told.saturating_add(1);
+    }
+    text(alloc, Some(told))
+}
+
+const SUITES: [Suite<'_>; 8] = [
+    Suite {
+        asked: Asked::Verdict,
+        table: LONG,
+        count: 2,
+        cases: "
+            -> accepted 3
+            44=00000100 84=00000100 92=00000100 -> 8 BadSize 0
+        ",
+    },
+    Suite {
+        asked: Asked::Verdict,
+        table: DEEP,
+        count: 2,
+        cases: "
+            -> accepted 33
+            ..0 46435432 0100 0000 22000000 21000000 00*16 01000000 00000000 1000012101000000:-16777216,0000000001000000:1,000000000000000000000000000000000000000000000000*33 01000100 01000000 00*32 0000000001000000:4294967296,0000000001000000*33 61 -> 9 BadNest 0
+        ",
+    },
+    Suite {
+        asked: Asked::Verdict,
+        table: MEMBERS,
+        count: 2,
+        cases: "
+            0000000001000000:1,0000000001000000*65535 61 -> accepted 2
+            12=00000100 44=00000100 52=00000100 0000000001000000:1,0000000001000000*65536 61 -> 5 BadKind 0
+        ",
+    },
+    Suite {
+        asked: Asked::Verdict,
+        table: ENTRIES,
+        count: 2,
+        cases: "
+            0100010001000000,0000000000000000000000000000000000000000000000000000000000000000*65535 61 -> accepted 65535
+            8=00000100 0100010001000000,0000000000000000000000000000000000000000000000000000000000000000*65536 61 -> 6 BadIndex 0
+        ",
+    },
+    Suite {
+        asked: Asked::Verdict,
+        table: ENUM,
+        count: 6,
+        cases: "
+            0100000000000000 61 -> accepted 1
+            16=02 52=02 0100000000000000:2*2 61 -> accepted 1
+            16=03 52=03 0100000000000000:2*3 61 -> accepted 1
+            16=e803 52=e803 0100000000000000:2*1000 61 -> accepted 1
+            16=ffff 52=ffff 0100000000000000:2*65535 61 -> accepted 1
+            16=000001 52=000001 0100000000000000:2*65536 61 -> 5 BadKind 0
+        ",
+    },
+    Suite {
+        asked: Asked::Message,
+        table: LONG,
+        count: 3,
+        cases: "
+            0 01*65535 00 -> decoded
+            0 01*65534 0200 -> 5 BadBool 65534
+            0 00*65537 -> 1 TooLong 0
+        ",
+    },
+    Suite {
+        asked: Asked::Message,
+        table: DEEP,
+        count: 3,
+        cases: "
+            0 0100000000000000 -> decoded
+            0 0100000000000000 with 1:3:0*64 -> 20 HandlesLeft 8
+            0 0100000000000000 with 1:3:0*65 -> 2 TooManyHandles 0
+        ",
+    },
+    // The enum has the values 1, 3, 5 and so on, as many as are given. The numbers from 0 to twice
+    // as many, and 2^32 - 1, are decoded where they are values, and else refused.
+    Suite {
+        asked: Asked::Values,
+        table: ENUM,
+        count: 5,
+        cases: "
+            1 by 0100000000000000 61 -> 4
+            2 by 16=02 52=02 0100000000000000:2*2 61 -> 6
+            3 by 16=03 52=03 0100000000000000:2*3 61 -> 8
+            1000 by 16=e803 52=e803 0100000000000000:2*1000 61 -> 2002
+            65535 by 16=ffff 52=ffff 0100000000000000:2*65535 61 -> 131072
+        ",
+    },
+];
+
+#[test]
+fn each_limit_is_kept(rt: HostRuntime) -> Result<(), Fail> {
+    judge_all(&rt, rt.alloc(), &SUITES)
 }

@@ -1,247 +1,115 @@
 //! Tables of strings and handles that are accepted or refused, and the views of their messages.
-use fidl_decode::{Scratch, decode};
-use fidl_verify::verify;
-use fidl_view::{View, Views};
-use fidl_wire::HandleInfo;
+use crate::judging::{Asked, Suite, judge_all};
 use std::test::Fail;
 
 /// A table written by hand after the table's rules: entry 0 is a struct of two handles, of the
 /// subtypes 3 and 5; 1 of an optional string and an optional handle; 2 of two strings; 3 of a
-/// handle with the right 2; 4 of a handle with the rights that came; 5 of a string of at most two
-/// bytes. Entries 6 and 7 are the handles of 0, 8 and 9 the string and the handle of 1, 10 the
-/// strings of 2,
-/// 11 and 12 the handles of 3 and 4, 13 the string of 5.
-const OUTSIDE: [u8; 839] = [
-    0x46, 0x43, 0x54, 0x32, 0x01, 0x00, 0x00, 0x00, 0x0e, 0x00, 0x00, 0x00, 0x09, 0x00, 0x00, 0x00,
-    0x00, 0x00, 0x00, 0x00, 0x06, 0x00, 0x00, 0x00, 0x00, 0x00, 0x00, 0x00, 0x00, 0x00, 0x00, 0x00,
-    0x17, 0x00, 0x00, 0x00, 0x00, 0x00, 0x00, 0x00, 0x10, 0x00, 0x04, 0x01, 0x08, 0x00, 0x00, 0x00,
-    0x00, 0x00, 0x00, 0x00, 0x02, 0x00, 0x00, 0x00, 0x00, 0x00, 0x00, 0x00, 0x00, 0x00, 0x00, 0x00,
-    0x00, 0x00, 0x00, 0x00, 0x00, 0x00, 0x00, 0x00, 0x00, 0x00, 0x00, 0x00, 0x00, 0x00, 0x00, 0x00,
-    0x10, 0x00, 0x08, 0x01, 0x18, 0x00, 0x00, 0x00, 0x02, 0x00, 0x00, 0x00, 0x02, 0x00, 0x00, 0x00,
-    0x00, 0x00, 0x00, 0x00, 0x00, 0x00, 0x00, 0x00, 0x00, 0x00, 0x00, 0x00, 0x00, 0x00, 0x00, 0x00,
-    0x00, 0x00, 0x00, 0x00, 0x00, 0x00, 0x00, 0x00, 0x10, 0x00, 0x08, 0x01, 0x20, 0x00, 0x00, 0x00,
-    0x04, 0x00, 0x00, 0x00, 0x02, 0x00, 0x00, 0x00, 0x00, 0x00, 0x00, 0x00, 0x00, 0x00, 0x00, 0x00,
-    0x00, 0x00, 0x00, 0x00, 0x00, 0x00, 0x00, 0x00, 0x00, 0x00, 0x00, 0x00, 0x00, 0x00, 0x00, 0x00,
-    0x10, 0x00, 0x04, 0x01, 0x04, 0x00, 0x00, 0x00, 0x06, 0x00, 0x00, 0x00, 0x01, 0x00, 0x00, 0x00,
-    0x00, 0x00, 0x00, 0x00, 0x00, 0x00, 0x00, 0x00, 0x00, 0x00, 0x00, 0x00, 0x00, 0x00, 0x00, 0x00,
-    0x00, 0x00, 0x00, 0x00, 0x00, 0x00, 0x00, 0x00, 0x10, 0x00, 0x04, 0x01, 0x04, 0x00, 0x00, 0x00,
-    0x07, 0x00, 0x00, 0x00, 0x01, 0x00, 0x00, 0x00, 0x00, 0x00, 0x00, 0x00, 0x00, 0x00, 0x00, 0x00,
-    0x00, 0x00, 0x00, 0x00, 0x00, 0x00, 0x00, 0x00, 0x00, 0x00, 0x00, 0x00, 0x00, 0x00, 0x00, 0x00,
-    0x10, 0x00, 0x08, 0x01, 0x10, 0x00, 0x00, 0x00, 0x08, 0x00, 0x00, 0x00, 0x01, 0x00, 0x00, 0x00,
-    0x00, 0x00, 0x00, 0x00, 0x00, 0x00, 0x00, 0x00, 0x00, 0x00, 0x00, 0x00, 0x00, 0x00, 0x00, 0x00,
-    0x00, 0x00, 0x00, 0x00, 0x00, 0x00, 0x00, 0x00, 0x13, 0x00, 0x04, 0x00, 0x04, 0x00, 0x00, 0x00,
-    0x00, 0x00, 0x00, 0x00, 0x00, 0x00, 0x00, 0x00, 0x00, 0x00, 0x00, 0x00, 0x00, 0x00, 0x00, 0x00,
-    0x03, 0x00, 0x00, 0x00, 0x00, 0x00, 0x00, 0x00, 0x00, 0x00, 0x00, 0x00, 0x00, 0x00, 0x00, 0x00,
-    0x13, 0x00, 0x04, 0x00, 0x04, 0x00, 0x00, 0x00, 0x00, 0x00, 0x00, 0x00, 0x00, 0x00, 0x00, 0x00,
-    0x00, 0x00, 0x00, 0x00, 0x00, 0x00, 0x00, 0x00, 0x05, 0x00, 0x00, 0x00, 0x00, 0x00, 0x00, 0x00,
-    0x00, 0x00, 0x00, 0x00, 0x00, 0x00, 0x00, 0x00, 0x0c, 0x01, 0x08, 0x00, 0x10, 0x00, 0x00, 0x00,
-    0x00, 0x00, 0x00, 0x00, 0x00, 0x00, 0x00, 0x00, 0xff, 0xff, 0xff, 0xff, 0x00, 0x00, 0x00, 0x00,
-    0x00, 0x00, 0x00, 0x00, 0x00, 0x00, 0x00, 0x00, 0x00, 0x00, 0x00, 0x00, 0x00, 0x00, 0x00, 0x00,
-    0x13, 0x01, 0x04, 0x00, 0x04, 0x00, 0x00, 0x00, 0x00, 0x00, 0x00, 0x00, 0x00, 0x00, 0x00, 0x00,
-    0x00, 0x00, 0x00, 0x00, 0x00, 0x00, 0x00, 0x00, 0x00, 0x00, 0x00, 0x00, 0x00, 0x00, 0x00, 0x00,
-    0x00, 0x00, 0x00, 0x00, 0x00, 0x00, 0x00, 0x00, 0x0c, 0x00, 0x08, 0x00, 0x10, 0x00, 0x00, 0x00,
-    0x00, 0x00, 0x00, 0x00, 0x00, 0x00, 0x00, 0x00, 0xff, 0xff, 0xff, 0xff, 0x00, 0x00, 0x00, 0x00,
-    0x00, 0x00, 0x00, 0x00, 0x00, 0x00, 0x00, 0x00, 0x00, 0x00, 0x00, 0x00, 0x00, 0x00, 0x00, 0x00,
-    0x13, 0x00, 0x04, 0x00, 0x04, 0x00, 0x00, 0x00, 0x00, 0x00, 0x00, 0x00, 0x00, 0x00, 0x00, 0x00,
-    0x00, 0x00, 0x00, 0x00, 0x00, 0x00, 0x00, 0x00, 0x00, 0x00, 0x00, 0x00, 0x02, 0x00, 0x00, 0x00,
-    0x00, 0x00, 0x00, 0x00, 0x00, 0x00, 0x00, 0x00, 0x13, 0x00, 0x04, 0x00, 0x04, 0x00, 0x00, 0x00,
-    0x00, 0x00, 0x00, 0x00, 0x00, 0x00, 0x00, 0x00, 0x00, 0x00, 0x00, 0x00, 0x00, 0x00, 0x00, 0x00,
-    0x00, 0x00, 0x00, 0x00, 0x00, 0x00, 0x00, 0x80, 0x00, 0x00, 0x00, 0x00, 0x00, 0x00, 0x00, 0x00,
-    0x0c, 0x00, 0x08, 0x00, 0x10, 0x00, 0x00, 0x00, 0x00, 0x00, 0x00, 0x00, 0x00, 0x00, 0x00, 0x00,
-    0x02, 0x00, 0x00, 0x00, 0x00, 0x00, 0x00, 0x00, 0x00, 0x00, 0x00, 0x00, 0x00, 0x00, 0x00, 0x00,
-    0x00, 0x00, 0x00, 0x00, 0x00, 0x00, 0x00, 0x00, 0x00, 0x00, 0x00, 0x00, 0x06, 0x00, 0x00, 0x00,
-    0x00, 0x00, 0x00, 0x00, 0x01, 0x00, 0x00, 0x00, 0x04, 0x00, 0x00, 0x00, 0x07, 0x00, 0x00, 0x00,
-    0x01, 0x00, 0x00, 0x00, 0x01, 0x00, 0x00, 0x00, 0x00, 0x00, 0x00, 0x00, 0x08, 0x00, 0x00, 0x00,
-    0x02, 0x00, 0x00, 0x00, 0x05, 0x00, 0x00, 0x00, 0x10, 0x00, 0x00, 0x00, 0x09, 0x00, 0x00, 0x00,
-    0x07, 0x00, 0x00, 0x00, 0x01, 0x00, 0x00, 0x00, 0x00, 0x00, 0x00, 0x00, 0x0a, 0x00, 0x00, 0x00,
-    0x08, 0x00, 0x00, 0x00, 0x01, 0x00, 0x00, 0x00, 0x10, 0x00, 0x00, 0x00, 0x0a, 0x00, 0x00, 0x00,
-    0x09, 0x00, 0x00, 0x00, 0x01, 0x00, 0x00, 0x00, 0x00, 0x00, 0x00, 0x00, 0x0b, 0x00, 0x00, 0x00,
-    0x0a, 0x00, 0x00, 0x00, 0x01, 0x00, 0x00, 0x00, 0x00, 0x00, 0x00, 0x00, 0x0c, 0x00, 0x00, 0x00,
-    0x0b, 0x00, 0x00, 0x00, 0x01, 0x00, 0x00, 0x00, 0x00, 0x00, 0x00, 0x00, 0x0d, 0x00, 0x00, 0x00,
-    0x0c, 0x00, 0x00, 0x00, 0x05, 0x00, 0x00, 0x00, 0x11, 0x00, 0x00, 0x00, 0x01, 0x00, 0x00, 0x00,
-    0x00, 0x00, 0x00, 0x00, 0x12, 0x00, 0x00, 0x00, 0x01, 0x00, 0x00, 0x00, 0x01, 0x00, 0x00, 0x00,
-    0x13, 0x00, 0x00, 0x00, 0x01, 0x00, 0x00, 0x00, 0x02, 0x00, 0x00, 0x00, 0x14, 0x00, 0x00, 0x00,
-    0x01, 0x00, 0x00, 0x00, 0x03, 0x00, 0x00, 0x00, 0x15, 0x00, 0x00, 0x00, 0x01, 0x00, 0x00, 0x00,
-    0x04, 0x00, 0x00, 0x00, 0x16, 0x00, 0x00, 0x00, 0x01, 0x00, 0x00, 0x00, 0x05, 0x00, 0x00, 0x00,
-    0x68, 0x69, 0x76, 0x61, 0x6c, 0x75, 0x65, 0x68, 0x61, 0x62, 0x68, 0x68, 0x76, 0x61, 0x6c, 0x75,
-    0x65, 0x48, 0x4f, 0x50, 0x52, 0x53, 0x54,
-];
+/// handle with the right 2; 4 of a handle with the rights that came; 5 of a string of at most
+/// two bytes. Entries 6 and 7 are the handles of 0, 8 and 9 the string and the handle of 1, 10
+/// the strings of 2, 11 and 12 the handles of 3 and 4, 13 the string of 5.
+const OUTSIDE: &str = "
+    46435432 0100 0000 0e000000 09000000 00000000 06000000 00000000 00000000 17000000 00000000
+    10 00 04 01 08000000 00000000 02000000 0000000000000000 00000000 00000000 00000000 00000000
+    10 00 08 01 18000000 02000000 02000000 0000000000000000 00000000 00000000 00000000 00000000
+    10 00 08 01 20000000 04000000 02000000 0000000000000000 00000000 00000000 00000000 00000000
+    10 00 04 01 04000000 06000000 01000000 0000000000000000 00000000 00000000 00000000 00000000
+    10 00 04 01 04000000 07000000 01000000 0000000000000000 00000000 00000000 00000000 00000000
+    10 00 08 01 10000000 08000000 01000000 0000000000000000 00000000 00000000 00000000 00000000
+    13 00 04 00 04000000 00000000 00000000 0000000000000000 03000000 00000000 00000000 00000000
+    13 00 04 00 04000000 00000000 00000000 0000000000000000 05000000 00000000 00000000 00000000
+    0c 01 08 00 10000000 00000000 00000000 ffffffff00000000 00000000 00000000 00000000 00000000
+    13 01 04 00 04000000 00000000 00000000 0000000000000000 00000000 00000000 00000000 00000000
+    0c 00 08 00 10000000 00000000 00000000 ffffffff00000000 00000000 00000000 00000000 00000000
+    13 00 04 00 04000000 00000000 00000000 0000000000000000 00000000 02000000 00000000 00000000
+    13 00 04 00 04000000 00000000 00000000 0000000000000000 00000000 00000080 00000000 00000000
+    0c 00 08 00 10000000 00000000 00000000 0200000000000000 00000000 00000000 00000000 00000000
+    00000000 06000000 00000000 01000000
+    04000000 07000000 01000000 01000000
+    00000000 08000000 02000000 05000000
+    10000000 09000000 07000000 01000000
+    00000000 0a000000 08000000 01000000
+    10000000 0a000000 09000000 01000000
+    00000000 0b000000 0a000000 01000000
+    00000000 0c000000 0b000000 01000000
+    00000000 0d000000 0c000000 05000000
+    11000000 01000000 00000000
+    12000000 01000000 01000000
+    13000000 01000000 02000000
+    14000000 01000000 03000000
+    15000000 01000000 04000000
+    16000000 01000000 05000000
+    686976616c7565686162686876616c7565484f50525354
+";
 
-/// The number and the place of the fault, or zeros where the table is accepted.
-fn refusal(bytes: &[u8]) -> (u32, u32) {
-    match verify(bytes) {
-        Ok(_) => (0, 0),
-        Err(fault) => (fault.number(), fault.at()),
-    }
-}
-
-/// Changes of one byte that leave a table that is accepted: the entry, the byte's place in it, and
-/// the byte.
-const ACCEPTED: [(usize, usize, u8); 10] = [
-    // a string and a handle that are optional, or not
-    (10, 1, 1),
-    (8, 1, 0),
-    (6, 1, 1),
-    (9, 1, 0),
-    // bounds of 0 and of 32 bits
-    (13, 16, 0),
-    (13, 19, 255),
-    // any subtype and rights
-    (6, 24, 0),
-    (6, 27, 255),
-    (12, 31, 0),
-    // a vector of the struct of entry 0, where the string was
-    (13, 0, 13),
-];
-
-/// Changes of one byte that break a rule: the entry, the byte's place in it, the byte, and the
-/// fault's number and place.
-const REFUSED: [(usize, usize, u8, u32, u32); 20] = [
-    // strings: strict, an element, a count, a subtype, rights, a name, a bound of 33 bits
-    (13, 1, 2, 5, 13),
-    (13, 1, 3, 5, 13),
-    (13, 8, 1, 5, 13),
-    (13, 12, 1, 5, 13),
-    (13, 24, 1, 5, 13),
-    (13, 28, 1, 5, 13),
-    (13, 36, 1, 5, 13),
-    (13, 20, 1, 5, 13),
-    // handles: strict, an element, a count, a bound, a name
-    (6, 1, 2, 5, 6),
-    (6, 8, 1, 5, 6),
-    (6, 12, 1, 5, 6),
-    (6, 16, 1, 5, 6),
-    (6, 36, 1, 5, 6),
-    // a box, a table and a union have no bound
-    (13, 0, 15, 5, 13),
-    (13, 0, 17, 5, 13),
-    (13, 0, 18, 5, 13),
-    // sizes, alignments and nests: the struct that holds the string or the handle comes first
-    (13, 4, 8, 8, 5),
-    (13, 2, 4, 8, 5),
-    (13, 3, 1, 9, 5),
-    (6, 2, 8, 8, 0),
+const SUITES: [Suite<'_>; 2] = [
+    // Entry 6 stands at 280, 8 at 360, 9 at 400, 10 at 440, 12 at 520 and 13 at 560.
+    Suite {
+        asked: Asked::Verdict,
+        table: OUTSIDE,
+        count: 31,
+        cases: "
+            -> accepted 14
+            # a string and a handle that are optional, or not
+            441=01 -> accepted 14
+            361=00 -> accepted 14
+            281=01 -> accepted 14
+            401=00 -> accepted 14
+            # bounds of 0 and of 32 bits
+            576=00 -> accepted 14
+            579=ff -> accepted 14
+            # any subtype and rights
+            304=00 -> accepted 14
+            307=ff -> accepted 14
+            551=00 -> accepted 14
+            # a vector of the struct of entry 0, where the string was
+            560=0d -> accepted 14
+            # strings: strict, an element, a count, a subtype, rights, a name, a bound of 33 bits
+            561=02 -> 5 BadKind 13
+            561=03 -> 5 BadKind 13
+            568=01 -> 5 BadKind 13
+            572=01 -> 5 BadKind 13
+            584=01 -> 5 BadKind 13
+            588=01 -> 5 BadKind 13
+            596=01 -> 5 BadKind 13
+            580=01 -> 5 BadKind 13
+            # handles: strict, an element, a count, a bound, a name
+            281=02 -> 5 BadKind 6
+            288=01 -> 5 BadKind 6
+            292=01 -> 5 BadKind 6
+            296=01 -> 5 BadKind 6
+            316=01 -> 5 BadKind 6
+            # a box, a table and a union have no bound
+            560=0f -> 5 BadKind 13
+            560=11 -> 5 BadKind 13
+            560=12 -> 5 BadKind 13
+            # sizes, alignments and nests: the struct that holds the string or the handle comes
+            # first
+            564=08 -> 8 BadSize 5
+            562=04 -> 8 BadSize 5
+            563=01 -> 9 BadNest 5
+            282=08 -> 8 BadSize 0
+        ",
+    },
+    Suite {
+        asked: Asked::Message,
+        table: OUTSIDE,
+        count: 7,
+        cases: "
+            # A text is read where it stands in the message; an absent string has none.
+            2 0000000000000000 ffffffffffffffff 0100000000000000 ffffffffffffffff 4100000000000000 -> it.str=none it.f0.str= it.f0.len=0 it.f1.str=A it.f1.len=1 it.f1.absent=false it.f1.u64=none
+            2 0000000000000000 ffffffffffffffff 0100000000000000 ffffffffffffffff 4100000000000000 -> it.f1.handle=none it.f1.granted=none it.f1.e0.there=none
+            1 0000000000000000 0000000000000000 0000000000000000 -> it.f0.absent=true it.f0.str=none it.f0.len=none
+            # A handle has the record that came with it; it is granted the rights that its type
+            # requires, or those that came.
+            0 ffffffffffffffff with 7:3:6 8:5:1 -> it.f0.handle=7:3:6 it.f0.granted=0 it.f1.handle=8:5:1 it.f1.granted=0
+            3 ffffffff00000000 with 7:3:6 -> it.f0.handle=7:3:6 it.f0.granted=2
+            4 ffffffff00000000 with 7:3:6 -> it.f0.handle=7:3:6 it.f0.granted=6
+            1 0000000000000000 0000000000000000 0000000000000000 -> it.f1.absent=true it.f1.handle=none
+        ",
+    },
 ];
 
 #[test]
-fn one_byte_breaks_one_rule(rt: HostRuntime) {
-    assert_eq!(rt; refusal(&OUTSIDE), (0, 0));
-    for (entry, place, byte) in ACCEPTED {
-        let mut bytes = OUTSIDE;
-        assert!(rt; entry < 14);
-        assert!(rt; place < 40);
-        let at = 40 + 40 * entry + place;
-        assert!(rt; at < bytes.len());
-        bytes[at] = byte;
-        assert_eq!(rt; refusal(&bytes), (0, 0), "entry {entry}, byte {place}");
-    }
-    for (entry, place, byte, number, at_entry) in REFUSED {
-        let mut bytes = OUTSIDE;
-        assert!(rt; entry < 14);
-        assert!(rt; place < 40);
-        let at = 40 + 40 * entry + place;
-        assert!(rt; at < bytes.len());
-        bytes[at] = byte;
-        let answer = refusal(&bytes);
-        assert_eq!(rt; answer, (number, at_entry), "entry {entry}, byte {place}");
-    }
-}
-
-fn text_of<'m>(view: View<'_, 'm>, member: usize) -> Option<&'m str> {
-    view.field(member)?.as_str()
-}
-
-fn length_of(view: View<'_, '_>, member: usize) -> Option<usize> {
-    view.field(member)?.len()
-}
-
-fn is_absent(view: View<'_, '_>, member: usize) -> bool {
-    match view.field(member) {
-        Some(part) => part.is_absent(),
-        None => false,
-    }
-}
-
-/// Whether a member is a string, and nothing that other calls answer.
-fn is_only_text(view: View<'_, '_>, member: usize) -> bool {
-    match view.field(member) {
-        Some(part) => {
-            part.as_u64().is_none()
-                && part.handle().is_none()
-                && part.granted().is_none()
-                && part.element(0).is_none()
-        }
-        None => false,
-    }
-}
-
-/// A text is read where it stands in the message; an absent string has none.
-#[test]
-fn texts_are_read(rt: HostRuntime) -> Result<(), Fail> {
-    let table = verify(&OUTSIDE)?;
-    let mut scratch = Scratch::new(rt.alloc())?;
-    let pair = [
-        0, 0, 0, 0, 0, 0, 0, 0, 255, 255, 255, 255, 255, 255, 255, 255, 1, 0, 0, 0, 0, 0, 0, 0,
-        255, 255, 255, 255, 255, 255, 255, 255, 0x41, 0, 0, 0, 0, 0, 0, 0,
-    ];
-    assert!(rt; table.entries() == 14);
-    let decoded = decode(&table, 2, &pair, &[], &mut scratch)?;
-    let view = decoded.view();
-    assert!(rt; view.as_str().is_none());
-    assert_eq!(rt; text_of(view, 0), Some(""));
-    assert_eq!(rt; length_of(view, 0), Some(0));
-    assert_eq!(rt; text_of(view, 1), Some("A"));
-    assert_eq!(rt; length_of(view, 1), Some(1));
-    assert!(rt; !is_absent(view, 1));
-    assert!(rt; is_only_text(view, 1));
-    let decoded = decode(&table, 1, &[0; 24], &[], &mut scratch)?;
-    let view = decoded.view();
-    assert!(rt; is_absent(view, 0));
-    assert!(rt; text_of(view, 0).is_none());
-    assert!(rt; length_of(view, 0).is_none());
-    Ok(())
-}
-
-/// Whether a member is a handle of this record, which is granted these rights.
-fn is_record(view: View<'_, '_>, member: usize, id: u32, granted: u32) -> bool {
-    match view.field(member) {
-        Some(part) => match part.handle() {
-            Some(record) => record.id == id && part.granted() == Some(granted),
-            None => false,
-        },
-        None => false,
-    }
-}
-
-/// A handle has the record that came with it; it is granted the rights that its type requires, or
-/// those that came.
-#[test]
-fn handles_are_read(rt: HostRuntime) -> Result<(), Fail> {
-    let table = verify(&OUTSIDE)?;
-    let mut scratch = Scratch::new(rt.alloc())?;
-    let first = HandleInfo {
-        id: 7,
-        object_type: 3,
-        rights: 6,
-    };
-    let second = HandleInfo {
-        id: 8,
-        object_type: 5,
-        rights: 1,
-    };
-    assert!(rt; table.entries() == 14);
-    let both = [first, second];
-    let decoded = decode(&table, 0, &[255; 8], &both, &mut scratch)?;
-    assert!(rt; is_record(decoded.view(), 0, 7, 0));
-    assert!(rt; is_record(decoded.view(), 1, 8, 0));
-    let one = [255, 255, 255, 255, 0, 0, 0, 0];
-    let alone = [first];
-    let decoded = decode(&table, 3, &one, &alone, &mut scratch)?;
-    assert!(rt; is_record(decoded.view(), 0, 7, 2));
-    let decoded = decode(&table, 4, &one, &alone, &mut scratch)?;
-    assert!(rt; is_record(decoded.view(), 0, 7, 6));
-    let decoded = decode(&table, 1, &[0; 24], &[], &mut scratch)?;
-    assert!(rt; is_absent(decoded.view(), 1));
-    assert!(rt; !is_record(decoded.view(), 1, 0, 0));
-    Ok(())
+fn strings_and_handles_are_read(rt: HostRuntime) -> Result<(), Fail> {
+    judge_all(&rt, rt.alloc(), &SUITES)
 }
