@@ -1,0 +1,4 @@
+pub mod Excluded
+pub mod Named
+pub mod Reports
+pub mod Small
