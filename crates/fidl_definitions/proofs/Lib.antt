@@ -1,0 +1,9 @@
+pub mod Bodies
+pub mod Finding
+pub mod Making
+pub mod Masks
+pub mod Numbered
+pub mod One
+pub mod Ors
+pub mod Paths
+pub mod ValueKinds
