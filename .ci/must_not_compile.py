@@ -2,8 +2,9 @@
 """Programs that must not compile: each case of .ci/must-not-compile edits a crate, and the compiler has to refuse it.
 
 A case CRATE.NAME.case has a line 'file: PATH' (in the crate), a line 'error: CODE', and pairs of lines 'old: TEXT' and
-'new: TEXT'; each TEXT stands in that file exactly once. `rt check --test` of the edited crate has to end with that
-error and no other. The crate unedited passes the gate, which checks these cases after it.
+'new: TEXT'; each TEXT stands in that file exactly once. `rt try --test` of the edited crate, which compiles it and all
+below it without a proof, has to end with that error and no other. The crate unedited passes the gate, which checks these
+cases after it.
 """
 import os
 import re
@@ -51,7 +52,7 @@ class Case:
         try:
             with open(self.path, "w", encoding="utf-8") as it:
                 it.write(after)
-            ran = subprocess.run(["rt", "check", "--test"], cwd=self.folder, stdin=subprocess.DEVNULL, capture_output=True, text=True)
+            ran = subprocess.run(["rt", "try", "--test"], cwd=self.folder, stdin=subprocess.DEVNULL, capture_output=True, text=True)
         finally:
             with open(self.path, "w", encoding="utf-8") as it:
                 it.write(before)

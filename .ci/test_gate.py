@@ -154,11 +154,11 @@ class GateTest(unittest.TestCase):
         self.assertEqual([it.strip() for it in lines][0], "4")
 
     def run_with_case(self, printed):
-        """Runs the gate with a case that edits a source; `rt check` prints this line, and refuses."""
+        """Runs the gate with a case that edits a source; `rt try` prints this line, and refuses."""
         self.write("crates/plain/src/lib.rt", "plain\n")
         self.write(".ci/must-not-compile/plain.it.case", "file: src/lib.rt\nerror: borrow-e0506\nold: plain\nnew: edited\n")
         refuses = f'grep -q edited src/lib.rt && echo "{printed}" && exit 1'
-        return self.run_with(None, f'case $1 in check) {refuses};; ci) echo "9 passed, 0 failed";; esac')
+        return self.run_with(None, f'case $1 in try) {refuses};; ci) echo "9 passed, 0 failed";; esac')
 
     def test_a_program_that_must_not_compile(self):
         status, lines = self.run_with_case("src/lib.rt:1:1: error[borrow-e0506]: it is borrowed")
@@ -177,7 +177,7 @@ class GateTest(unittest.TestCase):
     def test_a_case_whose_text_is_gone_fails_it(self):
         self.write("crates/plain/src/lib.rt", "other\n")
         self.write(".ci/must-not-compile/plain.it.case", "file: src/lib.rt\nerror: borrow-e0506\nold: plain\nnew: edited\n")
-        status, lines = self.run_with(None, 'case $1 in check) exit 1;; ci) echo "9 passed, 0 failed";; esac')
+        status, lines = self.run_with(None, 'case $1 in try) exit 1;; ci) echo "9 passed, 0 failed";; esac')
         self.assertEqual((status, lines[-1]), (1, "0 passed, 1 failed"))
 
     def test_a_change_during_the_run_fails_it(self):
