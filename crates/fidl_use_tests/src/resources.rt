@@ -1,0 +1,116 @@
+//! Tests of resource definitions: what is refused, and where, and what is not.
+use fidl_const::evaluate;
+use fidl_layouts::forms;
+use fidl_resources::{ResourceFault, check_resources};
+use fidl_span::line_col;
+use fidl_terms::Sources;
+use fidl_test_cases::{Answer, cases};
+use fidl_test_sources::{named, trees};
+use std::alloc::Global;
+use std::process::Abort;
+use std::test::Fail;
+
+/// What checking the resource definitions of these sources answers.
+fn refusal(alloc: Global, sources: &[&[u8]]) -> Result<Answer<'static>, Fail> {
+    let files = trees(alloc, sources)?;
+    let named = named(alloc, &files)?;
+    let consts = evaluate(alloc, &named)?;
+    let forms = forms(alloc, &named)?;
+    let known = Sources {
+        alloc,
+        named: &named,
+        consts: &consts,
+        forms: &forms,
+    };
+    let place = match check_resources(&known) {
+        Ok(()) => return Ok(None),
+        Err(ResourceFault::BadConstraint { place }) => place,
+        Err(ResourceFault::Memory) => return Err("memory".into()),
+    };
+    let src = *sources.get(place.file).ok_or("a file")?;
+    let file = u64::try_from(place.file)?;
+    Ok(Some(("BadConstraint", file, line_col(src, place.span.from))))
+}
+
+/// Checking the sources of each case of a table has the answer that its line says.
+fn check(rt: &impl Abort, alloc: Global, table: &str) -> Result<(), Fail> {
+    for case in &cases(alloc, table)? {
+        let found = refusal(alloc, &case.texts(alloc)?)?;
+        assert_eq!(rt; found, case.want, "the answer to {}", case.line);
+    }
+    Ok(())
+}
+
+#[test]
+fn definitions_are_of_uint32(rt: HostRuntime) -> Result<(), Fail> {
+    check(
+        &rt,
+        rt.alloc(),
+        r#"
+            BadConstraint 0:2:25 && library t; type E = enum {A = 1;};^resource_definition H : uint8 { properties { subtype E; }; };
+            BadConstraint 0:2:25 && library t; type E = enum {A = 1;};^resource_definition H : uint64 { properties { subtype E; }; };
+            BadConstraint 0:2:25 && library t; type E = enum {A = 1;};^resource_definition H : int32 { properties { subtype E; }; };
+            BadConstraint 0:2:25 && library t; type E = enum {A = 1;};^resource_definition H : E { properties { subtype E; }; };
+            BadConstraint 0:2:25 && library t; type E = enum {A = 1;};^resource_definition H : struct {} { properties { subtype E; }; };
+            # Aliases are followed.
+            none && library t; alias A = B; alias B = uint32; type E = enum {A = 1;};^resource_definition H : A { properties { subtype E; }; };
+            BadConstraint 0:2:25 && library t; alias A = B; alias B = uint64; type E = enum {A = 1;};^resource_definition H : A { properties { subtype E; }; };
+        "#,
+    )
+}
+
+#[test]
+fn subtypes_are_enums_of_uint32(rt: HostRuntime) -> Result<(), Fail> {
+    check(
+        &rt,
+        rt.alloc(),
+        r#"
+            none && library t; type E = enum {A = 1;};^resource_definition H : uint32 { properties { subtype E; }; };
+            none && library t; type E = enum : uint32 {A = 1;};^resource_definition H : uint32 { properties { subtype E; }; };
+            none && library t; type E = strict enum {A = 1;};^resource_definition H : uint32 { properties { subtype E; }; };
+            none && library t;^resource_definition H : uint32 { properties { subtype enum {A = 1;}; }; };
+            none && library t; type E = enum : U {A = 1;}; alias U = uint32; alias F = E;^resource_definition H : uint32 { properties { subtype F; }; };
+            BadConstraint 0:2:55 && library t; type E = enum : uint8 {A = 1;};^resource_definition H : uint32 { properties { subtype E; }; };
+            BadConstraint 0:2:55 && library t; type E = enum : int32 {A = 1;};^resource_definition H : uint32 { properties { subtype E; }; };
+            BadConstraint 0:2:55 && library t; type E = bits {A = 1;};^resource_definition H : uint32 { properties { subtype E; }; };
+            BadConstraint 0:2:55 && library t;^resource_definition H : uint32 { properties { subtype uint32; }; };
+            BadConstraint 0:2:55 && library t;^resource_definition H : uint32 { properties { subtype struct {}; }; };
+            # The underlying type is read where the enum is written.
+            none && library t; using u; alias V = uint8;^resource_definition H : uint32 { properties { subtype u.E; }; }; && library u; alias V = uint32; type E = enum : V {A = 1;};
+            BadConstraint 0:2:55 && library t; using u; alias V = uint32;^resource_definition H : uint32 { properties { subtype u.E; }; }; && library u; alias V = uint8; type E = enum : V {A = 1;};
+        "#,
+    )
+}
+
+#[test]
+fn rights_are_bits_or_numbers_of_uint32(rt: HostRuntime) -> Result<(), Fail> {
+    check(
+        &rt,
+        rt.alloc(),
+        r#"
+            none && library t; type E = enum {A = 1;};^resource_definition H : uint32 { properties { subtype E; rights uint32; }; };
+            none && library t; type E = enum {A = 1;}; type R = bits {A = 1;};^resource_definition H : uint32 { properties { rights R; subtype E; }; };
+            none && library t; type E = enum {A = 1;}; alias R = uint32;^resource_definition H : uint32 { properties { subtype E; rights R; }; };
+            BadConstraint 0:2:65 && library t; type E = enum {A = 1;};^resource_definition H : uint32 { properties { subtype E; rights uint64; }; };
+            BadConstraint 0:2:65 && library t; type E = enum {A = 1;};^resource_definition H : uint32 { properties { subtype E; rights E; }; };
+            BadConstraint 0:2:65 && library t; type E = enum {A = 1;}; type R = bits : uint8 {A = 1;};^resource_definition H : uint32 { properties { subtype E; rights R; }; };
+        "#,
+    )
+}
+
+#[test]
+fn only_rights_may_be_left_out_or_added(rt: HostRuntime) -> Result<(), Fail> {
+    check(
+        &rt,
+        rt.alloc(),
+        r#"
+            BadConstraint 0:2:21 && library t;^resource_definition H : uint32 { properties { rights uint32; }; };
+            BadConstraint 0:2:21 && library t;^resource_definition H : uint32 { properties {}; };
+            # No other name is that of a property.
+            BadConstraint 0:2:66 && library t; type E = enum {A = 1;};^resource_definition H : uint32 { properties { subtype E; flavour E; }; };
+            BadConstraint 0:2:66 && library t; type E = enum {A = 1;};^resource_definition H : uint32 { properties { subtype E; flavour uint32; }; };
+            # In each file.
+            BadConstraint 1:2:21 && library t; && library u;^resource_definition H : uint32 { properties { rights uint32; }; };
+        "#,
+    )
+}
