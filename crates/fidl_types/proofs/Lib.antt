@@ -1,7 +1,10 @@
 pub mod Closed
+pub mod Counted
+pub mod Excluded
 pub mod First
 pub mod Made
 pub mod Numbers
 pub mod Placed
 pub mod ShapedFiles
 pub mod Shapes
+pub mod Small

@@ -1,0 +1,71 @@
+//! Files whose types are checked.
+ghost use Rattle.std.specs.Prelude.{◌≡◌};
+ghost use Rattle.fidl_const.specs.Tables.{AreConsts};
+ghost use Rattle.fidl_layouts.specs.FormViews.{seen_forms};
+ghost use Rattle.fidl_terms.specs.Numbers.{all_forms};
+ghost use Rattle.fidl_term.specs.Terms.{seen_definitions};
+ghost use Rattle.fidl_types.specs.Types.{TypesAre};
+
+use fidl_const::Consts;
+use fidl_layouts::Form;
+use fidl_names::Named;
+use fidl_term::Definition;
+use std::marker::Model;
+
+/// Files that keep all rules of types, with the values of their constants, their forms and the
+/// definitions of these. Contracts see the list of their trees.
+#[derive(Drop)]
+pub struct Types<'f, 's> {
+    pub(crate) named: Named<'f, 's>,
+    pub(crate) consts: Consts,
+    pub(crate) forms: Vec<Form<'f, 's>>,
+    pub(crate) definitions: Vec<Definition>,
+}
+
+impl<'f, 's> Model for Types<'f, 's> {
+    ghost use Rattle.std.specs.Prelude.{List};
+    ghost use Rattle.fidl_tree.specs.declared.file.File.{File as Tree};
+    ghost use Rattle.fidl_names.specs.StoredFiles.{files_coded};
+    ghost use Rattle.fidl_layouts.specs.FormViews.{seen_forms};
+    ghost use Rattle.fidl_term.specs.Terms.{seen_definitions};
+    ghost use Rattle.fidl_types.specs.Types.{AreHeld};
+
+    ghost Value = { List Tree };
+
+    ghost coded = { files_coded };
+
+    ghost view = { λ t. t.named };
+
+    ghost invariant = { λ t. AreHeld t.named t.consts (seen_forms t.forms.items)
+        (seen_definitions t.definitions.items) };
+}
+
+impl<'f, 's> Types<'f, 's> {
+    /// The files, with their names resolved.
+    pub fn named(&self) -> &Named<'f, 's>
+        ensures { result.now ≡ self.now }
+    {
+        &self.named
+    }
+
+    /// The values of their constants.
+    pub fn consts(&self) -> &Consts
+        ensures { AreConsts self.now result.now }
+    {
+        &self.consts
+    }
+
+    /// Their forms, in the order of their numbers.
+    pub fn forms(&self) -> &[Form<'f, 's>]
+        ensures { seen_forms result.now ≡ all_forms self.now }
+    {
+        &self.forms
+    }
+
+    /// The definition of each form, in the same order. The files keep all rules of types.
+    pub fn definitions(&self) -> &[Definition]
+        ensures { TypesAre self.now (seen_definitions result.now) }
+    {
+        &self.definitions
+    }
+}

@@ -1,0 +1,77 @@
+//! The definitions of all forms, and the rules over them.
+ghost use Rattle.std.specs.Prelude.{◌<◌, ◌^◌, length, map, IfErr, IfOk, IfSome, IsNone, OnOk};
+ghost use Rattle.fidl_tree.specs.Views.{file_view};
+ghost use Rattle.fidl_const.specs.Evaluated.{Evaluates};
+ghost use Rattle.fidl_layouts.specs.Rules.{RulesHold as LayoutsHold};
+ghost use Rattle.fidl_terms.specs.Numbers.{all_forms};
+ghost use Rattle.fidl_terms.specs.TermViews.{AreKnown};
+ghost use Rattle.fidl_uses.specs.Uses.{UsesHold};
+ghost use Rattle.fidl_term.specs.Terms.{seen_definitions};
+ghost use Rattle.fidl_definitions.specs.Definitions.{DefinitionsAre};
+ghost use Rattle.fidl_term_rules.specs.Faults.{RulesHold};
+ghost use Rattle.fidl_types.specs.Marks.{marks_of};
+ghost use Rattle.fidl_types.specs.Faults.{IsTrueOfTypes};
+
+use crate::fault::TypeFault;
+use crate::marks::marks_of;
+use crate::places::place_of;
+use fidl_definitions::definitions;
+use fidl_term::Definition;
+use fidl_term_rules::{DefinitionFault, check_definitions};
+use fidl_terms::Sources;
+use std::alloc::AllocError;
+
+/// The definitions of all forms, in their order. Nothing only where there are too many forms.
+fn all_definitions(sources: &Sources<'_, '_, '_>) -> Result<Option<Vec<Definition>>, AllocError>
+    requires known { AreKnown sources.now }
+    requires evaluated { Evaluates sources.now.named.now }
+    requires layouts { LayoutsHold (map file_view sources.now.named.now) }
+    requires uses { UsesHold sources.now.named.now }
+    ensures found { IfOk result (λ found. IfSome found (λ ds. DefinitionsAre sources.now.named.now
+        (seen_definitions ds.items))) }
+    ensures none { IfOk result (λ found. IsNone found
+        → 2 ^ 32 < length (all_forms sources.now.named.now)) }
+{
+    definitions(sources)
+}
+
+/// Only resources hold resources, and no struct stands in itself.
+fn check_marked(sources: &Sources<'_, '_, '_>, definitions: &[Definition]) -> Result<(), TypeFault>
+    requires known { AreKnown sources.now }
+    requires are { DefinitionsAre sources.now.named.now (seen_definitions definitions.now) }
+    ensures ok { OnOk result (RulesHold (seen_definitions definitions.now)
+        (marks_of (all_forms sources.now.named.now))) }
+    ensures fault_is_true { IfErr result (IsTrueOfTypes sources.now.named.now) }
+{
+    let marks = marks_of(sources.alloc, sources.forms)?;
+    match check_definitions(sources.alloc, definitions, &marks) {
+        Ok(()) => Ok(()),
+        Err(DefinitionFault::NotResource { definition, .. }) => Err(TypeFault::NotResource {
+            place: place_of(sources.forms, definition),
+        }),
+        Err(DefinitionFault::InlineCycle { definition }) => Err(TypeFault::InlineCycle {
+            place: place_of(sources.forms, definition),
+        }),
+        Err(DefinitionFault::Memory) => Err(TypeFault::Memory),
+    }
+}
+
+/// The definitions of all forms, which keep the rules over definitions.
+pub(crate) fn kept_definitions(sources: &Sources<'_, '_, '_>) -> Result<Vec<Definition>, TypeFault>
+    requires known { AreKnown sources.now }
+    requires evaluated { Evaluates sources.now.named.now }
+    requires layouts { LayoutsHold (map file_view sources.now.named.now) }
+    requires uses { UsesHold sources.now.named.now }
+    ensures are { IfOk result (λ ds. DefinitionsAre sources.now.named.now
+        (seen_definitions ds.items)) }
+    ensures kept { IfOk result (λ ds. RulesHold (seen_definitions ds.items)
+        (marks_of (all_forms sources.now.named.now))) }
+    ensures fault_is_true { IfErr result (IsTrueOfTypes sources.now.named.now) }
+{
+    let Some(definitions) = all_definitions(sources)? else {
+        // A number of a definition has 32 bits, so more forms than that are as good as no memory.
+        return Err(TypeFault::Memory);
+    };
+    check_marked(sources, &definitions)?;
+    Ok(definitions)
+}
