@@ -1,6 +1,8 @@
-//! Tests of the calls over definitions: their figures and their rules.
+//! Tests of the calls over definitions: their types, their figures and their rules.
 #![tactic(auto)]
 
+#[cfg(test)]
+mod entries;
 #[cfg(test)]
 mod figures;
 #[cfg(test)]

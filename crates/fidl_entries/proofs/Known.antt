@@ -1,0 +1,56 @@
+-- Whether a list has a type, by its words.
+use Rattle.std.proofs.Common.{◌≡◌, ◌∙◌, ℕ, Bool, true, false, ◌||◌, List, [], ◌∷◌, map, nat_eq, refl, sym, subst, inl, inr, true≢false}
+use Rattle.std.specs.Bool.{Decides}
+use Rattle.std.specs.Global.{Vec}
+use Rattle.std.specs.List.{Contains, list_any}
+use Rattle.std.specs.Cmp.Lexicographic.{pointwise}
+use Rattle.std.proofs.lemmas.Slice.Eq.{slice_eq-Decides}
+use Rattle.std.proofs.lemmas.Bool.Decides.{Decides-eqb}
+use Rattle.fidl_wire.specs.Term.{Term}
+use Rattle.fidl_entries.specs.declared.list.TypeRef.{TypeRef}
+use Rattle.fidl_entries.specs.Keys.{words}
+use Rattle.fidl_entries.specs.Growing.{seen_ref}
+use Rattle.fidl_entries.proofs.Members.{here, there, nothing_there, first_or_rest}
+use Rattle.fidl_entries.proofs.Words.{same_type}
+
+-- the test of the set
+abbrev pub same_words : List ℕ → Vec ℕ → Bool
+same_words ws key = pointwise nat_eq ws key.items
+
+words_test : (ws : List ℕ) (key : Vec ℕ) → Decides (same_words ws key) (ws ≡ key.items)
+words_test ws key = slice_eq-Decides Decides-eqb ws key.items (same_words ws key) refl
+
+among_keys : (ws : List ℕ) (keys : List (Vec ℕ)) → Decides (list_any (same_words ws) keys) (Contains (map (λ v. v.items) keys) ws)
+among_keys ws [] = ((λ e. absurd (true≢false (sym e))), λ h. absurd (nothing_there ws h))
+among_keys ws (key ∷ keys) = among (among_keys ws keys) (same_words ws key) refl
+  where
+    found : Decides (list_any (same_words ws) keys) (Contains (map (λ v. v.items) keys) ws) → Contains (map (λ v. v.items) (key ∷ keys)) ws → same_words ws key ≡ false → list_any (same_words ws) keys ≡ true
+    found rest h other = elim (first_or_rest key.items (map (λ v. v.items) keys) ws h) [
+      | inl is ↦ absurd (true≢false (sym ((words_test ws key).1 (sym is)) ∙ other))
+      | inr later ↦ rest.1 later
+    ]
+
+    among : Decides (list_any (same_words ws) keys) (Contains (map (λ v. v.items) keys) ws) → (b : Bool) → same_words ws key ≡ b → Decides (b || list_any (same_words ws) keys) (Contains (map (λ v. v.items) (key ∷ keys)) ws)
+    among rest true is = ((λ _. subst (λ x. Contains (x ∷ map (λ v. v.items) keys) ws) ((words_test ws key).0 is) (here ws (map (λ v. v.items) keys))), λ _. refl)
+    among rest false other = ((λ e. there key.items (map (λ v. v.items) keys) ws (rest.0 e)), λ h. found rest h other)
+
+among_words : (r : TypeRef) (rs : List TypeRef) → Contains (map words (map seen_ref rs)) (words (seen_ref r)) → Contains (map seen_ref rs) (seen_ref r)
+among_words r [] h = absurd (nothing_there (words (seen_ref r)) h)
+among_words r (s ∷ rs) h = elim (first_or_rest (words (seen_ref s)) (map words (map seen_ref rs)) (words (seen_ref r)) h) [
+  | inl e ↦ subst (λ t. Contains (t ∷ map seen_ref rs) (seen_ref r)) (same_type r s (sym e)) (here (seen_ref r) (map seen_ref rs))
+  | inr rest ↦ there (seen_ref s) (map seen_ref rs) (seen_ref r) (among_words r rs rest)
+]
+
+words_there : (ts : List Term) (t : Term) → Contains ts t → Contains (map words ts) (words t)
+words_there [] t h = absurd (nothing_there t h)
+words_there (u ∷ ts) t h = elim (first_or_rest u ts t h) [
+  | inl e ↦ subst (λ x. Contains (words x ∷ map words ts) (words t)) (sym e) (here (words t) (map words ts))
+  | inr rest ↦ there (words u) (map words ts) (words t) (words_there ts t rest)
+]
+
+module _ (keys : List (Vec ℕ)) (rs : List TypeRef) (same : map (λ v. v.items) keys ≡ map words (map seen_ref rs)) where
+  pub known : (r : TypeRef) → list_any (same_words (words (seen_ref r))) keys ≡ true → Contains (map seen_ref rs) (seen_ref r)
+  known r e = among_words r rs (subst (λ l. Contains l (words (seen_ref r))) same ((among_keys (words (seen_ref r)) keys).0 e))
+
+  pub unknown : (r : TypeRef) → list_any (same_words (words (seen_ref r))) keys ≡ false → Contains (map seen_ref rs) (seen_ref r) → ⊥
+  unknown r e h = absurd (true≢false (sym ((among_keys (words (seen_ref r)) keys).1 (subst (λ l. Contains l (words (seen_ref r))) (sym same) (words_there (map seen_ref rs) (seen_ref r) h))) ∙ e))

@@ -1,0 +1,102 @@
+//! Lists of types, each of which stands in them once.
+ghost use Rattle.std.specs.Prelude.{◌≡◌, [], ◌∷◌, length, slice_get, IfErr, OnOk};
+ghost use Rattle.std.specs.Option.{option_map};
+ghost use Rattle.fidl_term.specs.Terms.{seen_fields, seen_rows, seen_type};
+ghost use Rattle.fidl_term.specs.Members.{field_types, row_types};
+ghost use Rattle.fidl_entries.specs.Growing.{seen_ref, types_of, IsKept, GrowsBy, IsFullBy};
+
+use crate::fault::EntryFault;
+use crate::keys::words_of;
+use fidl_term::{Field, Row, Type};
+use indexmap::IndexSet;
+use std::alloc::Global;
+
+/// A type that stands in a definition, or the definition of a number as a type.
+#[derive(Clone, Copy, Drop)]
+pub enum TypeRef<'d> {
+    Of(&'d Type),
+    Layout(u32),
+}
+
+/// A list of at most `limit` types, each of which stands in it once.
+#[derive(Drop)]
+pub struct TypeList<'d> {
+    types: Vec<TypeRef<'d>>,
+    known: IndexSet<Vec<u32>>,
+    limit: usize,
+}
+
+impl<'d> TypeList<'d> {
+    /// A list without types.
+    pub(crate) fn new(alloc: Global, limit: usize) -> TypeList<'d>
+        ensures kept { IsKept result }
+        ensures empty { types_of result ≡ [] }
+        ensures limit { result.limit ≡ limit }
+    {
+        TypeList {
+            types: Vec::new(alloc),
+            known: IndexSet::new(alloc),
+            limit,
+        }
+    }
+
+    /// How many types there are.
+    pub fn count(&self) -> usize
+        ensures { result ≡ length (types_of self.now) }
+    {
+        self.types.len()
+    }
+
+    /// The type at a place of the list, from 0 on; None past its end.
+    pub fn get(&self, place: usize) -> Option<TypeRef<'d>>
+        ensures { option_map seen_ref result ≡ slice_get (types_of self.now) place }
+    {
+        self.types.get(place).copied()
+    }
+
+    /// Adds a type, if it is new.
+    pub(crate) fn add(&mut self, alloc: Global, of: TypeRef<'d>) -> Result<(), EntryFault>
+        requires kept { IsKept self.old }
+        ensures ok { OnOk result (GrowsBy self.old self.new (seen_ref of.entry ∷ [])) }
+        ensures full { IfErr result (IsFullBy self.old (seen_ref of.entry ∷ [])) }
+    {
+        let words = words_of(alloc, of)?;
+        let (_place, is_new) = self.known.insert_full(words)?;
+        if !is_new {
+            return Ok(());
+        }
+        if self.types.len() >= self.limit {
+            return Err(EntryFault::TooMany);
+        }
+        self.types.push(of)?;
+        Ok(())
+    }
+
+    /// Adds the types of members of a struct.
+    pub(crate) fn add_fields(
+        &mut self,
+        alloc: Global,
+        fields: &'d [Field],
+    ) -> Result<(), EntryFault>
+        requires kept { IsKept self.old }
+        ensures ok { OnOk result (GrowsBy self.old self.new (field_types (seen_fields fields.now))) }
+        ensures full { IfErr result (IsFullBy self.old (field_types (seen_fields fields.now))) }
+    {
+        for field in fields {
+            self.add(alloc, TypeRef::Of(&field.of))?;
+        }
+        Ok(())
+    }
+
+    /// Adds the types of members of a table or a union.
+    pub(crate) fn add_rows(&mut self, alloc: Global, rows: &'d [Row]) -> Result<(), EntryFault>
+        requires kept { IsKept self.old }
+        ensures ok { OnOk result (GrowsBy self.old self.new (row_types (seen_rows rows.now))) }
+        ensures full { IfErr result (IsFullBy self.old (row_types (seen_rows rows.now))) }
+    {
+        for row in rows {
+            self.add(alloc, TypeRef::Of(&row.of))?;
+        }
+        Ok(())
+    }
+}
