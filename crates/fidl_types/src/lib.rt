@@ -16,3 +16,4 @@ pub use checked::Types;
 pub use checking::check;
 pub use fault::TypeFault;
 pub use laws::{definitions_exist, refused_types_break_a_rule, the_types_of_files_are_one};
+pub use places::place_of;

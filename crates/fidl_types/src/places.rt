@@ -38,7 +38,7 @@ fn form_place(form: &Form<'_, '_>) -> Place
 }
 
 /// The place of the form of this number.
-pub(crate) fn place_of(forms: &[Form<'_, '_>], number: usize) -> Place
+pub fn place_of(forms: &[Form<'_, '_>], number: usize) -> Place
     requires { number < length forms.now }
     ensures { IsPlaceOf (seen_forms forms.now) number result }
 {

@@ -1,0 +1,4 @@
+pub mod Forms
+pub mod Excluded
+pub mod Starts
+pub mod Found

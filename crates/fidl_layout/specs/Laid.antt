@@ -1,0 +1,48 @@
+-- When checked files are laid out within the limits (docs/language.md, "Laying out").
+use Rattle.std.specs.Prelude.{ℕ, ◌≡◌, ◌≤◌, List, length, map}
+use Rattle.fidl_limits.specs.declared.limits.TheConstants.{MAX_ENTRIES}
+use Rattle.fidl_tree.specs.declared.file.File.{File}
+use Rattle.fidl_wire.specs.Term.{Term, fields_of}
+use Rattle.fidl_wire.specs.Figure.{Declarations, IsLaidOut, offsets}
+use Rattle.fidl_term.specs.declared.term.Definition.{Definition}
+use Rattle.fidl_term.specs.Terms.{seen_definitions}
+use Rattle.fidl_terms.specs.Numbers.{all_forms}
+use Rattle.fidl_types.specs.Types.{TypesAre}
+use Rattle.fidl_figures.specs.Limits.{KeepLimits}
+use Rattle.fidl_figures.specs.declared.finding.Figures.{Figures}
+use Rattle.fidl_figures.specs.Found.{figures_of, offsets_of, declarations_of}
+use Rattle.fidl_entries.specs.Reached.{AreReached}
+use Rattle.fidl_layout.specs.Roots.{AreRoots}
+use Rattle.fidl_layout.specs.Written.{ValuesFit}
+
+-- the roots of files reach few enough types
+pub record TypesFit (files : List File) (terms : List Term) : Type 0 where
+  pub roots : List ℕ
+  pub are : AreRoots files roots
+  pub types : List Term
+  pub reached : AreReached terms roots types
+  pub few : length types ≤ MAX_ENTRIES
+
+-- files keep all rules of types, with these definitions; their figures are these, and all limits
+-- hold
+pub record AreLaidOut (files : List File) (ds : Declarations) : Type 0 where
+  pub checked : TypesAre files ds.terms
+  pub laid_out : IsLaidOut ds
+  pub limits : KeepLimits ds
+  pub values : ValuesFit (all_forms files)
+  pub types : TypesFit files ds.terms
+
+-- the figures that were found for checked files
+pub record AreFigures (files : List File) (found : Figures) : Type 0 where
+  pub definitions : List Definition
+  pub checked : TypesAre files (seen_definitions definitions)
+  pub laid_out : IsLaidOut (declarations_of definitions found)
+  pub limits : KeepLimits (declarations_of definitions found)
+  pub offsets : offsets_of found ≡ map (λ d. offsets (figures_of found) 0 (fields_of d))
+      (seen_definitions definitions)
+
+-- what is held of files that are laid out
+pub record AreHeld (files : List File) (found : Figures) : Type 0 where
+  pub figures : AreFigures files found
+  pub values : ValuesFit (all_forms files)
+  pub types : (terms : List Term) → TypesAre files terms → TypesFit files terms

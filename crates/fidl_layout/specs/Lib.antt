@@ -1,0 +1,9 @@
+-- The figures of checked files, in the order in which to read them:
+--   Roots    the forms of declared types
+--   Written  how many members are written in bits and enums
+--   Laid     when checked files are laid out within the limits
+--   Faults   what each refusal says
+pub mod Roots
+pub mod Written
+pub mod Laid
+pub mod Faults

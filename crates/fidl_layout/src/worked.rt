@@ -1,0 +1,51 @@
+//! Worked facts: which forms are roots, how many members are written, and what refusals say.
+ghost use Rattle.std.specs.Prelude.{◌≡◌, ℕ, List, [], ◌∷◌, true, false};
+ghost use Rattle.std.specs.List.{Contains};
+ghost use Rattle.fidl_span.specs.declared.words.Span.{Span};
+ghost use Rattle.fidl_tree.specs.Syntax.{Layout, Members, ValueMember, bits_kind, no_underlying};
+ghost use Rattle.fidl_tree.specs.Syntax.{Response, values_layout, struct_layout};
+ghost use Rattle.fidl_tree.specs.declared.file.File.{File};
+ghost use Rattle.fidl_names.specs.declared.place.Place.{Place};
+ghost use Rattle.fidl_layouts.specs.declared.step.Step.{Step};
+ghost use Rattle.fidl_layouts.specs.Forms.{Form, layout_form, result_form};
+ghost use Rattle.fidl_layout.specs.declared.fault.LayoutFault.TheVariants as Faults;
+ghost use Rattle.fidl_layout.specs.Roots.{IsRoot, AreRoots};
+ghost use Rattle.fidl_layout.specs.Written.{written_values, ValuesFit, HasTooManyValues};
+ghost use Rattle.fidl_layout.specs.Laid.{AreLaidOut};
+ghost use Rattle.fidl_layout.specs.Faults.{IsTrueOfLayout};
+
+/// A form is no root where it stands for a union that may be absent or for a result, where its path
+/// has more than a name, or where no type is declared.
+pub fn what_is_no_root()
+    ensures optional { (files : List File) (form : Form) (l : Layout)
+        → form.kind ≡ layout_form true l → IsRoot files form → ⊥ }
+    ensures result { (files : List File) (form : Form) (strict : _) (r : Response)
+        → form.kind ≡ result_form strict r → IsRoot files form → ⊥ }
+    ensures inner { (files : List File) (form : Form) (s t : Step) (path : List Step)
+        → form.path ≡ s ∷ t ∷ path → IsRoot files form → ⊥ }
+    ensures nowhere { (form : Form) → IsRoot [] form → ⊥ }
+{}
+
+/// No files have no roots.
+pub fn roots_of_no_files()
+    ensures none { AreRoots [] [] }
+    ensures one { (i : ℕ) → AreRoots [] (i ∷ []) → ⊥ }
+{}
+
+/// Each member of bits and enums counts, and none of a struct.
+pub fn how_many_are_written()
+    ensures of_bits { (kw : Span) (m n : ValueMember) → written_values (layout_form false
+        (values_layout bits_kind false kw no_underlying (m ∷ n ∷ []))) ≡ 2 }
+    ensures of_structs { (is_resource : _) (kw : Span) (ms : Members) → written_values
+        (layout_form false (struct_layout is_resource kw ms)) ≡ 0 }
+    ensures fit { ValuesFit [] }
+    ensures none { (i : ℕ) → HasTooManyValues [] i → ⊥ }
+{}
+
+/// No files are laid out, and nothing but lack of memory is said of them.
+pub fn no_files()
+    ensures laid_out { AreLaidOut [] (record { terms = []; figures = [] }) }
+    ensures too_many { (place : Place) → IsTrueOfLayout [] (Faults.TooManyTypes place) → ⊥ }
+    ensures members { (place : Place) → IsTrueOfLayout [] (Faults.TooManyMembers place) → ⊥ }
+    ensures memory { IsTrueOfLayout [] Faults.Memory }
+{}
