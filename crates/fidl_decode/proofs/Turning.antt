@@ -1,6 +1,6 @@
 -- What a turn on a frame does.
 use Rattle.std.proofs.Common.{◌≡◌, ℕ, ◌+◌, ◌-◌, ◌*◌, ◌<◌, ◌≤◌, List, [], ◌∷◌, refl, sym, subst, ◌∙◌, arith, inl, inr}
-use Rattle.std.specs.Prelude.{◌↔◌, Option, Some, None, Result, Ok, Err, OnErr, OnOk, IfErr}
+use Rattle.std.specs.Prelude.{◌↔◌, Option, Some, None, IfNone, Result, Ok, Err, OnErr, OnOk, IfErr}
 use Rattle.std.specs.Result.{IsErrAnd}
 use Rattle.std.proofs.Math.Nat.{mul-le-mul_left, mul-le-mul_right}
 use Rattle.fidl_wire.specs.Term.{Term, resolve, width, Kind, int8}
@@ -31,6 +31,11 @@ on_err (Err e) P h = h
 pub passed_on : {T E : Type 0} (r : Result T E) (e : E) (P : E → Type 0) → IsErrAnd r (λ y. y ≡ e) → P e → IfErr r P
 passed_on (Ok x) e P h p = tt
 passed_on (Err y) e P h p = subst P (sym h) p
+
+-- what holds where there is no value
+pub none_weaker : {T : Type 0} (o : Option T) (P Q : Type 0) → (P → Q) → IfNone o P → IfNone o Q
+none_weaker None P Q f h = f h
+none_weaker (Some x) P Q f h = tt
 
 -- what each error excludes
 pub refused_by : {T E : Type 0} (r : Result T E) (P : E → Type 0) (Q : Type 0) → ((e : E) → P e → Q) → IfErr r P → OnErr r Q

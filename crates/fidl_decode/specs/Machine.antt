@@ -1,5 +1,5 @@
 -- What a state of the decoder still has to read, said by values and never by a run.
-use Rattle.std.specs.Prelude.{◌≡◌, ℕ, suc, ◌+◌, ◌-◌, ◌*◌, ◌<◌, ◌≤◌, ◌⊎◌, ◌↔◌, List, [], ◌∷◌, length}
+use Rattle.std.specs.Prelude.{◌≡◌, ℕ, suc, ◌+◌, ◌-◌, ◌*◌, ◌<◌, ◌≤◌, ◌⊎◌, ◌↔◌, List, [], ◌∷◌, length, slice_index}
 use Rattle.std.specs.Prelude.{Option, Some, None}
 use Rattle.fidl_limits.specs.declared.limits.TheConstants.{MAX_DEPTH, MAX_NEST, MAX_MESSAGE_HANDLES}
 use Rattle.fidl_wire.specs.Term as ty
@@ -269,6 +269,34 @@ pub record Turns (t : List ℕ) (m : Message) (f : Frame) (old new : At) (spent 
   pub rest_fine : FineIf t m.bytes (height f) x.rest
   pub less : byte_work * (length m.bytes - new.next) + frame_work_if x.below + frame_work_if x.rest
       + spent ≤ byte_work * (length m.bytes - old.next) + frame_work f
+
+-- a frame with so many rows left, from the first on, and so many of its bytes read
+abbrev pub behind_rows : Frame → (first count done : ℕ) → Frame
+behind_rows f first count done =
+    record {
+      left = Rows first count;
+      base = f.base;
+      done = done;
+      size = f.size;
+      nest = f.nest;
+      depth = f.depth;
+      inside = f.inside;
+    }
+
+-- the bool so far behind a struct's start, if there is one, is 0 or 1
+abbrev pub IsGood : List ℕ → (base : ℕ) → (flag : Option ℕ) → Type 0
+IsGood m base None = Unit {0}
+IsGood m base (Some k) = slice_index m (base + k) ≤ 1
+
+-- wherever a struct with these rows stands, and this bool of it, if any, is 0 or 1, so many of its
+-- rows are a turn that reads so many of its bytes and nothing out of line, and leaves the rows from
+-- the first on
+abbrev pub Passes : List ℕ → Message → Left → (rows first count done : ℕ) → (flag : Option ℕ) → Type
+    0
+Passes t m left rows first count done flag =
+    (f : Frame) → (s : At) → FrameFine t m.bytes f → f.left ≡ left → f.done ≡ 0 → StateFine m s
+    → IsGood m.bytes f.base flag
+    → Turns t m f s s rows (record { below = None; rest = Some (behind_rows f first count done) })
 
 -- the whole message is read
 pub record IsWhole (m : Message) (s : At) : Type 0 where

@@ -1,17 +1,37 @@
 //! Numbers and bools that stand behind one another in a struct, without a gap: they need no more
 //! than a look at their rows, and at the byte of a bool.
-ghost use Rattle.std.specs.Prelude.{◌≡◌, ◌+◌, ◌-◌, ◌^◌, ◌<◌, ◌≤◌, IsTrue, Some, None, length};
+ghost use Rattle.std.specs.Prelude.{◌≡◌, ◌+◌, ◌-◌, ◌^◌, ◌<◌, ◌≤◌, OnOk, OnErr, IfOk, IfErr, IfNone};
+ghost use Rattle.std.specs.Prelude.{ℕ, IfSome, IsTrue, Some, None, true, length};
 ghost use Rattle.fidl_limits.specs.declared.limits.TheConstants.{MAX_DEPTH, MAX_MESSAGE_BYTES};
+ghost use Rattle.fidl_records.specs.declared.kind.EntryKind.{EntryKind};
+ghost use Rattle.fidl_records.specs.Kind.{kind_of};
 ghost use Rattle.fidl_records.specs.Section.{header_of, entry_at};
-ghost use Rattle.fidl_decode.specs.Invariants.{IsFine};
+ghost use Rattle.fidl_decode.specs.Invariants.{IsFine, is_free};
 ghost use Rattle.fidl_decode.specs.Faults.{message_of};
 ghost use Rattle.fidl_decode.specs.declared.frame.Left.TheVariants as left;
-ghost use Rattle.fidl_decode.specs.Machine.{StateFine, FrameFine, Visits, Turns, turn_work, at_of};
+ghost use Rattle.fidl_decode.specs.State.{At};
+ghost use Rattle.fidl_decode.specs.Machine.{StateFine, FrameFine, Visits, Turns, Reads, BreaksFrame};
+ghost use Rattle.fidl_decode.specs.Machine.{IsGood, Passes, turn_work, at_of};
 
 use crate::decoder::Decoder;
+use crate::fault::DecodeFault;
 use crate::frame::{Frame, Left, State};
 use crate::leaf::is_free;
 use fidl_records::{EntryKind, Row};
+
+/// The rows of a struct before the first that has to be looked at closer: any bytes are values of
+/// them, wherever the struct stands, but for one bool.
+#[derive(Clone, Copy, Drop)]
+pub(crate) struct Plain {
+    /// How many rows these are, and how many bytes their members have.
+    pub rows: u32,
+    pub done: usize,
+    /// The rows behind them: the first, and how many.
+    pub first: u32,
+    pub count: u32,
+    /// How far behind the struct's start the bool among these stands, if there is one.
+    pub flag: Option<u32>,
+}
 
 /// A frame with so many rows left, from the first on, and so many of its bytes read.
 #[inline(always)]
@@ -66,6 +86,174 @@ impl<'t, 'm> Decoder<'t, 'm> {
             return self.bytes[frame.base + done] <= 1;
         }
         is_free(&e, kind)
+    }
+
+    /// Whether the member of a row stands this far behind its struct's start, and any bytes are its
+    /// value.
+    #[inline(always)]
+    fn takes_any(&self, row: &Row, done: usize) -> bool
+        requires table { IsFine self.now.table.now }
+        requires row { row.now.entry < (header_of self.now.table.now).entries }
+        ensures stands { IsTrue result → row.now.key ≡ done }
+        ensures free { IsTrue result → (kind : EntryKind)
+            × (kind_of (entry_at self.now.table.now row.now.entry).kind ≡ Some kind)
+            × (is_free kind (entry_at self.now.table.now row.now.entry) ≡ true) }
+    {
+        let e = self.table.entry(row.entry);
+        let Some(kind) = EntryKind::from_number(e.kind) else {
+            return false;
+        };
+        row.key as usize == done && is_free(&e, kind)
+    }
+
+    /// The bool among the rows up to this one, where it can be passed over behind rows with this bool:
+    /// its member stands this far behind its struct's start, and any bytes are its value, or it is the
+    /// only bool.
+    #[inline(always)]
+    fn next_flag(&self, row: &Row, done: usize, flag: Option<u32>) -> Option<Option<u32>>
+        requires table { IsFine self.now.table.now }
+        requires row { row.now.entry < (header_of self.now.table.now).entries }
+        ensures stands { IfSome result (λ next. row.now.key ≡ done) }
+        ensures keeps { IfSome result (λ next. (base : ℕ) → IsGood self.now.bytes.now base next
+            → IsGood self.now.bytes.now base flag) }
+        ensures visits { IfSome result (λ next. (base depth : ℕ) → (s : At) → depth ≤ MAX_DEPTH
+            → StateFine (message_of self.now.bytes.now self.now.handles.now) s
+            → base + row.now.key + (entry_at self.now.table.now row.now.entry).size
+            ≤ length self.now.bytes.now → IsGood self.now.bytes.now base next
+            → Visits self.now.table.now (message_of self.now.bytes.now self.now.handles.now) depth
+            row.now.entry (base + row.now.key) s s 0 None) }
+    {
+        if self.takes_any(row, done) {
+            return Some(flag);
+        }
+        if let Some(_) = flag {
+            return None;
+        }
+        if done != row.key as usize {
+            return None;
+        }
+        let e = self.table.entry(row.entry);
+        match EntryKind::from_number(e.kind) {
+            Some(EntryKind::Bool) => Some(Some(row.key)),
+            _ => None,
+        }
+    }
+
+    /// The rows of a struct before the first that has to be looked at closer: numbers, and bits and
+    /// enums that are not strict, and one bool, that stand behind one another without a gap.
+    pub(crate) fn plain_rows(&self, first: u32, count: u32) -> Plain
+        requires table { IsFine self.now.table.now }
+        requires within { first + count ≤ (header_of self.now.table.now).rows }
+        ensures few { result.rows ≤ count }
+        ensures passes { Passes self.now.table.now
+            (message_of self.now.bytes.now self.now.handles.now) (left.Rows first count)
+            result.rows result.first result.count result.done result.flag }
+    {
+        let _rows = self.table.rows();
+        let end = first + count;
+        let mut done = 0;
+        let mut flag = None;
+        for i in first..end {
+            let row = self.table.row(i);
+            let Some(next) = self.next_flag(&row, done, flag) else {
+                return Plain {
+                    rows: i - first,
+                    done,
+                    first: i,
+                    count: end - i,
+                    flag,
+                };
+            };
+            flag = next;
+            done = row.key as usize + self.table.entry(row.entry).size as usize;
+        }
+        Plain {
+            rows: count,
+            done,
+            first: end,
+            count: 0,
+            flag,
+        }
+    }
+
+    /// Whether the bool so far behind a struct's start, if there is one, is 0 or 1.
+    #[inline(always)]
+    fn is_good(&self, base: usize, flag: Option<u32>) -> bool
+        requires { base ≤ MAX_MESSAGE_BYTES }
+        ensures { IsTrue result → IsGood self.now.bytes.now base flag }
+    {
+        let Some(offset) = flag else {
+            return true;
+        };
+        let at = base + offset as usize;
+        at < self.bytes.len() && self.bytes[at] <= 1
+    }
+
+    /// Passes over the first rows of a struct, which are known to take any bytes but for a bool. Where
+    /// the bool is wrong, the frame is left as it is.
+    #[inline(always)]
+    fn pass_over(&self, frame: Frame, plain: &Plain, state: &mut State) -> Frame
+        requires short { length self.now.bytes.now ≤ MAX_MESSAGE_BYTES }
+        requires frame { FrameFine self.now.table.now self.now.bytes.now frame }
+        requires start { frame.done ≡ 0 }
+        requires passes { Passes self.now.table.now
+            (message_of self.now.bytes.now self.now.handles.now) frame.left plain.now.rows
+            plain.now.first plain.now.count plain.now.done plain.now.flag }
+        requires state { StateFine (message_of self.now.bytes.now self.now.handles.now)
+            (at_of state.old) }
+        requires budget { state.old.steps + turn_work self.now.bytes.now state.old.next frame
+            < 2 ^ 40 }
+        ensures turns { Turns self.now.table.now
+            (message_of self.now.bytes.now self.now.handles.now) frame (at_of state.old)
+            (at_of state.new) (state.new.steps - state.old.steps)
+            (record { below = None; rest = Some result }) }
+        ensures grows { state.old.steps ≤ state.new.steps }
+    {
+        if !self.is_good(frame.base, plain.flag) {
+            return frame;
+        }
+        state.steps += u64::from(plain.rows);
+        rows_from(frame, plain.first, plain.count, plain.done)
+    }
+
+    /// Reads a struct as `read_struct` does, of which the first rows are known to take any bytes but
+    /// for a bool.
+    #[inline(always)]
+    pub(crate) fn read_behind(
+        &self,
+        frame: Frame,
+        plain: &Plain,
+        state: &mut State,
+    ) -> Result<Option<Frame>, DecodeFault>
+        requires table { IsFine self.now.table.now }
+        requires short { length self.now.bytes.now ≤ MAX_MESSAGE_BYTES }
+        requires frame { FrameFine self.now.table.now self.now.bytes.now frame }
+        requires start { frame.done ≡ 0 }
+        requires passes { Passes self.now.table.now
+            (message_of self.now.bytes.now self.now.handles.now) frame.left plain.now.rows
+            plain.now.first plain.now.count plain.now.done plain.now.flag }
+        requires state { StateFine (message_of self.now.bytes.now self.now.handles.now)
+            (at_of state.old) }
+        requires budget { state.old.steps + turn_work self.now.bytes.now state.old.next frame
+            < 2 ^ 40 }
+        ensures ok { IfOk result
+            (λ rest. Turns self.now.table.now (message_of self.now.bytes.now self.now.handles.now)
+            frame (at_of state.old) (at_of state.new) (state.new.steps - state.old.steps)
+            (record { below = None; rest = rest })) }
+        ensures grows { OnOk result (state.old.steps ≤ state.new.steps) }
+        ensures ended { IfOk result (λ rest. IfNone rest (state.old.steps < state.new.steps)) }
+        ensures cost { state.new.steps
+            ≤ state.old.steps + turn_work self.now.bytes.now state.old.next frame }
+        ensures err { OnErr result
+            ((to : At)
+            → Reads self.now.table.now (message_of self.now.bytes.now self.now.handles.now) frame
+            (at_of state.old) to → ⊥) }
+        ensures told { IfErr result
+            (BreaksFrame self.now.table.now (message_of self.now.bytes.now self.now.handles.now)
+            frame (at_of state.old)) }
+    {
+        let rest = self.pass_over(frame, plain, state);
+        self.read_struct(rest, state)
     }
 
     /// Reads the rows of a struct up to the first that has to be looked at closer.

@@ -20,17 +20,32 @@ use simdutf8::is_utf8;
 /// The length up to which a text is looked at byte by byte, before it is as blocks.
 const SHORT: usize = 8;
 
+/// The length up to which a longer text is looked at eight bytes at a time, before it is as blocks
+/// of 64.
+const MEDIUM: usize = 32;
+
+/// Whether a text is UTF-8. Of one that is no longer than `MEDIUM` the bytes are looked at first,
+/// since most are ASCII.
+fn is_longer_text(text: &[u8]) -> bool
+    ensures { IsTrue result ↔ IsUtf8 text.now }
+{
+    if text.len() > MEDIUM {
+        return is_utf8(text);
+    }
+    text.is_ascii() || is_utf8(text)
+}
+
 /// Whether a text is UTF-8. Of a short one the bytes are looked at first, since most are ASCII.
 #[inline(always)]
 fn is_text(text: &[u8]) -> bool
     ensures { IsTrue result ↔ IsUtf8 text.now }
 {
     if text.len() > SHORT {
-        return is_utf8(text);
+        return is_longer_text(text);
     }
     for i in 0..text.len() {
         if text[i] >= 128 {
-            return is_utf8(text);
+            return is_longer_text(text);
         }
     }
     true
@@ -38,6 +53,7 @@ fn is_text(text: &[u8]) -> bool
 
 impl<'t, 'm> Decoder<'t, 'm> {
     /// Reads a string at a place: its count and marker, and its text, which is linked.
+    #[inline(always)]
     pub(crate) fn read_text(
         &self,
         entry: &Entry,

@@ -66,6 +66,7 @@ impl<'t, 'm> Decoder<'t, 'm> {
             frame (at_of state.old)) }
     {
         let e = self.table.entry(entry);
+        let plain = self.plain_rows(e.first, e.count);
         let mut done = frame.done;
         for i in 0..count {
             let place = frame.base + done;
@@ -82,7 +83,7 @@ impl<'t, 'm> Decoder<'t, 'm> {
                 inside: frame.inside,
             };
             state.steps += 1;
-            let found = self.read_struct(below, state)?;
+            let found = self.read_behind(below, &plain, state)?;
             done += size;
             if let Some(inner) = found {
                 return Ok(Turn {

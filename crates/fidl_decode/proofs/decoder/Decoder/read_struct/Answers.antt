@@ -4,13 +4,9 @@ use Rattle.fidl_decode.specs.declared.frame.Frame.{Frame}
 use Rattle.fidl_decode.specs.State.{At}
 use Rattle.fidl_decode.specs.Machine.{Reads, Turns, at_of}
 use Rattle.fidl_decode.specs.Faults.{message_of}
-use Rattle.fidl_decode.proofs.Turning.{passed_on, on_err}
+use Rattle.fidl_decode.proofs.Turning.{passed_on, on_err, none_weaker}
 use Rattle.fidl_decode.proofs.Leaves.{left_over, turns_then, turns_refused, turns_break}
 use Rattle.fidl_decode.proofs.decoder.Decoder.read_struct.Goals as goal
-
-none_weaker : {T : Type 0} (o : Option T) (P Q : Type 0) → (P → Q) → IfNone o P → IfNone o Q
-none_weaker None P Q f h = f h
-none_weaker (Some x) P Q f h = tt
 
 pub returns-in_default-clause-ok : goal.returns-in_default-clause-ok
 returns-in_default-clause-ok c =
