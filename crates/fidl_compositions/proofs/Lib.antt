@@ -1,0 +1,10 @@
+pub mod Lists
+pub mod Order
+pub mod Nodes
+pub mod Numbering
+pub mod Members
+pub mod Ways
+pub mod Growing
+pub mod Excluded
+pub mod Naming
+pub mod Facts

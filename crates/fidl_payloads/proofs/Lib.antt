@@ -1,0 +1,8 @@
+pub mod Defined
+pub mod Excluded
+pub mod Finding
+pub mod Payable
+pub mod Owed
+pub mod One
+pub mod Small
+pub mod Stands
