@@ -33,6 +33,8 @@ mod numbers;
 #[cfg(test)]
 mod outside;
 #[cfg(test)]
+mod protocols;
+#[cfg(test)]
 mod reading;
 #[cfg(test)]
 mod records;

@@ -1,6 +1,7 @@
 //! What an accepted table gives: its roots, entries, rows, values and names.
 use crate::judging::{Asked, Suite, judge_all};
 use crate::numbers::NUMBERS;
+use crate::protocols::protocol_call;
 use crate::rules::TWO_ROOTS;
 use crate::showing::text;
 use crate::structs::POINT;
@@ -70,6 +71,7 @@ pub(crate) fn call(alloc: Global, table: &Table<'_>, given: &str) -> Option<Stri
         "bytes" => hex::encode(alloc, table.bytes()).ok(),
         "values" => text(alloc, Some(table.values())),
         "root" => text(alloc, table.root(at.as_bytes())),
+        "protocol" => protocol_call(alloc, table, at),
         _ => record(alloc, table, name, at.parse().ok()?),
     }
 }

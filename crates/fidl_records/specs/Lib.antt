@@ -6,6 +6,8 @@
 --   Terms          the types that entries declare
 --   Name           which bytes names have
 --   Entry, Root    the rules of an entry and of a root
+--   Protocol       the rules of a protocol
+--   Method         the rules of a method
 --   WellFormed     which tables are accepted
 --   Number         numbers at places of a message
 --   Samples        small tables for worked facts
@@ -18,5 +20,7 @@ pub mod Name
 pub mod Uses
 pub mod Entry
 pub mod Root
+pub mod Protocol
+pub mod Method
 pub mod WellFormed
 pub mod Samples

@@ -34,3 +34,8 @@ pub record IsName (bytes : List ℕ) (h : Header) (place name_length : ℕ) : Ty
 pub record IsMemberName (bytes : List ℕ) (h : Header) (place name_length : ℕ) : Type 0 where
   pub within : place + name_length ≤ h.names
   pub identifier : IsIdentifier (name_at bytes h place name_length)
+
+-- a full name: one within the names that isn't empty
+pub record IsFullName (bytes : List ℕ) (h : Header) (place name_length : ℕ) : Type 0 where
+  pub name : IsName bytes h place name_length
+  pub some : 0 < name_length

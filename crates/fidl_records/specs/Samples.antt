@@ -1,6 +1,7 @@
 -- The entries and tables of the worked facts.
 use Rattle.std.specs.Prelude.{ℕ, List, [], ◌∷◌, ◌++◌, replicate, codes}
 use Rattle.fidl_records.specs.declared.record.Entry.{Entry}
+use Rattle.fidl_records.specs.declared.record.MethodRecord.{MethodRecord}
 
 -- an entry of one byte without a name and rights
 abbrev pub an_entry : (kind flags first count bound subtype : ℕ) → Entry
@@ -94,3 +95,34 @@ table_and_union a b c d =
     codes "FCT2" ++ 1 ∷ 0 ∷ 0 ∷ 0 ∷ 3 ∷ 0 ∷ 0 ∷ 0 ∷ 4 ∷ replicate 19 0 ++ 1 ∷ replicate 7 0
     ++ entry_bytes 6 0 1 0 0 0 ++ ordinal_bytes 17 0 0 2 ++ ordinal_bytes 18 2 2 2
     ++ row_bytes a ++ row_bytes b ++ row_bytes c ++ row_bytes d ++ codes "n"
+
+-- the bytes of a protocol whose name is one byte of the names, at this place
+abbrev pub protocol_bytes : (place openness methods : ℕ) → List ℕ
+protocol_bytes place openness methods =
+    place ∷ 0 ∷ 0 ∷ 0 ∷ 1 ∷ 0 ∷ 0 ∷ 0 ∷ openness ∷ 0 ∷ 0 ∷ 0 ∷ methods ∷ 0 ∷ 0 ∷ 0 ∷ []
+
+-- the bytes of a method without payloads whose name is the first byte of the names
+abbrev pub method_bytes : (ordinal flags : ℕ) → List ℕ
+method_bytes ordinal flags =
+    ordinal ∷ replicate 11 0 ++ 1 ∷ 0 ∷ 0 ∷ 0 ∷ flags ∷ 0 ∷ 0 ∷ 0 ∷ replicate 8 255 ++ replicate 4 0
+
+-- a table without types, of the protocols "p" and this name with so many methods each, and of two
+-- strict one-way methods with these ordinals
+abbrev pub two_protocols : (openness name a b first second : ℕ) → List ℕ
+two_protocols openness name a b first second =
+    codes "FCT2" ++ 1 ∷ 0 ∷ 0 ∷ 0 ∷ replicate 16 0 ++ 2 ∷ 0 ∷ 0 ∷ 0 ∷ 2 ∷ 0 ∷ 0 ∷ 0 ∷ 2
+    ∷ replicate 7 0
+    ++ protocol_bytes 0 openness a ++ protocol_bytes 1 0 b
+    ++ method_bytes first 3 ++ method_bytes second 3 ++ 112 ∷ name ∷ []
+
+-- a method without a name: its ordinal, its flags and its payloads
+abbrev pub a_method : (ordinal flags request response : ℕ) → MethodRecord
+a_method ordinal flags request response = record {
+  ordinal = ordinal;
+  name_place = 0;
+  name_length = 0;
+  flags = flags;
+  request = request;
+  response = response;
+  reserved = 0;
+}

@@ -5,6 +5,8 @@ use Rattle.fidl_records.specs.declared.record.Header.{Header}
 use Rattle.fidl_records.specs.declared.record.Entry.{Entry}
 use Rattle.fidl_records.specs.declared.record.Row.{Row}
 use Rattle.fidl_records.specs.declared.record.Root.{Root}
+use Rattle.fidl_records.specs.declared.record.ProtocolRecord.{ProtocolRecord}
+use Rattle.fidl_records.specs.declared.record.MethodRecord.{MethodRecord}
 use Rattle.fidl_records.specs.Field.{number_at}
 
 -- the fields of the header, 40 bytes
@@ -94,6 +96,32 @@ root_at bytes h index =
       name_length =
           number_at w32 bytes (place + 4);
       entry = number_at w32 bytes (place + 8);
+    }
+
+-- the fields of a protocol, 16 bytes
+abbrev pub protocol_at : List ℕ → Header → (index : ℕ) → ProtocolRecord
+protocol_at bytes h index =
+    let place = protocol_place h index in
+    record {
+      name_place = number_at w32 bytes place;
+      name_length =
+          number_at w32 bytes (place + 4);
+      openness = number_at w32 bytes (place + 8);
+      methods = number_at w32 bytes (place + 12);
+    }
+
+-- the fields of a method, 32 bytes
+abbrev pub method_at : List ℕ → Header → (index : ℕ) → MethodRecord
+method_at bytes h index =
+    let place = method_place h index in
+    record {
+      ordinal = number_at w64 bytes place;
+      name_place = number_at w32 bytes (place + 8);
+      name_length = number_at w32 bytes (place + 12);
+      flags = number_at w32 bytes (place + 16);
+      request = number_at w32 bytes (place + 20);
+      response = number_at w32 bytes (place + 24);
+      reserved = number_at w32 bytes (place + 28);
     }
 
 -- the bytes of a name, by its place in the names

@@ -5,6 +5,8 @@ use Rattle.fidl_records.specs.declared.record.Header.{Header}
 use Rattle.fidl_records.specs.Section.{header_of, table_length}
 use Rattle.fidl_records.specs.Entry.{IsEntry, rows_before, values_before}
 use Rattle.fidl_records.specs.Root.{IsRoot}
+use Rattle.fidl_records.specs.Protocol.{IsProtocol, methods_before}
+use Rattle.fidl_records.specs.Method.{IsMethod}
 
 -- "FCT2", as a number
 abbrev pub table_magic : ℕ
@@ -23,7 +25,8 @@ pub record HasHeader (bytes : List ℕ) (h : Header) : Type 0 where
   pub whole : length bytes ≡ table_length h
   pub few_entries : h.entries ≤ MAX_ENTRIES
 
--- a table of the known kinds, with all its rules; each row and each value is of just one entry
+-- a table of the known kinds, with all its rules; each row and each value is of just one entry, and
+-- each method of just one protocol
 pub record WellFormed (bytes : List ℕ) : Type 0 where
   pub header : HasHeader bytes (header_of bytes)
   pub entries : (index : ℕ) → index < (header_of bytes).entries
@@ -31,5 +34,9 @@ pub record WellFormed (bytes : List ℕ) : Type 0 where
   pub covered : rows_before bytes (header_of bytes).entries ≡ (header_of bytes).rows
   pub values_covered : values_before bytes (header_of bytes).entries ≡ (header_of bytes).values
   pub roots : (index : ℕ) → index < (header_of bytes).roots → IsRoot bytes (header_of bytes) index
-  pub no_protocols : (header_of bytes).protocols ≡ 0
-  pub no_methods : (header_of bytes).methods ≡ 0
+  pub protocols : (index : ℕ) → index < (header_of bytes).protocols
+      → IsProtocol bytes (header_of bytes) index
+  pub methods_covered : methods_before bytes (header_of bytes) (header_of bytes).protocols
+      ≡ (header_of bytes).methods
+  pub methods : (index : ℕ) → index < (header_of bytes).methods
+      → IsMethod bytes (header_of bytes) index

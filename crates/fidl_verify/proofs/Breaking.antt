@@ -4,11 +4,13 @@ use Rattle.std.specs.Option.{option_map_or}
 use Rattle.fidl_records.specs.declared.record.Header.{Header}
 use Rattle.fidl_records.specs.declared.record.Entry.{Entry}
 use Rattle.fidl_records.specs.Kind.{kind_of}
-use Rattle.fidl_records.specs.Section.{header_of, table_length, entry_at}
+use Rattle.fidl_records.specs.Section.{header_of, table_length, entry_at, protocol_at, method_at}
 use Rattle.fidl_verify.specs.declared.fault.TableFault.TheVariants.{BadMagic, BadVersion, Truncated, Surplus, BadKind, BadIndex, BadOffset, BadSize, BadNest, NotSorted, BadName, BadMethod}
 use Rattle.fidl_records.specs.Uses.{is_known, uses_rows, uses_values}
 use Rattle.fidl_records.specs.Entry.{HasShape, HasChildren, Follows, HasOffsets, HasSize, HasNest, IsSorted, HasNames, entry_figure, rows_before, values_before}
 use Rattle.fidl_records.specs.Root.{HasEntry, HasRootName, Rises}
+use Rattle.fidl_records.specs.Protocol.{IsOpenness, HasProtocolName, ProtocolRises, HasMethods, methods_before}
+use Rattle.fidl_records.specs.Method.{HasMethodShape, HasMethodName, OrdinalRises}
 use Rattle.fidl_records.specs.WellFormed.{table_magic, IsVersion}
 use Rattle.fidl_limits.specs.declared.limits.TheConstants.{MAX_ENTRIES}
 use Rattle.fidl_verify.specs.declared.fault.TableFault.{TableFault}
@@ -85,11 +87,31 @@ module _ (bytes : List ℕ) (h : Header) (same : h ≡ header_of bytes) where
     pub uncovered_value : (values : ℕ) → values ≡ values_before bytes h.entries → values < h.values → Breaks bytes (BadIndex values)
     uncovered_value values e p = subst (λ n. Breaks bytes (BadIndex n)) (sym e) (record_at (BadIndex (values_before bytes h.entries)) (breaks.value (subst (λ n. n < h.values) e p)))
 
-    pub some_protocols : h.protocols ≢ 0 → Breaks bytes (BadMethod 0)
-    some_protocols n = record_at (BadMethod 0) (breaks.protocols n)
+    module _ (at : ℕ) (within : at < h.protocols) where
+      pub wrong_openness : (IsOpenness (protocol_at bytes h at) → ⊥) → Breaks bytes (BadMethod at)
+      wrong_openness n = record_at (BadMethod at) (breaks.openness at within n)
 
-    pub some_methods : h.methods ≢ 0 → Breaks bytes (BadMethod 0)
-    some_methods n = record_at (BadMethod 0) (breaks.methods n)
+      pub wrong_protocol_name : (HasProtocolName bytes h at → ⊥) → Breaks bytes (BadName at)
+      wrong_protocol_name n = record_at (BadName at) (breaks.protocol_name at within n)
+
+      pub wrong_protocol_order : (ProtocolRises bytes h at → ⊥) → Breaks bytes (NotSorted at)
+      wrong_protocol_order n = record_at (NotSorted at) (breaks.protocol_order at within n)
+
+      pub wrong_methods : (HasMethods bytes h at → ⊥) → Breaks bytes (BadIndex at)
+      wrong_methods n = record_at (BadIndex at) (breaks.protocol_methods at within n)
+
+    pub methods_left : methods_before bytes h h.protocols < h.methods → Breaks bytes (BadIndex h.protocols)
+    methods_left n = record_at (BadIndex h.protocols) (breaks.method n)
+
+    module _ (at : ℕ) (within : at < h.methods) where
+      pub wrong_method : (HasMethodShape bytes h (method_at bytes h at) → ⊥) → Breaks bytes (BadMethod at)
+      wrong_method n = record_at (BadMethod at) (breaks.method_shape at within n)
+
+      pub wrong_method_name : (HasMethodName bytes h (method_at bytes h at) → ⊥) → Breaks bytes (BadName at)
+      wrong_method_name n = record_at (BadName at) (breaks.method_name at within n)
+
+      pub wrong_method_order : (OrdinalRises bytes h at → ⊥) → Breaks bytes (NotSorted at)
+      wrong_method_order n = record_at (NotSorted at) (breaks.method_order at within n)
 
     pub wrong_root : (at : ℕ) → at < h.roots → (HasEntry bytes h at → ⊥) → Breaks bytes (BadIndex at)
     wrong_root at p n = record_at (BadIndex at) (breaks.root at p n)

@@ -11,3 +11,5 @@ pub mod Standing
 pub mod Enumerated
 pub mod Ordered
 pub mod Members
+pub mod Ordinals
+pub mod Placed

@@ -61,6 +61,10 @@ fewer n half all spent (suc d) is some few both =
 pub halved : (n half all spent : ℕ) → 0 < n → n < 2 ^ (all - spent) → half + half ≤ n → (spent < all) × (half < 2 ^ (all - suc spent))
 halved n half all spent some few both = fewer n half all spent (all - spent) refl some few both
 
+-- before the first probe all rows are left
+pub unspent : (n probes : ℕ) → n < 2 ^ 16 → n - 0 < 2 ^ (16 - (probes - probes))
+unspent n probes small = let none : 0 ≡ probes - probes = omega arith in subst (λ s. n - 0 < 2 ^ (16 - s)) none (omega (arith, small))
+
 -- ---- the members as rows
 
 differ : (a b : ℕ) → a ≢ b → (a == b) ≡ false

@@ -3,6 +3,7 @@ use Rattle.std.proofs.Common.{◌≡◌, ℕ, zero, suc, ◌+◌, ◌<◌, ◌�
 use Rattle.std.proofs.lemmas.Bool.{cases_order}
 use Rattle.fidl_records.specs.declared.record.Header.{Header}
 use Rattle.fidl_records.specs.declared.record.Row.{Row}
+use Rattle.fidl_records.specs.declared.record.Entry.{Entry}
 use Rattle.fidl_records.specs.Section.{header_of, entry_at, row_at}
 use Rattle.fidl_records.specs.Uses.{uses_rows}
 use Rattle.fidl_records.specs.Name.{IsMemberName}
@@ -64,3 +65,10 @@ row_kept bytes self h r index same view well p read =
       subst (λ (r : Row). r.entry < (header_of self).entries) (sym is) (row_entry self w index p),
       subst (λ (r : Row). r.name_place + r.name_length ≤ (header_of self).names) (sym is) (row_named self w index p).within,
     )
+
+-- the name of an entry that was read from the table lies within the names
+pub entry_named : (bytes self : List ℕ) (e : Entry) (index : ℕ) → bytes ≡ self → WellFormed bytes → index < (header_of self).entries → e ≡ entry_at bytes index
+    → e.name_place + e.name_length ≤ (header_of self).names
+entry_named bytes self e index view well p read =
+    let is : e ≡ entry_at self index = read ∙ ap (λ b. entry_at b index) view in
+    subst (λ (e : Entry). e.name_place + e.name_length ≤ (header_of self).names) (sym is) ((subst WellFormed view well).entries index p).names.own.within

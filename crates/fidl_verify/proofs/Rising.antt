@@ -1,19 +1,18 @@
--- The names of roots rise one by one.
+-- The names of roots and of protocols rise one by one.
 use Rattle.std.proofs.Common.{◌≡◌, ◌≢◌, ◌↔◌, ℕ, suc, ◌-◌, ◌<◌, ◌≤◌, List, Bool, IsTrue, inl, inr, subst, sym, arith}
-use Rattle.fidl_records.specs.declared.record.Header.{Header}
-use Rattle.fidl_records.specs.Root.{root_name, IsBefore, Rises}
+use Rattle.fidl_records.specs.Root.{IsBefore}
 use Rattle.fidl_verify.proofs.Stated.{or_last}
 
--- the one name before is that of the root before
-pub rises_from : (bytes : List ℕ) (h : Header) (index : ℕ) (a b : List ℕ) (r : Bool) → index ≢ 0 → a ≡ root_name bytes h (index - 1) → b ≡ root_name bytes h index
-    → (IsTrue r ↔ IsBefore a b) → (IsTrue r ↔ Rises bytes h index)
-rises_from bytes h index a b r some p q both = (
+-- the one name before is that of the record before
+pub rises_from : (name : ℕ → List ℕ) (index : ℕ) (a b : List ℕ) (r : Bool) → index ≢ 0 → a ≡ name (index - 1) → b ≡ name index
+    → (IsTrue r ↔ IsBefore a b) → (IsTrue r ↔ ((before : ℕ) → suc before ≡ index → IsBefore (name before) (name index)))
+rises_from name index a b r some p q both = (
   λ t before e.
       let k : index - 1 ≡ before = omega (arith, e) in
-      subst (λ n. IsBefore (root_name bytes h n) (root_name bytes h index)) k (subst (λ x. IsBefore x (root_name bytes h index)) p (subst (λ y. IsBefore a y) q (both.0 t))),
+      subst (λ n. IsBefore (name n) (name index)) k (subst (λ x. IsBefore x (name index)) p (subst (λ y. IsBefore a y) q (both.0 t))),
   λ rises.
       let e : suc (index - 1) ≡ index = omega (arith, some) in
-      both.1 (subst (λ y. IsBefore a y) (sym q) (subst (λ x. IsBefore x (root_name bytes h index)) (sym p) (rises (index - 1) e))),
+      both.1 (subst (λ y. IsBefore a y) (sym q) (subst (λ x. IsBefore x (name index)) (sym p) (rises (index - 1) e))),
 )
 
 -- what holds before a number and at it

@@ -5,15 +5,17 @@ use Rattle.fidl_records.specs.Section.{header_of}
 use Rattle.fidl_verify.specs.declared.fault.TableFault.{TableFault}
 use Rattle.fidl_records.specs.Entry.{IsEntry, rows_before, values_before}
 use Rattle.fidl_records.specs.Root.{IsRoot}
+use Rattle.fidl_records.specs.Protocol.{IsProtocol, methods_before}
+use Rattle.fidl_records.specs.Method.{IsMethod}
 use Rattle.fidl_records.specs.WellFormed.{HasHeader, WellFormed}
-use Rattle.fidl_verify.specs.Faults.{Breaks, BreaksHeader, BreaksRecord, no_header, header, record_at, magic, version, short, long, many_entries, shape, children, rows, values, offsets, size, nest, sorted, names, row, value, root, root_name, root_order, protocols, methods}
+use Rattle.fidl_verify.specs.Faults.{Breaks, BreaksHeader, BreaksRecord, no_header, header, record_at, magic, version, short, long, many_entries, shape, children, rows, values, offsets, size, nest, sorted, names, row, value, root, root_name, root_order, openness, protocol_name, protocol_order, protocol_methods, method, method_shape, method_name, method_order}
 
 pub well_formed_from : (bytes : List ℕ) (h : Header) → h ≡ header_of bytes → HasHeader bytes h → ((index : ℕ) → index < h.entries → IsEntry bytes h index)
-    → rows_before bytes h.entries ≡ h.rows → values_before bytes h.entries ≡ h.values → ((index : ℕ) → index < h.roots → IsRoot bytes h index) → h.protocols ≡ 0 → h.methods ≡ 0 → WellFormed bytes
+    → rows_before bytes h.entries ≡ h.rows → values_before bytes h.entries ≡ h.values → ((index : ℕ) → index < h.roots → IsRoot bytes h index) → ((index : ℕ) → index < h.protocols → IsProtocol bytes h index) → methods_before bytes h h.protocols ≡ h.methods → ((index : ℕ) → index < h.methods → IsMethod bytes h index) → WellFormed bytes
 well_formed_from bytes h same =
     subst (λ h. HasHeader bytes h → ((index : ℕ) → index < h.entries → IsEntry bytes h index)
-    → rows_before bytes h.entries ≡ h.rows → values_before bytes h.entries ≡ h.values → ((index : ℕ) → index < h.roots → IsRoot bytes h index) → h.protocols ≡ 0 → h.methods ≡ 0 → WellFormed bytes) (sym same)
-    (λ a b c d e f g. record { header = a; entries = b; covered = c; values_covered = d; roots = e; no_protocols = f; no_methods = g })
+    → rows_before bytes h.entries ≡ h.rows → values_before bytes h.entries ≡ h.values → ((index : ℕ) → index < h.roots → IsRoot bytes h index) → ((index : ℕ) → index < h.protocols → IsProtocol bytes h index) → methods_before bytes h h.protocols ≡ h.methods → ((index : ℕ) → index < h.methods → IsMethod bytes h index) → WellFormed bytes) (sym same)
+    (λ a b c d e f g i. record { header = a; entries = b; covered = c; values_covered = d; roots = e; protocols = f; methods_covered = g; methods = i })
 
 -- no fault is true of a table that is well formed
 of_header : (bytes : List ℕ) (fault : TableFault) → BreaksHeader bytes (header_of bytes) fault → WellFormed bytes → ⊥
@@ -38,8 +40,14 @@ of_record bytes fault (value n) w = omega (arith, n, w.values_covered)
 of_record bytes fault (root at p n) w = n (w.roots at p).entry
 of_record bytes fault (root_name at p n) w = n (w.roots at p).name
 of_record bytes fault (root_order at p n) w = n (w.roots at p).rises
-of_record bytes fault (protocols n) w = n w.no_protocols
-of_record bytes fault (methods n) w = n w.no_methods
+of_record bytes fault (openness at p n) w = n (w.protocols at p).openness
+of_record bytes fault (protocol_name at p n) w = n (w.protocols at p).name
+of_record bytes fault (protocol_order at p n) w = n (w.protocols at p).rises
+of_record bytes fault (protocol_methods at p n) w = n (w.protocols at p).methods
+of_record bytes fault (method n) w = omega (arith, n, w.methods_covered)
+of_record bytes fault (method_shape at p n) w = n (w.methods at p).shape
+of_record bytes fault (method_name at p n) w = n (w.methods at p).name
+of_record bytes fault (method_order at p n) w = n (w.methods at p).rises
 
 pub refutes : (bytes : List ℕ) (fault : TableFault) → Breaks bytes fault → WellFormed bytes → ⊥
 refutes bytes fault (no_header n) w = omega (arith, n, w.header.whole)

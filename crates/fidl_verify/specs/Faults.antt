@@ -3,11 +3,14 @@ use Rattle.std.specs.Prelude.{◌≡◌, ◌≢◌, ℕ, ◌<◌, ◌≤◌, Lis
 use Rattle.fidl_limits.specs.declared.limits.TheConstants.{MAX_ENTRIES}
 use Rattle.fidl_records.specs.declared.section.TheConstants.{HEADER_SIZE}
 use Rattle.fidl_records.specs.declared.record.Header.{Header}
-use Rattle.fidl_records.specs.Section.{header_of, entry_at, table_length}
+use Rattle.fidl_records.specs.Section.{header_of, entry_at, protocol_at, method_at, table_length}
 use Rattle.fidl_records.specs.Entry.{HasShape, HasChildren, Follows, HasOffsets, HasSize, HasNest}
 use Rattle.fidl_records.specs.Entry.{IsSorted, HasNames, rows_before, values_before, entry_figure}
 use Rattle.fidl_records.specs.Uses.{uses_rows, uses_values}
 use Rattle.fidl_records.specs.Root.{HasEntry, HasRootName, Rises}
+use Rattle.fidl_records.specs.Protocol.{IsOpenness, HasProtocolName, ProtocolRises, HasMethods}
+use Rattle.fidl_records.specs.Protocol.{methods_before}
+use Rattle.fidl_records.specs.Method.{HasMethodShape, HasMethodName, OrdinalRises}
 use Rattle.fidl_records.specs.WellFormed.{table_magic, IsVersion}
 use Rattle.fidl_verify.specs.declared.fault.TableFault.{TableFault}
 use Rattle.fidl_verify.specs.declared.fault.TableFault.TheVariants.{BadMagic, BadVersion, Truncated}
@@ -99,8 +102,23 @@ pub data BreaksRecord (bytes : List ℕ) (h : Header) : TableFault → Type 0 wh
   root : (at : ℕ) → at < h.roots → ¬ HasEntry bytes h at → BreaksRecord bytes h (BadIndex at)
   root_name : (at : ℕ) → at < h.roots → ¬ HasRootName bytes h at → BreaksRecord bytes h (BadName at)
   root_order : (at : ℕ) → at < h.roots → ¬ Rises bytes h at → BreaksRecord bytes h (NotSorted at)
-  protocols : h.protocols ≢ 0 → BreaksRecord bytes h (BadMethod 0)
-  methods : h.methods ≢ 0 → BreaksRecord bytes h (BadMethod 0)
+  openness : (at : ℕ) → at < h.protocols → ¬ IsOpenness (protocol_at bytes h at)
+      → BreaksRecord bytes h (BadMethod at)
+  protocol_name : (at : ℕ) → at < h.protocols → ¬ HasProtocolName bytes h at
+      → BreaksRecord bytes h (BadName at)
+  protocol_order : (at : ℕ) → at < h.protocols → ¬ ProtocolRises bytes h at
+      → BreaksRecord bytes h (NotSorted at)
+  protocol_methods : (at : ℕ) → at < h.protocols → ¬ HasMethods bytes h at
+      → BreaksRecord bytes h (BadIndex at)
+  -- methods that no protocol has
+  method : methods_before bytes h h.protocols < h.methods
+      → BreaksRecord bytes h (BadIndex h.protocols)
+  method_shape : (at : ℕ) → at < h.methods → ¬ HasMethodShape bytes h (method_at bytes h at)
+      → BreaksRecord bytes h (BadMethod at)
+  method_name : (at : ℕ) → at < h.methods → ¬ HasMethodName bytes h (method_at bytes h at)
+      → BreaksRecord bytes h (BadName at)
+  method_order : (at : ℕ) → at < h.methods → ¬ OrdinalRises bytes h at
+      → BreaksRecord bytes h (NotSorted at)
 
 -- what each fault says of a table: it has no header, or its header breaks the rule, or, in a table
 -- whose sections fill it, a record does

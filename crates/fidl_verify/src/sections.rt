@@ -1,10 +1,11 @@
 //! The sections of a table whose header is right.
 ghost use Rattle.std.specs.Prelude.{◌≡◌, ◌+◌, ◌≤◌, ◌<◌, length};
 ghost use Rattle.fidl_records.specs.Section.{header_of, table_length, entry_at, row_at, value_at};
-ghost use Rattle.fidl_records.specs.Section.{root_at, name_at};
+ghost use Rattle.fidl_records.specs.Section.{root_at, protocol_at, method_at, name_at};
 
 use fidl_records::{
-    Entry, Header, Root, Row, name_bytes, read_entry, read_root, read_row, read_value,
+    Entry, Header, MethodRecord, ProtocolRecord, Root, Row, name_bytes, read_entry, read_method,
+    read_protocol, read_root, read_row, read_value,
 };
 
 /// The bytes of a table, and its header; the sections fill the table.
@@ -67,6 +68,22 @@ impl<'t> Sections<'t> {
         ensures { result ≡ root_at self.now.bytes.now self.now.header index }
     {
         read_root(self.bytes, &self.header, index)
+    }
+
+    /// The protocol of this number.
+    pub(crate) fn protocol(&self, index: u32) -> ProtocolRecord
+        requires { index < self.now.header.protocols }
+        ensures { result ≡ protocol_at self.now.bytes.now self.now.header index }
+    {
+        read_protocol(self.bytes, &self.header, index)
+    }
+
+    /// The method of this number.
+    pub(crate) fn method(&self, index: u32) -> MethodRecord
+        requires { index < self.now.header.methods }
+        ensures { result ≡ method_at self.now.bytes.now self.now.header index }
+    {
+        read_method(self.bytes, &self.header, index)
     }
 
     /// The bytes of a name that lies within the names.

@@ -11,6 +11,8 @@ ghost use Rattle.fidl_verify.specs.Faults.{Breaks};
 use crate::entry::{Parts, check_entries};
 use crate::fault::TableFault;
 use crate::header::read_sections;
+use crate::methods::check_methods;
+use crate::protocols::check_protocols;
 use crate::roots::{check_roots, find_root};
 use crate::sections::Sections;
 use fidl_records::{Entry, Row};
@@ -52,18 +54,6 @@ fn check_covered(table: &Sections<'_>, parts: Parts) -> Result<(), TableFault>
     Ok(())
 }
 
-/// Checks that the table has no protocols and no methods.
-fn check_methods(table: &Sections<'_>) -> Result<(), TableFault>
-    ensures no_protocols { OnOk result (table.now.header.protocols ≡ 0) }
-    ensures no_methods { OnOk result (table.now.header.methods ≡ 0) }
-    ensures err { IfErr result (Breaks table.now.bytes.now) }
-{
-    if table.header.protocols != 0 || table.header.methods != 0 {
-        return Err(TableFault::BadMethod { at: 0 });
-    }
-    Ok(())
-}
-
 /// Checks a table's rules in their order, and keeps its bytes where all hold; the fault names the
 /// first that does not, with the number of the record.
 pub fn verify(bytes: &[u8]) -> Result<Table<'_>, TableFault>
@@ -76,11 +66,20 @@ pub fn verify(bytes: &[u8]) -> Result<Table<'_>, TableFault>
     let parts = check_entries(&sections)?;
     check_covered(&sections, parts)?;
     check_roots(&sections)?;
+    check_protocols(&sections)?;
     check_methods(&sections)?;
     Ok(Table { sections })
 }
 
 impl<'t> Table<'t> {
+    /// Its sections.
+    pub(crate) fn sections(&self) -> &Sections<'t>
+        ensures bytes { result.now.bytes.now ≡ self.now }
+        ensures well_formed { WellFormed self.now }
+    {
+        &self.sections
+    }
+
     /// The bytes that were verified.
     pub fn bytes(&self) -> &'t [u8]
         ensures value { result.now ≡ self.now }

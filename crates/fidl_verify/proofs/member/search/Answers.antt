@@ -2,7 +2,7 @@ use Rattle.std.proofs.Common.{◌≡◌, suc, ◌+◌, ◌-◌, ◌/◌, ◌^◌
 use Rattle.fidl_records.specs.declared.record.Row.{Row}
 use Rattle.fidl_records.specs.Section.{header_of}
 use Rattle.fidl_records.specs.Entry.{row_key}
-use Rattle.fidl_verify.proofs.Ordered.{less_before, more_behind, no_key, halved, is_less, is_greater}
+use Rattle.fidl_verify.proofs.Ordered.{less_before, more_behind, no_key, halved, unspent, is_less, is_greater}
 use Rattle.fidl_verify.proofs.member.search.Goals as goal
 
 pub loop-low-preserved-then-key-ordinal : goal.loop-low-preserved-then-key-ordinal
@@ -59,3 +59,14 @@ pub returns-clause-none : goal.returns-clause-none
 returns-clause-none c =
     no_key (row_key c.args.table.now (header_of c.args.table.now) c.args.entry.now) c.args.entry.now.count c.args.ordinal c.loop-low.low c.loop-low.invariant.less
     (λ k le p. c.loop-low.invariant.more k (omega (arith, le, c.loop-low-test.false, c.loop-low.invariant.order)) p)
+
+pub loop-low-init : goal.loop-low-init
+loop-low-init c = record {
+  order = omega arith;
+  within = omega arith;
+  less = λ k p. absurd (omega (arith, p));
+  more = λ k le p. absurd (omega (arith, le, p));
+  grows = omega arith;
+  few = omega arith;
+  halves = unspent c.args.entry.now.count c.args.probes.now c.requires.small;
+}

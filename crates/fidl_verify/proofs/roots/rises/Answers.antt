@@ -1,6 +1,7 @@
+use Rattle.fidl_records.specs.Root.{root_name}
 use Rattle.fidl_verify.proofs.Rising.{rises_from}
 use Rattle.fidl_verify.proofs.roots.rises.Goals as goal
 
 pub returns-else-index-eq0 : goal.returns-else-index-eq0
 returns-else-index-eq0 c =
-    rises_from c.args.table.now.bytes.now c.args.table.now.header c.args.index c.root_name.result.now c.root_name-else-index-eq0.result.now c.is_before.result c.if-index-eq0.false c.root_name.ensures c.root_name-else-index-eq0.ensures c.is_before.ensures
+    rises_from (root_name c.args.table.now.bytes.now c.args.table.now.header) c.args.index c.root_name.result.now c.root_name-else-index-eq0.result.now c.is_before.result c.if-index-eq0.false c.root_name.ensures c.root_name-else-index-eq0.ensures c.is_before.ensures

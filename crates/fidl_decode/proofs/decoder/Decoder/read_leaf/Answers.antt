@@ -1,9 +1,13 @@
 use Rattle.std.proofs.Common.{arith}
 use Rattle.fidl_decode.specs.Machine.{at_of, Visits, Leads}
 use Rattle.fidl_decode.specs.Faults.{message_of}
-use Rattle.std.proofs.Common.{◌-◌, length, sym, subst, ap, ◌∙◌, ◌≡◌}
+use Rattle.std.proofs.Common.{◌-◌, ◌+◌, ◌≤◌, IsTrue, length, sym, subst, ap, ◌∙◌, ◌≡◌}
 use Rattle.std.specs.Prelude.{Some, None, IfSome, Contains}
+use Rattle.std.specs.Int.{byte_len}
 use Rattle.fidl_wire.specs.Term as ty
+use Rattle.fidl_wire.specs.Term.{width}
+use Rattle.fidl_records.specs.Uses.{is_unsigned}
+use Rattle.fidl_records.specs.Entry.{subtype_is}
 use Rattle.fidl_wire.specs.Typed.{InMask}
 use Rattle.fidl_records.specs.Number.{number_standing}
 use Rattle.fidl_records.specs.Terms.{underlying, mask_of, strict_values, declarations_of, is_optional}
@@ -150,3 +154,20 @@ returns-in-String-clause-told c =
     let is : kind_of (entry_at c.args.self.now.table.now c.args.entry).kind ≡ Some String = c.requires.kind ∙ ap (λ (k : EntryKind). Some k) c.in-String.is in
     let own : c.entry-in-String.result ≡ entry_at c.args.self.now.table.now c.args.entry = c.entry-in-String.ensures.value in
     IfErr-weaker c.read_text.result _ _ (λ fault b. leaf_breaks c.args.self.now.table.now c.requires.table (message_of c.args.self.now.bytes.now c.args.self.now.handles.now) c.args.depth c.args.entry c.args.place (at_of c.args.state.now) c.requires.entry c.requires.state c.requires.depth String is fault (subst (λ (d : Entry). BreaksText (message_of c.args.self.now.bytes.now c.args.self.now.handles.now) c.args.depth (is_optional d) d.bound c.args.place c.args.state.now.next fault) own b)) c.read_text.ensures.told
+
+pub read_bits-requires-clause-kind : goal.read_bits-requires-clause-kind
+read_bits-requires-clause-kind c =
+    let is : kind_of (entry_at c.args.self.now.table.now c.args.entry).kind ≡ Some Bits = c.requires.kind ∙ ap (λ (k : EntryKind). Some k) c.in-Bits.is in
+    subst (λ (d : Entry). IsTrue (subtype_is is_unsigned d)) (sym c.entry.ensures.value) (fine_as c.args.self.now.table.now c.requires.table c.args.entry Bits c.requires.entry is).content
+
+pub read_bits-requires-clause-room : goal.read_bits-requires-clause-room
+read_bits-requires-clause-room c =
+    let is : kind_of (entry_at c.args.self.now.table.now c.args.entry).kind ≡ Some Bits = c.requires.kind ∙ ap (λ (k : EntryKind). Some k) c.in-Bits.is in
+    let size : byte_len (width (underlying (entry_at c.args.self.now.table.now c.args.entry))) ≡ (entry_at c.args.self.now.table.now c.args.entry).size = size_as c.args.self.now.table.now c.requires.table c.args.entry Bits c.requires.entry is in
+    subst (λ (d : Entry). c.args.place + byte_len (width (underlying d)) ≤ length c.args.self.now.bytes.now) (sym c.entry.ensures.value) (omega (arith, c.requires.room, size))
+
+pub read_enum-requires-clause-room : goal.read_enum-requires-clause-room
+read_enum-requires-clause-room c =
+    let is : kind_of (entry_at c.args.self.now.table.now c.args.entry).kind ≡ Some Enum = c.requires.kind ∙ ap (λ (k : EntryKind). Some k) c.in-Enum.is in
+    let size : byte_len (width (underlying (entry_at c.args.self.now.table.now c.args.entry))) ≡ (entry_at c.args.self.now.table.now c.args.entry).size = size_as c.args.self.now.table.now c.requires.table c.args.entry Enum c.requires.entry is in
+    subst (λ (d : Entry). c.args.place + byte_len (width (underlying d)) ≤ length c.args.self.now.bytes.now) (sym c.entry-in-Enum.ensures.value) (omega (arith, c.requires.room, size))

@@ -28,8 +28,9 @@ returns-clause-vector c = record {
   covered = refl;
   values_covered = refl;
   roots = λ index p. absurd (omega (arith, p));
-  no_protocols = refl;
-  no_methods = refl;
+  protocols = λ index p. absurd (omega (arith, p));
+  methods_covered = refl;
+  methods = λ index p. absurd (omega (arith, p));
 }
 
 pub returns-clause-of_itself : goal.returns-clause-of_itself
@@ -59,8 +60,9 @@ returns-clause-of_itself c = record {
   covered = refl;
   values_covered = refl;
   roots = λ index p. absurd (omega (arith, p));
-  no_protocols = refl;
-  no_methods = refl;
+  protocols = λ index p. absurd (omega (arith, p));
+  methods_covered = refl;
+  methods = λ index p. absurd (omega (arith, p));
 }
 
 pub returns-clause-a_box : goal.returns-clause-a_box
@@ -90,6 +92,7 @@ returns-clause-a_box c = record {
   covered = refl;
   values_covered = refl;
   roots = λ index p. absurd (omega (arith, p));
-  no_protocols = refl;
-  no_methods = refl;
+  protocols = λ index p. absurd (omega (arith, p));
+  methods_covered = refl;
+  methods = λ index p. absurd (omega (arith, p));
 }

@@ -45,6 +45,7 @@ returns-clause-well_formed c = record {
   covered = refl;
   values_covered = refl;
   roots = λ index p. absurd (omega (arith, p));
-  no_protocols = refl;
-  no_methods = refl;
+  protocols = λ index p. absurd (omega (arith, p));
+  methods_covered = refl;
+  methods = λ index p. absurd (omega (arith, p));
 }

@@ -48,8 +48,9 @@ returns-clause-whole c = record {
   covered = refl;
   values_covered = refl;
   roots = λ index p. absurd (omega (arith, p));
-  no_protocols = refl;
-  no_methods = refl;
+  protocols = λ index p. absurd (omega (arith, p));
+  methods_covered = refl;
+  methods = λ index p. absurd (omega (arith, p));
 }
 
 pub returns-clause-uncovered : goal.returns-clause-uncovered

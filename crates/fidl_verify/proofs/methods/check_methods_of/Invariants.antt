@@ -1,0 +1,11 @@
+use Rattle.std.proofs.Common.{◌≡◌, ℕ, suc, ◌<◌, ◌≤◌}
+use Rattle.fidl_records.specs.Method.{ordinal_at, IsMethod}
+use Rattle.fidl_verify.proofs.methods.check_methods_of.Given as goal
+
+-- the methods before this one keep their rules, and `last` is the ordinal of the one before, if any
+abbrev pub invariant-loop-index : goal.invariant-loop-index
+invariant-loop-index l = record {
+  rules : (k : ℕ) → l.first ≤ k → k < l.index → IsMethod l.table.bytes.now l.table.header k;
+  start : l.index ≡ l.first → l.last ≡ 0;
+  before : (k : ℕ) → l.first ≤ k → suc k ≡ l.index → l.last ≡ ordinal_at l.table.bytes.now l.table.header k;
+}
