@@ -1,22 +1,24 @@
 #!/usr/bin/env python3
 """The gate of each change.
 
-It proves every crate from nothing and runs every test and program by `rt ci`, and tries the wrong bodies
-(crates/NAME/must-fail) of each crate that .ci/tried does not name at its very sources.
+It proves every crate from nothing and runs every test and program by `rt ci`, and then tries the wrong bodies
+(crates/NAME/must-fail) of each crate that .ci/tried does not name at its very sources: each by the check of the function that it
+changes (.ci/wrong_bodies.py), which takes seconds where a check of the crate takes a minute.
 
     .ci/run             the gate
     .ci/run --record    the gate; where all passes it adds to .ci/tried what it tried
     .ci/run --record NAME..
                         `rt ci` of these crates and those below them alone, which is not the gate; where all passes, it adds
                         to .ci/tried what it tried of them
-    .ci/run --whole     `rt ci` as it is, with every wrong body; where all passes it writes .ci/tried anew
+    .ci/run --whole     `rt ci` as it is, with every wrong body over its whole crate; where all passes it writes .ci/tried anew
 
 It prints first which wrong bodies it does not try again. After rt ci it tries the programs that must not compile
 (.ci/must_not_compile.py). Its last line but one says how long it took, and the last is rt ci's: `N passed, M failed`.
 
-A line of .ci/tried is `NAME KEY`: every wrong body of the crate was refused at that key. The key is a sum of the
+A line of .ci/tried is `NAME KEY KIT`: every wrong body of the crate was refused at that key. The key is a sum of the
 toolchain, of HANDLES, of the crate's line in crates.txt, of its sources and wrong bodies, and of the lines and
-sources of all crates below it. So an edit of any of these has the wrong bodies tried again.
+sources of all crates below it. So an edit of any of these has the wrong bodies tried again. KIT is the toolchain's name,
+which decides nothing: a crate has a line for each toolchain that it was tried with, and the key has to be that of this one.
 """
 import hashlib
 import os
@@ -29,6 +31,7 @@ import time
 sys.dont_write_bytecode = True
 sys.path.insert(0, os.path.dirname(os.path.realpath(__file__)))
 import must_not_compile  # noqa: E402
+import wrong_bodies  # noqa: E402
 
 PARTS = ("src", "specs", "proofs")
 
@@ -50,11 +53,17 @@ def toolchain():
     return total.hexdigest()
 
 
+def kit_name():
+    """Returns the name that the toolchain gives itself, as `rattle-kit-13f`."""
+    ran = subprocess.run(["rt", "version"], stdin=subprocess.DEVNULL, capture_output=True, text=True)
+    return (ran.stdout.split() or ["unnamed"])[0]
+
+
 class Repository:
     """The crates of a repository, and the keys of their wrong bodies."""
 
-    def __init__(self, root, kit):
-        self.root, self.kit = root, kit
+    def __init__(self, root, kit, name="kit"):
+        self.root, self.kit, self.name = root, kit, name
         self.lines, self.below = {}, {}
         with open(f"{root}/crates.txt", encoding="utf-8") as it:
             for line in it:
@@ -107,18 +116,28 @@ class Repository:
             visit(name)
         return found
 
-    def recorded(self):
+    def lines_tried(self):
+        """Returns the record: a triple of name, key and kit for each line."""
         tried = f"{self.root}/.ci/tried"
         if not os.path.isfile(tried):
-            return {}
+            return []
         with open(tried, encoding="utf-8") as it:
-            return dict(line.split() for line in it if line.strip() and not line.startswith("#"))
+            return [(*line.split(), "unnamed")[:3] for line in it if line.strip() and not line.startswith("#")]
+
+    def recorded(self):
+        """Returns the keys at which each crate's wrong bodies were refused, by any toolchain."""
+        found = {}
+        for name, key, _ in self.lines_tried():
+            found.setdefault(name, set()).add(key)
+        return found
 
     def record(self, entries):
+        """Writes these keys for this toolchain, in place of all that the record has for it; those of others stay."""
+        others = [it for it in self.lines_tried() if it[2] != self.name and it[0] in self.lines]
         tried = f"{self.root}/.ci/tried"
         with open(f"{tried}.new", "w", encoding="utf-8") as it:
-            it.write("# Written by .ci/run, never by hand: crates whose wrong bodies were all refused, with the key of their sources.\n")
-            it.writelines(f"{name} {key}\n" for name, key in sorted(entries.items()))
+            it.write("# Written by .ci/run, never by hand: crates whose wrong bodies were all refused, with the key of their sources, by kit.\n")
+            it.writelines(f"{name} {key} {kit}\n" for name, key, kit in sorted([*others, *((*it, self.name) for it in entries.items())]))
         os.replace(f"{tried}.new", tried)
 
     def files(self):
@@ -127,18 +146,28 @@ class Repository:
         listed = subprocess.run(words, stdout=subprocess.PIPE, check=True).stdout.decode().split("\0")
         return sorted({it for it in listed if it and os.path.lexists(f"{self.root}/{it}")})
 
-    def copy(self, room, kept):
-        """Copies the repository, without the wrong bodies of these crates."""
+    def copy(self, room, kept, only):
+        """Copies the repository, with only these crates, and without the wrong bodies of those that are kept."""
         for file in self.files():
-            if not any(file.startswith(f"crates/{it}/must-fail/") for it in kept):
+            crate = file.split("/")[1] if file.startswith("crates/") else None
+            is_left_out = crate is not None and crate not in only and crate in self.lines
+            if not is_left_out and not any(file.startswith(f"crates/{it}/must-fail/") for it in kept):
                 os.makedirs(os.path.dirname(f"{room}/{file}") or room, exist_ok=True)
                 shutil.copy2(f"{self.root}/{file}", f"{room}/{file}", follow_symlinks=False)
 
+        with open(f"{room}/crates.txt", "w", encoding="utf-8") as it:
+            it.writelines(f"{line}\n" for name, line in self.lines.items() if name in only)
 
-def rt_ci(room, names):
-    """Runs `rt ci` there, of these crates or of all, and prints what it prints, but for the last line: returns its status and that line."""
-    words, last = ["rt", "ci", *names], None
-    with subprocess.Popen(words, cwd=room, stdin=subprocess.DEVNULL, stdout=subprocess.PIPE, text=True, errors="replace") as ran:
+    def copy_edits(self, room, names):
+        """Copies the wrong bodies of these crates."""
+        for name in names:
+            shutil.copytree(f"{self.root}/crates/{name}/must-fail", f"{room}/crates/{name}/must-fail")
+
+
+def rt_ci(room):
+    """Runs `rt ci` there, and prints what it prints, but for the last line: returns its status and that line."""
+    last = None
+    with subprocess.Popen(["rt", "ci"], cwd=room, stdin=subprocess.DEVNULL, stdout=subprocess.PIPE, text=True, errors="replace") as ran:
         for line in ran.stdout:
             if last is not None:
                 print(last, flush=True)
@@ -146,36 +175,48 @@ def rt_ci(room, names):
     return ran.returncode, last or "0 passed, 1 failed"
 
 
+def tried_by_function(room, names, last):
+    """Tries the wrong bodies of these crates in a room that `rt ci` has passed, and returns the status and the last line with them."""
+    refused, failed = wrong_bodies.try_all(wrong_bodies.load(shutil.which("rt")), room, names)
+    passed = int(last.split()[0]) + refused
+    return bool(failed), f"{passed} passed, {failed} failed"
+
+
 def run(repository, mode, names=()):
     now, begun = repository.keys(), time.monotonic()
     known = {} if mode == "--whole" else repository.recorded()
-    kept = [it for it in now if known.get(it) == now[it]]
+    kept = [it for it in now if now[it] in known.get(it, ())]
     for name in kept:
         print(f"gate: {name}: its {len(repository.edits(name))} wrong bodies were refused at these very sources, and are not tried again", flush=True)
+    asked = repository.up_to(names) if names else set(repository.lines)
+    wanted = asked & set(now) - set(kept)
+    by_function = mode != "--whole" and wrong_bodies.can_try(shutil.which("rt"))
     # In a copy, so that a run neither reads nor moves what checks keep in out/.
     with tempfile.TemporaryDirectory(prefix="gate-") as room:
-        repository.copy(room, kept)
-        status, last = rt_ci(room, names)
+        repository.copy(room, now if by_function else kept, asked)
+        status, last = rt_ci(room)
+        if not status and by_function:
+            repository.copy_edits(room, wanted)
+            status, last = tried_by_function(room, wanted, last)
         if not status and not names and not must_not_compile.run(room):
             status, last = 1, "0 passed, 1 failed"
     if not status and Repository(repository.root, repository.kit).keys() != now:
         status, last = 1, "0 passed, 1 failed"
         print("gate: files changed while it ran: run it again")
     if not status and names:
-        tried = repository.up_to(names)
-        repository.record({it: now[it] for it in now if it in tried or it in kept})
+        repository.record({it: now[it] for it in now if it in asked or it in kept})
         print("gate: .ci/tried names these crates and those below them, at these sources")
     elif not status and mode:
         repository.record(now)
         print("gate: .ci/tried names every crate with wrong bodies, at these sources")
     print(f"gate: {(time.monotonic() - begun) / 60:.0f} minutes on {os.cpu_count()} cores")
     print(last, flush=True)
-    return status
+    return int(bool(status))
 
 
 def main(words):
     root = os.path.dirname(os.path.dirname(os.path.realpath(__file__)))
-    repository = Repository(root, toolchain())
+    repository = Repository(root, toolchain(), kit_name())
     names = words[1:] if words[:1] == ["--record"] else []
     if words[: len(words) - len(names)] not in ([], ["--whole"], ["--record"]) or not set(names) <= set(repository.lines):
         sys.exit(__doc__)

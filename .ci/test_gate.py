@@ -13,6 +13,7 @@ import unittest
 sys.dont_write_bytecode = True
 sys.path.insert(0, os.path.dirname(os.path.realpath(__file__)))
 import gate  # noqa: E402
+import wrong_bodies  # noqa: E402
 
 FILES = {
     "HANDLES": "Handles allowed: none.\n",
@@ -30,6 +31,34 @@ FILES = {
     "crates/plain/src/lib.rt": "plain\n",
 }
 ALL = {"low", "high", "aside"}
+# A stand-in for rt whose functions the gate takes: `rt ci` proves all, and a check refuses an edited function of these names.
+RT_BY_FUNCTION = """
+import os, re, sys, types
+rtlib = types.SimpleNamespace(STALE=re.compile("stale"), guarded=lambda: [])
+class Crate:
+    def __init__(self, name):
+        self.name, self.folder = name, os.path.abspath(f"crates/{name}")
+    def count(self, _):
+        return 1
+rtlib.crates_below = lambda root: [Crate(it) for it in sorted(os.listdir("crates"))]
+processors, free, unread = lambda: 2, lambda: 8_000_000_000, lambda line, texts: False
+def edits_of(crate):
+    at = f"{crate.folder}/must-fail"
+    return [f"{at}/{it}" for it in sorted(os.listdir(at))] if os.path.isdir(at) else [], []
+def read_edit(file, folder):
+    lines = dict(it.rstrip("\\n").split(": ", 1) for it in open(file))
+    text = open(f"{folder}/{lines['file']}").read()
+    return {lines["file"]: text.replace(lines["old"], lines["new"])}, None
+def checked(crate, texts, flags, kept):
+    asked = [it for it in flags if it not in ("--jobs", "1", "--only")]
+    bad = [it for it in asked if it in THESE] if texts else ["unedited"] if "unedited" in THESE else []
+    text = "src/lib.rt:1:1: error: a goal\\n" * bool(bad) + f"only={len(asked)} proved={len(asked) - len(bad)}\\n"
+    return types.SimpleNamespace(returncode=bool(bad), stdout=text)
+def must_fail(crate, file, flags):
+    return False, f"must-fail {crate.name}/{os.path.basename(file)}: NOT REFUSED"
+if __name__ == "__main__":
+    print("kit-of-tests" if sys.argv[1] == "version" else "1 passed, 0 failed")
+"""
 TOOK = f"gate: 0 minutes on {os.cpu_count()} cores"
 
 
@@ -53,7 +82,7 @@ class GateTest(unittest.TestCase):
 
     def tried_again(self, kit="kit"):
         known, now = self.repository().recorded(), self.repository(kit).keys()
-        return {it for it in now if known.get(it) != now[it]}
+        return {it for it in now if now[it] not in known.get(it, ())}
 
     def changed(self, file, text):
         """The crates whose wrong bodies are tried again after the change."""
@@ -101,7 +130,7 @@ class GateTest(unittest.TestCase):
         programs = f"{self.root}/out/bin"
         os.makedirs(programs, exist_ok=True)
         with open(f"{programs}/rt", "w", encoding="utf-8") as it:
-            it.write(f"#!/bin/sh\n{script}\n")
+            it.write(f"#!{sys.executable}\n{script}\n" if "import" in script else f"#!/bin/sh\n{script}\n")
         os.chmod(f"{programs}/rt", 0o755)
         before, printed = os.environ["PATH"], io.StringIO()
         os.environ["PATH"] = f"{programs}:{before}"
@@ -135,8 +164,8 @@ class GateTest(unittest.TestCase):
         self.assertTrue(lines[1].startswith("gate: aside: its 1 wrong bodies"))
 
     def test_a_run_of_one_crate_records_it_and_those_below(self):
-        status, lines = self.run_with("--record", 'echo "$*"; echo "2 passed, 0 failed"', ["plain"])
-        self.assertEqual((status, lines[0], lines[-1]), (0, "ci plain", "2 passed, 0 failed"))
+        status, lines = self.run_with("--record", 'ls crates; cat crates.txt; echo "2 passed, 0 failed"', ["plain"])
+        self.assertEqual((status, lines[:-3], lines[-1]), (0, ["low", "plain", "low:", "plain: low"], "2 passed, 0 failed"))
         self.assertEqual(self.tried_again(), {"high", "aside"})
         self.run_with("--record", 'echo "1 passed, 0 failed"', ["aside"])
         self.assertEqual(self.tried_again(), {"high"})
@@ -179,6 +208,50 @@ class GateTest(unittest.TestCase):
         self.write(".ci/must-not-compile/plain.it.case", "file: src/lib.rt\nerror: borrow-e0506\nold: plain\nnew: edited\n")
         status, lines = self.run_with(None, 'case $1 in try) exit 1;; ci) echo "9 passed, 0 failed";; esac')
         self.assertEqual((status, lines[-1]), (1, "0 passed, 1 failed"))
+
+    def test_each_toolchain_has_a_record_of_its_own(self):
+        one, other = gate.Repository(self.root, "one", "kit-one"), gate.Repository(self.root, "other", "kit-other")
+        one.record(one.keys())
+        other.record(other.keys())
+        for it in (one, other):
+            self.assertEqual({name for name, key in it.keys().items() if key not in it.recorded()[name]}, set())
+        self.write("crates/high/src/lib.rt", "other\n")
+        other.record(other.keys())
+        self.assertNotIn(one.keys()["high"], one.recorded()["high"])
+        self.assertIn(other.keys()["high"], other.recorded()["high"])
+        self.assertIn(one.keys()["low"], one.recorded()["low"])
+
+    def run_by_function(self, refused, mode="--record", names=()):
+        """Runs the gate with a rt whose check refuses the edited functions of these names alone."""
+        self.write("crates/low/src/lib.rt", "pub fn first() {\n    one\n}\n\nimpl Held for Box {\n    fn second() {\n        two\n    }\n}\n")
+        self.write("crates/low/must-fail/one.edit", "file: src/lib.rt\nold: one\nnew: other\n")
+        self.write("crates/low/must-fail/two.edit", "file: src/lib.rt\nold: two\nnew: other\n")
+        return self.run_with(mode, RT_BY_FUNCTION.replace("THESE", repr(sorted(refused))), names)
+
+    def test_wrong_bodies_are_tried_by_their_functions(self):
+        status, lines = self.run_by_function({"first", "BoxHeld::second"}, names=["low"])
+        self.assertEqual((status, lines[-1]), (0, "3 passed, 0 failed"))
+        self.assertIn("must-fail low/one.edit: first refused, as it must be: src/lib.rt:1:1: error: a goal", lines)
+        self.assertIn("must-fail low/two.edit: BoxHeld::second refused, as it must be: src/lib.rt:1:1: error: a goal", lines)
+        self.assertEqual(self.tried_again(), {"high", "aside"})
+
+    def test_a_wrong_body_that_is_not_refused_fails_the_gate(self):
+        status, lines = self.run_by_function({"first"}, names=["low"])
+        self.assertEqual((status, lines[-1]), (1, "2 passed, 1 failed"))
+        self.assertIn("must-fail low/two.edit: NOT REFUSED", lines)
+        self.assertEqual(self.tried_again(), ALL)
+
+    def test_a_function_that_is_not_proved_unedited_refuses_nothing(self):
+        status, lines = self.run_by_function({"first", "BoxHeld::second", "unedited"}, names=["low"])
+        self.assertEqual((status, lines[-1]), (1, "1 passed, 2 failed"))
+
+    def test_the_function_of_an_edit(self):
+        text = "use a;\n\nimpl<'t> Read for Table<'t> {\n    fn one(&self) {\n        1\n    }\n}\n\nfn two() {\n    2\n}\n\nconst X: u8 = 3;\n"
+        def of(path, old):
+            return wrong_bodies.function_of(path, text, text.replace(old, "0"))
+        self.assertEqual(of("src/a/b.rt", "1\n"), "a::b::TableRead::one")
+        self.assertEqual(of("src/lib.rt", "2\n"), "two")
+        self.assertEqual(of("src/a.rt", "3;"), "a")
 
     def test_a_change_during_the_run_fails_it(self):
         status, lines = self.run_with("--record", f'echo more >> {self.root}/crates/low/src/lib.rt; echo "9 passed, 0 failed"')
