@@ -1,0 +1,5 @@
+pub mod Places
+pub mod Fields
+pub mod Rows
+pub mod Listed
+pub mod Levels
