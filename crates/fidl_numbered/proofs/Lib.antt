@@ -3,3 +3,4 @@ pub mod Fields
 pub mod Rows
 pub mod Listed
 pub mod Levels
+pub mod Small

@@ -4,3 +4,4 @@
 --   Samples   small tables and lists for worked facts
 pub mod Numbered
 pub mod Members
+pub mod Samples

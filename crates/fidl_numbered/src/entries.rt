@@ -1,6 +1,6 @@
 //! Whether the entries of a table are the types of a list.
-ghost use Rattle.std.specs.Prelude.{◌≡◌, ℕ, ◌<◌, List, map, get_or, slice_get, Some, IsTrue, IfSome};
-ghost use Rattle.std.specs.Prelude.{IfOk};
+ghost use Rattle.std.specs.Prelude.{◌≡◌, ℕ, ◌<◌, List, map, get_or, slice_get, Some, IsTrue};
+ghost use Rattle.std.specs.Prelude.{IfSome, IfOk};
 ghost use Rattle.fidl_wire.specs.Term.{Term, nothing, resolve};
 ghost use Rattle.fidl_wire.specs.Figure.{Figure};
 ghost use Rattle.fidl_alike.specs.Alike.{Alike, IsNumbered};

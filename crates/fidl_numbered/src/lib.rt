@@ -10,6 +10,7 @@ mod names;
 mod part;
 mod shape;
 mod values;
+pub mod worked;
 
 pub use entries::entries_are;
 pub use laws::entries_show_their_types;
