@@ -1,5 +1,11 @@
 -- Whether a list has a type, by its words.
-use Rattle.std.proofs.Common.{◌≡◌, ◌∙◌, ℕ, Bool, true, false, ◌||◌, List, [], ◌∷◌, map, nat_eq, refl, sym, subst, inl, inr, true≢false}
+use Rattle.std.proofs.Common.{◌≡◌, ◌∙◌, ◌<◌, ℕ, Bool, true, false, ◌||◌, List, [], ◌∷◌, Some, length, map, get_or, slice_get, nat_eq, refl, sym, ap, subst, inl, inr, true≢false}
+use Rattle.std.specs.Option.{option_map}
+use Rattle.std.specs.List.{position}
+use Rattle.std.proofs.Math.ListN.{length-map}
+use Rattle.std.specs.Prelude.{unwrap_or}
+use Rattle.std.proofs.lemmas.List.Quantifiers.{position-Some}
+use Rattle.std.proofs.lemmas.Option.{slice_get-get_or, slice_get-map}
 use Rattle.std.specs.Bool.{Decides}
 use Rattle.std.specs.Global.{Vec}
 use Rattle.std.specs.List.{Contains, list_any}
@@ -54,3 +60,16 @@ module _ (keys : List (Vec ℕ)) (rs : List TypeRef) (same : map (λ v. v.items)
 
   pub unknown : (r : TypeRef) → list_any (same_words (words (seen_ref r))) keys ≡ false → Contains (map seen_ref rs) (seen_ref r) → ⊥
   unknown r e h = absurd (true≢false (sym ((among_keys (words (seen_ref r)) keys).1 (subst (λ l. Contains l (words (seen_ref r))) (sym same) (words_there (map seen_ref rs) (seen_ref r) h))) ∙ e))
+
+  pub place_found : (r : TypeRef) → Vec ℕ → (i : ℕ) → position (same_words (words (seen_ref r))) keys ≡ Some i → slice_get (map seen_ref rs) i ≡ Some (seen_ref r)
+  place_found r d i at =
+      let held = position-Some (same_words (words (seen_ref r))) keys i d at in
+      let key : Vec ℕ = get_or keys i d in
+      let s : TypeRef = get_or rs i r in
+      let sought : words (seen_ref r) ≡ key.items = (words_test (words (seen_ref r)) key).0 held.1 in
+      let long : length keys ≡ length rs = sym (length-map keys (λ (v : Vec ℕ). v.items)) ∙ ap length same ∙ length-map (map seen_ref rs) words ∙ length-map rs seen_ref in
+      let key_at : slice_get (map (λ (v : Vec ℕ). v.items) keys) i ≡ Some key.items = slice_get-map (λ (v : Vec ℕ). v.items) keys i ∙ ap (option_map (λ (v : Vec ℕ). v.items)) (slice_get-get_or keys i d held.0) in
+      let type_at : slice_get (map seen_ref rs) i ≡ Some (seen_ref s) = slice_get-map seen_ref rs i ∙ ap (option_map seen_ref) (slice_get-get_or rs i r (subst (λ n. i < n) long held.0)) in
+      let words_at : slice_get (map words (map seen_ref rs)) i ≡ Some (words (seen_ref s)) = slice_get-map words (map seen_ref rs) i ∙ ap (option_map words) type_at in
+      let stored : words (seen_ref s) ≡ key.items = ap (λ o. unwrap_or o key.items) (sym words_at ∙ ap (λ l. slice_get l i) (sym same) ∙ key_at) in
+      type_at ∙ ap (λ t. Some t) (same_type s r (stored ∙ sym sought))

@@ -1,6 +1,8 @@
 //! Lists of types, each of which stands in them once.
-ghost use Rattle.std.specs.Prelude.{◌≡◌, [], ◌∷◌, length, slice_get, IfErr, OnOk};
+ghost use Rattle.std.specs.Prelude.{◌≡◌, [], ◌∷◌, length, slice_get, IfErr, IfOk, IfSome, IsNone};
+ghost use Rattle.std.specs.Prelude.{OnOk, Some};
 ghost use Rattle.std.specs.Option.{option_map};
+ghost use Rattle.std.specs.List.{Contains};
 ghost use Rattle.fidl_term.specs.Terms.{seen_fields, seen_rows, seen_type};
 ghost use Rattle.fidl_term.specs.Members.{field_types, row_types};
 ghost use Rattle.fidl_entries.specs.Growing.{seen_ref, types_of, IsKept, GrowsBy, IsFullBy};
@@ -9,7 +11,7 @@ use crate::fault::EntryFault;
 use crate::keys::words_of;
 use fidl_term::{Field, Row, Type};
 use indexmap::IndexSet;
-use std::alloc::Global;
+use std::alloc::{AllocError, Global};
 
 /// A type that stands in a definition, or the definition of a number as a type.
 #[derive(Clone, Copy, Drop)]
@@ -52,6 +54,18 @@ impl<'d> TypeList<'d> {
         ensures { option_map seen_ref result ≡ slice_get (types_of self.now) place }
     {
         self.types.get(place).copied()
+    }
+
+    /// The place of a type in the list, from 0 on; None where it isn't there.
+    pub fn place(&self, alloc: Global, of: TypeRef<'_>) -> Result<Option<usize>, AllocError>
+        requires kept { IsKept self.now }
+        ensures found { IfOk result (λ found. IfSome found (λ place.
+            slice_get (types_of self.now) place ≡ Some (seen_ref of.entry))) }
+        ensures none { IfOk result (λ found. IsNone found
+            → Contains (types_of self.now) (seen_ref of.entry) → ⊥) }
+    {
+        let words = words_of(alloc, of)?;
+        Ok(self.known.get_index_of(&words))
     }
 
     /// Adds a type, if it is new.

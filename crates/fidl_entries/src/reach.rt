@@ -102,6 +102,7 @@ pub fn reached_types<'d>(
     ensures ok { IfOk result (λ list. AreReached (seen_definitions definitions.now) roots.now
         (types_of list)) }
     ensures within { IfOk result (λ list. length (types_of list) ≤ limit) }
+    ensures kept { IfOk result IsKept }
     ensures fault_is_true { IfErr result (IsTrueOf (seen_definitions definitions.now) roots.now
         limit) }
 {

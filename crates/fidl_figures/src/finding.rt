@@ -1,10 +1,11 @@
 //! The figures of definitions, and where the members of their structs stand.
-ghost use Rattle.std.specs.Prelude.{◌≡◌, [], length, map, slice_get, IfOk, IfErr};
+ghost use Rattle.std.specs.Prelude.{◌≡◌, [], length, map, slice_get, IfOk, IfErr, IfSome, IsNone};
 ghost use Rattle.std.specs.Option.{option_map, option_and_then};
-ghost use Rattle.fidl_wire.specs.Term.{fields_of};
-ghost use Rattle.fidl_wire.specs.Figure.{IsLaidOut, offsets};
-ghost use Rattle.fidl_term.specs.Terms.{seen_definitions};
-ghost use Rattle.fidl_figures.specs.Limits.{KeepLimits};
+ghost use Rattle.std.specs.List.{Contains};
+ghost use Rattle.fidl_wire.specs.Term.{Term, fields_of};
+ghost use Rattle.fidl_wire.specs.Figure.{IsLaidOut, figure_of, offsets};
+ghost use Rattle.fidl_term.specs.Terms.{seen_definitions, seen_type};
+ghost use Rattle.fidl_figures.specs.Limits.{IsWithin, KeepLimits, parts};
 ghost use Rattle.fidl_figures.specs.Faults.{IsTrueOf};
 ghost use Rattle.fidl_figures.specs.Views.{seen_figure, seen_figures};
 ghost use Rattle.fidl_figures.specs.Progress.{AreFound};
@@ -14,7 +15,8 @@ use crate::fault::FigureFault;
 use crate::figure::Figure;
 use crate::places::place_all;
 use crate::rounds::settle;
-use fidl_term::Definition;
+use crate::type_figure::type_figure;
+use fidl_term::{Definition, Type};
 use std::alloc::{AllocError, Global};
 
 /// The figures of definitions, by their numbers, and the offsets of the members of structs.
@@ -31,6 +33,20 @@ impl Figures {
         ensures { option_map seen_figure result ≡ slice_get (figures_of self.now) definition }
     {
         self.figures.get(definition).copied()
+    }
+
+    /// Size, alignment and nest of a type; None where arrays that stand inline in it are past the
+    /// limits, which is so of no type of the definitions.
+    pub fn of_type(&self, of: &Type) -> Option<Figure>
+        ensures found { IfSome result (λ f. seen_figure f
+            ≡ figure_of (figures_of self.now) (seen_type of.now)) }
+        ensures none { IsNone result → (part : Term) × Contains (parts (seen_type of.now)) part
+            × ¬ IsWithin (figure_of (figures_of self.now) part) }
+    {
+        match type_figure(&self.figures, of) {
+            Ok(figure) => Some(figure),
+            Err(_) => None,
+        }
     }
 
     /// Where a member of a struct stands, in bytes from the start of the struct, by the number of

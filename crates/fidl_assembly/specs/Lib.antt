@@ -1,0 +1,7 @@
+-- What a table that is assembled shows, in the order in which to read it:
+--   Roots      the roots, by their names and their definitions
+--   Methods    what the messages of methods carry, methods and protocols
+--   Assembled  the whole table
+pub mod Roots
+pub mod Methods
+pub mod Assembled
