@@ -1,5 +1,5 @@
 -- A small table of one bool, for worked facts.
-use Rattle.std.proofs.Common.{◌≡◌, ℕ, zero, suc, [], ◌∷◌, Some, slice_get, subst}
+use Rattle.std.proofs.Common.{zero, suc, [], ◌∷◌, subst}
 use Rattle.std.proofs.lemmas.Option.{none-some, same_Some}
 use Rattle.fidl_wire.specs.Term.{Term, uint8, resolve}
 use Rattle.fidl_wire.specs.Term as ty
