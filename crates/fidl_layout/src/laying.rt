@@ -12,7 +12,7 @@ ghost use Rattle.fidl_layout.specs.Faults.{IsTrueOfLayout};
 use crate::fault::LayoutFault;
 use crate::figures::all_figures;
 use crate::laid::Laid;
-use crate::roots::roots;
+use crate::roots::declared_types;
 use crate::written::check_values;
 use fidl_entries::{EntryFault, reached_types};
 use fidl_limits::MAX_ENTRIES;
@@ -40,7 +40,7 @@ fn check_types(alloc: Global, types: &Types<'_, '_>) -> Result<(), LayoutFault>
     ensures ok { OnOk result ((ts : List Term) → TypesAre types.now ts → TypesFit types.now ts) }
     ensures fault_is_true { IfErr result (IsTrueOfLayout types.now) }
 {
-    let roots = roots(alloc, types)?;
+    let roots = declared_types(alloc, types)?;
     match reached_types(alloc, types.definitions(), &roots, MAX_ENTRIES as usize) {
         Ok(_) => Ok(()),
         Err(EntryFault::TooMany) => Err(too_many(types, &roots)),

@@ -15,3 +15,4 @@ pub use fault::LayoutFault;
 pub use laid::Laid;
 pub use laws::refused_files_are_not_laid_out;
 pub use laying::lay_out;
+pub use roots::declared_types;

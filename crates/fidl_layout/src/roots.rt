@@ -109,8 +109,9 @@ fn root_numbers(
     Ok(found)
 }
 
-/// The numbers of the definitions of declared types.
-pub(crate) fn roots(alloc: Global, types: &Types<'_, '_>) -> Result<Vec<u32>, LayoutFault>
+/// The numbers of the definitions of declared types, which are the roots of a table. Refused with
+/// Memory alone: where memory ran out, or where there are more than 2^32 forms.
+pub fn declared_types(alloc: Global, types: &Types<'_, '_>) -> Result<Vec<u32>, LayoutFault>
     ensures ok { IfOk result (λ found. AreRoots types.now found.items) }
     ensures fault { IfErr result (λ fault. fault ≡ Memory) }
 {

@@ -1,0 +1,9 @@
+pub mod Lists
+pub mod Nodes
+pub mod Members
+pub mod Gathering
+pub mod Naming
+pub mod Ordering
+pub mod Listing
+pub mod Starting
+pub mod Excluded

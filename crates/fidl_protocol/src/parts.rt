@@ -1,0 +1,58 @@
+//! What refusals of the parts say of the files.
+ghost use Rattle.std.specs.Prelude.{List, IfErr, IfOk, OnOk};
+ghost use Rattle.fidl_span.specs.declared.words.Span.{Span as Where};
+ghost use Rattle.fidl_tree.specs.Syntax.{Openness, ProtocolMember as Member};
+ghost use Rattle.fidl_tree.specs.Views.{file_view};
+ghost use Rattle.fidl_tree.specs.declared.file.File.{File as Tree};
+ghost use Rattle.fidl_names.specs.declared.place.DeclarationId.{DeclarationId as Id};
+ghost use Rattle.fidl_compositions.specs.Protocols.{IsProtocolAt};
+ghost use Rattle.fidl_compositions.specs.Compositions.{IsTrueOfCompositions};
+ghost use Rattle.fidl_methods.specs.Rules.{ProtocolBreaks, IsReportIn as IsMethodReport};
+ghost use Rattle.fidl_payloads.specs.Members.{MemberBreaks, IsReportIn as IsPayloadReport};
+ghost use Rattle.std.specs.List.{Contains};
+ghost use Rattle.fidl_protocol.specs.Faults.{IsTrueOfProtocols};
+
+use crate::fault::ProtocolFault;
+use fidl_compositions::ComposeFault;
+use fidl_methods::MethodFault;
+use fidl_payloads::PayloadFault;
+
+/// A refusal of compositions.
+pub(crate) fn of_compositions(fault: ComposeFault) -> ProtocolFault
+    ensures { (files : List Tree) → IsTrueOfCompositions files fault
+        → IsTrueOfProtocols files result }
+{
+    match fault {
+        ComposeFault::BadCompose { place } => ProtocolFault::BadCompose { place },
+        ComposeFault::ComposeCycle { place } => ProtocolFault::ComposeCycle { place },
+        ComposeFault::Memory => ProtocolFault::Memory,
+    }
+}
+
+/// A refusal of the methods of a protocol.
+pub(crate) fn of_methods(fault: MethodFault) -> ProtocolFault
+    ensures { (files : List Tree) (id : Id) (f : Tree) (openness : Openness) (name : Where)
+        (members : List Member) → IsProtocolAt files id f openness name members
+        → IsMethodReport id.file (ProtocolBreaks (file_view f) openness name members) fault
+        → IsTrueOfProtocols files result }
+{
+    match fault {
+        MethodFault::NotStrict { place } => ProtocolFault::NotStrict { place },
+        MethodFault::BadSelector { place } => ProtocolFault::BadSelector { place },
+        MethodFault::ZeroOrdinal { place } => ProtocolFault::ZeroOrdinal { place },
+        MethodFault::Memory => ProtocolFault::Memory,
+    }
+}
+
+/// A refusal of a payload.
+pub(crate) fn of_payloads(fault: PayloadFault) -> ProtocolFault
+    ensures { (files : List Tree) (id : Id) (f : Tree) (openness : Openness) (name : Where)
+        (members : List Member) (m : Member) → IsProtocolAt files id f openness name members
+        → Contains members m → IsPayloadReport id.file (MemberBreaks files id.file m) fault
+        → IsTrueOfProtocols files result }
+{
+    match fault {
+        PayloadFault::BadPayload { place } => ProtocolFault::BadPayload { place },
+        PayloadFault::Memory => ProtocolFault::Memory,
+    }
+}
