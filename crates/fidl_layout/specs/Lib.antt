@@ -1,9 +1,11 @@
 -- The figures of checked files, in the order in which to read them:
---   Roots    the forms of declared types
---   Written  how many members are written in bits and enums
---   Laid     when checked files are laid out within the limits
---   Faults   what each refusal says
+--   Roots       the forms of declared types
+--   Written     how many members are written in bits and enums
+--   Laid        when checked files are laid out within the limits
+--   Faults      what each refusal says
+--   FaultNames  the numbers, names and places of refusals
 pub mod Roots
 pub mod Written
 pub mod Laid
 pub mod Faults
+pub mod FaultNames

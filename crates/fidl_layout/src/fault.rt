@@ -28,6 +28,50 @@ pub enum LayoutFault {
     Memory,
 }
 
+impl LayoutFault {
+    ghost use Rattle.fidl_layout.specs.FaultNames.{number_of, name_of, place_of};
+
+    /// The fault's number.
+    pub fn number(&self) -> u32
+        ensures { result ≡ number_of self.now }
+    {
+        match self {
+            LayoutFault::TooNested { .. } => 1,
+            LayoutFault::TooLarge { .. } => 2,
+            LayoutFault::TooManyTypes { .. } => 3,
+            LayoutFault::TooManyMembers { .. } => 4,
+            LayoutFault::Memory => 5,
+        }
+    }
+
+    /// The fault's name.
+    pub fn name(&self) -> &'static str
+        ensures { result.now ≡ name_of self.now }
+    {
+        match self {
+            LayoutFault::TooNested { .. } => "TooNested",
+            LayoutFault::TooLarge { .. } => "TooLarge",
+            LayoutFault::TooManyTypes { .. } => "TooManyTypes",
+            LayoutFault::TooManyMembers { .. } => "TooManyMembers",
+            LayoutFault::Memory => "Memory",
+        }
+    }
+
+    /// Where the sources are at fault: the number of a file and a span in bytes; nothing where
+    /// memory ran out.
+    pub fn place(&self) -> Option<Place>
+        ensures { result ≡ place_of self.now }
+    {
+        match self {
+            LayoutFault::TooNested { place }
+            | LayoutFault::TooLarge { place }
+            | LayoutFault::TooManyTypes { place }
+            | LayoutFault::TooManyMembers { place } => Some(*place),
+            LayoutFault::Memory => None,
+        }
+    }
+}
+
 impl From<AllocError> for LayoutFault {
     ghost use Rattle.fidl_layout.specs.declared.fault.LayoutFault.TheVariants.{Memory};
 

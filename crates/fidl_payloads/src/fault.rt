@@ -9,8 +9,8 @@ use thiserror::Error;
 /// specification, "Protocols").
 #[derive(Clone, Copy, Debug, PartialEq, Eq, Drop, Error)]
 pub enum PayloadFault {
-    /// A request, a response or an event of what is no struct, no table and no union, or of a union
-    /// that may be absent, aliases followed; reported at that type.
+    /// A request, a response or an event of a type that is not a struct, a table or a union, or of
+    /// a union that may be absent, aliases followed; reported at that type.
     #[error("a payload is a struct, a table or a union")]
     BadPayload { place: Place },
     /// Memory ran out, or the files have more than 2^32 forms.

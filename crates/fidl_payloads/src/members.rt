@@ -186,8 +186,8 @@ fn member_payloads(
 /// name stands at `protocol` in the file of this number. The response of a two-way method is its
 /// result where `error` is written and where the method is flexible. A composition has neither.
 ///
-/// Refused with BadPayload, at the type, where one that is written as a payload is no struct, no
-/// table and no union, or may be absent; and with Memory where memory ran out, or where the files
+/// Refused with BadPayload, at the type, where one that is written as a payload is not a struct, a
+/// table or a union, or may be absent; and with Memory where memory ran out, or where the files
 /// have more than 2^32 forms.
 pub fn payloads(
     alloc: Global,
@@ -208,11 +208,6 @@ pub fn payloads(
     ensures fault_is_true { IfErr result (IsReportIn file_index (MemberBreaks types.now file_index
         (protocol_member_view member.now))) }
 {
-    let sources = Sources {
-        alloc,
-        named: types.named(),
-        consts: types.consts(),
-        forms: types.forms(),
-    };
+    let sources = types.sources(alloc);
     member_payloads(&sources, file_index, protocol, member)
 }

@@ -1,5 +1,5 @@
 pub mod Counting
 pub mod Descending
-pub mod Finding
 pub mod Heads
+pub mod Indexing
 pub mod OneTerm

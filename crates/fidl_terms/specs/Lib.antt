@@ -2,8 +2,9 @@
 --   Numbers   the numbers of layouts
 --   Counts    the number of elements of an array
 --   Terms     the terms of types, aliases followed
--- TermViews is of the code alone: how it holds what these say.
+-- NumberViews and TermViews are of the code alone: how it holds what these say.
 pub mod Numbers
 pub mod Counts
 pub mod Terms
+pub mod NumberViews
 pub mod TermViews

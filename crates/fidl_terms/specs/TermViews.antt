@@ -8,6 +8,7 @@ use Rattle.fidl_terms.specs.declared.sources.Sources.{Sources}
 use Rattle.fidl_terms.specs.declared.node.Node.{Node as CodeNode}
 use Rattle.fidl_terms.specs.declared.node.Node.TheVariants as code
 use Rattle.fidl_terms.specs.Numbers.{all_forms}
+use Rattle.fidl_terms.specs.NumberViews.{AreNumbers}
 use Rattle.fidl_terms.specs.declared.node.Shape.{Shape}
 use Rattle.fidl_wire.specs.Term.{Term}
 use Rattle.fidl_terms.specs.Terms.{Node, leaf, holds, made_of}
@@ -16,10 +17,11 @@ abbrev pub seen_node : CodeNode → Node
 seen_node (code.Leaf t) = leaf (seen_type t)
 seen_node (code.Elements number next s) = holds number (seen_use next) s
 
--- the files with the values of their constants and all their forms
+-- the files with the values of their constants, all their forms and the numbers of their layouts
 pub record AreKnown (s : Sources) : Type 0 where
   pub consts : AreConsts s.named.now s.consts.now
   pub forms : seen_forms s.forms.now ≡ all_forms s.named.now
+  pub numbers : AreNumbers (all_forms s.named.now) s.numbers.now
 
 -- the first shape of the second, that of the third and so on, the last one of this term
 abbrev pub made_of_all : List Shape → Term → Term

@@ -12,5 +12,6 @@ mod words;
 pub mod worked;
 
 pub use laws::the_term_of_a_type_is_one;
+pub use numbers::{LayoutNumbers, layout_numbers};
 pub use sources::Sources;
 pub use terms::term_of;

@@ -56,7 +56,7 @@ fn layout_number(
     ensures none { IsNone result → (i : ℕ) → IsNumber sources.now.named.now file_index optional
         (body_view body.now) i → ⊥ }
 {
-    number_of(sources.forms, file_index, optional, keyword_of(body))
+    number_of(sources, file_index, optional, keyword_of(body))
 }
 
 /// The layout of the struct that a type is behind its aliases.

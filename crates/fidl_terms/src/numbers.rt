@@ -1,13 +1,30 @@
 //! The numbers of layouts.
-ghost use Rattle.std.specs.Prelude.{◌≡◌, ◌<◌, ◌^◌, ◌↔◌, ℕ, IsTrue, IfSome, IsNone};
+ghost use Rattle.std.specs.Prelude.{◌≡◌, ◌<◌, ◌+◌, ◌^◌, ℕ, List, Some, slice_get, IfOk, IfSome};
+ghost use Rattle.std.specs.Prelude.{IsNone, OnOk};
 ghost use Rattle.fidl_tree.specs.Views.{body_view};
+ghost use Rattle.fidl_layouts.specs.Forms.{Form as Plain};
 ghost use Rattle.fidl_layouts.specs.FormViews.{seen_form, seen_forms};
 ghost use Rattle.fidl_layouts.specs.Strict.{layout_keyword};
-ghost use Rattle.fidl_terms.specs.Numbers.{IsFormAt, IsFirstForm};
+ghost use Rattle.fidl_terms.specs.Numbers.{all_forms, IsFirstForm};
+ghost use Rattle.fidl_terms.specs.NumberViews.{layout_key, form_key, AreNumbers, AreNumbersBefore};
+ghost use Rattle.fidl_terms.specs.TermViews.{AreKnown};
 
+use crate::sources::Sources;
 use fidl_layouts::{Form, FormKind};
 use fidl_span::Span;
 use fidl_tree::{LayoutBody, ValuesKeyword};
+use indexmap::IndexMap;
+use std::alloc::{AllocError, Global};
+
+/// What a layout is known by: the number of its file, whether it is numbered for where it may be
+/// absent, and where its keyword begins and ends.
+type LayoutKey = (usize, bool, usize, usize);
+
+/// The numbers of the layouts of forms, by what each is known by.
+#[derive(Drop)]
+pub struct LayoutNumbers {
+    known: IndexMap<LayoutKey, u32>,
+}
 
 /// Where the keyword of a layout stands.
 pub(crate) fn keyword_of(body: &LayoutBody) -> Span
@@ -24,21 +41,23 @@ pub(crate) fn keyword_of(body: &LayoutBody) -> Span
     }
 }
 
-/// Whether a form is that of the layout whose keyword stands there.
-fn is_form_at(form: &Form<'_, '_>, file_index: usize, optional: bool, keyword: Span) -> bool
-    ensures { IsTrue result ↔ IsFormAt file_index optional keyword (seen_form form.now) }
+/// What a layout is known by.
+fn layout_key(file_index: usize, optional: bool, keyword: Span) -> LayoutKey
+    ensures { result ≡ layout_key file_index optional keyword }
+{
+    (file_index, optional, keyword.from, keyword.to)
+}
+
+/// What the layout of a form is known by; nothing where the form is a result or an empty response.
+fn form_key(form: &Form<'_, '_>) -> Option<LayoutKey>
+    ensures { result ≡ form_key (seen_form form.now) }
 {
     match form.kind {
-        FormKind::Layout {
-            body,
-            optional: may_be_absent,
-        } => {
-            form.file_index == file_index
-                && may_be_absent == optional
-                && keyword_of(body) == keyword
+        FormKind::Layout { body, optional } => {
+            Some(layout_key(form.file_index, optional, keyword_of(body)))
         }
-        FormKind::Result { .. } => false,
-        FormKind::EmptyResponse => false,
+        FormKind::Result { .. } => None,
+        FormKind::EmptyResponse => None,
     }
 }
 
@@ -53,22 +72,57 @@ fn small(index: usize) -> Option<u32>
     Some(index as u32)
 }
 
+/// Gives the layout of a form this number, where it has none yet.
+fn add_form(
+    numbers: &mut LayoutNumbers,
+    form: &Form<'_, '_>,
+    index: usize,
+) -> Result<(), AllocError>
+    ensures { OnOk result ((forms : List Plain) → slice_get forms index ≡ Some (seen_form form.now)
+        → AreNumbersBefore forms index numbers.old
+        → AreNumbersBefore forms (index + 1) numbers.new) }
+{
+    let Some(key) = form_key(form) else {
+        return Ok(());
+    };
+    let Some(number) = small(index) else {
+        return Ok(());
+    };
+    if numbers.known.contains_key(&key) {
+        return Ok(());
+    }
+    numbers.known.insert(key, number)?;
+    Ok(())
+}
+
+/// The numbers of the layouts of forms.
+///
+/// `AllocError`: memory ran out.
+pub fn layout_numbers(alloc: Global, forms: &[Form<'_, '_>]) -> Result<LayoutNumbers, AllocError>
+    ensures { IfOk result (AreNumbers (seen_forms forms.now)) }
+{
+    let mut numbers = LayoutNumbers {
+        known: IndexMap::new(alloc),
+    };
+    for (index, form) in forms.iter().enumerate() {
+        add_form(&mut numbers, form, index)?;
+    }
+    Ok(numbers)
+}
+
 /// The number of the layout whose keyword stands there, as it is or where it may be absent.
 pub(crate) fn number_of(
-    forms: &[Form<'_, '_>],
+    sources: &Sources<'_, '_, '_>,
     file_index: usize,
     optional: bool,
     keyword: Span,
 ) -> Option<u32>
-    ensures found { IfSome result (IsFirstForm (seen_forms forms.now) file_index optional
+    requires { AreKnown sources.now }
+    ensures found { IfSome result (IsFirstForm (all_forms sources.now.named.now) file_index optional
         keyword) }
-    ensures none { IsNone result → (i : ℕ) → IsFirstForm (seen_forms forms.now) file_index optional
-        keyword i → ⊥ }
+    ensures none { IsNone result → (i : ℕ) → IsFirstForm (all_forms sources.now.named.now)
+        file_index optional keyword i → ⊥ }
 {
-    for (index, form) in forms.iter().enumerate() {
-        if is_form_at(form, file_index, optional, keyword) {
-            return small(index);
-        }
-    }
-    None
+    let key = layout_key(file_index, optional, keyword);
+    sources.numbers.known.get(&key).copied()
 }

@@ -10,7 +10,9 @@ use Rattle.fidl_values.specs.Rules.{ValuesHold}
 use Rattle.fidl_resources.specs.Resources.{ResourcesHold}
 use Rattle.fidl_uses.specs.Uses.{UsesHold}
 use Rattle.fidl_wire.specs.Term.{Term}
+use Rattle.fidl_terms.specs.declared.numbers.LayoutNumbers.{LayoutNumbers}
 use Rattle.fidl_terms.specs.Numbers.{all_forms}
+use Rattle.fidl_terms.specs.NumberViews.{AreNumbers}
 use Rattle.fidl_definitions.specs.Definitions.{DefinitionsAre}
 use Rattle.fidl_term_rules.specs.Faults.{RulesHold as DefinitionsHold}
 use Rattle.fidl_types.specs.Marks.{marks_of}
@@ -29,9 +31,11 @@ pub record TypesAre (files : List File) (ts : List Term) : Type 0 where
   -- only resources hold resources, and no struct stands in itself
   pub kept : DefinitionsHold ts (marks_of (all_forms files))
 
--- what is held of checked files: the values of their constants, their forms and their definitions
-pub record AreHeld (files : List File) (consts : Consts) (forms : List Form) (ts : List Term) : Type
-    0 where
+-- what is held of checked files: the values of their constants, their forms, the numbers of their
+-- layouts and their definitions
+pub record AreHeld (files : List File) (consts : Consts) (forms : List Form)
+    (numbers : LayoutNumbers) (ts : List Term) : Type 0 where
   pub evaluated : AreConsts files consts
   pub numbered : forms ≡ all_forms files
+  pub known : AreNumbers forms numbers
   pub checked : TypesAre files ts

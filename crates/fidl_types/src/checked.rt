@@ -3,6 +3,8 @@ ghost use Rattle.std.specs.Prelude.{◌≡◌};
 ghost use Rattle.fidl_const.specs.Tables.{AreConsts};
 ghost use Rattle.fidl_layouts.specs.FormViews.{seen_forms};
 ghost use Rattle.fidl_terms.specs.Numbers.{all_forms};
+ghost use Rattle.fidl_terms.specs.NumberViews.{AreNumbers};
+ghost use Rattle.fidl_terms.specs.TermViews.{AreKnown};
 ghost use Rattle.fidl_term.specs.Terms.{seen_definitions};
 ghost use Rattle.fidl_types.specs.Types.{TypesAre};
 
@@ -10,15 +12,18 @@ use fidl_const::Consts;
 use fidl_layouts::Form;
 use fidl_names::Named;
 use fidl_term::Definition;
+use fidl_terms::{LayoutNumbers, Sources};
+use std::alloc::Global;
 use std::marker::Model;
 
-/// Files that keep all rules of types, with the values of their constants, their forms and the
-/// definitions of these. Contracts see the list of their trees.
+/// Files that keep all rules of types, with the values of their constants, their forms, the numbers
+/// of their layouts and the definitions of their forms. Contracts see the list of their trees.
 #[derive(Drop)]
 pub struct Types<'f, 's> {
     pub(crate) named: Named<'f, 's>,
     pub(crate) consts: Consts,
     pub(crate) forms: Vec<Form<'f, 's>>,
+    pub(crate) numbers: LayoutNumbers,
     pub(crate) definitions: Vec<Definition>,
 }
 
@@ -36,7 +41,7 @@ impl<'f, 's> Model for Types<'f, 's> {
 
     ghost view = { λ t. t.named };
 
-    ghost invariant = { λ t. AreHeld t.named t.consts (seen_forms t.forms.items)
+    ghost invariant = { λ t. AreHeld t.named t.consts (seen_forms t.forms.items) t.numbers
         (seen_definitions t.definitions.items) };
 }
 
@@ -60,6 +65,27 @@ impl<'f, 's> Types<'f, 's> {
         ensures { seen_forms result.now ≡ all_forms self.now }
     {
         &self.forms
+    }
+
+    /// The numbers of their layouts.
+    pub fn numbers(&self) -> &LayoutNumbers
+        ensures { AreNumbers (all_forms self.now) result.now }
+    {
+        &self.numbers
+    }
+
+    /// The files as the terms of types are read from them.
+    pub fn sources(&self, alloc: Global) -> Sources<'_, 'f, 's>
+        ensures files { result.named.now ≡ self.now }
+        ensures known { AreKnown result }
+    {
+        Sources {
+            alloc,
+            named: &self.named,
+            consts: &self.consts,
+            forms: &self.forms,
+            numbers: &self.numbers,
+        }
     }
 
     /// The definition of each form, in the same order. The files keep all rules of types.

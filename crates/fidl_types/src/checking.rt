@@ -16,7 +16,7 @@ use fidl_const::Consts;
 use fidl_layouts::forms;
 use fidl_names::Named;
 use fidl_term::Definition;
-use fidl_terms::Sources;
+use fidl_terms::{Sources, layout_numbers};
 use std::alloc::Global;
 
 /// The definitions of all forms, where the files keep all rules.
@@ -45,17 +45,20 @@ pub fn check<'f, 's>(
     ensures fault_is_true { IfErr result (IsTrueOfTypes named.entry) }
 {
     let forms = forms(alloc, &named)?;
+    let numbers = layout_numbers(alloc, &forms)?;
     let sources = Sources {
         alloc,
         named: &named,
         consts: &consts,
         forms: &forms,
+        numbers: &numbers,
     };
     let definitions = checked_definitions(&sources)?;
     Ok(Types {
         named,
         consts,
         forms,
+        numbers,
         definitions,
     })
 }

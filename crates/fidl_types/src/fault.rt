@@ -45,7 +45,7 @@ pub enum TypeFault {
     /// ("Types", "Resource definitions").
     #[error("this type is not rightly written")]
     BadConstraint { place: Place },
-    /// A box of what is no struct; reported at what it is of ("Box").
+    /// A box of a type other than a struct; reported at that type ("Box").
     #[error("a box is of a struct")]
     BadBox { place: Place },
     /// `float32`, `float64`, `@available`, or a protocol's `@transport` of another transport than
@@ -55,6 +55,71 @@ pub enum TypeFault {
     /// Memory ran out, or the files have more than 2^32 forms.
     #[error("memory ran out")]
     Memory,
+}
+
+impl TypeFault {
+    ghost use Rattle.fidl_types.specs.FaultNames.{number_of, name_of, place_of};
+
+    /// The fault's number.
+    pub fn number(&self) -> u32
+        ensures { result ≡ number_of self.now }
+    {
+        match self {
+            TypeFault::NotResource { .. } => 1,
+            TypeFault::InlineCycle { .. } => 2,
+            TypeFault::BadOrdinal { .. } => 3,
+            TypeFault::DuplicateOrdinal { .. } => 4,
+            TypeFault::DuplicateValue { .. } => 5,
+            TypeFault::NotPowerOfTwo { .. } => 6,
+            TypeFault::EmptyStrict { .. } => 7,
+            TypeFault::OptionalMember { .. } => 8,
+            TypeFault::BadConstraint { .. } => 9,
+            TypeFault::BadBox { .. } => 10,
+            TypeFault::OutOfProfile { .. } => 11,
+            TypeFault::Memory => 12,
+        }
+    }
+
+    /// The fault's name.
+    pub fn name(&self) -> &'static str
+        ensures { result.now ≡ name_of self.now }
+    {
+        match self {
+            TypeFault::NotResource { .. } => "NotResource",
+            TypeFault::InlineCycle { .. } => "InlineCycle",
+            TypeFault::BadOrdinal { .. } => "BadOrdinal",
+            TypeFault::DuplicateOrdinal { .. } => "DuplicateOrdinal",
+            TypeFault::DuplicateValue { .. } => "DuplicateValue",
+            TypeFault::NotPowerOfTwo { .. } => "NotPowerOfTwo",
+            TypeFault::EmptyStrict { .. } => "EmptyStrict",
+            TypeFault::OptionalMember { .. } => "OptionalMember",
+            TypeFault::BadConstraint { .. } => "BadConstraint",
+            TypeFault::BadBox { .. } => "BadBox",
+            TypeFault::OutOfProfile { .. } => "OutOfProfile",
+            TypeFault::Memory => "Memory",
+        }
+    }
+
+    /// Where the sources are at fault: the number of a file and a span in bytes; nothing where
+    /// memory ran out.
+    pub fn place(&self) -> Option<Place>
+        ensures { result ≡ place_of self.now }
+    {
+        match self {
+            TypeFault::NotResource { place }
+            | TypeFault::InlineCycle { place }
+            | TypeFault::BadOrdinal { place }
+            | TypeFault::DuplicateOrdinal { place }
+            | TypeFault::DuplicateValue { place }
+            | TypeFault::NotPowerOfTwo { place }
+            | TypeFault::EmptyStrict { place }
+            | TypeFault::OptionalMember { place }
+            | TypeFault::BadConstraint { place }
+            | TypeFault::BadBox { place }
+            | TypeFault::OutOfProfile { place } => Some(*place),
+            TypeFault::Memory => None,
+        }
+    }
 }
 
 impl From<AllocError> for TypeFault {

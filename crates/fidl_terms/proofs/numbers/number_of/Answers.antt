@@ -1,19 +1,17 @@
-use Rattle.std.proofs.Common.{◌∙◌, sym, true≢false}
-use Rattle.fidl_terms.proofs.Finding.{none_further, first_found, none_small, none_at_all}
+use Rattle.std.proofs.Common.{◌≡◌, ℕ, Option, ap, sym, subst, ◌∙◌}
+use Rattle.std.specs.Prelude.{is_some, IfSome}
+use Rattle.fidl_terms.specs.Numbers.{all_forms, IsFirstForm}
+use Rattle.fidl_terms.specs.NumberViews.{number_by, number_in}
 use Rattle.fidl_terms.proofs.numbers.number_of.Goals as goal
 
-pub returns-then-is_form_at-clause-found : goal.returns-then-is_form_at-clause-found
-returns-then-is_form_at-clause-found c =
-    first_found c.args.forms.now c.args.file_index c.args.optional c.args.keyword c.loop-index.index c.index-forms-index.result c.loop-index-test.true c.index-forms-index.is c.loop-index.invariant (c.is_form_at.ensures.0 c.if-is_form_at.true) c.small.result c.small.ensures.found
-
-pub returns-then-is_form_at-clause-none : goal.returns-then-is_form_at-clause-none
-returns-then-is_form_at-clause-none c =
-    none_small c.args.forms.now c.args.file_index c.args.optional c.args.keyword c.loop-index.index c.index-forms-index.result c.loop-index-test.true c.index-forms-index.is c.loop-index.invariant (c.is_form_at.ensures.0 c.if-is_form_at.true) c.small.result c.small.ensures.none
-
-pub loop-index-preserved : goal.loop-index-preserved
-loop-index-preserved c =
-    none_further c.args.forms.now c.args.file_index c.args.optional c.args.keyword c.loop-index.index c.index-forms-index.result c.loop-index-test.true c.index-forms-index.is c.loop-index.invariant
-    (λ h. true≢false (sym (c.is_form_at.ensures.1 h) ∙ c.if-is_form_at.false))
+pub returns-clause-found : goal.returns-clause-found
+returns-clause-found c =
+    let s = c.args.sources.now in
+    let held : c.copied.result ≡ number_in s.numbers.now c.args.file_index c.args.optional c.args.keyword = c.copied.ensures ∙ c.get.ensures.value ∙ ap (number_by s.numbers.now) c.layout_key-key.ensures in
+    subst (λ (o : Option ℕ). IfSome o (IsFirstForm (all_forms s.named.now) c.args.file_index c.args.optional c.args.keyword)) (sym held) (c.requires.numbers.found c.args.file_index c.args.optional c.args.keyword)
 
 pub returns-clause-none : goal.returns-clause-none
-returns-clause-none c = λ _. none_at_all c.args.forms.now c.args.file_index c.args.optional c.args.keyword c.loop-index.index c.loop-index-test.false c.loop-index.invariant
+returns-clause-none c = λ none.
+    let s = c.args.sources.now in
+    let held : c.copied.result ≡ number_in s.numbers.now c.args.file_index c.args.optional c.args.keyword = c.copied.ensures ∙ c.get.ensures.value ∙ ap (number_by s.numbers.now) c.layout_key-key.ensures in
+    c.requires.numbers.none c.args.file_index c.args.optional c.args.keyword (sym (ap is_some held) ∙ none)
