@@ -4,7 +4,7 @@ ghost use Rattle.std.specs.Option.{option_map, option_and_then};
 ghost use Rattle.fidl_wire.specs.Term.{fields_of};
 ghost use Rattle.fidl_wire.specs.Figure.{Declarations, offsets};
 ghost use Rattle.fidl_figures.specs.Views.{seen_figure};
-ghost use Rattle.fidl_layout.specs.Laid.{AreLaidOut};
+ghost use Rattle.fidl_layout.specs.Laid.{AreFigures, AreLaidOut};
 
 use fidl_figures::{Figure, Figures};
 use fidl_types::Types;
@@ -39,6 +39,13 @@ impl<'f, 's> Laid<'f, 's> {
         ensures { result.now ≡ self.now }
     {
         &self.types
+    }
+
+    /// The figures of their definitions, and the offsets of the members of structs.
+    pub fn figures(&self) -> &Figures
+        ensures { AreFigures self.now result.now }
+    {
+        &self.figures
     }
 
     /// Size and alignment in bytes, and the nest, of the definition of this number; None where
