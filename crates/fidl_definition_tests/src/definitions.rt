@@ -3,7 +3,7 @@ use crate::words::definition_text;
 use fidl_const::evaluate;
 use fidl_definitions::definitions;
 use fidl_layouts::forms;
-use fidl_terms::Sources;
+use fidl_terms::{Sources, layout_numbers};
 use fidl_test_sources::{named, trees};
 use std::alloc::Global;
 use std::process::Abort;
@@ -15,11 +15,13 @@ fn found(alloc: Global, texts: &[&[u8]]) -> Result<String, Fail> {
     let named = named(alloc, &files)?;
     let consts = evaluate(alloc, &named)?;
     let all = forms(alloc, &named)?;
+    let numbers = layout_numbers(alloc, &all)?;
     let sources = Sources {
         alloc,
         named: &named,
         consts: &consts,
         forms: &all,
+        numbers: &numbers,
     };
     let Some(list) = definitions(&sources)? else {
         return Ok(format!(in alloc; "none")?);

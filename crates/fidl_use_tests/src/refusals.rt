@@ -2,7 +2,7 @@
 use fidl_const::evaluate;
 use fidl_layouts::forms;
 use fidl_span::line_col;
-use fidl_terms::Sources;
+use fidl_terms::{Sources, layout_numbers};
 use fidl_test_cases::{Answer, cases};
 use fidl_test_sources::{named, trees};
 use fidl_uses::{UseFault, check_uses};
@@ -16,11 +16,13 @@ fn refusal(alloc: Global, sources: &[&[u8]]) -> Result<Answer<'static>, Fail> {
     let named = named(alloc, &files)?;
     let consts = evaluate(alloc, &named)?;
     let forms = forms(alloc, &named)?;
+    let numbers = layout_numbers(alloc, &forms)?;
     let known = Sources {
         alloc,
         named: &named,
         consts: &consts,
         forms: &forms,
+        numbers: &numbers,
     };
     let (name, place) = match check_uses(&known) {
         Ok(()) => return Ok(None),

@@ -3,7 +3,7 @@ use fidl_const::evaluate;
 use fidl_layouts::forms;
 use fidl_resources::{ResourceFault, check_resources};
 use fidl_span::line_col;
-use fidl_terms::Sources;
+use fidl_terms::{Sources, layout_numbers};
 use fidl_test_cases::{Answer, cases};
 use fidl_test_sources::{named, trees};
 use std::alloc::Global;
@@ -16,11 +16,13 @@ fn refusal(alloc: Global, sources: &[&[u8]]) -> Result<Answer<'static>, Fail> {
     let named = named(alloc, &files)?;
     let consts = evaluate(alloc, &named)?;
     let forms = forms(alloc, &named)?;
+    let numbers = layout_numbers(alloc, &forms)?;
     let known = Sources {
         alloc,
         named: &named,
         consts: &consts,
         forms: &forms,
+        numbers: &numbers,
     };
     let place = match check_resources(&known) {
         Ok(()) => return Ok(None),
