@@ -177,9 +177,21 @@ def rt_ci(room):
 
 def tried_by_function(room, names, last):
     """Tries the wrong bodies of these crates in a room that `rt ci` has passed, and returns the status and the last line with them."""
-    refused, failed = wrong_bodies.try_all(wrong_bodies.load(shutil.which("rt")), room, names)
-    passed = int(last.split()[0]) + refused
-    return bool(failed), f"{passed} passed, {failed} failed"
+    try:
+        refused, failed = wrong_bodies.try_all(wrong_bodies.load(shutil.which("rt")), room, names)
+    except (Exception, SystemExit) as error:  # the parts of another rt may be other than they seem
+        print(f"gate: wrong bodies can't be tried by their functions here ({type(error).__name__}: {error}), so rt must-fail tries them", flush=True)
+        refused, failed = tried_by_crate(room, names)
+    return bool(failed), f"{int(last.split()[0]) + refused} passed, {failed} failed"
+
+
+def tried_by_crate(room, names):
+    """Tries the wrong bodies of these crates by `rt must-fail`, and returns how many were refused and how many not."""
+    wanted = sum(len(os.listdir(f"{room}/crates/{it}/must-fail")) for it in names)
+    ran = subprocess.run(["rt", "must-fail", *sorted(names)], cwd=room, stdin=subprocess.DEVNULL, stdout=subprocess.PIPE, text=True, errors="replace")
+    print(ran.stdout, end="", flush=True)
+    refused = sum(" refused, as it must be" in it for it in ran.stdout.splitlines())
+    return refused, max(wanted - refused, int(ran.returncode != 0))
 
 
 def run(repository, mode, names=()):

@@ -245,6 +245,17 @@ class GateTest(unittest.TestCase):
         status, lines = self.run_by_function({"first", "BoxHeld::second", "unedited"}, names=["low"])
         self.assertEqual((status, lines[-1]), (1, "1 passed, 2 failed"))
 
+    def test_a_rt_whose_parts_are_others_tries_whole_crates(self):
+        self.write("crates/low/must-fail/two.edit", "file: src/lib.rt\n")
+        script = RT_BY_FUNCTION.replace("def checked(crate, texts, flags, kept):", "def checked(crate):").replace("THESE", "[]")
+        script = script.replace('print("kit-of-tests"', 'print("must-fail low/one.edit: refused, as it must be\\nmust-fail low/two.edit: refused, as it must be" if sys.argv[1] == "must-fail" else "kit-of-tests"')
+        self.write("crates/low/src/lib.rt", "one two\n")
+        self.write("crates/low/must-fail/one.edit", "file: src/lib.rt\nold: one\nnew: other\n")
+        self.write("crates/low/must-fail/two.edit", "file: src/lib.rt\nold: two\nnew: other\n")
+        status, lines = self.run_with("--record", script, ["low"])
+        self.assertEqual((status, lines[-1]), (0, "3 passed, 0 failed"))
+        self.assertTrue(any("so rt must-fail tries them" in it for it in lines))
+
     def test_the_function_of_an_edit(self):
         text = "use a;\n\nimpl<'t> Read for Table<'t> {\n    fn one(&self) {\n        1\n    }\n}\n\nfn two() {\n    2\n}\n\nconst X: u8 = 3;\n"
         def of(path, old):
