@@ -6,9 +6,9 @@ use Rattle.fidl_assembly.proofs.assembling.is_assembled.Goals as goal
 
 pub returns : goal.returns
 returns c = λ is. record {
-    types = map seen_ref c.args.types.now;
-    entries = c.in_ok-entries_are.ensures c.if-not-branch.false;
-    names = c.names_are.ensures c.if-not-names_are.false;
-    roots = subst (ShowsRoots _ _ _) c.of-records.ensures (c.are_roots.ensures c.if-not-are_roots.false);
-    protocols = subst (ShowsProtocols _ _) c.of-records.ensures (c.are_protocols.ensures is);
-  }
+  types = map seen_ref c.args.types.now;
+  entries = c.in_ok-entries_are.ensures c.if-not-branch.false;
+  names = c.names_are.ensures c.if-not-names_are.false;
+  roots = subst (ShowsRoots _ _ _) c.of-records.ensures (c.are_roots.ensures c.if-not-are_roots.false);
+  protocols = subst (ShowsProtocols _ _) c.of-records.ensures (c.are_protocols.ensures is);
+}

@@ -16,14 +16,17 @@ one_more : (bytes : List ℕ) (n : ℕ) → methods_before bytes (header_of byte
 one_more bytes n = ap (methods_before bytes (header_of bytes)) (next n)
 
 pub loop-index-preserved : goal.loop-index-preserved
-loop-index-preserved c = (c.in-Some.ensures.1 ∙ ap (λ n. n + c.protocol.result.methods) c.loop-index.invariant.0 ∙ ap (λ (r : ProtocolRecord). methods_before c.args.records.now (header_of c.args.records.now) c.loop-index.index + r.methods) c.protocol.ensures.value ∙ sym (one_more c.args.records.now c.loop-index.index), λ k x p at. elim (or_last k c.loop-index.index (omega (arith, p))) [
+loop-index-preserved c = (
+  c.in-Some.ensures.1 ∙ ap (λ n. n + c.protocol.result.methods) c.loop-index.invariant.0 ∙ ap (λ (r : ProtocolRecord). methods_before c.args.records.now (header_of c.args.records.now) c.loop-index.index + r.methods) c.protocol.ensures.value ∙ sym (one_more c.args.records.now c.loop-index.index),
+  λ k x p at. elim (or_last k c.loop-index.index (omega (arith, p))) [
     | inl less ↦ c.loop-index.invariant.1 k x less at
     | inr e ↦
         let index = c.loop-index.index in
         let Shown : ProtocolEntry → ℕ → Type 0 = λ y i. ShowsProtocol (map seen_ref c.args.types.now) c.args.records.now y i in
         let is : c.index-protocols-index.result ≡ x = c.index-protocols-index.is ∙ get_or_from_slice_get c.args.protocols.now index x c.index-protocols-index.result (subst (λ i. slice_get c.args.protocols.now i ≡ Some x) e at) in
         subst (Shown x) (sym e) (subst (λ y. Shown y index) is (c.is_protocol.ensures c.if-not-is_protocol.false))
-])
+  ],
+)
 
 pub returns : goal.returns
 returns c = λ is.

@@ -10,11 +10,11 @@ bytes_of name = name.items
 
 pub loop-index-preserved : goal.loop-index-preserved
 loop-index-preserved c = λ k d p at. elim (or_last k c.loop-index.index (omega (arith, p))) [
-    | inl less ↦ c.loop-index.invariant k d less at
-    | inr e ↦
-        let Shown : ℕ → ℕ → Type 0 = λ x i. ShowsRoot (map (λ v. v.items) c.args.names.now) (map seen_ref c.args.types.now) c.args.records.now x i in
-        subst (λ x. Shown x k) (get_or_from_slice_get c.args.roots.now k d 0 at)
-        (subst (λ i. Shown (get_or c.args.roots.now i 0) i) (sym e) (c.is_root.ensures c.if-not-is_root.false))
+  | inl less ↦ c.loop-index.invariant k d less at
+  | inr e ↦
+      let Shown : ℕ → ℕ → Type 0 = λ x i. ShowsRoot (map (λ v. v.items) c.args.names.now) (map seen_ref c.args.types.now) c.args.records.now x i in
+      subst (λ x. Shown x k) (get_or_from_slice_get c.args.roots.now k d 0 at)
+      (subst (λ i. Shown (get_or c.args.roots.now i 0) i) (sym e) (c.is_root.ensures c.if-not-is_root.false))
 ]
 
 pub returns : goal.returns
