@@ -1,17 +1,21 @@
 //! Tests of `run`: command lines, each with its status and all that it prints.
+use crate::listings::POINT_LINES;
 use crate::tables::POINT;
 use fidl_tool::{Files, Output, run};
 use std::alloc::Global;
 use std::io;
 use std::test::Fail;
 
-/// One file, `point.fct`, and one for which memory runs out, `vast`.
+/// Two files, `point.fct` and `short.fct`, which lacks its last byte, and one for which memory runs
+/// out, `vast`.
 struct Desk;
 
 impl Files for Desk {
     fn read(&self, alloc: Global, name: &str) -> io::Result<Vec<u8>> {
         if name == "point.fct" {
             Ok(Vec::from_slice(alloc, &POINT)?)
+        } else if name == "short.fct" {
+            Ok(Vec::from_slice(alloc, &POINT[..175])?)
         } else if name == "vast" {
             Err(io::Error::from(io::ErrorKind::OutOfMemory))
         } else {
@@ -68,6 +72,24 @@ fn messages_are_decoded(rt: HostRuntime) -> Result<(), Fail> {
         "--handle=2:5:4294967295",
     ];
     expect(alloc, &words, 1, "", "decode 20 HandlesLeft at 8\n")
+}
+
+#[test]
+fn tables_are_printed(rt: HostRuntime) -> Result<(), Fail> {
+    let alloc = rt.alloc();
+    let words = ["fidl", "table", "point.fct"];
+    expect(alloc, &words, 0, POINT_LINES, "")?;
+    let words = ["fidl", "table", "short.fct"];
+    expect(alloc, &words, 1, "", "table 3 Truncated at 0\n")?;
+    let words = ["fidl", "table", "none"];
+    expect(alloc, &words, 3, "", "error: \"none\": entity not found\n")?;
+    let words = ["fidl", "table", "vast"];
+    expect(alloc, &words, 4, "", "error: out of memory\n")?;
+    let missing = "error: the following required arguments were not provided: <TABLE>\n";
+    expect(alloc, &["fidl", "table"], 2, "", missing)?;
+    let surplus = "error: unexpected argument 'Point' found\n";
+    let words = ["fidl", "table", "point.fct", "Point"];
+    expect(alloc, &words, 2, "", surplus)
 }
 
 #[test]
@@ -142,8 +164,8 @@ fn wrong_command_lines(rt: HostRuntime) -> Result<(), Fail> {
         "",
         dash,
     )?;
-    let none =
-        "error: 'fidl' requires a subcommand but one was not provided [subcommands: decode, help]\n";
+    let none = "error: 'fidl' requires a subcommand but one was not provided [subcommands: \
+        decode, table, help]\n";
     expect(alloc, &["out/fidl"], 2, "", none)?;
     expect(alloc, &[], 2, "", none)
 }
@@ -154,6 +176,7 @@ fn help_and_version(rt: HostRuntime) -> Result<(), Fail> {
     expect(alloc, &["fidl", "--version"], 0, "fidl 0.1\n", "")?;
     let help = "Reads FIDL messages by coding tables\n\nUsage: fidl <COMMAND>\n\nCommands:\n  \
         decode  Prints the text of the value that a message encodes\n  \
+        table   Prints the records of a coding table\n  \
         help    Print this message or the help of the given subcommand(s)\n\nOptions:\n  \
         -h, --help     Print help\n  -V, --version  Print version\n";
     expect(alloc, &["fidl", "--help"], 0, help, "")?;

@@ -6,6 +6,8 @@ mod command_lines;
 #[cfg(test)]
 mod envelopes;
 #[cfg(test)]
+mod listings;
+#[cfg(test)]
 mod messages;
 #[cfg(test)]
 mod runs;

@@ -1,6 +1,7 @@
 //! Tests of writers that fail: what is out then, and what is answered.
+use crate::listings::POINT_LINES;
 use crate::tables::POINT;
-use fidl_tool::{File, Outcome, Output, TypedMessage, decode};
+use fidl_tool::{File, Outcome, Output, TypedMessage, decode, table};
 use std::alloc::Global;
 use std::io;
 use std::io::Write;
@@ -117,5 +118,38 @@ fn an_output_that_is_full(rt: HostRuntime) -> Result<(), Fail> {
     let told = b"error: the output: write zero\n".as_slice();
     assert!(rt; errors.into_writer().as_slice() == told);
     assert!(rt; room.as_slice() == b"{x: 1,".as_slice());
+    Ok(())
+}
+
+#[test]
+fn an_output_that_fails_at_each_write_of_a_table(rt: HostRuntime) -> Result<(), Fail> {
+    let alloc = rt.alloc();
+    let mut longest = 0;
+    for writes in 0..120 {
+        let mut out = Output::new(Brief::new(alloc, writes));
+        let mut errors = Output::new(Vec::new(alloc));
+        let outcome = table(&FILE, &mut out, &mut errors);
+        let failed = out.failure().is_some();
+        let held = out.into_writer().held;
+        let told: &[u8] = if failed {
+            b"error: the output: broken pipe\n"
+        } else {
+            b""
+        };
+        assert!(rt; errors.into_writer().as_slice() == told, "at {writes}");
+        assert_eq!(rt; outcome == Outcome::Unwritten, failed, "at {writes}");
+        assert_eq!(rt;
+            outcome == Outcome::Done,
+            held.as_slice() == POINT_LINES.as_bytes(),
+            "at {writes}"
+        );
+        assert!(rt;
+            POINT_LINES.as_bytes().starts_with(held.as_slice()),
+            "at {writes}"
+        );
+        assert!(rt; held.len() >= longest, "at {writes}");
+        longest = held.len();
+    }
+    assert_eq!(rt; longest, POINT_LINES.len());
     Ok(())
 }

@@ -12,3 +12,4 @@ pub mod Told
 mod HandleTexts
 mod HexText
 mod RawText
+mod Records

@@ -15,8 +15,10 @@ use Rattle.fidl_tool.specs.declared.unread.Unread.{Unread}
 use Rattle.fidl_tool.specs.declared.unread.Unread.TheVariants.{Asked, Wrong, NotText, Missing}
 use Rattle.fidl_tool.specs.declared.unread.Unread.TheVariants.{BadHex, BadHandle, Memory}
 use Rattle.fidl_tool.specs.declared.arguments.DecodeArguments.{DecodeArguments}
+use Rattle.fidl_tool.specs.declared.arguments.Arguments.{Arguments}
+use Rattle.fidl_tool.specs.declared.arguments.Arguments.TheVariants.{Decode, Table}
 use Rattle.fidl_wire.specs.declared.handle.HandleInfo.{HandleInfo}
-use Rattle.fidl_tool.specs.CommandLine.{program, GivesDecode}
+use Rattle.fidl_tool.specs.CommandLine.{program, GivesDecode, GivesTable}
 use Rattle.fidl_tool.specs.Decoding.{no_memory}
 use Rattle.fidl_tool.specs.Handles.{IsHandleText, HasNoHandleText}
 
@@ -53,10 +55,21 @@ IsNoDecode rows Memory = ⊤
 IsNoDecode rows _ = ⊥
 
 -- the words give these arguments of `decode`
-pub record IsGiven (words : List Text) (given : DecodeArguments) : Type 0 where
+pub record IsDecodeGiven (words : List Text) (given : DecodeArguments) : Type 0 where
   pub rows : List Row
   pub entered : GivesDecode words rows
   pub decode : IsDecode rows given
+
+-- the words give `table` the name of this file
+pub record IsTableGiven (words : List Text) (file : List ℕ) : Type 0 where
+  pub rows : List Row
+  pub entered : GivesTable words rows
+  pub table : first_of (codes "TABLE") rows ≡ Some file
+
+-- the words give these arguments of a command
+abbrev pub IsGiven : List Text → Arguments → Type 0
+IsGiven words (Decode given) = IsDecodeGiven words given
+IsGiven words (Table file) = IsTableGiven words file.now
 
 -- the words name `decode`, whose arguments have no such values
 pub record IsBadlyGiven (words : List Text) (unread : Unread) : Type 0 where
@@ -64,14 +77,22 @@ pub record IsBadlyGiven (words : List Text) (unread : Unread) : Type 0 where
   pub entered : GivesDecode words rows
   pub fails : IsNoDecode rows unread
 
+-- the words name no command
+abbrev pub NamesNone : List Text → Type 0
+NamesNone words = (rows : List Row) → (GivesDecode words rows → ⊥) × (GivesTable words rows → ⊥)
+
+-- the words name `table`, and no file
+abbrev pub LacksFile : List Text → Type 0
+LacksFile words = (rows : List Row) × GivesTable words rows
+    × (first_of (codes "TABLE") rows ≡ None)
+
 -- why the words give no arguments: they are no command line, or ask for help; or the arguments have
 -- no such values
 abbrev pub IsUngiven : List Text → Unread → Type 0
 IsUngiven words (Asked text) = takes program words ≡ false
 IsUngiven words (Wrong line) = takes program words ≡ false
 IsUngiven words NotText = ⊥
-IsUngiven words Missing = ((rows : List Row) → GivesDecode words rows → ⊥)
-    ⊎ IsBadlyGiven words Missing
+IsUngiven words Missing = NamesNone words ⊎ IsBadlyGiven words Missing ⊎ LacksFile words
 IsUngiven words Memory = ⊤
 IsUngiven words unread = IsBadlyGiven words unread
 
@@ -100,7 +121,8 @@ abbrev pub complaint_of : Unread → List ℕ
 complaint_of (Asked text) = []
 complaint_of (Wrong line) = string_bytes line
 complaint_of NotText = codes "error: the arguments: UTF-8 is wanted"
-complaint_of Missing = codes "error: the arguments: decode TABLE ROOT HEX is wanted"
+complaint_of Missing =
+    codes "error: the arguments: decode TABLE ROOT HEX or table TABLE is wanted"
 complaint_of BadHex = codes "error: HEX: an even number of hexadecimal digits is wanted"
 complaint_of BadHandle =
     codes "error: --handle: three decimal numbers of 32 bits are wanted, as in 1:3:0"

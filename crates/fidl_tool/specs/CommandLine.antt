@@ -23,6 +23,10 @@ decode_command = record (new_shape (codes "decode")) {
       ∷ positional (codes "HEX") ∷ [];
 }
 
+-- `table TABLE`
+abbrev pub table_command : Shape
+table_command = record (new_shape (codes "table")) { rules = positional (codes "TABLE") ∷ [] }
+
 -- `fidl COMMAND`; clap adds help and version
 abbrev pub program : App
 program = record {
@@ -33,9 +37,13 @@ program = record {
         is_leaf =
             false;
       };
-  subs = decode_command ∷ [];
+  subs = decode_command ∷ table_command ∷ [];
 }
 
 -- the words name the command `decode`, and give its arguments these values
 abbrev pub GivesDecode : List Text → List Row → Type 0
 GivesDecode words rows = subcommand_of program words ≡ Some (codes "decode", rows)
+
+-- the words name the command `table`, and give its argument this value
+abbrev pub GivesTable : List Text → List Row → Type 0
+GivesTable words rows = subcommand_of program words ≡ Some (codes "table", rows)

@@ -1,6 +1,6 @@
 //! The command line.
 ghost use Rattle.std.specs.Prelude.{◌≡◌, IsErr, IsOk, ℕ, List, [], Ok, IfOk, IfErr, MatchBool};
-ghost use Rattle.std.specs.Prelude.{false, map, option_map};
+ghost use Rattle.std.specs.Prelude.{false, map, option_map, codes, Some, None};
 ghost use Rattle.std.specs.List.{AllZip, list_all};
 ghost use Rattle.clap.specs.Words.{found_of, rule_of, app_of, rows_of, first_of};
 ghost use Rattle.hex.specs.Hex.{decode_of, is_hex_digit};
@@ -26,6 +26,14 @@ pub(crate) struct DecodeArguments<'a> {
     pub root: &'a str,
     pub bytes: Vec<u8>,
     pub handles: Vec<HandleInfo>,
+}
+
+/// What the command line gives: a command with its arguments.
+#[derive(Drop)]
+pub(crate) enum Arguments<'a> {
+    Decode(DecodeArguments<'a>),
+    /// The table's file.
+    Table(&'a str),
 }
 
 impl DecodeArguments<'_> {
@@ -69,12 +77,16 @@ fn command_line<'a>(alloc: Global) -> Result<Command<'a>, AllocError>
         .arg(required(alloc, "TABLE", "The file of the coding table"))?
         .arg(required(alloc, "ROOT", "The name of the value's type in the table"))?
         .arg(required(alloc, "HEX", "The bytes of the message, in hexadecimal"))?;
+    let table = Command::new(alloc, "table")
+        .about("Prints the records of a coding table")
+        .arg(required(alloc, "TABLE", "The file of the coding table"))?;
     Command::new(alloc, "fidl")
         .bin_name("fidl")?
         .version("0.1")
         .about("Reads FIDL messages by coding tables")
         .subcommand_required(true)
-        .subcommand(decode)
+        .subcommand(decode)?
+        .subcommand(table)
 }
 
 fn is_hex_digit(byte: u8) -> bool
@@ -189,11 +201,24 @@ fn read_decode<'a>(alloc: Global, matches: &ArgMatches<'a>) -> Result<DecodeArgu
     })
 }
 
+/// The file that `fidl table` was given.
+fn read_table<'a>(matches: &ArgMatches<'a>) -> Result<&'a str, Unread>
+    ensures ok { IfOk result
+        (λ file. first_of (codes "TABLE") (rows_of (found_of matches.now)) ≡ Some file.now) }
+    ensures err { IfErr result (λ u. (u ≡ unread.Missing)
+        × (first_of (codes "TABLE") (rows_of (found_of matches.now)) ≡ None)) }
+{
+    match value_of(matches, "TABLE") {
+        Some(file) => Ok(file),
+        None => Err(Unread::Missing),
+    }
+}
+
 /// Reads the words of a command line, of which the first is the program's name.
 pub(crate) fn read_arguments<'a, S: AsStr>(
     alloc: Global,
     words: &'a [S],
-) -> Result<DecodeArguments<'a>, Unread>
+) -> Result<Arguments<'a>, Unread>
     ensures ok { IfOk result (IsGiven (map S.text words.entry.now)) }
     ensures err { IfErr result (IsUngiven (map S.text words.entry.now)) }
 {
@@ -201,8 +226,11 @@ pub(crate) fn read_arguments<'a, S: AsStr>(
         Ok(matches) => matches,
         Err(error) => return Err(Unread::from_clap(alloc, &error)),
     };
-    match matches.subcommand_matches("decode") {
-        Some(matches) => read_decode(alloc, matches),
+    if let Some(matches) = matches.subcommand_matches("decode") {
+        return Ok(Arguments::Decode(read_decode(alloc, matches)?));
+    }
+    match matches.subcommand_matches("table") {
+        Some(matches) => Ok(Arguments::Table(read_table(matches)?)),
         None => Err(Unread::Missing),
     }
 }

@@ -1,8 +1,8 @@
 //! The commands of the program `fidl`, as functions over values (docs/program.md).
 //!
-//! `decode` is a command: it takes files, arguments that were read already, and two outputs, and
-//! answers what happened, from which the exit status follows. `run` reads a command line and runs
-//! its command; `run_on_host` is the whole program.
+//! `decode` and `table` are the commands: each takes files, arguments that were read already, and
+//! two outputs, and answers what happened, from which the exit status follows. `run` reads a
+//! command line and runs its command; `run_on_host` is the whole program.
 #![tactic(auto)]
 
 mod arguments;
@@ -11,6 +11,7 @@ mod files;
 mod handle;
 mod host;
 mod lines;
+mod listing;
 mod outcome;
 mod output;
 mod printer;
@@ -18,11 +19,14 @@ mod program;
 mod quoted;
 mod unknown;
 mod unread;
+mod words;
+pub mod worked;
 
 pub use crate::decoding::{TypedMessage, decode};
 pub use crate::files::{File, Files};
 pub use crate::handle::read_handle;
 pub use crate::host::{Ran, run_on_host};
+pub use crate::listing::table;
 pub use crate::outcome::{Outcome, Status};
 pub use crate::output::{Failed, Output};
 pub use crate::program::run;

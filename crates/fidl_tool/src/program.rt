@@ -6,13 +6,17 @@ ghost use Rattle.std.specs.declared.io.ErrorKind.TheVariants as error_kinds;
 ghost use Rattle.fidl_tool.specs.Arguments.{outcome_of, text_of, line_of};
 ghost use Rattle.fidl_tool.specs.Decoding.{LacksRoot, no_root_line, no_memory_line, CanEndRun};
 ghost use Rattle.fidl_tool.specs.Outputs.{AppendsFront, AppendsOne, ReportsFailures};
-ghost use Rattle.fidl_tool.specs.Running.{IsGivenText, IsGivenRefusal, OfTable, Gives, GivesNone};
+ghost use Rattle.fidl_tool.specs.Listing.{IsListing, IsTableRefusal};
+ghost use Rattle.fidl_tool.specs.Running.{IsMessageText, IsMessageRefusal, IsGivenText, OfTable};
+ghost use Rattle.fidl_tool.specs.Running.{IsGivenRefusal, LacksGivenRoot, CanEndTableRun, Gives};
+ghost use Rattle.fidl_tool.specs.Running.{GivesNone, file_of};
 ghost use Rattle.fidl_tool.specs.declared.outcome.Outcome.TheVariants as outcome;
 
-use crate::arguments::{DecodeArguments, read_arguments};
+use crate::arguments::{Arguments, DecodeArguments, read_arguments};
 use crate::decoding::decode;
 use crate::files::{File, Files};
 use crate::lines::{write_line, write_no_file, write_no_memory, write_no_output, write_text};
+use crate::listing::table;
 use crate::outcome::Outcome;
 use crate::output::{Failed, Output};
 use crate::unread::Unread;
@@ -73,13 +77,16 @@ fn run_decode<F: Files, W: Write, E: Write>(
     errors: &mut Output<E>,
 ) -> Outcome
     ensures ends { CanEndRun result }
-    ensures done { result ≡ outcome.Done → OfTable (F.bytes_of files.now) arguments.now
-        (λ table. AppendsOne (IsGivenText arguments.now table)
+    ensures done { result ≡ outcome.Done
+        → OfTable (F.bytes_of files.now) arguments.now.table.now
+        (λ table. AppendsOne (IsMessageText arguments.now table)
         (W.contents out.old.writer) (W.contents out.new.writer)) }
-    ensures refused { result ≡ outcome.Refused → OfTable (F.bytes_of files.now) arguments.now
-        (λ table. AppendsOne (IsGivenRefusal arguments.now table)
+    ensures refused { result ≡ outcome.Refused
+        → OfTable (F.bytes_of files.now) arguments.now.table.now
+        (λ table. AppendsOne (IsMessageRefusal arguments.now table)
         (E.contents errors.old.writer) (E.contents errors.new.writer)) }
-    ensures no_root { result ≡ outcome.NoRoot → OfTable (F.bytes_of files.now) arguments.now
+    ensures no_root { result ≡ outcome.NoRoot
+        → OfTable (F.bytes_of files.now) arguments.now.table.now
         (λ table. LacksRoot table arguments.now.root.now) }
     ensures no_root_line { result ≡ outcome.NoRoot
         → IfSome (no_root_line arguments.now.table.now arguments.now.root.now)
@@ -92,8 +99,8 @@ fn run_decode<F: Files, W: Write, E: Write>(
         errors.old.failure errors.new.failure }
     ensures front { result ≡ outcome.Unwritten
         → W.contents out.new.writer ≡ W.contents out.old.writer
-        ⊎ OfTable (F.bytes_of files.now) arguments.now (λ table. (line : List ℕ)
-        × IsGivenText arguments.now table line
+        ⊎ OfTable (F.bytes_of files.now) arguments.now.table.now
+        (λ table. (line : List ℕ) × IsMessageText arguments.now table line
         × AppendsFront (W.contents out.old.writer) (W.contents out.new.writer) line) }
     ensures out { result ≢ outcome.Done → result ≢ outcome.Unwritten
         → W.contents out.new.writer ≡ W.contents out.old.writer }
@@ -112,6 +119,47 @@ fn run_decode<F: Files, W: Write, E: Write>(
     decode(alloc, &file, &arguments.message(), out, errors)
 }
 
+/// Reads the table's file, and prints its records.
+fn run_table<F: Files, W: Write, E: Write>(
+    alloc: Global,
+    name: &str,
+    files: &F,
+    out: &mut Output<W>,
+    errors: &mut Output<E>,
+) -> Outcome
+    ensures ends { CanEndTableRun result }
+    ensures done { result ≡ outcome.Done → OfTable (F.bytes_of files.now) name.now
+        (λ table. AppendsOne (IsListing table)
+        (W.contents out.old.writer) (W.contents out.new.writer)) }
+    ensures refused { result ≡ outcome.Refused → OfTable (F.bytes_of files.now) name.now
+        (λ table. AppendsOne (IsTableRefusal table)
+        (E.contents errors.old.writer) (E.contents errors.new.writer)) }
+    ensures no_file { result ≡ outcome.NoFile → F.bytes_of files.now name.now ≡ None }
+    ensures memory_line { result ≡ outcome.NoMemory
+        → Appends (E.contents errors.old.writer) (E.contents errors.new.writer) no_memory_line }
+    ensures unwritten { ReportsFailures result out.old.failure out.new.failure
+        errors.old.failure errors.new.failure }
+    ensures front { result ≡ outcome.Unwritten
+        → W.contents out.new.writer ≡ W.contents out.old.writer
+        ⊎ OfTable (F.bytes_of files.now) name.now (λ table. (line : List ℕ)
+        × IsListing table line
+        × AppendsFront (W.contents out.old.writer) (W.contents out.new.writer) line) }
+    ensures out { result ≢ outcome.Done → result ≢ outcome.Unwritten
+        → W.contents out.new.writer ≡ W.contents out.old.writer }
+    ensures errors { result ≡ outcome.Done
+        → E.contents errors.new.writer ≡ E.contents errors.old.writer }
+{
+    let bytes = match files.read(alloc, name) {
+        Ok(bytes) => bytes,
+        Err(error) => return tell_no_file(name, &error, errors),
+    };
+    let file = File {
+        name,
+        bytes: bytes.as_slice(),
+    };
+    table(&file, out, errors)
+}
+
 /// Runs the command that the words of a command line name; the first word is the program's name.
 pub fn run<S: AsStr, F: Files, W: Write, E: Write>(
     alloc: Global,
@@ -121,17 +169,17 @@ pub fn run<S: AsStr, F: Files, W: Write, E: Write>(
     errors: &mut Output<E>,
 ) -> Outcome
     ensures done { result ≡ outcome.Done → Gives (map S.text words.now)
-        (λ given. OfTable (F.bytes_of files.now) given
+        (λ given. OfTable (F.bytes_of files.now) (file_of given)
         (λ table. AppendsOne (IsGivenText given table)
         (W.contents out.old.writer) (W.contents out.new.writer))) }
     ensures refused { result ≡ outcome.Refused → Gives (map S.text words.now)
-        (λ given. OfTable (F.bytes_of files.now) given
+        (λ given. OfTable (F.bytes_of files.now) (file_of given)
         (λ table. AppendsOne (IsGivenRefusal given table)
         (E.contents errors.old.writer) (E.contents errors.new.writer))) }
     ensures no_root { result ≡ outcome.NoRoot → Gives (map S.text words.now)
-        (λ given. OfTable (F.bytes_of files.now) given (λ table. LacksRoot table given.root.now)) }
+        (LacksGivenRoot (F.bytes_of files.now)) }
     ensures no_file { result ≡ outcome.NoFile → Gives (map S.text words.now)
-        (λ given. F.bytes_of files.now given.table.now ≡ None) }
+        (λ given. F.bytes_of files.now (file_of given) ≡ None) }
     ensures asked { result ≡ outcome.Asked → GivesNone (map S.text words.now) outcome.Asked
         (λ unread. Appends (W.contents out.old.writer) (W.contents out.new.writer)
         (text_of unread)) }
@@ -143,7 +191,8 @@ pub fn run<S: AsStr, F: Files, W: Write, E: Write>(
         errors.old.failure errors.new.failure }
 {
     match read_arguments(alloc, words) {
-        Ok(arguments) => run_decode(alloc, &arguments, files, out, errors),
+        Ok(Arguments::Decode(arguments)) => run_decode(alloc, &arguments, files, out, errors),
+        Ok(Arguments::Table(name)) => run_table(alloc, name, files, out, errors),
         Err(unread) => tell(&unread, out, errors),
     }
 }

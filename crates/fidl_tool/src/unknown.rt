@@ -25,7 +25,7 @@ fn write_hex_byte<W: Write>(byte: u8, out: &mut Output<W>) -> Result<(), Failed>
 }
 
 /// Writes bytes, each by its two hex digits.
-fn write_hex<W: Write>(bytes: &[u8], out: &mut Output<W>) -> Result<(), Failed>
+pub(crate) fn write_hex<W: Write>(bytes: &[u8], out: &mut Output<W>) -> Result<(), Failed>
     ensures text { Writes (W.contents out.old.writer) (W.contents out.new.writer)
         (flat_map hex_byte bytes.now) result }
     ensures kept { OnOk result (out.new.failure ≡ out.old.failure) }

@@ -88,7 +88,9 @@ impl Unread {
             Unread::Asked { .. } => "",
             Unread::Wrong { line } => line.as_str(),
             Unread::NotText => "error: the arguments: UTF-8 is wanted",
-            Unread::Missing => "error: the arguments: decode TABLE ROOT HEX is wanted",
+            Unread::Missing => {
+                "error: the arguments: decode TABLE ROOT HEX or table TABLE is wanted"
+            }
             Unread::BadHex => "error: HEX: an even number of hexadecimal digits is wanted",
             Unread::BadHandle => {
                 "error: --handle: three decimal numbers of 32 bits are wanted, as in 1:3:0"

@@ -3,7 +3,7 @@ use Rattle.clap.specs.Words.{App, Rule, app_of, rule_of}
 use Rattle.clap.specs.Simple.{app_of_fields, new_shape}
 use Rattle.clap.specs.declared.builder.arg.Arg.{Arg}
 use Rattle.clap.specs.declared.builder.action.ArgAction.TheVariants.{Append}
-use Rattle.fidl_tool.specs.CommandLine.{program, handle_option}
+use Rattle.fidl_tool.specs.CommandLine.{program, decode_command, handle_option}
 use Rattle.fidl_tool.proofs.Commands.{if_ok, added, still_local}
 use Rattle.fidl_tool.proofs.arguments.command_line.Goals as goal
 
@@ -29,8 +29,13 @@ returns c =
     let none-2 = still_local _ _ _ c.in_ok-arg-2.ensures.globals none-1 c.required.ensures.local in
     let none-3 = still_local _ _ _ c.in_ok-arg-3.ensures.globals none-2 c.required-2.ensures.local in
     let none-4 = still_local _ _ _ c.in_ok-decode.ensures.globals none-3 c.required-3.ensures.local in
+    let table = added _ _ _ _ _ c.in_ok-table.ensures c.required-4.ensures.local c.required-4.ensures.rule (ap app_of_fields c.about-2.ensures ∙ c.new-3.ensures.app) in
+    let none-5 = still_local _ _ _ c.in_ok-table.ensures.globals (ap (λ f. f.has_globals) c.about-2.ensures ∙ c.new-3.ensures.local) c.required-4.ensures.local in
     let whole : app_of c.subcommand_required.result ≡ record { top = record (new_shape (codes "fidl")) { has_version = true; subcommand_required = true }; subs = [] } = ap app_of_fields c.subcommand_required.ensures
-    ∙ ap (λ (x : App). record x { top = record x.top { subcommand_required = true } }) (ap app_of_fields c.about-2.ensures ∙ ap app_of_fields c.version.ensures
-    ∙ ap (λ (x : App). record x { top = record x.top { has_version = true } }) (ap app_of_fields c.in_ok-bin_name.ensures.0 ∙ c.new-3.ensures.app)) in
-    if_ok _ _ c.subcommand.result (λ r h. h.shape none-4 ∙ ap (λ (x : App). record { top = record x.top { is_leaf = false }; subs = x.subs ++ (app_of c.in_ok-decode.decode).top ∷ [] }) whole
-    ∙ ap (λ (x : App). record program { subs = x.top ∷ [] }) four) c.subcommand.ensures
+    ∙ ap (λ (x : App). record x { top = record x.top { subcommand_required = true } }) (ap app_of_fields c.about-3.ensures ∙ ap app_of_fields c.version.ensures
+    ∙ ap (λ (x : App). record x { top = record x.top { has_version = true } }) (ap app_of_fields c.in_ok-bin_name.ensures.0 ∙ c.new-4.ensures.app)) in
+    let first : app_of c.in_ok-subcommand.field-0 ≡ record program { subs = decode_command ∷ [] } = c.in_ok-subcommand.ensures.shape none-4
+    ∙ ap (λ (x : App). record { top = record x.top { is_leaf = false }; subs = x.subs ++ (app_of c.in_ok-decode.decode).top ∷ [] }) whole
+    ∙ ap (λ (x : App). record program { subs = x.top ∷ [] }) four in
+    if_ok _ _ c.subcommand-2.result (λ r h. h.shape none-5 ∙ ap (λ (x : App). record { top = record x.top { is_leaf = false }; subs = x.subs ++ (app_of c.in_ok-table.table).top ∷ [] }) first
+    ∙ ap (λ (x : App). record program { subs = decode_command ∷ x.top ∷ [] }) table) c.subcommand-2.ensures

@@ -5,10 +5,10 @@ use Rattle.clap.specs.declared.error.kind.ErrorKind.{ErrorKind}
 use Rattle.clap.specs.declared.error.kind.ErrorKind.TheVariants as kinds
 use Rattle.clap.specs.Words.{App, Row, Text, found_of, rows_of, HasMatchesOf, takes}
 use Rattle.fidl_tool.specs.Arguments.{IsNoDecode, IsUngiven, IsToldByKind}
-use Rattle.fidl_tool.specs.CommandLine.{program, GivesDecode}
+use Rattle.fidl_tool.specs.CommandLine.{program, GivesDecode, GivesTable}
 use Rattle.fidl_tool.specs.declared.unread.Unread.{Unread}
 use Rattle.fidl_tool.specs.declared.unread.Unread.TheVariants.{Asked, Wrong, NotText, Missing, BadHex, BadHandle, Memory}
-use Rattle.fidl_tool.proofs.Commands.{if_ok, if_err, both_of}
+use Rattle.fidl_tool.proofs.Commands.{both_of}
 use Rattle.fidl_tool.proofs.arguments.read_arguments.Goals as goal
 
 -- bad values are those of the words
@@ -16,7 +16,7 @@ badly : (words : List Text) (rows : List Row) (u : Unread) → GivesDecode words
 badly words rows (Asked text) e h = absurd h
 badly words rows (Wrong line) e h = absurd h
 badly words rows NotText e h = absurd h
-badly words rows Missing e h = inr (record { rows = rows; entered = e; fails = h })
+badly words rows Missing e h = inr (inl (record { rows = rows; entered = e; fails = h }))
 badly words rows BadHex e h = record { rows = rows; entered = e; fails = h }
 badly words rows BadHandle e h = record { rows = rows; entered = e; fails = h }
 badly words rows Memory e h = tt
@@ -36,20 +36,6 @@ refused words kind BadHex passes h = absurd h
 refused words kind BadHandle passes h = absurd h
 refused words kind Memory passes h = tt
 
-pub returns-in-Some-clause-ok : goal.returns-in-Some-clause-ok
-returns-in-Some-clause-ok g c =
-    let words = map g.S.AsStr.text c.args.words.now in
-    let met = (subst (λ (a : App). HasMatchesOf a words c.in-Ok.matches) c.in_ok-command_line.ensures c.in-Ok.ensures.matches) refl in
-    let entered : GivesDecode words (rows_of (found_of c.in-Some.matches.now)) = sym met.1 ∙ both_of _ _ _ _ _ (c.in-Some.ensures.found.0 refl) c.in-Some.ensures.rows in
-    if_ok _ _ c.read_decode.result (λ given h. record { rows = rows_of (found_of c.in-Some.matches.now); entered = entered; decode = h }) c.read_decode.ensures.ok
-
-pub returns-in-Some-clause-err : goal.returns-in-Some-clause-err
-returns-in-Some-clause-err g c =
-    let words = map g.S.AsStr.text c.args.words.now in
-    let met = (subst (λ (a : App). HasMatchesOf a words c.in-Ok.matches) c.in_ok-command_line.ensures c.in-Ok.ensures.matches) refl in
-    let entered : GivesDecode words (rows_of (found_of c.in-Some.matches.now)) = sym met.1 ∙ both_of _ _ _ _ _ (c.in-Some.ensures.found.0 refl) c.in-Some.ensures.rows in
-    if_err _ _ c.read_decode.result (λ u h. badly words (rows_of (found_of c.in-Some.matches.now)) u entered h) c.read_decode.ensures.err
-
 pub returns-in-Err-clause-err : goal.returns-in-Err-clause-err
 returns-in-Err-clause-err g c =
     let words = map g.S.AsStr.text c.args.words.now in
@@ -59,3 +45,23 @@ pub returns-in_err-command_line-clause-err : goal.returns-in_err-command_line-cl
 returns-in_err-command_line-clause-err g c =
     let p = err_from_is_err_and c.from_residual.result c.from_residual.ensures.1 in
     rw (p.1, p.2) tt
+
+pub returns-in_err-read_decode-clause-err : goal.returns-in_err-read_decode-clause-err
+returns-in_err-read_decode-clause-err g c =
+    let words = map g.S.AsStr.text c.args.words.now in
+    let rows = rows_of (found_of c.in-Some.matches.now) in
+    let met = (subst (λ (a : App). HasMatchesOf a words c.in-Ok.matches) c.in_ok-command_line.ensures c.in-Ok.ensures.matches) refl in
+    let entered : GivesDecode words rows = sym met.1 ∙ both_of _ _ _ _ _ (c.in-Some.ensures.found.0 refl) c.in-Some.ensures.rows in
+    let p = err_from_is_err_and c.from_residual-in_err-read_decode.result c.from_residual-in_err-read_decode.ensures.1 in
+    rw (p.1, p.2) (badly words rows c.in_err-read_decode.field-0.0 entered c.in_err-read_decode.ensures.err)
+
+pub returns-in_err-read_table-in-Some-subcommand_matches-clause-err : goal.returns-in_err-read_table-in-Some-subcommand_matches-clause-err
+returns-in_err-read_table-in-Some-subcommand_matches-clause-err g c =
+    let words = map g.S.AsStr.text c.args.words.now in
+    let found = c.in-Some-subcommand_matches in
+    let rows = rows_of (found_of found.matches.now) in
+    let met = (subst (λ (a : App). HasMatchesOf a words c.in-Ok.matches) c.in_ok-command_line.ensures c.in-Ok.ensures.matches) refl in
+    let entered : GivesTable words rows = sym met.1 ∙ both_of _ _ _ _ _ (found.ensures.found.0 refl) found.ensures.rows in
+    let h = c.in_err-read_table-in-Some-subcommand_matches.ensures.err in
+    let p = err_from_is_err_and (c.from_residual-in_err-read_table-in-Some-subcommand_matches).result (c.from_residual-in_err-read_table-in-Some-subcommand_matches).ensures.1 in
+    rw (p.1, p.2) (subst (λ (u : Unread). IsUngiven words u) (sym h.0) (inr (inr (rows, entered, h.1))))
