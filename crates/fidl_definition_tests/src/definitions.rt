@@ -1,27 +1,39 @@
 //! The definitions of small sources, beside those that are written here by hand.
+ghost use Rattle.std.specs.Prelude.{◌≡◌};
+ghost use Rattle.fidl_const.specs.Tables.{AreConsts};
+ghost use Rattle.fidl_layouts.specs.FormViews.{seen_forms};
+ghost use Rattle.fidl_terms.specs.Numbers.{all_forms};
+ghost use Rattle.fidl_terms.specs.NumberViews.{AreNumbers};
+
 use crate::words::definition_text;
-use fidl_const::evaluate;
+use fidl_const::{Consts, evaluate};
 use fidl_definitions::definitions;
-use fidl_layouts::forms;
-use fidl_terms::{Sources, layout_numbers};
+use fidl_layouts::{Form, forms};
+use fidl_names::Named;
+use fidl_terms::{LayoutNumbers, Sources, layout_numbers};
 use fidl_test_sources::{named, trees};
 use std::alloc::Global;
 use std::process::Abort;
 use std::test::Fail;
 
-/// The definitions of sources, each with `; ` behind it; `none` where they have none.
-fn found(alloc: Global, texts: &[&[u8]]) -> Result<String, Fail> {
-    let files = trees(alloc, texts)?;
-    let named = named(alloc, &files)?;
-    let consts = evaluate(alloc, &named)?;
-    let all = forms(alloc, &named)?;
-    let numbers = layout_numbers(alloc, &all)?;
+/// The definitions of files, each with `; ` behind it; `none` where they have none.
+fn listed(
+    alloc: Global,
+    named: &Named<'_, '_>,
+    consts: &Consts,
+    forms: &[Form<'_, '_>],
+    numbers: &LayoutNumbers,
+) -> Result<String, Fail>
+    requires consts { AreConsts named.now consts.now }
+    requires forms { seen_forms forms.now ≡ all_forms named.now }
+    requires numbers { AreNumbers (all_forms named.now) numbers.now }
+{
     let sources = Sources {
         alloc,
-        named: &named,
-        consts: &consts,
-        forms: &all,
-        numbers: &numbers,
+        named,
+        consts,
+        forms,
+        numbers,
     };
     let Some(list) = definitions(&sources)? else {
         return Ok(format!(in alloc; "none")?);
@@ -32,6 +44,16 @@ fn found(alloc: Global, texts: &[&[u8]]) -> Result<String, Fail> {
         text = format!(in alloc; "{text}{one}; ")?;
     }
     Ok(text)
+}
+
+/// The definitions of sources, as `listed` writes them.
+fn found(alloc: Global, texts: &[&[u8]]) -> Result<String, Fail> {
+    let files = trees(alloc, texts)?;
+    let named = named(alloc, &files)?;
+    let consts = evaluate(alloc, &named)?;
+    let all = forms(alloc, &named)?;
+    let numbers = layout_numbers(alloc, &all)?;
+    listed(alloc, &named, &consts, &all, &numbers)
 }
 
 /// A source has these definitions.

@@ -1,14 +1,42 @@
 //! Tests of uses of types: what is refused, and where, and what is not.
-use fidl_const::evaluate;
-use fidl_layouts::forms;
+ghost use Rattle.std.specs.Prelude.{◌≡◌};
+ghost use Rattle.fidl_const.specs.Tables.{AreConsts};
+ghost use Rattle.fidl_layouts.specs.FormViews.{seen_forms};
+ghost use Rattle.fidl_terms.specs.Numbers.{all_forms};
+ghost use Rattle.fidl_terms.specs.NumberViews.{AreNumbers};
+
+use fidl_const::{Consts, evaluate};
+use fidl_layouts::{Form, forms};
+use fidl_names::Named;
 use fidl_span::line_col;
-use fidl_terms::{Sources, layout_numbers};
+use fidl_terms::{LayoutNumbers, Sources, layout_numbers};
 use fidl_test_cases::{Answer, cases};
 use fidl_test_sources::{named, trees};
 use fidl_uses::{UseFault, check_uses};
 use std::alloc::Global;
 use std::process::Abort;
 use std::test::Fail;
+
+/// Checks the types of files.
+fn checked(
+    alloc: Global,
+    named: &Named<'_, '_>,
+    consts: &Consts,
+    forms: &[Form<'_, '_>],
+    numbers: &LayoutNumbers,
+) -> Result<(), UseFault>
+    requires consts { AreConsts named.now consts.now }
+    requires forms { seen_forms forms.now ≡ all_forms named.now }
+    requires numbers { AreNumbers (all_forms named.now) numbers.now }
+{
+    check_uses(&Sources {
+        alloc,
+        named,
+        consts,
+        forms,
+        numbers,
+    })
+}
 
 /// What checking the types of these sources answers.
 fn refusal(alloc: Global, sources: &[&[u8]]) -> Result<Answer<'static>, Fail> {
@@ -17,14 +45,7 @@ fn refusal(alloc: Global, sources: &[&[u8]]) -> Result<Answer<'static>, Fail> {
     let consts = evaluate(alloc, &named)?;
     let forms = forms(alloc, &named)?;
     let numbers = layout_numbers(alloc, &forms)?;
-    let known = Sources {
-        alloc,
-        named: &named,
-        consts: &consts,
-        forms: &forms,
-        numbers: &numbers,
-    };
-    let (name, place) = match check_uses(&known) {
+    let (name, place) = match checked(alloc, &named, &consts, &forms, &numbers) {
         Ok(()) => return Ok(None),
         Err(UseFault::BadConstraint { place }) => ("BadConstraint", place),
         Err(UseFault::BadBox { place }) => ("BadBox", place),
