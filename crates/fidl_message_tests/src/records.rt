@@ -1,4 +1,4 @@
-use fidl_table::{
+use fidl_records::{
     Entry, EntryKind, Header, Root, Row, name_bytes, read_entry, read_header, read_root, read_row,
 };
 

@@ -22,8 +22,10 @@ fn push_parts(text: &mut Vec<u8>, file: &File<'_>, parts: &[PathPart]) -> Result
     Ok(())
 }
 
-/// The full name of a declaration: the library's name, a slash and its own.
-fn declared_name(alloc: Global, file: &File<'_>, name: Span) -> Result<Vec<u8>, AllocError>
+/// The full name of a declaration, by the place of its name in the file: `library.name/Name`.
+///
+/// `AllocError`: memory ran out.
+pub fn declared_name(alloc: Global, file: &File<'_>, name: Span) -> Result<Vec<u8>, AllocError>
     ensures { IfOk result (λ text. text.items
         ≡ name_by_path (file_view file.now) (Steps.Name name ∷ [])) }
 {

@@ -12,6 +12,6 @@ mod texts;
 pub mod worked;
 
 pub use fault::MethodFault;
-pub use full_name::method_full_name;
+pub use full_name::{declared_name, method_full_name};
 pub use laws::{refused_methods_break_a_rule, the_ordinal_of_a_method_is_one};
 pub use methods::{OwnMethod, own_methods};

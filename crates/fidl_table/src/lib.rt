@@ -1,7 +1,17 @@
-//! The coding table, as its users know it: the readers of its records (docs/table.md).
+//! The coding table, as its users know it: the readers of its records, and the writer
+//! (docs/table.md).
 #![tactic(auto)]
 
+mod definitions;
+mod found;
+mod methods;
+mod protocols;
+mod roots;
+mod writing;
+
 pub use fidl_records::{
-    Entry, EntryKind, HEADER_SIZE, Header, Root, Row, is_less, name_bytes, number_bits, read_entry,
-    read_header, read_root, read_row, read_value, u16_at, u32_at, u64_at,
+    Entry, EntryKind, HEADER_SIZE, Header, MethodRecord, ProtocolRecord, Root, Row, is_less,
+    name_bytes, number_bits, read_entry, read_header, read_method, read_protocol, read_root,
+    read_row, read_value, u16_at, u32_at, u64_at,
 };
+pub use writing::write_table;

@@ -1,0 +1,152 @@
+-- What an assembled table shows of the library whose listing it was made from.
+use Rattle.std.proofs.Common.{◌≡◌, ◌∙◌, ◌<◌, ℕ, List, Some, map, ap, sym, subst}
+use Rattle.std.specs.Prelude.{slice_get}
+use Rattle.std.specs.Global.{Vec}
+use Rattle.fidl_tree.specs.declared.file.File.{File}
+use Rattle.fidl_wire.specs.Term.{Term}
+use Rattle.fidl_wire.specs.Term as ty
+use Rattle.fidl_wire.specs.Figure.{Figure, Declarations}
+use Rattle.fidl_term.specs.Terms.{seen_definitions}
+use Rattle.fidl_alike.proofs.Levels.{alike_types, numbered_types}
+use Rattle.fidl_records.specs.Section.{header_of, root_at, method_at}
+use Rattle.fidl_records.specs.Root.{root_name}
+use Rattle.fidl_records.specs.Method.{method_number}
+use Rattle.fidl_records.specs.Terms.{declarations_of}
+use Rattle.fidl_records.specs.WellFormed.{WellFormed}
+use Rattle.fidl_verify.specs.declared.method.Payload.{Payload}
+use Rattle.fidl_verify.specs.Lookups.{request_of, response_of}
+use Rattle.fidl_verify.proofs.Declared.{laid_out}
+use Rattle.fidl_numbered.specs.Numbered.{entry_name, ShowsTypes}
+use Rattle.fidl_assembly.specs.declared.listing.Listing.{Listing}
+use Rattle.fidl_assembly.specs.declared.listing.MethodEntry.{MethodEntry}
+use Rattle.fidl_assembly.specs.declared.listing.ProtocolEntry.{ProtocolEntry}
+use Rattle.fidl_assembly.specs.Assembled.{IsAssembled, names_of}
+use Rattle.fidl_assembly.specs.Roots.{IsEntryOf}
+use Rattle.fidl_assembly.specs.Methods as listing
+use Rattle.fidl_layouts.specs.declared.form.Form.{Form as CodeForm}
+use Rattle.fidl_layouts.specs.FormViews.{seen_forms}
+use Rattle.fidl_terms.specs.Numbers.{all_forms}
+use Rattle.fidl_definitions.proofs.One.{one_definitions}
+use Rattle.fidl_types.specs.Types.{TypesAre}
+use Rattle.fidl_layout.specs.Laid.{AreLaidOut}
+use Rattle.fidl_layout.specs.Roots.{AreRoots, RootAt}
+use Rattle.fidl_compositions.proofs.Lists.{found_at, among}
+use Rattle.fidl_payloads.specs.declared.payload.Payload.{Payload as Carried}
+use Rattle.fidl_payloads.specs.declared.payload.Payload.TheVariants.{Missing, Empty}
+use Rattle.fidl_payloads.specs.declared.payload.Payload.TheVariants as carried
+use Rattle.fidl_protocol.specs.declared.method.Method.{Method}
+use Rattle.fidl_protocol.specs.declared.method.Protocol.{Protocol}
+use Rattle.fidl_protocol.specs.Checked.{AreProtocolsWith}
+use Rattle.fidl_protocol.proofs.Lists.{zip_length}
+use Rattle.fidl_table.specs.Definitions.{definition_names, ShowsDefinition}
+use Rattle.fidl_table.specs.Roots.{IsRootOf, ShowsRoots}
+use Rattle.fidl_table.specs.Protocols.{ShowsPayload, ShowsMethod, ShowsProtocol, ShowsProtocols}
+use Rattle.fidl_table.specs.Shows.{Shows}
+use Rattle.fidl_table.specs.Listed as code
+use Rattle.fidl_table.specs.Listed.{carried_by, IsMethodEntry, IsProtocolEntry, AreListed}
+use Rattle.fidl_table.proofs.Lists.{at_within, zip_at}
+
+-- the declarations of a listing, with these figures
+abbrev pub declared : Listing → List Figure → Declarations
+declared l figures = record { terms = seen_definitions l.definitions.now; figures = figures }
+
+module _ (files : List File) (l : Listing) (figures : List Figure) (bytes : List ℕ) (laid : AreLaidOut files (declared l figures)) (well : WellFormed bytes) (a : IsAssembled l bytes) (names : names_of l ≡ definition_names files) where
+  shows_types : ShowsTypes (declared l figures) a.types bytes
+  shows_types number t at v =
+      let ds = declared l figures in
+      let es = declarations_of bytes in
+      alike_types ds es laid.laid_out (laid_out bytes well) t (ty.named number) (numbered_types ds es a.types (a.entries figures).levels number t at) v
+
+  shows_definition : (i entry : ℕ) → IsEntryOf a.types i entry → ShowsDefinition files (declared l figures) bytes i entry
+  shows_definition i entry at = record {
+    name = subst (λ (ns : List (List ℕ)). slice_get ns i ≡ Some (entry_name bytes entry)) names (a.names entry i at);
+    same = λ v. shows_types entry (ty.named i) at v;
+  }
+
+  root_shown : (k i : ℕ) → slice_get l.roots.now k ≡ Some i → RootAt files i → IsRootOf files (declared l figures) bytes i k
+  root_shown k i at declared =
+      let r = a.roots.each k i at in
+      record {
+        declared = declared;
+        name = subst (λ (ns : List (List ℕ)). slice_get ns i ≡ Some (root_name bytes (header_of bytes) k)) names r.name;
+        entry = shows_definition i (root_at bytes (header_of bytes) k).entry r.entry;
+      }
+
+  roots_shown : AreRoots files l.roots.now → ShowsRoots files (declared l figures) bytes
+  roots_shown are = record {
+    sound = λ root lt.
+        let r = at_within l.roots.now root (subst (λ n. root < n) a.roots.count lt) in
+        (r.0, root_shown root r.0 r.1 (are.sound r.0 (among l.roots.now root r.0 r.1)));
+    complete = λ i h.
+        let c = are.complete i h in
+        (c.0, subst (λ n. c.0 < n) (sym a.roots.count) c.1, root_shown c.0 i (found_at l.roots.now i c) h);
+  }
+
+  payload_shown : (x : Carried) (p : Payload) → listing.ShowsPayload a.types (carried_by x) p → ShowsPayload files (declared l figures) bytes x p
+  payload_shown Missing p h = h
+  payload_shown Empty p h = h
+  payload_shown (carried.«Type» i) p h = (h.0, h.1, shows_definition i h.0 h.2)
+
+  method_shown : (m : Method) (e : MethodEntry) (number : ℕ) → IsMethodEntry files m e → listing.ShowsMethod a.types bytes e number → ShowsMethod files (declared l figures) bytes m number
+  method_shown m e number is s =
+      let r = method_at bytes (header_of bytes) number in
+      record {
+        ordinal = s.ordinal ∙ is.ordinal;
+        name = λ f openness protocol members h. s.name ∙ is.name f openness protocol members h;
+        strict = s.strict ∙ is.strict;
+        request = payload_shown m.payloads.request (request_of r) (subst (λ c. listing.ShowsPayload a.types c (request_of r)) is.request s.request);
+        response = payload_shown m.payloads.response (response_of r) (subst (λ c. listing.ShowsPayload a.types c (response_of r)) is.response s.response);
+      }
+
+  protocol_shown : (p : Protocol) (e : ProtocolEntry) (number : ℕ) → slice_get l.protocols.now number ≡ Some e → IsProtocolEntry files p e → ShowsProtocol files (declared l figures) bytes p number
+  protocol_shown p e number at is =
+      let s = a.protocols.each number e at in
+      record {
+        head = λ f openness name members h.
+            let x = is.head f openness name members h in
+            (s.name ∙ x.0, s.openness ∙ x.1);
+        count = s.count ∙ sym (zip_length (IsMethodEntry files) p.methods.items e.methods.items is.methods);
+        methods = λ k m there.
+            let z = zip_at (IsMethodEntry files) p.methods.items e.methods.items k m is.methods there in
+            method_shown m z.0 (method_number bytes (header_of bytes) number k) z.2 (s.methods k z.0 z.1);
+      }
+
+  protocols_shown : (ps : List Protocol) → AreProtocolsWith files ps → AreListed files ps l.protocols.now → ShowsProtocols files (declared l figures) bytes
+  protocols_shown ps are listed = record {
+    protocols = ps;
+    are = are;
+    sound = λ number lt.
+        let e = at_within l.protocols.now number (subst (λ n. number < n) a.protocols.count lt) in
+        let p = listed.sound e.0 (among l.protocols.now number e.0 e.1) in
+        (p.0, p.1, protocol_shown p.0 e.0 number e.1 p.2);
+    complete = λ p there.
+        let e = listed.complete p there in
+        (e.1.0, subst (λ n. e.1.0 < n) (sym a.protocols.count) e.1.1, protocol_shown p e.0 e.1.0 (found_at l.protocols.now e.0 e.1) e.2);
+  }
+
+  pub shown : AreRoots files l.roots.now → (ps : List Protocol) → AreProtocolsWith files ps → AreListed files ps l.protocols.now → Shows files bytes
+  shown roots ps are listed = record {
+    declarations = declared l figures;
+    laid_out = laid;
+    roots = roots_shown roots;
+    protocols = protocols_shown ps are listed;
+  }
+
+-- the same where figures are those of some declarations that are laid out
+declared_laid : (files : List File) (l : Listing) (ds : Declarations) → AreLaidOut files ds → TypesAre files (seen_definitions l.definitions.now) → AreLaidOut files (declared l ds.figures)
+declared_laid files l ds laid types =
+    subst (λ (ts : List Term). AreLaidOut files (record { terms = ts; figures = ds.figures }))
+    (one_definitions files ds.terms (seen_definitions l.definitions.now) laid.checked.definitions types.definitions)
+    laid
+
+-- the files of one library, however they were reached
+pub written : (files laid types named : List File) → laid ≡ files → types ≡ laid → named ≡ types → (l : Listing) (ds : Declarations) (bytes : List ℕ) (names : List (Vec ℕ)) (roots : List ℕ) (es : List ProtocolEntry) (ps : List Protocol) (forms : List CodeForm) → AreLaidOut laid ds → TypesAre types (seen_definitions l.definitions.now) → map (λ (v : Vec ℕ). v.items) names ≡ code.names_of (seen_forms forms) → seen_forms forms ≡ all_forms types → AreRoots types roots → AreProtocolsWith files ps → AreListed named ps es → l.names.now ≡ names → l.roots.now ≡ roots → l.protocols.now ≡ es → WellFormed bytes → IsAssembled l bytes → Shows files bytes
+written files laid types named one two three l ds bytes names roots es ps forms held defined called all are kept listed to_names to_roots to_entries well assembled =
+    let to_types = two ∙ one in
+    let to_named = three ∙ to_types in
+    let figures = subst (λ (fs : List File). AreLaidOut fs ds) one held in
+    let terms = subst (λ (fs : List File). TypesAre fs (seen_definitions l.definitions.now)) to_types defined in
+    let its_names : names_of l ≡ definition_names files = ap (map (λ (v : Vec ℕ). v.items)) to_names ∙ called ∙ ap code.names_of all ∙ ap definition_names to_types in
+    let its_roots = subst (AreRoots files) (sym to_roots) (subst (λ (fs : List File). AreRoots fs roots) to_types are) in
+    let its_entries = subst (AreListed files ps) (sym to_entries) (subst (λ (fs : List File). AreListed fs ps es) to_named listed) in
+    shown files l ds.figures bytes (declared_laid files l ds figures terms) well assembled its_names its_roots ps kept its_entries

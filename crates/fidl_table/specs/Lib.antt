@@ -1,0 +1,11 @@
+-- What a written table shows of its library, in the order in which to read it:
+--   Definitions  the entries of definitions, by name and by what their values are
+--   Roots        the roots
+--   Protocols    protocols and their methods
+--   Shows        the whole table
+-- Listed is of the code alone: methods and protocols on the way to a table.
+pub mod Definitions
+pub mod Roots
+pub mod Protocols
+pub mod Shows
+pub mod Listed

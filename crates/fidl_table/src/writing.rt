@@ -1,0 +1,39 @@
+//! The table of a checked library.
+ghost use Rattle.std.specs.Prelude.{IfOk};
+ghost use Rattle.fidl_records.specs.WellFormed.{WellFormed};
+ghost use Rattle.fidl_table.specs.Shows.{Shows};
+
+use crate::definitions::definition_names;
+use crate::protocols::protocol_entries;
+use crate::roots::sorted_roots;
+use fidl_assembly::{Listing, assemble};
+use fidl_protocol::Checked;
+use std::alloc::{AllocError, Global};
+
+/// The bytes of the coding table of a checked library (docs/table.md, "What is written"): its roots
+/// are the declared types, by name; its protocols are all, by name, each with its methods by
+/// ordinal.
+///
+/// `AllocError`: memory ran out, or the table has more names, protocols or methods than its fields
+/// of four bytes count.
+pub fn write_table(alloc: Global, checked: &Checked<'_, '_>) -> Result<Vec<u8>, AllocError>
+    ensures well_formed { IfOk result (λ table. WellFormed table.items) }
+    ensures shows { IfOk result (λ table. Shows checked.now table.items) }
+{
+    let laid = checked.laid();
+    // Its contract has the figures of all definitions, which are within the limits.
+    let _figure = laid.figure(0);
+    let types = laid.types();
+    let names = definition_names(alloc, types.forms())?;
+    let roots = sorted_roots(alloc, types, &names)?;
+    let protocols = protocol_entries(alloc, types.named(), checked.protocols())?;
+    let listing = Listing {
+        definitions: types.definitions(),
+        figures: laid.figures(),
+        names: &names,
+        roots: &roots,
+        protocols: &protocols,
+    };
+    let table = assemble(alloc, &listing)?;
+    Ok(table)
+}
