@@ -1,0 +1,5 @@
+//! Tests of the tables of checked libraries.
+#![tactic(auto)]
+
+#[cfg(test)]
+mod written;
