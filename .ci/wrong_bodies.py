@@ -124,7 +124,8 @@ class Trial:
         told = [it for it in lines if re.match(r"(\./)?\S+:\d+:\d+: error", it)]
         names = r"(\./)?proofs/.*(has no field|is not in scope|has no `|was not admitted)"
         first = next((it for it in told if not re.match(names, it)), "")
-        return status == 1 and bool(found) and int(found[2]) < int(found[1]), first[:160]
+        by = f"a proof names what the edit took away, which says little of the contract: {told[0]}" if told and not first else first
+        return status == 1 and bool(found) and int(found[2]) < int(found[1]), by[:160]
 
     def run(self):
         """Tries all, and returns for each whether it is refused, and what to say."""

@@ -14,8 +14,9 @@ use std::alloc::{AllocError, Global};
 /// are the declared types, by name; its protocols are all, by name, each with its methods by
 /// ordinal.
 ///
-/// `AllocError`: memory ran out, or the table has more names, protocols or methods than its fields
-/// of four bytes count.
+/// `AllocError`: memory ran out, or the library has no table: more names, protocols or methods than
+/// fields of four bytes count, or a name that is no identifier, which no parsed file has. That other
+/// libraries get their table is tested, and not proved.
 pub fn write_table(alloc: Global, checked: &Checked<'_, '_>) -> Result<Vec<u8>, AllocError>
     ensures well_formed { IfOk result (λ table. WellFormed table.items) }
     ensures shows { IfOk result (λ table. Shows checked.now table.items) }
