@@ -12,8 +12,8 @@ changes (.ci/wrong_bodies.py), which takes seconds where a check of the crate ta
                         to .ci/tried what it tried of them
     .ci/run --whole     `rt ci` as it is, with every wrong body over its whole crate; where all passes it writes .ci/tried anew
 
-It prints first which wrong bodies it does not try again. After rt ci it tries the programs that must not compile
-(.ci/must_not_compile.py). Its last line but one says how long it took, and the last is rt ci's: `N passed, M failed`.
+It prints first which wrong bodies it does not try again. After rt ci it runs the examples of the documents (.ci/examples.py)
+and tries the programs that must not compile (.ci/must_not_compile.py). Its last line but one says how long it took, and the last is rt ci's: `N passed, M failed`.
 
 A line of .ci/tried is `NAME KEY KIT`: every wrong body of the crate was refused at that key. The key is a sum of the
 toolchain, of HANDLES, of the crate's line in crates.txt, of its sources and wrong bodies, and of the lines and
@@ -30,10 +30,13 @@ import time
 
 sys.dont_write_bytecode = True
 sys.path.insert(0, os.path.dirname(os.path.realpath(__file__)))
+import examples  # noqa: E402
 import must_not_compile  # noqa: E402
 import wrong_bodies  # noqa: E402
 
 PARTS = ("src", "specs", "proofs")
+# The crate of the program that the documents' examples run.
+PROGRAM = "fidl"
 
 
 def digest(path):
@@ -207,6 +210,8 @@ def run(repository, mode, names=()):
     with tempfile.TemporaryDirectory(prefix="gate-") as room:
         repository.copy(room, now if by_function else kept, asked)
         status, last = rt_ci(room)
+        if not status and not names and not examples.run(room, f"{room}/crates/{PROGRAM}/out/{PROGRAM}"):
+            status, last = 1, "0 passed, 1 failed"
         if not status and by_function:
             repository.copy_edits(room, wanted)
             status, last = tried_by_function(room, wanted, last)

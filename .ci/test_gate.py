@@ -209,6 +209,32 @@ class GateTest(unittest.TestCase):
         status, lines = self.run_with(None, 'case $1 in try) exit 1;; ci) echo "9 passed, 0 failed";; esac')
         self.assertEqual((status, lines[-1]), (1, "0 passed, 1 failed"))
 
+    def run_with_example(self, text, program="echo $1; exit $2"):
+        """Runs the gate with a README that has this text, and a program of this script."""
+        self.write("README.md", text)
+        self.write("examples/a", "a\n")
+        made = f"mkdir -p crates/fidl/out; printf '#!/bin/sh\\n{program}\\n' > crates/fidl/out/fidl"
+        return self.run_with(None, f'case $1 in ci) {made}; echo "9 passed, 0 failed";; esac')
+
+    def test_an_example_that_prints_what_stands_there(self):
+        status, lines = self.run_with_example("Text:\n\n    $ ./fidl one\n    one\n    $ ./fidl two 3\n    # status 3\n    two\n\nText\n")
+        self.assertEqual((status, lines[-1]), (0, "9 passed, 0 failed"))
+        self.assertEqual(lines[-4:-2], [f"gate: README.md:{at}: prints what stands there: ./fidl {it}" for at, it in ((3, "one"), (5, "two 3"))])
+
+    def test_an_example_that_prints_something_else_fails_it(self):
+        for text in ("    $ ./fidl one\n    two\n", "    $ ./fidl one\n", "    $ ./fidl one 1\n    one\n"):
+            status, lines = self.run_with_example(text)
+            self.assertEqual((status, lines[-1]), (1, "0 passed, 1 failed"))
+
+    def test_an_example_reads_the_examples(self):
+        status, lines = self.run_with_example("    $ ./fidl examples/a\n    a\n", "cat $1")
+        self.assertEqual((status, lines[-1]), (0, "9 passed, 0 failed"))
+
+    def test_an_example_without_a_program_fails_it(self):
+        self.write("README.md", "    $ ./fidl one\n    one\n")
+        status, lines = self.run_with(None, 'case $1 in ci) echo "9 passed, 0 failed";; esac')
+        self.assertEqual((status, lines[-1]), (1, "0 passed, 1 failed"))
+
     def test_each_toolchain_has_a_record_of_its_own(self):
         one, other = gate.Repository(self.root, "one", "kit-one"), gate.Repository(self.root, "other", "kit-other")
         one.record(one.keys())

@@ -8,6 +8,7 @@ use std::test::Fail;
 
 /// Two files, `point.fct` and `short.fct`, which lacks its last byte, and one for which memory runs
 /// out, `vast`.
+#[derive(Drop)]
 struct Desk;
 
 impl Files for Desk {
@@ -22,6 +23,10 @@ impl Files for Desk {
             Err(io::Error::from(io::ErrorKind::NotFound))
         }
     }
+
+    fn write(&mut self, _name: &str, _bytes: &[u8]) -> io::Result<()> {
+        Err(io::Error::from(io::ErrorKind::PermissionDenied))
+    }
 }
 
 /// Runs a command line, and compares the status and what is printed on the output and on the
@@ -29,7 +34,7 @@ impl Files for Desk {
 fn expect(alloc: Global, words: &[&str], status: u8, out: &str, errors: &str) -> Result<(), Fail> {
     let mut printed = Output::new(Vec::new(alloc));
     let mut told = Output::new(Vec::new(alloc));
-    let outcome = run(alloc, words, &Desk, &mut printed, &mut told);
+    let outcome = run(alloc, words, &mut Desk, &mut printed, &mut told);
     if outcome.status().number() != status {
         return Err(Fail::from("another status"));
     }

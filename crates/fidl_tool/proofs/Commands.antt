@@ -1,10 +1,11 @@
 -- What clap's builder makes of the program's command line, and what a parse of it gives.
 use Rattle.std.proofs.Common.{◌≡◌, refl, ap, ◌∙◌, List}
-use Rattle.std.specs.Prelude.{Option, Some, None, Result, Ok, Err, IfOk, IfErr, Bool, false, ◌||◌, option_map}
-use Rattle.clap.specs.Words.{App, Rule, Row, Text, with_rule, rule_of, app_of}
-use Rattle.clap.specs.declared.builder.arg.Arg.{Arg}
+use Rattle.std.specs.Prelude.{Option, Some, None, Result, Ok, Err, IfOk, IfErr, option_map}
+use Rattle.clap.specs.Words.{App, Shape, Row, Text, app_of}
+use Rattle.clap.specs.Simple.{shape_of, with_subcommand}
 use Rattle.clap.specs.declared.builder.command.Command.{Command}
-use Rattle.clap.specs.Built.{AddsArg}
+use Rattle.clap.specs.Built.{AddsSubcommand}
+use Rattle.fidl_tool.specs.CommandLine.{IsCommandOf}
 
 -- what holds of a result's value leads to another fact of it
 pub if_ok : {T E : Type 0} (P Q : T → Type 0) (r : Result T E) → ((x : T) → P x → Q x) → IfOk r P → IfOk r Q
@@ -15,13 +16,11 @@ pub if_err : {T E : Type 0} (P Q : E → Type 0) (r : Result T E) → ((x : E) �
 if_err P Q (Ok x) f h = tt
 if_err P Q (Err e) f h = f e h
 
--- an argument that is not global is added with its rule
-pub added : (old new : Command) (a : Arg) (r : Rule) (app : App) → AddsArg old a new → a.global ≡ false → rule_of a ≡ r → app_of old ≡ app → app_of new ≡ with_rule app r
-added old new a r app h local rule is = h.shape local ∙ ap (λ (x : App). with_rule x (rule_of a)) is ∙ ap (with_rule app) rule
-
--- nothing global is in what nothing global was added to
-pub still_local : (now was here : Bool) → now ≡ (was || here) → was ≡ false → here ≡ false → now ≡ false
-still_local now was here is a b = is ∙ ap (λ (x : Bool). x || here) a ∙ b
+-- a command of the program is added with its shape
+pub joined : (old sub new : Command) (app : App) (shape : Shape) → AddsSubcommand old sub new → IsCommandOf shape sub → app_of old ≡ app → app_of new ≡ with_subcommand app shape
+joined old sub new app shape h is e = h.shape is.local
+    ∙ ap (λ (x : App). with_subcommand x (shape_of sub)) e
+    ∙ ap (λ (s : Shape). with_subcommand app s) (ap (λ (x : App). x.top) is.app)
 
 -- the name and the rows of a subcommand
 abbrev pub pair_of : {B : Type 0} (name : B → Text) (rows : B → List Row) → B → Text × List Row

@@ -1,6 +1,6 @@
 -- What is written of an entry's value, by the entry's kind and members.
 use Rattle.std.proofs.Common.{◌≡◌, ℕ, zero, suc, ◌+◌, ◌-◌, ◌*◌, ◌<◌, ◌≤◌, List, ◌++◌, sym, ap, subst, ◌∙◌, arith, mul-suc}
-use Rattle.std.specs.Prelude.{Some, None, nat_lt, codes, pos, ℤ, ◌⊎◌, true, false}
+use Rattle.std.specs.Prelude.{Some, None, nat_lt, codes, pos, ℤ, ◌⊎◌, false}
 use mathlib.Core.List.{append_assoc}
 use Rattle.fidl_wire.specs.Value.{Value, Values, number, fields, none, value}
 use Rattle.fidl_wire.specs.Term.{Term, Kind, Fields, fields_of, resolve, int8, int16, int32, int64, uint8, uint16, uint32, uint64}
@@ -15,7 +15,7 @@ use Rattle.fidl_records.specs.declared.kind.EntryKind.{EntryKind}
 use Rattle.fidl_records.specs.declared.kind.EntryKind.TheVariants.{Vector, Array, Box, Struct}
 use Rattle.fidl_records.specs.Section.{header_of, entry_at, row_at, name_at}
 use Rattle.fidl_records.specs.Terms.{declarations_of, fields_from, term_as}
-use Rattle.fidl_records.specs.Uses.{is_known, uses_entry, uses_rows}
+use Rattle.fidl_records.specs.Uses.{uses_entry, uses_rows}
 use Rattle.fidl_records.specs.Entry.{IsOf}
 use Rattle.fidl_records.specs.WellFormed.{WellFormed}
 use Rattle.fidl_wire.specs.Figure.{Figure, size_of}
@@ -23,7 +23,7 @@ use Rattle.fidl_verify.proofs.Known.{test_of}
 use Rattle.fidl_verify.proofs.Standing.{members_stand}
 use Rattle.fidl_verify.proofs.Declared.{element_nests, member_nests}
 use Rattle.fidl_decode.proofs.Bridge.{fine_of}
-use Rattle.fidl_decode.proofs.Visiting.{fine_as, term_is, figure_is, size_is}
+use Rattle.fidl_decode.proofs.Visiting.{term_is, figure_is, size_is}
 use Rattle.fidl_view.specs.declared.view.View.{View}
 use Rattle.fidl_tool.specs.Parts.{IsPart, IsMembers}
 use Rattle.fidl_tool.specs.Slots.{named_text}

@@ -13,3 +13,5 @@ mod HandleTexts
 mod HexText
 mod RawText
 mod Records
+mod Pushed
+mod NamedFiles

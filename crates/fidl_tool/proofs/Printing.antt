@@ -18,7 +18,6 @@ use Rattle.fidl_records.specs.declared.kind.EntryKind.{EntryKind}
 use Rattle.fidl_records.specs.declared.kind.EntryKind.TheVariants.{Bool as Boolean, Int8, Int16, Int32, Int64, Uint8, Uint16, Uint32, Uint64, Bits, Enum, String, Vector, Array, Box, Struct, Table, Union, Handle}
 use Rattle.fidl_records.specs.Section.{header_of, entry_at, row_at, name_at}
 use Rattle.fidl_records.specs.Terms.{declarations_of, fields_from, term_as}
-use Rattle.fidl_records.specs.Uses.{is_known}
 use Rattle.fidl_decode.specs.Model.{Shown}
 use Rattle.fidl_view.specs.Shows.{Shows}
 use Rattle.fidl_view.specs.declared.view.View.{View}

@@ -1,16 +1,15 @@
 -- The members of tables and unions, as they are written one by one.
-use Rattle.std.proofs.Common.{◌≡◌, ℕ, suc, ◌+◌, ◌<◌, ◌≤◌, List, [], ◌++◌, Bool, true, false, refl, sym, ap, subst, ◌∙◌, arith, inl, inr}
-use Rattle.std.specs.Prelude.{Option, Some, None, if◌then◌else◌, ◌==◌, codes, decimal}
+use Rattle.std.proofs.Common.{◌≡◌, ℕ, suc, ◌<◌, ◌≤◌, List, [], ◌++◌, Bool, true, false, refl, sym, ap, subst, ◌∙◌, arith, inl, inr}
+use Rattle.std.specs.Prelude.{Option, Some, None, if◌then◌else◌, ◌==◌}
 use Rattle.std.proofs.lemmas.Bool.{cases_lt}
 use Rattle.std.proofs.lemmas.Bool.Decides.{eqb_tells}
-use Rattle.fidl_wire.specs.Value.{Value, table, union, Member, known, unknown, Members, empty, member}
+use Rattle.fidl_wire.specs.Value.{Value, Member, known, unknown, Members, empty, member}
 use Rattle.fidl_wire.specs.Term.{Term, Rows, find}
-use Rattle.fidl_wire.specs.Term as ty
 use Rattle.fidl_wire.specs.Figure.{Declarations}
-use Rattle.fidl_wire.specs.Typed.{IsTyped, IsTypedMember, RiseTyped}
-use Rattle.fidl_wire.specs.Depth.{depth_of, member_depth, members_depth}
-use Rattle.fidl_wire.specs.Text.{text_of, member_text, members_text}
-use Rattle.fidl_view.specs.Parts.{at_ordinal, known_of, known_in, unknown_in, member_of, held_of, unknown_of, variant_of}
+use Rattle.fidl_wire.specs.Typed.{IsTypedMember, RiseTyped}
+use Rattle.fidl_wire.specs.Depth.{member_depth, members_depth}
+use Rattle.fidl_wire.specs.Text.{members_text}
+use Rattle.fidl_view.specs.Parts.{at_ordinal, known_in, unknown_in}
 use Rattle.fidl_view.proofs.Envelopes as slots
 use Rattle.fidl_tool.specs.Slots.{slot_text, later_behind}
 

@@ -1,10 +1,9 @@
 -- What is written of a table's or a union's value, and what is left to be written of a table.
-use Rattle.std.proofs.Common.{◌≡◌, ◌≢◌, ℕ, zero, suc, ◌+◌, ◌<◌, ◌≤◌, List, ◌++◌, Bool, true, false, IsTrue, refl, sym, ap, subst, ◌∙◌, inl, inr, arith}
+use Rattle.std.proofs.Common.{◌≡◌, ◌≢◌, ℕ, zero, suc, ◌+◌, ◌<◌, ◌≤◌, List, ◌++◌, Bool, true, false, IsTrue, refl, sym, ap, subst, ◌∙◌, arith}
 use Rattle.std.specs.Prelude.{Option, Some, None, IfSome, IfNone, IsSome, MatchOption, if◌then◌else◌, ◌==◌, nat_le, codes, decimal}
 use Rattle.std.specs.Option.{option_map_or}
 use Rattle.std.proofs.lemmas.Bool.{eq-eqb, eqb-true}
 use mathlib.Core.List.{append_assoc}
-use Rattle.fidl_limits.specs.declared.limits.TheConstants.{MAX_INLINE_SIZE}
 use Rattle.fidl_wire.specs.Value.{Value, absent, table, union, Member, known, unknown, Members}
 use Rattle.fidl_wire.specs.Term.{Term, Rows, rows_of, find, resolve, nothing}
 use Rattle.fidl_wire.specs.Term as ty
@@ -33,7 +32,6 @@ use Rattle.fidl_view.specs.Parts.{at_ordinal, known_of, unknown_in, variant_of, 
 use Rattle.fidl_view.specs.declared.envelope.Unknown.{Unknown}
 use Rattle.fidl_view.proofs.Keyed.{held_variant}
 use Rattle.fidl_view.specs.declared.view.View.{View}
-use Rattle.fidl_tool.specs.Parts.{IsPart}
 use Rattle.fidl_tool.specs.Outputs.{AppendsFront}
 use Rattle.fidl_tool.specs.Slots.{IsValueOf, named_text, slot_text, later_behind}
 use Rattle.fidl_tool.proofs.Written.{IsSoFar, so_far_begin, so_far_more, so_far_failed, so_far_as, begin_failed}

@@ -1,6 +1,6 @@
 -- What a status says of the line that goes with it, and of the roots of a table.
-use Rattle.std.proofs.Common.{◌≡◌, ◌≢◌, ℕ, List, sym, ap, subst, ◌∙◌}
-use Rattle.std.specs.Prelude.{Result, Ok, Err, OnOk, is_ok, if◌then◌else◌}
+use Rattle.std.proofs.Common.{◌≡◌, ◌≢◌, ◌↔◌, ℕ, List, ◌++◌, refl, sym, ap, subst, ◌∙◌, inl, inr}
+use Rattle.std.specs.Prelude.{Result, Ok, Err, OnOk, is_ok, if◌then◌else◌, Option, Some, None, IsSome, codes}
 use Rattle.fidl_wire.specs.declared.handle.HandleInfo.{HandleInfo}
 use Rattle.fidl_wire.specs.Value.{Value}
 use Rattle.fidl_wire.specs.Term as ty
@@ -12,8 +12,12 @@ use Rattle.fidl_records.specs.Root.{IsRootEntry, HasNoRoot}
 use Rattle.fidl_records.specs.WellFormed.{WellFormed}
 use Rattle.fidl_decode.specs.Model.{Shown}
 use Rattle.fidl_tool.specs.declared.outcome.Outcome.{Outcome}
-use Rattle.fidl_tool.specs.declared.outcome.Outcome.TheVariants.{Unwritten}
+use Rattle.fidl_tool.specs.declared.outcome.Outcome.TheVariants.{Done, Unwritten}
+use Rattle.fidl_tool.specs.declared.unread.Unread.{Unread}
+use Rattle.fidl_tool.specs.declared.unread.Unread.TheVariants as unread
+use Rattle.fidl_tool.specs.Arguments.{complaint_of, line_of}
 use Rattle.fidl_tool.specs.Decoding.{IsRootOf, LacksRoot}
+use Rattle.fidl_tool.specs.Outputs.{ReportsFailures}
 
 -- what a line says holds where its outcome is answered
 pub told_written : {T E P : Type 0} (w : Result T E) (own r : Outcome) → r ≡ (if is_ok w then own else Unwritten) → r ≡ own → own ≢ Unwritten → OnOk w P → P
@@ -53,3 +57,26 @@ encodes_as d table bytes entry handles v t e b h x =
 
 pub text_as : (d : Shown) (table : List ℕ) (entry : ℕ) (v : Value) → d.table ≡ table → d.entry ≡ entry → Text (declarations_of d.table) (ty.named d.entry) v ≡ Text (declarations_of table) (ty.named entry) v
 text_as d table entry v t e = ap (λ (l : List ℕ). Text (declarations_of l) (ty.named d.entry) v) t ∙ ap (λ k. Text (declarations_of table) (ty.named k) v) e
+
+-- what holds in any case holds at `Ok`
+pub at_ok : {T E P : Type 0} (r : Result T E) → P → OnOk r P
+at_ok (Ok x) h = h
+at_ok (Err x) h = tt
+
+-- nothing failed up to a call that reports its own failure alone
+pub then_told : {F G : Type 0} (told : Outcome) (old_out out : Option F) (old_errors errors last : Option G) → ReportsFailures Done old_out out old_errors errors
+    → (errors ≡ None → (told ≡ Unwritten ↔ IsSome last)) → ReportsFailures told old_out out old_errors last
+then_told told a (Some x) b m last h t p q = let never : Done ≡ Unwritten = (h p q).1 (inl refl) in cc
+then_told told a None b (Some y) last h t p q = let never : Done ≡ Unwritten = (h p q).1 (inr refl) in cc
+then_told told a None b None last h t p q = let k = t refl in (λ u. inr (k.0 u), λ some. elim some [ inl none ↦ cc | inr failed ↦ k.1 failed ])
+
+-- all but a request for help has a line
+pub line_otherwise : (u : Unread) → ((text : _) → u ≡ unread.Asked text → ⊥) → line_of u ≡ complaint_of u ++ codes "\n"
+line_otherwise (unread.Asked text) other = absurd (other text refl)
+line_otherwise (unread.Wrong line) other = refl
+line_otherwise unread.NotText other = refl
+line_otherwise unread.Missing other = refl
+line_otherwise unread.BadHex other = refl
+line_otherwise unread.BadHandle other = refl
+line_otherwise unread.OutIsSource other = refl
+line_otherwise unread.Memory other = refl

@@ -1,8 +1,8 @@
 -- What the words of a command line give, and what is told where they give no arguments
 -- (docs/program.md, "Statuses").
 use Rattle.std.specs.Prelude.{◌≡◌, ◌≢◌, ◌⊎◌, ⊤, ℕ, List, [], ◌++◌, codes, string_bytes, Some, None}
-use Rattle.std.specs.Prelude.{Ok, IsErr, false, unwrap_or}
-use Rattle.std.specs.List.{All, AllZip}
+use Rattle.std.specs.Prelude.{Ok, IsErr, false, unwrap_or, map}
+use Rattle.std.specs.List.{All, AllZip, Contains}
 use Rattle.clap.specs.Words.{Row, Text, takes, first_of}
 use Rattle.clap.specs.Walk.{all_of}
 use Rattle.clap.specs.declared.error.kind.ErrorKind.{ErrorKind}
@@ -13,12 +13,14 @@ use Rattle.fidl_tool.specs.declared.outcome.Outcome.{Outcome}
 use Rattle.fidl_tool.specs.declared.outcome.Outcome.TheVariants as outcome
 use Rattle.fidl_tool.specs.declared.unread.Unread.{Unread}
 use Rattle.fidl_tool.specs.declared.unread.Unread.TheVariants.{Asked, Wrong, NotText, Missing}
-use Rattle.fidl_tool.specs.declared.unread.Unread.TheVariants.{BadHex, BadHandle, Memory}
+use Rattle.fidl_tool.specs.declared.unread.Unread.TheVariants.{BadHex, BadHandle, OutIsSource}
+use Rattle.fidl_tool.specs.declared.unread.Unread.TheVariants.{Memory}
+use Rattle.fidl_tool.specs.declared.arguments.CompileArguments.{CompileArguments}
 use Rattle.fidl_tool.specs.declared.arguments.DecodeArguments.{DecodeArguments}
 use Rattle.fidl_tool.specs.declared.arguments.Arguments.{Arguments}
-use Rattle.fidl_tool.specs.declared.arguments.Arguments.TheVariants.{Decode, Table}
+use Rattle.fidl_tool.specs.declared.arguments.Arguments.TheVariants.{Compile, Decode, Table}
 use Rattle.fidl_wire.specs.declared.handle.HandleInfo.{HandleInfo}
-use Rattle.fidl_tool.specs.CommandLine.{program, GivesDecode, GivesTable}
+use Rattle.fidl_tool.specs.CommandLine.{program, GivesCompile, GivesDecode, GivesTable}
 use Rattle.fidl_tool.specs.Decoding.{no_memory}
 use Rattle.fidl_tool.specs.Handles.{IsHandleText, HasNoHandleText}
 
@@ -54,6 +56,35 @@ IsNoDecode rows BadHandle = HasNoHandleText (handle_texts rows)
 IsNoDecode rows Memory = ⊤
 IsNoDecode rows _ = ⊥
 
+-- the values of the arguments are these arguments of `compile`: the file to write is none of the
+-- sources
+pub record IsCompile (rows : List Row) (given : CompileArguments) : Type 0 where
+  pub out : first_of (codes "out") rows ≡ Some given.out.now
+  pub sources : all_of (codes "FILE") rows ≡ Some (map (λ name. name.now) given.sources.items)
+  pub apart : Contains (map (λ name. name.now) given.sources.items) given.out.now → ⊥
+
+-- the file to write is one of the sources
+pub record WritesSource (rows : List Row) : Type 0 where
+  pub file : List ℕ
+  pub sources : List (List ℕ)
+  pub out : first_of (codes "out") rows ≡ Some file
+  pub given : all_of (codes "FILE") rows ≡ Some sources
+  pub among : Contains sources file
+
+-- why the values of the arguments are no arguments of `compile`
+abbrev pub IsNoCompile : List Row → Unread → Type 0
+IsNoCompile rows Missing =
+    (first_of (codes "out") rows ≡ None) ⊎ (all_of (codes "FILE") rows ≡ None)
+IsNoCompile rows OutIsSource = WritesSource rows
+IsNoCompile rows Memory = ⊤
+IsNoCompile rows _ = ⊥
+
+-- the words give these arguments of `compile`
+pub record IsCompileGiven (words : List Text) (given : CompileArguments) : Type 0 where
+  pub rows : List Row
+  pub entered : GivesCompile words rows
+  pub compile : IsCompile rows given
+
 -- the words give these arguments of `decode`
 pub record IsDecodeGiven (words : List Text) (given : DecodeArguments) : Type 0 where
   pub rows : List Row
@@ -68,6 +99,7 @@ pub record IsTableGiven (words : List Text) (file : List ℕ) : Type 0 where
 
 -- the words give these arguments of a command
 abbrev pub IsGiven : List Text → Arguments → Type 0
+IsGiven words (Compile given) = IsCompileGiven words given
 IsGiven words (Decode given) = IsDecodeGiven words given
 IsGiven words (Table file) = IsTableGiven words file.now
 
@@ -77,9 +109,16 @@ pub record IsBadlyGiven (words : List Text) (unread : Unread) : Type 0 where
   pub entered : GivesDecode words rows
   pub fails : IsNoDecode rows unread
 
+-- the words name `compile`, whose arguments have no such values
+pub record IsBadlyCompiled (words : List Text) (unread : Unread) : Type 0 where
+  pub rows : List Row
+  pub entered : GivesCompile words rows
+  pub fails : IsNoCompile rows unread
+
 -- the words name no command
 abbrev pub NamesNone : List Text → Type 0
-NamesNone words = (rows : List Row) → (GivesDecode words rows → ⊥) × (GivesTable words rows → ⊥)
+NamesNone words = (rows : List Row) → (GivesCompile words rows → ⊥) × (GivesDecode words rows → ⊥)
+    × (GivesTable words rows → ⊥)
 
 -- the words name `table`, and no file
 abbrev pub LacksFile : List Text → Type 0
@@ -92,7 +131,9 @@ abbrev pub IsUngiven : List Text → Unread → Type 0
 IsUngiven words (Asked text) = takes program words ≡ false
 IsUngiven words (Wrong line) = takes program words ≡ false
 IsUngiven words NotText = ⊥
-IsUngiven words Missing = NamesNone words ⊎ IsBadlyGiven words Missing ⊎ LacksFile words
+IsUngiven words Missing = NamesNone words ⊎ IsBadlyCompiled words Missing
+    ⊎ IsBadlyGiven words Missing ⊎ LacksFile words
+IsUngiven words OutIsSource = IsBadlyCompiled words OutIsSource
 IsUngiven words Memory = ⊤
 IsUngiven words unread = IsBadlyGiven words unread
 
@@ -122,7 +163,8 @@ complaint_of (Asked text) = []
 complaint_of (Wrong line) = string_bytes line
 complaint_of NotText = codes "error: the arguments: UTF-8 is wanted"
 complaint_of Missing =
-    codes "error: the arguments: decode TABLE ROOT HEX or table TABLE is wanted"
+    codes "error: the arguments: compile --out OUT FILE.., decode TABLE ROOT HEX or table TABLE is wanted"
+complaint_of OutIsSource = codes "error: --out: a file that is none of the sources is wanted"
 complaint_of BadHex = codes "error: HEX: an even number of hexadecimal digits is wanted"
 complaint_of BadHandle =
     codes "error: --handle: three decimal numbers of 32 bits are wanted, as in 1:3:0"

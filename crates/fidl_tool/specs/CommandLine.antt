@@ -1,6 +1,9 @@
 -- The command line of the program, in clap's words (docs/program.md, "Command line").
 use Rattle.std.specs.Prelude.{◌≡◌, true, false, List, [], ◌∷◌, Some, codes}
-use Rattle.clap.specs.Words.{App, Shape, Rule, Row, Text, new_rule, subcommand_of}
+use Rattle.clap.specs.Words.{App, Shape, Rule, Row, Text, new_rule, subcommand_of, app_of}
+use Rattle.clap.specs.Lexer.{usize_max}
+use Rattle.clap.specs.declared.builder.command.Command.{Command}
+use Rattle.clap.specs.declared.builder.command.Command.TheViews.{out-Command}
 use Rattle.clap.specs.Simple.{new_shape}
 use Rattle.clap.specs.declared.builder.action.ArgAction.TheVariants.{Set, Append}
 
@@ -15,6 +18,27 @@ handle_option = record (new_rule (codes "handle")) {
   value_names = 1;
   action = Some Append;
 }
+
+-- `--out`, which must be given
+abbrev pub out_option : Rule
+out_option = record (new_rule (codes "out")) {
+  long = Some (codes "out");
+  value_names = 1;
+  action = Some Set;
+  required = true;
+}
+
+-- one file or more, by their places
+abbrev pub files_argument : Rule
+files_argument = record (new_rule (codes "FILE")) {
+  range = Some (record { start_inclusive = 1; end_inclusive = usize_max });
+  action = Some Append;
+  required = true;
+}
+
+-- `compile --out OUT FILE..`
+abbrev pub compile_command : Shape
+compile_command = record (new_shape (codes "compile")) { rules = out_option ∷ files_argument ∷ [] }
 
 -- `decode [--handle I:T:R].. TABLE ROOT HEX`
 abbrev pub decode_command : Shape
@@ -37,8 +61,17 @@ program = record {
         is_leaf =
             false;
       };
-  subs = decode_command ∷ table_command ∷ [];
+  subs = compile_command ∷ decode_command ∷ table_command ∷ [];
 }
+
+-- this is a command of the program, with no commands of its own
+pub record IsCommandOf (shape : Shape) (command : Command) : Type 0 where
+  pub app : app_of command ≡ record { top = shape; subs = [] }
+  pub local : (out-Command command).has_globals ≡ false
+
+-- the words name the command `compile`, and give its arguments these values
+abbrev pub GivesCompile : List Text → List Row → Type 0
+GivesCompile words rows = subcommand_of program words ≡ Some (codes "compile", rows)
 
 -- the words name the command `decode`, and give its arguments these values
 abbrev pub GivesDecode : List Text → List Row → Type 0

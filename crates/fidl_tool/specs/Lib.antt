@@ -5,6 +5,7 @@
 --   Running        what the program answers to its words and its files
 --   Decoding       what the command `decode` answers
 --   Listing        what the command `table` answers
+--   Compiling      what the command `compile` answers
 --   Status         how the program ends
 --   Parts          what the printer is given, and what it writes
 --   Slots          the same of the members of tables and unions
@@ -17,6 +18,7 @@ pub mod Parts
 pub mod Slots
 pub mod Decoding
 pub mod Listing
+pub mod Compiling
 pub mod CommandLine
 pub mod Arguments
 pub mod Running

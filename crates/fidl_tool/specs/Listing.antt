@@ -15,7 +15,8 @@ use Rattle.fidl_records.specs.WellFormed.{WellFormed}
 use Rattle.fidl_verify.specs.Faults.{Breaks}
 use Rattle.fidl_verify.specs.declared.fault.TableFault.{TableFault}
 use Rattle.fidl_tool.specs.declared.words.Word.{Word}
-use Rattle.fidl_tool.specs.declared.words.Word.TheVariants.{Text, Name, Number, Ordinal, Payload}
+use Rattle.fidl_tool.specs.declared.words.Word.TheVariants.{Text, Name, Number, Counted}
+use Rattle.fidl_tool.specs.declared.words.Word.TheVariants.{Ordinal, Payload}
 use Rattle.fidl_tool.specs.declared.listing.Section.{Section}
 use Rattle.fidl_tool.specs.declared.listing.Section.TheVariants.{Entries, Rows, Values, Roots}
 use Rattle.fidl_tool.specs.declared.listing.Section.TheVariants.{Protocols, Methods}
@@ -71,6 +72,7 @@ abbrev pub word_text : Word → List ℕ
 word_text (Text text) = text.now
 word_text (Name name) = name_word name.now
 word_text (Number n) = decimal n
+word_text (Counted n) = decimal n ++ codes ","
 word_text (Ordinal n) = ordinal_word n
 word_text (Payload n) = payload_word n
 

@@ -1,5 +1,6 @@
 -- What a write does to the bytes that a writer holds, where those are known.
-use Rattle.std.specs.Prelude.{◌≡◌, ◌↔◌, ◌⊎◌, ℕ, List, ◌++◌, Option, None, IsSome, Result}
+use Rattle.std.specs.Prelude.{◌≡◌, ◌↔◌, ◌⊎◌, ℕ, List, ◌++◌, ◌∷◌, Option, None, Some, IsSome, Result}
+use Rattle.std.specs.Prelude.{IfSome}
 use Rattle.std.specs.Prelude.{MatchResult}
 use Rattle.fidl_tool.specs.declared.outcome.Outcome.{Outcome}
 use Rattle.fidl_tool.specs.declared.outcome.Outcome.TheVariants as outcome
@@ -31,3 +32,7 @@ abbrev pub ReportsFailures : {F G : Type 0} → Outcome → (old_out new_out : O
 ReportsFailures result old_out new_out old_errors new_errors =
     old_out ≡ None → old_errors ≡ None → (result ≡ outcome.Unwritten)
     ↔ (IsSome new_out ⊎ IsSome new_errors)
+
+-- where it is known which files were written, one more was: of this name and with these bytes
+abbrev pub IsWritten : (old new : Option (List (List ℕ × List ℕ))) → (name bytes : List ℕ) → Type 0
+IsWritten old new name bytes = IfSome old (λ files. new ≡ Some ((name, bytes) ∷ files))

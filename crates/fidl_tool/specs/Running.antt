@@ -1,14 +1,23 @@
 -- What the program answers to its words and its files (docs/program.md, "Statuses").
-use Rattle.std.specs.Prelude.{◌≡◌, ⊤, ℕ, List, Option, IfSome}
+use Rattle.std.specs.Prelude.{◌≡◌, ⊤, ℕ, List, Option, Some, None, IfSome, map}
+use Rattle.std.specs.List.{AllZip}
+use Rattle.std.specs.Io.KnownBytes.{Appends}
 use Rattle.clap.specs.Words.{Text}
 use Rattle.fidl_tool.specs.Arguments.{IsGiven, IsUngiven, outcome_of}
 use Rattle.fidl_tool.specs.Decoding.{IsText, IsRefusal, LacksRoot}
 use Rattle.fidl_tool.specs.Listing.{IsListing, IsTableRefusal}
+use Rattle.fidl_records.specs.WellFormed.{WellFormed}
+use Rattle.fidl_compile.specs.Sources.{IsTableOf}
+use Rattle.fidl_tool.specs.Compiling.{Named, texts_of, summary_line, IsSourceRefusal}
+use Rattle.fidl_tool.specs.Outputs.{AppendsOne, IsWritten}
 use Rattle.fidl_tool.specs.declared.arguments.Arguments.{Arguments}
-use Rattle.fidl_tool.specs.declared.arguments.Arguments.TheVariants.{Decode, Table}
+use Rattle.fidl_tool.specs.declared.arguments.Arguments.TheVariants.{Compile, Decode, Table}
+use Rattle.fidl_tool.specs.declared.arguments.CompileArguments.{CompileArguments}
 use Rattle.fidl_tool.specs.declared.arguments.DecodeArguments.{DecodeArguments}
 use Rattle.fidl_tool.specs.declared.outcome.Outcome.{Outcome}
 use Rattle.fidl_tool.specs.declared.outcome.Outcome.TheVariants.{Asked, WrongLine, NoRoot}
+use Rattle.fidl_tool.specs.declared.outcome.Outcome.TheVariants.{NoFile, Unwritten, NoMemory}
+use Rattle.fidl_tool.specs.declared.sources.Source.{Source}
 use Rattle.fidl_tool.specs.declared.unread.Unread.{Unread}
 
 -- the line of the text that the message of the arguments encodes, by this table
@@ -20,28 +29,76 @@ abbrev pub IsMessageRefusal : DecodeArguments → (table : List ℕ) → List �
 IsMessageRefusal given table =
     IsRefusal table given.root.now given.bytes.items given.handles.items
 
--- the name of the arguments' file
-abbrev pub file_of : Arguments → List ℕ
-file_of (Decode given) = given.table.now
-file_of (Table file) = file.now
-
--- what the command of the arguments prints, by this table
-abbrev pub IsGivenText : Arguments → (table : List ℕ) → List ℕ → Type 0
-IsGivenText (Decode given) = IsMessageText given
-IsGivenText (Table file) = IsListing
-
--- the line by which it refuses this table, or a message
-abbrev pub IsGivenRefusal : Arguments → (table : List ℕ) → List ℕ → Type 0
-IsGivenRefusal (Decode given) = IsMessageRefusal given
-IsGivenRefusal (Table file) = IsTableRefusal
-
 -- where the bytes of the file of this name are known, this holds of them
 abbrev pub OfTable : (bytes_of : List ℕ → Option (List ℕ)) → (file : List ℕ) → (List ℕ → Type 0)
     → Type 0
 OfTable bytes_of file Holds = IfSome (bytes_of file) Holds
 
+-- a source by its name and its bytes
+abbrev pub stored_as : Source → Named
+stored_as source = (source.name.now, source.bytes.items)
+
+-- a file has this name, and just its bytes, as far as these are known
+abbrev pub IsRead : (bytes_of : List ℕ → Option (List ℕ)) → (name : List ℕ) → Named → Type 0
+IsRead bytes_of name file = (file.0 ≡ name) × IfSome (bytes_of name) (λ known. file.1 ≡ known)
+
+abbrev pub AreRead : (bytes_of : List ℕ → Option (List ℕ)) → (names : List (List ℕ)) → List Named
+    → Type 0
+AreRead bytes_of names files = AllZip (IsRead bytes_of) names files
+
+-- a file has this name, and its bytes are known
+abbrev pub IsKnown : (bytes_of : List ℕ → Option (List ℕ)) → (name : List ℕ) → Named → Type 0
+IsKnown bytes_of name file = (file.0 ≡ name) × (bytes_of name ≡ Some file.1)
+
+-- where the bytes of all files of these names are known, this holds of the files
+abbrev pub OfSources : (bytes_of : List ℕ → Option (List ℕ)) → (names : List (List ℕ))
+    → (List Named → Type 0) → Type 0
+OfSources bytes_of names Holds =
+    (files : List Named) → AllZip (IsKnown bytes_of) names files → Holds files
+
+-- the names of the sources of the arguments
+abbrev pub sources_of : CompileArguments → List (List ℕ)
+sources_of given = map (λ name. name.now) given.sources.items
+
+-- the sources are compiled: what their table holds is printed, and the table is written
+pub record AreCompiled (given : CompileArguments) (files : List Named) (old new : Option (List ℕ))
+    (before after : Option (List Named)) : Type 0 where
+  pub table : List ℕ
+  pub well_formed : WellFormed table
+  pub shows : IsTableOf (texts_of files) table
+  pub printed : Appends old new (summary_line table)
+  pub written : IsWritten before after given.out.now table
+
+-- what the command of the arguments prints and writes where it is done
+abbrev pub IsDone : (bytes_of : List ℕ → Option (List ℕ)) → Arguments → (old new : Option (List ℕ))
+    → (before after : Option (List Named)) → Type 0
+IsDone bytes_of (Compile given) old new before after =
+    OfSources bytes_of (sources_of given) (λ files. AreCompiled given files old new before after)
+IsDone bytes_of (Decode given) old new before after = OfTable bytes_of given.table.now
+    (λ table. AppendsOne (IsMessageText given table) old new)
+IsDone bytes_of (Table file) old new before after = OfTable bytes_of file.now
+    (λ table. AppendsOne (IsListing table) old new)
+
+-- the line by which it refuses sources, a table or a message
+abbrev pub IsRefused : (bytes_of : List ℕ → Option (List ℕ)) → Arguments → (old new : Option (List ℕ))
+    → Type 0
+IsRefused bytes_of (Compile given) old new = OfSources bytes_of (sources_of given)
+    (λ files. AppendsOne (IsSourceRefusal files) old new)
+IsRefused bytes_of (Decode given) old new = OfTable bytes_of given.table.now
+    (λ table. AppendsOne (IsMessageRefusal given table) old new)
+IsRefused bytes_of (Table file) old new = OfTable bytes_of file.now
+    (λ table. AppendsOne (IsTableRefusal table) old new)
+
+-- a file that the command reads is none whose bytes are known; or it writes one, which no contract
+-- says to succeed
+abbrev pub LacksGivenFile : (bytes_of : List ℕ → Option (List ℕ)) → Arguments → Type 0
+LacksGivenFile bytes_of (Compile given) = ⊤
+LacksGivenFile bytes_of (Decode given) = bytes_of given.table.now ≡ None
+LacksGivenFile bytes_of (Table file) = bytes_of file.now ≡ None
+
 -- the arguments name a root that their table does not have
 abbrev pub LacksGivenRoot : (bytes_of : List ℕ → Option (List ℕ)) → Arguments → Type 0
+LacksGivenRoot bytes_of (Compile given) = ⊥
 LacksGivenRoot bytes_of (Decode given) =
     OfTable bytes_of given.table.now (λ table. LacksRoot table given.root.now)
 LacksGivenRoot bytes_of (Table file) = ⊥
@@ -61,3 +118,17 @@ CanEndTableRun Asked = ⊥
 CanEndTableRun WrongLine = ⊥
 CanEndTableRun NoRoot = ⊥
 CanEndTableRun _ = ⊤
+
+-- what can happen to `compile` with its arguments read, and its files to be read and written
+abbrev pub CanEndCompileRun : Outcome → Type 0
+CanEndCompileRun Asked = ⊥
+CanEndCompileRun WrongLine = ⊥
+CanEndCompileRun NoRoot = ⊥
+CanEndCompileRun _ = ⊤
+
+-- what can happen where a source is not read
+abbrev pub CanEndReading : Outcome → Type 0
+CanEndReading NoFile = ⊤
+CanEndReading Unwritten = ⊤
+CanEndReading NoMemory = ⊤
+CanEndReading _ = ⊥

@@ -1,22 +1,23 @@
-//! The command line.
-ghost use Rattle.std.specs.Prelude.{◌≡◌, IsErr, IsOk, ℕ, List, [], Ok, IfOk, IfErr, MatchBool};
-ghost use Rattle.std.specs.Prelude.{false, map, option_map, codes, Some, None};
-ghost use Rattle.std.specs.List.{AllZip, list_all};
-ghost use Rattle.clap.specs.Words.{found_of, rule_of, app_of, rows_of, first_of};
+//! What a command line gives.
+ghost use Rattle.std.specs.Prelude.{◌≡◌, IsErr, IsOk, Ok, IfOk, IfErr, MatchBool};
+ghost use Rattle.std.specs.Prelude.{map, option_map, codes, Some, None};
+ghost use Rattle.std.specs.List.{AllZip, Contains, list_all};
+ghost use Rattle.clap.specs.Words.{found_of, rows_of, first_of};
 ghost use Rattle.hex.specs.Hex.{decode_of, is_hex_digit};
 ghost use Rattle.fidl_tool.specs.Handles.{IsHandleText, HasNoHandleText};
 ghost use Rattle.fidl_tool.specs.Arguments.{IsTold, AreHandleTexts, IsDecode, IsNoDecode};
-ghost use Rattle.fidl_tool.specs.Arguments.{IsGiven, IsUngiven, handle_texts};
-ghost use Rattle.fidl_tool.specs.CommandLine.{positional, decode_command, program};
+ghost use Rattle.fidl_tool.specs.Arguments.{IsCompile, IsNoCompile, IsGiven, IsUngiven};
+ghost use Rattle.fidl_tool.specs.Arguments.{handle_texts};
 ghost use Rattle.fidl_tool.specs.declared.unread.Unread.TheVariants as unread;
 
+use crate::command_line::command_line;
 use crate::decoding::TypedMessage;
 use crate::handle::read_handle;
 use crate::unread::Unread;
-use clap::{Arg, ArgAction, ArgMatches, Command};
+use clap::ArgMatches;
 use fidl_wire::HandleInfo;
 use hex::FromHexError;
-use std::alloc::{AllocError, Global};
+use std::alloc::Global;
 use std::convert::AsStr;
 
 /// What `fidl decode` is given: the table's file, the root's name, and a message.
@@ -28,9 +29,17 @@ pub(crate) struct DecodeArguments<'a> {
     pub handles: Vec<HandleInfo>,
 }
 
+/// What `fidl compile` is given: the file to write the table to, and the sources' files.
+#[derive(Drop)]
+pub(crate) struct CompileArguments<'a> {
+    pub out: &'a str,
+    pub sources: Vec<&'a str>,
+}
+
 /// What the command line gives: a command with its arguments.
 #[derive(Drop)]
 pub(crate) enum Arguments<'a> {
+    Compile(CompileArguments<'a>),
     Decode(DecodeArguments<'a>),
     /// The table's file.
     Table(&'a str),
@@ -49,44 +58,6 @@ impl DecodeArguments<'_> {
             handles: self.handles.as_slice(),
         }
     }
-}
-
-/// An argument that must be given, by its place.
-fn required<'a>(alloc: Global, id: &'a str, help: &'a str) -> Arg<'a>
-    ensures rule { rule_of result ≡ positional id.entry.now }
-    ensures local { result.global ≡ false }
-{
-    Arg::new(alloc, id)
-        .required(true)
-        .action(ArgAction::Set)
-        .help(help)
-}
-
-/// The command line of the program.
-fn command_line<'a>(alloc: Global) -> Result<Command<'a>, AllocError>
-    ensures { IfOk result (λ c. app_of c ≡ program) }
-{
-    let handle = Arg::new(alloc, "handle")
-        .long("handle")
-        .value_name("I:T:R")
-        .action(ArgAction::Append)
-        .help("A handle of the message: id, object type and rights, as decimal numbers");
-    let decode = Command::new(alloc, "decode")
-        .about("Prints the text of the value that a message encodes")
-        .arg(handle)?
-        .arg(required(alloc, "TABLE", "The file of the coding table"))?
-        .arg(required(alloc, "ROOT", "The name of the value's type in the table"))?
-        .arg(required(alloc, "HEX", "The bytes of the message, in hexadecimal"))?;
-    let table = Command::new(alloc, "table")
-        .about("Prints the records of a coding table")
-        .arg(required(alloc, "TABLE", "The file of the coding table"))?;
-    Command::new(alloc, "fidl")
-        .bin_name("fidl")?
-        .version("0.1")
-        .about("Reads FIDL messages by coding tables")
-        .subcommand_required(true)
-        .subcommand(decode)?
-        .subcommand(table)
 }
 
 fn is_hex_digit(byte: u8) -> bool
@@ -201,6 +172,37 @@ fn read_decode<'a>(alloc: Global, matches: &ArgMatches<'a>) -> Result<DecodeArgu
     })
 }
 
+/// Whether a name is among these.
+fn is_among(name: &str, names: &[&str]) -> bool
+    ensures { MatchBool result (Contains (map (λ n. n.now) names.now) name.now)
+        (Contains (map (λ n. n.now) names.now) name.now → ⊥) }
+{
+    for other in names {
+        if *other == name {
+            return true;
+        }
+    }
+    false
+}
+
+/// What `fidl compile` was given.
+fn read_compile<'a>(alloc: Global, matches: &ArgMatches<'a>) -> Result<CompileArguments<'a>, Unread>
+    ensures ok { IfOk result (IsCompile (rows_of (found_of matches.now))) }
+    ensures err { IfErr result (IsNoCompile (rows_of (found_of matches.now))) }
+{
+    let Some(out) = value_of(matches, "out") else {
+        return Err(Unread::Missing);
+    };
+    let Some(names) = matches.get_strs("FILE") else {
+        return Err(Unread::Missing);
+    };
+    if is_among(out, names) {
+        return Err(Unread::OutIsSource);
+    }
+    let sources = Vec::from_slice(alloc, names)?;
+    Ok(CompileArguments { out, sources })
+}
+
 /// The file that `fidl table` was given.
 fn read_table<'a>(matches: &ArgMatches<'a>) -> Result<&'a str, Unread>
     ensures ok { IfOk result
@@ -226,6 +228,9 @@ pub(crate) fn read_arguments<'a, S: AsStr>(
         Ok(matches) => matches,
         Err(error) => return Err(Unread::from_clap(alloc, &error)),
     };
+    if let Some(matches) = matches.subcommand_matches("compile") {
+        return Ok(Arguments::Compile(read_compile(alloc, matches)?));
+    }
     if let Some(matches) = matches.subcommand_matches("decode") {
         return Ok(Arguments::Decode(read_decode(alloc, matches)?));
     }

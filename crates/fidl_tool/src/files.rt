@@ -1,7 +1,9 @@
 //! The files that commands read.
 ghost use Rattle.std.specs.Prelude.{◌≡◌, ◌≢◌, ℕ, List, Option, None, IfOk, IfErr, IfSome};
+ghost use Rattle.std.specs.Prelude.{OnOk, OnErr};
 ghost use Rattle.std.specs.IoError.{error_kind};
 ghost use Rattle.std.specs.declared.io.ErrorKind.TheVariants as error_kinds;
+ghost use Rattle.fidl_tool.specs.Outputs.{IsWritten};
 
 use std::alloc::Global;
 use std::io;
@@ -13,10 +15,14 @@ pub struct File<'f> {
     pub bytes: &'f [u8],
 }
 
-/// Where the program reads its files from.
+/// Where the program reads its files from, and writes them to.
 pub trait Files {
     // The bytes of the file of a name, where they are known.
     ghost bytes_of: { Self → List ℕ → Option (List ℕ) } = { λ _ _. None };
+
+    // The names and the bytes of the files that were written, the newest first, where they are
+    // known.
+    ghost written: { Self → Option (List (List ℕ × List ℕ)) } = { λ _. None };
 
     /// The bytes of a file.
     fn read(&self, alloc: Global, name: &str) -> io::Result<Vec<u8>>
@@ -24,4 +30,10 @@ pub trait Files {
             (λ bytes. read.items ≡ bytes)) }
         ensures fault { IfErr result
             (λ e. error_kind e ≢ error_kinds.OutOfMemory → bytes_of self.now name.now ≡ None) };
+
+    /// Writes a file that has just these bytes.
+    fn write(&mut self, name: &str, bytes: &[u8]) -> io::Result<()>
+        ensures ok { OnOk result
+            (IsWritten (written self.old) (written self.new) name.now bytes.now) }
+        ensures err { OnErr result (written self.new ≡ written self.old) };
 }

@@ -24,6 +24,10 @@ impl Files for HostFiles<'_> {
     fn read(&self, _alloc: Global, name: &str) -> io::Result<Vec<u8>> {
         fs::read(self.rt, name)
     }
+
+    fn write(&mut self, name: &str, bytes: &[u8]) -> io::Result<()> {
+        fs::write(self.rt, name, bytes)
+    }
 }
 
 /// A run of the program that has ended. `main` returns it, and the process exits with its status.
@@ -56,7 +60,13 @@ fn run_words<W: Write, E: Write>(
     errors: &mut Output<E>,
 ) -> Outcome {
     match read_words(rt) {
-        Ok(words) => run(rt.alloc(), words.as_slice(), &HostFiles { rt }, out, errors),
+        Ok(words) => run(
+            rt.alloc(),
+            words.as_slice(),
+            &mut HostFiles { rt },
+            out,
+            errors,
+        ),
         Err(unread) => tell(&unread, out, errors),
     }
 }

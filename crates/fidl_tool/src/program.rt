@@ -1,5 +1,6 @@
 //! The program, over its words, its files and two writers.
 ghost use Rattle.std.specs.Prelude.{◌≡◌, ◌≢◌, ◌↔◌, ◌⊎◌, ℕ, List, None, IfSome, IsSome, map};
+ghost use Rattle.std.specs.Prelude.{OnOk, OnErr};
 ghost use Rattle.std.specs.Io.KnownBytes.{Appends};
 ghost use Rattle.std.specs.IoError.{error_kind};
 ghost use Rattle.std.specs.declared.io.ErrorKind.TheVariants as error_kinds;
@@ -7,9 +8,9 @@ ghost use Rattle.fidl_tool.specs.Arguments.{outcome_of, text_of, line_of};
 ghost use Rattle.fidl_tool.specs.Decoding.{LacksRoot, no_root_line, no_memory_line, CanEndRun};
 ghost use Rattle.fidl_tool.specs.Outputs.{AppendsFront, AppendsOne, ReportsFailures};
 ghost use Rattle.fidl_tool.specs.Listing.{IsListing, IsTableRefusal};
-ghost use Rattle.fidl_tool.specs.Running.{IsMessageText, IsMessageRefusal, IsGivenText, OfTable};
-ghost use Rattle.fidl_tool.specs.Running.{IsGivenRefusal, LacksGivenRoot, CanEndTableRun, Gives};
-ghost use Rattle.fidl_tool.specs.Running.{GivesNone, file_of};
+ghost use Rattle.fidl_tool.specs.Running.{IsMessageText, IsMessageRefusal, OfTable};
+ghost use Rattle.fidl_tool.specs.Running.{IsDone, IsRefused, LacksGivenFile, LacksGivenRoot};
+ghost use Rattle.fidl_tool.specs.Running.{CanEndTableRun, Gives, GivesNone};
 ghost use Rattle.fidl_tool.specs.declared.outcome.Outcome.TheVariants as outcome;
 
 use crate::arguments::{Arguments, DecodeArguments, read_arguments};
@@ -19,14 +20,36 @@ use crate::lines::{write_line, write_no_file, write_no_memory, write_no_output, 
 use crate::listing::table;
 use crate::outcome::Outcome;
 use crate::output::{Failed, Output};
+use crate::sources::run_compile;
 use crate::unread::Unread;
 use std::alloc::Global;
 use std::convert::AsStr;
 use std::io;
 use std::io::Write;
 
-/// Prints why there are no arguments: help and version on the output, all else as a line on the
+/// Writes why there are no arguments: help and version on the output, all else as a line on the
 /// errors.
+fn write_unread<W: Write, E: Write>(
+    unread: &Unread,
+    out: &mut Output<W>,
+    errors: &mut Output<E>,
+) -> Result<(), Failed>
+    ensures out { OnOk result (Appends (W.contents out.old.writer) (W.contents out.new.writer)
+        (text_of unread.now)) }
+    ensures errors { OnOk result
+        (Appends (E.contents errors.old.writer) (E.contents errors.new.writer)
+        (line_of unread.now)) }
+    ensures kept_out { OnOk result (out.new.failure ≡ out.old.failure) }
+    ensures kept_errors { OnOk result (errors.new.failure ≡ errors.old.failure) }
+    ensures failed { OnErr result (IsSome out.new.failure ⊎ IsSome errors.new.failure) }
+{
+    match unread {
+        Unread::Asked { text } => write_text(out, text.as_str()),
+        _ => write_line(errors, unread.line()),
+    }
+}
+
+/// Reports why there are no arguments.
 pub(crate) fn tell<W: Write, E: Write>(
     unread: &Unread,
     out: &mut Output<W>,
@@ -41,18 +64,18 @@ pub(crate) fn tell<W: Write, E: Write>(
     ensures unwritten { ReportsFailures result out.old.failure out.new.failure
         errors.old.failure errors.new.failure }
 {
-    let written = match unread {
-        Unread::Asked { text } => write_text(out, text.as_str()),
-        _ => write_line(errors, unread.line()),
-    };
-    match written {
+    match write_unread(unread, out, errors) {
         Ok(()) => unread.outcome(),
         Err(Failed) => Outcome::Unwritten.where_written(&write_no_output(errors, out)),
     }
 }
 
-/// Tells that a file cannot be read, or that memory ran out for it.
-fn tell_no_file<E: Write>(name: &str, error: &io::Error, errors: &mut Output<E>) -> Outcome
+/// Reports that a file cannot be read or written, or that memory ran out for it.
+pub(crate) fn tell_no_file<E: Write>(
+    name: &str,
+    error: &io::Error,
+    errors: &mut Output<E>,
+) -> Outcome
     ensures ends { result ≢ outcome.Unwritten
         → result ≡ outcome.NoFile ⊎ result ≡ outcome.NoMemory }
     ensures no_file { result ≡ outcome.NoFile
@@ -164,22 +187,21 @@ fn run_table<F: Files, W: Write, E: Write>(
 pub fn run<S: AsStr, F: Files, W: Write, E: Write>(
     alloc: Global,
     words: &[S],
-    files: &F,
+    files: &mut F,
     out: &mut Output<W>,
     errors: &mut Output<E>,
 ) -> Outcome
     ensures done { result ≡ outcome.Done → Gives (map S.text words.now)
-        (λ given. OfTable (F.bytes_of files.now) (file_of given)
-        (λ table. AppendsOne (IsGivenText given table)
-        (W.contents out.old.writer) (W.contents out.new.writer))) }
+        (λ given. IsDone (F.bytes_of files.old) given
+        (W.contents out.old.writer) (W.contents out.new.writer)
+        (F.written files.old) (F.written files.new)) }
     ensures refused { result ≡ outcome.Refused → Gives (map S.text words.now)
-        (λ given. OfTable (F.bytes_of files.now) (file_of given)
-        (λ table. AppendsOne (IsGivenRefusal given table)
-        (E.contents errors.old.writer) (E.contents errors.new.writer))) }
+        (λ given. IsRefused (F.bytes_of files.old) given
+        (E.contents errors.old.writer) (E.contents errors.new.writer)) }
     ensures no_root { result ≡ outcome.NoRoot → Gives (map S.text words.now)
-        (LacksGivenRoot (F.bytes_of files.now)) }
+        (LacksGivenRoot (F.bytes_of files.old)) }
     ensures no_file { result ≡ outcome.NoFile → Gives (map S.text words.now)
-        (λ given. F.bytes_of files.now (file_of given) ≡ None) }
+        (LacksGivenFile (F.bytes_of files.old)) }
     ensures asked { result ≡ outcome.Asked → GivesNone (map S.text words.now) outcome.Asked
         (λ unread. Appends (W.contents out.old.writer) (W.contents out.new.writer)
         (text_of unread)) }
@@ -187,12 +209,14 @@ pub fn run<S: AsStr, F: Files, W: Write, E: Write>(
         → GivesNone (map S.text words.now) outcome.WrongLine
         (λ unread. Appends (E.contents errors.old.writer) (E.contents errors.new.writer)
         (line_of unread)) }
+    ensures written { result ≢ outcome.Done → F.written files.new ≡ F.written files.old }
     ensures unwritten { ReportsFailures result out.old.failure out.new.failure
         errors.old.failure errors.new.failure }
 {
     match read_arguments(alloc, words) {
-        Ok(Arguments::Decode(arguments)) => run_decode(alloc, &arguments, files, out, errors),
-        Ok(Arguments::Table(name)) => run_table(alloc, name, files, out, errors),
+        Ok(Arguments::Compile(arguments)) => run_compile(alloc, &arguments, files, out, errors),
+        Ok(Arguments::Decode(arguments)) => run_decode(alloc, &arguments, &*files, out, errors),
+        Ok(Arguments::Table(name)) => run_table(alloc, name, &*files, out, errors),
         Err(unread) => tell(&unread, out, errors),
     }
 }

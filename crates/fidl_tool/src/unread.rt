@@ -23,6 +23,8 @@ pub(crate) enum Unread {
     BadHex,
     /// A handle is not three decimal numbers of 32 bits.
     BadHandle,
+    /// The file to write the table to is one of the sources.
+    OutIsSource,
     /// Memory ran out.
     Memory,
 }
@@ -89,8 +91,9 @@ impl Unread {
             Unread::Wrong { line } => line.as_str(),
             Unread::NotText => "error: the arguments: UTF-8 is wanted",
             Unread::Missing => {
-                "error: the arguments: decode TABLE ROOT HEX or table TABLE is wanted"
+                "error: the arguments: compile --out OUT FILE.., decode TABLE ROOT HEX or table TABLE is wanted"
             }
+            Unread::OutIsSource => "error: --out: a file that is none of the sources is wanted",
             Unread::BadHex => "error: HEX: an even number of hexadecimal digits is wanted",
             Unread::BadHandle => {
                 "error: --handle: three decimal numbers of 32 bits are wanted, as in 1:3:0"

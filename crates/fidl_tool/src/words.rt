@@ -1,5 +1,5 @@
 //! Lines of words with one blank between (docs/program.md, "table").
-ghost use Rattle.std.specs.Prelude.{◌≡◌, ◌++◌, OnOk, OnErr, IsSome, codes, map};
+ghost use Rattle.std.specs.Prelude.{◌≡◌, ◌++◌, OnOk, OnErr, IsSome, codes, map, decimal};
 ghost use Rattle.fidl_tool.specs.Listing.{word_text, name_word, payload_word, words_line};
 ghost use Rattle.fidl_tool.specs.Outputs.{Writes};
 
@@ -20,6 +20,8 @@ pub(crate) enum Word<'t> {
     Name(&'t [u8]),
     /// A number, in decimal digits.
     Number(u64),
+    /// A number, in decimal digits, and a comma.
+    Counted(u64),
     /// An ordinal, in 16 hex digits.
     Ordinal(u64),
     /// The entry of a payload; `-` where there is none.
@@ -49,6 +51,17 @@ fn write_payload<W: Write>(entry: u32, out: &mut Output<W>) -> Result<(), Failed
     write_decimal(entry as u64, out)
 }
 
+/// Writes a number and a comma.
+fn write_counted<W: Write>(number: u64, out: &mut Output<W>) -> Result<(), Failed>
+    ensures text { Writes (W.contents out.old.writer) (W.contents out.new.writer)
+        (decimal number ++ codes ",") result }
+    ensures kept { OnOk result (out.new.failure ≡ out.old.failure) }
+    ensures failed { OnErr result (IsSome out.new.failure) }
+{
+    write_decimal(number, out)?;
+    out.write_all(b",")
+}
+
 /// Writes a word.
 fn write_word<W: Write>(word: Word<'_>, out: &mut Output<W>) -> Result<(), Failed>
     ensures text { Writes (W.contents out.old.writer) (W.contents out.new.writer)
@@ -60,6 +73,7 @@ fn write_word<W: Write>(word: Word<'_>, out: &mut Output<W>) -> Result<(), Faile
         Word::Text(text) => out.write_all(text.as_bytes()),
         Word::Name(name) => write_name(name, out),
         Word::Number(number) => write_decimal(number, out),
+        Word::Counted(number) => write_counted(number, out),
         Word::Ordinal(ordinal) => write_hex(&ordinal.to_be_bytes(), out),
         Word::Payload(entry) => write_payload(entry, out),
     }

@@ -4,10 +4,10 @@ use Rattle.std.proofs.lemmas.Result.{err_from_is_err_and}
 use Rattle.clap.specs.declared.error.kind.ErrorKind.{ErrorKind}
 use Rattle.clap.specs.declared.error.kind.ErrorKind.TheVariants as kinds
 use Rattle.clap.specs.Words.{App, Row, Text, found_of, rows_of, HasMatchesOf, takes}
-use Rattle.fidl_tool.specs.Arguments.{IsNoDecode, IsUngiven, IsToldByKind}
-use Rattle.fidl_tool.specs.CommandLine.{program, GivesDecode, GivesTable}
+use Rattle.fidl_tool.specs.Arguments.{IsNoDecode, IsNoCompile, IsUngiven, IsToldByKind}
+use Rattle.fidl_tool.specs.CommandLine.{program, GivesCompile, GivesDecode, GivesTable}
 use Rattle.fidl_tool.specs.declared.unread.Unread.{Unread}
-use Rattle.fidl_tool.specs.declared.unread.Unread.TheVariants.{Asked, Wrong, NotText, Missing, BadHex, BadHandle, Memory}
+use Rattle.fidl_tool.specs.declared.unread.Unread.TheVariants.{Asked, Wrong, NotText, Missing, BadHex, BadHandle, OutIsSource, Memory}
 use Rattle.fidl_tool.proofs.Commands.{both_of}
 use Rattle.fidl_tool.proofs.arguments.read_arguments.Goals as goal
 
@@ -16,10 +16,21 @@ badly : (words : List Text) (rows : List Row) (u : Unread) → GivesDecode words
 badly words rows (Asked text) e h = absurd h
 badly words rows (Wrong line) e h = absurd h
 badly words rows NotText e h = absurd h
-badly words rows Missing e h = inr (inl (record { rows = rows; entered = e; fails = h }))
+badly words rows Missing e h = inr (inr (inl (record { rows = rows; entered = e; fails = h })))
 badly words rows BadHex e h = record { rows = rows; entered = e; fails = h }
 badly words rows BadHandle e h = record { rows = rows; entered = e; fails = h }
+badly words rows OutIsSource e h = absurd h
 badly words rows Memory e h = tt
+
+badly_compiled : (words : List Text) (rows : List Row) (u : Unread) → GivesCompile words rows → IsNoCompile rows u → IsUngiven words u
+badly_compiled words rows (Asked text) e h = absurd h
+badly_compiled words rows (Wrong line) e h = absurd h
+badly_compiled words rows NotText e h = absurd h
+badly_compiled words rows Missing e h = inr (inl (record { rows = rows; entered = e; fails = h }))
+badly_compiled words rows BadHex e h = absurd h
+badly_compiled words rows BadHandle e h = absurd h
+badly_compiled words rows OutIsSource e h = record { rows = rows; entered = e; fails = h }
+badly_compiled words rows Memory e h = tt
 
 not_taken : (b : Bool) → (b ≡ true → ⊥) → b ≡ false
 not_taken false f = refl
@@ -34,6 +45,7 @@ refused words kind NotText passes h = h
 refused words kind Missing passes h = absurd h
 refused words kind BadHex passes h = absurd h
 refused words kind BadHandle passes h = absurd h
+refused words kind OutIsSource passes h = absurd h
 refused words kind Memory passes h = tt
 
 pub returns-in-Err-clause-err : goal.returns-in-Err-clause-err
@@ -46,22 +58,32 @@ returns-in_err-command_line-clause-err g c =
     let p = err_from_is_err_and c.from_residual.result c.from_residual.ensures.1 in
     rw (p.1, p.2) tt
 
-pub returns-in_err-read_decode-clause-err : goal.returns-in_err-read_decode-clause-err
-returns-in_err-read_decode-clause-err g c =
+pub returns-in_err-read_compile-clause-err : goal.returns-in_err-read_compile-clause-err
+returns-in_err-read_compile-clause-err g c =
     let words = map g.S.AsStr.text c.args.words.now in
     let rows = rows_of (found_of c.in-Some.matches.now) in
     let met = (subst (λ (a : App). HasMatchesOf a words c.in-Ok.matches) c.in_ok-command_line.ensures c.in-Ok.ensures.matches) refl in
-    let entered : GivesDecode words rows = sym met.1 ∙ both_of _ _ _ _ _ (c.in-Some.ensures.found.0 refl) c.in-Some.ensures.rows in
-    let p = err_from_is_err_and c.from_residual-in_err-read_decode.result c.from_residual-in_err-read_decode.ensures.1 in
-    rw (p.1, p.2) (badly words rows c.in_err-read_decode.field-0.0 entered c.in_err-read_decode.ensures.err)
+    let entered : GivesCompile words rows = sym met.1 ∙ both_of _ _ _ _ _ (c.in-Some.ensures.found.0 refl) c.in-Some.ensures.rows in
+    let p = err_from_is_err_and c.from_residual-in_err-read_compile.result c.from_residual-in_err-read_compile.ensures.1 in
+    rw (p.1, p.2) (badly_compiled words rows c.in_err-read_compile.field-0.0 entered c.in_err-read_compile.ensures.err)
 
-pub returns-in_err-read_table-in-Some-subcommand_matches-clause-err : goal.returns-in_err-read_table-in-Some-subcommand_matches-clause-err
-returns-in_err-read_table-in-Some-subcommand_matches-clause-err g c =
+pub returns-in_err-read_decode-clause-err : goal.returns-in_err-read_decode-clause-err
+returns-in_err-read_decode-clause-err g c =
     let words = map g.S.AsStr.text c.args.words.now in
     let found = c.in-Some-subcommand_matches in
     let rows = rows_of (found_of found.matches.now) in
     let met = (subst (λ (a : App). HasMatchesOf a words c.in-Ok.matches) c.in_ok-command_line.ensures c.in-Ok.ensures.matches) refl in
+    let entered : GivesDecode words rows = sym met.1 ∙ both_of _ _ _ _ _ (found.ensures.found.0 refl) found.ensures.rows in
+    let p = err_from_is_err_and c.from_residual-in_err-read_decode.result c.from_residual-in_err-read_decode.ensures.1 in
+    rw (p.1, p.2) (badly words rows c.in_err-read_decode.field-0.0 entered c.in_err-read_decode.ensures.err)
+
+pub returns-in_err-read_table-in-Some-subcommand_matches-2-clause-err : goal.returns-in_err-read_table-in-Some-subcommand_matches-2-clause-err
+returns-in_err-read_table-in-Some-subcommand_matches-2-clause-err g c =
+    let words = map g.S.AsStr.text c.args.words.now in
+    let found = c.in-Some-subcommand_matches-2 in
+    let rows = rows_of (found_of found.matches.now) in
+    let met = (subst (λ (a : App). HasMatchesOf a words c.in-Ok.matches) c.in_ok-command_line.ensures c.in-Ok.ensures.matches) refl in
     let entered : GivesTable words rows = sym met.1 ∙ both_of _ _ _ _ _ (found.ensures.found.0 refl) found.ensures.rows in
-    let h = c.in_err-read_table-in-Some-subcommand_matches.ensures.err in
-    let p = err_from_is_err_and (c.from_residual-in_err-read_table-in-Some-subcommand_matches).result (c.from_residual-in_err-read_table-in-Some-subcommand_matches).ensures.1 in
-    rw (p.1, p.2) (subst (λ (u : Unread). IsUngiven words u) (sym h.0) (inr (inr (rows, entered, h.1))))
+    let h = c.in_err-read_table-in-Some-subcommand_matches-2.ensures.err in
+    let p = err_from_is_err_and (c.from_residual-in_err-read_table-in-Some-subcommand_matches-2).result (c.from_residual-in_err-read_table-in-Some-subcommand_matches-2).ensures.1 in
+    rw (p.1, p.2) (subst (λ (u : Unread). IsUngiven words u) (sym h.0) (inr (inr (inr (rows, entered, h.1)))))

@@ -1,17 +1,17 @@
-use Rattle.std.proofs.Common.{◌≡◌, ℕ, ◌+◌, ◌<◌, ◌≤◌, List, ◌++◌, refl, sym, ap, subst, ◌∙◌, arith}
-use Rattle.std.specs.Prelude.{Option, Some, IsSome, IfSome, nat_lt, codes, decimal}
+use Rattle.std.proofs.Common.{◌≡◌, ℕ, ◌+◌, ◌<◌, ◌≤◌, List, refl, sym, ap, subst, ◌∙◌, arith}
+use Rattle.std.specs.Prelude.{Option, Some, IsSome, IfSome, codes, decimal}
 use Rattle.fidl_wire.specs.Term.{Term, resolve, find}
 use Rattle.fidl_wire.specs.Term as ty
-use Rattle.fidl_wire.specs.Value.{Value, list, fields, table, Member, known, unknown, Members}
+use Rattle.fidl_wire.specs.Value.{Value, list, fields, Member, known, unknown}
 use Rattle.fidl_wire.specs.Typed.{IsTyped}
 use Rattle.fidl_wire.specs.Depth.{depth_of, fields_depth, member_depth}
-use Rattle.fidl_wire.specs.Text.{text_of, comma_if, member_text}
+use Rattle.fidl_wire.specs.Text.{text_of, member_text}
 use Rattle.fidl_records.specs.declared.record.Entry.{Entry}
 use Rattle.fidl_records.specs.declared.record.Row.{Row}
 use Rattle.fidl_records.specs.declared.kind.EntryKind.{EntryKind}
 use Rattle.fidl_records.specs.declared.kind.EntryKind.TheVariants.{Bool as Boolean, String, Vector, Array, Box, Struct, Table, Union, Handle}
 use Rattle.fidl_records.specs.Kind.{kind_of}
-use Rattle.fidl_records.specs.Section.{header_of, entry_at, row_at, name_at}
+use Rattle.fidl_records.specs.Section.{header_of, entry_at, row_at}
 use Rattle.fidl_records.specs.Terms.{declarations_of, members_of, term_as, is_optional}
 use Rattle.fidl_records.specs.Entry.{IsOf}
 use Rattle.fidl_records.specs.WellFormed.{WellFormed}

@@ -1,7 +1,7 @@
-use Rattle.std.proofs.Common.{◌+◌, refl, ◌∙◌, arith, true, false}
+use Rattle.std.proofs.Common.{refl, ◌∙◌, arith, false}
 use Rattle.fidl_wire.specs.Text.{handles_text}
 use Rattle.fidl_tool.proofs.Written.{appends_then, so_far_none, so_far_more, so_far_first, so_far_second, so_far_all, failed_as}
-use Rattle.fidl_tool.proofs.RawText.{handles_left, handles_more, handles_end}
+use Rattle.fidl_tool.proofs.RawText.{handles_more, handles_end}
 use Rattle.fidl_tool.proofs.unknown.write_handles.Goals as goal
 
 pub loop-handle-init : goal.loop-handle-init

@@ -1,0 +1,41 @@
+use Rattle.std.proofs.Common.{◌≡◌, List, ℕ, map, ap, subst, ◌∙◌}
+use Rattle.std.specs.Prelude.{Err}
+use Rattle.fidl_compile.specs.Sources.{IsTableOf}
+use Rattle.fidl_tool.specs.Compiling.{Named, named_of, texts_of, IsSourceRefusal}
+use Rattle.fidl_tool.specs.Outputs.{AppendsOne, IsWritten}
+use Rattle.fidl_tool.specs.Running.{AreRead, stored_as}
+use Rattle.fidl_tool.proofs.NamedFiles.{files_read}
+use Rattle.fidl_tool.proofs.Told.{then_told}
+use Rattle.fidl_tool.proofs.sources.run_compile.Goals as goal
+
+pub returns-in-Err-compile-clause-refused : goal.returns-in-Err-compile-clause-refused
+returns-in-Err-compile-clause-refused g c q files known =
+    let sources = c.in-Ok.sources.items in
+    let names = ap (map (λ n. n.now)) c.deref.ensures.value in
+    let read = subst (λ (ns : List (List ℕ)). AreRead (g.F.Files.bytes_of c.args.files.now) ns (map stored_as sources)) names c.in-Ok.ensures.read in
+    let made : named_of c.in-Ok-files_of.named.items ≡ map stored_as sources = c.in-Ok-files_of.ensures ∙ ap (map stored_as) c.deref-2.ensures.value in
+    let same : named_of c.deref-3.result.now ≡ files = ap named_of c.deref-3.ensures.value ∙ files_read (g.F.Files.bytes_of c.args.files.now) _ sources c.in-Ok-files_of.named.items files read made known in
+    let refused = c.in-Err-compile.ensures.refused (ap (λ o. Err o) q) in
+    let after = g.E.Write.contents c.compile.new.errors.writer in
+    let of_files = subst (λ (fs : List Named). AppendsOne (IsSourceRefusal fs) (g.E.Write.contents c.read_all.new.errors.writer) after) same refused in
+    subst (λ errors. AppendsOne (IsSourceRefusal files) (g.E.Write.contents errors.writer) after) c.in-Ok.ensures.kept of_files
+
+pub returns-in-Ok-write-clause-done : goal.returns-in-Ok-write-clause-done
+returns-in-Ok-write-clause-done g c q files known =
+    let sources = c.in-Ok.sources.items in
+    let table = c.in-Ok-compile.table.items in
+    let names = ap (map (λ n. n.now)) c.deref.ensures.value in
+    let read = subst (λ (ns : List (List ℕ)). AreRead (g.F.Files.bytes_of c.args.files.now) ns (map stored_as sources)) names c.in-Ok.ensures.read in
+    let made : named_of c.in-Ok-files_of.named.items ≡ map stored_as sources = c.in-Ok-files_of.ensures ∙ ap (map stored_as) c.deref-2.ensures.value in
+    let same : named_of c.deref-3.result.now ≡ files = ap named_of c.deref-3.ensures.value ∙ files_read (g.F.Files.bytes_of c.args.files.now) _ sources c.in-Ok-files_of.named.items files read made known in
+    record {
+      table = table;
+      well_formed = c.in-Ok-compile.ensures.well_formed;
+      shows = subst (λ (fs : List Named). IsTableOf (texts_of fs) table) same c.in-Ok-compile.ensures.shows;
+      printed = c.in-Ok-compile.ensures.done;
+      written = subst (λ (bytes : List ℕ). IsWritten (g.F.Files.written c.args.files.now) (g.F.Files.written c.write.new.self) c.args.arguments.now.out.now bytes) c.deref-4.ensures.value c.in-Ok-write.ensures.ok;
+    }
+
+pub returns-clause-unwritten : goal.returns-clause-unwritten
+returns-clause-unwritten g c out errors =
+    then_told c.tell_no_file.result _ _ _ _ _ c.in-Ok-compile.ensures.unwritten c.tell_no_file.ensures.unwritten out (ap (λ e. e.failure) c.in-Ok.ensures.kept ∙ errors)

@@ -1,0 +1,98 @@
+-- What the command `compile` answers (docs/program.md, "compile").
+use Rattle.std.specs.Prelude.{ℕ, ◌≡◌, ⊤, List, [], ◌∷◌, ◌++◌, Some, map, length, slice_get, codes}
+use Rattle.std.specs.Prelude.{decimal, Result, Ok, Err}
+use Rattle.std.specs.Option.{option_map_or}
+use Rattle.std.specs.Global.{Vec}
+use Rattle.fidl_span.specs.Lines.{line_of, column_of}
+use Rattle.fidl_names.specs.declared.place.Place.{Place}
+use Rattle.fidl_records.specs.declared.record.Header.{Header}
+use Rattle.fidl_records.specs.Section.{header_of}
+use Rattle.fidl_records.specs.WellFormed.{WellFormed}
+use Rattle.fidl_compile.specs.declared.fault.CompileFault.{CompileFault}
+use Rattle.fidl_compile.specs.Sources.{IsTableOf}
+use Rattle.fidl_compile.specs.Stages.{AreRefused}
+use Rattle.fidl_compile.specs.Reports.{Report, report_of}
+use Rattle.fidl_tool.specs.declared.compiling.LinePlace.{LinePlace}
+use Rattle.fidl_tool.specs.declared.files.File.{File}
+use Rattle.fidl_tool.specs.declared.outcome.Outcome.{Outcome}
+use Rattle.fidl_tool.specs.declared.outcome.Outcome.TheVariants.{Done, Refused, Unwritten}
+use Rattle.fidl_tool.specs.declared.outcome.Outcome.TheVariants.{NoMemory}
+use Rattle.fidl_tool.specs.Listing.{words_line}
+
+-- files by their names and their bytes
+abbrev pub Named : Type 0
+Named = List ℕ × List ℕ
+
+abbrev pub named_of : List File → List Named
+named_of files = map (λ (file : File). (file.name.now, file.bytes.now)) files
+
+-- the bytes of files
+abbrev pub texts_of : List Named → List (List ℕ)
+texts_of files = map (λ (file : Named). file.1) files
+
+-- the name and the bytes of the file of this number; none where there is no such file
+abbrev pub name_at : List Named → (number : ℕ) → List ℕ
+name_at files number = option_map_or (λ (file : Named). file.0) (slice_get files number) []
+
+abbrev pub text_at : List Named → (number : ℕ) → List ℕ
+text_at files number = option_map_or (λ (file : Named). file.1) (slice_get files number) []
+
+-- a file by its name, with a line and a column in it
+pub record Located : Type 0 where
+  pub file : List ℕ
+  pub line : ℕ
+  pub column : ℕ
+
+-- where a place is in files
+abbrev pub located_at : List Named → Place → Located
+located_at files place =
+    let text = text_at files place.file in record {
+      file = name_at files place.file;
+      line = line_of text place.span.from;
+      column = column_of text place.span.from;
+    }
+
+-- where a refusal is reported
+abbrev pub located : LinePlace → Located
+located place = record { file = place.file.now; line = place.line; column = place.column }
+
+-- the line of a refusal: FILE:LINE:COLUMN: STAGE NUMBER NAME
+abbrev pub report_line : Located → Report → List ℕ
+report_line at r =
+    at.file ++ codes ":" ++ decimal at.line ++ codes ":" ++ decimal at.column
+    ++ words_line (codes ":") (r.stage ∷ decimal r.number ∷ r.name ∷ [])
+
+-- the lines that are true refusals of sources
+pub data IsSourceRefusal (files : List Named) : List ℕ → Type 0 where
+  of_fault : (fault : CompileFault) (report : Report) → AreRefused (texts_of files) fault
+      → report_of fault ≡ Some report
+      → IsSourceRefusal files (report_line (located_at files report.place) report)
+
+-- the line that says what a table holds: how many records of each kind, and how many bytes
+abbrev pub summary_text : Header → (size : ℕ) → List ℕ
+summary_text h size =
+    words_line (codes "entries")
+    ((decimal h.entries ++ codes ",") ∷ codes "roots" ∷ (decimal h.roots ++ codes ",")
+    ∷ codes "protocols" ∷ (decimal h.protocols ++ codes ",")
+    ∷ codes "methods" ∷ (decimal h.methods ++ codes ",")
+    ∷ codes "bytes" ∷ decimal size ∷ [])
+
+abbrev pub summary_line : (table : List ℕ) → List ℕ
+summary_line table = summary_text (header_of table) (length table)
+
+-- that line of a table of sources
+pub data IsSummary (sources : List (List ℕ)) : List ℕ → Type 0 where
+  of_table : (table : List ℕ) → WellFormed table → IsTableOf sources table
+      → IsSummary sources (summary_line table)
+
+-- what can happen to `compile` where it gives no table
+abbrev pub CanEndCompile : Outcome → Type 0
+CanEndCompile Refused = ⊤
+CanEndCompile Unwritten = ⊤
+CanEndCompile NoMemory = ⊤
+CanEndCompile _ = ⊥
+
+-- what happened to `compile`
+abbrev pub outcome_of : Result (Vec ℕ) Outcome → Outcome
+outcome_of (Ok table) = Done
+outcome_of (Err ended) = ended

@@ -1,0 +1,190 @@
+//! The command `compile`: from the sources of libraries to their coding table.
+ghost use Rattle.std.specs.Prelude.{◌≡◌, ◌≢◌, ◌↔◌, map, None, Err, IfOk, IfErr, OnOk, OnErr};
+ghost use Rattle.std.specs.Prelude.{IsSome};
+ghost use Rattle.std.specs.Io.KnownBytes.{Appends};
+ghost use Rattle.fidl_records.specs.WellFormed.{WellFormed};
+ghost use Rattle.fidl_compile.specs.Sources.{IsTableOf};
+ghost use Rattle.fidl_compile.specs.Stages.{AreRefused};
+ghost use Rattle.fidl_compile.specs.Reports.{reported};
+ghost use Rattle.fidl_tool.specs.Compiling.{named_of, texts_of, name_at, text_at, report_line};
+ghost use Rattle.fidl_tool.specs.Compiling.{located, located_at};
+ghost use Rattle.fidl_tool.specs.Compiling.{summary_line, IsSourceRefusal, CanEndCompile};
+ghost use Rattle.fidl_tool.specs.Compiling.{IsSummary, outcome_of};
+ghost use Rattle.fidl_tool.specs.Decoding.{no_memory_line};
+ghost use Rattle.fidl_tool.specs.Outputs.{Writes, AppendsOne, AppendsFrontOfOne, ReportsFailures};
+ghost use Rattle.fidl_tool.specs.declared.outcome.Outcome.TheVariants as outcome;
+
+use crate::files::File;
+use crate::lines::{write_no_memory, write_no_output};
+use crate::outcome::Outcome;
+use crate::output::{Failed, Output};
+use crate::quoted::write_decimal;
+use crate::words::{Word, write_words};
+use fidl_compile::{CompileFault, Refusal};
+use fidl_names::Place;
+use fidl_records::read_header;
+use fidl_span::line_col;
+use std::alloc::{AllocError, Global};
+use std::io::Write;
+
+/// The bytes of files, in their order.
+fn bytes_of<'f>(alloc: Global, files: &[File<'f>]) -> Result<Vec<&'f [u8]>, AllocError>
+    ensures { IfOk result (λ texts. map (λ t. t.now) texts.items ≡ texts_of (named_of files.now)) }
+{
+    let mut texts = Vec::new(alloc);
+    for file in files {
+        texts.push(file.bytes)?;
+    }
+    Ok(texts)
+}
+
+/// The file of this number; an empty one where there is none, of which no refusal is true.
+fn file_at<'f>(files: &[File<'f>], number: usize) -> File<'f>
+    ensures name { result.name.now ≡ name_at (named_of files.now) number }
+    ensures bytes { result.bytes.now ≡ text_at (named_of files.now) number }
+{
+    match files.get(number) {
+        Some(file) => *file,
+        None => File {
+            name: "",
+            bytes: &[],
+        },
+    }
+}
+
+/// Where a refusal is reported: a file by its name, and the line and the column in it.
+#[derive(Clone, Copy, Drop)]
+struct LinePlace<'f> {
+    file: &'f str,
+    line: u64,
+    column: u64,
+}
+
+/// The line and the column of a place in these files.
+fn line_place<'f>(files: &[File<'f>], place: Place) -> LinePlace<'f>
+    ensures { located result ≡ located_at (named_of files.now) place }
+{
+    let file = file_at(files, place.file);
+    let (line, column) = line_col(file.bytes, place.span.from);
+    LinePlace {
+        file: file.name,
+        line,
+        column,
+    }
+}
+
+/// The line of a refusal at its place.
+fn write_report<E: Write>(
+    place: LinePlace<'_>,
+    refusal: &Refusal,
+    errors: &mut Output<E>,
+) -> Result<(), Failed>
+    ensures line { OnOk result
+        (Appends (E.contents errors.old.writer) (E.contents errors.new.writer)
+        (report_line (located place.entry) (reported refusal.now))) }
+    ensures kept { OnOk result (errors.new.failure ≡ errors.old.failure) }
+    ensures failed { OnErr result (IsSome errors.new.failure) }
+{
+    let LinePlace { file, line, column } = place;
+    errors.write_all(file.as_bytes())?;
+    errors.write_all(b":")?;
+    write_decimal(line, errors)?;
+    errors.write_all(b":")?;
+    write_decimal(column, errors)?;
+    let words = [
+        Word::Text(refusal.stage),
+        Word::Number(refusal.number as u64),
+        Word::Text(refusal.name),
+    ];
+    write_words(":", &words, errors)?;
+    errors.flush()
+}
+
+/// Reports why sources have no table.
+fn refuse<E: Write>(files: &[File<'_>], fault: &CompileFault, errors: &mut Output<E>) -> Outcome
+    requires { AreRefused (texts_of (named_of files.now)) fault.now }
+    ensures ends { CanEndCompile result }
+    ensures refused { result ≡ outcome.Refused
+        → AppendsOne (IsSourceRefusal (named_of files.now))
+        (E.contents errors.old.writer) (E.contents errors.new.writer) }
+    ensures memory_line { result ≡ outcome.NoMemory
+        → Appends (E.contents errors.old.writer) (E.contents errors.new.writer) no_memory_line }
+    ensures unwritten { errors.old.failure ≡ None
+        → (result ≡ outcome.Unwritten ↔ IsSome errors.new.failure) }
+{
+    match fault.refusal() {
+        Some(refusal) => {
+            let place = line_place(files, refusal.place);
+            Outcome::Refused.where_written(&write_report(place, &refusal, errors))
+        }
+        None => Outcome::NoMemory.where_written(&write_no_memory(errors)),
+    }
+}
+
+/// Writes the line that says what a table holds.
+fn write_summary<W: Write>(table: &[u8], out: &mut Output<W>) -> Result<(), Failed>
+    requires { WellFormed table.now }
+    ensures text { Writes (W.contents out.old.writer) (W.contents out.new.writer)
+        (summary_line table.now) result }
+    ensures kept { OnOk result (out.new.failure ≡ out.old.failure) }
+    ensures failed { OnErr result (IsSome out.new.failure) }
+{
+    let header = read_header(table);
+    let words = [
+        Word::Counted(header.entries as u64),
+        Word::Text("roots"),
+        Word::Counted(header.roots as u64),
+        Word::Text("protocols"),
+        Word::Counted(header.protocols as u64),
+        Word::Text("methods"),
+        Word::Counted(header.methods as u64),
+        Word::Text("bytes"),
+        Word::Number(table.len() as u64),
+    ];
+    write_words("entries", &words, out)?;
+    out.flush()
+}
+
+/// Compiles the sources of libraries, prints what their table holds, and gives its bytes.
+///
+/// `Refused` where a stage refuses the sources, with one line on `errors`: the file, line and
+/// column, the stage, and the fault's number and name. `Unwritten` comes where a write of this call
+/// fails, and `NoMemory` where memory ran out.
+pub fn compile<W: Write, E: Write>(
+    alloc: Global,
+    files: &[File<'_>],
+    out: &mut Output<W>,
+    errors: &mut Output<E>,
+) -> Result<Vec<u8>, Outcome>
+    ensures ends { IfErr result CanEndCompile }
+    ensures well_formed { IfOk result (λ table. WellFormed table.items) }
+    ensures shows { IfOk result (λ table. IsTableOf (texts_of (named_of files.now)) table.items) }
+    ensures done { IfOk result (λ table. Appends (W.contents out.old.writer)
+        (W.contents out.new.writer) (summary_line table.items)) }
+    ensures refused { result ≡ Err outcome.Refused
+        → AppendsOne (IsSourceRefusal (named_of files.now))
+        (E.contents errors.old.writer) (E.contents errors.new.writer) }
+    ensures memory_line { result ≡ Err outcome.NoMemory
+        → Appends (E.contents errors.old.writer) (E.contents errors.new.writer) no_memory_line }
+    ensures unwritten { ReportsFailures (outcome_of result) out.old.failure out.new.failure
+        errors.old.failure errors.new.failure }
+    ensures front { result ≡ Err outcome.Unwritten
+        → AppendsFrontOfOne (IsSummary (texts_of (named_of files.now)))
+        (W.contents out.old.writer) (W.contents out.new.writer) }
+    ensures out { IfErr result (λ ended. ended ≢ outcome.Unwritten
+        → W.contents out.new.writer ≡ W.contents out.old.writer) }
+    ensures errors { OnOk result
+        (E.contents errors.new.writer ≡ E.contents errors.old.writer) }
+{
+    let Ok(sources) = bytes_of(alloc, files) else {
+        return Err(Outcome::NoMemory.where_written(&write_no_memory(errors)));
+    };
+    let table = match fidl_compile::compile(alloc, &sources) {
+        Ok(table) => table,
+        Err(fault) => return Err(refuse(files, &fault, errors)),
+    };
+    match write_summary(&table, out) {
+        Ok(()) => Ok(table),
+        Err(Failed) => Err(Outcome::Unwritten.where_written(&write_no_output(errors, out))),
+    }
+}

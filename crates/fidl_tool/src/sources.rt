@@ -1,0 +1,124 @@
+//! The command `compile` on files: reading its sources, and writing its table.
+ghost use Rattle.std.specs.Prelude.{◌≡◌, ◌≢◌, ◌↔◌, map, None, IfOk, IfErr, OnOk, IsSome};
+ghost use Rattle.fidl_tool.specs.Compiling.{named_of, IsSourceRefusal};
+ghost use Rattle.fidl_tool.specs.Outputs.{AppendsOne, ReportsFailures};
+ghost use Rattle.fidl_tool.specs.Running.{IsRead, AreRead, stored_as};
+ghost use Rattle.fidl_tool.specs.Running.{OfSources, sources_of, AreCompiled};
+ghost use Rattle.fidl_tool.specs.Running.{CanEndReading, CanEndCompileRun};
+ghost use Rattle.fidl_tool.specs.declared.outcome.Outcome.TheVariants as outcome;
+
+use crate::arguments::CompileArguments;
+use crate::compiling::compile;
+use crate::files::{File, Files};
+use crate::lines::write_no_memory;
+use crate::outcome::Outcome;
+use crate::output::Output;
+use crate::program::tell_no_file;
+use std::alloc::{AllocError, Global};
+use std::io::Write;
+
+/// A source that was read: its name on the command line, and its bytes.
+#[derive(Drop)]
+pub(crate) struct Source<'a> {
+    pub name: &'a str,
+    pub bytes: Vec<u8>,
+}
+
+/// Reads the file of this name.
+fn read_source<'a, F: Files, E: Write>(
+    alloc: Global,
+    name: &'a str,
+    files: &F,
+    errors: &mut Output<E>,
+) -> Result<Source<'a>, Outcome>
+    ensures read { IfOk result (λ source. IsRead (F.bytes_of files.now) name.now
+        (stored_as source)) }
+    ensures kept { OnOk result (errors.new ≡ errors.old) }
+    ensures ends { IfErr result CanEndReading }
+    ensures unwritten { IfErr result (λ ended. errors.old.failure ≡ None
+        → (ended ≡ outcome.Unwritten ↔ IsSome errors.new.failure)) }
+{
+    match files.read(alloc, name) {
+        Ok(bytes) => Ok(Source { name, bytes }),
+        Err(error) => Err(tell_no_file(name, &error, errors)),
+    }
+}
+
+/// Reads the files of these names.
+fn read_all<'a, F: Files, E: Write>(
+    alloc: Global,
+    names: &[&'a str],
+    files: &F,
+    errors: &mut Output<E>,
+) -> Result<Vec<Source<'a>>, Outcome>
+    ensures read { IfOk result (λ sources. AreRead (F.bytes_of files.now)
+        (map (λ n. n.now) names.now) (map stored_as sources.items)) }
+    ensures kept { OnOk result (errors.new ≡ errors.old) }
+    ensures ends { IfErr result CanEndReading }
+    ensures unwritten { IfErr result (λ ended. errors.old.failure ≡ None
+        → (ended ≡ outcome.Unwritten ↔ IsSome errors.new.failure)) }
+{
+    let mut sources = Vec::new(alloc);
+    for name in names {
+        let source = read_source(alloc, *name, files, errors)?;
+        let Ok(()) = sources.push(source) else {
+            return Err(Outcome::NoMemory.where_written(&write_no_memory(errors)));
+        };
+    }
+    Ok(sources)
+}
+
+/// Sources as files.
+fn files_of<'f>(alloc: Global, sources: &'f [Source<'_>]) -> Result<Vec<File<'f>>, AllocError>
+    ensures { IfOk result (λ files. named_of files.items ≡ map stored_as sources.now) }
+{
+    let mut files = Vec::new(alloc);
+    for source in sources {
+        files.push(File {
+            name: source.name,
+            bytes: source.bytes.as_slice(),
+        })?;
+    }
+    Ok(files)
+}
+
+/// Reads the sources, compiles them, and writes their table.
+pub(crate) fn run_compile<F: Files, W: Write, E: Write>(
+    alloc: Global,
+    arguments: &CompileArguments<'_>,
+    files: &mut F,
+    out: &mut Output<W>,
+    errors: &mut Output<E>,
+) -> Outcome
+    ensures ends { CanEndCompileRun result }
+    ensures done { result ≡ outcome.Done
+        → OfSources (F.bytes_of files.old) (sources_of arguments.now)
+        (λ sources. AreCompiled arguments.now sources
+        (W.contents out.old.writer) (W.contents out.new.writer)
+        (F.written files.old) (F.written files.new)) }
+    ensures refused { result ≡ outcome.Refused
+        → OfSources (F.bytes_of files.old) (sources_of arguments.now)
+        (λ sources. AppendsOne (IsSourceRefusal sources)
+        (E.contents errors.old.writer) (E.contents errors.new.writer)) }
+    ensures written { result ≢ outcome.Done → F.written files.new ≡ F.written files.old }
+    ensures unwritten { ReportsFailures result out.old.failure out.new.failure
+        errors.old.failure errors.new.failure }
+    ensures errors { result ≡ outcome.Done
+        → E.contents errors.new.writer ≡ E.contents errors.old.writer }
+{
+    let sources = match read_all(alloc, &arguments.sources, &*files, errors) {
+        Ok(sources) => sources,
+        Err(ended) => return ended,
+    };
+    let Ok(named) = files_of(alloc, &sources) else {
+        return Outcome::NoMemory.where_written(&write_no_memory(errors));
+    };
+    let table = match compile(alloc, &named, out, errors) {
+        Ok(table) => table,
+        Err(ended) => return ended,
+    };
+    match files.write(arguments.out, &table) {
+        Ok(()) => Outcome::Done,
+        Err(error) => tell_no_file(arguments.out, &error, errors),
+    }
+}
