@@ -8,12 +8,11 @@ ghost use Rattle.fidl_layout.specs.Laid.{AreLaidOut};
 ghost use Rattle.fidl_layout.specs.Roots.{RootAt};
 ghost use Rattle.fidl_names.specs.declared.place.DeclarationId.{DeclarationId};
 ghost use Rattle.fidl_compositions.specs.Protocols.{IsProtocol};
-ghost use Rattle.fidl_numbered.specs.Samples.{one_entry};
-ghost use Rattle.fidl_assembly.specs.Samples.{header_bytes, two_roots};
+ghost use Rattle.fidl_assembly.specs.Samples.{header_bytes};
 ghost use Rattle.fidl_table.specs.Definitions.{definition_names, ShowsDefinition};
 ghost use Rattle.fidl_table.specs.Roots.{IsRootOf, ShowsRoots};
 ghost use Rattle.fidl_table.specs.Shows.{Shows};
-ghost use Rattle.fidl_table.specs.Samples.{number_and_bool, two_protocols};
+ghost use Rattle.fidl_table.specs.Samples.{three_types, three_names, two_roots, one_protocol};
 
 pub mod listed;
 pub mod protocols;
@@ -27,43 +26,41 @@ pub fn names_of_definitions()
 
 /// The entry of a definition has its name and its values.
 pub fn entries_of_definitions()
-    ensures a_bool { (files : List File) → definition_names files ≡ codes "b" ∷ codes "a" ∷ []
-        → ShowsDefinition files number_and_bool (one_entry 1) 1 0 }
-    ensures other_name { (files : List File) → definition_names files ≡ codes "a" ∷ codes "b" ∷ []
-        → ¬ ShowsDefinition files number_and_bool (one_entry 1) 1 0 }
+    ensures a_struct { (files : List File) → definition_names files ≡ three_names
+        → ShowsDefinition files three_types (two_roots 16 0 1) 2 1 }
+    ensures other_name { (files : List File)
+        → definition_names files ≡ codes "l/b" ∷ codes "l/a" ∷ codes "l/c" ∷ []
+        → ¬ ShowsDefinition files three_types (two_roots 16 0 1) 2 1 }
     ensures other_type { (files : List File)
-        → ¬ ShowsDefinition files number_and_bool (one_entry 6) 1 0 }
+        → ¬ ShowsDefinition files three_types (two_roots 6 0 1) 2 1 }
     ensures other_definition { (files : List File)
-        → ¬ ShowsDefinition files number_and_bool (one_entry 1) 0 0 }
+        → ¬ ShowsDefinition files three_types (two_roots 16 0 1) 0 1 }
     ensures no_definition { (ds : Declarations) (bytes : List ℕ) (definition entry : ℕ)
         → ¬ ShowsDefinition [] ds bytes definition entry }
 {}
 
 /// A root is of a declared type, and has its name and its entry.
 pub fn roots_of_declared_types()
-    ensures same { (files : List File) (ds : Declarations)
-        → definition_names files ≡ codes "b" ∷ codes "a" ∷ [] → RootAt files 0
-        → ShowsDefinition files ds (two_roots 2) 0 2 → IsRootOf files ds (two_roots 2) 0 1 }
-    ensures undeclared { (files : List File) (ds : Declarations) → ¬ RootAt files 0
-        → ¬ IsRootOf files ds (two_roots 2) 0 1 }
-    ensures other_name { (files : List File) (ds : Declarations)
-        → definition_names files ≡ codes "a" ∷ codes "b" ∷ []
-        → ¬ IsRootOf files ds (two_roots 2) 0 1 }
-    ensures other_entry { (files : List File) (ds : Declarations)
-        → ¬ ShowsDefinition files ds (two_roots 2) 0 2
-        → ¬ IsRootOf files ds (two_roots 2) 0 1 }
+    ensures same { (files : List File) → definition_names files ≡ three_names → RootAt files 2
+        → IsRootOf files three_types (two_roots 16 0 1) 2 0 }
+    ensures undeclared { (files : List File) → definition_names files ≡ three_names
+        → ¬ RootAt files 2 → ¬ IsRootOf files three_types (two_roots 16 0 1) 2 0 }
+    ensures other_name { (files : List File) → definition_names files ≡ three_names
+        → ¬ IsRootOf files three_types (two_roots 16 3 1) 2 0 }
+    ensures other_entry { (files : List File) → definition_names files ≡ three_names
+        → ¬ IsRootOf files three_types (two_roots 16 0 2) 2 0 }
 {}
 
 /// The roots of a table are all declared types, and nothing else.
 pub fn lists_of_roots()
     ensures none { (ds : Declarations) → ShowsRoots [] ds (header_bytes 0 0 0 0) }
     ensures both { (files : List File) (ds : Declarations)
-        → ((i : ℕ) → RootAt files i → (i ≡ 3) ⊎ (i ≡ 0))
-        → IsRootOf files ds (two_roots 2) 3 0 → IsRootOf files ds (two_roots 2) 0 1
-        → ShowsRoots files ds (two_roots 2) }
+        → ((i : ℕ) → RootAt files i → (i ≡ 2) ⊎ (i ≡ 0))
+        → IsRootOf files ds (two_roots 16 0 1) 2 0 → IsRootOf files ds (two_roots 16 0 1) 0 1
+        → ShowsRoots files ds (two_roots 16 0 1) }
     ensures fewer { (files : List File) (ds : Declarations) (i : ℕ) → RootAt files i
         → ¬ ShowsRoots files ds (header_bytes 0 0 0 0) }
-    ensures more { (ds : Declarations) → ¬ ShowsRoots [] ds (two_roots 2) }
+    ensures more { (ds : Declarations) → ¬ ShowsRoots [] ds (two_roots 16 0 1) }
 {}
 
 /// A table shows files that are laid out, by their declared types and their protocols, all of both.
@@ -71,10 +68,10 @@ pub fn tables_of_files()
     ensures none { Shows [] (header_bytes 0 0 0 0) }
     ensures fewer_roots { (files : List File) (i : ℕ) → RootAt files i
         → ¬ Shows files (header_bytes 0 0 0 0) }
-    ensures more_roots { ¬ Shows [] (two_roots 2) }
+    ensures more_roots { ¬ Shows [] (two_roots 16 0 1) }
     ensures fewer_protocols { (files : List File) (id : DeclarationId) → IsProtocol files id
         → ¬ Shows files (header_bytes 0 0 0 0) }
-    ensures more_protocols { ¬ Shows [] (two_protocols 1 1 7 7) }
+    ensures more_protocols { ¬ Shows [] one_protocol }
     ensures not_laid_out { (files : List File) (bytes : List ℕ)
         → ((ds : Declarations) → ¬ AreLaidOut files ds) → ¬ Shows files bytes }
 {}

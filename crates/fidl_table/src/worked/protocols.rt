@@ -17,7 +17,7 @@ ghost use Rattle.fidl_table.specs.Definitions.{ShowsDefinition};
 ghost use Rattle.fidl_table.specs.Protocols.{openness_number, ShowsPayload, ShowsMethod};
 ghost use Rattle.fidl_table.specs.Protocols.{ShowsProtocol, ShowsProtocols};
 ghost use Rattle.fidl_table.specs.Samples.{piece, IsSmall, first, a_method, a_protocol};
-ghost use Rattle.fidl_table.specs.Samples.{two_protocols};
+ghost use Rattle.fidl_table.specs.Samples.{one_protocol, two_protocols};
 
 /// The numbers of openness.
 pub fn numbers_of_openness()
@@ -58,7 +58,7 @@ pub fn methods_of_tables()
     ensures same { (files : List File) (ds : Declarations) (f : File) (openness : Openness)
         (members : List ProtocolMember) → IsSmall f
         → IsProtocolAt files first f openness (piece 1) members
-        → ShowsDefinition files ds (two_protocols 1 1 7 7) 2 4
+        → ShowsDefinition files ds (two_protocols 1 1 7 7) 2 1
         → ShowsMethod files ds (two_protocols 1 1 7 7) a_method 2 }
     ensures other_name { (files : List File) (ds : Declarations) (f : File) (openness : Openness)
         (members : List ProtocolMember) → IsSmall f
@@ -73,7 +73,7 @@ pub fn methods_of_tables()
     ensures no_response { (files : List File) (ds : Declarations)
         → ¬ ShowsMethod files ds (two_protocols 1 1 7 3) a_method 2 }
     ensures other_request { (files : List File) (ds : Declarations)
-        → ¬ ShowsDefinition files ds (two_protocols 1 1 7 7) 2 4
+        → ¬ ShowsDefinition files ds (two_protocols 1 1 7 7) 2 1
         → ¬ ShowsMethod files ds (two_protocols 1 1 7 7) a_method 2 }
     ensures other_number { (files : List File) (ds : Declarations)
         → ¬ ShowsMethod files ds (two_protocols 1 1 7 7) a_method 1 }
@@ -111,12 +111,12 @@ pub fn protocols_of_tables()
 pub fn lists_of_protocols()
     ensures none { (ds : Declarations) → ShowsProtocols [] ds (header_bytes 0 0 0 0) }
     ensures one { (files : List File) (ds : Declarations) (p : Protocol)
-        → AreProtocolsWith files (p ∷ []) → ShowsProtocol files ds (header_bytes 0 0 1 0) p 0
-        → ShowsProtocols files ds (header_bytes 0 0 1 0) }
+        → AreProtocolsWith files (p ∷ []) → ShowsProtocol files ds one_protocol p 0
+        → ShowsProtocols files ds one_protocol }
     ensures fewer { (files : List File) (ds : Declarations) (id : DeclarationId)
         → IsProtocol files id → ¬ ShowsProtocols files ds (header_bytes 0 0 0 0) }
-    ensures more { (ds : Declarations) → ¬ ShowsProtocols [] ds (two_protocols 1 1 7 7) }
+    ensures more { (ds : Declarations) → ¬ ShowsProtocols [] ds one_protocol }
     ensures not_shown { (files : List File) (ds : Declarations)
-        → ((p : Protocol) → ¬ ShowsProtocol files ds (two_protocols 1 1 7 7) p 1)
-        → ¬ ShowsProtocols files ds (two_protocols 1 1 7 7) }
+        → ((p : Protocol) → ¬ ShowsProtocol files ds one_protocol p 0)
+        → ¬ ShowsProtocols files ds one_protocol }
 {}
