@@ -2,6 +2,8 @@
 --   Roots      the roots, by their names and their definitions
 --   Methods    what the messages of methods carry, methods and protocols
 --   Assembled  the whole table
+--   Samples    small tables, methods and protocols for worked facts
 pub mod Roots
 pub mod Methods
 pub mod Assembled
+pub mod Samples

@@ -13,6 +13,7 @@ mod sections;
 mod shown_protocols;
 mod shown_roots;
 mod values;
+pub mod worked;
 
 pub use assembling::assemble;
 pub use listing::{Carried, Listing, MethodEntry, ProtocolEntry};

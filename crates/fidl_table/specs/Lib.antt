@@ -3,9 +3,11 @@
 --   Roots        the roots
 --   Protocols    protocols and their methods
 --   Shows        the whole table
--- Listed is of the code alone: methods and protocols on the way to a table.
+-- Listed is of the code alone: methods and protocols on the way to a table. Samples has small
+-- tables, methods and protocols for worked facts.
 pub mod Definitions
 pub mod Roots
 pub mod Protocols
 pub mod Shows
 pub mod Listed
+pub mod Samples

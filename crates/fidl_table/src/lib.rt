@@ -7,6 +7,7 @@ mod found;
 mod methods;
 mod protocols;
 mod roots;
+pub mod worked;
 mod writing;
 
 pub use fidl_records::{

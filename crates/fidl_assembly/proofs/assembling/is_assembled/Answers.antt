@@ -1,4 +1,4 @@
-use Rattle.std.proofs.Common.{◌≡◌, ◌∙◌, ℕ, List, map, ap, subst, sym}
+use Rattle.std.proofs.Common.{map, subst}
 use Rattle.fidl_entries.specs.Growing.{seen_ref}
 use Rattle.fidl_assembly.specs.Roots.{ShowsRoots}
 use Rattle.fidl_assembly.specs.Methods.{ShowsProtocols}

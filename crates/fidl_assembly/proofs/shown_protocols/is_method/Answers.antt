@@ -1,4 +1,4 @@
-use Rattle.std.proofs.Common.{◌≡◌, ◌∙◌, ℕ, Bool, true, false, not, map, refl, ap, subst, sym, true≢false}
+use Rattle.std.proofs.Common.{◌≡◌, ◌∙◌, Bool, true, false, not, map, refl, ap, subst, sym, true≢false}
 use Rattle.std.specs.Bool.{beq}
 use Rattle.fidl_records.specs.declared.record.MethodRecord.{MethodRecord}
 use Rattle.fidl_records.specs.Section.{header_of, method_at, name_at}

@@ -1,4 +1,4 @@
-use Rattle.std.proofs.Common.{◌≡◌, ◌∙◌, ◌+◌, ℕ, map, slice_get, ap, subst, sym}
+use Rattle.std.proofs.Common.{◌≡◌, ◌∙◌, ◌+◌, map, slice_get, ap, subst, sym}
 use Rattle.fidl_records.specs.declared.record.ProtocolRecord.{ProtocolRecord}
 use Rattle.fidl_records.specs.Section.{header_of, protocol_at, name_at}
 use Rattle.fidl_entries.specs.Growing.{seen_ref}
