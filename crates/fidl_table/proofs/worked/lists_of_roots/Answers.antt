@@ -1,4 +1,4 @@
-use Rattle.std.proofs.Common.{◌≡◌, ◌<◌, ℕ, zero, suc, List, inl, inr, subst, sym, arith}
+use Rattle.std.proofs.Common.{◌<◌, ℕ, zero, suc, List, inl, inr, subst, sym, arith}
 use Rattle.fidl_tree.specs.declared.file.File.{File}
 use Rattle.fidl_wire.specs.Figure.{Declarations}
 use Rattle.fidl_table.specs.Roots.{IsRootOf}
