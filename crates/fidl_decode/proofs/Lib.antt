@@ -50,3 +50,4 @@ pub mod TableFacts
 pub mod LeafContent
 pub mod Tail
 pub mod Last
+pub mod Front
