@@ -51,3 +51,4 @@ pub mod LeafContent
 pub mod Tail
 pub mod Last
 pub mod Front
+pub mod Known

@@ -10,12 +10,13 @@ ghost use Rattle.fidl_decode.specs.Faults.{message_of};
 ghost use Rattle.fidl_decode.specs.State.{At};
 ghost use Rattle.fidl_decode.specs.declared.frame.Left.TheVariants as left;
 ghost use Rattle.fidl_decode.specs.Machine.{Reads, StateFine, FrameFine, BreaksFrame, Turns};
-ghost use Rattle.fidl_decode.specs.Machine.{turn_work, at_of};
+ghost use Rattle.fidl_decode.specs.Machine.{IsKnown, turn_work, at_of};
 
 use crate::decoder::{Decoder, zeros_at};
 use crate::fault::DecodeFault;
 use crate::frame::{Frame, Left, State};
 use crate::leaf::{is_free, is_leaf};
+use crate::plain::Plain;
 use fidl_records::EntryKind;
 
 impl<'t, 'm> Decoder<'t, 'm> {
@@ -74,11 +75,15 @@ impl<'t, 'm> Decoder<'t, 'm> {
     pub(crate) fn read_struct(
         &self,
         frame: Frame,
+        known: &Plain,
         state: &mut State,
     ) -> Result<Option<Frame>, DecodeFault>
         requires table { IsFine self.now.table.now }
         requires short { length self.now.bytes.now ≤ MAX_MESSAGE_BYTES }
         requires frame { FrameFine self.now.table.now self.now.bytes.now frame }
+        requires known { IsKnown self.now.table.now
+            (message_of self.now.bytes.now self.now.handles.now) known.now.rows known.now.first
+            known.now.count known.now.done known.now.flag }
         requires state { StateFine (message_of self.now.bytes.now self.now.handles.now)
             (at_of state.old) }
         requires budget { state.old.steps + turn_work self.now.bytes.now state.old.next frame
@@ -99,7 +104,7 @@ impl<'t, 'm> Decoder<'t, 'm> {
             (BreaksFrame self.now.table.now (message_of self.now.bytes.now self.now.handles.now)
             frame (at_of state.old)) }
     {
-        let Some(now) = self.read_nested(frame, state)? else {
+        let Some(now) = self.read_nested(frame, known, state)? else {
             return Ok(None);
         };
         let Left::Rows {

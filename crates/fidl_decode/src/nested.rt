@@ -10,13 +10,14 @@ ghost use Rattle.fidl_decode.specs.Faults.{message_of};
 ghost use Rattle.fidl_decode.specs.State.{At};
 ghost use Rattle.fidl_decode.specs.declared.frame.Left.TheVariants as left;
 ghost use Rattle.fidl_decode.specs.Machine.{Reads, StateFine, FrameFine, BreaksFrame, Turns};
-ghost use Rattle.fidl_decode.specs.Machine.{IsPlain, rows_left, behind_rows, turn_work, at_of};
+ghost use Rattle.fidl_decode.specs.Machine.{IsPlain, IsKnown, rows_left, behind_rows};
+ghost use Rattle.fidl_decode.specs.Machine.{turn_work, at_of};
 
 use crate::decoder::{Decoder, zeros_at};
 use crate::fault::DecodeFault;
 use crate::frame::{Frame, Left, State};
 use crate::leaf::is_leaf;
-use crate::plain::rows_from;
+use crate::plain::{Plain, rows_from};
 use fidl_records::EntryKind;
 
 impl<'t, 'm> Decoder<'t, 'm> {
@@ -176,11 +177,15 @@ impl<'t, 'm> Decoder<'t, 'm> {
     pub(crate) fn read_nested(
         &self,
         frame: Frame,
+        known: &Plain,
         state: &mut State,
     ) -> Result<Option<Frame>, DecodeFault>
         requires table { IsFine self.now.table.now }
         requires short { length self.now.bytes.now ≤ MAX_MESSAGE_BYTES }
         requires frame { FrameFine self.now.table.now self.now.bytes.now frame }
+        requires known { IsKnown self.now.table.now
+            (message_of self.now.bytes.now self.now.handles.now) known.now.rows known.now.first
+            known.now.count known.now.done known.now.flag }
         requires state { StateFine (message_of self.now.bytes.now self.now.handles.now)
             (at_of state.old) }
         requires budget { state.old.steps + turn_work self.now.bytes.now state.old.next frame
@@ -230,17 +235,18 @@ impl<'t, 'm> Decoder<'t, 'm> {
             let Some(below) = self.enter_box(rest, next, state)? else {
                 return Ok(None);
             };
+            let content = self.pass_known(below, known, state);
             let Left::Rows {
                 first: front,
                 count: behind,
-            } = below.left
+            } = content.left
             else {
-                return Ok(Some(below));
+                return Ok(Some(content));
             };
-            holder = below;
+            holder = content;
             next = front;
             many = behind;
-            done = below.done;
+            done = content.done;
         }
         self.end_rows(rows_from(holder, next, 0, done), state)
     }
@@ -275,6 +281,10 @@ impl<'t, 'm> Decoder<'t, 'm> {
             (BreaksFrame self.now.table.now (message_of self.now.bytes.now self.now.handles.now)
             frame (at_of state.old)) }
     {
-        self.read_nested(frame, state)
+        let Left::Rows { first, count } = frame.left else {
+            return Ok(Some(frame));
+        };
+        let known = self.plain_below(first, count);
+        self.read_nested(frame, &known, state)
     }
 }

@@ -11,7 +11,7 @@ ghost use Rattle.fidl_decode.specs.Faults.{message_of};
 ghost use Rattle.fidl_decode.specs.declared.frame.Left.TheVariants as left;
 ghost use Rattle.fidl_decode.specs.State.{At};
 ghost use Rattle.fidl_decode.specs.Machine.{StateFine, FrameFine, Visits, Turns, Reads, BreaksFrame};
-ghost use Rattle.fidl_decode.specs.Machine.{IsGood, Passes, turn_work, at_of};
+ghost use Rattle.fidl_decode.specs.Machine.{IsGood, Passes, IsKnown, turn_work, at_of};
 
 use crate::decoder::Decoder;
 use crate::fault::DecodeFault;
@@ -115,6 +115,8 @@ impl<'t, 'm> Decoder<'t, 'm> {
         requires table { IsFine self.now.table.now }
         requires within { first + count ≤ (header_of self.now.table.now).rows }
         ensures few { result.rows ≤ count }
+        ensures first { result.first ≡ first + result.rows }
+        ensures count { result.rows + result.count ≡ count }
         ensures passes { Passes self.now.table.now
             (message_of self.now.bytes.now self.now.handles.now) (left.Rows first count)
             result.rows result.first result.count result.done result.flag }
@@ -143,6 +145,29 @@ impl<'t, 'm> Decoder<'t, 'm> {
             first: end,
             count: 0,
             flag,
+        }
+    }
+
+    /// The same rows of the struct in the box that is the last of these rows; none where it is no box.
+    pub(crate) fn plain_below(&self, first: u32, count: u32) -> Plain
+        requires table { IsFine self.now.table.now }
+        requires within { first + count ≤ (header_of self.now.table.now).rows }
+        ensures known { IsKnown self.now.table.now
+            (message_of self.now.bytes.now self.now.handles.now) result.rows result.first
+            result.count result.done result.flag }
+    {
+        if count == 0 {
+            return self.plain_rows(first, 0);
+        }
+        let _rows = self.table.rows();
+        let row = self.table.row(first + (count - 1));
+        let e = self.table.entry(row.entry);
+        match EntryKind::from_number(e.kind) {
+            Some(EntryKind::Box) => {
+                let content = self.table.entry(e.first);
+                self.plain_rows(content.first, content.count)
+            }
+            _ => self.plain_rows(first, 0),
         }
     }
 
@@ -186,6 +211,39 @@ impl<'t, 'm> Decoder<'t, 'm> {
         rows_from(frame, plain.first, plain.count, plain.done)
     }
 
+    /// Passes over the first rows of a struct, where they are those that are known.
+    #[inline(always)]
+    pub(crate) fn pass_known(&self, frame: Frame, known: &Plain, state: &mut State) -> Frame
+        requires short { length self.now.bytes.now ≤ MAX_MESSAGE_BYTES }
+        requires frame { FrameFine self.now.table.now self.now.bytes.now frame }
+        requires known { IsKnown self.now.table.now
+            (message_of self.now.bytes.now self.now.handles.now) known.now.rows known.now.first
+            known.now.count known.now.done known.now.flag }
+        requires state { StateFine (message_of self.now.bytes.now self.now.handles.now)
+            (at_of state.old) }
+        requires budget { state.old.steps + turn_work self.now.bytes.now state.old.next frame
+            < 2 ^ 40 }
+        ensures turns { Turns self.now.table.now
+            (message_of self.now.bytes.now self.now.handles.now) frame (at_of state.old)
+            (at_of state.new) (state.new.steps - state.old.steps)
+            (record { below = None; rest = Some result }) }
+        ensures grows { state.old.steps ≤ state.new.steps }
+    {
+        let Left::Rows { first, count } = frame.left else {
+            return frame;
+        };
+        if frame.done != 0 {
+            return frame;
+        }
+        if u64::from(first) + u64::from(known.rows) != u64::from(known.first) {
+            return frame;
+        }
+        if u64::from(known.rows) + u64::from(known.count) != u64::from(count) {
+            return frame;
+        }
+        self.pass_over(frame, known, state)
+    }
+
     /// Reads a struct as `read_struct` does, of which the first rows are known to take any bytes but
     /// for a bool.
     #[inline(always)]
@@ -193,6 +251,7 @@ impl<'t, 'm> Decoder<'t, 'm> {
         &self,
         frame: Frame,
         plain: &Plain,
+        known: &Plain,
         state: &mut State,
     ) -> Result<Option<Frame>, DecodeFault>
         requires table { IsFine self.now.table.now }
@@ -202,6 +261,9 @@ impl<'t, 'm> Decoder<'t, 'm> {
         requires passes { Passes self.now.table.now
             (message_of self.now.bytes.now self.now.handles.now) frame.left plain.now.rows
             plain.now.first plain.now.count plain.now.done plain.now.flag }
+        requires known { IsKnown self.now.table.now
+            (message_of self.now.bytes.now self.now.handles.now) known.now.rows known.now.first
+            known.now.count known.now.done known.now.flag }
         requires state { StateFine (message_of self.now.bytes.now self.now.handles.now)
             (at_of state.old) }
         requires budget { state.old.steps + turn_work self.now.bytes.now state.old.next frame
@@ -223,6 +285,6 @@ impl<'t, 'm> Decoder<'t, 'm> {
             frame (at_of state.old)) }
     {
         let rest = self.pass_over(frame, plain, state);
-        self.read_struct(rest, state)
+        self.read_struct(rest, known, state)
     }
 }

@@ -194,6 +194,70 @@ returns-in_default-2-clause-ok c =
     let two = subst (λ (o : Option Frame). Turns t m rest now new spent (left_over o)) c.in_default-2.is c.in_ok-below.ensures.ok in
     turns_then t m f old now a rest so_far new spent all (left_over None) (omega (arith, begun, rises)) two
 
+pub pass_known-content-requires-clause-frame : goal.pass_known-content-requires-clause-frame
+pass_known-content-requires-clause-frame c =
+    let t = c.args.self.now.table.now in
+    let m = message_of c.args.self.now.bytes.now c.args.self.now.handles.now in
+    let f = c.args.frame in
+    let old = at_of c.args.state.now in
+    let now = at_of c.loop-many.state in
+    let a = c.loop-many.state.steps - c.args.state.now.steps in
+    let begun = c.loop-many.invariant.steps in
+    let rest = c.rows_from-rest.result in
+    let same = c.rows_from-rest.ensures in
+    let so_far = subst (λ (x : Frame). Turns t m f old now a (left_over (Some x))) (sym same) c.loop-many.invariant.turns in
+    let less = so_far.less in
+    let new = at_of c.enter_box.new.state in
+    let spent = c.enter_box.new.state.steps - c.loop-many.state.steps in
+    let all = c.enter_box.new.state.steps - c.args.state.now.steps in
+    let rises = c.in_ok-below.ensures.rises in
+    let two = subst (λ (o : Option Frame). Turns t m rest now new spent (left_over o)) c.in-Some-2.is c.in_ok-below.ensures.ok in
+    let run = turns_then t m f old now a rest so_far new spent all (left_over (Some c.in-Some-2.below)) (omega (arith, begun, rises)) two in
+    run.rest_fine.0
+
+pub pass_known-content-requires-clause-state : goal.pass_known-content-requires-clause-state
+pass_known-content-requires-clause-state c =
+    let t = c.args.self.now.table.now in
+    let m = message_of c.args.self.now.bytes.now c.args.self.now.handles.now in
+    let f = c.args.frame in
+    let old = at_of c.args.state.now in
+    let now = at_of c.loop-many.state in
+    let a = c.loop-many.state.steps - c.args.state.now.steps in
+    let begun = c.loop-many.invariant.steps in
+    let rest = c.rows_from-rest.result in
+    let same = c.rows_from-rest.ensures in
+    let so_far = subst (λ (x : Frame). Turns t m f old now a (left_over (Some x))) (sym same) c.loop-many.invariant.turns in
+    let less = so_far.less in
+    let new = at_of c.enter_box.new.state in
+    let spent = c.enter_box.new.state.steps - c.loop-many.state.steps in
+    let all = c.enter_box.new.state.steps - c.args.state.now.steps in
+    let rises = c.in_ok-below.ensures.rises in
+    let two = subst (λ (o : Option Frame). Turns t m rest now new spent (left_over o)) c.in-Some-2.is c.in_ok-below.ensures.ok in
+    let run = turns_then t m f old now a rest so_far new spent all (left_over (Some c.in-Some-2.below)) (omega (arith, begun, rises)) two in
+    run.state
+
+pub pass_known-content-requires-clause-budget : goal.pass_known-content-requires-clause-budget
+pass_known-content-requires-clause-budget c =
+    let t = c.args.self.now.table.now in
+    let m = message_of c.args.self.now.bytes.now c.args.self.now.handles.now in
+    let f = c.args.frame in
+    let old = at_of c.args.state.now in
+    let now = at_of c.loop-many.state in
+    let a = c.loop-many.state.steps - c.args.state.now.steps in
+    let begun = c.loop-many.invariant.steps in
+    let rest = c.rows_from-rest.result in
+    let same = c.rows_from-rest.ensures in
+    let so_far = subst (λ (x : Frame). Turns t m f old now a (left_over (Some x))) (sym same) c.loop-many.invariant.turns in
+    let less = so_far.less in
+    let new = at_of c.enter_box.new.state in
+    let spent = c.enter_box.new.state.steps - c.loop-many.state.steps in
+    let all = c.enter_box.new.state.steps - c.args.state.now.steps in
+    let rises = c.in_ok-below.ensures.rises in
+    let two = subst (λ (o : Option Frame). Turns t m rest now new spent (left_over o)) c.in-Some-2.is c.in_ok-below.ensures.ok in
+    let run = turns_then t m f old now a rest so_far new spent all (left_over (Some c.in-Some-2.below)) (omega (arith, begun, rises)) two in
+    let less_run = run.less in
+    omega (arith, less_run, begun, rises, c.requires.budget)
+
 pub returns-in_default-left : goal.returns-in_default-left
 returns-in_default-left c =
     let t = c.args.self.now.table.now in
@@ -213,8 +277,38 @@ returns-in_default-left c =
     let rises = c.in_ok-below.ensures.rises in
     let two = subst (λ (o : Option Frame). Turns t m rest now new spent (left_over o)) c.in-Some-2.is c.in_ok-below.ensures.ok in
     let run = turns_then t m f old now a rest so_far new spent all (left_over (Some c.in-Some-2.below)) (omega (arith, begun, rises)) two in
-    let less_run = run.less in
-    record { ok = run; grows = omega (arith, begun, rises); ended = tt; cost = omega (arith, begun, rises, less_run); err = tt; told = tt }
+    let content = c.pass_known-content.result in
+    let passed = c.pass_known-content.ensures.grows in
+    let on = at_of c.pass_known-content.new.state in
+    let whole = c.pass_known-content.new.state.steps - c.args.state.now.steps in
+    let all_read = turns_then t m f old new all c.in-Some-2.below run on (c.pass_known-content.new.state.steps - c.enter_box.new.state.steps) whole (left_over (Some content)) (omega (arith, begun, rises, passed)) c.pass_known-content.ensures.turns in
+    let less_read = all_read.less in
+    record { ok = all_read; grows = omega (arith, begun, rises, passed); ended = tt; cost = omega (arith, begun, rises, passed, less_read); err = tt; told = tt }
+
+pub loop-many-smaller : goal.loop-many-smaller
+loop-many-smaller c =
+    let t = c.args.self.now.table.now in
+    let m = message_of c.args.self.now.bytes.now c.args.self.now.handles.now in
+    let f = c.args.frame in
+    let old = at_of c.args.state.now in
+    let now = at_of c.loop-many.state in
+    let a = c.loop-many.state.steps - c.args.state.now.steps in
+    let begun = c.loop-many.invariant.steps in
+    let rest = c.rows_from-rest.result in
+    let same = c.rows_from-rest.ensures in
+    let so_far = subst (λ (x : Frame). Turns t m f old now a (left_over (Some x))) (sym same) c.loop-many.invariant.turns in
+    let less = so_far.less in
+    let new = at_of c.enter_box.new.state in
+    let spent = c.enter_box.new.state.steps - c.loop-many.state.steps in
+    let all = c.enter_box.new.state.steps - c.args.state.now.steps in
+    let rises = c.in_ok-below.ensures.rises in
+    let two = subst (λ (o : Option Frame). Turns t m rest now new spent (left_over o)) c.in-Some-2.is c.in_ok-below.ensures.ok in
+    let run = turns_then t m f old now a rest so_far new spent all (left_over (Some c.in-Some-2.below)) (omega (arith, begun, rises)) two in
+    let passed = c.pass_known-content.ensures.grows in
+    let three = subst (λ (x : Frame). Turns t m x now new spent (left_over (Some c.in-Some-2.below))) same two in
+    let less_three = three.less in
+    let less_passed = c.pass_known-content.ensures.turns.less in
+    omega (arith, less_three, less_passed, rises, passed)
 
 pub loop-many-preserved : goal.loop-many-preserved
 loop-many-preserved c =
@@ -235,9 +329,13 @@ loop-many-preserved c =
     let rises = c.in_ok-below.ensures.rises in
     let two = subst (λ (o : Option Frame). Turns t m rest now new spent (left_over o)) c.in-Some-2.is c.in_ok-below.ensures.ok in
     let run = turns_then t m f old now a rest so_far new spent all (left_over (Some c.in-Some-2.below)) (omega (arith, begun, rises)) two in
-    let below = c.in-Some-2.below in
+    let content = c.pass_known-content.result in
+    let passed = c.pass_known-content.ensures.grows in
+    let on = at_of c.pass_known-content.new.state in
+    let whole = c.pass_known-content.new.state.steps - c.args.state.now.steps in
+    let all_read = turns_then t m f old new all c.in-Some-2.below run on (c.pass_known-content.new.state.steps - c.enter_box.new.state.steps) whole (left_over (Some content)) (omega (arith, begun, rises, passed)) c.pass_known-content.ensures.turns in
     let rows = Rows c.in-Rows-left.front c.in-Rows-left.behind in
-    record { turns = subst (λ (x : Frame). Turns t m f old new all (left_over (Some x))) (same_frame below rows c.in-Rows-left.is) run; steps = omega (arith, begun, rises) }
+    record { turns = subst (λ (x : Frame). Turns t m f old on whole (left_over (Some x))) (same_frame content rows c.in-Rows-left.is) all_read; steps = omega (arith, begun, rises, passed) }
 
 pub end_rows-requires-clause-frame : goal.end_rows-requires-clause-frame
 end_rows-requires-clause-frame c =
