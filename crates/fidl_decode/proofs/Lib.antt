@@ -50,3 +50,5 @@ pub mod TableFacts
 pub mod LeafContent
 pub mod Tail
 pub mod Last
+pub mod Front
+pub mod Known

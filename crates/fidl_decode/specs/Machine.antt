@@ -298,6 +298,11 @@ Passes t m left rows first count done flag =
     → IsGood m.bytes f.base flag
     → Turns t m f s s rows (record { below = None; rest = Some (behind_rows f first count done) })
 
+-- the same of the rows of a struct that end where these do
+abbrev pub IsKnown : List ℕ → Message → (rows first count done : ℕ) → (flag : Option ℕ) → Type 0
+IsKnown t m rows first count done flag =
+    Passes t m (Rows (first - rows) (rows + count)) rows first count done flag
+
 -- the whole message is read
 pub record IsWhole (m : Message) (s : At) : Type 0 where
   pub bytes : s.next ≡ length m.bytes

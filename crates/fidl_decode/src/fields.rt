@@ -10,86 +10,16 @@ ghost use Rattle.fidl_decode.specs.Faults.{message_of};
 ghost use Rattle.fidl_decode.specs.State.{At};
 ghost use Rattle.fidl_decode.specs.declared.frame.Left.TheVariants as left;
 ghost use Rattle.fidl_decode.specs.Machine.{Reads, StateFine, FrameFine, BreaksFrame, Turns};
-ghost use Rattle.fidl_decode.specs.Machine.{turn_work, at_of};
+ghost use Rattle.fidl_decode.specs.Machine.{IsKnown, turn_work, at_of};
 
 use crate::decoder::{Decoder, zeros_at};
 use crate::fault::DecodeFault;
 use crate::frame::{Frame, Left, State};
 use crate::leaf::{is_free, is_leaf};
+use crate::plain::Plain;
 use fidl_records::EntryKind;
 
 impl<'t, 'm> Decoder<'t, 'm> {
-    /// Reads the rows of a struct in place, up to the first that is no leaf. Nothing is left at the
-    /// struct's end.
-    #[inline(always)]
-    pub(crate) fn read_rows(
-        &self,
-        frame: Frame,
-        first: u32,
-        count: u32,
-        state: &mut State,
-    ) -> Result<Option<Frame>, DecodeFault>
-        requires table { IsFine self.now.table.now }
-        requires short { length self.now.bytes.now ≤ MAX_MESSAGE_BYTES }
-        requires frame { FrameFine self.now.table.now self.now.bytes.now frame }
-        requires left { frame.left ≡ left.Rows first count }
-        requires state { StateFine (message_of self.now.bytes.now self.now.handles.now)
-            (at_of state.old) }
-        requires budget { state.old.steps + turn_work self.now.bytes.now state.old.next frame
-            < 2 ^ 40 }
-        ensures ok { IfOk result
-            (λ rest. Turns self.now.table.now (message_of self.now.bytes.now self.now.handles.now)
-            frame (at_of state.old) (at_of state.new) (state.new.steps - state.old.steps)
-            (record { below = None; rest = rest })) }
-        ensures grows { state.old.steps ≤ state.new.steps }
-        ensures ended { IfOk result (λ rest. IfNone rest (state.old.steps < state.new.steps)) }
-        ensures cost { state.new.steps
-            ≤ state.old.steps + turn_work self.now.bytes.now state.old.next frame }
-        ensures err { OnErr result
-            ((to : At)
-            → Reads self.now.table.now (message_of self.now.bytes.now self.now.handles.now) frame
-            (at_of state.old) to → ⊥) }
-        ensures told { IfErr result
-            (BreaksFrame self.now.table.now (message_of self.now.bytes.now self.now.handles.now)
-            frame (at_of state.old)) }
-    {
-        let _rows = self.table.rows();
-        let end = first + count;
-        let mut done = frame.done;
-        for i in first..end {
-            let row = self.table.row(i);
-            let e = self.table.entry(row.entry);
-            let Some(kind) = EntryKind::from_number(e.kind) else {
-                unreachable!()
-            };
-            if !is_leaf(kind) {
-                return Ok(Some(Frame {
-                    left: Left::Rows {
-                        first: i,
-                        count: end - i,
-                    },
-                    base: frame.base,
-                    done,
-                    size: frame.size,
-                    nest: frame.nest,
-                    depth: frame.depth,
-                    inside: frame.inside,
-                }));
-            }
-            let read = frame.base + done;
-            let place = frame.base + row.key as usize;
-            state.steps += (place - read) as u64 + 1;
-            zeros_at(self.bytes, read, place)?;
-            self.read_leaf(row.entry, kind, place, frame.depth, state)?;
-            done = row.key as usize + e.size as usize;
-        }
-        let over = frame.base + done;
-        let stop = frame.base + frame.size;
-        state.steps += (stop - over) as u64 + 1;
-        zeros_at(self.bytes, over, stop)?;
-        Ok(None)
-    }
-
     /// Reads the last member of a struct, where nothing is left behind it: what it leads to takes
     /// the struct's place. Else the frame is left as it is.
     fn read_last(
@@ -145,11 +75,15 @@ impl<'t, 'm> Decoder<'t, 'm> {
     pub(crate) fn read_struct(
         &self,
         frame: Frame,
+        known: &Plain,
         state: &mut State,
     ) -> Result<Option<Frame>, DecodeFault>
         requires table { IsFine self.now.table.now }
         requires short { length self.now.bytes.now ≤ MAX_MESSAGE_BYTES }
         requires frame { FrameFine self.now.table.now self.now.bytes.now frame }
+        requires known { IsKnown self.now.table.now
+            (message_of self.now.bytes.now self.now.handles.now) known.now.rows known.now.first
+            known.now.count known.now.done known.now.flag }
         requires state { StateFine (message_of self.now.bytes.now self.now.handles.now)
             (at_of state.old) }
         requires budget { state.old.steps + turn_work self.now.bytes.now state.old.next frame
@@ -170,7 +104,7 @@ impl<'t, 'm> Decoder<'t, 'm> {
             (BreaksFrame self.now.table.now (message_of self.now.bytes.now self.now.handles.now)
             frame (at_of state.old)) }
     {
-        let Some(now) = self.read_nested(frame, state)? else {
+        let Some(now) = self.read_nested(frame, known, state)? else {
             return Ok(None);
         };
         let Left::Rows {

@@ -1,20 +1,23 @@
 //! Structs whose last member is a box: the struct in it takes the place of the one that holds it.
 ghost use Rattle.std.specs.Prelude.{◌≡◌, ◌+◌, ◌-◌, ◌^◌, ◌<◌, ◌≤◌, OnOk, OnErr, IfOk, IfErr};
-ghost use Rattle.std.specs.Prelude.{IfNone, IsTrue, Some, None, length};
+ghost use Rattle.std.specs.Prelude.{IfNone, IsTrue, Some, None, true, [], length};
 ghost use Rattle.fidl_limits.specs.declared.limits.TheConstants.{MAX_MESSAGE_BYTES};
 ghost use Rattle.fidl_records.specs.declared.kind.EntryKind.TheVariants as kinds;
 ghost use Rattle.fidl_records.specs.Kind.{kind_of};
 ghost use Rattle.fidl_records.specs.Section.{header_of, entry_at, row_at};
-ghost use Rattle.fidl_decode.specs.Invariants.{IsFine};
+ghost use Rattle.fidl_decode.specs.Invariants.{IsFine, is_leaf};
 ghost use Rattle.fidl_decode.specs.Faults.{message_of};
 ghost use Rattle.fidl_decode.specs.State.{At};
 ghost use Rattle.fidl_decode.specs.declared.frame.Left.TheVariants as left;
 ghost use Rattle.fidl_decode.specs.Machine.{Reads, StateFine, FrameFine, BreaksFrame, Turns};
+ghost use Rattle.fidl_decode.specs.Machine.{IsPlain, IsKnown, rows_left, behind_rows};
 ghost use Rattle.fidl_decode.specs.Machine.{turn_work, at_of};
 
 use crate::decoder::{Decoder, zeros_at};
 use crate::fault::DecodeFault;
 use crate::frame::{Frame, Left, State};
+use crate::leaf::is_leaf;
+use crate::plain::{Plain, rows_from};
 use fidl_records::EntryKind;
 
 impl<'t, 'm> Decoder<'t, 'm> {
@@ -84,17 +87,105 @@ impl<'t, 'm> Decoder<'t, 'm> {
         Ok(below)
     }
 
+    /// Reads the next row of a struct, which is a leaf, and the zeros before it.
+    #[inline(always)]
+    fn read_row(
+        &self,
+        frame: Frame,
+        first: u32,
+        count: u32,
+        kind: EntryKind,
+        state: &mut State,
+    ) -> Result<(), DecodeFault>
+        requires table { IsFine self.now.table.now }
+        requires short { length self.now.bytes.now ≤ MAX_MESSAGE_BYTES }
+        requires frame { FrameFine self.now.table.now self.now.bytes.now frame }
+        requires left { frame.left ≡ left.Rows first count }
+        requires some { 0 < count }
+        requires kind { let row = row_at self.now.table.now (header_of self.now.table.now) first in
+            kind_of (entry_at self.now.table.now row.entry).kind ≡ Some kind }
+        requires leaf { is_leaf kind ≡ true }
+        requires state { StateFine (message_of self.now.bytes.now self.now.handles.now)
+            (at_of state.old) }
+        requires budget { state.old.steps + turn_work self.now.bytes.now state.old.next frame
+            < 2 ^ 40 }
+        ensures ok { let row = row_at self.now.table.now (header_of self.now.table.now) first in
+            let done = row.key + (entry_at self.now.table.now row.entry).size in
+            OnOk result (Turns self.now.table.now
+            (message_of self.now.bytes.now self.now.handles.now) frame (at_of state.old)
+            (at_of state.new) (state.new.steps - state.old.steps) (record {
+              below = None;
+              rest = Some (behind_rows frame (first + 1) (count - 1) done);
+            })) }
+        ensures rises { state.old.steps < state.new.steps }
+        ensures cost { state.new.steps
+            ≤ state.old.steps + turn_work self.now.bytes.now state.old.next frame }
+        ensures err { OnErr result
+            ((to : At)
+            → Reads self.now.table.now (message_of self.now.bytes.now self.now.handles.now) frame
+            (at_of state.old) to → ⊥) }
+        ensures told { IfErr result
+            (BreaksFrame self.now.table.now (message_of self.now.bytes.now self.now.handles.now)
+            frame (at_of state.old)) }
+    {
+        let row = self.table.row(first);
+        let front = frame.base + frame.done;
+        let place = frame.base + row.key as usize;
+        state.steps += (place - front) as u64 + 1;
+        zeros_at(self.bytes, front, place)?;
+        self.read_leaf(row.entry, kind, place, frame.depth, state)?;
+        Ok(())
+    }
+
+    /// Reads the zeros behind the last row of a struct. Nothing is left then.
+    #[inline(always)]
+    fn end_rows(&self, frame: Frame, state: &mut State) -> Result<Option<Frame>, DecodeFault>
+        requires table { IsFine self.now.table.now }
+        requires short { length self.now.bytes.now ≤ MAX_MESSAGE_BYTES }
+        requires frame { FrameFine self.now.table.now self.now.bytes.now frame }
+        requires plain { IsPlain frame.left }
+        requires over { rows_left self.now.table.now frame.done frame.left ≡ [] }
+        requires state { StateFine (message_of self.now.bytes.now self.now.handles.now)
+            (at_of state.old) }
+        requires budget { state.old.steps + turn_work self.now.bytes.now state.old.next frame
+            < 2 ^ 40 }
+        ensures ok { IfOk result
+            (λ rest. Turns self.now.table.now (message_of self.now.bytes.now self.now.handles.now)
+            frame (at_of state.old) (at_of state.new) (state.new.steps - state.old.steps)
+            (record { below = None; rest = rest })) }
+        ensures rises { state.old.steps < state.new.steps }
+        ensures cost { state.new.steps
+            ≤ state.old.steps + turn_work self.now.bytes.now state.old.next frame }
+        ensures err { OnErr result
+            ((to : At)
+            → Reads self.now.table.now (message_of self.now.bytes.now self.now.handles.now) frame
+            (at_of state.old) to → ⊥) }
+        ensures told { IfErr result
+            (BreaksFrame self.now.table.now (message_of self.now.bytes.now self.now.handles.now)
+            frame (at_of state.old)) }
+    {
+        let over = frame.base + frame.done;
+        let stop = frame.base + frame.size;
+        state.steps += (stop - over) as u64 + 1;
+        zeros_at(self.bytes, over, stop)?;
+        Ok(None)
+    }
+
     /// Reads the rows of a struct in place, and those of the struct in the box that its last member
     /// is, and so on, up to the first member that is neither. Nothing is left at the end.
     #[inline(always)]
     pub(crate) fn read_nested(
         &self,
         frame: Frame,
+        known: &Plain,
         state: &mut State,
     ) -> Result<Option<Frame>, DecodeFault>
         requires table { IsFine self.now.table.now }
         requires short { length self.now.bytes.now ≤ MAX_MESSAGE_BYTES }
         requires frame { FrameFine self.now.table.now self.now.bytes.now frame }
+        requires known { IsKnown self.now.table.now
+            (message_of self.now.bytes.now self.now.handles.now) known.now.rows known.now.first
+            known.now.count known.now.done known.now.flag }
         requires state { StateFine (message_of self.now.bytes.now self.now.handles.now)
             (at_of state.old) }
         requires budget { state.old.steps + turn_work self.now.bytes.now state.old.next frame
@@ -115,42 +206,49 @@ impl<'t, 'm> Decoder<'t, 'm> {
             (BreaksFrame self.now.table.now (message_of self.now.bytes.now self.now.handles.now)
             frame (at_of state.old)) }
     {
-        let mut now = frame;
-        loop {
-            let Left::Rows { first, count } = now.left else {
-                return Ok(Some(now));
+        let Left::Rows { first, count } = frame.left else {
+            return Ok(Some(frame));
+        };
+        // Read, so that the number of rows, and with it each row's, is known to have 32 bits.
+        let _rows = self.table.rows();
+        let mut holder = frame;
+        let mut next = first;
+        let mut many = count;
+        let mut done = frame.done;
+        while many != 0 {
+            let rest = rows_from(holder, next, many, done);
+            let row = self.table.row(next);
+            let e = self.table.entry(row.entry);
+            let Some(kind) = EntryKind::from_number(e.kind) else {
+                unreachable!()
             };
-            if self.ends_in_box(first, count, now.size) {
-                let Some(below) = self.enter_box(now, first, state)? else {
-                    return Ok(None);
-                };
-                now = below;
+            if is_leaf(kind) {
+                self.read_row(rest, next, many, kind, state)?;
+                done = row.key as usize + e.size as usize;
+                next += 1;
+                many -= 1;
                 continue;
             }
-            let before = state.steps;
-            let run = self.skip_plain(now, first, count, state);
+            if !self.ends_in_box(next, many, holder.size) {
+                return Ok(Some(rest));
+            }
+            let Some(below) = self.enter_box(rest, next, state)? else {
+                return Ok(None);
+            };
+            let content = self.pass_known(below, known, state);
             let Left::Rows {
                 first: front,
                 count: behind,
-            } = run.left
+            } = content.left
             else {
-                return Ok(Some(run));
+                return Ok(Some(content));
             };
-            // The last row may be a box.
-            if behind == 1 {
-                if state.steps != before {
-                    now = run;
-                    continue;
-                }
-            }
-            let Some(rest) = self.read_rows(run, front, behind, state)? else {
-                return Ok(None);
-            };
-            if state.steps == before {
-                return Ok(Some(rest));
-            }
-            now = rest;
+            holder = content;
+            next = front;
+            many = behind;
+            done = content.done;
         }
+        self.end_rows(rows_from(holder, next, 0, done), state)
     }
 
     /// Reads a struct as `read_nested` does, which is inlined in the loop over the structs of a
@@ -183,6 +281,10 @@ impl<'t, 'm> Decoder<'t, 'm> {
             (BreaksFrame self.now.table.now (message_of self.now.bytes.now self.now.handles.now)
             frame (at_of state.old)) }
     {
-        self.read_nested(frame, state)
+        let Left::Rows { first, count } = frame.left else {
+            return Ok(Some(frame));
+        };
+        let known = self.plain_below(first, count);
+        self.read_nested(frame, &known, state)
     }
 }

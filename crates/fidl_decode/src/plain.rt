@@ -11,7 +11,7 @@ ghost use Rattle.fidl_decode.specs.Faults.{message_of};
 ghost use Rattle.fidl_decode.specs.declared.frame.Left.TheVariants as left;
 ghost use Rattle.fidl_decode.specs.State.{At};
 ghost use Rattle.fidl_decode.specs.Machine.{StateFine, FrameFine, Visits, Turns, Reads, BreaksFrame};
-ghost use Rattle.fidl_decode.specs.Machine.{IsGood, Passes, turn_work, at_of};
+ghost use Rattle.fidl_decode.specs.Machine.{IsGood, Passes, IsKnown, turn_work, at_of};
 
 use crate::decoder::Decoder;
 use crate::fault::DecodeFault;
@@ -35,7 +35,7 @@ pub(crate) struct Plain {
 
 /// A frame with so many rows left, from the first on, and so many of its bytes read.
 #[inline(always)]
-fn rows_from(frame: Frame, first: u32, count: u32, done: usize) -> Frame
+pub(crate) fn rows_from(frame: Frame, first: u32, count: u32, done: usize) -> Frame
     ensures { result ≡ record {
       left = left.Rows first count;
       base = frame.base;
@@ -58,36 +58,6 @@ fn rows_from(frame: Frame, first: u32, count: u32, done: usize) -> Frame
 }
 
 impl<'t, 'm> Decoder<'t, 'm> {
-    /// Whether the member of a row stands right behind what is read of a frame, and any bytes are
-    /// its value, or it is a bool and right.
-    #[inline(always)]
-    fn is_plain(&self, row: &Row, frame: &Frame, done: usize, state: &State) -> bool
-        requires table { IsFine self.now.table.now }
-        requires row { row.now.entry < (header_of self.now.table.now).entries }
-        requires room { frame.now.base + done + (entry_at self.now.table.now row.now.entry).size
-            ≤ length self.now.bytes.now }
-        requires short { length self.now.bytes.now ≤ MAX_MESSAGE_BYTES }
-        requires depth { frame.now.depth ≤ MAX_DEPTH }
-        requires state { StateFine (message_of self.now.bytes.now self.now.handles.now)
-            (at_of state.now) }
-        ensures stands { IsTrue result → row.now.key ≡ done }
-        ensures visits { IsTrue result → Visits self.now.table.now
-            (message_of self.now.bytes.now self.now.handles.now) frame.now.depth row.now.entry
-            (frame.now.base + done) (at_of state.now) (at_of state.now) 0 None }
-    {
-        if row.key as usize != done {
-            return false;
-        }
-        let e = self.table.entry(row.entry);
-        let Some(kind) = EntryKind::from_number(e.kind) else {
-            return false;
-        };
-        if let EntryKind::Bool = kind {
-            return self.bytes[frame.base + done] <= 1;
-        }
-        is_free(&e, kind)
-    }
-
     /// Whether the member of a row stands this far behind its struct's start, and any bytes are its
     /// value.
     #[inline(always)]
@@ -145,6 +115,8 @@ impl<'t, 'm> Decoder<'t, 'm> {
         requires table { IsFine self.now.table.now }
         requires within { first + count ≤ (header_of self.now.table.now).rows }
         ensures few { result.rows ≤ count }
+        ensures first { result.first ≡ first + result.rows }
+        ensures count { result.rows + result.count ≡ count }
         ensures passes { Passes self.now.table.now
             (message_of self.now.bytes.now self.now.handles.now) (left.Rows first count)
             result.rows result.first result.count result.done result.flag }
@@ -173,6 +145,29 @@ impl<'t, 'm> Decoder<'t, 'm> {
             first: end,
             count: 0,
             flag,
+        }
+    }
+
+    /// The same rows of the struct in the box that is the last of these rows; none where it is no box.
+    pub(crate) fn plain_below(&self, first: u32, count: u32) -> Plain
+        requires table { IsFine self.now.table.now }
+        requires within { first + count ≤ (header_of self.now.table.now).rows }
+        ensures known { IsKnown self.now.table.now
+            (message_of self.now.bytes.now self.now.handles.now) result.rows result.first
+            result.count result.done result.flag }
+    {
+        if count == 0 {
+            return self.plain_rows(first, 0);
+        }
+        let _rows = self.table.rows();
+        let row = self.table.row(first + (count - 1));
+        let e = self.table.entry(row.entry);
+        match EntryKind::from_number(e.kind) {
+            Some(EntryKind::Box) => {
+                let content = self.table.entry(e.first);
+                self.plain_rows(content.first, content.count)
+            }
+            _ => self.plain_rows(first, 0),
         }
     }
 
@@ -216,6 +211,39 @@ impl<'t, 'm> Decoder<'t, 'm> {
         rows_from(frame, plain.first, plain.count, plain.done)
     }
 
+    /// Passes over the first rows of a struct, where they are those that are known.
+    #[inline(always)]
+    pub(crate) fn pass_known(&self, frame: Frame, known: &Plain, state: &mut State) -> Frame
+        requires short { length self.now.bytes.now ≤ MAX_MESSAGE_BYTES }
+        requires frame { FrameFine self.now.table.now self.now.bytes.now frame }
+        requires known { IsKnown self.now.table.now
+            (message_of self.now.bytes.now self.now.handles.now) known.now.rows known.now.first
+            known.now.count known.now.done known.now.flag }
+        requires state { StateFine (message_of self.now.bytes.now self.now.handles.now)
+            (at_of state.old) }
+        requires budget { state.old.steps + turn_work self.now.bytes.now state.old.next frame
+            < 2 ^ 40 }
+        ensures turns { Turns self.now.table.now
+            (message_of self.now.bytes.now self.now.handles.now) frame (at_of state.old)
+            (at_of state.new) (state.new.steps - state.old.steps)
+            (record { below = None; rest = Some result }) }
+        ensures grows { state.old.steps ≤ state.new.steps }
+    {
+        let Left::Rows { first, count } = frame.left else {
+            return frame;
+        };
+        if frame.done != 0 {
+            return frame;
+        }
+        if u64::from(first) + u64::from(known.rows) != u64::from(known.first) {
+            return frame;
+        }
+        if u64::from(known.rows) + u64::from(known.count) != u64::from(count) {
+            return frame;
+        }
+        self.pass_over(frame, known, state)
+    }
+
     /// Reads a struct as `read_struct` does, of which the first rows are known to take any bytes but
     /// for a bool.
     #[inline(always)]
@@ -223,6 +251,7 @@ impl<'t, 'm> Decoder<'t, 'm> {
         &self,
         frame: Frame,
         plain: &Plain,
+        known: &Plain,
         state: &mut State,
     ) -> Result<Option<Frame>, DecodeFault>
         requires table { IsFine self.now.table.now }
@@ -232,6 +261,9 @@ impl<'t, 'm> Decoder<'t, 'm> {
         requires passes { Passes self.now.table.now
             (message_of self.now.bytes.now self.now.handles.now) frame.left plain.now.rows
             plain.now.first plain.now.count plain.now.done plain.now.flag }
+        requires known { IsKnown self.now.table.now
+            (message_of self.now.bytes.now self.now.handles.now) known.now.rows known.now.first
+            known.now.count known.now.done known.now.flag }
         requires state { StateFine (message_of self.now.bytes.now self.now.handles.now)
             (at_of state.old) }
         requires budget { state.old.steps + turn_work self.now.bytes.now state.old.next frame
@@ -253,44 +285,6 @@ impl<'t, 'm> Decoder<'t, 'm> {
             frame (at_of state.old)) }
     {
         let rest = self.pass_over(frame, plain, state);
-        self.read_struct(rest, state)
-    }
-
-    /// Reads the rows of a struct up to the first that has to be looked at closer.
-    #[inline(always)]
-    pub(crate) fn skip_plain(
-        &self,
-        frame: Frame,
-        first: u32,
-        count: u32,
-        state: &mut State,
-    ) -> Frame
-        requires table { IsFine self.now.table.now }
-        requires short { length self.now.bytes.now ≤ MAX_MESSAGE_BYTES }
-        requires frame { FrameFine self.now.table.now self.now.bytes.now frame }
-        requires left { frame.left ≡ left.Rows first count }
-        requires state { StateFine (message_of self.now.bytes.now self.now.handles.now)
-            (at_of state.old) }
-        requires budget { state.old.steps + turn_work self.now.bytes.now state.old.next frame
-            < 2 ^ 40 }
-        ensures turns { Turns self.now.table.now
-            (message_of self.now.bytes.now self.now.handles.now) frame (at_of state.old)
-            (at_of state.new) (state.new.steps - state.old.steps)
-            (record { below = None; rest = Some result }) }
-        ensures grows { state.old.steps ≤ state.new.steps }
-    {
-        let _rows = self.table.rows();
-        let end = first + count;
-        let mut done = frame.done;
-        for i in first..end {
-            let row = self.table.row(i);
-            if !self.is_plain(&row, &frame, done, state) {
-                state.steps += u64::from(i - first);
-                return rows_from(frame, i, end - i, done);
-            }
-            done += self.table.entry(row.entry).size as usize;
-        }
-        state.steps += u64::from(count);
-        rows_from(frame, end, 0, done)
+        self.read_struct(rest, known, state)
     }
 }

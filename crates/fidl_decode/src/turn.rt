@@ -67,6 +67,7 @@ impl<'t, 'm> Decoder<'t, 'm> {
     {
         let e = self.table.entry(entry);
         let plain = self.plain_rows(e.first, e.count);
+        let known = self.plain_below(e.first, e.count);
         let mut done = frame.done;
         for i in 0..count {
             let place = frame.base + done;
@@ -83,7 +84,7 @@ impl<'t, 'm> Decoder<'t, 'm> {
                 inside: frame.inside,
             };
             state.steps += 1;
-            let found = self.read_behind(below, &plain, state)?;
+            let found = self.read_behind(below, &plain, &known, state)?;
             done += size;
             if let Some(inner) = found {
                 return Ok(Turn {

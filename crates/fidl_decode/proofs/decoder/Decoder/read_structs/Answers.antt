@@ -30,6 +30,12 @@ plain_rows-plain-requires-clause-within c =
     let within = (fine_as t c.requires.table c.args.entry Struct c.requires.entry c.requires.kind).content.0 in
     subst (λ (d : Entry). d.first + d.count ≤ (header_of t).rows) (sym c.entry-e.ensures.value) within
 
+pub plain_below-known-requires-clause-within : goal.plain_below-known-requires-clause-within
+plain_below-known-requires-clause-within c =
+    let t = c.args.self.now.table.now in
+    let within = (fine_as t c.requires.table c.args.entry Struct c.requires.entry c.requires.kind).content.0 in
+    subst (λ (d : Entry). d.first + d.count ≤ (header_of t).rows) (sym c.entry-e.ensures.value) within
+
 pub read_behind-requires-clause-frame : goal.read_behind-requires-clause-frame
 read_behind-requires-clause-frame c =
     let is = c.loop-i.invariant.turns.rest_fine.0.left in
