@@ -170,7 +170,7 @@ fn wrong_command_lines(rt: HostRuntime) -> Result<(), Fail> {
         dash,
     )?;
     let none = "error: 'fidl' requires a subcommand but one was not provided [subcommands: \
-        decode, table, help]\n";
+        compile, decode, table, help]\n";
     expect(alloc, &["out/fidl"], 2, "", none)?;
     expect(alloc, &[], 2, "", none)
 }
@@ -179,10 +179,12 @@ fn wrong_command_lines(rt: HostRuntime) -> Result<(), Fail> {
 fn help_and_version(rt: HostRuntime) -> Result<(), Fail> {
     let alloc = rt.alloc();
     expect(alloc, &["fidl", "--version"], 0, "fidl 0.1\n", "")?;
-    let help = "Reads FIDL messages by coding tables\n\nUsage: fidl <COMMAND>\n\nCommands:\n  \
-        decode  Prints the text of the value that a message encodes\n  \
-        table   Prints the records of a coding table\n  \
-        help    Print this message or the help of the given subcommand(s)\n\nOptions:\n  \
+    let help = "Compiles FIDL libraries to coding tables, and reads messages by them\n\n\
+        Usage: fidl <COMMAND>\n\nCommands:\n  \
+        compile  Writes the coding table of libraries, from their sources\n  \
+        decode   Prints the text of the value that a message encodes\n  \
+        table    Prints the records of a coding table\n  \
+        help     Print this message or the help of the given subcommand(s)\n\nOptions:\n  \
         -h, --help     Print help\n  -V, --version  Print version\n";
     expect(alloc, &["fidl", "--help"], 0, help, "")?;
     expect(alloc, &["fidl", "help"], 0, help, "")
