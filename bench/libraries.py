@@ -13,19 +13,19 @@ LIBRARIES = 16
 
 def declaration(library, number):
     """Returns the declaration of this number, from 1, of a library."""
-    far = f"bench.l{library - 1}.T1" if library else "T1"
-    first, before = f"T{number - number % 10 + 1}", f"T{number - 1}"
+    far = f"bench.l{library - 1}.S1" if library else "S1"
+    first, before = f"S{number - number % 10 + 1}", f"S{number - 1}"
     return [
-        f"protocol P{number} {{ M{number}(struct {{ a T1; b {far}; }}); }};",
-        f"type T{number} = struct {{ a uint32; b string:64; c {far}; }};" if number > 1 else "type T1 = struct { a uint32; };",
-        f"type T{number} = struct {{ a {before}; b uint64; }};",
-        f"type T{number} = struct {{ a box<{before}>; b bool; }};",
-        f"type T{number} = table {{ 1: a {before}; 2: b string; 4: c {far}; }};",
-        f"type T{number} = union {{ 1: a {before}; 2: b uint64; }};",
-        f"type T{number} = strict enum : uint8 {{ A = 1; B = 2; C = {number % 200 + 3}; }};",
+        f"protocol P{number} {{ M{number}(struct {{ a S1; b {far}; }}); }};",
+        f"type S{number} = struct {{ a uint32; b string:64; c {far}; }};" if number > 1 else "type S1 = struct { a uint32; };",
+        f"type S{number} = struct {{ a {before}; b uint64; }};",
+        f"type S{number} = struct {{ a box<{before}>; b bool; }};",
+        f"type S{number} = table {{ 1: a {before}; 2: b string; 4: c {far}; }};",
+        f"type S{number} = union {{ 1: a {before}; 2: b uint64; }};",
+        f"type S{number} = strict enum : uint8 {{ A = 1; B = 2; C = {number % 200 + 3}; }};",
         f"const C{number} uint32 = {number % 100 + 1};",
         f"alias A{number} = vector<uint8>:C{number - 1};",
-        f"type T{number} = struct {{ a A{number - 1}; b {first}; }};",
+        f"type S{number} = struct {{ a A{number - 1}; b {first}; }};",
     ][number % 10]
 
 
