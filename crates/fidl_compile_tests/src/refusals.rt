@@ -77,9 +77,9 @@ fn types(rt: HostRuntime) -> Result<(), Fail> {
         t.fidl:1:34: types 5 DuplicateValue && library t; type S = enum {A = 1; B = 1;};
         t.fidl:1:27: types 6 NotPowerOfTwo && library t; type S = bits {A = 3;};
         t.fidl:1:28: types 7 EmptyStrict && library t; type S = strict enum {};
-        t.fidl:1:31: types 8 OptionalMember && library t; type S = table {1: a string:optional;};
-        t.fidl:1:37: types 9 BadConstraint && library t; type S = struct {a uint8:1;};
-        t.fidl:1:31: types 10 BadBox && library t; type S = struct {a box<uint8>;};
+        t.fidl:1:33: types 8 OptionalMember && library t; type S = table {1: a string:optional;};
+        t.fidl:1:31: types 9 BadConstraint && library t; type S = struct {a uint8:1;};
+        t.fidl:1:35: types 10 BadBox && library t; type S = struct {a box<uint8>;};
         t.fidl:1:31: types 11 OutOfProfile && library t; type S = struct {a float32;};
         "#,
     )
