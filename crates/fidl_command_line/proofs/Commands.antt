@@ -1,0 +1,40 @@
+-- What clap's builder makes of the program's command line, and what a parse of it gives.
+use Rattle.std.proofs.Common.{◌≡◌, refl, ap, ◌∙◌, List}
+use Rattle.std.specs.Prelude.{Option, Some, None, Result, Ok, Err, IfOk, IfErr, option_map}
+use Rattle.clap.specs.Words.{App, Shape, Row, Text, app_of}
+use Rattle.clap.specs.Simple.{shape_of, with_subcommand}
+use Rattle.clap.specs.declared.builder.command.Command.{Command}
+use Rattle.clap.specs.Built.{AddsSubcommand}
+use Rattle.fidl_command_line.specs.CommandLine.{IsCommandOf}
+
+-- what holds of a result's value leads to another fact of it
+pub if_ok : {T E : Type 0} (P Q : T → Type 0) (r : Result T E) → ((x : T) → P x → Q x) → IfOk r P → IfOk r Q
+if_ok P Q (Ok x) f h = f x h
+if_ok P Q (Err e) f h = tt
+
+pub if_err : {T E : Type 0} (P Q : E → Type 0) (r : Result T E) → ((x : E) → P x → Q x) → IfErr r P → IfErr r Q
+if_err P Q (Ok x) f h = tt
+if_err P Q (Err e) f h = f e h
+
+-- a command of the program is added with its shape
+pub joined : (old sub new : Command) (app : App) (shape : Shape) → AddsSubcommand old sub new → IsCommandOf shape sub → app_of old ≡ app → app_of new ≡ with_subcommand app shape
+joined old sub new app shape h is e = h.shape is.local
+    ∙ ap (λ (x : App). with_subcommand x (shape_of sub)) e
+    ∙ ap (λ (s : Shape). with_subcommand app s) (ap (λ (x : App). x.top) is.app)
+
+-- the name and the rows of a subcommand
+abbrev pub pair_of : {B : Type 0} (name : B → Text) (rows : B → List Row) → B → Text × List Row
+pair_of name rows b = (name b, rows b)
+
+abbrev second : Text × List Row → List Row
+second p = p.1
+
+-- both, by its name alone and by its rows alone
+pub both_of : {B : Type 0} (name : B → Text) (rows : B → List Row) (o : Option B) (n : Text) (rs : List Row)
+    → option_map name o ≡ Some n → option_map second (option_map (pair_of name rows) o) ≡ Some rs
+    → option_map (pair_of name rows) o ≡ Some (n, rs)
+both_of name rows None n rs a b = cc
+both_of name rows (Some x) n rs a b =
+    let first : name x ≡ n = cc in
+    let last : rows x ≡ rs = cc in
+    rw (first, last) refl

@@ -1,0 +1,82 @@
+-- The command line of the program, in clap's words (docs/program.md, "Command line").
+use Rattle.std.specs.Prelude.{◌≡◌, true, false, List, [], ◌∷◌, Some, codes}
+use Rattle.clap.specs.Words.{App, Shape, Rule, Row, Text, new_rule, subcommand_of, app_of}
+use Rattle.clap.specs.Lexer.{usize_max}
+use Rattle.clap.specs.declared.builder.command.Command.{Command}
+use Rattle.clap.specs.declared.builder.command.Command.TheViews.{out-Command}
+use Rattle.clap.specs.Simple.{new_shape}
+use Rattle.clap.specs.declared.builder.action.ArgAction.TheVariants.{Set, Append}
+
+-- an argument that must be given, by its place
+abbrev pub positional : Text → Rule
+positional id = record (new_rule id) { required = true; action = Some Set }
+
+-- `--handle`, which may be given any number of times
+abbrev pub handle_option : Rule
+handle_option = record (new_rule (codes "handle")) {
+  long = Some (codes "handle");
+  value_names = 1;
+  action = Some Append;
+}
+
+-- `--out`, which must be given
+abbrev pub out_option : Rule
+out_option = record (new_rule (codes "out")) {
+  long = Some (codes "out");
+  value_names = 1;
+  action = Some Set;
+  required = true;
+}
+
+-- one file or more, by their places
+abbrev pub files_argument : Rule
+files_argument = record (new_rule (codes "FILE")) {
+  range = Some (record { start_inclusive = 1; end_inclusive = usize_max });
+  action = Some Append;
+  required = true;
+}
+
+-- `compile --out OUT FILE..`
+abbrev pub compile_command : Shape
+compile_command = record (new_shape (codes "compile")) { rules = out_option ∷ files_argument ∷ [] }
+
+-- `decode [--handle I:T:R].. TABLE ROOT HEX`
+abbrev pub decode_command : Shape
+decode_command = record (new_shape (codes "decode")) {
+  rules = handle_option ∷ positional (codes "TABLE") ∷ positional (codes "ROOT")
+      ∷ positional (codes "HEX") ∷ [];
+}
+
+-- `table TABLE`
+abbrev pub table_command : Shape
+table_command = record (new_shape (codes "table")) { rules = positional (codes "TABLE") ∷ [] }
+
+-- `fidl COMMAND`; clap adds help and version
+abbrev pub program : App
+program = record {
+  top = record
+      (new_shape (codes "fidl")) {
+        has_version = true;
+        subcommand_required = true;
+        is_leaf =
+            false;
+      };
+  subs = compile_command ∷ decode_command ∷ table_command ∷ [];
+}
+
+-- this is a command of the program, with no commands of its own
+pub record IsCommandOf (shape : Shape) (command : Command) : Type 0 where
+  pub app : app_of command ≡ record { top = shape; subs = [] }
+  pub local : (out-Command command).has_globals ≡ false
+
+-- the words name the command `compile`, and give its arguments these values
+abbrev pub GivesCompile : List Text → List Row → Type 0
+GivesCompile words rows = subcommand_of program words ≡ Some (codes "compile", rows)
+
+-- the words name the command `decode`, and give its arguments these values
+abbrev pub GivesDecode : List Text → List Row → Type 0
+GivesDecode words rows = subcommand_of program words ≡ Some (codes "decode", rows)
+
+-- the words name the command `table`, and give its argument this value
+abbrev pub GivesTable : List Text → List Row → Type 0
+GivesTable words rows = subcommand_of program words ≡ Some (codes "table", rows)

@@ -1,0 +1,23 @@
+-- What is wrong with a command line, in one line (docs/program.md, "Statuses").
+use Rattle.std.specs.Prelude.{ℕ, List, [], codes, string_bytes}
+use Rattle.fidl_command_line.specs.declared.unread.Unread.{Unread}
+use Rattle.fidl_command_line.specs.declared.unread.Unread.TheVariants.{Asked, Wrong, NotText}
+use Rattle.fidl_command_line.specs.declared.unread.Unread.TheVariants.{Missing, BadHex, BadHandle}
+use Rattle.fidl_command_line.specs.declared.unread.Unread.TheVariants.{OutIsSource, Memory}
+
+-- memory ran out
+abbrev pub no_memory : List ℕ
+no_memory = codes "error: out of memory"
+
+-- what is wrong; nothing where help or the version was asked for
+abbrev pub complaint_of : Unread → List ℕ
+complaint_of (Asked text) = []
+complaint_of (Wrong line) = string_bytes line
+complaint_of NotText = codes "error: the arguments: UTF-8 is wanted"
+complaint_of Missing =
+    codes "error: the arguments: compile --out OUT FILE.., decode TABLE ROOT HEX or table TABLE is wanted"
+complaint_of OutIsSource = codes "error: --out: a file that is none of the sources is wanted"
+complaint_of BadHex = codes "error: HEX: an even number of hexadecimal digits is wanted"
+complaint_of BadHandle =
+    codes "error: --handle: three decimal numbers of 32 bits are wanted, as in 1:3:0"
+complaint_of Memory = no_memory

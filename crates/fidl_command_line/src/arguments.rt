@@ -1,0 +1,222 @@
+//! What a command line gives.
+ghost use Rattle.std.specs.Prelude.{◌≡◌, IsErr, IsOk, Ok, IfOk, IfErr, MatchBool};
+ghost use Rattle.std.specs.Prelude.{map, option_map, codes, Some, None};
+ghost use Rattle.std.specs.List.{AllZip, Contains, list_all};
+ghost use Rattle.clap.specs.Words.{found_of, rows_of, first_of};
+ghost use Rattle.hex.specs.Hex.{decode_of, is_hex_digit};
+ghost use Rattle.fidl_command_line.specs.Handles.{IsHandleText, HasNoHandleText};
+ghost use Rattle.fidl_command_line.specs.Arguments.{IsTold, AreHandleTexts, IsDecode, IsNoDecode};
+ghost use Rattle.fidl_command_line.specs.Arguments.{IsCompile, IsNoCompile, IsGiven, IsUngiven};
+ghost use Rattle.fidl_command_line.specs.Arguments.{handle_texts};
+ghost use Rattle.fidl_command_line.specs.declared.unread.Unread.TheVariants as unread;
+
+use crate::command_line::command_line;
+use crate::handle::read_handle;
+use crate::unread::Unread;
+use clap::ArgMatches;
+use fidl_wire::HandleInfo;
+use hex::FromHexError;
+use std::alloc::Global;
+use std::convert::AsStr;
+
+/// What `fidl decode` is given: the table's file, the root's name, and a message.
+#[derive(Drop)]
+pub struct DecodeArguments<'a> {
+    pub table: &'a str,
+    pub root: &'a str,
+    pub bytes: Vec<u8>,
+    pub handles: Vec<HandleInfo>,
+}
+
+/// What `fidl compile` is given: the file to write the table to, and the sources' files.
+#[derive(Drop)]
+pub struct CompileArguments<'a> {
+    pub out: &'a str,
+    pub sources: Vec<&'a str>,
+}
+
+/// What the command line gives: a command with its arguments.
+#[derive(Drop)]
+pub enum Arguments<'a> {
+    Compile(CompileArguments<'a>),
+    Decode(DecodeArguments<'a>),
+    /// The table's file.
+    Table(&'a str),
+}
+
+fn is_hex_digit(byte: u8) -> bool
+    ensures { result ≡ is_hex_digit byte }
+{
+    matches!(byte, b'A'..=b'F' | b'a'..=b'f' | b'0'..=b'9')
+}
+
+fn are_hex_digits(text: &[u8]) -> bool
+    ensures { result ≡ list_all is_hex_digit text.now }
+{
+    text.iter().all(|byte| is_hex_digit(*byte))
+}
+
+/// Whether a text is an even number of hexadecimal digits.
+fn is_hex(text: &str) -> bool
+    ensures { MatchBool result (IsOk (decode_of text.now)) (IsErr (decode_of text.now)) }
+{
+    text.len() % 2 == 0 && are_hex_digits(text.as_bytes())
+}
+
+/// The bytes of a message, from their text.
+fn read_bytes(alloc: Global, text: &str) -> Result<Vec<u8>, Unread>
+    ensures ok { IfOk result (λ bytes. decode_of text.now ≡ Ok bytes.items) }
+    ensures err { IfErr result (IsTold unread.BadHex
+        (IsErr (decode_of text.now)) (IsOk (decode_of text.now))) }
+{
+    match hex::decode(alloc, text) {
+        Ok(bytes) => Ok(bytes),
+        Err(FromHexError::OutOfMemory) if is_hex(text) => Err(Unread::Memory),
+        Err(_) => Err(Unread::BadHex),
+    }
+}
+
+/// Whether each text is that of a handle.
+fn are_handles(texts: &[&str]) -> bool
+    ensures { MatchBool result (AreHandleTexts (map (λ text. text.now) texts.now))
+        (HasNoHandleText (map (λ text. text.now) texts.now)) }
+{
+    for text in texts {
+        if read_handle(*text).is_none() {
+            return false;
+        }
+    }
+    true
+}
+
+/// The handles of a message, from their texts.
+fn read_handles(alloc: Global, texts: &[&str]) -> Result<Vec<HandleInfo>, Unread>
+    ensures ok { IfOk result (λ handles.
+        AllZip IsHandleText (map (λ text. text.now) texts.now) handles.items) }
+    ensures err { IfErr result (IsTold unread.BadHandle
+        (HasNoHandleText (map (λ text. text.now) texts.now))
+        (AreHandleTexts (map (λ text. text.now) texts.now))) }
+{
+    let mut handles = Vec::new(alloc);
+    for text in texts {
+        let Some(handle) = read_handle(*text) else {
+            return Err(Unread::BadHandle);
+        };
+        if handles.push(handle).is_err() {
+            return Err(if are_handles(texts) {
+                Unread::Memory
+            } else {
+                Unread::BadHandle
+            });
+        }
+    }
+    Ok(handles)
+}
+
+/// The first value of an argument.
+fn value_of<'a>(matches: &ArgMatches<'a>, id: &str) -> Option<&'a str>
+    ensures { option_map (λ s. s.now) result ≡ first_of id.now (rows_of (found_of matches.now)) }
+{
+    matches.get_str(id)
+}
+
+/// The handles that were given.
+fn given_handles(alloc: Global, matches: &ArgMatches<'_>) -> Result<Vec<HandleInfo>, Unread>
+    ensures ok { IfOk result (λ handles.
+        AllZip IsHandleText (handle_texts (rows_of (found_of matches.now))) handles.items) }
+    ensures err { IfErr result (IsTold unread.BadHandle
+        (HasNoHandleText (handle_texts (rows_of (found_of matches.now))))
+        (AreHandleTexts (handle_texts (rows_of (found_of matches.now))))) }
+{
+    match matches.get_strs("handle") {
+        Some(texts) => read_handles(alloc, texts),
+        None => Ok(Vec::new(alloc)),
+    }
+}
+
+/// What `fidl decode` was given.
+fn read_decode<'a>(alloc: Global, matches: &ArgMatches<'a>) -> Result<DecodeArguments<'a>, Unread>
+    ensures ok { IfOk result (IsDecode (rows_of (found_of matches.now))) }
+    ensures err { IfErr result (IsNoDecode (rows_of (found_of matches.now))) }
+{
+    let (Some(table), Some(root), Some(hex)) = (
+        value_of(matches, "TABLE"),
+        value_of(matches, "ROOT"),
+        value_of(matches, "HEX"),
+    ) else {
+        return Err(Unread::Missing);
+    };
+    let bytes = read_bytes(alloc, hex)?;
+    let handles = given_handles(alloc, matches)?;
+    Ok(DecodeArguments {
+        table,
+        root,
+        bytes,
+        handles,
+    })
+}
+
+/// Whether a name is among these.
+fn is_among(name: &str, names: &[&str]) -> bool
+    ensures { MatchBool result (Contains (map (λ n. n.now) names.now) name.now)
+        (Contains (map (λ n. n.now) names.now) name.now → ⊥) }
+{
+    for other in names {
+        if *other == name {
+            return true;
+        }
+    }
+    false
+}
+
+/// What `fidl compile` was given.
+fn read_compile<'a>(alloc: Global, matches: &ArgMatches<'a>) -> Result<CompileArguments<'a>, Unread>
+    ensures ok { IfOk result (IsCompile (rows_of (found_of matches.now))) }
+    ensures err { IfErr result (IsNoCompile (rows_of (found_of matches.now))) }
+{
+    let Some(out) = value_of(matches, "out") else {
+        return Err(Unread::Missing);
+    };
+    let Some(names) = matches.get_strs("FILE") else {
+        return Err(Unread::Missing);
+    };
+    if is_among(out, names) {
+        return Err(Unread::OutIsSource);
+    }
+    let sources = Vec::from_slice(alloc, names)?;
+    Ok(CompileArguments { out, sources })
+}
+
+/// The file that `fidl table` was given.
+fn read_table<'a>(matches: &ArgMatches<'a>) -> Result<&'a str, Unread>
+    ensures ok { IfOk result
+        (λ file. first_of (codes "TABLE") (rows_of (found_of matches.now)) ≡ Some file.now) }
+    ensures err { IfErr result (λ u. (u ≡ unread.Missing)
+        × (first_of (codes "TABLE") (rows_of (found_of matches.now)) ≡ None)) }
+{
+    match value_of(matches, "TABLE") {
+        Some(file) => Ok(file),
+        None => Err(Unread::Missing),
+    }
+}
+
+/// Reads the words of a command line, of which the first is the program's name.
+pub fn read_arguments<'a, S: AsStr>(alloc: Global, words: &'a [S]) -> Result<Arguments<'a>, Unread>
+    ensures ok { IfOk result (IsGiven (map S.text words.entry.now)) }
+    ensures err { IfErr result (IsUngiven (map S.text words.entry.now)) }
+{
+    let matches = match command_line(alloc)?.try_get_matches_from(words) {
+        Ok(matches) => matches,
+        Err(error) => return Err(Unread::from_clap(alloc, &error)),
+    };
+    if let Some(matches) = matches.subcommand_matches("compile") {
+        return Ok(Arguments::Compile(read_compile(alloc, matches)?));
+    }
+    if let Some(matches) = matches.subcommand_matches("decode") {
+        return Ok(Arguments::Decode(read_decode(alloc, matches)?));
+    }
+    match matches.subcommand_matches("table") {
+        Some(matches) => Ok(Arguments::Table(read_table(matches)?)),
+        None => Err(Unread::Missing),
+    }
+}
