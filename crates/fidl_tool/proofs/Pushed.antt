@@ -1,9 +1,8 @@
 -- Lists that grow while another is walked.
-use Rattle.std.proofs.Common.{◌≡◌, ◌+◌, ◌<◌, ◌≤◌, ℕ, zero, suc, List, [], ◌∷◌, ◌++◌, length, take, get_or, map, refl, ap, sym, subst, ◌∙◌, arith, inl, inr}
+use Rattle.std.proofs.Common.{◌≡◌, ◌+◌, ◌<◌, ◌≤◌, ℕ, zero, suc, List, [], ◌∷◌, ◌++◌, length, take, get_or, map, refl, ap, sym, subst, ◌∙◌, arith}
 use Rattle.std.proofs.lemmas.List.{map-append}
 use Rattle.std.specs.Prelude.{Some, slice_get}
-use Rattle.std.specs.List.{AllZip, Contains}
-use Rattle.std.proofs.lemmas.List.Elements.{Contains-get_or, Contains-push_cases}
+use Rattle.std.specs.List.{AllZip}
 
 take_suc : {X : Type 0} (xs : List X) (i : ℕ) (x : X) → i < length xs → x ≡ get_or xs i x → take (suc i) xs ≡ take i xs ++ x ∷ []
 take_suc [] i x l e = absurd (omega (arith, l))
@@ -55,17 +54,3 @@ same_at (x ∷ xs) (suc i) d e l = same_at xs i d e (omega (arith, l))
 pub map_at : {X Y Z : Type 0} (f : X → Z) (g : Y → Z) (xs : List X) (i : ℕ) (d : X) (ys new : List Y) (y : Y) → i < length xs
     → new ≡ ys ++ y ∷ [] → g y ≡ f (get_or xs i d) → map g ys ≡ map f (take i xs) → map g new ≡ map f (take (i + 1) xs)
 map_at f g xs i d ys new y l pushed same so_far = map_more f g xs i (get_or xs i d) ys new y l (same_at xs i d _ l) pushed same so_far
-
--- a text is none of some, nor the next
-pub none_more : (xs : List (List ℕ)) (i : ℕ) (d x : List ℕ) → i < length xs → (Contains (take i xs) x → ⊥) → (get_or xs i d ≡ x → ⊥) → Contains (take (i + 1) xs) x → ⊥
-none_more xs i d x l before here h =
-    elim (Contains-push_cases (take i xs) (get_or xs i d) x (subst (λ (ys : List (List ℕ)). Contains ys x) (take_next xs i (get_or xs i d) l (same_at xs i d _ l)) h)) [
-      | inl at ↦ before at
-      | inr at ↦ here at
-    ]
-
-pub none_at_all : (xs : List (List ℕ)) (i : ℕ) (x : List ℕ) → length xs ≤ i → (Contains (take i xs) x → ⊥) → Contains xs x → ⊥
-none_at_all xs i x l before h = before (subst (λ (ys : List (List ℕ)). Contains ys x) (sym (take_all xs i l)) h)
-
-pub one_at : (xs : List (List ℕ)) (i : ℕ) (d x : List ℕ) → i < length xs → get_or xs i d ≡ x → Contains xs x
-one_at xs i d x l e = subst (Contains xs) e (Contains-get_or xs i d l)

@@ -1,6 +1,6 @@
 -- What a status says of the line that goes with it, and of the roots of a table.
 use Rattle.std.proofs.Common.{◌≡◌, ◌≢◌, ◌↔◌, ℕ, List, ◌++◌, refl, sym, ap, subst, ◌∙◌, inl, inr}
-use Rattle.std.specs.Prelude.{Result, Ok, Err, OnOk, is_ok, if◌then◌else◌, Option, Some, None, IsSome, codes}
+use Rattle.std.specs.Prelude.{Result, Ok, Err, OnOk, OnErr, is_ok, true, false, if◌then◌else◌, Option, Some, None, IsSome, codes}
 use Rattle.fidl_wire.specs.declared.handle.HandleInfo.{HandleInfo}
 use Rattle.fidl_wire.specs.Value.{Value}
 use Rattle.fidl_wire.specs.Term as ty
@@ -13,10 +13,12 @@ use Rattle.fidl_records.specs.WellFormed.{WellFormed}
 use Rattle.fidl_decode.specs.Model.{Shown}
 use Rattle.fidl_tool.specs.declared.outcome.Outcome.{Outcome}
 use Rattle.fidl_tool.specs.declared.outcome.Outcome.TheVariants.{Done, Unwritten}
-use Rattle.fidl_tool.specs.declared.unread.Unread.{Unread}
-use Rattle.fidl_tool.specs.declared.unread.Unread.TheVariants as unread
-use Rattle.fidl_tool.specs.Arguments.{complaint_of, line_of}
-use Rattle.fidl_tool.specs.Decoding.{IsRootOf, LacksRoot}
+use Rattle.fidl_command_line.specs.declared.unread.Unread.{Unread}
+use Rattle.fidl_command_line.specs.declared.unread.Unread.TheVariants as unread
+use Rattle.fidl_command_line.specs.Complaints.{complaint_of}
+use Rattle.fidl_tool.specs.Reasons.{line_of}
+use Rattle.fidl_tool.specs.Decoding.{IsRootOf, LacksRoot, IsRefusal, of_table}
+use Rattle.fidl_tool.specs.Listing.{IsTableRefusal, of_fault}
 use Rattle.fidl_tool.specs.Outputs.{ReportsFailures}
 
 -- what a line says holds where its outcome is answered
@@ -33,6 +35,18 @@ told_never (Err x) own other r e q a b = absurd (b (sym e ∙ q))
 pub only_unwritten : {T E : Type 0} (w : Result T E) (r : Outcome) → r ≡ (if is_ok w then Unwritten else Unwritten) → r ≡ Unwritten
 only_unwritten (Ok x) r e = e
 only_unwritten (Err x) r e = e
+
+-- where a line is the only write, its failure is reported, and no other
+pub told_failed : {T E F G : Type 0} (w : Result T E) (own r : Outcome) (out : Option F) (before after : Option G) → r ≡ (if is_ok w then own else Unwritten) → own ≢ Unwritten
+    → OnOk w (after ≡ before) → OnErr w (IsSome after) → ReportsFailures r out out before after
+told_failed (Ok x) own r out before after e n k f o b =
+    let none : after ≡ None = k ∙ b in
+    (λ u. absurd (n (sym e ∙ u)), λ some. elim some [ inl s ↦ let never : false ≡ true = subst IsSome o s in cc | inr s ↦ let never : false ≡ true = subst IsSome none s in cc ])
+told_failed (Err x) own r out before after e n k f o b = (λ u. inr f, λ some. e)
+
+-- a table that is refused refuses each message
+pub table_refused : (table root bytes : List ℕ) (handles : List HandleInfo) (line : List ℕ) → IsTableRefusal table line → IsRefusal table root bytes handles line
+table_refused table root bytes handles line (of_fault fault none breaks) = of_table fault none breaks
 
 pub root_of : (file table root name : List ℕ) (entry : ℕ) → table ≡ file → name ≡ root → WellFormed file → IsRootEntry table (header_of table) name entry → IsRootOf file root entry
 root_of file table root name entry t n w h = record {

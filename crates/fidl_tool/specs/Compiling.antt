@@ -17,7 +17,7 @@ use Rattle.fidl_tool.specs.declared.files.File.{File}
 use Rattle.fidl_tool.specs.declared.outcome.Outcome.{Outcome}
 use Rattle.fidl_tool.specs.declared.outcome.Outcome.TheVariants.{Done, Refused, Unwritten}
 use Rattle.fidl_tool.specs.declared.outcome.Outcome.TheVariants.{NoMemory}
-use Rattle.fidl_tool.specs.Listing.{words_line}
+use Rattle.fidl_text.specs.Words.{words_line}
 
 -- files by their names and their bytes
 abbrev pub Named : Type 0

@@ -16,9 +16,12 @@ use Rattle.fidl_verify.specs.declared.fault.TableFault.{TableFault}
 use Rattle.fidl_decode.specs.Faults.{IsTold}
 use Rattle.fidl_decode.specs.Faults as message_faults
 use Rattle.fidl_decode.specs.declared.fault.DecodeFault.{DecodeFault}
+use Rattle.fidl_command_line.specs.Complaints.{no_memory}
 use Rattle.fidl_tool.specs.declared.decoding.TypedMessage.{TypedMessage}
 use Rattle.fidl_tool.specs.declared.outcome.Outcome.{Outcome}
-use Rattle.fidl_tool.specs.declared.outcome.Outcome.TheVariants.{Asked, WrongLine, NoFile}
+use Rattle.fidl_tool.specs.declared.outcome.Outcome.TheVariants.{Done, Asked, Refused}
+use Rattle.fidl_tool.specs.declared.outcome.Outcome.TheVariants.{WrongLine, NoFile, Unwritten}
+use Rattle.fidl_tool.specs.declared.outcome.Outcome.TheVariants.{NoMemory}
 
 -- the table is accepted, and its first root of this name has this entry
 pub record IsRootOf (table root : List ℕ) (entry : ℕ) : Type 0 where
@@ -59,10 +62,7 @@ no_root_line file root =
     (option_append (Some (codes " has the name "))
     (option_append (debug_str root) (Some (codes "\n")))))
 
--- what is said where memory ran out, and its line
-abbrev pub no_memory : List ℕ
-no_memory = codes "error: out of memory"
-
+-- the line where memory ran out
 abbrev pub no_memory_line : List ℕ
 no_memory_line = no_memory ++ codes "\n"
 
@@ -73,7 +73,15 @@ CanEndDecode WrongLine = ⊥
 CanEndDecode NoFile = ⊥
 CanEndDecode _ = ⊤
 
--- what can happen to it with its arguments read, and its file to be read
+-- what can happen to it with its root found
+abbrev pub CanEndDecodeAs : Outcome → Type 0
+CanEndDecodeAs Done = ⊤
+CanEndDecodeAs Refused = ⊤
+CanEndDecodeAs Unwritten = ⊤
+CanEndDecodeAs NoMemory = ⊤
+CanEndDecodeAs _ = ⊥
+
+-- what can happen to `decode` with its arguments read, and its file to be read
 abbrev pub CanEndRun : Outcome → Type 0
 CanEndRun Asked = ⊥
 CanEndRun WrongLine = ⊥

@@ -1,24 +1,25 @@
 -- What the program answers to its words and its files (docs/program.md, "Statuses").
-use Rattle.std.specs.Prelude.{◌≡◌, ⊤, ℕ, List, Option, Some, None, IfSome, map}
+use Rattle.std.specs.Prelude.{◌≡◌, ◌⊎◌, ⊤, ℕ, List, Option, Some, Bool, false, IfSome, map}
 use Rattle.std.specs.List.{AllZip}
 use Rattle.std.specs.Io.KnownBytes.{Appends}
-use Rattle.clap.specs.Words.{Text}
-use Rattle.fidl_tool.specs.Arguments.{IsGiven, IsUngiven, outcome_of}
+use Rattle.fidl_command_line.specs.Arguments.{IsGiven, IsUngiven}
 use Rattle.fidl_tool.specs.Decoding.{IsText, IsRefusal, LacksRoot}
 use Rattle.fidl_tool.specs.Listing.{IsListing, IsTableRefusal}
 use Rattle.fidl_records.specs.WellFormed.{WellFormed}
 use Rattle.fidl_compile.specs.Sources.{IsTableOf}
 use Rattle.fidl_tool.specs.Compiling.{Named, texts_of, summary_line, IsSourceRefusal}
-use Rattle.fidl_tool.specs.Outputs.{AppendsOne, IsWritten}
-use Rattle.fidl_tool.specs.declared.arguments.Arguments.{Arguments}
-use Rattle.fidl_tool.specs.declared.arguments.Arguments.TheVariants.{Compile, Decode, Table}
-use Rattle.fidl_tool.specs.declared.arguments.CompileArguments.{CompileArguments}
-use Rattle.fidl_tool.specs.declared.arguments.DecodeArguments.{DecodeArguments}
+use Rattle.fidl_tool.specs.Files.{IsWritten, NamesFile, IsMissing, HasMissing}
+use Rattle.fidl_tool.specs.Outputs.{AppendsOne}
+use Rattle.fidl_tool.specs.Reasons.{outcome_of}
+use Rattle.fidl_command_line.specs.declared.arguments.Arguments.{Arguments}
+use Rattle.fidl_command_line.specs.declared.arguments.Arguments.TheVariants.{Compile, Decode, Table}
+use Rattle.fidl_command_line.specs.declared.arguments.CompileArguments.{CompileArguments}
+use Rattle.fidl_command_line.specs.declared.arguments.DecodeArguments.{DecodeArguments}
 use Rattle.fidl_tool.specs.declared.outcome.Outcome.{Outcome}
 use Rattle.fidl_tool.specs.declared.outcome.Outcome.TheVariants.{Asked, WrongLine, NoRoot}
 use Rattle.fidl_tool.specs.declared.outcome.Outcome.TheVariants.{NoFile, Unwritten, NoMemory}
 use Rattle.fidl_tool.specs.declared.sources.Source.{Source}
-use Rattle.fidl_tool.specs.declared.unread.Unread.{Unread}
+use Rattle.fidl_command_line.specs.declared.unread.Unread.{Unread}
 
 -- the line of the text that the message of the arguments encodes, by this table
 abbrev pub IsMessageText : DecodeArguments → (table : List ℕ) → List ℕ → Type 0
@@ -60,13 +61,18 @@ OfSources bytes_of names Holds =
 abbrev pub sources_of : CompileArguments → List (List ℕ)
 sources_of given = map (λ name. name.now) given.sources.items
 
+-- this is the table of the sources, and what it holds is printed
+pub record IsPrinted (files : List Named) (old new : Option (List ℕ)) (table : List ℕ) : Type 0
+  where
+    pub well_formed : WellFormed table
+    pub shows : IsTableOf (texts_of files) table
+    pub printed : Appends old new (summary_line table)
+
 -- the sources are compiled: what their table holds is printed, and the table is written
 pub record AreCompiled (given : CompileArguments) (files : List Named) (old new : Option (List ℕ))
     (before after : Option (List Named)) : Type 0 where
   pub table : List ℕ
-  pub well_formed : WellFormed table
-  pub shows : IsTableOf (texts_of files) table
-  pub printed : Appends old new (summary_line table)
+  pub compiled : IsPrinted files old new table
   pub written : IsWritten before after given.out.now table
 
 -- what the command of the arguments prints and writes where it is done
@@ -89,12 +95,32 @@ IsRefused bytes_of (Decode given) old new = OfTable bytes_of given.table.now
 IsRefused bytes_of (Table file) old new = OfTable bytes_of file.now
     (λ table. AppendsOne (IsTableRefusal table) old new)
 
--- a file that the command reads is none whose bytes are known; or it writes one, which no contract
--- says to succeed
-abbrev pub LacksGivenFile : (bytes_of : List ℕ → Option (List ℕ)) → Arguments → Type 0
-LacksGivenFile bytes_of (Compile given) = ⊤
-LacksGivenFile bytes_of (Decode given) = bytes_of given.table.now ≡ None
-LacksGivenFile bytes_of (Table file) = bytes_of file.now ≡ None
+-- the sources have a table, which is printed and not written: the line for the file to write is
+-- printed, and this is none that is known to be written
+pub record LacksOut (bytes_of : List ℕ → Option (List ℕ)) (can_write : List ℕ → Bool)
+    (given : CompileArguments) (old_out new_out old new : Option (List ℕ)) : Type 0 where
+  pub compiled : OfSources bytes_of (sources_of given)
+      (λ files. (table : List ℕ) × IsPrinted files old_out new_out table)
+  pub unwritten : can_write given.out.now ≡ false
+  pub named : NamesFile given.out.now old new
+
+-- `compile` lacks a source, or the file to write
+abbrev pub LacksSourceOrOut : (bytes_of : List ℕ → Option (List ℕ)) → (can_write : List ℕ → Bool)
+    → CompileArguments → (old_out new_out old new : Option (List ℕ)) → Type 0
+LacksSourceOrOut bytes_of can_write given old_out new_out old new =
+    HasMissing bytes_of (sources_of given) old new
+    ⊎ LacksOut bytes_of can_write given old_out new_out old new
+
+-- a file that the command reads is none whose bytes are known, or the file that it writes is none
+-- that is known to be written; the line for this file is printed on the errors
+abbrev pub LacksGivenFile : (bytes_of : List ℕ → Option (List ℕ)) → (can_write : List ℕ → Bool)
+    → Arguments → (old_out new_out old new : Option (List ℕ)) → Type 0
+LacksGivenFile bytes_of can_write (Compile given) old_out new_out old new =
+    LacksSourceOrOut bytes_of can_write given old_out new_out old new
+LacksGivenFile bytes_of can_write (Decode given) old_out new_out old new =
+    IsMissing bytes_of given.table.now old new
+LacksGivenFile bytes_of can_write (Table file) old_out new_out old new =
+    IsMissing bytes_of file.now old new
 
 -- the arguments name a root that their table does not have
 abbrev pub LacksGivenRoot : (bytes_of : List ℕ → Option (List ℕ)) → Arguments → Type 0
@@ -104,11 +130,11 @@ LacksGivenRoot bytes_of (Decode given) =
 LacksGivenRoot bytes_of (Table file) = ⊥
 
 -- the words give arguments of which this holds
-abbrev pub Gives : List Text → (Arguments → Type 0) → Type 0
+abbrev pub Gives : List (List ℕ) → (Arguments → Type 0) → Type 0
 Gives words Holds = (given : Arguments) × IsGiven words given × Holds given
 
 -- the words give no arguments, for a reason that has this outcome, and of which this holds
-abbrev pub GivesNone : List Text → Outcome → (Unread → Type 0) → Type 0
+abbrev pub GivesNone : List (List ℕ) → Outcome → (Unread → Type 0) → Type 0
 GivesNone words ends Holds = (unread : Unread) × IsUngiven words unread × (outcome_of unread ≡ ends)
     × Holds unread
 

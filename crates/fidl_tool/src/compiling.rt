@@ -11,19 +11,18 @@ ghost use Rattle.fidl_tool.specs.Compiling.{located, located_at};
 ghost use Rattle.fidl_tool.specs.Compiling.{summary_line, IsSourceRefusal, CanEndCompile};
 ghost use Rattle.fidl_tool.specs.Compiling.{IsSummary, outcome_of};
 ghost use Rattle.fidl_tool.specs.Decoding.{no_memory_line};
-ghost use Rattle.fidl_tool.specs.Outputs.{Writes, AppendsOne, AppendsFrontOfOne, ReportsFailures};
+ghost use Rattle.fidl_text.specs.Outputs.{Writes};
+ghost use Rattle.fidl_tool.specs.Outputs.{AppendsOne, AppendsFrontOfOne, ReportsFailures};
 ghost use Rattle.fidl_tool.specs.declared.outcome.Outcome.TheVariants as outcome;
 
 use crate::files::File;
 use crate::lines::{write_no_memory, write_no_output};
 use crate::outcome::Outcome;
-use crate::output::{Failed, Output};
-use crate::quoted::write_decimal;
-use crate::words::{Word, write_words};
 use fidl_compile::{CompileFault, Refusal};
 use fidl_names::Place;
 use fidl_records::read_header;
 use fidl_span::line_col;
+use fidl_text::{Failed, Output, Word, write_decimal, write_words};
 use std::alloc::{AllocError, Global};
 use std::io::Write;
 

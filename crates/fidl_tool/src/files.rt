@@ -1,9 +1,9 @@
 //! The files that commands read.
-ghost use Rattle.std.specs.Prelude.{◌≡◌, ◌≢◌, ℕ, List, Option, None, IfOk, IfErr, IfSome};
-ghost use Rattle.std.specs.Prelude.{OnOk, OnErr};
+ghost use Rattle.std.specs.Prelude.{◌≡◌, ◌≢◌, ℕ, List, Option, None, Bool, false, IfOk, IfErr};
+ghost use Rattle.std.specs.Prelude.{IfSome, OnOk, OnErr};
 ghost use Rattle.std.specs.IoError.{error_kind};
 ghost use Rattle.std.specs.declared.io.ErrorKind.TheVariants as error_kinds;
-ghost use Rattle.fidl_tool.specs.Outputs.{IsWritten};
+ghost use Rattle.fidl_tool.specs.Files.{IsWritten};
 
 use std::alloc::Global;
 use std::io;
@@ -24,6 +24,9 @@ pub trait Files {
     // known.
     ghost written: { Self → Option (List (List ℕ × List ℕ)) } = { λ _. None };
 
+    // Whether the file of a name is known to be written wherever memory is left for it.
+    ghost can_write: { Self → List ℕ → Bool } = { λ _ _. false };
+
     /// The bytes of a file.
     fn read(&self, alloc: Global, name: &str) -> io::Result<Vec<u8>>
         ensures bytes { IfOk result (λ read. IfSome (bytes_of self.now name.now)
@@ -35,5 +38,7 @@ pub trait Files {
     fn write(&mut self, name: &str, bytes: &[u8]) -> io::Result<()>
         ensures ok { OnOk result
             (IsWritten (written self.old) (written self.new) name.now bytes.now) }
-        ensures err { OnErr result (written self.new ≡ written self.old) };
+        ensures err { OnErr result (written self.new ≡ written self.old) }
+        ensures fault { IfErr result (λ e. error_kind e ≢ error_kinds.OutOfMemory
+            → can_write self.old name.now ≡ false) };
 }

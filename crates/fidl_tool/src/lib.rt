@@ -5,32 +5,25 @@
 //! command line and runs its command; `run_on_host` is the whole program.
 #![tactic(auto)]
 
-mod arguments;
-mod command_line;
 mod compiling;
 mod decoding;
 mod files;
-mod handle;
 mod host;
 mod lines;
 mod listing;
 mod outcome;
-mod output;
-mod printer;
 mod program;
-mod quoted;
 mod sources;
-mod unknown;
-mod unread;
-mod words;
+mod telling;
+mod verified;
 pub mod worked;
 
 pub use crate::compiling::compile;
 pub use crate::decoding::{TypedMessage, decode};
 pub use crate::files::{File, Files};
-pub use crate::handle::read_handle;
 pub use crate::host::{Ran, run_on_host};
 pub use crate::listing::table;
 pub use crate::outcome::{Outcome, Status};
-pub use crate::output::{Failed, Output};
 pub use crate::program::run;
+pub use fidl_command_line::read_handle;
+pub use fidl_text::{Failed, Output};

@@ -2,9 +2,9 @@
 ghost use Rattle.std.specs.Prelude.{◌≡◌, ◌++◌, codes, OnOk, OnErr, IfSome, IsSome};
 ghost use Rattle.std.specs.Io.KnownBytes.{Appends};
 ghost use Rattle.fidl_tool.specs.Decoding.{refusal_line, no_root_line, no_memory_line};
+ghost use Rattle.fidl_tool.specs.Files.{no_file_line};
 
-use crate::output::{Failed, Output};
-use std::io;
+use fidl_text::{Failed, Output};
 use std::io::Write;
 
 /// A text as it is.
@@ -67,16 +67,18 @@ pub(crate) fn write_no_root<E: Write>(
     errors.flush()
 }
 
-/// The line for a file that cannot be read.
+/// The line for a file that cannot be read, or not be written.
 pub(crate) fn write_no_file<E: Write>(
     errors: &mut Output<E>,
     name: &str,
-    error: &io::Error,
+    reason: &str,
 ) -> Result<(), Failed>
+    ensures line { OnOk result (IfSome (no_file_line name.now reason.now)
+        (Appends (E.contents errors.old.writer) (E.contents errors.new.writer))) }
     ensures kept { OnOk result (errors.new.failure ≡ errors.old.failure) }
     ensures failed { OnErr result (IsSome errors.new.failure) }
 {
-    writeln!(errors, "error: {name:?}: {error}")?;
+    writeln!(errors, "error: {name:?}: {reason}")?;
     errors.flush()
 }
 

@@ -2,7 +2,7 @@
 ghost use Rattle.std.specs.Prelude.{◌≡◌, is_ok, if◌then◌else◌};
 ghost use Rattle.fidl_tool.specs.declared.outcome.Outcome.TheVariants as outcome;
 
-use crate::output::Failed;
+use fidl_text::Failed;
 
 /// What happened to a command.
 #[derive(Clone, Copy, PartialEq, Eq, Debug, Drop)]

@@ -1,93 +1,39 @@
 //! The program, over its words, its files and two writers.
-ghost use Rattle.std.specs.Prelude.{◌≡◌, ◌≢◌, ◌↔◌, ◌⊎◌, ℕ, List, None, IfSome, IsSome, map};
-ghost use Rattle.std.specs.Prelude.{OnOk, OnErr};
+ghost use Rattle.std.specs.Prelude.{◌≡◌, ◌≢◌, ◌⊎◌, ℕ, List, IfSome, map};
 ghost use Rattle.std.specs.Io.KnownBytes.{Appends};
-ghost use Rattle.std.specs.IoError.{error_kind};
-ghost use Rattle.std.specs.declared.io.ErrorKind.TheVariants as error_kinds;
-ghost use Rattle.fidl_tool.specs.Arguments.{outcome_of, text_of, line_of};
+ghost use Rattle.fidl_text.specs.Outputs.{AppendsFront};
+ghost use Rattle.fidl_tool.specs.Reasons.{text_of, line_of};
 ghost use Rattle.fidl_tool.specs.Decoding.{LacksRoot, no_root_line, no_memory_line, CanEndRun};
-ghost use Rattle.fidl_tool.specs.Outputs.{AppendsFront, AppendsOne, ReportsFailures};
+ghost use Rattle.fidl_tool.specs.Outputs.{AppendsOne, ReportsFailures};
 ghost use Rattle.fidl_tool.specs.Listing.{IsListing, IsTableRefusal};
+ghost use Rattle.fidl_tool.specs.Files.{IsMissing};
 ghost use Rattle.fidl_tool.specs.Running.{IsMessageText, IsMessageRefusal, OfTable};
 ghost use Rattle.fidl_tool.specs.Running.{IsDone, IsRefused, LacksGivenFile, LacksGivenRoot};
 ghost use Rattle.fidl_tool.specs.Running.{CanEndTableRun, Gives, GivesNone};
 ghost use Rattle.fidl_tool.specs.declared.outcome.Outcome.TheVariants as outcome;
 
-use crate::arguments::{Arguments, DecodeArguments, read_arguments};
-use crate::decoding::decode;
+use crate::decoding::{TypedMessage, decode};
 use crate::files::{File, Files};
-use crate::lines::{write_line, write_no_file, write_no_memory, write_no_output, write_text};
 use crate::listing::table;
 use crate::outcome::Outcome;
-use crate::output::{Failed, Output};
 use crate::sources::run_compile;
-use crate::unread::Unread;
+use crate::telling::{tell, tell_no_file};
+use fidl_command_line::{Arguments, DecodeArguments, read_arguments};
+use fidl_text::Output;
 use std::alloc::Global;
 use std::convert::AsStr;
-use std::io;
 use std::io::Write;
 
-/// Writes why there are no arguments: help and version on the output, all else as a line on the
-/// errors.
-fn write_unread<W: Write, E: Write>(
-    unread: &Unread,
-    out: &mut Output<W>,
-    errors: &mut Output<E>,
-) -> Result<(), Failed>
-    ensures out { OnOk result (Appends (W.contents out.old.writer) (W.contents out.new.writer)
-        (text_of unread.now)) }
-    ensures errors { OnOk result
-        (Appends (E.contents errors.old.writer) (E.contents errors.new.writer)
-        (line_of unread.now)) }
-    ensures kept_out { OnOk result (out.new.failure ≡ out.old.failure) }
-    ensures kept_errors { OnOk result (errors.new.failure ≡ errors.old.failure) }
-    ensures failed { OnErr result (IsSome out.new.failure ⊎ IsSome errors.new.failure) }
+/// The message of the arguments, with the name of its root.
+fn message_of<'a>(arguments: &'a DecodeArguments<'_>) -> TypedMessage<'a>
+    ensures root { result.root.now ≡ arguments.now.root.now }
+    ensures bytes { result.bytes.now ≡ arguments.now.bytes.items }
+    ensures handles { result.handles.now ≡ arguments.now.handles.items }
 {
-    match unread {
-        Unread::Asked { text } => write_text(out, text.as_str()),
-        _ => write_line(errors, unread.line()),
-    }
-}
-
-/// Reports why there are no arguments.
-pub(crate) fn tell<W: Write, E: Write>(
-    unread: &Unread,
-    out: &mut Output<W>,
-    errors: &mut Output<E>,
-) -> Outcome
-    ensures outcome { result ≢ outcome.Unwritten → result ≡ outcome_of unread.now }
-    ensures out { result ≢ outcome.Unwritten
-        → Appends (W.contents out.old.writer) (W.contents out.new.writer) (text_of unread.now) }
-    ensures errors { result ≢ outcome.Unwritten
-        → Appends (E.contents errors.old.writer) (E.contents errors.new.writer)
-        (line_of unread.now) }
-    ensures unwritten { ReportsFailures result out.old.failure out.new.failure
-        errors.old.failure errors.new.failure }
-{
-    match write_unread(unread, out, errors) {
-        Ok(()) => unread.outcome(),
-        Err(Failed) => Outcome::Unwritten.where_written(&write_no_output(errors, out)),
-    }
-}
-
-/// Reports that a file cannot be read or written, or that memory ran out for it.
-pub(crate) fn tell_no_file<E: Write>(
-    name: &str,
-    error: &io::Error,
-    errors: &mut Output<E>,
-) -> Outcome
-    ensures ends { result ≢ outcome.Unwritten
-        → result ≡ outcome.NoFile ⊎ result ≡ outcome.NoMemory }
-    ensures no_file { result ≡ outcome.NoFile
-        → error_kind error.now ≢ error_kinds.OutOfMemory }
-    ensures memory_line { result ≡ outcome.NoMemory
-        → Appends (E.contents errors.old.writer) (E.contents errors.new.writer) no_memory_line }
-    ensures unwritten { errors.old.failure ≡ None
-        → (result ≡ outcome.Unwritten ↔ IsSome errors.new.failure) }
-{
-    match error.kind() {
-        io::ErrorKind::OutOfMemory => Outcome::NoMemory.where_written(&write_no_memory(errors)),
-        _ => Outcome::NoFile.where_written(&write_no_file(errors, name, error)),
+    TypedMessage {
+        root: arguments.root,
+        bytes: arguments.bytes.as_slice(),
+        handles: arguments.handles.as_slice(),
     }
 }
 
@@ -115,7 +61,8 @@ fn run_decode<F: Files, W: Write, E: Write>(
         → IfSome (no_root_line arguments.now.table.now arguments.now.root.now)
         (Appends (E.contents errors.old.writer) (E.contents errors.new.writer)) }
     ensures no_file { result ≡ outcome.NoFile
-        → F.bytes_of files.now arguments.now.table.now ≡ None }
+        → IsMissing (F.bytes_of files.now) arguments.now.table.now
+        (E.contents errors.old.writer) (E.contents errors.new.writer) }
     ensures memory_line { result ≡ outcome.NoMemory
         → Appends (E.contents errors.old.writer) (E.contents errors.new.writer) no_memory_line }
     ensures unwritten { ReportsFailures result out.old.failure out.new.failure
@@ -133,13 +80,13 @@ fn run_decode<F: Files, W: Write, E: Write>(
     let name = arguments.table;
     let table = match files.read(alloc, name) {
         Ok(table) => table,
-        Err(error) => return tell_no_file(name, &error, errors),
+        Err(error) => return tell_no_file(alloc, name, &error, errors),
     };
     let file = File {
         name,
         bytes: table.as_slice(),
     };
-    decode(alloc, &file, &arguments.message(), out, errors)
+    decode(alloc, &file, &message_of(arguments), out, errors)
 }
 
 /// Reads the table's file, and prints its records.
@@ -157,7 +104,8 @@ fn run_table<F: Files, W: Write, E: Write>(
     ensures refused { result ≡ outcome.Refused → OfTable (F.bytes_of files.now) name.now
         (λ table. AppendsOne (IsTableRefusal table)
         (E.contents errors.old.writer) (E.contents errors.new.writer)) }
-    ensures no_file { result ≡ outcome.NoFile → F.bytes_of files.now name.now ≡ None }
+    ensures no_file { result ≡ outcome.NoFile → IsMissing (F.bytes_of files.now) name.now
+        (E.contents errors.old.writer) (E.contents errors.new.writer) }
     ensures memory_line { result ≡ outcome.NoMemory
         → Appends (E.contents errors.old.writer) (E.contents errors.new.writer) no_memory_line }
     ensures unwritten { ReportsFailures result out.old.failure out.new.failure
@@ -174,7 +122,7 @@ fn run_table<F: Files, W: Write, E: Write>(
 {
     let bytes = match files.read(alloc, name) {
         Ok(bytes) => bytes,
-        Err(error) => return tell_no_file(name, &error, errors),
+        Err(error) => return tell_no_file(alloc, name, &error, errors),
     };
     let file = File {
         name,
@@ -201,7 +149,9 @@ pub fn run<S: AsStr, F: Files, W: Write, E: Write>(
     ensures no_root { result ≡ outcome.NoRoot → Gives (map S.text words.now)
         (LacksGivenRoot (F.bytes_of files.old)) }
     ensures no_file { result ≡ outcome.NoFile → Gives (map S.text words.now)
-        (LacksGivenFile (F.bytes_of files.old)) }
+        (λ given. LacksGivenFile (F.bytes_of files.old) (F.can_write files.old) given
+        (W.contents out.old.writer) (W.contents out.new.writer)
+        (E.contents errors.old.writer) (E.contents errors.new.writer)) }
     ensures asked { result ≡ outcome.Asked → GivesNone (map S.text words.now) outcome.Asked
         (λ unread. Appends (W.contents out.old.writer) (W.contents out.new.writer)
         (text_of unread)) }
@@ -209,6 +159,8 @@ pub fn run<S: AsStr, F: Files, W: Write, E: Write>(
         → GivesNone (map S.text words.now) outcome.WrongLine
         (λ unread. Appends (E.contents errors.old.writer) (E.contents errors.new.writer)
         (line_of unread)) }
+    ensures memory_line { result ≡ outcome.NoMemory
+        → Appends (E.contents errors.old.writer) (E.contents errors.new.writer) no_memory_line }
     ensures written { result ≢ outcome.Done → F.written files.new ≡ F.written files.old }
     ensures unwritten { ReportsFailures result out.old.failure out.new.failure
         errors.old.failure errors.new.failure }

@@ -1,19 +1,22 @@
 //! The command `compile` on files: reading its sources, and writing its table.
-ghost use Rattle.std.specs.Prelude.{◌≡◌, ◌≢◌, ◌↔◌, map, None, IfOk, IfErr, OnOk, IsSome};
+ghost use Rattle.std.specs.Prelude.{◌≡◌, ◌≢◌, ◌↔◌, map, None, Err, IfOk, IfErr, OnOk, IsSome};
+ghost use Rattle.std.specs.Io.KnownBytes.{Appends};
+ghost use Rattle.fidl_tool.specs.Decoding.{no_memory_line};
 ghost use Rattle.fidl_tool.specs.Compiling.{named_of, IsSourceRefusal};
 ghost use Rattle.fidl_tool.specs.Outputs.{AppendsOne, ReportsFailures};
 ghost use Rattle.fidl_tool.specs.Running.{IsRead, AreRead, stored_as};
-ghost use Rattle.fidl_tool.specs.Running.{OfSources, sources_of, AreCompiled};
+ghost use Rattle.fidl_tool.specs.Files.{IsMissing, HasMissing};
+ghost use Rattle.fidl_tool.specs.Running.{OfSources, sources_of, AreCompiled, LacksSourceOrOut};
 ghost use Rattle.fidl_tool.specs.Running.{CanEndReading, CanEndCompileRun};
 ghost use Rattle.fidl_tool.specs.declared.outcome.Outcome.TheVariants as outcome;
 
-use crate::arguments::CompileArguments;
 use crate::compiling::compile;
 use crate::files::{File, Files};
 use crate::lines::write_no_memory;
 use crate::outcome::Outcome;
-use crate::output::Output;
-use crate::program::tell_no_file;
+use crate::telling::tell_no_file;
+use fidl_command_line::CompileArguments;
+use fidl_text::Output;
 use std::alloc::{AllocError, Global};
 use std::io::Write;
 
@@ -35,12 +38,16 @@ fn read_source<'a, F: Files, E: Write>(
         (stored_as source)) }
     ensures kept { OnOk result (errors.new ≡ errors.old) }
     ensures ends { IfErr result CanEndReading }
+    ensures no_file { result ≡ Err outcome.NoFile → IsMissing (F.bytes_of files.now) name.now
+        (E.contents errors.old.writer) (E.contents errors.new.writer) }
+    ensures memory_line { result ≡ Err outcome.NoMemory
+        → Appends (E.contents errors.old.writer) (E.contents errors.new.writer) no_memory_line }
     ensures unwritten { IfErr result (λ ended. errors.old.failure ≡ None
         → (ended ≡ outcome.Unwritten ↔ IsSome errors.new.failure)) }
 {
     match files.read(alloc, name) {
         Ok(bytes) => Ok(Source { name, bytes }),
-        Err(error) => Err(tell_no_file(name, &error, errors)),
+        Err(error) => Err(tell_no_file(alloc, name, &error, errors)),
     }
 }
 
@@ -55,6 +62,11 @@ fn read_all<'a, F: Files, E: Write>(
         (map (λ n. n.now) names.now) (map stored_as sources.items)) }
     ensures kept { OnOk result (errors.new ≡ errors.old) }
     ensures ends { IfErr result CanEndReading }
+    ensures no_file { result ≡ Err outcome.NoFile
+        → HasMissing (F.bytes_of files.now) (map (λ n. n.now) names.now)
+        (E.contents errors.old.writer) (E.contents errors.new.writer) }
+    ensures memory_line { result ≡ Err outcome.NoMemory
+        → Appends (E.contents errors.old.writer) (E.contents errors.new.writer) no_memory_line }
     ensures unwritten { IfErr result (λ ended. errors.old.failure ≡ None
         → (ended ≡ outcome.Unwritten ↔ IsSome errors.new.failure)) }
 {
@@ -100,6 +112,12 @@ pub(crate) fn run_compile<F: Files, W: Write, E: Write>(
         → OfSources (F.bytes_of files.old) (sources_of arguments.now)
         (λ sources. AppendsOne (IsSourceRefusal sources)
         (E.contents errors.old.writer) (E.contents errors.new.writer)) }
+    ensures no_file { result ≡ outcome.NoFile
+        → LacksSourceOrOut (F.bytes_of files.old) (F.can_write files.old) arguments.now
+        (W.contents out.old.writer) (W.contents out.new.writer)
+        (E.contents errors.old.writer) (E.contents errors.new.writer) }
+    ensures memory_line { result ≡ outcome.NoMemory
+        → Appends (E.contents errors.old.writer) (E.contents errors.new.writer) no_memory_line }
     ensures written { result ≢ outcome.Done → F.written files.new ≡ F.written files.old }
     ensures unwritten { ReportsFailures result out.old.failure out.new.failure
         errors.old.failure errors.new.failure }
@@ -119,6 +137,6 @@ pub(crate) fn run_compile<F: Files, W: Write, E: Write>(
     };
     match files.write(arguments.out, &table) {
         Ok(()) => Outcome::Done,
-        Err(error) => tell_no_file(arguments.out, &error, errors),
+        Err(error) => tell_no_file(alloc, arguments.out, &error, errors),
     }
 }

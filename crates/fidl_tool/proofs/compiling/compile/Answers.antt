@@ -1,7 +1,7 @@
 use Rattle.std.proofs.Common.{ap, subst, ◌∙◌, List, ℕ, map, inr}
 use Rattle.fidl_compile.specs.Sources.{IsTableOf}
 use Rattle.fidl_tool.specs.Compiling.{summary_line, of_table}
-use Rattle.fidl_tool.proofs.Written.{appends_as, front_as}
+use Rattle.fidl_text.proofs.Written.{appends_as, front_as}
 use Rattle.fidl_tool.proofs.compiling.compile.Goals as goal
 
 pub returns-in-Ok-write_summary-clause-done : goal.returns-in-Ok-write_summary-clause-done

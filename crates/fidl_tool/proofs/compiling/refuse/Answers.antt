@@ -3,7 +3,7 @@ use Rattle.fidl_compile.specs.Reports.{reported}
 use Rattle.fidl_tool.specs.declared.outcome.Outcome.TheVariants as outcome
 use Rattle.fidl_tool.specs.Compiling.{Located, named_of, located_at, report_line, of_fault}
 use Rattle.fidl_tool.proofs.Told.{told_written}
-use Rattle.fidl_tool.proofs.Written.{appends_as}
+use Rattle.fidl_text.proofs.Written.{appends_as}
 use Rattle.fidl_tool.proofs.compiling.refuse.Goals as goal
 
 pub returns-in-Some-clause-refused : goal.returns-in-Some-clause-refused

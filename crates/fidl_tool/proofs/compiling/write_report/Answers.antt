@@ -1,8 +1,8 @@
 use Rattle.std.proofs.Common.{List, ℕ, [], ◌∷◌, ◌++◌}
 use Rattle.std.specs.Prelude.{codes, decimal}
-use Rattle.fidl_tool.specs.Listing.{words_line}
+use Rattle.fidl_text.specs.Words.{words_line}
 use Rattle.fidl_tool.proofs.Told.{at_ok}
-use Rattle.fidl_tool.proofs.Written.{appends_as, appends_kept, appends_then}
+use Rattle.fidl_text.proofs.Written.{appends_as, appends_kept, appends_then}
 use Rattle.fidl_tool.proofs.compiling.write_report.Goals as goal
 
 pub returns-clause-line : goal.returns-clause-line

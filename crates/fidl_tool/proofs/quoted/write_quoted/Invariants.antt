@@ -1,9 +1,0 @@
-use Rattle.std.proofs.Common.{◌≡◌}
-use Rattle.fidl_tool.proofs.Written.{IsSoFar}
-use Rattle.fidl_tool.proofs.Quoting.{quoted, quoted_left}
-use Rattle.fidl_tool.proofs.quoted.write_quoted.Given as goal
-
-abbrev pub invariant-loop-byte : goal.invariant-loop-byte
-invariant-loop-byte g l =
-    IsSoFar (g.W.Write.contents l.fn.out.writer) (g.W.Write.contents l.out.writer) (quoted l.fn.text) (quoted_left l.fn.text l.byte-index)
-    × (l.out.failure ≡ l.fn.out.failure)
