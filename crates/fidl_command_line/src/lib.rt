@@ -1,7 +1,7 @@
 //! What the words of a command line of the program `fidl` give (docs/program.md, "Commands").
 //!
-//! `read_arguments` reads the words by `clap`'s rules, and gives a command with its arguments, or why
-//! there are none.
+//! `read_arguments` reads the words by `clap`'s rules, and gives a command with its arguments, or
+//! why there are none.
 #![tactic(auto)]
 
 mod arguments;

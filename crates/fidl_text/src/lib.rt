@@ -1,8 +1,8 @@
-//! Text as the program `fidl` writes it: a decoded value, the records of a coding table, and lines of
-//! words.
+//! Text as the program `fidl` writes it: a decoded value, the records of a coding table, and lines
+//! of words.
 //!
-//! An `Output` is a writer that keeps the error it has failed with. Each function writes to one, and
-//! its contract says which bytes the writer has got.
+//! An `Output` is a writer that keeps the error it has failed with. Each function writes to one,
+//! and its contract says which bytes the writer has got.
 #![tactic(auto)]
 
 mod listing;

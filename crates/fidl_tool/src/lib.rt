@@ -1,8 +1,8 @@
 //! The commands of the program `fidl`, as functions over values (docs/program.md).
 //!
-//! `compile`, `decode` and `table` are the commands: each takes files, arguments that were read already, and
-//! two outputs, and answers what happened, from which the exit status follows. `run` reads a
-//! command line and runs its command; `run_on_host` is the whole program.
+//! `compile`, `decode` and `table` are the commands: each takes files, arguments that were read
+//! already, and two outputs, and answers what happened, from which the exit status follows. `run`
+//! reads a command line and runs its command; `run_on_host` is the whole program.
 #![tactic(auto)]
 
 mod compiling;

@@ -93,10 +93,9 @@ pub(crate) fn tell_no_file<E: Write>(
         (io::ErrorKind::OutOfMemory, _) | (_, Err(_)) => {
             Outcome::NoMemory.where_written(&write_no_memory(errors))
         }
-        (_, Ok(reason)) => Outcome::NoFile.where_written(&write_no_file(
-            errors,
-            name,
-            reason.as_str(),
-        )),
+        (_, Ok(reason)) => {
+            let written = write_no_file(errors, name, reason.as_str());
+            Outcome::NoFile.where_written(&written)
+        }
     }
 }
