@@ -1,5 +1,5 @@
 -- Turns on the content of an envelope: a value, and its end, which is where the envelope counts up to.
-use Rattle.std.proofs.Common.{◌≡◌, ℕ, ◌+◌, ◌-◌, ◌<◌, ◌≤◌, List, [], ◌∷◌, length, refl, sym, ap, subst, ◌∙◌, arith, inl, inr}
+use Rattle.std.proofs.Common.{◌≡◌, ℕ, ◌+◌, ◌-◌, ◌*◌, ◌<◌, ◌≤◌, List, [], ◌∷◌, length, refl, sym, ap, subst, ◌∙◌, arith, inl, inr}
 use Rattle.std.specs.Prelude.{Option, Some, None}
 use Rattle.fidl_wire.specs.Term.{resolve}
 use Rattle.fidl_wire.specs.Term as ty
@@ -17,10 +17,10 @@ use Rattle.fidl_decode.specs.Invariants.{IsFine}
 use Rattle.fidl_decode.specs.Rows.{Row, element_rows}
 use Rattle.fidl_decode.specs.State.{Message, At, Item}
 use Rattle.fidl_decode.specs.Breaks.{IsPadding, Breaks}
-use Rattle.fidl_decode.specs.Machine.{rows_left, Reads, BreaksFrame, IsUntil, IsInside, StateFine, FrameFine, Visits, VisitFine, Turns, frame_work, probes}
+use Rattle.fidl_decode.specs.Machine.{rows_left, Reads, BreaksFrame, IsUntil, IsInside, StateFine, FrameFine, Visits, VisitFine, Turns, inline_work, frame_work, probes}
 use Rattle.fidl_decode.proofs.Stated.{element_rows-more}
-use Rattle.fidl_decode.proofs.Visiting.{size_is, positive}
-use Rattle.fidl_decode.proofs.Turning.{done_fits, spends, spends_more, turns_end, end_refused, end_breaks, row_fine, row_room, row_inside, visit_refused, visit_breaks, turns_more}
+use Rattle.fidl_decode.proofs.Visiting.{size_is, nest_is, positive}
+use Rattle.fidl_decode.proofs.Turning.{work_falls, done_fits, spends, spends_more, turns_end, end_refused, end_breaks, row_fine, row_room, row_inside, visit_refused, visit_breaks, turns_more}
 use Rattle.fidl_decode.proofs.Leaves.{going_on, no_zeros}
 
 module _ (t : List ℕ) (fine : IsFine t) (m : Message) (f : Frame) (e size count : ℕ) (u : Until) (old : At) (ff : FrameFine t m.bytes (going_on f (Content e size count u) f.done)) (state : StateFine m old) where
@@ -98,6 +98,16 @@ module _ (t : List ℕ) (fine : IsFine t) (m : Message) (f : Frame) (e size coun
         let own = size_is t fine e content_known in
         let pos = positive t fine e content_known in
         (omega (arith, fits, own), ff.room, spends_more f.nest 0 (f.size - f.done) (omega (arith, fits, pos)))
+
+    -- and for what the value may make, with a turn more
+    pub content_pays : inline_work (entry_at t e).nest * (entry_at t e).size + 1 + 1 ≤ frame_work g
+    content_pays =
+        let fits = row_room t fine m s old sf state r (Elements e size (count - 1)) one in
+        let own = size_is t fine e content_known in
+        let nest = nest_is t fine e content_known in
+        let less = (row_fine t fine m s old sf state r (Elements e size (count - 1)) one).2 in
+        let pos = positive t fine e content_known in
+        omega (arith, work_falls f.nest (entry_at t e).nest (entry_at t e).size 0 (f.size - f.done) 0 (omega (arith, less, nest)) (omega (arith, pos, own)) (omega (arith, fits, own)))
 
     pub content_inside : IsInside f.inside (entry_at t e).size
     content_inside = row_inside t fine m s old sf state r (Elements e size (count - 1)) one (entry_at t e).size (size_is t fine e content_known)

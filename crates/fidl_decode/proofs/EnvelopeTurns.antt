@@ -16,7 +16,7 @@ use Rattle.fidl_decode.specs.Faults.{IsWithin}
 use Rattle.fidl_decode.specs.State.{Message, At, envelope_place, Slots}
 use Rattle.fidl_decode.specs.Envelopes.{Contained}
 use Rattle.fidl_decode.specs.Breaks.{BreaksMember, BreaksEnvelopes}
-use Rattle.fidl_decode.specs.Machine.{Reads, BreaksFrame, StateFine, FrameFine, Turns, Opens, member_term, most_nest, inline_work, frame_work, height}
+use Rattle.fidl_decode.specs.Machine.{Reads, BreaksFrame, StateFine, FrameFine, Turns, Opens, PaysEnvelope, member_term, most_nest, inline_work, frame_work, envelope_work, height}
 use Rattle.fidl_decode.proofs.Leaves.{going_on}
 use Rattle.fidl_decode.proofs.Turning.{fine_from}
 use Rattle.fidl_decode.proofs.Enclosed.{slots_step, step_slots, slots_end, end_slots, contained_some}
@@ -101,6 +101,10 @@ module _ (t : List ℕ) (fine : IsFine t) (m : Message) (within : IsWithin m.byt
         let size = ff.slots.1 in
         (ap (λ k. inline_work k * (f.size - f.done) + 1) nest, ap (λ k. inline_work k * (f.size - (f.done + 8)) + 1) nest, omega (arith, done, size, more))
 
+    -- there is work for a search, and for the envelope
+    pub envelope_room : envelope_work + 17 ≤ frame_work g
+    envelope_room = omega (arith, pays.0, pays.1, pays.2)
+
     pub envelope_absent : Stands m.bytes place (zeros 8) → (n : ℕ) → n ≡ 1 → Turns t m g old old n (record { below = None; rest = Some rest })
     envelope_absent z n is =
         let z' = subst (λ p. Stands m.bytes p (zeros 8)) (sym own_place) z in
@@ -127,8 +131,8 @@ module _ (t : List ℕ) (fine : IsFine t) (m : Message) (within : IsWithin m.byt
       no_zeros_there : Stands m.bytes (envelope_place f.base (suc read)) (zeros 8) → ⊥
       no_zeros_there z = some (subst (λ p. Stands m.bytes p (zeros 8)) own_place z)
 
-      pub envelope_opened : (found : Option Frame) (new : At) (spent n : ℕ) → spent ≤ 16 → n ≡ 1 + spent → Opens t m f.depth (find rows (suc read)) place old new found → Turns t m g old new n (record { below = found; rest = Some rest })
-      envelope_opened found new spent n few is o = record {
+      pub envelope_opened : (found : Option Frame) (new : At) (spent n : ℕ) → n ≤ 17 + spent → PaysEnvelope m.bytes old.next new.next spent found → Opens t m f.depth (find rows (suc read)) place old new found → Turns t m g old new n (record { below = found; rest = Some rest })
+      envelope_opened found new spent n few own o = record {
         same = λ to. (
           (λ x. elim (slots_step ds fine.laid_out m f.depth rows (read + count) f.base read old to (omega (arith, more)) x) [
             | inl y ↦ absurd (no_zeros_there y.0)
@@ -144,7 +148,7 @@ module _ (t : List ℕ) (fine : IsFine t) (m : Message) (within : IsWithin m.byt
         state = o.state;
         below_fine = (let nest = ff.slots.2 in let out = ff.slots.3 in fine_from t m.bytes _ (height g + 1) found (omega (arith, nest, out)) o.fine);
         rest_fine = (rest_fine, omega arith);
-        less = (let less = o.less in omega (arith, less, is, few, pays.0, pays.1, pays.2));
+        less = omega (arith, own, few, pays.0, pays.1, pays.2);
       }
 
       pub envelope_refused : ((to : At) → Contained ds m f.depth (find rows (suc read)) place old to → ⊥) → (to : At) → Reads t m g old to → ⊥

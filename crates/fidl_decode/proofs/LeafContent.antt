@@ -1,4 +1,4 @@
--- The content of an envelope that is a leaf: its value and its end, in one turn.
+-- The content of an envelope that is read whole: its value and its end, in one turn.
 use Rattle.std.proofs.Common.{◌≡◌, ℕ, ◌+◌, ◌-◌, ◌*◌, ◌<◌, ◌≤◌, List, length, refl, sym, subst, arith}
 use Rattle.std.specs.Prelude.{Some, None}
 use Rattle.fidl_wire.specs.Term.{resolve}
@@ -16,8 +16,8 @@ use Rattle.fidl_decode.specs.declared.frame.Left.TheVariants.{Content}
 use Rattle.fidl_decode.specs.Invariants.{IsFine}
 use Rattle.fidl_decode.specs.State.{Message, At, Item}
 use Rattle.fidl_decode.specs.Breaks.{IsPadding, Breaks}
-use Rattle.fidl_decode.specs.Machine.{Reads, BreaksFrame, IsUntil, StateFine, FrameFine, Visits, Turns, frame_work, byte_work, probes}
-use Rattle.fidl_decode.proofs.ContentTurns.{content_end_room, content_over, content_elsewhere, content_miscounted, content_end_refused, content_end_breaks, content_known, content_size, content_room, content_refused, content_breaks, content_turns}
+use Rattle.fidl_decode.specs.Machine.{Reads, BreaksFrame, IsUntil, StateFine, FrameFine, Visits, Turns, inline_work, frame_work, byte_work, probes}
+use Rattle.fidl_decode.proofs.ContentTurns.{content_end_room, content_over, content_elsewhere, content_miscounted, content_end_refused, content_end_breaks, content_known, content_size, content_room, content_pays, content_refused, content_breaks, content_turns}
 use Rattle.fidl_decode.proofs.Leaves.{going_on, same_frame, left_over, turns_then, turns_refused, turns_break}
 
 module _ (t : List ℕ) (fine : IsFine t) (m : Message) (f : Frame) (e size count : ℕ) (u : Until) (is : f.left ≡ Content e size count u) (one : count ≡ 1) (old : At) (ff : FrameFine t m.bytes f) (state : StateFine m old) where
@@ -45,6 +45,10 @@ module _ (t : List ℕ) (fine : IsFine t) (m : Message) (f : Frame) (e size coun
   -- it lies within the frame and the message, and there is work for it
   pub leaf_room : (f.done + (entry_at t e).size ≤ f.size) × (f.base + f.size ≤ length m.bytes) × (0 + 1 + probes ≤ frame_work f)
   leaf_room = content_room t fine m f e size count u old gf state some
+
+  -- and for what the value may make, with a turn more
+  pub leaf_pays : inline_work (entry_at t e).nest * (entry_at t e).size + 1 + 1 ≤ frame_work f
+  leaf_pays = content_pays t fine m f e size count u old gf state some
 
   pub leaf_refused : ((to : At) → Item ds m f.depth (resolve ds.terms (ty.named e)) (f.base + f.done) old to → ⊥) → (to : At) → Reads t m f old to → ⊥
   leaf_refused bad = subst (λ (f : Frame). (to : At) → Reads t m f old to → ⊥) (sym same) (content_refused t fine m f e size count u old gf state some bad)

@@ -15,6 +15,7 @@ pub mod Objects
 pub mod Boxed
 pub mod Listed
 pub mod Leaves
+pub mod Wholly
 pub mod Running
 pub mod Messages
 pub mod Bridge

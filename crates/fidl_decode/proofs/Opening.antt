@@ -1,6 +1,7 @@
 -- Envelopes that are opened: what is left to read of their members.
-use Rattle.std.proofs.Common.{◌≡◌, ℕ, ◌+◌, ◌-◌, ◌*◌, ◌≤◌, List, Some, None, arith, inl, inr}
-use Rattle.std.specs.Prelude.{◌↔◌, ◌⊎◌}
+use Rattle.std.proofs.Common.{◌≡◌, ℕ, ◌+◌, ◌-◌, ◌*◌, ◌≤◌, List, length, Some, None, refl, sym, subst, arith, inl, inr}
+use Rattle.std.specs.Prelude.{◌↔◌, ◌⊎◌, Option}
+use Rattle.fidl_wire.specs.Term.{Term}
 use Rattle.fidl_wire.specs.Term as ty
 use Rattle.fidl_records.specs.Terms.{declarations_of}
 use Rattle.fidl_decode.specs.declared.fault.DecodeFault.{DecodeFault}
@@ -8,7 +9,9 @@ use Rattle.fidl_decode.specs.declared.frame.Frame.{Frame}
 use Rattle.fidl_decode.specs.State.{Message, At}
 use Rattle.fidl_decode.specs.Envelopes.{Contained}
 use Rattle.fidl_decode.specs.Breaks.{BreaksMember}
-use Rattle.fidl_decode.specs.Machine.{Reads, BreaksFrame, FrameFine, StateFine, Opens, level, height, most_nest, inline_work, frame_work}
+use Rattle.fidl_decode.specs.Machine.{Reads, ReadsIf, BreaksFrame, FrameFine, StateFine, Turns, Opens, PaysEnvelope, level, height, most_nest, inline_work, frame_work, byte_work, envelope_work}
+use Rattle.fidl_decode.proofs.Turning.{fine_from}
+use Rattle.fidl_decode.proofs.Leaves.{left_over}
 
 module _ (t : List ℕ) (m : Message) (held envelope : ℕ) (old new : At) (state : StateFine m new) where
   -- a known member is left to read
@@ -32,3 +35,27 @@ module _ (t : List ℕ) (m : Message) (held envelope : ℕ) (old new : At) (stat
   -- an unknown member is skipped
   pub opens_unknown : old.next ≤ new.next → ((to : At) → Contained (declarations_of t) m held None envelope old to ↔ (new ≡ to)) → Opens t m held None envelope old new None
   opens_unknown grows same = record { same = same; breaks = λ fault b. absurd b; state = state; fine = tt; less = omega (arith, grows) }
+
+module _ (t : List ℕ) (m : Message) (held : ℕ) (member : Option Term) (envelope : ℕ) (old mid : At) (f : Frame) (o : Opens t m held member envelope old mid (Some f)) where
+  -- what is left of a member is read on
+  pub opens_on : (new : At) (spent : ℕ) (found : Option Frame) → Turns t m f mid new spent (left_over found) → Opens t m held member envelope old new found
+  opens_on new spent found turns = record {
+    same = λ to. (
+      (λ x. let p = (turns.same to).0 ((o.same to).0 x) in subst (λ (s : At). ReadsIf t m found s to) (sym p.1) p.2),
+      (λ y. (o.same to).1 ((turns.same to).1 (new, refl, y))),
+    );
+    breaks = λ fault b. o.breaks fault (turns.breaks fault (inr (new, refl, b)));
+    state = turns.state;
+    fine = fine_from t m.bytes (height f) (level held 1 most_nest) found o.fine.1 turns.rest_fine;
+    less = omega (arith, o.less, turns.less);
+  }
+
+  pub opens_pays : (new : At) (spent : ℕ) (found : Option Frame) → Turns t m f mid new spent (left_over found) → PaysEnvelope m.bytes old.next new.next spent found
+  opens_pays new spent found turns = omega (arith, o.less, turns.less)
+
+  pub opens_refused : ((to : At) → Reads t m f mid to → ⊥) → (to : At) → Contained (declarations_of t) m held member envelope old to → ⊥
+  opens_refused bad to x = bad to ((o.same to).0 x)
+
+  -- there is work for what is left
+  pub opens_work : byte_work * (length m.bytes - mid.next) + frame_work f ≤ byte_work * (length m.bytes - old.next) + envelope_work
+  opens_work = o.less

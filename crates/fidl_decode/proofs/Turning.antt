@@ -1,6 +1,6 @@
 -- What a turn on a frame does.
 use Rattle.std.proofs.Common.{◌≡◌, ℕ, ◌+◌, ◌-◌, ◌*◌, ◌<◌, ◌≤◌, List, [], ◌∷◌, refl, sym, subst, ◌∙◌, arith, inl, inr}
-use Rattle.std.specs.Prelude.{◌↔◌, Option, Some, None, IfNone, Result, Ok, Err, OnErr, OnOk, IfErr}
+use Rattle.std.specs.Prelude.{◌↔◌, Option, Some, None, IfNone, Result, Ok, Err, OnErr, OnOk, IfOk, IfErr}
 use Rattle.std.specs.Result.{IsErrAnd}
 use Rattle.std.proofs.Math.Nat.{mul-le-mul_left, mul-le-mul_right}
 use Rattle.fidl_wire.specs.Term.{Term, resolve, width, Kind, int8}
@@ -32,6 +32,10 @@ pub passed_on : {T E : Type 0} (r : Result T E) (e : E) (P : E → Type 0) → I
 passed_on (Ok x) e P h p = tt
 passed_on (Err y) e P h p = subst P (sym h) p
 
+pub if_ok_two : {T E : Type 0} (r : Result T E) (P Q R : T → Type 0) → ((x : T) → P x → Q x → R x) → IfOk r P → IfOk r Q → IfOk r R
+if_ok_two (Ok x) P Q R f p q = f x p q
+if_ok_two (Err e) P Q R f p q = tt
+
 -- what holds where there is no value
 pub none_weaker : {T : Type 0} (o : Option T) (P Q : Type 0) → (P → Q) → IfNone o P → IfNone o Q
 none_weaker None P Q f h = f h
@@ -54,7 +58,7 @@ pub on_ok_from : {T E P Q : Type 0} (r : Result T E) → (P → Q) → OnOk r P 
 on_ok_from (Ok x) f p = f p
 on_ok_from (Err e) f p = tt
 
-work_falls : (n k s g a b : ℕ) → k < n → 0 < s → b + s + g ≤ a → inline_work k * s + 1 + (inline_work n * b + 1) + (g + 1) ≤ inline_work n * a + 1
+pub work_falls : (n k s g a b : ℕ) → k < n → 0 < s → b + s + g ≤ a → inline_work k * s + 1 + (inline_work n * b + 1) + (g + 1) ≤ inline_work n * a + 1
 work_falls n k s g a b lt pos le =
     let more : inline_work k + 2 ≤ inline_work n = omega arith in
     let one : 1 ≤ inline_work n = omega arith in

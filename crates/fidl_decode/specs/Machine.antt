@@ -6,6 +6,7 @@ use Rattle.fidl_wire.specs.Term as ty
 use Rattle.fidl_wire.specs.Term.{Term, resolve}
 use Rattle.fidl_wire.specs.Figure.{Declarations, figure_of}
 use Rattle.fidl_records.specs.declared.kind.EntryKind.TheVariants.{Table}
+use Rattle.fidl_records.specs.declared.record.Entry.{Entry}
 use Rattle.fidl_records.specs.declared.record.Row as raw
 use Rattle.fidl_records.specs.Kind.{kind_of}
 use Rattle.fidl_records.specs.Section.{header_of, entry_at}
@@ -210,6 +211,10 @@ work m fs next = byte_work * (length m - next) + stack_work fs
 abbrev pub turn_work : List ℕ → (next : ℕ) → Frame → ℕ
 turn_work m next f = byte_work * (length m - next) + frame_work f
 
+-- that of a value of an entry, with what the bytes out of line may still make
+abbrev pub value_work : List ℕ → (next : ℕ) → Entry → ℕ
+value_work m next d = byte_work * (length m - next) + (inline_work d.nest * d.size + 1)
+
 -- the state stands within the message, which has not too many handles
 pub record StateFine (m : Message) (s : At) : Type 0 where
   pub next : s.next ≤ length m.bytes
@@ -258,6 +263,13 @@ pub record Opens (t : List ℕ) (m : Message) (held : ℕ) (member : Option Term
   pub less : byte_work * (length m.bytes - new.next) + frame_work_if found
       ≤ byte_work * (length m.bytes - old.next) + envelope_work
 
+-- what a member spent, and may still spend, is within the work of what it has read out of line and
+-- of its envelope
+abbrev pub PaysEnvelope : List ℕ → (next after spent : ℕ) → Option Frame → Type 0
+PaysEnvelope m next after spent found =
+    byte_work * (length m - after) + frame_work_if found + spent
+    ≤ byte_work * (length m - next) + envelope_work
+
 -- a turn on a frame: what is left of it, what is to be read before that, and the state then
 pub record Turns (t : List ℕ) (m : Message) (f : Frame) (old new : At) (spent : ℕ) (x : Turn) : Type
     0 where
@@ -275,6 +287,20 @@ abbrev pub behind_rows : Frame → (first count done : ℕ) → Frame
 behind_rows f first count done =
     record {
       left = Rows first count;
+      base = f.base;
+      done = done;
+      size = f.size;
+      nest = f.nest;
+      depth = f.depth;
+      inside = f.inside;
+    }
+
+-- a frame with so many envelopes left of a value of an entry, behind those that are read, and so many
+-- of its bytes read
+abbrev pub behind_envelopes : Frame → (entry read count done : ℕ) → Frame
+behind_envelopes f entry read count done =
+    record {
+      left = Envelopes entry read count;
       base = f.base;
       done = done;
       size = f.size;

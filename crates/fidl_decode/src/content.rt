@@ -12,7 +12,6 @@ ghost use Rattle.fidl_decode.specs.Machine.{turn_work, at_of};
 use crate::decoder::{Decoder, zeros_at};
 use crate::fault::DecodeFault;
 use crate::frame::{Frame, Left, State, Turn, Until};
-use crate::leaf::is_leaf;
 use fidl_records::EntryKind;
 
 impl<'t, 'm> Decoder<'t, 'm> {
@@ -85,8 +84,8 @@ impl<'t, 'm> Decoder<'t, 'm> {
         })
     }
 
-    /// Reads the content of an envelope in place, where it is a leaf, up to its end. Nothing is left
-    /// then.
+    /// Reads the content of an envelope in place, where it is a leaf or a struct of leaves, up to its
+    /// end. Nothing is left then.
     #[inline(always)]
     pub(crate) fn read_content(
         &self,
@@ -128,12 +127,12 @@ impl<'t, 'm> Decoder<'t, 'm> {
         let Some(kind) = EntryKind::from_number(e.kind) else {
             unreachable!()
         };
-        if !is_leaf(kind) {
+        if !self.is_flat(&e, kind) {
             return Ok(Some(frame));
         }
         let at = frame.base + frame.done;
         state.steps += 1;
-        self.read_leaf(entry, kind, at, frame.depth, state)?;
+        self.read_flat(entry, kind, at, frame.depth, state)?;
         let done = frame.done + size;
         let over = frame.base + done;
         let stop = frame.base + frame.size;

@@ -89,7 +89,7 @@ impl<'t, 'm> Decoder<'t, 'm> {
 
     /// Reads the next row of a struct, which is a leaf, and the zeros before it.
     #[inline(always)]
-    fn read_row(
+    pub(crate) fn read_row(
         &self,
         frame: Frame,
         first: u32,
@@ -139,7 +139,7 @@ impl<'t, 'm> Decoder<'t, 'm> {
 
     /// Reads the zeros behind the last row of a struct. Nothing is left then.
     #[inline(always)]
-    fn end_rows(&self, frame: Frame, state: &mut State) -> Result<Option<Frame>, DecodeFault>
+    pub(crate) fn end_rows(&self, frame: Frame, state: &mut State) -> Result<(), DecodeFault>
         requires table { IsFine self.now.table.now }
         requires short { length self.now.bytes.now ≤ MAX_MESSAGE_BYTES }
         requires frame { FrameFine self.now.table.now self.now.bytes.now frame }
@@ -149,10 +149,10 @@ impl<'t, 'm> Decoder<'t, 'm> {
             (at_of state.old) }
         requires budget { state.old.steps + turn_work self.now.bytes.now state.old.next frame
             < 2 ^ 40 }
-        ensures ok { IfOk result
-            (λ rest. Turns self.now.table.now (message_of self.now.bytes.now self.now.handles.now)
-            frame (at_of state.old) (at_of state.new) (state.new.steps - state.old.steps)
-            (record { below = None; rest = rest })) }
+        ensures ok { OnOk result
+            (Turns self.now.table.now (message_of self.now.bytes.now self.now.handles.now) frame
+            (at_of state.old) (at_of state.new) (state.new.steps - state.old.steps)
+            (record { below = None; rest = None })) }
         ensures rises { state.old.steps < state.new.steps }
         ensures cost { state.new.steps
             ≤ state.old.steps + turn_work self.now.bytes.now state.old.next frame }
@@ -167,8 +167,7 @@ impl<'t, 'm> Decoder<'t, 'm> {
         let over = frame.base + frame.done;
         let stop = frame.base + frame.size;
         state.steps += (stop - over) as u64 + 1;
-        zeros_at(self.bytes, over, stop)?;
-        Ok(None)
+        zeros_at(self.bytes, over, stop)
     }
 
     /// Reads the rows of a struct in place, and those of the struct in the box that its last member
@@ -248,7 +247,8 @@ impl<'t, 'm> Decoder<'t, 'm> {
             many = behind;
             done = content.done;
         }
-        self.end_rows(rows_from(holder, next, 0, done), state)
+        self.end_rows(rows_from(holder, next, 0, done), state)?;
+        Ok(None)
     }
 
     /// Reads a struct as `read_nested` does, which is inlined in the loop over the structs of a

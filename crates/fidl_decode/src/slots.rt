@@ -1,42 +1,109 @@
-//! The envelopes of a table: the next one, and all that are read in place.
-ghost use Rattle.std.specs.Prelude.{◌≡◌, ◌+◌, ◌-◌, ◌^◌, ◌<◌, ◌≤◌, OnOk, OnErr, IfOk, IfErr, IfSome};
-ghost use Rattle.std.specs.Prelude.{length};
-ghost use Rattle.fidl_limits.specs.declared.limits.TheConstants.{MAX_MESSAGE_BYTES};
+//! The envelopes of a table, and their members, which are read in place.
+ghost use Rattle.std.specs.Prelude.{◌≡◌, ◌+◌, ◌-◌, ◌*◌, ◌^◌, ◌<◌, ◌≤◌, OnOk, OnErr, IfOk, IfErr};
+ghost use Rattle.std.specs.Prelude.{IfSome, Some, None, length};
+ghost use Rattle.fidl_limits.specs.declared.limits.TheConstants.{MAX_DEPTH, MAX_MESSAGE_BYTES};
+ghost use Rattle.fidl_records.specs.Section.{header_of};
+ghost use Rattle.fidl_records.specs.Terms.{declarations_of};
+ghost use Rattle.fidl_decode.specs.Envelopes.{Contained};
+ghost use Rattle.fidl_decode.specs.Breaks.{BreaksMember};
 ghost use Rattle.fidl_decode.specs.Invariants.{IsFine};
 ghost use Rattle.fidl_decode.specs.Faults.{message_of};
 ghost use Rattle.fidl_decode.specs.State.{At};
 ghost use Rattle.fidl_decode.specs.declared.frame.Left.TheVariants as left;
 ghost use Rattle.fidl_decode.specs.Machine.{StateFine, FrameFine, Turns, Reads, BreaksFrame};
-ghost use Rattle.fidl_decode.specs.Machine.{turn_work, at_of};
+ghost use Rattle.fidl_decode.specs.Machine.{Opens, PaysEnvelope, member_term, behind_envelopes};
+ghost use Rattle.fidl_decode.specs.Machine.{byte_work, envelope_work, turn_work, at_of};
 
 use crate::decoder::Decoder;
 use crate::fault::DecodeFault;
 use crate::frame::{Frame, Left, State, Turn};
+use fidl_records::Row;
+
+/// A frame with so many envelopes left, behind those that are read, and so many of its bytes read.
+#[inline(always)]
+fn envelopes_from(frame: Frame, entry: u32, read: u32, count: u32, done: usize) -> Frame
+    ensures { result ≡ behind_envelopes frame entry read count done }
+{
+    Frame {
+        left: Left::Envelopes { entry, read, count },
+        base: frame.base,
+        done,
+        size: frame.size,
+        nest: frame.nest,
+        depth: frame.depth,
+        inside: frame.inside,
+    }
+}
 
 impl<'t, 'm> Decoder<'t, 'm> {
-    /// Reads the next envelope of a table: zeros, or a member, which is opened.
+    /// Opens the envelope of a member at a place, and reads the member in place, up to what is left to
+    /// read.
     #[inline(always)]
-    pub(crate) fn take_envelope(
+    fn read_opened(
+        &self,
+        member: Option<Row>,
+        envelope: usize,
+        depth: u8,
+        state: &mut State,
+    ) -> Result<Option<Frame>, DecodeFault>
+        requires table { IsFine self.now.table.now }
+        requires member { IfSome member (λ row. row.entry < (header_of self.now.table.now).entries) }
+        requires short { length self.now.bytes.now ≤ MAX_MESSAGE_BYTES }
+        requires room { envelope + 8 ≤ length self.now.bytes.now }
+        requires state { StateFine (message_of self.now.bytes.now self.now.handles.now)
+            (at_of state.old) }
+        requires depth { depth ≤ MAX_DEPTH }
+        requires budget { state.old.steps + byte_work
+            * (length self.now.bytes.now - state.old.next) + envelope_work < 2 ^ 40 }
+        ensures ok { IfOk result (Opens self.now.table.now
+            (message_of self.now.bytes.now self.now.handles.now) depth (member_term member) envelope
+            (at_of state.old) (at_of state.new)) }
+        ensures pays { IfOk result (PaysEnvelope self.now.bytes.now state.old.next state.new.next
+            (state.new.steps - state.old.steps)) }
+        ensures err { OnErr result ((to : At) → Contained (declarations_of self.now.table.now)
+            (message_of self.now.bytes.now self.now.handles.now) depth (member_term member) envelope
+            (at_of state.old) to → ⊥) }
+        ensures told { IfErr result (BreaksMember (declarations_of self.now.table.now)
+            (message_of self.now.bytes.now self.now.handles.now) depth (member_term member) envelope
+            (at_of state.old)) }
+        ensures grows { OnOk result (state.old.steps ≤ state.new.steps) }
+        ensures cost { state.new.steps ≤ state.old.steps + byte_work
+            * (length self.now.bytes.now - state.old.next) + envelope_work }
+    {
+        let Some(frame) = self.open_envelope(member, envelope, depth, state)? else {
+            return Ok(None);
+        };
+        self.read_leaves(frame, state)
+    }
+
+    /// Reads the next envelope of a table, with its member, in place. What is left of the member is
+    /// to be read next.
+    #[inline(always)]
+    fn take_envelope(
         &self,
         frame: Frame,
         entry: u32,
         read: u32,
         count: u32,
         state: &mut State,
-    ) -> Result<Turn, DecodeFault>
+    ) -> Result<Option<Frame>, DecodeFault>
         requires table { IsFine self.now.table.now }
         requires left { frame.left ≡ left.Envelopes entry read count }
+        requires some { 0 < count }
         requires short { length self.now.bytes.now ≤ MAX_MESSAGE_BYTES }
         requires frame { FrameFine self.now.table.now self.now.bytes.now frame }
         requires state { StateFine (message_of self.now.bytes.now self.now.handles.now)
             (at_of state.old) }
-        requires steps { state.old.steps < 2 ^ 40 }
+        requires budget { state.old.steps + turn_work self.now.bytes.now state.old.next frame
+            < 2 ^ 40 }
         ensures ok { IfOk result
-            (λ turn. Turns self.now.table.now (message_of self.now.bytes.now self.now.handles.now)
-            frame (at_of state.old) (at_of state.new) (state.new.steps - state.old.steps) turn) }
-        ensures next { IfOk result (λ turn. IfSome turn.rest
-            (λ rest. rest.left ≡ left.Envelopes entry (read + 1) (count - 1))) }
-        ensures rises { state.old.steps < state.new.steps }
+            (λ below. Turns self.now.table.now (message_of self.now.bytes.now self.now.handles.now)
+            frame (at_of state.old) (at_of state.new) (state.new.steps - state.old.steps)
+            (record {
+              below = below;
+              rest = Some (behind_envelopes frame entry (read + 1) (count - 1) (frame.done + 8));
+            })) }
+        ensures rises { OnOk result (state.old.steps < state.new.steps) }
         ensures cost { state.new.steps ≤ state.old.steps
             + turn_work self.now.bytes.now state.old.next frame }
         ensures err { OnErr result
@@ -48,38 +115,12 @@ impl<'t, 'm> Decoder<'t, 'm> {
             frame (at_of state.old)) }
     {
         state.steps += 1;
-        if count == 0 {
-            return Ok(Turn {
-                below: None,
-                rest: None,
-            });
-        }
         let place = frame.base + frame.done;
-        let rest = Frame {
-            left: Left::Envelopes {
-                entry,
-                read: read + 1,
-                count: count - 1,
-            },
-            base: frame.base,
-            done: frame.done + 8,
-            size: frame.size,
-            nest: frame.nest,
-            depth: frame.depth,
-            inside: frame.inside,
-        };
         if self.is_absent(place) {
-            return Ok(Turn {
-                below: None,
-                rest: Some(rest),
-            });
+            return Ok(None);
         }
         let member = self.table.member(entry, read as u64 + 1, &mut state.steps);
-        let below = self.open_envelope(member, place, frame.depth, state)?;
-        Ok(Turn {
-            below,
-            rest: Some(rest),
-        })
+        self.read_opened(member, place, frame.depth, state)
     }
 
     /// Reads the envelopes of a table in place, with the members in and behind them that are leaves,
@@ -114,27 +155,26 @@ impl<'t, 'm> Decoder<'t, 'm> {
             (BreaksFrame self.now.table.now (message_of self.now.bytes.now self.now.handles.now)
             frame (at_of state.old)) }
     {
-        let mut now = frame;
-        loop {
-            let Left::Envelopes { entry, read, count } = now.left else {
-                unreachable!()
-            };
-            let turn = self.take_envelope(now, entry, read, count, state)?;
-            let Some(rest) = turn.rest else {
-                return Ok(turn);
-            };
-            let Some(below) = turn.below else {
-                now = rest;
-                continue;
-            };
-            let Some(inner) = self.read_leaves(below, state)? else {
-                now = rest;
-                continue;
-            };
-            return Ok(Turn {
-                below: Some(inner),
-                rest: Some(rest),
-            });
+        let mut passed = read;
+        let mut many = count;
+        let mut done = frame.done;
+        while many != 0 {
+            let now = envelopes_from(frame, entry, passed, many, done);
+            let below = self.take_envelope(now, entry, passed, many, state)?;
+            passed += 1;
+            many -= 1;
+            done += 8;
+            if let Some(inner) = below {
+                return Ok(Turn {
+                    below: Some(inner),
+                    rest: Some(envelopes_from(frame, entry, passed, many, done)),
+                });
+            }
         }
+        state.steps += 1;
+        Ok(Turn {
+            below: None,
+            rest: None,
+        })
     }
 }

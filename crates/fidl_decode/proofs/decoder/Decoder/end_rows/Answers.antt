@@ -1,8 +1,8 @@
 use Rattle.std.proofs.Common.{refl, arith}
-use Rattle.fidl_decode.specs.State.{At}
-use Rattle.fidl_decode.specs.Machine.{Reads, at_of}
+use Rattle.fidl_decode.specs.Machine.{at_of}
 use Rattle.fidl_decode.specs.Faults.{message_of}
-use Rattle.fidl_decode.proofs.Turning.{on_err, passed_on}
+use Rattle.std.proofs.lemmas.Result.{on_err_weaker, IfErr-weaker}
+use Rattle.fidl_decode.proofs.Turning.{on_ok_from}
 use Rattle.fidl_decode.proofs.Leaves.{turns_start, over_room, over_turns, over_refused, over_breaks}
 use Rattle.fidl_decode.proofs.decoder.Decoder.end_rows.Goals as goal
 
@@ -76,34 +76,6 @@ zeros_at-requires-clause-room c =
     let room = over_room t c.requires.table m f old old 0 f start in
     omega (arith, room.1)
 
-pub returns-in_err-zeros_at-clause-cost : goal.returns-in_err-zeros_at-clause-cost
-returns-in_err-zeros_at-clause-cost c =
-    let t = c.args.self.now.table.now in
-    let m = message_of c.args.self.now.bytes.now c.args.self.now.handles.now in
-    let f = c.args.frame in
-    let old = at_of c.args.state.now in
-    let start = turns_start t m f old c.requires.frame c.requires.state f refl in
-    let room = over_room t c.requires.table m f old old 0 f start in
-    omega (arith, room.0, room.2)
-
-pub returns-in_err-zeros_at-clause-err : goal.returns-in_err-zeros_at-clause-err
-returns-in_err-zeros_at-clause-err c =
-    let t = c.args.self.now.table.now in
-    let m = message_of c.args.self.now.bytes.now c.args.self.now.handles.now in
-    let f = c.args.frame in
-    let old = at_of c.args.state.now in
-    let start = turns_start t m f old c.requires.frame c.requires.state f refl in
-    on_err _ ((to : At) → Reads t m f old to → ⊥) (over_refused t c.requires.table m f old old 0 f start c.requires.over c.requires.plain c.in_err-zeros_at.ensures.err)
-
-pub returns-in_err-zeros_at-clause-told : goal.returns-in_err-zeros_at-clause-told
-returns-in_err-zeros_at-clause-told c =
-    let t = c.args.self.now.table.now in
-    let m = message_of c.args.self.now.bytes.now c.args.self.now.handles.now in
-    let f = c.args.frame in
-    let old = at_of c.args.state.now in
-    let start = turns_start t m f old c.requires.frame c.requires.state f refl in
-    passed_on c.from_residual.result c.in_err-zeros_at.field-0.0 _ c.from_residual.ensures.1 (over_breaks t c.requires.table m f old old 0 f start c.requires.over c.requires.plain _ c.in_err-zeros_at.ensures.told)
-
 pub returns-clause-ok : goal.returns-clause-ok
 returns-clause-ok c =
     let t = c.args.self.now.table.now in
@@ -111,7 +83,25 @@ returns-clause-ok c =
     let f = c.args.frame in
     let old = at_of c.args.state.now in
     let start = turns_start t m f old c.requires.frame c.requires.state f refl in
-    over_turns t c.requires.table m f old old 0 f start c.requires.over c.requires.plain _ (omega arith) c.in_ok-zeros_at.ensures.ok
+    on_ok_from c.zeros_at.result (λ z. over_turns t c.requires.table m f old old 0 f start c.requires.over c.requires.plain _ (omega arith) z) c.zeros_at.ensures.ok
+
+pub returns-clause-err : goal.returns-clause-err
+returns-clause-err c =
+    let t = c.args.self.now.table.now in
+    let m = message_of c.args.self.now.bytes.now c.args.self.now.handles.now in
+    let f = c.args.frame in
+    let old = at_of c.args.state.now in
+    let start = turns_start t m f old c.requires.frame c.requires.state f refl in
+    on_err_weaker c.zeros_at.result (λ bad. over_refused t c.requires.table m f old old 0 f start c.requires.over c.requires.plain bad) c.zeros_at.ensures.err
+
+pub returns-clause-told : goal.returns-clause-told
+returns-clause-told c =
+    let t = c.args.self.now.table.now in
+    let m = message_of c.args.self.now.bytes.now c.args.self.now.handles.now in
+    let f = c.args.frame in
+    let old = at_of c.args.state.now in
+    let start = turns_start t m f old c.requires.frame c.requires.state f refl in
+    IfErr-weaker c.zeros_at.result _ _ (λ fault bad. over_breaks t c.requires.table m f old old 0 f start c.requires.over c.requires.plain fault bad) c.zeros_at.ensures.told
 
 pub returns-clause-cost : goal.returns-clause-cost
 returns-clause-cost c =

@@ -1,18 +1,16 @@
-use Rattle.std.proofs.Common.{◌≡◌, ℕ, ◌-◌, ◌≤◌}
+use Rattle.std.proofs.Common.{◌-◌, ◌≤◌}
 use Rattle.std.specs.Prelude.{Some}
-use Rattle.fidl_decode.specs.declared.frame.Left.TheVariants.{Envelopes}
-use Rattle.fidl_decode.specs.Machine.{at_of, Turns, turn_work}
+use Rattle.fidl_decode.specs.Machine.{at_of, Turns, behind_envelopes}
 use Rattle.fidl_decode.specs.Faults.{message_of}
 use Rattle.fidl_decode.proofs.Leaves.{left_over}
 use Rattle.fidl_decode.proofs.decoder.Decoder.read_envelopes.Given as goal
 
--- what is read so far is a turn that leaves the envelopes of this frame
-abbrev pub invariant-loop-now : goal.invariant-loop-now
-invariant-loop-now l = record {
-  turns : Turns l.self.table.now (message_of l.self.bytes.now l.self.handles.now) l.fn.frame (at_of l.fn.state) (at_of l.state) (l.state.steps - l.fn.state.steps) (left_over (Some l.now));
-  left : (e : ℕ) × (r : ℕ) × (n : ℕ) × (l.now.left ≡ Envelopes e r n);
+-- what is read so far is a turn that leaves these envelopes
+abbrev pub invariant-loop-many : goal.invariant-loop-many
+invariant-loop-many l = record {
+  turns : Turns l.self.table.now (message_of l.self.bytes.now l.self.handles.now) l.frame (at_of l.fn.state) (at_of l.state) (l.state.steps - l.fn.state.steps) (left_over (Some (behind_envelopes l.frame l.entry l.passed l.many l.done)));
   steps : l.fn.state.steps ≤ l.state.steps;
 }
 
-abbrev pub decreases-loop-now : goal.decreases-loop-now
-decreases-loop-now l = turn_work l.self.bytes.now l.state.next l.now
+abbrev pub decreases-loop-many : goal.decreases-loop-many
+decreases-loop-many l = l.many

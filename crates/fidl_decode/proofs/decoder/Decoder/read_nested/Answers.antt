@@ -1,6 +1,5 @@
 use Rattle.std.proofs.Common.{◌≡◌, ◌+◌, ◌-◌, sym, ap, subst, ◌∙◌, arith}
 use Rattle.std.specs.Prelude.{Option, Some, None}
-use Rattle.std.proofs.lemmas.Result.{IfOk-weaker, on_err_weaker}
 use Rattle.fidl_records.specs.declared.record.Row as raw
 use Rattle.fidl_records.specs.declared.record.Entry.{Entry}
 use Rattle.fidl_records.specs.Kind.{kind_of}
@@ -354,6 +353,38 @@ end_rows-requires-clause-frame c =
     let less = so_far.less in
     so_far.rest_fine.0
 
+pub returns-in_err-end_rows-clause-err : goal.returns-in_err-end_rows-clause-err
+returns-in_err-end_rows-clause-err c =
+    let t = c.args.self.now.table.now in
+    let m = message_of c.args.self.now.bytes.now c.args.self.now.handles.now in
+    let f = c.args.frame in
+    let old = at_of c.args.state.now in
+    let now = at_of c.loop-many.state in
+    let a = c.loop-many.state.steps - c.args.state.now.steps in
+    let begun = c.loop-many.invariant.steps in
+    let rest = c.rows_from.result in
+    let same = c.rows_from.ensures in
+    let none : c.loop-many.many ≡ 0 = omega (arith, c.loop-many-test.false) in
+    let over = subst (λ n. Turns t m f old now a (left_over (Some (going_on c.loop-many.holder (Rows c.loop-many.next n) c.loop-many.done)))) none c.loop-many.invariant.turns in
+    let so_far = subst (λ (x : Frame). Turns t m f old now a (left_over (Some x))) (sym same) over in
+    on_err _ ((to : At) → Reads t m f old to → ⊥) (turns_refused t m f old now a rest so_far c.in_err-end_rows.ensures.err)
+
+pub returns-in_err-end_rows-clause-told : goal.returns-in_err-end_rows-clause-told
+returns-in_err-end_rows-clause-told c =
+    let t = c.args.self.now.table.now in
+    let m = message_of c.args.self.now.bytes.now c.args.self.now.handles.now in
+    let f = c.args.frame in
+    let old = at_of c.args.state.now in
+    let now = at_of c.loop-many.state in
+    let a = c.loop-many.state.steps - c.args.state.now.steps in
+    let begun = c.loop-many.invariant.steps in
+    let rest = c.rows_from.result in
+    let same = c.rows_from.ensures in
+    let none : c.loop-many.many ≡ 0 = omega (arith, c.loop-many-test.false) in
+    let over = subst (λ n. Turns t m f old now a (left_over (Some (going_on c.loop-many.holder (Rows c.loop-many.next n) c.loop-many.done)))) none c.loop-many.invariant.turns in
+    let so_far = subst (λ (x : Frame). Turns t m f old now a (left_over (Some x))) (sym same) over in
+    passed_on c.from_residual-in_err-end_rows.result c.in_err-end_rows.field-0.0 _ c.from_residual-in_err-end_rows.ensures.1 (turns_break t m f old now a rest so_far _ c.in_err-end_rows.ensures.told)
+
 pub returns-clause-ok : goal.returns-clause-ok
 returns-clause-ok c =
     let t = c.args.self.now.table.now in
@@ -368,30 +399,8 @@ returns-clause-ok c =
     let none : c.loop-many.many ≡ 0 = omega (arith, c.loop-many-test.false) in
     let over = subst (λ n. Turns t m f old now a (left_over (Some (going_on c.loop-many.holder (Rows c.loop-many.next n) c.loop-many.done)))) none c.loop-many.invariant.turns in
     let so_far = subst (λ (x : Frame). Turns t m f old now a (left_over (Some x))) (sym same) over in
-    let less = so_far.less in
     let new = at_of c.end_rows.new.state in
     let spent = c.end_rows.new.state.steps - c.loop-many.state.steps in
     let all = c.end_rows.new.state.steps - c.args.state.now.steps in
-    let rises = c.end_rows.ensures.rises in
-    IfOk-weaker c.end_rows.result _ (λ o. Turns t m f old new all (left_over o)) (λ o two. turns_then t m f old now a rest so_far new spent all (left_over o) (omega (arith, begun, rises)) two) c.end_rows.ensures.ok
-
-pub returns-clause-err : goal.returns-clause-err
-returns-clause-err c =
-    let t = c.args.self.now.table.now in
-    let m = message_of c.args.self.now.bytes.now c.args.self.now.handles.now in
-    let f = c.args.frame in
-    let old = at_of c.args.state.now in
-    let now = at_of c.loop-many.state in
-    let a = c.loop-many.state.steps - c.args.state.now.steps in
-    let begun = c.loop-many.invariant.steps in
-    let rest = c.rows_from.result in
-    let same = c.rows_from.ensures in
-    let none : c.loop-many.many ≡ 0 = omega (arith, c.loop-many-test.false) in
-    let over = subst (λ n. Turns t m f old now a (left_over (Some (going_on c.loop-many.holder (Rows c.loop-many.next n) c.loop-many.done)))) none c.loop-many.invariant.turns in
-    let so_far = subst (λ (x : Frame). Turns t m f old now a (left_over (Some x))) (sym same) over in
-    let less = so_far.less in
-    let new = at_of c.end_rows.new.state in
-    let spent = c.end_rows.new.state.steps - c.loop-many.state.steps in
-    let all = c.end_rows.new.state.steps - c.args.state.now.steps in
-    let rises = c.end_rows.ensures.rises in
-    on_err_weaker c.end_rows.result (λ bad. turns_refused t m f old now a rest so_far bad) c.end_rows.ensures.err
+    let rises = c.in_ok-end_rows.ensures.rises in
+    turns_then t m f old now a rest so_far new spent all (left_over None) (omega (arith, begun, rises)) c.in_ok-end_rows.ensures.ok

@@ -1,0 +1,39 @@
+-- Values that are read whole where they stand.
+use Rattle.std.proofs.Common.{◌≡◌, ℕ, ◌+◌, ◌-◌, ◌<◌, ◌≤◌, List, length, refl, sym, subst, arith}
+use Rattle.std.specs.Prelude.{Some, None}
+use Rattle.std.proofs.Math.Nat.{mul-le-mul_left}
+use Rattle.fidl_wire.specs.Term.{resolve}
+use Rattle.fidl_wire.specs.Term as ty
+use Rattle.fidl_records.specs.Section.{header_of, entry_at}
+use Rattle.fidl_records.specs.Terms.{declarations_of}
+use Rattle.fidl_decode.specs.declared.frame.Frame.{Frame}
+use Rattle.fidl_decode.specs.Invariants.{IsFine}
+use Rattle.fidl_decode.specs.State.{Message, At, Item}
+use Rattle.fidl_decode.specs.Machine.{Reads, Visits, Turns, inline_work, value_work, probes}
+use Rattle.fidl_decode.proofs.Visiting.{size_is, positive}
+use Rattle.fidl_decode.proofs.Leaves.{left_over}
+
+-- the work of a leaf is within that of a value
+pub leaf_cost : (t : List ℕ) → IsFine t → (m : List ℕ) (next e : ℕ) → e < (header_of t).entries → probes + (length m - next) ≤ value_work m next (entry_at t e)
+leaf_cost t fine m next e lt =
+    let size = size_is t fine e lt in
+    let pos = positive t fine e lt in
+    let some : 1 ≤ (entry_at t e).size = omega (arith, size, pos) in
+    let many : probes ≤ inline_work (entry_at t e).nest = omega arith in
+    omega (arith, many, mul-le-mul_left (inline_work (entry_at t e).nest) some)
+
+module _ (t : List ℕ) (m : Message) (held e place : ℕ) (old mid : At) (a : ℕ) (g : Frame) (v : Visits t m held e place old mid a (Some g)) where
+  -- what a visit leaves is read to its end
+  pub visits_over : (new : At) (b n : ℕ) → n ≤ a + b → Turns t m g mid new b (left_over None) → Visits t m held e place old new n None
+  visits_over new b n le turns = record {
+    same = λ to. (
+      (λ x. let p = (turns.same to).0 ((v.same to).0 x) in subst (λ (s : At). s ≡ to) (sym p.1) p.2),
+      (λ y. (v.same to).1 ((turns.same to).1 (new, refl, y))),
+    );
+    breaks = λ fault b. absurd b;
+    state = turns.state;
+    less = omega (arith, le, v.less, turns.less);
+  }
+
+  pub visits_refused : ((to : At) → Reads t m g mid to → ⊥) → (to : At) → Item (declarations_of t) m held (resolve (declarations_of t).terms (ty.named e)) place old to → ⊥
+  visits_refused bad to x = bad to ((v.same to).0 x)

@@ -1,0 +1,189 @@
+use Rattle.std.proofs.Common.{◌≡◌, ◌+◌, ◌-◌, sym, ap, subst, ◌∙◌, arith}
+use Rattle.std.specs.Prelude.{Some, None}
+use Rattle.std.proofs.lemmas.Result.{on_err_weaker, IfErr-weaker}
+use Rattle.fidl_records.specs.declared.record.Row as raw
+use Rattle.fidl_records.specs.declared.record.Entry.{Entry}
+use Rattle.fidl_records.specs.declared.kind.EntryKind.{EntryKind}
+use Rattle.fidl_records.specs.Kind.{kind_of}
+use Rattle.fidl_records.specs.Section.{header_of, entry_at, row_at}
+use Rattle.fidl_decode.specs.Invariants.{is_leaf}
+use Rattle.fidl_decode.specs.declared.frame.Frame.{Frame}
+use Rattle.fidl_decode.specs.declared.frame.Left.TheVariants.{Rows}
+use Rattle.fidl_decode.specs.State.{At}
+use Rattle.fidl_decode.specs.Machine.{Reads, Turns, at_of}
+use Rattle.fidl_decode.specs.Faults.{message_of}
+use Rattle.fidl_decode.proofs.Turning.{on_err, on_ok_from, passed_on}
+use Rattle.fidl_decode.proofs.Visiting.{same_some}
+use Rattle.fidl_decode.proofs.Leaves.{going_on, same_frame, left_over, turns_start, turns_then, turns_refused, turns_break}
+use Rattle.fidl_decode.proofs.decoder.Decoder.read_fields.Goals as goal
+
+no_some : {A : Type 0} (a : A) → Some a ≡ None → ⊥
+no_some a e = cc
+
+pub loop-many-init : goal.loop-many-init
+loop-many-init c =
+    let t = c.args.self.now.table.now in
+    let m = message_of c.args.self.now.bytes.now c.args.self.now.handles.now in
+    let f = c.args.frame in
+    let old = at_of c.args.state.now in
+    let none : 0 ≡ c.args.state.now.steps - c.args.state.now.steps = omega arith in
+    record { turns = subst (λ n. Turns t m f old old n (left_over (Some (going_on f (Rows c.args.first c.args.count) f.done)))) none (turns_start t m f old c.requires.frame c.requires.state (going_on f (Rows c.args.first c.args.count) f.done) (same_frame f (Rows c.args.first c.args.count) c.requires.left)); leaves = c.requires.leaves; steps = omega arith }
+
+pub unreachable-requires : goal.unreachable-requires
+unreachable-requires c =
+    let f = c.requires.table.each c.row-row.result.entry c.row-row.ensures.entry in
+    let none : kind_of (entry_at c.args.self.now.table.now c.row-row.result.entry).kind ≡ None = ap (λ (e : Entry). kind_of e.kind) (sym c.entry-e.ensures.value) ∙ sym c.from_number.ensures ∙ c.in_default.is in
+    no_some f.0 (sym f.1.is ∙ none)
+
+pub read_row-requires-clause-frame : goal.read_row-requires-clause-frame
+read_row-requires-clause-frame c =
+    let t = c.args.self.now.table.now in
+    let m = message_of c.args.self.now.bytes.now c.args.self.now.handles.now in
+    let f = c.args.frame in
+    let old = at_of c.args.state.now in
+    let now = at_of c.loop-many.state in
+    let a = c.loop-many.state.steps - c.args.state.now.steps in
+    let begun = c.loop-many.invariant.steps in
+    let rest = c.rows_from-rest.result in
+    let same = c.rows_from-rest.ensures in
+    let so_far = subst (λ (x : Frame). Turns t m f old now a (left_over (Some x))) (sym same) c.loop-many.invariant.turns in
+    so_far.rest_fine.0
+
+pub read_row-requires-clause-leaf : goal.read_row-requires-clause-leaf
+read_row-requires-clause-leaf c =
+    let t = c.args.self.now.table.now in
+    let m = message_of c.args.self.now.bytes.now c.args.self.now.handles.now in
+    let f = c.args.frame in
+    let old = at_of c.args.state.now in
+    let now = at_of c.loop-many.state in
+    let a = c.loop-many.state.steps - c.args.state.now.steps in
+    let begun = c.loop-many.invariant.steps in
+    let rest = c.rows_from-rest.result in
+    let same = c.rows_from-rest.ensures in
+    let so_far = subst (λ (x : Frame). Turns t m f old now a (left_over (Some x))) (sym same) c.loop-many.invariant.turns in
+    let leaf = c.loop-many.invariant.leaves c.loop-many.next (omega arith) (omega (arith, c.loop-many-test.true)) in
+    let is : kind_of (entry_at t (row_at t (header_of t) c.loop-many.next).entry).kind ≡ Some c.in-Some.kind = ap (λ (w : raw.Row). kind_of (entry_at t w.entry).kind) (sym c.row-row.ensures.value) ∙ ap (λ (e : Entry). kind_of e.kind) (sym c.entry-e.ensures.value) ∙ sym c.from_number.ensures ∙ c.in-Some.is in
+    ap (λ (k : EntryKind). is_leaf k) (same_some c.in-Some.kind leaf.0 (sym is ∙ leaf.1)) ∙ leaf.2
+
+pub returns-in_err-read_row-clause-err : goal.returns-in_err-read_row-clause-err
+returns-in_err-read_row-clause-err c =
+    let t = c.args.self.now.table.now in
+    let m = message_of c.args.self.now.bytes.now c.args.self.now.handles.now in
+    let f = c.args.frame in
+    let old = at_of c.args.state.now in
+    let now = at_of c.loop-many.state in
+    let a = c.loop-many.state.steps - c.args.state.now.steps in
+    let begun = c.loop-many.invariant.steps in
+    let rest = c.rows_from-rest.result in
+    let same = c.rows_from-rest.ensures in
+    let so_far = subst (λ (x : Frame). Turns t m f old now a (left_over (Some x))) (sym same) c.loop-many.invariant.turns in
+    on_err _ ((to : At) → Reads t m f old to → ⊥) (turns_refused t m f old now a rest so_far c.in_err-read_row.ensures.err)
+
+pub returns-in_err-read_row-clause-told : goal.returns-in_err-read_row-clause-told
+returns-in_err-read_row-clause-told c =
+    let t = c.args.self.now.table.now in
+    let m = message_of c.args.self.now.bytes.now c.args.self.now.handles.now in
+    let f = c.args.frame in
+    let old = at_of c.args.state.now in
+    let now = at_of c.loop-many.state in
+    let a = c.loop-many.state.steps - c.args.state.now.steps in
+    let begun = c.loop-many.invariant.steps in
+    let rest = c.rows_from-rest.result in
+    let same = c.rows_from-rest.ensures in
+    let so_far = subst (λ (x : Frame). Turns t m f old now a (left_over (Some x))) (sym same) c.loop-many.invariant.turns in
+    passed_on c.from_residual.result c.in_err-read_row.field-0.0 _ c.from_residual.ensures.1 (turns_break t m f old now a rest so_far _ c.in_err-read_row.ensures.told)
+
+pub loop-many-preserved : goal.loop-many-preserved
+loop-many-preserved c =
+    let t = c.args.self.now.table.now in
+    let m = message_of c.args.self.now.bytes.now c.args.self.now.handles.now in
+    let f = c.args.frame in
+    let old = at_of c.args.state.now in
+    let now = at_of c.loop-many.state in
+    let a = c.loop-many.state.steps - c.args.state.now.steps in
+    let begun = c.loop-many.invariant.steps in
+    let rest = c.rows_from-rest.result in
+    let same = c.rows_from-rest.ensures in
+    let so_far = subst (λ (x : Frame). Turns t m f old now a (left_over (Some x))) (sym same) c.loop-many.invariant.turns in
+    let g = going_on c.args.frame (Rows c.loop-many.next c.loop-many.many) c.loop-many.done in
+    let new = at_of c.read_row.new.state in
+    let spent = c.read_row.new.state.steps - c.loop-many.state.steps in
+    let rows = Rows (c.loop-many.next + 1) (c.loop-many.many - 1) in
+    let size : (row_at t (header_of t) c.loop-many.next).key + (entry_at t (row_at t (header_of t) c.loop-many.next).entry).size ≡ c.row-row.result.key + c.entry-e.result.size = ap (λ (w : raw.Row). w.key + (entry_at t w.entry).size) (sym c.row-row.ensures.value) ∙ ap (λ (e : Entry). c.row-row.result.key + e.size) (sym c.entry-e.ensures.value) in
+    let one = subst (λ (x : Frame). Turns t m x now new spent (left_over (Some (going_on x rows ((row_at t (header_of t) c.loop-many.next).key + (entry_at t (row_at t (header_of t) c.loop-many.next).entry).size))))) same c.in_ok-read_row.ensures.ok in
+    let two = subst (λ d. Turns t m g now new spent (left_over (Some (going_on c.args.frame rows d)))) size one in
+    let rises = c.in_ok-read_row.ensures.rises in
+    let done = c.row-row.result.key + c.entry-e.result.size in
+    record {
+      turns = turns_then t m f old now a g c.loop-many.invariant.turns new spent (c.read_row.new.state.steps - c.args.state.now.steps) (left_over (Some (going_on c.args.frame rows done))) (omega (arith, begun, rises)) two;
+      leaves = λ i from below. c.loop-many.invariant.leaves i (omega (arith, from)) (omega (arith, below, c.loop-many-test.true));
+      steps = omega (arith, begun, rises);
+    }
+
+pub end_rows-requires-clause-frame : goal.end_rows-requires-clause-frame
+end_rows-requires-clause-frame c =
+    let t = c.args.self.now.table.now in
+    let m = message_of c.args.self.now.bytes.now c.args.self.now.handles.now in
+    let f = c.args.frame in
+    let old = at_of c.args.state.now in
+    let now = at_of c.loop-many.state in
+    let a = c.loop-many.state.steps - c.args.state.now.steps in
+    let begun = c.loop-many.invariant.steps in
+    let rest = c.rows_from.result in
+    let same = c.rows_from.ensures in
+    let none : c.loop-many.many ≡ 0 = omega (arith, c.loop-many-test.false) in
+    let over = subst (λ n. Turns t m f old now a (left_over (Some (going_on c.args.frame (Rows c.loop-many.next n) c.loop-many.done)))) none c.loop-many.invariant.turns in
+    let so_far = subst (λ (x : Frame). Turns t m f old now a (left_over (Some x))) (sym same) over in
+    so_far.rest_fine.0
+
+pub returns-clause-ok : goal.returns-clause-ok
+returns-clause-ok c =
+    let t = c.args.self.now.table.now in
+    let m = message_of c.args.self.now.bytes.now c.args.self.now.handles.now in
+    let f = c.args.frame in
+    let old = at_of c.args.state.now in
+    let now = at_of c.loop-many.state in
+    let a = c.loop-many.state.steps - c.args.state.now.steps in
+    let begun = c.loop-many.invariant.steps in
+    let rest = c.rows_from.result in
+    let same = c.rows_from.ensures in
+    let none : c.loop-many.many ≡ 0 = omega (arith, c.loop-many-test.false) in
+    let over = subst (λ n. Turns t m f old now a (left_over (Some (going_on c.args.frame (Rows c.loop-many.next n) c.loop-many.done)))) none c.loop-many.invariant.turns in
+    let so_far = subst (λ (x : Frame). Turns t m f old now a (left_over (Some x))) (sym same) over in
+    let new = at_of c.end_rows.new.state in
+    let spent = c.end_rows.new.state.steps - c.loop-many.state.steps in
+    let all = c.end_rows.new.state.steps - c.args.state.now.steps in
+    let rises = c.end_rows.ensures.rises in
+    on_ok_from c.end_rows.result (λ two. turns_then t m f old now a rest so_far new spent all (left_over None) (omega (arith, begun, rises)) two) c.end_rows.ensures.ok
+
+pub returns-clause-err : goal.returns-clause-err
+returns-clause-err c =
+    let t = c.args.self.now.table.now in
+    let m = message_of c.args.self.now.bytes.now c.args.self.now.handles.now in
+    let f = c.args.frame in
+    let old = at_of c.args.state.now in
+    let now = at_of c.loop-many.state in
+    let a = c.loop-many.state.steps - c.args.state.now.steps in
+    let begun = c.loop-many.invariant.steps in
+    let rest = c.rows_from.result in
+    let same = c.rows_from.ensures in
+    let none : c.loop-many.many ≡ 0 = omega (arith, c.loop-many-test.false) in
+    let over = subst (λ n. Turns t m f old now a (left_over (Some (going_on c.args.frame (Rows c.loop-many.next n) c.loop-many.done)))) none c.loop-many.invariant.turns in
+    let so_far = subst (λ (x : Frame). Turns t m f old now a (left_over (Some x))) (sym same) over in
+    on_err_weaker c.end_rows.result (λ bad. turns_refused t m f old now a rest so_far bad) c.end_rows.ensures.err
+
+pub returns-clause-told : goal.returns-clause-told
+returns-clause-told c =
+    let t = c.args.self.now.table.now in
+    let m = message_of c.args.self.now.bytes.now c.args.self.now.handles.now in
+    let f = c.args.frame in
+    let old = at_of c.args.state.now in
+    let now = at_of c.loop-many.state in
+    let a = c.loop-many.state.steps - c.args.state.now.steps in
+    let begun = c.loop-many.invariant.steps in
+    let rest = c.rows_from.result in
+    let same = c.rows_from.ensures in
+    let none : c.loop-many.many ≡ 0 = omega (arith, c.loop-many-test.false) in
+    let over = subst (λ n. Turns t m f old now a (left_over (Some (going_on c.args.frame (Rows c.loop-many.next n) c.loop-many.done)))) none c.loop-many.invariant.turns in
+    let so_far = subst (λ (x : Frame). Turns t m f old now a (left_over (Some x))) (sym same) over in
+    IfErr-weaker c.end_rows.result _ _ (λ fault b. turns_break t m f old now a rest so_far fault b) c.end_rows.ensures.told

@@ -1,0 +1,174 @@
+//! Values that are read whole where they stand: leaves, and structs whose members are leaves.
+ghost use Rattle.std.specs.Prelude.{◌≡◌, ◌+◌, ◌-◌, ◌*◌, ◌^◌, ◌<◌, ◌≤◌, OnOk, OnErr, IfErr, IsTrue};
+ghost use Rattle.std.specs.Prelude.{Some, None, length};
+ghost use Rattle.fidl_limits.specs.declared.limits.TheConstants.{MAX_DEPTH, MAX_MESSAGE_BYTES};
+ghost use Rattle.fidl_wire.specs.Term as ty;
+ghost use Rattle.fidl_wire.specs.Term.{resolve};
+ghost use Rattle.fidl_records.specs.declared.kind.EntryKind.TheVariants as kinds;
+ghost use Rattle.fidl_records.specs.Kind.{kind_of};
+ghost use Rattle.fidl_records.specs.Section.{header_of, entry_at};
+ghost use Rattle.fidl_records.specs.Terms.{declarations_of};
+ghost use Rattle.fidl_decode.specs.Invariants.{IsFine, AreLeaves, IsFlat};
+ghost use Rattle.fidl_decode.specs.Faults.{message_of};
+ghost use Rattle.fidl_decode.specs.Breaks.{Breaks};
+ghost use Rattle.fidl_decode.specs.State.{At, Item};
+ghost use Rattle.fidl_decode.specs.declared.frame.Left.TheVariants as left;
+ghost use Rattle.fidl_decode.specs.Machine.{Reads, StateFine, FrameFine, BreaksFrame, Visits, Turns};
+ghost use Rattle.fidl_decode.specs.Machine.{turn_work, value_work, at_of};
+
+use crate::decoder::Decoder;
+use crate::fault::DecodeFault;
+use crate::frame::{Frame, Left, State};
+use crate::leaf::is_leaf;
+use crate::plain::rows_from;
+use fidl_records::{Entry, EntryKind};
+
+impl<'t, 'm> Decoder<'t, 'm> {
+    /// Whether the members of so many rows, from the first on, are leaves.
+    #[inline(never)]
+    fn are_leaves(&self, first: u32, count: u32) -> bool
+        requires table { IsFine self.now.table.now }
+        requires within { first + count ≤ (header_of self.now.table.now).rows }
+        ensures { IsTrue result → AreLeaves self.now.table.now first count }
+    {
+        // Read, so that the number of rows, and with it each row's, is known to have 32 bits.
+        let _rows = self.table.rows();
+        for i in 0..count {
+            let e = self.table.entry(self.table.row(first + i).entry);
+            let Some(kind) = EntryKind::from_number(e.kind) else {
+                return false;
+            };
+            if !is_leaf(kind) {
+                return false;
+            }
+        }
+        true
+    }
+
+    /// Whether a value of the entry, which is of this kind, is a leaf, or a struct of leaves.
+    #[inline(always)]
+    pub(crate) fn is_flat(&self, entry: &Entry, kind: EntryKind) -> bool
+        requires table { IsFine self.now.table.now }
+        requires rows { kind ≡ kinds.Struct
+            → entry.now.first + entry.now.count ≤ (header_of self.now.table.now).rows }
+        ensures { IsTrue result → IsFlat self.now.table.now entry.now kind }
+    {
+        match kind {
+            EntryKind::Struct => self.are_leaves(entry.first, entry.count),
+            _ => is_leaf(kind),
+        }
+    }
+
+    /// Reads the rows of a struct in place, which are leaves, and the zeros before and behind them.
+    #[inline(never)]
+    fn read_fields(
+        &self,
+        frame: Frame,
+        first: u32,
+        count: u32,
+        state: &mut State,
+    ) -> Result<(), DecodeFault>
+        requires table { IsFine self.now.table.now }
+        requires short { length self.now.bytes.now ≤ MAX_MESSAGE_BYTES }
+        requires frame { FrameFine self.now.table.now self.now.bytes.now frame }
+        requires left { frame.left ≡ left.Rows first count }
+        requires leaves { AreLeaves self.now.table.now first count }
+        requires state { StateFine (message_of self.now.bytes.now self.now.handles.now)
+            (at_of state.old) }
+        requires budget { state.old.steps + turn_work self.now.bytes.now state.old.next frame
+            < 2 ^ 40 }
+        ensures ok { OnOk result
+            (Turns self.now.table.now (message_of self.now.bytes.now self.now.handles.now) frame
+            (at_of state.old) (at_of state.new) (state.new.steps - state.old.steps)
+            (record { below = None; rest = None })) }
+        ensures rises { state.old.steps < state.new.steps }
+        ensures cost { state.new.steps
+            ≤ state.old.steps + turn_work self.now.bytes.now state.old.next frame }
+        ensures err { OnErr result
+            ((to : At)
+            → Reads self.now.table.now (message_of self.now.bytes.now self.now.handles.now) frame
+            (at_of state.old) to → ⊥) }
+        ensures told { IfErr result
+            (BreaksFrame self.now.table.now (message_of self.now.bytes.now self.now.handles.now)
+            frame (at_of state.old)) }
+    {
+        // Read, so that the number of rows, and with it each row's, is known to have 32 bits.
+        let _rows = self.table.rows();
+        let mut next = first;
+        let mut many = count;
+        let mut done = frame.done;
+        while many != 0 {
+            let rest = rows_from(frame, next, many, done);
+            let row = self.table.row(next);
+            let e = self.table.entry(row.entry);
+            let Some(kind) = EntryKind::from_number(e.kind) else {
+                unreachable!()
+            };
+            self.read_row(rest, next, many, kind, state)?;
+            done = row.key as usize + e.size as usize;
+            next += 1;
+            many -= 1;
+        }
+        self.end_rows(rows_from(frame, next, 0, done), state)
+    }
+
+    /// Reads a leaf, or a struct of leaves, at a place.
+    #[inline(always)]
+    pub(crate) fn read_flat(
+        &self,
+        entry: u32,
+        kind: EntryKind,
+        place: usize,
+        depth: u8,
+        state: &mut State,
+    ) -> Result<(), DecodeFault>
+        requires table { IsFine self.now.table.now }
+        requires entry { entry < (header_of self.now.table.now).entries }
+        requires kind { kind_of (entry_at self.now.table.now entry).kind ≡ Some kind }
+        requires flat { IsFlat self.now.table.now (entry_at self.now.table.now entry) kind }
+        requires short { length self.now.bytes.now ≤ MAX_MESSAGE_BYTES }
+        requires room { place + (entry_at self.now.table.now entry).size
+            ≤ length self.now.bytes.now }
+        requires state { StateFine (message_of self.now.bytes.now self.now.handles.now)
+            (at_of state.old) }
+        requires depth { depth ≤ MAX_DEPTH }
+        requires budget { state.old.steps + value_work self.now.bytes.now state.old.next
+            (entry_at self.now.table.now entry) < 2 ^ 40 }
+        ensures ok { OnOk result
+            (Visits self.now.table.now (message_of self.now.bytes.now self.now.handles.now) depth
+            entry place (at_of state.old) (at_of state.new) (state.new.steps - state.old.steps)
+            None) }
+        ensures err { OnErr result
+            ((to : At)
+            → Item (declarations_of self.now.table.now)
+            (message_of self.now.bytes.now self.now.handles.now) depth
+            (resolve (declarations_of self.now.table.now).terms (ty.named entry)) place
+            (at_of state.old) to → ⊥) }
+        ensures told { IfErr result
+            (Breaks (declarations_of self.now.table.now)
+            (message_of self.now.bytes.now self.now.handles.now) depth
+            (resolve (declarations_of self.now.table.now).terms (ty.named entry)) place
+            (at_of state.old)) }
+        ensures grows { state.old.steps ≤ state.new.steps }
+        ensures cost { state.new.steps ≤ state.old.steps
+            + value_work self.now.bytes.now state.old.next (entry_at self.now.table.now entry) }
+    {
+        if is_leaf(kind) {
+            return self.read_leaf(entry, kind, place, depth, state);
+        }
+        let e = self.table.entry(entry);
+        let frame = Frame {
+            left: Left::Rows {
+                first: e.first,
+                count: e.count,
+            },
+            base: place,
+            done: 0,
+            size: e.size as usize,
+            nest: e.nest,
+            depth,
+            inside: 0,
+        };
+        self.read_fields(frame, e.first, e.count, state)
+    }
+}
