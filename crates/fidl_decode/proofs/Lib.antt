@@ -53,3 +53,4 @@ pub mod Tail
 pub mod Last
 pub mod Front
 pub mod Known
+pub mod Freely

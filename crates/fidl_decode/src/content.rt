@@ -1,8 +1,10 @@
 //! The content of envelopes, and the members that are left of any frame.
 ghost use Rattle.std.specs.Prelude.{◌≡◌, ◌+◌, ◌-◌, ◌^◌, ◌<◌, ◌≤◌, OnOk, OnErr, IfOk, IfErr, IfNone};
-ghost use Rattle.std.specs.Prelude.{None, length};
+ghost use Rattle.std.specs.Prelude.{Some, None, length};
 ghost use Rattle.fidl_limits.specs.declared.limits.TheConstants.{MAX_MESSAGE_BYTES};
-ghost use Rattle.fidl_decode.specs.Invariants.{IsFine};
+ghost use Rattle.fidl_records.specs.Kind.{kind_of};
+ghost use Rattle.fidl_records.specs.Section.{entry_at};
+ghost use Rattle.fidl_decode.specs.Invariants.{IsFine, IsFlat};
 ghost use Rattle.fidl_decode.specs.Faults.{message_of};
 ghost use Rattle.fidl_decode.specs.State.{At};
 ghost use Rattle.fidl_decode.specs.declared.frame.Left.TheVariants as left;
@@ -84,6 +86,56 @@ impl<'t, 'm> Decoder<'t, 'm> {
         })
     }
 
+    /// Reads the content of an envelope in place, which is a leaf or a struct of leaves, up to its end.
+    #[inline(always)]
+    pub(crate) fn read_whole(
+        &self,
+        frame: Frame,
+        entry: u32,
+        kind: EntryKind,
+        size: usize,
+        until: Until,
+        state: &mut State,
+    ) -> Result<(), DecodeFault>
+        requires table { IsFine self.now.table.now }
+        requires short { length self.now.bytes.now ≤ MAX_MESSAGE_BYTES }
+        requires frame { FrameFine self.now.table.now self.now.bytes.now frame }
+        requires left { frame.left ≡ left.Content entry size 1 until }
+        requires kind { kind_of (entry_at self.now.table.now entry).kind ≡ Some kind }
+        requires flat { IsFlat self.now.table.now (entry_at self.now.table.now entry) kind }
+        requires state { StateFine (message_of self.now.bytes.now self.now.handles.now)
+            (at_of state.old) }
+        requires budget { state.old.steps + turn_work self.now.bytes.now state.old.next frame
+            < 2 ^ 40 }
+        ensures ok { OnOk result
+            (Turns self.now.table.now (message_of self.now.bytes.now self.now.handles.now) frame
+            (at_of state.old) (at_of state.new) (state.new.steps - state.old.steps)
+            (record { below = None; rest = None })) }
+        ensures rises { OnOk result (state.old.steps < state.new.steps) }
+        ensures cost { state.new.steps
+            ≤ state.old.steps + turn_work self.now.bytes.now state.old.next frame }
+        ensures err { OnErr result
+            ((to : At)
+            → Reads self.now.table.now (message_of self.now.bytes.now self.now.handles.now) frame
+            (at_of state.old) to → ⊥) }
+        ensures told { IfErr result
+            (BreaksFrame self.now.table.now (message_of self.now.bytes.now self.now.handles.now)
+            frame (at_of state.old)) }
+    {
+        let at = frame.base + frame.done;
+        state.steps += 1;
+        self.read_flat(entry, kind, at, frame.depth, state)?;
+        let done = frame.done + size;
+        let over = frame.base + done;
+        let stop = frame.base + frame.size;
+        state.steps += (stop - over) as u64 + 1;
+        zeros_at(self.bytes, over, stop)?;
+        if state.next != until.next || state.handle != until.handle {
+            return Err(DecodeFault::WrongCounts { at: until.envelope });
+        }
+        Ok(())
+    }
+
     /// Reads the content of an envelope in place, where it is a leaf or a struct of leaves, up to its
     /// end. Nothing is left then.
     #[inline(always)]
@@ -130,17 +182,7 @@ impl<'t, 'm> Decoder<'t, 'm> {
         if !self.is_flat(&e, kind) {
             return Ok(Some(frame));
         }
-        let at = frame.base + frame.done;
-        state.steps += 1;
-        self.read_flat(entry, kind, at, frame.depth, state)?;
-        let done = frame.done + size;
-        let over = frame.base + done;
-        let stop = frame.base + frame.size;
-        state.steps += (stop - over) as u64 + 1;
-        zeros_at(self.bytes, over, stop)?;
-        if state.next != until.next || state.handle != until.handle {
-            return Err(DecodeFault::WrongCounts { at: until.envelope });
-        }
+        self.read_whole(frame, entry, kind, size, until, state)?;
         Ok(None)
     }
 

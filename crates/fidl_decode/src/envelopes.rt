@@ -5,10 +5,11 @@ ghost use Rattle.fidl_limits.specs.declared.limits.TheConstants.{MAX_DEPTH, MAX_
 ghost use Rattle.fidl_wire.specs.declared.handle.HandleInfo.{HandleInfo};
 ghost use Rattle.fidl_wire.specs.Typed.{IsHandle};
 ghost use Rattle.fidl_wire.specs.Term as ty;
-ghost use Rattle.fidl_records.specs.Section.{header_of};
+ghost use Rattle.fidl_records.specs.Section.{header_of, entry_at};
 ghost use Rattle.fidl_records.specs.Terms.{declarations_of};
 ghost use Rattle.fidl_decode.specs.declared.fault.DecodeFault.{DecodeFault};
 ghost use Rattle.fidl_decode.specs.declared.frame.Left.TheVariants as left;
+ghost use Rattle.fidl_decode.specs.declared.frame.Until.{Until};
 ghost use Rattle.fidl_decode.specs.Invariants.{IsFine};
 ghost use Rattle.fidl_decode.specs.Faults.{message_of};
 ghost use Rattle.fidl_decode.specs.Envelopes.{Contained};
@@ -110,6 +111,8 @@ impl<'t, 'm> Decoder<'t, 'm> {
         ensures fine { IfOk result
             (λ frame. FrameFine self.now.table.now self.now.bytes.now frame) }
         ensures deeper { IfOk result (λ frame. level depth 1 most_nest ≤ height frame) }
+        ensures left { IfOk result (λ frame. (until : Until) × (frame.left ≡ left.Content entry
+            (entry_at self.now.table.now entry).size 1 until)) }
         ensures state { StateFine (message_of self.now.bytes.now self.now.handles.now)
             (at_of state.new) }
         ensures told { IfErr result (BreaksMember (declarations_of self.now.table.now)

@@ -2,11 +2,13 @@
 ghost use Rattle.std.specs.Prelude.{◌≡◌, ◌+◌, ◌-◌, ◌*◌, ◌^◌, ◌<◌, ◌≤◌, OnOk, OnErr, IfOk, IfErr};
 ghost use Rattle.std.specs.Prelude.{IfSome, Some, None, length};
 ghost use Rattle.fidl_limits.specs.declared.limits.TheConstants.{MAX_DEPTH, MAX_MESSAGE_BYTES};
-ghost use Rattle.fidl_records.specs.Section.{header_of};
+ghost use Rattle.fidl_wire.specs.Term as ty;
+ghost use Rattle.fidl_records.specs.Kind.{kind_of};
+ghost use Rattle.fidl_records.specs.Section.{header_of, entry_at};
 ghost use Rattle.fidl_records.specs.Terms.{declarations_of};
 ghost use Rattle.fidl_decode.specs.Envelopes.{Contained};
 ghost use Rattle.fidl_decode.specs.Breaks.{BreaksMember};
-ghost use Rattle.fidl_decode.specs.Invariants.{IsFine};
+ghost use Rattle.fidl_decode.specs.Invariants.{IsFine, IsFlat};
 ghost use Rattle.fidl_decode.specs.Faults.{message_of};
 ghost use Rattle.fidl_decode.specs.State.{At};
 ghost use Rattle.fidl_decode.specs.declared.frame.Left.TheVariants as left;
@@ -17,7 +19,7 @@ ghost use Rattle.fidl_decode.specs.Machine.{byte_work, envelope_work, turn_work,
 use crate::decoder::Decoder;
 use crate::fault::DecodeFault;
 use crate::frame::{Frame, Left, State, Turn};
-use fidl_records::Row;
+use fidl_records::{EntryKind, Row};
 
 /// A frame with so many envelopes left, behind those that are read, and so many of its bytes read.
 #[inline(always)]
@@ -36,10 +38,102 @@ fn envelopes_from(frame: Frame, entry: u32, read: u32, count: u32, done: usize) 
 }
 
 impl<'t, 'm> Decoder<'t, 'm> {
-    /// Opens the envelope of a member at a place, and reads the member in place, up to what is left to
-    /// read.
+    /// Reads the member of the envelope at a place in place, which is a leaf or a struct of leaves.
     #[inline(always)]
-    fn read_opened(
+    fn read_enclosed(
+        &self,
+        entry: u32,
+        kind: EntryKind,
+        envelope: usize,
+        depth: u8,
+        state: &mut State,
+    ) -> Result<(), DecodeFault>
+        requires table { IsFine self.now.table.now }
+        requires entry { entry < (header_of self.now.table.now).entries }
+        requires kind { kind_of (entry_at self.now.table.now entry).kind ≡ Some kind }
+        requires flat { IsFlat self.now.table.now (entry_at self.now.table.now entry) kind }
+        requires short { length self.now.bytes.now ≤ MAX_MESSAGE_BYTES }
+        requires room { envelope + 8 ≤ length self.now.bytes.now }
+        requires state { StateFine (message_of self.now.bytes.now self.now.handles.now)
+            (at_of state.old) }
+        requires depth { depth ≤ MAX_DEPTH }
+        requires budget { state.old.steps + byte_work
+            * (length self.now.bytes.now - state.old.next) + envelope_work < 2 ^ 40 }
+        ensures ok { OnOk result (Opens self.now.table.now
+            (message_of self.now.bytes.now self.now.handles.now) depth (Some (ty.named entry)) envelope
+            (at_of state.old) (at_of state.new) None) }
+        ensures pays { OnOk result (PaysEnvelope self.now.bytes.now state.old.next state.new.next
+            (state.new.steps - state.old.steps) None) }
+        ensures err { OnErr result ((to : At) → Contained (declarations_of self.now.table.now)
+            (message_of self.now.bytes.now self.now.handles.now) depth (Some (ty.named entry)) envelope
+            (at_of state.old) to → ⊥) }
+        ensures told { IfErr result (BreaksMember (declarations_of self.now.table.now)
+            (message_of self.now.bytes.now self.now.handles.now) depth (Some (ty.named entry)) envelope
+            (at_of state.old)) }
+        ensures grows { OnOk result (state.old.steps ≤ state.new.steps) }
+        ensures cost { state.new.steps ≤ state.old.steps + byte_work
+            * (length self.now.bytes.now - state.old.next) + envelope_work }
+    {
+        let frame = self.enter_member(entry, envelope, depth, state)?;
+        let Left::Content { size, until, .. } = frame.left else {
+            unreachable!()
+        };
+        self.read_whole(frame, entry, kind, size, until, state)
+    }
+
+    /// Reads the known member of the envelope at a place in place, where it is a leaf or a struct of
+    /// leaves. Else it is left to read.
+    #[inline(always)]
+    fn read_known(
+        &self,
+        entry: u32,
+        envelope: usize,
+        depth: u8,
+        state: &mut State,
+    ) -> Result<Option<Frame>, DecodeFault>
+        requires table { IsFine self.now.table.now }
+        requires entry { entry < (header_of self.now.table.now).entries }
+        requires short { length self.now.bytes.now ≤ MAX_MESSAGE_BYTES }
+        requires room { envelope + 8 ≤ length self.now.bytes.now }
+        requires state { StateFine (message_of self.now.bytes.now self.now.handles.now)
+            (at_of state.old) }
+        requires depth { depth ≤ MAX_DEPTH }
+        requires budget { state.old.steps + byte_work
+            * (length self.now.bytes.now - state.old.next) + envelope_work < 2 ^ 40 }
+        ensures ok { IfOk result (Opens self.now.table.now
+            (message_of self.now.bytes.now self.now.handles.now) depth (Some (ty.named entry)) envelope
+            (at_of state.old) (at_of state.new)) }
+        ensures pays { IfOk result (PaysEnvelope self.now.bytes.now state.old.next state.new.next
+            (state.new.steps - state.old.steps)) }
+        ensures err { OnErr result ((to : At) → Contained (declarations_of self.now.table.now)
+            (message_of self.now.bytes.now self.now.handles.now) depth (Some (ty.named entry)) envelope
+            (at_of state.old) to → ⊥) }
+        ensures told { IfErr result (BreaksMember (declarations_of self.now.table.now)
+            (message_of self.now.bytes.now self.now.handles.now) depth (Some (ty.named entry)) envelope
+            (at_of state.old)) }
+        ensures grows { OnOk result (state.old.steps ≤ state.new.steps) }
+        ensures cost { state.new.steps ≤ state.old.steps + byte_work
+            * (length self.now.bytes.now - state.old.next) + envelope_work }
+    {
+        if self.pass_member(entry, envelope, depth, state) {
+            return Ok(None);
+        }
+        let e = self.table.entry(entry);
+        let Some(kind) = EntryKind::from_number(e.kind) else {
+            unreachable!()
+        };
+        if self.is_flat(&e, kind) {
+            self.read_enclosed(entry, kind, envelope, depth, state)?;
+            return Ok(None);
+        }
+        let frame = self.enter_member(entry, envelope, depth, state)?;
+        Ok(Some(frame))
+    }
+
+    /// Reads the member of an envelope at a place in place, where it is a leaf or a struct of leaves;
+    /// one without a row is skipped. Any other is left to read.
+    #[inline(always)]
+    fn read_member(
         &self,
         member: Option<Row>,
         envelope: usize,
@@ -70,10 +164,11 @@ impl<'t, 'm> Decoder<'t, 'm> {
         ensures cost { state.new.steps ≤ state.old.steps + byte_work
             * (length self.now.bytes.now - state.old.next) + envelope_work }
     {
-        let Some(frame) = self.open_envelope(member, envelope, depth, state)? else {
+        let Some(row) = member else {
+            self.skip_member(envelope, depth, state)?;
             return Ok(None);
         };
-        self.read_leaves(frame, state)
+        self.read_known(row.entry, envelope, depth, state)
     }
 
     /// Reads the next envelope of a table, with its member, in place. What is left of the member is
@@ -120,11 +215,12 @@ impl<'t, 'm> Decoder<'t, 'm> {
             return Ok(None);
         }
         let member = self.table.member(entry, read as u64 + 1, &mut state.steps);
-        self.read_opened(member, place, frame.depth, state)
+        self.read_member(member, place, frame.depth, state)
     }
 
     /// Reads the envelopes of a table in place, with the members in and behind them that are leaves,
     /// up to one whose member holds more: what of that is left is to be read next.
+    #[inline(never)]
     pub(crate) fn read_envelopes(
         &self,
         frame: Frame,

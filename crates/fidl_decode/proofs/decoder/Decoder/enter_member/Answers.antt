@@ -5,6 +5,8 @@ use Rattle.fidl_records.specs.declared.record.Entry.{Entry}
 use Rattle.fidl_records.specs.Section.{entry_at}
 use Rattle.fidl_decode.specs.declared.fault.DecodeFault.TheVariants.{BadEnvelope, TooDeep, Truncated}
 use Rattle.fidl_decode.specs.declared.frame.Frame.{Frame}
+use Rattle.fidl_decode.specs.declared.frame.Until.{Until}
+use Rattle.fidl_decode.specs.declared.frame.Left.TheVariants.{Content}
 use Rattle.fidl_decode.specs.Faults.{message_of}
 use Rattle.fidl_decode.specs.State.{At, opened, linked}
 use Rattle.fidl_decode.specs.Machine.{at_of}
@@ -31,7 +33,7 @@ returns-then-flags-ne1 c =
     let old = at_of c.args.state.now in
     let size = ap (λ (d : Entry). d.size) c.entry-content.ensures.value in
     let r = numbers_refuse t c.requires.table m (c.requires.short, c.requires.state.few) c.args.depth c.args.entry c.args.envelope old c.requires.entry c.requires.room (λ i. omega (arith, c.args.self.now.octets i)) c.requires.state c.requires.depth (BadEnvelope c.args.envelope) (refl, not_inside t c.requires.table m (c.requires.short, c.requires.state.few) c.args.depth c.args.entry c.args.envelope old c.requires.entry c.requires.room (λ i. omega (arith, c.args.self.now.octets i)) c.requires.state c.requires.depth (omega (arith, size, c.if-size-le4.true)) (λ f. c.if-flags-ne1.true (c.u16_at-flags.ensures ∙ f))) in
-    record { ok = tt; breaks = tt; fine = tt; deeper = tt; state = c.requires.state; told = r.0; err = r.1; steps = refl; grows = omega arith; work = tt }
+    record { ok = tt; breaks = tt; fine = tt; deeper = tt; left = tt; state = c.requires.state; told = r.0; err = r.1; steps = refl; grows = omega arith; work = tt }
 
 pub returns-then-size-le4 : goal.returns-then-size-le4
 returns-then-size-le4 c =
@@ -43,7 +45,9 @@ returns-then-size-le4 c =
     = λ i. record { next = old.next; handle = old.handle; objects = sym c.record.ensures.objects i; records = sym c.record.ensures.records i } in
     let x = enters_inside_as t c.requires.table m (c.requires.short, c.requires.state.few) c.args.depth c.args.entry c.args.envelope old c.requires.entry c.requires.room (λ i. omega (arith, c.args.self.now.octets i)) c.requires.state c.requires.depth c.entry-content.result c.u16_at-handles.result (record { next = old.next; handle = old.handle; objects = c.record.new.self.objects; records = c.record.new.self.records }) c.entry-content.ensures.value c.u16_at-handles.ensures led c.if-size-le4.true (sym c.u16_at-flags.ensures ∙ c.if-flags-ne1.false) in
     let y = subst (λ (f : Frame). Enters t m c.args.depth c.args.entry c.args.envelope old (record { next = old.next; handle = old.handle; objects = c.record.new.self.objects; records = c.record.new.self.records }) f) (sym c.content_frame.ensures) x in
-    record { ok = y.same; breaks = y.breaks; fine = y.fine; deeper = y.deeper; state = y.state; told = tt; err = tt; steps = refl; grows = omega arith; work = y.work }
+    let until : Until = record { envelope = c.args.envelope; next = old.next; handle = old.handle + c.u16_at-handles.result } in
+    let left : c.content_frame.result.left ≡ Content c.args.entry (entry_at t c.args.entry).size 1 until = ap (λ (f : Frame). f.left) c.content_frame.ensures ∙ ap (λ n. Content c.args.entry n 1 until) size in
+    record { ok = y.same; breaks = y.breaks; fine = y.fine; deeper = y.deeper; left = (until, left); state = y.state; told = tt; err = tt; steps = refl; grows = omega arith; work = y.work }
 
 pub returns-then-flags-ne0 : goal.returns-then-flags-ne0
 returns-then-flags-ne0 c =
@@ -59,7 +63,7 @@ returns-then-flags-ne0 c =
         | then-flags-ne0-via-else-flags-ne0+else-counted-eq0+then-counted-ne0 w ↦ omega (arith, w.if-counted-ne0.true, c.u32_at-counted.ensures, u.1)
       ]),
     ) in
-    record { ok = tt; breaks = tt; fine = tt; deeper = tt; state = c.requires.state; told = r.0; err = r.1; steps = refl; grows = omega arith; work = tt }
+    record { ok = tt; breaks = tt; fine = tt; deeper = tt; left = tt; state = c.requires.state; told = r.0; err = r.1; steps = refl; grows = omega arith; work = tt }
 
 pub returns-then-depth-eq-MAX_DEPTH : goal.returns-then-depth-eq-MAX_DEPTH
 returns-then-depth-eq-MAX_DEPTH c =
@@ -68,7 +72,7 @@ returns-then-depth-eq-MAX_DEPTH c =
     let old = at_of c.args.state.now in
     let size = ap (λ (d : Entry). d.size) c.entry-content.ensures.value in
     let r = numbers_refuse t c.requires.table m (c.requires.short, c.requires.state.few) c.args.depth c.args.entry c.args.envelope old c.requires.entry c.requires.room (λ i. omega (arith, c.args.self.now.octets i)) c.requires.state c.requires.depth (TooDeep c.args.envelope) (refl, sym c.u16_at-flags.ensures ∙ c.if-flags-ne0.false, omega (arith, c.if-depth-eq-MAX_DEPTH.true)) in
-    record { ok = tt; breaks = tt; fine = tt; deeper = tt; state = c.requires.state; told = r.0; err = r.1; steps = refl; grows = omega arith; work = tt }
+    record { ok = tt; breaks = tt; fine = tt; deeper = tt; left = tt; state = c.requires.state; told = r.0; err = r.1; steps = refl; grows = omega arith; work = tt }
 
 pub returns-then-whole-self : goal.returns-then-whole-self
 returns-then-whole-self c =
@@ -79,7 +83,7 @@ returns-then-whole-self c =
     let up = cut_off t c.requires.table m (c.requires.short, c.requires.state.few) c.args.depth c.args.entry c.args.envelope old c.requires.entry c.requires.room (λ i. omega (arith, c.args.self.now.octets i)) c.requires.state c.requires.depth in
     let whole : c.next_multiple_of-whole.result ≡ next_multiple_of (entry_at t c.args.entry).size 8 = c.next_multiple_of-whole.ensures.value ∙ ap (λ k. next_multiple_of k 8) size in
     let r = numbers_refuse t c.requires.table m (c.requires.short, c.requires.state.few) c.args.depth c.args.entry c.args.envelope old c.requires.entry c.requires.room (λ i. omega (arith, c.args.self.now.octets i)) c.requires.state c.requires.depth (Truncated old.next) (refl, sym c.u16_at-flags.ensures ∙ c.if-flags-ne0.false, omega (arith, c.if-whole-self.true, whole, up)) in
-    record { ok = tt; breaks = tt; fine = tt; deeper = tt; state = c.requires.state; told = r.0; err = r.1; steps = refl; grows = omega arith; work = tt }
+    record { ok = tt; breaks = tt; fine = tt; deeper = tt; left = tt; state = c.requires.state; told = r.0; err = r.1; steps = refl; grows = omega arith; work = tt }
 
 pub returns : goal.returns
 returns c =
@@ -98,4 +102,6 @@ returns c =
     c.entry-content.ensures.value c.u32_at-counted.ensures c.u16_at-handles.ensures whole led c.if-size-le4.false (sym c.u16_at-flags.ensures ∙ c.if-flags-ne0.false)
     (omega (arith, c.if-counted-eq0.false), omega (arith, c.if-counted-ne0.false)) (omega (arith, c.requires.depth, c.if-depth-eq-MAX_DEPTH.false)) (omega (arith, c.if-whole-self.false)) in
     let y = subst (λ (f : Frame). Enters t m c.args.depth c.args.entry c.args.envelope old new f) (sym c.content_frame-2.ensures) x in
-    record { ok = y.same; breaks = y.breaks; fine = y.fine; deeper = y.deeper; state = y.state; told = tt; err = tt; steps = refl; grows = omega arith; work = y.work }
+    let until : Until = record { envelope = c.args.envelope; next = old.next + c.u32_at-counted.result; handle = old.handle + c.u16_at-handles.result } in
+    let left : c.content_frame-2.result.left ≡ Content c.args.entry (entry_at t c.args.entry).size 1 until = ap (λ (f : Frame). f.left) c.content_frame-2.ensures ∙ ap (λ n. Content c.args.entry n 1 until) size in
+    record { ok = y.same; breaks = y.breaks; fine = y.fine; deeper = y.deeper; left = (until, left); state = y.state; told = tt; err = tt; steps = refl; grows = omega arith; work = y.work }

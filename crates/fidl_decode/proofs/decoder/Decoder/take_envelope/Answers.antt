@@ -30,8 +30,8 @@ returns-then-is_absent-clause-ok c =
     subst (λ (f : Frame). Turns t m f (at_of c.args.state.now) (at_of c.args.state.now) (c.args.state.now.steps + 1 - c.args.state.now.steps) (record { below = None; rest = Some (going_on c.args.frame (Envelopes c.args.entry (c.args.read + 1) (c.args.count - 1)) (c.args.frame.done + 8)) })) (sym same)
     (envelope_absent t c.requires.table m (c.requires.short, c.requires.state.few) c.args.frame c.args.entry c.args.read c.args.count (at_of c.args.state.now) (subst (λ (f : Frame). FrameFine t m.bytes f) same c.requires.frame) c.requires.state (c.args.read + 1) (c.args.count - 1) (add-one c.args.read) (omega (arith, some)) some z (c.args.state.now.steps + 1 - c.args.state.now.steps) (omega arith))
 
-pub read_opened-requires-clause-budget : goal.read_opened-requires-clause-budget
-read_opened-requires-clause-budget c =
+pub read_member-requires-clause-budget : goal.read_member-requires-clause-budget
+read_member-requires-clause-budget c =
     let t = c.args.self.now.table.now in
     let m = message_of c.args.self.now.bytes.now c.args.self.now.handles.now in
     let f = c.args.frame in
@@ -59,13 +59,13 @@ returns-clause-ok c =
     let place = f.base + f.done in
     let there : Stands m.bytes place (zeros 8) → ⊥ = λ z. no_true (sym c.if-is_absent.false ∙ c.is_absent.ensures.1 z) in
     let is = ap (λ n. find (members_of t c.args.entry) n) (sym (add-one c.args.read)) ∙ member_found (members_of t c.args.entry) (c.args.read + 1) c.member-member.result c.member-member.ensures.none c.member-member.ensures.some in
-    let new = at_of c.read_opened.new.state in
-    let spent = c.read_opened.new.state.steps - c.member-member.new.probes in
-    let all = c.read_opened.new.state.steps - c.args.state.now.steps in
-    if_ok_two c.read_opened.result (Opens t m f.depth (member_term c.member-member.result) place old new) (PaysEnvelope m.bytes old.next new.next spent) (λ below. Turns t m f old new all (record { below = below; rest = Some (going_on f (Envelopes c.args.entry (c.args.read + 1) (c.args.count - 1)) (f.done + 8)) }))
+    let new = at_of c.read_member.new.state in
+    let spent = c.read_member.new.state.steps - c.member-member.new.probes in
+    let all = c.read_member.new.state.steps - c.args.state.now.steps in
+    if_ok_two c.read_member.result (Opens t m f.depth (member_term c.member-member.result) place old new) (PaysEnvelope m.bytes old.next new.next spent) (λ below. Turns t m f old new all (record { below = below; rest = Some (going_on f (Envelopes c.args.entry (c.args.read + 1) (c.args.count - 1)) (f.done + 8)) }))
     (λ below o pays. subst (λ (g : Frame). Turns t m g old new all (record { below = below; rest = Some (going_on f (Envelopes c.args.entry (c.args.read + 1) (c.args.count - 1)) (f.done + 8)) })) (sym same)
     (envelope_opened t c.requires.table m (c.requires.short, c.requires.state.few) f c.args.entry c.args.read c.args.count old gf c.requires.state (c.args.read + 1) (c.args.count - 1) (add-one c.args.read) (omega (arith, some)) some there below new spent all (omega (arith, few, grows)) pays (subst (λ (o : Option Term). Opens t m f.depth o place old new below) (sym is) o)))
-    c.read_opened.ensures.ok c.read_opened.ensures.pays
+    c.read_member.ensures.ok c.read_member.ensures.pays
 
 pub returns-clause-rises : goal.returns-clause-rises
 returns-clause-rises c =
@@ -79,7 +79,7 @@ returns-clause-rises c =
     let room = envelope_room t c.requires.table m (c.requires.short, c.requires.state.few) f c.args.entry c.args.read c.args.count old gf c.requires.state (c.args.read + 1) (c.args.count - 1) (add-one c.args.read) (omega (arith, some)) some in
     let few = c.member-member.ensures.few in
     let grows = c.member-member.ensures.grows in
-    on_ok_from c.read_opened.result (λ more. omega (arith, grows, more)) c.read_opened.ensures.grows
+    on_ok_from c.read_member.result (λ more. omega (arith, grows, more)) c.read_member.ensures.grows
 
 pub returns-clause-cost : goal.returns-clause-cost
 returns-clause-cost c =
@@ -93,7 +93,7 @@ returns-clause-cost c =
     let room = envelope_room t c.requires.table m (c.requires.short, c.requires.state.few) f c.args.entry c.args.read c.args.count old gf c.requires.state (c.args.read + 1) (c.args.count - 1) (add-one c.args.read) (omega (arith, some)) some in
     let few = c.member-member.ensures.few in
     let grows = c.member-member.ensures.grows in
-    omega (arith, room, few, c.read_opened.ensures.cost)
+    omega (arith, room, few, c.read_member.ensures.cost)
 
 pub returns-clause-err : goal.returns-clause-err
 returns-clause-err c =
@@ -110,13 +110,13 @@ returns-clause-err c =
     let place = f.base + f.done in
     let there : Stands m.bytes place (zeros 8) → ⊥ = λ z. no_true (sym c.if-is_absent.false ∙ c.is_absent.ensures.1 z) in
     let is = ap (λ n. find (members_of t c.args.entry) n) (sym (add-one c.args.read)) ∙ member_found (members_of t c.args.entry) (c.args.read + 1) c.member-member.result c.member-member.ensures.none c.member-member.ensures.some in
-    let new = at_of c.read_opened.new.state in
-    let spent = c.read_opened.new.state.steps - c.member-member.new.probes in
-    let all = c.read_opened.new.state.steps - c.args.state.now.steps in
-    on_err_weaker c.read_opened.result
+    let new = at_of c.read_member.new.state in
+    let spent = c.read_member.new.state.steps - c.member-member.new.probes in
+    let all = c.read_member.new.state.steps - c.args.state.now.steps in
+    on_err_weaker c.read_member.result
     (λ bad. subst (λ (g : Frame). (to : At) → Reads t m g old to → ⊥) (sym same)
     (envelope_refused t c.requires.table m (c.requires.short, c.requires.state.few) f c.args.entry c.args.read c.args.count old gf c.requires.state (c.args.read + 1) (c.args.count - 1) (add-one c.args.read) (omega (arith, some)) some there (subst (λ (o : Option Term). (to : At) → Contained (declarations_of t) m f.depth o place old to → ⊥) (sym is) bad)))
-    c.read_opened.ensures.err
+    c.read_member.ensures.err
 
 pub returns-clause-told : goal.returns-clause-told
 returns-clause-told c =
@@ -133,10 +133,10 @@ returns-clause-told c =
     let place = f.base + f.done in
     let there : Stands m.bytes place (zeros 8) → ⊥ = λ z. no_true (sym c.if-is_absent.false ∙ c.is_absent.ensures.1 z) in
     let is = ap (λ n. find (members_of t c.args.entry) n) (sym (add-one c.args.read)) ∙ member_found (members_of t c.args.entry) (c.args.read + 1) c.member-member.result c.member-member.ensures.none c.member-member.ensures.some in
-    let new = at_of c.read_opened.new.state in
-    let spent = c.read_opened.new.state.steps - c.member-member.new.probes in
-    let all = c.read_opened.new.state.steps - c.args.state.now.steps in
-    IfErr-weaker c.read_opened.result _ _
+    let new = at_of c.read_member.new.state in
+    let spent = c.read_member.new.state.steps - c.member-member.new.probes in
+    let all = c.read_member.new.state.steps - c.args.state.now.steps in
+    IfErr-weaker c.read_member.result _ _
     (λ fault b. subst (λ (g : Frame). BreaksFrame t m g old fault) (sym same)
     (envelope_breaks t c.requires.table m (c.requires.short, c.requires.state.few) f c.args.entry c.args.read c.args.count old gf c.requires.state (c.args.read + 1) (c.args.count - 1) (add-one c.args.read) (omega (arith, some)) some there fault (subst (λ (o : Option Term). BreaksMember (declarations_of t) m f.depth o place old fault) (sym is) b)))
-    c.read_opened.ensures.told
+    c.read_member.ensures.told

@@ -1,0 +1,23 @@
+use Rattle.std.proofs.Common.{◌≡◌, ◌+◌, ◌/◌, ℕ, List, slice_set, sym, ap, ◌∙◌, arith}
+use Rattle.std.specs.Int.{next_multiple_of}
+use Rattle.fidl_records.specs.Section.{entry_at}
+use Rattle.fidl_decode.specs.Faults.{message_of}
+use Rattle.fidl_decode.specs.State.{At, opened, linked}
+use Rattle.fidl_decode.specs.Machine.{at_of}
+use Rattle.fidl_decode.proofs.Freely.{below_passed}
+use Rattle.fidl_decode.proofs.decoder.Decoder.pass_below.Goals as goal
+
+pub returns-clause-passed : goal.returns-clause-passed
+returns-clause-passed c =
+    λ so.
+    let t = c.args.self.now.table.now in
+    let m = message_of c.args.self.now.bytes.now c.args.self.now.handles.now in
+    let old = at_of c.args.state.now in
+    let wide : next_multiple_of (entry_at t c.args.entry).size 8 ≡ 8 = ap (λ k. next_multiple_of k 8) c.requires.size in
+    let new : At = record { next = old.next + 8; handle = old.handle; objects = c.link.new.self.objects; records = c.link.new.self.records } in
+    let objects = c.link.ensures.objects ∙ ap (λ (l : List ℕ). slice_set l (c.args.envelope / 8) old.next) c.record.ensures.objects in
+    let records = c.link.ensures.records ∙ c.record.ensures.records in
+    let led : linked c.args.envelope (entry_at t c.args.entry).size (opened c.args.envelope old) ≡ new
+    = λ i. record { next = old.next + wide i; handle = old.handle; objects = sym objects i; records = sym records i } in
+    below_passed t c.requires.table m (c.requires.short, c.requires.state.few) c.args.depth c.args.entry c.args.envelope old c.requires.entry c.requires.room (λ i. omega (arith, c.args.self.now.octets i)) c.requires.state c.requires.depth c.requires.free c.requires.size (sym c.u16_at-flags.ensures ∙ c.if-flags-ne0.false) (sym c.u32_at-counted.ensures ∙ c.if-counted-ne8.false) (sym c.u16_at-handles.ensures ∙ c.if-handles-ne0.false)
+    (omega (arith, c.requires.depth, c.if-depth-eq-MAX_DEPTH.false)) (omega (arith, c.if-self-next-lt8.false)) new led

@@ -1,0 +1,224 @@
+use Rattle.std.proofs.Common.{◌≡◌, ◌+◌, ◌≤◌, sym, ap, subst, ◌∙◌, arith}
+use Rattle.std.specs.Prelude.{Some, None}
+use Rattle.fidl_wire.specs.Term as ty
+use Rattle.fidl_records.specs.declared.record.Entry.{Entry}
+use Rattle.fidl_records.specs.declared.kind.EntryKind.{EntryKind}
+use Rattle.fidl_records.specs.declared.kind.EntryKind.TheVariants.{Struct}
+use Rattle.fidl_records.specs.Kind.{kind_of}
+use Rattle.fidl_records.specs.Section.{header_of, entry_at}
+use Rattle.fidl_records.specs.Terms.{declarations_of}
+use Rattle.fidl_decode.specs.Invariants.{IsFlat}
+use Rattle.fidl_decode.specs.State.{At}
+use Rattle.fidl_decode.specs.Envelopes.{Contained}
+use Rattle.fidl_decode.specs.Breaks.{BreaksMember}
+use Rattle.fidl_decode.specs.Machine.{StateFine, Opens, at_of}
+use Rattle.fidl_decode.specs.Faults.{message_of}
+use Rattle.fidl_decode.proofs.Turning.{on_err, passed_on}
+use Rattle.fidl_decode.proofs.Visiting.{fine_as}
+use Rattle.fidl_decode.proofs.Opening.{opens_known}
+use Rattle.fidl_decode.proofs.decoder.Decoder.read_known.Goals as goal
+
+no_some : {A : Type 0} (a : A) → Some a ≡ None → ⊥
+no_some a e = cc
+
+pub returns-then-pass_member-clause-pays : goal.returns-then-pass_member-clause-pays
+returns-then-pass_member-clause-pays c =
+    let t = c.args.self.now.table.now in
+    let m = message_of c.args.self.now.bytes.now c.args.self.now.handles.now in
+    let old = at_of c.args.state.now in
+    let less = (c.pass_member.ensures.passed c.if-pass_member.true).less in
+    let still = c.pass_member.ensures.steps in
+    omega (arith, less, still)
+
+pub unreachable-requires : goal.unreachable-requires
+unreachable-requires c =
+    let t = c.args.self.now.table.now in
+    let m = message_of c.args.self.now.bytes.now c.args.self.now.handles.now in
+    let old = at_of c.args.state.now in
+    let f = c.requires.table.each c.args.entry c.requires.entry in
+    let none : kind_of (entry_at t c.args.entry).kind ≡ None = ap (λ (e : Entry). kind_of e.kind) (sym c.entry-e.ensures.value) ∙ sym c.from_number.ensures ∙ c.in_default.is in
+    no_some f.0 (sym f.1.is ∙ none)
+
+pub is_flat-requires-clause-rows : goal.is_flat-requires-clause-rows
+is_flat-requires-clause-rows c =
+    let t = c.args.self.now.table.now in
+    let m = message_of c.args.self.now.bytes.now c.args.self.now.handles.now in
+    let old = at_of c.args.state.now in
+    λ struct.
+    let is : kind_of (entry_at t c.args.entry).kind ≡ Some Struct = ap (λ (e : Entry). kind_of e.kind) (sym c.entry-e.ensures.value) ∙ sym c.from_number.ensures ∙ c.in-Some.is ∙ ap (λ (k : EntryKind). Some k) struct in
+    subst (λ (d : Entry). d.first + d.count ≤ (header_of t).rows) (sym c.entry-e.ensures.value) (fine_as t c.requires.table c.args.entry Struct c.requires.entry is).content.0
+
+pub read_enclosed-requires-clause-kind : goal.read_enclosed-requires-clause-kind
+read_enclosed-requires-clause-kind c =
+    let t = c.args.self.now.table.now in
+    let m = message_of c.args.self.now.bytes.now c.args.self.now.handles.now in
+    let old = at_of c.args.state.now in
+    ap (λ (e : Entry). kind_of e.kind) (sym c.entry-e.ensures.value) ∙ sym c.from_number.ensures ∙ c.in-Some.is
+
+pub read_enclosed-requires-clause-flat : goal.read_enclosed-requires-clause-flat
+read_enclosed-requires-clause-flat c =
+    let t = c.args.self.now.table.now in
+    let m = message_of c.args.self.now.bytes.now c.args.self.now.handles.now in
+    let old = at_of c.args.state.now in
+    subst (λ (d : Entry). IsFlat t d c.in-Some.kind) c.entry-e.ensures.value (c.is_flat.ensures c.if-is_flat.true)
+
+pub read_enclosed-requires-clause-state : goal.read_enclosed-requires-clause-state
+read_enclosed-requires-clause-state c =
+    let t = c.args.self.now.table.now in
+    let m = message_of c.args.self.now.bytes.now c.args.self.now.handles.now in
+    let old = at_of c.args.state.now in
+    let kept : at_of c.pass_member.new.state ≡ old = c.pass_member.ensures.kept c.if-pass_member.false in
+    let next : c.pass_member.new.state.next ≡ c.args.state.now.next = ap (λ (s : At). s.next) kept in
+    let still = c.pass_member.ensures.steps in
+    subst (λ (s : At). StateFine m s) (sym kept) c.requires.state
+
+pub read_enclosed-requires-clause-budget : goal.read_enclosed-requires-clause-budget
+read_enclosed-requires-clause-budget c =
+    let t = c.args.self.now.table.now in
+    let m = message_of c.args.self.now.bytes.now c.args.self.now.handles.now in
+    let old = at_of c.args.state.now in
+    let kept : at_of c.pass_member.new.state ≡ old = c.pass_member.ensures.kept c.if-pass_member.false in
+    let next : c.pass_member.new.state.next ≡ c.args.state.now.next = ap (λ (s : At). s.next) kept in
+    let still = c.pass_member.ensures.steps in
+    omega (arith, next, still, c.requires.budget)
+
+pub returns-in_err-read_enclosed-clause-err : goal.returns-in_err-read_enclosed-clause-err
+returns-in_err-read_enclosed-clause-err c =
+    let t = c.args.self.now.table.now in
+    let m = message_of c.args.self.now.bytes.now c.args.self.now.handles.now in
+    let old = at_of c.args.state.now in
+    let kept : at_of c.pass_member.new.state ≡ old = c.pass_member.ensures.kept c.if-pass_member.false in
+    let next : c.pass_member.new.state.next ≡ c.args.state.now.next = ap (λ (s : At). s.next) kept in
+    let still = c.pass_member.ensures.steps in
+    on_err _ ((to : At) → Contained (declarations_of t) m c.args.depth (Some (ty.named c.args.entry)) c.args.envelope old to → ⊥)
+    (subst (λ (s : At). (to : At) → Contained (declarations_of t) m c.args.depth (Some (ty.named c.args.entry)) c.args.envelope s to → ⊥) kept c.in_err-read_enclosed.ensures.err)
+
+pub returns-in_err-read_enclosed-clause-told : goal.returns-in_err-read_enclosed-clause-told
+returns-in_err-read_enclosed-clause-told c =
+    let t = c.args.self.now.table.now in
+    let m = message_of c.args.self.now.bytes.now c.args.self.now.handles.now in
+    let old = at_of c.args.state.now in
+    let kept : at_of c.pass_member.new.state ≡ old = c.pass_member.ensures.kept c.if-pass_member.false in
+    let next : c.pass_member.new.state.next ≡ c.args.state.now.next = ap (λ (s : At). s.next) kept in
+    let still = c.pass_member.ensures.steps in
+    passed_on c.from_residual.result c.in_err-read_enclosed.field-0.0 _ c.from_residual.ensures.1
+    (subst (λ (s : At). BreaksMember (declarations_of t) m c.args.depth (Some (ty.named c.args.entry)) c.args.envelope s c.in_err-read_enclosed.field-0.0) kept c.in_err-read_enclosed.ensures.told)
+
+pub returns-in_err-read_enclosed-clause-cost : goal.returns-in_err-read_enclosed-clause-cost
+returns-in_err-read_enclosed-clause-cost c =
+    let t = c.args.self.now.table.now in
+    let m = message_of c.args.self.now.bytes.now c.args.self.now.handles.now in
+    let old = at_of c.args.state.now in
+    let kept : at_of c.pass_member.new.state ≡ old = c.pass_member.ensures.kept c.if-pass_member.false in
+    let next : c.pass_member.new.state.next ≡ c.args.state.now.next = ap (λ (s : At). s.next) kept in
+    let still = c.pass_member.ensures.steps in
+    omega (arith, next, still, c.in_err-read_enclosed.ensures.cost)
+
+pub returns-then-is_flat-clause-ok : goal.returns-then-is_flat-clause-ok
+returns-then-is_flat-clause-ok c =
+    let t = c.args.self.now.table.now in
+    let m = message_of c.args.self.now.bytes.now c.args.self.now.handles.now in
+    let old = at_of c.args.state.now in
+    let kept : at_of c.pass_member.new.state ≡ old = c.pass_member.ensures.kept c.if-pass_member.false in
+    let next : c.pass_member.new.state.next ≡ c.args.state.now.next = ap (λ (s : At). s.next) kept in
+    let still = c.pass_member.ensures.steps in
+    subst (λ (s : At). Opens t m c.args.depth (Some (ty.named c.args.entry)) c.args.envelope s (at_of c.read_enclosed.new.state) None) kept c.in_ok-read_enclosed.ensures.ok
+
+pub returns-then-is_flat-clause-pays : goal.returns-then-is_flat-clause-pays
+returns-then-is_flat-clause-pays c =
+    let t = c.args.self.now.table.now in
+    let m = message_of c.args.self.now.bytes.now c.args.self.now.handles.now in
+    let old = at_of c.args.state.now in
+    let kept : at_of c.pass_member.new.state ≡ old = c.pass_member.ensures.kept c.if-pass_member.false in
+    let next : c.pass_member.new.state.next ≡ c.args.state.now.next = ap (λ (s : At). s.next) kept in
+    let still = c.pass_member.ensures.steps in
+    let own = c.in_ok-read_enclosed.ensures.pays in
+    omega (arith, next, still, own)
+
+pub returns-then-is_flat-clause-grows : goal.returns-then-is_flat-clause-grows
+returns-then-is_flat-clause-grows c =
+    let t = c.args.self.now.table.now in
+    let m = message_of c.args.self.now.bytes.now c.args.self.now.handles.now in
+    let old = at_of c.args.state.now in
+    let kept : at_of c.pass_member.new.state ≡ old = c.pass_member.ensures.kept c.if-pass_member.false in
+    let next : c.pass_member.new.state.next ≡ c.args.state.now.next = ap (λ (s : At). s.next) kept in
+    let still = c.pass_member.ensures.steps in
+    let grows = c.in_ok-read_enclosed.ensures.grows in
+    omega (arith, grows, still)
+
+pub returns-then-is_flat-clause-cost : goal.returns-then-is_flat-clause-cost
+returns-then-is_flat-clause-cost c =
+    let t = c.args.self.now.table.now in
+    let m = message_of c.args.self.now.bytes.now c.args.self.now.handles.now in
+    let old = at_of c.args.state.now in
+    let kept : at_of c.pass_member.new.state ≡ old = c.pass_member.ensures.kept c.if-pass_member.false in
+    let next : c.pass_member.new.state.next ≡ c.args.state.now.next = ap (λ (s : At). s.next) kept in
+    let still = c.pass_member.ensures.steps in
+    omega (arith, next, still, c.in_ok-read_enclosed.ensures.cost)
+
+pub enter_member-requires-clause-state : goal.enter_member-requires-clause-state
+enter_member-requires-clause-state c =
+    let t = c.args.self.now.table.now in
+    let m = message_of c.args.self.now.bytes.now c.args.self.now.handles.now in
+    let old = at_of c.args.state.now in
+    let kept : at_of c.pass_member.new.state ≡ old = c.pass_member.ensures.kept c.if-pass_member.false in
+    let next : c.pass_member.new.state.next ≡ c.args.state.now.next = ap (λ (s : At). s.next) kept in
+    let still = c.pass_member.ensures.steps in
+    subst (λ (s : At). StateFine m s) (sym kept) c.requires.state
+
+pub returns-in_err-frame-clause-err : goal.returns-in_err-frame-clause-err
+returns-in_err-frame-clause-err c =
+    let t = c.args.self.now.table.now in
+    let m = message_of c.args.self.now.bytes.now c.args.self.now.handles.now in
+    let old = at_of c.args.state.now in
+    let kept : at_of c.pass_member.new.state ≡ old = c.pass_member.ensures.kept c.if-pass_member.false in
+    let next : c.pass_member.new.state.next ≡ c.args.state.now.next = ap (λ (s : At). s.next) kept in
+    let still = c.pass_member.ensures.steps in
+    on_err _ ((to : At) → Contained (declarations_of t) m c.args.depth (Some (ty.named c.args.entry)) c.args.envelope old to → ⊥)
+    (subst (λ (s : At). (to : At) → Contained (declarations_of t) m c.args.depth (Some (ty.named c.args.entry)) c.args.envelope s to → ⊥) kept c.in_err-frame.ensures.err)
+
+pub returns-in_err-frame-clause-told : goal.returns-in_err-frame-clause-told
+returns-in_err-frame-clause-told c =
+    let t = c.args.self.now.table.now in
+    let m = message_of c.args.self.now.bytes.now c.args.self.now.handles.now in
+    let old = at_of c.args.state.now in
+    let kept : at_of c.pass_member.new.state ≡ old = c.pass_member.ensures.kept c.if-pass_member.false in
+    let next : c.pass_member.new.state.next ≡ c.args.state.now.next = ap (λ (s : At). s.next) kept in
+    let still = c.pass_member.ensures.steps in
+    passed_on c.from_residual-in_err-frame.result c.in_err-frame.field-0.0 _ c.from_residual-in_err-frame.ensures.1
+    (subst (λ (s : At). BreaksMember (declarations_of t) m c.args.depth (Some (ty.named c.args.entry)) c.args.envelope s c.in_err-frame.field-0.0) kept c.in_err-frame.ensures.told)
+
+pub returns-clause-ok : goal.returns-clause-ok
+returns-clause-ok c =
+    let t = c.args.self.now.table.now in
+    let m = message_of c.args.self.now.bytes.now c.args.self.now.handles.now in
+    let old = at_of c.args.state.now in
+    let kept : at_of c.pass_member.new.state ≡ old = c.pass_member.ensures.kept c.if-pass_member.false in
+    let next : c.pass_member.new.state.next ≡ c.args.state.now.next = ap (λ (s : At). s.next) kept in
+    let still = c.pass_member.ensures.steps in
+    let mid = at_of c.pass_member.new.state in
+    let new = at_of c.enter_member.new.state in
+    let x = c.in_ok-frame.ensures in
+    let steps = x.steps in
+    let o = opens_known t m c.args.depth c.args.envelope mid new x.state c.args.entry c.in_ok-frame.frame x.grows x.ok x.breaks x.fine x.deeper x.work in
+    subst (λ (s : At). Opens t m c.args.depth (Some (ty.named c.args.entry)) c.args.envelope s new (Some c.in_ok-frame.frame)) kept o
+
+pub returns-clause-pays : goal.returns-clause-pays
+returns-clause-pays c =
+    let t = c.args.self.now.table.now in
+    let m = message_of c.args.self.now.bytes.now c.args.self.now.handles.now in
+    let old = at_of c.args.state.now in
+    let kept : at_of c.pass_member.new.state ≡ old = c.pass_member.ensures.kept c.if-pass_member.false in
+    let next : c.pass_member.new.state.next ≡ c.args.state.now.next = ap (λ (s : At). s.next) kept in
+    let still = c.pass_member.ensures.steps in
+    let mid = at_of c.pass_member.new.state in
+    let new = at_of c.enter_member.new.state in
+    let x = c.in_ok-frame.ensures in
+    let steps = x.steps in
+    let o = opens_known t m c.args.depth c.args.envelope mid new x.state c.args.entry c.in_ok-frame.frame x.grows x.ok x.breaks x.fine x.deeper x.work in
+    let less = o.less in
+    omega (arith, less, next, still, steps)
+
+pub returns-then-pass_member-clause-ok : goal.returns-then-pass_member-clause-ok
+returns-then-pass_member-clause-ok c =
+    c.pass_member.ensures.passed c.if-pass_member.true

@@ -1,0 +1,63 @@
+use Rattle.std.proofs.Common.{sym, subst, arith}
+use Rattle.std.specs.Prelude.{Option, None, OnErr, IfErr, IfOk}
+use Rattle.fidl_records.specs.declared.record.Row as raw
+use Rattle.fidl_records.specs.Terms.{declarations_of}
+use Rattle.fidl_decode.specs.Faults.{message_of}
+use Rattle.fidl_decode.specs.State.{At}
+use Rattle.fidl_decode.specs.Envelopes.{Contained}
+use Rattle.fidl_decode.specs.Breaks.{BreaksMember}
+use Rattle.fidl_decode.specs.Machine.{Opens, member_term, at_of}
+use Rattle.fidl_decode.proofs.Turning.{on_err}
+use Rattle.fidl_decode.proofs.Opening.{opens_unknown}
+use Rattle.fidl_decode.proofs.decoder.Decoder.read_member.Goals as goal
+
+pub returns-in_err-skip_member-clause-err : goal.returns-in_err-skip_member-clause-err
+returns-in_err-skip_member-clause-err c =
+    let t = c.args.self.now.table.now in
+    let m = message_of c.args.self.now.bytes.now c.args.self.now.handles.now in
+    let old = at_of c.args.state.now in
+    on_err _ ((to : At) → Contained (declarations_of t) m c.args.depth (member_term c.args.member) c.args.envelope old to → ⊥)
+    (subst (λ (o : Option raw.Row). (to : At) → Contained (declarations_of t) m c.args.depth (member_term o) c.args.envelope old to → ⊥) (sym c.in_default.is) c.in_err-skip_member.ensures.err)
+
+pub returns-in_default-clause-ok : goal.returns-in_default-clause-ok
+returns-in_default-clause-ok c =
+    let t = c.args.self.now.table.now in
+    let m = message_of c.args.self.now.bytes.now c.args.self.now.handles.now in
+    let old = at_of c.args.state.now in
+    let new = at_of c.skip_member.new.state in
+    let x = c.in_ok-skip_member.ensures in
+    let o = opens_unknown t m c.args.depth c.args.envelope old new x.state x.grows x.ok in
+    subst (λ (r : Option raw.Row). Opens t m c.args.depth (member_term r) c.args.envelope old new None) (sym c.in_default.is) o
+
+pub returns-in_default-clause-pays : goal.returns-in_default-clause-pays
+returns-in_default-clause-pays c =
+    let t = c.args.self.now.table.now in
+    let m = message_of c.args.self.now.bytes.now c.args.self.now.handles.now in
+    let old = at_of c.args.state.now in
+    let new = at_of c.skip_member.new.state in
+    let x = c.in_ok-skip_member.ensures in
+    let o = opens_unknown t m c.args.depth c.args.envelope old new x.state x.grows x.ok in
+    let less = o.less in
+    let still = x.steps in
+    omega (arith, less, still)
+
+pub returns-clause-ok : goal.returns-clause-ok
+returns-clause-ok c =
+    let t = c.args.self.now.table.now in
+    let m = message_of c.args.self.now.bytes.now c.args.self.now.handles.now in
+    let old = at_of c.args.state.now in
+    subst (λ (r : Option raw.Row). IfOk c.read_known.result (Opens t m c.args.depth (member_term r) c.args.envelope old (at_of c.read_known.new.state))) (sym c.in-Some.is) c.read_known.ensures.ok
+
+pub returns-clause-err : goal.returns-clause-err
+returns-clause-err c =
+    let t = c.args.self.now.table.now in
+    let m = message_of c.args.self.now.bytes.now c.args.self.now.handles.now in
+    let old = at_of c.args.state.now in
+    subst (λ (r : Option raw.Row). OnErr c.read_known.result ((to : At) → Contained (declarations_of t) m c.args.depth (member_term r) c.args.envelope old to → ⊥)) (sym c.in-Some.is) c.read_known.ensures.err
+
+pub returns-clause-told : goal.returns-clause-told
+returns-clause-told c =
+    let t = c.args.self.now.table.now in
+    let m = message_of c.args.self.now.bytes.now c.args.self.now.handles.now in
+    let old = at_of c.args.state.now in
+    subst (λ (r : Option raw.Row). IfErr c.read_known.result (BreaksMember (declarations_of t) m c.args.depth (member_term r) c.args.envelope old)) (sym c.in-Some.is) c.read_known.ensures.told

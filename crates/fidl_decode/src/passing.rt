@@ -1,0 +1,124 @@
+//! Envelopes of members of four or eight bytes that any bytes are a value of: they are passed over by
+//! their numbers.
+ghost use Rattle.std.specs.Prelude.{◌≡◌, ◌+◌, ◌-◌, ◌<◌, ◌≤◌, IsTrue, IsFalse, true, Some, None};
+ghost use Rattle.std.specs.Prelude.{length};
+ghost use Rattle.fidl_limits.specs.declared.limits.TheConstants.{MAX_DEPTH, MAX_MESSAGE_BYTES};
+ghost use Rattle.fidl_wire.specs.Term as ty;
+ghost use Rattle.fidl_records.specs.declared.kind.EntryKind.{EntryKind};
+ghost use Rattle.fidl_records.specs.Kind.{kind_of};
+ghost use Rattle.fidl_records.specs.Section.{header_of, entry_at};
+ghost use Rattle.fidl_decode.specs.Invariants.{IsFine, is_free};
+ghost use Rattle.fidl_decode.specs.Faults.{message_of};
+ghost use Rattle.fidl_decode.specs.Machine.{StateFine, Opens, at_of};
+
+use crate::decoder::Decoder;
+use crate::frame::State;
+use crate::leaf::is_free;
+use fidl_records::{EntryKind, u16_at, u32_at};
+use fidl_wire::MAX_DEPTH;
+
+impl<'t, 'm> Decoder<'t, 'm> {
+    /// Passes over the envelope at a place, in which a member of four bytes stands that any bytes are
+    /// a value of, where its numbers are right. Else nothing is read.
+    #[inline(always)]
+    fn pass_inside(&self, entry: u32, envelope: usize, depth: u8, state: &mut State) -> bool
+        requires table { IsFine self.now.table.now }
+        requires entry { entry < (header_of self.now.table.now).entries }
+        requires free { (kind : EntryKind)
+            × (kind_of (entry_at self.now.table.now entry).kind ≡ Some kind)
+            × (is_free kind (entry_at self.now.table.now entry) ≡ true) }
+        requires size { (entry_at self.now.table.now entry).size ≡ 4 }
+        requires short { length self.now.bytes.now ≤ MAX_MESSAGE_BYTES }
+        requires room { envelope + 8 ≤ length self.now.bytes.now }
+        requires state { StateFine (message_of self.now.bytes.now self.now.handles.now)
+            (at_of state.old) }
+        requires depth { depth ≤ MAX_DEPTH }
+        ensures passed { IsTrue result → Opens self.now.table.now
+            (message_of self.now.bytes.now self.now.handles.now) depth (Some (ty.named entry))
+            envelope (at_of state.old) (at_of state.new) None }
+        ensures kept { IsFalse result → at_of state.new ≡ at_of state.old }
+        ensures steps { state.new.steps ≡ state.old.steps }
+    {
+        let handles = u16_at(self.bytes, envelope + 4);
+        let flags = u16_at(self.bytes, envelope + 6);
+        if flags != 1 || handles != 0 {
+            return false;
+        }
+        state.links.record(envelope + 4, state.handle);
+        true
+    }
+
+    /// Passes over the envelope at a place, whose member has eight bytes out of line and any bytes are
+    /// a value of it, where its numbers are right. Else nothing is read.
+    #[inline(always)]
+    fn pass_below(&self, entry: u32, envelope: usize, depth: u8, state: &mut State) -> bool
+        requires table { IsFine self.now.table.now }
+        requires entry { entry < (header_of self.now.table.now).entries }
+        requires free { (kind : EntryKind)
+            × (kind_of (entry_at self.now.table.now entry).kind ≡ Some kind)
+            × (is_free kind (entry_at self.now.table.now entry) ≡ true) }
+        requires size { (entry_at self.now.table.now entry).size ≡ 8 }
+        requires short { length self.now.bytes.now ≤ MAX_MESSAGE_BYTES }
+        requires room { envelope + 8 ≤ length self.now.bytes.now }
+        requires state { StateFine (message_of self.now.bytes.now self.now.handles.now)
+            (at_of state.old) }
+        requires depth { depth ≤ MAX_DEPTH }
+        ensures passed { IsTrue result → Opens self.now.table.now
+            (message_of self.now.bytes.now self.now.handles.now) depth (Some (ty.named entry))
+            envelope (at_of state.old) (at_of state.new) None }
+        ensures kept { IsFalse result → at_of state.new ≡ at_of state.old }
+        ensures steps { state.new.steps ≡ state.old.steps }
+    {
+        let counted = u32_at(self.bytes, envelope);
+        let handles = u16_at(self.bytes, envelope + 4);
+        let flags = u16_at(self.bytes, envelope + 6);
+        if counted != 8 || handles != 0 || flags != 0 {
+            return false;
+        }
+        let next = state.next;
+        if depth as usize == MAX_DEPTH || self.bytes.len() - next < 8 {
+            return false;
+        }
+        state.links.record(envelope + 4, state.handle);
+        state.links.link(envelope, next);
+        state.next = next + 8;
+        true
+    }
+
+    /// Passes over the envelope of a member at a place, where the member has four or eight bytes, any
+    /// bytes are its value, and the envelope's numbers are right. Else nothing is read.
+    #[inline(always)]
+    pub(crate) fn pass_member(
+        &self,
+        entry: u32,
+        envelope: usize,
+        depth: u8,
+        state: &mut State,
+    ) -> bool
+        requires table { IsFine self.now.table.now }
+        requires entry { entry < (header_of self.now.table.now).entries }
+        requires short { length self.now.bytes.now ≤ MAX_MESSAGE_BYTES }
+        requires room { envelope + 8 ≤ length self.now.bytes.now }
+        requires state { StateFine (message_of self.now.bytes.now self.now.handles.now)
+            (at_of state.old) }
+        requires depth { depth ≤ MAX_DEPTH }
+        ensures passed { IsTrue result → Opens self.now.table.now
+            (message_of self.now.bytes.now self.now.handles.now) depth (Some (ty.named entry))
+            envelope (at_of state.old) (at_of state.new) None }
+        ensures kept { IsFalse result → at_of state.new ≡ at_of state.old }
+        ensures steps { state.new.steps ≡ state.old.steps }
+    {
+        let e = self.table.entry(entry);
+        let Some(kind) = EntryKind::from_number(e.kind) else {
+            unreachable!()
+        };
+        if !is_free(&e, kind) {
+            return false;
+        }
+        match e.size {
+            4 => self.pass_inside(entry, envelope, depth, state),
+            8 => self.pass_below(entry, envelope, depth, state),
+            _ => false,
+        }
+    }
+}
