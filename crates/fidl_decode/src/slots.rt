@@ -1,11 +1,14 @@
 //! The envelopes of a table, and their members, which are read in place.
 ghost use Rattle.std.specs.Prelude.{◌≡◌, ◌+◌, ◌-◌, ◌*◌, ◌^◌, ◌<◌, ◌≤◌, OnOk, OnErr, IfOk, IfErr};
-ghost use Rattle.std.specs.Prelude.{IfSome, Some, None, length};
+ghost use Rattle.std.specs.Prelude.{IfSome, IfNone, IsTrue, Some, None, length};
 ghost use Rattle.fidl_limits.specs.declared.limits.TheConstants.{MAX_DEPTH, MAX_MESSAGE_BYTES};
 ghost use Rattle.fidl_wire.specs.Term as ty;
+ghost use Rattle.fidl_wire.specs.Term.{find};
 ghost use Rattle.fidl_records.specs.Kind.{kind_of};
 ghost use Rattle.fidl_records.specs.Section.{header_of, entry_at};
-ghost use Rattle.fidl_records.specs.Terms.{declarations_of};
+ghost use Rattle.fidl_records.specs.Terms.{declarations_of, members_of};
+ghost use Rattle.fidl_records.specs.Uses.{uses_ordinals};
+ghost use Rattle.fidl_records.specs.Entry.{kind_is};
 ghost use Rattle.fidl_decode.specs.Envelopes.{Contained};
 ghost use Rattle.fidl_decode.specs.Breaks.{BreaksMember};
 ghost use Rattle.fidl_decode.specs.Invariants.{IsFine, IsFlat};
@@ -19,7 +22,7 @@ ghost use Rattle.fidl_decode.specs.Machine.{byte_work, envelope_work, turn_work,
 use crate::decoder::Decoder;
 use crate::fault::DecodeFault;
 use crate::frame::{Frame, Left, State, Turn};
-use fidl_records::{EntryKind, Row};
+use fidl_records::{Entry, EntryKind, Row};
 
 /// A frame with so many envelopes left, behind those that are read, and so many of its bytes read.
 #[inline(always)]
@@ -171,6 +174,34 @@ impl<'t, 'm> Decoder<'t, 'm> {
         self.read_known(row.entry, envelope, depth, state)
     }
 
+    /// The row of an ordinal of a table, where there is one: the first look is at the place that it has
+    /// where all ordinals below it are members. The probes of a search behind that are counted.
+    #[inline(always)]
+    fn row_of(&self, entry: u32, parts: &Entry, ordinal: u32, probes: &mut u64) -> Option<Row>
+        requires entry { entry < (header_of self.now.table.now).entries }
+        requires kind { IsTrue (kind_is uses_ordinals (entry_at self.now.table.now entry)) }
+        requires parts { parts.now ≡ entry_at self.now.table.now entry }
+        requires some { 0 < ordinal }
+        requires budget { probes.old < 2 ^ 62 }
+        ensures none { IfNone result (find (members_of self.now.table.now entry) ordinal ≡ None) }
+        ensures some { IfSome result (λ row. find (members_of self.now.table.now entry) ordinal
+            ≡ Some (ty.named row.entry)) }
+        ensures entry_below { IfSome result
+            (λ row. row.entry < (header_of self.now.table.now).entries) }
+        ensures grows { probes.old ≤ probes.new }
+        ensures few { probes.new ≤ probes.old + 16 }
+    {
+        // Read, so that the number of rows, and with it each row's, is known to have 32 bits.
+        let _rows = self.table.rows();
+        if ordinal <= parts.count {
+            let row = self.table.row(parts.first + (ordinal - 1));
+            if row.key == ordinal {
+                return Some(row);
+            }
+        }
+        self.table.member(entry, u64::from(ordinal), probes)
+    }
+
     /// Reads the next envelope of a table, with its member, in place. What is left of the member is
     /// to be read next.
     #[inline(always)]
@@ -178,12 +209,14 @@ impl<'t, 'm> Decoder<'t, 'm> {
         &self,
         frame: Frame,
         entry: u32,
+        parts: &Entry,
         read: u32,
         count: u32,
         state: &mut State,
     ) -> Result<Option<Frame>, DecodeFault>
         requires table { IsFine self.now.table.now }
         requires left { frame.left ≡ left.Envelopes entry read count }
+        requires parts { parts.now ≡ entry_at self.now.table.now entry }
         requires some { 0 < count }
         requires short { length self.now.bytes.now ≤ MAX_MESSAGE_BYTES }
         requires frame { FrameFine self.now.table.now self.now.bytes.now frame }
@@ -214,7 +247,8 @@ impl<'t, 'm> Decoder<'t, 'm> {
         if self.is_absent(place) {
             return Ok(None);
         }
-        let member = self.table.member(entry, read as u64 + 1, &mut state.steps);
+        let ordinal = read + 1;
+        let member = self.row_of(entry, parts, ordinal, &mut state.steps);
         self.read_member(member, place, frame.depth, state)
     }
 
@@ -251,12 +285,13 @@ impl<'t, 'm> Decoder<'t, 'm> {
             (BreaksFrame self.now.table.now (message_of self.now.bytes.now self.now.handles.now)
             frame (at_of state.old)) }
     {
+        let parts = self.table.entry(entry);
         let mut passed = read;
         let mut many = count;
         let mut done = frame.done;
         while many != 0 {
             let now = envelopes_from(frame, entry, passed, many, done);
-            let below = self.take_envelope(now, entry, passed, many, state)?;
+            let below = self.take_envelope(now, entry, &parts, passed, many, state)?;
             passed += 1;
             many -= 1;
             done += 8;

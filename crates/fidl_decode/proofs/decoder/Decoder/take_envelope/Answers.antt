@@ -40,8 +40,8 @@ read_member-requires-clause-budget c =
     let gf = subst (λ (f : Frame). FrameFine t m.bytes f) same c.requires.frame in
     let some = c.requires.some in
     let room = envelope_room t c.requires.table m (c.requires.short, c.requires.state.few) f c.args.entry c.args.read c.args.count old gf c.requires.state (c.args.read + 1) (c.args.count - 1) (add-one c.args.read) (omega (arith, some)) some in
-    let few = c.member-member.ensures.few in
-    let grows = c.member-member.ensures.grows in
+    let few = c.row_of-member.ensures.few in
+    let grows = c.row_of-member.ensures.grows in
     omega (arith, room, few, c.requires.budget)
 
 pub returns-clause-ok : goal.returns-clause-ok
@@ -54,15 +54,15 @@ returns-clause-ok c =
     let gf = subst (λ (f : Frame). FrameFine t m.bytes f) same c.requires.frame in
     let some = c.requires.some in
     let room = envelope_room t c.requires.table m (c.requires.short, c.requires.state.few) f c.args.entry c.args.read c.args.count old gf c.requires.state (c.args.read + 1) (c.args.count - 1) (add-one c.args.read) (omega (arith, some)) some in
-    let few = c.member-member.ensures.few in
-    let grows = c.member-member.ensures.grows in
+    let few = c.row_of-member.ensures.few in
+    let grows = c.row_of-member.ensures.grows in
     let place = f.base + f.done in
     let there : Stands m.bytes place (zeros 8) → ⊥ = λ z. no_true (sym c.if-is_absent.false ∙ c.is_absent.ensures.1 z) in
-    let is = ap (λ n. find (members_of t c.args.entry) n) (sym (add-one c.args.read)) ∙ member_found (members_of t c.args.entry) (c.args.read + 1) c.member-member.result c.member-member.ensures.none c.member-member.ensures.some in
+    let is = ap (λ n. find (members_of t c.args.entry) n) (sym (add-one c.args.read)) ∙ member_found (members_of t c.args.entry) (c.args.read + 1) c.row_of-member.result c.row_of-member.ensures.none c.row_of-member.ensures.some in
     let new = at_of c.read_member.new.state in
-    let spent = c.read_member.new.state.steps - c.member-member.new.probes in
+    let spent = c.read_member.new.state.steps - c.row_of-member.new.probes in
     let all = c.read_member.new.state.steps - c.args.state.now.steps in
-    if_ok_two c.read_member.result (Opens t m f.depth (member_term c.member-member.result) place old new) (PaysEnvelope m.bytes old.next new.next spent) (λ below. Turns t m f old new all (record { below = below; rest = Some (going_on f (Envelopes c.args.entry (c.args.read + 1) (c.args.count - 1)) (f.done + 8)) }))
+    if_ok_two c.read_member.result (Opens t m f.depth (member_term c.row_of-member.result) place old new) (PaysEnvelope m.bytes old.next new.next spent) (λ below. Turns t m f old new all (record { below = below; rest = Some (going_on f (Envelopes c.args.entry (c.args.read + 1) (c.args.count - 1)) (f.done + 8)) }))
     (λ below o pays. subst (λ (g : Frame). Turns t m g old new all (record { below = below; rest = Some (going_on f (Envelopes c.args.entry (c.args.read + 1) (c.args.count - 1)) (f.done + 8)) })) (sym same)
     (envelope_opened t c.requires.table m (c.requires.short, c.requires.state.few) f c.args.entry c.args.read c.args.count old gf c.requires.state (c.args.read + 1) (c.args.count - 1) (add-one c.args.read) (omega (arith, some)) some there below new spent all (omega (arith, few, grows)) pays (subst (λ (o : Option Term). Opens t m f.depth o place old new below) (sym is) o)))
     c.read_member.ensures.ok c.read_member.ensures.pays
@@ -77,8 +77,8 @@ returns-clause-rises c =
     let gf = subst (λ (f : Frame). FrameFine t m.bytes f) same c.requires.frame in
     let some = c.requires.some in
     let room = envelope_room t c.requires.table m (c.requires.short, c.requires.state.few) f c.args.entry c.args.read c.args.count old gf c.requires.state (c.args.read + 1) (c.args.count - 1) (add-one c.args.read) (omega (arith, some)) some in
-    let few = c.member-member.ensures.few in
-    let grows = c.member-member.ensures.grows in
+    let few = c.row_of-member.ensures.few in
+    let grows = c.row_of-member.ensures.grows in
     on_ok_from c.read_member.result (λ more. omega (arith, grows, more)) c.read_member.ensures.grows
 
 pub returns-clause-cost : goal.returns-clause-cost
@@ -91,8 +91,8 @@ returns-clause-cost c =
     let gf = subst (λ (f : Frame). FrameFine t m.bytes f) same c.requires.frame in
     let some = c.requires.some in
     let room = envelope_room t c.requires.table m (c.requires.short, c.requires.state.few) f c.args.entry c.args.read c.args.count old gf c.requires.state (c.args.read + 1) (c.args.count - 1) (add-one c.args.read) (omega (arith, some)) some in
-    let few = c.member-member.ensures.few in
-    let grows = c.member-member.ensures.grows in
+    let few = c.row_of-member.ensures.few in
+    let grows = c.row_of-member.ensures.grows in
     omega (arith, room, few, c.read_member.ensures.cost)
 
 pub returns-clause-err : goal.returns-clause-err
@@ -105,13 +105,13 @@ returns-clause-err c =
     let gf = subst (λ (f : Frame). FrameFine t m.bytes f) same c.requires.frame in
     let some = c.requires.some in
     let room = envelope_room t c.requires.table m (c.requires.short, c.requires.state.few) f c.args.entry c.args.read c.args.count old gf c.requires.state (c.args.read + 1) (c.args.count - 1) (add-one c.args.read) (omega (arith, some)) some in
-    let few = c.member-member.ensures.few in
-    let grows = c.member-member.ensures.grows in
+    let few = c.row_of-member.ensures.few in
+    let grows = c.row_of-member.ensures.grows in
     let place = f.base + f.done in
     let there : Stands m.bytes place (zeros 8) → ⊥ = λ z. no_true (sym c.if-is_absent.false ∙ c.is_absent.ensures.1 z) in
-    let is = ap (λ n. find (members_of t c.args.entry) n) (sym (add-one c.args.read)) ∙ member_found (members_of t c.args.entry) (c.args.read + 1) c.member-member.result c.member-member.ensures.none c.member-member.ensures.some in
+    let is = ap (λ n. find (members_of t c.args.entry) n) (sym (add-one c.args.read)) ∙ member_found (members_of t c.args.entry) (c.args.read + 1) c.row_of-member.result c.row_of-member.ensures.none c.row_of-member.ensures.some in
     let new = at_of c.read_member.new.state in
-    let spent = c.read_member.new.state.steps - c.member-member.new.probes in
+    let spent = c.read_member.new.state.steps - c.row_of-member.new.probes in
     let all = c.read_member.new.state.steps - c.args.state.now.steps in
     on_err_weaker c.read_member.result
     (λ bad. subst (λ (g : Frame). (to : At) → Reads t m g old to → ⊥) (sym same)
@@ -128,13 +128,13 @@ returns-clause-told c =
     let gf = subst (λ (f : Frame). FrameFine t m.bytes f) same c.requires.frame in
     let some = c.requires.some in
     let room = envelope_room t c.requires.table m (c.requires.short, c.requires.state.few) f c.args.entry c.args.read c.args.count old gf c.requires.state (c.args.read + 1) (c.args.count - 1) (add-one c.args.read) (omega (arith, some)) some in
-    let few = c.member-member.ensures.few in
-    let grows = c.member-member.ensures.grows in
+    let few = c.row_of-member.ensures.few in
+    let grows = c.row_of-member.ensures.grows in
     let place = f.base + f.done in
     let there : Stands m.bytes place (zeros 8) → ⊥ = λ z. no_true (sym c.if-is_absent.false ∙ c.is_absent.ensures.1 z) in
-    let is = ap (λ n. find (members_of t c.args.entry) n) (sym (add-one c.args.read)) ∙ member_found (members_of t c.args.entry) (c.args.read + 1) c.member-member.result c.member-member.ensures.none c.member-member.ensures.some in
+    let is = ap (λ n. find (members_of t c.args.entry) n) (sym (add-one c.args.read)) ∙ member_found (members_of t c.args.entry) (c.args.read + 1) c.row_of-member.result c.row_of-member.ensures.none c.row_of-member.ensures.some in
     let new = at_of c.read_member.new.state in
-    let spent = c.read_member.new.state.steps - c.member-member.new.probes in
+    let spent = c.read_member.new.state.steps - c.row_of-member.new.probes in
     let all = c.read_member.new.state.steps - c.args.state.now.steps in
     IfErr-weaker c.read_member.result _ _
     (λ fault b. subst (λ (g : Frame). BreaksFrame t m g old fault) (sym same)
