@@ -4,8 +4,6 @@
 #[cfg(test)]
 mod command_lines;
 #[cfg(test)]
-mod envelopes;
-#[cfg(test)]
 mod listings;
 #[cfg(test)]
 mod messages;

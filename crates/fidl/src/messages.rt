@@ -1,336 +1,141 @@
-//! Tests of `decode`: the worked messages and refusals, and handles as they are written.
-use crate::runs::{PrintedCase, is_printed, run_decode};
-use crate::tables::{BELOW, CHOICES, OUTSIDE, POINT, SHAPES};
+//! Tests of `decode`: the worked messages and refusals, by the tables of `tables`.
+use crate::runs::{Suite, judge, run_decode};
+use crate::tables::{BELOW, CHOICES, ENVELOPES, OUTSIDE, POINT, SHAPES};
 use fidl_tool::{Outcome, TypedMessage, read_handle};
 use fidl_wire::HandleInfo;
 use std::test::Fail;
 
-#[test]
-fn messages_are_printed_or_refused(rt: HostRuntime) -> Result<(), Fail> {
-    let alloc = rt.alloc();
-    let handles = [HandleInfo {
-        id: 1,
-        object_type: 3,
-        rights: 0,
-    }; 65];
-    let long = vec![in alloc; 0u8; 65_537]?;
-    let point = [1, 0, 0, 0, 2, 0, 0, 0];
-    let padded = [1, 0, 1, 0, 2, 0, 0, 0];
-    let eights = [1, 0, 0, 0, 2, 0, 0, 0, 0, 0, 0, 0, 0, 0, 0, 0];
-    let numbers = [
-        1, 0, 1, 0, 0xfe, 0xff, 0xff, 0x7f, 0xfb, 0xff, 0xff, 0xff, 0xff, 0xff, 0xff, 0xff,
-    ];
-    let one = [1, 0, 0, 0, 0, 0, 0, 0];
-    let cases: [(&[u8], &str, &[u8], usize, u8, &str, &str); 11] = [
-        (&POINT, "Point", &point, 0, 0, "{x: 1, y: 2}\n", ""),
-        (&SHAPES, "S", &point, 0, 0, "{a: 1, b: 2}\n", ""),
-        (&SHAPES, "S", &padded, 0, 1, "", "decode 4 Padding at 2\n"),
-        (&SHAPES, "E", &[0; 8], 0, 0, "{}\n", ""),
-        (&SHAPES, "E", &one, 0, 1, "", "decode 4 Padding at 0\n"),
-        (
-            &SHAPES,
-            "L",
-            &numbers,
-            0,
-            0,
-            "{t: true, l: [1, -2, 32767], n: -5}\n",
-            "",
-        ),
-        (
-            &POINT,
-            "Point",
-            &eights,
-            0,
-            1,
-            "",
-            "decode 19 BytesLeft at 8\n",
-        ),
-        (
-            &POINT,
-            "Point",
-            &point,
-            1,
-            1,
-            "",
-            "decode 20 HandlesLeft at 8\n",
-        ),
-        (&POINT, "Point", &[], 0, 1, "", "decode 3 Truncated at 0\n"),
-        (
-            &POINT,
-            "Point",
-            long.as_slice(),
-            0,
-            1,
-            "",
-            "decode 1 TooLong at 0\n",
-        ),
-        (
-            &POINT,
-            "Point",
-            &point,
-            65,
-            1,
-            "",
-            "decode 2 TooManyHandles at 0\n",
-        ),
-    ];
-    for (table, root, bytes, count, status, out, errors) in cases {
-        assert!(rt; count <= handles.len());
-        let message = TypedMessage {
-            root,
-            bytes,
-            handles: &handles[..count],
-        };
-        let ran = run_decode(alloc, table, &message);
-        assert_eq!(rt; ran.outcome.status().number(), status, "for {out}{errors}");
-        assert!(rt; !ran.failed, "for {out}{errors}");
-        assert!(rt; ran.out.as_slice() == out.as_bytes(), "for {out}{errors}");
-        assert!(rt;
-            ran.errors.as_slice() == errors.as_bytes(),
-            "for {out}{errors}"
-        );
-    }
-    Ok(())
-}
+/// Structs, arrays and numbers, and messages with too many or too few bytes and handles.
+const STRUCTS: Suite<'static> = Suite {
+    table: SHAPES,
+    count: 11,
+    cases: "
+        S 01000000 02000000 -> 0 {a: 1, b: 2}
+        S 01000100 02000000 -> 1 decode 4 Padding at 2
+        E 00*8 -> 0 {}
+        E 01 00*7 -> 1 decode 4 Padding at 0
+        L 0100 0100 feff ff7f fbffffffffffffff -> 0 {t: true, l: [1, -2, 32767], n: -5}
+        S 01000000 02000000 00*8 -> 1 decode 19 BytesLeft at 8
+        S 01000000 02000000 with 1:3:0 -> 1 decode 20 HandlesLeft at 8
+        S -> 1 decode 3 Truncated at 0
+        S 01000000 020000 -> 1 decode 3 Truncated at 0
+        S 00*65537 -> 1 decode 1 TooLong at 0
+        S 01000000 02000000 with 1:3:0*65 -> 1 decode 2 TooManyHandles at 0
+    ",
+};
 
 /// Texts are printed between quotes, or refused.
-#[test]
-fn strings_are_printed_or_refused(rt: HostRuntime) -> Result<(), Fail> {
-    let pair = [
-        0, 0, 0, 0, 0, 0, 0, 0, 255, 255, 255, 255, 255, 255, 255, 255, 1, 0, 0, 0, 0, 0, 0, 0,
-        255, 255, 255, 255, 255, 255, 255, 255, 0x41, 0, 0, 0, 0, 0, 0, 0,
-    ];
-    let escapes = [
-        10, 0, 0, 0, 0, 0, 0, 0, 255, 255, 255, 255, 255, 255, 255, 255, 0, 0, 0, 0, 0, 0, 0, 0,
-        255, 255, 255, 255, 255, 255, 255, 255, 34, 92, 10, 13, 9, 1, 31, 127, 0xc3, 0xa9, 0, 0, 0,
-        0, 0, 0,
-    ];
-    let hi = [
-        2, 0, 0, 0, 0, 0, 0, 0, 255, 255, 255, 255, 255, 255, 255, 255, 0x68, 0x69, 0, 0, 0, 0, 0,
-        0,
-    ];
-    let over = [
-        3, 0, 0, 0, 0, 0, 0, 0, 255, 255, 255, 255, 255, 255, 255, 255, 0x61, 0x62, 0x63, 0, 0, 0,
-        0, 0,
-    ];
-    let not_utf8 = [
-        2, 0, 0, 0, 0, 0, 0, 0, 255, 255, 255, 255, 255, 255, 255, 255, 0xc0, 0x80, 0, 0, 0, 0, 0,
-        0,
-    ];
-    let padding = [
-        2, 0, 0, 0, 0, 0, 0, 0, 255, 255, 255, 255, 255, 255, 255, 255, 0x68, 0x69, 0, 0, 0, 0, 0,
-        1,
-    ];
-    let cut = [
-        1, 0, 0, 0, 0, 0, 0, 0, 255, 255, 255, 255, 255, 255, 255, 255, 0x68,
-    ];
-    let huge = [
-        255, 255, 255, 255, 255, 255, 255, 255, 255, 255, 255, 255, 255, 255, 255, 255,
-    ];
-    let mut counted = [0u8; 24];
-    counted[0] = 1;
-    let mut marked = [0u8; 24];
-    marked[8] = 1;
-    let cases: [PrintedCase<'_>; 12] = [
-        ("P", &pair, &[], 0, "{a: \"\", b: \"A\"}\n", ""),
-        (
-            "P",
-            &escapes,
-            &[],
-            0,
-            "{a: \"\\\"\\\\\\n\\r\\t\\u{1}\\u{1f}\\u{7f}é\", b: \"\"}\n",
-            "",
-        ),
-        ("T", &hi, &[], 0, "{value: \"hi\"}\n", ""),
-        ("T", &over, &[], 1, "", "decode 11 OverBound at 0\n"),
-        ("T", &not_utf8, &[], 1, "", "decode 12 NotUtf8 at 16\n"),
-        ("T", &padding, &[], 1, "", "decode 4 Padding at 23\n"),
-        ("T", &cut, &[], 1, "", "decode 3 Truncated at 16\n"),
-        ("T", &huge, &[], 1, "", "decode 10 BadCount at 0\n"),
-        ("T", &[0; 16], &[], 1, "", "decode 9 AbsentRequired at 0\n"),
-        ("O", &counted, &[], 1, "", "decode 10 BadCount at 0\n"),
-        ("O", &marked, &[], 1, "", "decode 8 BadMarker at 8\n"),
-        ("O", &[0; 24], &[], 0, "{value: absent, h: absent}\n", ""),
-    ];
-    for case in &cases {
-        let (root, _, _, _, out, errors) = *case;
-        assert!(rt;
-            is_printed(rt.alloc(), &OUTSIDE, case)?,
-            "{root}: {out}{errors}"
-        );
-    }
-    Ok(())
-}
+const STRINGS: Suite<'static> = Suite {
+    table: OUTSIDE,
+    count: 12,
+    cases: r#"
+        P 00*8 ff*8 01 00*7 ff*8 41 00*7 -> 0 {a: "", b: "A"}
+        P 0a 00*7 ff*8 00*8 ff*8 225c0a0d09011f7fc3a9 00*6 -> 0 {a: "\"\\\n\r\t\u{1}\u{1f}\u{7f}é", b: ""}
+        T 02 00*7 ff*8 6869 00*6 -> 0 {value: "hi"}
+        T 03 00*7 ff*8 616263 00*5 -> 1 decode 11 OverBound at 0
+        T 02 00*7 ff*8 c080 00*6 -> 1 decode 12 NotUtf8 at 16
+        T 02 00*7 ff*8 6869 00*5 01 -> 1 decode 4 Padding at 23
+        T 01 00*7 ff*8 68 -> 1 decode 3 Truncated at 16
+        T ff*16 -> 1 decode 10 BadCount at 0
+        T 00*16 -> 1 decode 9 AbsentRequired at 0
+        O 01 00*23 -> 1 decode 10 BadCount at 0
+        O 00*8 01 00*15 -> 1 decode 8 BadMarker at 8
+        O 00*24 -> 0 {value: absent, h: absent}
+    "#,
+};
 
 /// Vectors are printed between brackets, and present boxes as their struct; absent ones by that
 /// word.
-#[test]
-fn vectors_and_boxes_are_printed_or_refused(rt: HostRuntime) -> Result<(), Fail> {
-    let full = [
-        2, 0, 0, 0, 0, 0, 0, 0, 255, 255, 255, 255, 255, 255, 255, 255, 2, 0, 0, 0, 0, 0, 0, 0,
-        255, 255, 255, 255, 255, 255, 255, 255, 255, 255, 255, 255, 255, 255, 255, 255, 1, 0, 0, 0,
-        2, 0, 0, 0, 7, 8, 0, 0, 0, 0, 0, 0, 9, 0, 0, 0, 0, 0, 0, 0,
-    ];
-    let bare = [
-        0, 0, 0, 0, 0, 0, 0, 0, 255, 255, 255, 255, 255, 255, 255, 255, 0, 0, 0, 0, 0, 0, 0, 0, 0,
-        0, 0, 0, 0, 0, 0, 0, 0, 0, 0, 0, 0, 0, 0, 0,
-    ];
-    let over = [
-        4, 0, 0, 0, 0, 0, 0, 0, 255, 255, 255, 255, 255, 255, 255, 255, 0, 0, 0, 0, 0, 0, 0, 0, 0,
-        0, 0, 0, 0, 0, 0, 0, 0, 0, 0, 0, 0, 0, 0, 0, 0, 0, 0, 0, 0, 0, 0, 0, 0, 0, 0, 0, 0, 0, 0,
-        0,
-    ];
-    let two = [
-        255, 255, 255, 255, 255, 255, 255, 255, 255, 255, 255, 255, 255, 255, 255, 255, 0, 0, 0, 0,
-        0, 0, 0, 0,
-    ];
-    let deep = [255u8; 272];
-    let cases: [PrintedCase<'_>; 6] = [
-        (
-            "H",
-            &full,
-            &[],
-            0,
-            "{a: [1, 2], b: [7, 8], c: {x: 9}}\n",
-            "",
-        ),
-        ("H", &bare, &[], 0, "{a: [], b: absent, c: absent}\n", ""),
-        ("H", &over, &[], 1, "", "decode 11 OverBound at 0\n"),
-        ("C", &[0; 8], &[], 0, "{n: absent}\n", ""),
-        ("C", &two, &[], 0, "{n: {n: {n: absent}}}\n", ""),
-        ("C", &deep, &[], 1, "", "decode 16 TooDeep at 256\n"),
-    ];
-    for case in &cases {
-        let (root, _, _, _, out, errors) = *case;
-        assert!(rt;
-            is_printed(rt.alloc(), &BELOW, case)?,
-            "{root}: {out}{errors}"
-        );
-    }
-    Ok(())
-}
+const VECTORS: Suite<'static> = Suite {
+    table: BELOW,
+    count: 6,
+    cases: "
+        H 02 00*7 ff*8 02 00*7 ff*8 ff*8 01000000 02000000 0708 00*6 09 00*7 -> 0 {a: [1, 2], b: [7, 8], c: {x: 9}}
+        H 00*8 ff*8 00*8 00*8 00*8 -> 0 {a: [], b: absent, c: absent}
+        H 04 00*7 ff*8 00*8 00*8 00*8 00*16 -> 1 decode 11 OverBound at 0
+        C 00*8 -> 0 {n: absent}
+        C ff*8 ff*8 00*8 -> 0 {n: {n: {n: absent}}}
+        C ff*272 -> 1 decode 16 TooDeep at 256
+    ",
+};
 
 /// Handles are printed by their three numbers, or refused.
-#[test]
-fn handles_are_printed_or_refused(rt: HostRuntime) -> Result<(), Fail> {
-    let both = [255; 8];
-    let one = [255, 255, 255, 255, 0, 0, 0, 0];
-    let mut marked = both;
-    marked[4] = 254;
-    let cases: [PrintedCase<'_>; 11] = [
-        (
-            "H",
-            &both,
-            &[(1, 3, 0), (2, 5, 0)],
-            0,
-            "{h: handle(1, 3, 0), i: handle(2, 5, 0)}\n",
-            "",
-        ),
-        (
-            "H",
-            &both,
-            &[(2, 5, 0), (1, 3, 0)],
-            1,
-            "",
-            "decode 18 WrongHandle at 0\n",
-        ),
-        ("H", &both, &[], 1, "", "decode 17 HandleMissing at 0\n"),
-        (
-            "H",
-            &both,
-            &[(1, 3, 0)],
-            1,
-            "",
-            "decode 17 HandleMissing at 4\n",
-        ),
-        (
-            "H",
-            &one,
-            &[(1, 3, 0)],
-            1,
-            "",
-            "decode 9 AbsentRequired at 4\n",
-        ),
-        (
-            "H",
-            &marked,
-            &[(1, 3, 0), (2, 5, 0)],
-            1,
-            "",
-            "decode 8 BadMarker at 4\n",
-        ),
-        (
-            "H",
-            &both,
-            &[(1, 3, 0), (2, 5, 0), (3, 5, 0)],
-            1,
-            "",
-            "decode 20 HandlesLeft at 8\n",
-        ),
-        (
-            "R",
-            &one,
-            &[(4294967295, 9, 3)],
-            0,
-            "{h: handle(4294967295, 9, 3)}\n",
-            "",
-        ),
-        (
-            "R",
-            &one,
-            &[(7, 9, 1)],
-            1,
-            "",
-            "decode 18 WrongHandle at 0\n",
-        ),
-        ("S", &one, &[(7, 9, 0)], 0, "{h: handle(7, 9, 0)}\n", ""),
-        (
-            "O",
-            &[0; 24],
-            &[(1, 1, 1)],
-            1,
-            "",
-            "decode 20 HandlesLeft at 24\n",
-        ),
-    ];
-    for case in &cases {
-        let (root, _, _, _, out, errors) = *case;
-        assert!(rt;
-            is_printed(rt.alloc(), &OUTSIDE, case)?,
-            "{root}: {out}{errors}"
-        );
-    }
-    Ok(())
-}
+const HANDLES: Suite<'static> = Suite {
+    table: OUTSIDE,
+    count: 11,
+    cases: "
+        H ff*8 with 1:3:0 2:5:0 -> 0 {h: handle(1, 3, 0), i: handle(2, 5, 0)}
+        H ff*8 with 2:5:0 1:3:0 -> 1 decode 18 WrongHandle at 0
+        H ff*8 -> 1 decode 17 HandleMissing at 0
+        H ff*8 with 1:3:0 -> 1 decode 17 HandleMissing at 4
+        H ff*4 00*4 with 1:3:0 -> 1 decode 9 AbsentRequired at 4
+        H ff*4 fe ff*3 with 1:3:0 2:5:0 -> 1 decode 8 BadMarker at 4
+        H ff*8 with 1:3:0 2:5:0 3:5:0 -> 1 decode 20 HandlesLeft at 8
+        R ff*4 00*4 with 4294967295:9:3 -> 0 {h: handle(4294967295, 9, 3)}
+        R ff*4 00*4 with 7:9:1 -> 1 decode 18 WrongHandle at 0
+        S ff*4 00*4 with 7:9:0 -> 0 {h: handle(7, 9, 0)}
+        O 00*24 with 1:1:1 -> 1 decode 20 HandlesLeft at 24
+    ",
+};
 
 /// Bits and enums are printed as their numbers, or refused.
+const NUMBERS: Suite<'static> = Suite {
+    table: CHOICES,
+    count: 7,
+    cases: "
+        F 03 00*7 -> 0 {e: 3}
+        E 03 00*7 -> 1 decode 6 UnknownValue at 0
+        E 02 00*7 -> 0 {e: 2}
+        B 03 00*7 -> 1 decode 7 UnknownBits at 0
+        B 05 00*7 -> 0 {e: 5}
+        N ff 00*7 -> 0 {e: -1}
+        N 03 00*7 -> 1 decode 6 UnknownValue at 0
+    ",
+};
+
+/// Tables are printed by the number of their envelopes and the members that are present, or
+/// refused.
+const TABLES: Suite<'static> = Suite {
+    table: ENVELOPES,
+    count: 8,
+    cases: r#"
+        T 01 00*7 ff*8 05000000 0000 0100 -> 0 table(1) {a: 5}
+        T 02 00*7 ff*8 05000000 0000 0100 00*8 -> 0 table(2) {a: 5}
+        T 00*8 ff*8 -> 0 table(0) {}
+        T 05 00*7 ff*8 00*32 08000000 0100 0000 1122334455667788 with 9:3:1 -> 0 table(5) {5: unknown out 1122334455667788 [handle(9, 3, 1)]}
+        T 05 00*7 ff*8 00*32 04000000 0100 0000 1122334455667788 with 9:3:1 -> 1 decode 13 BadEnvelope at 48
+        T 05 00*7 ff*8 00*32 08000000 0100 0000 1122334455667788 -> 1 decode 17 HandleMissing at 48
+        T 03 00*7 ff*8 00*16 01020304 0000 0100 -> 0 table(3) {3: unknown in 01020304 []}
+        T 03 00*7 ff*8 00*8 18000000 0000 0000 01020304 0200 0100 01 00*7 ff*8 41 00*7 with 1:2:3 4:5:6 -> 0 table(3) {b: "A", 3: unknown in 01020304 [handle(1, 2, 3), handle(4, 5, 6)]}
+    "#,
+};
+
+/// Unions are printed by their member, or as absent, or refused.
+const UNIONS: Suite<'static> = Suite {
+    table: ENVELOPES,
+    count: 12,
+    cases: r#"
+        U 01 00*7 08000000 0000 0000 07 00*7 -> 1 decode 13 BadEnvelope at 8
+        U 01 00*7 07000000 0000 0100 -> 0 {u: union(n: 7)}
+        U 02 00*7 07000000 0000 0100 -> 0 {u: union(2: unknown in 07000000 [])}
+        U 00*16 -> 1 decode 9 AbsentRequired at 0
+        O 00*16 -> 0 {u: absent}
+        O 00*8 05000000 0000 0100 -> 1 decode 13 BadEnvelope at 8
+        S 01 00*7 07000000 0000 0100 -> 0 {u: union(n: 7)}
+        S 02 00*7 07000000 0000 0100 -> 1 decode 15 UnknownOrdinal at 0
+        D 01 00*7 38000000 0000 0000 02 00*7 ff*8 05000000 0000 0100 18000000 0000 0000 02 00*7 ff*8 6869 00*6 -> 0 {v: union(t: table(2) {a: 5, b: "hi"})}
+        D 02 00*7 07080000 0000 0100 -> 0 {v: union(p: {x: 7, y: 8})}
+        D 03 00*7 30000000 0000 0000 02 00*7 ff*8 01 00*7 05000000 0000 0100 01 00*7 06000000 0000 0100 -> 0 {v: union(l: [union(n: 5), union(n: 6)])}
+        D 09 00*7 ffffffff 0100 0100 with 4:7:2 -> 0 {v: union(h: handle(4, 7, 2))}
+    "#,
+};
+
+const SUITES: [Suite<'static>; 7] = [STRUCTS, STRINGS, VECTORS, HANDLES, NUMBERS, TABLES, UNIONS];
+
 #[test]
-fn bits_and_enums_are_printed_or_refused(rt: HostRuntime) -> Result<(), Fail> {
-    let alloc = rt.alloc();
-    let three = [3, 0, 0, 0, 0, 0, 0, 0];
-    let cases: [(&str, &[u8], u8, &str, &str); 7] = [
-        ("F", &three, 0, "{e: 3}\n", ""),
-        ("E", &three, 1, "", "decode 6 UnknownValue at 0\n"),
-        ("E", &[2, 0, 0, 0, 0, 0, 0, 0], 0, "{e: 2}\n", ""),
-        ("B", &three, 1, "", "decode 7 UnknownBits at 0\n"),
-        ("B", &[5, 0, 0, 0, 0, 0, 0, 0], 0, "{e: 5}\n", ""),
-        ("N", &[255, 0, 0, 0, 0, 0, 0, 0], 0, "{e: -1}\n", ""),
-        ("N", &three, 1, "", "decode 6 UnknownValue at 0\n"),
-    ];
-    for (root, bytes, status, out, errors) in cases {
-        let message = TypedMessage {
-            root,
-            bytes,
-            handles: &[],
-        };
-        let ran = run_decode(alloc, &CHOICES, &message);
-        assert_eq!(rt; ran.outcome.status().number(), status, "for {out}{errors}");
-        assert!(rt; !ran.failed, "for {out}{errors}");
-        assert!(rt; ran.out.as_slice() == out.as_bytes(), "for {out}{errors}");
-        assert!(rt;
-            ran.errors.as_slice() == errors.as_bytes(),
-            "for {out}{errors}"
-        );
+fn messages_are_printed_or_refused(rt: HostRuntime) -> Result<(), Fail> {
+    for suite in &SUITES {
+        judge(&rt, rt.alloc(), suite)?;
     }
     Ok(())
 }

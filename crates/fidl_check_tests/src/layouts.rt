@@ -2,17 +2,15 @@
 use fidl_const::evaluate;
 use fidl_layout::{Laid, LayoutFault, lay_out};
 use fidl_names::Place;
-use fidl_span::line_col;
 use fidl_test_cases::{Answer, cases};
-use fidl_test_sources::{named, trees};
-use fidl_tree::File;
+use fidl_test_sources::{Parsed, named, told, trees};
 use fidl_types::check;
 use std::alloc::Global;
 use std::process::Abort;
 use std::test::Fail;
 
 /// The name of a fault, and its place.
-fn told(fault: LayoutFault) -> Option<(&'static str, Place)> {
+fn reported(fault: LayoutFault) -> Option<(&'static str, Place)> {
     match fault {
         LayoutFault::TooNested { place } => Some(("TooNested", place)),
         LayoutFault::TooLarge { place } => Some(("TooLarge", place)),
@@ -25,7 +23,7 @@ fn told(fault: LayoutFault) -> Option<(&'static str, Place)> {
 /// What laying out files answers.
 fn laid<'f, 's>(
     alloc: Global,
-    files: &'f [File<'s>],
+    files: &'f Parsed<'s>,
 ) -> Result<Result<Laid<'f, 's>, LayoutFault>, Fail> {
     let named = named(alloc, files)?;
     let consts = evaluate(alloc, &named)?;
@@ -33,17 +31,22 @@ fn laid<'f, 's>(
     Ok(lay_out(alloc, types))
 }
 
+/// The fault of laying out files, if there is one.
+fn fault(alloc: Global, files: &Parsed<'_>) -> Result<Option<LayoutFault>, Fail> {
+    match laid(alloc, files)? {
+        Ok(_laid) => Ok(None),
+        Err(fault) => Ok(Some(fault)),
+    }
+}
+
 /// What laying out these sources answers.
 fn refusal(alloc: Global, sources: &[&[u8]]) -> Result<Answer<'static>, Fail> {
     let files = trees(alloc, sources)?;
-    let fault = match laid(alloc, &files)? {
-        Ok(_laid) => return Ok(None),
-        Err(fault) => fault,
+    let Some(fault) = fault(alloc, &files)? else {
+        return Ok(None);
     };
-    let (name, place) = told(fault).ok_or("memory")?;
-    let src = *sources.get(place.file).ok_or("a file")?;
-    let file = u64::try_from(place.file)?;
-    Ok(Some((name, file, line_col(src, place.span.from))))
+    let (name, place) = reported(fault).ok_or("memory")?;
+    Ok(Some(told(sources, name, place)?))
 }
 
 /// Laying out the sources of each case of a table has the answer that its line says.

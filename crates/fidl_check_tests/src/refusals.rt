@@ -1,16 +1,15 @@
 //! Tests of the check of types: what is refused, and where, and what is not.
 use fidl_const::evaluate;
 use fidl_names::Place;
-use fidl_span::line_col;
 use fidl_test_cases::{Answer, cases};
-use fidl_test_sources::{named, trees};
+use fidl_test_sources::{Parsed, named, told, trees};
 use fidl_types::{TypeFault, check};
 use std::alloc::Global;
 use std::process::Abort;
 use std::test::Fail;
 
 /// The name of a fault, and its place.
-fn told(fault: TypeFault) -> Option<(&'static str, Place)> {
+fn reported(fault: TypeFault) -> Option<(&'static str, Place)> {
     match fault {
         TypeFault::NotResource { place } => Some(("NotResource", place)),
         TypeFault::InlineCycle { place } => Some(("InlineCycle", place)),
@@ -27,19 +26,24 @@ fn told(fault: TypeFault) -> Option<(&'static str, Place)> {
     }
 }
 
+/// The fault of checking the types of files, if there is one.
+fn fault(alloc: Global, files: &Parsed<'_>) -> Result<Option<TypeFault>, Fail> {
+    let named = named(alloc, files)?;
+    let consts = evaluate(alloc, &named)?;
+    match check(alloc, named, consts) {
+        Ok(_types) => Ok(None),
+        Err(fault) => Ok(Some(fault)),
+    }
+}
+
 /// What checking the types of these sources answers.
 fn refusal(alloc: Global, sources: &[&[u8]]) -> Result<Answer<'static>, Fail> {
     let files = trees(alloc, sources)?;
-    let named = named(alloc, &files)?;
-    let consts = evaluate(alloc, &named)?;
-    let fault = match check(alloc, named, consts) {
-        Ok(_types) => return Ok(None),
-        Err(fault) => fault,
+    let Some(fault) = fault(alloc, &files)? else {
+        return Ok(None);
     };
-    let (name, place) = told(fault).ok_or("memory")?;
-    let src = *sources.get(place.file).ok_or("a file")?;
-    let file = u64::try_from(place.file)?;
-    Ok(Some((name, file, line_col(src, place.span.from))))
+    let (name, place) = reported(fault).ok_or("memory")?;
+    Ok(Some(told(sources, name, place)?))
 }
 
 /// Checking the sources of each case of a table has the answer that its line says.

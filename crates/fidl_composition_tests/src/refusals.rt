@@ -1,25 +1,30 @@
 //! Tests of compositions: what is refused, and where, and what is not.
 use fidl_compositions::{ComposeFault, compositions};
-use fidl_span::line_col;
+use fidl_names::Place;
 use fidl_test_cases::{Answer, cases};
-use fidl_test_sources::{named, trees};
+use fidl_test_sources::{Parsed, named, told, trees};
 use std::alloc::Global;
 use std::process::Abort;
 use std::test::Fail;
 
+/// The fault of reading the compositions of files, and its place, if there is one.
+fn fault(alloc: Global, files: &Parsed<'_>) -> Result<Option<(&'static str, Place)>, Fail> {
+    let named = named(alloc, files)?;
+    match compositions(alloc, &named) {
+        Ok(_) => Ok(None),
+        Err(ComposeFault::BadCompose { place }) => Ok(Some(("BadCompose", place))),
+        Err(ComposeFault::ComposeCycle { place }) => Ok(Some(("ComposeCycle", place))),
+        Err(ComposeFault::Memory) => Err("memory".into()),
+    }
+}
+
 /// What reading the compositions of these sources answers.
 fn refusal(alloc: Global, sources: &[&[u8]]) -> Result<Answer<'static>, Fail> {
     let files = trees(alloc, sources)?;
-    let named = named(alloc, &files)?;
-    let (name, place) = match compositions(alloc, &named) {
-        Ok(_) => return Ok(None),
-        Err(ComposeFault::BadCompose { place }) => ("BadCompose", place),
-        Err(ComposeFault::ComposeCycle { place }) => ("ComposeCycle", place),
-        Err(ComposeFault::Memory) => return Err("memory".into()),
-    };
-    let src = *sources.get(place.file).ok_or("a file")?;
-    let file = u64::try_from(place.file)?;
-    Ok(Some((name, file, line_col(src, place.span.from))))
+    match fault(alloc, &files)? {
+        Some((name, place)) => Ok(Some(told(sources, name, place)?)),
+        None => Ok(None),
+    }
 }
 
 /// Reading the sources of each case of a table has the answer that its line says.

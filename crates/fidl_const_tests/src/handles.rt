@@ -1,7 +1,10 @@
 // Worked cases: the constraints of handles, and the members that properties are written with.
+ghost use Rattle.std.specs.Prelude.{◌<◌, length};
+ghost use Rattle.fidl_const.specs.Tables.{AreConsts};
+
 use crate::evaluated::check;
-use fidl_const::{ConstValue, Constraint, evaluate};
-use fidl_names::{DeclarationId, Meaning, PropertyId, items};
+use fidl_const::{ConstValue, Constraint, Consts, evaluate};
+use fidl_names::{DeclarationId, Meaning, Named, PropertyId, items};
 use fidl_test_sources::{named, trees};
 use fidl_tree::{DeclarationBody, File, LayoutBody, TypeConstructor, Value};
 use std::alloc::Global;
@@ -57,6 +60,25 @@ fn first_constraint<'f>(alloc: Global, file: &'f File<'_>) -> Result<&'f Value, 
     Ok(*values.first().ok_or("a constraint")?)
 }
 
+/// The number that a constraint of a handle in the second file gives, or that of the fault; 0 where
+/// it gives another value.
+fn handle_number(
+    alloc: Global,
+    named: &Named<'_, '_>,
+    consts: &Consts,
+    constraint: Constraint<'_>,
+) -> Result<Option<i128>, u32>
+    requires consts { AreConsts named.now consts.now }
+    requires file { 1 < length named.now }
+{
+    match consts.handle_value(alloc, named, 1, constraint) {
+        Ok(Some(ConstValue::Number(number))) => Ok(Some(number)),
+        Ok(Some(_)) => Err(0),
+        Ok(None) => Ok(None),
+        Err(fault) => Err(fault.number()),
+    }
+}
+
 #[test]
 fn gives_the_values_of_constraints_of_handles(rt: HostRuntime) -> Result<(), Fail> {
     let alloc = rt.alloc();
@@ -67,7 +89,7 @@ fn gives_the_values_of_constraints_of_handles(rt: HostRuntime) -> Result<(), Fai
         return Err("two files".into());
     }
     let consts = evaluate(alloc, &named)?;
-    let value = first_constraint(alloc, files.get(1).ok_or("a file")?)?;
+    let value = first_constraint(alloc, files.file(1)?)?;
     let end = Meaning::Declared(DeclarationId { file: 0, index: 2 });
     let cases: [(usize, Result<Option<i128>, u32>); 3] = [
         (0, Ok(Some(3))),
@@ -76,12 +98,7 @@ fn gives_the_values_of_constraints_of_handles(rt: HostRuntime) -> Result<(), Fai
     ];
     for (rank, want) in cases {
         let constraint = Constraint { end, rank, value };
-        let found = match consts.handle_value(alloc, &named, 1, constraint) {
-            Ok(Some(ConstValue::Number(number))) => Ok(Some(number)),
-            Ok(Some(_)) => Err(0),
-            Ok(None) => Ok(None),
-            Err(fault) => Err(fault.number()),
-        };
+        let found = handle_number(alloc, &named, &consts, constraint);
         assert_eq!(rt; found, want, "the value of the constraint numbered {rank}");
     }
     Ok(())

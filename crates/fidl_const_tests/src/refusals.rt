@@ -1,7 +1,6 @@
 // Worked cases: refusals of values and types, and where they are.
-use crate::evaluated::check;
-use fidl_const::evaluate;
-use fidl_test_sources::{named, trees};
+use crate::evaluated::{check, fault};
+use fidl_test_sources::trees;
 use std::alloc::Global;
 use std::test::Fail;
 
@@ -106,10 +105,7 @@ fn refuses_joined_values_that_are_no_bits(rt: HostRuntime) -> Result<(), Fail> {
 /// The text at fault where this source is refused.
 fn text_at_fault(alloc: Global, src: &[u8]) -> Result<Vec<u8>, Fail> {
     let files = trees(alloc, &[src])?;
-    let named = named(alloc, &files)?;
-    let Err(fault) = evaluate(alloc, &named) else {
-        return Err("a refusal".into());
-    };
+    let fault = fault(alloc, &files)?.ok_or("a refusal")?;
     let span = fault.place().ok_or("a place")?.span;
     let text = src.get(span.from..span.to).ok_or("a text")?;
     Ok(Vec::from_slice(alloc, text)?)

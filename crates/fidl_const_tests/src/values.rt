@@ -1,22 +1,36 @@
 // Worked cases: values, at the types of constants and at others.
-use fidl_const::{ConstType, ConstValue, NumberKind, evaluate, underlying_kind};
-use fidl_names::{DeclarationId, Meaning};
-use fidl_test_sources::{named, trees};
-use fidl_tree::{DeclarationBody, File, LayoutBody, Value};
+ghost use Rattle.std.specs.Prelude.{◌<◌, length};
+ghost use Rattle.fidl_const.specs.Tables.{AreConsts};
+
+use fidl_const::{ConstType, ConstValue, Consts, NumberKind, evaluate, underlying_kind};
+use fidl_names::{DeclarationId, Meaning, Named};
+use fidl_test_sources::{Parsed, named, trees};
+use fidl_tree::{DeclarationBody, File, LayoutBody, Value, ValuesLayout};
 use std::alloc::Global;
 use std::test::Fail;
 
-/// The value that the declaration of this number in a source has of its own.
+/// The value that the declaration of this number has of its own.
+fn value_in(
+    alloc: Global,
+    named: &Named<'_, '_>,
+    index: usize,
+) -> Result<Option<ConstValue>, Fail> {
+    let consts = evaluate(alloc, named)?;
+    let declared = Meaning::Declared(DeclarationId { file: 0, index });
+    let entry = consts.value_of(alloc, named, declared)?;
+    Ok(entry.map(|entry| entry.value))
+}
+
+/// The same in files.
+fn value_of(alloc: Global, files: &Parsed<'_>, index: usize) -> Result<Option<ConstValue>, Fail> {
+    let named = named(alloc, files)?;
+    value_in(alloc, &named, index)
+}
+
+/// The same in a source.
 fn value_at(alloc: Global, src: &[u8], index: usize) -> Result<Option<ConstValue>, Fail> {
     let files = trees(alloc, &[src])?;
-    let named = named(alloc, &files)?;
-    let consts = evaluate(alloc, &named)?;
-    let declared = Meaning::Declared(DeclarationId { file: 0, index });
-    Ok(
-        consts
-            .value_of(alloc, &named, declared)?
-            .map(|entry| entry.value),
-    )
+    value_of(alloc, &files, index)
 }
 
 /// The value that the first declaration of a source has of its own.
@@ -102,6 +116,24 @@ fn first_expression<'f>(file: &'f File<'_>) -> Result<&'f Value, Fail> {
     }
 }
 
+/// The number of an expression where a type is wanted, or that of the fault; 0 for another value.
+fn number_where(
+    alloc: Global,
+    named: &Named<'_, '_>,
+    consts: &Consts,
+    wanted: ConstType,
+    value: &Value,
+) -> Result<i128, u32>
+    requires consts { AreConsts named.now consts.now }
+    requires file { 0 < length named.now }
+{
+    match consts.value_of_expression(alloc, named, 0, wanted, value) {
+        Ok(ConstValue::Number(number)) => Ok(number),
+        Ok(_) => Err(0),
+        Err(fault) => Err(fault.number()),
+    }
+}
+
 #[test]
 fn reads_an_expression_where_another_type_is_wanted(rt: HostRuntime) -> Result<(), Fail> {
     let cases: [(ConstType, Result<i128, u32>); 4] = [
@@ -120,13 +152,9 @@ fn reads_an_expression_where_another_type_is_wanted(rt: HostRuntime) -> Result<(
         return Err("a file".into());
     }
     let consts = evaluate(alloc, &named)?;
-    let value = first_expression(files.first().ok_or("a file")?)?;
+    let value = first_expression(files.file(0)?)?;
     for (wanted, want) in cases {
-        let found = match consts.value_of_expression(alloc, &named, 0, wanted, value) {
-            Ok(ConstValue::Number(number)) => Ok(number),
-            Ok(_) => Err(0),
-            Err(fault) => Err(fault.number()),
-        };
+        let found = number_where(alloc, &named, &consts, wanted, value);
         assert_eq!(rt; found, want, "the value where {wanted:?} is wanted");
     }
     Ok(())
@@ -163,6 +191,28 @@ fn reads_no_constraint_of_a_type_that_is_no_string(rt: HostRuntime) -> Result<()
     Ok(())
 }
 
+/// The bits or the enum that is a file's first declaration.
+fn first_values<'f>(file: &'f File<'_>) -> Result<&'f ValuesLayout, Fail> {
+    let declaration = file.declarations.first().ok_or("a declaration")?;
+    let DeclarationBody::Type(declared) = &declaration.body else {
+        return Err("a type".into());
+    };
+    match &declared.layout.body {
+        LayoutBody::Values(layout) => Ok(layout),
+        _ => Err("bits or an enum".into()),
+    }
+}
+
+/// The underlying type of that of the first file, or the number of the fault.
+fn first_underlying(alloc: Global, files: &Parsed<'_>) -> Result<Result<NumberKind, u32>, Fail> {
+    let layout = first_values(files.file(0)?)?;
+    let named = named(alloc, files)?;
+    if named.count() == 0 {
+        return Err("a file".into());
+    }
+    Ok(underlying_kind(&named, 0, layout).map_err(|fault| fault.number()))
+}
+
 #[test]
 fn gives_the_underlying_types_of_bits_and_enums(rt: HostRuntime) -> Result<(), Fail> {
     let cases: [(&[u8], Result<NumberKind, u32>); 5] = [
@@ -183,19 +233,7 @@ fn gives_the_underlying_types_of_bits_and_enums(rt: HostRuntime) -> Result<(), F
     ];
     for (src, want) in cases {
         let files = trees(rt.alloc(), &[src])?;
-        let named = named(rt.alloc(), &files)?;
-        if named.count() == 0 {
-            return Err("a file".into());
-        }
-        let file = files.first().ok_or("a file")?;
-        let declaration = file.declarations.first().ok_or("a declaration")?;
-        let DeclarationBody::Type(declared) = &declaration.body else {
-            return Err("a type".into());
-        };
-        let LayoutBody::Values(layout) = &declared.layout.body else {
-            return Err("bits or an enum".into());
-        };
-        let found = underlying_kind(&named, 0, layout).map_err(|fault| fault.number());
+        let found = first_underlying(rt.alloc(), &files)?;
         assert_eq!(rt; found, want, "the underlying type in {src:?}");
     }
     Ok(())

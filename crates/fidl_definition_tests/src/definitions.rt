@@ -11,7 +11,7 @@ use fidl_definitions::definitions;
 use fidl_layouts::{Form, forms};
 use fidl_names::Named;
 use fidl_terms::{LayoutNumbers, Sources, layout_numbers};
-use fidl_test_sources::{named, trees};
+use fidl_test_sources::{Parsed, named, trees};
 use std::alloc::Global;
 use std::process::Abort;
 use std::test::Fail;
@@ -46,14 +46,39 @@ fn listed(
     Ok(text)
 }
 
-/// The definitions of sources, as `listed` writes them.
+/// The definitions of files, as `listed` writes them, with the forms of their layouts.
+fn found_in_forms(
+    alloc: Global,
+    named: &Named<'_, '_>,
+    consts: &Consts,
+    forms: &[Form<'_, '_>],
+) -> Result<String, Fail>
+    requires consts { AreConsts named.now consts.now }
+    requires forms { seen_forms forms.now ≡ all_forms named.now }
+{
+    let numbers = layout_numbers(alloc, forms)?;
+    listed(alloc, named, consts, forms, &numbers)
+}
+
+/// The same with the values of constants.
+fn found_by(alloc: Global, named: &Named<'_, '_>, consts: &Consts) -> Result<String, Fail>
+    requires { AreConsts named.now consts.now }
+{
+    let forms = forms(alloc, named)?;
+    found_in_forms(alloc, named, consts, &forms)
+}
+
+/// The same of files.
+fn found_in(alloc: Global, files: &Parsed<'_>) -> Result<String, Fail> {
+    let named = named(alloc, files)?;
+    let consts = evaluate(alloc, &named)?;
+    found_by(alloc, &named, &consts)
+}
+
+/// The same of sources.
 fn found(alloc: Global, texts: &[&[u8]]) -> Result<String, Fail> {
     let files = trees(alloc, texts)?;
-    let named = named(alloc, &files)?;
-    let consts = evaluate(alloc, &named)?;
-    let all = forms(alloc, &named)?;
-    let numbers = layout_numbers(alloc, &all)?;
-    listed(alloc, &named, &consts, &all, &numbers)
+    found_in(alloc, &files)
 }
 
 /// A source has these definitions.

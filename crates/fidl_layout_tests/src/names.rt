@@ -1,19 +1,30 @@
 //! Tests of names by path: the forms of files, in the order of their numbers.
-use fidl_layouts::{FormKind, forms};
-use fidl_test_sources::{named, trees};
+use fidl_layouts::{Form, FormKind, forms};
+use fidl_test_sources::{Parsed, named, trees};
 use std::alloc::Global;
 use std::test::Fail;
 
-/// The full names of the forms of sources, each with a line feed behind it.
-fn names(alloc: Global, sources: &[&[u8]]) -> Result<Vec<u8>, Fail> {
-    let files = trees(alloc, sources)?;
-    let named = named(alloc, &files)?;
+/// The full names of forms, each with a line feed behind it.
+fn form_names(alloc: Global, forms: &[Form<'_, '_>]) -> Result<Vec<u8>, Fail> {
     let mut text = Vec::new(alloc);
-    for form in &forms(alloc, &named)? {
+    for form in forms {
         text.extend_from_slice(&form.name(alloc)?)?;
         text.push(b'\n')?;
     }
     Ok(text)
+}
+
+/// Those of the forms of files.
+fn names_in(alloc: Global, files: &Parsed<'_>) -> Result<Vec<u8>, Fail> {
+    let named = named(alloc, files)?;
+    let forms = forms(alloc, &named)?;
+    form_names(alloc, &forms)
+}
+
+/// Those of the forms of sources.
+fn names(alloc: Global, sources: &[&[u8]]) -> Result<Vec<u8>, Fail> {
+    let files = trees(alloc, sources)?;
+    names_in(alloc, &files)
 }
 
 #[test]

@@ -1,27 +1,32 @@
 //! Tests of the rules of layouts and attributes: what is refused, and where, and what is not.
 use fidl_layouts::{RuleFault, check_layouts};
-use fidl_span::line_col;
+use fidl_names::Place;
 use fidl_test_cases::{Answer, cases};
-use fidl_test_sources::{named, trees};
+use fidl_test_sources::{Parsed, named, told, trees};
 use std::alloc::Global;
 use std::process::Abort;
 use std::test::Fail;
 
+/// The fault of checking the layouts of files, and its place, if there is one.
+fn fault(alloc: Global, files: &Parsed<'_>) -> Result<Option<(&'static str, Place)>, Fail> {
+    let named = named(alloc, files)?;
+    match check_layouts(alloc, &named) {
+        Ok(()) => Ok(None),
+        Err(RuleFault::BadOrdinal { place }) => Ok(Some(("BadOrdinal", place))),
+        Err(RuleFault::DuplicateOrdinal { place }) => Ok(Some(("DuplicateOrdinal", place))),
+        Err(RuleFault::EmptyStrict { place }) => Ok(Some(("EmptyStrict", place))),
+        Err(RuleFault::OutOfProfile { place }) => Ok(Some(("OutOfProfile", place))),
+        Err(RuleFault::Memory) => Err("memory".into()),
+    }
+}
+
 /// What checking the layouts of these sources answers.
 fn refusal(alloc: Global, sources: &[&[u8]]) -> Result<Answer<'static>, Fail> {
     let files = trees(alloc, sources)?;
-    let named = named(alloc, &files)?;
-    let (name, place) = match check_layouts(alloc, &named) {
-        Ok(()) => return Ok(None),
-        Err(RuleFault::BadOrdinal { place }) => ("BadOrdinal", place),
-        Err(RuleFault::DuplicateOrdinal { place }) => ("DuplicateOrdinal", place),
-        Err(RuleFault::EmptyStrict { place }) => ("EmptyStrict", place),
-        Err(RuleFault::OutOfProfile { place }) => ("OutOfProfile", place),
-        Err(RuleFault::Memory) => return Err("memory".into()),
-    };
-    let src = *sources.get(place.file).ok_or("a file")?;
-    let file = u64::try_from(place.file)?;
-    Ok(Some((name, file, line_col(src, place.span.from))))
+    match fault(alloc, &files)? {
+        Some((name, place)) => Ok(Some(told(sources, name, place)?)),
+        None => Ok(None),
+    }
 }
 
 /// Checking the sources of each case of a table has the answer that its line says.

@@ -1,15 +1,15 @@
 //! Tests of ordinals: by full names, and by selectors.
 use crate::reading::all_methods;
 use fidl_ordinal::ordinal_of;
-use fidl_test_sources::tree;
+use fidl_test_sources::trees;
 use std::alloc::Global;
 use std::process::Abort;
 use std::test::Fail;
 
 /// The one method of this source has the ordinal of this text.
 fn check(rt: &impl Abort, alloc: Global, source: &[u8], text: &[u8]) -> Result<(), Fail> {
-    let file = tree(alloc, source)?;
-    let methods = all_methods(alloc, 0, &file)?;
+    let files = trees(alloc, &[source])?;
+    let methods = all_methods(alloc, 0, files.file(0)?)?;
     assert_eq!(rt; methods.len(), 1);
     let method = methods.first().ok_or("a method")?;
     assert_eq!(rt; method.ordinal, ordinal_of(text));
@@ -50,8 +50,8 @@ fn methods_have_the_ordinals_of_their_texts(rt: HostRuntime) -> Result<(), Fail>
 fn methods_stand_in_their_order(rt: HostRuntime) -> Result<(), Fail> {
     let alloc = rt.alloc();
     let source = b"library s; protocol P { A(); compose Q; -> B(); strict C() -> (); };";
-    let file = tree(alloc, source)?;
-    let methods = all_methods(alloc, 0, &file)?;
+    let files = trees(alloc, &[source])?;
+    let methods = all_methods(alloc, 0, files.file(0)?)?;
     let mut numbers = Vec::new(alloc);
     for method in &methods {
         numbers.push((method.member, method.is_strict))?;

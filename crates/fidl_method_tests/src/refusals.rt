@@ -1,27 +1,32 @@
 //! Tests of refusals: which methods are refused, and where, and which are not.
 use crate::reading::all_methods;
 use fidl_methods::MethodFault;
-use fidl_span::line_col;
+use fidl_names::Place;
 use fidl_test_cases::{Answer, cases};
-use fidl_test_sources::trees;
+use fidl_test_sources::{told, trees};
 use std::alloc::Global;
 use std::process::Abort;
 use std::test::Fail;
 
+/// The name of a fault, and its place.
+fn reported(fault: MethodFault) -> Option<(&'static str, Place)> {
+    match fault {
+        MethodFault::NotStrict { place } => Some(("NotStrict", place)),
+        MethodFault::BadSelector { place } => Some(("BadSelector", place)),
+        MethodFault::ZeroOrdinal { place } => Some(("ZeroOrdinal", place)),
+        MethodFault::Memory => None,
+    }
+}
+
 /// What reading the methods of the last of these sources answers.
 fn refusal(alloc: Global, sources: &[&[u8]]) -> Result<Answer<'static>, Fail> {
     let files = trees(alloc, sources)?;
-    let file = files.last().ok_or("a file")?;
-    let (name, place) = match all_methods(alloc, files.len().saturating_sub(1), file) {
-        Ok(_) => return Ok(None),
-        Err(MethodFault::NotStrict { place }) => ("NotStrict", place),
-        Err(MethodFault::BadSelector { place }) => ("BadSelector", place),
-        Err(MethodFault::ZeroOrdinal { place }) => ("ZeroOrdinal", place),
-        Err(MethodFault::Memory) => return Err("memory".into()),
+    let last = sources.len().saturating_sub(1);
+    let Err(fault) = all_methods(alloc, last, files.file(last)?) else {
+        return Ok(None);
     };
-    let src = *sources.get(place.file).ok_or("a file")?;
-    let number = u64::try_from(place.file)?;
-    Ok(Some((name, number, line_col(src, place.span.from))))
+    let (name, place) = reported(fault).ok_or("memory")?;
+    Ok(Some(told(sources, name, place)?))
 }
 
 /// Each case of a table has the answer that its line says.

@@ -60,7 +60,7 @@ const USING: &[u8] =
 fn names_have_their_meanings(rt: HostRuntime) -> Result<(), Fail> {
     let files = trees(rt.alloc(), &[USED, USING])?;
     let named = named(rt.alloc(), &files)?;
-    let file = files.get(1).ok_or("a file")?;
+    let file = files.file(1)?;
     let alias = alias_of(file, 1).ok_or("B")?;
     let meaning = type_at(&named, 1, &alias.path).ok_or("A")?;
     let id = DeclarationId { file: 1, index: 0 };
@@ -102,7 +102,7 @@ fn meanings_are_found(rt: HostRuntime) -> Result<(), Fail> {
     let source = b"library t; alias A = array<uint8, 2>;";
     let files = trees(rt.alloc(), &[USED, source])?;
     let named = named(rt.alloc(), &files)?;
-    let file = files.get(1).ok_or("a file")?;
+    let file = files.file(1)?;
     let alias = alias_of(file, 0).ok_or("A")?;
     let word = Meaning::Predeclared(Predeclared::Array);
     let want = Some((Some(word), None, Wanted::Value));

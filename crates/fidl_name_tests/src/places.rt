@@ -1,6 +1,6 @@
 // The places of names and values in declarations.
 use fidl_names::{NamePlace, name_places};
-use fidl_test_sources::tree;
+use fidl_test_sources::trees;
 use fidl_tree::File;
 use std::alloc::Global;
 use std::test::Fail;
@@ -43,9 +43,11 @@ fn place_words(
 
 #[test]
 fn values_have_their_places(rt: HostRuntime) -> Result<(), Fail> {
-    let file = tree(
+    let files = trees(
         rt.alloc(),
-        b"library t; type S = struct {b bits : uint8 {A = N; B = N;}; e enum {C = 1;};}; alias V = array<vector<uint8, 3>, 4>; const N uint8 = A | 2;",
+        &[
+            b"library t; type S = struct {b bits : uint8 {A = N; B = N;}; e enum {C = 1;};}; alias V = array<vector<uint8, 3>, 4>; const N uint8 = A | 2;",
+        ],
     )?;
     let cases: [&[&str]; 3] = [
         &["type", "members of a type", "layout", "members", "layout"],
@@ -53,7 +55,7 @@ fn values_have_their_places(rt: HostRuntime) -> Result<(), Fail> {
         &["type", "name"],
     ];
     for (index, want) in cases.into_iter().enumerate() {
-        let words = place_words(rt.alloc(), &file, index)?.ok_or("a declaration")?;
+        let words = place_words(rt.alloc(), files.file(0)?, index)?.ok_or("a declaration")?;
         assert_eq!(rt; words.as_slice(), want, "of declaration {index}");
     }
     Ok(())

@@ -1,8 +1,7 @@
 //! What adding and resolving answer to sources.
 use fidl_names::{LibrarySet, NameFault};
-use fidl_span::line_col;
 use fidl_test_cases::{Answer, cases};
-use fidl_test_sources::{named, trees};
+use fidl_test_sources::{named, told, trees};
 use fidl_tree::File;
 use std::alloc::Global;
 use std::process::Abort;
@@ -11,9 +10,7 @@ use std::test::Fail;
 /// A fault with the line and the column of its place.
 fn reported(fault: NameFault, sources: &[&[u8]]) -> Result<Answer<'static>, Fail> {
     let place = fault.place().ok_or("a place")?;
-    let src = *sources.get(place.file).ok_or("a file")?;
-    let file = u64::try_from(place.file)?;
-    Ok(Some((fault.name(), file, line_col(src, place.span.from))))
+    Ok(Some(told(sources, fault.name(), place)?))
 }
 
 /// Adds files, in order, up to the first that is refused: its fault.
@@ -30,7 +27,7 @@ fn add_fault(alloc: Global, files: &[File<'_>]) -> Option<NameFault> {
 /// The refusal of adding these sources.
 fn refusal(alloc: Global, sources: &[&[u8]]) -> Result<Answer<'static>, Fail> {
     let files = trees(alloc, sources)?;
-    match add_fault(alloc, &files) {
+    match add_fault(alloc, files.files()) {
         None => Ok(None),
         Some(fault) => reported(fault, sources),
     }

@@ -1,7 +1,7 @@
 // Files are added to a set of libraries, in which each full name is declared once.
 use crate::refusals::check_added;
 use fidl_names::LibrarySet;
-use fidl_test_sources::tree;
+use fidl_test_sources::trees;
 use std::test::Fail;
 
 #[test]
@@ -43,17 +43,23 @@ fn names_declared_twice_have_their_places(rt: HostRuntime) -> Result<(), Fail> {
 
 #[test]
 fn refused_files_leave_nothing(rt: HostRuntime) -> Result<(), Fail> {
-    let first = tree(rt.alloc(), b"library t; service A {};")?;
-    let refused = tree(rt.alloc(), b"library t; service B {}; service A {};")?;
-    let second = tree(rt.alloc(), b"library t; service B {};")?;
+    let files = trees(
+        rt.alloc(),
+        &[
+            b"library t; service A {};",
+            b"library t; service B {}; service A {};",
+            b"library t; service B {};",
+        ],
+    )?;
+    let (first, refused, second) = (files.file(0)?, files.file(1)?, files.file(2)?);
     let mut set = LibrarySet::new(rt.alloc());
-    set.add(&first)?;
+    set.add(first)?;
     for _ in 0..3 {
-        let place = set.add(&refused).err().and_then(|fault| fault.place());
+        let place = set.add(refused).err().and_then(|fault| fault.place());
         assert_eq!(rt; place.map(|place| place.file), Some(1), "the refused file");
     }
-    set.add(&second)?;
-    let place = set.add(&refused).err().and_then(|fault| fault.place());
+    set.add(second)?;
+    let place = set.add(refused).err().and_then(|fault| fault.place());
     assert_eq!(rt;
         place.map(|place| (place.file, place.span.from)),
         Some((2, 19)),

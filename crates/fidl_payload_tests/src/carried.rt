@@ -2,7 +2,7 @@
 use crate::asking::{MemberId, payloads_at};
 use fidl_const::evaluate;
 use fidl_payloads::{Payload, Payloads};
-use fidl_test_sources::{named, trees};
+use fidl_test_sources::{Parsed, named, trees};
 use fidl_types::{Types, check};
 use std::alloc::Global;
 use std::process::Abort;
@@ -56,18 +56,28 @@ fn file_text(alloc: Global, types: &Types<'_, '_>, file: usize) -> Result<String
     Ok(text)
 }
 
-/// Those of sources, each file on a line of its own.
-fn sources_text(alloc: Global, sources: &[&[u8]]) -> Result<String, Fail> {
-    let files = trees(alloc, sources)?;
-    let named = named(alloc, &files)?;
-    let consts = evaluate(alloc, &named)?;
-    let types = check(alloc, named, consts)?;
+/// Those of all files, each with `/ ` behind it.
+fn files_text(alloc: Global, types: &Types<'_, '_>) -> Result<String, Fail> {
     let mut text = format!(in alloc; "")?;
     for file in 0..types.named().count() {
-        let one = file_text(alloc, &types, file)?;
+        let one = file_text(alloc, types, file)?;
         text = format!(in alloc; "{text}{one}/ ")?;
     }
     Ok(text)
+}
+
+/// Those of parsed files.
+fn parsed_text(alloc: Global, files: &Parsed<'_>) -> Result<String, Fail> {
+    let named = named(alloc, files)?;
+    let consts = evaluate(alloc, &named)?;
+    let types = check(alloc, named, consts)?;
+    files_text(alloc, &types)
+}
+
+/// Those of sources.
+fn sources_text(alloc: Global, sources: &[&[u8]]) -> Result<String, Fail> {
+    let files = trees(alloc, sources)?;
+    parsed_text(alloc, &files)
 }
 
 /// The members of these sources carry this.

@@ -3,9 +3,8 @@ use crate::asking::{MemberId, payloads_at};
 use fidl_const::evaluate;
 use fidl_names::Place;
 use fidl_payloads::PayloadFault;
-use fidl_span::line_col;
 use fidl_test_cases::{Answer, cases};
-use fidl_test_sources::{named, trees};
+use fidl_test_sources::{Parsed, named, told, trees};
 use fidl_types::{Types, check};
 use std::alloc::Global;
 use std::process::Abort;
@@ -52,26 +51,29 @@ fn first_fault(alloc: Global, types: &Types<'_, '_>) -> Option<PayloadFault> {
 }
 
 /// The name of a fault, and its place.
-fn told(fault: PayloadFault) -> Option<(&'static str, Place)> {
+fn reported(fault: PayloadFault) -> Option<(&'static str, Place)> {
     match fault {
         PayloadFault::BadPayload { place } => Some(("BadPayload", place)),
         PayloadFault::Memory => None,
     }
 }
 
+/// The first fault of the payloads of files, if there is one.
+fn fault(alloc: Global, files: &Parsed<'_>) -> Result<Option<PayloadFault>, Fail> {
+    let named = named(alloc, files)?;
+    let consts = evaluate(alloc, &named)?;
+    let types = check(alloc, named, consts)?;
+    Ok(first_fault(alloc, &types))
+}
+
 /// What asking for the payloads of all members of these sources answers.
 fn refusal(alloc: Global, sources: &[&[u8]]) -> Result<Answer<'static>, Fail> {
     let files = trees(alloc, sources)?;
-    let named = named(alloc, &files)?;
-    let consts = evaluate(alloc, &named)?;
-    let types = check(alloc, named, consts)?;
-    let Some(fault) = first_fault(alloc, &types) else {
+    let Some(fault) = fault(alloc, &files)? else {
         return Ok(None);
     };
-    let (name, place) = told(fault).ok_or("memory")?;
-    let src = *sources.get(place.file).ok_or("a file")?;
-    let file = u64::try_from(place.file)?;
-    Ok(Some((name, file, line_col(src, place.span.from))))
+    let (name, place) = reported(fault).ok_or("memory")?;
+    Ok(Some(told(sources, name, place)?))
 }
 
 /// The sources of each case of a table have the answer that its line says.

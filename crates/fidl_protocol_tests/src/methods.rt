@@ -2,7 +2,7 @@
 use crate::checking::checked;
 use fidl_names::name_span;
 use fidl_protocol::Protocol;
-use fidl_test_sources::trees;
+use fidl_test_sources::{Parsed, trees};
 use fidl_tree::File;
 use std::alloc::Global;
 use std::process::Abort;
@@ -30,15 +30,29 @@ fn protocol_text(alloc: Global, files: &[File<'_>], protocol: &Protocol) -> Resu
     Ok(text)
 }
 
+/// Those of protocols of files.
+fn protocols_text(
+    alloc: Global,
+    files: &[File<'_>],
+    protocols: &[Protocol],
+) -> Result<Vec<u8>, Fail> {
+    let mut text = Vec::new(alloc);
+    for protocol in protocols {
+        text.extend_from_slice(&protocol_text(alloc, files, protocol)?)?;
+    }
+    Ok(text)
+}
+
+/// Those of all protocols of files.
+fn files_text(alloc: Global, files: &Parsed<'_>) -> Result<Vec<u8>, Fail> {
+    let checked = checked(alloc, files)??;
+    protocols_text(alloc, files.files(), checked.protocols())
+}
+
 /// Those of all protocols of sources.
 fn all_text(alloc: Global, sources: &[&[u8]]) -> Result<Vec<u8>, Fail> {
     let files = trees(alloc, sources)?;
-    let checked = checked(alloc, &files)??;
-    let mut text = Vec::new(alloc);
-    for protocol in checked.protocols() {
-        text.extend_from_slice(&protocol_text(alloc, &files, protocol)?)?;
-    }
-    Ok(text)
+    files_text(alloc, &files)
 }
 
 /// The protocols of these sources have these methods.
@@ -48,16 +62,26 @@ fn have(rt: &impl Abort, alloc: Global, sources: &[&[u8]], want: &[u8]) -> Resul
     Ok(())
 }
 
-/// The ordinals of the methods of the protocol of this number.
-fn ordinals(alloc: Global, sources: &[&[u8]], number: usize) -> Result<Vec<u64>, Fail> {
-    let files = trees(alloc, sources)?;
-    let checked = checked(alloc, &files)??;
-    let protocol = checked.protocols().get(number).ok_or("a protocol")?;
+/// The ordinals of the methods of a protocol.
+fn protocol_ordinals(alloc: Global, protocol: &Protocol) -> Result<Vec<u64>, Fail> {
     let mut found = Vec::new(alloc);
     for method in &protocol.methods {
         found.push(method.own.ordinal)?;
     }
     Ok(found)
+}
+
+/// Those of the protocol of this number of files.
+fn ordinals_in(alloc: Global, files: &Parsed<'_>, number: usize) -> Result<Vec<u64>, Fail> {
+    let checked = checked(alloc, files)??;
+    let protocol = checked.protocols().get(number).ok_or("a protocol")?;
+    protocol_ordinals(alloc, protocol)
+}
+
+/// Those of the protocol of this number of sources.
+fn ordinals(alloc: Global, sources: &[&[u8]], number: usize) -> Result<Vec<u64>, Fail> {
+    let files = trees(alloc, sources)?;
+    ordinals_in(alloc, &files, number)
 }
 
 #[test]

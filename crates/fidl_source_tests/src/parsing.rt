@@ -1,9 +1,10 @@
 // Worked cases: sources whose trees keep all their words, and faults with their places.
 use fidl_parse::{ParseFault, parse};
-use fidl_span::{lex, line_col};
-use fidl_test_cases::cases;
+use fidl_span::{Tokens, Word, lex, line_col};
+use fidl_test_cases::{Answer, cases};
 use fidl_tree::{File, yield_tokens};
 use std::alloc::Global;
+use std::process::Abort;
 use std::test::Fail;
 
 /// `Point` and its 16 words.
@@ -60,20 +61,24 @@ const SOURCES: &str = r#"
     none && library t; @a resource_definition properties : strict enum {b = 1;} {properties {};};
 "#;
 
+/// The words that the tree of these words yields.
+fn yielded(alloc: Global, tokens: &Tokens, src: &[u8]) -> Result<Vec<Word>, Fail> {
+    let file = parse(alloc, tokens, src)?;
+    Ok(yield_tokens(alloc, &file)?)
+}
+
+/// A source has a tree, which yields the source's words.
+fn keep_words(rt: &impl Abort, alloc: Global, src: &[u8], line: &str) -> Result<(), Fail> {
+    let tokens = lex(alloc, src)?;
+    let words = yielded(alloc, &tokens, src)?;
+    assert_eq!(rt; words.as_slice(), tokens.as_slice(), "the words of {line}");
+    Ok(())
+}
+
 #[test]
 fn trees_keep_their_words(rt: HostRuntime) -> Result<(), Fail> {
     for case in &cases(rt.alloc(), SOURCES)? {
-        let src = case.only()?;
-        let tokens = lex(rt.alloc(), src)?;
-        let tree = parse(rt.alloc(), &tokens, src);
-        assert!(rt; tree.is_ok(), "{} has a tree", case.line);
-        let words = yield_tokens(rt.alloc(), &tree?)?;
-        assert_eq!(rt;
-            words.as_slice(),
-            tokens.as_slice(),
-            "the words of {}",
-            case.line
-        );
+        keep_words(&rt, rt.alloc(), case.only()?, case.line)?;
     }
     Ok(())
 }
@@ -86,6 +91,19 @@ fn point_has_16_words(rt: HostRuntime) -> Result<(), Fail> {
     assert_eq!(rt; file.imports.len(), 0);
     assert_eq!(rt; file.declarations.len(), 1);
     Ok(())
+}
+
+/// The fault of a source, if it has no tree.
+fn fault_of(alloc: Global, src: &[u8]) -> Result<Option<ParseFault>, Fail> {
+    let tokens = lex(alloc, src)?;
+    Ok(parse(alloc, &tokens, src).err())
+}
+
+/// The name and the place of a source's fault.
+fn refusal(alloc: Global, src: &[u8]) -> Result<Answer<'static>, Fail> {
+    let fault = fault_of(alloc, src)?.ok_or("a fault")?;
+    let from = fault.span().ok_or("a place")?.from;
+    Ok(Some((fault.name(), 0, line_col(src, from))))
 }
 
 #[test]
@@ -134,11 +152,7 @@ fn unexpected_words_have_their_places(rt: HostRuntime) -> Result<(), Fail> {
             Unexpected 0:1:12 && library t; ; ((((((((((((((((((((((((((((((((((((((((((((((((((((((((((((((((((((((
     "#;
     for case in &cases(rt.alloc(), table)? {
-        let src = case.only()?;
-        let tokens = lex(rt.alloc(), src)?;
-        let fault = parse(rt.alloc(), &tokens, src).err().ok_or("a fault")?;
-        let from = fault.span().ok_or("a place")?.from;
-        let found = Some((fault.name(), 0, line_col(src, from)));
+        let found = refusal(rt.alloc(), case.only()?)?;
         assert_eq!(rt; found, case.want, "the answer to {}", case.line);
     }
     Ok(())
@@ -170,8 +184,7 @@ fn sixty_four_brackets_may_be_open(rt: HostRuntime) -> Result<(), Fail> {
     ];
     for (count, rest, want) in cases {
         let src = in_parentheses(rt.alloc(), count, rest)?;
-        let tokens = lex(rt.alloc(), &src)?;
-        let refusal = parse(rt.alloc(), &tokens, &src).err();
+        let refusal = fault_of(rt.alloc(), &src)?;
         assert_eq!(rt; refusal.is_some(), want.is_some(), "with {count}");
         if let (Some(fault), Some((name, number, column))) = (refusal, want) {
             assert_eq!(rt; fault.name(), name, "with {count}");

@@ -17,24 +17,50 @@ use parts::{Places, three};
 use protocols::{protocol, resource_definition, service};
 use types::{alias, constant};
 
+/// Adds a declaration of each layout.
+fn push_types(
+    alloc: Global,
+    at: &mut Places,
+    all: &mut Vec<Declaration>,
+) -> Result<(), AllocError> {
+    all.push(type_declaration(alloc, three(at), bits(alloc, at)?, at))?;
+    all.push(type_declaration(alloc, three(at), structure(alloc, at)?, at))?;
+    all.push(type_declaration(alloc, three(at), table(alloc, at)?, at))?;
+    all.push(type_declaration(alloc, three(at), union_with_member(alloc, at)?, at))?;
+    all.push(type_declaration(alloc, three(at), union_without_member(alloc, at), at))?;
+    Ok(())
+}
+
+/// A declaration of each kind.
+fn declarations(alloc: Global, at: &mut Places) -> Result<Vec<Declaration>, AllocError> {
+    let mut all = Vec::new(alloc);
+    all.push(constant(alloc, at)?)?;
+    all.push(alias(alloc, at)?)?;
+    push_types(alloc, at, &mut all)?;
+    all.push(protocol(alloc, at)?)?;
+    all.push(service(alloc, at)?)?;
+    all.push(resource_definition(alloc, at)?)?;
+    Ok(all)
+}
+
+/// An import of each form.
+fn imports(alloc: Global, at: &mut Places) -> Result<Vec<Import>, AllocError> {
+    let mut all = Vec::new(alloc);
+    all.push(renamed_import(alloc, at)?)?;
+    all.push(plain_import(alloc, at))?;
+    Ok(all)
+}
+
 /// A file in which each production stands.
 fn whole_file(alloc: Global, at: &mut Places) -> Result<File<'static>, AllocError> {
+    let library = library(alloc, at)?;
+    let imports = imports(alloc, at)?;
+    let declarations = declarations(alloc, at)?;
     Ok(File {
         src: b"",
-        library: library(alloc, at)?,
-        imports: vec![in alloc; renamed_import(alloc, at)?, plain_import(alloc, at)]?,
-        declarations: vec![in alloc;
-            constant(alloc, at)?,
-            alias(alloc, at)?,
-            type_declaration(alloc, three(at), bits(alloc, at)?, at),
-            type_declaration(alloc, three(at), structure(alloc, at)?, at),
-            type_declaration(alloc, three(at), table(alloc, at)?, at),
-            type_declaration(alloc, three(at), union_with_member(alloc, at)?, at),
-            type_declaration(alloc, three(at), union_without_member(alloc, at), at),
-            protocol(alloc, at)?,
-            service(alloc, at)?,
-            resource_definition(alloc, at)?,
-        ]?,
+        library,
+        imports,
+        declarations,
     })
 }
 

@@ -3,21 +3,26 @@ use fidl_const::evaluate;
 use fidl_layout::lay_out;
 use fidl_protocol::protocols;
 use fidl_table::write_table;
-use fidl_test_sources::{named, trees};
+use fidl_test_sources::{Parsed, named, trees};
 use fidl_types::check;
 use fidl_verify::{Payload, verify};
 use std::alloc::Global;
 use std::test::Fail;
 
-/// The table of a library of one file.
-fn written(alloc: Global, source: &[u8]) -> Result<Vec<u8>, Fail> {
-    let files = trees(alloc, &[source])?;
-    let named = named(alloc, &files)?;
+/// The table of the libraries of files.
+fn table_of(alloc: Global, files: &Parsed<'_>) -> Result<Vec<u8>, Fail> {
+    let named = named(alloc, files)?;
     let consts = evaluate(alloc, &named)?;
     let types = check(alloc, named, consts)?;
     let laid = lay_out(alloc, types)?;
     let checked = protocols(alloc, laid)?;
     Ok(write_table(alloc, &checked)?)
+}
+
+/// The table of a library of one file.
+fn written(alloc: Global, source: &[u8]) -> Result<Vec<u8>, Fail> {
+    let files = trees(alloc, &[source])?;
+    table_of(alloc, &files)
 }
 
 /// The bytes of the table of `point`, as docs/table.md lays them out.

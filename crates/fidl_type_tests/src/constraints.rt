@@ -2,7 +2,7 @@
 use fidl_behind::use_of;
 use fidl_const::evaluate;
 use fidl_gathered::{Parts, gather};
-use fidl_test_sources::{named, trees};
+use fidl_test_sources::{Parsed, named, trees};
 use fidl_tree::{DeclarationBody, File, TypeConstructor};
 use std::alloc::Global;
 use std::process::Abort;
@@ -41,9 +41,14 @@ fn in_words(alloc: Global, parts: &Parts) -> Result<String, Fail> {
 /// `refused` where they may not be given.
 fn given(alloc: Global, source: &[u8]) -> Result<String, Fail> {
     let files = trees(alloc, &[HANDLES.as_bytes(), source])?;
-    let named = named(alloc, &files)?;
+    given_in(alloc, &files)
+}
+
+/// The same of the two files.
+fn given_in(alloc: Global, files: &Parsed<'_>) -> Result<String, Fail> {
+    let named = named(alloc, files)?;
     let consts = evaluate(alloc, &named)?;
-    let of = use_of(last_type(files.get(1).ok_or("a file")?)?);
+    let of = use_of(last_type(files.file(1)?)?);
     if named.count() < 2 {
         return Err("two files".into());
     }

@@ -7,11 +7,10 @@ ghost use Rattle.fidl_terms.specs.NumberViews.{AreNumbers};
 
 use fidl_const::{Consts, evaluate};
 use fidl_layouts::{Form, forms};
-use fidl_names::Named;
-use fidl_span::line_col;
+use fidl_names::{Named, Place};
 use fidl_terms::{LayoutNumbers, Sources, layout_numbers};
 use fidl_test_cases::{Answer, cases};
-use fidl_test_sources::{named, trees};
+use fidl_test_sources::{Parsed, named, told, trees};
 use fidl_uses::{UseFault, check_uses};
 use std::alloc::Global;
 use std::process::Abort;
@@ -38,24 +37,54 @@ fn checked(
     })
 }
 
+/// The name of a fault, and its place.
+fn reported(fault: UseFault) -> Option<(&'static str, Place)> {
+    match fault {
+        UseFault::BadConstraint { place } => Some(("BadConstraint", place)),
+        UseFault::BadBox { place } => Some(("BadBox", place)),
+        UseFault::OptionalMember { place } => Some(("OptionalMember", place)),
+        UseFault::OutOfProfile { place } => Some(("OutOfProfile", place)),
+        UseFault::Memory => None,
+    }
+}
+
+/// The fault of checking the types of files, if there is one, with the forms of their layouts.
+fn fault_in_forms(
+    alloc: Global,
+    named: &Named<'_, '_>,
+    consts: &Consts,
+    forms: &[Form<'_, '_>],
+) -> Result<Option<UseFault>, Fail>
+    requires consts { AreConsts named.now consts.now }
+    requires forms { seen_forms forms.now ≡ all_forms named.now }
+{
+    let numbers = layout_numbers(alloc, forms)?;
+    Ok(checked(alloc, named, consts, forms, &numbers).err())
+}
+
+/// The same with the values of constants.
+fn fault_by(alloc: Global, named: &Named<'_, '_>, consts: &Consts) -> Result<Option<UseFault>, Fail>
+    requires { AreConsts named.now consts.now }
+{
+    let forms = forms(alloc, named)?;
+    fault_in_forms(alloc, named, consts, &forms)
+}
+
+/// The same of files.
+fn fault(alloc: Global, files: &Parsed<'_>) -> Result<Option<UseFault>, Fail> {
+    let named = named(alloc, files)?;
+    let consts = evaluate(alloc, &named)?;
+    fault_by(alloc, &named, &consts)
+}
+
 /// What checking the types of these sources answers.
 fn refusal(alloc: Global, sources: &[&[u8]]) -> Result<Answer<'static>, Fail> {
     let files = trees(alloc, sources)?;
-    let named = named(alloc, &files)?;
-    let consts = evaluate(alloc, &named)?;
-    let forms = forms(alloc, &named)?;
-    let numbers = layout_numbers(alloc, &forms)?;
-    let (name, place) = match checked(alloc, &named, &consts, &forms, &numbers) {
-        Ok(()) => return Ok(None),
-        Err(UseFault::BadConstraint { place }) => ("BadConstraint", place),
-        Err(UseFault::BadBox { place }) => ("BadBox", place),
-        Err(UseFault::OptionalMember { place }) => ("OptionalMember", place),
-        Err(UseFault::OutOfProfile { place }) => ("OutOfProfile", place),
-        Err(UseFault::Memory) => return Err("memory".into()),
+    let Some(fault) = fault(alloc, &files)? else {
+        return Ok(None);
     };
-    let src = *sources.get(place.file).ok_or("a file")?;
-    let file = u64::try_from(place.file)?;
-    Ok(Some((name, file, line_col(src, place.span.from))))
+    let (name, place) = reported(fault).ok_or("memory")?;
+    Ok(Some(told(sources, name, place)?))
 }
 
 /// Checking the sources of each case of a table has the answer that its line says.

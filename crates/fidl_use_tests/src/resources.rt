@@ -9,10 +9,9 @@ use fidl_const::{Consts, evaluate};
 use fidl_layouts::{Form, forms};
 use fidl_names::Named;
 use fidl_resources::{ResourceFault, check_resources};
-use fidl_span::line_col;
 use fidl_terms::{LayoutNumbers, Sources, layout_numbers};
 use fidl_test_cases::{Answer, cases};
-use fidl_test_sources::{named, trees};
+use fidl_test_sources::{Parsed, named, told, trees};
 use std::alloc::Global;
 use std::process::Abort;
 use std::test::Fail;
@@ -38,21 +37,50 @@ fn checked(
     })
 }
 
+/// The fault of checking the resource definitions of files, if there is one, with the forms of their
+/// layouts.
+fn fault_in_forms(
+    alloc: Global,
+    named: &Named<'_, '_>,
+    consts: &Consts,
+    forms: &[Form<'_, '_>],
+) -> Result<Option<ResourceFault>, Fail>
+    requires consts { AreConsts named.now consts.now }
+    requires forms { seen_forms forms.now ≡ all_forms named.now }
+{
+    let numbers = layout_numbers(alloc, forms)?;
+    Ok(checked(alloc, named, consts, forms, &numbers).err())
+}
+
+/// The same with the values of constants.
+fn fault_by(
+    alloc: Global,
+    named: &Named<'_, '_>,
+    consts: &Consts,
+) -> Result<Option<ResourceFault>, Fail>
+    requires { AreConsts named.now consts.now }
+{
+    let forms = forms(alloc, named)?;
+    fault_in_forms(alloc, named, consts, &forms)
+}
+
+/// The same of files.
+fn fault(alloc: Global, files: &Parsed<'_>) -> Result<Option<ResourceFault>, Fail> {
+    let named = named(alloc, files)?;
+    let consts = evaluate(alloc, &named)?;
+    fault_by(alloc, &named, &consts)
+}
+
 /// What checking the resource definitions of these sources answers.
 fn refusal(alloc: Global, sources: &[&[u8]]) -> Result<Answer<'static>, Fail> {
     let files = trees(alloc, sources)?;
-    let named = named(alloc, &files)?;
-    let consts = evaluate(alloc, &named)?;
-    let forms = forms(alloc, &named)?;
-    let numbers = layout_numbers(alloc, &forms)?;
-    let place = match checked(alloc, &named, &consts, &forms, &numbers) {
-        Ok(()) => return Ok(None),
-        Err(ResourceFault::BadConstraint { place }) => place,
-        Err(ResourceFault::Memory) => return Err("memory".into()),
-    };
-    let src = *sources.get(place.file).ok_or("a file")?;
-    let file = u64::try_from(place.file)?;
-    Ok(Some(("BadConstraint", file, line_col(src, place.span.from))))
+    match fault(alloc, &files)? {
+        Some(ResourceFault::BadConstraint { place }) => {
+            Ok(Some(told(sources, "BadConstraint", place)?))
+        }
+        Some(ResourceFault::Memory) => Err("memory".into()),
+        None => Ok(None),
+    }
 }
 
 /// Checking the sources of each case of a table has the answer that its line says.

@@ -1,27 +1,32 @@
 //! Tests of the numbers of bits and enums: what is refused, and where, and what is not.
 use fidl_const::evaluate;
-use fidl_span::line_col;
+use fidl_names::Place;
 use fidl_test_cases::{Answer, cases};
-use fidl_test_sources::{named, trees};
+use fidl_test_sources::{Parsed, named, told, trees};
 use fidl_values::{ValuesFault, check_values};
 use std::alloc::Global;
 use std::process::Abort;
 use std::test::Fail;
 
+/// The fault of checking the numbers of files, and its place, if there is one.
+fn fault(alloc: Global, files: &Parsed<'_>) -> Result<Option<(&'static str, Place)>, Fail> {
+    let named = named(alloc, files)?;
+    let consts = evaluate(alloc, &named)?;
+    match check_values(alloc, &named, &consts) {
+        Ok(()) => Ok(None),
+        Err(ValuesFault::DuplicateValue { place }) => Ok(Some(("DuplicateValue", place))),
+        Err(ValuesFault::NotPowerOfTwo { place }) => Ok(Some(("NotPowerOfTwo", place))),
+        Err(ValuesFault::Memory) => Err("memory".into()),
+    }
+}
+
 /// What checking the numbers of these sources answers.
 fn refusal(alloc: Global, sources: &[&[u8]]) -> Result<Answer<'static>, Fail> {
     let files = trees(alloc, sources)?;
-    let named = named(alloc, &files)?;
-    let consts = evaluate(alloc, &named)?;
-    let (name, place) = match check_values(alloc, &named, &consts) {
-        Ok(()) => return Ok(None),
-        Err(ValuesFault::DuplicateValue { place }) => ("DuplicateValue", place),
-        Err(ValuesFault::NotPowerOfTwo { place }) => ("NotPowerOfTwo", place),
-        Err(ValuesFault::Memory) => return Err("memory".into()),
-    };
-    let src = *sources.get(place.file).ok_or("a file")?;
-    let file = u64::try_from(place.file)?;
-    Ok(Some((name, file, line_col(src, place.span.from))))
+    match fault(alloc, &files)? {
+        Some((name, place)) => Ok(Some(told(sources, name, place)?)),
+        None => Ok(None),
+    }
 }
 
 #[test]
