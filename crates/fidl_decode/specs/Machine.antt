@@ -295,8 +295,8 @@ behind_rows f first count done =
       inside = f.inside;
     }
 
--- a frame with so many envelopes left of a value of an entry, behind those that are read, and so many
--- of its bytes read
+-- a frame with so many envelopes left of a value of an entry, behind those that are read, and so
+-- many of its bytes read
 abbrev pub behind_envelopes : Frame → (entry read count done : ℕ) → Frame
 behind_envelopes f entry read count done =
     record {

@@ -86,7 +86,8 @@ impl<'t, 'm> Decoder<'t, 'm> {
         })
     }
 
-    /// Reads the content of an envelope in place, which is a leaf or a struct of leaves, up to its end.
+    /// Reads the content of an envelope in place, which is a leaf or a struct of leaves, up to its
+    /// end.
     #[inline(always)]
     pub(crate) fn read_whole(
         &self,
@@ -136,8 +137,8 @@ impl<'t, 'm> Decoder<'t, 'm> {
         Ok(())
     }
 
-    /// Reads the content of an envelope in place, where it is a leaf or a struct of leaves, up to its
-    /// end. Nothing is left then.
+    /// Reads the content of an envelope in place, where it is a leaf or a struct of leaves, up to
+    /// its end. Nothing is left then.
     #[inline(always)]
     pub(crate) fn read_content(
         &self,

@@ -13,8 +13,8 @@ ghost use Rattle.fidl_decode.specs.Faults.{message_of};
 ghost use Rattle.fidl_decode.specs.Breaks.{Breaks};
 ghost use Rattle.fidl_decode.specs.State.{At, Item};
 ghost use Rattle.fidl_decode.specs.declared.frame.Left.TheVariants as left;
-ghost use Rattle.fidl_decode.specs.Machine.{Reads, StateFine, FrameFine, BreaksFrame, Visits, Turns};
-ghost use Rattle.fidl_decode.specs.Machine.{turn_work, value_work, at_of};
+ghost use Rattle.fidl_decode.specs.Machine.{Reads, StateFine, FrameFine, BreaksFrame, Visits};
+ghost use Rattle.fidl_decode.specs.Machine.{Turns, turn_work, value_work, at_of};
 
 use crate::decoder::Decoder;
 use crate::fault::DecodeFault;

@@ -1,5 +1,5 @@
-//! Envelopes of members of four or eight bytes that any bytes are a value of: they are passed over by
-//! their numbers.
+//! Envelopes of members of four or eight bytes that any bytes are a value of: they are passed over
+//! by their numbers.
 ghost use Rattle.std.specs.Prelude.{◌≡◌, ◌+◌, ◌-◌, ◌<◌, ◌≤◌, IsTrue, IsFalse, true, Some, None};
 ghost use Rattle.std.specs.Prelude.{length};
 ghost use Rattle.fidl_limits.specs.declared.limits.TheConstants.{MAX_DEPTH, MAX_MESSAGE_BYTES};
@@ -18,8 +18,8 @@ use fidl_records::{EntryKind, u16_at, u32_at};
 use fidl_wire::MAX_DEPTH;
 
 impl<'t, 'm> Decoder<'t, 'm> {
-    /// Passes over the envelope at a place, in which a member of four bytes stands that any bytes are
-    /// a value of, where its numbers are right. Else nothing is read.
+    /// Passes over the envelope at a place, in which a member of four bytes stands that any bytes
+    /// are a value of, where its numbers are right. Else nothing is read.
     #[inline(always)]
     fn pass_inside(&self, entry: u32, envelope: usize, depth: u8, state: &mut State) -> bool
         requires table { IsFine self.now.table.now }
@@ -48,8 +48,8 @@ impl<'t, 'm> Decoder<'t, 'm> {
         true
     }
 
-    /// Passes over the envelope at a place, whose member has eight bytes out of line and any bytes are
-    /// a value of it, where its numbers are right. Else nothing is read.
+    /// Passes over the envelope at a place, whose member has eight bytes out of line that any bytes
+    /// are a value of, where its numbers are right. Else nothing is read.
     #[inline(always)]
     fn pass_below(&self, entry: u32, envelope: usize, depth: u8, state: &mut State) -> bool
         requires table { IsFine self.now.table.now }
@@ -85,8 +85,8 @@ impl<'t, 'm> Decoder<'t, 'm> {
         true
     }
 
-    /// Passes over the envelope of a member at a place, where the member has four or eight bytes, any
-    /// bytes are its value, and the envelope's numbers are right. Else nothing is read.
+    /// Passes over the envelope of a member at a place, where the member has four or eight bytes,
+    /// any bytes are its value, and the envelope's numbers are right. Else nothing is read.
     #[inline(always)]
     pub(crate) fn pass_member(
         &self,

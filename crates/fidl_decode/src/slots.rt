@@ -63,16 +63,16 @@ impl<'t, 'm> Decoder<'t, 'm> {
         requires budget { state.old.steps + byte_work
             * (length self.now.bytes.now - state.old.next) + envelope_work < 2 ^ 40 }
         ensures ok { OnOk result (Opens self.now.table.now
-            (message_of self.now.bytes.now self.now.handles.now) depth (Some (ty.named entry)) envelope
-            (at_of state.old) (at_of state.new) None) }
+            (message_of self.now.bytes.now self.now.handles.now) depth (Some (ty.named entry))
+            envelope (at_of state.old) (at_of state.new) None) }
         ensures pays { OnOk result (PaysEnvelope self.now.bytes.now state.old.next state.new.next
             (state.new.steps - state.old.steps) None) }
         ensures err { OnErr result ((to : At) → Contained (declarations_of self.now.table.now)
-            (message_of self.now.bytes.now self.now.handles.now) depth (Some (ty.named entry)) envelope
-            (at_of state.old) to → ⊥) }
+            (message_of self.now.bytes.now self.now.handles.now) depth (Some (ty.named entry))
+            envelope (at_of state.old) to → ⊥) }
         ensures told { IfErr result (BreaksMember (declarations_of self.now.table.now)
-            (message_of self.now.bytes.now self.now.handles.now) depth (Some (ty.named entry)) envelope
-            (at_of state.old)) }
+            (message_of self.now.bytes.now self.now.handles.now) depth (Some (ty.named entry))
+            envelope (at_of state.old)) }
         ensures grows { OnOk result (state.old.steps ≤ state.new.steps) }
         ensures cost { state.new.steps ≤ state.old.steps + byte_work
             * (length self.now.bytes.now - state.old.next) + envelope_work }
@@ -84,8 +84,8 @@ impl<'t, 'm> Decoder<'t, 'm> {
         self.read_whole(frame, entry, kind, size, until, state)
     }
 
-    /// Reads the known member of the envelope at a place in place, where it is a leaf or a struct of
-    /// leaves. Else it is left to read.
+    /// Reads the known member of the envelope at a place in place, where it is a leaf or a struct
+    /// of leaves. Else it is left to read.
     #[inline(always)]
     fn read_known(
         &self,
@@ -104,16 +104,16 @@ impl<'t, 'm> Decoder<'t, 'm> {
         requires budget { state.old.steps + byte_work
             * (length self.now.bytes.now - state.old.next) + envelope_work < 2 ^ 40 }
         ensures ok { IfOk result (Opens self.now.table.now
-            (message_of self.now.bytes.now self.now.handles.now) depth (Some (ty.named entry)) envelope
-            (at_of state.old) (at_of state.new)) }
+            (message_of self.now.bytes.now self.now.handles.now) depth (Some (ty.named entry))
+            envelope (at_of state.old) (at_of state.new)) }
         ensures pays { IfOk result (PaysEnvelope self.now.bytes.now state.old.next state.new.next
             (state.new.steps - state.old.steps)) }
         ensures err { OnErr result ((to : At) → Contained (declarations_of self.now.table.now)
-            (message_of self.now.bytes.now self.now.handles.now) depth (Some (ty.named entry)) envelope
-            (at_of state.old) to → ⊥) }
+            (message_of self.now.bytes.now self.now.handles.now) depth (Some (ty.named entry))
+            envelope (at_of state.old) to → ⊥) }
         ensures told { IfErr result (BreaksMember (declarations_of self.now.table.now)
-            (message_of self.now.bytes.now self.now.handles.now) depth (Some (ty.named entry)) envelope
-            (at_of state.old)) }
+            (message_of self.now.bytes.now self.now.handles.now) depth (Some (ty.named entry))
+            envelope (at_of state.old)) }
         ensures grows { OnOk result (state.old.steps ≤ state.new.steps) }
         ensures cost { state.new.steps ≤ state.old.steps + byte_work
             * (length self.now.bytes.now - state.old.next) + envelope_work }
@@ -133,8 +133,8 @@ impl<'t, 'm> Decoder<'t, 'm> {
         Ok(Some(frame))
     }
 
-    /// Reads the member of an envelope at a place in place, where it is a leaf or a struct of leaves;
-    /// one without a row is skipped. Any other is left to read.
+    /// Reads the member of an envelope at a place in place, where it is a leaf or a struct of
+    /// leaves; one without a row is skipped. Any other is left to read.
     #[inline(always)]
     fn read_member(
         &self,
@@ -144,7 +144,8 @@ impl<'t, 'm> Decoder<'t, 'm> {
         state: &mut State,
     ) -> Result<Option<Frame>, DecodeFault>
         requires table { IsFine self.now.table.now }
-        requires member { IfSome member (λ row. row.entry < (header_of self.now.table.now).entries) }
+        requires member { IfSome member
+            (λ row. row.entry < (header_of self.now.table.now).entries) }
         requires short { length self.now.bytes.now ≤ MAX_MESSAGE_BYTES }
         requires room { envelope + 8 ≤ length self.now.bytes.now }
         requires state { StateFine (message_of self.now.bytes.now self.now.handles.now)
@@ -174,8 +175,8 @@ impl<'t, 'm> Decoder<'t, 'm> {
         self.read_known(row.entry, envelope, depth, state)
     }
 
-    /// The row of an ordinal of a table, where there is one: the first look is at the place that it has
-    /// where all ordinals below it are members. The probes of a search behind that are counted.
+    /// The row of an ordinal of a table, where there is one: the first look is at the place that it
+    /// has where all ordinals below it are members. The probes of a search behind that are counted.
     #[inline(always)]
     fn row_of(&self, entry: u32, parts: &Entry, ordinal: u32, probes: &mut u64) -> Option<Row>
         requires entry { entry < (header_of self.now.table.now).entries }
@@ -252,9 +253,8 @@ impl<'t, 'm> Decoder<'t, 'm> {
         self.read_member(member, place, frame.depth, state)
     }
 
-    /// Reads the envelopes of a table in place, with the members in and behind them that are leaves,
-    /// up to one whose member holds more: what of that is left is to be read next.
-    #[inline(never)]
+    /// Reads the envelopes of a table in place, with the members in and behind them that are leaves
+    /// or structs of leaves, up to one whose member holds more: that is to be read next.
     pub(crate) fn read_envelopes(
         &self,
         frame: Frame,

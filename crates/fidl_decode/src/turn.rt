@@ -181,9 +181,6 @@ impl<'t, 'm> Decoder<'t, 'm> {
             (BreaksFrame self.now.table.now (message_of self.now.bytes.now self.now.handles.now)
             frame (at_of state.old)) }
     {
-        if let Left::Envelopes { entry, read, count } = frame.left {
-            return self.read_envelopes(frame, entry, read, count, state);
-        }
         let mut rest = frame;
         loop {
             let Some(now) = self.read_leaves(rest, state)? else {

@@ -40,25 +40,25 @@ pub returns-in_err-now-clause-err : goal.returns-in_err-now-clause-err
 returns-in_err-now-clause-err c =
     on_err _ ((to : At) → Reads c.args.self.now.table.now (message_of c.args.self.now.bytes.now c.args.self.now.handles.now) c.args.frame (at_of c.args.state.now) to → ⊥) (turns_refused c.args.self.now.table.now (message_of c.args.self.now.bytes.now c.args.self.now.handles.now) c.args.frame (at_of c.args.state.now) (at_of c.loop-now.state) (c.loop-now.state.steps - c.args.state.now.steps) c.loop-now.rest c.loop-now.invariant.turns c.in_err-now.ensures.err)
 
-pub returns-in_default-2-clause-ok : goal.returns-in_default-2-clause-ok
-returns-in_default-2-clause-ok c =
+pub returns-in_default-clause-ok : goal.returns-in_default-clause-ok
+returns-in_default-clause-ok c =
     let so_far = c.loop-now.invariant.steps in
     let less = c.loop-now.invariant.turns.less in
     let grows = c.in_ok-now.ensures.grows in
-    let two = subst (λ (o : Option Frame). Turns c.args.self.now.table.now (message_of c.args.self.now.bytes.now c.args.self.now.handles.now) c.loop-now.rest (at_of c.loop-now.state) (at_of c.read_leaves.new.state) (c.read_leaves.new.state.steps - c.loop-now.state.steps) (left_over o)) c.in_default-2.is c.in_ok-now.ensures.ok in
+    let two = subst (λ (o : Option Frame). Turns c.args.self.now.table.now (message_of c.args.self.now.bytes.now c.args.self.now.handles.now) c.loop-now.rest (at_of c.loop-now.state) (at_of c.read_leaves.new.state) (c.read_leaves.new.state.steps - c.loop-now.state.steps) (left_over o)) c.in_default.is c.in_ok-now.ensures.ok in
     let held : Turns c.args.self.now.table.now (message_of c.args.self.now.bytes.now c.args.self.now.handles.now) c.args.frame (at_of c.args.state.now) (at_of c.read_leaves.new.state) (c.read_leaves.new.state.steps - c.args.state.now.steps) (left_over None) = turns_then c.args.self.now.table.now (message_of c.args.self.now.bytes.now c.args.self.now.handles.now) c.args.frame (at_of c.args.state.now) (at_of c.loop-now.state) (c.loop-now.state.steps - c.args.state.now.steps) c.loop-now.rest c.loop-now.invariant.turns (at_of c.read_leaves.new.state) _ _ (left_over None) (omega (arith, so_far, grows)) two in
     let less_now = held.less in
     held
 
-pub returns-in_default-2-clause-rises : goal.returns-in_default-2-clause-rises
-returns-in_default-2-clause-rises c =
+pub returns-in_default-clause-rises : goal.returns-in_default-clause-rises
+returns-in_default-clause-rises c =
     let so_far = c.loop-now.invariant.steps in
     let less = c.loop-now.invariant.turns.less in
-    let ended : c.loop-now.state.steps < c.read_leaves.new.state.steps = subst (λ (o : Option Frame). IfNone o (c.loop-now.state.steps < c.read_leaves.new.state.steps)) c.in_default-2.is c.in_ok-now.ensures.ended in
+    let ended : c.loop-now.state.steps < c.read_leaves.new.state.steps = subst (λ (o : Option Frame). IfNone o (c.loop-now.state.steps < c.read_leaves.new.state.steps)) c.in_default.is c.in_ok-now.ensures.ended in
     omega (arith, so_far, ended)
 
-pub returns-in_default-2-clause-cost : goal.returns-in_default-2-clause-cost
-returns-in_default-2-clause-cost c =
+pub returns-in_default-clause-cost : goal.returns-in_default-clause-cost
+returns-in_default-clause-cost c =
     let so_far = c.loop-now.invariant.steps in
     let less = c.loop-now.invariant.turns.less in
     omega (arith, less, so_far, c.in_ok-now.ensures.cost)
@@ -278,7 +278,7 @@ loop-now-preserved c =
     let both = subst (λ (x : Turn). Turns c.args.self.now.table.now (message_of c.args.self.now.bytes.now c.args.self.now.handles.now) c.args.frame (at_of c.args.state.now) (at_of c.take_member.new.state) (c.take_member.new.state.steps - c.args.state.now.steps) x) turn read in
     let less_both = both.less in
     let on = c.in_ok-inner.ensures.grows in
-    let three = subst (λ (o : Option Frame). Turns c.args.self.now.table.now (message_of c.args.self.now.bytes.now c.args.self.now.handles.now) c.in-Some-below.below (at_of c.take_member.new.state) (at_of c.read_leaves-in-loop-now.new.state) (c.read_leaves-in-loop-now.new.state.steps - c.take_member.new.state.steps) (left_over o)) c.in_default-3.is c.in_ok-inner.ensures.ok in
+    let three = subst (λ (o : Option Frame). Turns c.args.self.now.table.now (message_of c.args.self.now.bytes.now c.args.self.now.handles.now) c.in-Some-below.below (at_of c.take_member.new.state) (at_of c.read_leaves-in-loop-now.new.state) (c.read_leaves-in-loop-now.new.state.steps - c.take_member.new.state.steps) (left_over o)) c.in_default-2.is c.in_ok-inner.ensures.ok in
     record { turns = turns_over c.args.self.now.table.now (message_of c.args.self.now.bytes.now c.args.self.now.handles.now) c.args.frame (at_of c.args.state.now) (at_of c.take_member.new.state) (c.take_member.new.state.steps - c.args.state.now.steps) c.in-Some-below.below c.in-Some-rest.after both (at_of c.read_leaves-in-loop-now.new.state) _ _ (omega (arith, so_far, grows, rises, on)) three; steps = omega (arith, so_far, grows, rises, on) }
 
 pub returns-in_err-now-clause-told : goal.returns-in_err-now-clause-told
