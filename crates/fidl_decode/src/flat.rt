@@ -20,17 +20,21 @@ use crate::decoder::Decoder;
 use crate::fault::DecodeFault;
 use crate::frame::{Frame, Left, State};
 use crate::leaf::is_leaf;
-use crate::plain::rows_from;
+use crate::plain::{MOST_ROWS, rows_from};
 use fidl_records::{Entry, EntryKind};
 
 impl<'t, 'm> Decoder<'t, 'm> {
-    /// Whether the members of so many rows, from the first on, are leaves.
+    /// Whether so many rows, from the first on, are no more than are looked at, and their members are
+    /// leaves.
     #[inline(never)]
     fn are_leaves(&self, first: u32, count: u32) -> bool
         requires table { IsFine self.now.table.now }
         requires within { first + count ≤ (header_of self.now.table.now).rows }
         ensures { IsTrue result → AreLeaves self.now.table.now first count }
     {
+        if count > MOST_ROWS {
+            return false;
+        }
         // Read, so that the number of rows, and with it each row's, is known to have 32 bits.
         let _rows = self.table.rows();
         for i in 0..count {

@@ -9,6 +9,7 @@ ghost use Rattle.fidl_records.specs.Section.{header_of, entry_at};
 ghost use Rattle.fidl_decode.specs.Invariants.{IsFine, is_free};
 ghost use Rattle.fidl_decode.specs.Faults.{message_of};
 ghost use Rattle.fidl_decode.specs.declared.frame.Left.TheVariants as left;
+ghost use Rattle.fidl_decode.specs.declared.plain.TheConstants.{MOST_ROWS};
 ghost use Rattle.fidl_decode.specs.State.{At};
 ghost use Rattle.fidl_decode.specs.Machine.{StateFine, FrameFine, Visits, Turns, Reads, BreaksFrame};
 ghost use Rattle.fidl_decode.specs.Machine.{IsGood, Passes, IsKnown, turn_work, at_of};
@@ -18,6 +19,17 @@ use crate::fault::DecodeFault;
 use crate::frame::{Frame, Left, State};
 use crate::leaf::is_free;
 use fidl_records::{EntryKind, Row};
+
+/// How many rows of a struct are looked at before it is read. These looks are no steps.
+pub(crate) const MOST_ROWS: u32 = 32;
+
+/// So many rows, but no more than are looked at.
+fn few_rows(count: u32) -> u32
+    ensures few { result ≤ count }
+    ensures most { result ≤ MOST_ROWS }
+{
+    if count < MOST_ROWS { count } else { MOST_ROWS }
+}
 
 /// The rows of a struct before the first that has to be looked at closer: any bytes are values of
 /// them, wherever the struct stands, but for one bool.
@@ -109,8 +121,9 @@ impl<'t, 'm> Decoder<'t, 'm> {
         }
     }
 
-    /// The rows of a struct before the first that has to be looked at closer: numbers, and bits and
-    /// enums that are not strict, and one bool, that stand behind one another without a gap.
+    /// The first rows of a struct, `MOST_ROWS` at most, before the first that has to be looked at
+    /// closer: numbers, and bits and enums that are not strict, and one bool, that stand behind one
+    /// another without a gap.
     pub(crate) fn plain_rows(&self, first: u32, count: u32) -> Plain
         requires table { IsFine self.now.table.now }
         requires within { first + count ≤ (header_of self.now.table.now).rows }
@@ -123,9 +136,11 @@ impl<'t, 'm> Decoder<'t, 'm> {
     {
         let _rows = self.table.rows();
         let end = first + count;
+        let few = few_rows(count);
+        let stop = first + few;
         let mut done = 0;
         let mut flag = None;
-        for i in first..end {
+        for i in first..stop {
             let row = self.table.row(i);
             let Some(next) = self.next_flag(&row, done, flag) else {
                 return Plain {
@@ -140,10 +155,10 @@ impl<'t, 'm> Decoder<'t, 'm> {
             done = row.key as usize + self.table.entry(row.entry).size as usize;
         }
         Plain {
-            rows: count,
+            rows: few,
             done,
-            first: end,
-            count: 0,
+            first: stop,
+            count: count - few,
             flag,
         }
     }

@@ -1,4 +1,4 @@
-use Rattle.std.proofs.Common.{◌≡◌, ◌+◌, ◌-◌, ◌≤◌, ap, subst, ◌∙◌, arith}
+use Rattle.std.proofs.Common.{◌≡◌, ◌+◌, ◌-◌, ◌<◌, ◌≤◌, ap, subst, ◌∙◌, arith}
 use Rattle.std.specs.Prelude.{Option, Some, None, IfSome, length, ℕ}
 use Rattle.fidl_limits.specs.declared.limits.TheConstants.{MAX_DEPTH}
 use Rattle.fidl_records.specs.Section.{entry_at}
@@ -34,7 +34,8 @@ loop-i-preserved c =
     let m = message_of c.args.self.now.bytes.now c.args.self.now.handles.now in
     let end = c.args.first + c.args.count in
     let row = c.row-row.result in
-    let one = rows_next t c.loop-i.i end c.loop-i.done (row.key + size_of (declarations_of t) (ty.named row.entry)) row c.row-row.ensures.value c.loop-i-test.true in
+    let before : c.loop-i.i < end = omega (arith, c.loop-i-test.true, c.few_rows-few.ensures.few) in
+    let one = rows_next t c.loop-i.i end c.loop-i.done (row.key + size_of (declarations_of t) (ty.named row.entry)) row c.row-row.ensures.value before in
     let there = subst (λ (o : Option (Option ℕ)). IfSome o (λ next. row.key ≡ c.loop-i.done)) c.in-Some.is c.next_flag.ensures.stands in
     let keeps = subst (λ (o : Option (Option ℕ)). IfSome o (λ next. (base : ℕ) → IsGood m.bytes base next → IsGood m.bytes base c.loop-i.flag)) c.in-Some.is c.next_flag.ensures.keeps in
     let visits = subst (λ (o : Option (Option ℕ)). IfSome o (λ next. (base depth : ℕ) → (s : At) → depth ≤ MAX_DEPTH → StateFine m s → base + row.key + (entry_at t row.entry).size ≤ length m.bytes → IsGood m.bytes base next → Visits t m depth row.entry (base + row.key) s s 0 None)) c.in-Some.is c.next_flag.ensures.visits in
@@ -48,7 +49,7 @@ loop-i-preserved c =
           let room = next_room t c.requires.table m f s s (c.loop-i.i - c.args.first) g here member left one in
           let seen : Visits t m f.depth row.entry (f.base + row.key) s s 0 None = visits f.base f.depth s ff.depth state (omega (arith, room.1, room.2)) good in
           let none : f.base + row.key - (f.base + c.loop-i.done) ≡ 0 = omega (arith, there) in
-          next_turns t c.requires.table m f s s (c.loop-i.i - c.args.first) g here member left one tt (omega (arith, c.requires.within, c.loop-i-test.true)) tt s (row.key + c.entry.result.size) 0 (c.loop-i.i + 1 - c.args.first) (omega (arith, size)) (omega (arith, c.loop-i.auto.i)) (no_zeros m.bytes (f.base + c.loop-i.done) _ none) seen;
+          next_turns t c.requires.table m f s s (c.loop-i.i - c.args.first) g here member left one tt (omega (arith, c.requires.within, before)) tt s (row.key + c.entry.result.size) 0 (c.loop-i.i + 1 - c.args.first) (omega (arith, size)) (omega (arith, c.loop-i.auto.i)) (no_zeros m.bytes (f.base + c.loop-i.done) _ none) seen;
     }
 
 pub returns-clause-passes : goal.returns-clause-passes
@@ -56,10 +57,11 @@ returns-clause-passes c =
     let t = c.args.self.now.table.now in
     let m = message_of c.args.self.now.bytes.now c.args.self.now.handles.now in
     let end = c.args.first + c.args.count in
-    let over : c.loop-i.i ≡ end = omega (arith, c.loop-i-test.false, c.loop-i.auto.i, c.loop-i.auto.i-end) in
-    let none : end - c.loop-i.i ≡ 0 = omega (arith, over) in
-    let all : c.loop-i.i - c.args.first ≡ c.args.count = omega (arith, over) in
+    let few = c.few_rows-few.result in
+    let over : c.loop-i.i ≡ c.args.first + few = omega (arith, c.loop-i-test.false, c.loop-i.auto.i, c.loop-i.auto.i-end) in
+    let rest : end - c.loop-i.i ≡ c.args.count - few = omega (arith, over, c.few_rows-few.ensures.few) in
+    let read : c.loop-i.i - c.args.first ≡ few = omega (arith, over) in
     λ f s ff is start state good.
     let here = c.loop-i.invariant.passes f s ff is start state good in
-    let counted = subst (λ n. Turns t m f s s n (left_over (Some (going_on f (Rows c.loop-i.i (end - c.loop-i.i)) c.loop-i.done)))) all here in
-    subst (λ k. Turns t m f s s c.args.count (left_over (Some (going_on f (Rows k 0) c.loop-i.done)))) over (subst (λ k. Turns t m f s s c.args.count (left_over (Some (going_on f (Rows c.loop-i.i k) c.loop-i.done)))) none counted)
+    let counted = subst (λ n. Turns t m f s s n (left_over (Some (going_on f (Rows c.loop-i.i (end - c.loop-i.i)) c.loop-i.done)))) read here in
+    subst (λ k. Turns t m f s s few (left_over (Some (going_on f (Rows k (c.args.count - few)) c.loop-i.done)))) over (subst (λ k. Turns t m f s s few (left_over (Some (going_on f (Rows c.loop-i.i k) c.loop-i.done)))) rest counted)
