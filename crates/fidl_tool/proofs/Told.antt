@@ -1,6 +1,6 @@
 -- What a status says of the line that goes with it, and of the roots of a table.
 use Rattle.std.proofs.Common.{◌≡◌, ◌≢◌, ◌↔◌, ℕ, List, ◌++◌, refl, sym, ap, subst, ◌∙◌, inl, inr}
-use Rattle.std.specs.Prelude.{Result, Ok, Err, OnOk, OnErr, is_ok, true, false, if◌then◌else◌, Option, Some, None, IsSome, codes}
+use Rattle.std.specs.Prelude.{Result, Ok, Err, OnOk, OnErr, is_ok, true, false, if◌then◌else◌, Option, Some, None, IsSome, ◌⊎◌, codes}
 use Rattle.fidl_wire.specs.declared.handle.HandleInfo.{HandleInfo}
 use Rattle.fidl_wire.specs.Value.{Value}
 use Rattle.fidl_wire.specs.Term as ty
@@ -43,6 +43,15 @@ told_failed (Ok x) own r out before after e n k f o b =
     let none : after ≡ None = k ∙ b in
     (λ u. absurd (n (sym e ∙ u)), λ some. elim some [ inl s ↦ let never : false ≡ true = subst IsSome o s in cc | inr s ↦ let never : false ≡ true = subst IsSome none s in cc ])
 told_failed (Err x) own r out before after e n k f o b = (λ u. inr f, λ some. e)
+
+-- what holds of an outcome and of a failed write holds of what is answered
+pub told_either : {T E : Type 0} (w : Result T E) (own r : Outcome) (Holds : Outcome → Type 0) → r ≡ (if is_ok w then own else Unwritten) → Holds own → Holds Unwritten → Holds r
+told_either (Ok x) own r Holds e h k = subst Holds (sym e) h
+told_either (Err x) own r Holds e h k = subst Holds (sym e) k
+
+-- where the output did not fail before and was not written, the errors' failure alone is reported
+pub errors_alone : {F G : Type 0} (r : Outcome) (out : Option F) (after : Option G) → out ≡ None → (r ≡ Unwritten ↔ IsSome after) → (r ≡ Unwritten) ↔ (IsSome out ⊎ IsSome after)
+errors_alone r out after o t = (λ u. inr (t.0 u), λ some. elim some [ inl s ↦ let never : false ≡ true = subst IsSome o s in cc | inr s ↦ t.1 s ])
 
 -- a table that is refused refuses each message
 pub table_refused : (table root bytes : List ℕ) (handles : List HandleInfo) (line : List ℕ) → IsTableRefusal table line → IsRefusal table root bytes handles line
