@@ -9,6 +9,7 @@ use Rattle.fidl_tool.specs.Outputs.{AppendsOne, AppendsFrontOfOne}
 use Rattle.fidl_tool.proofs.Told.{root_of, no_root_of, table_refused, told_failed, told_never, told_either, errors_alone}
 use Rattle.fidl_tool.proofs.decoding.decode.Goals as goal
 
+-- what ends the reading of a table can end `decode`
 verified_ends : (r : Outcome) → CanEndVerified r → CanEndDecode r
 verified_ends outcome.Done e = absurd e
 verified_ends outcome.Asked e = absurd e
@@ -19,6 +20,7 @@ verified_ends outcome.NoFile e = absurd e
 verified_ends outcome.Unwritten e = tt
 verified_ends outcome.NoMemory e = absurd e
 
+-- and so can what ends the decoding
 decoded_ends : (r : Outcome) → CanEndDecodeAs r → CanEndDecode r
 decoded_ends outcome.Done e = tt
 decoded_ends outcome.Asked e = absurd e

@@ -1,11 +1,68 @@
-use Rattle.std.proofs.Common.{ap, inr}
+use Rattle.std.proofs.Common.{ap, refl, subst, sym, inl, inr}
 use Rattle.std.specs.Prelude.{Err}
 use Rattle.fidl_text.specs.Listing.{table_text}
 use Rattle.fidl_text.proofs.Written.{appends_as, front_as}
+use Rattle.fidl_tool.specs.declared.outcome.Outcome.{Outcome}
 use Rattle.fidl_tool.specs.declared.outcome.Outcome.TheVariants as outcome
-use Rattle.fidl_tool.specs.Listing.{listing}
-use Rattle.fidl_tool.proofs.Told.{told_never, only_unwritten}
+use Rattle.fidl_tool.specs.Listing.{listing, CanEndVerified, CanEndTable}
+use Rattle.fidl_tool.proofs.Told.{told_never, only_unwritten, errors_alone}
 use Rattle.fidl_tool.proofs.listing.table.Goals as goal
+
+-- what ends the reading of a table can end `table`
+table_ends : (r : Outcome) → CanEndVerified r → CanEndTable r
+table_ends outcome.Done e = absurd e
+table_ends outcome.Asked e = absurd e
+table_ends outcome.Refused e = tt
+table_ends outcome.WrongLine e = absurd e
+table_ends outcome.NoRoot e = absurd e
+table_ends outcome.NoFile e = absurd e
+table_ends outcome.Unwritten e = tt
+table_ends outcome.NoMemory e = absurd e
+
+pub returns-in-Err-clause-ends : goal.returns-in-Err-clause-ends
+returns-in-Err-clause-ends g c = table_ends c.in-Err.ended c.in-Err.ensures.ends
+
+pub returns-in-Err-clause-done : goal.returns-in-Err-clause-done
+returns-in-Err-clause-done g c q = absurd (subst CanEndVerified q c.in-Err.ensures.ends)
+
+pub returns-in-Err-clause-errors : goal.returns-in-Err-clause-errors
+returns-in-Err-clause-errors g c q = absurd (subst CanEndVerified q c.in-Err.ensures.ends)
+
+pub returns-in-Err-clause-unwritten : goal.returns-in-Err-clause-unwritten
+returns-in-Err-clause-unwritten g c o e = errors_alone c.in-Err.ended _ _ o (c.in-Err.ensures.unwritten e)
+
+pub returns-in-Err-clause-front : goal.returns-in-Err-clause-front
+returns-in-Err-clause-front g c q = inl refl
+
+pub returns-in-Err-clause-out : goal.returns-in-Err-clause-out
+returns-in-Err-clause-out g c a b = refl
+
+pub returns-in-Ok-write_records-clause-ends : goal.returns-in-Ok-write_records-clause-ends
+returns-in-Ok-write_records-clause-ends g c = tt
+
+pub returns-in-Ok-write_records-clause-refused : goal.returns-in-Ok-write_records-clause-refused
+returns-in-Ok-write_records-clause-refused g c q = cc
+
+pub returns-in-Ok-write_records-clause-front : goal.returns-in-Ok-write_records-clause-front
+returns-in-Ok-write_records-clause-front g c q = cc
+
+pub returns-in-Ok-write_records-clause-out : goal.returns-in-Ok-write_records-clause-out
+returns-in-Ok-write_records-clause-out g c a b = absurd (a refl)
+
+pub returns-in-Ok-write_records-clause-errors : goal.returns-in-Ok-write_records-clause-errors
+returns-in-Ok-write_records-clause-errors g c q = ap (λ x. g.E.Write.contents x.writer) c.in-Ok.ensures.kept
+
+pub returns-in-Err-write_records-clause-ends : goal.returns-in-Err-write_records-clause-ends
+returns-in-Err-write_records-clause-ends g c = subst CanEndTable (sym (only_unwritten c.write_no_output.result c.where_written.result c.where_written.ensures)) tt
+
+pub returns-in-Err-write_records-clause-done : goal.returns-in-Err-write_records-clause-done
+returns-in-Err-write_records-clause-done g c q = told_never c.write_no_output.result outcome.Unwritten outcome.Done c.where_written.result c.where_written.ensures q (λ e. cc) (λ e. cc)
+
+pub returns-in-Err-write_records-clause-refused : goal.returns-in-Err-write_records-clause-refused
+returns-in-Err-write_records-clause-refused g c q = told_never c.write_no_output.result outcome.Unwritten outcome.Refused c.where_written.result c.where_written.ensures q (λ e. cc) (λ e. cc)
+
+pub returns-in-Err-write_records-clause-unwritten : goal.returns-in-Err-write_records-clause-unwritten
+returns-in-Err-write_records-clause-unwritten g c o e = (λ q. inl c.in-Err-write_records.ensures.failed, λ f. only_unwritten c.write_no_output.result c.where_written.result c.where_written.ensures)
 
 pub returns-in-Err-clause-refused : goal.returns-in-Err-clause-refused
 returns-in-Err-clause-refused g c q = c.in-Err.ensures.refused (ap (λ o. Err o) q)
