@@ -53,4 +53,7 @@ pub mod Tail
 pub mod Last
 pub mod Front
 pub mod Known
+pub mod Words
 pub mod Freely
+pub mod BodyTurns
+pub mod TextMember

@@ -1,10 +1,11 @@
-//! Envelopes of members of four or eight bytes that any bytes are a value of: they are passed over
-//! by their numbers.
-ghost use Rattle.std.specs.Prelude.{◌≡◌, ◌+◌, ◌-◌, ◌<◌, ◌≤◌, IsTrue, IsFalse, true, Some, None};
-ghost use Rattle.std.specs.Prelude.{length};
+//! Envelopes of members that are passed over by their numbers: of four or eight bytes that may be any,
+//! of a bool, and, where the two files beside this say so, of a text or a struct.
+ghost use Rattle.std.specs.Prelude.{◌≡◌, ◌+◌, ◌-◌, ◌^◌, ◌<◌, ◌≤◌, IsTrue, IsFalse, true};
+ghost use Rattle.std.specs.Prelude.{Some, None, length};
 ghost use Rattle.fidl_limits.specs.declared.limits.TheConstants.{MAX_DEPTH, MAX_MESSAGE_BYTES};
 ghost use Rattle.fidl_wire.specs.Term as ty;
 ghost use Rattle.fidl_records.specs.declared.kind.EntryKind.{EntryKind};
+ghost use Rattle.fidl_records.specs.declared.kind.EntryKind.TheVariants as kinds;
 ghost use Rattle.fidl_records.specs.Kind.{kind_of};
 ghost use Rattle.fidl_records.specs.Section.{header_of, entry_at};
 ghost use Rattle.fidl_decode.specs.Invariants.{IsFine, is_free};
@@ -14,14 +15,23 @@ ghost use Rattle.fidl_decode.specs.Machine.{StateFine, Opens, at_of};
 use crate::decoder::Decoder;
 use crate::frame::State;
 use crate::leaf::is_free;
-use fidl_records::{EntryKind, u16_at, u32_at};
+use fidl_records::{EntryKind, u16_at, u32_at, u64_at};
 use fidl_wire::MAX_DEPTH;
+
+/// The last four bytes of an envelope that counts no handles and holds its member, as one number.
+const NO_HANDLES_INSIDE: u32 = 0x1_0000;
 
 impl<'t, 'm> Decoder<'t, 'm> {
     /// Passes over the envelope at a place, in which a member of four bytes stands that any bytes
     /// are a value of, where its numbers are right. Else nothing is read.
     #[inline(always)]
-    fn pass_inside(&self, entry: u32, envelope: usize, depth: u8, state: &mut State) -> bool
+    pub(crate) fn pass_inside(
+        &self,
+        entry: u32,
+        envelope: usize,
+        depth: u8,
+        state: &mut State,
+    ) -> bool
         requires table { IsFine self.now.table.now }
         requires entry { entry < (header_of self.now.table.now).entries }
         requires free { (kind : EntryKind)
@@ -38,10 +48,9 @@ impl<'t, 'm> Decoder<'t, 'm> {
             envelope (at_of state.old) (at_of state.new) None }
         ensures kept { IsFalse result → at_of state.new ≡ at_of state.old }
         ensures steps { state.new.steps ≡ state.old.steps }
+        ensures grows { state.old.next ≤ state.new.next }
     {
-        let handles = u16_at(self.bytes, envelope + 4);
-        let flags = u16_at(self.bytes, envelope + 6);
-        if flags != 1 || handles != 0 {
+        if u32_at(self.bytes, envelope + 4) != NO_HANDLES_INSIDE {
             return false;
         }
         state.links.record(envelope + 4, state.handle);
@@ -51,7 +60,13 @@ impl<'t, 'm> Decoder<'t, 'm> {
     /// Passes over the envelope at a place, whose member has eight bytes out of line that any bytes
     /// are a value of, where its numbers are right. Else nothing is read.
     #[inline(always)]
-    fn pass_below(&self, entry: u32, envelope: usize, depth: u8, state: &mut State) -> bool
+    pub(crate) fn pass_below(
+        &self,
+        entry: u32,
+        envelope: usize,
+        depth: u8,
+        state: &mut State,
+    ) -> bool
         requires table { IsFine self.now.table.now }
         requires entry { entry < (header_of self.now.table.now).entries }
         requires free { (kind : EntryKind)
@@ -68,11 +83,9 @@ impl<'t, 'm> Decoder<'t, 'm> {
             envelope (at_of state.old) (at_of state.new) None }
         ensures kept { IsFalse result → at_of state.new ≡ at_of state.old }
         ensures steps { state.new.steps ≡ state.old.steps }
+        ensures grows { state.old.next ≤ state.new.next }
     {
-        let counted = u32_at(self.bytes, envelope);
-        let handles = u16_at(self.bytes, envelope + 4);
-        let flags = u16_at(self.bytes, envelope + 6);
-        if counted != 8 || handles != 0 || flags != 0 {
+        if u64_at(self.bytes, envelope) != 8 {
             return false;
         }
         let next = state.next;
@@ -85,8 +98,108 @@ impl<'t, 'm> Decoder<'t, 'm> {
         true
     }
 
-    /// Passes over the envelope of a member at a place, where the member has four or eight bytes,
+    /// Passes over the envelope at a place, in which a bool stands, where its numbers are right and
+    /// it is one. Else nothing is read.
+    #[inline(always)]
+    fn pass_bool(&self, entry: u32, envelope: usize, depth: u8, state: &mut State) -> bool
+        requires table { IsFine self.now.table.now }
+        requires entry { entry < (header_of self.now.table.now).entries }
+        requires kind { kind_of (entry_at self.now.table.now entry).kind ≡ Some kinds.Bool }
+        requires short { length self.now.bytes.now ≤ MAX_MESSAGE_BYTES }
+        requires room { envelope + 8 ≤ length self.now.bytes.now }
+        requires state { StateFine (message_of self.now.bytes.now self.now.handles.now)
+            (at_of state.old) }
+        requires depth { depth ≤ MAX_DEPTH }
+        requires budget { state.old.steps < 2 ^ 44 }
+        ensures passed { IsTrue result → Opens self.now.table.now
+            (message_of self.now.bytes.now self.now.handles.now) depth (Some (ty.named entry))
+            envelope (at_of state.old) (at_of state.new) None }
+        ensures kept { IsFalse result → at_of state.new ≡ at_of state.old }
+        ensures grows { state.old.steps ≤ state.new.steps }
+        ensures pays { state.new.steps + state.old.next ≤ state.old.steps + state.new.next }
+    {
+        let handles = u16_at(self.bytes, envelope + 4);
+        let flags = u16_at(self.bytes, envelope + 6);
+        if flags != 1 || handles != 0 || u32_at(self.bytes, envelope) > 1 {
+            return false;
+        }
+        state.links.record(envelope + 4, state.handle);
+        true
+    }
+
+    /// Passes over the envelope of a member at a place, where the member has four or eight bytes and
     /// any bytes are its value, and the envelope's numbers are right. Else nothing is read.
+    #[inline(always)]
+    fn pass_free(
+        &self,
+        entry: u32,
+        kind: EntryKind,
+        envelope: usize,
+        depth: u8,
+        state: &mut State,
+    ) -> bool
+        requires table { IsFine self.now.table.now }
+        requires entry { entry < (header_of self.now.table.now).entries }
+        requires kind { kind_of (entry_at self.now.table.now entry).kind ≡ Some kind }
+        requires short { length self.now.bytes.now ≤ MAX_MESSAGE_BYTES }
+        requires room { envelope + 8 ≤ length self.now.bytes.now }
+        requires state { StateFine (message_of self.now.bytes.now self.now.handles.now)
+            (at_of state.old) }
+        requires depth { depth ≤ MAX_DEPTH }
+        ensures passed { IsTrue result → Opens self.now.table.now
+            (message_of self.now.bytes.now self.now.handles.now) depth (Some (ty.named entry))
+            envelope (at_of state.old) (at_of state.new) None }
+        ensures kept { IsFalse result → at_of state.new ≡ at_of state.old }
+        ensures grows { state.old.next ≤ state.new.next }
+        ensures steps { state.new.steps ≡ state.old.steps }
+    {
+        let e = self.table.entry(entry);
+        if !is_free(&e, kind) {
+            return false;
+        }
+        match e.size {
+            4 => self.pass_inside(entry, envelope, depth, state),
+            8 => self.pass_below(entry, envelope, depth, state),
+            _ => false,
+        }
+    }
+
+    /// Passes over the envelope of a member of this kind at a place, where the member is a number, a
+    /// bool, a text or a struct of numbers, and the envelope's numbers are right. Else nothing is read.
+    #[inline(always)]
+    pub(crate) fn pass_kind(
+        &self,
+        entry: u32,
+        kind: EntryKind,
+        envelope: usize,
+        depth: u8,
+        state: &mut State,
+    ) -> bool
+        requires table { IsFine self.now.table.now }
+        requires entry { entry < (header_of self.now.table.now).entries }
+        requires kind { kind_of (entry_at self.now.table.now entry).kind ≡ Some kind }
+        requires short { length self.now.bytes.now ≤ MAX_MESSAGE_BYTES }
+        requires room { envelope + 8 ≤ length self.now.bytes.now }
+        requires state { StateFine (message_of self.now.bytes.now self.now.handles.now)
+            (at_of state.old) }
+        requires depth { depth ≤ MAX_DEPTH }
+        requires budget { state.old.steps < 2 ^ 44 }
+        ensures passed { IsTrue result → Opens self.now.table.now
+            (message_of self.now.bytes.now self.now.handles.now) depth (Some (ty.named entry))
+            envelope (at_of state.old) (at_of state.new) None }
+        ensures kept { IsFalse result → at_of state.new ≡ at_of state.old }
+        ensures grows { state.old.steps ≤ state.new.steps }
+        ensures pays { state.new.steps + state.old.next ≤ state.old.steps + state.new.next }
+    {
+        match kind {
+            EntryKind::Bool => self.pass_bool(entry, envelope, depth, state),
+            EntryKind::String => self.pass_text(entry, envelope, depth, state),
+            EntryKind::Struct => self.pass_struct(entry, envelope, depth, state),
+            _ => self.pass_free(entry, kind, envelope, depth, state),
+        }
+    }
+
+    /// The same of a member whose kind is that of its entry.
     #[inline(always)]
     pub(crate) fn pass_member(
         &self,
@@ -102,23 +215,18 @@ impl<'t, 'm> Decoder<'t, 'm> {
         requires state { StateFine (message_of self.now.bytes.now self.now.handles.now)
             (at_of state.old) }
         requires depth { depth ≤ MAX_DEPTH }
+        requires budget { state.old.steps < 2 ^ 44 }
         ensures passed { IsTrue result → Opens self.now.table.now
             (message_of self.now.bytes.now self.now.handles.now) depth (Some (ty.named entry))
             envelope (at_of state.old) (at_of state.new) None }
         ensures kept { IsFalse result → at_of state.new ≡ at_of state.old }
-        ensures steps { state.new.steps ≡ state.old.steps }
+        ensures grows { state.old.steps ≤ state.new.steps }
+        ensures pays { state.new.steps + state.old.next ≤ state.old.steps + state.new.next }
     {
         let e = self.table.entry(entry);
         let Some(kind) = EntryKind::from_number(e.kind) else {
             unreachable!()
         };
-        if !is_free(&e, kind) {
-            return false;
-        }
-        match e.size {
-            4 => self.pass_inside(entry, envelope, depth, state),
-            8 => self.pass_below(entry, envelope, depth, state),
-            _ => false,
-        }
+        self.pass_kind(entry, kind, envelope, depth, state)
     }
 }

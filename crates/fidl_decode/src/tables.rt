@@ -1,6 +1,6 @@
 //! Tables: a count and a marker, and the envelopes, which are the next object.
-ghost use Rattle.std.specs.Prelude.{◌≡◌, ℕ, ◌+◌, ◌-◌, ◌^◌, ◌<◌, ◌≤◌, OnErr, IfOk};
-ghost use Rattle.std.specs.Prelude.{IfErr, Some, length};
+ghost use Rattle.std.specs.Prelude.{◌≡◌, ℕ, ◌+◌, ◌-◌, ◌*◌, ◌^◌, ◌<◌, ◌≤◌, OnOk, IfOk, IfErr};
+ghost use Rattle.std.specs.Prelude.{Some, length};
 ghost use Rattle.fidl_limits.specs.declared.limits.TheConstants.{MAX_DEPTH, MAX_MESSAGE_BYTES};
 ghost use Rattle.fidl_records.specs.declared.kind.EntryKind.TheVariants as kinds;
 ghost use Rattle.fidl_records.specs.Kind.{kind_of};
@@ -8,27 +8,26 @@ ghost use Rattle.fidl_records.specs.Section.{header_of, entry_at};
 ghost use Rattle.fidl_decode.specs.Invariants.{IsFine};
 ghost use Rattle.fidl_decode.specs.Faults.{message_of};
 ghost use Rattle.fidl_decode.specs.Breaks.{BreaksTable};
-ghost use Rattle.fidl_decode.specs.State.{At};
-ghost use Rattle.fidl_decode.specs.declared.frame.Left.TheVariants as left;
-ghost use Rattle.fidl_decode.specs.Machine.{StateFine, FrameFine, Visits, VisitFine, Turns, Reads};
-ghost use Rattle.fidl_decode.specs.Machine.{BreaksFrame, turn_work, at_of};
+ghost use Rattle.fidl_decode.specs.Body.{envelopes_of};
+ghost use Rattle.fidl_decode.specs.Machine.{StateFine, Visits, VisitFine, at_of};
 
 use crate::decoder::Decoder;
 use crate::fault::DecodeFault;
-use crate::frame::{Frame, Left, State, Turn};
+use crate::frame::{Frame, State};
 use fidl_records::u64_at;
-use fidl_wire::{MAX_DEPTH, MAX_NEST, Presence};
+use fidl_wire::{MAX_DEPTH, Presence};
 
 impl<'t, 'm> Decoder<'t, 'm> {
-    /// Reads the count and the marker of a table at a place, and links its envelopes, which are left
-    /// to read.
-    pub(crate) fn read_table(
+    /// Reads the count and the marker of a table at a place, and links its envelopes; answers how many
+    /// these are.
+    #[inline(always)]
+    fn open_table(
         &self,
         entry: u32,
         place: usize,
         depth: u8,
         state: &mut State,
-    ) -> Result<Option<Frame>, DecodeFault>
+    ) -> Result<u32, DecodeFault>
         requires table { IsFine self.now.table.now }
         requires entry { entry < (header_of self.now.table.now).entries }
         requires kind { kind_of (entry_at self.now.table.now entry).kind ≡ Some kinds.Table }
@@ -37,11 +36,15 @@ impl<'t, 'm> Decoder<'t, 'm> {
         requires state { StateFine (message_of self.now.bytes.now self.now.handles.now)
             (at_of state.old) }
         requires depth { depth ≤ MAX_DEPTH }
-        ensures ok { IfOk result (λ found. Visits self.now.table.now
+        ensures ok { IfOk result (λ count. Visits self.now.table.now
             (message_of self.now.bytes.now self.now.handles.now) depth entry place
-            (at_of state.old) (at_of state.new) (state.new.steps - state.old.steps) found) }
-        ensures fine { (inside : ℕ) → inside ≤ 1 → IfOk result (VisitFine self.now.table.now
-            (message_of self.now.bytes.now self.now.handles.now) depth inside entry) }
+            (at_of state.old) (at_of state.new) 0
+            (Some (envelopes_of entry state.old.next count (depth + 1)))) }
+        ensures fine { (inside : ℕ) → inside ≤ 1 → IfOk result (λ count. VisitFine
+            self.now.table.now (message_of self.now.bytes.now self.now.handles.now) depth inside
+            entry (Some (envelopes_of entry state.old.next count (depth + 1)))) }
+        ensures next { IfOk result (λ count. state.new.next ≡ state.old.next + 8 * count) }
+        ensures shallow { OnOk result (depth < MAX_DEPTH) }
         ensures told { IfErr result (BreaksTable
             (message_of self.now.bytes.now self.now.handles.now) depth place state.old.next) }
         ensures steps { state.new.steps ≡ state.old.steps }
@@ -65,22 +68,45 @@ impl<'t, 'm> Decoder<'t, 'm> {
         if depth as usize == MAX_DEPTH {
             return Err(DecodeFault::TooDeep { at: place });
         }
-        let size = 8 * count as usize;
         state.links.link(place + 8, from);
-        state.next = from + size;
-        let left = Left::Envelopes {
-            entry,
-            read: 0,
-            count: count as u32,
-        };
-        Ok(Some(Frame {
-            left,
-            base: from,
-            done: 0,
-            size,
-            nest: MAX_NEST as u8 + 1,
-            depth: depth + 1,
-            inside: 0,
-        }))
+        state.next = from + 8 * count as usize;
+        Ok(count as u32)
+    }
+
+    /// Reads the count and the marker of a table at a place, links its envelopes, and reads those that
+    /// it begins with as far as this can be done in place; the others are left to read.
+    #[inline(always)]
+    pub(crate) fn read_table(
+        &self,
+        entry: u32,
+        place: usize,
+        depth: u8,
+        state: &mut State,
+    ) -> Result<Option<Frame>, DecodeFault>
+        requires table { IsFine self.now.table.now }
+        requires entry { entry < (header_of self.now.table.now).entries }
+        requires kind { kind_of (entry_at self.now.table.now entry).kind ≡ Some kinds.Table }
+        requires short { length self.now.bytes.now ≤ MAX_MESSAGE_BYTES }
+        requires room { place + 16 ≤ length self.now.bytes.now }
+        requires state { StateFine (message_of self.now.bytes.now self.now.handles.now)
+            (at_of state.old) }
+        requires depth { depth ≤ MAX_DEPTH }
+        requires budget { state.old.steps < 2 ^ 41 }
+        ensures ok { IfOk result (λ found. Visits self.now.table.now
+            (message_of self.now.bytes.now self.now.handles.now) depth entry place
+            (at_of state.old) (at_of state.new) (state.new.steps - state.old.steps) found) }
+        ensures fine { (inside : ℕ) → inside ≤ 1 → IfOk result (VisitFine self.now.table.now
+            (message_of self.now.bytes.now self.now.handles.now) depth inside entry) }
+        ensures told { IfErr result (BreaksTable
+            (message_of self.now.bytes.now self.now.handles.now) depth place state.old.next) }
+        ensures grows { state.old.steps ≤ state.new.steps }
+        ensures cost { state.new.steps
+            ≤ state.old.steps + 1 + (length self.now.bytes.now - state.old.next) }
+    {
+        let from = state.next;
+        let count = self.open_table(entry, place, depth, state)?;
+        let body = self.body_of(entry, from, count, depth + 1);
+        let read = self.pass_front(&body, state);
+        Ok(self.left_of(&body, read, state))
     }
 }

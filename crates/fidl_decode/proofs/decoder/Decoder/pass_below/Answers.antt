@@ -1,9 +1,11 @@
-use Rattle.std.proofs.Common.{◌≡◌, ◌+◌, ◌/◌, ℕ, List, slice_set, sym, ap, ◌∙◌, arith}
-use Rattle.std.specs.Int.{next_multiple_of}
+use Rattle.std.proofs.Common.{◌≡◌, ◌+◌, ◌/◌, ◌<◌, ◌^◌, ℕ, List, get_or, slice_set, sym, ap, ◌∙◌, arith}
+use Rattle.std.specs.Int.{next_multiple_of, w64}
+use Rattle.fidl_records.specs.Field.{number_at}
 use Rattle.fidl_records.specs.Section.{entry_at}
 use Rattle.fidl_decode.specs.Faults.{message_of}
 use Rattle.fidl_decode.specs.State.{At, opened, linked}
 use Rattle.fidl_decode.specs.Machine.{at_of}
+use Rattle.fidl_decode.proofs.Words.{counted_small, handles_none, flags_none}
 use Rattle.fidl_decode.proofs.Freely.{below_passed}
 use Rattle.fidl_decode.proofs.decoder.Decoder.pass_below.Goals as goal
 
@@ -19,5 +21,10 @@ returns-clause-passed c =
     let records = c.link.ensures.records ∙ c.record.ensures.records in
     let led : linked c.args.envelope (entry_at t c.args.entry).size (opened c.args.envelope old) ≡ new
     = λ i. record { next = old.next + wide i; handle = old.handle; objects = sym objects i; records = sym records i } in
-    below_passed t c.requires.table m (c.requires.short, c.requires.state.few) c.args.depth c.args.entry c.args.envelope old c.requires.entry c.requires.room (λ i. omega (arith, c.args.self.now.octets i)) c.requires.state c.requires.depth c.requires.free c.requires.size (sym c.u16_at-flags.ensures ∙ c.if-flags-ne0.false) (sym c.u32_at-counted.ensures ∙ c.if-counted-ne8.false) (sym c.u16_at-handles.ensures ∙ c.if-handles-ne0.false)
+    let bytes = c.args.self.now.bytes.now in
+    let p = c.args.envelope in
+    let small : (i : ℕ) → get_or bytes i 0 < 256 = λ i. omega (arith, c.args.self.now.octets i) in
+    let eight : number_at w64 bytes p ≡ 8 = sym c.u64_at.ensures ∙ c.if-u64_at-ne8.false in
+    let few : number_at w64 bytes p < 2 ^ 32 = omega (arith, eight) in
+    below_passed t c.requires.table m (c.requires.short, c.requires.state.few) c.args.depth c.args.entry c.args.envelope old c.requires.entry c.requires.room (λ i. omega (arith, c.args.self.now.octets i)) c.requires.state c.requires.depth c.requires.free c.requires.size (flags_none bytes p c.requires.room small few) (counted_small bytes p c.requires.room small few ∙ eight) (handles_none bytes p c.requires.room small few)
     (omega (arith, c.requires.depth, c.if-depth-eq-MAX_DEPTH.false)) (omega (arith, c.if-self-next-lt8.false)) new led

@@ -27,8 +27,10 @@ returns-then-pass_member-clause-pays c =
     let m = message_of c.args.self.now.bytes.now c.args.self.now.handles.now in
     let old = at_of c.args.state.now in
     let less = (c.pass_member.ensures.passed c.if-pass_member.true).less in
-    let still = c.pass_member.ensures.steps in
-    omega (arith, less, still)
+    let within = (c.pass_member.ensures.passed c.if-pass_member.true).state.next in
+    let pays = c.pass_member.ensures.pays in
+    let grows = c.pass_member.ensures.grows in
+    omega (arith, less, within, pays, grows)
 
 pub unreachable-requires : goal.unreachable-requires
 unreachable-requires c =
@@ -69,7 +71,7 @@ read_enclosed-requires-clause-state c =
     let old = at_of c.args.state.now in
     let kept : at_of c.pass_member.new.state ≡ old = c.pass_member.ensures.kept c.if-pass_member.false in
     let next : c.pass_member.new.state.next ≡ c.args.state.now.next = ap (λ (s : At). s.next) kept in
-    let still = c.pass_member.ensures.steps in
+    let still : c.pass_member.new.state.steps ≡ c.args.state.now.steps = omega (arith, next, c.pass_member.ensures.grows, c.pass_member.ensures.pays) in
     subst (λ (s : At). StateFine m s) (sym kept) c.requires.state
 
 pub read_enclosed-requires-clause-budget : goal.read_enclosed-requires-clause-budget
@@ -79,7 +81,7 @@ read_enclosed-requires-clause-budget c =
     let old = at_of c.args.state.now in
     let kept : at_of c.pass_member.new.state ≡ old = c.pass_member.ensures.kept c.if-pass_member.false in
     let next : c.pass_member.new.state.next ≡ c.args.state.now.next = ap (λ (s : At). s.next) kept in
-    let still = c.pass_member.ensures.steps in
+    let still : c.pass_member.new.state.steps ≡ c.args.state.now.steps = omega (arith, next, c.pass_member.ensures.grows, c.pass_member.ensures.pays) in
     omega (arith, next, still, c.requires.budget)
 
 pub returns-in_err-read_enclosed-clause-err : goal.returns-in_err-read_enclosed-clause-err
@@ -89,7 +91,7 @@ returns-in_err-read_enclosed-clause-err c =
     let old = at_of c.args.state.now in
     let kept : at_of c.pass_member.new.state ≡ old = c.pass_member.ensures.kept c.if-pass_member.false in
     let next : c.pass_member.new.state.next ≡ c.args.state.now.next = ap (λ (s : At). s.next) kept in
-    let still = c.pass_member.ensures.steps in
+    let still : c.pass_member.new.state.steps ≡ c.args.state.now.steps = omega (arith, next, c.pass_member.ensures.grows, c.pass_member.ensures.pays) in
     on_err _ ((to : At) → Contained (declarations_of t) m c.args.depth (Some (ty.named c.args.entry)) c.args.envelope old to → ⊥)
     (subst (λ (s : At). (to : At) → Contained (declarations_of t) m c.args.depth (Some (ty.named c.args.entry)) c.args.envelope s to → ⊥) kept c.in_err-read_enclosed.ensures.err)
 
@@ -100,7 +102,7 @@ returns-in_err-read_enclosed-clause-told c =
     let old = at_of c.args.state.now in
     let kept : at_of c.pass_member.new.state ≡ old = c.pass_member.ensures.kept c.if-pass_member.false in
     let next : c.pass_member.new.state.next ≡ c.args.state.now.next = ap (λ (s : At). s.next) kept in
-    let still = c.pass_member.ensures.steps in
+    let still : c.pass_member.new.state.steps ≡ c.args.state.now.steps = omega (arith, next, c.pass_member.ensures.grows, c.pass_member.ensures.pays) in
     passed_on c.from_residual.result c.in_err-read_enclosed.field-0.0 _ c.from_residual.ensures.1
     (subst (λ (s : At). BreaksMember (declarations_of t) m c.args.depth (Some (ty.named c.args.entry)) c.args.envelope s c.in_err-read_enclosed.field-0.0) kept c.in_err-read_enclosed.ensures.told)
 
@@ -111,7 +113,7 @@ returns-in_err-read_enclosed-clause-cost c =
     let old = at_of c.args.state.now in
     let kept : at_of c.pass_member.new.state ≡ old = c.pass_member.ensures.kept c.if-pass_member.false in
     let next : c.pass_member.new.state.next ≡ c.args.state.now.next = ap (λ (s : At). s.next) kept in
-    let still = c.pass_member.ensures.steps in
+    let still : c.pass_member.new.state.steps ≡ c.args.state.now.steps = omega (arith, next, c.pass_member.ensures.grows, c.pass_member.ensures.pays) in
     omega (arith, next, still, c.in_err-read_enclosed.ensures.cost)
 
 pub returns-then-is_flat-clause-ok : goal.returns-then-is_flat-clause-ok
@@ -121,7 +123,7 @@ returns-then-is_flat-clause-ok c =
     let old = at_of c.args.state.now in
     let kept : at_of c.pass_member.new.state ≡ old = c.pass_member.ensures.kept c.if-pass_member.false in
     let next : c.pass_member.new.state.next ≡ c.args.state.now.next = ap (λ (s : At). s.next) kept in
-    let still = c.pass_member.ensures.steps in
+    let still : c.pass_member.new.state.steps ≡ c.args.state.now.steps = omega (arith, next, c.pass_member.ensures.grows, c.pass_member.ensures.pays) in
     subst (λ (s : At). Opens t m c.args.depth (Some (ty.named c.args.entry)) c.args.envelope s (at_of c.read_enclosed.new.state) None) kept c.in_ok-read_enclosed.ensures.ok
 
 pub returns-then-is_flat-clause-pays : goal.returns-then-is_flat-clause-pays
@@ -131,7 +133,7 @@ returns-then-is_flat-clause-pays c =
     let old = at_of c.args.state.now in
     let kept : at_of c.pass_member.new.state ≡ old = c.pass_member.ensures.kept c.if-pass_member.false in
     let next : c.pass_member.new.state.next ≡ c.args.state.now.next = ap (λ (s : At). s.next) kept in
-    let still = c.pass_member.ensures.steps in
+    let still : c.pass_member.new.state.steps ≡ c.args.state.now.steps = omega (arith, next, c.pass_member.ensures.grows, c.pass_member.ensures.pays) in
     let own = c.in_ok-read_enclosed.ensures.pays in
     omega (arith, next, still, own)
 
@@ -142,7 +144,7 @@ returns-then-is_flat-clause-grows c =
     let old = at_of c.args.state.now in
     let kept : at_of c.pass_member.new.state ≡ old = c.pass_member.ensures.kept c.if-pass_member.false in
     let next : c.pass_member.new.state.next ≡ c.args.state.now.next = ap (λ (s : At). s.next) kept in
-    let still = c.pass_member.ensures.steps in
+    let still : c.pass_member.new.state.steps ≡ c.args.state.now.steps = omega (arith, next, c.pass_member.ensures.grows, c.pass_member.ensures.pays) in
     let grows = c.in_ok-read_enclosed.ensures.grows in
     omega (arith, grows, still)
 
@@ -153,7 +155,7 @@ returns-then-is_flat-clause-cost c =
     let old = at_of c.args.state.now in
     let kept : at_of c.pass_member.new.state ≡ old = c.pass_member.ensures.kept c.if-pass_member.false in
     let next : c.pass_member.new.state.next ≡ c.args.state.now.next = ap (λ (s : At). s.next) kept in
-    let still = c.pass_member.ensures.steps in
+    let still : c.pass_member.new.state.steps ≡ c.args.state.now.steps = omega (arith, next, c.pass_member.ensures.grows, c.pass_member.ensures.pays) in
     omega (arith, next, still, c.in_ok-read_enclosed.ensures.cost)
 
 pub enter_member-requires-clause-state : goal.enter_member-requires-clause-state
@@ -163,7 +165,7 @@ enter_member-requires-clause-state c =
     let old = at_of c.args.state.now in
     let kept : at_of c.pass_member.new.state ≡ old = c.pass_member.ensures.kept c.if-pass_member.false in
     let next : c.pass_member.new.state.next ≡ c.args.state.now.next = ap (λ (s : At). s.next) kept in
-    let still = c.pass_member.ensures.steps in
+    let still : c.pass_member.new.state.steps ≡ c.args.state.now.steps = omega (arith, next, c.pass_member.ensures.grows, c.pass_member.ensures.pays) in
     subst (λ (s : At). StateFine m s) (sym kept) c.requires.state
 
 pub returns-in_err-frame-clause-err : goal.returns-in_err-frame-clause-err
@@ -173,7 +175,7 @@ returns-in_err-frame-clause-err c =
     let old = at_of c.args.state.now in
     let kept : at_of c.pass_member.new.state ≡ old = c.pass_member.ensures.kept c.if-pass_member.false in
     let next : c.pass_member.new.state.next ≡ c.args.state.now.next = ap (λ (s : At). s.next) kept in
-    let still = c.pass_member.ensures.steps in
+    let still : c.pass_member.new.state.steps ≡ c.args.state.now.steps = omega (arith, next, c.pass_member.ensures.grows, c.pass_member.ensures.pays) in
     on_err _ ((to : At) → Contained (declarations_of t) m c.args.depth (Some (ty.named c.args.entry)) c.args.envelope old to → ⊥)
     (subst (λ (s : At). (to : At) → Contained (declarations_of t) m c.args.depth (Some (ty.named c.args.entry)) c.args.envelope s to → ⊥) kept c.in_err-frame.ensures.err)
 
@@ -184,7 +186,7 @@ returns-in_err-frame-clause-told c =
     let old = at_of c.args.state.now in
     let kept : at_of c.pass_member.new.state ≡ old = c.pass_member.ensures.kept c.if-pass_member.false in
     let next : c.pass_member.new.state.next ≡ c.args.state.now.next = ap (λ (s : At). s.next) kept in
-    let still = c.pass_member.ensures.steps in
+    let still : c.pass_member.new.state.steps ≡ c.args.state.now.steps = omega (arith, next, c.pass_member.ensures.grows, c.pass_member.ensures.pays) in
     passed_on c.from_residual-in_err-frame.result c.in_err-frame.field-0.0 _ c.from_residual-in_err-frame.ensures.1
     (subst (λ (s : At). BreaksMember (declarations_of t) m c.args.depth (Some (ty.named c.args.entry)) c.args.envelope s c.in_err-frame.field-0.0) kept c.in_err-frame.ensures.told)
 
@@ -195,7 +197,7 @@ returns-clause-ok c =
     let old = at_of c.args.state.now in
     let kept : at_of c.pass_member.new.state ≡ old = c.pass_member.ensures.kept c.if-pass_member.false in
     let next : c.pass_member.new.state.next ≡ c.args.state.now.next = ap (λ (s : At). s.next) kept in
-    let still = c.pass_member.ensures.steps in
+    let still : c.pass_member.new.state.steps ≡ c.args.state.now.steps = omega (arith, next, c.pass_member.ensures.grows, c.pass_member.ensures.pays) in
     let mid = at_of c.pass_member.new.state in
     let new = at_of c.enter_member.new.state in
     let x = c.in_ok-frame.ensures in
@@ -210,7 +212,7 @@ returns-clause-pays c =
     let old = at_of c.args.state.now in
     let kept : at_of c.pass_member.new.state ≡ old = c.pass_member.ensures.kept c.if-pass_member.false in
     let next : c.pass_member.new.state.next ≡ c.args.state.now.next = ap (λ (s : At). s.next) kept in
-    let still = c.pass_member.ensures.steps in
+    let still : c.pass_member.new.state.steps ≡ c.args.state.now.steps = omega (arith, next, c.pass_member.ensures.grows, c.pass_member.ensures.pays) in
     let mid = at_of c.pass_member.new.state in
     let new = at_of c.enter_member.new.state in
     let x = c.in_ok-frame.ensures in

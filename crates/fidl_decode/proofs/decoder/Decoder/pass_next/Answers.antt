@@ -1,0 +1,35 @@
+use Rattle.std.proofs.Common.{◌+◌, ◌-◌, ◌*◌, sym, subst, arith}
+use Rattle.std.specs.Prelude.{Some, None}
+use Rattle.fidl_wire.specs.Term as ty
+use Rattle.fidl_decode.specs.Faults.{message_of}
+use Rattle.fidl_decode.specs.Body.{BodyFine}
+use Rattle.fidl_decode.specs.Machine.{Opens, at_of}
+use Rattle.fidl_decode.proofs.BodyTurns.{body_found, next_passed}
+use Rattle.fidl_decode.proofs.decoder.Decoder.pass_next.Goals as goal
+
+pub row-row-requires-clause-body : goal.row-row-requires-clause-body
+row-row-requires-clause-body c = subst (λ t. BodyFine t c.args.body.now) (sym c.requires.body.table) c.requires.body
+
+pub returns-in-Inside-clause-passed : goal.returns-in-Inside-clause-passed
+returns-in-Inside-clause-passed c =
+    λ so.
+    let t = c.args.self.now.table.now in
+    let m = message_of c.args.self.now.bytes.now c.args.self.now.handles.now in
+    let old = at_of c.args.state.now in
+    let found = body_found t c.args.body.now c.requires.body c.args.read c.requires.more c.row-row.result c.row-row.ensures.value c.if-row-read.false in
+    let few = c.requires.body.few in
+    let more = c.requires.more in
+    next_passed t c.requires.table m (c.requires.short, c.requires.state.few) c.args.body.now c.args.read old c.requires.frame c.requires.state (omega (arith, few, more)) c.row-row.result.entry found (at_of c.pass_inside.new.state) (c.pass_inside.new.state.steps - c.args.state.now.steps) (c.pass_inside.new.state.steps + 1 - c.args.state.now.steps) (omega arith) (omega (arith, c.pass_inside.ensures.steps, c.pass_inside.ensures.grows))
+    (subst (λ e. Opens t m c.args.body.now.depth (Some (ty.named e)) (c.args.body.now.base + 8 * c.args.read) old (at_of c.pass_inside.new.state) None) (sym c.if-row-entry.false) (c.pass_inside.ensures.passed so))
+
+pub returns-in-Below-clause-passed : goal.returns-in-Below-clause-passed
+returns-in-Below-clause-passed c =
+    λ so.
+    let t = c.args.self.now.table.now in
+    let m = message_of c.args.self.now.bytes.now c.args.self.now.handles.now in
+    let old = at_of c.args.state.now in
+    let found = body_found t c.args.body.now c.requires.body c.args.read c.requires.more c.row-row.result c.row-row.ensures.value c.if-row-read.false in
+    let few = c.requires.body.few in
+    let more = c.requires.more in
+    next_passed t c.requires.table m (c.requires.short, c.requires.state.few) c.args.body.now c.args.read old c.requires.frame c.requires.state (omega (arith, few, more)) c.row-row.result.entry found (at_of c.pass_below.new.state) (c.pass_below.new.state.steps - c.args.state.now.steps) (c.pass_below.new.state.steps + 1 - c.args.state.now.steps) (omega arith) (omega (arith, c.pass_below.ensures.steps, c.pass_below.ensures.grows))
+    (subst (λ e. Opens t m c.args.body.now.depth (Some (ty.named e)) (c.args.body.now.base + 8 * c.args.read) old (at_of c.pass_below.new.state) None) (sym c.if-row-entry.false) (c.pass_below.ensures.passed so))

@@ -1,0 +1,45 @@
+use Rattle.std.proofs.Common.{◌≡◌, ◌+◌, ◌-◌, sym, ap, subst, arith}
+use Rattle.std.specs.Prelude.{Some}
+use Rattle.fidl_decode.specs.Faults.{message_of}
+use Rattle.fidl_decode.specs.State.{At}
+use Rattle.fidl_decode.specs.Body.{rest_of}
+use Rattle.fidl_decode.specs.Machine.{Turns, at_of}
+use Rattle.fidl_decode.proofs.Leaves.{left_over, turns_then}
+use Rattle.fidl_decode.proofs.decoder.Decoder.pass_run.Goals as goal
+
+pub loop-read-preserved : goal.loop-read-preserved
+loop-read-preserved c =
+    let t = c.args.self.now.table.now in
+    let m = message_of c.args.self.now.bytes.now c.args.self.now.handles.now in
+    let body = c.args.body.now in
+    let i = c.loop-read.invariant in
+    let new = c.pass_next.new.state in
+    let one = i.turns in
+    let order = i.order in
+    let begun = i.grows in
+    let grows = c.pass_next.ensures.grows in
+    let pays = c.pass_next.ensures.pays in
+    let few = i.few in
+    record {
+      turns = turns_then t m (rest_of body c.args.from) (at_of c.args.state.now) (at_of c.loop-read.state) _ (rest_of body c.loop-read.read) one (at_of new) (new.steps + 1 - c.loop-read.state.steps) (new.steps + (c.loop-read.read + 1 - c.args.from) - c.args.state.now.steps) (left_over (Some (rest_of body (c.loop-read.read + 1)))) (omega (arith, order, begun, grows)) (c.pass_next.ensures.passed c.if-pass_next.true);
+      order = omega (arith, order);
+      few = omega (arith, few, c.loop-read-test.true);
+      grows = omega (arith, begun, grows);
+      pays = omega (arith, pays, i.pays);
+    }
+
+pub returns-else-pass_next-clause-turns : goal.returns-else-pass_next-clause-turns
+returns-else-pass_next-clause-turns c =
+    let t = c.args.self.now.table.now in
+    let m = message_of c.args.self.now.bytes.now c.args.self.now.handles.now in
+    let f = rest_of c.args.body.now c.args.from in
+    let old = at_of c.args.state.now in
+    let x = left_over (Some (rest_of c.args.body.now c.loop-read.read)) in
+    let l = c.loop-read.state in
+    let s = c.pass_next.new.state in
+    let kept = c.pass_next.ensures.kept c.if-pass_next.false in
+    let next : s.next ≡ l.next = ap (λ (s : At). s.next) kept in
+    let grows = c.pass_next.ensures.grows in
+    let pays = c.pass_next.ensures.pays in
+    let count : l.steps + (c.loop-read.read - c.args.from) - c.args.state.now.steps ≡ s.steps + (c.loop-read.read - c.args.from) - c.args.state.now.steps = omega (arith, next, grows, pays) in
+    subst (λ (u : At). Turns t m f old u (s.steps + (c.loop-read.read - c.args.from) - c.args.state.now.steps) x) (sym kept) (subst (λ n. Turns t m f old (at_of l) n x) count c.loop-read.invariant.turns)

@@ -1,0 +1,22 @@
+use Rattle.std.proofs.Common.{◌+◌, ◌-◌, subst, arith, refl}
+use Rattle.std.specs.Prelude.{Some}
+use Rattle.fidl_decode.specs.Faults.{message_of}
+use Rattle.fidl_decode.specs.Body.{rest_of}
+use Rattle.fidl_decode.specs.Machine.{Turns, at_of}
+use Rattle.fidl_decode.proofs.Leaves.{left_over, turns_then}
+use Rattle.fidl_decode.proofs.BodyTurns.{next_absent}
+use Rattle.fidl_decode.proofs.decoder.Decoder.pass_some.Goals as goal
+
+pub returns-then-is_absent-clause-turns : goal.returns-then-is_absent-clause-turns
+returns-then-is_absent-clause-turns c =
+    let t = c.args.self.now.table.now in
+    let m = message_of c.args.self.now.bytes.now c.args.self.now.handles.now in
+    let body = c.args.body.now in
+    let old = c.args.state.now in
+    let mid = c.pass_alike-read.new.state in
+    let few = c.requires.body.few in
+    let more = c.requires.more in
+    let grows = c.pass_alike-read.ensures.grows in
+    let one = subst (λ n. Turns t m (rest_of body c.args.from) (at_of old) (at_of mid) (mid.steps + (n - c.args.from) - old.steps) (left_over (Some (rest_of body n)))) c.if-read-from.true c.pass_alike-read.ensures.turns in
+    let two = next_absent t c.requires.table m (c.requires.short, c.requires.state.few) body c.args.from (at_of mid) one.rest_fine.0 one.state (omega (arith, few, more)) (c.is_absent.ensures.0 c.if-is_absent.true) 1 refl in
+    turns_then t m (rest_of body c.args.from) (at_of old) (at_of mid) (mid.steps + (c.args.from - c.args.from) - old.steps) (rest_of body c.args.from) one (at_of mid) 1 (mid.steps + (c.args.from + 1 - c.args.from) - old.steps) (left_over (Some (rest_of body (c.args.from + 1)))) (omega (arith, grows)) two

@@ -1,0 +1,93 @@
+use Rattle.std.proofs.Common.{◌≡◌, ◌+◌, ◌-◌, ◌/◌, ◌<◌, ◌≤◌, ◌^◌, ℕ, List, get_or, slice_set, false, true, refl, sym, ap, subst, ◌∙◌, arith}
+use Rattle.std.specs.Prelude.{Option, Some, None, Result, Ok, Err, OnOk}
+use Rattle.std.specs.Option.{is_some}
+use Rattle.std.specs.Result.{is_err}
+use Rattle.std.specs.Int.{next_multiple_of, w64}
+use Rattle.fidl_wire.specs.Encoding.{zeros}
+use Rattle.fidl_wire.specs.Standing.{Stands}
+use Rattle.fidl_records.specs.declared.kind.EntryKind.TheVariants.{Struct}
+use Rattle.fidl_records.specs.declared.record.Entry.{Entry}
+use Rattle.fidl_records.specs.Field.{number_at}
+use Rattle.fidl_records.specs.Section.{header_of, entry_at}
+use Rattle.fidl_decode.specs.declared.frame.Left.TheVariants.{Rows}
+use Rattle.fidl_decode.specs.Faults.{message_of}
+use Rattle.fidl_decode.specs.State.{Message, At, opened, linked}
+use Rattle.fidl_decode.specs.Machine.{Passes, at_of}
+use Rattle.fidl_decode.proofs.Visiting.{fine_as}
+use Rattle.fidl_decode.proofs.Freely.{rows_within, struct_passed}
+use Rattle.fidl_decode.proofs.Words.{counted_small, handles_none, flags_none}
+use Rattle.fidl_decode.proofs.decoder.Decoder.pass_struct.Goals as goal
+
+no_false : true ≡ false → ⊥
+no_false e = cc
+
+no_flag : (o : Option ℕ) → is_some o ≡ false → o ≡ None
+no_flag None e = refl
+no_flag (Some k) e = absurd (no_false e)
+
+not_err : {T E P : Type 0} (r : Result T E) → is_err r ≡ false → OnOk r P → P
+not_err (Ok x) e p = p
+not_err (Err x) e p = absurd (no_false e)
+
+-- all rows of the struct are passed over, and no bool is among them
+plainly : (t : List ℕ) (m : Message) (e d : Entry) (rows first count done : ℕ) (flag : Option ℕ) → e ≡ d → count ≡ 0 → flag ≡ None → Passes t m (Rows e.first e.count) rows first count done flag → Passes t m (Rows d.first d.count) rows first 0 done None
+plainly t m e d rows first count done flag is all none p = subst (λ (X : Type 0). X) (λ i. Passes t m (Rows (is i).first (is i).count) rows first (all i) done (none i)) p
+
+pub plain_rows-plain-requires-clause-within : goal.plain_rows-plain-requires-clause-within
+plain_rows-plain-requires-clause-within c =
+    let t = c.args.self.now.table.now in
+    subst (λ (d : Entry). d.first + d.count ≤ (header_of t).rows) (sym c.entry-e.ensures.value) (fine_as t c.requires.table c.args.entry Struct c.requires.entry c.requires.kind).content.0
+
+pub overflow_add-next : goal.overflow_add-next
+overflow_add-next c =
+    let t = c.args.self.now.table.now in
+    let m = message_of c.args.self.now.bytes.now c.args.self.now.handles.now in
+    let old = at_of c.args.state.now in
+    let d = entry_at t c.args.entry in
+    let is : c.entry-e.result ≡ d = c.entry-e.ensures.value in
+    let whole : c.next_multiple_of-whole.result ≡ next_multiple_of d.size 8 = c.next_multiple_of-whole.ensures.value ∙ ap (λ (d : Entry). next_multiple_of d.size 8) is in
+    let plain = c.plain_rows-plain.result in
+    let passes = plainly t m c.entry-e.result d plain.rows plain.first plain.count plain.done plain.flag is c.if-plain-ne0.false (no_flag plain.flag (sym c.is_some.ensures ∙ c.if-is_some.false)) c.plain_rows-plain.ensures.passes in
+    let within = rows_within t c.requires.table m (c.requires.short, c.requires.state.few) c.args.depth c.args.entry c.args.envelope old c.requires.entry c.requires.room (λ i. omega (arith, c.args.self.now.octets i)) c.requires.state c.requires.depth c.requires.kind
+    (omega (arith, c.requires.depth, c.if-depth-eq-MAX_DEPTH.false)) (omega (arith, c.if-whole-self.false, whole)) plain.rows plain.first plain.done passes in
+    record { fits = omega (arith, within, c.if-whole-self.false, c.next_multiple_of-whole.ensures.lower_bound, ap (λ (d : Entry). d.size) is, c.requires.short, c.requires.state.next) }
+
+pub zeros_at-requires-clause-order : goal.zeros_at-requires-clause-order
+zeros_at-requires-clause-order c =
+    let t = c.args.self.now.table.now in
+    let m = message_of c.args.self.now.bytes.now c.args.self.now.handles.now in
+    let old = at_of c.args.state.now in
+    let d = entry_at t c.args.entry in
+    let is : c.entry-e.result ≡ d = c.entry-e.ensures.value in
+    let whole : c.next_multiple_of-whole.result ≡ next_multiple_of d.size 8 = c.next_multiple_of-whole.ensures.value ∙ ap (λ (d : Entry). next_multiple_of d.size 8) is in
+    let plain = c.plain_rows-plain.result in
+    let passes = plainly t m c.entry-e.result d plain.rows plain.first plain.count plain.done plain.flag is c.if-plain-ne0.false (no_flag plain.flag (sym c.is_some.ensures ∙ c.if-is_some.false)) c.plain_rows-plain.ensures.passes in
+    let within = rows_within t c.requires.table m (c.requires.short, c.requires.state.few) c.args.depth c.args.entry c.args.envelope old c.requires.entry c.requires.room (λ i. omega (arith, c.args.self.now.octets i)) c.requires.state c.requires.depth c.requires.kind
+    (omega (arith, c.requires.depth, c.if-depth-eq-MAX_DEPTH.false)) (omega (arith, c.if-whole-self.false, whole)) plain.rows plain.first plain.done passes in
+    omega (arith, within, c.next_multiple_of-whole.ensures.lower_bound, ap (λ (d : Entry). d.size) is)
+
+pub returns-clause-passed : goal.returns-clause-passed
+returns-clause-passed c =
+    λ so.
+    let t = c.args.self.now.table.now in
+    let m = message_of c.args.self.now.bytes.now c.args.self.now.handles.now in
+    let old = at_of c.args.state.now in
+    let d = entry_at t c.args.entry in
+    let is : c.entry-e.result ≡ d = c.entry-e.ensures.value in
+    let whole : c.next_multiple_of-whole.result ≡ next_multiple_of d.size 8 = c.next_multiple_of-whole.ensures.value ∙ ap (λ (d : Entry). next_multiple_of d.size 8) is in
+    let plain = c.plain_rows-plain.result in
+    let passes = plainly t m c.entry-e.result d plain.rows plain.first plain.count plain.done plain.flag is c.if-plain-ne0.false (no_flag plain.flag (sym c.is_some.ensures ∙ c.if-is_some.false)) c.plain_rows-plain.ensures.passes in
+    let small = c.next_multiple_of-whole.result in
+    let is_small = sym c.u64_at.ensures ∙ c.if-u64_at-whole.false in
+    let few : number_at w64 m.bytes c.args.envelope < 2 ^ 32 = omega (arith, is_small, c.if-whole-self.false, c.requires.short) in
+    let octets : (i : ℕ) → get_or m.bytes i 0 < 256 = λ i. omega (arith, c.args.self.now.octets i) in
+    let z = not_err c.zeros_at.result (sym c.is_err.ensures.value ∙ c.if-is_err.false) c.zeros_at.ensures.ok in
+    let z' = subst (λ n. Stands m.bytes (old.next + plain.done) (zeros (old.next + n - (old.next + plain.done)))) whole z in
+    let new : At = record { next = old.next + small; handle = old.handle; objects = c.link.new.self.objects; records = c.link.new.self.records } in
+    let objects = c.link.ensures.objects ∙ ap (λ (l : List ℕ). slice_set l (c.args.envelope / 8) old.next) c.record.ensures.objects in
+    let records = c.link.ensures.records ∙ c.record.ensures.records in
+    let led : linked c.args.envelope d.size (opened c.args.envelope old) ≡ new
+    = λ i. record { next = old.next + sym whole i; handle = old.handle; objects = sym objects i; records = sym records i } in
+    struct_passed t c.requires.table m (c.requires.short, c.requires.state.few) c.args.depth c.args.entry c.args.envelope old c.requires.entry c.requires.room (λ i. omega (arith, c.args.self.now.octets i)) c.requires.state c.requires.depth c.requires.kind
+    (omega (arith, c.requires.depth, c.if-depth-eq-MAX_DEPTH.false)) (omega (arith, c.if-whole-self.false, whole)) plain.rows plain.first plain.done passes
+    (omega (arith, c.if-size-le4.false, ap (λ (d : Entry). d.size) is)) (flags_none m.bytes c.args.envelope c.requires.room octets few) (counted_small m.bytes c.args.envelope c.requires.room octets few ∙ is_small ∙ whole) (handles_none m.bytes c.args.envelope c.requires.room octets few) z' new led

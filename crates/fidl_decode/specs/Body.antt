@@ -1,0 +1,62 @@
+-- The envelopes of a table's value, and the members that are passed over without a turn of their own.
+use Rattle.std.specs.Prelude.{◌≡◌, ℕ, ◌-◌, ◌*◌, ◌<◌, ◌≤◌, List, true, Some}
+use Rattle.fidl_records.specs.declared.kind.EntryKind.{EntryKind}
+use Rattle.fidl_records.specs.declared.kind.EntryKind.TheVariants.{Table}
+use Rattle.fidl_records.specs.Kind.{kind_of}
+use Rattle.fidl_records.specs.Section.{header_of, entry_at}
+use Rattle.fidl_records.specs.WellFormed.{WellFormed}
+use Rattle.fidl_decode.specs.declared.frame.Frame.{Frame}
+use Rattle.fidl_decode.specs.declared.frame.Left.TheVariants.{Envelopes}
+use Rattle.fidl_decode.specs.declared.body.TableBody.{TableBody}
+use Rattle.fidl_decode.specs.declared.body.Passing.{Passing}
+use Rattle.fidl_decode.specs.declared.body.Passing.TheVariants.{Inside, Below}
+use Rattle.fidl_decode.specs.Invariants.{is_free}
+use Rattle.fidl_decode.specs.Machine.{most_nest}
+
+-- what is noted of a table's entry is so: its header, the first of its rows, and how many of them
+-- name members of these envelopes
+pub record BodyFine (t : List ℕ) (b : TableBody) : Type 0 where
+  pub table : b.table.now ≡ t
+  pub header : b.header ≡ header_of t
+  pub well : WellFormed t
+  pub entry : b.entry < (header_of t).entries
+  pub is : kind_of (entry_at t b.entry).kind ≡ Some Table
+  pub first : b.first ≡ (entry_at t b.entry).first
+  pub known : b.known ≤ (entry_at t b.entry).count
+  pub few : b.known ≤ b.count
+
+-- the frame of all envelopes but so many, which are read
+abbrev pub rest_of : TableBody → (read : ℕ) → Frame
+rest_of b read =
+    record {
+      left = Envelopes b.entry read (b.count - read);
+      base = b.base;
+      done = 8 * read;
+      size = 8 * b.count;
+      nest = most_nest;
+      depth = b.depth;
+      inside = 0;
+    }
+
+-- the frame of so many envelopes of a value of an entry, of which none is read
+abbrev pub envelopes_of : (entry base count depth : ℕ) → Frame
+envelopes_of entry base count depth =
+    record {
+      left = Envelopes entry 0 count;
+      base = base;
+      done = 0;
+      size = 8 * count;
+      nest = most_nest;
+      depth = depth;
+      inside = 0;
+    }
+
+-- any bytes are a value of the entry, and are so many
+abbrev pub IsFreeOf : List ℕ → (entry size : ℕ) → Type 0
+IsFreeOf t entry size = ((kind : EntryKind) × (kind_of (entry_at t entry).kind ≡ Some kind)
+    × (is_free kind (entry_at t entry) ≡ true)) × ((entry_at t entry).size ≡ size)
+
+-- numbers of the entry are passed over so
+abbrev pub IsPassing : List ℕ → (entry : ℕ) → Passing → Type 0
+IsPassing t entry Inside = IsFreeOf t entry 4
+IsPassing t entry Below = IsFreeOf t entry 8

@@ -1,0 +1,368 @@
+//! The envelopes that a table's value begins with, which are read where they stand: absent ones, and
+//! those of numbers, bools, texts and structs of numbers.
+ghost use Rattle.std.specs.Prelude.{◌≡◌, ◌+◌, ◌-◌, ◌*◌, ◌^◌, ◌<◌, ◌≤◌, IsTrue, IsFalse, Some};
+ghost use Rattle.std.specs.Prelude.{None, length};
+ghost use Rattle.fidl_limits.specs.declared.limits.TheConstants.{MAX_MESSAGE_BYTES};
+ghost use Rattle.fidl_records.specs.declared.kind.EntryKind.TheVariants as kinds;
+ghost use Rattle.fidl_wire.specs.Term as ty;
+ghost use Rattle.fidl_wire.specs.Term.{find};
+ghost use Rattle.fidl_records.specs.Kind.{kind_of};
+ghost use Rattle.fidl_records.specs.Section.{header_of, entry_at, row_at};
+ghost use Rattle.fidl_records.specs.Terms.{members_of};
+ghost use Rattle.fidl_decode.specs.Invariants.{IsFine};
+ghost use Rattle.fidl_decode.specs.Faults.{message_of};
+ghost use Rattle.fidl_decode.specs.Body.{BodyFine, IsPassing, rest_of};
+ghost use Rattle.fidl_decode.specs.Machine.{StateFine, FrameFine, Turns, at_of};
+
+use crate::decoder::Decoder;
+use crate::frame::{Frame, Left, State};
+use fidl_records::{EntryKind, Header, Row, read_entry, read_header, read_row};
+use fidl_wire::MAX_NEST;
+
+/// The envelopes of a table's value, and the rows that its entry has.
+#[derive(Clone, Copy, Drop)]
+pub(crate) struct TableBody<'t> {
+    /// The coding table, and its header.
+    pub table: &'t [u8],
+    pub header: Header,
+    /// The entry, the first of its rows, and how many of these are looked at.
+    pub entry: u32,
+    pub first: u32,
+    pub known: u32,
+    /// Where the first envelope stands, and how many envelopes there are.
+    pub base: usize,
+    pub count: u32,
+    pub depth: u8,
+}
+
+/// How numbers of one type are passed over.
+#[derive(Clone, Copy, Drop)]
+pub(crate) enum Passing {
+    /// They stand in their envelopes, and have four bytes that may be any.
+    Inside,
+    /// They are the next objects, and have eight bytes that may be any.
+    Below,
+}
+
+impl<'t> TableBody<'t> {
+    /// The row of the next envelope, where no ordinal below it is missing.
+    #[inline(always)]
+    fn row(&self, read: u32) -> Row
+        requires body { BodyFine self.now.table.now self.now }
+        requires more { read < self.now.known }
+        ensures value { result ≡ row_at self.now.table.now (header_of self.now.table.now)
+            (self.now.first + read) }
+        ensures entry { result.entry < (header_of self.now.table.now).entries }
+    {
+        read_row(self.table, &self.header, self.first + read)
+    }
+
+    /// The number of an entry's kind.
+    #[inline(always)]
+    fn kind_of(&self, entry: u32) -> u8
+        requires body { BodyFine self.now.table.now self.now }
+        requires entry { entry < (header_of self.now.table.now).entries }
+        ensures { result ≡ (entry_at self.now.table.now entry).kind }
+    {
+        read_entry(self.table, entry).kind
+    }
+}
+
+impl<'t, 'm> Decoder<'t, 'm> {
+    /// The envelopes of a value of a table entry, so many of them from a place on.
+    #[inline(always)]
+    pub(crate) fn body_of(&self, entry: u32, base: usize, count: u32, depth: u8) -> TableBody<'t>
+        requires table { IsFine self.now.table.now }
+        requires entry { entry < (header_of self.now.table.now).entries }
+        requires kind { kind_of (entry_at self.now.table.now entry).kind ≡ Some kinds.Table }
+        ensures fine { BodyFine self.now.table.now result }
+        ensures entry { result.entry ≡ entry }
+        ensures base { result.base ≡ base }
+        ensures count { result.count ≡ count }
+        ensures depth { result.depth ≡ depth }
+    {
+        let table = self.table.bytes();
+        let parts = self.table.entry(entry);
+        TableBody {
+            table,
+            header: read_header(table),
+            entry,
+            first: parts.first,
+            known: count.min(parts.count),
+            base,
+            count,
+            depth,
+        }
+    }
+
+    /// Passes over the next envelope, where its member is one of this entry. Else nothing is read. The
+    /// step that this takes is not counted yet.
+    #[inline(always)]
+    fn pass_next(
+        &self,
+        body: &TableBody<'_>,
+        read: u32,
+        entry: u32,
+        how: Passing,
+        state: &mut State,
+    ) -> bool
+        requires table { IsFine self.now.table.now }
+        requires body { BodyFine self.now.table.now body.now }
+        requires more { read < body.now.known }
+        requires entry { entry < (header_of self.now.table.now).entries }
+        requires how { IsPassing self.now.table.now entry how }
+        requires short { length self.now.bytes.now ≤ MAX_MESSAGE_BYTES }
+        requires frame { FrameFine self.now.table.now self.now.bytes.now
+            (rest_of body.now read) }
+        requires state { StateFine (message_of self.now.bytes.now self.now.handles.now)
+            (at_of state.old) }
+        requires budget { state.old.steps < 2 ^ 43 }
+        ensures passed { IsTrue result → Turns self.now.table.now
+            (message_of self.now.bytes.now self.now.handles.now) (rest_of body.now read)
+            (at_of state.old) (at_of state.new) (state.new.steps + 1 - state.old.steps)
+            (record { below = None; rest = Some (rest_of body.now (read + 1)) }) }
+        ensures kept { IsFalse result → at_of state.new ≡ at_of state.old }
+        ensures grows { state.old.steps ≤ state.new.steps }
+        ensures pays { state.new.steps + state.old.next ≤ state.old.steps + state.new.next }
+    {
+        let row = body.row(read);
+        if row.key != read + 1 || row.entry != entry {
+            return false;
+        }
+        let place = body.base + 8 * read as usize;
+        match how {
+            Passing::Inside => self.pass_inside(entry, place, body.depth, state),
+            Passing::Below => self.pass_below(entry, place, body.depth, state),
+        }
+    }
+
+    /// Passes over the next envelopes, as long as their members are of this entry, and answers how many
+    /// are read then. The steps, one for each, are not counted yet.
+    #[inline(always)]
+    fn pass_run(
+        &self,
+        body: &TableBody<'_>,
+        from: u32,
+        entry: u32,
+        how: Passing,
+        state: &mut State,
+    ) -> u32
+        requires table { IsFine self.now.table.now }
+        requires body { BodyFine self.now.table.now body.now }
+        requires more { from ≤ body.now.known }
+        requires entry { entry < (header_of self.now.table.now).entries }
+        requires how { IsPassing self.now.table.now entry how }
+        requires short { length self.now.bytes.now ≤ MAX_MESSAGE_BYTES }
+        requires frame { FrameFine self.now.table.now self.now.bytes.now
+            (rest_of body.now from) }
+        requires state { StateFine (message_of self.now.bytes.now self.now.handles.now)
+            (at_of state.old) }
+        requires budget { state.old.steps < 2 ^ 42 }
+        ensures turns { Turns self.now.table.now
+            (message_of self.now.bytes.now self.now.handles.now) (rest_of body.now from)
+            (at_of state.old) (at_of state.new)
+            (state.new.steps + (result - from) - state.old.steps)
+            (record { below = None; rest = Some (rest_of body.now result) }) }
+        ensures order { from ≤ result }
+        ensures few { result ≤ body.now.known }
+        ensures grows { state.old.steps ≤ state.new.steps }
+        ensures pays { state.new.steps + state.old.next ≤ state.old.steps + state.new.next }
+    {
+        let mut read = from;
+        while read != body.known && self.pass_next(body, read, entry, how, state) {
+            read += 1;
+        }
+        read
+    }
+
+    /// Passes over the next envelope, whose member is of this entry and kind, and answers how many are
+    /// read then. The step that this takes is not counted yet.
+    #[inline(always)]
+    fn pass_one(
+        &self,
+        body: &TableBody<'_>,
+        from: u32,
+        entry: u32,
+        kind: EntryKind,
+        state: &mut State,
+    ) -> u32
+        requires table { IsFine self.now.table.now }
+        requires body { BodyFine self.now.table.now body.now }
+        requires more { from < body.now.known }
+        requires found { find (members_of self.now.table.now body.now.entry) (from + 1)
+            ≡ Some (ty.named entry) }
+        requires entry { entry < (header_of self.now.table.now).entries }
+        requires kind { kind_of (entry_at self.now.table.now entry).kind ≡ Some kind }
+        requires short { length self.now.bytes.now ≤ MAX_MESSAGE_BYTES }
+        requires frame { FrameFine self.now.table.now self.now.bytes.now
+            (rest_of body.now from) }
+        requires state { StateFine (message_of self.now.bytes.now self.now.handles.now)
+            (at_of state.old) }
+        requires budget { state.old.steps < 2 ^ 42 }
+        ensures turns { Turns self.now.table.now
+            (message_of self.now.bytes.now self.now.handles.now) (rest_of body.now from)
+            (at_of state.old) (at_of state.new)
+            (state.new.steps + (result - from) - state.old.steps)
+            (record { below = None; rest = Some (rest_of body.now result) }) }
+        ensures order { from ≤ result }
+        ensures few { result ≤ body.now.known }
+        ensures grows { state.old.steps ≤ state.new.steps }
+        ensures pays { state.new.steps + state.old.next ≤ state.old.steps + state.new.next }
+    {
+        let place = body.base + 8 * from as usize;
+        if self.pass_kind(entry, kind, place, body.depth, state) {
+            return from + 1;
+        }
+        from
+    }
+
+    /// Passes over the next envelopes with members of one entry, and answers how many are read then.
+    /// The steps, one for each, are not counted yet.
+    #[inline(always)]
+    fn pass_alike(&self, body: &TableBody<'_>, from: u32, state: &mut State) -> u32
+        requires table { IsFine self.now.table.now }
+        requires body { BodyFine self.now.table.now body.now }
+        requires more { from < body.now.known }
+        requires short { length self.now.bytes.now ≤ MAX_MESSAGE_BYTES }
+        requires frame { FrameFine self.now.table.now self.now.bytes.now
+            (rest_of body.now from) }
+        requires state { StateFine (message_of self.now.bytes.now self.now.handles.now)
+            (at_of state.old) }
+        requires budget { state.old.steps < 2 ^ 42 }
+        ensures turns { Turns self.now.table.now
+            (message_of self.now.bytes.now self.now.handles.now) (rest_of body.now from)
+            (at_of state.old) (at_of state.new)
+            (state.new.steps + (result - from) - state.old.steps)
+            (record { below = None; rest = Some (rest_of body.now result) }) }
+        ensures order { from ≤ result }
+        ensures few { result ≤ body.now.known }
+        ensures grows { state.old.steps ≤ state.new.steps }
+        ensures pays { state.new.steps + state.old.next ≤ state.old.steps + state.new.next }
+    {
+        let row = body.row(from);
+        if row.key != from + 1 {
+            return from;
+        }
+        let entry = row.entry;
+        let Some(kind) = EntryKind::from_number(body.kind_of(entry)) else {
+            unreachable!()
+        };
+        match kind {
+            EntryKind::Int32 | EntryKind::Uint32 => {
+                self.pass_run(body, from, entry, Passing::Inside, state)
+            }
+            EntryKind::Int64 | EntryKind::Uint64 => {
+                self.pass_run(body, from, entry, Passing::Below, state)
+            }
+            _ => self.pass_one(body, from, entry, kind, state),
+        }
+    }
+
+    /// Passes over the next envelopes: those with members of one entry, or one that is absent; answers
+    /// how many are read then. The steps, one for each, are not counted yet.
+    #[inline(always)]
+    fn pass_some(&self, body: &TableBody<'_>, from: u32, state: &mut State) -> u32
+        requires table { IsFine self.now.table.now }
+        requires body { BodyFine self.now.table.now body.now }
+        requires more { from < body.now.known }
+        requires short { length self.now.bytes.now ≤ MAX_MESSAGE_BYTES }
+        requires frame { FrameFine self.now.table.now self.now.bytes.now
+            (rest_of body.now from) }
+        requires state { StateFine (message_of self.now.bytes.now self.now.handles.now)
+            (at_of state.old) }
+        requires budget { state.old.steps < 2 ^ 42 }
+        ensures turns { Turns self.now.table.now
+            (message_of self.now.bytes.now self.now.handles.now) (rest_of body.now from)
+            (at_of state.old) (at_of state.new)
+            (state.new.steps + (result - from) - state.old.steps)
+            (record { below = None; rest = Some (rest_of body.now result) }) }
+        ensures order { from ≤ result }
+        ensures few { result ≤ body.now.known }
+        ensures grows { state.old.steps ≤ state.new.steps }
+        ensures pays { state.new.steps + state.old.next ≤ state.old.steps + state.new.next }
+    {
+        let read = self.pass_alike(body, from, state);
+        if read == from && self.is_absent(body.base + 8 * from as usize) {
+            return from + 1;
+        }
+        read
+    }
+
+    /// Passes over the first envelopes of a table's value, and answers how many are read then.
+    #[inline(never)]
+    pub(crate) fn pass_front(&self, body: &TableBody<'_>, state: &mut State) -> u32
+        requires table { IsFine self.now.table.now }
+        requires body { BodyFine self.now.table.now body.now }
+        requires short { length self.now.bytes.now ≤ MAX_MESSAGE_BYTES }
+        requires frame { FrameFine self.now.table.now self.now.bytes.now
+            (rest_of body.now 0) }
+        requires state { StateFine (message_of self.now.bytes.now self.now.handles.now)
+            (at_of state.old) }
+        requires budget { state.old.steps < 2 ^ 41 }
+        ensures turns { Turns self.now.table.now
+            (message_of self.now.bytes.now self.now.handles.now) (rest_of body.now 0)
+            (at_of state.old) (at_of state.new) (state.new.steps - state.old.steps)
+            (record { below = None; rest = Some (rest_of body.now result) }) }
+        ensures few { result ≤ body.now.known }
+        ensures grows { state.old.steps ≤ state.new.steps }
+        ensures pays { state.new.steps + state.old.next
+            ≤ state.old.steps + result + state.new.next }
+    {
+        // A copy, so that writing a link is known to leave it.
+        let own = *body;
+        let mut from = 0;
+        while from != own.known {
+            let read = self.pass_some(&own, from, state);
+            if read == from {
+                break;
+            }
+            from = read;
+        }
+        state.steps += u64::from(from);
+        from
+    }
+
+    /// What is left of a table's value, of which so many envelopes are read.
+    #[inline(always)]
+    pub(crate) fn left_of(
+        &self,
+        body: &TableBody<'_>,
+        read: u32,
+        state: &mut State,
+    ) -> Option<Frame>
+        requires table { IsFine self.now.table.now }
+        requires body { BodyFine self.now.table.now body.now }
+        requires order { read ≤ body.now.count }
+        requires short { length self.now.bytes.now ≤ MAX_MESSAGE_BYTES }
+        requires frame { FrameFine self.now.table.now self.now.bytes.now
+            (rest_of body.now read) }
+        requires state { StateFine (message_of self.now.bytes.now self.now.handles.now)
+            (at_of state.old) }
+        requires budget { state.old.steps < 2 ^ 42 }
+        ensures turns { Turns self.now.table.now
+            (message_of self.now.bytes.now self.now.handles.now) (rest_of body.now read)
+            (at_of state.old) (at_of state.new) (state.new.steps - state.old.steps)
+            (record { below = None; rest = result }) }
+        ensures next { state.new.next ≡ state.old.next }
+        ensures grows { state.old.steps ≤ state.new.steps }
+        ensures steps { state.new.steps ≤ state.old.steps + 1 }
+    {
+        if read == body.count {
+            state.steps += 1;
+            return None;
+        }
+        Some(Frame {
+            left: Left::Envelopes {
+                entry: body.entry,
+                read,
+                count: body.count - read,
+            },
+            base: body.base,
+            done: 8 * read as usize,
+            size: 8 * body.count as usize,
+            nest: MAX_NEST as u8 + 1,
+            depth: body.depth,
+            inside: 0,
+        })
+    }
+}

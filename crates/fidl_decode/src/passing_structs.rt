@@ -1,0 +1,68 @@
+//! Envelopes of structs of numbers that stand behind one another, which are passed over.
+ghost use Rattle.std.specs.Prelude.{◌≡◌, ◌+◌, ◌^◌, ◌<◌, ◌≤◌, IsTrue, IsFalse, Some, None};
+ghost use Rattle.std.specs.Prelude.{length};
+ghost use Rattle.fidl_limits.specs.declared.limits.TheConstants.{MAX_DEPTH, MAX_MESSAGE_BYTES};
+ghost use Rattle.fidl_wire.specs.Term as ty;
+ghost use Rattle.fidl_records.specs.declared.kind.EntryKind.TheVariants as kinds;
+ghost use Rattle.fidl_records.specs.Kind.{kind_of};
+ghost use Rattle.fidl_records.specs.Section.{header_of, entry_at};
+ghost use Rattle.fidl_decode.specs.Invariants.{IsFine};
+ghost use Rattle.fidl_decode.specs.Faults.{message_of};
+ghost use Rattle.fidl_decode.specs.Machine.{StateFine, Opens, at_of};
+
+use crate::decoder::{Decoder, zeros_at};
+use crate::frame::State;
+use fidl_records::u64_at;
+use fidl_wire::MAX_DEPTH;
+
+impl<'t, 'm> Decoder<'t, 'm> {
+    /// Passes over the envelope at a place, whose member is a struct of numbers, of which any bytes
+    /// are a value, where its numbers are right. Else nothing is read.
+    #[inline(never)]
+    pub(crate) fn pass_struct(
+        &self,
+        entry: u32,
+        envelope: usize,
+        depth: u8,
+        state: &mut State,
+    ) -> bool
+        requires table { IsFine self.now.table.now }
+        requires entry { entry < (header_of self.now.table.now).entries }
+        requires kind { kind_of (entry_at self.now.table.now entry).kind ≡ Some kinds.Struct }
+        requires short { length self.now.bytes.now ≤ MAX_MESSAGE_BYTES }
+        requires room { envelope + 8 ≤ length self.now.bytes.now }
+        requires state { StateFine (message_of self.now.bytes.now self.now.handles.now)
+            (at_of state.old) }
+        requires depth { depth ≤ MAX_DEPTH }
+        requires budget { state.old.steps < 2 ^ 44 }
+        ensures passed { IsTrue result → Opens self.now.table.now
+            (message_of self.now.bytes.now self.now.handles.now) depth (Some (ty.named entry))
+            envelope (at_of state.old) (at_of state.new) None }
+        ensures kept { IsFalse result → at_of state.new ≡ at_of state.old }
+        ensures grows { state.old.steps ≤ state.new.steps }
+        ensures pays { state.new.steps + state.old.next ≤ state.old.steps + state.new.next }
+    {
+        let e = self.table.entry(entry);
+        let size = e.size as usize;
+        let whole = size.next_multiple_of(8);
+        let next = state.next;
+        if u64_at(self.bytes, envelope) != whole as u64 || size <= 4 {
+            return false;
+        }
+        if whole > self.bytes.len() - next || depth as usize == MAX_DEPTH {
+            return false;
+        }
+        let plain = self.plain_rows(e.first, e.count);
+        if plain.count != 0 || plain.flag.is_some() {
+            return false;
+        }
+        if zeros_at(self.bytes, next + plain.done, next + whole).is_err() {
+            return false;
+        }
+        state.steps += whole as u64;
+        state.links.record(envelope + 4, state.handle);
+        state.links.link(envelope, next);
+        state.next = next + whole;
+        true
+    }
+}

@@ -1,0 +1,114 @@
+//! Envelopes of texts of ASCII, which are passed over: their numbers, counts and markers, and their
+//! bytes, eight at a time.
+ghost use Rattle.std.specs.Prelude.{◌≡◌, ◌+◌, ◌-◌, ◌^◌, ◌%◌, ◌<◌, ◌≤◌, IsTrue, IsFalse, Some, None};
+ghost use Rattle.std.specs.Prelude.{ℕ, length, slice_index};
+ghost use Rattle.fidl_limits.specs.declared.limits.TheConstants.{MAX_DEPTH, MAX_MESSAGE_BYTES};
+ghost use Rattle.fidl_wire.specs.Term as ty;
+ghost use Rattle.fidl_wire.specs.Encoding.{zeros};
+ghost use Rattle.fidl_wire.specs.Standing.{Stands};
+ghost use Rattle.fidl_records.specs.declared.kind.EntryKind.TheVariants as kinds;
+ghost use Rattle.fidl_records.specs.Kind.{kind_of};
+ghost use Rattle.fidl_records.specs.Section.{header_of, entry_at};
+ghost use Rattle.fidl_decode.specs.Invariants.{IsFine};
+ghost use Rattle.fidl_decode.specs.Faults.{message_of};
+ghost use Rattle.fidl_decode.specs.Machine.{StateFine, Opens, at_of};
+
+use crate::decoder::Decoder;
+use crate::frame::State;
+use fidl_records::u64_at;
+use fidl_wire::MAX_DEPTH;
+
+/// The high bits of eight bytes.
+const HIGH_BITS: u64 = 0x8080_8080_8080_8080;
+
+/// Whether so many bytes from a place on, whose number is a multiple of eight, are ASCII.
+#[inline(always)]
+fn are_ascii(bytes: &[u8], from: usize, size: usize) -> bool
+    requires eights { size % 8 ≡ 0 }
+    requires room { from + size ≤ length bytes.now }
+    requires short { length bytes.now ≤ MAX_MESSAGE_BYTES }
+    ensures { IsTrue result → (k : ℕ) → k < size → slice_index bytes.now (from + k) < 128 }
+{
+    let mut at = from;
+    let end = from + size;
+    while at != end {
+        if u64_at(bytes, at) & HIGH_BITS != 0 {
+            return false;
+        }
+        at += 8;
+    }
+    true
+}
+
+/// Whether the bytes from one place to another are zeros.
+#[inline(always)]
+fn are_zeros(bytes: &[u8], from: usize, to: usize) -> bool
+    requires order { from ≤ to }
+    requires room { to ≤ length bytes.now }
+    ensures { IsTrue result → Stands bytes.now from (zeros (to - from)) }
+{
+    for i in from..to {
+        if bytes[i] != 0 {
+            return false;
+        }
+    }
+    true
+}
+
+impl<'t, 'm> Decoder<'t, 'm> {
+    /// Passes over the envelope at a place, whose member is a text of ASCII that is there, where its
+    /// numbers are right. Else nothing is read.
+    #[inline(never)]
+    pub(crate) fn pass_text(
+        &self,
+        entry: u32,
+        envelope: usize,
+        depth: u8,
+        state: &mut State,
+    ) -> bool
+        requires table { IsFine self.now.table.now }
+        requires entry { entry < (header_of self.now.table.now).entries }
+        requires kind { kind_of (entry_at self.now.table.now entry).kind ≡ Some kinds.String }
+        requires short { length self.now.bytes.now ≤ MAX_MESSAGE_BYTES }
+        requires room { envelope + 8 ≤ length self.now.bytes.now }
+        requires state { StateFine (message_of self.now.bytes.now self.now.handles.now)
+            (at_of state.old) }
+        requires depth { depth ≤ MAX_DEPTH }
+        requires budget { state.old.steps < 2 ^ 44 }
+        ensures passed { IsTrue result → Opens self.now.table.now
+            (message_of self.now.bytes.now self.now.handles.now) depth (Some (ty.named entry))
+            envelope (at_of state.old) (at_of state.new) None }
+        ensures kept { IsFalse result → at_of state.new ≡ at_of state.old }
+        ensures grows { state.old.steps ≤ state.new.steps }
+        ensures pays { state.new.steps + state.old.next ≤ state.old.steps + state.new.next }
+    {
+        let bound = self.table.entry(entry).bound;
+        let counted = u64_at(self.bytes, envelope);
+        let next = state.next;
+        let rest = (self.bytes.len() - next) as u64;
+        if counted < 16 || counted > rest || depth as usize + 1 >= MAX_DEPTH {
+            return false;
+        }
+        let count = u64_at(self.bytes, next);
+        if count > bound || count > rest || !self.is_present(next + 8) {
+            return false;
+        }
+        let behind = count as usize;
+        let size = behind.next_multiple_of(8);
+        if counted as usize != 16 + size {
+            return false;
+        }
+        let from = next + 16;
+        if !are_ascii(self.bytes, from, size)
+            || !are_zeros(self.bytes, from + behind, from + size)
+        {
+            return false;
+        }
+        state.steps += size as u64;
+        state.links.record(envelope + 4, state.handle);
+        state.links.link(envelope, next);
+        state.links.link(next + 8, from);
+        state.next = from + size;
+        true
+    }
+}
