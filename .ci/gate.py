@@ -12,8 +12,9 @@ changes (.ci/wrong_bodies.py), which takes seconds where a check of the crate ta
                         to .ci/tried what it tried of them
     .ci/run --whole     `rt ci` as it is, with every wrong body over its whole crate; where all passes it writes .ci/tried anew
 
-It prints first which wrong bodies it does not try again. After rt ci it runs the examples of the documents (.ci/examples.py)
-and tries the programs that must not compile (.ci/must_not_compile.py). Its last line but one says how long it took, and the last is rt ci's: `N passed, M failed`.
+It prints first which wrong bodies it does not try again. After rt ci it runs the examples of the documents (.ci/examples.py) and
+the cases of the program (.ci/cases.py), each as two compilers build it, then tries the wrong bodies and the programs that must not
+compile (.ci/must_not_compile.py). Its last line but one says how long it took, and the last is rt ci's: `N passed, M failed`.
 
 A line of .ci/tried is `NAME KEY KIT`: every wrong body of the crate was refused at that key. The key is a sum of the
 toolchain, of HANDLES, of the crate's line in crates.txt, of its sources and wrong bodies, and of the lines and
@@ -30,6 +31,7 @@ import time
 
 sys.dont_write_bytecode = True
 sys.path.insert(0, os.path.dirname(os.path.realpath(__file__)))
+import cases  # noqa: E402
 import examples  # noqa: E402
 import must_not_compile  # noqa: E402
 import wrong_bodies  # noqa: E402
@@ -178,6 +180,35 @@ def rt_ci(room):
     return ran.returncode, last or "0 passed, 1 failed"
 
 
+def programs(room):
+    """Returns the program as each compiler built it in this room, that of LLVM first."""
+    made = f"{room}/crates/{PROGRAM}/out/{PROGRAM}"
+    return [made, *filter(os.path.isfile, [f"{made}.by-rattle"])]
+
+
+def tells_right(room):
+    """Runs the examples of the documents and the cases by the program that this room has, and returns whether all are right."""
+    built = programs(room)
+    return all([examples.run(room, it) for it in built]) and cases.run(room, built)
+
+
+class Times:
+    """How long the parts of a run took, in minutes."""
+
+    def __init__(self):
+        self.begun = self.last = time.monotonic()
+        self.parts = []
+
+    def ended(self, part):
+        now = time.monotonic()
+        self.parts.append(f"{part} {(now - self.last) / 60:.0f}")
+        self.last = now
+
+    def line(self):
+        whole = f"gate: {(self.last - self.begun) / 60:.0f} minutes on {os.cpu_count()} cores"
+        return ": ".join([whole, ", ".join(self.parts)])
+
+
 def tried_by_function(room, names, last):
     """Tries the wrong bodies of these crates in a room that `rt ci` has passed, and returns the status and the last line with them."""
     try:
@@ -198,7 +229,7 @@ def tried_by_crate(room, names):
 
 
 def run(repository, mode, names=()):
-    now, begun = repository.keys(), time.monotonic()
+    now, times = repository.keys(), Times()
     known = {} if mode == "--whole" else repository.recorded()
     kept = [it for it in now if now[it] in known.get(it, ())]
     for name in kept:
@@ -210,13 +241,17 @@ def run(repository, mode, names=()):
     with tempfile.TemporaryDirectory(prefix="gate-") as room:
         repository.copy(room, now if by_function else kept, asked)
         status, last = rt_ci(room)
-        if not status and not names and not examples.run(room, f"{room}/crates/{PROGRAM}/out/{PROGRAM}"):
+        times.ended("rt ci")
+        if not status and not names and not tells_right(room):
             status, last = 1, "0 passed, 1 failed"
+        times.ended("examples and cases")
         if not status and by_function:
             repository.copy_edits(room, wanted)
             status, last = tried_by_function(room, wanted, last)
+        times.ended("wrong bodies")
         if not status and not names and not must_not_compile.run(room):
             status, last = 1, "0 passed, 1 failed"
+        times.ended("programs that must not compile")
     if not status and Repository(repository.root, repository.kit).keys() != now:
         status, last = 1, "0 passed, 1 failed"
         print("gate: files changed while it ran: run it again")
@@ -226,7 +261,7 @@ def run(repository, mode, names=()):
     elif not status and mode:
         repository.record(now)
         print("gate: .ci/tried names every crate with wrong bodies, at these sources")
-    print(f"gate: {(time.monotonic() - begun) / 60:.0f} minutes on {os.cpu_count()} cores")
+    print(times.line())
     print(last, flush=True)
     return int(bool(status))
 

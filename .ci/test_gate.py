@@ -5,13 +5,16 @@ They make a small repository and a stand-in for `rt` that proves nothing; `rt` i
 import contextlib
 import io
 import os
+import re
 import subprocess
 import sys
 import tempfile
+import types
 import unittest
 
 sys.dont_write_bytecode = True
 sys.path.insert(0, os.path.dirname(os.path.realpath(__file__)))
+import cases  # noqa: E402
 import gate  # noqa: E402
 import wrong_bodies  # noqa: E402
 
@@ -59,7 +62,7 @@ def must_fail(crate, file, flags):
 if __name__ == "__main__":
     print("kit-of-tests" if sys.argv[1] == "version" else "1 passed, 0 failed")
 """
-TOOK = f"gate: 0 minutes on {os.cpu_count()} cores"
+TOOK = f"gate: 0 minutes on {os.cpu_count()} cores: rt ci 0, examples and cases 0, wrong bodies 0, programs that must not compile 0"
 
 
 class GateTest(unittest.TestCase):
@@ -230,6 +233,55 @@ class GateTest(unittest.TestCase):
         status, lines = self.run_with_example("    $ ./fidl examples/a\n    a\n", "cat $1")
         self.assertEqual((status, lines[-1]), (0, "9 passed, 0 failed"))
 
+    def run_with_cases(self, files, program):
+        """Runs the gate with these files of cases, and a program of this script."""
+        for name, text in files.items():
+            self.write(f"cases/{name}", text)
+        self.write("program", f"#!/bin/sh\n{program}\n")
+        self.write("README.md", "")
+        made = f"mkdir -p crates/fidl/out; cp program crates/fidl/out/fidl; chmod +x crates/fidl/out/fidl"
+        return self.run_with(None, f'case $1 in ci) {made}; echo "9 passed, 0 failed";; esac')
+
+    # A stand-in for the program: it accepts sources without a word `no`, and refuses the first other at its line.
+    COMPILES = """shift 3
+for it in "$@"; do at=$(grep -n no $it | cut -d: -f1); if [ "$at" ]; then echo "$it:$at:1: names 1 No" >&2; exit 1; fi; done
+echo made > out.fct; echo entries $#, roots 0, protocols 0, methods 0, bytes 40"""
+
+    def test_cases_of_sources(self):
+        text = "# A remark.\n\nentries 2, roots 0, protocols 0, methods 0, bytes 40 && a && b\naccepted && a\nu.fidl:2:1: names 1 No && a && b^no\nx := no\nt.fidl:1:1: names 1 No && x\n"
+        status, lines = self.run_with_cases({"compile/a.txt": text}, self.COMPILES)
+        self.assertEqual((status, lines[0], lines[-1]), (0, "gate: cases/compile/a.txt: 4 cases by 1 builds of the program, 0 failed", "9 passed, 0 failed"))
+
+    def test_cases_with_repeated_texts(self):
+        text = "t.fidl:12:1: names 1 No && [08..10:a{n-1}{n}{n+1}^^^]^^no\n9.fidl:1:1: names 1 No && [1..9:yes && ]no && no\n"
+        status, lines = self.run_with_cases({"compile/a.txt": text}, self.COMPILES)
+        self.assertEqual((status, lines[-1]), (0, "9 passed, 0 failed"))
+        self.assertEqual(cases.repeated("[08..10:a{n-1}{n}{n+1};]"), "a070809;a080910;a091011;")
+
+    def test_a_case_that_ends_otherwise_fails_it(self):
+        for text in ("accepted && no\n", "t.fidl:1:1: names 1 No && a\n", "t.fidl:1:1: names 2 No && no\n", "entries 3, roots 0, protocols 0, methods 0, bytes 40 && a\n", "# Nothing.\n"):
+            status, lines = self.run_with_cases({"compile/a.txt": text}, self.COMPILES)
+            self.assertEqual((status, lines[-1]), (1, "0 passed, 1 failed"), text)
+
+    def test_a_refused_case_that_writes_or_prints_fails_it(self):
+        refuses = 'echo "t.fidl:1:1: names 1 No" >&2'
+        for more, wanted in (("exit 1", 0), ("echo x > out.fct; exit 1", 1), ("echo x; exit 1", 1), ("exit 2", 1), ("exit 0", 1)):
+            status, _ = self.run_with_cases({"compile/a.txt": "t.fidl:1:1: names 1 No && no\n"}, f"{refuses}; {more}")
+            self.assertEqual(status, wanted, more)
+
+    def test_cases_of_messages(self):
+        program = """case "$*" in "decode t.fct A 010202") [ $(wc -c < t.fct) = 6 ] && echo "{}";; "decode --handle 1:2:3 --handle 1:2:3 t.fct B ") echo "decode 1 No at 0" >&2; exit 1;; esac"""
+        text = "table\n  0011*2\n  22 33\n\nA 01 02*2 -> 0 {}\nB with 1:2:3*2 -> 1 decode 1 No at 0\n"
+        status, lines = self.run_with_cases({"decode/a.txt": text}, program)
+        self.assertEqual((status, lines[0]), (0, "gate: cases/decode/a.txt: 2 cases by 1 builds of the program, 0 failed"))
+        status, _ = self.run_with_cases({"decode/a.txt": text.replace("{}", "{x}")}, program)
+        self.assertEqual(status, 1)
+
+    def test_cases_without_a_program_fail_it(self):
+        self.write("cases/compile/a.txt", "accepted && a\n")
+        status, lines = self.run_with(None, 'case $1 in ci) echo "9 passed, 0 failed";; esac')
+        self.assertEqual((status, lines[-1]), (1, "0 passed, 1 failed"))
+
     def test_an_example_without_a_program_fails_it(self):
         self.write("README.md", "    $ ./fidl one\n    one\n")
         status, lines = self.run_with(None, 'case $1 in ci) echo "9 passed, 0 failed";; esac')
@@ -281,6 +333,65 @@ class GateTest(unittest.TestCase):
         status, lines = self.run_with("--record", script, ["low"])
         self.assertEqual((status, lines[-1]), (0, "3 passed, 0 failed"))
         self.assertTrue(any("so rt must-fail tries them" in it for it in lines))
+
+    def trial(self, edits, said):
+        """A trial of wrong bodies of the crate `low`, by a stand-in for rt whose check of several functions says this of each."""
+        text = "pub fn first() {\n    one\n}\n\nimpl Held for Box {\n    fn second() {\n        two\n        three\n    }\n}\nconst FOUR: u8 = 4;\n"
+        self.write("crates/low/src/lib.rt", text)
+        for name, (old, new) in edits.items():
+            self.write(f"crates/low/must-fail/{name}.edit", f"file: src/lib.rt\nold: {old}\nnew: {new}\n")
+        asked = []
+
+        def checked(crate, texts, flags, kept):
+            paths = [it for it in flags if it not in ("--jobs", "1", "--only")]
+            asked.append((texts, paths))
+            lines = [f"fn low::{it}: {said.get(it, 'proved')}" for it in paths] if texts else []
+            bad = sum(not it.endswith(": proved") for it in lines)
+            return types.SimpleNamespace(returncode=int(bad > 0), stdout="\n".join([*lines, f"only={len(paths)} proved={len(paths) - bad}"]))
+
+        names = {"low": f"{self.root}/crates/low"}
+        rt = types.SimpleNamespace(rtlib=types.SimpleNamespace(STALE=re.compile("stale")), unread=lambda line, texts: "unread" in line, checked=checked)
+        rt.edits_of = lambda crate: ([f"{crate.folder}/must-fail/{it}.edit" for it in edits], [])
+
+        def read_edit(file, folder):
+            old, new = edits[os.path.basename(file).removesuffix(".edit")]
+            return {"src/lib.rt": text.replace(old, new)}, None
+
+        rt.read_edit = read_edit
+        rt.must_fail = lambda crate, file, flags: (False, f"NOT REFUSED {os.path.basename(file)}")
+        return wrong_bodies.Trial(rt, types.SimpleNamespace(name="low", folder=names["low"])), asked
+
+    NO_PROOF = "no proof: expected answers in ./proofs/x/Answers.antt; `search` did not prove `returns`"
+    CALLS = "no proof: it calls `low::first`, which is not proved"
+
+    def test_wrong_bodies_of_different_functions_are_tried_together(self):
+        trial, asked = self.trial({"a": ("one", "1"), "b": ("two", "2")}, {"first": self.NO_PROOF, "BoxHeld::second": self.NO_PROOF})
+        self.assertEqual([it[0] for it in trial.run()], [True, True])
+        self.assertEqual([paths for _, paths in asked], [["BoxHeld::second", "first"], ["first", "BoxHeld::second"], ["BoxHeld::second", "first"]])
+        self.assertIn("    1\n", asked[1][0]["src/lib.rt"])
+        self.assertIn("        2\n", asked[1][0]["src/lib.rt"])
+
+    def test_two_wrong_bodies_of_a_function_are_not_tried_together(self):
+        trial, asked = self.trial({"a": ("two", "2"), "b": ("three", "3")}, {"BoxHeld::second": self.NO_PROOF})
+        self.assertEqual([it[0] for it in trial.run()], [True, True])
+        self.assertEqual([texts["src/lib.rt"].count("two") for texts, _ in asked if texts], [0, 1])
+
+    def test_a_callee_that_is_not_proved_refuses_no_caller(self):
+        trial, asked = self.trial({"a": ("one", "1"), "b": ("two", "2")}, {"first": self.NO_PROOF, "BoxHeld::second": self.CALLS})
+        self.assertEqual([it[0] for it in trial.all_refused_together("").items()], [trial.bodies[0]])
+        self.assertEqual([paths for _, paths in asked], [["first", "BoxHeld::second"], ["BoxHeld::second"]])
+
+    def test_what_is_no_function_is_tried_alone(self):
+        trial, _ = self.trial({"a": ("4;", "5;"), "b": ("one", "1"), "c": ("two", "2")}, {})
+        self.assertEqual([[it.path for it in group.bodies] for group in wrong_bodies.put_together(trial.bodies)], [["first", "BoxHeld::second"]])
+
+    def test_a_check_that_cannot_read_an_edit_refuses_none_together(self):
+        trial, _ = self.trial({"a": ("one", "1"), "b": ("two", "2")}, {"first": self.NO_PROOF, "BoxHeld::second": f"unread {self.NO_PROOF}"})
+        self.assertEqual(trial.all_refused_together(""), {})
+
+    def test_wrong_bodies_that_are_proved_together_are_not_refused(self):
+        trial, _ = self.trial({"a": ("one", "1"), "b": ("two", "2")}, {"first": self.NO_PROOF})
+        self.assertEqual([it[0] for it in trial.run()], [True, False])
 
     def test_the_function_of_an_edit(self):
         text = "use a;\n\nimpl<'t> Read for Table<'t> {\n    fn one(&self) {\n        1\n    }\n}\n\nfn two() {\n    2\n}\n\nconst X: u8 = 3;\n"

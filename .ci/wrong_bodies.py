@@ -5,14 +5,20 @@ A wrong body (crates/NAME/must-fail/*.edit) turns the meaning of a function, who
 that function that has to refuse it, and `rattle check --only FUNCTION` asks for this check alone, in seconds. `rt must-fail` checks
 the whole crate for each.
 
+No proof of a function reads the body of another. So wrong bodies of different functions are tried together, in one check: of each
+function, the check then says why it is not proved. That another function is not proved, which it calls, is no refusal.
+
 A crate is tried after `rt ci` has proved it whole, from nothing, over the libraries that this run left:
 1. the functions of all its wrong bodies are checked as they are: all are proved;
-2. each wrong body is checked, over what step 1 kept: its function is not proved;
-3. step 1 again, over what all of these kept: still all are proved.
+2. wrong bodies of different functions are checked together, over what step 1 kept: none of these functions is proved, each for a
+   reason of its own; those that only lacked a function which they call are checked again, without that one;
+3. a wrong body that is not refused so is checked alone: its function is not proved;
+4. step 1 again, over what all of these kept: still all are proved.
 A wrong body that is not refused so is tried once more over the whole crate, as `rt must-fail` does, and is refused there or fails.
 
 The check itself, how an edit is read and what of an answer is no refusal (an edit that does not compile, say) are those of `rt`.
 """
+import difflib
 import importlib.machinery
 import importlib.util
 import os
@@ -21,6 +27,8 @@ import sys
 import tempfile
 from concurrent.futures import ThreadPoolExecutor
 
+# What an error of a proof says that names what an edit took away; it says little of the contract.
+NAMES = r"has no field|is not in scope|has no `|was not admitted"
 NEEDS = ("edits_of", "read_edit", "checked", "unread", "must_fail", "free", "processors", "rtlib")
 
 
@@ -72,19 +80,78 @@ def function_of(path, old, new):
     return "::".join([*module, *([of] if of else []), name] if name else module)
 
 
+def changes(old, new):
+    """Returns the ranges of lines that differ between two texts of a file, each with the lines that stand there in the new one."""
+    lines = old.splitlines(True), new.splitlines(True)
+    found = difflib.SequenceMatcher(None, *lines, autojunk=False).get_opcodes()
+    return [(i, j, lines[1][k:m]) for tag, i, j, k, m in found if tag != "equal"]
+
+
+def merged(old, both):
+    """Returns the text of a file with the changes of two others made from it, or None where they meet."""
+    ranges = sorted(it for new in both for it in changes(old, new))
+    if any(next_from <= to for (_, to, _), (next_from, _, _) in zip(ranges, ranges[1:])):
+        return None
+    lines = old.splitlines(True)
+    for i, j, others in reversed(ranges):
+        lines[i:j] = others
+    return "".join(lines)
+
+
 class WrongBody:
-    """An edit of a crate: the texts that it makes, and the function that it changes."""
+    """An edit of a crate: the texts that it makes, and the function that it changes, by its path below the crate."""
 
     def __init__(self, rt, crate, file):
         self.name = f"{crate.name}/{os.path.basename(file)}"
         self.file = file
         self.texts, self.why = rt.read_edit(file, crate.folder)
-        self.path = ""
+        self.path, self.old = "", {}
         for path, text in (self.texts or {}).items():
+            with open(f"{crate.folder}/{path}", encoding="utf-8") as it:
+                self.old[path] = it.read()
             if path.startswith("src/") and not self.path:
-                with open(f"{crate.folder}/{path}", encoding="utf-8") as it:
-                    self.path = function_of(path, it.read(), text)
-                self.module = "::".join(module_of(path))
+                self.path, self.module = function_of(path, self.old[path], text), "::".join(module_of(path))
+
+    def is_of_a_function(self):
+        """Returns whether all that it changes is code, in one function: then no other proof reads it."""
+        if not self.path or self.path == self.module or not all(it.startswith("src/") for it in self.texts):
+            return False
+        ranges = [(path, it) for path in self.texts for it in changes(self.old[path], self.texts[path])]
+        return {function_of(path, self.old[path], merged_at(self.old[path], it)) for path, it in ranges} == {self.path}
+
+
+def merged_at(old, change):
+    """Returns the text of a file with one change made in it."""
+    lines, (i, j, others) = old.splitlines(True), change
+    return "".join([*lines[:i], *others, *lines[j:]])
+
+
+class Together:
+    """Wrong bodies of different functions of a crate, with the texts that they make together."""
+
+    def __init__(self):
+        self.bodies, self.texts = [], {}
+
+    def takes(self, body):
+        """Adds a wrong body where its function has none yet and its changes meet no other, and returns whether it did."""
+        if any(it.path == body.path for it in self.bodies):
+            return False
+        both = {path: merged(body.old[path], [self.texts.get(path, body.old[path]), text]) for path, text in body.texts.items()}
+        if None in both.values():
+            return False
+        self.bodies.append(body)
+        self.texts.update(both)
+        return True
+
+
+def put_together(bodies):
+    """Returns groups of wrong bodies, in which each is of another function; what is not of one function is in none."""
+    groups = []
+    for body in bodies:
+        if body.is_of_a_function() and not any(it.takes(body) for it in groups):
+            groups.append(Together())
+            groups[-1].takes(body)
+    return groups
 
 
 class Trial:
@@ -113,6 +180,34 @@ class Trial:
             if body.path and self.ask({}, [body.path], kept)[0] == 2:
                 body.path = body.module
 
+    def refused_together(self, group, kept):
+        """Returns the wrong bodies of a group that one check refuses, each for a reason of its own, with what refused them."""
+        status, lines = self.ask(group.texts, [it.path for it in group.bodies], kept)
+        said = not re.match(r"only=\d+ proved=\d+\b", lines[-1]) or self.rt.rtlib.STALE.search("\n".join(lines))
+        if status != 1 or said or any(self.rt.unread(it, group.texts) for it in lines):
+            return {}
+        found = {}
+        for body in group.bodies:
+            own = [it for it in lines if re.match(rf"(fn|impl) {self.crate.name}::{re.escape(body.path)}: ", it)]
+            files = re.compile(rf"(\./)?proofs/{re.escape(body.path.replace('::', '/'))}/\S*:\d+:\d+: error")
+            errors = [it for it in lines if files.match(it) and not re.search(NAMES, it)]
+            reason = re.search(r": no proof: .*`search` did not prove `[^`]*`", own[0]) if len(own) == 1 else None
+            if reason or (errors and len(own) == 1 and own[0].endswith(": not proved")):
+                found[body] = (reason[0].removeprefix(": ") if reason else errors[0])[:160]
+        return found
+
+    def all_refused_together(self, kept):
+        """Returns the wrong bodies that checks of many refuse, with what refused each. One whose function calls another that is
+        not proved is tried again without that one."""
+        refused, left = {}, self.bodies
+        while left:
+            found = {}
+            for group in put_together(left):
+                found.update(self.refused_together(group, kept))
+            refused.update(found)
+            left = [it for it in left if it not in refused] if found else []
+        return refused
+
     def is_refused(self, body, kept):
         """Returns whether the check of its function refuses a wrong body, and by what."""
         if not body.path:
@@ -122,8 +217,7 @@ class Trial:
         if any(self.rt.unread(it, body.texts) for it in lines) or self.rt.rtlib.STALE.search("\n".join(lines)):
             return False, ""
         told = [it for it in lines if re.match(r"(\./)?\S+:\d+:\d+: error", it)]
-        names = r"(\./)?proofs/.*(has no field|is not in scope|has no `|was not admitted)"
-        first = next((it for it in told if not re.match(names, it)), "")
+        first = next((it for it in told if not re.match(rf"(\./)?proofs/.*({NAMES})", it)), "")
         by = f"a proof names what the edit took away, which says little of the contract: {told[0]}" if told and not first else first
         return status == 1 and bool(found) and int(found[2]) < int(found[1]), by[:160]
 
@@ -137,7 +231,8 @@ class Trial:
             if not self.are_proved(paths, kept):
                 self.settle_paths(kept)
                 paths = sorted({it.path for it in self.bodies if it.path})
-            tried = [self.is_refused(it, kept) for it in self.bodies]
+            refused = self.all_refused_together(kept)
+            tried = [(True, refused[it]) if it in refused else self.is_refused(it, kept) for it in self.bodies]
             is_sound = self.are_proved(paths, kept)
         return [self.said(*it, is_sound) for it in zip(self.bodies, tried)]
 

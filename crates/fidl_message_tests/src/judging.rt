@@ -1,4 +1,5 @@
 //! The loop that goes through the cases of suites, and what is asked in them.
+use crate::bytes::bytes_of;
 use crate::choices::{any_bytes, encoded};
 use crate::decoding::decoded;
 use crate::hostile::{changes, fronts};
@@ -7,7 +8,6 @@ use crate::lookups::call;
 use crate::reading::{Case, cases};
 use crate::verifying::{cuts, each_byte, verdict};
 use fidl_decode::Scratch;
-use fidl_test_bytes::bytes_of;
 use fidl_verify::{Table, verify};
 use std::alloc::Global;
 use std::process::Abort;

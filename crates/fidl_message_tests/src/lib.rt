@@ -9,6 +9,8 @@ mod below;
 #[cfg(test)]
 mod borrowed;
 #[cfg(test)]
+mod bytes;
+#[cfg(test)]
 mod choices;
 #[cfg(test)]
 mod chosen;

@@ -1,6 +1,6 @@
 //! How the tables of cases write messages: the number of the entry, the bytes and, behind the word
-//! `with`, the handles, as `fidl_test_bytes` reads them.
-use fidl_test_bytes::{bytes_of, records_of};
+//! `with`, the handles, as `bytes` reads them.
+use crate::bytes::{bytes_of, records_of};
 use fidl_wire::HandleInfo;
 use std::alloc::Global;
 

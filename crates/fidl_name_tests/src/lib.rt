@@ -1,19 +1,17 @@
-//! Tests of the public calls of `fidl_names`: names that mean something, nothing, or more than one thing.
+//! Tests of the public calls of `fidl_names` and `fidl_const`: what names mean, and the values of constants.
 #![tactic(auto)]
 
 #[cfg(test)]
-mod cycles;
-#[cfg(test)]
 mod faults;
 #[cfg(test)]
-mod imports;
+mod handles;
 #[cfg(test)]
 mod meanings;
 #[cfg(test)]
 mod places;
 #[cfg(test)]
-mod readings;
-#[cfg(test)]
-mod refusals;
-#[cfg(test)]
 mod sets;
+#[cfg(test)]
+mod texts;
+#[cfg(test)]
+mod values;

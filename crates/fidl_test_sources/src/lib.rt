@@ -1,9 +1,9 @@
 //! Sources, their trees and their names, which the tests of several stages begin with.
 #![tactic(auto)]
 
-use fidl_names::{LibrarySet, NameFault, Named, Place};
+use fidl_names::{LibrarySet, NameFault, Named};
 use fidl_parse::parse;
-use fidl_span::{lex, line_col};
+use fidl_span::lex;
 use fidl_tree::File;
 use std::alloc::Global;
 use std::test::Fail;
@@ -56,14 +56,4 @@ pub fn named<'f, 's>(alloc: Global, trees: &'f Parsed<'s>) -> Result<Named<'f, '
         set.add(file)?;
     }
     set.resolve()
-}
-
-/// The name of a fault, its file, and the line and the column of its place.
-pub type Told = (&'static str, u64, (u64, u64));
-
-/// The name of a fault, with the file, the line and the column of its place in sources.
-pub fn told(sources: &[&[u8]], name: &'static str, place: Place) -> Result<Told, Fail> {
-    let src = *sources.get(place.file).ok_or("a file")?;
-    let file = u64::try_from(place.file)?;
-    Ok((name, file, line_col(src, place.span.from)))
 }
