@@ -381,6 +381,14 @@ echo made > out.fct; echo entries $#, roots 0, protocols 0, methods 0, bytes 40"
         self.assertEqual([it[0] for it in trial.all_refused_together("").items()], [trial.bodies[0]])
         self.assertEqual([paths for _, paths in asked], [["first", "BoxHeld::second"], ["BoxHeld::second"]])
 
+    def test_functions_of_one_cycle_are_not_tried_together(self):
+        cycle = "/// One.\n#[cycle(all)]\n// Two.\n#[inline]\nfn {}() {{\n    {}\n}}\n\n"
+        text = cycle.format("first", "one") + cycle.format("second", "two") + "fn third() {\n    three\n}\n"
+        self.assertEqual([wrong_bodies.cycle_of(text, text.replace(it, "0")) for it in ("one", "two", "three")], ["all", "all", None])
+        groups = wrong_bodies.Together()
+        made = [types.SimpleNamespace(path=it, cycle=of, old={}, texts={}) for it, of in (("a", "all"), ("b", "all"), ("c", None), ("d", None))]
+        self.assertEqual([groups.takes(it) for it in made], [True, False, True, True])
+
     def test_what_is_no_function_is_tried_alone(self):
         trial, _ = self.trial({"a": ("4;", "5;"), "b": ("one", "1"), "c": ("two", "2")}, {})
         self.assertEqual([[it.path for it in group.bodies] for group in wrong_bodies.put_together(trial.bodies)], [["first", "BoxHeld::second"]])

@@ -58,6 +58,7 @@ def module_of(path):
 
 IMPL = re.compile(r"^(?:unsafe )?impl(?:<[^{]*?>)? +(?:([\w:]+)(?:<[^{]*>)? for )?(\w+)")
 FUNCTION = re.compile(r"\s*(?:pub(?:\([\w: ]+\))? +)?(?:const +)?(?:unsafe +)?fn +(\w+)")
+CYCLE = re.compile(r"\s*#\[cycle\((\w+)\)\]")
 
 
 def function_of(path, old, new):
@@ -78,6 +79,19 @@ def function_of(path, old, new):
         if lines[k].startswith("}") and k < at:
             break
     return "::".join([*module, *([of] if of else []), name] if name else module)
+
+
+def cycle_of(old, new):
+    """Returns the name of the cycle of calls to which the function belongs in which the first change of a file stands, if to any.
+    The functions of a cycle have one proof."""
+    lines = old.split("\n")
+    at = next((k for k, (a, b) in enumerate(zip(lines, new.split("\n"))) if a != b), 0)
+    begun = next((k for k in range(at, -1, -1) if FUNCTION.match(lines[k])), 0)
+    for k in range(begun - 1, -1, -1):
+        found = CYCLE.match(lines[k])
+        if found or not lines[k].lstrip().startswith(("#", "//")):
+            return found[1] if found else None
+    return None
 
 
 def changes(old, new):
@@ -105,12 +119,13 @@ class WrongBody:
         self.name = f"{crate.name}/{os.path.basename(file)}"
         self.file = file
         self.texts, self.why = rt.read_edit(file, crate.folder)
-        self.path, self.old = "", {}
+        self.path, self.cycle, self.old = "", None, {}
         for path, text in (self.texts or {}).items():
             with open(f"{crate.folder}/{path}", encoding="utf-8") as it:
                 self.old[path] = it.read()
             if path.startswith("src/") and not self.path:
                 self.path, self.module = function_of(path, self.old[path], text), "::".join(module_of(path))
+                self.cycle = cycle_of(self.old[path], text)
 
     def is_of_a_function(self):
         """Returns whether all that it changes is code, in one function: then no other proof reads it."""
@@ -133,8 +148,8 @@ class Together:
         self.bodies, self.texts = [], {}
 
     def takes(self, body):
-        """Adds a wrong body where its function has none yet and its changes meet no other, and returns whether it did."""
-        if any(it.path == body.path for it in self.bodies):
+        """Adds a wrong body where its function and its cycle have none yet and its changes meet no other, and returns whether it did."""
+        if any(it.path == body.path or it.cycle and it.cycle == body.cycle for it in self.bodies):
             return False
         both = {path: merged(body.old[path], [self.texts.get(path, body.old[path]), text]) for path, text in body.texts.items()}
         if None in both.values():
