@@ -169,10 +169,22 @@ class Repository:
             shutil.copytree(f"{self.root}/crates/{name}/must-fail", f"{room}/crates/{name}/must-fail")
 
 
+def lanes():
+    """Returns how many crates are proved side by side: one a core, as far as there are 4 GB for each."""
+    memory = os.sysconf("SC_PHYS_PAGES") * os.sysconf("SC_PAGE_SIZE")
+    return max(1, min(len(os.sched_getaffinity(0)), memory // 4_000_000_000))
+
+
+def side_by_side():
+    """Returns the environment of `rt ci`. Left to itself it gives a crate several cores while few others are ready, though a proof
+    from nothing uses one; those that are ready later then wait for these. So each crate gets one, if RT_JOBS does not say else."""
+    return {"RT_JOBS": str(lanes()), **os.environ}
+
+
 def rt_ci(room):
     """Runs `rt ci` there, and prints what it prints, but for the last line: returns its status and that line."""
-    last = None
-    with subprocess.Popen(["rt", "ci"], cwd=room, stdin=subprocess.DEVNULL, stdout=subprocess.PIPE, text=True, errors="replace") as ran:
+    last, how = None, {"stdin": subprocess.DEVNULL, "stdout": subprocess.PIPE, "text": True, "errors": "replace"}
+    with subprocess.Popen(["rt", "ci"], cwd=room, env=side_by_side(), **how) as ran:
         for line in ran.stdout:
             if last is not None:
                 print(last, flush=True)

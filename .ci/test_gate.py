@@ -11,6 +11,7 @@ import sys
 import tempfile
 import types
 import unittest
+import unittest.mock
 
 sys.dont_write_bytecode = True
 sys.path.insert(0, os.path.dirname(os.path.realpath(__file__)))
@@ -151,6 +152,15 @@ class GateTest(unittest.TestCase):
         status, lines = self.run_with("--record", 'echo "9 passed, 0 failed"')
         self.assertEqual((status, lines[-1]), (0, "9 passed, 0 failed"))
         self.assertEqual(self.tried_again(), set())
+
+    def test_each_crate_gets_one_core(self):
+        self.assertGreaterEqual(gate.lanes(), 1)
+        for given, wanted in ((None, str(gate.lanes())), ("7", "7")):
+            with unittest.mock.patch.dict(os.environ):
+                os.environ.pop("RT_JOBS", None)
+                os.environ.update({"RT_JOBS": given} if given else {})
+                _, lines = self.run_with(None, 'echo "jobs $RT_JOBS"; echo "9 passed, 0 failed"')
+            self.assertEqual(lines[0], f"jobs {wanted}")
 
     def test_a_run_that_fails_records_nothing(self):
         status, lines = self.run_with("--record", 'echo "8 passed, 1 failed"; exit 1')
