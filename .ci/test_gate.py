@@ -355,6 +355,9 @@ echo made > out.fct; echo entries $#, roots 0, protocols 0, methods 0, bytes 40"
         def checked(crate, texts, flags, kept):
             paths = [it for it in flags if it not in ("--jobs", "1", "--only")]
             asked.append((texts, paths))
+            unknown = [it for it in paths if it in said.get("unknown", ())]
+            if unknown:
+                return types.SimpleNamespace(returncode=2, stdout=f"rattle: error: `low` has no function `{unknown[0]}`: help")
             lines = [f"fn low::{it}: {said.get(it, 'proved')}" for it in paths] if texts else []
             bad = sum(not it.endswith(": proved") for it in lines)
             return types.SimpleNamespace(returncode=int(bad > 0), stdout="\n".join([*lines, f"only={len(paths)} proved={len(paths) - bad}"]))
@@ -381,6 +384,13 @@ echo made > out.fct; echo entries $#, roots 0, protocols 0, methods 0, bytes 40"
         self.assertIn("    1\n", asked[1][0]["src/lib.rt"])
         self.assertIn("        2\n", asked[1][0]["src/lib.rt"])
 
+    def test_a_method_of_a_type_of_another_module_is_asked_for_by_its_end(self):
+        said = {"unknown": ["BoxHeld::second"], "first": self.NO_PROOF, "second": self.NO_PROOF}
+        trial, asked = self.trial({"a": ("one", "1"), "b": ("two", "2")}, said)
+        self.assertEqual([it[0] for it in trial.run()], [True, True])
+        self.assertEqual([paths for texts, paths in asked if not texts], [["BoxHeld::second", "first"], ["first", "second"], ["first", "second"]])
+        self.assertEqual([it.function for it in trial.bodies], ["first", "BoxHeld::second"])
+
     def test_two_wrong_bodies_of_a_function_are_not_tried_together(self):
         trial, asked = self.trial({"a": ("two", "2"), "b": ("three", "3")}, {"BoxHeld::second": self.NO_PROOF})
         self.assertEqual([it[0] for it in trial.run()], [True, True])
@@ -396,7 +406,7 @@ echo made > out.fct; echo entries $#, roots 0, protocols 0, methods 0, bytes 40"
         text = cycle.format("first", "one") + cycle.format("second", "two") + "fn third() {\n    three\n}\n"
         self.assertEqual([wrong_bodies.cycle_of(text, text.replace(it, "0")) for it in ("one", "two", "three")], ["all", "all", None])
         groups = wrong_bodies.Together()
-        made = [types.SimpleNamespace(path=it, cycle=of, old={}, texts={}) for it, of in (("a", "all"), ("b", "all"), ("c", None), ("d", None))]
+        made = [types.SimpleNamespace(function=it, cycle=of, old={}, texts={}) for it, of in (("a", "all"), ("b", "all"), ("c", None), ("d", None))]
         self.assertEqual([groups.takes(it) for it in made], [True, False, True, True])
 
     def test_what_is_no_function_is_tried_alone(self):

@@ -113,26 +113,32 @@ def merged(old, both):
 
 
 class WrongBody:
-    """An edit of a crate: the texts that it makes, and the function that it changes, by its path below the crate."""
+    """An edit of a crate: the texts that it makes, and the function that it changes. `function` is its path below the crate as the
+    source has it, and `path` what the check is asked for: that path, or an end of it, or the module."""
 
     def __init__(self, rt, crate, file):
         self.name = f"{crate.name}/{os.path.basename(file)}"
         self.file = file
         self.texts, self.why = rt.read_edit(file, crate.folder)
-        self.path, self.cycle, self.old = "", None, {}
+        self.path, self.function, self.cycle, self.old = "", "", None, {}
         for path, text in (self.texts or {}).items():
             with open(f"{crate.folder}/{path}", encoding="utf-8") as it:
                 self.old[path] = it.read()
             if path.startswith("src/") and not self.path:
                 self.path, self.module = function_of(path, self.old[path], text), "::".join(module_of(path))
-                self.cycle = cycle_of(self.old[path], text)
+                self.function, self.cycle = self.path, cycle_of(self.old[path], text)
 
     def is_of_a_function(self):
         """Returns whether all that it changes is code, in one function: then no other proof reads it."""
-        if not self.path or self.path == self.module or not all(it.startswith("src/") for it in self.texts):
+        if not self.path or self.function == self.module or not all(it.startswith("src/") for it in self.texts):
             return False
         ranges = [(path, it) for path in self.texts for it in changes(self.old[path], self.texts[path])]
-        return {function_of(path, self.old[path], merged_at(self.old[path], it)) for path, it in ranges} == {self.path}
+        return {function_of(path, self.old[path], merged_at(self.old[path], it)) for path, it in ranges} == {self.function}
+
+    def shorten(self):
+        """Has the check asked for a shorter end of the function's path, or for the module: a method of a type of another module
+        bears that module's name."""
+        self.path = self.path.partition("::")[2] or self.module
 
 
 def merged_at(old, change):
@@ -149,7 +155,7 @@ class Together:
 
     def takes(self, body):
         """Adds a wrong body where its function and its cycle have none yet and its changes meet no other, and returns whether it did."""
-        if any(it.path == body.path or it.cycle and it.cycle == body.cycle for it in self.bodies):
+        if any(it.function == body.function or it.cycle and it.cycle == body.cycle for it in self.bodies):
             return False
         both = {path: merged(body.old[path], [self.texts.get(path, body.old[path]), text]) for path, text in body.texts.items()}
         if None in both.values():
@@ -189,11 +195,17 @@ class Trial:
         found = re.match(r"only=(\d+) proved=(\d+)\b", lines[-1])
         return status == 0 and bool(found) and found[1] == found[2]
 
-    def settle_paths(self, kept):
-        """Has each wrong body name a function that the check knows, or else its module."""
-        for body in self.bodies:
-            if body.path and self.ask({}, [body.path], kept)[0] == 2:
-                body.path = body.module
+    def settled_paths(self, kept):
+        """Has each wrong body name a function that the check knows, or else its module, and checks these as they are. Returns them."""
+        while True:
+            paths = sorted({it.path for it in self.bodies if it.path})
+            status, lines = self.ask({}, paths, kept)
+            unknown = re.search(r"has no function `([^`]*)`", "\n".join(lines)) if status == 2 else None
+            bodies = [it for it in self.bodies if unknown and it.path == unknown[1] and it.path != it.module]
+            if not bodies:
+                return paths
+            for body in bodies:
+                body.shorten()
 
     def refused_together(self, group, kept):
         """Returns the wrong bodies of a group that one check refuses, each for a reason of its own, with what refused them."""
@@ -203,8 +215,8 @@ class Trial:
             return {}
         found = {}
         for body in group.bodies:
-            own = [it for it in lines if re.match(rf"(fn|impl) {self.crate.name}::{re.escape(body.path)}: ", it)]
-            files = re.compile(rf"(\./)?proofs/{re.escape(body.path.replace('::', '/'))}/\S*:\d+:\d+: error")
+            own = [it for it in lines if re.match(rf"(fn|impl) {self.crate.name}::(\S*::)?{re.escape(body.path)}: ", it)]
+            files = re.compile(rf"(\./)?proofs/(\S*/)?{re.escape(body.path.replace('::', '/'))}/[^/]*:\d+:\d+: error")
             errors = [it for it in lines if files.match(it) and not re.search(NAMES, it)]
             reason = re.search(r": no proof: .*`search` did not prove `[^`]*`", own[0]) if len(own) == 1 else None
             if reason or (errors and len(own) == 1 and own[0].endswith(": not proved")):
@@ -242,10 +254,7 @@ class Trial:
         if bad:
             return [(False, f"must-fail {it.name}: BAD EDIT: {it.why}") for it in bad]
         with tempfile.TemporaryDirectory(prefix="gate-kept-") as kept:
-            paths = sorted({it.path for it in self.bodies if it.path})
-            if not self.are_proved(paths, kept):
-                self.settle_paths(kept)
-                paths = sorted({it.path for it in self.bodies if it.path})
+            paths = self.settled_paths(kept)
             refused = self.all_refused_together(kept)
             tried = [(True, refused[it]) if it in refused else self.is_refused(it, kept) for it in self.bodies]
             is_sound = self.are_proved(paths, kept)
