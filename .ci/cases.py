@@ -1,5 +1,5 @@
 #!/usr/bin/env python3
-"""Cases of the program: what a command prints of sources or of a message, one case a line of a text file.
+"""Cases of the program: what a command prints of sources, of a message or of a table, as lines of text files.
 
     .ci/cases.py [PROGRAM..]        the cases of cases/, by each of these programs (else by the one that was built last)
 
@@ -12,6 +12,11 @@ first has; `{n-1}` is the number before, `{n+1}` the next.
 `cases/decode/*.txt`: a block of lines of hexadecimal digits behind a line `table` is the table of the lines below it. Each of
 these is a root, the bytes of a message and, behind the word `with`, its handles; then `->`, the exit status and the line that
 is printed, on the output where the status is 0, else on the errors. `00*7` stands for seven bytes 00, and so on.
+
+`cases/table/*.txt`: a line behind the word `of` has the sources of a table, as in a line of `cases/compile`. The lines below it, to
+the next of that kind, are printed: `entries ..` by `compile`, all others by `table` of what it wrote, each once, in any order and
+beside others. A word `*` stands for any word, and `{x}` for any that is the same at each `{x}` of the case and another than those
+of other names. A line behind the word `no` is not printed. `bytes` and hexadecimal digits are the whole table.
 
 Empty lines, and those that begin with `#`, are remarks. A refused case prints one line on the errors, nothing on the output,
 writes no table and exits with 1; an accepted one prints on the output alone, and exits with 0.
@@ -73,6 +78,12 @@ def source_name(number):
     return f"{LETTERS[number] if number < len(LETTERS) else number}.fidl"
 
 
+def sources_of(text, shared):
+    """Returns the files of sources that stand behind one another with `&&` between, of which some may be given by their names."""
+    texts = (it.strip() for it in text.split("&&"))
+    return {source_name(at): shared.get(it, it).replace("^", "\n").encode() for at, it in enumerate(texts)}
+
+
 def compile_cases(name, text):
     shared = {}
     for number, line in remarks_left_out(text):
@@ -80,9 +91,9 @@ def compile_cases(name, text):
         if named:
             shared[named[1]] = named[2]
             continue
-        wanted, *sources = (it.strip() for it in repeated(line).split("&&"))
-        texts = [shared.get(it, it).replace("^", "\n").encode() for it in sources]
-        files = {source_name(at): it for at, it in enumerate(texts)}
+        wanted, _, sources = repeated(line).partition("&&")
+        wanted = wanted.strip()
+        files = sources_of(sources, shared)
         status = int(wanted != "accepted" and not WRITTEN.fullmatch(wanted))
         yield Case(f"{name}:{number}", ["compile", "--out", "out.fct", *files], files, status, None if wanted == "accepted" else wanted)
 
@@ -121,7 +132,80 @@ def decode_cases(name, text):
             yield Case(f"{name}:{number}", ["decode", *words, "t.fct", root, bytes_of(message).hex()], {"t.fct": table}, int(status), printed)
 
 
-READERS = {"compile": compile_cases, "decode": decode_cases}
+class TableCase:
+    """Sources, and lines that `fidl table` prints of their table."""
+
+    def __init__(self, where, sources):
+        self.where, self.words, self.wanted, self.lines = where, ["table", "of", sources], "its lines", []
+        self.files = sources_of(sources, {})
+
+    def what_fails(self, program, folder):
+        """Runs the case in a folder, and returns what is wrong with it, or nothing."""
+        for name, data in self.files.items():
+            with open(f"{folder}/{name}", "wb") as it:
+                it.write(data)
+        printed = []
+        for words in (["compile", "--out", "out.fct", *self.files], ["table", "out.fct"]):
+            ran = subprocess.run([program, *words], cwd=folder, stdin=subprocess.DEVNULL, capture_output=True, timeout=120)
+            if ran.returncode or ran.stderr:
+                return f"{words[0]}: status {ran.returncode}, errors {ran.stderr.decode(errors='replace')!r}"
+            printed += ran.stdout.decode(errors="replace").splitlines()
+        with open(f"{folder}/out.fct", "rb") as it:
+            printed.append(f"bytes {it.read().hex()}")
+        wanted = [it.split() for it in self.lines if not it.startswith("no ")]
+        missing = unmatched(wanted, [it.split() for it in printed], {})
+        if missing:
+            return f"{' '.join(missing)} is not printed, with the lines before it, among {printed}"
+        extra = [it for it in self.lines if it.startswith("no ") and any(matched(it.split()[1:], line.split(), {}) is not None for line in printed)]
+        return f"{extra[0][3:]} is printed" if extra else ""
+
+
+def matched(wanted, line, known):
+    """Returns what the names in braces stand for, by what is known of them, where a line is as it is wanted; else nothing."""
+    if len(wanted) != len(line):
+        return None
+    known = dict(known)
+    for want, word in zip(wanted, line):
+        if re.fullmatch(r"\{\w+\}", want):
+            if known.get(want, word) != word or any(it == word for name, it in known.items() if name != want):
+                return None
+            known[want] = word
+        elif want not in ("*", word):
+            return None
+    return known
+
+
+def unmatched(wanted, lines, known):
+    """Returns nothing where each wanted line is a line of its own, or else the first that is none, wherever those before it are."""
+    if not wanted:
+        return None
+    deepest = wanted[0]
+    for at, line in enumerate(lines):
+        now = matched(wanted[0], line, known)
+        if now is not None:
+            missing = unmatched(wanted[1:], [*lines[:at], *lines[at + 1 :]], now)
+            if missing is None:
+                return None
+            deepest = missing
+    return deepest
+
+
+def table_cases(name, text):
+    case = None
+    for number, line in remarks_left_out(text):
+        if line.startswith("of "):
+            if case:
+                yield case
+            case = TableCase(f"{name}:{number}", repeated(line[3:]))
+        elif case:
+            case.lines.append(" ".join(line.split()))
+        else:
+            raise ValueError(f"{name}:{number}: a line before the first sources")
+    if case:
+        yield case
+
+
+READERS = {"compile": compile_cases, "decode": decode_cases, "table": table_cases}
 
 
 def files_of(root):

@@ -21,8 +21,10 @@ toolchain, of HANDLES, of the crate's line in crates.txt, of its sources and wro
 sources of all crates below it. So an edit of any of these has the wrong bodies tried again. KIT is the toolchain's name,
 which decides nothing: a crate has a line for each toolchain that it was tried with, and the key has to be that of this one.
 """
+import contextlib
 import hashlib
 import os
+import re
 import shutil
 import subprocess
 import sys
@@ -181,14 +183,22 @@ def side_by_side():
     return {"RT_JOBS": str(lanes()), **os.environ}
 
 
-def rt_ci(room):
-    """Runs `rt ci` there, and prints what it prints, but for the last line: returns its status and that line."""
+# What `rt ci` prints of a crate that it has proved, or had proved before.
+PROVED = re.compile(r"rt: (\w+) (?:proved|is kept: .*)")
+
+
+def rt_ci(room, proved=lambda name: None):
+    """Runs `rt ci` there, and prints what it prints, but for the last line: returns its status and that line. Calls `proved` with the
+    name of each crate once it is proved."""
     last, how = None, {"stdin": subprocess.DEVNULL, "stdout": subprocess.PIPE, "text": True, "errors": "replace"}
     with subprocess.Popen(["rt", "ci"], cwd=room, env=side_by_side(), **how) as ran:
         for line in ran.stdout:
             if last is not None:
                 print(last, flush=True)
             last = line.rstrip("\n")
+            found = PROVED.fullmatch(last)
+            if found:
+                proved(found[1])
     return ran.returncode, last or "0 passed, 1 failed"
 
 
@@ -221,14 +231,36 @@ class Times:
         return ": ".join([whole, ", ".join(self.parts)])
 
 
-def tried_by_function(room, names, last):
-    """Tries the wrong bodies of these crates in a room that `rt ci` has passed, and returns the status and the last line with them."""
-    try:
-        refused, failed = wrong_bodies.try_all(wrong_bodies.load(shutil.which("rt")), room, names)
-    except (Exception, SystemExit) as error:  # the parts of another rt may be other than they seem
-        print(f"gate: wrong bodies can't be tried by their functions here ({type(error).__name__}: {error}), so rt must-fail tries them", flush=True)
-        refused, failed = tried_by_crate(room, names)
-    return bool(failed), f"{int(last.split()[0]) + refused} passed, {failed} failed"
+class ByFunction:
+    """The wrong bodies of some crates in a room, tried by their functions: those of a crate as soon as `rt ci` has proved it, beside
+    the proofs of others."""
+
+    def __init__(self, repository, room, names):
+        self.repository, self.room, self.left = repository, room, set(names)
+        self.tries = wrong_bodies.Tries(wrong_bodies.load(shutil.which("rt")), room, lanes())
+
+    def begin(self, name):
+        """Has those of a crate tried that is proved. Only now do they stand in the room, where `rt ci` has looked for them already."""
+        if name in self.left:
+            self.left.remove(name)
+            self.repository.copy_edits(self.room, [name])
+            self.tries.begin(name)
+
+    def ended(self, last):
+        """Tries what is left, and returns the status and the last line with all of them."""
+        names = [*self.tries.begun, *self.left]
+        try:
+            for name in sorted(self.left):
+                self.begin(name)
+            self.tries.hurry()
+            refused, failed = self.tries.counts()
+        except (Exception, SystemExit) as error:  # the parts of another rt may be other than they seem
+            print(f"gate: wrong bodies can't be tried by their functions here ({type(error).__name__}: {error}), so rt must-fail tries them", flush=True)
+            refused, failed = tried_by_crate(self.room, names)
+        return bool(failed), f"{int(last.split()[0]) + refused} passed, {failed} failed"
+
+    def close(self):
+        self.tries.close()
 
 
 def tried_by_crate(room, names):
@@ -250,17 +282,17 @@ def run(repository, mode, names=()):
     wanted = asked & set(now) - set(kept)
     by_function = mode != "--whole" and wrong_bodies.can_try(shutil.which("rt"))
     # In a copy, so that a run neither reads nor moves what checks keep in out/.
-    with tempfile.TemporaryDirectory(prefix="gate-") as room:
+    with tempfile.TemporaryDirectory(prefix="gate-") as room, contextlib.ExitStack() as ends:
         repository.copy(room, now if by_function else kept, asked)
-        status, last = rt_ci(room)
+        tries = ends.enter_context(contextlib.closing(ByFunction(repository, room, wanted))) if by_function else None
+        status, last = rt_ci(room, tries.begin) if tries else rt_ci(room)
         times.ended("rt ci")
         if not status and not names and not tells_right(room):
             status, last = 1, "0 passed, 1 failed"
         times.ended("examples and cases")
-        if not status and by_function:
-            repository.copy_edits(room, wanted)
-            status, last = tried_by_function(room, wanted, last)
-        times.ended("wrong bodies")
+        if not status and tries:
+            status, last = tries.ended(last)
+        times.ended("wrong bodies behind these")
         if not status and not names and not must_not_compile.run(room):
             status, last = 1, "0 passed, 1 failed"
         times.ended("programs that must not compile")

@@ -63,7 +63,7 @@ def must_fail(crate, file, flags):
 if __name__ == "__main__":
     print("kit-of-tests" if sys.argv[1] == "version" else "1 passed, 0 failed")
 """
-TOOK = f"gate: 0 minutes on {os.cpu_count()} cores: rt ci 0, examples and cases 0, wrong bodies 0, programs that must not compile 0"
+TOOK = f"gate: 0 minutes on {os.cpu_count()} cores: rt ci 0, examples and cases 0, wrong bodies behind these 0, programs that must not compile 0"
 
 
 class GateTest(unittest.TestCase):
@@ -309,12 +309,12 @@ echo made > out.fct; echo entries $#, roots 0, protocols 0, methods 0, bytes 40"
         self.assertIn(other.keys()["high"], other.recorded()["high"])
         self.assertIn(one.keys()["low"], one.recorded()["low"])
 
-    def run_by_function(self, refused, mode="--record", names=()):
+    def run_by_function(self, refused, mode="--record", names=(), script=RT_BY_FUNCTION):
         """Runs the gate with a rt whose check refuses the edited functions of these names alone."""
         self.write("crates/low/src/lib.rt", "pub fn first() {\n    one\n}\n\nimpl Held for Box {\n    fn second() {\n        two\n    }\n}\n")
         self.write("crates/low/must-fail/one.edit", "file: src/lib.rt\nold: one\nnew: other\n")
         self.write("crates/low/must-fail/two.edit", "file: src/lib.rt\nold: two\nnew: other\n")
-        return self.run_with(mode, RT_BY_FUNCTION.replace("THESE", repr(sorted(refused))), names)
+        return self.run_with(mode, script.replace("THESE", repr(sorted(refused))), names)
 
     def test_wrong_bodies_are_tried_by_their_functions(self):
         status, lines = self.run_by_function({"first", "BoxHeld::second"}, names=["low"])
@@ -332,6 +332,24 @@ echo made > out.fct; echo entries $#, roots 0, protocols 0, methods 0, bytes 40"
     def test_a_function_that_is_not_proved_unedited_refuses_nothing(self):
         status, lines = self.run_by_function({"first", "BoxHeld::second", "unedited"}, names=["low"])
         self.assertEqual((status, lines[-1]), (1, "1 passed, 2 failed"))
+
+    def test_wrong_bodies_are_tried_once_their_crate_is_proved(self):
+        proves = 'has = os.path.isdir("crates/low/must-fail"); print("rt: low proved\\nrt: low: its tests are proved", flush=True)'
+        waits = 'import time; made = lambda: os.path.isdir("crates/low/must-fail"); [time.sleep(0.01) for _ in range(500) if not made()]'
+        says = 'print(f"{has} {made()} {os.path.isdir(\'crates/high/must-fail\')}\\n3 passed, 0 failed")'
+        script = RT_BY_FUNCTION.replace('else "1 passed, 0 failed"', 'else ""')
+        script += f'    if sys.argv[1] == "ci":\n        {proves}\n        {waits}\n        {says}\n'
+        status, lines = self.run_by_function({"first", "BoxHeld::second"}, names=["low"], script=script)
+        self.assertEqual((status, lines[-1]), (0, "5 passed, 0 failed"))
+        self.assertIn("False True False", lines)
+        self.assertEqual(sum("refused, as it must be" in it for it in lines), 2)
+
+    def test_wrong_bodies_of_a_run_that_fails_are_not_told(self):
+        script = RT_BY_FUNCTION.replace('else "1 passed, 0 failed"', 'else "rt: low proved\\n0 passed, 1 failed"')
+        status, lines = self.run_by_function({"first", "BoxHeld::second"}, names=["low"], script=f"{script}    sys.exit(sys.argv[1] == 'ci')\n")
+        self.assertEqual((status, lines[-1]), (1, "0 passed, 1 failed"))
+        self.assertFalse(any("refused" in it for it in lines))
+        self.assertEqual(self.tried_again(), ALL)
 
     def test_a_rt_whose_parts_are_others_tries_whole_crates(self):
         self.write("crates/low/must-fail/two.edit", "file: src/lib.rt\n")

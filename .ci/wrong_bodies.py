@@ -25,6 +25,7 @@ import os
 import re
 import sys
 import tempfile
+import threading
 from concurrent.futures import ThreadPoolExecutor
 
 # What an error of a proof says that names what an edit took away; it says little of the contract.
@@ -267,22 +268,48 @@ class Trial:
         return self.rt.must_fail(self.crate, body.file, ["--jobs", "1"])
 
 
-def try_all(rt, root, names, lanes=None):
-    """Tries the wrong bodies of these crates of a repository that `rt ci` has proved, prints each answer, and returns how many
-    were refused and how many not."""
-    home = os.getcwd()
-    os.chdir(root)
-    try:
-        crates = [it for it in rt.rtlib.crates_below(root) if it.name in names]
-        trials = sorted((Trial(rt, it) for it in crates), key=lambda it: -it.crate.count(rb"\n") - 400 * len(it.bodies))
-        rt.rtlib.guarded()
-        lanes = lanes or max(1, min(rt.processors(), int(rt.free() * 0.8 / 3_000_000_000)))
+class Tries:
+    """Tries the wrong bodies of crates of a repository in the background, those of each crate from the moment on that `begin` names it.
+
+    Until `hurry` is called, other work has the processor first: half of the lanes are used, at the lowest priority."""
+
+    def __init__(self, rt, root, lanes):
+        rt.rtlib.guarded()  # Its first call sets a signal's handler, which only the main thread may.
+        self.rt, self.root, self.home = rt, root, os.getcwd()
+        os.chdir(root)
+        beside = max(1, lanes // 2)
+        self.turn, self.later = threading.Semaphore(beside), lanes - beside
+        self.pool = ThreadPoolExecutor(lanes)
+        self.begun = {}
+
+    def begin(self, name):
+        """Has the wrong bodies of a crate tried that is proved."""
+        if name not in self.begun:
+            self.begun[name] = self.pool.submit(self.tried, name)
+
+    def tried(self, name):
+        with self.turn:
+            os.setpriority(os.PRIO_PROCESS, threading.get_native_id(), 19)  # of this thread, and of the checks that it starts
+            crate = next(it for it in self.rt.rtlib.crates_below(self.root) if it.name == name)
+            return Trial(self.rt, crate).run()
+
+    def hurry(self):
+        """Gives the tries all lanes."""
+        while self.later:
+            self.turn.release()
+            self.later -= 1
+
+    def counts(self):
+        """Prints the answer of each try once it is there, and returns how many wrong bodies were refused and how many not."""
         refused = failed = 0
-        with ThreadPoolExecutor(lanes) as pool:
-            for done in [pool.submit(it.run) for it in trials]:
-                for well, text in done.result():
-                    print(text, flush=True)
-                    refused, failed = refused + well, failed + (not well)
-    finally:
-        os.chdir(home)
-    return refused, failed
+        for done in self.begun.values():
+            for well, text in done.result():
+                print(text, flush=True)
+                refused, failed = refused + well, failed + (not well)
+        return refused, failed
+
+    def close(self):
+        """Ends the tries, those that did not begin yet without an answer."""
+        self.hurry()
+        self.pool.shutdown(cancel_futures=True)
+        os.chdir(self.home)
