@@ -136,7 +136,7 @@ class TableCase:
     """Sources, and lines that `fidl table` prints of their table."""
 
     def __init__(self, where, sources):
-        self.where, self.words, self.wanted, self.lines = where, ["table", "of", sources], "its lines", []
+        self.where, self.words, self.wanted, self.lines = where, ["table", "of", sources], "a table with its lines", []
         self.files = sources_of(sources, {})
 
     def what_fails(self, program, folder):
@@ -150,6 +150,8 @@ class TableCase:
             if ran.returncode or ran.stderr:
                 return f"{words[0]}: status {ran.returncode}, errors {ran.stderr.decode(errors='replace')!r}"
             printed += ran.stdout.decode(errors="replace").splitlines()
+        if not os.path.exists(f"{folder}/out.fct"):
+            return "no table is written"
         with open(f"{folder}/out.fct", "rb") as it:
             printed.append(f"bytes {it.read().hex()}")
         wanted = [it.split() for it in self.lines if not it.startswith("no ")]

@@ -287,6 +287,22 @@ echo made > out.fct; echo entries $#, roots 0, protocols 0, methods 0, bytes 40"
         status, _ = self.run_with_cases({"decode/a.txt": text.replace("{}", "{x}")}, program)
         self.assertEqual(status, 1)
 
+    # A stand-in for the program: `table` prints the first source in lines, where `/` parts these.
+    LISTS = """case $1 in compile) cp $4 out.fct; echo entries 1, roots 0;; table) tr / '\\n' < out.fct; echo;; esac"""
+
+    def test_cases_of_tables(self):
+        text = "of a 1 x/b 1/c 2/b 3\n  entries 1, roots 0\n  # A remark.\n  c {c}\n  b {b}\n  a {b} *\n  no d *\n  no b 4\n  bytes 6120*\n"
+        text = text.replace("6120*", b"a 1 x/b 1/c 2/b 3".hex()) + "of [1..2:l {n}/]m\nl 2\nl 1\nm\n"
+        status, lines = self.run_with_cases({"table/a.txt": text}, self.LISTS)
+        self.assertEqual((status, lines[0]), (0, "gate: cases/table/a.txt: 2 cases by 1 builds of the program, 0 failed"))
+
+    def test_a_case_of_a_table_that_lists_something_else_fails_it(self):
+        for wanted in ("a 2 x", "a 1", "b 1\nb 1", "a {x} {x}", "a {x} *\nc {x}", "a {x} *\nb {x}\nc {y}\nb {y}", "no c 2", "no b *", "entries 2, roots 0", "bytes 61", "d"):
+            status, lines = self.run_with_cases({"table/a.txt": f"of a 1 x/b 1/c 2/b 3\n{wanted}\n"}, self.LISTS)
+            self.assertEqual((status, lines[-1]), (1, "0 passed, 1 failed"), wanted)
+        for program in ("exit 1", f"{self.LISTS}; echo x >&2"):
+            self.assertEqual(self.run_with_cases({"table/a.txt": "of a\na\n"}, program)[0], 1, program)
+
     def test_cases_without_a_program_fail_it(self):
         self.write("cases/compile/a.txt", "accepted && a\n")
         status, lines = self.run_with(None, 'case $1 in ci) echo "9 passed, 0 failed";; esac')

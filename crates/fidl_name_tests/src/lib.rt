@@ -1,14 +1,7 @@
-//! Tests of the public calls of `fidl_names` and `fidl_const`: what names mean, and the values of constants.
+//! Tests of the public calls of `fidl_names` and `fidl_const`, of what no line of the program shows:
+//! sets of files, strings, and the whole text of what is refused.
 #![tactic(auto)]
 
-#[cfg(test)]
-mod faults;
-#[cfg(test)]
-mod handles;
-#[cfg(test)]
-mod meanings;
-#[cfg(test)]
-mod places;
 #[cfg(test)]
 mod sets;
 #[cfg(test)]

@@ -2,10 +2,10 @@
 ghost use Rattle.std.specs.Prelude.{◌<◌, length};
 ghost use Rattle.fidl_const.specs.Tables.{AreConsts};
 
-use fidl_const::{ConstType, ConstValue, Consts, NumberKind, evaluate, underlying_kind};
+use fidl_const::{ConstType, ConstValue, Consts, NumberKind, evaluate};
 use fidl_names::{DeclarationId, Meaning, Named};
 use fidl_test_sources::{Parsed, named, trees};
-use fidl_tree::{DeclarationBody, File, LayoutBody, Value, ValuesLayout};
+use fidl_tree::{DeclarationBody, File, Value};
 use std::alloc::Global;
 use std::test::Fail;
 
@@ -36,38 +36,6 @@ fn value_at(alloc: Global, src: &[u8], index: usize) -> Result<Option<ConstValue
 /// The value that the first declaration of a source has of its own.
 fn first_value(alloc: Global, src: &[u8]) -> Result<Option<ConstValue>, Fail> {
     value_at(alloc, src, 0)
-}
-
-#[test]
-fn gives_the_values_of_numbers(rt: HostRuntime) -> Result<(), Fail> {
-    let cases: [(&[u8], i128); 9] = [
-        (b"library t; const A uint64 = 0;", 0),
-        (b"library t; const A uint64 = 007;", 7),
-        (b"library t; const A uint64 = 0x1F;", 31),
-        (b"library t; const A uint64 = 0XfF;", 255),
-        (b"library t; const A uint64 = 0B101;", 5),
-        (
-            b"library t; const A uint64 = 18446744073709551615;",
-            18_446_744_073_709_551_615,
-        ),
-        (
-            b"library t; const A uint64 = 00000000000000000000000000000000000000001;",
-            1,
-        ),
-        (b"library t; const A int8 = -128;", -128),
-        (
-            b"library t; const A uint8 = B | (2 | 4); const B uint8 = 0x11;",
-            23,
-        ),
-    ];
-    for (src, want) in cases {
-        let found = first_value(rt.alloc(), src)?;
-        assert!(rt;
-            matches!(found, Some(ConstValue::Number(n)) if n == want),
-            "the number of {src:?}"
-        );
-    }
-    Ok(())
 }
 
 #[test]
@@ -188,53 +156,5 @@ fn reads_no_constraint_of_a_type_that_is_no_string(rt: HostRuntime) -> Result<()
         matches!(truth, Some(ConstValue::Bool(true))),
         "the truth of a bool"
     );
-    Ok(())
-}
-
-/// The bits or the enum that is a file's first declaration.
-fn first_values<'f>(file: &'f File<'_>) -> Result<&'f ValuesLayout, Fail> {
-    let declaration = file.declarations.first().ok_or("a declaration")?;
-    let DeclarationBody::Type(declared) = &declaration.body else {
-        return Err("a type".into());
-    };
-    match &declared.layout.body {
-        LayoutBody::Values(layout) => Ok(layout),
-        _ => Err("bits or an enum".into()),
-    }
-}
-
-/// The underlying type of that of the first file, or the number of the fault.
-fn first_underlying(alloc: Global, files: &Parsed<'_>) -> Result<Result<NumberKind, u32>, Fail> {
-    let layout = first_values(files.file(0)?)?;
-    let named = named(alloc, files)?;
-    if named.count() == 0 {
-        return Err("a file".into());
-    }
-    Ok(underlying_kind(&named, 0, layout).map_err(|fault| fault.number()))
-}
-
-#[test]
-fn gives_the_underlying_types_of_bits_and_enums(rt: HostRuntime) -> Result<(), Fail> {
-    let cases: [(&[u8], Result<NumberKind, u32>); 5] = [
-        (
-            b"library t; type E = enum : int8 { A = -1; };",
-            Ok(NumberKind::Int8),
-        ),
-        (
-            b"library t; type B = bits { A = 1; };",
-            Ok(NumberKind::Uint32),
-        ),
-        (
-            b"library t; type B = bits : N { A = 1; }; alias N = byte;",
-            Ok(NumberKind::Uint8),
-        ),
-        (b"library t; type B = bits : int8 { A = 1; };", Err(2)),
-        (b"library t; type E = enum : string { A = 1; };", Err(2)),
-    ];
-    for (src, want) in cases {
-        let files = trees(rt.alloc(), &[src])?;
-        let found = first_underlying(rt.alloc(), &files)?;
-        assert_eq!(rt; found, want, "the underlying type in {src:?}");
-    }
     Ok(())
 }
