@@ -418,6 +418,13 @@ echo made > out.fct; echo entries $#, roots 0, protocols 0, methods 0, bytes 40"
         self.assertIn("    1\n", asked[1][0]["src/lib.rt"])
         self.assertIn("        2\n", asked[1][0]["src/lib.rt"])
 
+    def test_what_only_the_whole_crate_refuses(self):
+        for kind, wanted in ((True, True), ("refused", True), ("limit", True), (False, False), ("missed", False), ("unsure", False)):
+            trial, _ = self.trial({"a": ("one", "1")}, {})
+            trial.rt.REFUSED, trial.rt.AT_LIMIT = "refused", "limit"
+            trial.rt.must_fail = lambda crate, file, flags, kind=kind: (kind, "said")
+            self.assertEqual(trial.run(), [(wanted, "said")], kind)
+
     def test_a_method_of_a_type_of_another_module_is_asked_for_by_its_end(self):
         said = {"unknown": ["BoxHeld::second"], "first": self.NO_PROOF, "second": self.NO_PROOF}
         trial, asked = self.trial({"a": ("one", "1"), "b": ("two", "2")}, said)

@@ -265,7 +265,9 @@ class Trial:
         refused, by = tried
         if refused and is_sound:
             return True, f"must-fail {body.name}: {body.path} refused, as it must be{': ' + by if by else ''}"
-        return self.rt.must_fail(self.crate, body.file, ["--jobs", "1"])
+        kind, text = self.rt.must_fail(self.crate, body.file, ["--jobs", "1"])
+        # A toolchain answers whether it is refused, or what a try came to.
+        return kind is True or kind in (getattr(self.rt, it, True) for it in ("REFUSED", "AT_LIMIT")), text
 
 
 class Tries:
