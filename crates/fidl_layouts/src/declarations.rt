@@ -23,7 +23,7 @@ use fidl_tree::{
 use std::alloc::{AllocError, Global};
 
 /// Whether a method is marked `strict`.
-pub(crate) fn is_strict(strictness: &Option<Strictness>) -> bool
+pub fn is_strict(strictness: &Option<Strictness>) -> bool
     ensures { result ≡ is_strict strictness.now }
 {
     match strictness {

@@ -1,25 +1,14 @@
 //! Laws of the definitions: the contracts of functions that do nothing.
-ghost use Rattle.std.specs.Prelude.{◌≡◌, ◌≢◌, ◌∷◌, [], List};
-ghost use Rattle.fidl_tree.specs.Syntax.{File as PlainFile};
+ghost use Rattle.std.specs.Prelude.{◌≡◌, ◌∷◌, []};
 ghost use Rattle.fidl_tree.specs.Views.{declared_name, file_view};
 ghost use Rattle.fidl_tree.specs.declared.file.File.{File};
 ghost use Rattle.fidl_tree.specs.declared.declaration.Declaration.{Declaration};
 ghost use Rattle.fidl_names.specs.Names.{full_name};
 ghost use Rattle.fidl_layouts.specs.declared.step.Step.TheVariants as Steps;
-ghost use Rattle.fidl_layouts.specs.declared.fault.RuleFault.{RuleFault};
-ghost use Rattle.fidl_layouts.specs.declared.fault.RuleFault.TheVariants as Faults;
 ghost use Rattle.fidl_layouts.specs.Forms.{name_by_path};
-ghost use Rattle.fidl_layouts.specs.Rules.{RulesHold, IsTrueOfRules};
 
 /// The full name by path of a declaration is the one that it is declared under.
 pub fn declarations_keep_their_full_names()
     ensures { (f : File) (d : Declaration)
         → name_by_path (file_view f) (Steps.Name (declared_name d.body) ∷ []) ≡ full_name f d }
-{}
-
-/// Files of which a refusal is true don't keep the rules, so files are accepted or refused, and
-/// never rightly both. Memory that ran out says nothing of the files.
-pub fn refused_files_break_a_rule()
-    ensures { (files : List PlainFile) (fault : RuleFault) → fault ≢ Faults.Memory
-        → IsTrueOfRules files fault → RulesHold files → ⊥ }
 {}

@@ -16,6 +16,7 @@ ghost use Rattle.fidl_layouts.specs.Sites.{result_site, empty_response_site, att
 ghost use Rattle.fidl_layouts.specs.Sites.{type_sites, layout_sites, response_sites, body_sites};
 ghost use Rattle.fidl_layouts.specs.Forms.{layout_form, layout_kinds, steps_text, file_forms};
 ghost use Rattle.fidl_layouts.specs.Forms.{forms_from};
+ghost use Rattle.fidl_layouts.specs.Keywords.{layout_keyword};
 
 /// In `a<b, c>` stand `a`, `b`, and `c` as the second argument of `a`.
 pub fn types_in_arguments()
@@ -106,6 +107,13 @@ pub fn places_of_declarations()
     ensures other { (p : List Step) (q : Path)
         → body_sites p (alias_body (named_type q no_arguments []))
         ≢ type_site any_type (named_type q no_arguments []) ∷ [] }
+{}
+
+/// The keyword of a layout is its place.
+pub fn keywords_of_layouts()
+    ensures seen { (k : Span) (ms : Members) → layout_keyword (union_layout true false k ms) ≡ k }
+    ensures other { (k j : Span) (ms : Members) → k ≢ j
+        → layout_keyword (union_layout true false k ms) ≢ j }
 {}
 
 /// The request of `M` in `P` is named `P.M.request`.

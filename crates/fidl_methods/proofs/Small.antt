@@ -9,7 +9,7 @@ use Rattle.fidl_tree.specs.Leaf.{text_at}
 use Rattle.fidl_tree.specs.Syntax.{Attribute, File, ProtocolMember, Openness}
 use Rattle.fidl_layouts.specs.declared.step.Step.TheVariants as step
 use Rattle.fidl_layouts.specs.Forms.{name_by_path, steps_text}
-use Rattle.fidl_layouts.specs.Profile.{only_string}
+use Rattle.fidl_layout_rules.specs.Profile.{only_string}
 use Rattle.fidl_methods.specs.Texts.{IsIdentifier, AreTwoNames, IsFullName, MaySelect}
 use Rattle.fidl_methods.specs.Selectors.{selectors, Gives, SelectorsBreak}
 use Rattle.fidl_methods.specs.Methods.{Method, method_of, named_in, Selects, OrdinalIs}

@@ -5,7 +5,7 @@ use Rattle.fidl_span.specs.declared.words.Span.{Span}
 use Rattle.fidl_tree.specs.Leaf.{text_at}
 use Rattle.fidl_tree.specs.Syntax.{Attribute}
 use Rattle.fidl_const.specs.Literals.{string_of}
-use Rattle.fidl_layouts.specs.Profile.{only_string}
+use Rattle.fidl_layout_rules.specs.Profile.{only_string}
 use Rattle.fidl_methods.specs.Texts.{MaySelect}
 
 -- whether an attribute is called `selector`

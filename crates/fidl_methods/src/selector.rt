@@ -3,7 +3,7 @@ ghost use Rattle.std.specs.Prelude.{◌≡◌, ◌∷◌, [], List, ℕ, codes, 
 ghost use Rattle.std.specs.Prelude.{IsNone};
 ghost use Rattle.fidl_tree.specs.Views.{value_view, attribute_view, attributes_view, file_view};
 ghost use Rattle.fidl_tree.specs.Views.{attribute_arguments_view};
-ghost use Rattle.fidl_layouts.specs.Profile.{string_alone, only_string};
+ghost use Rattle.fidl_layout_rules.specs.Profile.{string_alone, only_string};
 ghost use Rattle.fidl_methods.specs.Texts.{MaySelect};
 ghost use Rattle.fidl_methods.specs.Selectors.{selectors, Gives, SelectorsBreak};
 ghost use Rattle.fidl_methods.specs.Methods.{Selects, SelectedBy};

@@ -10,7 +10,7 @@ use Rattle.std.proofs.lemmas.Bool.Decides.{Decides-eqb, Decides-and}
 use Rattle.fidl_span.specs.declared.words.Span.{Span}
 use Rattle.fidl_layouts.specs.declared.form.Form.{Form as CodeForm}
 use Rattle.fidl_layouts.specs.FormViews.{seen_form, seen_forms}
-use Rattle.fidl_layouts.specs.Strict.{layout_keyword}
+use Rattle.fidl_layouts.specs.Keywords.{layout_keyword}
 use Rattle.fidl_layouts.specs.Forms.{Form, FormKind, layout_form, result_form, empty_response_form}
 use Rattle.fidl_terms.specs.declared.numbers.LayoutNumbers.{LayoutNumbers}
 use Rattle.fidl_terms.specs.Numbers.{IsFormAt, IsFirstForm}

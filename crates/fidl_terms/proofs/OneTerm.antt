@@ -14,7 +14,7 @@ use Rattle.fidl_const.specs.PlainValues.{a_number}
 use Rattle.fidl_const.specs.Values.{Gives, NameGives}
 use Rattle.fidl_const.proofs.OneValue.{one_offered}
 use Rattle.fidl_layouts.specs.Forms.{Form}
-use Rattle.fidl_layouts.specs.Strict.{layout_keyword}
+use Rattle.fidl_layouts.specs.Keywords.{layout_keyword}
 use Rattle.fidl_gathered.specs.Parts.{optional_in}
 use Rattle.fidl_behind.specs.Behind.{Head, layout_head, Core}
 use Rattle.fidl_gathered.specs.declared.parts.Part.{Part}

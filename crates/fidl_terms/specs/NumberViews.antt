@@ -4,7 +4,7 @@ use Rattle.std.specs.Prelude.{IsNone, slice_get, nat_eq}
 use Rattle.std.specs.Bool.{beq}
 use Rattle.indexmap.specs.IndexMap.{get}
 use Rattle.fidl_span.specs.declared.words.Span.{Span}
-use Rattle.fidl_layouts.specs.Strict.{layout_keyword}
+use Rattle.fidl_layouts.specs.Keywords.{layout_keyword}
 use Rattle.fidl_layouts.specs.Forms.{Form, FormKind, layout_form, result_form, empty_response_form}
 use Rattle.fidl_terms.specs.declared.numbers.LayoutNumbers.{LayoutNumbers}
 use Rattle.fidl_terms.specs.Numbers.{IsFormAt, IsFirstForm}

@@ -5,7 +5,7 @@ use Rattle.fidl_span.specs.declared.words.Span.{Span}
 use Rattle.fidl_tree.specs.Syntax.{Layout}
 use Rattle.fidl_tree.specs.Views.{file_view}
 use Rattle.fidl_tree.specs.declared.file.File.{File}
-use Rattle.fidl_layouts.specs.Strict.{layout_keyword}
+use Rattle.fidl_layouts.specs.Keywords.{layout_keyword}
 use Rattle.fidl_layouts.specs.Forms.{Form, layout_form, forms_from}
 
 -- the forms of all files

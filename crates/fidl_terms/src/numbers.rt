@@ -4,7 +4,7 @@ ghost use Rattle.std.specs.Prelude.{IsNone, OnOk};
 ghost use Rattle.fidl_tree.specs.Views.{body_view};
 ghost use Rattle.fidl_layouts.specs.Forms.{Form as Plain};
 ghost use Rattle.fidl_layouts.specs.FormViews.{seen_form, seen_forms};
-ghost use Rattle.fidl_layouts.specs.Strict.{layout_keyword};
+ghost use Rattle.fidl_layouts.specs.Keywords.{layout_keyword};
 ghost use Rattle.fidl_terms.specs.Numbers.{all_forms, IsFirstForm};
 ghost use Rattle.fidl_terms.specs.NumberViews.{layout_key, form_key, AreNumbers, AreNumbersBefore};
 ghost use Rattle.fidl_terms.specs.TermViews.{AreKnown};

@@ -5,7 +5,7 @@ use Rattle.std.proofs.lemmas.Option.{slice_get_within}
 use Rattle.fidl_tree.specs.Views.{file_view}
 use Rattle.fidl_tree.specs.declared.file.File.{File}
 use Rattle.fidl_const.specs.Evaluated.{Evaluates}
-use Rattle.fidl_layouts.specs.Rules.{RulesHold}
+use Rattle.fidl_layout_rules.specs.Rules.{RulesHold}
 use Rattle.fidl_layouts.specs.declared.form.Form.{Form as CodeForm}
 use Rattle.fidl_layouts.specs.FormViews.{seen_form, seen_forms}
 use Rattle.fidl_names.specs.Cycles.{Leads, step, further}

@@ -5,8 +5,8 @@ use Rattle.std.proofs.lemmas.Option.{slice_get_within, get_or_from_slice_get}
 use Rattle.fidl_tree.specs.Views.{file_view}
 use Rattle.fidl_tree.specs.declared.file.File.{File}
 use Rattle.fidl_names.specs.declared.place.Place.{Place}
-use Rattle.fidl_layouts.specs.declared.fault.RuleFault.TheVariants as rule
-use Rattle.fidl_layouts.proofs.Excluded.{refused_not as layouts_not}
+use Rattle.fidl_layout_rules.specs.declared.fault.RuleFault.TheVariants as rule
+use Rattle.fidl_layout_rules.proofs.Excluded.{refused_not as layouts_not}
 use Rattle.fidl_values.specs.declared.fault.ValuesFault.TheVariants as value
 use Rattle.fidl_values.proofs.Excluded.{refused_not as values_not}
 use Rattle.fidl_resources.specs.declared.fault.ResourceFault.TheVariants as resource

@@ -17,8 +17,8 @@ use Rattle.fidl_layouts.specs.declared.step.Step.{Step}
 use Rattle.fidl_layouts.specs.declared.step.Step.TheVariants as step
 use Rattle.fidl_layouts.specs.Sites.{any_type, present_type, Site, type_site, layout_site, result_site, empty_response_site, attributes_site, within, file_sites}
 use Rattle.fidl_layouts.specs.Forms.{Form, FormKind, layout_form, result_form, empty_response_form, layout_kinds, form_at, site_forms, file_forms, forms_from}
-use Rattle.fidl_layouts.specs.Ordinals.{member_ordinals, ordinal_numbers, IsOrdinal}
-use Rattle.fidl_layouts.specs.Rules.{LayoutHolds, SiteHolds as RuleHolds, FileHolds as RulesOfFile, RulesHold}
+use Rattle.fidl_layout_rules.specs.Ordinals.{member_ordinals, ordinal_numbers, IsOrdinal}
+use Rattle.fidl_layout_rules.specs.Rules.{LayoutHolds, SiteHolds as RuleHolds, FileHolds as RulesOfFile, RulesHold}
 use Rattle.fidl_wire.specs.Term as ty
 use Rattle.fidl_wire.specs.Term.{Term, Fields, no_fields, field, Rows, no_rows, row}
 use Rattle.fidl_terms.specs.Numbers.{all_forms}

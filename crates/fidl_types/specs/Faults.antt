@@ -3,8 +3,8 @@ use Rattle.std.specs.Prelude.{ℕ, ◌⊎◌, List, map}
 use Rattle.fidl_tree.specs.Views.{file_view}
 use Rattle.fidl_tree.specs.declared.file.File.{File}
 use Rattle.fidl_names.specs.declared.place.Place.{Place}
-use Rattle.fidl_layouts.specs.declared.fault.RuleFault.TheVariants as rule
-use Rattle.fidl_layouts.specs.Rules.{IsTrueOfRules}
+use Rattle.fidl_layout_rules.specs.declared.fault.RuleFault.TheVariants as rule
+use Rattle.fidl_layout_rules.specs.Rules.{IsTrueOfRules}
 use Rattle.fidl_values.specs.declared.fault.ValuesFault.TheVariants as value
 use Rattle.fidl_values.specs.Rules.{IsTrueOfValues}
 use Rattle.fidl_resources.specs.declared.fault.ResourceFault.TheVariants as resource

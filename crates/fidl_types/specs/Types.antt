@@ -5,7 +5,7 @@ use Rattle.fidl_tree.specs.declared.file.File.{File}
 use Rattle.fidl_const.specs.declared.consts.Consts.{Consts}
 use Rattle.fidl_const.specs.Tables.{AreConsts}
 use Rattle.fidl_layouts.specs.Forms.{Form}
-use Rattle.fidl_layouts.specs.Rules.{RulesHold as LayoutsHold}
+use Rattle.fidl_layout_rules.specs.Rules.{RulesHold as LayoutsHold}
 use Rattle.fidl_values.specs.Rules.{ValuesHold}
 use Rattle.fidl_resources.specs.Resources.{ResourcesHold}
 use Rattle.fidl_uses.specs.Uses.{UsesHold}

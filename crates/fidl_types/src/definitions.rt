@@ -2,7 +2,7 @@
 ghost use Rattle.std.specs.Prelude.{◌<◌, ◌^◌, length, map, IfErr, IfOk, IfSome, IsNone, OnOk};
 ghost use Rattle.fidl_tree.specs.Views.{file_view};
 ghost use Rattle.fidl_const.specs.Evaluated.{Evaluates};
-ghost use Rattle.fidl_layouts.specs.Rules.{RulesHold as LayoutsHold};
+ghost use Rattle.fidl_layout_rules.specs.Rules.{RulesHold as LayoutsHold};
 ghost use Rattle.fidl_terms.specs.Numbers.{all_forms};
 ghost use Rattle.fidl_terms.specs.TermViews.{AreKnown};
 ghost use Rattle.fidl_uses.specs.Uses.{UsesHold};

@@ -3,7 +3,7 @@ ghost use Rattle.std.specs.Prelude.{◌≡◌, ◌≢◌, ◌≤◌, ◌^◌, Li
 ghost use Rattle.fidl_tree.specs.declared.file.File.{File};
 ghost use Rattle.fidl_tree.specs.Views.{file_view};
 ghost use Rattle.fidl_const.specs.Evaluated.{Evaluates};
-ghost use Rattle.fidl_layouts.specs.Rules.{RulesHold};
+ghost use Rattle.fidl_layout_rules.specs.Rules.{RulesHold};
 ghost use Rattle.fidl_terms.specs.Numbers.{all_forms};
 ghost use Rattle.fidl_uses.specs.Uses.{UsesHold};
 ghost use Rattle.fidl_wire.specs.Term.{Term};

@@ -2,7 +2,7 @@
 ghost use Rattle.std.specs.Prelude.{List, map, IfErr, OnOk};
 ghost use Rattle.fidl_tree.specs.Views.{file_view};
 ghost use Rattle.fidl_tree.specs.declared.file.File.{File as Tree};
-ghost use Rattle.fidl_layouts.specs.Rules.{RulesHold, IsTrueOfRules};
+ghost use Rattle.fidl_layout_rules.specs.Rules.{RulesHold, IsTrueOfRules};
 ghost use Rattle.fidl_values.specs.Rules.{ValuesHold, IsTrueOfValues};
 ghost use Rattle.fidl_resources.specs.Resources.{ResourcesHold, IsTrueOfResources};
 ghost use Rattle.fidl_uses.specs.Uses.{UsesHold, IsTrueOfUses};
@@ -10,7 +10,7 @@ ghost use Rattle.fidl_terms.specs.TermViews.{AreKnown};
 ghost use Rattle.fidl_types.specs.Faults.{IsTrueOfTypes};
 
 use crate::fault::TypeFault;
-use fidl_layouts::{RuleFault, check_layouts};
+use fidl_layout_rules::{RuleFault, check_layouts};
 use fidl_resources::{ResourceFault, check_resources};
 use fidl_terms::Sources;
 use fidl_uses::{UseFault, check_uses};

@@ -1,0 +1,3 @@
+pub mod Excluded
+pub mod Numbers
+pub mod Reports
