@@ -17,6 +17,7 @@ pub mod Stops
 pub mod Trees
 pub mod TypeAhead
 pub mod TypeChoices
+pub mod TypeReads
 pub mod TypeParts
 pub mod Types
 pub mod ValueMembers
