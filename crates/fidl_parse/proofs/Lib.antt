@@ -8,6 +8,7 @@ pub mod Follow
 pub mod Joins
 pub mod Keywords
 pub mod LayoutBodies
+pub mod LayoutWords
 pub mod Limits
 pub mod Options
 pub mod PathRest
@@ -17,8 +18,8 @@ pub mod Stops
 pub mod Trees
 pub mod TypeAhead
 pub mod TypeChoices
-pub mod TypeReads
 pub mod TypeParts
+pub mod TypeReads
 pub mod Types
 pub mod ValueMembers
 pub mod Values

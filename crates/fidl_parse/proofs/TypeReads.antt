@@ -74,7 +74,7 @@ pub values_reads : (p : Parser) (a b c d e f g : ℕ) (front : List Leaf) (stric
     → Reads p a g (values_layout_leaves (roll-ValuesLayout record { strictness = strictness; keyword = word; underlying = underlying; left = left; members = members; right = right }))
 values_reads p a b c d e f g front strictness word underlying left members right same h k u l m r =
     let whole = braced_reads p a d e f g ((front ++ values_keyword_leaves word) ++ optional underlying_leaves underlying) (row value_member_leaves members.items) left right
-        (reads_join p a c d (front ++ values_keyword_leaves word) (optional underlying_leaves underlying) (reads_join p a b c front (values_keyword_leaves word) h k) u) l m r in
+    (reads_join p a c d (front ++ values_keyword_leaves word) (optional underlying_leaves underlying) (reads_join p a b c front (values_keyword_leaves word) h k) u) l m r in
     subst (λ l. Reads p a g l) (sym (values_built strictness word underlying left members right))
     (subst (λ l. Reads p a g (((l ++ values_keyword_leaves word) ++ optional underlying_leaves underlying) ++ ((symbol kind.LeftBrace left ++ row value_member_leaves members.items) ++ symbol kind.RightBrace right))) same whole)
 
