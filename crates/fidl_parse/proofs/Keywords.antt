@@ -56,6 +56,16 @@ pub option_stops : {X : Type 0} {R : Type 0} (f : X → List Leaf) (p : Parser) 
 option_stops f p from to e None rest h k a = let q = (k a).0 in cc
 option_stops f p from to e (Some x) rest h k a = h x rest tt a
 
+told_none : {R : Type 0} (v : Option R) → done (Option R) v ≡ Ok None → is_some v ≡ false
+told_none None q = refl
+told_none (Some r) q = cc
+
+-- where a part does not stand ahead, none is read
+pub option_lacks : {X : Type 0} {R : Type 0} (f : X → List Leaf) (p : Parser) (from to : ℕ) (v : Option R) (o : Option X) (rest : List Leaf)
+    → (Ahead p from rest → (done (Option R) v ≡ Ok None) × Ahead p to rest) → is_some o ≡ false → Ahead p from (optional f o ++ rest) → is_some v ≡ false
+option_lacks f p from to v None rest k e a = told_none v (k a).0
+option_lacks f p from to v (Some x) rest k e a = absurd (false≢true (sym e))
+
 pub option_absent : {X : Type 0} (f : X → List Leaf) (p : Parser) (at : ℕ) (o : Option X) (rest : List Leaf) → is_some o ≡ false → Ahead p at (optional f o ++ rest) → Ahead p at rest
 option_absent f p at None rest e a = a
 option_absent f p at (Some x) rest e a = absurd (false≢true (sym e))

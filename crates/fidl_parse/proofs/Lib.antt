@@ -8,6 +8,7 @@ pub mod Follow
 pub mod Joins
 pub mod Keywords
 pub mod LayoutBodies
+pub mod LayoutWords
 pub mod Limits
 pub mod Options
 pub mod PathRest
@@ -18,6 +19,7 @@ pub mod Trees
 pub mod TypeAhead
 pub mod TypeChoices
 pub mod TypeParts
+pub mod TypeReads
 pub mod Types
 pub mod ValueMembers
 pub mod Values

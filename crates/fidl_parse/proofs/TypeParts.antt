@@ -72,7 +72,7 @@ pub union_parts : (x : UnionLayout) → union_layout_leaves x
     ++ braced (out-UnionLayout x).left (row ordinal_member_leaves (out-UnionLayout x).members.items) (out-UnionLayout x).right
 union_parts x = rw fold_out-UnionLayout
 
-values_built : (strictness : Option Strictness) (word : ValuesKeyword) (underlying : Option Underlying) (left : Span) (members : Vec ValueMember Global) (right : Span)
+pub values_built : (strictness : Option Strictness) (word : ValuesKeyword) (underlying : Option Underlying) (left : Span) (members : Vec ValueMember Global) (right : Span)
     → values_layout_leaves (roll-ValuesLayout record { strictness = strictness; keyword = word; underlying = underlying; left = left; members = members; right = right })
     ≡ optional strictness_leaves strictness ++ values_keyword_leaves word ++ optional underlying_leaves underlying ++ braced left (row value_member_leaves members.items) right
 values_built strictness word None left members right = rw fold-roll-ValuesLayout

@@ -1,5 +1,5 @@
 -- The leaves of a value part by part.
-use Rattle.std.proofs.Common.{Box, Global, ◌≡◌, Bool, true, false, ℕ, List, [], ◌∷◌, ◌++◌, Option, None, Some, codes, append_assoc, refl, ap, sym, subst, ◌∙◌, ◌⊎◌, inl, inr}
+use Rattle.std.proofs.Common.{Box, Vec, Global, ◌≡◌, Bool, true, false, ℕ, List, [], ◌∷◌, ◌++◌, Option, None, Some, codes, append_assoc, refl, ap, sym, subst, ◌∙◌, ◌⊎◌, inl, inr}
 use Rattle.fidl_span.specs.declared.words.Span.{Span}
 use Rattle.fidl_span.specs.declared.words.WordKind.{WordKind}
 use Rattle.fidl_span.specs.declared.words.WordKind.TheVariants as kind
@@ -7,12 +7,12 @@ use Rattle.fidl_tree.specs.Leaf.{Leaf, any, is, none_of, leaf, symbol, keyword, 
 use Rattle.fidl_tree.specs.Path.{path_from, part_leaves}
 use Rattle.fidl_tree.specs.Value.{value_leaves, or_operand_leaves, operand_leaves}
 use Rattle.fidl_tree.specs.declared.path.Path.{Path}
-use Rattle.fidl_tree.specs.declared.value.Value.{Value, out-Value}
-use Rattle.fidl_tree.specs.declared.value.OrOperand.{OrOperand, out-OrOperand}
+use Rattle.fidl_tree.specs.declared.value.Value.{Value, out-Value, roll-Value}
+use Rattle.fidl_tree.specs.declared.value.OrOperand.{OrOperand, out-OrOperand, roll-OrOperand}
 use Rattle.fidl_tree.specs.declared.value.Operand.{Operand, out-Operand, roll-Operand, roll-out-Operand}
 use Rattle.fidl_tree.specs.declared.value.Operand.TheVariants as variant
 use Rattle.fidl_tree.specs.declared.value.Operand.TheOpen.{Operand-F}
-use Rattle.fidl_tree.specs.declared.value.Operand.TheFolds.{fold_out-Value, fold_out-OrOperand, fold-roll-Operand}
+use Rattle.fidl_tree.specs.declared.value.Operand.TheFolds.{fold_out-Value, fold_out-OrOperand, fold-roll-Operand, fold-roll-Value, fold-roll-OrOperand}
 use Rattle.fidl_parse.specs.declared.parser.Parser.{Parser}
 use Rattle.fidl_parse.specs.Reading.{Reads, IsKindAt, IsTextAt}
 use Rattle.fidl_parse.specs.Choices.{literals}
@@ -160,6 +160,14 @@ pub group_reads : (p : Parser) (a b c d : ℕ) (left : Span) (inner : Value) (va
 group_reads p a b c d left inner value right e r s t =
     subst (λ l. Reads p a d l) (sym (ap operand_leaves (sym (variant.rolls-Group left value right)) ∙ operand_rolled (Operand-F.Group left value right)))
     (reads_join p a c d _ _ (reads_join p a b c _ _ r (subst (λ v. Reads p b c (value_leaves v)) (sym e) s)) t)
+
+pub value_reads : (p : Parser) (a b c : ℕ) (first : Operand) (rest : Vec OrOperand Global) → Reads p a b (operand_leaves first) → Reads p b c (row or_operand_leaves rest.items)
+    → Reads p a c (value_leaves (roll-Value record { first = first; rest = rest }))
+value_reads p a b c first rest r s = rw fold-roll-Value (reads_join p a b c (operand_leaves first) (row or_operand_leaves rest.items) r s)
+
+pub or_operand_reads : (p : Parser) (a b c : ℕ) (bar : Span) (operand : Operand) → Reads p a b (symbol kind.Bar bar) → Reads p b c (operand_leaves operand)
+    → Reads p a c (or_operand_leaves (roll-OrOperand record { bar = bar; operand = operand }))
+or_operand_reads p a b c bar operand r s = rw fold-roll-OrOperand (reads_join p a b c (symbol kind.Bar bar) (operand_leaves operand) r s)
 
 -- what a value begins with
 abbrev pub starts_value : WordKind → Bool

@@ -15,6 +15,7 @@ use Rattle.fidl_parse.proofs.LayoutBodies.{body_of, body_ahead, tail_may, values
 use Rattle.fidl_parse.proofs.TypeAhead.{named_ahead, type_arguments_begin, next_type_argument_begins, underlying_begins, type_arguments_ahead, next_type_argument_ahead, layout_ahead, underlying_ahead, member_ahead, ordinal_member_ahead, member_apart, ordinal_member_apart}
 use Rattle.fidl_parse.proofs.TypeChoices.{body_begins, named_type_ahead, layout_type_ahead, number_argument_ahead, type_argument_ahead, reserved_ahead, typed_ahead}
 use Rattle.fidl_parse.proofs.TypeParts.{typed_reads}
+use Rattle.fidl_parse.proofs.TypeReads.{struct_reads, table_reads, union_reads, values_reads, layout_reads, underlying_reads, member_reads, ordinal_member_reads}
 use Rattle.fidl_parse.proofs.Stops.{stops}
 use Rattle.fidl_tree.specs.declared.type_constructor.NamedType.{out-NamedType}
 use Rattle.fidl_tree.specs.declared.type_constructor.TypeArguments.{out-TypeArguments}
@@ -682,3 +683,39 @@ ordinal_body-returns-clause-complete t c x rest m a =
     let y = typed_ahead _ _ x rest m (λ i j. false≢true (c.if-begins_reserved.ensures.1 (i, j))) a in
     let b1 = c.in_ok-name.ensures.complete y.0 _ tt y.2 in
     c.in_ok-constructor.ensures.complete y.1 _ (begins_not extends_type kind.Semicolon rest refl m) b1
+
+pub struct_layout-returns-clause-reads : goal.struct_layout-returns-clause-reads
+struct_layout-returns-clause-reads t c start front =
+    struct_reads _ _ _ _ _ _ _ _ c.in_ok-resource.resource c.in_ok-keyword.keyword c.in_ok-left.left c.in_ok-members.members c.in_ok-right.right c.in_ok-resource.ensures.leaves
+    front c.in_ok-keyword.ensures.reads c.in_ok-left.ensures.reads c.in_ok-members.ensures.reads c.in_ok-right.ensures.reads
+
+pub table_layout-returns-clause-reads : goal.table_layout-returns-clause-reads
+table_layout-returns-clause-reads t c start front =
+    table_reads _ _ _ _ _ _ _ _ c.in_ok-resource.resource c.in_ok-keyword.keyword c.in_ok-left.left c.in_ok-members.members c.in_ok-right.right c.in_ok-resource.ensures.leaves
+    front c.in_ok-keyword.ensures.reads c.in_ok-left.ensures.reads c.in_ok-members.ensures.reads c.in_ok-right.ensures.reads
+
+pub union_layout-returns-clause-reads : goal.union_layout-returns-clause-reads
+union_layout-returns-clause-reads t c start front =
+    union_reads _ _ _ _ _ _ _ c.args.modifiers c.in_ok-keyword.keyword c.in_ok-left.left c.in_ok-members.members c.in_ok-right.right
+    front c.in_ok-keyword.ensures.reads c.in_ok-left.ensures.reads c.in_ok-members.ensures.reads c.in_ok-right.ensures.reads
+
+pub values_layout-returns-clause-reads : goal.values_layout-returns-clause-reads
+values_layout-returns-clause-reads t c start front =
+    values_reads _ _ _ _ _ _ _ _ _ c.in_ok-strictness.strictness c.in_ok-keyword.keyword c.in_ok-underlying.underlying c.in_ok-left.left c.in_ok-members.members c.in_ok-right.right c.in_ok-strictness.ensures.leaves
+    front c.in_ok-keyword.ensures.reads c.in_ok-underlying.ensures.reads c.in_ok-left.ensures.reads c.in_ok-members.ensures.reads c.in_ok-right.ensures.reads
+
+pub layout-returns-clause-reads : goal.layout-returns-clause-reads
+layout-returns-clause-reads t c = layout_reads _ _ _ _ c.in_ok-attributes.attributes c.in_ok-body.body c.in_ok-attributes.ensures.reads c.in_ok-body.ensures.reads
+
+pub underlying-returns-clause-reads : goal.underlying-returns-clause-reads
+underlying-returns-clause-reads t c = underlying_reads _ _ _ _ c.in_ok-colon.colon c.in_ok-named.named c.in_ok-colon.ensures.reads c.in_ok-named.ensures.reads
+
+pub member-returns-clause-reads : goal.member-returns-clause-reads
+member-returns-clause-reads t c =
+    member_reads _ _ _ _ _ _ c.in_ok-attributes.attributes c.in_ok-name.name c.in_ok-constructor.constructor c.in_ok-semicolon.semicolon
+    c.in_ok-attributes.ensures.reads c.in_ok-name.ensures.reads c.in_ok-constructor.ensures.reads c.in_ok-semicolon.ensures.reads
+
+pub ordinal_member-returns-clause-reads : goal.ordinal_member-returns-clause-reads
+ordinal_member-returns-clause-reads t c =
+    ordinal_member_reads _ _ _ _ _ _ _ c.in_ok-attributes.attributes c.in_ok-ordinal.ordinal c.in_ok-colon.colon c.in_ok-body.body c.in_ok-semicolon.semicolon
+    c.in_ok-attributes.ensures.reads c.in_ok-ordinal.ensures.reads c.in_ok-colon.ensures.reads c.in_ok-body.ensures.reads c.in_ok-semicolon.ensures.reads

@@ -8,7 +8,7 @@ use Rattle.fidl_tree.specs.declared.value.Value.{out-Value}
 use Rattle.fidl_tree.specs.declared.value.OrOperand.{out-OrOperand}
 use Rattle.fidl_parse.specs.FollowSets.{extends_value}
 use Rattle.fidl_parse.proofs.Ahead.{not_begins}
-use Rattle.fidl_parse.proofs.Values.{value_ahead, or_operand_ahead, or_operand_begins, or_operands_end, group_ahead, group_reads}
+use Rattle.fidl_parse.proofs.Values.{value_ahead, or_operand_ahead, or_operand_begins, or_operands_end, group_ahead, group_reads, value_reads, or_operand_reads}
 use Rattle.fidl_parse.proofs.Stops.{stops}
 use Rattle.fidl_parse.proofs.parser.Parser.+value.Goals as goal
 
@@ -111,3 +111,9 @@ group-returns-clause-complete t c = λ i x rest m a.
 pub group-returns-clause-reads : goal.group-returns-clause-reads
 group-returns-clause-reads t c =
     group_reads _ _ _ _ _ c.in_ok-left.left c.in_ok-value.field-0 c.in_ok-value-2.value c.in_ok-right.right c.in_ok-value-2.ensures.ok c.in_ok-left.ensures.reads c.in_ok-value.ensures.reads c.in_ok-right.ensures.reads
+
+pub value-returns-clause-reads : goal.value-returns-clause-reads
+value-returns-clause-reads t c = value_reads _ _ _ _ c.in_ok-first.first c.in_ok-rest.rest c.in_ok-first.ensures.reads c.in_ok-rest.ensures.reads
+
+pub or_operand-returns-clause-reads : goal.or_operand-returns-clause-reads
+or_operand-returns-clause-reads t c = or_operand_reads _ _ _ _ c.in_ok-bar.bar c.in_ok-operand.operand c.in_ok-bar.ensures.reads c.in_ok-operand.ensures.reads

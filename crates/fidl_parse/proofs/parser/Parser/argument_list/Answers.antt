@@ -5,6 +5,7 @@ use Rattle.fidl_parse.proofs.Ahead.{group}
 use Rattle.fidl_parse.proofs.Options.{until_none, until_some}
 use Rattle.fidl_parse.proofs.Attributes.{list_apart, arguments_end}
 use Rattle.fidl_parse.proofs.Stops.{stops}
+use Rattle.fidl_parse.proofs.Joins.{reads_join}
 use Rattle.fidl_parse.proofs.parser.Parser.argument_list.Goals as goal
 
 pub returns-then-is_next-clause-complete : goal.returns-then-is_next-clause-complete
@@ -32,3 +33,8 @@ returns-clause-complete c x rest m a =
     let a0 = group _ _ _ _ rest y.1 in
     let b1 = c.in_ok-first.ensures.complete y.0.first _ (arguments_end y.0.rest.items rest m) a0 in
     c.in_ok-rest.ensures.complete y.0.rest.items _ m b1
+
+pub returns-clause-reads : goal.returns-clause-reads
+returns-clause-reads c =
+    let r1 = reads_join _ _ _ _ _ _ c.in_ok-first.ensures.reads c.in_ok-rest.ensures.reads in
+    r1

@@ -1,6 +1,7 @@
 use Rattle.std.proofs.lemmas.Bool.{false≢true}
 use Rattle.fidl_parse.proofs.Attributes.{named_none, named_some}
 use Rattle.fidl_parse.proofs.Stops.{stops}
+use Rattle.fidl_parse.proofs.Joins.{reads_join}
 use Rattle.fidl_parse.proofs.parser.Parser.argument_name.Goals as goal
 
 pub returns-then-not-begins_argument_name-clause-complete : goal.returns-then-not-begins_argument_name-clause-complete
@@ -25,3 +26,8 @@ returns-clause-complete c x rest m a =
     let y = named_some _ _ x rest m (c.begins_argument_name.ensures.0 c.if-not-begins_argument_name.false) a in
     let b1 = c.in_ok-name.ensures.complete y.0.name _ tt y.1 in
     c.in_ok-equals.ensures.complete y.0.equals _ tt b1
+
+pub returns-clause-reads : goal.returns-clause-reads
+returns-clause-reads c =
+    let r1 = reads_join _ _ _ _ _ _ c.in_ok-name.ensures.reads c.in_ok-equals.ensures.reads in
+    r1

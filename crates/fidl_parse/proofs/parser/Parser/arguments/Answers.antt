@@ -7,6 +7,7 @@ use Rattle.fidl_parse.proofs.Ahead.{not_begins}
 use Rattle.fidl_parse.proofs.Options.{kind_none, kind_some}
 use Rattle.fidl_parse.proofs.Attributes.{arguments_begin, arguments_ahead}
 use Rattle.fidl_parse.proofs.Stops.{stops}
+use Rattle.fidl_parse.proofs.Joins.{reads_join}
 use Rattle.fidl_parse.proofs.parser.Parser.arguments.Goals as goal
 
 pub returns-then-not-is_next-clause-complete : goal.returns-then-not-is_next-clause-complete
@@ -44,3 +45,9 @@ returns-clause-complete c x rest m a =
     let b1 = c.in_ok-left.ensures.complete y.0.left _ tt a0 in
     let b2 = c.in_ok-list.ensures.complete y.0.list _ refl b1 in
     c.in_ok-right.ensures.complete y.0.right _ tt b2
+
+pub returns-clause-reads : goal.returns-clause-reads
+returns-clause-reads c =
+    let r1 = reads_join _ _ _ _ _ _ c.in_ok-left.ensures.reads c.in_ok-list.ensures.reads in
+    let r2 = reads_join _ _ _ _ _ _ r1 c.in_ok-right.ensures.reads in
+    r2

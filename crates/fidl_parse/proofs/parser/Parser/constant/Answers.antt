@@ -4,6 +4,7 @@ use Rattle.fidl_parse.specs.FollowSets.{extends_value}
 use Rattle.fidl_parse.proofs.Ahead.{begins_not}
 use Rattle.fidl_parse.proofs.Declarations.{const_ahead}
 use Rattle.fidl_parse.proofs.Stops.{stops}
+use Rattle.fidl_parse.proofs.Joins.{reads_join}
 use Rattle.fidl_parse.proofs.parser.Parser.constant.Goals as goal
 
 pub returns-in_err-keyword-clause-complete : goal.returns-in_err-keyword-clause-complete
@@ -54,3 +55,11 @@ returns-clause-complete c x rest m a =
     let b3 = c.in_ok-constructor.ensures.complete x.constructor _ refl b2 in
     let b4 = c.in_ok-equals.ensures.complete x.equals _ tt b3 in
     c.in_ok-value.ensures.complete x.value _ (begins_not extends_value kind.Semicolon rest refl m) b4
+
+pub returns-clause-reads : goal.returns-clause-reads
+returns-clause-reads c =
+    let r1 = reads_join _ _ _ _ _ _ c.in_ok-keyword.ensures.reads c.in_ok-name.ensures.reads in
+    let r2 = reads_join _ _ _ _ _ _ r1 c.in_ok-constructor.ensures.reads in
+    let r3 = reads_join _ _ _ _ _ _ r2 c.in_ok-equals.ensures.reads in
+    let r4 = reads_join _ _ _ _ _ _ r3 c.in_ok-value.ensures.reads in
+    r4

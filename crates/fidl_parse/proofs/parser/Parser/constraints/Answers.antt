@@ -6,7 +6,7 @@ use Rattle.fidl_parse.specs.FollowSets.{extends_type}
 use Rattle.fidl_parse.proofs.Ahead.{not_begins}
 use Rattle.fidl_parse.proofs.Options.{kind_none, kind_some}
 use Rattle.fidl_parse.proofs.Follow.{value_of_type}
-use Rattle.fidl_parse.proofs.Constraints.{constraints_begin, single_ahead}
+use Rattle.fidl_parse.proofs.Constraints.{constraints_begin, single_ahead, single_reads}
 use Rattle.fidl_parse.proofs.Stops.{stops}
 use Rattle.fidl_parse.proofs.parser.Parser.constraints.Goals as goal
 
@@ -46,3 +46,6 @@ returns-clause-complete c x rest m a =
     let s = single_ahead _ _ y.0 rest (λ e. false≢true (c.if-is_second.ensures.1 e)) y.1 in
     let b1 = c.in_ok-colon.ensures.complete s.0 _ tt s.2 in
     c.in_ok-value.ensures.complete s.1 _ (value_of_type rest m) b1
+
+pub returns-clause-reads : goal.returns-clause-reads
+returns-clause-reads c = single_reads _ _ _ _ c.in_ok-colon.colon c.in_ok-value.field-0 c.in_ok-value-2.value c.in_ok-value-2.ensures.ok c.in_ok-colon.ensures.reads c.in_ok-value.ensures.reads

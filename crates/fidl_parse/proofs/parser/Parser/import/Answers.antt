@@ -1,6 +1,7 @@
 use Rattle.std.proofs.Common.{refl}
 use Rattle.fidl_parse.proofs.Files.{import_ahead, alias_may}
 use Rattle.fidl_parse.proofs.Stops.{stops}
+use Rattle.fidl_parse.proofs.Joins.{reads_join}
 use Rattle.fidl_parse.proofs.parser.Parser.import.Goals as goal
 
 pub returns-in_err-keyword-clause-complete : goal.returns-in_err-keyword-clause-complete
@@ -40,3 +41,11 @@ returns-clause-complete c x rest m a =
     let b2 = c.in_ok-path.ensures.complete x.path _ (alias_may x.alias x rest) b1 in
     let b3 = c.in_ok-alias.ensures.complete x.alias _ refl b2 in
     c.in_ok-semicolon.ensures.complete x.semicolon _ tt b3
+
+pub returns-clause-reads : goal.returns-clause-reads
+returns-clause-reads c start front =
+    let r1 = reads_join _ _ _ _ _ _ front c.in_ok-keyword.ensures.reads in
+    let r2 = reads_join _ _ _ _ _ _ r1 c.in_ok-path.ensures.reads in
+    let r3 = reads_join _ _ _ _ _ _ r2 c.in_ok-alias.ensures.reads in
+    let r4 = reads_join _ _ _ _ _ _ r3 c.in_ok-semicolon.ensures.reads in
+    r4

@@ -5,6 +5,7 @@ use Rattle.fidl_parse.proofs.Stops.{stops}
 use Rattle.fidl_tree.specs.File.{import_alias_leaves}
 use Rattle.fidl_parse.proofs.Options.{option_none, option_some}
 use Rattle.fidl_parse.proofs.Words.{text_ahead, no_text}
+use Rattle.fidl_parse.proofs.Joins.{reads_join}
 use Rattle.fidl_parse.proofs.parser.Parser.import_alias.Goals as goal
 
 pub returns-then-not-is_next_word-clause-complete : goal.returns-then-not-is_next_word-clause-complete
@@ -29,3 +30,8 @@ returns-clause-complete c x rest m a =
     let y = option_some import_alias_leaves _ _ x rest (λ b. no_text _ _ (codes "as") kind.Semicolon rest m refl (c.is_next_word.ensures.next.0 c.if-not-is_next_word.false) b) a in
     let b1 = c.in_ok-keyword.ensures.complete y.0.keyword _ tt y.1 in
     c.in_ok-name.ensures.complete y.0.name _ tt b1
+
+pub returns-clause-reads : goal.returns-clause-reads
+returns-clause-reads c =
+    let r1 = reads_join _ _ _ _ _ _ c.in_ok-keyword.ensures.reads c.in_ok-name.ensures.reads in
+    r1

@@ -1,6 +1,7 @@
 use Rattle.std.proofs.Common.{refl}
 use Rattle.fidl_parse.proofs.Files.{library_ahead}
 use Rattle.fidl_parse.proofs.Stops.{stops}
+use Rattle.fidl_parse.proofs.Joins.{reads_join}
 use Rattle.fidl_parse.proofs.parser.Parser.library.Goals as goal
 
 pub returns-in_err-attributes-clause-complete : goal.returns-in_err-attributes-clause-complete
@@ -40,3 +41,10 @@ returns-clause-complete c x rest m a =
     let b2 = c.in_ok-keyword.ensures.complete x.keyword _ tt b1 in
     let b3 = c.in_ok-path.ensures.complete x.path _ refl b2 in
     c.in_ok-semicolon.ensures.complete x.semicolon _ tt b3
+
+pub returns-clause-reads : goal.returns-clause-reads
+returns-clause-reads c =
+    let r1 = reads_join _ _ _ _ _ _ c.in_ok-attributes.ensures.reads c.in_ok-keyword.ensures.reads in
+    let r2 = reads_join _ _ _ _ _ _ r1 c.in_ok-path.ensures.reads in
+    let r3 = reads_join _ _ _ _ _ _ r2 c.in_ok-semicolon.ensures.reads in
+    r3

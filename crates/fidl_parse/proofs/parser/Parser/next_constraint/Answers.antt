@@ -1,4 +1,5 @@
 use Rattle.fidl_parse.proofs.Stops.{stops}
+use Rattle.fidl_parse.proofs.Joins.{reads_join}
 use Rattle.fidl_parse.proofs.parser.Parser.next_constraint.Goals as goal
 
 pub returns-in_err-comma-clause-complete : goal.returns-in_err-comma-clause-complete
@@ -16,3 +17,8 @@ pub returns-clause-complete : goal.returns-clause-complete
 returns-clause-complete c x rest m a =
     let b1 = c.in_ok-comma.ensures.complete x.comma _ tt a in
     c.in_ok-value.ensures.complete x.value _ m b1
+
+pub returns-clause-reads : goal.returns-clause-reads
+returns-clause-reads c =
+    let r1 = reads_join _ _ _ _ _ _ c.in_ok-comma.ensures.reads c.in_ok-value.ensures.reads in
+    r1

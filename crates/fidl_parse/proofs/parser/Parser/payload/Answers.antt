@@ -1,6 +1,7 @@
 use Rattle.std.proofs.Common.{refl}
 use Rattle.fidl_parse.proofs.Protocols.{payload_ahead}
 use Rattle.fidl_parse.proofs.Stops.{stops}
+use Rattle.fidl_parse.proofs.Joins.{reads_join}
 use Rattle.fidl_parse.proofs.parser.Parser.payload.Goals as goal
 
 pub returns-in_err-left-clause-complete : goal.returns-in_err-left-clause-complete
@@ -30,3 +31,9 @@ returns-clause-complete c x rest m a =
     let b1 = c.in_ok-left.ensures.complete x.left _ tt a0 in
     let b2 = c.in_ok-constructor.ensures.complete x.constructor _ refl b1 in
     c.in_ok-right.ensures.complete x.right _ tt b2
+
+pub returns-clause-reads : goal.returns-clause-reads
+returns-clause-reads c =
+    let r1 = reads_join _ _ _ _ _ _ c.in_ok-left.ensures.reads c.in_ok-constructor.ensures.reads in
+    let r2 = reads_join _ _ _ _ _ _ r1 c.in_ok-right.ensures.reads in
+    r2

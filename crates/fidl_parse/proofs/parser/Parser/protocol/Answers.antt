@@ -1,6 +1,7 @@
 use Rattle.std.proofs.Common.{refl}
 use Rattle.fidl_parse.proofs.Declarations.{protocol_ahead}
 use Rattle.fidl_parse.proofs.Stops.{stops}
+use Rattle.fidl_parse.proofs.Joins.{reads_join}
 use Rattle.fidl_parse.proofs.parser.Parser.protocol.Goals as goal
 
 pub returns-in_err-openness-clause-complete : goal.returns-in_err-openness-clause-complete
@@ -63,3 +64,10 @@ returns-clause-complete c x rest m a =
     let b4 = c.in_ok-left.ensures.complete x.left _ tt b3 in
     let b5 = c.in_ok-members.ensures.complete x.members.items _ refl b4 in
     c.in_ok-right.ensures.complete x.right _ tt b5
+
+pub returns-clause-reads : goal.returns-clause-reads
+returns-clause-reads c =
+    let r1 = reads_join _ _ _ _ _ _ c.in_ok-openness.ensures.reads c.in_ok-keyword.ensures.reads in
+    let r2 = reads_join _ _ _ _ _ _ r1 c.in_ok-name.ensures.reads in
+    let r3 = reads_join _ _ _ _ _ _ r2 (reads_join _ _ _ _ _ _ (reads_join _ _ _ _ _ _ c.in_ok-left.ensures.reads c.in_ok-members.ensures.reads) c.in_ok-right.ensures.reads) in
+    r3

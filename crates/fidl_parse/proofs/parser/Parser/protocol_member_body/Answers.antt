@@ -5,6 +5,7 @@ use Rattle.fidl_parse.specs.FollowSets.{extends_path}
 use Rattle.fidl_parse.proofs.Ahead.{begins_not}
 use Rattle.fidl_parse.proofs.Protocols.{compose_ahead, call_ahead, call_may, event_ahead, method_ahead}
 use Rattle.fidl_parse.proofs.Stops.{stops}
+use Rattle.fidl_parse.proofs.Joins.{reads_join}
 use Rattle.fidl_parse.proofs.parser.Parser.protocol_member_body.Goals as goal
 
 pub returns-in_err-keyword-clause-complete : goal.returns-in_err-keyword-clause-complete
@@ -106,3 +107,22 @@ returns-clause-complete c x rest m a =
     let b1 = c.in_ok-name-2.ensures.complete e.0 _ tt e.3 in
     let b2 = c.in_ok-request.ensures.complete e.1 _ tt b1 in
     c.in_ok-response.ensures.complete e.2 _ m b2
+
+pub returns-then-begins_compose-clause-reads : goal.returns-then-begins_compose-clause-reads
+returns-then-begins_compose-clause-reads c =
+    let r1 = reads_join _ _ _ _ _ _ c.in_ok-keyword.ensures.reads c.in_ok-path.ensures.reads in
+    r1
+
+pub returns-then-is_next-clause-reads : goal.returns-then-is_next-clause-reads
+returns-then-is_next-clause-reads c =
+    let r1 = reads_join _ _ _ _ _ _ c.in_ok-strictness.ensures.reads c.in_ok-arrow.ensures.reads in
+    let r2 = reads_join _ _ _ _ _ _ r1 c.in_ok-name.ensures.reads in
+    let r3 = reads_join _ _ _ _ _ _ r2 c.in_ok-payload.ensures.reads in
+    r3
+
+pub returns-clause-reads : goal.returns-clause-reads
+returns-clause-reads c =
+    let r1 = reads_join _ _ _ _ _ _ c.in_ok-strictness.ensures.reads c.in_ok-name-2.ensures.reads in
+    let r2 = reads_join _ _ _ _ _ _ r1 c.in_ok-request.ensures.reads in
+    let r3 = reads_join _ _ _ _ _ _ r2 c.in_ok-response.ensures.reads in
+    r3

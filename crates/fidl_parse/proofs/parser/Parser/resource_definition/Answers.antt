@@ -1,6 +1,7 @@
 use Rattle.std.proofs.Common.{refl}
 use Rattle.fidl_parse.proofs.Declarations.{resource_definition_ahead}
 use Rattle.fidl_parse.proofs.Stops.{stops}
+use Rattle.fidl_parse.proofs.Joins.{reads_join}
 use Rattle.fidl_parse.proofs.parser.Parser.resource_definition.Goals as goal
 
 pub returns-in_err-keyword-clause-complete : goal.returns-in_err-keyword-clause-complete
@@ -76,3 +77,11 @@ returns-clause-complete c x rest m a =
     let b5 = c.in_ok-left.ensures.complete x.left _ tt b4 in
     let b6 = c.in_ok-properties.ensures.complete x.properties _ tt b5 in
     c.in_ok-right.ensures.complete x.right _ tt b6
+
+pub returns-clause-reads : goal.returns-clause-reads
+returns-clause-reads c =
+    let r1 = reads_join _ _ _ _ _ _ c.in_ok-keyword.ensures.reads c.in_ok-name.ensures.reads in
+    let r2 = reads_join _ _ _ _ _ _ r1 c.in_ok-colon.ensures.reads in
+    let r3 = reads_join _ _ _ _ _ _ r2 c.in_ok-constructor.ensures.reads in
+    let r4 = reads_join _ _ _ _ _ _ r3 (reads_join _ _ _ _ _ _ (reads_join _ _ _ _ _ _ c.in_ok-left.ensures.reads c.in_ok-properties.ensures.reads) c.in_ok-right.ensures.reads) in
+    r4

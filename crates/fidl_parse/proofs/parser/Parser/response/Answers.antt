@@ -6,6 +6,7 @@ use Rattle.fidl_parse.proofs.Options.{kind_none, kind_some}
 use Rattle.fidl_parse.proofs.Follow.{other_begins, is_arrow}
 use Rattle.fidl_parse.proofs.Protocols.{response_begins, response_ahead}
 use Rattle.fidl_parse.proofs.Stops.{stops}
+use Rattle.fidl_parse.proofs.Joins.{reads_join}
 use Rattle.fidl_parse.proofs.parser.Parser.response.Goals as goal
 
 pub returns-then-not-is_next-clause-complete : goal.returns-then-not-is_next-clause-complete
@@ -43,3 +44,9 @@ returns-clause-complete c x rest m a =
     let b1 = c.in_ok-arrow.ensures.complete y.0.arrow _ tt a0 in
     let b2 = c.in_ok-payload.ensures.complete y.0.payload _ tt b1 in
     c.in_ok-error.ensures.complete y.0.error _ m b2
+
+pub returns-clause-reads : goal.returns-clause-reads
+returns-clause-reads c =
+    let r1 = reads_join _ _ _ _ _ _ c.in_ok-arrow.ensures.reads c.in_ok-payload.ensures.reads in
+    let r2 = reads_join _ _ _ _ _ _ r1 c.in_ok-error.ensures.reads in
+    r2

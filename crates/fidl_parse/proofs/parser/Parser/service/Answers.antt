@@ -1,6 +1,7 @@
 use Rattle.std.proofs.Common.{refl}
 use Rattle.fidl_parse.proofs.Declarations.{service_ahead}
 use Rattle.fidl_parse.proofs.Stops.{stops}
+use Rattle.fidl_parse.proofs.Joins.{reads_join}
 use Rattle.fidl_parse.proofs.parser.Parser.service.Goals as goal
 
 pub returns-in_err-keyword-clause-complete : goal.returns-in_err-keyword-clause-complete
@@ -51,3 +52,9 @@ returns-clause-complete c x rest m a =
     let b3 = c.in_ok-left.ensures.complete x.left _ tt b2 in
     let b4 = c.in_ok-members.ensures.complete x.members.items _ refl b3 in
     c.in_ok-right.ensures.complete x.right _ tt b4
+
+pub returns-clause-reads : goal.returns-clause-reads
+returns-clause-reads c =
+    let r1 = reads_join _ _ _ _ _ _ c.in_ok-keyword.ensures.reads c.in_ok-name.ensures.reads in
+    let r2 = reads_join _ _ _ _ _ _ r1 (reads_join _ _ _ _ _ _ (reads_join _ _ _ _ _ _ c.in_ok-left.ensures.reads c.in_ok-members.ensures.reads) c.in_ok-right.ensures.reads) in
+    r2

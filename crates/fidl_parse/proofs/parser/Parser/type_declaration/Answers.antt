@@ -1,4 +1,5 @@
 use Rattle.fidl_parse.proofs.Stops.{stops}
+use Rattle.fidl_parse.proofs.Joins.{reads_join}
 use Rattle.fidl_parse.proofs.parser.Parser.type_declaration.Goals as goal
 
 pub returns-in_err-keyword-clause-complete : goal.returns-in_err-keyword-clause-complete
@@ -33,3 +34,10 @@ returns-clause-complete c x rest m a =
     let b2 = c.in_ok-name.ensures.complete x.name _ tt b1 in
     let b3 = c.in_ok-equals.ensures.complete x.equals _ tt b2 in
     c.in_ok-layout.ensures.complete x.layout _ tt b3
+
+pub returns-clause-reads : goal.returns-clause-reads
+returns-clause-reads c =
+    let r1 = reads_join _ _ _ _ _ _ c.in_ok-keyword.ensures.reads c.in_ok-name.ensures.reads in
+    let r2 = reads_join _ _ _ _ _ _ r1 c.in_ok-equals.ensures.reads in
+    let r3 = reads_join _ _ _ _ _ _ r2 c.in_ok-layout.ensures.reads in
+    r3

@@ -1,4 +1,5 @@
 use Rattle.fidl_parse.proofs.Stops.{stops}
+use Rattle.fidl_parse.proofs.Joins.{reads_join}
 use Rattle.fidl_parse.proofs.parser.Parser.type_path.Goals as goal
 
 pub returns-in_err-first-clause-complete : goal.returns-in_err-first-clause-complete
@@ -16,3 +17,8 @@ pub returns-clause-complete : goal.returns-clause-complete
 returns-clause-complete c = λ x rest m a.
     let a1 = c.in_ok-first.ensures.complete x.first _ tt a in
     c.in_ok-rest.ensures.complete x.rest.items _ m a1
+
+pub returns-clause-reads : goal.returns-clause-reads
+returns-clause-reads c =
+    let r1 = reads_join _ _ _ _ _ _ c.in_ok-first.ensures.reads c.in_ok-rest.ensures.reads in
+    r1

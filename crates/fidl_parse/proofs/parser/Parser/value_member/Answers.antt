@@ -1,6 +1,7 @@
 use Rattle.std.proofs.Common.{refl}
 use Rattle.fidl_parse.proofs.ValueMembers.{value_member_ahead}
 use Rattle.fidl_parse.proofs.Stops.{stops}
+use Rattle.fidl_parse.proofs.Joins.{reads_join}
 use Rattle.fidl_parse.proofs.parser.Parser.value_member.Goals as goal
 
 pub returns-in_err-attributes-clause-complete : goal.returns-in_err-attributes-clause-complete
@@ -51,3 +52,11 @@ returns-clause-complete c x rest m a =
     let b3 = c.in_ok-equals.ensures.complete x.equals _ tt b2 in
     let b4 = c.in_ok-value.ensures.complete x.value _ refl b3 in
     c.in_ok-semicolon.ensures.complete x.semicolon _ tt b4
+
+pub returns-clause-reads : goal.returns-clause-reads
+returns-clause-reads c =
+    let r1 = reads_join _ _ _ _ _ _ c.in_ok-attributes.ensures.reads c.in_ok-name.ensures.reads in
+    let r2 = reads_join _ _ _ _ _ _ r1 c.in_ok-equals.ensures.reads in
+    let r3 = reads_join _ _ _ _ _ _ r2 c.in_ok-value.ensures.reads in
+    let r4 = reads_join _ _ _ _ _ _ r3 c.in_ok-semicolon.ensures.reads in
+    r4
