@@ -46,6 +46,8 @@ pub mod Counts
 pub mod Contents
 pub mod Entered
 pub mod Skipped
+pub mod Unchanged
+pub mod Fitting
 pub mod UnionFacts
 pub mod TableFacts
 pub mod LeafContent

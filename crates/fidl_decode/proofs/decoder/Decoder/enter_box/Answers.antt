@@ -1,3 +1,4 @@
+use Rattle.fidl_decode.proofs.Unchanged.{no_ok}
 use Rattle.std.proofs.Common.{◌≡◌, ◌+◌, ◌-◌, ◌≤◌, ap, subst, ◌∙◌, arith, inl, inr}
 use Rattle.std.specs.Prelude.{Some}
 use Rattle.fidl_records.specs.declared.record.Row as raw
@@ -156,3 +157,24 @@ read_box-requires-clause-kind c =
     let t = c.args.self.now.table.now in
     let is : kind_of (entry_at t c.row-row.result.entry).kind ≡ Some Box = ap (λ (w : raw.Row). kind_of (entry_at t w.entry).kind) c.row-row.ensures.value ∙ c.requires.kind in
     is
+
+pub returns-in_err-zeros_at-clause-ok : goal.returns-in_err-zeros_at-clause-ok
+returns-in_err-zeros_at-clause-ok c = no_ok c.from_residual.result c.in_err-zeros_at.field-0.0 _ c.from_residual.ensures.1
+
+pub read_box-requires-clause-table : goal.read_box-requires-clause-table
+read_box-requires-clause-table c = c.requires.table
+
+pub read_box-requires-clause-short : goal.read_box-requires-clause-short
+read_box-requires-clause-short c = c.requires.short
+
+pub read_box-requires-clause-state : goal.read_box-requires-clause-state
+read_box-requires-clause-state c = c.requires.state
+
+pub returns-in_err-below-clause-ok : goal.returns-in_err-below-clause-ok
+returns-in_err-below-clause-ok c = no_ok c.from_residual-in_err-below.result c.in_err-below.field-0.0 _ c.from_residual-in_err-below.ensures.1
+
+pub returns-clause-err : goal.returns-clause-err
+returns-clause-err c = tt
+
+pub returns-clause-told : goal.returns-clause-told
+returns-clause-told c = tt

@@ -1,5 +1,6 @@
+use Rattle.fidl_decode.proofs.Fitting.{front, apart, inside, at_most, small, ended, few_32, deeper, some_8}
 use Rattle.std.specs.Prelude.{◌/◌, List, slice_set}
-use Rattle.std.proofs.Common.{subst, ◌≡◌, ◌+◌, ℕ, refl, sym, ap, ◌∙◌, arith}
+use Rattle.std.proofs.Common.{subst, ◌≡◌, ◌+◌, ℕ, refl, sym, ap, ◌∙◌, arith, length}
 use Rattle.std.specs.Int.{next_multiple_of}
 use Rattle.fidl_records.specs.declared.record.Entry.{Entry}
 use Rattle.fidl_records.specs.Section.{entry_at}
@@ -105,3 +106,57 @@ returns c =
     let until : Until = record { envelope = c.args.envelope; next = old.next + c.u32_at-counted.result; handle = old.handle + c.u16_at-handles.result } in
     let left : c.content_frame-2.result.left ≡ Content c.args.entry (entry_at t c.args.entry).size 1 until = ap (λ (f : Frame). f.left) c.content_frame-2.ensures ∙ ap (λ n. Content c.args.entry n 1 until) size in
     record { ok = y.same; breaks = y.breaks; fine = y.fine; deeper = y.deeper; left = (until, left); state = y.state; told = tt; err = tt; steps = refl; grows = omega arith; work = y.work }
+
+pub entry-content-requires : goal.entry-content-requires
+entry-content-requires c = c.requires.entry
+
+pub u32_at-counted-requires : goal.u32_at-counted-requires
+u32_at-counted-requires c = front c.args.envelope 4 4 (length c.args.self.now.bytes.now) c.requires.room
+
+pub overflow_add-envelope : goal.overflow_add-envelope
+overflow_add-envelope c = record { fits = small _ (length c.args.self.now.bytes.now) (front c.args.envelope 4 4 (length c.args.self.now.bytes.now) c.requires.room) c.requires.short }
+
+pub u16_at-handles-requires : goal.u16_at-handles-requires
+u16_at-handles-requires c = front (c.args.envelope + 4) 2 2 (length c.args.self.now.bytes.now) (apart c.args.envelope 4 4 (length c.args.self.now.bytes.now) c.requires.room)
+
+pub overflow_add-envelope-2 : goal.overflow_add-envelope-2
+overflow_add-envelope-2 c = record { fits = small _ (length c.args.self.now.bytes.now) (front c.args.envelope 6 2 (length c.args.self.now.bytes.now) c.requires.room) c.requires.short }
+
+pub u16_at-flags-requires : goal.u16_at-flags-requires
+u16_at-flags-requires c = apart c.args.envelope 6 2 (length c.args.self.now.bytes.now) c.requires.room
+
+pub overflow_add-envelope-then-size-le4 : goal.overflow_add-envelope-then-size-le4
+overflow_add-envelope-then-size-le4 c = record { fits = small _ (length c.args.self.now.bytes.now) (front c.args.envelope 4 4 (length c.args.self.now.bytes.now) c.requires.room) c.requires.short }
+
+pub overflow_add-envelope-3 : goal.overflow_add-envelope-3
+overflow_add-envelope-3 c = record { fits = small _ (length c.args.self.now.bytes.now) (front c.args.envelope 4 4 (length c.args.self.now.bytes.now) c.requires.room) c.requires.short }
+
+pub record-requires-clause-place : goal.record-requires-clause-place
+record-requires-clause-place c = inside (c.args.envelope + 4) 3 (length c.args.self.now.bytes.now) (apart c.args.envelope 4 4 (length c.args.self.now.bytes.now) c.requires.room) c.requires.short
+
+pub record-requires-clause-index : goal.record-requires-clause-index
+record-requires-clause-index c = few_32 c.args.state.now.handle _ c.requires.state.handle c.requires.state.few
+
+pub record-requires-2-clause-place : goal.record-requires-2-clause-place
+record-requires-2-clause-place c = inside (c.args.envelope + 4) 3 (length c.args.self.now.bytes.now) (apart c.args.envelope 4 4 (length c.args.self.now.bytes.now) c.requires.room) c.requires.short
+
+pub record-requires-2-clause-index : goal.record-requires-2-clause-index
+record-requires-2-clause-index c = few_32 c.args.state.now.handle _ c.requires.state.handle c.requires.state.few
+
+pub next_multiple_of-whole-requires-clause-nonzero : goal.next_multiple_of-whole-requires-clause-nonzero
+next_multiple_of-whole-requires-clause-nonzero c = some_8
+
+pub overflow_sub-self : goal.overflow_sub-self
+overflow_sub-self c = c.requires.state.next
+
+pub link-requires-clause-marker : goal.link-requires-clause-marker
+link-requires-clause-marker c = inside c.args.envelope 7 (length c.args.self.now.bytes.now) c.requires.room c.requires.short
+
+pub link-requires-clause-object : goal.link-requires-clause-object
+link-requires-clause-object c = at_most c.args.state.now.next (length c.args.self.now.bytes.now) c.requires.state.next c.requires.short
+
+pub overflow_add-state : goal.overflow_add-state
+overflow_add-state c = record { fits = small _ (length c.args.self.now.bytes.now) (ended c.args.state.now.next c.next_multiple_of-whole.result (length c.args.self.now.bytes.now) c.requires.state.next c.if-whole-self.false) c.requires.short }
+
+pub overflow_add-depth : goal.overflow_add-depth
+overflow_add-depth c = record { fits = deeper c.args.depth c.requires.depth }

@@ -1,4 +1,4 @@
-use Rattle.std.proofs.Common.{refl, ◌≡◌, ◌+◌, ◌*◌, sym, ap, subst, ◌∙◌, arith}
+use Rattle.std.proofs.Common.{refl, inl, inr, ◌≡◌, ◌+◌, ◌*◌, sym, ap, subst, ◌∙◌, arith}
 use Rattle.std.specs.Prelude.{Option, Some}
 use Rattle.std.specs.Int.{next_multiple_of}
 use Rattle.fidl_decode.specs.declared.frame.Frame.{Frame}
@@ -24,3 +24,105 @@ returns-clause-ok c =
     let opened = visits_table t c.requires.table m c.args.depth c.args.entry c.args.place old c.requires.entry c.requires.kind c.requires.state 0 refl c.in-Present.ensures (omega (arith, c.requires.depth, c.if-depth-eq-MAX_DEPTH.false)) (omega (arith, number, c.if-count-rest.false, c.requires.short)) (omega (arith, number, c.if-count-rest.false)) (omega (arith, c.requires.room)) (λ i. omega (arith, c.args.self.now.octets i)) in
     subst (λ (s : At). Visits t m c.args.depth c.args.entry c.args.place old s 0 (Some (table_frame c.args.entry c.u64_at-count.result c.args.depth old))) same
     (subst (λ (o : Option Frame). Visits t m c.args.depth c.args.entry c.args.place old (linked (c.args.place + 8) (8 * n) old) 0 o) found opened)
+
+pub returns-in-Neither-clause-ok : goal.returns-in-Neither-clause-ok
+returns-in-Neither-clause-ok c = tt
+
+pub returns-in-Neither-clause-fine : goal.returns-in-Neither-clause-fine
+returns-in-Neither-clause-fine c inside few = tt
+
+pub returns-in-Neither-clause-next : goal.returns-in-Neither-clause-next
+returns-in-Neither-clause-next c = tt
+
+pub returns-in-Neither-clause-shallow : goal.returns-in-Neither-clause-shallow
+returns-in-Neither-clause-shallow c = tt
+
+pub returns-in-Neither-clause-told : goal.returns-in-Neither-clause-told
+returns-in-Neither-clause-told c = (refl, c.in-Neither.ensures.0, c.in-Neither.ensures.1)
+
+pub returns-in-Neither-clause-steps : goal.returns-in-Neither-clause-steps
+returns-in-Neither-clause-steps c = refl
+
+pub returns-then-count-ne0-clause-ok : goal.returns-then-count-ne0-clause-ok
+returns-then-count-ne0-clause-ok c = tt
+
+pub returns-then-count-ne0-clause-fine : goal.returns-then-count-ne0-clause-fine
+returns-then-count-ne0-clause-fine c inside few = tt
+
+pub returns-then-count-ne0-clause-next : goal.returns-then-count-ne0-clause-next
+returns-then-count-ne0-clause-next c = tt
+
+pub returns-then-count-ne0-clause-shallow : goal.returns-then-count-ne0-clause-shallow
+returns-then-count-ne0-clause-shallow c = tt
+
+pub returns-then-count-ne0-clause-told : goal.returns-then-count-ne0-clause-told
+returns-then-count-ne0-clause-told c = (refl, inl (c.in-Absent.ensures, λ none. c.if-count-ne0.true (c.u64_at-count.ensures ∙ none)))
+
+pub returns-then-count-ne0-clause-steps : goal.returns-then-count-ne0-clause-steps
+returns-then-count-ne0-clause-steps c = refl
+
+pub returns-in-Absent-clause-ok : goal.returns-in-Absent-clause-ok
+returns-in-Absent-clause-ok c = tt
+
+pub returns-in-Absent-clause-fine : goal.returns-in-Absent-clause-fine
+returns-in-Absent-clause-fine c inside few = tt
+
+pub returns-in-Absent-clause-next : goal.returns-in-Absent-clause-next
+returns-in-Absent-clause-next c = tt
+
+pub returns-in-Absent-clause-shallow : goal.returns-in-Absent-clause-shallow
+returns-in-Absent-clause-shallow c = tt
+
+pub returns-in-Absent-clause-told : goal.returns-in-Absent-clause-told
+returns-in-Absent-clause-told c = (refl, refl, c.in-Absent.ensures)
+
+pub returns-in-Absent-clause-steps : goal.returns-in-Absent-clause-steps
+returns-in-Absent-clause-steps c = refl
+
+pub returns-then-count-rest-clause-ok : goal.returns-then-count-rest-clause-ok
+returns-then-count-rest-clause-ok c = tt
+
+pub returns-then-count-rest-clause-fine : goal.returns-then-count-rest-clause-fine
+returns-then-count-rest-clause-fine c inside few = tt
+
+pub returns-then-count-rest-clause-next : goal.returns-then-count-rest-clause-next
+returns-then-count-rest-clause-next c = tt
+
+pub returns-then-count-rest-clause-shallow : goal.returns-then-count-rest-clause-shallow
+returns-then-count-rest-clause-shallow c = tt
+
+pub returns-then-count-rest-clause-told : goal.returns-then-count-rest-clause-told
+returns-then-count-rest-clause-told c = (refl, inr (c.in-Present.ensures, omega (arith, c.u64_at-count.ensures, c.if-count-rest.true)))
+
+pub returns-then-count-rest-clause-steps : goal.returns-then-count-rest-clause-steps
+returns-then-count-rest-clause-steps c = refl
+
+pub returns-then-depth-eq-MAX_DEPTH-clause-ok : goal.returns-then-depth-eq-MAX_DEPTH-clause-ok
+returns-then-depth-eq-MAX_DEPTH-clause-ok c = tt
+
+pub returns-then-depth-eq-MAX_DEPTH-clause-fine : goal.returns-then-depth-eq-MAX_DEPTH-clause-fine
+returns-then-depth-eq-MAX_DEPTH-clause-fine c inside few = tt
+
+pub returns-then-depth-eq-MAX_DEPTH-clause-next : goal.returns-then-depth-eq-MAX_DEPTH-clause-next
+returns-then-depth-eq-MAX_DEPTH-clause-next c = tt
+
+pub returns-then-depth-eq-MAX_DEPTH-clause-shallow : goal.returns-then-depth-eq-MAX_DEPTH-clause-shallow
+returns-then-depth-eq-MAX_DEPTH-clause-shallow c = tt
+
+pub returns-then-depth-eq-MAX_DEPTH-clause-told : goal.returns-then-depth-eq-MAX_DEPTH-clause-told
+returns-then-depth-eq-MAX_DEPTH-clause-told c = (refl, c.in-Present.ensures, omega (arith, c.if-depth-eq-MAX_DEPTH.true))
+
+pub returns-then-depth-eq-MAX_DEPTH-clause-steps : goal.returns-then-depth-eq-MAX_DEPTH-clause-steps
+returns-then-depth-eq-MAX_DEPTH-clause-steps c = refl
+
+pub returns-clause-next : goal.returns-clause-next
+returns-clause-next c = refl
+
+pub returns-clause-shallow : goal.returns-clause-shallow
+returns-clause-shallow c = omega (arith, c.requires.depth, c.if-depth-eq-MAX_DEPTH.false)
+
+pub returns-clause-told : goal.returns-clause-told
+returns-clause-told c = tt
+
+pub returns-clause-steps : goal.returns-clause-steps
+returns-clause-steps c = refl

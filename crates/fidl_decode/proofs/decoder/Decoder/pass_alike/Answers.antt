@@ -1,3 +1,5 @@
+use Rattle.fidl_decode.proofs.Fitting.{lt_le}
+use Rattle.fidl_decode.proofs.Unchanged.{same_le}
 use Rattle.std.proofs.Common.{◌≡◌, ◌<◌, ℕ, List, refl, sym, ap, subst, ◌∙◌, inl, inr, add-one}
 use Rattle.std.specs.Prelude.{Some}
 use Rattle.fidl_wire.specs.Term.{find}
@@ -54,3 +56,90 @@ pass_one-requires c =
       state = c.requires.state;
       budget = c.requires.budget;
     }
+
+pub row-row-requires-clause-more : goal.row-row-requires-clause-more
+row-row-requires-clause-more c = c.requires.more
+
+pub returns-then-row-from-clause-order : goal.returns-then-row-from-clause-order
+returns-then-row-from-clause-order c = same_le _
+
+pub returns-then-row-from-clause-grows : goal.returns-then-row-from-clause-grows
+returns-then-row-from-clause-grows c = same_le _
+
+pub returns-then-row-from-clause-pays : goal.returns-then-row-from-clause-pays
+returns-then-row-from-clause-pays c = same_le _
+
+pub pass_run-requires-clause-table : goal.pass_run-requires-clause-table
+pass_run-requires-clause-table c = c.requires.table
+
+pub pass_run-requires-clause-body : goal.pass_run-requires-clause-body
+pass_run-requires-clause-body c = c.requires.body
+
+pub pass_run-requires-clause-short : goal.pass_run-requires-clause-short
+pass_run-requires-clause-short c = c.requires.short
+
+pub pass_run-requires-clause-frame : goal.pass_run-requires-clause-frame
+pass_run-requires-clause-frame c = c.requires.frame
+
+pub pass_run-requires-clause-state : goal.pass_run-requires-clause-state
+pass_run-requires-clause-state c = c.requires.state
+
+pub pass_run-requires-clause-budget : goal.pass_run-requires-clause-budget
+pass_run-requires-clause-budget c = c.requires.budget
+
+pub pass_run-requires-in-Int64-clause-table : goal.pass_run-requires-in-Int64-clause-table
+pass_run-requires-in-Int64-clause-table c = c.requires.table
+
+pub pass_run-requires-in-Int64-clause-body : goal.pass_run-requires-in-Int64-clause-body
+pass_run-requires-in-Int64-clause-body c = c.requires.body
+
+pub pass_run-requires-in-Int64-clause-short : goal.pass_run-requires-in-Int64-clause-short
+pass_run-requires-in-Int64-clause-short c = c.requires.short
+
+pub pass_run-requires-in-Int64-clause-frame : goal.pass_run-requires-in-Int64-clause-frame
+pass_run-requires-in-Int64-clause-frame c = c.requires.frame
+
+pub pass_run-requires-in-Int64-clause-state : goal.pass_run-requires-in-Int64-clause-state
+pass_run-requires-in-Int64-clause-state c = c.requires.state
+
+pub pass_run-requires-in-Int64-clause-budget : goal.pass_run-requires-in-Int64-clause-budget
+pass_run-requires-in-Int64-clause-budget c = c.requires.budget
+
+pub kind_of-requires-clause-body : goal.kind_of-requires-clause-body
+kind_of-requires-clause-body c = subst (λ t. BodyFine t c.args.body.now) (sym c.requires.body.table) c.requires.body
+
+pub pass_run-requires-clause-more : goal.pass_run-requires-clause-more
+pass_run-requires-clause-more c = lt_le _ _ c.requires.more
+
+pub pass_run-requires-in-Int64-clause-more : goal.pass_run-requires-in-Int64-clause-more
+pass_run-requires-in-Int64-clause-more c = lt_le _ _ c.requires.more
+
+pub returns-in-Int32-clause-turns : goal.returns-in-Int32-clause-turns
+returns-in-Int32-clause-turns c = c.pass_run.ensures.turns
+
+pub returns-in-Int64-clause-turns : goal.returns-in-Int64-clause-turns
+returns-in-Int64-clause-turns c = c.pass_run-in-Int64.ensures.turns
+
+pub returns-in-Int32-clause-order : goal.returns-in-Int32-clause-order
+returns-in-Int32-clause-order c = c.pass_run.ensures.order
+
+pub returns-in-Int64-clause-order : goal.returns-in-Int64-clause-order
+returns-in-Int64-clause-order c = c.pass_run-in-Int64.ensures.order
+
+pub returns-in-Int32-clause-few : goal.returns-in-Int32-clause-few
+returns-in-Int32-clause-few c = c.pass_run.ensures.few
+
+pub returns-in-Int64-clause-few : goal.returns-in-Int64-clause-few
+returns-in-Int64-clause-few c = c.pass_run-in-Int64.ensures.few
+
+pub returns-in-Int32-clause-grows : goal.returns-in-Int32-clause-grows
+returns-in-Int32-clause-grows c = c.pass_run.ensures.grows
+
+pub returns-in-Int64-clause-grows : goal.returns-in-Int64-clause-grows
+returns-in-Int64-clause-grows c = c.pass_run-in-Int64.ensures.grows
+
+pub returns-in-Int32-clause-pays : goal.returns-in-Int32-clause-pays
+returns-in-Int32-clause-pays c = c.pass_run.ensures.pays
+
+pub returns-in-Int64-clause-pays : goal.returns-in-Int64-clause-pays
+returns-in-Int64-clause-pays c = c.pass_run-in-Int64.ensures.pays

@@ -1,4 +1,5 @@
-use Rattle.std.proofs.Common.{◌≡◌, ◌+◌, ◌/◌, ◌<◌, ◌^◌, ℕ, List, get_or, slice_set, sym, ap, ◌∙◌, arith}
+use Rattle.fidl_decode.proofs.Unchanged.{no_true, same_le}
+use Rattle.std.proofs.Common.{◌≡◌, ◌+◌, ◌/◌, ◌<◌, ◌^◌, ℕ, List, get_or, slice_set, sym, ap, ◌∙◌, arith, refl}
 use Rattle.std.specs.Int.{next_multiple_of, w64}
 use Rattle.fidl_records.specs.Field.{number_at}
 use Rattle.fidl_records.specs.Section.{entry_at}
@@ -28,3 +29,30 @@ returns-clause-passed c =
     let few : number_at w64 bytes p < 2 ^ 32 = omega (arith, eight) in
     below_passed t c.requires.table m (c.requires.short, c.requires.state.few) c.args.depth c.args.entry c.args.envelope old c.requires.entry c.requires.room (λ i. omega (arith, c.args.self.now.octets i)) c.requires.state c.requires.depth c.requires.free c.requires.size (flags_none bytes p c.requires.room small few) (counted_small bytes p c.requires.room small few ∙ eight) (handles_none bytes p c.requires.room small few)
     (omega (arith, c.requires.depth, c.if-depth-eq-MAX_DEPTH.false)) (omega (arith, c.if-self-next-lt8.false)) new led
+
+pub returns-then-u64_at-ne8-clause-passed : goal.returns-then-u64_at-ne8-clause-passed
+returns-then-u64_at-ne8-clause-passed c so = absurd (no_true so)
+
+pub returns-then-u64_at-ne8-clause-kept : goal.returns-then-u64_at-ne8-clause-kept
+returns-then-u64_at-ne8-clause-kept c kept = refl
+
+pub returns-then-u64_at-ne8-clause-steps : goal.returns-then-u64_at-ne8-clause-steps
+returns-then-u64_at-ne8-clause-steps c = refl
+
+pub returns-then-u64_at-ne8-clause-grows : goal.returns-then-u64_at-ne8-clause-grows
+returns-then-u64_at-ne8-clause-grows c = same_le _
+
+pub returns-then-depth-eq-MAX_DEPTH-clause-passed : goal.returns-then-depth-eq-MAX_DEPTH-clause-passed
+returns-then-depth-eq-MAX_DEPTH-clause-passed c so = absurd (no_true so)
+
+pub returns-then-depth-eq-MAX_DEPTH-clause-kept : goal.returns-then-depth-eq-MAX_DEPTH-clause-kept
+returns-then-depth-eq-MAX_DEPTH-clause-kept c kept = refl
+
+pub returns-then-depth-eq-MAX_DEPTH-clause-steps : goal.returns-then-depth-eq-MAX_DEPTH-clause-steps
+returns-then-depth-eq-MAX_DEPTH-clause-steps c = refl
+
+pub returns-then-depth-eq-MAX_DEPTH-clause-grows : goal.returns-then-depth-eq-MAX_DEPTH-clause-grows
+returns-then-depth-eq-MAX_DEPTH-clause-grows c = same_le _
+
+pub returns-clause-steps : goal.returns-clause-steps
+returns-clause-steps c = refl

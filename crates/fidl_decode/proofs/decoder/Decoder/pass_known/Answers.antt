@@ -1,3 +1,4 @@
+use Rattle.fidl_decode.proofs.Unchanged.{same_le}
 use Rattle.std.proofs.Common.{◌≡◌, ◌+◌, sym, subst, ◌∙◌, arith}
 use Rattle.fidl_decode.specs.declared.frame.Left.{Left}
 use Rattle.fidl_decode.specs.Machine.{Passes}
@@ -14,3 +15,24 @@ pass_over-requires-clause-passes c =
     let whole : known.rows + known.count ≡ c.in-Rows.count = omega (arith, c.from-4.ensures, c.from-5.ensures, c.from-6.ensures, c.if-from-2.false) in
     let same = same_rows c.in-Rows.first c.in-Rows.count known.rows known.first known.count is whole in
     subst (λ (l : Left). Passes t m l known.rows known.first known.count known.done known.flag) (sym (c.in-Rows.is ∙ same)) c.requires.known
+
+pub returns-then-frame-ne0-clause-grows : goal.returns-then-frame-ne0-clause-grows
+returns-then-frame-ne0-clause-grows c = same_le _
+
+pub returns-then-from-clause-grows : goal.returns-then-from-clause-grows
+returns-then-from-clause-grows c = same_le _
+
+pub returns-then-from-2-clause-grows : goal.returns-then-from-2-clause-grows
+returns-then-from-2-clause-grows c = same_le _
+
+pub pass_over-requires-clause-short : goal.pass_over-requires-clause-short
+pass_over-requires-clause-short c = c.requires.short
+
+pub pass_over-requires-clause-frame : goal.pass_over-requires-clause-frame
+pass_over-requires-clause-frame c = c.requires.frame
+
+pub pass_over-requires-clause-state : goal.pass_over-requires-clause-state
+pass_over-requires-clause-state c = c.requires.state
+
+pub pass_over-requires-clause-budget : goal.pass_over-requires-clause-budget
+pass_over-requires-clause-budget c = c.requires.budget

@@ -1,3 +1,5 @@
+use Rattle.fidl_decode.proofs.Fitting.{le_more, budget_44}
+use Rattle.fidl_decode.proofs.Unchanged.{same_le}
 use Rattle.std.proofs.Common.{◌+◌, ◌-◌, sym, ap, ◌∙◌, add-one, arith}
 use Rattle.fidl_wire.specs.Term.{find}
 use Rattle.fidl_records.specs.Terms.{members_of}
@@ -17,3 +19,39 @@ returns-then-pass_kind-clause-turns c =
     let more = c.requires.more in
     let found = ap (λ n. find (members_of t body.entry) n) (sym (add-one c.args.from)) ∙ c.requires.found in
     next_passed t c.requires.table m (c.requires.short, c.requires.state.few) body c.args.from (at_of old) c.requires.frame c.requires.state (omega (arith, few, more)) c.args.entry found (at_of new) (new.steps - old.steps) (new.steps + (c.args.from + 1 - c.args.from) - old.steps) (omega arith) (omega (arith, c.pass_kind.ensures.pays, c.pass_kind.ensures.grows)) (c.pass_kind.ensures.passed c.if-pass_kind.true)
+
+pub pass_kind-requires-clause-table : goal.pass_kind-requires-clause-table
+pass_kind-requires-clause-table c = c.requires.table
+
+pub pass_kind-requires-clause-entry : goal.pass_kind-requires-clause-entry
+pass_kind-requires-clause-entry c = c.requires.entry
+
+pub pass_kind-requires-clause-kind : goal.pass_kind-requires-clause-kind
+pass_kind-requires-clause-kind c = c.requires.kind
+
+pub pass_kind-requires-clause-short : goal.pass_kind-requires-clause-short
+pass_kind-requires-clause-short c = c.requires.short
+
+pub pass_kind-requires-clause-state : goal.pass_kind-requires-clause-state
+pass_kind-requires-clause-state c = c.requires.state
+
+pub returns-clause-order : goal.returns-clause-order
+returns-clause-order c = same_le _
+
+pub returns-then-pass_kind-clause-order : goal.returns-then-pass_kind-clause-order
+returns-then-pass_kind-clause-order c = le_more _ _
+
+pub returns-then-pass_kind-clause-grows : goal.returns-then-pass_kind-clause-grows
+returns-then-pass_kind-clause-grows c = c.pass_kind.ensures.grows
+
+pub returns-then-pass_kind-clause-pays : goal.returns-then-pass_kind-clause-pays
+returns-then-pass_kind-clause-pays c = c.pass_kind.ensures.pays
+
+pub returns-clause-grows : goal.returns-clause-grows
+returns-clause-grows c = c.pass_kind.ensures.grows
+
+pub returns-clause-pays : goal.returns-clause-pays
+returns-clause-pays c = c.pass_kind.ensures.pays
+
+pub pass_kind-requires-clause-budget : goal.pass_kind-requires-clause-budget
+pass_kind-requires-clause-budget c = budget_44 _ c.requires.budget

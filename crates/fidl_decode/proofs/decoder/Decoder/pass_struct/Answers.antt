@@ -1,4 +1,6 @@
-use Rattle.std.proofs.Common.{◌≡◌, ◌+◌, ◌-◌, ◌/◌, ◌<◌, ◌≤◌, ◌^◌, ℕ, List, get_or, slice_set, false, true, refl, sym, ap, subst, ◌∙◌, arith}
+use Rattle.fidl_decode.proofs.Fitting.{front, apart, inside, at_most, small, ended, few_32, counted_on, some_8, size_in, le_more, pays_whole}
+use Rattle.fidl_decode.proofs.Unchanged.{no_true, same_le}
+use Rattle.std.proofs.Common.{◌≡◌, ◌+◌, ◌-◌, ◌/◌, ◌<◌, ◌≤◌, ◌^◌, ℕ, List, get_or, slice_set, false, true, refl, sym, ap, subst, ◌∙◌, arith, length}
 use Rattle.std.specs.Prelude.{Option, Some, None, Result, Ok, Err, OnOk}
 use Rattle.std.specs.Option.{is_some}
 use Rattle.std.specs.Result.{is_err}
@@ -91,3 +93,108 @@ returns-clause-passed c =
     struct_passed t c.requires.table m (c.requires.short, c.requires.state.few) c.args.depth c.args.entry c.args.envelope old c.requires.entry c.requires.room (λ i. omega (arith, c.args.self.now.octets i)) c.requires.state c.requires.depth c.requires.kind
     (omega (arith, c.requires.depth, c.if-depth-eq-MAX_DEPTH.false)) (omega (arith, c.if-whole-self.false, whole)) plain.rows plain.first plain.done passes
     (omega (arith, c.if-size-le4.false, ap (λ (d : Entry). d.size) is)) (flags_none m.bytes c.args.envelope c.requires.room octets few) (counted_small m.bytes c.args.envelope c.requires.room octets few ∙ is_small ∙ whole) (handles_none m.bytes c.args.envelope c.requires.room octets few) z' new led
+
+pub entry-e-requires : goal.entry-e-requires
+entry-e-requires c = c.requires.entry
+
+pub overflow_cast-size : goal.overflow_cast-size
+overflow_cast-size c = record { fits = omega arith }
+
+pub next_multiple_of-whole-requires-clause-fits : goal.next_multiple_of-whole-requires-clause-fits
+next_multiple_of-whole-requires-clause-fits c = omega arith
+
+pub returns-then-u64_at-whole-clause-passed : goal.returns-then-u64_at-whole-clause-passed
+returns-then-u64_at-whole-clause-passed c so = absurd (no_true so)
+
+pub returns-then-u64_at-whole-clause-kept : goal.returns-then-u64_at-whole-clause-kept
+returns-then-u64_at-whole-clause-kept c kept = refl
+
+pub returns-then-u64_at-whole-clause-grows : goal.returns-then-u64_at-whole-clause-grows
+returns-then-u64_at-whole-clause-grows c = same_le _
+
+pub returns-then-u64_at-whole-clause-pays : goal.returns-then-u64_at-whole-clause-pays
+returns-then-u64_at-whole-clause-pays c = same_le _
+
+pub returns-then-whole-self-clause-passed : goal.returns-then-whole-self-clause-passed
+returns-then-whole-self-clause-passed c so = absurd (no_true so)
+
+pub returns-then-whole-self-clause-kept : goal.returns-then-whole-self-clause-kept
+returns-then-whole-self-clause-kept c kept = refl
+
+pub returns-then-whole-self-clause-grows : goal.returns-then-whole-self-clause-grows
+returns-then-whole-self-clause-grows c = same_le _
+
+pub returns-then-whole-self-clause-pays : goal.returns-then-whole-self-clause-pays
+returns-then-whole-self-clause-pays c = same_le _
+
+pub plain_rows-plain-requires-clause-table : goal.plain_rows-plain-requires-clause-table
+plain_rows-plain-requires-clause-table c = c.requires.table
+
+pub returns-then-plain-ne0-clause-passed : goal.returns-then-plain-ne0-clause-passed
+returns-then-plain-ne0-clause-passed c so = absurd (no_true so)
+
+pub returns-then-plain-ne0-clause-kept : goal.returns-then-plain-ne0-clause-kept
+returns-then-plain-ne0-clause-kept c kept = refl
+
+pub returns-then-plain-ne0-clause-grows : goal.returns-then-plain-ne0-clause-grows
+returns-then-plain-ne0-clause-grows c = same_le _
+
+pub returns-then-plain-ne0-clause-pays : goal.returns-then-plain-ne0-clause-pays
+returns-then-plain-ne0-clause-pays c = same_le _
+
+pub returns-then-is_err-clause-passed : goal.returns-then-is_err-clause-passed
+returns-then-is_err-clause-passed c so = absurd (no_true so)
+
+pub returns-then-is_err-clause-kept : goal.returns-then-is_err-clause-kept
+returns-then-is_err-clause-kept c kept = refl
+
+pub returns-then-is_err-clause-grows : goal.returns-then-is_err-clause-grows
+returns-then-is_err-clause-grows c = same_le _
+
+pub returns-then-is_err-clause-pays : goal.returns-then-is_err-clause-pays
+returns-then-is_err-clause-pays c = same_le _
+
+pub returns-clause-kept : goal.returns-clause-kept
+returns-clause-kept c not = absurd (no_false not)
+
+pub next_multiple_of-whole-requires-clause-nonzero : goal.next_multiple_of-whole-requires-clause-nonzero
+next_multiple_of-whole-requires-clause-nonzero c = some_8
+
+pub u64_at-requires : goal.u64_at-requires
+u64_at-requires c = c.requires.room
+
+pub overflow_sub-self : goal.overflow_sub-self
+overflow_sub-self c = c.requires.state.next
+
+pub overflow_add-next-2 : goal.overflow_add-next-2
+overflow_add-next-2 c = record { fits = small _ (length c.args.self.now.bytes.now) (ended c.args.state.now.next c.next_multiple_of-whole.result (length c.args.self.now.bytes.now) c.requires.state.next c.if-whole-self.false) c.requires.short }
+
+pub zeros_at-requires-clause-room : goal.zeros_at-requires-clause-room
+zeros_at-requires-clause-room c = (ended c.args.state.now.next c.next_multiple_of-whole.result (length c.args.self.now.bytes.now) c.requires.state.next c.if-whole-self.false)
+
+pub overflow_add-state : goal.overflow_add-state
+overflow_add-state c = record { fits = counted_on c.args.state.now.steps c.next_multiple_of-whole.result (length c.args.self.now.bytes.now) c.requires.budget (size_in c.args.state.now.next c.next_multiple_of-whole.result (length c.args.self.now.bytes.now) (ended c.args.state.now.next c.next_multiple_of-whole.result (length c.args.self.now.bytes.now) c.requires.state.next c.if-whole-self.false)) c.requires.short }
+
+pub overflow_add-envelope : goal.overflow_add-envelope
+overflow_add-envelope c = record { fits = small _ (length c.args.self.now.bytes.now) (front c.args.envelope 4 4 (length c.args.self.now.bytes.now) c.requires.room) c.requires.short }
+
+pub record-requires-clause-place : goal.record-requires-clause-place
+record-requires-clause-place c = inside (c.args.envelope + 4) 3 (length c.args.self.now.bytes.now) (apart c.args.envelope 4 4 (length c.args.self.now.bytes.now) c.requires.room) c.requires.short
+
+pub record-requires-clause-index : goal.record-requires-clause-index
+record-requires-clause-index c = few_32 c.args.state.now.handle _ c.requires.state.handle c.requires.state.few
+
+pub link-requires-clause-marker : goal.link-requires-clause-marker
+link-requires-clause-marker c = inside c.args.envelope 7 (length c.args.self.now.bytes.now) c.requires.room c.requires.short
+
+pub link-requires-clause-object : goal.link-requires-clause-object
+link-requires-clause-object c = at_most c.args.state.now.next (length c.args.self.now.bytes.now) c.requires.state.next c.requires.short
+
+pub overflow_add-state-2 : goal.overflow_add-state-2
+overflow_add-state-2 c = record { fits = small _ (length c.args.self.now.bytes.now) (ended c.args.state.now.next c.next_multiple_of-whole.result (length c.args.self.now.bytes.now) c.requires.state.next c.if-whole-self.false) c.requires.short }
+
+pub returns-clause-grows : goal.returns-clause-grows
+returns-clause-grows c = le_more _ _
+
+pub returns-clause-pays : goal.returns-clause-pays
+returns-clause-pays c = pays_whole c.args.state.now.steps c.args.state.now.next c.next_multiple_of-whole.result

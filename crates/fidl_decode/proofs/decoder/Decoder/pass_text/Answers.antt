@@ -1,4 +1,6 @@
-use Rattle.std.proofs.Common.{◌≡◌, ◌+◌, ◌-◌, ◌/◌, ◌<◌, ◌≤◌, ◌^◌, ℕ, List, length, get_or, slice_set, sym, ap, subst, ◌∙◌, arith}
+use Rattle.fidl_decode.proofs.Fitting.{front, apart, inside, at_most, small, few_32, deeper_64, counted_on, some_8, rounded_left, counted_front, counted_whole, part_room, part_order, size_in, le_more, pays_text}
+use Rattle.fidl_decode.proofs.Unchanged.{no_true, no_false, same_le}
+use Rattle.std.proofs.Common.{◌≡◌, ◌+◌, ◌-◌, ◌/◌, ◌<◌, ◌≤◌, ◌^◌, ℕ, List, length, get_or, slice_set, sym, ap, subst, ◌∙◌, arith, refl}
 use Rattle.std.specs.Int.{next_multiple_of, w64}
 use Rattle.fidl_wire.specs.Encoding.{zeros}
 use Rattle.fidl_wire.specs.Standing.{Stands}
@@ -48,3 +50,144 @@ returns-clause-passed c =
     (omega (arith, c.if-depth-ge-MAX_DEPTH.false)) n room (sym c.u64_at-count.ensures) bound (c.is_present.ensures.0 c.if-not-is_present.false)
     (λ k lt. c.are_ascii.ensures c.if-not-are_ascii.false k (omega (arith, lt, le, value))) (subst (λ k. Stands bytes (from + 16 + n) (zeros k)) gap (c.are_zeros.ensures c.if-not-are_zeros.false))
     (flags_none bytes p c.requires.room small few) (counted_small bytes p c.requires.room small few ∙ sym c.u64_at-counted.ensures ∙ omega (arith, counted, value)) (handles_none bytes p c.requires.room small few) new led
+
+pub entry-bound-requires : goal.entry-bound-requires
+entry-bound-requires c = c.requires.entry
+
+pub returns-then-counted-lt16-clause-passed : goal.returns-then-counted-lt16-clause-passed
+returns-then-counted-lt16-clause-passed c so = absurd (no_true so)
+
+pub returns-then-counted-lt16-clause-kept : goal.returns-then-counted-lt16-clause-kept
+returns-then-counted-lt16-clause-kept c kept = refl
+
+pub returns-then-counted-lt16-clause-grows : goal.returns-then-counted-lt16-clause-grows
+returns-then-counted-lt16-clause-grows c = same_le _
+
+pub returns-then-counted-lt16-clause-pays : goal.returns-then-counted-lt16-clause-pays
+returns-then-counted-lt16-clause-pays c = same_le _
+
+pub returns-then-count-bound-clause-passed : goal.returns-then-count-bound-clause-passed
+returns-then-count-bound-clause-passed c so = absurd (no_true so)
+
+pub returns-then-count-bound-clause-kept : goal.returns-then-count-bound-clause-kept
+returns-then-count-bound-clause-kept c kept = refl
+
+pub returns-then-count-bound-clause-grows : goal.returns-then-count-bound-clause-grows
+returns-then-count-bound-clause-grows c = same_le _
+
+pub returns-then-count-bound-clause-pays : goal.returns-then-count-bound-clause-pays
+returns-then-count-bound-clause-pays c = same_le _
+
+pub overflow_add-size : goal.overflow_add-size
+overflow_add-size c = record { fits = omega arith }
+
+pub returns-then-counted-size-clause-passed : goal.returns-then-counted-size-clause-passed
+returns-then-counted-size-clause-passed c so = absurd (no_true so)
+
+pub returns-then-counted-size-clause-kept : goal.returns-then-counted-size-clause-kept
+returns-then-counted-size-clause-kept c kept = refl
+
+pub returns-then-counted-size-clause-grows : goal.returns-then-counted-size-clause-grows
+returns-then-counted-size-clause-grows c = same_le _
+
+pub returns-then-counted-size-clause-pays : goal.returns-then-counted-size-clause-pays
+returns-then-counted-size-clause-pays c = same_le _
+
+pub are_ascii-requires-clause-eights : goal.are_ascii-requires-clause-eights
+are_ascii-requires-clause-eights c = omega arith
+
+pub are_ascii-requires-clause-short : goal.are_ascii-requires-clause-short
+are_ascii-requires-clause-short c = c.requires.short
+
+pub returns-then-not-are_ascii-clause-passed : goal.returns-then-not-are_ascii-clause-passed
+returns-then-not-are_ascii-clause-passed c so = absurd (no_true so)
+
+pub returns-then-not-are_ascii-clause-kept : goal.returns-then-not-are_ascii-clause-kept
+returns-then-not-are_ascii-clause-kept c kept = refl
+
+pub returns-then-not-are_ascii-clause-grows : goal.returns-then-not-are_ascii-clause-grows
+returns-then-not-are_ascii-clause-grows c = same_le _
+
+pub returns-then-not-are_ascii-clause-pays : goal.returns-then-not-are_ascii-clause-pays
+returns-then-not-are_ascii-clause-pays c = same_le _
+
+pub returns-clause-kept : goal.returns-clause-kept
+returns-clause-kept c not = absurd (no_false not)
+
+pub u64_at-counted-requires : goal.u64_at-counted-requires
+u64_at-counted-requires c = c.requires.room
+
+pub overflow_sub-rest : goal.overflow_sub-rest
+overflow_sub-rest c = c.requires.state.next
+
+pub overflow_add-depth : goal.overflow_add-depth
+overflow_add-depth c = record { fits = deeper_64 c.args.depth c.requires.depth }
+
+pub u64_at-count-requires : goal.u64_at-count-requires
+u64_at-count-requires c = front c.args.state.now.next 8 8 (length c.args.self.now.bytes.now) (counted_front c.args.state.now.next c.u64_at-counted.result (length c.args.self.now.bytes.now) c.if-counted-lt16.false c.if-counted-rest.false)
+
+pub overflow_add-next : goal.overflow_add-next
+overflow_add-next c = record { fits = small _ (length c.args.self.now.bytes.now) (front c.args.state.now.next 8 8 (length c.args.self.now.bytes.now) (counted_front c.args.state.now.next c.u64_at-counted.result (length c.args.self.now.bytes.now) c.if-counted-lt16.false c.if-counted-rest.false)) c.requires.short }
+
+pub is_present-requires : goal.is_present-requires
+is_present-requires c = record { room = apart c.args.state.now.next 8 8 (length c.args.self.now.bytes.now) (counted_front c.args.state.now.next c.u64_at-counted.result (length c.args.self.now.bytes.now) c.if-counted-lt16.false c.if-counted-rest.false) }
+
+pub next_multiple_of-size-requires-clause-nonzero : goal.next_multiple_of-size-requires-clause-nonzero
+next_multiple_of-size-requires-clause-nonzero c = some_8
+
+pub next_multiple_of-size-requires-clause-fits : goal.next_multiple_of-size-requires-clause-fits
+next_multiple_of-size-requires-clause-fits c = rounded_left c.u64_at-count.result c.args.state.now.next (length c.args.self.now.bytes.now) c.if-count-rest.false c.requires.short
+
+pub overflow_add-from : goal.overflow_add-from
+overflow_add-from c = record { fits = small _ (length c.args.self.now.bytes.now) (counted_front c.args.state.now.next c.u64_at-counted.result (length c.args.self.now.bytes.now) c.if-counted-lt16.false c.if-counted-rest.false) c.requires.short }
+
+pub are_ascii-requires-clause-room : goal.are_ascii-requires-clause-room
+are_ascii-requires-clause-room c = (counted_whole c.args.state.now.next c.u64_at-counted.result c.next_multiple_of-size.result (length c.args.self.now.bytes.now) c.if-counted-rest.false c.if-counted-size.false)
+
+pub overflow_add-from-else-not-are_ascii : goal.overflow_add-from-else-not-are_ascii
+overflow_add-from-else-not-are_ascii c = record { fits = small _ (length c.args.self.now.bytes.now) (part_room (c.args.state.now.next + 16) c.u64_at-count.result c.next_multiple_of-size.result (length c.args.self.now.bytes.now) c.next_multiple_of-size.ensures.lower_bound (counted_whole c.args.state.now.next c.u64_at-counted.result c.next_multiple_of-size.result (length c.args.self.now.bytes.now) c.if-counted-rest.false c.if-counted-size.false)) c.requires.short }
+
+pub overflow_add-from-else-not-are_ascii-2 : goal.overflow_add-from-else-not-are_ascii-2
+overflow_add-from-else-not-are_ascii-2 c = record { fits = small _ (length c.args.self.now.bytes.now) (counted_whole c.args.state.now.next c.u64_at-counted.result c.next_multiple_of-size.result (length c.args.self.now.bytes.now) c.if-counted-rest.false c.if-counted-size.false) c.requires.short }
+
+pub are_zeros-requires-clause-order : goal.are_zeros-requires-clause-order
+are_zeros-requires-clause-order c = part_order (c.args.state.now.next + 16) c.u64_at-count.result c.next_multiple_of-size.result c.next_multiple_of-size.ensures.lower_bound
+
+pub are_zeros-requires-clause-room : goal.are_zeros-requires-clause-room
+are_zeros-requires-clause-room c = (counted_whole c.args.state.now.next c.u64_at-counted.result c.next_multiple_of-size.result (length c.args.self.now.bytes.now) c.if-counted-rest.false c.if-counted-size.false)
+
+pub overflow_add-state : goal.overflow_add-state
+overflow_add-state c = record { fits = counted_on c.args.state.now.steps c.next_multiple_of-size.result (length c.args.self.now.bytes.now) c.requires.budget (size_in (c.args.state.now.next + 16) c.next_multiple_of-size.result (length c.args.self.now.bytes.now) (counted_whole c.args.state.now.next c.u64_at-counted.result c.next_multiple_of-size.result (length c.args.self.now.bytes.now) c.if-counted-rest.false c.if-counted-size.false)) c.requires.short }
+
+pub overflow_add-envelope : goal.overflow_add-envelope
+overflow_add-envelope c = record { fits = small _ (length c.args.self.now.bytes.now) (front c.args.envelope 4 4 (length c.args.self.now.bytes.now) c.requires.room) c.requires.short }
+
+pub record-requires-clause-place : goal.record-requires-clause-place
+record-requires-clause-place c = inside (c.args.envelope + 4) 3 (length c.args.self.now.bytes.now) (apart c.args.envelope 4 4 (length c.args.self.now.bytes.now) c.requires.room) c.requires.short
+
+pub record-requires-clause-index : goal.record-requires-clause-index
+record-requires-clause-index c = few_32 c.args.state.now.handle _ c.requires.state.handle c.requires.state.few
+
+pub link-requires-clause-marker : goal.link-requires-clause-marker
+link-requires-clause-marker c = inside c.args.envelope 7 (length c.args.self.now.bytes.now) c.requires.room c.requires.short
+
+pub link-requires-clause-object : goal.link-requires-clause-object
+link-requires-clause-object c = at_most c.args.state.now.next (length c.args.self.now.bytes.now) c.requires.state.next c.requires.short
+
+pub overflow_add-next-2 : goal.overflow_add-next-2
+overflow_add-next-2 c = record { fits = small _ (length c.args.self.now.bytes.now) (front c.args.state.now.next 8 8 (length c.args.self.now.bytes.now) (counted_front c.args.state.now.next c.u64_at-counted.result (length c.args.self.now.bytes.now) c.if-counted-lt16.false c.if-counted-rest.false)) c.requires.short }
+
+pub link-requires-2-clause-marker : goal.link-requires-2-clause-marker
+link-requires-2-clause-marker c = inside (c.args.state.now.next + 8) 7 (length c.args.self.now.bytes.now) (apart c.args.state.now.next 8 8 (length c.args.self.now.bytes.now) (counted_front c.args.state.now.next c.u64_at-counted.result (length c.args.self.now.bytes.now) c.if-counted-lt16.false c.if-counted-rest.false)) c.requires.short
+
+pub link-requires-2-clause-object : goal.link-requires-2-clause-object
+link-requires-2-clause-object c = at_most _ (length c.args.self.now.bytes.now) (counted_front c.args.state.now.next c.u64_at-counted.result (length c.args.self.now.bytes.now) c.if-counted-lt16.false c.if-counted-rest.false) c.requires.short
+
+pub overflow_add-state-2 : goal.overflow_add-state-2
+overflow_add-state-2 c = record { fits = small _ (length c.args.self.now.bytes.now) (counted_whole c.args.state.now.next c.u64_at-counted.result c.next_multiple_of-size.result (length c.args.self.now.bytes.now) c.if-counted-rest.false c.if-counted-size.false) c.requires.short }
+
+pub returns-clause-grows : goal.returns-clause-grows
+returns-clause-grows c = le_more _ _
+
+pub returns-clause-pays : goal.returns-clause-pays
+returns-clause-pays c = pays_text c.args.state.now.steps c.args.state.now.next c.next_multiple_of-size.result

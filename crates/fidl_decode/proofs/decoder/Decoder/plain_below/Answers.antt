@@ -46,3 +46,12 @@ returns-in_default c =
     let r = c.plain_rows-in_default.result in
     let e = c.plain_rows-in_default.ensures in
     record { known = known_from t m c.args.first 0 r.rows r.first r.count r.done r.flag e.first e.count e.passes }
+
+pub plain_rows-requires-clause-table : goal.plain_rows-requires-clause-table
+plain_rows-requires-clause-table c = c.requires.table
+
+pub plain_rows-requires-in-Some-Box-clause-table : goal.plain_rows-requires-in-Some-Box-clause-table
+plain_rows-requires-in-Some-Box-clause-table c = c.requires.table
+
+pub plain_rows-requires-in_default-clause-table : goal.plain_rows-requires-in_default-clause-table
+plain_rows-requires-in_default-clause-table c = c.requires.table

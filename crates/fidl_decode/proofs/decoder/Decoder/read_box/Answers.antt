@@ -1,4 +1,5 @@
-use Rattle.std.proofs.Common.{◌≡◌, ℕ, ◌+◌, ◌-◌, ◌<◌, refl, sym, ap, subst, ◌∙◌, arith}
+use Rattle.fidl_decode.proofs.Fitting.{inside, at_most, small, ended, deeper, some_8}
+use Rattle.std.proofs.Common.{◌≡◌, ℕ, ◌+◌, ◌-◌, ◌<◌, refl, Bool, true, false, sym, ap, subst, ◌∙◌, arith, length}
 use Rattle.std.specs.Prelude.{Some}
 use Rattle.std.specs.Int.{next_multiple_of}
 use Rattle.fidl_records.specs.declared.record.Entry.{Entry}
@@ -57,3 +58,82 @@ returns-clause-fine c around few =
     let opened = box_fine t c.requires.table m c.args.depth c.args.entry c.args.place old c.requires.entry c.requires.kind c.requires.state c.requires.depth (omega (arith, c.requires.depth, c.if-depth-eq-MAX_DEPTH.false)) (omega (arith, value, c.if-size-self.false)) around few in
     subst (λ (d : Entry). VisitFine t m c.args.depth around c.args.entry (Some (frame c.next_multiple_of-size.result d))) (sym content)
     (subst (λ (n : ℕ). VisitFine t m c.args.depth around c.args.entry (Some (frame n inner))) (sym value) opened)
+
+-- a marker that is not right
+clash : {b : Bool} → b ≡ true → b ≡ false → ⊥
+clash is not = cc
+
+pub returns-then-is_absent-clause-fine : goal.returns-then-is_absent-clause-fine
+returns-then-is_absent-clause-fine c inside few = tt
+
+pub returns-then-is_absent-clause-told : goal.returns-then-is_absent-clause-told
+returns-then-is_absent-clause-told c = tt
+
+pub returns-then-is_absent-clause-steps : goal.returns-then-is_absent-clause-steps
+returns-then-is_absent-clause-steps c = refl
+
+pub returns-then-not-is_present-clause-ok : goal.returns-then-not-is_present-clause-ok
+returns-then-not-is_present-clause-ok c = tt
+
+pub returns-then-not-is_present-clause-fine : goal.returns-then-not-is_present-clause-fine
+returns-then-not-is_present-clause-fine c inside few = tt
+
+pub returns-then-not-is_present-clause-told : goal.returns-then-not-is_present-clause-told
+returns-then-not-is_present-clause-told c = (refl, λ z. clash (c.is_absent.ensures.1 z) c.if-is_absent.false, λ p. clash (c.is_present.ensures.1 p) c.if-not-is_present.true)
+
+pub returns-then-not-is_present-clause-steps : goal.returns-then-not-is_present-clause-steps
+returns-then-not-is_present-clause-steps c = refl
+
+pub returns-then-depth-eq-MAX_DEPTH-clause-ok : goal.returns-then-depth-eq-MAX_DEPTH-clause-ok
+returns-then-depth-eq-MAX_DEPTH-clause-ok c = tt
+
+pub returns-then-depth-eq-MAX_DEPTH-clause-fine : goal.returns-then-depth-eq-MAX_DEPTH-clause-fine
+returns-then-depth-eq-MAX_DEPTH-clause-fine c inside few = tt
+
+pub returns-then-depth-eq-MAX_DEPTH-clause-told : goal.returns-then-depth-eq-MAX_DEPTH-clause-told
+returns-then-depth-eq-MAX_DEPTH-clause-told c = (refl, c.is_present.ensures.0 c.if-not-is_present.false, omega (arith, c.if-depth-eq-MAX_DEPTH.true))
+
+pub returns-then-depth-eq-MAX_DEPTH-clause-steps : goal.returns-then-depth-eq-MAX_DEPTH-clause-steps
+returns-then-depth-eq-MAX_DEPTH-clause-steps c = refl
+
+pub returns-then-size-self-clause-ok : goal.returns-then-size-self-clause-ok
+returns-then-size-self-clause-ok c = tt
+
+pub returns-then-size-self-clause-fine : goal.returns-then-size-self-clause-fine
+returns-then-size-self-clause-fine c inside few = tt
+
+pub returns-then-size-self-clause-steps : goal.returns-then-size-self-clause-steps
+returns-then-size-self-clause-steps c = refl
+
+pub returns-clause-told : goal.returns-clause-told
+returns-clause-told c = tt
+
+pub returns-clause-steps : goal.returns-clause-steps
+returns-clause-steps c = refl
+
+pub is_present-requires : goal.is_present-requires
+is_present-requires c = record { room = c.requires.room }
+
+pub is_absent-requires : goal.is_absent-requires
+is_absent-requires c = record { room = c.requires.room }
+
+pub entry-requires : goal.entry-requires
+entry-requires c = c.requires.entry
+
+pub next_multiple_of-size-requires-clause-nonzero : goal.next_multiple_of-size-requires-clause-nonzero
+next_multiple_of-size-requires-clause-nonzero c = some_8
+
+pub overflow_sub-self : goal.overflow_sub-self
+overflow_sub-self c = c.requires.state.next
+
+pub link-requires-clause-marker : goal.link-requires-clause-marker
+link-requires-clause-marker c = inside c.args.place 7 (length c.args.self.now.bytes.now) c.requires.room c.requires.short
+
+pub link-requires-clause-object : goal.link-requires-clause-object
+link-requires-clause-object c = at_most c.args.state.now.next (length c.args.self.now.bytes.now) c.requires.state.next c.requires.short
+
+pub overflow_add-state : goal.overflow_add-state
+overflow_add-state c = record { fits = small _ (length c.args.self.now.bytes.now) (ended c.args.state.now.next c.next_multiple_of-size.result (length c.args.self.now.bytes.now) c.requires.state.next c.if-size-self.false) c.requires.short }
+
+pub overflow_add-result : goal.overflow_add-result
+overflow_add-result c = record { fits = deeper c.args.depth c.requires.depth }

@@ -1,3 +1,5 @@
+use Rattle.fidl_decode.proofs.Fitting.{le_more, lt_le}
+use Rattle.fidl_decode.proofs.Unchanged.{no_ok, same_le}
 use Rattle.std.proofs.Common.{◌≡◌, ◌+◌, ◌≤◌, sym, ap, subst, ◌∙◌}
 use Rattle.std.specs.Prelude.{Some, None}
 use Rattle.fidl_records.specs.declared.record.Entry.{Entry}
@@ -10,7 +12,7 @@ use Rattle.fidl_decode.specs.declared.frame.Left.TheVariants.{Content}
 use Rattle.fidl_decode.specs.State.{At}
 use Rattle.fidl_decode.specs.Machine.{Reads, at_of}
 use Rattle.fidl_decode.specs.Faults.{message_of}
-use Rattle.fidl_decode.proofs.Turning.{on_err}
+use Rattle.fidl_decode.proofs.Turning.{on_err, passed_on}
 use Rattle.fidl_decode.proofs.Visiting.{fine_as}
 use Rattle.fidl_decode.proofs.LeafContent.{leaf_known}
 use Rattle.fidl_decode.proofs.decoder.Decoder.read_content.Goals as goal
@@ -61,3 +63,84 @@ returns-in_err-read_whole-clause-err c =
     let t = c.args.self.now.table.now in
     let m = message_of c.args.self.now.bytes.now c.args.self.now.handles.now in
     on_err _ ((to : At) → Reads t m c.args.frame (at_of c.args.state.now) to → ⊥) c.in_err-read_whole.ensures.err
+
+pub returns-then-count-ne1-clause-ended : goal.returns-then-count-ne1-clause-ended
+returns-then-count-ne1-clause-ended c = tt
+
+pub returns-then-count-ne1-clause-err : goal.returns-then-count-ne1-clause-err
+returns-then-count-ne1-clause-err c = tt
+
+pub returns-then-count-ne1-clause-told : goal.returns-then-count-ne1-clause-told
+returns-then-count-ne1-clause-told c = tt
+
+pub is_flat-requires-clause-table : goal.is_flat-requires-clause-table
+is_flat-requires-clause-table c = c.requires.table
+
+pub returns-then-not-is_flat-clause-ended : goal.returns-then-not-is_flat-clause-ended
+returns-then-not-is_flat-clause-ended c = tt
+
+pub returns-then-not-is_flat-clause-err : goal.returns-then-not-is_flat-clause-err
+returns-then-not-is_flat-clause-err c = tt
+
+pub returns-then-not-is_flat-clause-told : goal.returns-then-not-is_flat-clause-told
+returns-then-not-is_flat-clause-told c = tt
+
+pub read_whole-requires-clause-table : goal.read_whole-requires-clause-table
+read_whole-requires-clause-table c = c.requires.table
+
+pub read_whole-requires-clause-short : goal.read_whole-requires-clause-short
+read_whole-requires-clause-short c = c.requires.short
+
+pub read_whole-requires-clause-frame : goal.read_whole-requires-clause-frame
+read_whole-requires-clause-frame c = c.requires.frame
+
+pub read_whole-requires-clause-state : goal.read_whole-requires-clause-state
+read_whole-requires-clause-state c = c.requires.state
+
+pub read_whole-requires-clause-budget : goal.read_whole-requires-clause-budget
+read_whole-requires-clause-budget c = c.requires.budget
+
+pub returns-in_err-read_whole-clause-ok : goal.returns-in_err-read_whole-clause-ok
+returns-in_err-read_whole-clause-ok c = no_ok c.from_residual.result c.in_err-read_whole.field-0.0 _ c.from_residual.ensures.1
+
+pub returns-in_err-read_whole-clause-grows : goal.returns-in_err-read_whole-clause-grows
+returns-in_err-read_whole-clause-grows c = no_ok c.from_residual.result c.in_err-read_whole.field-0.0 _ c.from_residual.ensures.1
+
+pub returns-in_err-read_whole-clause-ended : goal.returns-in_err-read_whole-clause-ended
+returns-in_err-read_whole-clause-ended c = no_ok c.from_residual.result c.in_err-read_whole.field-0.0 _ c.from_residual.ensures.1
+
+pub returns-in_err-read_whole-clause-cost : goal.returns-in_err-read_whole-clause-cost
+returns-in_err-read_whole-clause-cost c = c.in_err-read_whole.ensures.cost
+
+pub returns-in_err-read_whole-clause-told : goal.returns-in_err-read_whole-clause-told
+returns-in_err-read_whole-clause-told c = passed_on c.from_residual.result c.in_err-read_whole.field-0.0 _ c.from_residual.ensures.1 c.in_err-read_whole.ensures.told
+
+pub returns-clause-err : goal.returns-clause-err
+returns-clause-err c = tt
+
+pub returns-clause-told : goal.returns-clause-told
+returns-clause-told c = tt
+
+pub returns-clause-ok : goal.returns-clause-ok
+returns-clause-ok c = c.in_ok-read_whole.ensures.ok
+
+pub returns-clause-grows : goal.returns-clause-grows
+returns-clause-grows c = lt_le _ _ c.in_ok-read_whole.ensures.rises
+
+pub returns-clause-ended : goal.returns-clause-ended
+returns-clause-ended c = c.in_ok-read_whole.ensures.rises
+
+pub returns-clause-cost : goal.returns-clause-cost
+returns-clause-cost c = c.in_ok-read_whole.ensures.cost
+
+pub returns-then-count-ne1-clause-grows : goal.returns-then-count-ne1-clause-grows
+returns-then-count-ne1-clause-grows c = same_le _
+
+pub returns-then-count-ne1-clause-cost : goal.returns-then-count-ne1-clause-cost
+returns-then-count-ne1-clause-cost c = le_more _ _
+
+pub returns-then-not-is_flat-clause-grows : goal.returns-then-not-is_flat-clause-grows
+returns-then-not-is_flat-clause-grows c = same_le _
+
+pub returns-then-not-is_flat-clause-cost : goal.returns-then-not-is_flat-clause-cost
+returns-then-not-is_flat-clause-cost c = le_more _ _

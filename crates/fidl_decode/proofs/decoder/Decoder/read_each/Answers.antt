@@ -1,3 +1,4 @@
+use Rattle.fidl_decode.proofs.Unchanged.{no_ok}
 use Rattle.std.proofs.Common.{rules, ◌≡◌, ◌+◌, ◌-◌, arith}
 use Rattle.fidl_decode.specs.declared.frame.Left.TheVariants.{Elements}
 use Rattle.fidl_decode.specs.Rows.{Row}
@@ -107,3 +108,24 @@ returns-in_err-read_leaf-clause-cost c =
     let less = c.loop-i.invariant.turns.less in
     let so_far = c.loop-i.invariant.steps in
     omega (arith, spend, less, so_far, c.in_err-read_leaf.ensures.probes)
+
+pub read_leaf-requires-clause-table : goal.read_leaf-requires-clause-table
+read_leaf-requires-clause-table c = c.requires.table
+
+pub read_leaf-requires-clause-entry : goal.read_leaf-requires-clause-entry
+read_leaf-requires-clause-entry c = c.requires.entry
+
+pub read_leaf-requires-clause-kind : goal.read_leaf-requires-clause-kind
+read_leaf-requires-clause-kind c = c.requires.kind
+
+pub read_leaf-requires-clause-leaf : goal.read_leaf-requires-clause-leaf
+read_leaf-requires-clause-leaf c = c.requires.leaf
+
+pub read_leaf-requires-clause-short : goal.read_leaf-requires-clause-short
+read_leaf-requires-clause-short c = c.requires.short
+
+pub returns-in_err-read_leaf-clause-ok : goal.returns-in_err-read_leaf-clause-ok
+returns-in_err-read_leaf-clause-ok c = no_ok c.from_residual.result c.in_err-read_leaf.field-0.0 _ c.from_residual.ensures.1
+
+pub returns-in_err-read_leaf-clause-ended : goal.returns-in_err-read_leaf-clause-ended
+returns-in_err-read_leaf-clause-ended c = no_ok c.from_residual.result c.in_err-read_leaf.field-0.0 _ c.from_residual.ensures.1

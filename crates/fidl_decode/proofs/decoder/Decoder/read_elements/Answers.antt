@@ -1,3 +1,5 @@
+use Rattle.fidl_decode.proofs.Fitting.{le_more, lt_le}
+use Rattle.fidl_decode.proofs.Unchanged.{no_ok, same_le}
 use Rattle.std.proofs.Common.{rules, ◌≡◌, ◌+◌, ◌-◌, ◌*◌, sym, ap, subst, ◌∙◌, arith, refl}
 use Rattle.std.specs.Prelude.{Some, None, true}
 use Rattle.fidl_decode.specs.Invariants.{is_free}
@@ -124,3 +126,84 @@ returns-in_err-read_each c = record {
   err = search (rules, c.in_err-read_each.ensures.err);
   told = passed_on c.from_residual.result c.in_err-read_each.field-0.0 _ c.from_residual.ensures.1 c.in_err-read_each.ensures.told;
 }
+
+pub returns-then-count-eq0-clause-ended : goal.returns-then-count-eq0-clause-ended
+returns-then-count-eq0-clause-ended c = tt
+
+pub returns-then-count-eq0-clause-err : goal.returns-then-count-eq0-clause-err
+returns-then-count-eq0-clause-err c = tt
+
+pub returns-then-count-eq0-clause-told : goal.returns-then-count-eq0-clause-told
+returns-then-count-eq0-clause-told c = tt
+
+pub returns-then-not-is_leaf-clause-ended : goal.returns-then-not-is_leaf-clause-ended
+returns-then-not-is_leaf-clause-ended c = tt
+
+pub returns-then-not-is_leaf-clause-err : goal.returns-then-not-is_leaf-clause-err
+returns-then-not-is_leaf-clause-err c = tt
+
+pub returns-then-not-is_leaf-clause-told : goal.returns-then-not-is_leaf-clause-told
+returns-then-not-is_leaf-clause-told c = tt
+
+pub read_each-requires-clause-table : goal.read_each-requires-clause-table
+read_each-requires-clause-table c = c.requires.table
+
+pub read_each-requires-clause-short : goal.read_each-requires-clause-short
+read_each-requires-clause-short c = c.requires.short
+
+pub read_each-requires-clause-frame : goal.read_each-requires-clause-frame
+read_each-requires-clause-frame c = c.requires.frame
+
+pub read_each-requires-clause-left : goal.read_each-requires-clause-left
+read_each-requires-clause-left c = c.requires.left
+
+pub read_each-requires-clause-state : goal.read_each-requires-clause-state
+read_each-requires-clause-state c = c.requires.state
+
+pub read_each-requires-clause-budget : goal.read_each-requires-clause-budget
+read_each-requires-clause-budget c = c.requires.budget
+
+pub returns-then-not-is_free-clause-err : goal.returns-then-not-is_free-clause-err
+returns-then-not-is_free-clause-err c = tt
+
+pub returns-then-not-is_free-clause-told : goal.returns-then-not-is_free-clause-told
+returns-then-not-is_free-clause-told c = tt
+
+pub returns-in_err-zeros_at-clause-ok : goal.returns-in_err-zeros_at-clause-ok
+returns-in_err-zeros_at-clause-ok c = no_ok c.from_residual-in_err-zeros_at.result c.in_err-zeros_at.field-0.0 _ c.from_residual-in_err-zeros_at.ensures.1
+
+pub returns-in_err-zeros_at-clause-grows : goal.returns-in_err-zeros_at-clause-grows
+returns-in_err-zeros_at-clause-grows c = no_ok c.from_residual-in_err-zeros_at.result c.in_err-zeros_at.field-0.0 _ c.from_residual-in_err-zeros_at.ensures.1
+
+pub returns-in_err-zeros_at-clause-ended : goal.returns-in_err-zeros_at-clause-ended
+returns-in_err-zeros_at-clause-ended c = no_ok c.from_residual-in_err-zeros_at.result c.in_err-zeros_at.field-0.0 _ c.from_residual-in_err-zeros_at.ensures.1
+
+pub returns-clause-err : goal.returns-clause-err
+returns-clause-err c = tt
+
+pub returns-clause-told : goal.returns-clause-told
+returns-clause-told c = tt
+
+pub returns-then-not-is_free-clause-ok : goal.returns-then-not-is_free-clause-ok
+returns-then-not-is_free-clause-ok c = c.in_ok-read_each.ensures.ok
+
+pub returns-then-not-is_free-clause-grows : goal.returns-then-not-is_free-clause-grows
+returns-then-not-is_free-clause-grows c = lt_le _ _ c.in_ok-read_each.ensures.ended
+
+pub returns-then-not-is_free-clause-ended : goal.returns-then-not-is_free-clause-ended
+returns-then-not-is_free-clause-ended c = c.in_ok-read_each.ensures.ended
+
+pub returns-then-not-is_free-clause-cost : goal.returns-then-not-is_free-clause-cost
+returns-then-not-is_free-clause-cost c = c.in_ok-read_each.ensures.cost
+
+pub returns-then-count-eq0-clause-grows : goal.returns-then-count-eq0-clause-grows
+returns-then-count-eq0-clause-grows c = same_le _
+
+pub returns-then-count-eq0-clause-cost : goal.returns-then-count-eq0-clause-cost
+returns-then-count-eq0-clause-cost c = le_more _ _
+
+pub returns-then-not-is_leaf-clause-grows : goal.returns-then-not-is_leaf-clause-grows
+returns-then-not-is_leaf-clause-grows c = same_le _
+
+pub returns-then-not-is_leaf-clause-cost : goal.returns-then-not-is_leaf-clause-cost
+returns-then-not-is_leaf-clause-cost c = le_more _ _

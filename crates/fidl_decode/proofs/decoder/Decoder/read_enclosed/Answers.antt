@@ -1,3 +1,4 @@
+use Rattle.fidl_decode.proofs.Unchanged.{no_ok}
 use Rattle.std.proofs.Common.{◌≡◌, ℕ, ◌-◌, arith}
 use Rattle.std.specs.Prelude.{Some, None}
 use Rattle.std.proofs.lemmas.Result.{on_err_weaker, IfErr-weaker}
@@ -10,7 +11,7 @@ use Rattle.fidl_decode.specs.State.{At}
 use Rattle.fidl_decode.specs.Envelopes.{Contained}
 use Rattle.fidl_decode.specs.Machine.{at_of}
 use Rattle.fidl_decode.specs.Faults.{message_of}
-use Rattle.fidl_decode.proofs.Turning.{on_err, on_ok_from}
+use Rattle.fidl_decode.proofs.Turning.{on_err, on_ok_from, passed_on}
 use Rattle.fidl_decode.proofs.Opening.{opens_known, opens_on, opens_pays, opens_refused, opens_work}
 use Rattle.fidl_decode.proofs.decoder.Decoder.read_enclosed.Goals as goal
 
@@ -145,3 +146,45 @@ returns-clause-cost c =
     let work = opens_work t m c.args.depth (Some (ty.named c.args.entry)) c.args.envelope old mid frame o in
     let still = x.steps in
     omega (arith, work, still, c.read_whole.ensures.cost)
+
+pub enter_member-requires-clause-table : goal.enter_member-requires-clause-table
+enter_member-requires-clause-table c = c.requires.table
+
+pub enter_member-requires-clause-entry : goal.enter_member-requires-clause-entry
+enter_member-requires-clause-entry c = c.requires.entry
+
+pub enter_member-requires-clause-short : goal.enter_member-requires-clause-short
+enter_member-requires-clause-short c = c.requires.short
+
+pub enter_member-requires-clause-room : goal.enter_member-requires-clause-room
+enter_member-requires-clause-room c = c.requires.room
+
+pub enter_member-requires-clause-state : goal.enter_member-requires-clause-state
+enter_member-requires-clause-state c = c.requires.state
+
+pub enter_member-requires-clause-depth : goal.enter_member-requires-clause-depth
+enter_member-requires-clause-depth c = c.requires.depth
+
+pub returns-in_err-frame-clause-ok : goal.returns-in_err-frame-clause-ok
+returns-in_err-frame-clause-ok c = no_ok c.from_residual.result c.in_err-frame.field-0.0 _ c.from_residual.ensures.1
+
+pub returns-in_err-frame-clause-pays : goal.returns-in_err-frame-clause-pays
+returns-in_err-frame-clause-pays c = no_ok c.from_residual.result c.in_err-frame.field-0.0 _ c.from_residual.ensures.1
+
+pub returns-in_err-frame-clause-told : goal.returns-in_err-frame-clause-told
+returns-in_err-frame-clause-told c = passed_on c.from_residual.result c.in_err-frame.field-0.0 _ c.from_residual.ensures.1 c.in_err-frame.ensures.told
+
+pub returns-in_err-frame-clause-grows : goal.returns-in_err-frame-clause-grows
+returns-in_err-frame-clause-grows c = no_ok c.from_residual.result c.in_err-frame.field-0.0 _ c.from_residual.ensures.1
+
+pub read_whole-requires-clause-table : goal.read_whole-requires-clause-table
+read_whole-requires-clause-table c = c.requires.table
+
+pub read_whole-requires-clause-short : goal.read_whole-requires-clause-short
+read_whole-requires-clause-short c = c.requires.short
+
+pub read_whole-requires-clause-kind : goal.read_whole-requires-clause-kind
+read_whole-requires-clause-kind c = c.requires.kind
+
+pub read_whole-requires-clause-flat : goal.read_whole-requires-clause-flat
+read_whole-requires-clause-flat c = c.requires.flat

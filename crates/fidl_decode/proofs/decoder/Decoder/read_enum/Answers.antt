@@ -1,3 +1,4 @@
+use Rattle.fidl_decode.proofs.Unchanged.{same_le}
 use Rattle.std.proofs.Common.{rules, ◌≡◌, ap, sym, subst, refl}
 use Rattle.std.specs.Prelude.{Option, Some, None, true, Bool, ℤ, List, if◌then◌else◌}
 use Rattle.fidl_wire.specs.Term as ty
@@ -15,3 +16,27 @@ returns-then-not-has_value-clause-told c =
     let strict : is_strict d ≡ true = (let r = sym c.is_strict.ensures in search (rules, r, c.if-not-is_strict.false)) in
     let is : strict_values t (header_of t) d ≡ Some (values_from t (header_of t) (underlying d) d.first d.count) = ap (λ (b : Bool). if b then Some (values_from t (header_of t) (underlying d) d.first d.count) else None) strict in
     subst (λ (o : Option (List ℤ)). BreaksField (message_of c.args.self.now.bytes.now c.args.self.now.handles.now) (ty.enum (underlying d) o) c.args.place (UnknownValue c.args.place)) (sym is) (refl, λ y. search (rules, y, c.has_value.ensures.value, c.if-not-has_value.true, c.number_bits-number.ensures))
+
+pub returns-then-not-is_strict-clause-err : goal.returns-then-not-is_strict-clause-err
+returns-then-not-is_strict-clause-err c = tt
+
+pub returns-then-not-is_strict-clause-told : goal.returns-then-not-is_strict-clause-told
+returns-then-not-is_strict-clause-told c = tt
+
+pub returns-then-not-is_strict-clause-grows : goal.returns-then-not-is_strict-clause-grows
+returns-then-not-is_strict-clause-grows c = same_le _
+
+pub has_value-requires-clause-values : goal.has_value-requires-clause-values
+has_value-requires-clause-values c = c.requires.values
+
+pub has_value-requires-clause-budget : goal.has_value-requires-clause-budget
+has_value-requires-clause-budget c = c.requires.budget
+
+pub returns-then-not-has_value-clause-ok : goal.returns-then-not-has_value-clause-ok
+returns-then-not-has_value-clause-ok c = tt
+
+pub returns-clause-err : goal.returns-clause-err
+returns-clause-err c = tt
+
+pub returns-clause-told : goal.returns-clause-told
+returns-clause-told c = tt

@@ -1,3 +1,4 @@
+use Rattle.fidl_decode.proofs.Unchanged.{no_ok}
 use Rattle.std.proofs.Common.{◌≡◌, ◌+◌, ◌-◌, refl, sym, ap, subst, arith}
 use Rattle.std.specs.Prelude.{Option, Some, None}
 use Rattle.fidl_decode.specs.declared.frame.Frame.{Frame}
@@ -202,3 +203,27 @@ returns-clause-cost c =
     let run = turns_then t m f old now a g c.loop-many.invariant.turns now 1 (c.loop-many.state.steps + 1 - c.args.state.now.steps) (left_over None) (omega (arith, begun)) over in
     let whole = run.less in
     omega (arith, begun, whole)
+
+pub take_envelope-requires-clause-table : goal.take_envelope-requires-clause-table
+take_envelope-requires-clause-table c = c.requires.table
+
+pub take_envelope-requires-clause-short : goal.take_envelope-requires-clause-short
+take_envelope-requires-clause-short c = c.requires.short
+
+pub returns-in_err-below-clause-ok : goal.returns-in_err-below-clause-ok
+returns-in_err-below-clause-ok c = no_ok c.from_residual.result c.in_err-below.field-0.0 _ c.from_residual.ensures.1
+
+pub returns-in_err-below-clause-rises : goal.returns-in_err-below-clause-rises
+returns-in_err-below-clause-rises c = no_ok c.from_residual.result c.in_err-below.field-0.0 _ c.from_residual.ensures.1
+
+pub returns-in-Some-clause-err : goal.returns-in-Some-clause-err
+returns-in-Some-clause-err c = tt
+
+pub returns-in-Some-clause-told : goal.returns-in-Some-clause-told
+returns-in-Some-clause-told c = tt
+
+pub returns-clause-err : goal.returns-clause-err
+returns-clause-err c = tt
+
+pub returns-clause-told : goal.returns-clause-told
+returns-clause-told c = tt

@@ -1,4 +1,6 @@
-use Rattle.std.proofs.Common.{◌≡◌, ◌+◌, ◌-◌, sym, ap, subst, ◌∙◌, arith}
+use Rattle.fidl_decode.proofs.Fitting.{budget_on, cost_on, rises_on, first_in, some_left, next_fits}
+use Rattle.fidl_decode.proofs.Unchanged.{no_ok}
+use Rattle.std.proofs.Common.{◌≡◌, ◌+◌, ◌-◌, sym, ap, subst, ◌∙◌, arith, ◌≤◌, ◌<◌, ◌^◌}
 use Rattle.std.specs.Prelude.{Some, None}
 use Rattle.std.proofs.lemmas.Result.{on_err_weaker, IfErr-weaker}
 use Rattle.fidl_records.specs.declared.record.Row as raw
@@ -10,7 +12,7 @@ use Rattle.fidl_decode.specs.Invariants.{is_leaf}
 use Rattle.fidl_decode.specs.declared.frame.Frame.{Frame}
 use Rattle.fidl_decode.specs.declared.frame.Left.TheVariants.{Rows}
 use Rattle.fidl_decode.specs.State.{At}
-use Rattle.fidl_decode.specs.Machine.{Reads, Turns, at_of}
+use Rattle.fidl_decode.specs.Machine.{Reads, Turns, at_of, turn_work, IsPlain}
 use Rattle.fidl_decode.specs.Faults.{message_of}
 use Rattle.fidl_decode.proofs.Turning.{on_err, on_ok_from, passed_on}
 use Rattle.fidl_decode.proofs.Visiting.{same_some}
@@ -187,3 +189,75 @@ returns-clause-told c =
     let over = subst (λ n. Turns t m f old now a (left_over (Some (going_on c.args.frame (Rows c.loop-many.next n) c.loop-many.done)))) none c.loop-many.invariant.turns in
     let so_far = subst (λ (x : Frame). Turns t m f old now a (left_over (Some x))) (sym same) over in
     IfErr-weaker c.end_rows.result _ _ (λ fault b. turns_break t m f old now a rest so_far fault b) c.end_rows.ensures.told
+
+pub read_row-requires-clause-table : goal.read_row-requires-clause-table
+read_row-requires-clause-table c = c.requires.table
+
+pub read_row-requires-clause-short : goal.read_row-requires-clause-short
+read_row-requires-clause-short c = c.requires.short
+
+pub returns-in_err-read_row-clause-ok : goal.returns-in_err-read_row-clause-ok
+returns-in_err-read_row-clause-ok c = no_ok c.from_residual.result c.in_err-read_row.field-0.0 _ c.from_residual.ensures.1
+
+pub end_rows-requires-clause-table : goal.end_rows-requires-clause-table
+end_rows-requires-clause-table c = c.requires.table
+
+pub end_rows-requires-clause-short : goal.end_rows-requires-clause-short
+end_rows-requires-clause-short c = c.requires.short
+
+pub rows-rows-requires : goal.rows-rows-requires
+rows-rows-requires c = tt
+
+pub rows_from-rest-requires : goal.rows_from-rest-requires
+rows_from-rest-requires c = tt
+
+pub rows_from-requires : goal.rows_from-requires
+rows_from-requires c = tt
+
+pub row-row-requires : goal.row-row-requires
+row-row-requires c = first_in c.loop-many.next c.loop-many.many _ c.loop-many.invariant.turns.rest_fine.0.left c.loop-many-test.true
+
+pub entry-e-requires : goal.entry-e-requires
+entry-e-requires c = c.row-row.ensures.entry
+
+pub read_row-requires-clause-left : goal.read_row-requires-clause-left
+read_row-requires-clause-left c = ap (λ (x : Frame). x.left) c.rows_from-rest.ensures
+
+pub read_row-requires-clause-some : goal.read_row-requires-clause-some
+read_row-requires-clause-some c = some_left c.loop-many.many c.loop-many-test.true
+
+pub read_row-requires-clause-kind : goal.read_row-requires-clause-kind
+read_row-requires-clause-kind c = ap (λ (w : raw.Row). kind_of (entry_at c.args.self.now.table.now w.entry).kind) (sym c.row-row.ensures.value) ∙ ap (λ (e : Entry). kind_of e.kind) (sym c.entry-e.ensures.value) ∙ sym c.from_number.ensures ∙ c.in-Some.is
+
+pub read_row-requires-clause-state : goal.read_row-requires-clause-state
+read_row-requires-clause-state c = c.loop-many.invariant.turns.state
+
+pub read_row-requires-clause-budget : goal.read_row-requires-clause-budget
+read_row-requires-clause-budget c = subst (λ (x : Frame). c.loop-many.state.steps + turn_work c.args.self.now.bytes.now c.loop-many.state.next x < 2 ^ 40) (sym c.rows_from-rest.ensures) (budget_on _ _ _ c.args.state.now.steps c.loop-many.state.steps (2 ^ 40) c.loop-many.invariant.steps c.loop-many.invariant.turns.less c.requires.budget)
+
+pub returns-in_err-read_row-clause-rises : goal.returns-in_err-read_row-clause-rises
+returns-in_err-read_row-clause-rises c = rises_on _ _ _ c.loop-many.invariant.steps c.in_err-read_row.ensures.rises
+
+pub returns-in_err-read_row-clause-cost : goal.returns-in_err-read_row-clause-cost
+returns-in_err-read_row-clause-cost c = cost_on _ _ _ c.args.state.now.steps c.loop-many.state.steps c.read_row.new.state.steps c.loop-many.invariant.steps c.loop-many.invariant.turns.less (subst (λ (x : Frame). c.read_row.new.state.steps ≤ c.loop-many.state.steps + turn_work c.args.self.now.bytes.now c.loop-many.state.next x) c.rows_from-rest.ensures c.in_err-read_row.ensures.cost)
+
+pub overflow_sub-many : goal.overflow_sub-many
+overflow_sub-many c = some_left c.loop-many.many c.loop-many-test.true
+
+pub overflow_add-next : goal.overflow_add-next
+overflow_add-next c = record { fits = next_fits c.loop-many.next c.loop-many.many _ c.rows-rows.result _ c.loop-many.invariant.turns.rest_fine.0.left c.rows-rows.ensures.value c.rows-rows.type_inv c.loop-many-test.true }
+
+pub end_rows-requires-clause-plain : goal.end_rows-requires-clause-plain
+end_rows-requires-clause-plain c = subst (λ (x : Frame). IsPlain x.left) (sym c.rows_from.ensures) tt
+
+pub end_rows-requires-clause-state : goal.end_rows-requires-clause-state
+end_rows-requires-clause-state c = c.loop-many.invariant.turns.state
+
+pub returns-clause-rises : goal.returns-clause-rises
+returns-clause-rises c = rises_on _ _ _ c.loop-many.invariant.steps c.end_rows.ensures.rises
+
+pub end_rows-requires-clause-budget : goal.end_rows-requires-clause-budget
+end_rows-requires-clause-budget c = subst (λ (x : Frame). c.loop-many.state.steps + turn_work c.args.self.now.bytes.now c.loop-many.state.next x < 2 ^ 40) (sym c.rows_from.ensures) (budget_on _ _ _ c.args.state.now.steps c.loop-many.state.steps (2 ^ 40) c.loop-many.invariant.steps c.loop-many.invariant.turns.less c.requires.budget)
+
+pub returns-clause-cost : goal.returns-clause-cost
+returns-clause-cost c = cost_on _ _ _ c.args.state.now.steps c.loop-many.state.steps c.end_rows.new.state.steps c.loop-many.invariant.steps c.loop-many.invariant.turns.less (subst (λ (x : Frame). c.end_rows.new.state.steps ≤ c.loop-many.state.steps + turn_work c.args.self.now.bytes.now c.loop-many.state.next x) c.rows_from.ensures c.end_rows.ensures.cost)

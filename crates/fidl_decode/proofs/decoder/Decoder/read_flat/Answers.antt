@@ -101,3 +101,36 @@ returns-clause-cost c =
     let old = at_of c.args.state.now in
     let work = ap (λ (d : Entry). value_work c.args.self.now.bytes.now c.args.state.now.next d) c.entry-e.ensures.value in
     omega (arith, c.read_fields.ensures.cost, work, work_none c.entry-e.result.nest c.entry-e.result.size)
+
+pub read_leaf-requires-clause-table : goal.read_leaf-requires-clause-table
+read_leaf-requires-clause-table c = c.requires.table
+
+pub read_leaf-requires-clause-entry : goal.read_leaf-requires-clause-entry
+read_leaf-requires-clause-entry c = c.requires.entry
+
+pub read_leaf-requires-clause-kind : goal.read_leaf-requires-clause-kind
+read_leaf-requires-clause-kind c = c.requires.kind
+
+pub read_leaf-requires-clause-short : goal.read_leaf-requires-clause-short
+read_leaf-requires-clause-short c = c.requires.short
+
+pub read_leaf-requires-clause-room : goal.read_leaf-requires-clause-room
+read_leaf-requires-clause-room c = c.requires.room
+
+pub read_leaf-requires-clause-state : goal.read_leaf-requires-clause-state
+read_leaf-requires-clause-state c = c.requires.state
+
+pub read_leaf-requires-clause-depth : goal.read_leaf-requires-clause-depth
+read_leaf-requires-clause-depth c = c.requires.depth
+
+pub entry-e-requires : goal.entry-e-requires
+entry-e-requires c = c.requires.entry
+
+pub read_fields-requires-clause-table : goal.read_fields-requires-clause-table
+read_fields-requires-clause-table c = c.requires.table
+
+pub read_fields-requires-clause-short : goal.read_fields-requires-clause-short
+read_fields-requires-clause-short c = c.requires.short
+
+pub read_fields-requires-clause-state : goal.read_fields-requires-clause-state
+read_fields-requires-clause-state c = c.requires.state

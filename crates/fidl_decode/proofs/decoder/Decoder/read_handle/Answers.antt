@@ -38,3 +38,78 @@ returns-else-not-is_allowed-clause-ok c =
     = λ i. record { next = c.args.state.now.next; handle = c.args.state.now.handle + 1; objects = sym c.record.ensures.objects i; records = sym c.record.ensures.records i } in
     subst (λ (s : At). Leads (declarations_of c.args.self.now.table.now) (message_of c.args.self.now.bytes.now c.args.self.now.handles.now) c.args.depth (ty.handle (is_optional c.args.entry.now) c.args.entry.now.subtype c.args.entry.now.rights) c.args.place (at_of c.args.state.now) s) same
     (handle_leads (declarations_of c.args.self.now.table.now) (message_of c.args.self.now.bytes.now c.args.self.now.handles.now) c.args.depth (is_optional c.args.entry.now) c.args.entry.now.subtype c.args.entry.now.rights c.args.place (at_of c.args.state.now) c.requires.depth c.in-Present.ensures (get_or c.args.self.now.handles.now c.args.state.now.handle nobody) (slice_get-get_or c.args.self.now.handles.now c.args.state.now.handle nobody within) c.is_allowed.ensures.handle (c.is_allowed.ensures.allowed.0 c.if-not-is_allowed.false))
+
+pub presence_at-requires-clause-room : goal.presence_at-requires-clause-room
+presence_at-requires-clause-room c = c.requires.room
+
+pub returns-then-not-is_optional-clause-ok : goal.returns-then-not-is_optional-clause-ok
+returns-then-not-is_optional-clause-ok c = tt
+
+pub returns-then-not-is_optional-clause-state : goal.returns-then-not-is_optional-clause-state
+returns-then-not-is_optional-clause-state c = tt
+
+pub returns-then-not-is_optional-clause-next : goal.returns-then-not-is_optional-clause-next
+returns-then-not-is_optional-clause-next c = refl
+
+pub returns-then-not-is_optional-clause-steps : goal.returns-then-not-is_optional-clause-steps
+returns-then-not-is_optional-clause-steps c = refl
+
+pub returns-then-state-self-clause-ok : goal.returns-then-state-self-clause-ok
+returns-then-state-self-clause-ok c = tt
+
+pub returns-then-state-self-clause-state : goal.returns-then-state-self-clause-state
+returns-then-state-self-clause-state c = tt
+
+pub returns-then-state-self-clause-next : goal.returns-then-state-self-clause-next
+returns-then-state-self-clause-next c = refl
+
+pub returns-then-state-self-clause-steps : goal.returns-then-state-self-clause-steps
+returns-then-state-self-clause-steps c = refl
+
+pub returns-then-not-is_allowed-clause-ok : goal.returns-then-not-is_allowed-clause-ok
+returns-then-not-is_allowed-clause-ok c = tt
+
+pub returns-then-not-is_allowed-clause-state : goal.returns-then-not-is_allowed-clause-state
+returns-then-not-is_allowed-clause-state c = tt
+
+pub returns-then-not-is_allowed-clause-next : goal.returns-then-not-is_allowed-clause-next
+returns-then-not-is_allowed-clause-next c = refl
+
+pub returns-then-not-is_allowed-clause-steps : goal.returns-then-not-is_allowed-clause-steps
+returns-then-not-is_allowed-clause-steps c = refl
+
+pub returns-else-not-is_optional-clause-err : goal.returns-else-not-is_optional-clause-err
+returns-else-not-is_optional-clause-err c = tt
+
+pub returns-else-not-is_optional-clause-told : goal.returns-else-not-is_optional-clause-told
+returns-else-not-is_optional-clause-told c = tt
+
+pub returns-else-not-is_optional-clause-next : goal.returns-else-not-is_optional-clause-next
+returns-else-not-is_optional-clause-next c = refl
+
+pub returns-else-not-is_optional-clause-steps : goal.returns-else-not-is_optional-clause-steps
+returns-else-not-is_optional-clause-steps c = refl
+
+pub returns-in-Neither-clause-ok : goal.returns-in-Neither-clause-ok
+returns-in-Neither-clause-ok c = tt
+
+pub returns-in-Neither-clause-state : goal.returns-in-Neither-clause-state
+returns-in-Neither-clause-state c = tt
+
+pub returns-in-Neither-clause-next : goal.returns-in-Neither-clause-next
+returns-in-Neither-clause-next c = refl
+
+pub returns-in-Neither-clause-steps : goal.returns-in-Neither-clause-steps
+returns-in-Neither-clause-steps c = refl
+
+pub returns-else-not-is_allowed-clause-err : goal.returns-else-not-is_allowed-clause-err
+returns-else-not-is_allowed-clause-err c = tt
+
+pub returns-else-not-is_allowed-clause-told : goal.returns-else-not-is_allowed-clause-told
+returns-else-not-is_allowed-clause-told c = tt
+
+pub returns-else-not-is_allowed-clause-next : goal.returns-else-not-is_allowed-clause-next
+returns-else-not-is_allowed-clause-next c = refl
+
+pub returns-else-not-is_allowed-clause-steps : goal.returns-else-not-is_allowed-clause-steps
+returns-else-not-is_allowed-clause-steps c = refl

@@ -1,3 +1,4 @@
+use Rattle.fidl_decode.proofs.Unchanged.{no_ok}
 use Rattle.std.proofs.Common.{◌≡◌, ◌+◌, ◌≤◌, sym, ap, subst, ◌∙◌, arith}
 use Rattle.std.specs.Prelude.{Some, None}
 use Rattle.fidl_wire.specs.Term as ty
@@ -224,3 +225,93 @@ returns-clause-pays c =
 pub returns-then-pass_member-clause-ok : goal.returns-then-pass_member-clause-ok
 returns-then-pass_member-clause-ok c =
     c.pass_member.ensures.passed c.if-pass_member.true
+
+pub pass_member-requires-clause-table : goal.pass_member-requires-clause-table
+pass_member-requires-clause-table c = c.requires.table
+
+pub pass_member-requires-clause-entry : goal.pass_member-requires-clause-entry
+pass_member-requires-clause-entry c = c.requires.entry
+
+pub pass_member-requires-clause-short : goal.pass_member-requires-clause-short
+pass_member-requires-clause-short c = c.requires.short
+
+pub pass_member-requires-clause-room : goal.pass_member-requires-clause-room
+pass_member-requires-clause-room c = c.requires.room
+
+pub pass_member-requires-clause-state : goal.pass_member-requires-clause-state
+pass_member-requires-clause-state c = c.requires.state
+
+pub pass_member-requires-clause-depth : goal.pass_member-requires-clause-depth
+pass_member-requires-clause-depth c = c.requires.depth
+
+pub returns-then-pass_member-clause-err : goal.returns-then-pass_member-clause-err
+returns-then-pass_member-clause-err c = tt
+
+pub returns-then-pass_member-clause-told : goal.returns-then-pass_member-clause-told
+returns-then-pass_member-clause-told c = tt
+
+pub entry-e-requires : goal.entry-e-requires
+entry-e-requires c = c.requires.entry
+
+pub is_flat-requires-clause-table : goal.is_flat-requires-clause-table
+is_flat-requires-clause-table c = c.requires.table
+
+pub read_enclosed-requires-clause-table : goal.read_enclosed-requires-clause-table
+read_enclosed-requires-clause-table c = c.requires.table
+
+pub read_enclosed-requires-clause-entry : goal.read_enclosed-requires-clause-entry
+read_enclosed-requires-clause-entry c = c.requires.entry
+
+pub read_enclosed-requires-clause-short : goal.read_enclosed-requires-clause-short
+read_enclosed-requires-clause-short c = c.requires.short
+
+pub read_enclosed-requires-clause-room : goal.read_enclosed-requires-clause-room
+read_enclosed-requires-clause-room c = c.requires.room
+
+pub read_enclosed-requires-clause-depth : goal.read_enclosed-requires-clause-depth
+read_enclosed-requires-clause-depth c = c.requires.depth
+
+pub returns-in_err-read_enclosed-clause-ok : goal.returns-in_err-read_enclosed-clause-ok
+returns-in_err-read_enclosed-clause-ok c = no_ok c.from_residual.result c.in_err-read_enclosed.field-0.0 _ c.from_residual.ensures.1
+
+pub returns-in_err-read_enclosed-clause-pays : goal.returns-in_err-read_enclosed-clause-pays
+returns-in_err-read_enclosed-clause-pays c = no_ok c.from_residual.result c.in_err-read_enclosed.field-0.0 _ c.from_residual.ensures.1
+
+pub returns-in_err-read_enclosed-clause-grows : goal.returns-in_err-read_enclosed-clause-grows
+returns-in_err-read_enclosed-clause-grows c = no_ok c.from_residual.result c.in_err-read_enclosed.field-0.0 _ c.from_residual.ensures.1
+
+pub returns-then-is_flat-clause-err : goal.returns-then-is_flat-clause-err
+returns-then-is_flat-clause-err c = tt
+
+pub returns-then-is_flat-clause-told : goal.returns-then-is_flat-clause-told
+returns-then-is_flat-clause-told c = tt
+
+pub enter_member-requires-clause-table : goal.enter_member-requires-clause-table
+enter_member-requires-clause-table c = c.requires.table
+
+pub enter_member-requires-clause-entry : goal.enter_member-requires-clause-entry
+enter_member-requires-clause-entry c = c.requires.entry
+
+pub enter_member-requires-clause-short : goal.enter_member-requires-clause-short
+enter_member-requires-clause-short c = c.requires.short
+
+pub enter_member-requires-clause-room : goal.enter_member-requires-clause-room
+enter_member-requires-clause-room c = c.requires.room
+
+pub enter_member-requires-clause-depth : goal.enter_member-requires-clause-depth
+enter_member-requires-clause-depth c = c.requires.depth
+
+pub returns-in_err-frame-clause-ok : goal.returns-in_err-frame-clause-ok
+returns-in_err-frame-clause-ok c = no_ok c.from_residual-in_err-frame.result c.in_err-frame.field-0.0 _ c.from_residual-in_err-frame.ensures.1
+
+pub returns-in_err-frame-clause-pays : goal.returns-in_err-frame-clause-pays
+returns-in_err-frame-clause-pays c = no_ok c.from_residual-in_err-frame.result c.in_err-frame.field-0.0 _ c.from_residual-in_err-frame.ensures.1
+
+pub returns-in_err-frame-clause-grows : goal.returns-in_err-frame-clause-grows
+returns-in_err-frame-clause-grows c = no_ok c.from_residual-in_err-frame.result c.in_err-frame.field-0.0 _ c.from_residual-in_err-frame.ensures.1
+
+pub returns-clause-err : goal.returns-clause-err
+returns-clause-err c = tt
+
+pub returns-clause-told : goal.returns-clause-told
+returns-clause-told c = tt

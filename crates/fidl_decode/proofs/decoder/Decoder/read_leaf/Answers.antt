@@ -1,4 +1,5 @@
-use Rattle.std.proofs.Common.{arith}
+use Rattle.fidl_decode.proofs.Unchanged.{same_le}
+use Rattle.std.proofs.Common.{arith, ◌≡◌, sym, ap, subst, ◌∙◌}
 use Rattle.fidl_decode.specs.Machine.{at_of, Visits, Leads}
 use Rattle.fidl_decode.specs.Faults.{message_of}
 use Rattle.std.proofs.Common.{◌-◌, ◌+◌, ◌≤◌, IsTrue, length, sym, subst, ap, ◌∙◌, ◌≡◌}
@@ -171,3 +172,69 @@ read_enum-requires-clause-room c =
     let is : kind_of (entry_at c.args.self.now.table.now c.args.entry).kind ≡ Some Enum = c.requires.kind ∙ ap (λ (k : EntryKind). Some k) c.in-Enum.is in
     let size : byte_len (width (underlying (entry_at c.args.self.now.table.now c.args.entry))) ≡ (entry_at c.args.self.now.table.now c.args.entry).size = size_as c.args.self.now.table.now c.requires.table c.args.entry Enum c.requires.entry is in
     subst (λ (d : Entry). c.args.place + byte_len (width (underlying d)) ≤ length c.args.self.now.bytes.now) (sym c.entry-in-Enum.ensures.value) (omega (arith, c.requires.room, size))
+
+pub returns-then-self-place-gt1-clause-ok : goal.returns-then-self-place-gt1-clause-ok
+returns-then-self-place-gt1-clause-ok c = tt
+
+pub returns-then-self-place-gt1-clause-grows : goal.returns-then-self-place-gt1-clause-grows
+returns-then-self-place-gt1-clause-grows c = same_le _
+
+pub entry-requires : goal.entry-requires
+entry-requires c = c.requires.entry
+
+pub entry-requires-in-Enum : goal.entry-requires-in-Enum
+entry-requires-in-Enum c = c.requires.entry
+
+pub read_enum-requires-clause-budget : goal.read_enum-requires-clause-budget
+read_enum-requires-clause-budget c = c.requires.budget
+
+pub entry-requires-in-Handle : goal.entry-requires-in-Handle
+entry-requires-in-Handle c = c.requires.entry
+
+pub read_handle-requires-clause-short : goal.read_handle-requires-clause-short
+read_handle-requires-clause-short c = c.requires.short
+
+pub read_handle-requires-clause-depth : goal.read_handle-requires-clause-depth
+read_handle-requires-clause-depth c = c.requires.depth
+
+pub read_handle-requires-clause-state : goal.read_handle-requires-clause-state
+read_handle-requires-clause-state c = c.requires.state
+
+pub entry-requires-in-String : goal.entry-requires-in-String
+entry-requires-in-String c = c.requires.entry
+
+pub read_text-requires-clause-short : goal.read_text-requires-clause-short
+read_text-requires-clause-short c = c.requires.short
+
+pub read_text-requires-clause-depth : goal.read_text-requires-clause-depth
+read_text-requires-clause-depth c = c.requires.depth
+
+pub read_text-requires-clause-state : goal.read_text-requires-clause-state
+read_text-requires-clause-state c = c.requires.state
+
+pub read_text-requires-clause-budget : goal.read_text-requires-clause-budget
+read_text-requires-clause-budget c = c.requires.budget
+
+pub returns-else-self-place-gt1-clause-err : goal.returns-else-self-place-gt1-clause-err
+returns-else-self-place-gt1-clause-err c = tt
+
+pub returns-else-self-place-gt1-clause-told : goal.returns-else-self-place-gt1-clause-told
+returns-else-self-place-gt1-clause-told c = tt
+
+pub returns-else-self-place-gt1-clause-grows : goal.returns-else-self-place-gt1-clause-grows
+returns-else-self-place-gt1-clause-grows c = same_le _
+
+pub returns-in-Bits-clause-grows : goal.returns-in-Bits-clause-grows
+returns-in-Bits-clause-grows c = same_le _
+
+pub returns-in-String-clause-grows : goal.returns-in-String-clause-grows
+returns-in-String-clause-grows c = c.read_text.ensures.grows
+
+pub returns-in_default-clause-err : goal.returns-in_default-clause-err
+returns-in_default-clause-err c = tt
+
+pub returns-in_default-clause-told : goal.returns-in_default-clause-told
+returns-in_default-clause-told c = tt
+
+pub returns-in_default-clause-grows : goal.returns-in_default-clause-grows
+returns-in_default-clause-grows c = same_le _

@@ -1,3 +1,4 @@
+use Rattle.fidl_decode.proofs.Unchanged.{no_ok}
 use Rattle.std.proofs.Common.{sym, subst, arith}
 use Rattle.std.specs.Prelude.{Option, None, OnErr, IfErr, IfOk}
 use Rattle.fidl_records.specs.declared.record.Row as raw
@@ -61,3 +62,51 @@ returns-clause-told c =
     let m = message_of c.args.self.now.bytes.now c.args.self.now.handles.now in
     let old = at_of c.args.state.now in
     subst (λ (r : Option raw.Row). IfErr c.read_known.result (BreaksMember (declarations_of t) m c.args.depth (member_term r) c.args.envelope old)) (sym c.in-Some.is) c.read_known.ensures.told
+
+pub skip_member-requires-clause-table : goal.skip_member-requires-clause-table
+skip_member-requires-clause-table c = c.requires.table
+
+pub skip_member-requires-clause-short : goal.skip_member-requires-clause-short
+skip_member-requires-clause-short c = c.requires.short
+
+pub skip_member-requires-clause-room : goal.skip_member-requires-clause-room
+skip_member-requires-clause-room c = c.requires.room
+
+pub skip_member-requires-clause-state : goal.skip_member-requires-clause-state
+skip_member-requires-clause-state c = c.requires.state
+
+pub skip_member-requires-clause-depth : goal.skip_member-requires-clause-depth
+skip_member-requires-clause-depth c = c.requires.depth
+
+pub returns-in_err-skip_member-clause-ok : goal.returns-in_err-skip_member-clause-ok
+returns-in_err-skip_member-clause-ok c = no_ok c.from_residual.result c.in_err-skip_member.field-0.0 _ c.from_residual.ensures.1
+
+pub returns-in_err-skip_member-clause-pays : goal.returns-in_err-skip_member-clause-pays
+returns-in_err-skip_member-clause-pays c = no_ok c.from_residual.result c.in_err-skip_member.field-0.0 _ c.from_residual.ensures.1
+
+pub returns-in_err-skip_member-clause-grows : goal.returns-in_err-skip_member-clause-grows
+returns-in_err-skip_member-clause-grows c = no_ok c.from_residual.result c.in_err-skip_member.field-0.0 _ c.from_residual.ensures.1
+
+pub returns-in_default-clause-err : goal.returns-in_default-clause-err
+returns-in_default-clause-err c = tt
+
+pub returns-in_default-clause-told : goal.returns-in_default-clause-told
+returns-in_default-clause-told c = tt
+
+pub read_known-requires-clause-table : goal.read_known-requires-clause-table
+read_known-requires-clause-table c = c.requires.table
+
+pub read_known-requires-clause-short : goal.read_known-requires-clause-short
+read_known-requires-clause-short c = c.requires.short
+
+pub read_known-requires-clause-room : goal.read_known-requires-clause-room
+read_known-requires-clause-room c = c.requires.room
+
+pub read_known-requires-clause-state : goal.read_known-requires-clause-state
+read_known-requires-clause-state c = c.requires.state
+
+pub read_known-requires-clause-depth : goal.read_known-requires-clause-depth
+read_known-requires-clause-depth c = c.requires.depth
+
+pub read_known-requires-clause-budget : goal.read_known-requires-clause-budget
+read_known-requires-clause-budget c = c.requires.budget

@@ -1,4 +1,6 @@
-use Rattle.std.proofs.Common.{◌≡◌, ◌+◌, ◌-◌, sym, ap, subst, ◌∙◌, arith}
+use Rattle.fidl_decode.proofs.Unchanged.{no_ok}
+use Rattle.fidl_decode.proofs.Fitting.{budget_on, cost_on, cost_now, grows_on, rises_on, first_in, some_left, smaller_on, next_fits}
+use Rattle.std.proofs.Common.{◌≡◌, ◌+◌, ◌-◌, sym, ap, subst, ◌∙◌, arith, refl, ◌≤◌, ◌<◌, ◌^◌, []}
 use Rattle.std.specs.Prelude.{Option, Some, None}
 use Rattle.fidl_records.specs.declared.record.Row as raw
 use Rattle.fidl_records.specs.declared.record.Entry.{Entry}
@@ -7,7 +9,7 @@ use Rattle.fidl_records.specs.Section.{header_of, entry_at, row_at}
 use Rattle.fidl_decode.specs.declared.frame.Frame.{Frame}
 use Rattle.fidl_decode.specs.declared.frame.Left.TheVariants.{Rows}
 use Rattle.fidl_decode.specs.State.{At}
-use Rattle.fidl_decode.specs.Machine.{Reads, Turns, at_of}
+use Rattle.fidl_decode.specs.Machine.{Reads, Turns, at_of, turn_work, IsPlain, rows_left}
 use Rattle.fidl_decode.specs.Faults.{message_of}
 use Rattle.fidl_decode.proofs.Turning.{on_err, passed_on}
 use Rattle.fidl_decode.proofs.Leaves.{going_on, same_frame, left_over, turns_then, turns_refused, turns_break}
@@ -404,3 +406,200 @@ returns-clause-ok c =
     let all = c.end_rows.new.state.steps - c.args.state.now.steps in
     let rises = c.in_ok-end_rows.ensures.rises in
     turns_then t m f old now a rest so_far new spent all (left_over None) (omega (arith, begun, rises)) c.in_ok-end_rows.ensures.ok
+
+pub rows-rows-requires : goal.rows-rows-requires
+rows-rows-requires c = tt
+
+pub rows_from-rest-requires : goal.rows_from-rest-requires
+rows_from-rest-requires c = tt
+
+pub is_leaf-requires : goal.is_leaf-requires
+is_leaf-requires c = tt
+
+pub rows_from-requires : goal.rows_from-requires
+rows_from-requires c = tt
+
+pub row-row-requires : goal.row-row-requires
+row-row-requires c = first_in c.loop-many.next c.loop-many.many _ c.loop-many.invariant.turns.rest_fine.0.left c.loop-many-test.true
+
+pub entry-e-requires : goal.entry-e-requires
+entry-e-requires c = c.row-row.ensures.entry
+
+pub read_row-requires-clause-table : goal.read_row-requires-clause-table
+read_row-requires-clause-table c = c.requires.table
+
+pub read_row-requires-clause-short : goal.read_row-requires-clause-short
+read_row-requires-clause-short c = c.requires.short
+
+pub read_row-requires-clause-left : goal.read_row-requires-clause-left
+read_row-requires-clause-left c = ap (λ (x : Frame). x.left) c.rows_from-rest.ensures
+
+pub read_row-requires-clause-some : goal.read_row-requires-clause-some
+read_row-requires-clause-some c = some_left c.loop-many.many c.loop-many-test.true
+
+pub read_row-requires-clause-kind : goal.read_row-requires-clause-kind
+read_row-requires-clause-kind c = ap (λ (w : raw.Row). kind_of (entry_at c.args.self.now.table.now w.entry).kind) (sym c.row-row.ensures.value) ∙ ap (λ (e : Entry). kind_of e.kind) (sym c.entry-e.ensures.value) ∙ sym c.from_number.ensures ∙ c.in-Some.is
+
+pub read_row-requires-clause-leaf : goal.read_row-requires-clause-leaf
+read_row-requires-clause-leaf c = sym c.is_leaf.ensures ∙ c.if-is_leaf.true
+
+pub read_row-requires-clause-state : goal.read_row-requires-clause-state
+read_row-requires-clause-state c = c.loop-many.invariant.turns.state
+
+pub read_row-requires-clause-budget : goal.read_row-requires-clause-budget
+read_row-requires-clause-budget c = subst (λ (x : Frame). c.loop-many.state.steps + turn_work c.args.self.now.bytes.now c.loop-many.state.next x < 2 ^ 40) (sym c.rows_from-rest.ensures) (budget_on _ _ _ c.args.state.now.steps c.loop-many.state.steps (2 ^ 40) c.loop-many.invariant.steps c.loop-many.invariant.turns.less c.requires.budget)
+
+pub ends_in_box-requires-clause-table : goal.ends_in_box-requires-clause-table
+ends_in_box-requires-clause-table c = c.requires.table
+
+pub ends_in_box-requires-clause-within : goal.ends_in_box-requires-clause-within
+ends_in_box-requires-clause-within c = c.loop-many.invariant.turns.rest_fine.0.left
+
+pub returns-then-not-ends_in_box-clause-ok : goal.returns-then-not-ends_in_box-clause-ok
+returns-then-not-ends_in_box-clause-ok c = subst (λ (x : Frame). Turns c.args.self.now.table.now (message_of c.args.self.now.bytes.now c.args.self.now.handles.now) c.args.frame (at_of c.args.state.now) (at_of c.loop-many.state) (c.loop-many.state.steps - c.args.state.now.steps) (left_over (Some x))) (sym c.rows_from-rest.ensures) c.loop-many.invariant.turns
+
+pub returns-then-not-ends_in_box-clause-grows : goal.returns-then-not-ends_in_box-clause-grows
+returns-then-not-ends_in_box-clause-grows c = c.loop-many.invariant.steps
+
+pub returns-then-not-ends_in_box-clause-ended : goal.returns-then-not-ends_in_box-clause-ended
+returns-then-not-ends_in_box-clause-ended c = tt
+
+pub returns-then-not-ends_in_box-clause-cost : goal.returns-then-not-ends_in_box-clause-cost
+returns-then-not-ends_in_box-clause-cost c = cost_now _ _ _ c.args.state.now.steps c.loop-many.state.steps c.loop-many.invariant.steps c.loop-many.invariant.turns.less
+
+pub returns-then-not-ends_in_box-clause-err : goal.returns-then-not-ends_in_box-clause-err
+returns-then-not-ends_in_box-clause-err c = tt
+
+pub returns-then-not-ends_in_box-clause-told : goal.returns-then-not-ends_in_box-clause-told
+returns-then-not-ends_in_box-clause-told c = tt
+
+pub enter_box-requires-clause-table : goal.enter_box-requires-clause-table
+enter_box-requires-clause-table c = c.requires.table
+
+pub enter_box-requires-clause-short : goal.enter_box-requires-clause-short
+enter_box-requires-clause-short c = c.requires.short
+
+pub enter_box-requires-clause-state : goal.enter_box-requires-clause-state
+enter_box-requires-clause-state c = c.loop-many.invariant.turns.state
+
+pub enter_box-requires-clause-budget : goal.enter_box-requires-clause-budget
+enter_box-requires-clause-budget c = subst (λ (x : Frame). c.loop-many.state.steps + turn_work c.args.self.now.bytes.now c.loop-many.state.next x < 2 ^ 40) (sym c.rows_from-rest.ensures) (budget_on _ _ _ c.args.state.now.steps c.loop-many.state.steps (2 ^ 40) c.loop-many.invariant.steps c.loop-many.invariant.turns.less c.requires.budget)
+
+pub pass_known-content-requires-clause-short : goal.pass_known-content-requires-clause-short
+pass_known-content-requires-clause-short c = c.requires.short
+
+pub pass_known-content-requires-clause-known : goal.pass_known-content-requires-clause-known
+pass_known-content-requires-clause-known c = c.requires.known
+
+pub end_rows-requires-clause-table : goal.end_rows-requires-clause-table
+end_rows-requires-clause-table c = c.requires.table
+
+pub end_rows-requires-clause-short : goal.end_rows-requires-clause-short
+end_rows-requires-clause-short c = c.requires.short
+
+pub end_rows-requires-clause-plain : goal.end_rows-requires-clause-plain
+end_rows-requires-clause-plain c = subst (λ (x : Frame). IsPlain x.left) (sym c.rows_from.ensures) tt
+
+pub end_rows-requires-clause-over : goal.end_rows-requires-clause-over
+end_rows-requires-clause-over c = subst (λ (x : Frame). rows_left c.args.self.now.table.now x.done x.left ≡ []) (sym c.rows_from.ensures) refl
+
+pub end_rows-requires-clause-state : goal.end_rows-requires-clause-state
+end_rows-requires-clause-state c = c.loop-many.invariant.turns.state
+
+pub end_rows-requires-clause-budget : goal.end_rows-requires-clause-budget
+end_rows-requires-clause-budget c = subst (λ (x : Frame). c.loop-many.state.steps + turn_work c.args.self.now.bytes.now c.loop-many.state.next x < 2 ^ 40) (sym c.rows_from.ensures) (budget_on _ _ _ c.args.state.now.steps c.loop-many.state.steps (2 ^ 40) c.loop-many.invariant.steps c.loop-many.invariant.turns.less c.requires.budget)
+
+pub returns-in_default-2-clause-grows : goal.returns-in_default-2-clause-grows
+returns-in_default-2-clause-grows c = grows_on _ _ _ c.loop-many.invariant.steps c.in_ok-below.ensures.rises
+
+pub returns-in_default-2-clause-ended : goal.returns-in_default-2-clause-ended
+returns-in_default-2-clause-ended c = rises_on _ _ _ c.loop-many.invariant.steps c.in_ok-below.ensures.rises
+
+pub returns-in_default-2-clause-cost : goal.returns-in_default-2-clause-cost
+returns-in_default-2-clause-cost c = cost_on _ _ _ c.args.state.now.steps c.loop-many.state.steps c.enter_box.new.state.steps c.loop-many.invariant.steps c.loop-many.invariant.turns.less (subst (λ (x : Frame). c.enter_box.new.state.steps ≤ c.loop-many.state.steps + turn_work c.args.self.now.bytes.now c.loop-many.state.next x) c.rows_from-rest.ensures c.in_ok-below.ensures.cost)
+
+pub returns-in_default-2-clause-err : goal.returns-in_default-2-clause-err
+returns-in_default-2-clause-err c = tt
+
+pub returns-in_default-2-clause-told : goal.returns-in_default-2-clause-told
+returns-in_default-2-clause-told c = tt
+
+pub returns-clause-grows : goal.returns-clause-grows
+returns-clause-grows c = grows_on _ _ _ c.loop-many.invariant.steps c.in_ok-end_rows.ensures.rises
+
+pub returns-clause-ended : goal.returns-clause-ended
+returns-clause-ended c = rises_on _ _ _ c.loop-many.invariant.steps c.in_ok-end_rows.ensures.rises
+
+pub returns-clause-cost : goal.returns-clause-cost
+returns-clause-cost c = cost_on _ _ _ c.args.state.now.steps c.loop-many.state.steps c.end_rows.new.state.steps c.loop-many.invariant.steps c.loop-many.invariant.turns.less (subst (λ (x : Frame). c.end_rows.new.state.steps ≤ c.loop-many.state.steps + turn_work c.args.self.now.bytes.now c.loop-many.state.next x) c.rows_from.ensures c.in_ok-end_rows.ensures.cost)
+
+pub returns-clause-err : goal.returns-clause-err
+returns-clause-err c = tt
+
+pub returns-clause-told : goal.returns-clause-told
+returns-clause-told c = tt
+
+pub returns-in_err-read_row-clause-ok : goal.returns-in_err-read_row-clause-ok
+returns-in_err-read_row-clause-ok c = no_ok c.from_residual.result c.in_err-read_row.field-0.0 _ c.from_residual.ensures.1
+
+pub returns-in_err-read_row-clause-grows : goal.returns-in_err-read_row-clause-grows
+returns-in_err-read_row-clause-grows c = no_ok c.from_residual.result c.in_err-read_row.field-0.0 _ c.from_residual.ensures.1
+
+pub returns-in_err-read_row-clause-ended : goal.returns-in_err-read_row-clause-ended
+returns-in_err-read_row-clause-ended c = no_ok c.from_residual.result c.in_err-read_row.field-0.0 _ c.from_residual.ensures.1
+
+pub returns-in_err-read_row-clause-cost : goal.returns-in_err-read_row-clause-cost
+returns-in_err-read_row-clause-cost c = cost_on _ _ _ c.args.state.now.steps c.loop-many.state.steps c.read_row.new.state.steps c.loop-many.invariant.steps c.loop-many.invariant.turns.less (subst (λ (x : Frame). c.read_row.new.state.steps ≤ c.loop-many.state.steps + turn_work c.args.self.now.bytes.now c.loop-many.state.next x) c.rows_from-rest.ensures c.in_err-read_row.ensures.cost)
+
+pub returns-in_err-below-clause-ok : goal.returns-in_err-below-clause-ok
+returns-in_err-below-clause-ok c = no_ok c.from_residual-in_err-below.result c.in_err-below.field-0.0 _ c.from_residual-in_err-below.ensures.1
+
+pub returns-in_err-below-clause-grows : goal.returns-in_err-below-clause-grows
+returns-in_err-below-clause-grows c = no_ok c.from_residual-in_err-below.result c.in_err-below.field-0.0 _ c.from_residual-in_err-below.ensures.1
+
+pub returns-in_err-below-clause-ended : goal.returns-in_err-below-clause-ended
+returns-in_err-below-clause-ended c = no_ok c.from_residual-in_err-below.result c.in_err-below.field-0.0 _ c.from_residual-in_err-below.ensures.1
+
+pub returns-in_err-below-clause-cost : goal.returns-in_err-below-clause-cost
+returns-in_err-below-clause-cost c = cost_on _ _ _ c.args.state.now.steps c.loop-many.state.steps c.enter_box.new.state.steps c.loop-many.invariant.steps c.loop-many.invariant.turns.less (subst (λ (x : Frame). c.enter_box.new.state.steps ≤ c.loop-many.state.steps + turn_work c.args.self.now.bytes.now c.loop-many.state.next x) c.rows_from-rest.ensures c.in_err-below.ensures.cost)
+
+pub returns-in_err-end_rows-clause-ok : goal.returns-in_err-end_rows-clause-ok
+returns-in_err-end_rows-clause-ok c = no_ok c.from_residual-in_err-end_rows.result c.in_err-end_rows.field-0.0 _ c.from_residual-in_err-end_rows.ensures.1
+
+pub returns-in_err-end_rows-clause-grows : goal.returns-in_err-end_rows-clause-grows
+returns-in_err-end_rows-clause-grows c = no_ok c.from_residual-in_err-end_rows.result c.in_err-end_rows.field-0.0 _ c.from_residual-in_err-end_rows.ensures.1
+
+pub returns-in_err-end_rows-clause-ended : goal.returns-in_err-end_rows-clause-ended
+returns-in_err-end_rows-clause-ended c = no_ok c.from_residual-in_err-end_rows.result c.in_err-end_rows.field-0.0 _ c.from_residual-in_err-end_rows.ensures.1
+
+pub returns-in_err-end_rows-clause-cost : goal.returns-in_err-end_rows-clause-cost
+returns-in_err-end_rows-clause-cost c = cost_on _ _ _ c.args.state.now.steps c.loop-many.state.steps c.end_rows.new.state.steps c.loop-many.invariant.steps c.loop-many.invariant.turns.less (subst (λ (x : Frame). c.end_rows.new.state.steps ≤ c.loop-many.state.steps + turn_work c.args.self.now.bytes.now c.loop-many.state.next x) c.rows_from.ensures c.in_err-end_rows.ensures.cost)
+
+pub overflow_sub-many : goal.overflow_sub-many
+overflow_sub-many c = some_left c.loop-many.many c.loop-many-test.true
+
+pub overflow_add-next : goal.overflow_add-next
+overflow_add-next c = record { fits = next_fits c.loop-many.next c.loop-many.many _ c.rows-rows.result _ c.loop-many.invariant.turns.rest_fine.0.left c.rows-rows.ensures.value c.rows-rows.type_inv c.loop-many-test.true }
+
+pub loop-many-smaller-then-is_leaf : goal.loop-many-smaller-then-is_leaf
+loop-many-smaller-then-is_leaf c =
+    let t = c.args.self.now.table.now in
+    let m = message_of c.args.self.now.bytes.now c.args.self.now.handles.now in
+    let f = c.args.frame in
+    let old = at_of c.args.state.now in
+    let now = at_of c.loop-many.state in
+    let a = c.loop-many.state.steps - c.args.state.now.steps in
+    let begun = c.loop-many.invariant.steps in
+    let rest = c.rows_from-rest.result in
+    let same = c.rows_from-rest.ensures in
+    let so_far = subst (λ (x : Frame). Turns t m f old now a (left_over (Some x))) (sym same) c.loop-many.invariant.turns in
+    let less = so_far.less in
+    let g = going_on c.loop-many.holder (Rows c.loop-many.next c.loop-many.many) c.loop-many.done in
+    let new = at_of c.read_row.new.state in
+    let spent = c.read_row.new.state.steps - c.loop-many.state.steps in
+    let rows = Rows (c.loop-many.next + 1) (c.loop-many.many - 1) in
+    let size : (row_at t (header_of t) c.loop-many.next).key + (entry_at t (row_at t (header_of t) c.loop-many.next).entry).size ≡ c.row-row.result.key + c.entry-e.result.size = ap (λ (w : raw.Row). w.key + (entry_at t w.entry).size) (sym c.row-row.ensures.value) ∙ ap (λ (e : Entry). c.row-row.result.key + e.size) (sym c.entry-e.ensures.value) in
+    let one = subst (λ (x : Frame). Turns t m x now new spent (left_over (Some (going_on x rows ((row_at t (header_of t) c.loop-many.next).key + (entry_at t (row_at t (header_of t) c.loop-many.next).entry).size))))) same c.in_ok-read_row.ensures.ok in
+    let two = subst (λ d. Turns t m g now new spent (left_over (Some (going_on c.loop-many.holder rows d)))) size one in
+    let rises = c.in_ok-read_row.ensures.rises in
+    smaller_on _ _ _ c.loop-many.state.steps c.read_row.new.state.steps two.less rises

@@ -1,3 +1,4 @@
+use Rattle.fidl_decode.proofs.Unchanged.{no_ok}
 use Rattle.std.proofs.Common.{◌≡◌, ◌+◌, ◌-◌, ◌≤◌, ap, subst, ◌∙◌, arith}
 use Rattle.std.specs.Prelude.{Some}
 use Rattle.fidl_records.specs.declared.record.Row as raw
@@ -133,3 +134,27 @@ returns-clause-cost c =
     let m = message_of c.args.self.now.bytes.now c.args.self.now.handles.now in
     let room = front_room t c.requires.table m c.args.frame c.args.first c.args.count c.row-row.result c.requires.left c.requires.some c.row-row.ensures.value (at_of c.args.state.now) c.requires.frame c.requires.state in
     omega (arith, room.3, room.0, c.in_ok-read_leaf.ensures.probes)
+
+pub read_leaf-requires-clause-table : goal.read_leaf-requires-clause-table
+read_leaf-requires-clause-table c = c.requires.table
+
+pub read_leaf-requires-clause-leaf : goal.read_leaf-requires-clause-leaf
+read_leaf-requires-clause-leaf c = c.requires.leaf
+
+pub read_leaf-requires-clause-short : goal.read_leaf-requires-clause-short
+read_leaf-requires-clause-short c = c.requires.short
+
+pub read_leaf-requires-clause-state : goal.read_leaf-requires-clause-state
+read_leaf-requires-clause-state c = c.requires.state
+
+pub returns-clause-err : goal.returns-clause-err
+returns-clause-err c = tt
+
+pub returns-clause-told : goal.returns-clause-told
+returns-clause-told c = tt
+
+pub returns-in_err-zeros_at-clause-ok : goal.returns-in_err-zeros_at-clause-ok
+returns-in_err-zeros_at-clause-ok c = no_ok c.from_residual.result c.in_err-zeros_at.field-0.0 _ c.from_residual.ensures.1
+
+pub returns-in_err-read_leaf-clause-ok : goal.returns-in_err-read_leaf-clause-ok
+returns-in_err-read_leaf-clause-ok c = no_ok c.from_residual-in_err-read_leaf.result c.in_err-read_leaf.field-0.0 _ c.from_residual-in_err-read_leaf.ensures.1

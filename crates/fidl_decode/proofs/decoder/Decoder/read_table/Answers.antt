@@ -1,3 +1,5 @@
+use Rattle.fidl_decode.proofs.Fitting.{le_more, eq_le, eq_more, grows_thrice}
+use Rattle.fidl_decode.proofs.Unchanged.{no_ok}
 use Rattle.std.proofs.Common.{◌+◌, ◌-◌, subst, arith}
 use Rattle.std.specs.Prelude.{Some}
 use Rattle.fidl_decode.specs.declared.frame.Frame.{Frame}
@@ -5,7 +7,7 @@ use Rattle.fidl_decode.specs.Faults.{message_of}
 use Rattle.fidl_decode.specs.Body.{rest_of}
 use Rattle.fidl_decode.specs.Machine.{Visits, VisitFine, at_of, height}
 use Rattle.fidl_decode.proofs.Leaves.{left_over, turns_then}
-use Rattle.fidl_decode.proofs.Turning.{fine_from}
+use Rattle.fidl_decode.proofs.Turning.{fine_from, passed_on}
 use Rattle.fidl_decode.proofs.BodyTurns.{body_start, visits_on}
 use Rattle.fidl_decode.proofs.decoder.Decoder.read_table.Goals as goal
 
@@ -44,3 +46,96 @@ returns-clause-fine c =
     let more = c.left_of.ensures.grows in
     let run = turns_then t m (rest_of body 0) (at_of mid) (at_of now) (now.steps - mid.steps) (rest_of body c.pass_front-read.result) c.pass_front-read.ensures.turns (at_of new) (new.steps - now.steps) (new.steps - mid.steps) (left_over c.left_of.result) (omega (arith, grows, more)) c.left_of.ensures.turns in
     fine_from t m.bytes (height (rest_of body 0)) _ c.left_of.result fine.1 run.rest_fine
+
+pub open_table-requires-clause-table : goal.open_table-requires-clause-table
+open_table-requires-clause-table c = c.requires.table
+
+pub open_table-requires-clause-entry : goal.open_table-requires-clause-entry
+open_table-requires-clause-entry c = c.requires.entry
+
+pub open_table-requires-clause-kind : goal.open_table-requires-clause-kind
+open_table-requires-clause-kind c = c.requires.kind
+
+pub open_table-requires-clause-short : goal.open_table-requires-clause-short
+open_table-requires-clause-short c = c.requires.short
+
+pub open_table-requires-clause-room : goal.open_table-requires-clause-room
+open_table-requires-clause-room c = c.requires.room
+
+pub open_table-requires-clause-state : goal.open_table-requires-clause-state
+open_table-requires-clause-state c = c.requires.state
+
+pub open_table-requires-clause-depth : goal.open_table-requires-clause-depth
+open_table-requires-clause-depth c = c.requires.depth
+
+pub overflow_add-depth : goal.overflow_add-depth
+overflow_add-depth c = record { fits = omega arith }
+
+pub body_of-body-requires-clause-table : goal.body_of-body-requires-clause-table
+body_of-body-requires-clause-table c = c.requires.table
+
+pub body_of-body-requires-clause-entry : goal.body_of-body-requires-clause-entry
+body_of-body-requires-clause-entry c = c.requires.entry
+
+pub body_of-body-requires-clause-kind : goal.body_of-body-requires-clause-kind
+body_of-body-requires-clause-kind c = c.requires.kind
+
+pub pass_front-read-requires-clause-table : goal.pass_front-read-requires-clause-table
+pass_front-read-requires-clause-table c = c.requires.table
+
+pub pass_front-read-requires-clause-short : goal.pass_front-read-requires-clause-short
+pass_front-read-requires-clause-short c = c.requires.short
+
+pub pass_front-read-requires-clause-budget : goal.pass_front-read-requires-clause-budget
+pass_front-read-requires-clause-budget c = omega arith
+
+pub left_of-requires-clause-table : goal.left_of-requires-clause-table
+left_of-requires-clause-table c = c.requires.table
+
+pub left_of-requires-clause-order : goal.left_of-requires-clause-order
+left_of-requires-clause-order c = omega arith
+
+pub left_of-requires-clause-short : goal.left_of-requires-clause-short
+left_of-requires-clause-short c = c.requires.short
+
+pub left_of-requires-clause-state : goal.left_of-requires-clause-state
+left_of-requires-clause-state c = omega arith
+
+pub left_of-requires-clause-budget : goal.left_of-requires-clause-budget
+left_of-requires-clause-budget c = omega arith
+
+pub returns-clause-told : goal.returns-clause-told
+returns-clause-told c = tt
+
+pub returns-in_err-count-clause-ok : goal.returns-in_err-count-clause-ok
+returns-in_err-count-clause-ok c = no_ok c.from_residual.result c.in_err-count.field-0.0 _ c.from_residual.ensures.1
+
+pub returns-in_err-count-clause-fine : goal.returns-in_err-count-clause-fine
+returns-in_err-count-clause-fine c b0 b1 = no_ok c.from_residual.result c.in_err-count.field-0.0 _ c.from_residual.ensures.1
+
+pub returns-in_err-count-clause-told : goal.returns-in_err-count-clause-told
+returns-in_err-count-clause-told c = passed_on c.from_residual.result c.in_err-count.field-0.0 _ c.from_residual.ensures.1 c.in_err-count.ensures.told
+
+pub returns-in_err-count-clause-grows : goal.returns-in_err-count-clause-grows
+returns-in_err-count-clause-grows c = eq_le _ _ c.open_table.ensures.steps
+
+pub returns-in_err-count-clause-cost : goal.returns-in_err-count-clause-cost
+returns-in_err-count-clause-cost c = eq_more _ _ _ _ c.open_table.ensures.steps
+
+pub pass_front-read-requires-clause-body : goal.pass_front-read-requires-clause-body
+pass_front-read-requires-clause-body c = c.body_of-body.ensures.fine
+
+pub left_of-requires-clause-body : goal.left_of-requires-clause-body
+left_of-requires-clause-body c = c.body_of-body.ensures.fine
+
+pub pass_front-read-requires-clause-frame : goal.pass_front-read-requires-clause-frame
+pass_front-read-requires-clause-frame c = (subst (λ (g : Frame). VisitFine c.args.self.now.table.now (message_of c.args.self.now.bytes.now c.args.self.now.handles.now) c.args.depth 0 c.args.entry (Some g)) (body_start c.body_of-body.result c.args.entry c.args.state.now.next c.in_ok-count.count (c.args.depth + 1) c.body_of-body.ensures.entry c.body_of-body.ensures.base c.body_of-body.ensures.count c.body_of-body.ensures.depth) (c.in_ok-count.ensures.fine 0 (le_more 0 1))).0
+
+pub pass_front-read-requires-clause-state : goal.pass_front-read-requires-clause-state
+pass_front-read-requires-clause-state c = c.in_ok-count.ensures.ok.state
+
+pub left_of-requires-clause-frame : goal.left_of-requires-clause-frame
+left_of-requires-clause-frame c = c.pass_front-read.ensures.turns.rest_fine.0
+
+pub returns-clause-grows : goal.returns-clause-grows
+returns-clause-grows c = grows_thrice _ _ _ _ c.open_table.ensures.steps c.pass_front-read.ensures.grows c.left_of.ensures.grows

@@ -1,4 +1,6 @@
-use Rattle.std.proofs.Common.{◌≡◌, ◌+◌, ◌-◌, sym, subst, ◌∙◌, arith}
+use Rattle.fidl_decode.proofs.Fitting.{front, apart, inside, at_most, small, ended, some_8, rounded_left, part_order, le_more, eq_le, spent_text}
+use Rattle.fidl_decode.proofs.Unchanged.{same_le, no_ok, clash}
+use Rattle.std.proofs.Common.{◌≡◌, ◌+◌, ◌-◌, sym, subst, ◌∙◌, arith, refl, ap, inl, inr, length, ◌<◌}
 use Rattle.std.specs.Int.{next_multiple_of}
 use Rattle.fidl_wire.specs.Term as ty
 use Rattle.fidl_wire.specs.Encoding.{zeros}
@@ -29,3 +31,258 @@ returns-clause-ok c =
     subst (λ (s : At). Leads (declarations_of c.args.self.now.table.now) (message_of c.args.self.now.bytes.now c.args.self.now.handles.now) c.args.depth (ty.string (is_optional c.args.entry.now) c.args.entry.now.bound) c.args.place (at_of c.args.state.now) s) same
     (text_leads (declarations_of c.args.self.now.table.now) (message_of c.args.self.now.bytes.now c.args.self.now.handles.now) (omega (arith, short)) c.args.depth (is_optional c.args.entry.now) c.args.entry.now.bound c.args.place (at_of c.args.state.now) (omega (arith, c.requires.depth, c.if-depth-eq-MAX_DEPTH.false)) (c.is_present.ensures.0 c.if-not-is_present.false) (omega (arith, c.requires.room)) (λ i. omega (arith, c.args.self.now.octets i)) n (sym c.u64_at-count.ensures) (omega (arith, c.if-count-entry.false)) (omega (arith, value, within, c.if-size-rest.false)) (le-next_multiple_of n 8)
     (c.is_text.ensures.0 c.if-not-is_text.false) (subst (λ k. Stands c.args.self.now.bytes.now (from + n) (zeros k)) gap c.in_ok-zeros_at.ensures.ok))
+
+pub returns-then-not-is_absent-clause-ok : goal.returns-then-not-is_absent-clause-ok
+returns-then-not-is_absent-clause-ok c = tt
+
+pub returns-then-not-is_absent-clause-state : goal.returns-then-not-is_absent-clause-state
+returns-then-not-is_absent-clause-state c = tt
+
+pub returns-then-not-is_absent-clause-spent : goal.returns-then-not-is_absent-clause-spent
+returns-then-not-is_absent-clause-spent c = tt
+
+pub returns-then-not-is_absent-clause-grows : goal.returns-then-not-is_absent-clause-grows
+returns-then-not-is_absent-clause-grows c = same_le _
+
+pub returns-then-count-ne0-clause-ok : goal.returns-then-count-ne0-clause-ok
+returns-then-count-ne0-clause-ok c = tt
+
+pub returns-then-count-ne0-clause-state : goal.returns-then-count-ne0-clause-state
+returns-then-count-ne0-clause-state c = tt
+
+pub returns-then-count-ne0-clause-spent : goal.returns-then-count-ne0-clause-spent
+returns-then-count-ne0-clause-spent c = tt
+
+pub returns-then-count-ne0-clause-grows : goal.returns-then-count-ne0-clause-grows
+returns-then-count-ne0-clause-grows c = same_le _
+
+pub is_optional-requires : goal.is_optional-requires
+is_optional-requires c = omega arith
+
+pub returns-then-not-is_optional-clause-ok : goal.returns-then-not-is_optional-clause-ok
+returns-then-not-is_optional-clause-ok c = tt
+
+pub returns-then-not-is_optional-clause-state : goal.returns-then-not-is_optional-clause-state
+returns-then-not-is_optional-clause-state c = tt
+
+pub returns-then-not-is_optional-clause-spent : goal.returns-then-not-is_optional-clause-spent
+returns-then-not-is_optional-clause-spent c = tt
+
+pub returns-then-not-is_optional-clause-grows : goal.returns-then-not-is_optional-clause-grows
+returns-then-not-is_optional-clause-grows c = same_le _
+
+pub returns-then-not-is_present-clause-told : goal.returns-then-not-is_present-clause-told
+returns-then-not-is_present-clause-told c = tt
+
+pub returns-then-not-is_present-clause-spent : goal.returns-then-not-is_present-clause-spent
+returns-then-not-is_present-clause-spent c = refl
+
+pub returns-then-not-is_present-clause-grows : goal.returns-then-not-is_present-clause-grows
+returns-then-not-is_present-clause-grows c = same_le _
+
+pub returns-then-count-rest-clause-ok : goal.returns-then-count-rest-clause-ok
+returns-then-count-rest-clause-ok c = tt
+
+pub returns-then-count-rest-clause-state : goal.returns-then-count-rest-clause-state
+returns-then-count-rest-clause-state c = tt
+
+pub returns-then-count-rest-clause-spent : goal.returns-then-count-rest-clause-spent
+returns-then-count-rest-clause-spent c = tt
+
+pub returns-then-count-rest-clause-grows : goal.returns-then-count-rest-clause-grows
+returns-then-count-rest-clause-grows c = same_le _
+
+pub returns-then-count-entry-clause-ok : goal.returns-then-count-entry-clause-ok
+returns-then-count-entry-clause-ok c = tt
+
+pub returns-then-count-entry-clause-state : goal.returns-then-count-entry-clause-state
+returns-then-count-entry-clause-state c = tt
+
+pub returns-then-count-entry-clause-spent : goal.returns-then-count-entry-clause-spent
+returns-then-count-entry-clause-spent c = tt
+
+pub returns-then-count-entry-clause-grows : goal.returns-then-count-entry-clause-grows
+returns-then-count-entry-clause-grows c = same_le _
+
+pub returns-then-depth-eq-MAX_DEPTH-clause-ok : goal.returns-then-depth-eq-MAX_DEPTH-clause-ok
+returns-then-depth-eq-MAX_DEPTH-clause-ok c = tt
+
+pub returns-then-depth-eq-MAX_DEPTH-clause-state : goal.returns-then-depth-eq-MAX_DEPTH-clause-state
+returns-then-depth-eq-MAX_DEPTH-clause-state c = tt
+
+pub returns-then-depth-eq-MAX_DEPTH-clause-spent : goal.returns-then-depth-eq-MAX_DEPTH-clause-spent
+returns-then-depth-eq-MAX_DEPTH-clause-spent c = tt
+
+pub returns-then-depth-eq-MAX_DEPTH-clause-grows : goal.returns-then-depth-eq-MAX_DEPTH-clause-grows
+returns-then-depth-eq-MAX_DEPTH-clause-grows c = same_le _
+
+pub returns-then-size-rest-clause-ok : goal.returns-then-size-rest-clause-ok
+returns-then-size-rest-clause-ok c = tt
+
+pub returns-then-size-rest-clause-state : goal.returns-then-size-rest-clause-state
+returns-then-size-rest-clause-state c = tt
+
+pub returns-then-size-rest-clause-spent : goal.returns-then-size-rest-clause-spent
+returns-then-size-rest-clause-spent c = tt
+
+pub returns-then-size-rest-clause-grows : goal.returns-then-size-rest-clause-grows
+returns-then-size-rest-clause-grows c = same_le _
+
+pub overflow_add-state : goal.overflow_add-state
+overflow_add-state c = record { fits = omega arith }
+
+pub overflow_add-from : goal.overflow_add-from
+overflow_add-from c = record { fits = omega arith }
+
+pub slice_bounds-is_text-count : goal.slice_bounds-is_text-count
+slice_bounds-is_text-count c = omega arith
+
+pub slice_bounds-is_text-start : goal.slice_bounds-is_text-start
+slice_bounds-is_text-start c = omega arith
+
+pub slice_bounds-is_text-end : goal.slice_bounds-is_text-end
+slice_bounds-is_text-end c = omega arith
+
+pub is_text-requires : goal.is_text-requires
+is_text-requires c = omega arith
+
+pub returns-then-not-is_text-clause-ok : goal.returns-then-not-is_text-clause-ok
+returns-then-not-is_text-clause-ok c = tt
+
+pub returns-then-not-is_text-clause-state : goal.returns-then-not-is_text-clause-state
+returns-then-not-is_text-clause-state c = tt
+
+pub returns-then-not-is_text-clause-spent : goal.returns-then-not-is_text-clause-spent
+returns-then-not-is_text-clause-spent c = tt
+
+pub overflow_add-from-2 : goal.overflow_add-from-2
+overflow_add-from-2 c = record { fits = omega arith }
+
+pub returns-clause-told : goal.returns-clause-told
+returns-clause-told c = tt
+
+pub returns-in_err-zeros_at-clause-ok : goal.returns-in_err-zeros_at-clause-ok
+returns-in_err-zeros_at-clause-ok c = no_ok c.from_residual.result c.in_err-zeros_at.field-0.0 _ c.from_residual.ensures.1
+
+pub returns-in_err-zeros_at-clause-state : goal.returns-in_err-zeros_at-clause-state
+returns-in_err-zeros_at-clause-state c = no_ok c.from_residual.result c.in_err-zeros_at.field-0.0 _ c.from_residual.ensures.1
+
+pub returns-in_err-zeros_at-clause-spent : goal.returns-in_err-zeros_at-clause-spent
+returns-in_err-zeros_at-clause-spent c = no_ok c.from_residual.result c.in_err-zeros_at.field-0.0 _ c.from_residual.ensures.1
+
+pub returns-then-not-is_absent-clause-told : goal.returns-then-not-is_absent-clause-told
+returns-then-not-is_absent-clause-told c = (refl, λ z. clash (c.is_absent.ensures.1 z) c.if-not-is_absent.true, λ p. clash (c.is_present.ensures.1 p) c.if-not-is_present.true)
+
+pub returns-then-count-ne0-clause-told : goal.returns-then-count-ne0-clause-told
+returns-then-count-ne0-clause-told c = (refl, inl (c.is_absent.ensures.0 c.if-not-is_absent.false, λ none. c.if-count-ne0.true (c.u64_at-count.ensures ∙ none)))
+
+pub returns-then-not-is_optional-clause-told : goal.returns-then-not-is_optional-clause-told
+returns-then-not-is_optional-clause-told c = (refl, sym c.is_optional.ensures ∙ c.if-not-is_optional.true, c.is_absent.ensures.0 c.if-not-is_absent.false)
+
+pub returns-then-not-is_present-clause-state : goal.returns-then-not-is_present-clause-state
+returns-then-not-is_present-clause-state c = c.requires.state
+
+pub returns-then-count-rest-clause-told : goal.returns-then-count-rest-clause-told
+returns-then-count-rest-clause-told c = (refl, inr (c.is_present.ensures.0 c.if-not-is_present.false, subst (λ n. length c.args.self.now.bytes.now - c.args.state.now.next < n) c.u64_at-count.ensures c.if-count-rest.true))
+
+pub returns-then-count-entry-clause-told : goal.returns-then-count-entry-clause-told
+returns-then-count-entry-clause-told c = (refl, c.is_present.ensures.0 c.if-not-is_present.false, subst (λ n. c.args.entry.now.bound < n) c.u64_at-count.ensures c.if-count-entry.true)
+
+pub returns-then-depth-eq-MAX_DEPTH-clause-told : goal.returns-then-depth-eq-MAX_DEPTH-clause-told
+returns-then-depth-eq-MAX_DEPTH-clause-told c = (refl, c.is_present.ensures.0 c.if-not-is_present.false, eq_le _ _ c.if-depth-eq-MAX_DEPTH.true)
+
+pub returns-then-size-rest-clause-told : goal.returns-then-size-rest-clause-told
+returns-then-size-rest-clause-told c = (refl, c.is_present.ensures.0 c.if-not-is_present.false, subst (λ n. length c.args.self.now.bytes.now - c.args.state.now.next < n) (c.next_multiple_of-size.ensures.value ∙ ap (λ k. next_multiple_of k 8) c.u64_at-count.ensures) c.if-size-rest.true)
+
+pub returns-then-not-is_text-clause-grows : goal.returns-then-not-is_text-clause-grows
+returns-then-not-is_text-clause-grows c = le_more _ _
+
+pub returns-then-not-is_text-clause-cost : goal.returns-then-not-is_text-clause-cost
+returns-then-not-is_text-clause-cost c = part_order _ _ _ c.if-size-rest.false
+
+pub returns-in_err-zeros_at-clause-grows : goal.returns-in_err-zeros_at-clause-grows
+returns-in_err-zeros_at-clause-grows c = le_more _ _
+
+pub returns-in_err-zeros_at-clause-cost : goal.returns-in_err-zeros_at-clause-cost
+returns-in_err-zeros_at-clause-cost c = part_order _ _ _ c.if-size-rest.false
+
+pub returns-clause-spent : goal.returns-clause-spent
+returns-clause-spent c = spent_text _ _ _
+
+pub returns-clause-grows : goal.returns-clause-grows
+returns-clause-grows c = le_more _ _
+
+pub returns-clause-cost : goal.returns-clause-cost
+returns-clause-cost c = part_order _ _ _ c.if-size-rest.false
+
+pub returns-then-not-is_absent-clause-cost : goal.returns-then-not-is_absent-clause-cost
+returns-then-not-is_absent-clause-cost c = le_more _ _
+
+pub returns-then-count-ne0-clause-cost : goal.returns-then-count-ne0-clause-cost
+returns-then-count-ne0-clause-cost c = le_more _ _
+
+pub returns-then-not-is_optional-clause-cost : goal.returns-then-not-is_optional-clause-cost
+returns-then-not-is_optional-clause-cost c = le_more _ _
+
+pub returns-then-not-is_present-clause-cost : goal.returns-then-not-is_present-clause-cost
+returns-then-not-is_present-clause-cost c = le_more _ _
+
+pub returns-then-count-rest-clause-cost : goal.returns-then-count-rest-clause-cost
+returns-then-count-rest-clause-cost c = le_more _ _
+
+pub returns-then-count-entry-clause-cost : goal.returns-then-count-entry-clause-cost
+returns-then-count-entry-clause-cost c = le_more _ _
+
+pub returns-then-depth-eq-MAX_DEPTH-clause-cost : goal.returns-then-depth-eq-MAX_DEPTH-clause-cost
+returns-then-depth-eq-MAX_DEPTH-clause-cost c = le_more _ _
+
+pub returns-then-size-rest-clause-cost : goal.returns-then-size-rest-clause-cost
+returns-then-size-rest-clause-cost c = le_more _ _
+
+pub u64_at-count-requires : goal.u64_at-count-requires
+u64_at-count-requires c = front c.args.place 8 8 (length c.args.self.now.bytes.now) c.requires.room
+
+pub overflow_add-place : goal.overflow_add-place
+overflow_add-place c = record { fits = small _ (length c.args.self.now.bytes.now) (front c.args.place 8 8 (length c.args.self.now.bytes.now) c.requires.room) c.requires.short }
+
+pub overflow_add-place-then-not-is_present : goal.overflow_add-place-then-not-is_present
+overflow_add-place-then-not-is_present c = record { fits = small _ (length c.args.self.now.bytes.now) (front c.args.place 8 8 (length c.args.self.now.bytes.now) c.requires.room) c.requires.short }
+
+pub overflow_add-result : goal.overflow_add-result
+overflow_add-result c = record { fits = small _ (length c.args.self.now.bytes.now) (front c.args.place 8 8 (length c.args.self.now.bytes.now) c.requires.room) c.requires.short }
+
+pub overflow_sub-rest : goal.overflow_sub-rest
+overflow_sub-rest c = c.requires.state.next
+
+pub is_present-requires : goal.is_present-requires
+is_present-requires c = record { room = apart c.args.place 8 8 (length c.args.self.now.bytes.now) c.requires.room }
+
+pub is_absent-requires : goal.is_absent-requires
+is_absent-requires c = record { room = apart c.args.place 8 8 (length c.args.self.now.bytes.now) c.requires.room }
+
+pub next_multiple_of-size-requires-clause-nonzero : goal.next_multiple_of-size-requires-clause-nonzero
+next_multiple_of-size-requires-clause-nonzero c = some_8
+
+pub next_multiple_of-size-requires-clause-fits : goal.next_multiple_of-size-requires-clause-fits
+next_multiple_of-size-requires-clause-fits c = rounded_left c.u64_at-count.result c.args.state.now.next (length c.args.self.now.bytes.now) c.if-count-rest.false c.requires.short
+
+pub overflow_add-from-3 : goal.overflow_add-from-3
+overflow_add-from-3 c = record { fits = small _ (length c.args.self.now.bytes.now) ((ended c.args.state.now.next c.next_multiple_of-size.result (length c.args.self.now.bytes.now) c.requires.state.next c.if-size-rest.false)) c.requires.short }
+
+pub overflow_add-place-2 : goal.overflow_add-place-2
+overflow_add-place-2 c = record { fits = small _ (length c.args.self.now.bytes.now) (front c.args.place 8 8 (length c.args.self.now.bytes.now) c.requires.room) c.requires.short }
+
+pub overflow_add-state-2 : goal.overflow_add-state-2
+overflow_add-state-2 c = record { fits = small _ (length c.args.self.now.bytes.now) ((ended c.args.state.now.next c.next_multiple_of-size.result (length c.args.self.now.bytes.now) c.requires.state.next c.if-size-rest.false)) c.requires.short }
+
+pub zeros_at-requires-clause-order : goal.zeros_at-requires-clause-order
+zeros_at-requires-clause-order c = part_order c.args.state.now.next c.u64_at-count.result c.next_multiple_of-size.result c.next_multiple_of-size.ensures.lower_bound
+
+pub zeros_at-requires-clause-room : goal.zeros_at-requires-clause-room
+zeros_at-requires-clause-room c = (ended c.args.state.now.next c.next_multiple_of-size.result (length c.args.self.now.bytes.now) c.requires.state.next c.if-size-rest.false)
+
+pub link-requires-clause-marker : goal.link-requires-clause-marker
+link-requires-clause-marker c = inside (c.args.place + 8) 7 (length c.args.self.now.bytes.now) (apart c.args.place 8 8 (length c.args.self.now.bytes.now) c.requires.room) c.requires.short
+
+pub link-requires-clause-object : goal.link-requires-clause-object
+link-requires-clause-object c = at_most c.args.state.now.next (length c.args.self.now.bytes.now) c.requires.state.next c.requires.short

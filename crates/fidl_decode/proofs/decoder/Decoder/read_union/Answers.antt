@@ -1,3 +1,4 @@
+use Rattle.fidl_decode.proofs.Unchanged.{same_le}
 use Rattle.std.proofs.Common.{true, false, ◌≡◌, ◌≢◌, ◌+◌, ◌-◌, refl, sym, ap, subst, ◌∙◌, arith}
 use Rattle.std.specs.Prelude.{Option, None, not, IsFalse}
 use Rattle.std.proofs.lemmas.Result.{IfOk-weaker, IfErr-weaker, on_err_weaker}
@@ -98,3 +99,57 @@ returns-clause-told c =
       | else-is_none-via-else-is_none w ↦ (λ none. absurd (one_member c.member-member.result (find (members_of c.args.self.now.table.now c.args.entry) c.u64_at-ordinal.result) c.member-member.ensures.some (c.is_none.ensures ∙ ap not w.if-is_none.false) (same ∙ none)))
     ] in
     IfErr-weaker c.open_envelope.result _ _ (λ fault b. member_breaks c.args.self.now.table.now c.requires.table (message_of c.args.self.now.bytes.now c.args.self.now.handles.now) c.args.depth c.args.entry c.args.place (at_of c.args.state.now) c.requires.entry c.requires.kind some may fault (subst (λ (u : Option Term). BreaksMember (declarations_of c.args.self.now.table.now) (message_of c.args.self.now.bytes.now c.args.self.now.handles.now) c.args.depth u (c.args.place + 8) (at_of c.args.state.now) fault) tie b)) c.open_envelope.ensures.told
+
+pub entry-e-requires : goal.entry-e-requires
+entry-e-requires c = c.requires.entry
+
+pub returns-then-not-is_absent-clause-ok : goal.returns-then-not-is_absent-clause-ok
+returns-then-not-is_absent-clause-ok c = tt
+
+pub returns-then-not-is_absent-clause-fine : goal.returns-then-not-is_absent-clause-fine
+returns-then-not-is_absent-clause-fine c = tt
+
+pub returns-then-not-is_absent-clause-grows : goal.returns-then-not-is_absent-clause-grows
+returns-then-not-is_absent-clause-grows c = same_le _
+
+pub returns-then-not-is_optional-clause-ok : goal.returns-then-not-is_optional-clause-ok
+returns-then-not-is_optional-clause-ok c = tt
+
+pub returns-then-not-is_optional-clause-fine : goal.returns-then-not-is_optional-clause-fine
+returns-then-not-is_optional-clause-fine c = tt
+
+pub returns-then-not-is_optional-clause-grows : goal.returns-then-not-is_optional-clause-grows
+returns-then-not-is_optional-clause-grows c = same_le _
+
+pub returns-then-ordinal-eq0-clause-fine : goal.returns-then-ordinal-eq0-clause-fine
+returns-then-ordinal-eq0-clause-fine c = tt
+
+pub returns-then-ordinal-eq0-clause-err : goal.returns-then-ordinal-eq0-clause-err
+returns-then-ordinal-eq0-clause-err c = tt
+
+pub returns-then-ordinal-eq0-clause-told : goal.returns-then-ordinal-eq0-clause-told
+returns-then-ordinal-eq0-clause-told c = tt
+
+pub returns-then-ordinal-eq0-clause-grows : goal.returns-then-ordinal-eq0-clause-grows
+returns-then-ordinal-eq0-clause-grows c = same_le _
+
+pub member-member-requires-clause-entry : goal.member-member-requires-clause-entry
+member-member-requires-clause-entry c = c.requires.entry
+
+pub returns-then-is_strict-clause-ok : goal.returns-then-is_strict-clause-ok
+returns-then-is_strict-clause-ok c = tt
+
+pub returns-then-is_strict-clause-fine : goal.returns-then-is_strict-clause-fine
+returns-then-is_strict-clause-fine c = tt
+
+pub open_envelope-requires-clause-table : goal.open_envelope-requires-clause-table
+open_envelope-requires-clause-table c = c.requires.table
+
+pub open_envelope-requires-clause-short : goal.open_envelope-requires-clause-short
+open_envelope-requires-clause-short c = c.requires.short
+
+pub open_envelope-requires-clause-state : goal.open_envelope-requires-clause-state
+open_envelope-requires-clause-state c = c.requires.state
+
+pub open_envelope-requires-clause-depth : goal.open_envelope-requires-clause-depth
+open_envelope-requires-clause-depth c = c.requires.depth

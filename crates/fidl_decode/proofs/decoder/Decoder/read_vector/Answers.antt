@@ -1,4 +1,5 @@
-use Rattle.std.proofs.Common.{◌≡◌, ℕ, ◌+◌, ◌-◌, ◌*◌, ◌<◌, refl, sym, ap, subst, ◌∙◌, arith, inr}
+use Rattle.fidl_decode.proofs.Fitting.{front, apart, inside, at_most, small, ended, deeper, some_8}
+use Rattle.std.proofs.Common.{◌≡◌, ℕ, ◌+◌, ◌-◌, ◌*◌, ◌<◌, refl, sym, ap, subst, ◌∙◌, arith, inl, inr, length}
 use Rattle.std.specs.Prelude.{Option, Some}
 use Rattle.std.specs.Int.{next_multiple_of}
 use Rattle.fidl_records.specs.declared.record.Entry.{Entry}
@@ -79,3 +80,163 @@ returns-clause-fine c around few =
     = λ i. frame (sym holder i) (sym element i) (sym number i) (sym value i) in
     let opened = vector_fine t c.requires.table m c.args.depth c.args.entry c.args.place old c.requires.entry c.requires.kind c.requires.state c.requires.depth (omega (arith, c.requires.depth, c.if-depth-eq-MAX_DEPTH.false)) (omega (arith, value, c.if-size-rest.false)) around few in
     subst (λ (o : Option Frame). VisitFine t m c.args.depth around c.args.entry o) found opened
+
+pub returns-in-Neither-clause-ok : goal.returns-in-Neither-clause-ok
+returns-in-Neither-clause-ok c = tt
+
+pub returns-in-Neither-clause-fine : goal.returns-in-Neither-clause-fine
+returns-in-Neither-clause-fine c inside few = tt
+
+pub returns-in-Neither-clause-told : goal.returns-in-Neither-clause-told
+returns-in-Neither-clause-told c = (refl, c.in-Neither.ensures.0, c.in-Neither.ensures.1)
+
+pub returns-in-Neither-clause-steps : goal.returns-in-Neither-clause-steps
+returns-in-Neither-clause-steps c = refl
+
+pub returns-then-count-ne0-clause-ok : goal.returns-then-count-ne0-clause-ok
+returns-then-count-ne0-clause-ok c = tt
+
+pub returns-then-count-ne0-clause-fine : goal.returns-then-count-ne0-clause-fine
+returns-then-count-ne0-clause-fine c inside few = tt
+
+pub returns-then-count-ne0-clause-told : goal.returns-then-count-ne0-clause-told
+returns-then-count-ne0-clause-told c = (refl, inl (c.in-Absent.ensures, λ none. c.if-count-ne0.true (c.u64_at-count.ensures ∙ none)))
+
+pub returns-then-count-ne0-clause-steps : goal.returns-then-count-ne0-clause-steps
+returns-then-count-ne0-clause-steps c = refl
+
+pub returns-then-not-is_optional-clause-ok : goal.returns-then-not-is_optional-clause-ok
+returns-then-not-is_optional-clause-ok c = tt
+
+pub returns-then-not-is_optional-clause-fine : goal.returns-then-not-is_optional-clause-fine
+returns-then-not-is_optional-clause-fine c inside few = tt
+
+pub returns-then-not-is_optional-clause-told : goal.returns-then-not-is_optional-clause-told
+returns-then-not-is_optional-clause-told c = (refl, sym (ap is_optional c.entry-e.ensures.value) ∙ sym c.is_optional.ensures ∙ c.if-not-is_optional.true, c.in-Absent.ensures)
+
+pub returns-then-not-is_optional-clause-steps : goal.returns-then-not-is_optional-clause-steps
+returns-then-not-is_optional-clause-steps c = refl
+
+pub returns-in-Absent-clause-fine : goal.returns-in-Absent-clause-fine
+returns-in-Absent-clause-fine c inside few = tt
+
+pub returns-in-Absent-clause-told : goal.returns-in-Absent-clause-told
+returns-in-Absent-clause-told c = tt
+
+pub returns-in-Absent-clause-steps : goal.returns-in-Absent-clause-steps
+returns-in-Absent-clause-steps c = refl
+
+pub returns-then-count-rest-clause-ok : goal.returns-then-count-rest-clause-ok
+returns-then-count-rest-clause-ok c = tt
+
+pub returns-then-count-rest-clause-fine : goal.returns-then-count-rest-clause-fine
+returns-then-count-rest-clause-fine c inside few = tt
+
+pub returns-then-count-rest-clause-steps : goal.returns-then-count-rest-clause-steps
+returns-then-count-rest-clause-steps c = refl
+
+pub returns-then-used-rest-clause-ok : goal.returns-then-used-rest-clause-ok
+returns-then-used-rest-clause-ok c = tt
+
+pub returns-then-used-rest-clause-fine : goal.returns-then-used-rest-clause-fine
+returns-then-used-rest-clause-fine c inside few = tt
+
+pub returns-then-used-rest-clause-told : goal.returns-then-used-rest-clause-told
+returns-then-used-rest-clause-told c =
+    let t = c.args.self.now.table.now in
+    let d = entry_at t c.args.entry in
+    let element : c.entry-element.result ≡ entry_at t d.first = c.entry-element.ensures.value ∙ ap (λ (d : Entry). entry_at t d.first) c.entry-e.ensures.value in
+    let used : c.entry-element.result.size * c.u64_at-count.result ≡ (entry_at t d.first).size * count_at c.args.self.now.bytes.now c.args.place = λ i. (element i).size * c.u64_at-count.ensures i in
+    (refl, inr (c.in-Present.ensures, subst (λ k. length c.args.self.now.bytes.now - c.args.state.now.next < k) used c.if-used-rest.true))
+
+pub returns-then-used-rest-clause-steps : goal.returns-then-used-rest-clause-steps
+returns-then-used-rest-clause-steps c = refl
+
+pub returns-then-count-e-clause-ok : goal.returns-then-count-e-clause-ok
+returns-then-count-e-clause-ok c = tt
+
+pub returns-then-count-e-clause-fine : goal.returns-then-count-e-clause-fine
+returns-then-count-e-clause-fine c inside few = tt
+
+pub returns-then-count-e-clause-told : goal.returns-then-count-e-clause-told
+returns-then-count-e-clause-told c =
+    let bound = ap (λ (d : Entry). d.bound) c.entry-e.ensures.value in
+    (refl, c.in-Present.ensures, omega (arith, bound, c.u64_at-count.ensures, c.if-count-e.true))
+
+pub returns-then-count-e-clause-steps : goal.returns-then-count-e-clause-steps
+returns-then-count-e-clause-steps c = refl
+
+pub returns-then-depth-eq-MAX_DEPTH-clause-ok : goal.returns-then-depth-eq-MAX_DEPTH-clause-ok
+returns-then-depth-eq-MAX_DEPTH-clause-ok c = tt
+
+pub returns-then-depth-eq-MAX_DEPTH-clause-fine : goal.returns-then-depth-eq-MAX_DEPTH-clause-fine
+returns-then-depth-eq-MAX_DEPTH-clause-fine c inside few = tt
+
+pub returns-then-depth-eq-MAX_DEPTH-clause-told : goal.returns-then-depth-eq-MAX_DEPTH-clause-told
+returns-then-depth-eq-MAX_DEPTH-clause-told c = (refl, c.in-Present.ensures, omega (arith, c.if-depth-eq-MAX_DEPTH.true))
+
+pub returns-then-depth-eq-MAX_DEPTH-clause-steps : goal.returns-then-depth-eq-MAX_DEPTH-clause-steps
+returns-then-depth-eq-MAX_DEPTH-clause-steps c = refl
+
+pub returns-then-size-rest-clause-ok : goal.returns-then-size-rest-clause-ok
+returns-then-size-rest-clause-ok c = tt
+
+pub returns-then-size-rest-clause-fine : goal.returns-then-size-rest-clause-fine
+returns-then-size-rest-clause-fine c inside few = tt
+
+pub returns-then-size-rest-clause-told : goal.returns-then-size-rest-clause-told
+returns-then-size-rest-clause-told c =
+    let t = c.args.self.now.table.now in
+    let d = entry_at t c.args.entry in
+    let element : c.entry-element.result ≡ entry_at t d.first = c.entry-element.ensures.value ∙ ap (λ (d : Entry). entry_at t d.first) c.entry-e.ensures.value in
+    let used : c.entry-element.result.size * c.u64_at-count.result ≡ (entry_at t d.first).size * count_at c.args.self.now.bytes.now c.args.place = λ i. (element i).size * c.u64_at-count.ensures i in
+    let value = c.next_multiple_of-size.ensures.value ∙ ap (λ k. next_multiple_of k 8) used in
+    (refl, c.in-Present.ensures, subst (λ k. length c.args.self.now.bytes.now - c.args.state.now.next < k) value c.if-size-rest.true)
+
+pub returns-then-size-rest-clause-steps : goal.returns-then-size-rest-clause-steps
+returns-then-size-rest-clause-steps c = refl
+
+pub returns-clause-told : goal.returns-clause-told
+returns-clause-told c = tt
+
+pub returns-clause-steps : goal.returns-clause-steps
+returns-clause-steps c = refl
+
+pub entry-e-requires : goal.entry-e-requires
+entry-e-requires c = c.requires.entry
+
+pub u64_at-count-requires : goal.u64_at-count-requires
+u64_at-count-requires c = front c.args.place 8 8 (length c.args.self.now.bytes.now) c.requires.room
+
+pub overflow_add-place : goal.overflow_add-place
+overflow_add-place c = record { fits = small _ (length c.args.self.now.bytes.now) (front c.args.place 8 8 (length c.args.self.now.bytes.now) c.requires.room) c.requires.short }
+
+pub presence-requires : goal.presence-requires
+presence-requires c = record { room = apart c.args.place 8 8 (length c.args.self.now.bytes.now) c.requires.room }
+
+pub overflow_add-result : goal.overflow_add-result
+overflow_add-result c = record { fits = small _ (length c.args.self.now.bytes.now) (front c.args.place 8 8 (length c.args.self.now.bytes.now) c.requires.room) c.requires.short }
+
+pub is_optional-requires : goal.is_optional-requires
+is_optional-requires c = tt
+
+pub overflow_sub-rest : goal.overflow_sub-rest
+overflow_sub-rest c = c.requires.state.next
+
+pub next_multiple_of-size-requires-clause-nonzero : goal.next_multiple_of-size-requires-clause-nonzero
+next_multiple_of-size-requires-clause-nonzero c = some_8
+
+pub overflow_add-place-2 : goal.overflow_add-place-2
+overflow_add-place-2 c = record { fits = small _ (length c.args.self.now.bytes.now) (front c.args.place 8 8 (length c.args.self.now.bytes.now) c.requires.room) c.requires.short }
+
+pub link-requires-clause-marker : goal.link-requires-clause-marker
+link-requires-clause-marker c = inside (c.args.place + 8) 7 (length c.args.self.now.bytes.now) (apart c.args.place 8 8 (length c.args.self.now.bytes.now) c.requires.room) c.requires.short
+
+pub link-requires-clause-object : goal.link-requires-clause-object
+link-requires-clause-object c = at_most c.args.state.now.next (length c.args.self.now.bytes.now) c.requires.state.next c.requires.short
+
+pub overflow_add-state : goal.overflow_add-state
+overflow_add-state c = record { fits = small _ (length c.args.self.now.bytes.now) (ended c.args.state.now.next c.next_multiple_of-size.result (length c.args.self.now.bytes.now) c.requires.state.next c.if-size-rest.false) c.requires.short }
+
+pub overflow_add-result-3 : goal.overflow_add-result-3
+overflow_add-result-3 c = record { fits = deeper c.args.depth c.requires.depth }

@@ -1,3 +1,4 @@
+use Rattle.fidl_decode.proofs.Unchanged.{no_ok}
 use Rattle.std.proofs.Common.{◌+◌, ◌-◌, refl, arith}
 use Rattle.fidl_decode.specs.State.{At}
 use Rattle.fidl_decode.specs.Machine.{Reads, IsUntil, at_of}
@@ -187,3 +188,42 @@ returns-clause-cost c =
     let less = end_less t c.requires.table m c.args.frame c.args.entry c.args.size 1 c.args.until c.requires.left refl (at_of c.args.state.now) c.requires.frame c.requires.state (at_of c.read_flat.new.state) (c.read_flat.new.state.steps - (c.args.state.now.steps + 1)) c.in_ok-read_flat.ensures.ok in
     let grows = c.in_ok-read_flat.ensures.grows in
     omega (arith, less, end.1, end.0, grows)
+
+pub read_flat-requires-clause-table : goal.read_flat-requires-clause-table
+read_flat-requires-clause-table c = c.requires.table
+
+pub read_flat-requires-clause-kind : goal.read_flat-requires-clause-kind
+read_flat-requires-clause-kind c = c.requires.kind
+
+pub read_flat-requires-clause-flat : goal.read_flat-requires-clause-flat
+read_flat-requires-clause-flat c = c.requires.flat
+
+pub read_flat-requires-clause-short : goal.read_flat-requires-clause-short
+read_flat-requires-clause-short c = c.requires.short
+
+pub read_flat-requires-clause-state : goal.read_flat-requires-clause-state
+read_flat-requires-clause-state c = c.requires.state
+
+pub returns-in_err-read_flat-clause-ok : goal.returns-in_err-read_flat-clause-ok
+returns-in_err-read_flat-clause-ok c = no_ok c.from_residual.result c.in_err-read_flat.field-0.0 _ c.from_residual.ensures.1
+
+pub returns-in_err-read_flat-clause-rises : goal.returns-in_err-read_flat-clause-rises
+returns-in_err-read_flat-clause-rises c = no_ok c.from_residual.result c.in_err-read_flat.field-0.0 _ c.from_residual.ensures.1
+
+pub returns-in_err-zeros_at-clause-ok : goal.returns-in_err-zeros_at-clause-ok
+returns-in_err-zeros_at-clause-ok c = no_ok c.from_residual-in_err-zeros_at.result c.in_err-zeros_at.field-0.0 _ c.from_residual-in_err-zeros_at.ensures.1
+
+pub returns-in_err-zeros_at-clause-rises : goal.returns-in_err-zeros_at-clause-rises
+returns-in_err-zeros_at-clause-rises c = no_ok c.from_residual-in_err-zeros_at.result c.in_err-zeros_at.field-0.0 _ c.from_residual-in_err-zeros_at.ensures.1
+
+pub returns-then-state-until-clause-ok : goal.returns-then-state-until-clause-ok
+returns-then-state-until-clause-ok c = tt
+
+pub returns-then-state-until-clause-rises : goal.returns-then-state-until-clause-rises
+returns-then-state-until-clause-rises c = tt
+
+pub returns-clause-err : goal.returns-clause-err
+returns-clause-err c = tt
+
+pub returns-clause-told : goal.returns-clause-told
+returns-clause-told c = tt

@@ -1,3 +1,4 @@
+use Rattle.fidl_decode.proofs.Unchanged.{no_ok}
 use Rattle.std.proofs.Common.{◌+◌, ◌-◌, sym, subst, arith}
 use Rattle.std.specs.Prelude.{Some, None}
 use Rattle.fidl_decode.specs.declared.fault.DecodeFault.TheVariants.{WrongCounts}
@@ -211,3 +212,33 @@ returns-clause-cost c =
     let same = same_frame c.args.frame (Content c.args.entry c.args.size c.args.count c.args.until) c.requires.left in
     let own = subst (λ (f : Frame). FrameFine t m.bytes f) same c.requires.frame in
     let fits = content_room t c.requires.table m c.args.frame c.args.entry c.args.size c.args.count c.args.until (at_of c.args.state.now) own c.requires.state (omega (arith, c.if-count-eq0.false)) in let probed = c.in_ok-below.ensures.probes in let work = fits.2 in omega (arith, probed, work)
+
+pub returns-in_err-zeros_at-clause-ok : goal.returns-in_err-zeros_at-clause-ok
+returns-in_err-zeros_at-clause-ok c = no_ok c.from_residual.result c.in_err-zeros_at.field-0.0 _ c.from_residual.ensures.1
+
+pub returns-then-state-until-clause-ok : goal.returns-then-state-until-clause-ok
+returns-then-state-until-clause-ok c = tt
+
+pub returns-then-count-eq0-clause-err : goal.returns-then-count-eq0-clause-err
+returns-then-count-eq0-clause-err c = tt
+
+pub returns-then-count-eq0-clause-told : goal.returns-then-count-eq0-clause-told
+returns-then-count-eq0-clause-told c = tt
+
+pub visit-requires-clause-table : goal.visit-requires-clause-table
+visit-requires-clause-table c = c.requires.table
+
+pub visit-requires-clause-short : goal.visit-requires-clause-short
+visit-requires-clause-short c = c.requires.short
+
+pub visit-requires-clause-state : goal.visit-requires-clause-state
+visit-requires-clause-state c = c.requires.state
+
+pub returns-in_err-below-clause-ok : goal.returns-in_err-below-clause-ok
+returns-in_err-below-clause-ok c = no_ok c.from_residual-in_err-below.result c.in_err-below.field-0.0 _ c.from_residual-in_err-below.ensures.1
+
+pub returns-clause-err : goal.returns-clause-err
+returns-clause-err c = tt
+
+pub returns-clause-told : goal.returns-clause-told
+returns-clause-told c = tt

@@ -140,3 +140,21 @@ returns-clause-told c =
     (λ fault b. subst (λ (g : Frame). BreaksFrame t m g old fault) (sym same)
     (envelope_breaks t c.requires.table m (c.requires.short, c.requires.state.few) f c.args.entry c.args.read c.args.count old gf c.requires.state (c.args.read + 1) (c.args.count - 1) (add-one c.args.read) (omega (arith, some)) some there fault (subst (λ (o : Option Term). BreaksMember (declarations_of t) m f.depth o place old fault) (sym is) b)))
     c.read_member.ensures.told
+
+pub returns-then-is_absent-clause-err : goal.returns-then-is_absent-clause-err
+returns-then-is_absent-clause-err c = tt
+
+pub returns-then-is_absent-clause-told : goal.returns-then-is_absent-clause-told
+returns-then-is_absent-clause-told c = tt
+
+pub row_of-member-requires-clause-parts : goal.row_of-member-requires-clause-parts
+row_of-member-requires-clause-parts c = c.requires.parts
+
+pub read_member-requires-clause-table : goal.read_member-requires-clause-table
+read_member-requires-clause-table c = c.requires.table
+
+pub read_member-requires-clause-short : goal.read_member-requires-clause-short
+read_member-requires-clause-short c = c.requires.short
+
+pub read_member-requires-clause-state : goal.read_member-requires-clause-state
+read_member-requires-clause-state c = c.requires.state

@@ -1,3 +1,4 @@
+use Rattle.fidl_decode.proofs.Unchanged.{no_ok}
 use Rattle.std.proofs.Common.{rules, ℕ, ◌≡◌, ◌+◌, ◌-◌, subst, ◌∙◌, sym, ap, arith}
 use Rattle.std.specs.Prelude.{Some, None}
 use Rattle.fidl_wire.specs.Term as ty
@@ -161,3 +162,39 @@ pub visit-requires-clause-inside : goal.visit-requires-clause-inside
 visit-requires-clause-inside c =
     let f = row_fine c.args.self.now.table.now c.requires.table (message_of c.args.self.now.bytes.now c.args.self.now.handles.now) c.args.frame (at_of c.args.state.now) c.requires.frame c.requires.state (let x : Row = record { offset = c.in-Some.member.offset; entry = c.in-Some.member.entry } in x) c.in-Some.member.left c.in-Some.ensures.some in
     row_inside c.args.self.now.table.now c.requires.table (message_of c.args.self.now.bytes.now c.args.self.now.handles.now) c.args.frame (at_of c.args.state.now) c.requires.frame c.requires.state (let x : Row = record { offset = c.in-Some.member.offset; entry = c.in-Some.member.entry } in x) c.in-Some.member.left c.in-Some.ensures.some _ (size_is c.args.self.now.table.now c.requires.table c.in-Some.member.entry f.0)
+
+pub next_member-requires-clause-table : goal.next_member-requires-clause-table
+next_member-requires-clause-table c = c.requires.table
+
+pub next_member-requires-clause-plain : goal.next_member-requires-clause-plain
+next_member-requires-clause-plain c = c.requires.plain
+
+pub returns-in_err-zeros_at-clause-ok : goal.returns-in_err-zeros_at-clause-ok
+returns-in_err-zeros_at-clause-ok c = no_ok c.from_residual.result c.in_err-zeros_at.field-0.0 _ c.from_residual.ensures.1
+
+pub returns-in_default-clause-err : goal.returns-in_default-clause-err
+returns-in_default-clause-err c = tt
+
+pub returns-in_default-clause-told : goal.returns-in_default-clause-told
+returns-in_default-clause-told c = tt
+
+pub returns-in_err-zeros_at-2-clause-ok : goal.returns-in_err-zeros_at-2-clause-ok
+returns-in_err-zeros_at-2-clause-ok c = no_ok c.from_residual-in_err-zeros_at-2.result c.in_err-zeros_at-2.field-0.0 _ c.from_residual-in_err-zeros_at-2.ensures.1
+
+pub visit-requires-clause-table : goal.visit-requires-clause-table
+visit-requires-clause-table c = c.requires.table
+
+pub visit-requires-clause-short : goal.visit-requires-clause-short
+visit-requires-clause-short c = c.requires.short
+
+pub visit-requires-clause-state : goal.visit-requires-clause-state
+visit-requires-clause-state c = c.requires.state
+
+pub returns-in_err-below-clause-ok : goal.returns-in_err-below-clause-ok
+returns-in_err-below-clause-ok c = no_ok c.from_residual-in_err-below.result c.in_err-below.field-0.0 _ c.from_residual-in_err-below.ensures.1
+
+pub returns-clause-err : goal.returns-clause-err
+returns-clause-err c = tt
+
+pub returns-clause-told : goal.returns-clause-told
+returns-clause-told c = tt

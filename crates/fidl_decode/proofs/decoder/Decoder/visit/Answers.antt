@@ -1,4 +1,6 @@
-use Rattle.std.proofs.Common.{◌-◌, arith, ◌≡◌, ◌<◌, sym, ap, subst, ◌∙◌}
+use Rattle.fidl_decode.proofs.Fitting.{eq_le, eq_more, le_more_two, one_probe, le_one}
+use Rattle.fidl_decode.proofs.Unchanged.{same_le, no_ok}
+use Rattle.std.proofs.Common.{◌-◌, arith, ◌≡◌, ◌<◌, sym, ap, subst, ◌∙◌, length, ◌+◌, ◌≤◌}
 use Rattle.std.specs.Prelude.{Some, None, IfOk}
 use Rattle.std.proofs.lemmas.Result.{IfErr-weaker}
 use Rattle.fidl_records.specs.declared.record.Entry.{Entry}
@@ -13,7 +15,7 @@ use Rattle.fidl_decode.proofs.Visiting.{fine_as, size_as, leaf_else, leaf_breaks
 use Rattle.fidl_decode.proofs.Broken.{table_excluded}
 use Rattle.fidl_decode.proofs.Boxed.{box_refused, box_breaks}
 use Rattle.fidl_decode.proofs.Listed.{vector_refused, vector_breaks}
-use Rattle.fidl_decode.proofs.Turning.{passed_on, refused_by}
+use Rattle.fidl_decode.proofs.Turning.{passed_on, refused_by, on_err}
 use Rattle.fidl_decode.proofs.decoder.Decoder.visit.Goals as goal
 
 no_some : {A : Type 0} (a : A) → Some a ≡ None → ⊥
@@ -121,3 +123,207 @@ returns-in-Union-clause-fine c =
     let size : 16 ≡ (entry_at c.args.self.now.table.now c.args.entry).size = size_as c.args.self.now.table.now c.requires.table c.args.entry Union c.requires.entry is in
     let outside : 0 ≡ c.args.inside = search (arith, c.requires.inside, size) in
     subst (λ i. IfOk c.read_union.result (VisitFine c.args.self.now.table.now (message_of c.args.self.now.bytes.now c.args.self.now.handles.now) c.args.depth i c.args.entry)) outside c.read_union.ensures.fine
+
+pub entry-e-requires : goal.entry-e-requires
+entry-e-requires c = c.requires.entry
+
+pub from_number-requires : goal.from_number-requires
+from_number-requires c = omega arith
+
+pub overflow_cast-result : goal.overflow_cast-result
+overflow_cast-result c = record { fits = omega arith }
+
+pub overflow_cast-size : goal.overflow_cast-size
+overflow_cast-size c = record { fits = omega arith }
+
+pub overflow_cast-result-in-Array : goal.overflow_cast-result-in-Array
+overflow_cast-result-in-Array c = record { fits = omega arith }
+
+pub read_box-requires-clause-table : goal.read_box-requires-clause-table
+read_box-requires-clause-table c = c.requires.table
+
+pub read_box-requires-clause-entry : goal.read_box-requires-clause-entry
+read_box-requires-clause-entry c = c.requires.entry
+
+pub read_box-requires-clause-short : goal.read_box-requires-clause-short
+read_box-requires-clause-short c = c.requires.short
+
+pub read_box-requires-clause-state : goal.read_box-requires-clause-state
+read_box-requires-clause-state c = c.requires.state
+
+pub read_box-requires-clause-depth : goal.read_box-requires-clause-depth
+read_box-requires-clause-depth c = c.requires.depth
+
+pub read_vector-requires-clause-table : goal.read_vector-requires-clause-table
+read_vector-requires-clause-table c = c.requires.table
+
+pub read_vector-requires-clause-entry : goal.read_vector-requires-clause-entry
+read_vector-requires-clause-entry c = c.requires.entry
+
+pub read_vector-requires-clause-short : goal.read_vector-requires-clause-short
+read_vector-requires-clause-short c = c.requires.short
+
+pub read_vector-requires-clause-state : goal.read_vector-requires-clause-state
+read_vector-requires-clause-state c = c.requires.state
+
+pub read_vector-requires-clause-depth : goal.read_vector-requires-clause-depth
+read_vector-requires-clause-depth c = c.requires.depth
+
+pub read_table-requires-clause-table : goal.read_table-requires-clause-table
+read_table-requires-clause-table c = c.requires.table
+
+pub read_table-requires-clause-entry : goal.read_table-requires-clause-entry
+read_table-requires-clause-entry c = c.requires.entry
+
+pub read_table-requires-clause-short : goal.read_table-requires-clause-short
+read_table-requires-clause-short c = c.requires.short
+
+pub read_table-requires-clause-state : goal.read_table-requires-clause-state
+read_table-requires-clause-state c = c.requires.state
+
+pub read_table-requires-clause-depth : goal.read_table-requires-clause-depth
+read_table-requires-clause-depth c = c.requires.depth
+
+pub read_table-requires-clause-budget : goal.read_table-requires-clause-budget
+read_table-requires-clause-budget c = c.requires.budget
+
+pub read_union-requires-clause-table : goal.read_union-requires-clause-table
+read_union-requires-clause-table c = c.requires.table
+
+pub read_union-requires-clause-entry : goal.read_union-requires-clause-entry
+read_union-requires-clause-entry c = c.requires.entry
+
+pub read_union-requires-clause-short : goal.read_union-requires-clause-short
+read_union-requires-clause-short c = c.requires.short
+
+pub read_union-requires-clause-state : goal.read_union-requires-clause-state
+read_union-requires-clause-state c = c.requires.state
+
+pub read_union-requires-clause-depth : goal.read_union-requires-clause-depth
+read_union-requires-clause-depth c = c.requires.depth
+
+pub read_union-requires-clause-budget : goal.read_union-requires-clause-budget
+read_union-requires-clause-budget c = c.requires.budget
+
+pub read_leaf-requires-clause-table : goal.read_leaf-requires-clause-table
+read_leaf-requires-clause-table c = c.requires.table
+
+pub read_leaf-requires-clause-entry : goal.read_leaf-requires-clause-entry
+read_leaf-requires-clause-entry c = c.requires.entry
+
+pub read_leaf-requires-clause-short : goal.read_leaf-requires-clause-short
+read_leaf-requires-clause-short c = c.requires.short
+
+pub read_leaf-requires-clause-room : goal.read_leaf-requires-clause-room
+read_leaf-requires-clause-room c = c.requires.room
+
+pub read_leaf-requires-clause-state : goal.read_leaf-requires-clause-state
+read_leaf-requires-clause-state c = c.requires.state
+
+pub read_leaf-requires-clause-depth : goal.read_leaf-requires-clause-depth
+read_leaf-requires-clause-depth c = c.requires.depth
+
+pub read_leaf-requires-clause-budget : goal.read_leaf-requires-clause-budget
+read_leaf-requires-clause-budget c = c.requires.budget
+
+pub returns-in-Struct-clause-err : goal.returns-in-Struct-clause-err
+returns-in-Struct-clause-err c = tt
+
+pub returns-in-Struct-clause-told : goal.returns-in-Struct-clause-told
+returns-in-Struct-clause-told c = tt
+
+pub returns-in-Struct-clause-grows : goal.returns-in-Struct-clause-grows
+returns-in-Struct-clause-grows c = same_le _
+
+pub returns-in-Array-clause-err : goal.returns-in-Array-clause-err
+returns-in-Array-clause-err c = tt
+
+pub returns-in-Array-clause-told : goal.returns-in-Array-clause-told
+returns-in-Array-clause-told c = tt
+
+pub returns-in-Array-clause-grows : goal.returns-in-Array-clause-grows
+returns-in-Array-clause-grows c = same_le _
+
+pub returns-in_err-read_leaf-in_default-kind-clause-ok : goal.returns-in_err-read_leaf-in_default-kind-clause-ok
+returns-in_err-read_leaf-in_default-kind-clause-ok c = no_ok c.from_residual.result c.in_err-read_leaf-in_default-kind.field-0.0 _ c.from_residual.ensures.1
+
+pub returns-in_err-read_leaf-in_default-kind-clause-fine : goal.returns-in_err-read_leaf-in_default-kind-clause-fine
+returns-in_err-read_leaf-in_default-kind-clause-fine c = no_ok c.from_residual.result c.in_err-read_leaf-in_default-kind.field-0.0 _ c.from_residual.ensures.1
+
+pub returns-in_err-read_leaf-in_default-kind-clause-err : goal.returns-in_err-read_leaf-in_default-kind-clause-err
+returns-in_err-read_leaf-in_default-kind-clause-err c = on_err _ _ c.in_err-read_leaf-in_default-kind.ensures.err
+
+pub returns-in_err-read_leaf-in_default-kind-clause-grows : goal.returns-in_err-read_leaf-in_default-kind-clause-grows
+returns-in_err-read_leaf-in_default-kind-clause-grows c = c.in_err-read_leaf-in_default-kind.ensures.grows
+
+pub returns-in_err-read_leaf-in_default-kind-clause-probes : goal.returns-in_err-read_leaf-in_default-kind-clause-probes
+returns-in_err-read_leaf-in_default-kind-clause-probes c = c.in_err-read_leaf-in_default-kind.ensures.probes
+
+pub read_table-requires-clause-kind : goal.read_table-requires-clause-kind
+read_table-requires-clause-kind c = ap (λ (e : Entry). kind_of e.kind) (sym c.entry-e.ensures.value) ∙ sym c.from_number.ensures ∙ c.in-Some.is ∙ ap (λ (k : EntryKind). Some k) c.in-Table.is
+
+pub read_union-requires-clause-kind : goal.read_union-requires-clause-kind
+read_union-requires-clause-kind c = ap (λ (e : Entry). kind_of e.kind) (sym c.entry-e.ensures.value) ∙ sym c.from_number.ensures ∙ c.in-Some.is ∙ ap (λ (k : EntryKind). Some k) c.in-Union.is
+
+pub read_leaf-requires-clause-kind : goal.read_leaf-requires-clause-kind
+read_leaf-requires-clause-kind c = ap (λ (e : Entry). kind_of e.kind) (sym c.entry-e.ensures.value) ∙ sym c.from_number.ensures ∙ c.in-Some.is
+
+pub read_table-requires-clause-room : goal.read_table-requires-clause-room
+read_table-requires-clause-room c = subst (λ n. c.args.place + n ≤ (length c.args.self.now.bytes.now)) (sym (size_as c.args.self.now.table.now c.requires.table c.args.entry Table c.requires.entry (ap (λ (e : Entry). kind_of e.kind) (sym c.entry-e.ensures.value) ∙ sym c.from_number.ensures ∙ c.in-Some.is ∙ ap (λ (k : EntryKind). Some k) c.in-Table.is))) c.requires.room
+
+pub read_union-requires-clause-room : goal.read_union-requires-clause-room
+read_union-requires-clause-room c = subst (λ n. c.args.place + n ≤ (length c.args.self.now.bytes.now)) (sym (size_as c.args.self.now.table.now c.requires.table c.args.entry Union c.requires.entry (ap (λ (e : Entry). kind_of e.kind) (sym c.entry-e.ensures.value) ∙ sym c.from_number.ensures ∙ c.in-Some.is ∙ ap (λ (k : EntryKind). Some k) c.in-Union.is))) c.requires.room
+
+pub returns-in-Struct-clause-probes : goal.returns-in-Struct-clause-probes
+returns-in-Struct-clause-probes c = le_more_two _ _ _
+
+pub returns-in-Array-clause-probes : goal.returns-in-Array-clause-probes
+returns-in-Array-clause-probes c = le_more_two _ _ _
+
+pub returns-in-Box-clause-ok : goal.returns-in-Box-clause-ok
+returns-in-Box-clause-ok c = c.read_box.ensures.ok
+
+pub returns-in-Box-clause-fine : goal.returns-in-Box-clause-fine
+returns-in-Box-clause-fine c = c.read_box.ensures.fine c.args.inside (le_one c.args.inside _ c.requires.inside)
+
+pub returns-in-Box-clause-grows : goal.returns-in-Box-clause-grows
+returns-in-Box-clause-grows c = eq_le _ _ c.read_box.ensures.steps
+
+pub returns-in-Box-clause-probes : goal.returns-in-Box-clause-probes
+returns-in-Box-clause-probes c = eq_more _ _ _ _ c.read_box.ensures.steps
+
+pub returns-in-Vector-clause-ok : goal.returns-in-Vector-clause-ok
+returns-in-Vector-clause-ok c = c.read_vector.ensures.ok
+
+pub returns-in-Vector-clause-fine : goal.returns-in-Vector-clause-fine
+returns-in-Vector-clause-fine c = c.read_vector.ensures.fine c.args.inside (le_one c.args.inside _ c.requires.inside)
+
+pub returns-in-Vector-clause-grows : goal.returns-in-Vector-clause-grows
+returns-in-Vector-clause-grows c = eq_le _ _ c.read_vector.ensures.steps
+
+pub returns-in-Vector-clause-probes : goal.returns-in-Vector-clause-probes
+returns-in-Vector-clause-probes c = eq_more _ _ _ _ c.read_vector.ensures.steps
+
+pub returns-in-Table-clause-ok : goal.returns-in-Table-clause-ok
+returns-in-Table-clause-ok c = c.read_table.ensures.ok
+
+pub returns-in-Table-clause-fine : goal.returns-in-Table-clause-fine
+returns-in-Table-clause-fine c = c.read_table.ensures.fine c.args.inside (le_one c.args.inside _ c.requires.inside)
+
+pub returns-in-Table-clause-grows : goal.returns-in-Table-clause-grows
+returns-in-Table-clause-grows c = c.read_table.ensures.grows
+
+pub returns-in-Table-clause-probes : goal.returns-in-Table-clause-probes
+returns-in-Table-clause-probes c = one_probe _ _ _ c.read_table.ensures.cost
+
+pub returns-in-Union-clause-ok : goal.returns-in-Union-clause-ok
+returns-in-Union-clause-ok c = c.read_union.ensures.ok
+
+pub returns-in-Union-clause-err : goal.returns-in-Union-clause-err
+returns-in-Union-clause-err c = c.read_union.ensures.err
+
+pub returns-in-Union-clause-told : goal.returns-in-Union-clause-told
+returns-in-Union-clause-told c = c.read_union.ensures.told
+
+pub returns-in-Union-clause-grows : goal.returns-in-Union-clause-grows
+returns-in-Union-clause-grows c = c.read_union.ensures.grows

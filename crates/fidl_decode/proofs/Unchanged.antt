@@ -1,0 +1,24 @@
+-- What a return says that changes nothing.
+use Rattle.std.proofs.Common.{◌≡◌, ℕ, ◌≤◌, Bool, false, true, arith}
+use Rattle.std.specs.Prelude.{Result, Ok, Err, IfOk}
+use Rattle.std.specs.Result.{IsErrAnd}
+
+-- a `false` is no `true`
+pub no_true : false ≡ true → ⊥
+no_true e = cc
+
+pub no_false : true ≡ false → ⊥
+no_false e = cc
+
+-- steps that are not taken are no fewer
+pub same_le : (n : ℕ) → n ≤ n
+same_le n = omega arith
+
+-- nor where a `?` passes an error on is there a value of which something would have to hold
+pub no_ok : {T E : Type 0} (r : Result T E) (e : E) (P : T → Type 0) → IsErrAnd r (λ y. y ≡ e) → IfOk r P
+no_ok (Ok x) e P h = absurd h
+no_ok (Err y) e P h = tt
+
+-- what a test says is not so
+pub clash : {b : Bool} → b ≡ true → b ≡ false → ⊥
+clash is not = cc

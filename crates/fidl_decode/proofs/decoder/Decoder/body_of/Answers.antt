@@ -1,0 +1,28 @@
+use Rattle.std.proofs.Common.{refl, ap, ◌∙◌, arith}
+use Rattle.fidl_records.specs.declared.record.Entry.{Entry}
+use Rattle.fidl_records.specs.Section.{header_of}
+use Rattle.fidl_decode.proofs.decoder.Decoder.body_of.Goals as goal
+
+pub returns-clause-fine : goal.returns-clause-fine
+returns-clause-fine c = record {
+  table = c.bytes-table.ensures.value;
+  header = c.read_header.ensures ∙ ap header_of c.bytes-table.ensures.value;
+  well = c.bytes-table.ensures.well_formed;
+  entry = c.requires.entry;
+  is = c.requires.kind;
+  first = ap (λ (d : Entry). d.first) c.entry-parts.ensures.value;
+  known = omega (arith, c.min.ensures, ap (λ (d : Entry). d.count) c.entry-parts.ensures.value);
+  few = omega (arith, c.min.ensures);
+}
+
+pub returns-clause-entry : goal.returns-clause-entry
+returns-clause-entry c = refl
+
+pub returns-clause-base : goal.returns-clause-base
+returns-clause-base c = refl
+
+pub returns-clause-count : goal.returns-clause-count
+returns-clause-count c = refl
+
+pub returns-clause-depth : goal.returns-clause-depth
+returns-clause-depth c = refl

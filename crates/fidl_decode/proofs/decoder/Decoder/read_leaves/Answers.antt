@@ -1,0 +1,117 @@
+use Rattle.fidl_decode.proofs.Unchanged.{same_le}
+use Rattle.fidl_decode.proofs.Fitting.{le_more}
+use Rattle.fidl_decode.proofs.decoder.Decoder.read_leaves.Goals as goal
+
+pub read_boxed-requires-clause-table : goal.read_boxed-requires-clause-table
+read_boxed-requires-clause-table c = c.requires.table
+
+pub read_boxed-requires-clause-short : goal.read_boxed-requires-clause-short
+read_boxed-requires-clause-short c = c.requires.short
+
+pub read_boxed-requires-clause-frame : goal.read_boxed-requires-clause-frame
+read_boxed-requires-clause-frame c = c.requires.frame
+
+pub read_boxed-requires-clause-state : goal.read_boxed-requires-clause-state
+read_boxed-requires-clause-state c = c.requires.state
+
+pub read_boxed-requires-clause-budget : goal.read_boxed-requires-clause-budget
+read_boxed-requires-clause-budget c = c.requires.budget
+
+pub read_elements-requires-clause-table : goal.read_elements-requires-clause-table
+read_elements-requires-clause-table c = c.requires.table
+
+pub read_elements-requires-clause-short : goal.read_elements-requires-clause-short
+read_elements-requires-clause-short c = c.requires.short
+
+pub read_elements-requires-clause-frame : goal.read_elements-requires-clause-frame
+read_elements-requires-clause-frame c = c.requires.frame
+
+pub read_elements-requires-clause-state : goal.read_elements-requires-clause-state
+read_elements-requires-clause-state c = c.requires.state
+
+pub read_elements-requires-clause-budget : goal.read_elements-requires-clause-budget
+read_elements-requires-clause-budget c = c.requires.budget
+
+pub read_content-requires-clause-table : goal.read_content-requires-clause-table
+read_content-requires-clause-table c = c.requires.table
+
+pub read_content-requires-clause-short : goal.read_content-requires-clause-short
+read_content-requires-clause-short c = c.requires.short
+
+pub read_content-requires-clause-frame : goal.read_content-requires-clause-frame
+read_content-requires-clause-frame c = c.requires.frame
+
+pub read_content-requires-clause-state : goal.read_content-requires-clause-state
+read_content-requires-clause-state c = c.requires.state
+
+pub read_content-requires-clause-budget : goal.read_content-requires-clause-budget
+read_content-requires-clause-budget c = c.requires.budget
+
+pub returns-in-Envelopes-clause-ended : goal.returns-in-Envelopes-clause-ended
+returns-in-Envelopes-clause-ended c = tt
+
+pub returns-in-Envelopes-clause-err : goal.returns-in-Envelopes-clause-err
+returns-in-Envelopes-clause-err c = tt
+
+pub returns-in-Envelopes-clause-told : goal.returns-in-Envelopes-clause-told
+returns-in-Envelopes-clause-told c = tt
+
+pub returns-in-Rows-clause-ok : goal.returns-in-Rows-clause-ok
+returns-in-Rows-clause-ok c = c.read_boxed.ensures.ok
+
+pub returns-in-Rows-clause-grows : goal.returns-in-Rows-clause-grows
+returns-in-Rows-clause-grows c = c.read_boxed.ensures.grows
+
+pub returns-in-Rows-clause-ended : goal.returns-in-Rows-clause-ended
+returns-in-Rows-clause-ended c = c.read_boxed.ensures.ended
+
+pub returns-in-Rows-clause-cost : goal.returns-in-Rows-clause-cost
+returns-in-Rows-clause-cost c = c.read_boxed.ensures.cost
+
+pub returns-in-Rows-clause-err : goal.returns-in-Rows-clause-err
+returns-in-Rows-clause-err c = c.read_boxed.ensures.err
+
+pub returns-in-Rows-clause-told : goal.returns-in-Rows-clause-told
+returns-in-Rows-clause-told c = c.read_boxed.ensures.told
+
+pub returns-in-Elements-clause-ok : goal.returns-in-Elements-clause-ok
+returns-in-Elements-clause-ok c = c.read_elements.ensures.ok
+
+pub returns-in-Elements-clause-grows : goal.returns-in-Elements-clause-grows
+returns-in-Elements-clause-grows c = c.read_elements.ensures.grows
+
+pub returns-in-Elements-clause-ended : goal.returns-in-Elements-clause-ended
+returns-in-Elements-clause-ended c = c.read_elements.ensures.ended
+
+pub returns-in-Elements-clause-cost : goal.returns-in-Elements-clause-cost
+returns-in-Elements-clause-cost c = c.read_elements.ensures.cost
+
+pub returns-in-Elements-clause-err : goal.returns-in-Elements-clause-err
+returns-in-Elements-clause-err c = c.read_elements.ensures.err
+
+pub returns-in-Elements-clause-told : goal.returns-in-Elements-clause-told
+returns-in-Elements-clause-told c = c.read_elements.ensures.told
+
+pub returns-in-Content-clause-ok : goal.returns-in-Content-clause-ok
+returns-in-Content-clause-ok c = c.read_content.ensures.ok
+
+pub returns-in-Content-clause-grows : goal.returns-in-Content-clause-grows
+returns-in-Content-clause-grows c = c.read_content.ensures.grows
+
+pub returns-in-Content-clause-ended : goal.returns-in-Content-clause-ended
+returns-in-Content-clause-ended c = c.read_content.ensures.ended
+
+pub returns-in-Content-clause-cost : goal.returns-in-Content-clause-cost
+returns-in-Content-clause-cost c = c.read_content.ensures.cost
+
+pub returns-in-Content-clause-err : goal.returns-in-Content-clause-err
+returns-in-Content-clause-err c = c.read_content.ensures.err
+
+pub returns-in-Content-clause-told : goal.returns-in-Content-clause-told
+returns-in-Content-clause-told c = c.read_content.ensures.told
+
+pub returns-in-Envelopes-clause-grows : goal.returns-in-Envelopes-clause-grows
+returns-in-Envelopes-clause-grows c = same_le _
+
+pub returns-in-Envelopes-clause-cost : goal.returns-in-Envelopes-clause-cost
+returns-in-Envelopes-clause-cost c = le_more _ _
