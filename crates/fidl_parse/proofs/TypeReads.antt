@@ -1,15 +1,13 @@
 -- The parts of types and layouts, read one after another, are the whole.
-use Rattle.std.proofs.Common.{Vec, Box, Global, ◌≡◌, ℕ, List, ◌++◌, Option, None, Some, codes, ap, sym, subst, ◌∙◌}
+use Rattle.std.proofs.Common.{Vec, Global, ◌≡◌, ℕ, List, ◌++◌, Option, codes, sym, subst}
 use Rattle.fidl_span.specs.declared.words.Span.{Span}
 use Rattle.fidl_span.specs.declared.words.WordKind.TheVariants as kind
 use Rattle.fidl_tree.specs.Leaf.{Leaf, symbol, name, keyword, optional}
 use Rattle.fidl_tree.specs.Attribute.{attributes_leaves}
-use Rattle.fidl_tree.specs.Constraint.{constraints_leaves}
 use Rattle.fidl_tree.specs.Keyword.{strictness_leaves, resource_leaves, values_keyword_leaves, union_modifiers_leaves}
 use Rattle.fidl_tree.specs.ValueMember.{value_member_leaves}
-use Rattle.fidl_tree.specs.TypeConstructor.{type_leaves, named_leaves, type_arguments_leaves, next_type_argument_leaves, type_argument_leaves, layout_leaves, layout_body_leaves, values_layout_leaves, struct_layout_leaves, table_layout_leaves, union_layout_leaves, underlying_leaves, member_leaves, ordinal_member_leaves, ordinal_body_leaves}
+use Rattle.fidl_tree.specs.TypeConstructor.{type_leaves, named_leaves, layout_leaves, layout_body_leaves, values_layout_leaves, struct_layout_leaves, table_layout_leaves, union_layout_leaves, underlying_leaves, member_leaves, ordinal_member_leaves, ordinal_body_leaves}
 use Rattle.fidl_tree.specs.declared.attribute.Attribute.{Attribute}
-use Rattle.fidl_tree.specs.declared.constraint.Constraints.{Constraints}
 use Rattle.fidl_tree.specs.declared.keyword.Strictness.{Strictness}
 use Rattle.fidl_tree.specs.declared.keyword.Resource.{Resource}
 use Rattle.fidl_tree.specs.declared.keyword.ValuesKeyword.{ValuesKeyword}
@@ -17,8 +15,6 @@ use Rattle.fidl_tree.specs.declared.keyword.UnionModifiers.{UnionModifiers}
 use Rattle.fidl_tree.specs.declared.value_member.ValueMember.{ValueMember}
 use Rattle.fidl_tree.specs.declared.type_constructor.TypeConstructor.{TypeConstructor}
 use Rattle.fidl_tree.specs.declared.type_constructor.NamedType.{NamedType}
-use Rattle.fidl_tree.specs.declared.type_constructor.NextTypeArgument.{NextTypeArgument}
-use Rattle.fidl_tree.specs.declared.type_constructor.TypeArgument.{TypeArgument}
 use Rattle.fidl_tree.specs.declared.type_constructor.LayoutBody.{LayoutBody}
 use Rattle.fidl_tree.specs.declared.type_constructor.ValuesLayout.{roll-ValuesLayout}
 use Rattle.fidl_tree.specs.declared.type_constructor.StructLayout.{roll-StructLayout}

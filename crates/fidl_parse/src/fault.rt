@@ -69,7 +69,7 @@ impl From<AllocError> for ParseFault {
 }
 
 /// Why a part could not be read. The parser's place says at which word it stopped.
-#[derive(Clone, Copy, Debug, PartialEq, Eq)]
+#[derive(Clone, Copy)]
 pub(crate) enum Stop {
     Unexpected,
     Memory,
