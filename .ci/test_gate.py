@@ -392,6 +392,9 @@ echo made > out.fct; echo entries $#, roots 0, protocols 0, methods 0, bytes 40"
             unknown = [it for it in paths if it in said.get("unknown", ())]
             if unknown:
                 return types.SimpleNamespace(returncode=2, stdout=f"rattle: error: `low` has no function `{unknown[0]}`: help")
+            shared = [it for it in paths if it in said.get("shared", ())]
+            if shared:
+                return types.SimpleNamespace(returncode=2, stdout=f"rattle: error: several functions are named `{shared[0]}`: help")
             lines = [f"fn low::{it}: {said.get(it, 'proved')}" for it in paths] if texts else []
             bad = sum(not it.endswith(": proved") for it in lines)
             return types.SimpleNamespace(returncode=int(bad > 0), stdout="\n".join([*lines, f"only={len(paths)} proved={len(paths) - bad}"]))
@@ -417,6 +420,13 @@ echo made > out.fct; echo entries $#, roots 0, protocols 0, methods 0, bytes 40"
         self.assertEqual([paths for _, paths in asked], [["BoxHeld::second", "first"], ["first", "BoxHeld::second"], ["BoxHeld::second", "first"]])
         self.assertIn("    1\n", asked[1][0]["src/lib.rt"])
         self.assertIn("        2\n", asked[1][0]["src/lib.rt"])
+
+    def test_an_end_that_several_functions_share_gives_way_to_the_module(self):
+        said = {"unknown": ["a::BoxHeld::second", "BoxHeld::second"], "shared": ["second"], "a": self.NO_PROOF}
+        trial, asked = self.trial({"b": ("two", "2")}, said)
+        trial.bodies[0].path, trial.bodies[0].module = "a::BoxHeld::second", "a"
+        self.assertEqual(trial.settled_paths(""), ["a"])
+        self.assertEqual([paths for _, paths in asked], [["a::BoxHeld::second"], ["BoxHeld::second"], ["second"], ["a"]])
 
     def test_what_only_the_whole_crate_refuses(self):
         for kind, wanted in ((True, True), ("refused", True), ("limit", True), (False, False), ("missed", False), ("unsure", False)):
@@ -469,6 +479,8 @@ echo made > out.fct; echo entries $#, roots 0, protocols 0, methods 0, bytes 40"
         self.assertEqual(of("src/a/b.rt", "1\n"), "a::b::TableRead::one")
         self.assertEqual(of("src/lib.rt", "2\n"), "two")
         self.assertEqual(of("src/a.rt", "3;"), "a")
+        text = "impl From<Low> for High {\n    fn from(of: Low) -> High {\n        1\n    }\n}\nimpl<'t, T: Drop> From<Held<'t, T>> for High {\n    fn from(of: Held<'t, T>) -> High {\n        2\n    }\n}\n"
+        self.assertEqual([of("src/a.rt", it) for it in ("1\n", "2\n")], ["a::HighFromLow::from", "a::HighFromHeld::from"])
 
     def test_a_change_during_the_run_fails_it(self):
         status, lines = self.run_with("--record", f'echo more >> {self.root}/crates/low/src/lib.rt; echo "9 passed, 0 failed"')

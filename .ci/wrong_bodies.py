@@ -57,7 +57,7 @@ def module_of(path):
     return [it for it in parts if it not in ("lib", "main", "mod")]
 
 
-IMPL = re.compile(r"^(?:unsafe )?impl(?:<[^{]*?>)? +(?:([\w:]+)(?:<[^{]*>)? for )?(\w+)")
+IMPL = re.compile(r"^(?:unsafe )?impl(?:<[^{]*?>)? +(?:([\w:]+)(?:<(?:'\w+, *)*(\w*)[^{]*>)? for )?(\w+)")
 FUNCTION = re.compile(r"\s*(?:pub(?:\([\w: ]+\))? +)?(?:const +)?(?:unsafe +)?fn +(\w+)")
 CYCLE = re.compile(r"\s*#\[cycle\((\w+)\)\]")
 
@@ -75,7 +75,7 @@ def function_of(path, old, new):
                 break
         found = IMPL.match(lines[k])
         if found:
-            of = found[2] + (found[1] or "").rpartition("::")[2]
+            of = found[3] + (found[1] or "").rpartition("::")[2] + (found[2] or "")
             break
         if lines[k].startswith("}") and k < at:
             break
@@ -136,10 +136,10 @@ class WrongBody:
         ranges = [(path, it) for path in self.texts for it in changes(self.old[path], self.texts[path])]
         return {function_of(path, self.old[path], merged_at(self.old[path], it)) for path, it in ranges} == {self.function}
 
-    def shorten(self):
+    def shorten(self, is_shared=False):
         """Has the check asked for a shorter end of the function's path, or for the module: a method of a type of another module
-        bears that module's name."""
-        self.path = self.path.partition("::")[2] or self.module
+        bears that module's name. An end that several functions share names none of them."""
+        self.path = (not is_shared and self.path.partition("::")[2]) or self.module
 
 
 def merged_at(old, change):
@@ -201,12 +201,12 @@ class Trial:
         while True:
             paths = sorted({it.path for it in self.bodies if it.path})
             status, lines = self.ask({}, paths, kept)
-            unknown = re.search(r"has no function `([^`]*)`", "\n".join(lines)) if status == 2 else None
-            bodies = [it for it in self.bodies if unknown and it.path == unknown[1] and it.path != it.module]
+            unclear = re.search(r"(has no function|several functions are named) `([^`]*)`", "\n".join(lines)) if status == 2 else None
+            bodies = [it for it in self.bodies if unclear and it.path == unclear[2] and it.path != it.module]
             if not bodies:
                 return paths
             for body in bodies:
-                body.shorten()
+                body.shorten(is_shared=unclear[1] != "has no function")
 
     def refused_together(self, group, kept):
         """Returns the wrong bodies of a group that one check refuses, each for a reason of its own, with what refused them."""
