@@ -82,7 +82,7 @@ int main(int count, char** words) {
   Printer printer{count > 1 ? words[1] : nullptr, count > 2 ? strtoull(words[2], nullptr, 10) : 0};
   printf("%-8s %-12s %-24s %7s %12s %12s\n", "shape", "codec", "operation", "bytes", "ns/message", "allocations");
 
-  fidl_lines(printer, "records", {"bench/Records", fidl_records(), fidl_bench_read_records}, sum_of_records());
+  fidl_lines(printer, "records", {"bench/Records", fidl_table_format(), fidl_bench_read_records}, sum_of_records());
   flat_lines<flat::Records>(printer, "records", sum_of_records());
   capn_lines<capn::Records>(printer, "records", sum_of_records());
   proto_lines<proto::Records>(printer, "records", sum_of_records());

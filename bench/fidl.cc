@@ -148,7 +148,7 @@ std::string fidl_table() {
   return table.whole();
 }
 
-std::string fidl_records() {
+std::string fidl_table_format() {
   Bytes message;
   size_t items = message.claim(16);
   message.put(items, RECORDS, 8);

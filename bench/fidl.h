@@ -28,6 +28,6 @@ struct FidlShape {
 };
 
 std::string fidl_table();
-std::string fidl_records();
+std::string fidl_table_format();
 std::string fidl_chain();
 std::string fidl_wide();

@@ -5,11 +5,11 @@ use Rattle.std.proofs.lemmas.Bool.{cases_order}
 use Rattle.fidl_wire.specs.Value.{Value}
 use Rattle.fidl_wire.specs.Term as ty
 use Rattle.fidl_wire.specs.Message.{Encodes, IsEncoding}
-use Rattle.fidl_records.specs.declared.record.Header.{Header}
-use Rattle.fidl_records.specs.Section.{header_of, root_at}
-use Rattle.fidl_records.specs.Terms.{declarations_of}
-use Rattle.fidl_records.specs.Root.{IsRootEntry, HasNoRoot}
-use Rattle.fidl_records.specs.WellFormed.{WellFormed}
+use Rattle.fidl_table_format.specs.declared.record.Header.{Header}
+use Rattle.fidl_table_format.specs.Section.{header_of, root_at}
+use Rattle.fidl_table_format.specs.Terms.{declarations_of}
+use Rattle.fidl_table_format.specs.Root.{IsRootEntry, HasNoRoot}
+use Rattle.fidl_table_format.specs.WellFormed.{WellFormed}
 use Rattle.fidl_bench.specs.declared.failure.Failure.{Failure}
 use Rattle.fidl_bench.specs.declared.failure.Failure.TheVariants.{BadTable, NoRoot, NoMemory, Refused, OtherShape, OtherSum}
 use Rattle.fidl_bench.specs.Failures.{IsRootOf, LacksRoot, IsValueOf, IsMessageOf, IsWhy, IsWhyUnread}

@@ -5,10 +5,10 @@ use Rattle.fidl_wire.specs.Term.{Term}
 use Rattle.fidl_wire.specs.Term as ty
 use Rattle.fidl_wire.specs.Figure.{Declarations}
 use Rattle.fidl_wire.specs.Message.{Encodes, IsEncoding}
-use Rattle.fidl_records.specs.Section.{header_of}
-use Rattle.fidl_records.specs.Terms.{declarations_of}
-use Rattle.fidl_records.specs.Root.{IsRootEntry, HasNoRoot}
-use Rattle.fidl_records.specs.WellFormed.{WellFormed}
+use Rattle.fidl_table_format.specs.Section.{header_of}
+use Rattle.fidl_table_format.specs.Terms.{declarations_of}
+use Rattle.fidl_table_format.specs.Root.{IsRootEntry, HasNoRoot}
+use Rattle.fidl_table_format.specs.WellFormed.{WellFormed}
 use Rattle.fidl_bench.specs.declared.shape.Shape.{Shape}
 use Rattle.fidl_bench.specs.declared.shape.Shape.TheVariants.{Records, Chain, Wide}
 use Rattle.fidl_bench.specs.declared.failure.Failure.{Failure}

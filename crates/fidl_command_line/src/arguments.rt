@@ -66,7 +66,7 @@ fn is_hex(text: &str) -> bool
 /// The bytes of a message, from their text.
 fn read_bytes(alloc: Global, text: &str) -> Result<Vec<u8>, Unread>
     ensures ok { IfOk result (λ bytes. decode_of text.now ≡ Ok bytes.items) }
-    ensures err { IfErr result (IsTold unread.BadHex
+    ensures fault_is_true { IfErr result (IsTold unread.BadHex
         (IsErr (decode_of text.now)) (IsOk (decode_of text.now))) }
 {
     match hex::decode(alloc, text) {
@@ -93,7 +93,7 @@ fn are_handles(texts: &[&str]) -> bool
 fn read_handles(alloc: Global, texts: &[&str]) -> Result<Vec<HandleInfo>, Unread>
     ensures ok { IfOk result (λ handles.
         AllZip IsHandleText (map (λ text. text.now) texts.now) handles.items) }
-    ensures err { IfErr result (IsTold unread.BadHandle
+    ensures fault_is_true { IfErr result (IsTold unread.BadHandle
         (HasNoHandleText (map (λ text. text.now) texts.now))
         (AreHandleTexts (map (λ text. text.now) texts.now))) }
 {
@@ -124,7 +124,7 @@ fn value_of<'a>(matches: &ArgMatches<'a>, id: &str) -> Option<&'a str>
 fn given_handles(alloc: Global, matches: &ArgMatches<'_>) -> Result<Vec<HandleInfo>, Unread>
     ensures ok { IfOk result (λ handles.
         AllZip IsHandleText (handle_texts (rows_of (found_of matches.now))) handles.items) }
-    ensures err { IfErr result (IsTold unread.BadHandle
+    ensures fault_is_true { IfErr result (IsTold unread.BadHandle
         (HasNoHandleText (handle_texts (rows_of (found_of matches.now))))
         (AreHandleTexts (handle_texts (rows_of (found_of matches.now))))) }
 {
@@ -137,7 +137,7 @@ fn given_handles(alloc: Global, matches: &ArgMatches<'_>) -> Result<Vec<HandleIn
 /// What `fidl decode` was given.
 fn read_decode<'a>(alloc: Global, matches: &ArgMatches<'a>) -> Result<DecodeArguments<'a>, Unread>
     ensures ok { IfOk result (IsDecode (rows_of (found_of matches.now))) }
-    ensures err { IfErr result (IsNoDecode (rows_of (found_of matches.now))) }
+    ensures fault_is_true { IfErr result (IsNoDecode (rows_of (found_of matches.now))) }
 {
     let (Some(table), Some(root), Some(hex)) = (
         value_of(matches, "TABLE"),
@@ -172,7 +172,7 @@ fn is_among(name: &str, names: &[&str]) -> bool
 /// What `fidl compile` was given.
 fn read_compile<'a>(alloc: Global, matches: &ArgMatches<'a>) -> Result<CompileArguments<'a>, Unread>
     ensures ok { IfOk result (IsCompile (rows_of (found_of matches.now))) }
-    ensures err { IfErr result (IsNoCompile (rows_of (found_of matches.now))) }
+    ensures fault_is_true { IfErr result (IsNoCompile (rows_of (found_of matches.now))) }
 {
     let Some(out) = value_of(matches, "out") else {
         return Err(Unread::Missing);
@@ -191,7 +191,7 @@ fn read_compile<'a>(alloc: Global, matches: &ArgMatches<'a>) -> Result<CompileAr
 fn read_table<'a>(matches: &ArgMatches<'a>) -> Result<&'a str, Unread>
     ensures ok { IfOk result
         (λ file. first_of (codes "TABLE") (rows_of (found_of matches.now)) ≡ Some file.now) }
-    ensures err { IfErr result (λ u. (u ≡ unread.Missing)
+    ensures fault_is_true { IfErr result (λ u. (u ≡ unread.Missing)
         × (first_of (codes "TABLE") (rows_of (found_of matches.now)) ≡ None)) }
 {
     match value_of(matches, "TABLE") {
@@ -203,7 +203,7 @@ fn read_table<'a>(matches: &ArgMatches<'a>) -> Result<&'a str, Unread>
 /// Reads the words of a command line, of which the first is the program's name.
 pub fn read_arguments<'a, S: AsStr>(alloc: Global, words: &'a [S]) -> Result<Arguments<'a>, Unread>
     ensures ok { IfOk result (IsGiven (map S.text words.entry.now)) }
-    ensures err { IfErr result (IsUngiven (map S.text words.entry.now)) }
+    ensures fault_is_true { IfErr result (IsUngiven (map S.text words.entry.now)) }
 {
     let matches = match command_line(alloc)?.try_get_matches_from(words) {
         Ok(matches) => matches,

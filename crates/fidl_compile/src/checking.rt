@@ -21,7 +21,7 @@ pub(crate) fn add_files<'f, 's>(
 ) -> Result<LibrarySet<'f, 's>, CompileFault>
     ensures ok { IfOk result (λ set. set ≡ files.now) }
     ensures distinct { OnOk result (AreDistinct (all_declared files.now)) }
-    ensures refused { IfErr result (AddingRefused files.now) }
+    ensures fault_is_true { IfErr result (AddingRefused files.now) }
 {
     let mut set = LibrarySet::new(alloc);
     for file in files {
@@ -38,7 +38,7 @@ pub(crate) fn check_files<'f, 's>(
     requires distinct { AreDistinct (all_declared set) }
     ensures ok { IfOk result (λ checked. checked ≡ set.entry) }
     ensures kept { OnOk result ((ds : Declarations) × AreAccepted set.entry ds) }
-    ensures refused { IfErr result (FilesRefused set.entry) }
+    ensures fault_is_true { IfErr result (FilesRefused set.entry) }
 {
     let named = set.resolve()?;
     let consts = evaluate(alloc, &named)?;

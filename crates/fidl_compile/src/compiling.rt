@@ -1,6 +1,6 @@
 //! From sources to their table.
 ghost use Rattle.std.specs.Prelude.{IfOk, IfErr, map};
-ghost use Rattle.fidl_records.specs.WellFormed.{WellFormed};
+ghost use Rattle.fidl_table_format.specs.WellFormed.{WellFormed};
 ghost use Rattle.fidl_compile.specs.Sources.{IsTableOf};
 ghost use Rattle.fidl_compile.specs.Stages.{AreRefused};
 
@@ -21,7 +21,7 @@ use std::alloc::Global;
 pub fn compile(alloc: Global, sources: &[&[u8]]) -> Result<Vec<u8>, CompileFault>
     ensures well_formed { IfOk result (λ table. WellFormed table.items) }
     ensures shows { IfOk result (λ table. IsTableOf (map (λ s. s.now) sources.now) table.items) }
-    ensures refused { IfErr result (AreRefused (map (λ s. s.now) sources.now)) }
+    ensures fault_is_true { IfErr result (AreRefused (map (λ s. s.now) sources.now)) }
 {
     let Trees { files, stop } = read_sources(alloc, sources)?;
     let set = add_files(alloc, &files)?;

@@ -1,8 +1,8 @@
 //! Laws of the definitions: the contracts of functions that do nothing.
 ghost use Rattle.std.specs.Prelude.{◌≢◌, List};
 ghost use Rattle.fidl_tree.specs.declared.file.File.{File};
-ghost use Rattle.fidl_term.specs.declared.term.Definition.{Definition};
-ghost use Rattle.fidl_term.specs.Terms.{seen_definitions};
+ghost use Rattle.fidl_ir.specs.declared.term.Definition.{Definition};
+ghost use Rattle.fidl_ir.specs.Terms.{definitions_view};
 ghost use Rattle.fidl_wire.specs.Figure.{Figure};
 ghost use Rattle.fidl_compile.specs.declared.fault.CompileFault.{CompileFault};
 ghost use Rattle.fidl_compile.specs.declared.fault.CompileFault.TheVariants as Faults;
@@ -21,7 +21,7 @@ pub fn refused_files_break_a_rule()
     ensures { (files : List File) (fault : CompileFault) (definitions : List Definition)
         (figures : List Figure) → fault ≢ Faults.Memory → FilesRefused files fault
         → AreAccepted files (record {
-          terms = seen_definitions definitions;
+          terms = definitions_view definitions;
           figures = figures;
         }) → ⊥ }
 {

@@ -41,7 +41,7 @@ fn parse_fault(file: usize, fault: ParseFault) -> CompileFault
 /// The tree of a source.
 fn read_source<'s>(alloc: Global, file: usize, src: &'s [u8]) -> Result<File<'s>, CompileFault>
     ensures ok { IfOk result (ReadsAs src.now) }
-    ensures refused { IfErr result (SourceRefused src.now file) }
+    ensures fault_is_true { IfErr result (SourceRefused src.now file) }
 {
     let tokens = match lex(alloc, src) {
         Ok(tokens) => tokens,

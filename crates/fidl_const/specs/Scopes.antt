@@ -83,8 +83,8 @@ abbrev pub IsString : NamedFile → TypeConstructor → Type 0
 IsString f t = IsStringType f.named.now f.tree.now t
 
 -- a name as the code has it
-abbrev pub seen_path : Option (Bor Path) → Option plain.Path
-seen_path path = option_map path_view (option_copied path)
+abbrev pub optional_path_view : Option (Bor Path) → Option plain.Path
+optional_path_view path = option_map path_view (option_copied path)
 
 -- the numbers of the members of bits or an enum are of this kind, by the keyword and the name of
 -- the underlying type
@@ -213,14 +213,14 @@ RefusesMembers s kind members fault = MembersFail s.file.named.now s.file.tree.n
 -- the places of members, of a number as an argument and of a type's name
 abbrev pub members_place : ValuesKeyword → Option (Bor Path) → List ValueMember → NamePlace
 members_place keyword underlying members =
-    a_members (kind_view keyword) (seen_path underlying) (map value_member_view members)
+    a_members (kind_view keyword) (optional_path_view underlying) (map value_member_view members)
 
 abbrev pub number_place : Option (Bor Path) → Span → NamePlace
-number_place argument_of word = a_number (seen_path argument_of) word
+number_place argument_of word = a_number (optional_path_view argument_of) word
 
 abbrev pub type_place : Option (Bor Path) → Path → Option (Bor Constraints) → NamePlace
 type_place argument_of path cs =
-    a_type (seen_path argument_of) (path_view path) (constraints_view (option_copied cs))
+    a_type (optional_path_view argument_of) (path_view path) (constraints_view (option_copied cs))
 
 abbrev pub HoldsPlace : FileScope → NamePlace → Type 0
 HoldsPlace s place = PlaceHolds s.file.named.now s.file.tree.now place

@@ -85,8 +85,8 @@ file_of (meaning.PropertyMember p n i) = p.file
 file_of (meaning.Predeclared n) = 0
 
 -- names as the code has them
-abbrev pub seen_uses : List NameUse → List (Wanted × Path)
-seen_uses uses = map (λ (u : NameUse). (u.kind, path_view u.path.now)) uses
+abbrev pub name_uses_view : List NameUse → List (Wanted × Path)
+name_uses_view uses = map (λ (u : NameUse). (u.kind, path_view u.path.now)) uses
 
 -- names with their kinds are just those of which this is true
 pub record AreNames (P : Wanted → Path → Type 0) (uses : List (Wanted × Path)) : Type 0 where

@@ -7,7 +7,7 @@ ghost use Rattle.fidl_names.specs.Cycles.{points_of};
 ghost use Rattle.fidl_const.specs.Dependencies.{TypeUses, BodyUses, Uses, value_uses, path_uses};
 ghost use Rattle.fidl_const.specs.Dependencies.{constraint_uses};
 ghost use Rattle.fidl_const.specs.Tables.{AreNames, AreNumbered, AreRows, AreTargets, file_of};
-ghost use Rattle.fidl_const.specs.Tables.{seen_uses};
+ghost use Rattle.fidl_const.specs.Tables.{name_uses_view};
 
 use crate::consts::node_number;
 use crate::found::{declaration_at, member_at};
@@ -32,7 +32,7 @@ fn push_value<'f>(
     alloc: Global,
     value: &'f Value,
 ) -> Result<(), AllocError>
-    ensures { OnOk result (seen_uses uses.new.items ≡ seen_uses uses.old.items ++ value_uses
+    ensures { OnOk result (name_uses_view uses.new.items ≡ name_uses_view uses.old.items ++ value_uses
         (value_view value.now)) }
 {
     let paths = value_paths(alloc, value)?;
@@ -50,7 +50,7 @@ fn own_name<'f>(
     alloc: Global,
     constructor: &'f TypeConstructor,
 ) -> Result<Vec<NameUse<'f>>, AllocError>
-    ensures { IfOk result (λ uses. seen_uses uses.items ≡ path_uses (own_path constructor.now)) }
+    ensures { IfOk result (λ uses. name_uses_view uses.items ≡ path_uses (own_path constructor.now)) }
 {
     let mut uses = Vec::new(alloc);
     if let Some(path) = type_path(constructor) {
@@ -69,8 +69,8 @@ fn push_constraints<'f>(
     file: &File<'_>,
     constructor: &'f TypeConstructor,
 ) -> Result<(), AllocError>
-    ensures { OnOk result (seen_uses uses.new.items
-        ≡ seen_uses uses.old.items ++ constraint_uses file.now constructor.now) }
+    ensures { OnOk result (name_uses_view uses.new.items
+        ≡ name_uses_view uses.old.items ++ constraint_uses file.now constructor.now) }
 {
     let values = ordinary(alloc, file, type_constraints(constructor))?;
     for value in &values {
@@ -86,7 +86,7 @@ fn type_uses<'f>(
     constructor: &'f TypeConstructor,
 ) -> Result<Vec<NameUse<'f>>, AllocError>
     ensures { IfOk result (λ uses. AreNames
-        (TypeUses file.now.named.now file.now.tree.now constructor.now) (seen_uses uses.items)) }
+        (TypeUses file.now.named.now file.now.tree.now constructor.now) (name_uses_view uses.items)) }
 {
     let mut uses = own_name(alloc, constructor)?;
     if is_string_type(file, constructor)? {
@@ -102,7 +102,7 @@ fn body_uses<'f>(
     body: &'f DeclarationBody,
 ) -> Result<Vec<NameUse<'f>>, AllocError>
     ensures { IfOk result (λ uses. AreNames
-        (BodyUses file.now.named.now file.now.tree.now body.now) (seen_uses uses.items)) }
+        (BodyUses file.now.named.now file.now.tree.now body.now) (name_uses_view uses.items)) }
 {
     match body {
         DeclarationBody::Const(constant) => {
@@ -133,7 +133,7 @@ fn node_uses<'f>(
     meaning: Meaning,
 ) -> Result<Vec<NameUse<'f>>, AllocError>
     ensures { IfOk result (λ found. OfFile named.now (file_of meaning)
-        (λ f. AreNames (Uses named.now meaning f) (seen_uses found.items))) }
+        (λ f. AreNames (Uses named.now meaning f) (name_uses_view found.items))) }
 {
     match meaning {
         Meaning::Declared(id) => match declaration_at(named, id) {
@@ -170,7 +170,7 @@ fn targets(
     requires numbered { AreNumbered named.now numbers.now.nodes.items numbers.now.starts.items }
     requires within { file_index < length named.now }
     ensures { IfOk result (λ row. OfFile named.now file_index
-        (λ f. AreTargets named.now f numbers.now.starts.items (seen_uses uses.now) row.items)) }
+        (λ f. AreTargets named.now f numbers.now.starts.items (name_uses_view uses.now) row.items)) }
 {
     let mut row = Vec::new(alloc);
     for name in uses {

@@ -1,7 +1,7 @@
 //! The underlying types of bits and enums.
 ghost use Rattle.std.specs.Prelude.{Some, IfOk, IfErr};
 ghost use Rattle.fidl_const.specs.Tables.{IsMemoryOr};
-ghost use Rattle.fidl_const.specs.Scopes.{HasKind, RefusesKind, seen_path};
+ghost use Rattle.fidl_const.specs.Scopes.{HasKind, RefusesKind, optional_path_view};
 
 use crate::const_type::NumberKind;
 use crate::fault::ConstFault;
@@ -17,10 +17,10 @@ pub(crate) fn member_kind(
     keyword: &ValuesKeyword,
     underlying: Option<&Path>,
 ) -> Result<NumberKind, ConstFault>
-    ensures ok { IfOk result (λ kind. HasKind file.now keyword.now (seen_path underlying.entry)
+    ensures ok { IfOk result (λ kind. HasKind file.now keyword.now (optional_path_view underlying.entry)
         (Some kind)) }
     ensures fault_is_true { IfErr result (IsMemoryOr (RefusesKind file.now keyword.now
-        (seen_path underlying.entry))) }
+        (optional_path_view underlying.entry))) }
 {
     let Some(path) = underlying else {
         return Ok(NumberKind::Uint32);

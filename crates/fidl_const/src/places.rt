@@ -1,7 +1,7 @@
 //! The values at the places of declarations.
 ghost use Rattle.std.specs.Prelude.{◌↔◌, pos, IfErr, OnOk, IsTrue};
 ghost use Rattle.std.specs.List.{AllByRecursion};
-ghost use Rattle.fidl_names.specs.PlaceViews.{seen_place};
+ghost use Rattle.fidl_names.specs.PlaceViews.{name_place_view};
 ghost use Rattle.fidl_const.specs.declared.const_type.NumberKind.TheVariants as Kinds;
 ghost use Rattle.fidl_const.specs.Literals.{number_of};
 ghost use Rattle.fidl_const.specs.PlainValues.{InRange};
@@ -125,9 +125,9 @@ fn check_type(
 /// A place has the values that it owes.
 fn check_place(scope: &FileScope<'_, '_, '_, '_>, place: NamePlace<'_>) -> Result<(), ConstFault>
     requires known { KnowsAll scope.now }
-    ensures ok { OnOk result (HoldsPlace scope.now (seen_place place.entry)) }
+    ensures ok { OnOk result (HoldsPlace scope.now (name_place_view place.entry)) }
     ensures fault_is_true { IfErr result (IsMemoryOr (RefusesPlace scope.now
-        (seen_place place.entry))) }
+        (name_place_view place.entry))) }
 {
     match place {
         NamePlace::Name { .. } => Ok(()),

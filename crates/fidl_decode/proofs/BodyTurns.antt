@@ -6,14 +6,14 @@ use Rattle.fidl_wire.specs.Term.{Term, find}
 use Rattle.fidl_wire.specs.Term as ty
 use Rattle.fidl_wire.specs.Encoding.{zeros}
 use Rattle.fidl_wire.specs.Standing.{Stands}
-use Rattle.fidl_records.specs.declared.record.Row.{Row}
-use Rattle.fidl_records.specs.declared.kind.EntryKind.{EntryKind}
-use Rattle.fidl_records.specs.Section.{header_of, entry_at, row_at}
-use Rattle.fidl_records.specs.Uses.{uses_ordinals}
-use Rattle.fidl_records.specs.Entry.{kind_is}
+use Rattle.fidl_table_format.specs.declared.record.Row.{Row}
+use Rattle.fidl_table_format.specs.declared.kind.EntryKind.{EntryKind}
+use Rattle.fidl_table_format.specs.Section.{header_of, entry_at, row_at}
+use Rattle.fidl_table_format.specs.Uses.{uses_ordinals}
+use Rattle.fidl_table_format.specs.Entry.{kind_is}
 use Rattle.fidl_verify.proofs.Members.{if_some}
-use Rattle.fidl_records.specs.Kind.{kind_of}
-use Rattle.fidl_records.specs.Terms.{declarations_of, members_of, term_as}
+use Rattle.fidl_table_format.specs.Kind.{kind_of}
+use Rattle.fidl_table_format.specs.Terms.{declarations_of, members_of, term_as}
 use Rattle.fidl_wire.specs.Figure.{size_of}
 use Rattle.fidl_decode.specs.declared.body.TableBody.{TableBody}
 use Rattle.fidl_decode.specs.declared.frame.Frame.{Frame}

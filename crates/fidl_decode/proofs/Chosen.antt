@@ -12,13 +12,13 @@ use Rattle.fidl_wire.specs.Typed.{IsTypedMember}
 use Rattle.fidl_wire.specs.Encoding.{zeros, inline_only, enveloped}
 use Rattle.fidl_wire.specs.Standing.{Stands}
 use Rattle.fidl_wire.proofs.Stand.{stands_both}
-use Rattle.fidl_records.specs.declared.record.Row as raw
-use Rattle.fidl_records.specs.declared.kind.EntryKind.TheVariants.{Union}
-use Rattle.fidl_records.specs.declared.kind.EntryKind.{EntryKind}
-use Rattle.fidl_records.specs.declared.record.Entry.{Entry}
-use Rattle.fidl_records.specs.Kind.{kind_of}
-use Rattle.fidl_records.specs.Section.{header_of, entry_at}
-use Rattle.fidl_records.specs.Terms.{declarations_of, members_of, term_as, rows_from, is_optional, is_strict}
+use Rattle.fidl_table_format.specs.declared.record.Row as raw
+use Rattle.fidl_table_format.specs.declared.kind.EntryKind.TheVariants.{Union}
+use Rattle.fidl_table_format.specs.declared.kind.EntryKind.{EntryKind}
+use Rattle.fidl_table_format.specs.declared.record.Entry.{Entry}
+use Rattle.fidl_table_format.specs.Kind.{kind_of}
+use Rattle.fidl_table_format.specs.Section.{header_of, entry_at}
+use Rattle.fidl_table_format.specs.Terms.{declarations_of, members_of, term_as, rows_from, is_optional, is_strict}
 use Rattle.fidl_decode.specs.declared.fault.DecodeFault.{DecodeFault}
 use Rattle.fidl_decode.specs.declared.frame.Frame.{Frame}
 use Rattle.fidl_decode.specs.Invariants.{IsFine}

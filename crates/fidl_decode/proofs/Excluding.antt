@@ -10,16 +10,16 @@ use Rattle.fidl_wire.specs.Figure.{Declarations, Figure, figure_of, size_of, IsL
 use Rattle.fidl_wire.specs.Encoding.{zeros, present}
 use Rattle.fidl_wire.specs.Standing.{Stands, Carries}
 use Rattle.fidl_wire.specs.Typed.{InMask, IsAllowed}
-use Rattle.fidl_records.specs.Number.{number_standing}
+use Rattle.fidl_table_format.specs.Number.{number_standing}
 use Rattle.fidl_wire.specs.Message.{IsEncoding}
 use Rattle.fidl_wire.proofs.Sizes.{end_of-le, le-next_multiple_of}
 use Rattle.std.specs.Int.{next_multiple_of}
 use Rattle.fidl_wire.proofs.Unique.{bounded-resolve}
-use Rattle.fidl_records.specs.declared.record.Header.{Header}
-use Rattle.fidl_records.specs.declared.kind.EntryKind.{EntryKind}
-use Rattle.fidl_records.specs.declared.kind.EntryKind.TheVariants.{Vector, Array, Box, Struct}
-use Rattle.fidl_records.specs.Section.{header_of, entry_at}
-use Rattle.fidl_records.specs.Terms.{term_as, declarations_of, fields_from}
+use Rattle.fidl_table_format.specs.declared.record.Header.{Header}
+use Rattle.fidl_table_format.specs.declared.kind.EntryKind.{EntryKind}
+use Rattle.fidl_table_format.specs.declared.kind.EntryKind.TheVariants.{Vector, Array, Box, Struct}
+use Rattle.fidl_table_format.specs.Section.{header_of, entry_at}
+use Rattle.fidl_table_format.specs.Terms.{term_as, declarations_of, fields_from}
 use Rattle.fidl_decode.specs.Invariants.{EntryFine, IsFine}
 use Rattle.fidl_decode.specs.declared.fault.DecodeFault.{DecodeFault}
 use Rattle.fidl_decode.specs.declared.fault.DecodeFault.TheVariants.{TooLong, TooManyHandles, Truncated, Padding, BadBool, UnknownValue, UnknownBits, BadMarker, AbsentRequired, BadCount, OverBound, NotUtf8, BadEnvelope, WrongCounts, UnknownOrdinal, TooDeep, HandleMissing, WrongHandle, BytesLeft, HandlesLeft}

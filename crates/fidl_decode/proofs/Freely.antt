@@ -10,11 +10,11 @@ use Rattle.fidl_wire.specs.Standing.{Stands}
 use Rattle.fidl_wire.specs.Typed.{IsUnknownLength}
 use Rattle.fidl_wire.proofs.Sizes.{le-next_multiple_of}
 use Rattle.fidl_wire.proofs.Stand.{copies_stand, copies_are}
-use Rattle.fidl_records.specs.declared.kind.EntryKind.{EntryKind}
-use Rattle.fidl_records.specs.declared.kind.EntryKind.TheVariants.{Bool as Boolean, Struct}
-use Rattle.fidl_records.specs.declared.record.Entry.{Entry}
-use Rattle.fidl_records.specs.Kind.{kind_of}
-use Rattle.fidl_records.specs.Section.{header_of, entry_at}
+use Rattle.fidl_table_format.specs.declared.kind.EntryKind.{EntryKind}
+use Rattle.fidl_table_format.specs.declared.kind.EntryKind.TheVariants.{Bool as Boolean, Struct}
+use Rattle.fidl_table_format.specs.declared.record.Entry.{Entry}
+use Rattle.fidl_table_format.specs.Kind.{kind_of}
+use Rattle.fidl_table_format.specs.Section.{header_of, entry_at}
 use Rattle.fidl_decode.specs.Invariants.{IsFine, is_free}
 use Rattle.fidl_decode.specs.Faults.{IsWithin}
 use Rattle.fidl_decode.specs.declared.frame.Frame.{Frame}

@@ -14,12 +14,12 @@ use Rattle.fidl_wire.specs.Depth.{depth_of, elements_depth}
 use Rattle.fidl_wire.specs.Standing.{Stands, Carries}
 use Rattle.fidl_wire.proofs.Sizes.{length-elements, size_of-resolve, le-next_multiple_of}
 use Rattle.fidl_wire.proofs.Stand.{stands_front, stands_back, stands_both}
-use Rattle.fidl_records.specs.declared.record.Header.{Header}
-use Rattle.fidl_records.specs.declared.record.Entry.{Entry}
-use Rattle.fidl_records.specs.declared.kind.EntryKind.TheVariants.{Vector}
-use Rattle.fidl_records.specs.Kind.{kind_of}
-use Rattle.fidl_records.specs.Section.{header_of, entry_at}
-use Rattle.fidl_records.specs.Terms.{declarations_of, is_optional}
+use Rattle.fidl_table_format.specs.declared.record.Header.{Header}
+use Rattle.fidl_table_format.specs.declared.record.Entry.{Entry}
+use Rattle.fidl_table_format.specs.declared.kind.EntryKind.TheVariants.{Vector}
+use Rattle.fidl_table_format.specs.Kind.{kind_of}
+use Rattle.fidl_table_format.specs.Section.{header_of, entry_at}
+use Rattle.fidl_table_format.specs.Terms.{declarations_of, is_optional}
 use Rattle.fidl_decode.specs.Invariants.{IsFine}
 use Rattle.fidl_decode.specs.declared.fault.DecodeFault.{DecodeFault}
 use Rattle.fidl_decode.specs.declared.fault.DecodeFault.TheVariants.{BadMarker, AbsentRequired, BadCount, OverBound, TooDeep, Truncated}

@@ -10,10 +10,10 @@ use Rattle.fidl_wire.specs.Figure.{Declarations, figure_of, size_of}
 use Rattle.fidl_wire.specs.Typed.{IsTyped}
 use Rattle.fidl_wire.specs.Encoding.{zeros}
 use Rattle.fidl_wire.specs.Standing.{Stands}
-use Rattle.fidl_records.specs.declared.kind.EntryKind.{EntryKind}
-use Rattle.fidl_records.specs.declared.kind.EntryKind.TheVariants.{Table, Union}
-use Rattle.fidl_records.specs.Section.{header_of, entry_at, row_at}
-use Rattle.fidl_records.specs.Terms.{term_as, term_of, declarations_of, below, rows_from}
+use Rattle.fidl_table_format.specs.declared.kind.EntryKind.{EntryKind}
+use Rattle.fidl_table_format.specs.declared.kind.EntryKind.TheVariants.{Table, Union}
+use Rattle.fidl_table_format.specs.Section.{header_of, entry_at, row_at}
+use Rattle.fidl_table_format.specs.Terms.{term_as, term_of, declarations_of, below, rows_from}
 use Rattle.fidl_decode.specs.Invariants.{IsFine}
 use Rattle.fidl_decode.specs.Rows.{Row, RowsRise}
 use Rattle.fidl_decode.specs.State.{Message, At, member_at, begun, Item, Members}

@@ -15,8 +15,8 @@ use Rattle.fidl_wire.specs.Encoding.{Encoding, zeros, present, pad8, object, enc
 use Rattle.fidl_wire.specs.Standing.{Stands, Carries}
 use Rattle.fidl_wire.proofs.Sizes.{le-next_multiple_of}
 use Rattle.fidl_wire.proofs.Stand.{stands_front, stands_back, stands_both}
-use Rattle.fidl_records.specs.Section.{header_of}
-use Rattle.fidl_records.specs.Terms.{declarations_of}
+use Rattle.fidl_table_format.specs.Section.{header_of}
+use Rattle.fidl_table_format.specs.Terms.{declarations_of}
 use Rattle.fidl_decode.specs.Invariants.{IsFine}
 use Rattle.fidl_decode.specs.declared.fault.DecodeFault.{DecodeFault}
 use Rattle.fidl_decode.specs.declared.frame.Frame.{Frame}

@@ -3,7 +3,7 @@ use Rattle.std.proofs.Common.{◌≡◌, ℕ, ◌+◌, ◌-◌, ◌*◌, ◌≤�
 use Rattle.std.specs.Prelude.{◌↔◌, ◌⊎◌, Option}
 use Rattle.fidl_wire.specs.Term.{Term}
 use Rattle.fidl_wire.specs.Term as ty
-use Rattle.fidl_records.specs.Terms.{declarations_of}
+use Rattle.fidl_table_format.specs.Terms.{declarations_of}
 use Rattle.fidl_decode.specs.declared.fault.DecodeFault.{DecodeFault}
 use Rattle.fidl_decode.specs.declared.frame.Frame.{Frame}
 use Rattle.fidl_decode.specs.State.{Message, At}

@@ -16,8 +16,8 @@ use Rattle.fidl_wire.proofs.Unique.{no_out}
 use Rattle.fidl_wire.proofs.Stand.{stands_front}
 use Rattle.fidl_decode.specs.Links.{Linked}
 use Rattle.fidl_decode.specs.State.{Message, At, linked, member_at, begun, envelope_place, after, after_elements, after_fields, after_member, after_envelopes, StandsAt, Item}
-use Rattle.fidl_records.specs.Section.{header_of, entry_at}
-use Rattle.fidl_records.specs.Terms.{declarations_of}
+use Rattle.fidl_table_format.specs.Section.{header_of, entry_at}
+use Rattle.fidl_table_format.specs.Terms.{declarations_of}
 use Rattle.fidl_decode.specs.Invariants.{IsFine}
 use Rattle.fidl_decode.specs.Machine.{IsWhole}
 use Rattle.fidl_decode.specs.Placed.{Placed, ArePlaced, AreFieldsPlaced, IsMemberPlaced, AreMembersPlaced, StandsIn, links_of}

@@ -9,11 +9,11 @@ use Rattle.std.specs.declared.cmp.Ordering.TheVariants.{Less, Equal, Greater}
 use Rattle.std.proofs.lemmas.Bool.{cases_lt}
 use Rattle.std.proofs.Math.Nat.{pow-suc}
 use Rattle.fidl_wire.specs.Term.{Kind}
-use Rattle.fidl_records.specs.declared.record.Header.{Header}
-use Rattle.fidl_records.specs.declared.record.Entry.{Entry}
-use Rattle.fidl_records.specs.Section.{header_of, value_at}
-use Rattle.fidl_records.specs.Terms.{underlying, value_number, values_from}
-use Rattle.fidl_records.specs.Entry.{enum_value}
+use Rattle.fidl_table_format.specs.declared.record.Header.{Header}
+use Rattle.fidl_table_format.specs.declared.record.Entry.{Entry}
+use Rattle.fidl_table_format.specs.Section.{header_of, value_at}
+use Rattle.fidl_table_format.specs.Terms.{underlying, value_number, values_from}
+use Rattle.fidl_table_format.specs.Entry.{enum_value}
 use Rattle.fidl_decode.specs.Invariants.{EnumFine}
 
 -- numbers neither of which is less are equal

@@ -11,11 +11,11 @@ use Rattle.fidl_wire.specs.Figure.{Declarations, IsLaidOut}
 use Rattle.fidl_wire.specs.Encoding.{zeros, present, pad8, envelopes}
 use Rattle.fidl_wire.specs.Standing.{Stands}
 use Rattle.fidl_wire.proofs.Stand.{stands_to, stands_both}
-use Rattle.fidl_records.specs.declared.kind.EntryKind.TheVariants.{Table}
-use Rattle.fidl_records.specs.declared.kind.EntryKind.{EntryKind}
-use Rattle.fidl_records.specs.Kind.{kind_of}
-use Rattle.fidl_records.specs.Section.{header_of, entry_at}
-use Rattle.fidl_records.specs.Terms.{declarations_of, members_of, term_as, rows_from}
+use Rattle.fidl_table_format.specs.declared.kind.EntryKind.TheVariants.{Table}
+use Rattle.fidl_table_format.specs.declared.kind.EntryKind.{EntryKind}
+use Rattle.fidl_table_format.specs.Kind.{kind_of}
+use Rattle.fidl_table_format.specs.Section.{header_of, entry_at}
+use Rattle.fidl_table_format.specs.Terms.{declarations_of, members_of, term_as, rows_from}
 use Rattle.fidl_decode.specs.declared.frame.Frame.{Frame}
 use Rattle.fidl_decode.specs.declared.frame.Left.TheVariants.{Envelopes}
 use Rattle.fidl_decode.specs.Invariants.{IsFine}

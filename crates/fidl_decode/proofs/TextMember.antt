@@ -11,11 +11,11 @@ use Rattle.fidl_wire.specs.Encoding.{zeros, present}
 use Rattle.fidl_wire.specs.Standing.{Stands}
 use Rattle.fidl_wire.specs.Typed.{IsUnknownLength}
 use Rattle.fidl_wire.proofs.Sizes.{le-next_multiple_of}
-use Rattle.fidl_records.specs.declared.kind.EntryKind.TheVariants.{String}
-use Rattle.fidl_records.specs.declared.record.Entry.{Entry}
-use Rattle.fidl_records.specs.Kind.{kind_of}
-use Rattle.fidl_records.specs.Section.{header_of, entry_at}
-use Rattle.fidl_records.specs.Terms.{declarations_of, is_optional}
+use Rattle.fidl_table_format.specs.declared.kind.EntryKind.TheVariants.{String}
+use Rattle.fidl_table_format.specs.declared.record.Entry.{Entry}
+use Rattle.fidl_table_format.specs.Kind.{kind_of}
+use Rattle.fidl_table_format.specs.Section.{header_of, entry_at}
+use Rattle.fidl_table_format.specs.Terms.{declarations_of, is_optional}
 use Rattle.fidl_decode.specs.Invariants.{IsFine}
 use Rattle.fidl_decode.specs.Faults.{IsWithin}
 use Rattle.fidl_decode.specs.Breaks.{count_at}

@@ -10,7 +10,7 @@ use Rattle.fidl_wire.specs.Figure.{Declarations, size_of}
 use Rattle.fidl_wire.specs.Typed.{IsTypedMember, IsUnknownLength}
 use Rattle.fidl_wire.specs.Encoding.{enveloped}
 use Rattle.fidl_wire.specs.Depth.{member_depth}
-use Rattle.fidl_records.specs.Field.{number_at}
+use Rattle.fidl_table_format.specs.Field.{number_at}
 use Rattle.fidl_decode.specs.declared.fault.DecodeFault.{DecodeFault}
 use Rattle.fidl_decode.specs.declared.fault.DecodeFault.TheVariants.{BadEnvelope}
 use Rattle.fidl_decode.specs.declared.fault.DecodeFault.TheVariants.{TooDeep, Truncated}

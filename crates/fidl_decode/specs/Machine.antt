@@ -5,12 +5,12 @@ use Rattle.fidl_limits.specs.declared.limits.TheConstants.{MAX_DEPTH, MAX_NEST, 
 use Rattle.fidl_wire.specs.Term as ty
 use Rattle.fidl_wire.specs.Term.{Term, resolve}
 use Rattle.fidl_wire.specs.Figure.{Declarations, figure_of}
-use Rattle.fidl_records.specs.declared.kind.EntryKind.TheVariants.{Table}
-use Rattle.fidl_records.specs.declared.record.Entry.{Entry}
-use Rattle.fidl_records.specs.declared.record.Row as raw
-use Rattle.fidl_records.specs.Kind.{kind_of}
-use Rattle.fidl_records.specs.Section.{header_of, entry_at}
-use Rattle.fidl_records.specs.Terms.{declarations_of, members_of}
+use Rattle.fidl_table_format.specs.declared.kind.EntryKind.TheVariants.{Table}
+use Rattle.fidl_table_format.specs.declared.record.Entry.{Entry}
+use Rattle.fidl_table_format.specs.declared.record.Row as raw
+use Rattle.fidl_table_format.specs.Kind.{kind_of}
+use Rattle.fidl_table_format.specs.Section.{header_of, entry_at}
+use Rattle.fidl_table_format.specs.Terms.{declarations_of, members_of}
 use Rattle.fidl_decode.specs.declared.fault.DecodeFault.{DecodeFault}
 use Rattle.fidl_decode.specs.declared.fault.DecodeFault.TheVariants.{BytesLeft, HandlesLeft}
 use Rattle.fidl_decode.specs.declared.fault.DecodeFault.TheVariants.{WrongCounts}

@@ -3,12 +3,12 @@
 ghost use Rattle.std.specs.Prelude.{◌≡◌, ◌+◌, ◌-◌, ◌*◌, ◌^◌, ◌<◌, ◌≤◌, IsTrue, IsFalse, Some};
 ghost use Rattle.std.specs.Prelude.{None, length};
 ghost use Rattle.fidl_limits.specs.declared.limits.TheConstants.{MAX_MESSAGE_BYTES};
-ghost use Rattle.fidl_records.specs.declared.kind.EntryKind.TheVariants as kinds;
+ghost use Rattle.fidl_table_format.specs.declared.kind.EntryKind.TheVariants as kinds;
 ghost use Rattle.fidl_wire.specs.Term as ty;
 ghost use Rattle.fidl_wire.specs.Term.{find};
-ghost use Rattle.fidl_records.specs.Kind.{kind_of};
-ghost use Rattle.fidl_records.specs.Section.{header_of, entry_at, row_at};
-ghost use Rattle.fidl_records.specs.Terms.{members_of};
+ghost use Rattle.fidl_table_format.specs.Kind.{kind_of};
+ghost use Rattle.fidl_table_format.specs.Section.{header_of, entry_at, row_at};
+ghost use Rattle.fidl_table_format.specs.Terms.{members_of};
 ghost use Rattle.fidl_decode.specs.Invariants.{IsFine};
 ghost use Rattle.fidl_decode.specs.Faults.{message_of};
 ghost use Rattle.fidl_decode.specs.Body.{BodyFine, IsPassing, rest_of};
@@ -16,7 +16,7 @@ ghost use Rattle.fidl_decode.specs.Machine.{StateFine, FrameFine, Turns, at_of};
 
 use crate::decoder::Decoder;
 use crate::frame::{Frame, Left, State};
-use fidl_records::{EntryKind, Header, Row, read_entry, read_header, read_row};
+use fidl_table_format::{EntryKind, Header, Row, read_entry, read_header, read_row};
 use fidl_wire::MAX_NEST;
 
 /// The envelopes of a table's value, and the rows that its entry has.

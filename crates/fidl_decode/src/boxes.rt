@@ -1,9 +1,9 @@
 //! Boxes: a marker, and the struct that it stands for, which is the next object.
 ghost use Rattle.std.specs.Prelude.{◌≡◌, ℕ, ◌+◌, ◌-◌, ◌<◌, ◌≤◌, IfOk, IfErr, Some, length};
 ghost use Rattle.fidl_limits.specs.declared.limits.TheConstants.{MAX_DEPTH, MAX_MESSAGE_BYTES};
-ghost use Rattle.fidl_records.specs.declared.kind.EntryKind.TheVariants as kinds;
-ghost use Rattle.fidl_records.specs.Kind.{kind_of};
-ghost use Rattle.fidl_records.specs.Section.{header_of, entry_at};
+ghost use Rattle.fidl_table_format.specs.declared.kind.EntryKind.TheVariants as kinds;
+ghost use Rattle.fidl_table_format.specs.Kind.{kind_of};
+ghost use Rattle.fidl_table_format.specs.Section.{header_of, entry_at};
 ghost use Rattle.fidl_decode.specs.Invariants.{IsFine};
 ghost use Rattle.fidl_decode.specs.Faults.{message_of};
 ghost use Rattle.fidl_decode.specs.Breaks.{BreaksBox};
@@ -38,7 +38,7 @@ impl<'t, 'm> Decoder<'t, 'm> {
             (at_of state.old) (at_of state.new) (state.new.steps - state.old.steps) found) }
         ensures fine { (inside : ℕ) → inside ≤ 1 → IfOk result (VisitFine self.now.table.now
             (message_of self.now.bytes.now self.now.handles.now) depth inside entry) }
-        ensures told { let t = self.now.table.now in
+        ensures fault_is_true { let t = self.now.table.now in
             let content = entry_at t (entry_at t entry).first in
             IfErr result (BreaksBox (message_of self.now.bytes.now self.now.handles.now) depth content.size
             place state.old.next) }

@@ -2,8 +2,8 @@
 ghost use Rattle.std.specs.Prelude.{◌≡◌, ◌+◌, ◌-◌, ◌^◌, ◌<◌, ◌≤◌, OnOk, OnErr, IfOk, IfErr, IfNone};
 ghost use Rattle.std.specs.Prelude.{Some, None, length};
 ghost use Rattle.fidl_limits.specs.declared.limits.TheConstants.{MAX_MESSAGE_BYTES};
-ghost use Rattle.fidl_records.specs.Kind.{kind_of};
-ghost use Rattle.fidl_records.specs.Section.{entry_at};
+ghost use Rattle.fidl_table_format.specs.Kind.{kind_of};
+ghost use Rattle.fidl_table_format.specs.Section.{entry_at};
 ghost use Rattle.fidl_decode.specs.Invariants.{IsFine, IsFlat};
 ghost use Rattle.fidl_decode.specs.Faults.{message_of};
 ghost use Rattle.fidl_decode.specs.State.{At};
@@ -14,7 +14,7 @@ ghost use Rattle.fidl_decode.specs.Machine.{turn_work, at_of};
 use crate::decoder::{Decoder, zeros_at};
 use crate::fault::DecodeFault;
 use crate::frame::{Frame, Left, State, Turn, Until};
-use fidl_records::EntryKind;
+use fidl_table_format::EntryKind;
 
 impl<'t, 'm> Decoder<'t, 'm> {
     /// Reads the value of an envelope's content, or its end, which has to be where the envelope
@@ -46,7 +46,7 @@ impl<'t, 'm> Decoder<'t, 'm> {
             ((to : At)
             → Reads self.now.table.now (message_of self.now.bytes.now self.now.handles.now) frame
             (at_of state.old) to → ⊥) }
-        ensures told { IfErr result
+        ensures fault_is_true { IfErr result
             (BreaksFrame self.now.table.now (message_of self.now.bytes.now self.now.handles.now)
             frame (at_of state.old)) }
     {
@@ -119,7 +119,7 @@ impl<'t, 'm> Decoder<'t, 'm> {
             ((to : At)
             → Reads self.now.table.now (message_of self.now.bytes.now self.now.handles.now) frame
             (at_of state.old) to → ⊥) }
-        ensures told { IfErr result
+        ensures fault_is_true { IfErr result
             (BreaksFrame self.now.table.now (message_of self.now.bytes.now self.now.handles.now)
             frame (at_of state.old)) }
     {
@@ -169,7 +169,7 @@ impl<'t, 'm> Decoder<'t, 'm> {
             ((to : At)
             → Reads self.now.table.now (message_of self.now.bytes.now self.now.handles.now) frame
             (at_of state.old) to → ⊥) }
-        ensures told { IfErr result
+        ensures fault_is_true { IfErr result
             (BreaksFrame self.now.table.now (message_of self.now.bytes.now self.now.handles.now)
             frame (at_of state.old)) }
     {
@@ -207,7 +207,7 @@ impl<'t, 'm> Decoder<'t, 'm> {
             ((to : At)
             → Reads self.now.table.now (message_of self.now.bytes.now self.now.handles.now) frame
             (at_of state.old) to → ⊥) }
-        ensures told { IfErr result
+        ensures fault_is_true { IfErr result
             (BreaksFrame self.now.table.now (message_of self.now.bytes.now self.now.handles.now)
             frame (at_of state.old)) }
     {

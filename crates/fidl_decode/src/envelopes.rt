@@ -5,8 +5,8 @@ ghost use Rattle.fidl_limits.specs.declared.limits.TheConstants.{MAX_DEPTH, MAX_
 ghost use Rattle.fidl_wire.specs.declared.handle.HandleInfo.{HandleInfo};
 ghost use Rattle.fidl_wire.specs.Typed.{IsHandle};
 ghost use Rattle.fidl_wire.specs.Term as ty;
-ghost use Rattle.fidl_records.specs.Section.{header_of, entry_at};
-ghost use Rattle.fidl_records.specs.Terms.{declarations_of};
+ghost use Rattle.fidl_table_format.specs.Section.{header_of, entry_at};
+ghost use Rattle.fidl_table_format.specs.Terms.{declarations_of};
 ghost use Rattle.fidl_decode.specs.declared.fault.DecodeFault.{DecodeFault};
 ghost use Rattle.fidl_decode.specs.declared.frame.Left.TheVariants as left;
 ghost use Rattle.fidl_decode.specs.declared.frame.Until.{Until};
@@ -21,7 +21,7 @@ ghost use Rattle.fidl_decode.specs.Machine.{level, height, most_nest, inline_wor
 use crate::decoder::Decoder;
 use crate::fault::DecodeFault;
 use crate::frame::{Frame, Left, State, Until};
-use fidl_records::{Entry, u16_at, u32_at};
+use fidl_table_format::{Entry, u16_at, u32_at};
 use fidl_wire::{HandleInfo, MAX_DEPTH};
 
 /// The frame of the content of an envelope, which is one value of an entry, and zeros behind it.
@@ -115,7 +115,7 @@ impl<'t, 'm> Decoder<'t, 'm> {
             (entry_at self.now.table.now entry).size 1 until)) }
         ensures state { StateFine (message_of self.now.bytes.now self.now.handles.now)
             (at_of state.new) }
-        ensures told { IfErr result (BreaksMember (declarations_of self.now.table.now)
+        ensures fault_is_true { IfErr result (BreaksMember (declarations_of self.now.table.now)
             (message_of self.now.bytes.now self.now.handles.now) depth (Some (ty.named entry))
             envelope (at_of state.old)) }
         ensures err { OnErr result ((to : At)
@@ -189,7 +189,7 @@ impl<'t, 'm> Decoder<'t, 'm> {
             (at_of state.old) to ↔ (at_of state.new ≡ to)) }
         ensures state { StateFine (message_of self.now.bytes.now self.now.handles.now)
             (at_of state.new) }
-        ensures told { IfErr result (BreaksMember (declarations_of self.now.table.now)
+        ensures fault_is_true { IfErr result (BreaksMember (declarations_of self.now.table.now)
             (message_of self.now.bytes.now self.now.handles.now) depth None envelope
             (at_of state.old)) }
         ensures err { OnErr result ((to : At)

@@ -3,8 +3,8 @@
 ghost use Rattle.std.specs.Prelude.{◌≡◌, ◌+◌, ◌-◌, ◌*◌, ◌^◌, ◌<◌, ◌≤◌, OnOk, OnErr, IfOk, IfErr};
 ghost use Rattle.std.specs.Prelude.{IfNone, true, Some, None, length};
 ghost use Rattle.fidl_limits.specs.declared.limits.TheConstants.{MAX_MESSAGE_BYTES};
-ghost use Rattle.fidl_records.specs.Kind.{kind_of};
-ghost use Rattle.fidl_records.specs.Section.{header_of, entry_at};
+ghost use Rattle.fidl_table_format.specs.Kind.{kind_of};
+ghost use Rattle.fidl_table_format.specs.Section.{header_of, entry_at};
 ghost use Rattle.fidl_decode.specs.Invariants.{IsFine, is_leaf};
 ghost use Rattle.fidl_decode.specs.Faults.{message_of};
 ghost use Rattle.fidl_decode.specs.State.{At};
@@ -17,7 +17,7 @@ use crate::fault::DecodeFault;
 use crate::frame::{Frame, Left, State};
 use crate::leaf::{is_free, is_leaf};
 use crate::plain::Plain;
-use fidl_records::EntryKind;
+use fidl_table_format::EntryKind;
 
 impl<'t, 'm> Decoder<'t, 'm> {
     /// Reads the last member of a struct, where nothing is left behind it: what it leads to takes
@@ -49,7 +49,7 @@ impl<'t, 'm> Decoder<'t, 'm> {
             ((to : At)
             → Reads self.now.table.now (message_of self.now.bytes.now self.now.handles.now) frame
             (at_of state.old) to → ⊥) }
-        ensures told { IfErr result
+        ensures fault_is_true { IfErr result
             (BreaksFrame self.now.table.now (message_of self.now.bytes.now self.now.handles.now)
             frame (at_of state.old)) }
     {
@@ -100,7 +100,7 @@ impl<'t, 'm> Decoder<'t, 'm> {
             ((to : At)
             → Reads self.now.table.now (message_of self.now.bytes.now self.now.handles.now) frame
             (at_of state.old) to → ⊥) }
-        ensures told { IfErr result
+        ensures fault_is_true { IfErr result
             (BreaksFrame self.now.table.now (message_of self.now.bytes.now self.now.handles.now)
             frame (at_of state.old)) }
     {
@@ -156,7 +156,7 @@ impl<'t, 'm> Decoder<'t, 'm> {
             ((to : At)
             → Reads self.now.table.now (message_of self.now.bytes.now self.now.handles.now) frame
             (at_of state.old) to → ⊥) }
-        ensures told { IfErr result
+        ensures fault_is_true { IfErr result
             (BreaksFrame self.now.table.now (message_of self.now.bytes.now self.now.handles.now)
             frame (at_of state.old)) }
     {
@@ -203,7 +203,7 @@ impl<'t, 'm> Decoder<'t, 'm> {
             ((to : At)
             → Reads self.now.table.now (message_of self.now.bytes.now self.now.handles.now) frame
             (at_of state.old) to → ⊥) }
-        ensures told { IfErr result
+        ensures fault_is_true { IfErr result
             (BreaksFrame self.now.table.now (message_of self.now.bytes.now self.now.handles.now)
             frame (at_of state.old)) }
     {
@@ -255,7 +255,7 @@ impl<'t, 'm> Decoder<'t, 'm> {
             ((to : At)
             → Reads self.now.table.now (message_of self.now.bytes.now self.now.handles.now) frame
             (at_of state.old) to → ⊥) }
-        ensures told { IfErr result
+        ensures fault_is_true { IfErr result
             (BreaksFrame self.now.table.now (message_of self.now.bytes.now self.now.handles.now)
             frame (at_of state.old)) }
     {

@@ -4,10 +4,10 @@ ghost use Rattle.std.specs.Prelude.{Some, None, length};
 ghost use Rattle.fidl_limits.specs.declared.limits.TheConstants.{MAX_DEPTH, MAX_MESSAGE_BYTES};
 ghost use Rattle.fidl_wire.specs.Term as ty;
 ghost use Rattle.fidl_wire.specs.Term.{resolve};
-ghost use Rattle.fidl_records.specs.declared.kind.EntryKind.TheVariants as kinds;
-ghost use Rattle.fidl_records.specs.Kind.{kind_of};
-ghost use Rattle.fidl_records.specs.Section.{header_of, entry_at};
-ghost use Rattle.fidl_records.specs.Terms.{declarations_of};
+ghost use Rattle.fidl_table_format.specs.declared.kind.EntryKind.TheVariants as kinds;
+ghost use Rattle.fidl_table_format.specs.Kind.{kind_of};
+ghost use Rattle.fidl_table_format.specs.Section.{header_of, entry_at};
+ghost use Rattle.fidl_table_format.specs.Terms.{declarations_of};
 ghost use Rattle.fidl_decode.specs.Invariants.{IsFine, AreLeaves, IsFlat};
 ghost use Rattle.fidl_decode.specs.Faults.{message_of};
 ghost use Rattle.fidl_decode.specs.Breaks.{Breaks};
@@ -21,7 +21,7 @@ use crate::fault::DecodeFault;
 use crate::frame::{Frame, Left, State};
 use crate::leaf::is_leaf;
 use crate::plain::{MOST_ROWS, rows_from};
-use fidl_records::{Entry, EntryKind};
+use fidl_table_format::{Entry, EntryKind};
 
 impl<'t, 'm> Decoder<'t, 'm> {
     /// Whether so many rows, from the first on, are no more than are looked at, and their members are
@@ -92,7 +92,7 @@ impl<'t, 'm> Decoder<'t, 'm> {
             ((to : At)
             → Reads self.now.table.now (message_of self.now.bytes.now self.now.handles.now) frame
             (at_of state.old) to → ⊥) }
-        ensures told { IfErr result
+        ensures fault_is_true { IfErr result
             (BreaksFrame self.now.table.now (message_of self.now.bytes.now self.now.handles.now)
             frame (at_of state.old)) }
     {
@@ -148,7 +148,7 @@ impl<'t, 'm> Decoder<'t, 'm> {
             (message_of self.now.bytes.now self.now.handles.now) depth
             (resolve (declarations_of self.now.table.now).terms (ty.named entry)) place
             (at_of state.old) to → ⊥) }
-        ensures told { IfErr result
+        ensures fault_is_true { IfErr result
             (Breaks (declarations_of self.now.table.now)
             (message_of self.now.bytes.now self.now.handles.now) depth
             (resolve (declarations_of self.now.table.now).terms (ty.named entry)) place

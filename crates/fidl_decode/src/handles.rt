@@ -4,7 +4,7 @@ ghost use Rattle.std.specs.Prelude.{length};
 ghost use Rattle.fidl_limits.specs.declared.limits.TheConstants.{MAX_DEPTH, MAX_MESSAGE_BYTES};
 ghost use Rattle.fidl_wire.specs.Term as ty;
 ghost use Rattle.fidl_wire.specs.Typed.{IsHandle, IsAllowed};
-ghost use Rattle.fidl_records.specs.Terms.{declarations_of, is_optional};
+ghost use Rattle.fidl_table_format.specs.Terms.{declarations_of, is_optional};
 ghost use Rattle.fidl_decode.specs.Faults.{message_of};
 ghost use Rattle.fidl_decode.specs.Breaks.{BreaksHandle};
 ghost use Rattle.fidl_decode.specs.State.{At, Item};
@@ -13,7 +13,7 @@ ghost use Rattle.fidl_decode.specs.Machine.{StateFine, Leads, at_of};
 use crate::decoder::Decoder;
 use crate::fault::DecodeFault;
 use crate::frame::State;
-use fidl_records::Entry;
+use fidl_table_format::Entry;
 use fidl_wire::{HandleInfo, Presence, SAME_RIGHTS, presence_at};
 
 /// Whether values of the entry can be absent.
@@ -55,7 +55,7 @@ impl<'t, 'm> Decoder<'t, 'm> {
             (message_of self.now.bytes.now self.now.handles.now) depth
             (ty.handle (is_optional entry.now) entry.now.subtype entry.now.rights) place
             (at_of state.old) to → ⊥) }
-        ensures told { IfErr result (BreaksHandle
+        ensures fault_is_true { IfErr result (BreaksHandle
             (message_of self.now.bytes.now self.now.handles.now)
             (is_optional entry.now) entry.now.subtype entry.now.rights place state.old.handle) }
         ensures state { OnOk result

@@ -6,12 +6,12 @@ ghost use Rattle.fidl_limits.specs.declared.limits.TheConstants.{MAX_DEPTH, MAX_
 ghost use Rattle.fidl_wire.specs.Term as ty;
 ghost use Rattle.fidl_wire.specs.Term.{resolve, width};
 ghost use Rattle.fidl_wire.specs.Typed.{InMask};
-ghost use Rattle.fidl_records.specs.Kind.{kind_of};
-ghost use Rattle.fidl_records.specs.Number.{number_standing};
-ghost use Rattle.fidl_records.specs.Section.{header_of, entry_at};
-ghost use Rattle.fidl_records.specs.Entry.{subtype_is};
-ghost use Rattle.fidl_records.specs.Uses.{is_number, is_unsigned};
-ghost use Rattle.fidl_records.specs.Terms.{underlying, mask_of, strict_values, declarations_of};
+ghost use Rattle.fidl_table_format.specs.Kind.{kind_of};
+ghost use Rattle.fidl_table_format.specs.Number.{number_standing};
+ghost use Rattle.fidl_table_format.specs.Section.{header_of, entry_at};
+ghost use Rattle.fidl_table_format.specs.Entry.{subtype_is};
+ghost use Rattle.fidl_table_format.specs.Uses.{is_number, is_unsigned};
+ghost use Rattle.fidl_table_format.specs.Terms.{underlying, mask_of, strict_values, declarations_of};
 ghost use Rattle.fidl_decode.specs.Invariants.{IsFine, EnumFine, is_leaf, is_free};
 ghost use Rattle.fidl_decode.specs.Faults.{message_of};
 ghost use Rattle.fidl_decode.specs.Breaks.{BreaksField, Breaks};
@@ -22,7 +22,7 @@ use crate::decoder::Decoder;
 use crate::fault::DecodeFault;
 use crate::frame::State;
 use crate::values::has_value;
-use fidl_records::{Entry, EntryKind, number_bits};
+use fidl_table_format::{Entry, EntryKind, number_bits};
 
 /// Whether values of the kind hold no others.
 pub(crate) fn is_leaf(kind: EntryKind) -> bool
@@ -68,7 +68,7 @@ impl<'t, 'm> Decoder<'t, 'm> {
             (λ mask. InMask mask (number_standing (underlying entry.now) self.now.bytes.now place))) }
         ensures err { OnErr result (IfSome (mask_of entry.now)
             (λ mask. InMask mask (number_standing (underlying entry.now) self.now.bytes.now place)) → ⊥) }
-        ensures told { IfErr result
+        ensures fault_is_true { IfErr result
             (BreaksField (message_of self.now.bytes.now self.now.handles.now)
             (ty.bits (underlying entry.now) (mask_of entry.now)) place) }
     {
@@ -94,7 +94,7 @@ impl<'t, 'm> Decoder<'t, 'm> {
         ensures err { OnErr result
             (IfSome (strict_values self.now.table.now (header_of self.now.table.now) entry.now)
             (λ values. Contains values (number_standing (underlying entry.now) self.now.bytes.now place)) → ⊥) }
-        ensures told { IfErr result
+        ensures fault_is_true { IfErr result
             (BreaksField (message_of self.now.bytes.now self.now.handles.now)
             (ty.enum (underlying entry.now) (strict_values self.now.table.now (header_of self.now.table.now) entry.now)) place) }
         ensures same { at_of state.new ≡ at_of state.old }
@@ -142,7 +142,7 @@ impl<'t, 'm> Decoder<'t, 'm> {
             (message_of self.now.bytes.now self.now.handles.now) depth
             (resolve (declarations_of self.now.table.now).terms (ty.named entry)) place
             (at_of state.old) to → ⊥) }
-        ensures told { IfErr result
+        ensures fault_is_true { IfErr result
             (Breaks (declarations_of self.now.table.now)
             (message_of self.now.bytes.now self.now.handles.now) depth
             (resolve (declarations_of self.now.table.now).terms (ty.named entry)) place

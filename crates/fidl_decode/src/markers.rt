@@ -5,7 +5,7 @@ ghost use Rattle.fidl_wire.specs.Marker.{Says};
 ghost use Rattle.fidl_wire.specs.Standing.{Stands};
 
 use crate::decoder::Decoder;
-use fidl_records::u64_at;
+use fidl_table_format::u64_at;
 use fidl_wire::Presence;
 
 impl<'t, 'm> Decoder<'t, 'm> {

@@ -4,10 +4,10 @@ ghost use Rattle.std.specs.Prelude.{◌≡◌, ◌+◌, ◌-◌, ◌^◌, ◌<�
 ghost use Rattle.std.specs.Prelude.{Some, None, length};
 ghost use Rattle.fidl_limits.specs.declared.limits.TheConstants.{MAX_DEPTH, MAX_MESSAGE_BYTES};
 ghost use Rattle.fidl_wire.specs.Term as ty;
-ghost use Rattle.fidl_records.specs.declared.kind.EntryKind.{EntryKind};
-ghost use Rattle.fidl_records.specs.declared.kind.EntryKind.TheVariants as kinds;
-ghost use Rattle.fidl_records.specs.Kind.{kind_of};
-ghost use Rattle.fidl_records.specs.Section.{header_of, entry_at};
+ghost use Rattle.fidl_table_format.specs.declared.kind.EntryKind.{EntryKind};
+ghost use Rattle.fidl_table_format.specs.declared.kind.EntryKind.TheVariants as kinds;
+ghost use Rattle.fidl_table_format.specs.Kind.{kind_of};
+ghost use Rattle.fidl_table_format.specs.Section.{header_of, entry_at};
 ghost use Rattle.fidl_decode.specs.Invariants.{IsFine, is_free};
 ghost use Rattle.fidl_decode.specs.Faults.{message_of};
 ghost use Rattle.fidl_decode.specs.Machine.{StateFine, Opens, at_of};
@@ -15,7 +15,7 @@ ghost use Rattle.fidl_decode.specs.Machine.{StateFine, Opens, at_of};
 use crate::decoder::Decoder;
 use crate::frame::State;
 use crate::leaf::is_free;
-use fidl_records::{EntryKind, u16_at, u32_at, u64_at};
+use fidl_table_format::{EntryKind, u16_at, u32_at, u64_at};
 use fidl_wire::MAX_DEPTH;
 
 /// The last four bytes of an envelope that counts no handles and holds its member, as one number.

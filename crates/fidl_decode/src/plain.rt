@@ -3,9 +3,9 @@
 ghost use Rattle.std.specs.Prelude.{◌≡◌, ◌+◌, ◌-◌, ◌^◌, ◌<◌, ◌≤◌, OnOk, OnErr, IfOk, IfErr, IfNone};
 ghost use Rattle.std.specs.Prelude.{ℕ, IfSome, IsTrue, Some, None, true, length};
 ghost use Rattle.fidl_limits.specs.declared.limits.TheConstants.{MAX_DEPTH, MAX_MESSAGE_BYTES};
-ghost use Rattle.fidl_records.specs.declared.kind.EntryKind.{EntryKind};
-ghost use Rattle.fidl_records.specs.Kind.{kind_of};
-ghost use Rattle.fidl_records.specs.Section.{header_of, entry_at};
+ghost use Rattle.fidl_table_format.specs.declared.kind.EntryKind.{EntryKind};
+ghost use Rattle.fidl_table_format.specs.Kind.{kind_of};
+ghost use Rattle.fidl_table_format.specs.Section.{header_of, entry_at};
 ghost use Rattle.fidl_decode.specs.Invariants.{IsFine, is_free};
 ghost use Rattle.fidl_decode.specs.Faults.{message_of};
 ghost use Rattle.fidl_decode.specs.declared.frame.Left.TheVariants as left;
@@ -18,7 +18,7 @@ use crate::decoder::Decoder;
 use crate::fault::DecodeFault;
 use crate::frame::{Frame, Left, State};
 use crate::leaf::is_free;
-use fidl_records::{EntryKind, Row};
+use fidl_table_format::{EntryKind, Row};
 
 /// How many rows of a struct are looked at before it is read. These looks are no steps.
 pub(crate) const MOST_ROWS: u32 = 32;
@@ -295,7 +295,7 @@ impl<'t, 'm> Decoder<'t, 'm> {
             ((to : At)
             → Reads self.now.table.now (message_of self.now.bytes.now self.now.handles.now) frame
             (at_of state.old) to → ⊥) }
-        ensures told { IfErr result
+        ensures fault_is_true { IfErr result
             (BreaksFrame self.now.table.now (message_of self.now.bytes.now self.now.handles.now)
             frame (at_of state.old)) }
     {

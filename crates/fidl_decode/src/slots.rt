@@ -4,11 +4,11 @@ ghost use Rattle.std.specs.Prelude.{IfSome, IfNone, IsTrue, Some, None, length};
 ghost use Rattle.fidl_limits.specs.declared.limits.TheConstants.{MAX_DEPTH, MAX_MESSAGE_BYTES};
 ghost use Rattle.fidl_wire.specs.Term as ty;
 ghost use Rattle.fidl_wire.specs.Term.{find};
-ghost use Rattle.fidl_records.specs.Kind.{kind_of};
-ghost use Rattle.fidl_records.specs.Section.{header_of, entry_at};
-ghost use Rattle.fidl_records.specs.Terms.{declarations_of, members_of};
-ghost use Rattle.fidl_records.specs.Uses.{uses_ordinals};
-ghost use Rattle.fidl_records.specs.Entry.{kind_is};
+ghost use Rattle.fidl_table_format.specs.Kind.{kind_of};
+ghost use Rattle.fidl_table_format.specs.Section.{header_of, entry_at};
+ghost use Rattle.fidl_table_format.specs.Terms.{declarations_of, members_of};
+ghost use Rattle.fidl_table_format.specs.Uses.{uses_ordinals};
+ghost use Rattle.fidl_table_format.specs.Entry.{kind_is};
 ghost use Rattle.fidl_decode.specs.Envelopes.{Contained};
 ghost use Rattle.fidl_decode.specs.Breaks.{BreaksMember};
 ghost use Rattle.fidl_decode.specs.Invariants.{IsFine, IsFlat};
@@ -22,7 +22,7 @@ ghost use Rattle.fidl_decode.specs.Machine.{byte_work, envelope_work, turn_work,
 use crate::decoder::Decoder;
 use crate::fault::DecodeFault;
 use crate::frame::{Frame, Left, State, Turn};
-use fidl_records::{Entry, EntryKind, Row};
+use fidl_table_format::{Entry, EntryKind, Row};
 
 /// A frame with so many envelopes left, behind those that are read, and so many of its bytes read.
 #[inline(always)]
@@ -70,7 +70,7 @@ impl<'t, 'm> Decoder<'t, 'm> {
         ensures err { OnErr result ((to : At) → Contained (declarations_of self.now.table.now)
             (message_of self.now.bytes.now self.now.handles.now) depth (Some (ty.named entry))
             envelope (at_of state.old) to → ⊥) }
-        ensures told { IfErr result (BreaksMember (declarations_of self.now.table.now)
+        ensures fault_is_true { IfErr result (BreaksMember (declarations_of self.now.table.now)
             (message_of self.now.bytes.now self.now.handles.now) depth (Some (ty.named entry))
             envelope (at_of state.old)) }
         ensures grows { OnOk result (state.old.steps ≤ state.new.steps) }
@@ -111,7 +111,7 @@ impl<'t, 'm> Decoder<'t, 'm> {
         ensures err { OnErr result ((to : At) → Contained (declarations_of self.now.table.now)
             (message_of self.now.bytes.now self.now.handles.now) depth (Some (ty.named entry))
             envelope (at_of state.old) to → ⊥) }
-        ensures told { IfErr result (BreaksMember (declarations_of self.now.table.now)
+        ensures fault_is_true { IfErr result (BreaksMember (declarations_of self.now.table.now)
             (message_of self.now.bytes.now self.now.handles.now) depth (Some (ty.named entry))
             envelope (at_of state.old)) }
         ensures grows { OnOk result (state.old.steps ≤ state.new.steps) }
@@ -161,7 +161,7 @@ impl<'t, 'm> Decoder<'t, 'm> {
         ensures err { OnErr result ((to : At) → Contained (declarations_of self.now.table.now)
             (message_of self.now.bytes.now self.now.handles.now) depth (member_term member) envelope
             (at_of state.old) to → ⊥) }
-        ensures told { IfErr result (BreaksMember (declarations_of self.now.table.now)
+        ensures fault_is_true { IfErr result (BreaksMember (declarations_of self.now.table.now)
             (message_of self.now.bytes.now self.now.handles.now) depth (member_term member) envelope
             (at_of state.old)) }
         ensures grows { OnOk result (state.old.steps ≤ state.new.steps) }
@@ -239,7 +239,7 @@ impl<'t, 'm> Decoder<'t, 'm> {
             ((to : At)
             → Reads self.now.table.now (message_of self.now.bytes.now self.now.handles.now) frame
             (at_of state.old) to → ⊥) }
-        ensures told { IfErr result
+        ensures fault_is_true { IfErr result
             (BreaksFrame self.now.table.now (message_of self.now.bytes.now self.now.handles.now)
             frame (at_of state.old)) }
     {
@@ -281,7 +281,7 @@ impl<'t, 'm> Decoder<'t, 'm> {
             ((to : At)
             → Reads self.now.table.now (message_of self.now.bytes.now self.now.handles.now) frame
             (at_of state.old) to → ⊥) }
-        ensures told { IfErr result
+        ensures fault_is_true { IfErr result
             (BreaksFrame self.now.table.now (message_of self.now.bytes.now self.now.handles.now)
             frame (at_of state.old)) }
     {

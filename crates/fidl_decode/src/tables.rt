@@ -2,9 +2,9 @@
 ghost use Rattle.std.specs.Prelude.{◌≡◌, ℕ, ◌+◌, ◌-◌, ◌*◌, ◌^◌, ◌<◌, ◌≤◌, OnOk, IfOk, IfErr};
 ghost use Rattle.std.specs.Prelude.{Some, length};
 ghost use Rattle.fidl_limits.specs.declared.limits.TheConstants.{MAX_DEPTH, MAX_MESSAGE_BYTES};
-ghost use Rattle.fidl_records.specs.declared.kind.EntryKind.TheVariants as kinds;
-ghost use Rattle.fidl_records.specs.Kind.{kind_of};
-ghost use Rattle.fidl_records.specs.Section.{header_of, entry_at};
+ghost use Rattle.fidl_table_format.specs.declared.kind.EntryKind.TheVariants as kinds;
+ghost use Rattle.fidl_table_format.specs.Kind.{kind_of};
+ghost use Rattle.fidl_table_format.specs.Section.{header_of, entry_at};
 ghost use Rattle.fidl_decode.specs.Invariants.{IsFine};
 ghost use Rattle.fidl_decode.specs.Faults.{message_of};
 ghost use Rattle.fidl_decode.specs.Breaks.{BreaksTable};
@@ -14,7 +14,7 @@ ghost use Rattle.fidl_decode.specs.Machine.{StateFine, Visits, VisitFine, at_of}
 use crate::decoder::Decoder;
 use crate::fault::DecodeFault;
 use crate::frame::{Frame, State};
-use fidl_records::u64_at;
+use fidl_table_format::u64_at;
 use fidl_wire::{MAX_DEPTH, Presence};
 
 impl<'t, 'm> Decoder<'t, 'm> {
@@ -45,7 +45,7 @@ impl<'t, 'm> Decoder<'t, 'm> {
             entry (Some (envelopes_of entry state.old.next count (depth + 1)))) }
         ensures next { IfOk result (λ count. state.new.next ≡ state.old.next + 8 * count) }
         ensures shallow { OnOk result (depth < MAX_DEPTH) }
-        ensures told { IfErr result (BreaksTable
+        ensures fault_is_true { IfErr result (BreaksTable
             (message_of self.now.bytes.now self.now.handles.now) depth place state.old.next) }
         ensures steps { state.new.steps ≡ state.old.steps }
     {
@@ -97,7 +97,7 @@ impl<'t, 'm> Decoder<'t, 'm> {
             (at_of state.old) (at_of state.new) (state.new.steps - state.old.steps) found) }
         ensures fine { (inside : ℕ) → inside ≤ 1 → IfOk result (VisitFine self.now.table.now
             (message_of self.now.bytes.now self.now.handles.now) depth inside entry) }
-        ensures told { IfErr result (BreaksTable
+        ensures fault_is_true { IfErr result (BreaksTable
             (message_of self.now.bytes.now self.now.handles.now) depth place state.old.next) }
         ensures grows { state.old.steps ≤ state.new.steps }
         ensures cost { state.new.steps

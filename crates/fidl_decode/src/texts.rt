@@ -3,7 +3,7 @@ ghost use Rattle.std.specs.Prelude.{◌≡◌, ◌+◌, ◌-◌, ◌^◌, ◌<�
 ghost use Rattle.std.specs.Prelude.{◌↔◌, IsTrue, IsUtf8};
 ghost use Rattle.fidl_limits.specs.declared.limits.TheConstants.{MAX_DEPTH, MAX_MESSAGE_BYTES};
 ghost use Rattle.fidl_wire.specs.Term as ty;
-ghost use Rattle.fidl_records.specs.Terms.{declarations_of, is_optional};
+ghost use Rattle.fidl_table_format.specs.Terms.{declarations_of, is_optional};
 ghost use Rattle.fidl_decode.specs.Faults.{message_of};
 ghost use Rattle.fidl_decode.specs.Breaks.{BreaksText};
 ghost use Rattle.fidl_decode.specs.State.{At, Item};
@@ -13,7 +13,7 @@ use crate::decoder::{Decoder, zeros_at};
 use crate::fault::DecodeFault;
 use crate::frame::State;
 use crate::handles::is_optional;
-use fidl_records::{Entry, u64_at};
+use fidl_table_format::{Entry, u64_at};
 use fidl_wire::MAX_DEPTH;
 use simdutf8::is_utf8;
 
@@ -71,7 +71,7 @@ impl<'t, 'm> Decoder<'t, 'm> {
             (message_of self.now.bytes.now self.now.handles.now) depth
             (ty.string (is_optional entry.now) entry.now.bound) place
             (at_of state.old) (at_of state.new)) }
-        ensures told { IfErr result (BreaksText
+        ensures fault_is_true { IfErr result (BreaksText
             (message_of self.now.bytes.now self.now.handles.now) depth
             (is_optional entry.now) entry.now.bound place state.old.next) }
         ensures state { OnOk result

@@ -3,9 +3,9 @@
 ghost use Rattle.std.specs.Prelude.{◌≡◌, ◌+◌, ◌-◌, ◌^◌, ◌<◌, ◌≤◌, ◌↔◌, OnOk, OnErr, IfOk, IfErr, Some};
 ghost use Rattle.std.specs.Prelude.{None, IsTrue, length};
 ghost use Rattle.fidl_limits.specs.declared.limits.TheConstants.{MAX_MESSAGE_BYTES};
-ghost use Rattle.fidl_records.specs.declared.kind.EntryKind.TheVariants as kinds;
-ghost use Rattle.fidl_records.specs.Kind.{kind_of};
-ghost use Rattle.fidl_records.specs.Section.{header_of, entry_at};
+ghost use Rattle.fidl_table_format.specs.declared.kind.EntryKind.TheVariants as kinds;
+ghost use Rattle.fidl_table_format.specs.Kind.{kind_of};
+ghost use Rattle.fidl_table_format.specs.Section.{header_of, entry_at};
 ghost use Rattle.fidl_decode.specs.Invariants.{IsFine};
 ghost use Rattle.fidl_decode.specs.Faults.{message_of};
 ghost use Rattle.fidl_decode.specs.State.{At};
@@ -17,7 +17,7 @@ ghost use Rattle.fidl_decode.specs.Over.{IsOver};
 use crate::decoder::{Decoder, zeros_at};
 use crate::fault::DecodeFault;
 use crate::frame::{Frame, Left, State, Turn};
-use fidl_records::EntryKind;
+use fidl_table_format::EntryKind;
 
 /// Whether all of a frame is read, up to its end: nothing is left behind what is below.
 fn is_over(frame: &Frame) -> bool
@@ -61,7 +61,7 @@ impl<'t, 'm> Decoder<'t, 'm> {
             ((to : At)
             → Reads self.now.table.now (message_of self.now.bytes.now self.now.handles.now) frame
             (at_of state.old) to → ⊥) }
-        ensures told { IfErr result
+        ensures fault_is_true { IfErr result
             (BreaksFrame self.now.table.now (message_of self.now.bytes.now self.now.handles.now)
             frame (at_of state.old)) }
     {
@@ -144,7 +144,7 @@ impl<'t, 'm> Decoder<'t, 'm> {
             ((to : At)
             → Reads self.now.table.now (message_of self.now.bytes.now self.now.handles.now) frame
             (at_of state.old) to → ⊥) }
-        ensures told { IfErr result
+        ensures fault_is_true { IfErr result
             (BreaksFrame self.now.table.now (message_of self.now.bytes.now self.now.handles.now)
             frame (at_of state.old)) }
     {
@@ -177,7 +177,7 @@ impl<'t, 'm> Decoder<'t, 'm> {
             ((to : At)
             → Reads self.now.table.now (message_of self.now.bytes.now self.now.handles.now) frame
             (at_of state.old) to → ⊥) }
-        ensures told { IfErr result
+        ensures fault_is_true { IfErr result
             (BreaksFrame self.now.table.now (message_of self.now.bytes.now self.now.handles.now)
             frame (at_of state.old)) }
     {

@@ -5,10 +5,10 @@ ghost use Rattle.std.specs.Prelude.{Some, length};
 ghost use Rattle.fidl_limits.specs.declared.limits.TheConstants.{MAX_DEPTH, MAX_MESSAGE_BYTES};
 ghost use Rattle.fidl_wire.specs.Term as ty;
 ghost use Rattle.fidl_wire.specs.Term.{resolve};
-ghost use Rattle.fidl_records.specs.declared.kind.EntryKind.TheVariants as kinds;
-ghost use Rattle.fidl_records.specs.Kind.{kind_of};
-ghost use Rattle.fidl_records.specs.Section.{header_of, entry_at};
-ghost use Rattle.fidl_records.specs.Terms.{declarations_of};
+ghost use Rattle.fidl_table_format.specs.declared.kind.EntryKind.TheVariants as kinds;
+ghost use Rattle.fidl_table_format.specs.Kind.{kind_of};
+ghost use Rattle.fidl_table_format.specs.Section.{header_of, entry_at};
+ghost use Rattle.fidl_table_format.specs.Terms.{declarations_of};
 ghost use Rattle.fidl_decode.specs.Invariants.{IsFine};
 ghost use Rattle.fidl_decode.specs.Faults.{message_of};
 ghost use Rattle.fidl_decode.specs.Envelopes.{Contained};
@@ -21,7 +21,7 @@ use crate::decoder::Decoder;
 use crate::fault::DecodeFault;
 use crate::frame::{Frame, State};
 use crate::handles::is_optional;
-use fidl_records::{Row, u64_at};
+use fidl_table_format::{Row, u64_at};
 
 impl<'t, 'm> Decoder<'t, 'm> {
     /// Opens the envelope of a member at a place: a known one is left to read, one without a row is
@@ -47,7 +47,7 @@ impl<'t, 'm> Decoder<'t, 'm> {
         ensures err { OnErr result ((to : At) → Contained (declarations_of self.now.table.now)
             (message_of self.now.bytes.now self.now.handles.now) depth (member_term member) envelope
             (at_of state.old) to → ⊥) }
-        ensures told { IfErr result (BreaksMember (declarations_of self.now.table.now)
+        ensures fault_is_true { IfErr result (BreaksMember (declarations_of self.now.table.now)
             (message_of self.now.bytes.now self.now.handles.now) depth (member_term member) envelope
             (at_of state.old)) }
         ensures steps { state.new.steps ≡ state.old.steps }
@@ -86,7 +86,7 @@ impl<'t, 'm> Decoder<'t, 'm> {
             (message_of self.now.bytes.now self.now.handles.now) depth
             (resolve (declarations_of self.now.table.now).terms (ty.named entry)) place
             (at_of state.old) to → ⊥) }
-        ensures told { IfErr result (Breaks (declarations_of self.now.table.now)
+        ensures fault_is_true { IfErr result (Breaks (declarations_of self.now.table.now)
             (message_of self.now.bytes.now self.now.handles.now) depth
             (resolve (declarations_of self.now.table.now).terms (ty.named entry)) place
             (at_of state.old)) }

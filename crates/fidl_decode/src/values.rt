@@ -1,12 +1,12 @@
 //! The values of strict enums.
 ghost use Rattle.std.specs.Prelude.{◌≡◌, ℕ, suc, ◌+◌, ◌^◌, ◌<◌, ◌≤◌, ◌<ℤ◌, ◌↔◌, IsTrue, Some};
 ghost use Rattle.std.specs.Prelude.{Contains};
-ghost use Rattle.fidl_records.specs.Section.{header_of};
-ghost use Rattle.fidl_records.specs.Terms.{underlying, value_number, values_from};
+ghost use Rattle.fidl_table_format.specs.Section.{header_of};
+ghost use Rattle.fidl_table_format.specs.Terms.{underlying, value_number, values_from};
 ghost use Rattle.fidl_decode.specs.Invariants.{EnumFine};
 ghost use Rattle.fidl_decode.specs.Machine.{probes};
 
-use fidl_records::{Entry, is_less};
+use fidl_table_format::{Entry, is_less};
 use fidl_verify::Table;
 
 /// Whether a number, in 64 bits, is a value of a strict enum. Each probe halves the values that are

@@ -1,10 +1,10 @@
 //! Vectors: a count and a marker, and the elements, which are the next object.
 ghost use Rattle.std.specs.Prelude.{◌≡◌, ℕ, ◌+◌, ◌-◌, ◌*◌, ◌<◌, ◌≤◌, IfOk, IfErr, Some, length};
 ghost use Rattle.fidl_limits.specs.declared.limits.TheConstants.{MAX_DEPTH, MAX_MESSAGE_BYTES};
-ghost use Rattle.fidl_records.specs.declared.kind.EntryKind.TheVariants as kinds;
-ghost use Rattle.fidl_records.specs.Kind.{kind_of};
-ghost use Rattle.fidl_records.specs.Section.{header_of, entry_at};
-ghost use Rattle.fidl_records.specs.Terms.{is_optional};
+ghost use Rattle.fidl_table_format.specs.declared.kind.EntryKind.TheVariants as kinds;
+ghost use Rattle.fidl_table_format.specs.Kind.{kind_of};
+ghost use Rattle.fidl_table_format.specs.Section.{header_of, entry_at};
+ghost use Rattle.fidl_table_format.specs.Terms.{is_optional};
 ghost use Rattle.fidl_decode.specs.Invariants.{IsFine};
 ghost use Rattle.fidl_decode.specs.Faults.{message_of};
 ghost use Rattle.fidl_decode.specs.Breaks.{BreaksCounted, count_at};
@@ -15,7 +15,7 @@ use crate::decoder::Decoder;
 use crate::fault::DecodeFault;
 use crate::frame::{Frame, Left, State};
 use crate::handles::is_optional;
-use fidl_records::u64_at;
+use fidl_table_format::u64_at;
 use fidl_wire::{MAX_DEPTH, Presence};
 
 impl<'t, 'm> Decoder<'t, 'm> {
@@ -41,7 +41,7 @@ impl<'t, 'm> Decoder<'t, 'm> {
             (at_of state.old) (at_of state.new) (state.new.steps - state.old.steps) found) }
         ensures fine { (inside : ℕ) → inside ≤ 1 → IfOk result (VisitFine self.now.table.now
             (message_of self.now.bytes.now self.now.handles.now) depth inside entry) }
-        ensures told { let t = self.now.table.now in
+        ensures fault_is_true { let t = self.now.table.now in
             let d = entry_at t entry in
             let size = (entry_at t d.first).size * count_at self.now.bytes.now place in
             IfErr result (BreaksCounted (message_of self.now.bytes.now self.now.handles.now) depth

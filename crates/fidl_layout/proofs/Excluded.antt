@@ -6,18 +6,18 @@ use Rattle.std.proofs.lemmas.Option.{slice_get_within, get_or_from_slice_get}
 use Rattle.fidl_limits.specs.declared.limits.TheConstants.{MAX_LAYOUT_MEMBERS}
 use Rattle.fidl_tree.specs.declared.file.File.{File}
 use Rattle.fidl_names.specs.declared.place.Place.{Place}
-use Rattle.fidl_layouts.specs.Forms.{Form}
+use Rattle.fidl_declarations.specs.Forms.{Form}
 use Rattle.fidl_wire.specs.Term.{Term}
 use Rattle.fidl_wire.specs.Figure.{Figure}
-use Rattle.fidl_term.specs.declared.term.Definition.{Definition}
-use Rattle.fidl_term.specs.Terms.{seen_definitions}
-use Rattle.fidl_terms.specs.Numbers.{all_forms}
-use Rattle.fidl_definitions.proofs.One.{one_definitions}
-use Rattle.fidl_figures.specs.declared.fault.FigureFault.TheVariants as figure
-use Rattle.fidl_figures.specs.Faults.{IsTooNested, IsTooLarge, HasTooManyMembers}
-use Rattle.fidl_figures.proofs.Excluded.{excluded}
-use Rattle.fidl_entries.specs.Reached.{IsReached, root, part}
-use Rattle.fidl_entries.proofs.Members.{at_most}
+use Rattle.fidl_ir.specs.declared.term.Definition.{Definition}
+use Rattle.fidl_ir.specs.Terms.{definitions_view}
+use Rattle.fidl_lower_types.specs.Numbers.{all_forms}
+use Rattle.fidl_lower_layouts.proofs.One.{one_definitions}
+use Rattle.fidl_type_shape.specs.declared.fault.FigureFault.TheVariants as figure
+use Rattle.fidl_type_shape.specs.Faults.{IsTooNested, IsTooLarge, HasTooManyMembers}
+use Rattle.fidl_type_shape.proofs.Excluded.{excluded}
+use Rattle.fidl_reachable_types.specs.Reached.{IsReached, root, part}
+use Rattle.fidl_reachable_types.proofs.Members.{at_most}
 use Rattle.fidl_types.specs.Faults.{FormBreaks}
 use Rattle.fidl_types.proofs.Made.{all_among}
 use Rattle.fidl_layout.specs.declared.fault.LayoutFault.{LayoutFault}
@@ -32,10 +32,10 @@ more_roots : (terms : List Term) (roots others : List ℕ) → ((i : ℕ) → Co
 more_roots terms roots others more t (root i h) = root i (more i h)
 more_roots terms roots others more u (part t v h k) = part t v (more_roots terms roots others more t h) k
 
-module _ (files : List File) (definitions : List Definition) (figures : List Figure) (laid : AreLaidOut files (record { terms = seen_definitions definitions; figures = figures })) where
-  no_form : (Breaks : List Term → ℕ → Type 0) (place : Place) → ((i : ℕ) → Breaks (seen_definitions definitions) i → ⊥) → FormBreaks files Breaks place → ⊥
+module _ (files : List File) (definitions : List Definition) (figures : List Figure) (laid : AreLaidOut files (record { terms = definitions_view definitions; figures = figures })) where
+  no_form : (Breaks : List Term → ℕ → Type 0) (place : Place) → ((i : ℕ) → Breaks (definitions_view definitions) i → ⊥) → FormBreaks files Breaks place → ⊥
   no_form Breaks place none h =
-      let same : h.terms ≡ seen_definitions definitions = one_definitions files h.terms (seen_definitions definitions) h.definitions laid.checked.definitions in
+      let same : h.terms ≡ definitions_view definitions = one_definitions files h.terms (definitions_view definitions) h.definitions laid.checked.definitions in
       none h.number (subst (λ (us : List Term). Breaks us h.number) same h.breaks)
 
   no_values : (i : ℕ) → HasTooManyValues (all_forms files) i → ⊥
@@ -51,8 +51,8 @@ module _ (files : List File) (definitions : List Definition) (figures : List Fig
   no_types : (place : Place) → TypesAreTooMany files place → ⊥
   no_types place h =
       let t = laid.types in
-      let same : h.terms ≡ seen_definitions definitions = one_definitions files h.terms (seen_definitions definitions) h.definitions laid.checked.definitions in
-      let sound : (u : Term) → Contains h.many.types u → IsReached (seen_definitions definitions) t.roots u = λ u k. more_roots (seen_definitions definitions) h.roots t.roots (same_roots h.roots t.roots h.are t.are) u (subst (λ us. IsReached us h.roots u) same (h.many.sound u k)) in
+      let same : h.terms ≡ definitions_view definitions = one_definitions files h.terms (definitions_view definitions) h.definitions laid.checked.definitions in
+      let sound : (u : Term) → Contains h.many.types u → IsReached (definitions_view definitions) t.roots u = λ u k. more_roots (definitions_view definitions) h.roots t.roots (same_roots h.roots t.roots h.are t.are) u (subst (λ us. IsReached us h.roots u) same (h.many.sound u k)) in
       let fewer = at_most h.many.types t.types h.many.distinct (λ u k. t.reached.complete u (sound u k)) in
       let many = h.many.many in
       let few = t.few in

@@ -6,9 +6,9 @@ use Rattle.std.proofs.lemmas.List.Elements.{Contains-append_left, Contains-push,
 use Rattle.std.proofs.lemmas.Option.{same_Some, slice_get_within}
 use Rattle.std.proofs.Math.ListN.{length-map}
 use Rattle.fidl_tree.specs.declared.file.File.{File}
-use Rattle.fidl_layouts.specs.declared.form.Form.{Form as CodeForm}
-use Rattle.fidl_layouts.specs.FormViews.{seen_form, seen_forms}
-use Rattle.fidl_terms.specs.Numbers.{all_forms}
+use Rattle.fidl_declarations.specs.declared.form.Form.{Form as CodeForm}
+use Rattle.fidl_declarations.specs.FormViews.{form_view, forms_view}
+use Rattle.fidl_lower_types.specs.Numbers.{all_forms}
 use Rattle.fidl_layout.specs.Roots.{IsRoot, RootAt}
 use Rattle.fidl_layout.proofs.Starts.{get_map}
 
@@ -23,18 +23,18 @@ pub record AreBefore (files : List File) (n : ℕ) (found : List ℕ) : Type 0 w
   pub sound : (i : ℕ) → Contains found i → RootAt files i
   pub complete : (i : ℕ) → i < n → RootAt files i → Contains found i
 
-module _ (files : List File) (forms : List CodeForm) (are : seen_forms forms ≡ all_forms files) (n : ℕ) (form : CodeForm) (at : slice_get forms n ≡ Some form) (found : List ℕ) (before : AreBefore files n found) where
-  here_at : slice_get (all_forms files) n ≡ Some (seen_form form)
-  here_at = ap (λ l. slice_get l n) (sym are) ∙ get_map seen_form forms n form at
+module _ (files : List File) (forms : List CodeForm) (are : forms_view forms ≡ all_forms files) (n : ℕ) (form : CodeForm) (at : slice_get forms n ≡ Some form) (found : List ℕ) (before : AreBefore files n found) where
+  here_at : slice_get (all_forms files) n ≡ Some (form_view form)
+  here_at = ap (λ l. slice_get l n) (sym are) ∙ get_map form_view forms n form at
 
-  is_here : (i : ℕ) → i ≡ n → RootAt files i → IsRoot files (seen_form form)
-  is_here i e r = subst (IsRoot files) (same_Some r.form (seen_form form) (sym r.at ∙ ap (slice_get (all_forms files)) e ∙ here_at)) r.is
+  is_here : (i : ℕ) → i ≡ n → RootAt files i → IsRoot files (form_view form)
+  is_here i e r = subst (IsRoot files) (same_Some r.form (form_view form) (sym r.at ∙ ap (slice_get (all_forms files)) e ∙ here_at)) r.is
 
-  pub with_root : (k : ℕ) → k ≡ n → IsRoot files (seen_form form) → (new : List ℕ) → new ≡ found ++ k ∷ [] → AreBefore files (n + 1) new
+  pub with_root : (k : ℕ) → k ≡ n → IsRoot files (form_view form) → (new : List ℕ) → new ≡ found ++ k ∷ [] → AreBefore files (n + 1) new
   with_root k same root new is = record {
     sound = λ i h. elim (Contains-push_cases found k i (subst (λ l. Contains l i) is h)) [
       | inl old ↦ before.sound i old
-      | inr e ↦ subst (RootAt files) (sym same ∙ e) (record { form = seen_form form; at = here_at; is = root })
+      | inr e ↦ subst (RootAt files) (sym same ∙ e) (record { form = form_view form; at = here_at; is = root })
     ];
     complete = λ i lt r. subst (λ l. Contains l i) (sym is) (elim (lt_or_eq i n (omega (arith, lt))) [
       | inl less ↦ Contains-append_left found (k ∷ []) i (before.complete i less r)
@@ -42,7 +42,7 @@ module _ (files : List File) (forms : List CodeForm) (are : seen_forms forms ≡
     ]);
   }
 
-  pub without : (IsRoot files (seen_form form) → ⊥) → (new : List ℕ) → new ≡ found → AreBefore files (n + 1) new
+  pub without : (IsRoot files (form_view form) → ⊥) → (new : List ℕ) → new ≡ found → AreBefore files (n + 1) new
   without none new is = record {
     sound = λ i h. before.sound i (subst (λ l. Contains l i) is h);
     complete = λ i lt r. subst (λ l. Contains l i) (sym is) (elim (lt_or_eq i n (omega (arith, lt))) [
@@ -52,9 +52,9 @@ module _ (files : List File) (forms : List CodeForm) (are : seen_forms forms ≡
   }
 
 -- all forms are before their count
-pub root_within : (files : List File) (forms : List CodeForm) → seen_forms forms ≡ all_forms files → (i : ℕ) → RootAt files i → i < length forms
+pub root_within : (files : List File) (forms : List CodeForm) → forms_view forms ≡ all_forms files → (i : ℕ) → RootAt files i → i < length forms
 root_within files forms are i r =
     let within = slice_get_within (all_forms files) i r.form r.at in
     let same = ap length are in
-    let long = length-map forms seen_form in
+    let long = length-map forms form_view in
     omega (arith, within, same, long)

@@ -7,7 +7,7 @@ use Rattle.fidl_tree.specs.declared.declaration.DeclarationBody.{DeclarationBody
 use Rattle.fidl_tree.specs.declared.declaration.DeclarationBody.TheVariants as body
 use Rattle.fidl_tree.specs.declared.declaration.TypeDeclaration.{TypeDeclaration}
 use Rattle.fidl_tree.specs.Syntax.{Layout}
-use Rattle.fidl_layouts.specs.Forms.{FormKind, layout_form, result_form, empty_response_form}
+use Rattle.fidl_declarations.specs.Forms.{FormKind, layout_form, result_form, empty_response_form}
 use Rattle.fidl_layout.specs.Roots.{type_start, IsPlain}
 use Rattle.std.specs.Bool.{if◌then◌else◌}
 use Rattle.std.proofs.lemmas.Bool.{cases_Bool}
@@ -17,7 +17,7 @@ use Rattle.std.proofs.lemmas.List.Elements.{filter_map-append, Contains-append_l
 use Rattle.indexmap.specs.IndexSet.{insert_key}
 use Rattle.indexmap.proofs.CallerLemmas.{Contains-list_any}
 use Rattle.fidl_names.proofs.Seeing.{take_item}
-use Rattle.fidl_entries.proofs.Members.{nothing_there, first_or_rest}
+use Rattle.fidl_reachable_types.proofs.Members.{nothing_there, first_or_rest}
 
 module _ (ks : List ℕ) (n : ℕ) where
   pub old_there : list_any (nat_eq n) ks ≡ true → Contains ks n

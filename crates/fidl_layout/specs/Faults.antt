@@ -4,10 +4,10 @@ use Rattle.fidl_limits.specs.declared.limits.TheConstants.{MAX_ENTRIES}
 use Rattle.fidl_tree.specs.declared.file.File.{File}
 use Rattle.fidl_names.specs.declared.place.Place.{Place}
 use Rattle.fidl_wire.specs.Term.{Term}
-use Rattle.fidl_terms.specs.Numbers.{all_forms}
-use Rattle.fidl_definitions.specs.Definitions.{DefinitionsAre}
-use Rattle.fidl_figures.specs.Faults.{IsTooNested, IsTooLarge, HasTooManyMembers}
-use Rattle.fidl_entries.specs.Faults.{AreTooMany}
+use Rattle.fidl_lower_types.specs.Numbers.{all_forms}
+use Rattle.fidl_lower_layouts.specs.Definitions.{DefinitionsAre}
+use Rattle.fidl_type_shape.specs.Faults.{IsTooNested, IsTooLarge, HasTooManyMembers}
+use Rattle.fidl_reachable_types.specs.Faults.{AreTooMany}
 use Rattle.fidl_types.specs.Faults.{FormBreaks}
 use Rattle.fidl_types.specs.Places.{IsPlaceOf}
 use Rattle.fidl_layout.specs.declared.fault.LayoutFault.{LayoutFault}

@@ -4,14 +4,14 @@ use Rattle.fidl_limits.specs.declared.limits.TheConstants.{MAX_ENTRIES}
 use Rattle.fidl_tree.specs.declared.file.File.{File}
 use Rattle.fidl_wire.specs.Term.{Term, fields_of}
 use Rattle.fidl_wire.specs.Figure.{Declarations, IsLaidOut, offsets}
-use Rattle.fidl_term.specs.declared.term.Definition.{Definition}
-use Rattle.fidl_term.specs.Terms.{seen_definitions}
-use Rattle.fidl_terms.specs.Numbers.{all_forms}
+use Rattle.fidl_ir.specs.declared.term.Definition.{Definition}
+use Rattle.fidl_ir.specs.Terms.{definitions_view}
+use Rattle.fidl_lower_types.specs.Numbers.{all_forms}
 use Rattle.fidl_types.specs.Types.{TypesAre}
-use Rattle.fidl_figures.specs.Limits.{KeepLimits}
-use Rattle.fidl_figures.specs.declared.finding.Figures.{Figures}
-use Rattle.fidl_figures.specs.Found.{figures_of, offsets_of, declarations_of}
-use Rattle.fidl_entries.specs.Reached.{AreReached}
+use Rattle.fidl_type_shape.specs.Limits.{KeepLimits}
+use Rattle.fidl_type_shape.specs.declared.finding.Figures.{Figures}
+use Rattle.fidl_type_shape.specs.Found.{figures_of, offsets_of, declarations_of}
+use Rattle.fidl_reachable_types.specs.Reached.{AreReached}
 use Rattle.fidl_layout.specs.Roots.{AreRoots}
 use Rattle.fidl_layout.specs.Written.{ValuesFit}
 
@@ -35,11 +35,11 @@ pub record AreLaidOut (files : List File) (ds : Declarations) : Type 0 where
 -- the figures that were found for checked files
 pub record AreFigures (files : List File) (found : Figures) : Type 0 where
   pub definitions : List Definition
-  pub checked : TypesAre files (seen_definitions definitions)
+  pub checked : TypesAre files (definitions_view definitions)
   pub laid_out : IsLaidOut (declarations_of definitions found)
   pub limits : KeepLimits (declarations_of definitions found)
   pub offsets : offsets_of found ≡ map (λ d. offsets (figures_of found) 0 (fields_of d))
-      (seen_definitions definitions)
+      (definitions_view definitions)
 
 -- what is held of files that are laid out
 pub record AreHeld (files : List File) (found : Figures) : Type 0 where

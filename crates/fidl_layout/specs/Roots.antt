@@ -7,9 +7,9 @@ use Rattle.fidl_tree.specs.declared.file.File.{File}
 use Rattle.fidl_tree.specs.declared.declaration.Declaration.{Declaration}
 use Rattle.fidl_tree.specs.declared.declaration.DeclarationBody.{DeclarationBody}
 use Rattle.fidl_tree.specs.declared.declaration.DeclarationBody.TheVariants as body
-use Rattle.fidl_layouts.specs.declared.step.Step.TheVariants as step
-use Rattle.fidl_layouts.specs.Forms.{Form, FormKind, layout_form, result_form, empty_response_form}
-use Rattle.fidl_terms.specs.Numbers.{all_forms}
+use Rattle.fidl_declarations.specs.declared.step.Step.TheVariants as step
+use Rattle.fidl_declarations.specs.Forms.{Form, FormKind, layout_form, result_form, empty_response_form}
+use Rattle.fidl_lower_types.specs.Numbers.{all_forms}
 
 -- where the name begins of what is declared by `type`, in bytes
 abbrev pub type_start : DeclarationBody → Option ℕ

@@ -4,7 +4,7 @@ use Rattle.std.specs.Prelude.{ℕ, ◌≡◌, ◌≤◌, ◌<◌, List, Some, le
 use Rattle.std.specs.List.{AllByRecursion}
 use Rattle.fidl_limits.specs.declared.limits.TheConstants.{MAX_LAYOUT_MEMBERS}
 use Rattle.fidl_tree.specs.Syntax.{Layout, values_layout, struct_layout, table_layout, union_layout}
-use Rattle.fidl_layouts.specs.Forms.{Form, FormKind, layout_form, result_form, empty_response_form}
+use Rattle.fidl_declarations.specs.Forms.{Form, FormKind, layout_form, result_form, empty_response_form}
 
 abbrev pub layout_values : Layout → ℕ
 layout_values (values_layout values strict keyword u ms) = length ms

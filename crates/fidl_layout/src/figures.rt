@@ -1,21 +1,21 @@
 //! The figures of checked files.
 ghost use Rattle.std.specs.Prelude.{IfErr, IfOk};
-ghost use Rattle.fidl_term.specs.Terms.{seen_definitions};
-ghost use Rattle.fidl_figures.specs.Faults.{IsTrueOf};
+ghost use Rattle.fidl_ir.specs.Terms.{definitions_view};
+ghost use Rattle.fidl_type_shape.specs.Faults.{IsTrueOf};
 ghost use Rattle.fidl_types.specs.Types.{TypesAre};
 ghost use Rattle.fidl_layout.specs.Faults.{IsTrueOfLayout};
 ghost use Rattle.fidl_layout.specs.Laid.{AreFigures};
 
 use crate::fault::LayoutFault;
-use fidl_figures::{FigureFault, Figures, find_figures};
-use fidl_term::Definition;
+use fidl_ir::Definition;
+use fidl_type_shape::{FigureFault, Figures, find_figures};
 use fidl_types::{Types, place_of};
 use std::alloc::Global;
 
 /// A fault of definitions at the place of their form.
 fn fault_of(types: &Types<'_, '_>, definitions: &[Definition], fault: FigureFault) -> LayoutFault
-    requires checked { TypesAre types.now (seen_definitions definitions.now) }
-    requires is_true { IsTrueOf (seen_definitions definitions.now) fault }
+    requires checked { TypesAre types.now (definitions_view definitions.now) }
+    requires is_true { IsTrueOf (definitions_view definitions.now) fault }
     ensures { IsTrueOfLayout types.now result }
 {
     let forms = types.forms();

@@ -3,10 +3,10 @@ ghost use Rattle.std.specs.Prelude.{◌≡◌, slice_get, map};
 ghost use Rattle.std.specs.Option.{option_map, option_and_then};
 ghost use Rattle.fidl_wire.specs.Term.{fields_of};
 ghost use Rattle.fidl_wire.specs.Figure.{Declarations, offsets};
-ghost use Rattle.fidl_figures.specs.Views.{seen_figure};
+ghost use Rattle.fidl_type_shape.specs.Views.{figure_view};
 ghost use Rattle.fidl_layout.specs.Laid.{AreFigures, AreLaidOut};
 
-use fidl_figures::{Figure, Figures};
+use fidl_type_shape::{Figure, Figures};
 use fidl_types::Types;
 use std::marker::Model;
 
@@ -52,7 +52,7 @@ impl<'f, 's> Laid<'f, 's> {
     /// there is no such definition.
     pub fn figure(&self, definition: usize) -> Option<Figure>
         ensures { (ds : Declarations) × AreLaidOut self.now ds
-            × (option_map seen_figure result ≡ slice_get ds.figures definition) }
+            × (option_map figure_view result ≡ slice_get ds.figures definition) }
     {
         self.figures.figure(definition)
     }

@@ -2,8 +2,8 @@
 ghost use Rattle.std.specs.Prelude.{◌≢◌, List};
 ghost use Rattle.fidl_tree.specs.declared.file.File.{File};
 ghost use Rattle.fidl_wire.specs.Figure.{Figure, Declarations};
-ghost use Rattle.fidl_term.specs.declared.term.Definition.{Definition};
-ghost use Rattle.fidl_term.specs.Terms.{seen_definitions};
+ghost use Rattle.fidl_ir.specs.declared.term.Definition.{Definition};
+ghost use Rattle.fidl_ir.specs.Terms.{definitions_view};
 ghost use Rattle.fidl_layout.specs.declared.fault.LayoutFault.{LayoutFault};
 ghost use Rattle.fidl_layout.specs.declared.fault.LayoutFault.TheVariants.{Memory};
 ghost use Rattle.fidl_layout.specs.Faults.{IsTrueOfLayout};
@@ -15,7 +15,7 @@ pub fn refused_files_are_not_laid_out()
     ensures { (files : List File) (fault : LayoutFault) (definitions : List Definition)
         (figures : List Figure) → fault ≢ Memory → IsTrueOfLayout files fault
         → let ds : Declarations = record {
-          terms = seen_definitions definitions;
+          terms = definitions_view definitions;
           figures = figures;
         } in
         AreLaidOut files ds → ⊥ }

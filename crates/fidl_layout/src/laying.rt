@@ -4,7 +4,7 @@ ghost use Rattle.fidl_wire.specs.Term.{Term};
 ghost use Rattle.fidl_wire.specs.Figure.{Declarations};
 ghost use Rattle.fidl_types.specs.Types.{TypesAre};
 ghost use Rattle.fidl_limits.specs.declared.limits.TheConstants.{MAX_ENTRIES};
-ghost use Rattle.fidl_entries.specs.Faults.{AreTooMany};
+ghost use Rattle.fidl_reachable_types.specs.Faults.{AreTooMany};
 ghost use Rattle.fidl_layout.specs.Roots.{AreRoots};
 ghost use Rattle.fidl_layout.specs.Laid.{AreLaidOut, TypesFit};
 ghost use Rattle.fidl_layout.specs.Faults.{IsTrueOfLayout};
@@ -14,8 +14,8 @@ use crate::figures::all_figures;
 use crate::laid::Laid;
 use crate::roots::declared_types;
 use crate::written::check_values;
-use fidl_entries::{EntryFault, reached_types};
 use fidl_limits::MAX_ENTRIES;
+use fidl_reachable_types::{EntryFault, reached_types};
 use fidl_types::{Types, place_of};
 use std::alloc::Global;
 

@@ -4,14 +4,14 @@ ghost use Rattle.std.specs.Bool.{Decides};
 ghost use Rattle.std.specs.List.{AllZip, Contains};
 ghost use Rattle.fidl_tree.specs.declared.file.File.{File as Tree};
 ghost use Rattle.fidl_span.specs.declared.words.Span.{Span as Place};
-ghost use Rattle.fidl_layouts.specs.declared.step.Step.TheVariants as Steps;
-ghost use Rattle.fidl_layouts.specs.FormViews.{seen_form, seen_forms};
-ghost use Rattle.fidl_terms.specs.Numbers.{all_forms};
+ghost use Rattle.fidl_declarations.specs.declared.step.Step.TheVariants as Steps;
+ghost use Rattle.fidl_declarations.specs.FormViews.{form_view, forms_view};
+ghost use Rattle.fidl_lower_types.specs.Numbers.{all_forms};
 ghost use Rattle.fidl_layout.specs.declared.fault.LayoutFault.TheVariants.{Memory};
 ghost use Rattle.fidl_layout.specs.Roots.{type_starts, AreStarts, IsPlain, IsRoot, AreRoots};
 
 use crate::fault::LayoutFault;
-use fidl_layouts::{Form, FormKind, Step};
+use fidl_declarations::{Form, FormKind, Step};
 use fidl_names::Named;
 use fidl_span::Span;
 use fidl_tree::{DeclarationBody, File};
@@ -59,7 +59,7 @@ fn only_name(path: &[Step]) -> Option<Span>
 
 /// Whether a layout is numbered as it is, and not for where it may be absent.
 fn is_plain_layout(form: &Form<'_, '_>) -> bool
-    ensures { Decides result (IsPlain (seen_form form.now).kind) }
+    ensures { Decides result (IsPlain (form_view form.now).kind) }
 {
     match form.kind {
         FormKind::Layout { optional, .. } => !optional,
@@ -71,7 +71,7 @@ fn is_plain_layout(form: &Form<'_, '_>) -> bool
 /// Whether a form is that of a declared type.
 fn is_root(form: &Form<'_, '_>, starts: &[IndexSet<usize>]) -> bool
     ensures { (files : List Tree) → AllZip AreStarts files (map (λ s. s.keys) starts.now)
-        → Decides result (IsRoot files (seen_form form.now)) }
+        → Decides result (IsRoot files (form_view form.now)) }
 {
     if !is_plain_layout(form) {
         return false;
@@ -91,7 +91,7 @@ fn root_numbers(
     forms: &[Form<'_, '_>],
     starts: &[IndexSet<usize>],
 ) -> Result<Vec<u32>, LayoutFault>
-    ensures roots { (files : List Tree) → seen_forms forms.now ≡ all_forms files
+    ensures roots { (files : List Tree) → forms_view forms.now ≡ all_forms files
         → AllZip AreStarts files (map (λ s. s.keys) starts.now)
         → IfOk result (λ found. AreRoots files found.items) }
     ensures fault { IfErr result (λ fault. fault ≡ Memory) }

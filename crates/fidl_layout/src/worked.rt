@@ -6,8 +6,8 @@ ghost use Rattle.fidl_tree.specs.Syntax.{Layout, Members, ValueMember, bits_kind
 ghost use Rattle.fidl_tree.specs.Syntax.{Response, values_layout, struct_layout};
 ghost use Rattle.fidl_tree.specs.declared.file.File.{File};
 ghost use Rattle.fidl_names.specs.declared.place.Place.{Place};
-ghost use Rattle.fidl_layouts.specs.declared.step.Step.{Step};
-ghost use Rattle.fidl_layouts.specs.Forms.{Form, layout_form, result_form};
+ghost use Rattle.fidl_declarations.specs.declared.step.Step.{Step};
+ghost use Rattle.fidl_declarations.specs.Forms.{Form, layout_form, result_form};
 ghost use Rattle.fidl_layout.specs.declared.fault.LayoutFault.TheVariants as Faults;
 ghost use Rattle.fidl_layout.specs.Roots.{IsRoot, AreRoots};
 ghost use Rattle.fidl_layout.specs.Written.{written_values, ValuesFit, HasTooManyValues};

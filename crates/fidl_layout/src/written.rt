@@ -1,13 +1,13 @@
 //! The members that are written in bits and enums.
 ghost use Rattle.std.specs.Prelude.{◌≡◌, IfErr, OnOk};
 ghost use Rattle.fidl_tree.specs.Views.{body_view};
-ghost use Rattle.fidl_layouts.specs.FormViews.{seen_kind};
-ghost use Rattle.fidl_terms.specs.Numbers.{all_forms};
+ghost use Rattle.fidl_declarations.specs.FormViews.{form_kind_view};
+ghost use Rattle.fidl_lower_types.specs.Numbers.{all_forms};
 ghost use Rattle.fidl_layout.specs.Faults.{IsTrueOfLayout};
 ghost use Rattle.fidl_layout.specs.Written.{layout_values, written_values, ValuesFit};
 
 use crate::fault::LayoutFault;
-use fidl_layouts::FormKind;
+use fidl_declarations::FormKind;
 use fidl_limits::MAX_LAYOUT_MEMBERS;
 use fidl_tree::LayoutBody;
 use fidl_types::{Types, place_of};
@@ -24,7 +24,7 @@ fn layout_values(body: &LayoutBody) -> usize
 
 /// The same of a form.
 fn written_values(kind: FormKind<'_>) -> usize
-    ensures { result ≡ written_values (seen_kind kind.entry) }
+    ensures { result ≡ written_values (form_kind_view kind.entry) }
 {
     match kind {
         FormKind::Layout { body, .. } => layout_values(body),

@@ -3,7 +3,7 @@
 //! `.ci/must-not-compile` edit these tests so that they break this, and the compiler has to refuse
 //! each.
 ghost use Rattle.std.specs.Prelude.{◌<◌};
-ghost use Rattle.fidl_records.specs.Section.{header_of};
+ghost use Rattle.fidl_table_format.specs.Section.{header_of};
 
 use fidl_decode::{Scratch, decode};
 use fidl_verify::{Table, verify};

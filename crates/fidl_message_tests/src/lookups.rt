@@ -5,7 +5,7 @@ use crate::protocols::protocol_call;
 use crate::rules::TWO_ROOTS;
 use crate::showing::text;
 use crate::structs::POINT;
-use fidl_records::{read_header, read_value};
+use fidl_table_format::{read_header, read_value};
 use fidl_verify::Table;
 use std::alloc::Global;
 use std::test::Fail;

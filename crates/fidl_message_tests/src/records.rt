@@ -1,4 +1,4 @@
-use fidl_records::{
+use fidl_table_format::{
     Entry, EntryKind, Header, Root, Row, name_bytes, read_entry, read_header, read_root, read_row,
 };
 

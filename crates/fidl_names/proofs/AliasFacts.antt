@@ -26,7 +26,7 @@ use Rattle.fidl_names.specs.declared.meaning.Meaning.TheVariants as meaning
 use Rattle.fidl_names.specs.Meanings.{components, Means, IsReading, declaration, member, IsOwn, IsDeclarationOf, IsMemberOf, IsJust}
 use Rattle.fidl_names.specs.OuterTypes.{outer_types, texts}
 use Rattle.fidl_names.specs.Aliases.{Wants, by_itself, count, argument, WantsKind, IsArrayName, IsAliasAt, Refers, Follows, type_path}
-use Rattle.fidl_names.specs.ReferenceViews.{read_path, seen_path}
+use Rattle.fidl_names.specs.ReferenceViews.{read_path, optional_path_view}
 use Rattle.fidl_names.specs.AliasGraph.{IsMeant}
 use Rattle.fidl_names.specs.DeclarationNumbers.{HasDeclaration}
 use Rattle.fidl_names.proofs.ResolvedMeanings.{one_file, one_alias}
@@ -96,7 +96,7 @@ pub components_seen : (src : List ℕ) (p : Path) → components src p ≡ texts
 components_seen src p = ap (λ l. text_at src p.first ∷ l) (same_texts src p.rest.items)
 
 -- so it wants the same kind there
-pub wants_seen : (fs : List File) (f : File) (of : Option (Bor Path)) (kind : Wanted) → WantsKind fs f (read_path of) kind → Wants (IsArrayName fs f) (seen_path of) kind
+pub wants_seen : (fs : List File) (f : File) (of : Option (Bor Path)) (kind : Wanted) → WantsKind fs f (read_path of) kind → Wants (IsArrayName fs f) (optional_path_view of) kind
 wants_seen fs f None kind by_itself = by_itself
 wants_seen fs f (Some p) kind (count head is) = count (path_view p.now) (subst (λ n. Means fs f wanted.«Type» n (meaning.Predeclared name.Array)) (components_seen f.src.now p.now) is)
 wants_seen fs f (Some p) kind (argument head not) =

@@ -11,7 +11,7 @@ use Rattle.std.proofs.lemmas.Bool.Decides.{Decides-eqb}
 use Rattle.fidl_names.specs.Names.{IsOneOf}
 use Rattle.fidl_names.specs.Imports.{IsEntry}
 use Rattle.fidl_names.proofs.FullNames.{entry_among}
-use Rattle.fidl_names.specs.NameMaps.{seen, seen_texts, names_of}
+use Rattle.fidl_names.specs.NameMaps.{seen, texts_view, names_of}
 
 -- two texts are the same by the test of a map
 abbrev pub same_text : List ℕ → Vec ℕ → Bool
@@ -37,11 +37,11 @@ pub none_there : {X : Type 0} (found : Option X) → is_some found ≡ false →
 none_there None e = refl
 none_there (Some x) e = absurd (true≢false e)
 
-names_of-texts : (es : List (Vec ℕ × Vec ℕ)) → names_of (seen es) ≡ names_of (seen_texts es)
+names_of-texts : (es : List (Vec ℕ × Vec ℕ)) → names_of (seen es) ≡ names_of (texts_view es)
 names_of-texts [] = refl
 names_of-texts (e ∷ es) = ap (λ l. e.0.items ∷ l) (names_of-texts es)
 
-pub taken_text : (es : List (Vec ℕ × Vec ℕ)) (name : List ℕ) → Decides (is_some (lookup (same_text name) es)) (IsOneOf (names_of (seen_texts es)) name)
+pub taken_text : (es : List (Vec ℕ × Vec ℕ)) (name : List ℕ) → Decides (is_some (lookup (same_text name) es)) (IsOneOf (names_of (texts_view es)) name)
 taken_text es name = subst (λ ns. Decides (is_some (lookup (same_text name) es)) (IsOneOf ns name)) (names_of-texts es) (taken es name)
 
 -- what a look-up finds is an entry
@@ -60,7 +60,7 @@ pub no_entry : {X : Type 0} (es : List (Vec ℕ × X)) (name : List ℕ) (x : X)
 no_entry es name x none h = absurd (true≢false (sym ((taken es name).1 (entry_among (seen es) name x h)) ∙ ap is_some none))
 
 -- the same where texts stand there
-pub found_text : (es : List (Vec ℕ × Vec ℕ)) (name : List ℕ) (x : Vec ℕ) → lookup (same_text name) es ≡ Some x → IsEntry (seen_texts es) name x.items
+pub found_text : (es : List (Vec ℕ × Vec ℕ)) (name : List ℕ) (x : Vec ℕ) → lookup (same_text name) es ≡ Some x → IsEntry (texts_view es) name x.items
 found_text [] name x is = absurd (cc)
 found_text (e ∷ es) name x is = elim (cases_Bool (same_text name e.0)) [
   | inl here ↦
@@ -70,5 +70,5 @@ found_text (e ∷ es) name x is = elim (cases_Bool (same_text name e.0)) [
   | inr other ↦ inr (found_text es name x (sym (ap (λ b. cond b (Some e.1) (lookup (same_text name) es)) other) ∙ is))
 ]
 
-pub no_text : (es : List (Vec ℕ × Vec ℕ)) (name text : List ℕ) → lookup (same_text name) es ≡ None → IsEntry (seen_texts es) name text → ⊥
-no_text es name text none h = absurd (true≢false (sym ((taken_text es name).1 (entry_among (seen_texts es) name text h)) ∙ ap is_some none))
+pub no_text : (es : List (Vec ℕ × Vec ℕ)) (name text : List ℕ) → lookup (same_text name) es ≡ None → IsEntry (texts_view es) name text → ⊥
+no_text es name text none h = absurd (true≢false (sym ((taken_text es name).1 (entry_among (texts_view es) name text h)) ∙ ap is_some none))

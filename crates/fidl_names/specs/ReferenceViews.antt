@@ -12,15 +12,15 @@ abbrev pub read_path : Option (Bor Path) → Option Path
 read_path path = option_map (λ p. p.now) path
 
 -- the same in plain data
-abbrev pub seen_path : Option (Bor Path) → Option plain.Path
-seen_path path = option_map (λ p. path_view p.now) path
+abbrev pub optional_path_view : Option (Bor Path) → Option plain.Path
+optional_path_view path = option_map (λ p. path_view p.now) path
 
 abbrev pub read_types : List OuterType → List (Option plain.Path × plain.Path)
-read_types types = map (λ t. (seen_path t.argument_of, path_view t.path.now)) types
+read_types types = map (λ t. (optional_path_view t.argument_of, path_view t.path.now)) types
 
 -- what references lead to, in plain data
-abbrev pub seen_paths : List (Bor Path) → List plain.Path
-seen_paths paths = map (λ p. path_view p.now) paths
+abbrev pub paths_view : List (Bor Path) → List plain.Path
+paths_view paths = map (λ p. path_view p.now) paths
 
-abbrev pub seen_values : List (Bor Value) → List plain.Value
-seen_values values = map (λ v. value_view v.now) values
+abbrev pub value_list_view : List (Bor Value) → List plain.Value
+value_list_view values = map (λ v. value_view v.now) values

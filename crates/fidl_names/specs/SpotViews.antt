@@ -7,17 +7,17 @@ use Rattle.fidl_names.specs.declared.spots.Spot.TheVariants.{Named, Written, Num
 use Rattle.fidl_names.specs.Spots.{Spot, type_spot, number_spot, layout_spot}
 
 -- a spot of the code, with the plain data of what its references lead to
-abbrev pub seen_spot : code.Spot → Spot
-seen_spot (Named argument_of named) =
+abbrev pub spot_view : code.Spot → Spot
+spot_view (Named argument_of named) =
     type_spot (option_map path_view (option_copied argument_of)) (named_view named.now)
-seen_spot (Written argument_of layout constraints) =
+spot_view (Written argument_of layout constraints) =
     let l = layout_view layout.now in
     type_spot (option_map path_view (option_copied argument_of))
     (layout_type l.0 l.1 (constraints_view (option_copied constraints)))
-seen_spot (Number argument_of number) =
+spot_view (Number argument_of number) =
     number_spot (option_map path_view (option_copied argument_of)) number
-seen_spot (Layout body) = layout_spot (body_view body.now)
+spot_view (Layout body) = layout_spot (body_view body.now)
 
 -- the same of each
-abbrev pub seen_spots : List code.Spot → List Spot
-seen_spots spots = map seen_spot spots
+abbrev pub spots_view : List code.Spot → List Spot
+spots_view spots = map spot_view spots

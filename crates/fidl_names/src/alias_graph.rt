@@ -7,7 +7,7 @@ ghost use Rattle.fidl_names.specs.Cycles.{points_of};
 ghost use Rattle.fidl_names.specs.Meanings.{IsJust};
 ghost use Rattle.fidl_names.specs.DeclarationNumbers.{HasDeclaration, AreNumbered};
 ghost use Rattle.fidl_names.specs.OuterTypes.{outer_types};
-ghost use Rattle.fidl_names.specs.ReferenceViews.{seen_path};
+ghost use Rattle.fidl_names.specs.ReferenceViews.{optional_path_view};
 
 use crate::alias_steps::alias_at;
 use crate::declaration_numbers::Numbers;
@@ -32,7 +32,7 @@ fn declaration_meant(
     argument_of: Option<&Path>,
     path: &Path,
 ) -> Result<Option<DeclarationId>, AllocError>
-    ensures { let head = seen_path argument_of.entry in
+    ensures { let head = optional_path_view argument_of.entry in
         IfOk result (IsJust (IsMeant scope.now.names.set.now scope.now.file.now head
         (path_view path.now))) }
 {

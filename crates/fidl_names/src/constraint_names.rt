@@ -7,7 +7,7 @@ ghost use Rattle.fidl_names.specs.Constraints.{path_alone, is_optional, ordinary
 ghost use Rattle.fidl_names.specs.Constraints.{ItemMeans};
 ghost use Rattle.fidl_names.specs.Constraints.{ItemHolds, ItemsHold, ValueMeans, NameOfItemFails};
 ghost use Rattle.fidl_names.specs.Constraints.{NameOfValueFails, ItemFails, ItemsFail};
-ghost use Rattle.fidl_names.specs.ReferenceViews.{seen_values};
+ghost use Rattle.fidl_names.specs.ReferenceViews.{value_list_view};
 ghost use Rattle.fidl_names.specs.Scopes.{IsMemoryOr};
 
 use crate::fault::NameFault;
@@ -57,7 +57,7 @@ pub fn ordinary<'f>(
     constraints: Option<&'f Constraints>,
 ) -> Result<Vec<&'f Value>, AllocError>
     ensures { let values = ordinary file.now (constraints_view (option_copied constraints.entry)) in
-        IfOk result (λ found. seen_values found.items ≡ values) }
+        IfOk result (λ found. value_list_view found.items ≡ values) }
 {
     let all = items(alloc, constraints)?;
     let mut found = Vec::new(alloc);

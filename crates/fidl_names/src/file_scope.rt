@@ -3,7 +3,7 @@ ghost use Rattle.std.specs.Prelude.{◌≡◌, Some, map, slice_get};
 ghost use Rattle.std.specs.List.{AllByRecursion};
 ghost use Rattle.fidl_names.specs.Imports.{visible as visible_in, ImportsAreApart};
 ghost use Rattle.fidl_names.specs.Meanings.{MembersDiffer};
-ghost use Rattle.fidl_names.specs.NameMaps.{seen_texts};
+ghost use Rattle.fidl_names.specs.NameMaps.{texts_view};
 ghost use Rattle.fidl_names.specs.ScopeFacts.{is_apart_once, differ_once, once};
 
 use crate::library_set::LibrarySet;
@@ -15,7 +15,7 @@ use indexmap::IndexMap;
 pub(crate) struct SetScope<'a, 'f, 's> {
     pub set: &'a LibrarySet<'f, 's>,
     pub visible_names: &'a [IndexMap<Vec<u8>, Vec<u8>>],
-    ghost sees: { map (λ s. seen_texts s.entries) visible_names.now ≡ map visible_in set.now },
+    ghost sees: { map (λ s. texts_view s.entries) visible_names.now ≡ map visible_in set.now },
     ghost apart: { AllByRecursion ImportsAreApart set.now } by { is_apart_once set.now },
     ghost members: { MembersDiffer set.now } by { differ_once set.now },
 }
@@ -32,7 +32,7 @@ pub(crate) struct FileScope<'a, 'f, 's> {
 impl<'a, 'f, 's> FileScope<'a, 'f, 's> {
     /// The libraries that the file sees, by the names under which it sees them.
     pub(crate) fn visible(&self) -> &'a IndexMap<Vec<u8>, Vec<u8>>
-        ensures sees { seen_texts result.now.entries ≡ visible_in self.now.file.now }
+        ensures sees { texts_view result.now.entries ≡ visible_in self.now.file.now }
         ensures apart { ImportsAreApart self.now.file.now }
     {
         &self.names.visible_names[self.file_index]

@@ -6,7 +6,7 @@ ghost use Rattle.fidl_names.specs.Names.{IsOneOf, path_text, library_of};
 ghost use Rattle.fidl_names.specs.Imports.{path_span, visible, visible_by, alias_names};
 ghost use Rattle.fidl_names.specs.Imports.{ImportsAreKnown, ImportsAreApart, IsTrueOfImports};
 ghost use Rattle.fidl_names.specs.Imports.{IsTrueOfImport, same};
-ghost use Rattle.fidl_names.specs.NameMaps.{seen, seen_texts, names_of, IsRepeated, StayDistinct};
+ghost use Rattle.fidl_names.specs.NameMaps.{seen, texts_view, names_of, IsRepeated, StayDistinct};
 
 use crate::fault::NameFault;
 use crate::full_name::path_text;
@@ -38,10 +38,10 @@ fn add_visible(
     place: Place,
 ) -> Result<(), NameFault>
     ensures ok { OnOk result (visible.new.entries ≡ visible.old.entries ++ (name, library) ∷ []) }
-    ensures distinct { OnOk result (StayDistinct (seen_texts visible.old.entries)
-        (seen_texts visible.new.entries)) }
+    ensures distinct { OnOk result (StayDistinct (texts_view visible.old.entries)
+        (texts_view visible.new.entries)) }
     ensures fault_is_true { IfErr result (IsRepeated
-        (seen_texts visible.old.entries) name.items place) }
+        (texts_view visible.old.entries) name.items place) }
 {
     if visible.contains_key(&name) {
         return Err(NameFault::BadImport { place });
@@ -58,13 +58,13 @@ fn add_alias(
     library: Vec<u8>,
     place: Place,
 ) -> Result<(), NameFault>
-    ensures ok { OnOk result (seen_texts visible.new.entries ≡ seen_texts visible.old.entries
+    ensures ok { OnOk result (texts_view visible.new.entries ≡ texts_view visible.old.entries
         ++ (if same name.now library.items then [] else (name.now, library.items) ∷ [])) }
-    ensures distinct { OnOk result (StayDistinct (seen_texts visible.old.entries)
-        (seen_texts visible.new.entries)) }
+    ensures distinct { OnOk result (StayDistinct (texts_view visible.old.entries)
+        (texts_view visible.new.entries)) }
     ensures other { OnErr result (same name.now library.items ≡ false) }
     ensures fault_is_true { IfErr result (IsRepeated
-        (seen_texts visible.old.entries) name.now place) }
+        (texts_view visible.old.entries) name.now place) }
 {
     if name == library.as_slice() {
         return Ok(());
@@ -82,14 +82,14 @@ fn add_import(
     file_index: usize,
     import: &Import,
 ) -> Result<(), NameFault>
-    ensures ok { OnOk result (seen_texts visible.new.entries ≡ seen_texts visible.old.entries
+    ensures ok { OnOk result (texts_view visible.new.entries ≡ texts_view visible.old.entries
         ++ visible_by file.now.src.now import.now) }
     ensures known { OnOk result (IsOneOf (names_of (seen libraries.now.entries))
         (path_text file.now.src.now import.now.path)) }
-    ensures distinct { OnOk result (StayDistinct (seen_texts visible.old.entries)
-        (seen_texts visible.new.entries)) }
+    ensures distinct { OnOk result (StayDistinct (texts_view visible.old.entries)
+        (texts_view visible.new.entries)) }
     ensures fault_is_true { IfErr result (IsTrueOfImport (names_of (seen libraries.now.entries))
-        (names_of (seen_texts visible.old.entries)) file.now.src.now import.now file_index) }
+        (names_of (texts_view visible.old.entries)) file.now.src.now import.now file_index) }
 {
     let library = path_text(alloc, file, &import.path)?;
     let span = path_span(&import.path);
@@ -124,7 +124,7 @@ pub(crate) fn visible_libraries(
     file: &File<'_>,
     file_index: usize,
 ) -> Result<IndexMap<Vec<u8>, Vec<u8>>, NameFault>
-    ensures ok { IfOk result (λ found. seen_texts found.entries ≡ visible file.now) }
+    ensures ok { IfOk result (λ found. texts_view found.entries ≡ visible file.now) }
     ensures apart { OnOk result (ImportsAreApart file.now) }
     ensures known { OnOk result (ImportsAreKnown (names_of (seen libraries.now.entries)) file.now) }
     ensures fault_is_true { IfErr result (IsTrueOfImports

@@ -6,7 +6,7 @@ ghost use Rattle.fidl_tree.specs.Views.{ordinal_member_view, payload_view, respo
 ghost use Rattle.fidl_tree.specs.Views.{protocol_body_view, protocol_member_view, property_view};
 ghost use Rattle.fidl_tree.specs.Views.{declared_view};
 ghost use Rattle.fidl_names.specs.Spots.{layout_spots};
-ghost use Rattle.fidl_names.specs.SpotViews.{seen_spots};
+ghost use Rattle.fidl_names.specs.SpotViews.{spots_view};
 ghost use Rattle.fidl_names.specs.MemberLists.{held, own_name, own_names, value_names};
 ghost use Rattle.fidl_names.specs.MemberLists.{layout_names};
 ghost use Rattle.fidl_names.specs.MemberLists.{lists_of, type_lists, members_lists, perhaps};
@@ -106,7 +106,7 @@ fn push_spots(
     spots: &[Spot<'_>],
 ) -> Result<(), AllocError>
     ensures { OnOk result (held lists.new.items ≡ held lists.old.items
-        ++ lists_of (seen_spots spots.now)) }
+        ++ lists_of (spots_view spots.now)) }
 {
     for spot in spots {
         if let Spot::Layout { body } = spot {

@@ -44,7 +44,7 @@ pub struct Named<'f, 's> {
 impl<'f, 's> Model for Named<'f, 's> {
     ghost use Rattle.std.specs.Prelude.{List, map};
     ghost use Rattle.fidl_tree.specs.declared.file.File.{File as Tree};
-    ghost use Rattle.fidl_names.specs.NameMaps.{seen_texts};
+    ghost use Rattle.fidl_names.specs.NameMaps.{texts_view};
     ghost use Rattle.fidl_names.specs.Aliases.{rows_of};
     ghost use Rattle.fidl_names.specs.Scopes.{IsKnown};
     ghost use Rattle.fidl_names.specs.StoredFiles.{files_coded};
@@ -55,7 +55,7 @@ impl<'f, 's> Model for Named<'f, 's> {
 
     ghost view = { λ s. s.set };
 
-    ghost invariant = { λ s. IsKnown s.set (map (λ v. seen_texts v.entries) s.visible_names.items)
+    ghost invariant = { λ s. IsKnown s.set (map (λ v. texts_view v.entries) s.visible_names.items)
         (rows_of s.ends.items) };
 }
 

@@ -4,7 +4,7 @@ ghost use Rattle.fidl_tree.specs.Syntax.{arguments_of};
 ghost use Rattle.fidl_tree.specs.Views.{path_view, type_view, named_view, argument_view};
 ghost use Rattle.fidl_tree.specs.Views.{next_argument_view};
 ghost use Rattle.fidl_names.specs.OuterTypes.{outer_of, argument_outer, further_outer, outer_types};
-ghost use Rattle.fidl_names.specs.ReferenceViews.{seen_path, read_types};
+ghost use Rattle.fidl_names.specs.ReferenceViews.{optional_path_view, read_types};
 
 use fidl_tree::{NamedType, NextTypeArgument, Path, TypeArgument, TypeConstructor};
 use std::alloc::{AllocError, Global};
@@ -24,7 +24,7 @@ fn push_type<'f>(
     argument_of: Option<&'f Path>,
 ) -> Result<(), AllocError>
     ensures { OnOk result (read_types types.new.items ≡ read_types types.old.items
-        ++ outer_of (seen_path argument_of.entry) (type_view constructor.now)) }
+        ++ outer_of (optional_path_view argument_of.entry) (type_view constructor.now)) }
 {
     match constructor {
         TypeConstructor::Layout { .. } => Ok(()),
@@ -40,7 +40,7 @@ fn push_named<'f>(
     argument_of: Option<&'f Path>,
 ) -> Result<(), AllocError>
     ensures { OnOk result (read_types types.new.items ≡ read_types types.old.items
-        ++ outer_of (seen_path argument_of.entry) (named_view named.now)) }
+        ++ outer_of (optional_path_view argument_of.entry) (named_view named.now)) }
 {
     let path = &named.path;
     types.push(OuterType { argument_of, path })?;
@@ -77,7 +77,7 @@ fn push_argument<'f>(
     argument_of: Option<&'f Path>,
 ) -> Result<(), AllocError>
     ensures { OnOk result (read_types types.new.items ≡ read_types types.old.items
-        ++ argument_outer (seen_path argument_of.entry) (argument_view argument.now)) }
+        ++ argument_outer (optional_path_view argument_of.entry) (argument_view argument.now)) }
 {
     match argument {
         TypeArgument::Number(_) => Ok(()),

@@ -3,7 +3,7 @@ ghost use Rattle.std.specs.Prelude.{◌≡◌, ◌++◌, map, OnOk, IfOk};
 ghost use Rattle.fidl_tree.specs.Syntax.{operands_of};
 ghost use Rattle.fidl_tree.specs.Views.{value_view, or_operand_view, operand_view};
 ghost use Rattle.fidl_names.specs.Places.{value_paths, operands_paths, operand_paths};
-ghost use Rattle.fidl_names.specs.ReferenceViews.{seen_paths};
+ghost use Rattle.fidl_names.specs.ReferenceViews.{paths_view};
 
 use fidl_tree::{Operand, OrOperand, Path, Value};
 use std::alloc::{AllocError, Global};
@@ -11,7 +11,7 @@ use std::alloc::{AllocError, Global};
 /// The paths in a value, after those before them.
 #[cycle(paths)]
 fn push_value<'f>(paths: &mut Vec<&'f Path>, value: &'f Value) -> Result<(), AllocError>
-    ensures { OnOk result (seen_paths paths.new.items ≡ seen_paths paths.old.items
+    ensures { OnOk result (paths_view paths.new.items ≡ paths_view paths.old.items
         ++ value_paths (value_view value.now)) }
 {
     push_operand(paths, &value.first)?;
@@ -23,7 +23,7 @@ fn push_or_operands<'f>(
     paths: &mut Vec<&'f Path>,
     or_operands: &'f [OrOperand],
 ) -> Result<(), AllocError>
-    ensures { OnOk result (seen_paths paths.new.items ≡ seen_paths paths.old.items
+    ensures { OnOk result (paths_view paths.new.items ≡ paths_view paths.old.items
         ++ operands_paths (operands_of (map or_operand_view or_operands.now))) }
 {
     for or_operand in or_operands {
@@ -34,7 +34,7 @@ fn push_or_operands<'f>(
 
 #[cycle(paths)]
 fn push_operand<'f>(paths: &mut Vec<&'f Path>, operand: &'f Operand) -> Result<(), AllocError>
-    ensures { OnOk result (seen_paths paths.new.items ≡ seen_paths paths.old.items
+    ensures { OnOk result (paths_view paths.new.items ≡ paths_view paths.old.items
         ++ operand_paths (operand_view operand.now)) }
 {
     match operand {
@@ -52,7 +52,7 @@ fn push_operand<'f>(paths: &mut Vec<&'f Path>, operand: &'f Operand) -> Result<(
 
 /// The paths in a value, in order.
 pub fn value_paths<'f>(alloc: Global, value: &'f Value) -> Result<Vec<&'f Path>, AllocError>
-    ensures { IfOk result (λ found. seen_paths found.items ≡ value_paths (value_view value.now)) }
+    ensures { IfOk result (λ found. paths_view found.items ≡ value_paths (value_view value.now)) }
 {
     let mut paths = Vec::new(alloc);
     push_value(&mut paths, value)?;

@@ -4,7 +4,7 @@ ghost use Rattle.std.specs.Prelude.{IfErr, OnOk};
 ghost use Rattle.std.specs.List.{AllByRecursion};
 ghost use Rattle.fidl_tree.specs.Views.{path_view, constraints_view, value_member_view};
 ghost use Rattle.fidl_tree.specs.Views.{declared_view};
-ghost use Rattle.fidl_names.specs.PlaceViews.{seen_place};
+ghost use Rattle.fidl_names.specs.PlaceViews.{name_place_view};
 ghost use Rattle.fidl_names.specs.Places.{a_type};
 ghost use Rattle.fidl_names.specs.Resolved.{MembersMean, MemberFails, PlaceHolds, PlaceFails};
 ghost use Rattle.fidl_names.specs.Resolved.{DeclarationHolds, DeclarationFails, NamesHold};
@@ -62,8 +62,8 @@ fn check_value_members(
 /// Each name at a place means something.
 fn check_place(scope: &NamedFile<'_, '_, '_>, place: NamePlace<'_>) -> Result<(), NameFault>
     ensures ok { OnOk result (PlaceHolds scope.now.named.now scope.now.file.now
-        (seen_place place.entry)) }
-    ensures fault_is_true { let seen = seen_place place.entry in
+        (name_place_view place.entry)) }
+    ensures fault_is_true { let seen = name_place_view place.entry in
         IfErr result (IsMemoryOr (λ f. PlaceFails scope.now.named.now scope.now.file.now
         scope.now.file_index f seen)) }
 {

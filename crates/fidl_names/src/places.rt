@@ -12,9 +12,9 @@ ghost use Rattle.fidl_names.specs.Spots.{type_spots, layout_spots, members_spots
 ghost use Rattle.fidl_names.specs.Places.{value_places, spot_places, places_of, perhaps};
 ghost use Rattle.fidl_names.specs.Places.{response_places, values_path};
 ghost use Rattle.fidl_names.specs.Places.{protocol_places, body_places};
-ghost use Rattle.fidl_names.specs.ReferenceViews.{seen_values};
-ghost use Rattle.fidl_names.specs.PlaceViews.{seen_place, seen_places};
-ghost use Rattle.fidl_names.specs.SpotViews.{seen_spot, seen_spots};
+ghost use Rattle.fidl_names.specs.ReferenceViews.{value_list_view};
+ghost use Rattle.fidl_names.specs.PlaceViews.{name_place_view, name_places_view};
+ghost use Rattle.fidl_names.specs.SpotViews.{spot_view, spots_view};
 
 use crate::meaning::Wanted;
 use crate::paths::value_paths;
@@ -65,7 +65,7 @@ pub fn items<'f>(
     constraints: Option<&'f Constraints>,
 ) -> Result<Vec<&'f Value>, AllocError>
     ensures { let values = constraints_view (option_copied constraints.entry) in
-        IfOk result (λ found. seen_values found.items ≡ values) }
+        IfOk result (λ found. value_list_view found.items ≡ values) }
 {
     let mut found: Vec<&'f Value> = Vec::new(alloc);
     match constraints {
@@ -83,7 +83,7 @@ fn push_items<'f>(
     found: &mut Vec<&'f Value>,
     constraints: &'f [NextConstraint],
 ) -> Result<(), AllocError>
-    ensures { OnOk result (seen_values found.new.items ≡ seen_values found.old.items
+    ensures { OnOk result (value_list_view found.new.items ≡ value_list_view found.old.items
         ++ map (λ n. value_view n.value) constraints.now) }
 {
     for next in constraints {
@@ -98,7 +98,7 @@ fn push_value<'f>(
     alloc: Global,
     value: &'f Value,
 ) -> Result<(), AllocError>
-    ensures { OnOk result (seen_places places.new.items ≡ seen_places places.old.items
+    ensures { OnOk result (name_places_view places.new.items ≡ name_places_view places.old.items
         ++ value_places (value_view value.now)) }
 {
     let paths = value_paths(alloc, value)?;
@@ -113,7 +113,7 @@ fn push_value<'f>(
 
 /// The place that a spot of the walk is, if it is one.
 fn place_of<'f>(spot: Spot<'f>) -> Option<NamePlace<'f>>
-    ensures { option_to_list (option_map seen_place result) ≡ spot_places (seen_spot spot.entry) }
+    ensures { option_to_list (option_map name_place_view result) ≡ spot_places (spot_view spot.entry) }
 {
     match spot {
         Spot::Named { argument_of, named } => Some(NamePlace::Type {
@@ -153,8 +153,8 @@ fn underlying_path<'f>(layout: &'f ValuesLayout) -> Option<&'f Path>
 
 /// The places among the spots of a walk, after those before them.
 fn push_spots<'f>(places: &mut Vec<NamePlace<'f>>, spots: &[Spot<'f>]) -> Result<(), AllocError>
-    ensures { OnOk result (seen_places places.new.items ≡ seen_places places.old.items
-        ++ places_of (seen_spots spots.now)) }
+    ensures { OnOk result (name_places_view places.new.items ≡ name_places_view places.old.items
+        ++ places_of (spots_view spots.now)) }
 {
     for spot in spots {
         if let Some(place) = place_of(*spot) {
@@ -170,7 +170,7 @@ fn push_type<'f>(
     alloc: Global,
     constructor: &'f TypeConstructor,
 ) -> Result<(), AllocError>
-    ensures { OnOk result (seen_places places.new.items ≡ seen_places places.old.items
+    ensures { OnOk result (name_places_view places.new.items ≡ name_places_view places.old.items
         ++ places_of (type_spots None (type_view constructor.now))) }
 {
     let mut spots = Vec::new(alloc);
@@ -184,7 +184,7 @@ fn push_layout<'f>(
     alloc: Global,
     body: &'f LayoutBody,
 ) -> Result<(), AllocError>
-    ensures { OnOk result (seen_places places.new.items ≡ seen_places places.old.items
+    ensures { OnOk result (name_places_view places.new.items ≡ name_places_view places.old.items
         ++ places_of (layout_spots (body_view body.now))) }
 {
     let mut spots = Vec::new(alloc);
@@ -198,7 +198,7 @@ fn push_members<'f>(
     alloc: Global,
     members: &'f [Member],
 ) -> Result<(), AllocError>
-    ensures { OnOk result (seen_places places.new.items ≡ seen_places places.old.items
+    ensures { OnOk result (name_places_view places.new.items ≡ name_places_view places.old.items
         ++ places_of (members_spots (members_of (map member_view members.now)))) }
 {
     let mut spots = Vec::new(alloc);
@@ -212,7 +212,7 @@ fn push_payload<'f>(
     alloc: Global,
     payload: &'f Payload,
 ) -> Result<(), AllocError>
-    ensures { OnOk result (seen_places places.new.items ≡ seen_places places.old.items
+    ensures { OnOk result (name_places_view places.new.items ≡ name_places_view places.old.items
         ++ perhaps (payload_view payload.now)) }
 {
     match &payload.constructor {
@@ -226,7 +226,7 @@ fn push_response<'f>(
     alloc: Global,
     response: &'f Response,
 ) -> Result<(), AllocError>
-    ensures { OnOk result (seen_places places.new.items ≡ seen_places places.old.items
+    ensures { OnOk result (name_places_view places.new.items ≡ name_places_view places.old.items
         ++ response_places (Some (response_view response.now))) }
 {
     push_payload(places, alloc, &response.payload)?;
@@ -241,7 +241,7 @@ fn push_protocol_member<'f>(
     alloc: Global,
     body: &'f ProtocolMemberBody,
 ) -> Result<(), AllocError>
-    ensures { OnOk result (seen_places places.new.items ≡ seen_places places.old.items
+    ensures { OnOk result (name_places_view places.new.items ≡ name_places_view places.old.items
         ++ protocol_places (protocol_body_view [] body.now)) }
 {
     match body {
@@ -268,7 +268,7 @@ fn push_protocol<'f>(
     alloc: Global,
     members: &'f [ProtocolMember],
 ) -> Result<(), AllocError>
-    ensures { OnOk result (seen_places places.new.items ≡ seen_places places.old.items
+    ensures { OnOk result (name_places_view places.new.items ≡ name_places_view places.old.items
         ++ flat_map protocol_places (map protocol_member_view members.now)) }
 {
     for member in members {
@@ -282,7 +282,7 @@ fn push_properties<'f>(
     alloc: Global,
     properties: &'f [Property],
 ) -> Result<(), AllocError>
-    ensures { OnOk result (seen_places places.new.items ≡ seen_places places.old.items
+    ensures { OnOk result (name_places_view places.new.items ≡ name_places_view places.old.items
         ++ places_of (members_spots (members_of (map property_view properties.now)))) }
 {
     for property in properties {
@@ -297,7 +297,7 @@ pub fn name_places<'f>(
     body: &'f DeclarationBody,
 ) -> Result<Vec<NamePlace<'f>>, AllocError>
     ensures { let all = body_places (declared_view body.now) in
-        IfOk result (λ found. seen_places found.items ≡ all) }
+        IfOk result (λ found. name_places_view found.items ≡ all) }
 {
     let mut places = Vec::new(alloc);
     match body {

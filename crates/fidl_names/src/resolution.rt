@@ -1,6 +1,6 @@
 //! The rules of resolving, but that each name has a meaning, and what their check finds out.
 ghost use Rattle.std.specs.Prelude.{map, IfErr, IfOk, OnOk};
-ghost use Rattle.fidl_names.specs.NameMaps.{seen_texts};
+ghost use Rattle.fidl_names.specs.NameMaps.{texts_view};
 ghost use Rattle.fidl_names.specs.Aliases.{rows_of};
 ghost use Rattle.fidl_names.specs.Scopes.{IsKnown};
 ghost use Rattle.fidl_names.specs.Resolved.{RulesHold, IsTrueOfResolving};
@@ -24,7 +24,7 @@ pub(crate) struct Resolution {
 /// Checks all rules but that each name has a meaning.
 pub(crate) fn check_rules(set: &LibrarySet<'_, '_>) -> Result<Resolution, NameFault>
     ensures known { IfOk result (λ r. IsKnown set.now
-        (map (λ v. seen_texts v.entries) r.visible_names.items) (rows_of r.ends.items)) }
+        (map (λ v. texts_view v.entries) r.visible_names.items) (rows_of r.ends.items)) }
     ensures rules { OnOk result (RulesHold set.now) }
     ensures fault_is_true { IfErr result (IsTrueOfResolving set.now) }
 {

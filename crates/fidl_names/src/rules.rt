@@ -7,7 +7,7 @@ ghost use Rattle.fidl_names.specs.Imports.{IsTrueOfImports};
 ghost use Rattle.fidl_names.specs.ImportCycles.{AreNumbered};
 ghost use Rattle.fidl_names.specs.Meanings.{MembersDiffer};
 ghost use Rattle.fidl_names.specs.MemberLists.{DistinctMembers, RepeatsMember, IsRepeatedAt};
-ghost use Rattle.fidl_names.specs.NameMaps.{seen, seen_texts, names_of, HaveSame};
+ghost use Rattle.fidl_names.specs.NameMaps.{seen, texts_view, names_of, HaveSame};
 ghost use Rattle.fidl_names.specs.Faults.{IsTrueOfOne};
 
 use crate::differ::check_members;
@@ -68,7 +68,7 @@ pub(crate) fn all_imports(
     libraries: &IndexMap<Vec<u8>, usize>,
 ) -> Result<Vec<IndexMap<Vec<u8>, Vec<u8>>>, NameFault>
     requires { HaveSame (names_of (seen libraries.now.entries)) (libraries_of set.now) }
-    ensures ok { IfOk result (λ found. map (λ visible_names. seen_texts visible_names.entries)
+    ensures ok { IfOk result (λ found. map (λ visible_names. texts_view visible_names.entries)
         found.items
         ≡ map visible set.now) }
     ensures apart { OnOk result (AllByRecursion ImportsAreApart set.now) }

@@ -6,7 +6,7 @@ ghost use Rattle.fidl_tree.specs.Views.{next_argument_view, argument_view, body_
 ghost use Rattle.fidl_tree.specs.Views.{member_view, ordinal_member_view};
 ghost use Rattle.fidl_names.specs.Spots.{type_spots, arguments_spots, further_spots};
 ghost use Rattle.fidl_names.specs.Spots.{argument_spots, layout_spots, members_spots, member_spots};
-ghost use Rattle.fidl_names.specs.SpotViews.{seen_spots};
+ghost use Rattle.fidl_names.specs.SpotViews.{spots_view};
 
 use fidl_span::Span;
 use fidl_tree::{
@@ -47,7 +47,7 @@ pub(crate) fn push_type<'f>(
     argument_of: Option<&'f Path>,
     constructor: &'f TypeConstructor,
 ) -> Result<(), AllocError>
-    ensures { OnOk result (seen_spots spots.new.items ≡ seen_spots spots.old.items
+    ensures { OnOk result (spots_view spots.new.items ≡ spots_view spots.old.items
         ++ type_spots (option_map path_view (option_copied argument_of.entry))
         (type_view constructor.now)) }
 {
@@ -75,7 +75,7 @@ fn push_named<'f>(
     argument_of: Option<&'f Path>,
     named: &'f NamedType,
 ) -> Result<(), AllocError>
-    ensures { OnOk result (seen_spots spots.new.items ≡ seen_spots spots.old.items
+    ensures { OnOk result (spots_view spots.new.items ≡ spots_view spots.old.items
         ++ type_spots (option_map path_view (option_copied argument_of.entry))
         (named_view named.now)) }
 {
@@ -93,7 +93,7 @@ fn push_arguments<'f>(
     head: &'f Path,
     arguments: &'f TypeArguments,
 ) -> Result<(), AllocError>
-    ensures { OnOk result (seen_spots spots.new.items ≡ seen_spots spots.old.items
+    ensures { OnOk result (spots_view spots.new.items ≡ spots_view spots.old.items
         ++ arguments_spots (path_view head.now) (type_arguments_view arguments.now)) }
 {
     push_argument(spots, None, &arguments.first)?;
@@ -112,7 +112,7 @@ fn push_others<'f>(
     spots: &mut Vec<Spot<'f>>,
     others: &'f [NextTypeArgument],
 ) -> Result<(), AllocError>
-    ensures { OnOk result (seen_spots spots.new.items ≡ seen_spots spots.old.items
+    ensures { OnOk result (spots_view spots.new.items ≡ spots_view spots.old.items
         ++ further_spots None (arguments_of (map next_argument_view others.now))) }
 {
     for next in others {
@@ -127,7 +127,7 @@ fn push_argument<'f>(
     argument_of: Option<&'f Path>,
     argument: &'f TypeArgument,
 ) -> Result<(), AllocError>
-    ensures { OnOk result (seen_spots spots.new.items ≡ seen_spots spots.old.items
+    ensures { OnOk result (spots_view spots.new.items ≡ spots_view spots.old.items
         ++ argument_spots (option_map path_view (option_copied argument_of.entry))
         (argument_view argument.now)) }
 {
@@ -149,7 +149,7 @@ pub(crate) fn push_layout<'f>(
     spots: &mut Vec<Spot<'f>>,
     body: &'f LayoutBody,
 ) -> Result<(), AllocError>
-    ensures { OnOk result (seen_spots spots.new.items ≡ seen_spots spots.old.items
+    ensures { OnOk result (spots_view spots.new.items ≡ spots_view spots.old.items
         ++ layout_spots (body_view body.now)) }
 {
     match body {
@@ -172,7 +172,7 @@ pub(crate) fn push_members<'f>(
     spots: &mut Vec<Spot<'f>>,
     members: &'f [Member],
 ) -> Result<(), AllocError>
-    ensures { OnOk result (seen_spots spots.new.items ≡ seen_spots spots.old.items
+    ensures { OnOk result (spots_view spots.new.items ≡ spots_view spots.old.items
         ++ members_spots (members_of (map member_view members.now))) }
 {
     for member in members {
@@ -187,7 +187,7 @@ fn push_ordinals<'f>(
     spots: &mut Vec<Spot<'f>>,
     members: &'f [OrdinalMember],
 ) -> Result<(), AllocError>
-    ensures { OnOk result (seen_spots spots.new.items ≡ seen_spots spots.old.items
+    ensures { OnOk result (spots_view spots.new.items ≡ spots_view spots.old.items
         ++ members_spots (members_of (map ordinal_member_view members.now))) }
 {
     for member in members {
@@ -198,7 +198,7 @@ fn push_ordinals<'f>(
 
 #[cycle(spots)]
 fn push_ordinal<'f>(spots: &mut Vec<Spot<'f>>, member: &'f OrdinalMember) -> Result<(), AllocError>
-    ensures { OnOk result (seen_spots spots.new.items ≡ seen_spots spots.old.items
+    ensures { OnOk result (spots_view spots.new.items ≡ spots_view spots.old.items
         ++ member_spots (ordinal_member_view member.now)) }
 {
     match &member.body {

@@ -5,11 +5,11 @@ use Rattle.std.specs.List.{AllZip}
 use Rattle.std.proofs.lemmas.Option.{same_Some, none-some}
 use Rattle.fidl_tree.specs.Syntax.{TypeUse, Layout, values_layout, struct_layout, table_layout, union_layout}
 use Rattle.fidl_tree.specs.declared.file.File.{File}
-use Rattle.fidl_layouts.specs.declared.step.Step.{Step}
-use Rattle.fidl_layouts.specs.Forms.{Form, FormKind, layout_form, result_form, empty_response_form}
+use Rattle.fidl_declarations.specs.declared.step.Step.{Step}
+use Rattle.fidl_declarations.specs.Forms.{Form, FormKind, layout_form, result_form, empty_response_form}
 use Rattle.fidl_wire.specs.Term.{Term}
-use Rattle.fidl_terms.specs.Numbers.{all_forms}
-use Rattle.fidl_definitions.specs.Definitions.{LayoutIs, KindIs, DefinitionIs}
+use Rattle.fidl_lower_types.specs.Numbers.{all_forms}
+use Rattle.fidl_lower_layouts.specs.Definitions.{LayoutIs, KindIs, DefinitionIs}
 use Rattle.fidl_types.specs.Types.{TypesAre}
 use Rattle.fidl_payloads.specs.Kinds.{IsPayloadLayout, IsPayloadForm, IsPayload, MayBePayload, IsPayloadDefinition}
 

@@ -5,18 +5,18 @@ use Rattle.std.specs.List.{Contains}
 use Rattle.std.proofs.lemmas.Bool.{cases_lt}
 use Rattle.std.proofs.lemmas.Option.{same_Some, slice_get_within, slice_get-get_or}
 use Rattle.std.proofs.Math.ListN.{get_or-map, length-map}
-use Rattle.fidl_layouts.specs.declared.step.Step.{Step}
-use Rattle.fidl_layouts.specs.declared.form.Form.{Form as CodeForm}
-use Rattle.fidl_layouts.specs.Forms.{Form}
-use Rattle.fidl_layouts.specs.FormViews.{seen_form, seen_forms}
+use Rattle.fidl_declarations.specs.declared.step.Step.{Step}
+use Rattle.fidl_declarations.specs.declared.form.Form.{Form as CodeForm}
+use Rattle.fidl_declarations.specs.Forms.{Form}
+use Rattle.fidl_declarations.specs.FormViews.{form_view, forms_view}
 use Rattle.fidl_payloads.specs.Results.{IsResultForm, IsFirstResult}
 
 -- the form that a loop has come to
 module _ (forms : List CodeForm) (i : ℕ) (form : CodeForm) (lt : i < length forms) (is : form ≡ get_or forms i form) where
-  pub form_there : slice_get (seen_forms forms) i ≡ Some (seen_form form)
+  pub form_there : slice_get (forms_view forms) i ≡ Some (form_view form)
   form_there =
-      let within : i < length (seen_forms forms) = omega (arith, lt, length-map forms seen_form) in
-      slice_get-get_or (seen_forms forms) i (seen_form form) within ∙ ap Some (get_or-map seen_form forms i form ∙ ap seen_form (sym is))
+      let within : i < length (forms_view forms) = omega (arith, lt, length-map forms form_view) in
+      slice_get-get_or (forms_view forms) i (form_view form) within ∙ ap Some (get_or-map form_view forms i form ∙ ap form_view (sym is))
 
 module _ (forms : List Form) (number : ℕ) (path : List Step) where
   -- none of the forms before is the one

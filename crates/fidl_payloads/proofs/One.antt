@@ -4,12 +4,12 @@ use Rattle.std.proofs.lemmas.Bool.{cases_lt}
 use Rattle.fidl_span.specs.declared.words.Span.{Span}
 use Rattle.fidl_tree.specs.Syntax.{TypeUse, Response, ProtocolMember, compose_member, method_member, event_member}
 use Rattle.fidl_tree.specs.declared.file.File.{File}
-use Rattle.fidl_layouts.specs.declared.step.Step.{Step}
-use Rattle.fidl_layouts.specs.Forms.{Form}
-use Rattle.fidl_layouts.specs.Sites.{has_result}
+use Rattle.fidl_declarations.specs.declared.step.Step.{Step}
+use Rattle.fidl_declarations.specs.Forms.{Form}
+use Rattle.fidl_declarations.specs.Sites.{has_result}
 use Rattle.fidl_wire.specs.Term as ty
-use Rattle.fidl_terms.specs.Numbers.{all_forms}
-use Rattle.fidl_terms.proofs.OneTerm.{one_term}
+use Rattle.fidl_lower_types.specs.Numbers.{all_forms}
+use Rattle.fidl_lower_types.proofs.OneTerm.{one_term}
 use Rattle.fidl_payloads.specs.declared.payload.Payload.{Payload}
 use Rattle.fidl_payloads.specs.declared.payload.Payload.TheVariants as payload
 use Rattle.fidl_payloads.specs.Kinds.{IsPayload}

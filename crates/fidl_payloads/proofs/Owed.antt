@@ -7,8 +7,8 @@ use Rattle.fidl_tree.specs.Syntax.{TypeUse, Response}
 use Rattle.fidl_tree.specs.declared.file.File.{File}
 use Rattle.fidl_const.proofs.Among.{among_first}
 use Rattle.fidl_const.specs.Refusals.{type_span}
-use Rattle.fidl_layouts.specs.declared.step.Step.{Step}
-use Rattle.fidl_layouts.specs.Sites.{has_result}
+use Rattle.fidl_declarations.specs.declared.step.Step.{Step}
+use Rattle.fidl_declarations.specs.Sites.{has_result}
 use Rattle.fidl_payloads.specs.declared.fault.PayloadFault.{PayloadFault}
 use Rattle.fidl_payloads.specs.declared.fault.PayloadFault.TheVariants.{BadPayload, Memory}
 use Rattle.fidl_payloads.specs.declared.payload.Payload.{Payload}

@@ -4,29 +4,29 @@ use Rattle.std.proofs.lemmas.Option.{same_Some, slice_get_within}
 use Rattle.std.proofs.Math.ListN.{length-map}
 use Rattle.fidl_tree.specs.Syntax.{TypeUse}
 use Rattle.fidl_tree.specs.declared.file.File.{File}
-use Rattle.fidl_layouts.specs.declared.form.Form.{Form as CodeForm}
-use Rattle.fidl_layouts.specs.Forms.{Form}
-use Rattle.fidl_layouts.specs.FormViews.{seen_kind, seen_form, seen_forms}
+use Rattle.fidl_declarations.specs.declared.form.Form.{Form as CodeForm}
+use Rattle.fidl_declarations.specs.Forms.{Form}
+use Rattle.fidl_declarations.specs.FormViews.{form_kind_view, form_view, forms_view}
 use Rattle.fidl_wire.specs.Term as ty
 use Rattle.fidl_wire.specs.Term.{Term}
-use Rattle.fidl_terms.specs.Numbers.{all_forms}
-use Rattle.fidl_terms.specs.Terms.{TermIs}
-use Rattle.fidl_terms.proofs.OneTerm.{one_term}
+use Rattle.fidl_lower_types.specs.Numbers.{all_forms}
+use Rattle.fidl_lower_types.specs.Terms.{TermIs}
+use Rattle.fidl_lower_types.proofs.OneTerm.{one_term}
 use Rattle.fidl_payloads.specs.Kinds.{IsPayloadForm, IsPayloadAt, IsPayload}
 use Rattle.fidl_payloads.proofs.Finding.{form_there}
 
 module _ (forms : List CodeForm) (i : ℕ) where
-  pub none_past : length forms ≤ i → IsPayloadAt (seen_forms forms) i → ⊥
+  pub none_past : length forms ≤ i → IsPayloadAt (forms_view forms) i → ⊥
   none_past past h =
-      let within = slice_get_within (seen_forms forms) i h.form h.at in
-      omega (arith, within, past, length-map forms seen_form)
+      let within = slice_get_within (forms_view forms) i h.form h.at in
+      omega (arith, within, past, length-map forms form_view)
 
   module _ (form : CodeForm) (lt : i < length forms) (is : form ≡ get_or forms i form) where
-    pub payload_there : IsPayloadForm (seen_kind form.kind) → IsPayloadAt (seen_forms forms) i
-    payload_there h = record { form = seen_form form; at = form_there forms i form lt is; is = h }
+    pub payload_there : IsPayloadForm (form_kind_view form.kind) → IsPayloadAt (forms_view forms) i
+    payload_there h = record { form = form_view form; at = form_there forms i form lt is; is = h }
 
-    pub there_payload : IsPayloadAt (seen_forms forms) i → IsPayloadForm (seen_kind form.kind)
-    there_payload h = subst (λ (f : Form). IsPayloadForm f.kind) (same_Some h.form (seen_form form) (sym h.at ∙ form_there forms i form lt is)) h.is
+    pub there_payload : IsPayloadAt (forms_view forms) i → IsPayloadForm (form_kind_view form.kind)
+    there_payload h = subst (λ (f : Form). IsPayloadForm f.kind) (same_Some h.form (form_view form) (sym h.at ∙ form_there forms i form lt is)) h.is
 
 -- a type with a term
 module _ (files : List File) (number : ℕ) (t : TypeUse) (e : Term) (its : TermIs files number t e) where

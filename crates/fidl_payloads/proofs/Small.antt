@@ -8,8 +8,8 @@ use Rattle.fidl_tree.specs.Syntax.{TypeUse, Response, Declaration, ProtocolMembe
 use Rattle.fidl_tree.specs.Views.{file_view}
 use Rattle.fidl_tree.specs.declared.file.File.{File}
 use Rattle.fidl_const.proofs.Among.{among_none, among_cases}
-use Rattle.fidl_layouts.specs.declared.step.Step.{Step}
-use Rattle.fidl_layouts.specs.Sites.{has_result}
+use Rattle.fidl_declarations.specs.declared.step.Step.{Step}
+use Rattle.fidl_declarations.specs.Sites.{has_result}
 use Rattle.fidl_payloads.specs.declared.payload.Payload.{Payload}
 use Rattle.fidl_payloads.specs.Payloads.{PartIs, AnswerIs, MethodAnswers}
 use Rattle.fidl_payloads.specs.Members.{IsMemberOf}

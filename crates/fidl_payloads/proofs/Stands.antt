@@ -13,10 +13,10 @@ use Rattle.fidl_tree.specs.declared.declaration.ProtocolDeclaration.{ProtocolDec
 use Rattle.fidl_tree.specs.declared.protocol.ProtocolMember.{ProtocolMember as CodeMember}
 use Rattle.fidl_tree.specs.declared.file.File.{File as Tree}
 use Rattle.fidl_const.proofs.Among.{among_first, among_rest, among_map, among_flat}
-use Rattle.fidl_layouts.specs.declared.step.Step.{Step}
-use Rattle.fidl_layouts.specs.declared.step.Step.TheVariants as step
-use Rattle.fidl_layouts.specs.Sites.{any_type, present_type, Site, result_site, attributes_site, within, part_sites, has_result, empty_sites, result_sites, answer_sites, protocol_sites, body_sites, declaration_sites, import_site, file_sites}
-use Rattle.fidl_layouts.specs.Forms.{Form, result_form, form_at, site_forms, file_forms, forms_from}
+use Rattle.fidl_declarations.specs.declared.step.Step.{Step}
+use Rattle.fidl_declarations.specs.declared.step.Step.TheVariants as step
+use Rattle.fidl_declarations.specs.Sites.{any_type, present_type, Site, result_site, attributes_site, within, part_sites, has_result, empty_sites, result_sites, answer_sites, protocol_sites, body_sites, declaration_sites, import_site, file_sites}
+use Rattle.fidl_declarations.specs.Forms.{Form, result_form, form_at, site_forms, file_forms, forms_from}
 use Rattle.fidl_payloads.specs.Results.{ResultStands}
 use Rattle.fidl_payloads.specs.Payloads.{result_path}
 use Rattle.fidl_payloads.specs.Members.{IsMemberOf}

@@ -4,9 +4,9 @@ use Rattle.fidl_span.specs.declared.words.Span.{Span}
 use Rattle.fidl_tree.specs.Syntax.{TypeUse, Response}
 use Rattle.fidl_tree.specs.Syntax.{ProtocolMember, compose_member, method_member, event_member}
 use Rattle.fidl_tree.specs.declared.file.File.{File}
-use Rattle.fidl_layouts.specs.declared.step.Step.{Step}
-use Rattle.fidl_layouts.specs.declared.step.Step.TheVariants as step
-use Rattle.fidl_layouts.specs.Sites.{has_result}
+use Rattle.fidl_declarations.specs.declared.step.Step.{Step}
+use Rattle.fidl_declarations.specs.declared.step.Step.TheVariants as step
+use Rattle.fidl_declarations.specs.Sites.{has_result}
 use Rattle.fidl_payloads.specs.declared.payload.Payload.{Payload}
 use Rattle.fidl_payloads.specs.declared.payload.Payload.TheVariants.{Missing, Empty}
 use Rattle.fidl_payloads.specs.declared.payload.Payload.TheVariants as payload

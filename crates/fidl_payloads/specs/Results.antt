@@ -2,9 +2,9 @@
 use Rattle.std.specs.Prelude.{ℕ, ◌≡◌, ◌<◌, ◌^◌, List, Some, slice_get}
 use Rattle.std.specs.List.{Contains}
 use Rattle.fidl_tree.specs.declared.file.File.{File}
-use Rattle.fidl_layouts.specs.declared.step.Step.{Step}
-use Rattle.fidl_layouts.specs.Forms.{Form, FormKind, layout_form, result_form, empty_response_form}
-use Rattle.fidl_terms.specs.Numbers.{all_forms}
+use Rattle.fidl_declarations.specs.declared.step.Step.{Step}
+use Rattle.fidl_declarations.specs.Forms.{Form, FormKind, layout_form, result_form, empty_response_form}
+use Rattle.fidl_lower_types.specs.Numbers.{all_forms}
 
 -- a form is a union in which a method answers
 abbrev pub IsResultKind : FormKind → Type 0

@@ -1,17 +1,17 @@
 //! Which types may be payloads.
 ghost use Rattle.std.specs.Prelude.{◌≡◌, ◌<◌, ◌↔◌, ℕ, length, IfOk, IfSome, IsNone, IsTrue};
 ghost use Rattle.fidl_tree.specs.Views.{body_view};
-ghost use Rattle.fidl_layouts.specs.FormViews.{seen_kind, seen_forms};
-ghost use Rattle.fidl_behind.specs.BehindViews.{seen_use};
+ghost use Rattle.fidl_declarations.specs.FormViews.{form_kind_view, forms_view};
+ghost use Rattle.fidl_constraints.specs.BehindViews.{use_view};
 ghost use Rattle.fidl_wire.specs.Term as Terms;
-ghost use Rattle.fidl_term.specs.Terms.{seen_type};
-ghost use Rattle.fidl_terms.specs.TermViews.{AreKnown};
+ghost use Rattle.fidl_ir.specs.Terms.{term_view};
+ghost use Rattle.fidl_lower_types.specs.TermViews.{AreKnown};
 ghost use Rattle.fidl_payloads.specs.Kinds.{IsPayloadLayout, IsPayloadForm, IsPayloadAt, IsPayload};
 
-use fidl_behind::TypeUse;
-use fidl_layouts::{Form, FormKind};
-use fidl_term::Type;
-use fidl_terms::{Sources, term_of};
+use fidl_constraints::TypeUse;
+use fidl_declarations::{Form, FormKind};
+use fidl_ir::Type;
+use fidl_lower_types::{Sources, term_of};
 use fidl_tree::LayoutBody;
 use std::alloc::AllocError;
 
@@ -29,7 +29,7 @@ fn is_payload_layout(body: &LayoutBody) -> bool
 
 /// Whether a form is such a layout, and never absent.
 fn is_payload_form(kind: FormKind<'_>) -> bool
-    ensures { IsTrue result ↔ IsPayloadForm (seen_kind kind.entry) }
+    ensures { IsTrue result ↔ IsPayloadForm (form_kind_view kind.entry) }
 {
     match kind {
         FormKind::Layout { body, optional } => !optional && is_payload_layout(body),
@@ -40,7 +40,7 @@ fn is_payload_form(kind: FormKind<'_>) -> bool
 
 /// Whether the form of this number is one.
 fn is_payload_at(forms: &[Form<'_, '_>], number: u32) -> bool
-    ensures { IsTrue result ↔ IsPayloadAt (seen_forms forms.now) number }
+    ensures { IsTrue result ↔ IsPayloadAt (forms_view forms.now) number }
 {
     match forms.get(number as usize) {
         None => false,
@@ -50,8 +50,8 @@ fn is_payload_at(forms: &[Form<'_, '_>], number: u32) -> bool
 
 /// The number of the definition that a term names.
 fn named_number(of: &Type) -> Option<u32>
-    ensures found { IfSome result (λ i. seen_type of.now ≡ Terms.named i) }
-    ensures none { IsNone result → (i : ℕ) → seen_type of.now ≡ Terms.named i → ⊥ }
+    ensures found { IfSome result (λ i. term_view of.now ≡ Terms.named i) }
+    ensures none { IsNone result → (i : ℕ) → term_view of.now ≡ Terms.named i → ⊥ }
 {
     if let Type::Named(number) = of {
         return Some(*number);
@@ -69,9 +69,9 @@ pub(crate) fn payload_number(
     requires within { file_index < length sources.now.named.now }
     requires known { AreKnown sources.now }
     ensures found { IfOk result (λ found. IfSome found
-        (IsPayload sources.now.named.now file_index (seen_use of.entry))) }
+        (IsPayload sources.now.named.now file_index (use_view of.entry))) }
     ensures none { IfOk result (λ found. IsNone found → (i : ℕ)
-        → IsPayload sources.now.named.now file_index (seen_use of.entry) i → ⊥) }
+        → IsPayload sources.now.named.now file_index (use_view of.entry) i → ⊥) }
 {
     let Some(term) = term_of(sources, file_index, of)? else {
         return Ok(None);

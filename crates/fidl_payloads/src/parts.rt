@@ -1,7 +1,7 @@
 //! What is written in parentheses.
 ghost use Rattle.std.specs.Prelude.{◌<◌, length, IfErr, IfOk};
 ghost use Rattle.fidl_tree.specs.Views.{payload_view};
-ghost use Rattle.fidl_terms.specs.TermViews.{AreKnown};
+ghost use Rattle.fidl_lower_types.specs.TermViews.{AreKnown};
 ghost use Rattle.fidl_payloads.specs.Payloads.{PartIs};
 ghost use Rattle.fidl_payloads.specs.Members.{part_types, TypesBreak, IsReportIn};
 
@@ -9,9 +9,9 @@ use crate::fault::PayloadFault;
 use crate::kinds::payload_number;
 use crate::payload::Payload;
 use crate::places::type_span;
-use fidl_behind::use_of;
+use fidl_constraints::use_of;
+use fidl_lower_types::Sources;
 use fidl_names::Place;
-use fidl_terms::Sources;
 use fidl_tree::Payload as Written;
 
 /// What a message carries by what is written in parentheses.

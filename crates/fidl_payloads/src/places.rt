@@ -3,9 +3,9 @@ ghost use Rattle.std.specs.Prelude.{◌≡◌};
 ghost use Rattle.fidl_tree.specs.Views.{body_view, path_view};
 ghost use Rattle.fidl_names.specs.Paths.{path_place};
 ghost use Rattle.fidl_const.specs.Refusals.{layout_span, type_span};
-ghost use Rattle.fidl_behind.specs.BehindViews.{seen_use};
+ghost use Rattle.fidl_constraints.specs.BehindViews.{use_view};
 
-use fidl_behind::TypeUse;
+use fidl_constraints::TypeUse;
 use fidl_names::path_span;
 use fidl_span::Span;
 use fidl_tree::{LayoutBody, Path, ValuesKeyword};
@@ -34,7 +34,7 @@ fn layout_span(body: &LayoutBody) -> Span
 
 /// Where a type stands: its name, or its layout's keyword.
 pub(crate) fn type_span(of: TypeUse<'_>) -> Span
-    ensures { result ≡ type_span (seen_use of.entry) }
+    ensures { result ≡ type_span (use_view of.entry) }
 {
     match of {
         TypeUse::Named(named) => path_place(&named.path),

@@ -7,14 +7,14 @@ use Rattle.fidl_tree.specs.Views.{file_view}
 use Rattle.fidl_tree.specs.declared.file.File.{File}
 use Rattle.fidl_names.specs.declared.place.Place.{Place}
 use Rattle.fidl_wire.specs.Term.{Term}
-use Rattle.fidl_definitions.specs.Definitions.{DefinitionsAre}
-use Rattle.fidl_definitions.proofs.One.{one_definitions}
-use Rattle.fidl_entries.specs.Reached.{IsReached, root, part}
-use Rattle.fidl_entries.proofs.Members.{at_most}
-use Rattle.fidl_compositions.specs.declared.fault.ComposeFault.TheVariants as compose
-use Rattle.fidl_compositions.proofs.Excluded.{refused_not as compositions_not}
-use Rattle.fidl_methods.specs.Rules.{Rule, strict_rule, selector_rule, ordinal_rule}
-use Rattle.fidl_methods.proofs.Excluded.{protocol_excluded}
+use Rattle.fidl_lower_layouts.specs.Definitions.{DefinitionsAre}
+use Rattle.fidl_lower_layouts.proofs.One.{one_definitions}
+use Rattle.fidl_reachable_types.specs.Reached.{IsReached, root, part}
+use Rattle.fidl_reachable_types.proofs.Members.{at_most}
+use Rattle.fidl_composition.specs.declared.fault.ComposeFault.TheVariants as compose
+use Rattle.fidl_composition.proofs.Excluded.{refused_not as compositions_not}
+use Rattle.fidl_method_rules.specs.Rules.{Rule, strict_rule, selector_rule, ordinal_rule}
+use Rattle.fidl_method_rules.proofs.Excluded.{protocol_excluded}
 use Rattle.fidl_payloads.specs.Members.{MemberHolds}
 use Rattle.fidl_payloads.proofs.Excluded.{member_not}
 use Rattle.fidl_protocol.specs.declared.fault.ProtocolFault.{ProtocolFault}

@@ -9,11 +9,11 @@ use Rattle.std.proofs.lemmas.Option.{same_Some, none-some}
 use Rattle.fidl_tree.specs.declared.file.File.{File}
 use Rattle.fidl_names.specs.declared.place.DeclarationId.{DeclarationId}
 use Rattle.fidl_names.proofs.Seeing.{flat_take}
-use Rattle.fidl_compositions.specs.Compositions.{Reaches}
-use Rattle.fidl_compositions.specs.Numbers.{AreCompositions, ReachesByNumber}
-use Rattle.fidl_compositions.specs.Points.{AreDistinct}
-use Rattle.fidl_compositions.proofs.Lists.{nothing_there, no_pairs, found_at, Distinct}
-use Rattle.fidl_compositions.proofs.Order.{one_number}
+use Rattle.fidl_composition.specs.Compositions.{Reaches}
+use Rattle.fidl_composition.specs.Numbers.{AreCompositions, ReachesByNumber}
+use Rattle.fidl_composition.specs.Points.{AreDistinct}
+use Rattle.fidl_composition.proofs.Lists.{nothing_there, no_pairs, found_at, Distinct}
+use Rattle.fidl_composition.proofs.Order.{one_number}
 use Rattle.fidl_protocol.specs.declared.method.Method.{Method}
 use Rattle.fidl_protocol.specs.Methods.{IsDeclared, HasMethod}
 use Rattle.fidl_protocol.specs.Gathered.{AreRows, row_at, rows_at, AreGathered}

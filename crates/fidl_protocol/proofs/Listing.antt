@@ -6,10 +6,10 @@ use Rattle.std.proofs.lemmas.List.Elements.{All-contains, All-from_recursion}
 use Rattle.fidl_tree.specs.declared.file.File.{File}
 use Rattle.fidl_names.specs.declared.place.DeclarationId.{DeclarationId}
 use Rattle.fidl_names.proofs.Seeing.{take_item}
-use Rattle.fidl_compositions.specs.Protocols.{IsProtocol, AreProtocols}
-use Rattle.fidl_compositions.specs.Compositions.{Reaches}
-use Rattle.fidl_compositions.proofs.Lists.{map_back, nothing_there}
-use Rattle.fidl_compositions.proofs.Ways.{leading}
+use Rattle.fidl_composition.specs.Protocols.{IsProtocol, AreProtocols}
+use Rattle.fidl_composition.specs.Compositions.{Reaches}
+use Rattle.fidl_composition.proofs.Lists.{map_back, nothing_there}
+use Rattle.fidl_composition.proofs.Ways.{leading}
 use Rattle.fidl_protocol.specs.declared.method.Method.{Method}
 use Rattle.fidl_protocol.specs.declared.method.Protocol.{Protocol}
 use Rattle.fidl_protocol.specs.Methods.{IsDeclared, HasMethod, MethodsDiffer}

@@ -9,7 +9,7 @@ use Rattle.std.proofs.lemmas.List.Edits.{length-swap, swapped_from_swap}
 use Rattle.std.proofs.lemmas.List.Elements.{Contains-get_or, Contains-append_cases, Contains-append_left, Contains-append_right}
 use Rattle.std.proofs.lemmas.List.Kept.{AllPairs-cons}
 use Rattle.std.proofs.lemmas.List.Sorted.{IsPermutation-keeps}
-use Rattle.fidl_compositions.proofs.Lists.{map_there, here, there, nothing_there, first_or_rest, first_before, later, no_pairs, Distinct}
+use Rattle.fidl_composition.proofs.Lists.{map_there, here, there, nothing_there, first_or_rest, first_before, later, no_pairs, Distinct}
 
 -- what the elements of a list give, one of them gives
 pub flat_back : {X Y : Type 0} (g : X → List Y) (xs : List X) (y : Y) → Contains (flat_map g xs) y → (x : X) × Contains xs x × Contains (g x) y

@@ -12,13 +12,13 @@ use Rattle.fidl_tree.specs.declared.file.File.{File}
 use Rattle.fidl_tree.specs.declared.protocol.ProtocolMember.{ProtocolMember as CodeMember}
 use Rattle.fidl_names.specs.declared.place.DeclarationId.{DeclarationId}
 use Rattle.fidl_names.proofs.Seeing.{take_item}
-use Rattle.fidl_compositions.specs.Protocols.{IsProtocolAt}
-use Rattle.fidl_compositions.proofs.Lists.{map_back}
-use Rattle.fidl_methods.specs.Methods as plain
-use Rattle.fidl_methods.specs.Methods.{method_of}
-use Rattle.fidl_methods.specs.Rules.{ProtocolHolds}
-use Rattle.fidl_methods.specs.MethodViews.{IsEntryOf, IsEntry, AreMethods}
-use Rattle.fidl_methods.specs.declared.methods.OwnMethod.{OwnMethod}
+use Rattle.fidl_composition.specs.Protocols.{IsProtocolAt}
+use Rattle.fidl_composition.proofs.Lists.{map_back}
+use Rattle.fidl_method_rules.specs.Methods as plain
+use Rattle.fidl_method_rules.specs.Methods.{method_of}
+use Rattle.fidl_method_rules.specs.Rules.{ProtocolHolds}
+use Rattle.fidl_method_rules.specs.MethodViews.{IsEntryOf, IsEntry, AreMethods}
+use Rattle.fidl_method_rules.specs.declared.methods.OwnMethod.{OwnMethod}
 use Rattle.fidl_payloads.specs.declared.payload.Payloads.{Payloads}
 use Rattle.fidl_payloads.specs.Payloads.{RequestIs, ResponseIs}
 use Rattle.fidl_payloads.specs.Members.{MemberHolds}
@@ -28,7 +28,7 @@ use Rattle.fidl_protocol.specs.Methods.{IsDeclared}
 use Rattle.fidl_protocol.specs.Checked.{MembersHold}
 use Rattle.fidl_protocol.specs.Gathered.{IsFound, IsMade, AreDeclaredBy}
 use Rattle.fidl_protocol.proofs.Lists.{zip_left, zip_right, zip_map, pairs_by_map, pairs_weaker}
-use Rattle.fidl_compositions.proofs.Nodes.{one_members}
+use Rattle.fidl_composition.proofs.Nodes.{one_members}
 use Rattle.fidl_protocol.proofs.Nodes.{carried, one_method}
 
 -- the member of an entry's number, as the code reads it

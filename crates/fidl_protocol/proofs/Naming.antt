@@ -13,7 +13,7 @@ use Rattle.fidl_tree.specs.Leaf.{text_at}
 use Rattle.fidl_tree.specs.declared.file.File.{File}
 use Rattle.fidl_names.specs.declared.place.DeclarationId.{DeclarationId}
 use Rattle.fidl_names.proofs.Seeing.{take_item}
-use Rattle.fidl_compositions.proofs.Lists.{here, there, nothing_there, first_or_rest, map_there, map_back, pairs_push}
+use Rattle.fidl_composition.proofs.Lists.{here, there, nothing_there, first_or_rest, map_there, map_back, pairs_push}
 use Rattle.fidl_payloads.specs.declared.payload.Payload.TheVariants.{Missing}
 use Rattle.fidl_protocol.specs.declared.method.Method.{Method}
 use Rattle.fidl_protocol.specs.Methods.{IsDeclared, IsNamed, HaveOneName, method_place}

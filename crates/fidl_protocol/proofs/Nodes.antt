@@ -9,14 +9,14 @@ use Rattle.fidl_tree.specs.Views.{file_view, declaration_view, declared_name}
 use Rattle.fidl_tree.specs.declared.file.File.{File}
 use Rattle.fidl_tree.specs.declared.declaration.Declaration.{Declaration}
 use Rattle.fidl_names.specs.declared.place.DeclarationId.{DeclarationId}
-use Rattle.fidl_compositions.specs.Protocols.{IsProtocolAt, IsProtocol}
-use Rattle.fidl_compositions.proofs.Lists.{among, map_there}
-use Rattle.fidl_compositions.proofs.Nodes.{one_declaration, one_openness, one_members}
-use Rattle.fidl_methods.specs.Methods as plain
-use Rattle.fidl_methods.specs.Methods.{method_of, OrdinalIs}
-use Rattle.fidl_methods.specs.MethodViews.{IsEntryOf}
-use Rattle.fidl_methods.specs.declared.methods.OwnMethod.{OwnMethod}
-use Rattle.fidl_methods.proofs.Excluded.{ordinal_once}
+use Rattle.fidl_composition.specs.Protocols.{IsProtocolAt, IsProtocol}
+use Rattle.fidl_composition.proofs.Lists.{among, map_there}
+use Rattle.fidl_composition.proofs.Nodes.{one_declaration, one_openness, one_members}
+use Rattle.fidl_method_rules.specs.Methods as plain
+use Rattle.fidl_method_rules.specs.Methods.{method_of, OrdinalIs}
+use Rattle.fidl_method_rules.specs.MethodViews.{IsEntryOf}
+use Rattle.fidl_method_rules.specs.declared.methods.OwnMethod.{OwnMethod}
+use Rattle.fidl_method_rules.proofs.Excluded.{ordinal_once}
 use Rattle.fidl_payloads.specs.Payloads.{RequestIs, ResponseIs}
 use Rattle.fidl_payloads.specs.Members.{IsMemberOf}
 use Rattle.fidl_payloads.proofs.One.{one_request, one_response}

@@ -11,9 +11,9 @@ use Rattle.fidl_wire.specs.Term.{Term}
 use Rattle.fidl_wire.specs.Figure.{Declarations}
 use Rattle.fidl_types.specs.Types.{TypesAre}
 use Rattle.fidl_layout.specs.Laid.{AreLaidOut}
-use Rattle.fidl_compositions.specs.Protocols.{IsProtocolAt, AreProtocols}
-use Rattle.fidl_compositions.specs.Compositions.{ComposesHold}
-use Rattle.fidl_methods.specs.Rules.{ProtocolHolds}
+use Rattle.fidl_composition.specs.Protocols.{IsProtocolAt, AreProtocols}
+use Rattle.fidl_composition.specs.Compositions.{ComposesHold}
+use Rattle.fidl_method_rules.specs.Rules.{ProtocolHolds}
 use Rattle.fidl_payloads.specs.Members.{MemberHolds}
 use Rattle.fidl_protocol.specs.declared.method.Method.{Method}
 use Rattle.fidl_protocol.specs.declared.method.Protocol.{Protocol}

@@ -9,13 +9,13 @@ use Rattle.fidl_tree.specs.declared.file.File.{File}
 use Rattle.fidl_names.specs.declared.place.Place.{Place}
 use Rattle.fidl_names.specs.declared.place.DeclarationId.{DeclarationId}
 use Rattle.fidl_wire.specs.Term.{Term}
-use Rattle.fidl_definitions.specs.Definitions.{DefinitionsAre}
-use Rattle.fidl_entries.specs.Faults.{AreTooMany}
-use Rattle.fidl_compositions.specs.declared.fault.ComposeFault.TheVariants as compose
-use Rattle.fidl_compositions.specs.Protocols.{IsProtocolAt}
-use Rattle.fidl_compositions.specs.Compositions.{IsTrueOfCompositions}
-use Rattle.fidl_methods.specs.Rules.{Rule, strict_rule, selector_rule, ordinal_rule}
-use Rattle.fidl_methods.specs.Rules.{ProtocolBreaks}
+use Rattle.fidl_lower_layouts.specs.Definitions.{DefinitionsAre}
+use Rattle.fidl_reachable_types.specs.Faults.{AreTooMany}
+use Rattle.fidl_composition.specs.declared.fault.ComposeFault.TheVariants as compose
+use Rattle.fidl_composition.specs.Protocols.{IsProtocolAt}
+use Rattle.fidl_composition.specs.Compositions.{IsTrueOfCompositions}
+use Rattle.fidl_method_rules.specs.Rules.{Rule, strict_rule, selector_rule, ordinal_rule}
+use Rattle.fidl_method_rules.specs.Rules.{ProtocolBreaks}
 use Rattle.fidl_payloads.specs.Members.{MemberBreaks}
 use Rattle.fidl_protocol.specs.declared.fault.ProtocolFault.{ProtocolFault}
 use Rattle.fidl_protocol.specs.declared.fault.ProtocolFault.TheVariants.{NotStrict, BadCompose}

@@ -7,9 +7,9 @@ use Rattle.fidl_tree.specs.Views.{file_view}
 use Rattle.fidl_tree.specs.declared.file.File.{File}
 use Rattle.fidl_names.specs.declared.place.Place.{Place}
 use Rattle.fidl_names.specs.declared.place.DeclarationId.{DeclarationId}
-use Rattle.fidl_compositions.specs.Protocols.{IsProtocolAt}
-use Rattle.fidl_compositions.specs.Compositions.{Reaches}
-use Rattle.fidl_methods.specs.MethodViews.{IsEntryOf}
+use Rattle.fidl_composition.specs.Protocols.{IsProtocolAt}
+use Rattle.fidl_composition.specs.Compositions.{Reaches}
+use Rattle.fidl_method_rules.specs.MethodViews.{IsEntryOf}
 use Rattle.fidl_payloads.specs.Payloads.{RequestIs, ResponseIs}
 use Rattle.fidl_protocol.specs.declared.method.Method.{Method}
 

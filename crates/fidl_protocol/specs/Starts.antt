@@ -5,7 +5,7 @@ use Rattle.std.specs.List.{Contains}
 use Rattle.fidl_limits.specs.declared.limits.TheConstants.{MAX_ENTRIES}
 use Rattle.fidl_tree.specs.declared.file.File.{File}
 use Rattle.fidl_wire.specs.Term.{Term}
-use Rattle.fidl_entries.specs.Reached.{AreReached}
+use Rattle.fidl_reachable_types.specs.Reached.{AreReached}
 use Rattle.fidl_layout.specs.Roots.{RootAt}
 use Rattle.fidl_payloads.specs.declared.payload.Payload.TheVariants as payload
 use Rattle.fidl_protocol.specs.declared.method.Method.{Method}

@@ -1,9 +1,9 @@
 //! The methods that a protocol declares, with what they carry.
 ghost use Rattle.std.specs.Prelude.{◌≡◌, ◌<◌, length, map, IfErr, IfOk, OnOk};
 ghost use Rattle.fidl_tree.specs.Views.{file_view, openness_view, protocol_member_view};
-ghost use Rattle.fidl_compositions.specs.Protocols.{IsProtocol, IsProtocolAt};
-ghost use Rattle.fidl_methods.specs.Rules.{ProtocolHolds};
-ghost use Rattle.fidl_methods.specs.MethodViews.{AreMethods, IsEntry};
+ghost use Rattle.fidl_composition.specs.Protocols.{IsProtocol, IsProtocolAt};
+ghost use Rattle.fidl_method_rules.specs.Rules.{ProtocolHolds};
+ghost use Rattle.fidl_method_rules.specs.MethodViews.{AreMethods, IsEntry};
 ghost use Rattle.std.specs.List.{AllZip, Contains};
 ghost use Rattle.fidl_names.specs.declared.place.DeclarationId.{DeclarationId as Id};
 ghost use Rattle.fidl_protocol.specs.Checked.{MembersHold};
@@ -13,7 +13,7 @@ ghost use Rattle.fidl_protocol.specs.Gathered.{IsFound, IsMade, AreDeclaredBy, A
 use crate::fault::ProtocolFault;
 use crate::method::Method;
 use crate::parts::{of_methods, of_payloads};
-use fidl_methods::{OwnMethod, own_methods};
+use fidl_method_rules::{OwnMethod, own_methods};
 use fidl_names::{DeclarationId, Named};
 use fidl_payloads::payloads;
 use fidl_tree::{DeclarationBody, File, ProtocolDeclaration};

@@ -2,8 +2,8 @@
 ghost use Rattle.std.specs.Prelude.{◌≢◌, List};
 ghost use Rattle.fidl_tree.specs.declared.file.File.{File};
 ghost use Rattle.fidl_wire.specs.Figure.{Figure, Declarations};
-ghost use Rattle.fidl_term.specs.declared.term.Definition.{Definition};
-ghost use Rattle.fidl_term.specs.Terms.{seen_definitions};
+ghost use Rattle.fidl_ir.specs.declared.term.Definition.{Definition};
+ghost use Rattle.fidl_ir.specs.Terms.{definitions_view};
 ghost use Rattle.fidl_protocol.specs.declared.fault.ProtocolFault.{ProtocolFault};
 ghost use Rattle.fidl_protocol.specs.declared.fault.ProtocolFault.TheVariants.{Memory};
 ghost use Rattle.fidl_protocol.specs.Checked.{AreChecked};
@@ -15,7 +15,7 @@ pub fn refused_protocols_break_a_rule()
     ensures { (files : List File) (fault : ProtocolFault) (definitions : List Definition)
         (figures : List Figure) → fault ≢ Memory → IsTrueOfProtocols files fault
         → let ds : Declarations = record {
-          terms = seen_definitions definitions;
+          terms = definitions_view definitions;
           figures = figures;
         } in
         AreChecked files ds → ⊥ }

@@ -2,7 +2,7 @@
 ghost use Rattle.std.specs.Prelude.{◌≡◌};
 ghost use Rattle.fidl_protocol.specs.Methods.{method_place};
 
-use fidl_methods::OwnMethod;
+use fidl_method_rules::OwnMethod;
 use fidl_names::{DeclarationId, Place};
 use fidl_payloads::Payloads;
 

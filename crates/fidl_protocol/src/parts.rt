@@ -5,16 +5,16 @@ ghost use Rattle.fidl_tree.specs.Syntax.{Openness, ProtocolMember as Member};
 ghost use Rattle.fidl_tree.specs.Views.{file_view};
 ghost use Rattle.fidl_tree.specs.declared.file.File.{File as Tree};
 ghost use Rattle.fidl_names.specs.declared.place.DeclarationId.{DeclarationId as Id};
-ghost use Rattle.fidl_compositions.specs.Protocols.{IsProtocolAt};
-ghost use Rattle.fidl_compositions.specs.Compositions.{IsTrueOfCompositions};
-ghost use Rattle.fidl_methods.specs.Rules.{ProtocolBreaks, IsReportIn as IsMethodReport};
+ghost use Rattle.fidl_composition.specs.Protocols.{IsProtocolAt};
+ghost use Rattle.fidl_composition.specs.Compositions.{IsTrueOfCompositions};
+ghost use Rattle.fidl_method_rules.specs.Rules.{ProtocolBreaks, IsReportIn as IsMethodReport};
 ghost use Rattle.fidl_payloads.specs.Members.{MemberBreaks, IsReportIn as IsPayloadReport};
 ghost use Rattle.std.specs.List.{Contains};
 ghost use Rattle.fidl_protocol.specs.Faults.{IsTrueOfProtocols};
 
 use crate::fault::ProtocolFault;
-use fidl_compositions::ComposeFault;
-use fidl_methods::MethodFault;
+use fidl_composition::ComposeFault;
+use fidl_method_rules::MethodFault;
 use fidl_payloads::PayloadFault;
 
 /// A refusal of compositions.

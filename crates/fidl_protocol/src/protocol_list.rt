@@ -1,8 +1,8 @@
 //! All protocols of files with their methods.
 ghost use Rattle.std.specs.Prelude.{◌≡◌, ◌<◌, length, slice_get, Some, IfOk, IfErr, OnOk};
 ghost use Rattle.fidl_names.specs.declared.place.DeclarationId.{DeclarationId as Id};
-ghost use Rattle.fidl_compositions.specs.Compositions.{ComposesHold};
-ghost use Rattle.fidl_compositions.specs.Numbers.{AreCompositions};
+ghost use Rattle.fidl_composition.specs.Compositions.{ComposesHold};
+ghost use Rattle.fidl_composition.specs.Numbers.{AreCompositions};
 ghost use Rattle.std.specs.Prelude.{List};
 ghost use Rattle.fidl_tree.specs.declared.file.File.{File as Tree};
 ghost use Rattle.fidl_protocol.specs.declared.fault.ProtocolFault.TheVariants.{Memory};
@@ -18,7 +18,7 @@ use crate::method::{Method, Protocol};
 use crate::names::check_names;
 use crate::ordinals::in_order;
 use crate::parts::of_compositions;
-use fidl_compositions::{Compositions, compositions};
+use fidl_composition::{Compositions, compositions};
 use fidl_names::DeclarationId;
 use fidl_types::Types;
 use std::alloc::Global;

@@ -3,7 +3,7 @@ ghost use Rattle.std.specs.Prelude.{List, OnOk, IfErr, IfSome};
 ghost use Rattle.fidl_limits.specs.declared.limits.TheConstants.{MAX_ENTRIES};
 ghost use Rattle.fidl_tree.specs.declared.file.File.{File as Tree};
 ghost use Rattle.fidl_wire.specs.Term.{Term};
-ghost use Rattle.fidl_entries.specs.Faults.{AreTooMany};
+ghost use Rattle.fidl_reachable_types.specs.Faults.{AreTooMany};
 ghost use Rattle.fidl_types.specs.Types.{TypesAre};
 ghost use Rattle.fidl_protocol.specs.Methods.{IsDeclared};
 ghost use Rattle.fidl_protocol.specs.Starts.{AreStarts, StartsFit};
@@ -13,9 +13,9 @@ ghost use Rattle.fidl_protocol.specs.Faults.{IsTrueOfProtocols};
 use crate::fault::ProtocolFault;
 use crate::method::{Method, Protocol};
 use crate::starts::starts;
-use fidl_entries::{EntryFault, reached_types};
 use fidl_layout::Laid;
 use fidl_limits::MAX_ENTRIES;
+use fidl_reachable_types::{EntryFault, reached_types};
 use std::alloc::Global;
 
 /// The last method of protocols.

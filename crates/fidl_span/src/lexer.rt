@@ -19,7 +19,7 @@ fn word_at(src: &[u8], at: usize) -> Result<Word, LexFault>
     requires within { at < length src.now }
     requires no_gap { BeginsNoGap (drop at src.now) }
     ensures ok { IfOk result (λ word. (word.span.from ≡ at) × StandsAt src.now word) }
-    ensures err { IfErr result (IsFaultAt src.now at) }
+    ensures fault_is_true { IfErr result (IsFaultAt src.now at) }
 {
     let byte = src[at];
     if is_word_byte(byte) {
@@ -35,7 +35,7 @@ fn word_at(src: &[u8], at: usize) -> Result<Word, LexFault>
 fn read_words(alloc: Global, src: &[u8]) -> Result<Tokens, LexFault>
     ensures ok { IfOk result (λ tokens. AreWordsBetween src.now 0 tokens.words.items
         (length src.now)) }
-    ensures err { IfErr result (Refutes src.now) }
+    ensures fault_is_true { IfErr result (Refutes src.now) }
 {
     let mut words = Vec::new(alloc);
     let mut at = gap_end(src, 0);
@@ -55,7 +55,7 @@ fn read_words(alloc: Global, src: &[u8]) -> Result<Tokens, LexFault>
 /// `Memory` says nothing of the source.
 pub fn lex(alloc: Global, src: &[u8]) -> Result<Tokens, LexFault>
     ensures ok { IfOk result (λ tokens. Words src.now tokens.words.items) }
-    ensures err { IfErr result (Refutes src.now) }
+    ensures fault_is_true { IfErr result (Refutes src.now) }
     ensures none { IfErr result (HasNoWords src.now) }
 {
     if let Err(error) = from_utf8(src) {

@@ -30,7 +30,7 @@ pub fn string_literal(src: &[u8], quote: usize) -> Result<Word, LexFault>
     requires within { quote < length src.now }
     requires quote { slice_index src.now quote ≡ 34 }
     ensures ok { IfOk result (λ word. (word.span.from ≡ quote) × StandsAt src.now word) }
-    ensures err { IfErr result (IsFaultAt src.now quote) }
+    ensures fault_is_true { IfErr result (IsFaultAt src.now quote) }
 {
     let mut to = quote + 1;
     while to < src.len() && src[to] != b'\n' {

@@ -104,7 +104,7 @@ pub fn name_or_number(src: &[u8], at: usize) -> Result<Word, LexFault>
     requires within { at < length src.now }
     requires word_byte { IsTrue (is_word_byte (slice_index src.now at)) }
     ensures ok { IfOk result (λ word. (word.span.from ≡ at) × StandsAt src.now word) }
-    ensures err { IfErr result (IsFaultAt src.now at) }
+    ensures fault_is_true { IfErr result (IsFaultAt src.now at) }
 {
     let span = Span {
         from: at,

@@ -41,7 +41,7 @@ pub fn symbol(src: &[u8], at: usize) -> Result<Word, LexFault>
     requires no_word_byte { IsFalse (is_word_byte (slice_index src.now at)) }
     requires no_quote { slice_index src.now at ≢ 34 }
     ensures ok { IfOk result (λ word. (word.span.from ≡ at) × StandsAt src.now word) }
-    ensures err { IfErr result (IsFaultAt src.now at) }
+    ensures fault_is_true { IfErr result (IsFaultAt src.now at) }
 {
     if src[at..].starts_with(b"->") {
         let kind = WordKind::Arrow;

@@ -8,16 +8,16 @@ use Rattle.fidl_tree.specs.declared.declaration.Declaration.{Declaration}
 use Rattle.fidl_tree.specs.declared.declaration.DeclarationBody.TheVariants as body
 use Rattle.fidl_names.specs.declared.place.DeclarationId.{DeclarationId}
 use Rattle.fidl_names.specs.Constraints.{IsDeclarationAt}
-use Rattle.fidl_layouts.specs.declared.step.Step.TheVariants as step
-use Rattle.fidl_layouts.specs.Forms.{name_by_path}
-use Rattle.fidl_compositions.specs.Tables.{IsProtocolNode}
-use Rattle.fidl_compositions.proofs.Nodes.{at_node, one_openness}
+use Rattle.fidl_declarations.specs.declared.step.Step.TheVariants as step
+use Rattle.fidl_declarations.specs.Forms.{name_by_path}
+use Rattle.fidl_composition.specs.Tables.{IsProtocolNode}
+use Rattle.fidl_composition.proofs.Nodes.{at_node, one_openness}
 use Rattle.fidl_protocol.proofs.Nodes.{one_file, one_name}
 use Rattle.fidl_table.specs.declared.found.Found.{Found}
 use Rattle.fidl_protocol.specs.declared.method.Method.{Method}
 use Rattle.fidl_protocol.specs.declared.method.Protocol.{Protocol}
-use Rattle.fidl_assembly.specs.declared.listing.MethodEntry.{MethodEntry}
-use Rattle.fidl_assembly.specs.declared.listing.ProtocolEntry.{ProtocolEntry}
+use Rattle.fidl_table_build.specs.declared.listing.MethodEntry.{MethodEntry}
+use Rattle.fidl_table_build.specs.declared.listing.ProtocolEntry.{ProtocolEntry}
 use Rattle.fidl_verify.specs.Lookups as table
 use Rattle.fidl_table.specs.Protocols.{openness_number}
 use Rattle.fidl_table.specs.Listed.{IsFound, carried_by, IsMethodEntry, IsProtocolEntry}

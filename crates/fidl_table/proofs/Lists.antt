@@ -6,7 +6,7 @@ use Rattle.std.specs.List.Sorted.{IsPermutation}
 use Rattle.std.proofs.lemmas.List.Sorted.{Contains-permutation, IsPermutation-sym}
 use Rattle.std.proofs.lemmas.Option.{none-some}
 use Rattle.fidl_tree.specs.declared.file.File.{File}
-use Rattle.fidl_assembly.specs.declared.listing.ProtocolEntry.{ProtocolEntry}
+use Rattle.fidl_table_build.specs.declared.listing.ProtocolEntry.{ProtocolEntry}
 use Rattle.fidl_protocol.specs.declared.method.Protocol.{Protocol}
 use Rattle.fidl_protocol.proofs.Lists.{zip_left, zip_right}
 use Rattle.fidl_layout.specs.Roots.{AreRoots}

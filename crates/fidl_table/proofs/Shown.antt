@@ -6,31 +6,31 @@ use Rattle.fidl_tree.specs.declared.file.File.{File}
 use Rattle.fidl_wire.specs.Term.{Term}
 use Rattle.fidl_wire.specs.Term as ty
 use Rattle.fidl_wire.specs.Figure.{Figure, Declarations}
-use Rattle.fidl_term.specs.Terms.{seen_definitions}
-use Rattle.fidl_alike.proofs.Levels.{alike_types, numbered_types}
-use Rattle.fidl_records.specs.Section.{header_of, root_at, method_at}
-use Rattle.fidl_records.specs.Root.{root_name}
-use Rattle.fidl_records.specs.Method.{method_number}
-use Rattle.fidl_records.specs.Terms.{declarations_of}
-use Rattle.fidl_records.specs.WellFormed.{WellFormed}
+use Rattle.fidl_ir.specs.Terms.{definitions_view}
+use Rattle.fidl_equivalence.proofs.Levels.{alike_types, numbered_types}
+use Rattle.fidl_table_format.specs.Section.{header_of, root_at, method_at}
+use Rattle.fidl_table_format.specs.Root.{root_name}
+use Rattle.fidl_table_format.specs.Method.{method_number}
+use Rattle.fidl_table_format.specs.Terms.{declarations_of}
+use Rattle.fidl_table_format.specs.WellFormed.{WellFormed}
 use Rattle.fidl_verify.specs.declared.method.Payload.{Payload}
 use Rattle.fidl_verify.specs.Lookups.{request_of, response_of}
 use Rattle.fidl_verify.proofs.Declared.{laid_out}
-use Rattle.fidl_numbered.specs.Numbered.{entry_name, ShowsTypes}
-use Rattle.fidl_assembly.specs.declared.listing.Listing.{Listing}
-use Rattle.fidl_assembly.specs.declared.listing.MethodEntry.{MethodEntry}
-use Rattle.fidl_assembly.specs.declared.listing.ProtocolEntry.{ProtocolEntry}
-use Rattle.fidl_assembly.specs.Assembled.{IsAssembled, names_of}
-use Rattle.fidl_assembly.specs.Roots.{IsEntryOf}
-use Rattle.fidl_assembly.specs.Methods as listing
-use Rattle.fidl_layouts.specs.declared.form.Form.{Form as CodeForm}
-use Rattle.fidl_layouts.specs.FormViews.{seen_forms}
-use Rattle.fidl_terms.specs.Numbers.{all_forms}
-use Rattle.fidl_definitions.proofs.One.{one_definitions}
+use Rattle.fidl_table_check.specs.Numbered.{entry_name, ShowsTypes}
+use Rattle.fidl_table_build.specs.declared.listing.Listing.{Listing}
+use Rattle.fidl_table_build.specs.declared.listing.MethodEntry.{MethodEntry}
+use Rattle.fidl_table_build.specs.declared.listing.ProtocolEntry.{ProtocolEntry}
+use Rattle.fidl_table_build.specs.Assembled.{IsAssembled, names_of}
+use Rattle.fidl_table_build.specs.Roots.{IsEntryOf}
+use Rattle.fidl_table_build.specs.Methods as listing
+use Rattle.fidl_declarations.specs.declared.form.Form.{Form as CodeForm}
+use Rattle.fidl_declarations.specs.FormViews.{forms_view}
+use Rattle.fidl_lower_types.specs.Numbers.{all_forms}
+use Rattle.fidl_lower_layouts.proofs.One.{one_definitions}
 use Rattle.fidl_types.specs.Types.{TypesAre}
 use Rattle.fidl_layout.specs.Laid.{AreLaidOut}
 use Rattle.fidl_layout.specs.Roots.{AreRoots, RootAt}
-use Rattle.fidl_compositions.proofs.Lists.{found_at, among}
+use Rattle.fidl_composition.proofs.Lists.{found_at, among}
 use Rattle.fidl_payloads.specs.declared.payload.Payload.{Payload as Carried}
 use Rattle.fidl_payloads.specs.declared.payload.Payload.TheVariants.{Missing, Empty}
 use Rattle.fidl_payloads.specs.declared.payload.Payload.TheVariants as carried
@@ -48,7 +48,7 @@ use Rattle.fidl_table.proofs.Lists.{at_within, zip_at}
 
 -- the declarations of a listing, with these figures
 abbrev pub declared : Listing → List Figure → Declarations
-declared l figures = record { terms = seen_definitions l.definitions.now; figures = figures }
+declared l figures = record { terms = definitions_view l.definitions.now; figures = figures }
 
 module _ (files : List File) (l : Listing) (figures : List Figure) (bytes : List ℕ) (laid : AreLaidOut files (declared l figures)) (well : WellFormed bytes) (a : IsAssembled l bytes) (names : names_of l ≡ definition_names files) where
   shows_types : ShowsTypes (declared l figures) a.types bytes
@@ -133,19 +133,19 @@ module _ (files : List File) (l : Listing) (figures : List Figure) (bytes : List
   }
 
 -- the same where figures are those of some declarations that are laid out
-declared_laid : (files : List File) (l : Listing) (ds : Declarations) → AreLaidOut files ds → TypesAre files (seen_definitions l.definitions.now) → AreLaidOut files (declared l ds.figures)
+declared_laid : (files : List File) (l : Listing) (ds : Declarations) → AreLaidOut files ds → TypesAre files (definitions_view l.definitions.now) → AreLaidOut files (declared l ds.figures)
 declared_laid files l ds laid types =
     subst (λ (ts : List Term). AreLaidOut files (record { terms = ts; figures = ds.figures }))
-    (one_definitions files ds.terms (seen_definitions l.definitions.now) laid.checked.definitions types.definitions)
+    (one_definitions files ds.terms (definitions_view l.definitions.now) laid.checked.definitions types.definitions)
     laid
 
 -- the files of one library, however they were reached
-pub written : (files laid types named : List File) → laid ≡ files → types ≡ laid → named ≡ types → (l : Listing) (ds : Declarations) (bytes : List ℕ) (names : List (Vec ℕ)) (roots : List ℕ) (es : List ProtocolEntry) (ps : List Protocol) (forms : List CodeForm) → AreLaidOut laid ds → TypesAre types (seen_definitions l.definitions.now) → map (λ (v : Vec ℕ). v.items) names ≡ code.names_of (seen_forms forms) → seen_forms forms ≡ all_forms types → AreRoots types roots → AreProtocolsWith files ps → AreListed named ps es → l.names.now ≡ names → l.roots.now ≡ roots → l.protocols.now ≡ es → WellFormed bytes → IsAssembled l bytes → Shows files bytes
+pub written : (files laid types named : List File) → laid ≡ files → types ≡ laid → named ≡ types → (l : Listing) (ds : Declarations) (bytes : List ℕ) (names : List (Vec ℕ)) (roots : List ℕ) (es : List ProtocolEntry) (ps : List Protocol) (forms : List CodeForm) → AreLaidOut laid ds → TypesAre types (definitions_view l.definitions.now) → map (λ (v : Vec ℕ). v.items) names ≡ code.names_of (forms_view forms) → forms_view forms ≡ all_forms types → AreRoots types roots → AreProtocolsWith files ps → AreListed named ps es → l.names.now ≡ names → l.roots.now ≡ roots → l.protocols.now ≡ es → WellFormed bytes → IsAssembled l bytes → Shows files bytes
 written files laid types named one two three l ds bytes names roots es ps forms held defined called all are kept listed to_names to_roots to_entries well assembled =
     let to_types = two ∙ one in
     let to_named = three ∙ to_types in
     let figures = subst (λ (fs : List File). AreLaidOut fs ds) one held in
-    let terms = subst (λ (fs : List File). TypesAre fs (seen_definitions l.definitions.now)) to_types defined in
+    let terms = subst (λ (fs : List File). TypesAre fs (definitions_view l.definitions.now)) to_types defined in
     let its_names : names_of l ≡ definition_names files = ap (map (λ (v : Vec ℕ). v.items)) to_names ∙ called ∙ ap code.names_of all ∙ ap definition_names to_types in
     let its_roots = subst (AreRoots files) (sym to_roots) (subst (λ (fs : List File). AreRoots fs roots) to_types are) in
     let its_entries = subst (AreListed files ps) (sym to_entries) (subst (λ (fs : List File). AreListed fs ps es) to_named listed) in

@@ -7,20 +7,20 @@ use Rattle.fidl_tree.specs.Syntax.{Path}
 use Rattle.fidl_tree.specs.Views.{file_view}
 use Rattle.fidl_tree.specs.declared.file.File.{File}
 use Rattle.fidl_names.specs.declared.place.DeclarationId.{DeclarationId}
-use Rattle.fidl_layouts.specs.declared.step.Step.{Step}
-use Rattle.fidl_layouts.specs.declared.step.Step.TheVariants as step
-use Rattle.fidl_layouts.specs.Forms.{steps_text, name_by_path}
+use Rattle.fidl_declarations.specs.declared.step.Step.{Step}
+use Rattle.fidl_declarations.specs.declared.step.Step.TheVariants as step
+use Rattle.fidl_declarations.specs.Forms.{steps_text, name_by_path}
 use Rattle.fidl_wire.specs.Term.{uint8}
 use Rattle.fidl_wire.specs.Term as ty
 use Rattle.fidl_wire.specs.Figure.{Declarations}
-use Rattle.fidl_alike.specs.Alike.{Alike, AreNumbered, IsNumbered}
-use Rattle.fidl_alike.specs.Alike as like
-use Rattle.fidl_alike.proofs.Levels.{alike_types, numbered_types}
-use Rattle.fidl_records.specs.Terms.{declarations_of}
-use Rattle.fidl_compositions.specs.Protocols.{IsProtocol}
-use Rattle.fidl_compositions.proofs.Lists.{here, nothing_there}
+use Rattle.fidl_equivalence.specs.Alike.{Alike, AreNumbered, IsNumbered}
+use Rattle.fidl_equivalence.specs.Alike as like
+use Rattle.fidl_equivalence.proofs.Levels.{alike_types, numbered_types}
+use Rattle.fidl_table_format.specs.Terms.{declarations_of}
+use Rattle.fidl_composition.specs.Protocols.{IsProtocol}
+use Rattle.fidl_composition.proofs.Lists.{here, nothing_there}
 use Rattle.fidl_protocol.specs.declared.method.Protocol.{Protocol}
-use Rattle.fidl_assembly.specs.Samples.{header_bytes}
+use Rattle.fidl_table_build.specs.Samples.{header_bytes}
 use Rattle.fidl_table.specs.Definitions.{definition_names, ShowsDefinition}
 use Rattle.fidl_table.specs.Protocols.{ShowsProtocols}
 use Rattle.fidl_table.specs.Samples.{piece, IsSmall, three_types, three_names, two_roots, one_protocol}

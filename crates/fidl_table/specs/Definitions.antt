@@ -1,14 +1,14 @@
 -- Entries of definitions (docs/table.md, "What is written").
 use Rattle.std.specs.Prelude.{ℕ, ◌≡◌, List, Some, map, slice_get}
 use Rattle.fidl_tree.specs.declared.file.File.{File}
-use Rattle.fidl_layouts.specs.Forms.{Form}
-use Rattle.fidl_terms.specs.Numbers.{all_forms}
+use Rattle.fidl_declarations.specs.Forms.{Form}
+use Rattle.fidl_lower_types.specs.Numbers.{all_forms}
 use Rattle.fidl_wire.specs.Value.{Value}
 use Rattle.fidl_wire.specs.Term as ty
 use Rattle.fidl_wire.specs.Figure.{Declarations}
-use Rattle.fidl_alike.specs.Alike.{IsOne}
-use Rattle.fidl_records.specs.Terms.{declarations_of}
-use Rattle.fidl_numbered.specs.Numbered.{entry_name}
+use Rattle.fidl_equivalence.specs.Alike.{IsOne}
+use Rattle.fidl_table_format.specs.Terms.{declarations_of}
+use Rattle.fidl_table_check.specs.Numbered.{entry_name}
 
 -- the full names of the definitions of files, by their numbers
 abbrev pub definition_names : List File → List (List ℕ)

@@ -7,18 +7,18 @@ use Rattle.fidl_tree.specs.Syntax.{Openness, ProtocolMember}
 use Rattle.fidl_tree.specs.Views.{file_view, openness_view}
 use Rattle.fidl_tree.specs.declared.file.File.{File}
 use Rattle.fidl_names.specs.declared.place.DeclarationId.{DeclarationId}
-use Rattle.fidl_layouts.specs.declared.step.Step.TheVariants as step
-use Rattle.fidl_layouts.specs.Forms.{Form, name_by_path}
-use Rattle.fidl_compositions.specs.Protocols.{IsProtocolAt}
+use Rattle.fidl_declarations.specs.declared.step.Step.TheVariants as step
+use Rattle.fidl_declarations.specs.Forms.{Form, name_by_path}
+use Rattle.fidl_composition.specs.Protocols.{IsProtocolAt}
 use Rattle.fidl_payloads.specs.declared.payload.Payload.{Payload}
 use Rattle.fidl_payloads.specs.declared.payload.Payload.TheVariants.{Missing, Empty}
 use Rattle.fidl_payloads.specs.declared.payload.Payload.TheVariants as payload
 use Rattle.fidl_protocol.specs.declared.method.Method.{Method}
 use Rattle.fidl_protocol.specs.declared.method.Protocol.{Protocol}
-use Rattle.fidl_assembly.specs.declared.listing.Carried.{Carried}
-use Rattle.fidl_assembly.specs.declared.listing.Carried.TheVariants as carried
-use Rattle.fidl_assembly.specs.declared.listing.MethodEntry.{MethodEntry}
-use Rattle.fidl_assembly.specs.declared.listing.ProtocolEntry.{ProtocolEntry}
+use Rattle.fidl_table_build.specs.declared.listing.Carried.{Carried}
+use Rattle.fidl_table_build.specs.declared.listing.Carried.TheVariants as carried
+use Rattle.fidl_table_build.specs.declared.listing.MethodEntry.{MethodEntry}
+use Rattle.fidl_table_build.specs.declared.listing.ProtocolEntry.{ProtocolEntry}
 use Rattle.fidl_verify.specs.Lookups as table
 use Rattle.fidl_table.specs.declared.found.Found.{Found}
 use Rattle.fidl_table.specs.Protocols.{openness_number}

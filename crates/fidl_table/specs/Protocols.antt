@@ -6,19 +6,19 @@ use Rattle.fidl_tree.specs.Syntax.{Openness, closed_protocol, ajar_protocol, ope
 use Rattle.fidl_tree.specs.Syntax.{ProtocolMember}
 use Rattle.fidl_tree.specs.Views.{file_view}
 use Rattle.fidl_tree.specs.declared.file.File.{File}
-use Rattle.fidl_layouts.specs.declared.step.Step.TheVariants as step
-use Rattle.fidl_layouts.specs.Forms.{name_by_path}
+use Rattle.fidl_declarations.specs.declared.step.Step.TheVariants as step
+use Rattle.fidl_declarations.specs.Forms.{name_by_path}
 use Rattle.fidl_wire.specs.Figure.{Declarations}
-use Rattle.fidl_compositions.specs.Protocols.{IsProtocolAt}
+use Rattle.fidl_composition.specs.Protocols.{IsProtocolAt}
 use Rattle.fidl_payloads.specs.declared.payload.Payload.{Payload as Carried}
 use Rattle.fidl_payloads.specs.declared.payload.Payload.TheVariants.{Missing, Empty}
 use Rattle.fidl_payloads.specs.declared.payload.Payload.TheVariants as carried
 use Rattle.fidl_protocol.specs.declared.method.Method.{Method}
 use Rattle.fidl_protocol.specs.declared.method.Protocol.{Protocol}
 use Rattle.fidl_protocol.specs.Checked.{AreProtocolsWith}
-use Rattle.fidl_records.specs.Section.{header_of, protocol_at, method_at}
-use Rattle.fidl_records.specs.Protocol.{protocol_name}
-use Rattle.fidl_records.specs.Method.{is_strict, method_name, method_number}
+use Rattle.fidl_table_format.specs.Section.{header_of, protocol_at, method_at}
+use Rattle.fidl_table_format.specs.Protocol.{protocol_name}
+use Rattle.fidl_table_format.specs.Method.{is_strict, method_name, method_number}
 use Rattle.fidl_verify.specs.declared.method.Payload.{Payload}
 use Rattle.fidl_verify.specs.declared.method.Payload.TheVariants as payload
 use Rattle.fidl_verify.specs.Lookups.{request_of, response_of}

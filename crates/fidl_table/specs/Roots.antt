@@ -3,8 +3,8 @@ use Rattle.std.specs.Prelude.{ℕ, ◌≡◌, ◌<◌, List, Some, slice_get}
 use Rattle.fidl_tree.specs.declared.file.File.{File}
 use Rattle.fidl_wire.specs.Figure.{Declarations}
 use Rattle.fidl_layout.specs.Roots.{RootAt}
-use Rattle.fidl_records.specs.Section.{header_of, root_at}
-use Rattle.fidl_records.specs.Root.{root_name}
+use Rattle.fidl_table_format.specs.Section.{header_of, root_at}
+use Rattle.fidl_table_format.specs.Root.{root_name}
 use Rattle.fidl_table.specs.Definitions.{definition_names, ShowsDefinition}
 
 -- the root of this number is a declared type: it has the type's full name, and its entry

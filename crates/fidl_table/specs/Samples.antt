@@ -11,7 +11,7 @@ use Rattle.fidl_wire.specs.Figure.{Declarations, figure}
 use Rattle.fidl_payloads.specs.declared.payload.Payload.TheVariants as carried
 use Rattle.fidl_protocol.specs.declared.method.Method.{Method}
 use Rattle.fidl_protocol.specs.declared.method.Protocol.{Protocol}
-use Rattle.fidl_assembly.specs.Samples.{four_bytes, header_bytes}
+use Rattle.fidl_table_build.specs.Samples.{four_bytes, header_bytes}
 
 -- the declarations of a flexible enum, of a table and of a struct, the last two without members
 abbrev pub three_types : Declarations

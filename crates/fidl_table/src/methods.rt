@@ -4,11 +4,11 @@ ghost use Rattle.std.specs.List.{AllZip};
 ghost use Rattle.fidl_table.specs.Listed.{carried_by, IsMethodEntry};
 
 use crate::found::find;
-use fidl_assembly::{Carried, MethodEntry};
-use fidl_methods::method_full_name;
+use fidl_method_rules::method_full_name;
 use fidl_names::Named;
 use fidl_payloads::Payload;
 use fidl_protocol::Method;
+use fidl_table_build::{Carried, MethodEntry};
 use std::alloc::{AllocError, Global};
 
 /// What a message carries.

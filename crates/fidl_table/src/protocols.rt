@@ -8,10 +8,10 @@ ghost use Rattle.fidl_table.specs.Listed.{IsProtocolEntry, AreListed};
 
 use crate::found::find;
 use crate::methods::method_entries;
-use fidl_assembly::ProtocolEntry;
-use fidl_methods::declared_name;
+use fidl_method_rules::declared_name;
 use fidl_names::Named;
 use fidl_protocol::Protocol;
+use fidl_table_build::ProtocolEntry;
 use fidl_tree::Openness as Written;
 use fidl_verify::Openness;
 use std::alloc::{AllocError, Global};

@@ -2,13 +2,13 @@
 ghost use Rattle.std.specs.Prelude.{◌≡◌, ◌⊎◌, ℕ, List, [], ◌∷◌, codes};
 ghost use Rattle.fidl_tree.specs.declared.file.File.{File};
 ghost use Rattle.fidl_wire.specs.Figure.{Declarations};
-ghost use Rattle.fidl_layouts.specs.Forms.{Form};
-ghost use Rattle.fidl_terms.specs.Numbers.{all_forms};
+ghost use Rattle.fidl_declarations.specs.Forms.{Form};
+ghost use Rattle.fidl_lower_types.specs.Numbers.{all_forms};
 ghost use Rattle.fidl_layout.specs.Laid.{AreLaidOut};
 ghost use Rattle.fidl_layout.specs.Roots.{RootAt};
 ghost use Rattle.fidl_names.specs.declared.place.DeclarationId.{DeclarationId};
-ghost use Rattle.fidl_compositions.specs.Protocols.{IsProtocol};
-ghost use Rattle.fidl_assembly.specs.Samples.{header_bytes};
+ghost use Rattle.fidl_composition.specs.Protocols.{IsProtocol};
+ghost use Rattle.fidl_table_build.specs.Samples.{header_bytes};
 ghost use Rattle.fidl_table.specs.Definitions.{definition_names, ShowsDefinition};
 ghost use Rattle.fidl_table.specs.Roots.{IsRootOf, ShowsRoots};
 ghost use Rattle.fidl_table.specs.Shows.{Shows};

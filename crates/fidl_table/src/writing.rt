@@ -1,13 +1,13 @@
 //! The table of a checked library.
 ghost use Rattle.std.specs.Prelude.{IfOk};
-ghost use Rattle.fidl_records.specs.WellFormed.{WellFormed};
+ghost use Rattle.fidl_table_format.specs.WellFormed.{WellFormed};
 ghost use Rattle.fidl_table.specs.Shows.{Shows};
 
 use crate::definitions::definition_names;
 use crate::protocols::protocol_entries;
 use crate::roots::sorted_roots;
-use fidl_assembly::{Listing, assemble};
 use fidl_protocol::Checked;
+use fidl_table_build::{Listing, assemble};
 use std::alloc::{AllocError, Global};
 
 /// The bytes of the coding table of a checked library (docs/table.md, "What is written"): its roots

@@ -10,14 +10,14 @@ use Rattle.fidl_limits.specs.declared.limits.TheConstants.{MAX_INLINE_SIZE, MAX_
 use Rattle.fidl_wire.specs.Encoding as encoding
 use Rattle.fidl_wire.specs.Depth.{depth_of, fields_depth}
 use Rattle.fidl_wire.specs.Text.{text_of, fields_text, comma_if}
-use Rattle.fidl_records.specs.declared.record.Row.{Row}
-use Rattle.fidl_records.specs.declared.kind.EntryKind.{EntryKind}
-use Rattle.fidl_records.specs.declared.kind.EntryKind.TheVariants.{Vector, Array, Box, Struct}
-use Rattle.fidl_records.specs.Section.{header_of, entry_at, row_at, name_at}
-use Rattle.fidl_records.specs.Terms.{declarations_of, fields_from, term_as}
-use Rattle.fidl_records.specs.Uses.{uses_entry, uses_rows}
-use Rattle.fidl_records.specs.Entry.{IsOf}
-use Rattle.fidl_records.specs.WellFormed.{WellFormed}
+use Rattle.fidl_table_format.specs.declared.record.Row.{Row}
+use Rattle.fidl_table_format.specs.declared.kind.EntryKind.{EntryKind}
+use Rattle.fidl_table_format.specs.declared.kind.EntryKind.TheVariants.{Vector, Array, Box, Struct}
+use Rattle.fidl_table_format.specs.Section.{header_of, entry_at, row_at, name_at}
+use Rattle.fidl_table_format.specs.Terms.{declarations_of, fields_from, term_as}
+use Rattle.fidl_table_format.specs.Uses.{uses_entry, uses_rows}
+use Rattle.fidl_table_format.specs.Entry.{IsOf}
+use Rattle.fidl_table_format.specs.WellFormed.{WellFormed}
 use Rattle.fidl_wire.specs.Figure.{Figure, size_of}
 use Rattle.fidl_verify.proofs.Known.{test_of}
 use Rattle.fidl_verify.proofs.Standing.{members_stand}

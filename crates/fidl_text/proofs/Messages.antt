@@ -7,7 +7,7 @@ use Rattle.fidl_wire.specs.Term.{resolve}
 use Rattle.fidl_wire.specs.Term as ty
 use Rattle.fidl_wire.specs.Typed.{IsTyped}
 use Rattle.fidl_wire.specs.Message.{Encodes}
-use Rattle.fidl_records.specs.Terms.{declarations_of}
+use Rattle.fidl_table_format.specs.Terms.{declarations_of}
 use Rattle.fidl_decode.specs.Model.{Shown}
 use Rattle.fidl_view.specs.Shows.{Shows}
 use Rattle.fidl_view.specs.declared.view.View.{View}

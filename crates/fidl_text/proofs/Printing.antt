@@ -12,12 +12,12 @@ use Rattle.fidl_wire.specs.Typed.{IsTyped, AllTyped, EachTyped, InRange}
 use Rattle.fidl_wire.specs.Encoding as encoding
 use Rattle.fidl_wire.specs.Depth.{depth_of, elements_depth}
 use Rattle.fidl_wire.specs.Text.{text_of, elements_text, fields_text, comma_if, handle_text}
-use Rattle.fidl_records.specs.declared.record.Header.{Header}
-use Rattle.fidl_records.specs.declared.record.Entry.{Entry}
-use Rattle.fidl_records.specs.declared.kind.EntryKind.{EntryKind}
-use Rattle.fidl_records.specs.declared.kind.EntryKind.TheVariants.{Bool as Boolean, Int8, Int16, Int32, Int64, Uint8, Uint16, Uint32, Uint64, Bits, Enum, String, Vector, Array, Box, Struct, Table, Union, Handle}
-use Rattle.fidl_records.specs.Section.{header_of, entry_at, row_at, name_at}
-use Rattle.fidl_records.specs.Terms.{declarations_of, fields_from, term_as}
+use Rattle.fidl_table_format.specs.declared.record.Header.{Header}
+use Rattle.fidl_table_format.specs.declared.record.Entry.{Entry}
+use Rattle.fidl_table_format.specs.declared.kind.EntryKind.{EntryKind}
+use Rattle.fidl_table_format.specs.declared.kind.EntryKind.TheVariants.{Bool as Boolean, Int8, Int16, Int32, Int64, Uint8, Uint16, Uint32, Uint64, Bits, Enum, String, Vector, Array, Box, Struct, Table, Union, Handle}
+use Rattle.fidl_table_format.specs.Section.{header_of, entry_at, row_at, name_at}
+use Rattle.fidl_table_format.specs.Terms.{declarations_of, fields_from, term_as}
 use Rattle.fidl_decode.specs.Model.{Shown}
 use Rattle.fidl_view.specs.Shows.{Shows}
 use Rattle.fidl_view.specs.declared.view.View.{View}

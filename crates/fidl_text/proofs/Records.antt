@@ -3,13 +3,13 @@ use Rattle.std.proofs.Common.{◌≡◌, ℕ, suc, ◌+◌, ◌-◌, ◌<◌, �
 use Rattle.std.specs.Prelude.{flat_map, codes, decimal}
 use Rattle.std.proofs.lemmas.List.{drop_more, drop_all}
 use mathlib.Core.List.{append_assoc}
-use Rattle.fidl_records.specs.declared.record.Header.{Header}
-use Rattle.fidl_records.specs.declared.record.Entry.{Entry}
-use Rattle.fidl_records.specs.declared.record.Root.{Root}
-use Rattle.fidl_records.specs.declared.record.ProtocolRecord.{ProtocolRecord}
-use Rattle.fidl_records.specs.declared.record.MethodRecord.{MethodRecord}
-use Rattle.fidl_records.specs.Section.{header_of, entry_at, root_at, protocol_at, method_at, names_place, name_at}
-use Rattle.fidl_records.specs.WellFormed.{WellFormed}
+use Rattle.fidl_table_format.specs.declared.record.Header.{Header}
+use Rattle.fidl_table_format.specs.declared.record.Entry.{Entry}
+use Rattle.fidl_table_format.specs.declared.record.Root.{Root}
+use Rattle.fidl_table_format.specs.declared.record.ProtocolRecord.{ProtocolRecord}
+use Rattle.fidl_table_format.specs.declared.record.MethodRecord.{MethodRecord}
+use Rattle.fidl_table_format.specs.Section.{header_of, entry_at, root_at, protocol_at, method_at, names_place, name_at}
+use Rattle.fidl_table_format.specs.WellFormed.{WellFormed}
 use Rattle.fidl_text.specs.declared.words.Word.{Word}
 use Rattle.fidl_text.specs.declared.listing.Section.{Section}
 use Rattle.fidl_text.specs.Words.{word_text, words_line, ordinal_word, name_word, payload_word}

@@ -14,15 +14,15 @@ use Rattle.fidl_wire.specs.Typed.{IsTyped, IsTypedMember, RiseTyped}
 use Rattle.fidl_wire.specs.Depth.{depth_of, member_depth, members_depth}
 use Rattle.fidl_wire.specs.Text as text
 use Rattle.fidl_wire.specs.Text.{text_of, member_text, members_text}
-use Rattle.fidl_records.specs.declared.record.Row.{Row}
-use Rattle.fidl_records.specs.declared.record.Header.{Header}
-use Rattle.fidl_records.specs.declared.kind.EntryKind.{EntryKind}
-use Rattle.fidl_records.specs.declared.kind.EntryKind.TheVariants.{Table, Union}
-use Rattle.fidl_records.specs.Section.{header_of, entry_at, row_at, name_at}
-use Rattle.fidl_records.specs.Terms.{declarations_of, members_of, term_as, rows_from, is_optional, is_strict}
-use Rattle.fidl_records.specs.Uses.{uses_ordinals}
-use Rattle.fidl_records.specs.Entry.{IsOf, kind_is}
-use Rattle.fidl_records.specs.WellFormed.{WellFormed}
+use Rattle.fidl_table_format.specs.declared.record.Row.{Row}
+use Rattle.fidl_table_format.specs.declared.record.Header.{Header}
+use Rattle.fidl_table_format.specs.declared.kind.EntryKind.{EntryKind}
+use Rattle.fidl_table_format.specs.declared.kind.EntryKind.TheVariants.{Table, Union}
+use Rattle.fidl_table_format.specs.Section.{header_of, entry_at, row_at, name_at}
+use Rattle.fidl_table_format.specs.Terms.{declarations_of, members_of, term_as, rows_from, is_optional, is_strict}
+use Rattle.fidl_table_format.specs.Uses.{uses_ordinals}
+use Rattle.fidl_table_format.specs.Entry.{IsOf, kind_is}
+use Rattle.fidl_table_format.specs.WellFormed.{WellFormed}
 use Rattle.fidl_verify.proofs.Ordered.{rows_declared, rising_keys}
 use Rattle.fidl_decode.proofs.Bridge.{fine_of}
 use Rattle.fidl_decode.proofs.Visiting.{figure_is, size_is}

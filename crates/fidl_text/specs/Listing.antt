@@ -2,12 +2,12 @@
 use Rattle.std.specs.Prelude.{ℕ, zero, suc, ◌==◌, if◌then◌else◌, List, [], ◌∷◌, ◌++◌, flat_map}
 use Rattle.std.specs.Prelude.{codes, decimal}
 use Rattle.std.specs.Option.{option_map_or}
-use Rattle.fidl_records.specs.declared.record.Header.{Header}
-use Rattle.fidl_records.specs.declared.kind.EntryKind.{EntryKind}
-use Rattle.fidl_records.specs.declared.kind.EntryKind.TheVariants as kinds
-use Rattle.fidl_records.specs.Kind.{kind_of}
-use Rattle.fidl_records.specs.Section.{header_of, entry_at, row_at, value_at, root_at, protocol_at}
-use Rattle.fidl_records.specs.Section.{method_at, name_at}
+use Rattle.fidl_table_format.specs.declared.record.Header.{Header}
+use Rattle.fidl_table_format.specs.declared.kind.EntryKind.{EntryKind}
+use Rattle.fidl_table_format.specs.declared.kind.EntryKind.TheVariants as kinds
+use Rattle.fidl_table_format.specs.Kind.{kind_of}
+use Rattle.fidl_table_format.specs.Section.{header_of, entry_at, row_at, value_at, root_at, protocol_at}
+use Rattle.fidl_table_format.specs.Section.{method_at, name_at}
 use Rattle.fidl_text.specs.declared.listing.Section.{Section}
 use Rattle.fidl_text.specs.declared.listing.Section.TheVariants.{Entries, Rows, Values, Roots}
 use Rattle.fidl_text.specs.declared.listing.Section.TheVariants.{Protocols, Methods}

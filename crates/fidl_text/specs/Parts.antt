@@ -8,8 +8,8 @@ use Rattle.fidl_wire.specs.Text.{text_of}
 use Rattle.fidl_wire.specs.Typed.{IsTyped}
 use Rattle.fidl_wire.specs.Encoding.{element_of, content_of}
 use Rattle.fidl_wire.specs.Depth.{depth_of, elements_depth, fields_depth}
-use Rattle.fidl_records.specs.Section.{header_of, entry_at}
-use Rattle.fidl_records.specs.Terms.{declarations_of, fields_from}
+use Rattle.fidl_table_format.specs.Section.{header_of, entry_at}
+use Rattle.fidl_table_format.specs.Terms.{declarations_of, fields_from}
 use Rattle.fidl_view.specs.Shows.{Shows}
 use Rattle.fidl_view.specs.declared.view.View.{View}
 use Rattle.fidl_text.specs.Outputs.{Writes}

@@ -7,9 +7,9 @@ use Rattle.fidl_wire.specs.Figure.{Declarations}
 use Rattle.fidl_wire.specs.Text.{text_of, comma_if, member_text}
 use Rattle.fidl_wire.specs.Typed.{IsTypedMember}
 use Rattle.fidl_wire.specs.Depth.{member_depth}
-use Rattle.fidl_records.specs.declared.record.Row.{Row}
-use Rattle.fidl_records.specs.Section.{header_of, name_at}
-use Rattle.fidl_records.specs.Terms.{declarations_of, members_of}
+use Rattle.fidl_table_format.specs.declared.record.Row.{Row}
+use Rattle.fidl_table_format.specs.Section.{header_of, name_at}
+use Rattle.fidl_table_format.specs.Terms.{declarations_of, members_of}
 use Rattle.fidl_view.specs.Parts.{held_of}
 use Rattle.fidl_view.specs.Shows.{Shows}
 use Rattle.fidl_view.specs.declared.view.View.{View}

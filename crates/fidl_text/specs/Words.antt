@@ -3,7 +3,7 @@ use Rattle.std.specs.Prelude.{ℕ, ◌==◌, if◌then◌else◌, List, [], ◌�
 use Rattle.std.specs.Prelude.{codes, decimal}
 use Rattle.std.specs.Int.{w64, to_be_bytes}
 use Rattle.fidl_wire.specs.Text.{hex_byte}
-use Rattle.fidl_records.specs.Method.{no_payload}
+use Rattle.fidl_table_format.specs.Method.{no_payload}
 use Rattle.fidl_text.specs.declared.words.Word.{Word}
 use Rattle.fidl_text.specs.declared.words.Word.TheVariants.{Text, Name, Number, Counted}
 use Rattle.fidl_text.specs.declared.words.Word.TheVariants.{Ordinal, Payload}

@@ -1,6 +1,6 @@
 //! The records of a table as text (docs/program.md, "table").
 ghost use Rattle.std.specs.Prelude.{◌≡◌, ◌<◌, OnOk, OnErr, IsSome};
-ghost use Rattle.fidl_records.specs.Section.{header_of};
+ghost use Rattle.fidl_table_format.specs.Section.{header_of};
 ghost use Rattle.fidl_text.specs.Listing.{kind_name, kind_word, openness_word, entry_line};
 ghost use Rattle.fidl_text.specs.Listing.{row_line, value_line, root_line, protocol_line};
 ghost use Rattle.fidl_text.specs.Listing.{method_line, record_line, count_of, section_text};
@@ -9,7 +9,7 @@ ghost use Rattle.fidl_text.specs.Outputs.{Writes};
 
 use crate::output::{Failed, Output};
 use crate::words::{Word, write_words};
-use fidl_records::{
+use fidl_table_format::{
     EntryKind, Header, name_bytes, read_header, read_method, read_protocol, read_root,
 };
 use fidl_verify::Table;

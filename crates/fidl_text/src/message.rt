@@ -4,7 +4,7 @@ ghost use Rattle.fidl_wire.specs.Value.{Value};
 ghost use Rattle.fidl_wire.specs.Term as ty;
 ghost use Rattle.fidl_wire.specs.Message.{Encodes};
 ghost use Rattle.fidl_wire.specs.Text.{Text};
-ghost use Rattle.fidl_records.specs.Terms.{declarations_of};
+ghost use Rattle.fidl_table_format.specs.Terms.{declarations_of};
 ghost use Rattle.fidl_text.specs.Outputs.{Writes};
 
 use crate::output::{Failed, Output};

@@ -1,6 +1,6 @@
 //! Worked facts: the lines of records, computed by the definitions.
 ghost use Rattle.std.specs.Prelude.{◌≡◌, ◌++◌, codes};
-ghost use Rattle.fidl_records.specs.Section.{header_of};
+ghost use Rattle.fidl_table_format.specs.Section.{header_of};
 ghost use Rattle.fidl_text.specs.Listing.{table_text, row_line, kind_word, openness_word};
 ghost use Rattle.fidl_text.specs.Words.{ordinal_word, payload_word, name_word};
 ghost use Rattle.fidl_text.specs.Samples.{point};

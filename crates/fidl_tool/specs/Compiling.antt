@@ -5,9 +5,9 @@ use Rattle.std.specs.Option.{option_map_or}
 use Rattle.std.specs.Global.{Vec}
 use Rattle.fidl_span.specs.Lines.{line_of, column_of}
 use Rattle.fidl_names.specs.declared.place.Place.{Place}
-use Rattle.fidl_records.specs.declared.record.Header.{Header}
-use Rattle.fidl_records.specs.Section.{header_of}
-use Rattle.fidl_records.specs.WellFormed.{WellFormed}
+use Rattle.fidl_table_format.specs.declared.record.Header.{Header}
+use Rattle.fidl_table_format.specs.Section.{header_of}
+use Rattle.fidl_table_format.specs.WellFormed.{WellFormed}
 use Rattle.fidl_compile.specs.declared.fault.CompileFault.{CompileFault}
 use Rattle.fidl_compile.specs.Sources.{IsTableOf}
 use Rattle.fidl_compile.specs.Stages.{AreRefused}

@@ -1,6 +1,6 @@
 -- What the command `table` answers (docs/program.md, "table").
 use Rattle.std.specs.Prelude.{⊤, ℕ, List}
-use Rattle.fidl_records.specs.WellFormed.{WellFormed}
+use Rattle.fidl_table_format.specs.WellFormed.{WellFormed}
 use Rattle.fidl_verify.specs.Faults.{Breaks}
 use Rattle.fidl_verify.specs.declared.fault.TableFault.{TableFault}
 use Rattle.fidl_text.specs.Listing.{table_text}

@@ -5,7 +5,7 @@ use Rattle.std.specs.Io.KnownBytes.{Appends}
 use Rattle.fidl_command_line.specs.Arguments.{IsGiven, IsUngiven}
 use Rattle.fidl_tool.specs.Decoding.{IsText, IsRefusal, LacksRoot}
 use Rattle.fidl_tool.specs.Listing.{IsListing, IsTableRefusal}
-use Rattle.fidl_records.specs.WellFormed.{WellFormed}
+use Rattle.fidl_table_format.specs.WellFormed.{WellFormed}
 use Rattle.fidl_compile.specs.Sources.{IsTableOf}
 use Rattle.fidl_tool.specs.Compiling.{Named, texts_of, summary_line, IsSourceRefusal}
 use Rattle.fidl_tool.specs.Files.{IsWritten, NamesFile, IsMissing, HasMissing}

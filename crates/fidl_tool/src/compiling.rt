@@ -2,7 +2,7 @@
 ghost use Rattle.std.specs.Prelude.{◌≡◌, ◌≢◌, ◌↔◌, map, None, Err, IfOk, IfErr, OnOk, OnErr};
 ghost use Rattle.std.specs.Prelude.{IsSome};
 ghost use Rattle.std.specs.Io.KnownBytes.{Appends};
-ghost use Rattle.fidl_records.specs.WellFormed.{WellFormed};
+ghost use Rattle.fidl_table_format.specs.WellFormed.{WellFormed};
 ghost use Rattle.fidl_compile.specs.Sources.{IsTableOf};
 ghost use Rattle.fidl_compile.specs.Stages.{AreRefused};
 ghost use Rattle.fidl_compile.specs.Reports.{reported};
@@ -20,8 +20,8 @@ use crate::lines::{write_no_memory, write_no_output};
 use crate::outcome::Outcome;
 use fidl_compile::{CompileFault, Refusal};
 use fidl_names::Place;
-use fidl_records::read_header;
 use fidl_span::line_col;
+use fidl_table_format::read_header;
 use fidl_text::{Failed, Output, Word, write_decimal, write_words};
 use std::alloc::{AllocError, Global};
 use std::io::Write;

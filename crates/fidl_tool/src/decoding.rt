@@ -1,7 +1,7 @@
 //! The command `decode`.
 ghost use Rattle.std.specs.Prelude.{◌≡◌, ◌≢◌, ◌<◌, IfSome};
 ghost use Rattle.std.specs.Io.KnownBytes.{Appends};
-ghost use Rattle.fidl_records.specs.Section.{header_of};
+ghost use Rattle.fidl_table_format.specs.Section.{header_of};
 ghost use Rattle.fidl_tool.specs.Decoding.{IsRootOf, HasRoot, LacksRoot, IsTextOf, IsRefusalOf};
 ghost use Rattle.fidl_tool.specs.Decoding.{CanEndDecode, CanEndDecodeAs, no_root_line};
 ghost use Rattle.fidl_tool.specs.Decoding.{no_memory_line};

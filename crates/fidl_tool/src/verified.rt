@@ -1,6 +1,6 @@
 //! The table of a file, where it is accepted.
 ghost use Rattle.std.specs.Prelude.{◌≡◌, ◌↔◌, None, Err, IfOk, IfErr, OnOk, IsSome};
-ghost use Rattle.fidl_records.specs.WellFormed.{WellFormed};
+ghost use Rattle.fidl_table_format.specs.WellFormed.{WellFormed};
 ghost use Rattle.fidl_tool.specs.Listing.{CanEndVerified, IsTableRefusal};
 ghost use Rattle.fidl_tool.specs.Outputs.{AppendsOne};
 ghost use Rattle.fidl_tool.specs.declared.outcome.Outcome.TheVariants as outcome;

@@ -10,10 +10,10 @@ use Rattle.fidl_tree.specs.Syntax.{Members, no_members, next_member, Member, nam
 use Rattle.fidl_tree.specs.Syntax.{Response, ProtocolMember, compose_member, method_member, event_member}
 use Rattle.fidl_tree.specs.Syntax.{Body, const_body, alias_body, type_body, protocol_body, service_body, resource_body, Declaration, Import, File}
 use Rattle.fidl_const.proofs.Among.{among_first}
-use Rattle.fidl_layouts.specs.declared.step.Step.{Step}
-use Rattle.fidl_layouts.specs.declared.step.Step.TheVariants as step
-use Rattle.fidl_layouts.specs.Sites.{Role, any_type, aliased_type, bare_type, present_type, service_type, second_argument, Site, type_site, layout_site, result_site, empty_response_site, attributes_site}
-use Rattle.fidl_layouts.specs.Sites.{within, type_sites, arguments_sites, further_sites, argument_sites, layout_sites, underlying_sites, members_sites, member_sites, part_sites, has_result, empty_sites, result_sites, response_sites, answer_sites, protocol_sites, body_sites, declaration_sites, import_site, file_sites}
+use Rattle.fidl_declarations.specs.declared.step.Step.{Step}
+use Rattle.fidl_declarations.specs.declared.step.Step.TheVariants as step
+use Rattle.fidl_declarations.specs.Sites.{Role, any_type, aliased_type, bare_type, present_type, service_type, second_argument, Site, type_site, layout_site, result_site, empty_response_site, attributes_site}
+use Rattle.fidl_declarations.specs.Sites.{within, type_sites, arguments_sites, further_sites, argument_sites, layout_sites, underlying_sites, members_sites, member_sites, part_sites, has_result, empty_sites, result_sites, response_sites, answer_sites, protocol_sites, body_sites, declaration_sites, import_site, file_sites}
 
 -- each element of the first is one of the second
 abbrev pub Within : {X : Type 0} → List X → List X → Type 0

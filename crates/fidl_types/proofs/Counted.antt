@@ -5,22 +5,22 @@ use Rattle.std.proofs.lemmas.Option.{slice_get_within}
 use Rattle.fidl_tree.specs.Views.{file_view}
 use Rattle.fidl_tree.specs.declared.file.File.{File}
 use Rattle.fidl_const.specs.Evaluated.{Evaluates}
-use Rattle.fidl_layout_rules.specs.Rules.{RulesHold}
-use Rattle.fidl_layouts.specs.declared.form.Form.{Form as CodeForm}
-use Rattle.fidl_layouts.specs.FormViews.{seen_form, seen_forms}
+use Rattle.fidl_member_rules.specs.Rules.{RulesHold}
+use Rattle.fidl_declarations.specs.declared.form.Form.{Form as CodeForm}
+use Rattle.fidl_declarations.specs.FormViews.{form_view, forms_view}
 use Rattle.fidl_names.specs.Cycles.{Leads, step, further}
-use Rattle.fidl_terms.specs.Numbers.{all_forms}
-use Rattle.fidl_uses.specs.Uses.{UsesHold}
+use Rattle.fidl_lower_types.specs.Numbers.{all_forms}
+use Rattle.fidl_type_rules.specs.Uses.{UsesHold}
 use Rattle.fidl_wire.specs.Term.{Term}
-use Rattle.fidl_definitions.specs.Definitions.{DefinitionIs, DefinitionsAre}
-use Rattle.fidl_values.proofs.Listing.{zip_length}
+use Rattle.fidl_lower_layouts.specs.Definitions.{DefinitionIs, DefinitionsAre}
+use Rattle.fidl_member_rules.proofs.Listing.{zip_length}
 use Rattle.std.proofs.Math.ListN.{length-map}
-use Rattle.fidl_term_rules.specs.Inline.{inline_names, HoldsInline}
-use Rattle.fidl_term_rules.specs.Faults.{IsTrueOf}
-use Rattle.fidl_term_rules.specs.declared.fault.DefinitionFault.{DefinitionFault}
-use Rattle.fidl_term_rules.specs.declared.fault.DefinitionFault.TheVariants as rule
-use Rattle.fidl_term_rules.specs.declared.mark.Mark.{Mark}
-use Rattle.fidl_term_rules.proofs.Targets.{holder_within}
+use Rattle.fidl_ir_rules.specs.Inline.{inline_names, HoldsInline}
+use Rattle.fidl_ir_rules.specs.Faults.{IsTrueOf}
+use Rattle.fidl_ir_rules.specs.declared.fault.DefinitionFault.{DefinitionFault}
+use Rattle.fidl_ir_rules.specs.declared.fault.DefinitionFault.TheVariants as rule
+use Rattle.fidl_ir_rules.specs.declared.mark.Mark.{Mark}
+use Rattle.fidl_ir_rules.proofs.Targets.{holder_within}
 use Rattle.fidl_types.proofs.Made.{definitions_exist}
 use Rattle.fidl_types.proofs.ShapedFiles.{file_shaped}
 use Rattle.std.specs.Prelude.{filter}
@@ -39,11 +39,11 @@ stands_within : (ts : List Term) (i j : ℕ) → Leads (HoldsInline ts) i j → 
 stands_within ts i j (step a b h) = holder_within ts (length ts) refl (map (λ d. filter (λ k. nat_lt k (length ts)) (inline_names d)) ts) refl a b h
 stands_within ts i j (further a b c h k) = holder_within ts (length ts) refl (map (λ d. filter (λ k. nat_lt k (length ts)) (inline_names d)) ts) refl a b h
 
-module _ (files : List File) (forms : List CodeForm) (are : seen_forms forms ≡ all_forms files) (ts : List Term) (definitions : DefinitionsAre files ts) where
+module _ (files : List File) (forms : List CodeForm) (are : forms_view forms ≡ all_forms files) (ts : List Term) (definitions : DefinitionsAre files ts) where
   as_many : length ts ≡ length forms
   as_many =
       let long = zip_length (DefinitionIs files) (all_forms files) ts definitions in
-      let seen = length-map forms seen_form in
+      let seen = length-map forms form_view in
       sym long ∙ ap length (sym are) ∙ seen
 
   within : (i : ℕ) → i < length ts → i < length forms

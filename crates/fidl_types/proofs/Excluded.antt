@@ -5,22 +5,22 @@ use Rattle.std.proofs.lemmas.Option.{slice_get_within, get_or_from_slice_get}
 use Rattle.fidl_tree.specs.Views.{file_view}
 use Rattle.fidl_tree.specs.declared.file.File.{File}
 use Rattle.fidl_names.specs.declared.place.Place.{Place}
-use Rattle.fidl_layout_rules.specs.declared.fault.RuleFault.TheVariants as rule
-use Rattle.fidl_layout_rules.proofs.Excluded.{refused_not as layouts_not}
-use Rattle.fidl_values.specs.declared.fault.ValuesFault.TheVariants as value
-use Rattle.fidl_values.proofs.Excluded.{refused_not as values_not}
-use Rattle.fidl_resources.specs.declared.fault.ResourceFault.TheVariants as resource
-use Rattle.fidl_resources.proofs.Excluded.{refused_not as resources_not}
-use Rattle.fidl_uses.specs.declared.fault.UseFault.TheVariants as used
-use Rattle.fidl_uses.proofs.Excluded.{refused_not as uses_not}
+use Rattle.fidl_member_rules.specs.declared.fault.RuleFault.TheVariants as rule
+use Rattle.fidl_member_rules.proofs.Excluded.{refused_not as layouts_not}
+use Rattle.fidl_member_rules.specs.declared.value_fault.ValuesFault.TheVariants as value
+use Rattle.fidl_member_rules.proofs.ValuesExcluded.{refused_not as values_not}
+use Rattle.fidl_resource_rules.specs.declared.fault.ResourceFault.TheVariants as resource
+use Rattle.fidl_resource_rules.proofs.Excluded.{refused_not as resources_not}
+use Rattle.fidl_type_rules.specs.declared.fault.UseFault.TheVariants as used
+use Rattle.fidl_type_rules.proofs.Excluded.{refused_not as uses_not}
 use Rattle.fidl_wire.specs.Term.{Term, nothing}
-use Rattle.fidl_term.specs.Members.{member_types}
-use Rattle.fidl_terms.specs.Numbers.{all_forms}
-use Rattle.fidl_definitions.proofs.One.{one_definitions}
-use Rattle.fidl_term_rules.specs.declared.mark.Mark.{Mark}
-use Rattle.fidl_term_rules.specs.declared.mark.Mark.TheVariants.{Value}
-use Rattle.fidl_term_rules.specs.Resources.{bears, is_resource, MembersHold, AllResourcesMarked, HoldsResource}
-use Rattle.fidl_term_rules.specs.Inline.{StandsInItself}
+use Rattle.fidl_ir.specs.Members.{member_types}
+use Rattle.fidl_lower_types.specs.Numbers.{all_forms}
+use Rattle.fidl_lower_layouts.proofs.One.{one_definitions}
+use Rattle.fidl_ir_rules.specs.declared.mark.Mark.{Mark}
+use Rattle.fidl_ir_rules.specs.declared.mark.Mark.TheVariants.{Value}
+use Rattle.fidl_ir_rules.specs.Resources.{bears, is_resource, MembersHold, AllResourcesMarked, HoldsResource}
+use Rattle.fidl_ir_rules.specs.Inline.{StandsInItself}
 use Rattle.fidl_types.specs.declared.fault.TypeFault.{TypeFault}
 use Rattle.fidl_types.specs.declared.fault.TypeFault.TheVariants.{NotResource, InlineCycle, BadOrdinal, DuplicateOrdinal, DuplicateValue, NotPowerOfTwo, EmptyStrict, OptionalMember, BadConstraint, BadBox, OutOfProfile, Memory}
 use Rattle.fidl_types.specs.Marks.{marks_of}

@@ -6,12 +6,12 @@ use Rattle.std.proofs.lemmas.Bool.{cases_lt}
 use Rattle.std.proofs.lemmas.Option.{same_Some, slice_get_within}
 use Rattle.fidl_span.specs.declared.words.Span.{Span}
 use Rattle.fidl_const.proofs.Among.{among_none, among_cases}
-use Rattle.fidl_layouts.specs.declared.step.Step.{Step}
-use Rattle.fidl_layouts.specs.declared.step.Step.TheVariants as step
-use Rattle.fidl_layouts.specs.Sites.{within}
-use Rattle.fidl_layouts.specs.Forms.{Form, FormKind, layout_form, result_form, empty_response_form}
-use Rattle.fidl_definitions.specs.Results.{AreOfOneMethod, IsEmptyOf, IsFirstEmpty}
-use Rattle.fidl_definitions.proofs.Paths.{one_before}
+use Rattle.fidl_declarations.specs.declared.step.Step.{Step}
+use Rattle.fidl_declarations.specs.declared.step.Step.TheVariants as step
+use Rattle.fidl_declarations.specs.Sites.{within}
+use Rattle.fidl_declarations.specs.Forms.{Form, FormKind, layout_form, result_form, empty_response_form}
+use Rattle.fidl_lower_layouts.specs.Results.{AreOfOneMethod, IsEmptyOf, IsFirstEmpty}
+use Rattle.fidl_lower_layouts.proofs.Paths.{one_before}
 
 -- it is true, or it is not
 abbrev pub Decided : Type 0 → Type 0

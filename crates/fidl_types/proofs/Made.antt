@@ -13,20 +13,20 @@ use Rattle.fidl_tree.specs.declared.file.File.{File}
 use Rattle.fidl_const.specs.Literals.{number_of}
 use Rattle.fidl_const.specs.Places.{PlacesHold}
 use Rattle.fidl_const.proofs.Among.{among_none, among_first, among_cases, among_flat}
-use Rattle.fidl_layouts.specs.declared.step.Step.{Step}
-use Rattle.fidl_layouts.specs.declared.step.Step.TheVariants as step
-use Rattle.fidl_layouts.specs.Sites.{any_type, present_type, Site, type_site, layout_site, result_site, empty_response_site, attributes_site, within, file_sites}
-use Rattle.fidl_layouts.specs.Forms.{Form, FormKind, layout_form, result_form, empty_response_form, layout_kinds, form_at, site_forms, file_forms, forms_from}
-use Rattle.fidl_layout_rules.specs.Ordinals.{member_ordinals, ordinal_numbers, IsOrdinal}
-use Rattle.fidl_layout_rules.specs.Rules.{LayoutHolds, SiteHolds as RuleHolds, FileHolds as RulesOfFile, RulesHold}
+use Rattle.fidl_declarations.specs.declared.step.Step.{Step}
+use Rattle.fidl_declarations.specs.declared.step.Step.TheVariants as step
+use Rattle.fidl_declarations.specs.Sites.{any_type, present_type, Site, type_site, layout_site, result_site, empty_response_site, attributes_site, within, file_sites}
+use Rattle.fidl_declarations.specs.Forms.{Form, FormKind, layout_form, result_form, empty_response_form, layout_kinds, form_at, site_forms, file_forms, forms_from}
+use Rattle.fidl_member_rules.specs.Ordinals.{member_ordinals, ordinal_numbers, IsOrdinal}
+use Rattle.fidl_member_rules.specs.Rules.{LayoutHolds, SiteHolds as RuleHolds, FileHolds as RulesOfFile, RulesHold}
 use Rattle.fidl_wire.specs.Term as ty
 use Rattle.fidl_wire.specs.Term.{Term, Fields, no_fields, field, Rows, no_rows, row}
-use Rattle.fidl_terms.specs.Numbers.{all_forms}
-use Rattle.fidl_terms.specs.Terms.{TermIs}
-use Rattle.fidl_uses.specs.Uses.{SiteHolds as UseAtSite, FileHolds as UsesOfFile, UsesHold}
-use Rattle.fidl_definitions.specs.Members.{members_in, FieldIs, FieldsAre, RowIs, RowsAre}
-use Rattle.fidl_definitions.specs.Results.{ResponseIs, ErrorIs, result_rows, IsResult, IsEmptyNumber}
-use Rattle.fidl_definitions.specs.Definitions.{LayoutIs, KindIs, DefinitionIs, DefinitionsAre}
+use Rattle.fidl_lower_types.specs.Numbers.{all_forms}
+use Rattle.fidl_lower_types.specs.Terms.{TermIs}
+use Rattle.fidl_type_rules.specs.Uses.{SiteHolds as UseAtSite, FileHolds as UsesOfFile, UsesHold}
+use Rattle.fidl_lower_layouts.specs.Members.{members_in, FieldIs, FieldsAre, RowIs, RowsAre}
+use Rattle.fidl_lower_layouts.specs.Results.{ResponseIs, ErrorIs, result_rows, IsResult, IsEmptyNumber}
+use Rattle.fidl_lower_layouts.specs.Definitions.{LayoutIs, KindIs, DefinitionIs, DefinitionsAre}
 use Rattle.fidl_types.proofs.Closed.{all_append, Has, MembersHave, LayoutHas, PartHas, EmptyHas, ResultHas, SiteHas, sites_have}
 use Rattle.fidl_types.proofs.Placed.{LayoutPlaced, SitePlaced, sites_placed}
 use Rattle.fidl_types.proofs.Numbers.{values_of}

@@ -17,9 +17,9 @@ use Rattle.fidl_const.specs.Values.{first_operand, ValueIs, OperandIs, Gives, al
 use Rattle.fidl_const.specs.Places.{MemberHolds, PlaceHolds}
 use Rattle.fidl_wire.specs.Term as ty
 use Rattle.fidl_wire.specs.Term.{Term}
-use Rattle.fidl_values.specs.Numbers.{HasNumber, NumbersAre}
-use Rattle.fidl_definitions.specs.Values.{kind_of, or_all, IsMaskOf, IsNumbered, ValuesAre}
-use Rattle.fidl_definitions.proofs.Masks.{IsWord}
+use Rattle.fidl_member_rules.specs.Numbers.{HasNumber, NumbersAre}
+use Rattle.fidl_lower_layouts.specs.Values.{kind_of, or_all, IsMaskOf, IsNumbered, ValuesAre}
+use Rattle.fidl_lower_layouts.proofs.Masks.{IsWord}
 
 module _ (files : List File) where
   -- a value fits its type

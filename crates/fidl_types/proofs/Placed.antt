@@ -14,10 +14,10 @@ use Rattle.fidl_tree.specs.declared.declaration.Declaration.{Declaration}
 use Rattle.fidl_names.specs.Spots.{Spot, type_spot, layout_spot, type_spots, arguments_spots, further_spots, argument_spots, layout_spots, underlying_spots, members_spots, member_spots}
 use Rattle.fidl_names.specs.Places.{NamePlace, a_members, underlying_path, spot_places, places_of, perhaps, response_places, protocol_places, value_places}
 use Rattle.fidl_const.specs.Places.{PlaceHolds, DeclarationHolds, PlacesHold}
-use Rattle.fidl_layouts.specs.declared.step.Step.{Step}
-use Rattle.fidl_layouts.specs.declared.step.Step.TheVariants as step
-use Rattle.fidl_layouts.specs.Sites.{Role, any_type, aliased_type, bare_type, present_type, service_type, second_argument, Site, type_site, layout_site, result_site, empty_response_site, attributes_site}
-use Rattle.fidl_layouts.specs.Sites.{within, type_sites, arguments_sites, further_sites, argument_sites, layout_sites, underlying_sites, members_sites, member_sites, part_sites, has_result, empty_sites, result_sites, response_sites, answer_sites, protocol_sites, body_sites, declaration_sites, import_site, file_sites}
+use Rattle.fidl_declarations.specs.declared.step.Step.{Step}
+use Rattle.fidl_declarations.specs.declared.step.Step.TheVariants as step
+use Rattle.fidl_declarations.specs.Sites.{Role, any_type, aliased_type, bare_type, present_type, service_type, second_argument, Site, type_site, layout_site, result_site, empty_response_site, attributes_site}
+use Rattle.fidl_declarations.specs.Sites.{within, type_sites, arguments_sites, further_sites, argument_sites, layout_sites, underlying_sites, members_sites, member_sites, part_sites, has_result, empty_sites, result_sites, response_sites, answer_sites, protocol_sites, body_sites, declaration_sites, import_site, file_sites}
 use Rattle.fidl_types.proofs.Closed.{all_append}
 
 module _ {X : Type 0} (P : X → Type 0) where

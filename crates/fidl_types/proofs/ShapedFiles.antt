@@ -17,10 +17,10 @@ use Rattle.fidl_tree.specs.declared.declaration.DeclarationBody.{DeclarationBody
 use Rattle.fidl_tree.specs.declared.declaration.DeclarationBody.TheVariants as body
 use Rattle.fidl_tree.specs.declared.declaration.Property.{Property}
 use Rattle.fidl_tree.specs.declared.file.File.{File}
-use Rattle.fidl_layouts.specs.declared.step.Step.{Step}
-use Rattle.fidl_layouts.specs.declared.step.Step.TheVariants as step
-use Rattle.fidl_layouts.specs.Sites.{Role, any_type, aliased_type, bare_type, present_type, service_type}
-use Rattle.fidl_layouts.specs.Sites.{within, type_sites, members_sites, part_sites, has_result, empty_sites, result_sites, response_sites, answer_sites, protocol_sites, body_sites, declaration_sites, import_site, file_sites}
+use Rattle.fidl_declarations.specs.declared.step.Step.{Step}
+use Rattle.fidl_declarations.specs.declared.step.Step.TheVariants as step
+use Rattle.fidl_declarations.specs.Sites.{Role, any_type, aliased_type, bare_type, present_type, service_type}
+use Rattle.fidl_declarations.specs.Sites.{within, type_sites, members_sites, part_sites, has_result, empty_sites, result_sites, response_sites, answer_sites, protocol_sites, body_sites, declaration_sites, import_site, file_sites}
 use Rattle.fidl_types.proofs.Closed.{all_append}
 use Rattle.fidl_types.proofs.Made.{SiteShaped}
 use Rattle.fidl_types.proofs.Shapes.{Shaped, OfMember, members_shaped, types_shaped, layouts_shaped, code_members_shaped}

@@ -27,15 +27,15 @@ use Rattle.fidl_tree.specs.declared.type_constructor.OrdinalBody.{OrdinalBody, m
 use Rattle.fidl_tree.specs.declared.type_constructor.OrdinalBody.TheVariants as ordinal
 use Rattle.fidl_tree.specs.declared.type_constructor.LayoutBody.TheOpen.{TypeConstructor-F, NamedType-F, TypeArguments-F, NextTypeArgument-F, TypeArgument-F, Layout-F, LayoutBody-F, ValuesLayout-F, StructLayout-F, TableLayout-F, UnionLayout-F, Underlying-F, Member-F, OrdinalMember-F, OrdinalBody-F}
 use Rattle.fidl_tree.specs.declared.type_constructor.LayoutBody.TheFolds.{fold_out-Member, fold-roll-TypeConstructor, fold-roll-Layout, fold-roll-TypeArgument, fold-roll-NextTypeArgument, fold-roll-Member, ind-TypeConstructor, ind-Layout}
-use Rattle.fidl_behind.specs.BehindViews.{seen_arguments}
-use Rattle.fidl_behind.proofs.Naming.{named_seen}
-use Rattle.fidl_layouts.specs.declared.step.Step.{Step}
-use Rattle.fidl_layouts.specs.declared.step.Step.TheVariants as step
-use Rattle.fidl_layouts.specs.Sites.{Role, any_type, present_type, bare_type, second_argument, Site, attributes_site, within, type_sites, arguments_sites, further_sites, argument_sites, layout_sites, underlying_sites, members_sites, member_sites}
-use Rattle.fidl_terms.proofs.Heads.{arguments_seen}
-use Rattle.fidl_definitions.specs.Members.{members_in}
-use Rattle.fidl_definitions.proofs.Bodies.{values_body, struct_is, table_is, union_is}
-use Rattle.fidl_definitions.proofs.Numbered.{typed_is, reserved_is}
+use Rattle.fidl_constraints.specs.BehindViews.{arguments_view}
+use Rattle.fidl_constraints.proofs.Naming.{named_seen}
+use Rattle.fidl_declarations.specs.declared.step.Step.{Step}
+use Rattle.fidl_declarations.specs.declared.step.Step.TheVariants as step
+use Rattle.fidl_declarations.specs.Sites.{Role, any_type, present_type, bare_type, second_argument, Site, attributes_site, within, type_sites, arguments_sites, further_sites, argument_sites, layout_sites, underlying_sites, members_sites, member_sites}
+use Rattle.fidl_lower_types.proofs.Heads.{arguments_seen}
+use Rattle.fidl_lower_layouts.specs.Members.{members_in}
+use Rattle.fidl_lower_layouts.proofs.Bodies.{values_body, struct_is, table_is, union_is}
+use Rattle.fidl_lower_layouts.proofs.Numbered.{typed_is, reserved_is}
 use Rattle.fidl_types.proofs.Closed.{all_append}
 use Rattle.fidl_types.proofs.Made.{IsNamed, SiteShaped}
 
@@ -148,7 +148,7 @@ OfOrdinalBody b = TypedShaped (out-OrdinalBody b)
 named_of : (n : NamedType) → ArgumentsIf (out-NamedType n).arguments → OfNamed n
 named_of n h path role = subst (λ (t : TypeUse). Shaped (type_sites path role t)) (sym (named_seen n)) (tt, by_arguments (out-NamedType n).arguments h)
   where
-    by_arguments : (o : Option TypeArguments) → ArgumentsIf o → Shaped (arguments_sites path (path_view (out-NamedType n).path) (seen_arguments o))
+    by_arguments : (o : Option TypeArguments) → ArgumentsIf o → Shaped (arguments_sites path (path_view (out-NamedType n).path) (arguments_view o))
     by_arguments None k = tt
     by_arguments (Some a) k = k path (path_view (out-NamedType n).path)
 

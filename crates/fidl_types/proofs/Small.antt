@@ -5,12 +5,12 @@ use Rattle.std.proofs.lemmas.Option.{same_Some, none-some}
 use Rattle.fidl_tree.specs.declared.file.File.{File}
 use Rattle.fidl_names.specs.declared.place.Place.{Place}
 use Rattle.fidl_names.specs.Cycles.{Leads, step, further}
-use Rattle.fidl_layouts.specs.Forms.{Form}
+use Rattle.fidl_declarations.specs.Forms.{Form}
 use Rattle.fidl_wire.specs.Term.{Term}
-use Rattle.fidl_terms.specs.Numbers.{all_forms}
-use Rattle.fidl_term_rules.specs.declared.mark.Mark.TheVariants.{Value}
-use Rattle.fidl_term_rules.specs.Resources.{mark_of}
-use Rattle.fidl_term_rules.specs.Inline.{HoldsInline}
+use Rattle.fidl_lower_types.specs.Numbers.{all_forms}
+use Rattle.fidl_ir_rules.specs.declared.mark.Mark.TheVariants.{Value}
+use Rattle.fidl_ir_rules.specs.Resources.{mark_of}
+use Rattle.fidl_ir_rules.specs.Inline.{HoldsInline}
 use Rattle.fidl_types.specs.Marks.{form_mark, marks_of}
 use Rattle.fidl_types.specs.Places.{form_place, IsPlaceOf}
 use Rattle.fidl_types.specs.Faults.{SomeHolds, FormBreaks}

@@ -3,20 +3,20 @@ use Rattle.std.specs.Prelude.{ℕ, ◌⊎◌, List, map}
 use Rattle.fidl_tree.specs.Views.{file_view}
 use Rattle.fidl_tree.specs.declared.file.File.{File}
 use Rattle.fidl_names.specs.declared.place.Place.{Place}
-use Rattle.fidl_layout_rules.specs.declared.fault.RuleFault.TheVariants as rule
-use Rattle.fidl_layout_rules.specs.Rules.{IsTrueOfRules}
-use Rattle.fidl_values.specs.declared.fault.ValuesFault.TheVariants as value
-use Rattle.fidl_values.specs.Rules.{IsTrueOfValues}
-use Rattle.fidl_resources.specs.declared.fault.ResourceFault.TheVariants as resource
-use Rattle.fidl_resources.specs.Resources.{IsTrueOfResources}
-use Rattle.fidl_uses.specs.declared.fault.UseFault.TheVariants as used
-use Rattle.fidl_uses.specs.Uses.{IsTrueOfUses}
+use Rattle.fidl_member_rules.specs.declared.fault.RuleFault.TheVariants as rule
+use Rattle.fidl_member_rules.specs.Rules.{IsTrueOfRules}
+use Rattle.fidl_member_rules.specs.declared.value_fault.ValuesFault.TheVariants as value
+use Rattle.fidl_member_rules.specs.ValueRules.{IsTrueOfValues}
+use Rattle.fidl_resource_rules.specs.declared.fault.ResourceFault.TheVariants as resource
+use Rattle.fidl_resource_rules.specs.Resources.{IsTrueOfResources}
+use Rattle.fidl_type_rules.specs.declared.fault.UseFault.TheVariants as used
+use Rattle.fidl_type_rules.specs.Uses.{IsTrueOfUses}
 use Rattle.fidl_wire.specs.Term.{Term}
-use Rattle.fidl_terms.specs.Numbers.{all_forms}
-use Rattle.fidl_definitions.specs.Definitions.{DefinitionsAre}
-use Rattle.fidl_term_rules.specs.declared.mark.Mark.{Mark}
-use Rattle.fidl_term_rules.specs.Resources.{is_resource, HoldsResource}
-use Rattle.fidl_term_rules.specs.Inline.{StandsInItself}
+use Rattle.fidl_lower_types.specs.Numbers.{all_forms}
+use Rattle.fidl_lower_layouts.specs.Definitions.{DefinitionsAre}
+use Rattle.fidl_ir_rules.specs.declared.mark.Mark.{Mark}
+use Rattle.fidl_ir_rules.specs.Resources.{is_resource, HoldsResource}
+use Rattle.fidl_ir_rules.specs.Inline.{StandsInItself}
 use Rattle.fidl_types.specs.declared.fault.TypeFault.{TypeFault}
 use Rattle.fidl_types.specs.declared.fault.TypeFault.TheVariants.{NotResource, InlineCycle}
 use Rattle.fidl_types.specs.declared.fault.TypeFault.TheVariants.{BadOrdinal, DuplicateOrdinal}

@@ -1,9 +1,9 @@
 -- What makes each form a resource (docs/language.md, "Checking types").
 use Rattle.std.specs.Prelude.{Bool, true, false, List, map}
 use Rattle.fidl_tree.specs.Syntax.{Layout, values_layout, struct_layout, table_layout, union_layout}
-use Rattle.fidl_layouts.specs.Forms.{Form, FormKind, layout_form, result_form, empty_response_form}
-use Rattle.fidl_term_rules.specs.declared.mark.Mark.{Mark}
-use Rattle.fidl_term_rules.specs.declared.mark.Mark.TheVariants.{Resource, Value, Result}
+use Rattle.fidl_declarations.specs.Forms.{Form, FormKind, layout_form, result_form, empty_response_form}
+use Rattle.fidl_ir_rules.specs.declared.mark.Mark.{Mark}
+use Rattle.fidl_ir_rules.specs.declared.mark.Mark.TheVariants.{Resource, Value, Result}
 
 -- the mark of what is written with the modifier `resource`, or without
 abbrev pub word_mark : (is_resource : Bool) → Mark

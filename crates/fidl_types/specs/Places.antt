@@ -3,9 +3,9 @@ use Rattle.std.specs.Prelude.{ℕ, ◌≡◌, List, Option, Some, None, slice_ge
 use Rattle.std.specs.List.{filter_map, last_or}
 use Rattle.fidl_span.specs.declared.words.Span.{Span}
 use Rattle.fidl_names.specs.declared.place.Place.{Place}
-use Rattle.fidl_layouts.specs.declared.step.Step.{Step}
-use Rattle.fidl_layouts.specs.declared.step.Step.TheVariants as step
-use Rattle.fidl_layouts.specs.Forms.{Form}
+use Rattle.fidl_declarations.specs.declared.step.Step.{Step}
+use Rattle.fidl_declarations.specs.declared.step.Step.TheVariants as step
+use Rattle.fidl_declarations.specs.Forms.{Form}
 
 -- the name that a step is
 abbrev pub step_name : Step → Option Span

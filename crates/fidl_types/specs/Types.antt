@@ -4,17 +4,17 @@ use Rattle.fidl_tree.specs.Views.{file_view}
 use Rattle.fidl_tree.specs.declared.file.File.{File}
 use Rattle.fidl_const.specs.declared.consts.Consts.{Consts}
 use Rattle.fidl_const.specs.Tables.{AreConsts}
-use Rattle.fidl_layouts.specs.Forms.{Form}
-use Rattle.fidl_layout_rules.specs.Rules.{RulesHold as LayoutsHold}
-use Rattle.fidl_values.specs.Rules.{ValuesHold}
-use Rattle.fidl_resources.specs.Resources.{ResourcesHold}
-use Rattle.fidl_uses.specs.Uses.{UsesHold}
+use Rattle.fidl_declarations.specs.Forms.{Form}
+use Rattle.fidl_member_rules.specs.Rules.{RulesHold as LayoutsHold}
+use Rattle.fidl_member_rules.specs.ValueRules.{ValuesHold}
+use Rattle.fidl_resource_rules.specs.Resources.{ResourcesHold}
+use Rattle.fidl_type_rules.specs.Uses.{UsesHold}
 use Rattle.fidl_wire.specs.Term.{Term}
-use Rattle.fidl_terms.specs.declared.numbers.LayoutNumbers.{LayoutNumbers}
-use Rattle.fidl_terms.specs.Numbers.{all_forms}
-use Rattle.fidl_terms.specs.NumberViews.{AreNumbers}
-use Rattle.fidl_definitions.specs.Definitions.{DefinitionsAre}
-use Rattle.fidl_term_rules.specs.Faults.{RulesHold as DefinitionsHold}
+use Rattle.fidl_lower_types.specs.declared.numbers.LayoutNumbers.{LayoutNumbers}
+use Rattle.fidl_lower_types.specs.Numbers.{all_forms}
+use Rattle.fidl_lower_types.specs.NumberViews.{AreNumbers}
+use Rattle.fidl_lower_layouts.specs.Definitions.{DefinitionsAre}
+use Rattle.fidl_ir_rules.specs.Faults.{RulesHold as DefinitionsHold}
 use Rattle.fidl_types.specs.Marks.{marks_of}
 
 -- files keep all rules of types, and these are the definitions of their forms

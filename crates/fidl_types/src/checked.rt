@@ -1,18 +1,18 @@
 //! Files whose types are checked.
 ghost use Rattle.std.specs.Prelude.{◌≡◌};
 ghost use Rattle.fidl_const.specs.Tables.{AreConsts};
-ghost use Rattle.fidl_layouts.specs.FormViews.{seen_forms};
-ghost use Rattle.fidl_terms.specs.Numbers.{all_forms};
-ghost use Rattle.fidl_terms.specs.NumberViews.{AreNumbers};
-ghost use Rattle.fidl_terms.specs.TermViews.{AreKnown};
-ghost use Rattle.fidl_term.specs.Terms.{seen_definitions};
+ghost use Rattle.fidl_declarations.specs.FormViews.{forms_view};
+ghost use Rattle.fidl_lower_types.specs.Numbers.{all_forms};
+ghost use Rattle.fidl_lower_types.specs.NumberViews.{AreNumbers};
+ghost use Rattle.fidl_lower_types.specs.TermViews.{AreKnown};
+ghost use Rattle.fidl_ir.specs.Terms.{definitions_view};
 ghost use Rattle.fidl_types.specs.Types.{TypesAre};
 
 use fidl_const::Consts;
-use fidl_layouts::Form;
+use fidl_declarations::Form;
+use fidl_ir::Definition;
+use fidl_lower_types::{LayoutNumbers, Sources};
 use fidl_names::Named;
-use fidl_term::Definition;
-use fidl_terms::{LayoutNumbers, Sources};
 use std::alloc::Global;
 use std::marker::Model;
 
@@ -31,8 +31,8 @@ impl<'f, 's> Model for Types<'f, 's> {
     ghost use Rattle.std.specs.Prelude.{List};
     ghost use Rattle.fidl_tree.specs.declared.file.File.{File as Tree};
     ghost use Rattle.fidl_names.specs.StoredFiles.{files_coded};
-    ghost use Rattle.fidl_layouts.specs.FormViews.{seen_forms};
-    ghost use Rattle.fidl_term.specs.Terms.{seen_definitions};
+    ghost use Rattle.fidl_declarations.specs.FormViews.{forms_view};
+    ghost use Rattle.fidl_ir.specs.Terms.{definitions_view};
     ghost use Rattle.fidl_types.specs.Types.{AreHeld};
 
     ghost Value = { List Tree };
@@ -41,8 +41,8 @@ impl<'f, 's> Model for Types<'f, 's> {
 
     ghost view = { λ t. t.named };
 
-    ghost invariant = { λ t. AreHeld t.named t.consts (seen_forms t.forms.items) t.numbers
-        (seen_definitions t.definitions.items) };
+    ghost invariant = { λ t. AreHeld t.named t.consts (forms_view t.forms.items) t.numbers
+        (definitions_view t.definitions.items) };
 }
 
 impl<'f, 's> Types<'f, 's> {
@@ -62,7 +62,7 @@ impl<'f, 's> Types<'f, 's> {
 
     /// Their forms, in the order of their numbers.
     pub fn forms(&self) -> &[Form<'f, 's>]
-        ensures { seen_forms result.now ≡ all_forms self.now }
+        ensures { forms_view result.now ≡ all_forms self.now }
     {
         &self.forms
     }
@@ -90,7 +90,7 @@ impl<'f, 's> Types<'f, 's> {
 
     /// The definition of each form, in the same order. The files keep all rules of types.
     pub fn definitions(&self) -> &[Definition]
-        ensures { TypesAre self.now (seen_definitions result.now) }
+        ensures { TypesAre self.now (definitions_view result.now) }
     {
         &self.definitions
     }

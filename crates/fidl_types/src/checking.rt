@@ -2,9 +2,9 @@
 ghost use Rattle.std.specs.Prelude.{◌≡◌, List, IfErr, IfOk, OnOk};
 ghost use Rattle.fidl_const.specs.Evaluated.{Evaluates};
 ghost use Rattle.fidl_const.specs.Tables.{AreConsts};
-ghost use Rattle.fidl_terms.specs.TermViews.{AreKnown};
+ghost use Rattle.fidl_lower_types.specs.TermViews.{AreKnown};
 ghost use Rattle.fidl_wire.specs.Term.{Term};
-ghost use Rattle.fidl_term.specs.Terms.{seen_definitions};
+ghost use Rattle.fidl_ir.specs.Terms.{definitions_view};
 ghost use Rattle.fidl_types.specs.Types.{TypesAre};
 ghost use Rattle.fidl_types.specs.Faults.{IsTrueOfTypes};
 
@@ -13,17 +13,17 @@ use crate::definitions::kept_definitions;
 use crate::fault::TypeFault;
 use crate::parts::check_parts;
 use fidl_const::Consts;
-use fidl_layouts::forms;
+use fidl_declarations::forms;
+use fidl_ir::Definition;
+use fidl_lower_types::{Sources, layout_numbers};
 use fidl_names::Named;
-use fidl_term::Definition;
-use fidl_terms::{Sources, layout_numbers};
 use std::alloc::Global;
 
 /// The definitions of all forms, where the files keep all rules.
 fn checked_definitions(sources: &Sources<'_, '_, '_>) -> Result<Vec<Definition>, TypeFault>
     requires known { AreKnown sources.now }
     requires evaluated { Evaluates sources.now.named.now }
-    ensures ok { IfOk result (λ ds. TypesAre sources.now.named.now (seen_definitions ds.items)) }
+    ensures ok { IfOk result (λ ds. TypesAre sources.now.named.now (definitions_view ds.items)) }
     ensures fault_is_true { IfErr result (IsTrueOfTypes sources.now.named.now) }
 {
     check_parts(sources)?;

@@ -3,11 +3,11 @@ ghost use Rattle.std.specs.Prelude.{◌≡◌, ◌≢◌, ◌≤◌, ◌^◌, Li
 ghost use Rattle.fidl_tree.specs.declared.file.File.{File};
 ghost use Rattle.fidl_tree.specs.Views.{file_view};
 ghost use Rattle.fidl_const.specs.Evaluated.{Evaluates};
-ghost use Rattle.fidl_layout_rules.specs.Rules.{RulesHold};
-ghost use Rattle.fidl_terms.specs.Numbers.{all_forms};
-ghost use Rattle.fidl_uses.specs.Uses.{UsesHold};
+ghost use Rattle.fidl_member_rules.specs.Rules.{RulesHold};
+ghost use Rattle.fidl_lower_types.specs.Numbers.{all_forms};
+ghost use Rattle.fidl_type_rules.specs.Uses.{UsesHold};
 ghost use Rattle.fidl_wire.specs.Term.{Term};
-ghost use Rattle.fidl_definitions.specs.Definitions.{DefinitionsAre};
+ghost use Rattle.fidl_lower_layouts.specs.Definitions.{DefinitionsAre};
 ghost use Rattle.fidl_types.specs.declared.fault.TypeFault.{TypeFault};
 ghost use Rattle.fidl_types.specs.declared.fault.TypeFault.TheVariants as Faults;
 ghost use Rattle.fidl_types.specs.Types.{TypesAre};

@@ -1,11 +1,11 @@
 //! What makes each form a resource.
 ghost use Rattle.std.specs.Prelude.{◌≡◌, IfOk};
 ghost use Rattle.fidl_tree.specs.Views.{body_view, is_resource_union};
-ghost use Rattle.fidl_layouts.specs.FormViews.{seen_kind, seen_forms};
+ghost use Rattle.fidl_declarations.specs.FormViews.{form_kind_view, forms_view};
 ghost use Rattle.fidl_types.specs.Marks.{word_mark, layout_mark, form_mark, marks_of};
 
-use fidl_layouts::{Form, FormKind};
-use fidl_term_rules::Mark;
+use fidl_declarations::{Form, FormKind};
+use fidl_ir_rules::Mark;
 use fidl_tree::{LayoutBody, UnionModifiers};
 use std::alloc::{AllocError, Global};
 
@@ -43,7 +43,7 @@ fn layout_mark(body: &LayoutBody) -> Mark
 
 /// The mark of a form.
 fn form_mark(kind: FormKind<'_>) -> Mark
-    ensures { result ≡ form_mark (seen_kind kind.entry) }
+    ensures { result ≡ form_mark (form_kind_view kind.entry) }
 {
     match kind {
         FormKind::Layout { body, .. } => layout_mark(body),
@@ -54,7 +54,7 @@ fn form_mark(kind: FormKind<'_>) -> Mark
 
 /// The marks of forms, in their order.
 pub(crate) fn marks_of(alloc: Global, forms: &[Form<'_, '_>]) -> Result<Vec<Mark>, AllocError>
-    ensures { IfOk result (λ marks. marks.items ≡ marks_of (seen_forms forms.now)) }
+    ensures { IfOk result (λ marks. marks.items ≡ marks_of (forms_view forms.now)) }
 {
     let mut marks = Vec::new(alloc);
     for form in forms {

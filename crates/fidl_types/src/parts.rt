@@ -2,19 +2,18 @@
 ghost use Rattle.std.specs.Prelude.{List, map, IfErr, OnOk};
 ghost use Rattle.fidl_tree.specs.Views.{file_view};
 ghost use Rattle.fidl_tree.specs.declared.file.File.{File as Tree};
-ghost use Rattle.fidl_layout_rules.specs.Rules.{RulesHold, IsTrueOfRules};
-ghost use Rattle.fidl_values.specs.Rules.{ValuesHold, IsTrueOfValues};
-ghost use Rattle.fidl_resources.specs.Resources.{ResourcesHold, IsTrueOfResources};
-ghost use Rattle.fidl_uses.specs.Uses.{UsesHold, IsTrueOfUses};
-ghost use Rattle.fidl_terms.specs.TermViews.{AreKnown};
+ghost use Rattle.fidl_member_rules.specs.Rules.{RulesHold, IsTrueOfRules};
+ghost use Rattle.fidl_member_rules.specs.ValueRules.{ValuesHold, IsTrueOfValues};
+ghost use Rattle.fidl_resource_rules.specs.Resources.{ResourcesHold, IsTrueOfResources};
+ghost use Rattle.fidl_type_rules.specs.Uses.{UsesHold, IsTrueOfUses};
+ghost use Rattle.fidl_lower_types.specs.TermViews.{AreKnown};
 ghost use Rattle.fidl_types.specs.Faults.{IsTrueOfTypes};
 
 use crate::fault::TypeFault;
-use fidl_layout_rules::{RuleFault, check_layouts};
-use fidl_resources::{ResourceFault, check_resources};
-use fidl_terms::Sources;
-use fidl_uses::{UseFault, check_uses};
-use fidl_values::{ValuesFault, check_values};
+use fidl_lower_types::Sources;
+use fidl_member_rules::{RuleFault, ValuesFault, check_layouts, check_values};
+use fidl_resource_rules::{ResourceFault, check_resources};
+use fidl_type_rules::{UseFault, check_uses};
 
 /// A refusal of layouts.
 fn of_layouts(fault: RuleFault) -> TypeFault

@@ -1,9 +1,9 @@
 //! Where a form is reported.
 ghost use Rattle.std.specs.Prelude.{◌≡◌, ◌<◌, length};
-ghost use Rattle.fidl_layouts.specs.FormViews.{seen_form, seen_forms};
+ghost use Rattle.fidl_declarations.specs.FormViews.{form_view, forms_view};
 ghost use Rattle.fidl_types.specs.Places.{last_name, name_place, form_place, IsPlaceOf};
 
-use fidl_layouts::{Form, Step};
+use fidl_declarations::{Form, Step};
 use fidl_names::Place;
 use fidl_span::Span;
 
@@ -29,7 +29,7 @@ fn name_place(path: &[Step]) -> Span
 
 /// The place of a form: its file, and the last name in its path.
 fn form_place(form: &Form<'_, '_>) -> Place
-    ensures { result ≡ form_place (seen_form form.now) }
+    ensures { result ≡ form_place (form_view form.now) }
 {
     Place {
         file: form.file_index,
@@ -40,7 +40,7 @@ fn form_place(form: &Form<'_, '_>) -> Place
 /// The place of the form of this number.
 pub fn place_of(forms: &[Form<'_, '_>], number: usize) -> Place
     requires { number < length forms.now }
-    ensures { IsPlaceOf (seen_forms forms.now) number result }
+    ensures { IsPlaceOf (forms_view forms.now) number result }
 {
     form_place(&forms[number])
 }

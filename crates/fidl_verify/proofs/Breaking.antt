@@ -1,17 +1,17 @@
 -- From a test that failed to the fault that is told.
 use Rattle.std.proofs.Common.{◌≡◌, ◌≢◌, ◌↔◌, ℕ, ◌<◌, ◌≤◌, List, length, true, false, IsTrue, None, subst, sym}
 use Rattle.std.specs.Option.{option_map_or}
-use Rattle.fidl_records.specs.declared.record.Header.{Header}
-use Rattle.fidl_records.specs.declared.record.Entry.{Entry}
-use Rattle.fidl_records.specs.Kind.{kind_of}
-use Rattle.fidl_records.specs.Section.{header_of, table_length, entry_at, protocol_at, method_at}
+use Rattle.fidl_table_format.specs.declared.record.Header.{Header}
+use Rattle.fidl_table_format.specs.declared.record.Entry.{Entry}
+use Rattle.fidl_table_format.specs.Kind.{kind_of}
+use Rattle.fidl_table_format.specs.Section.{header_of, table_length, entry_at, protocol_at, method_at}
 use Rattle.fidl_verify.specs.declared.fault.TableFault.TheVariants.{BadMagic, BadVersion, Truncated, Surplus, BadKind, BadIndex, BadOffset, BadSize, BadNest, NotSorted, BadName, BadMethod}
-use Rattle.fidl_records.specs.Uses.{is_known, uses_rows, uses_values}
-use Rattle.fidl_records.specs.Entry.{HasShape, HasChildren, Follows, HasOffsets, HasSize, HasNest, IsSorted, HasNames, entry_figure, rows_before, values_before}
-use Rattle.fidl_records.specs.Root.{HasEntry, HasRootName, Rises}
-use Rattle.fidl_records.specs.Protocol.{IsOpenness, HasProtocolName, ProtocolRises, HasMethods, methods_before}
-use Rattle.fidl_records.specs.Method.{HasMethodShape, HasMethodName, OrdinalRises}
-use Rattle.fidl_records.specs.WellFormed.{table_magic, IsVersion}
+use Rattle.fidl_table_format.specs.Uses.{is_known, uses_rows, uses_values}
+use Rattle.fidl_table_format.specs.Entry.{HasShape, HasChildren, Follows, HasOffsets, HasSize, HasNest, IsSorted, HasNames, entry_figure, rows_before, values_before}
+use Rattle.fidl_table_format.specs.Root.{HasEntry, HasRootName, Rises}
+use Rattle.fidl_table_format.specs.Protocol.{IsOpenness, HasProtocolName, ProtocolRises, HasMethods, methods_before}
+use Rattle.fidl_table_format.specs.Method.{HasMethodShape, HasMethodName, OrdinalRises}
+use Rattle.fidl_table_format.specs.WellFormed.{table_magic, IsVersion}
 use Rattle.fidl_limits.specs.declared.limits.TheConstants.{MAX_ENTRIES}
 use Rattle.fidl_verify.specs.declared.fault.TableFault.{TableFault}
 use Rattle.fidl_verify.specs.Faults.{Breaks, BreaksHeader, BreaksRecord}

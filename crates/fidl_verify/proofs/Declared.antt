@@ -5,16 +5,16 @@ use Rattle.std.specs.List.{AllByRecursion}
 use Rattle.std.specs.Option.{option_map_or}
 use Rattle.fidl_wire.specs.Term.{IsBounded, AreFieldsBounded, AreRowsBounded, nothing}
 use Rattle.fidl_wire.specs.Figure.{figure, figure_of, nest_of, IsLaidOut, IsSound}
-use Rattle.fidl_records.specs.declared.record.Header.{Header}
-use Rattle.fidl_records.specs.declared.record.Entry.{Entry}
-use Rattle.fidl_records.specs.declared.kind.EntryKind.{EntryKind}
-use Rattle.fidl_records.specs.declared.kind.EntryKind.TheVariants.{Bool as Boolean, Int8, Int16, Int32, Int64, Uint8, Uint16, Uint32, Uint64, Bits, Enum, String, Vector, Array, Box, Struct, Table, Union, Handle}
-use Rattle.fidl_records.specs.Kind.{kind_of}
-use Rattle.fidl_records.specs.Section.{header_of, entry_at, row_at}
-use Rattle.fidl_records.specs.Terms.{below, term_of, term_as, stated_figure, fields_from, rows_from, declarations_of}
-use Rattle.fidl_records.specs.Uses.{is_known}
-use Rattle.fidl_records.specs.Entry.{IsOf, IsEntry, HasShape, figures_of, entry_figure}
-use Rattle.fidl_records.specs.WellFormed.{WellFormed}
+use Rattle.fidl_table_format.specs.declared.record.Header.{Header}
+use Rattle.fidl_table_format.specs.declared.record.Entry.{Entry}
+use Rattle.fidl_table_format.specs.declared.kind.EntryKind.{EntryKind}
+use Rattle.fidl_table_format.specs.declared.kind.EntryKind.TheVariants.{Bool as Boolean, Int8, Int16, Int32, Int64, Uint8, Uint16, Uint32, Uint64, Bits, Enum, String, Vector, Array, Box, Struct, Table, Union, Handle}
+use Rattle.fidl_table_format.specs.Kind.{kind_of}
+use Rattle.fidl_table_format.specs.Section.{header_of, entry_at, row_at}
+use Rattle.fidl_table_format.specs.Terms.{below, term_of, term_as, stated_figure, fields_from, rows_from, declarations_of}
+use Rattle.fidl_table_format.specs.Uses.{is_known}
+use Rattle.fidl_table_format.specs.Entry.{IsOf, IsEntry, HasShape, figures_of, entry_figure}
+use Rattle.fidl_table_format.specs.WellFormed.{WellFormed}
 use Rattle.fidl_verify.proofs.Stated.{stated_at}
 use Rattle.fidl_verify.proofs.Known.{figure_as}
 

@@ -5,14 +5,14 @@ use Rattle.std.specs.Prelude.{unwrap_or}
 use Rattle.std.specs.Option.{option_map_or}
 use Rattle.fidl_wire.specs.Term.{Kind, uint8}
 use Rattle.fidl_wire.specs.Typed.{InRange}
-use Rattle.fidl_records.specs.declared.record.Header.{Header}
-use Rattle.fidl_records.specs.declared.record.Entry.{Entry}
-use Rattle.fidl_records.specs.declared.kind.EntryKind.{EntryKind}
-use Rattle.fidl_records.specs.declared.kind.EntryKind.TheVariants.{Uint8, Uint16, Uint32, Uint64}
-use Rattle.fidl_records.specs.Kind.{kind_of, number_type}
-use Rattle.fidl_records.specs.Terms.{as_number, underlying}
-use Rattle.fidl_records.specs.Uses.{is_number, is_unsigned}
-use Rattle.fidl_records.specs.Entry.{subtype_is, HasNumberKind, enum_value, IsEnumValue}
+use Rattle.fidl_table_format.specs.declared.record.Header.{Header}
+use Rattle.fidl_table_format.specs.declared.record.Entry.{Entry}
+use Rattle.fidl_table_format.specs.declared.kind.EntryKind.{EntryKind}
+use Rattle.fidl_table_format.specs.declared.kind.EntryKind.TheVariants.{Uint8, Uint16, Uint32, Uint64}
+use Rattle.fidl_table_format.specs.Kind.{kind_of, number_type}
+use Rattle.fidl_table_format.specs.Terms.{as_number, underlying}
+use Rattle.fidl_table_format.specs.Uses.{is_number, is_unsigned}
+use Rattle.fidl_table_format.specs.Entry.{subtype_is, HasNumberKind, enum_value, IsEnumValue}
 use Rattle.fidl_verify.proofs.Stated.{or_last}
 
 -- a number type that is there

@@ -3,11 +3,11 @@ use Rattle.std.proofs.Common.{◌≡◌, ℕ, List, Bool, false, IsTrue, sym, ap
 use Rattle.std.specs.Option.{option_map_or}
 use Rattle.fidl_wire.specs.Figure.{figure_of}
 use Rattle.fidl_wire.specs.Term.{nothing}
-use Rattle.fidl_records.specs.declared.record.Header.{Header}
-use Rattle.fidl_records.specs.declared.record.Entry.{Entry}
-use Rattle.fidl_records.specs.declared.kind.EntryKind.{EntryKind}
-use Rattle.fidl_records.specs.Terms.{term_as}
-use Rattle.fidl_records.specs.Entry.{IsOf, kind_is, Follows, parts_of, figures_of, entry_figure}
+use Rattle.fidl_table_format.specs.declared.record.Header.{Header}
+use Rattle.fidl_table_format.specs.declared.record.Entry.{Entry}
+use Rattle.fidl_table_format.specs.declared.kind.EntryKind.{EntryKind}
+use Rattle.fidl_table_format.specs.Terms.{term_as}
+use Rattle.fidl_table_format.specs.Entry.{IsOf, kind_is, Follows, parts_of, figures_of, entry_figure}
 
 -- a test of the kind of an entry
 pub test_of : (test : EntryKind → Bool) (k : EntryKind) (e : Entry) → IsOf k e → kind_is test e ≡ test k

@@ -4,10 +4,10 @@ use Rattle.std.specs.Int.{next_multiple_of}
 use Rattle.fidl_wire.specs.Figure.{Figure, figure, figure_of, end_of, align_of, nest_of, offsets}
 use Rattle.fidl_wire.specs.Term.{Fields, no_fields, field}
 use Rattle.fidl_wire.specs.Term as ty
-use Rattle.fidl_records.specs.declared.record.Header.{Header}
-use Rattle.fidl_records.specs.Section.{row_at}
-use Rattle.fidl_records.specs.Terms.{fields_from}
-use Rattle.fidl_records.specs.Entry.{figures_of, keys_from, AreOffsets}
+use Rattle.fidl_table_format.specs.declared.record.Header.{Header}
+use Rattle.fidl_table_format.specs.Section.{row_at}
+use Rattle.fidl_table_format.specs.Terms.{fields_from}
+use Rattle.fidl_table_format.specs.Entry.{figures_of, keys_from, AreOffsets}
 
 -- the rows that are left, from an end, an alignment and a nest so far, give the whole struct
 pub record Left (bytes : List ℕ) (h : Header) (first count index left end align nest : ℕ) : Type 0 where

@@ -6,15 +6,15 @@ use Rattle.std.proofs.lemmas.Bool.{cases_lt, eqb-true, eq-eqb}
 use Rattle.std.proofs.Math.Nat.{pow-suc}
 use Rattle.fidl_wire.specs.Term as ty
 use Rattle.fidl_wire.specs.Term.{Rows, rows_of, find, nothing}
-use Rattle.fidl_records.specs.declared.record.Header.{Header}
-use Rattle.fidl_records.specs.declared.record.Entry.{Entry}
-use Rattle.fidl_records.specs.declared.kind.EntryKind.{EntryKind}
-use Rattle.fidl_records.specs.declared.kind.EntryKind.TheVariants.{Table, Union}
-use Rattle.fidl_records.specs.Kind.{kind_of}
-use Rattle.fidl_records.specs.Section.{row_at}
-use Rattle.fidl_records.specs.Terms.{term_as, term_of, rows_from}
-use Rattle.fidl_records.specs.Uses.{uses_ordinals}
-use Rattle.fidl_records.specs.Entry.{kind_is}
+use Rattle.fidl_table_format.specs.declared.record.Header.{Header}
+use Rattle.fidl_table_format.specs.declared.record.Entry.{Entry}
+use Rattle.fidl_table_format.specs.declared.kind.EntryKind.{EntryKind}
+use Rattle.fidl_table_format.specs.declared.kind.EntryKind.TheVariants.{Table, Union}
+use Rattle.fidl_table_format.specs.Kind.{kind_of}
+use Rattle.fidl_table_format.specs.Section.{row_at}
+use Rattle.fidl_table_format.specs.Terms.{term_as, term_of, rows_from}
+use Rattle.fidl_table_format.specs.Uses.{uses_ordinals}
+use Rattle.fidl_table_format.specs.Entry.{kind_is}
 use Rattle.fidl_verify.proofs.Stated.{or_last}
 
 -- keys of which each is less than the next

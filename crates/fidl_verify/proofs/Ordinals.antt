@@ -2,12 +2,12 @@
 use Rattle.std.proofs.Common.{◌≡◌, ℕ, zero, suc, ◌+◌, ◌-◌, ◌<◌, ◌≤◌, List, Bool, true, false, if◌then◌else◌, inl, inr, refl, ap, sym, ◌∙◌, subst, arith, add-one}
 use Rattle.std.specs.Prelude.{◌==◌}
 use Rattle.std.proofs.lemmas.Bool.{cases_order, eq-eqb}
-use Rattle.fidl_records.specs.declared.record.Header.{Header}
-use Rattle.fidl_records.specs.declared.record.ProtocolRecord.{ProtocolRecord}
-use Rattle.fidl_records.specs.Section.{header_of, protocol_at}
-use Rattle.fidl_records.specs.Protocol.{IsMethodOf, HasMethods, methods_before}
-use Rattle.fidl_records.specs.Method.{OrdinalRises, PayloadHolds, HasPayload, no_payload, ordinal_at}
-use Rattle.fidl_records.specs.WellFormed.{WellFormed}
+use Rattle.fidl_table_format.specs.declared.record.Header.{Header}
+use Rattle.fidl_table_format.specs.declared.record.ProtocolRecord.{ProtocolRecord}
+use Rattle.fidl_table_format.specs.Section.{header_of, protocol_at}
+use Rattle.fidl_table_format.specs.Protocol.{IsMethodOf, HasMethods, methods_before}
+use Rattle.fidl_table_format.specs.Method.{OrdinalRises, PayloadHolds, HasPayload, no_payload, ordinal_at}
+use Rattle.fidl_table_format.specs.WellFormed.{WellFormed}
 use Rattle.fidl_verify.specs.declared.method.Payload.TheVariants.{Empty, Entry}
 use Rattle.fidl_verify.specs.Lookups.{payload_of, EntryHolds}
 use Rattle.fidl_verify.proofs.Stated.{or_last}

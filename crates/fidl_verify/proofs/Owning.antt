@@ -1,14 +1,14 @@
 -- Each row of a well-formed table is a member of a struct, table or union.
 use Rattle.std.proofs.Common.{◌≡◌, ℕ, zero, suc, ◌+◌, ◌<◌, ◌≤◌, ◌⊎◌, inl, inr, List, Bool, true, false, IsTrue, if◌then◌else◌, refl, ap, sym, ◌∙◌, subst, arith}
 use Rattle.std.proofs.lemmas.Bool.{cases_order}
-use Rattle.fidl_records.specs.declared.record.Header.{Header}
-use Rattle.fidl_records.specs.declared.record.Row.{Row}
-use Rattle.fidl_records.specs.declared.record.Entry.{Entry}
-use Rattle.fidl_records.specs.Section.{header_of, entry_at, row_at}
-use Rattle.fidl_records.specs.Uses.{uses_rows}
-use Rattle.fidl_records.specs.Name.{IsMemberName}
-use Rattle.fidl_records.specs.Entry.{kind_is, IsEntry, IsRowOf, rows_of, rows_before}
-use Rattle.fidl_records.specs.WellFormed.{WellFormed}
+use Rattle.fidl_table_format.specs.declared.record.Header.{Header}
+use Rattle.fidl_table_format.specs.declared.record.Row.{Row}
+use Rattle.fidl_table_format.specs.declared.record.Entry.{Entry}
+use Rattle.fidl_table_format.specs.Section.{header_of, entry_at, row_at}
+use Rattle.fidl_table_format.specs.Uses.{uses_rows}
+use Rattle.fidl_table_format.specs.Name.{IsMemberName}
+use Rattle.fidl_table_format.specs.Entry.{kind_is, IsEntry, IsRowOf, rows_of, rows_before}
+use Rattle.fidl_table_format.specs.WellFormed.{WellFormed}
 use Rattle.fidl_verify.proofs.Known.{parts_used}
 use Rattle.fidl_verify.proofs.Ranges.{of_range}
 

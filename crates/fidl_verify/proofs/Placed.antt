@@ -1,10 +1,10 @@
 -- The methods of a protocol by their places.
 use Rattle.std.proofs.Common.{◌≡◌, ◌≢◌, ℕ, suc, ◌+◌, ◌-◌, ◌<◌, ◌≤◌, List, sym, subst, arith}
-use Rattle.fidl_records.specs.declared.record.Header.{Header}
-use Rattle.fidl_records.specs.Section.{header_of, protocol_at}
-use Rattle.fidl_records.specs.Protocol.{methods_before}
-use Rattle.fidl_records.specs.Method.{ordinal_at, method_name, method_number, IsMethodAt, HasNoMethod, IsFirstMethod, HasNoMethodNamed}
-use Rattle.fidl_records.specs.WellFormed.{WellFormed}
+use Rattle.fidl_table_format.specs.declared.record.Header.{Header}
+use Rattle.fidl_table_format.specs.Section.{header_of, protocol_at}
+use Rattle.fidl_table_format.specs.Protocol.{methods_before}
+use Rattle.fidl_table_format.specs.Method.{ordinal_at, method_name, method_number, IsMethodAt, HasNoMethod, IsFirstMethod, HasNoMethodNamed}
+use Rattle.fidl_table_format.specs.WellFormed.{WellFormed}
 use Rattle.fidl_verify.proofs.Ordinals.{ordinals_rise}
 
 -- a protocol, the number of its first method and that of the one behind its last

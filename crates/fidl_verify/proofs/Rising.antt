@@ -1,6 +1,6 @@
 -- The names of roots and of protocols rise one by one.
 use Rattle.std.proofs.Common.{◌≡◌, ◌≢◌, ◌↔◌, ℕ, suc, ◌-◌, ◌<◌, ◌≤◌, List, Bool, IsTrue, inl, inr, subst, sym, arith}
-use Rattle.fidl_records.specs.Root.{IsBefore}
+use Rattle.fidl_table_format.specs.Root.{IsBefore}
 use Rattle.fidl_verify.proofs.Stated.{or_last}
 
 -- the one name before is that of the record before

@@ -3,13 +3,13 @@ use Rattle.std.proofs.Common.{◌≡◌, ℕ, zero, suc, ◌+◌, ◌<◌, ◌�
 use Rattle.std.specs.Int.{next_multiple_of}
 use Rattle.fidl_wire.specs.Term.{Fields, no_fields, field}
 use Rattle.fidl_wire.specs.Figure.{Figure, figure, figure_of, end_of, align_of, offsets}
-use Rattle.fidl_records.specs.declared.record.Header.{Header}
-use Rattle.fidl_records.specs.declared.kind.EntryKind.TheVariants.{Struct}
-use Rattle.fidl_records.specs.Section.{header_of, entry_at, row_at}
-use Rattle.fidl_records.specs.Terms.{fields_from}
-use Rattle.fidl_records.specs.Entry.{IsOf, figures_of, keys_from, IsApart}
-use Rattle.fidl_records.specs.Uses.{uses_rows}
-use Rattle.fidl_records.specs.WellFormed.{WellFormed}
+use Rattle.fidl_table_format.specs.declared.record.Header.{Header}
+use Rattle.fidl_table_format.specs.declared.kind.EntryKind.TheVariants.{Struct}
+use Rattle.fidl_table_format.specs.Section.{header_of, entry_at, row_at}
+use Rattle.fidl_table_format.specs.Terms.{fields_from}
+use Rattle.fidl_table_format.specs.Entry.{IsOf, figures_of, keys_from, IsApart}
+use Rattle.fidl_table_format.specs.Uses.{uses_rows}
+use Rattle.fidl_table_format.specs.WellFormed.{WellFormed}
 use Rattle.fidl_verify.proofs.Stated.{stated_at}
 use Rattle.fidl_verify.proofs.Known.{test_of, figure_as}
 

@@ -6,11 +6,11 @@ use Rattle.std.proofs.lemmas.List.{get_or-map}
 use Rattle.std.proofs.lemmas.Bool.{cases_order}
 use Rattle.fidl_wire.specs.Figure.{Figure, figure, figure_of}
 use Rattle.fidl_wire.specs.Term as ty
-use Rattle.fidl_records.specs.declared.record.Header.{Header}
-use Rattle.fidl_records.specs.declared.record.Entry.{Entry}
-use Rattle.fidl_records.specs.Section.{entry_at}
-use Rattle.fidl_records.specs.Terms.{below, stated_figure}
-use Rattle.fidl_records.specs.Entry.{figures_of}
+use Rattle.fidl_table_format.specs.declared.record.Header.{Header}
+use Rattle.fidl_table_format.specs.declared.record.Entry.{Entry}
+use Rattle.fidl_table_format.specs.Section.{entry_at}
+use Rattle.fidl_table_format.specs.Terms.{below, stated_figure}
+use Rattle.fidl_table_format.specs.Entry.{figures_of}
 
 pub length-below : (n : ℕ) → length (below n) ≡ n
 length-below zero = refl

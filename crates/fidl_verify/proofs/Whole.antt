@@ -1,13 +1,13 @@
 -- A table is well formed where all its rules hold, and only there.
 use Rattle.std.proofs.Common.{◌≡◌, ℕ, ◌<◌, List, Result, Ok, Err, IfErr, OnErr, subst, sym, arith}
-use Rattle.fidl_records.specs.declared.record.Header.{Header}
-use Rattle.fidl_records.specs.Section.{header_of}
+use Rattle.fidl_table_format.specs.declared.record.Header.{Header}
+use Rattle.fidl_table_format.specs.Section.{header_of}
 use Rattle.fidl_verify.specs.declared.fault.TableFault.{TableFault}
-use Rattle.fidl_records.specs.Entry.{IsEntry, rows_before, values_before}
-use Rattle.fidl_records.specs.Root.{IsRoot}
-use Rattle.fidl_records.specs.Protocol.{IsProtocol, methods_before}
-use Rattle.fidl_records.specs.Method.{IsMethod}
-use Rattle.fidl_records.specs.WellFormed.{HasHeader, WellFormed}
+use Rattle.fidl_table_format.specs.Entry.{IsEntry, rows_before, values_before}
+use Rattle.fidl_table_format.specs.Root.{IsRoot}
+use Rattle.fidl_table_format.specs.Protocol.{IsProtocol, methods_before}
+use Rattle.fidl_table_format.specs.Method.{IsMethod}
+use Rattle.fidl_table_format.specs.WellFormed.{HasHeader, WellFormed}
 use Rattle.fidl_verify.specs.Faults.{Breaks, BreaksHeader, BreaksRecord, no_header, header, record_at, magic, version, short, long, many_entries, shape, children, rows, values, offsets, size, nest, sorted, names, row, value, root, root_name, root_order, openness, protocol_name, protocol_order, protocol_methods, method, method_shape, method_name, method_order}
 
 pub well_formed_from : (bytes : List ℕ) (h : Header) → h ≡ header_of bytes → HasHeader bytes h → ((index : ℕ) → index < h.entries → IsEntry bytes h index)

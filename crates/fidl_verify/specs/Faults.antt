@@ -1,17 +1,17 @@
 -- What each fault says of a table (docs/table.md, "Faults").
 use Rattle.std.specs.Prelude.{◌≡◌, ◌≢◌, ℕ, ◌<◌, ◌≤◌, List, length, codes}
 use Rattle.fidl_limits.specs.declared.limits.TheConstants.{MAX_ENTRIES}
-use Rattle.fidl_records.specs.declared.section.TheConstants.{HEADER_SIZE}
-use Rattle.fidl_records.specs.declared.record.Header.{Header}
-use Rattle.fidl_records.specs.Section.{header_of, entry_at, protocol_at, method_at, table_length}
-use Rattle.fidl_records.specs.Entry.{HasShape, HasChildren, Follows, HasOffsets, HasSize, HasNest}
-use Rattle.fidl_records.specs.Entry.{IsSorted, HasNames, rows_before, values_before, entry_figure}
-use Rattle.fidl_records.specs.Uses.{uses_rows, uses_values}
-use Rattle.fidl_records.specs.Root.{HasEntry, HasRootName, Rises}
-use Rattle.fidl_records.specs.Protocol.{IsOpenness, HasProtocolName, ProtocolRises, HasMethods}
-use Rattle.fidl_records.specs.Protocol.{methods_before}
-use Rattle.fidl_records.specs.Method.{HasMethodShape, HasMethodName, OrdinalRises}
-use Rattle.fidl_records.specs.WellFormed.{table_magic, IsVersion}
+use Rattle.fidl_table_format.specs.declared.section.TheConstants.{HEADER_SIZE}
+use Rattle.fidl_table_format.specs.declared.record.Header.{Header}
+use Rattle.fidl_table_format.specs.Section.{header_of, entry_at, protocol_at, method_at, table_length}
+use Rattle.fidl_table_format.specs.Entry.{HasShape, HasChildren, Follows, HasOffsets, HasSize, HasNest}
+use Rattle.fidl_table_format.specs.Entry.{IsSorted, HasNames, rows_before, values_before, entry_figure}
+use Rattle.fidl_table_format.specs.Uses.{uses_rows, uses_values}
+use Rattle.fidl_table_format.specs.Root.{HasEntry, HasRootName, Rises}
+use Rattle.fidl_table_format.specs.Protocol.{IsOpenness, HasProtocolName, ProtocolRises, HasMethods}
+use Rattle.fidl_table_format.specs.Protocol.{methods_before}
+use Rattle.fidl_table_format.specs.Method.{HasMethodShape, HasMethodName, OrdinalRises}
+use Rattle.fidl_table_format.specs.WellFormed.{table_magic, IsVersion}
 use Rattle.fidl_verify.specs.declared.fault.TableFault.{TableFault}
 use Rattle.fidl_verify.specs.declared.fault.TableFault.TheVariants.{BadMagic, BadVersion, Truncated}
 use Rattle.fidl_verify.specs.declared.fault.TableFault.TheVariants.{Surplus, BadKind, BadIndex}

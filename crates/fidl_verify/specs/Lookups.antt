@@ -1,10 +1,10 @@
 -- What the look-ups of protocols and methods give (docs/table.md, "Look-ups").
 use Rattle.std.specs.Prelude.{ℕ, ◌<◌, ◌==◌, if◌then◌else◌, Bool, List}
-use Rattle.fidl_records.specs.declared.record.ProtocolRecord.{ProtocolRecord}
-use Rattle.fidl_records.specs.declared.record.MethodRecord.{MethodRecord}
-use Rattle.fidl_records.specs.Section.{header_of, protocol_at, method_at}
-use Rattle.fidl_records.specs.Method.{has_request, has_response, no_payload, HasPayload}
-use Rattle.fidl_records.specs.WellFormed.{WellFormed}
+use Rattle.fidl_table_format.specs.declared.record.ProtocolRecord.{ProtocolRecord}
+use Rattle.fidl_table_format.specs.declared.record.MethodRecord.{MethodRecord}
+use Rattle.fidl_table_format.specs.Section.{header_of, protocol_at, method_at}
+use Rattle.fidl_table_format.specs.Method.{has_request, has_response, no_payload, HasPayload}
+use Rattle.fidl_table_format.specs.WellFormed.{WellFormed}
 use Rattle.fidl_verify.specs.declared.protocol.Openness.{Openness}
 use Rattle.fidl_verify.specs.declared.protocol.Openness.TheVariants.{Closed, Ajar, Open}
 use Rattle.fidl_verify.specs.declared.method.Payload.{Payload}

@@ -1,8 +1,8 @@
 -- What the code's `Measure` and `Parts` stand for.
 use Rattle.std.specs.Prelude.{◌≡◌, ◌≤◌, ℕ, List}
 use Rattle.fidl_wire.specs.Figure.{Figure, figure}
-use Rattle.fidl_records.specs.declared.record.Header.{Header}
-use Rattle.fidl_records.specs.Entry.{rows_before, values_before}
+use Rattle.fidl_table_format.specs.declared.record.Header.{Header}
+use Rattle.fidl_table_format.specs.Entry.{rows_before, values_before}
 use Rattle.fidl_verify.specs.declared.figure.Measure.{Measure}
 use Rattle.fidl_verify.specs.declared.entry.Parts.{Parts}
 

@@ -1,12 +1,12 @@
 //! The rules of the header.
 ghost use Rattle.std.specs.Prelude.{◌≡◌, ◌↔◌, IsTrue, IfOk, IfErr, length};
-ghost use Rattle.fidl_records.specs.Section.{header_of, table_length};
-ghost use Rattle.fidl_records.specs.WellFormed.{table_magic, IsVersion, HasHeader};
+ghost use Rattle.fidl_table_format.specs.Section.{header_of, table_length};
+ghost use Rattle.fidl_table_format.specs.WellFormed.{table_magic, IsVersion, HasHeader};
 ghost use Rattle.fidl_verify.specs.Faults.{Breaks};
 
 use crate::fault::TableFault;
 use crate::sections::Sections;
-use fidl_records::{HEADER_SIZE, Header, read_header};
+use fidl_table_format::{HEADER_SIZE, Header, read_header};
 use fidl_wire::MAX_ENTRIES;
 
 /// "FCT2", as a number.
@@ -37,7 +37,7 @@ fn is_version(header: &Header) -> bool
 pub(crate) fn read_sections(bytes: &[u8]) -> Result<Sections<'_>, TableFault>
     ensures value { IfOk result (λ s. s.bytes.now ≡ bytes.now) }
     ensures ok { IfOk result (λ s. HasHeader bytes.now s.header) }
-    ensures err { IfErr result (Breaks bytes.now) }
+    ensures fault_is_true { IfErr result (Breaks bytes.now) }
 {
     if bytes.len() < HEADER_SIZE {
         return Err(TableFault::Truncated { at: 0 });

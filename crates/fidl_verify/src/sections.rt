@@ -1,9 +1,9 @@
 //! The sections of a table whose header is right.
 ghost use Rattle.std.specs.Prelude.{◌≡◌, ◌+◌, ◌≤◌, ◌<◌, length};
-ghost use Rattle.fidl_records.specs.Section.{header_of, table_length, entry_at, row_at, value_at};
-ghost use Rattle.fidl_records.specs.Section.{root_at, protocol_at, method_at, name_at};
+ghost use Rattle.fidl_table_format.specs.Section.{header_of, table_length, entry_at, row_at, value_at};
+ghost use Rattle.fidl_table_format.specs.Section.{root_at, protocol_at, method_at, name_at};
 
-use fidl_records::{
+use fidl_table_format::{
     Entry, Header, MethodRecord, ProtocolRecord, Root, Row, name_bytes, read_entry, read_method,
     read_protocol, read_root, read_row, read_value,
 };

@@ -1,10 +1,10 @@
 //! Tables that are verified.
 ghost use Rattle.std.specs.Prelude.{◌≡◌, ℕ, ◌+◌, ◌<◌, ◌≤◌, OnOk, OnErr, IfOk, IfErr, IfSome};
 ghost use Rattle.std.specs.Prelude.{IfNone};
-ghost use Rattle.fidl_records.specs.Section.{header_of, entry_at, row_at, value_at, name_at};
-ghost use Rattle.fidl_records.specs.Entry.{rows_before, values_before};
-ghost use Rattle.fidl_records.specs.Root.{IsRootEntry, HasNoRoot};
-ghost use Rattle.fidl_records.specs.WellFormed.{WellFormed};
+ghost use Rattle.fidl_table_format.specs.Section.{header_of, entry_at, row_at, value_at, name_at};
+ghost use Rattle.fidl_table_format.specs.Entry.{rows_before, values_before};
+ghost use Rattle.fidl_table_format.specs.Root.{IsRootEntry, HasNoRoot};
+ghost use Rattle.fidl_table_format.specs.WellFormed.{WellFormed};
 ghost use Rattle.fidl_verify.specs.Measured.{AreBefore, HasRoom};
 ghost use Rattle.fidl_verify.specs.Faults.{Breaks};
 
@@ -15,7 +15,7 @@ use crate::methods::check_methods;
 use crate::protocols::check_protocols;
 use crate::roots::{check_roots, find_root};
 use crate::sections::Sections;
-use fidl_records::{Entry, Row};
+use fidl_table_format::{Entry, Row};
 use std::marker::Model;
 
 /// The bytes of a well-formed table (docs/table.md, "Verification").
@@ -26,7 +26,7 @@ pub struct Table<'t> {
 
 impl<'t> Model for Table<'t> {
     ghost use Rattle.std.specs.Prelude.{List, ℕ};
-    ghost use Rattle.fidl_records.specs.WellFormed.{WellFormed};
+    ghost use Rattle.fidl_table_format.specs.WellFormed.{WellFormed};
 
     ghost Value = { List ℕ };
 
@@ -43,7 +43,7 @@ fn check_covered(table: &Sections<'_>, parts: Parts) -> Result<(), TableFault>
         ≡ table.now.header.rows) }
     ensures values_covered { OnOk result (values_before table.now.bytes.now table.now.header.entries
         ≡ table.now.header.values) }
-    ensures err { IfErr result (Breaks table.now.bytes.now) }
+    ensures fault_is_true { IfErr result (Breaks table.now.bytes.now) }
 {
     if parts.rows < table.header.rows {
         return Err(TableFault::BadIndex { at: parts.rows });
@@ -59,7 +59,7 @@ fn check_covered(table: &Sections<'_>, parts: Parts) -> Result<(), TableFault>
 pub fn verify(bytes: &[u8]) -> Result<Table<'_>, TableFault>
     ensures ok { OnOk result (WellFormed bytes.now) }
     ensures value { IfOk result (λ table. table ≡ bytes.now) }
-    ensures err { IfErr result (Breaks bytes.now) }
+    ensures fault_is_true { IfErr result (Breaks bytes.now) }
     ensures none { OnErr result (WellFormed bytes.now → ⊥) }
 {
     let sections = read_sections(bytes)?;

@@ -17,12 +17,12 @@ use Rattle.fidl_wire.specs.Typed.{IsTyped, MayBeAbsent}
 use Rattle.fidl_wire.specs.Encoding.{zeros, present, enveloped}
 use Rattle.fidl_wire.specs.Standing.{Stands}
 use Rattle.fidl_wire.proofs.Stand.{stands_front, stands_back, copies_are}
-use Rattle.fidl_records.specs.declared.record.Header.{Header}
-use Rattle.fidl_records.specs.declared.record.Entry.{Entry}
-use Rattle.fidl_records.specs.declared.kind.EntryKind.{EntryKind}
-use Rattle.fidl_records.specs.declared.kind.EntryKind.TheVariants.{Bool as Boolean, Int8, Int16, Int32, Int64, Uint8, Uint16, Uint32, Uint64, Bits, Enum, String, Vector, Array, Box, Struct, Table, Union, Handle}
-use Rattle.fidl_records.specs.Terms.{term_as}
-use Rattle.fidl_records.specs.Field.{number_at}
+use Rattle.fidl_table_format.specs.declared.record.Header.{Header}
+use Rattle.fidl_table_format.specs.declared.record.Entry.{Entry}
+use Rattle.fidl_table_format.specs.declared.kind.EntryKind.{EntryKind}
+use Rattle.fidl_table_format.specs.declared.kind.EntryKind.TheVariants.{Bool as Boolean, Int8, Int16, Int32, Int64, Uint8, Uint16, Uint32, Uint64, Bits, Enum, String, Vector, Array, Box, Struct, Table, Union, Handle}
+use Rattle.fidl_table_format.specs.Terms.{term_as}
+use Rattle.fidl_table_format.specs.Field.{number_at}
 use Rattle.fidl_decode.specs.Links.{Linked}
 use Rattle.fidl_decode.specs.State.{Message}
 use Rattle.fidl_decode.specs.Placed.{Placed, object_at, record_at}

@@ -9,8 +9,8 @@ use Rattle.fidl_wire.specs.Figure.{Declarations, figure_of}
 use Rattle.fidl_wire.specs.Typed.{IsTyped, AllTyped, EachTyped}
 use Rattle.fidl_wire.specs.Encoding.{encoding_of, members}
 use Rattle.fidl_wire.specs.Standing.{Stands}
-use Rattle.fidl_records.specs.Section.{header_of, row_at}
-use Rattle.fidl_records.specs.Terms.{declarations_of, fields_from}
+use Rattle.fidl_table_format.specs.Section.{header_of, row_at}
+use Rattle.fidl_table_format.specs.Terms.{declarations_of, fields_from}
 use Rattle.fidl_decode.specs.Invariants.{Keys}
 use Rattle.fidl_decode.specs.Links.{Linked}
 use Rattle.fidl_decode.specs.State.{Message}

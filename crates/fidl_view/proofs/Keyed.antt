@@ -15,16 +15,16 @@ use Rattle.fidl_wire.specs.Standing.{Stands}
 use Rattle.fidl_wire.proofs.Stand.{stands_to, stands_front, stands_back}
 use Rattle.fidl_wire.proofs.Sizes.{size_of-resolve, le_of_test}
 use Rattle.fidl_wire.proofs.Unique.{no_out}
-use Rattle.fidl_records.specs.declared.kind.EntryKind.{EntryKind}
-use Rattle.fidl_records.specs.declared.record.Header.{Header}
-use Rattle.fidl_records.specs.declared.record.Entry.{Entry}
-use Rattle.fidl_records.specs.declared.kind.EntryKind.TheVariants.{Bool as Boolean, Int8, Int16, Int32, Int64, Uint8, Uint16, Uint32, Uint64, Bits, Enum, String, Vector, Array, Box, Struct, Table, Union, Handle}
-use Rattle.fidl_records.specs.Section.{header_of, entry_at}
-use Rattle.fidl_records.specs.Field.{number_at}
-use Rattle.fidl_records.specs.Terms.{declarations_of, members_of, term_as, is_optional, is_strict}
-use Rattle.fidl_records.specs.Uses.{uses_ordinals}
-use Rattle.fidl_records.specs.Entry.{IsOf, kind_is}
-use Rattle.fidl_records.specs.WellFormed.{WellFormed}
+use Rattle.fidl_table_format.specs.declared.kind.EntryKind.{EntryKind}
+use Rattle.fidl_table_format.specs.declared.record.Header.{Header}
+use Rattle.fidl_table_format.specs.declared.record.Entry.{Entry}
+use Rattle.fidl_table_format.specs.declared.kind.EntryKind.TheVariants.{Bool as Boolean, Int8, Int16, Int32, Int64, Uint8, Uint16, Uint32, Uint64, Bits, Enum, String, Vector, Array, Box, Struct, Table, Union, Handle}
+use Rattle.fidl_table_format.specs.Section.{header_of, entry_at}
+use Rattle.fidl_table_format.specs.Field.{number_at}
+use Rattle.fidl_table_format.specs.Terms.{declarations_of, members_of, term_as, is_optional, is_strict}
+use Rattle.fidl_table_format.specs.Uses.{uses_ordinals}
+use Rattle.fidl_table_format.specs.Entry.{IsOf, kind_is}
+use Rattle.fidl_table_format.specs.WellFormed.{WellFormed}
 use Rattle.fidl_decode.specs.Model.{Shown}
 use Rattle.fidl_decode.specs.Faults.{message_of}
 use Rattle.fidl_decode.specs.State.{Message, envelope_place}

@@ -7,14 +7,14 @@ use Rattle.fidl_wire.specs.Term as ty
 use Rattle.fidl_wire.specs.Figure.{Declarations, size_of}
 use Rattle.fidl_wire.specs.Encoding.{encoding_of, members, pad8}
 use Rattle.fidl_wire.specs.Typed.{IsTyped, EachTyped}
-use Rattle.fidl_records.specs.declared.record.Header.{Header}
-use Rattle.fidl_records.specs.declared.record.Entry.{Entry}
-use Rattle.fidl_records.specs.declared.kind.EntryKind.{EntryKind}
-use Rattle.fidl_records.specs.declared.kind.EntryKind.TheVariants.{Bool as Boolean, Int8, Int16, Int32, Int64, Uint8, Uint16, Uint32, Uint64, Bits, Enum, String, Vector, Array, Box, Struct, Table, Union, Handle}
-use Rattle.fidl_records.specs.Section.{header_of, entry_at, row_at}
-use Rattle.fidl_records.specs.Terms.{declarations_of, term_as}
-use Rattle.fidl_records.specs.Entry.{IsOf}
-use Rattle.fidl_records.specs.WellFormed.{WellFormed}
+use Rattle.fidl_table_format.specs.declared.record.Header.{Header}
+use Rattle.fidl_table_format.specs.declared.record.Entry.{Entry}
+use Rattle.fidl_table_format.specs.declared.kind.EntryKind.{EntryKind}
+use Rattle.fidl_table_format.specs.declared.kind.EntryKind.TheVariants.{Bool as Boolean, Int8, Int16, Int32, Int64, Uint8, Uint16, Uint32, Uint64, Bits, Enum, String, Vector, Array, Box, Struct, Table, Union, Handle}
+use Rattle.fidl_table_format.specs.Section.{header_of, entry_at, row_at}
+use Rattle.fidl_table_format.specs.Terms.{declarations_of, term_as}
+use Rattle.fidl_table_format.specs.Entry.{IsOf}
+use Rattle.fidl_table_format.specs.WellFormed.{WellFormed}
 use Rattle.fidl_decode.specs.Model.{Shown}
 use Rattle.fidl_decode.specs.Faults.{message_of}
 use Rattle.fidl_decode.specs.Placed.{AreFieldsPlaced, object_at}

@@ -9,15 +9,15 @@ use Rattle.fidl_wire.specs.Figure.{Declarations}
 use Rattle.fidl_wire.specs.Typed.{IsTyped}
 use Rattle.fidl_wire.specs.Encoding.{Encoding, inline_only, number_bytes, encoding_of}
 use Rattle.fidl_wire.specs.Standing.{Stands}
-use Rattle.fidl_records.specs.declared.record.Header.{Header}
-use Rattle.fidl_records.specs.declared.record.Entry.{Entry}
-use Rattle.fidl_records.specs.declared.kind.EntryKind.{EntryKind}
-use Rattle.fidl_records.specs.declared.kind.EntryKind.TheVariants.{Bool as Boolean, Bits, Enum, String, Handle}
-use Rattle.fidl_records.specs.Terms.{is_optional, is_strict, term_as, fields_from, rows_from, underlying, mask_of, strict_values}
+use Rattle.fidl_table_format.specs.declared.record.Header.{Header}
+use Rattle.fidl_table_format.specs.declared.record.Entry.{Entry}
+use Rattle.fidl_table_format.specs.declared.kind.EntryKind.{EntryKind}
+use Rattle.fidl_table_format.specs.declared.kind.EntryKind.TheVariants.{Bool as Boolean, Bits, Enum, String, Handle}
+use Rattle.fidl_table_format.specs.Terms.{is_optional, is_strict, term_as, fields_from, rows_from, underlying, mask_of, strict_values}
 use Rattle.fidl_view.specs.Parts.{bool_of, numbers_of, unsigned_of, signed_of}
 use Rattle.fidl_view.specs.Numbers.{unsigned_in, signed_in, unsigned_at, signed_at}
 use Rattle.fidl_view.proofs.Sorts.{by_sort}
-use Rattle.fidl_records.specs.Number.{number_standing}
+use Rattle.fidl_table_format.specs.Number.{number_standing}
 use Rattle.fidl_decode.proofs.Numbers.{number_is}
 use Rattle.fidl_decode.proofs.Scalars.{Numeric, numeric_number, numeric_bits, numeric_enum}
 

@@ -8,8 +8,8 @@ use Rattle.fidl_wire.specs.Figure.{size_of}
 use Rattle.fidl_wire.specs.Typed.{EachTyped, IsTypedMember}
 use Rattle.fidl_wire.specs.Encoding.{members, enveloped}
 use Rattle.fidl_wire.specs.Standing.{Stands}
-use Rattle.fidl_records.specs.Section.{header_of, entry_at}
-use Rattle.fidl_records.specs.Terms.{declarations_of, fields_from, members_of}
+use Rattle.fidl_table_format.specs.Section.{header_of, entry_at}
+use Rattle.fidl_table_format.specs.Terms.{declarations_of, fields_from, members_of}
 use Rattle.fidl_decode.specs.Faults.{message_of}
 use Rattle.fidl_decode.specs.Placed.{AreFieldsPlaced, IsMemberPlaced}
 use Rattle.fidl_decode.specs.Model.{Shown}

@@ -1,7 +1,7 @@
 -- The numbers that stand at a place, by the type of numbers that they are of.
 use Rattle.std.specs.Prelude.{ℕ, ℤ, pos, List, Option, Some, None}
 use Rattle.fidl_wire.specs.Term.{Kind, int8, int16, int32, int64, uint8, uint16, uint32, uint64}
-use Rattle.fidl_records.specs.Number.{number_standing}
+use Rattle.fidl_table_format.specs.Number.{number_standing}
 
 -- a number of a type without a sign
 abbrev pub unsigned_in : Kind → ℤ → Option ℕ

@@ -5,7 +5,7 @@ use Rattle.fidl_wire.specs.Term.{Term, resolve}
 use Rattle.fidl_wire.specs.Term as ty
 use Rattle.fidl_wire.specs.Typed.{Typed}
 use Rattle.fidl_wire.specs.Encoding.{encoding_of}
-use Rattle.fidl_records.specs.Terms.{declarations_of}
+use Rattle.fidl_table_format.specs.Terms.{declarations_of}
 use Rattle.fidl_decode.specs.Faults.{message_of}
 use Rattle.fidl_decode.specs.Placed.{Placed}
 use Rattle.fidl_decode.specs.Model.{Shown}

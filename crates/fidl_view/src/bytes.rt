@@ -8,7 +8,7 @@ ghost use Rattle.fidl_view.specs.Views.{bytes_shown, elements_shown};
 
 use crate::kind::entry_kind;
 use crate::view::View;
-use fidl_records::EntryKind;
+use fidl_table_format::EntryKind;
 
 impl<'v, 'm> View<'v, 'm> {
     /// The bytes of an array or a vector of uint8; none where it is absent, and of another type. A

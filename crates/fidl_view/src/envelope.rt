@@ -8,15 +8,15 @@ ghost use Rattle.fidl_limits.specs.declared.limits.TheConstants.{MAX_MESSAGE_BYT
 ghost use Rattle.fidl_limits.specs.declared.limits.TheConstants.{MAX_MESSAGE_HANDLES};
 ghost use Rattle.fidl_wire.specs.declared.handle.HandleInfo.{HandleInfo};
 ghost use Rattle.fidl_wire.specs.Value.{Value, Member, unknown};
-ghost use Rattle.fidl_records.specs.Section.{header_of, entry_at};
-ghost use Rattle.fidl_records.specs.Entry.{kind_is};
-ghost use Rattle.fidl_records.specs.Uses.{uses_ordinals};
+ghost use Rattle.fidl_table_format.specs.Section.{header_of, entry_at};
+ghost use Rattle.fidl_table_format.specs.Entry.{kind_is};
+ghost use Rattle.fidl_table_format.specs.Uses.{uses_ordinals};
 ghost use Rattle.fidl_decode.specs.Placed.{enclosed_at};
 ghost use Rattle.fidl_view.specs.Members.{HaveMember, term_at};
 
 use crate::view::View;
 use fidl_decode::Decoded;
-use fidl_records::{u16_at, u32_at};
+use fidl_table_format::{u16_at, u32_at};
 use fidl_wire::HandleInfo;
 
 /// A member of a table or a union that the layout does not know, borrowed from the message.

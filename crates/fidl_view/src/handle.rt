@@ -5,7 +5,7 @@ ghost use Rattle.fidl_view.specs.Parts.{handle_of, granted_of};
 ghost use Rattle.fidl_view.specs.Views.{IsShownBy, type_shown};
 
 use crate::view::View;
-use fidl_records::EntryKind;
+use fidl_table_format::EntryKind;
 use fidl_wire::{HandleInfo, SAME_RIGHTS};
 
 impl<'v, 'm> View<'v, 'm> {

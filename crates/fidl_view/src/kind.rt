@@ -1,11 +1,11 @@
 //! The kinds of entries.
 ghost use Rattle.std.specs.Prelude.{◌<◌};
-ghost use Rattle.fidl_records.specs.Section.{header_of, entry_at};
-ghost use Rattle.fidl_records.specs.Entry.{IsOf};
-ghost use Rattle.fidl_records.specs.WellFormed.{WellFormed};
+ghost use Rattle.fidl_table_format.specs.Section.{header_of, entry_at};
+ghost use Rattle.fidl_table_format.specs.Entry.{IsOf};
+ghost use Rattle.fidl_table_format.specs.WellFormed.{WellFormed};
 
 use fidl_decode::Decoded;
-use fidl_records::EntryKind;
+use fidl_table_format::EntryKind;
 
 /// The kind of an entry of a message's table.
 pub(crate) fn entry_kind(decoded: &Decoded<'_, '_, '_>, index: u32) -> EntryKind

@@ -3,7 +3,7 @@ ghost use Rattle.std.specs.Prelude.{◌≡◌};
 ghost use Rattle.fidl_wire.specs.Value.{Value};
 ghost use Rattle.fidl_wire.specs.Term as ty;
 ghost use Rattle.fidl_wire.specs.Message.{Encodes};
-ghost use Rattle.fidl_records.specs.Terms.{declarations_of};
+ghost use Rattle.fidl_table_format.specs.Terms.{declarations_of};
 ghost use Rattle.fidl_view.specs.Views.{IsOnly, IsShownBy};
 
 use crate::view::View;

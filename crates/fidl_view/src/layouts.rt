@@ -1,15 +1,15 @@
 //! What a view answers of tables and unions.
 ghost use Rattle.std.specs.Prelude.{◌≡◌, Some, None, IfSome, MatchOption};
 ghost use Rattle.fidl_wire.specs.Value.{Value, Member, unknown};
-ghost use Rattle.fidl_records.specs.declared.kind.EntryKind.TheVariants as EntryKind;
-ghost use Rattle.fidl_records.specs.Section.{entry_at};
-ghost use Rattle.fidl_records.specs.Entry.{IsOf};
+ghost use Rattle.fidl_table_format.specs.declared.kind.EntryKind.TheVariants as EntryKind;
+ghost use Rattle.fidl_table_format.specs.Section.{entry_at};
+ghost use Rattle.fidl_table_format.specs.Entry.{IsOf};
 ghost use Rattle.fidl_view.specs.Parts.{member_of, variant_of, held_of, unknown_of};
 ghost use Rattle.fidl_view.specs.Views.{part_of, message_in, IsHeldBy, IsShownBy, ShowsKnown};
 
 use crate::envelope::{Envelope, Unknown};
 use crate::view::View;
-use fidl_records::{EntryKind, u64_at};
+use fidl_table_format::{EntryKind, u64_at};
 use fidl_wire::{Presence, presence_at};
 
 impl<'v, 'm> View<'v, 'm> {

@@ -1,9 +1,9 @@
 //! What a view answers of arrays and vectors, and the lengths of what has one.
 ghost use Rattle.std.specs.Prelude.{◌≡◌, Some, None, IfSome, MatchOption};
 ghost use Rattle.fidl_wire.specs.Value.{Value};
-ghost use Rattle.fidl_records.specs.declared.kind.EntryKind.TheVariants as EntryKind;
-ghost use Rattle.fidl_records.specs.Section.{entry_at};
-ghost use Rattle.fidl_records.specs.Entry.{IsOf};
+ghost use Rattle.fidl_table_format.specs.declared.kind.EntryKind.TheVariants as EntryKind;
+ghost use Rattle.fidl_table_format.specs.Section.{entry_at};
+ghost use Rattle.fidl_table_format.specs.Entry.{IsOf};
 ghost use Rattle.fidl_view.specs.Parts.{length_of, element_of, elements_of, IsNoList};
 ghost use Rattle.fidl_view.specs.Elements.{ShowEach};
 ghost use Rattle.fidl_view.specs.Views.{part_of, parts_left, message_left, IsShownBy, IsRunOf};
@@ -11,7 +11,7 @@ ghost use Rattle.fidl_view.specs.Views.{ShowsListOf};
 
 use crate::elements::Elements;
 use crate::view::View;
-use fidl_records::{EntryKind, u64_at};
+use fidl_table_format::{EntryKind, u64_at};
 
 impl<'v, 'm> View<'v, 'm> {
     /// The elements of an array.

@@ -2,11 +2,11 @@
 ghost use Rattle.std.specs.Prelude.{◌≡◌, ◌+◌, ◌≤◌, length};
 ghost use Rattle.std.specs.Int.{byte_len};
 ghost use Rattle.fidl_wire.specs.Term.{width};
-ghost use Rattle.fidl_records.specs.Kind.{number_type};
-ghost use Rattle.fidl_records.specs.Terms.{as_number};
+ghost use Rattle.fidl_table_format.specs.Kind.{number_type};
+ghost use Rattle.fidl_table_format.specs.Terms.{as_number};
 ghost use Rattle.fidl_view.specs.Numbers.{unsigned_at, signed_at};
 
-use fidl_records::{EntryKind, number_bits};
+use fidl_table_format::{EntryKind, number_bits};
 
 /// The number of an unsigned kind at a place, none for the other kinds.
 pub(crate) fn unsigned(kind: EntryKind, bytes: &[u8], place: usize) -> Option<u64>

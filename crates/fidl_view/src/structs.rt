@@ -2,15 +2,15 @@
 ghost use Rattle.std.specs.Prelude.{◌≡◌, ◌<◌, ◌≤◌, length, Some, None, IfSome, MatchOption};
 ghost use Rattle.fidl_wire.specs.Value.{Value};
 ghost use Rattle.fidl_limits.specs.declared.limits.TheConstants.{MAX_MESSAGE_BYTES};
-ghost use Rattle.fidl_records.specs.declared.kind.EntryKind.TheVariants as EntryKind;
-ghost use Rattle.fidl_records.specs.Section.{header_of, entry_at};
-ghost use Rattle.fidl_records.specs.Entry.{IsOf};
+ghost use Rattle.fidl_table_format.specs.declared.kind.EntryKind.TheVariants as EntryKind;
+ghost use Rattle.fidl_table_format.specs.Section.{header_of, entry_at};
+ghost use Rattle.fidl_table_format.specs.Entry.{IsOf};
 ghost use Rattle.fidl_view.specs.Parts.{field_of, IsNoStruct};
 ghost use Rattle.fidl_view.specs.Members.{HaveMembers};
 
 use crate::view::View;
 use fidl_decode::Decoded;
-use fidl_records::EntryKind;
+use fidl_table_format::EntryKind;
 
 /// The members of a struct, or of the struct in a box: the struct's entry, and where it stands in
 /// the message.

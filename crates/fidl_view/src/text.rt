@@ -2,14 +2,14 @@
 ghost use Rattle.std.specs.Prelude.{◌≡◌, IfSome, IsUtf8};
 ghost use Rattle.std.specs.Option.{option_copied};
 ghost use Rattle.fidl_wire.specs.Value.{Value};
-ghost use Rattle.fidl_records.specs.declared.kind.EntryKind.TheVariants as EntryKind;
-ghost use Rattle.fidl_records.specs.Section.{entry_at};
-ghost use Rattle.fidl_records.specs.Entry.{IsOf};
+ghost use Rattle.fidl_table_format.specs.declared.kind.EntryKind.TheVariants as EntryKind;
+ghost use Rattle.fidl_table_format.specs.Section.{entry_at};
+ghost use Rattle.fidl_table_format.specs.Entry.{IsOf};
 ghost use Rattle.fidl_view.specs.Parts.{string_of};
 ghost use Rattle.fidl_view.specs.Views.{IsShownBy, bytes_shown};
 
 use crate::view::View;
-use fidl_records::{EntryKind, u64_at};
+use fidl_table_format::{EntryKind, u64_at};
 use std::str::from_utf8_unchecked;
 
 impl<'v, 'm> View<'v, 'm> {

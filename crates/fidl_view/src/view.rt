@@ -6,13 +6,13 @@
 ghost use Rattle.std.specs.Prelude.{◌≡◌, ◌+◌, ◌<◌, ◌≤◌, length};
 ghost use Rattle.fidl_wire.specs.Value.{Value};
 ghost use Rattle.fidl_limits.specs.declared.limits.TheConstants.{MAX_MESSAGE_BYTES};
-ghost use Rattle.fidl_records.specs.Section.{header_of, entry_at};
+ghost use Rattle.fidl_table_format.specs.Section.{header_of, entry_at};
 ghost use Rattle.fidl_view.specs.Shows.{HasValue};
 
 use crate::kind::entry_kind;
 use crate::number::{signed, unsigned};
 use fidl_decode::Decoded;
-use fidl_records::{EntryKind, u64_at};
+use fidl_table_format::{EntryKind, u64_at};
 
 /// A part of a decoded message. It borrows the message, and every answer is a part of the value
 /// that the message encodes.
@@ -31,10 +31,10 @@ pub struct View<'v, 'm> {
 impl<'v, 'm> View<'v, 'm> {
     ghost use Rattle.std.specs.Int.{byte_len};
     ghost use Rattle.fidl_wire.specs.Term.{width};
-    ghost use Rattle.fidl_records.specs.Kind.{number_type};
-    ghost use Rattle.fidl_records.specs.Terms.{as_number};
-    ghost use Rattle.fidl_records.specs.Entry.{IsOf};
-    ghost use Rattle.fidl_records.specs.WellFormed.{WellFormed};
+    ghost use Rattle.fidl_table_format.specs.Kind.{number_type};
+    ghost use Rattle.fidl_table_format.specs.Terms.{as_number};
+    ghost use Rattle.fidl_table_format.specs.Entry.{IsOf};
+    ghost use Rattle.fidl_table_format.specs.WellFormed.{WellFormed};
     ghost use Rattle.fidl_view.specs.Parts.{absence_of, bool_of, numbers_of, unsigned_of};
     ghost use Rattle.fidl_view.specs.Parts.{signed_of};
     ghost use Rattle.fidl_view.specs.Views.{IsShownBy, type_shown};

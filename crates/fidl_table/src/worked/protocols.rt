@@ -6,13 +6,13 @@ ghost use Rattle.fidl_tree.specs.Syntax.{closed_protocol, ajar_protocol, open_pr
 ghost use Rattle.fidl_tree.specs.declared.file.File.{File};
 ghost use Rattle.fidl_names.specs.declared.place.DeclarationId.{DeclarationId};
 ghost use Rattle.fidl_wire.specs.Figure.{Declarations};
-ghost use Rattle.fidl_compositions.specs.Protocols.{IsProtocolAt, IsProtocol};
+ghost use Rattle.fidl_composition.specs.Protocols.{IsProtocolAt, IsProtocol};
 ghost use Rattle.fidl_payloads.specs.declared.payload.Payload.TheVariants as carried;
 ghost use Rattle.fidl_protocol.specs.declared.method.Method.{Method};
 ghost use Rattle.fidl_protocol.specs.declared.method.Protocol.{Protocol};
 ghost use Rattle.fidl_protocol.specs.Checked.{AreProtocolsWith};
 ghost use Rattle.fidl_verify.specs.declared.method.Payload.TheVariants as payload;
-ghost use Rattle.fidl_assembly.specs.Samples.{header_bytes};
+ghost use Rattle.fidl_table_build.specs.Samples.{header_bytes};
 ghost use Rattle.fidl_table.specs.Definitions.{ShowsDefinition};
 ghost use Rattle.fidl_table.specs.Protocols.{openness_number, ShowsPayload, ShowsMethod};
 ghost use Rattle.fidl_table.specs.Protocols.{ShowsProtocol, ShowsProtocols};

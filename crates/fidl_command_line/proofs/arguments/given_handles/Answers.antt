@@ -22,11 +22,11 @@ returns-in-Some-clause-ok c =
     let same = some_texts _ _ _ _ c.in-Some.is (c.get_strs.ensures ∙ raw_values-rows found (codes "handle")) in
     subst (λ (texts : List (List ℕ)). IfOk c.read_handles.result (λ handles. AllZip IsHandleText texts handles.items)) same c.read_handles.ensures.ok
 
-pub returns-in-Some-clause-err : goal.returns-in-Some-clause-err
-returns-in-Some-clause-err c =
+pub returns-in-Some-clause-fault_is_true : goal.returns-in-Some-clause-fault_is_true
+returns-in-Some-clause-fault_is_true c =
     let found = found_of c.args.matches.now in
     let same = some_texts _ _ _ _ c.in-Some.is (c.get_strs.ensures ∙ raw_values-rows found (codes "handle")) in
-    subst (λ (texts : List (List ℕ)). IfErr c.read_handles.result (IsTold unread.BadHandle (HasNoHandleText texts) (AreHandleTexts texts))) same c.read_handles.ensures.err
+    subst (λ (texts : List (List ℕ)). IfErr c.read_handles.result (IsTold unread.BadHandle (HasNoHandleText texts) (AreHandleTexts texts))) same c.read_handles.ensures.fault_is_true
 
 pub returns-in-None-clause-ok : goal.returns-in-None-clause-ok
 returns-in-None-clause-ok c =

@@ -48,42 +48,42 @@ refused words kind BadHandle passes h = absurd h
 refused words kind OutIsSource passes h = absurd h
 refused words kind Memory passes h = tt
 
-pub returns-in-Err-clause-err : goal.returns-in-Err-clause-err
-returns-in-Err-clause-err g c =
+pub returns-in-Err-clause-fault_is_true : goal.returns-in-Err-clause-fault_is_true
+returns-in-Err-clause-fault_is_true g c =
     let words = map g.S.AsStr.text c.args.words.now in
     refused words _ c.from_clap.result (λ t. c.in-Err.ensures.passes (ap (λ (a : App). takes a words) c.in_ok-command_line.ensures ∙ t)) c.from_clap.ensures
 
-pub returns-in_err-command_line-clause-err : goal.returns-in_err-command_line-clause-err
-returns-in_err-command_line-clause-err g c =
+pub returns-in_err-command_line-clause-fault_is_true : goal.returns-in_err-command_line-clause-fault_is_true
+returns-in_err-command_line-clause-fault_is_true g c =
     let p = err_from_is_err_and c.from_residual.result c.from_residual.ensures.1 in
     rw (p.1, p.2) tt
 
-pub returns-in_err-read_compile-clause-err : goal.returns-in_err-read_compile-clause-err
-returns-in_err-read_compile-clause-err g c =
+pub returns-in_err-read_compile-clause-fault_is_true : goal.returns-in_err-read_compile-clause-fault_is_true
+returns-in_err-read_compile-clause-fault_is_true g c =
     let words = map g.S.AsStr.text c.args.words.now in
     let rows = rows_of (found_of c.in-Some.matches.now) in
     let met = (subst (λ (a : App). HasMatchesOf a words c.in-Ok.matches) c.in_ok-command_line.ensures c.in-Ok.ensures.matches) refl in
     let entered : GivesCompile words rows = sym met.1 ∙ both_of _ _ _ _ _ (c.in-Some.ensures.found.0 refl) c.in-Some.ensures.rows in
     let p = err_from_is_err_and c.from_residual-in_err-read_compile.result c.from_residual-in_err-read_compile.ensures.1 in
-    rw (p.1, p.2) (badly_compiled words rows c.in_err-read_compile.field-0.0 entered c.in_err-read_compile.ensures.err)
+    rw (p.1, p.2) (badly_compiled words rows c.in_err-read_compile.field-0.0 entered c.in_err-read_compile.ensures.fault_is_true)
 
-pub returns-in_err-read_decode-clause-err : goal.returns-in_err-read_decode-clause-err
-returns-in_err-read_decode-clause-err g c =
+pub returns-in_err-read_decode-clause-fault_is_true : goal.returns-in_err-read_decode-clause-fault_is_true
+returns-in_err-read_decode-clause-fault_is_true g c =
     let words = map g.S.AsStr.text c.args.words.now in
     let found = c.in-Some-subcommand_matches in
     let rows = rows_of (found_of found.matches.now) in
     let met = (subst (λ (a : App). HasMatchesOf a words c.in-Ok.matches) c.in_ok-command_line.ensures c.in-Ok.ensures.matches) refl in
     let entered : GivesDecode words rows = sym met.1 ∙ both_of _ _ _ _ _ (found.ensures.found.0 refl) found.ensures.rows in
     let p = err_from_is_err_and c.from_residual-in_err-read_decode.result c.from_residual-in_err-read_decode.ensures.1 in
-    rw (p.1, p.2) (badly words rows c.in_err-read_decode.field-0.0 entered c.in_err-read_decode.ensures.err)
+    rw (p.1, p.2) (badly words rows c.in_err-read_decode.field-0.0 entered c.in_err-read_decode.ensures.fault_is_true)
 
-pub returns-in_err-read_table-in-Some-subcommand_matches-2-clause-err : goal.returns-in_err-read_table-in-Some-subcommand_matches-2-clause-err
-returns-in_err-read_table-in-Some-subcommand_matches-2-clause-err g c =
+pub returns-in_err-read_table-in-Some-subcommand_matches-2-clause-fault_is_true : goal.returns-in_err-read_table-in-Some-subcommand_matches-2-clause-fault_is_true
+returns-in_err-read_table-in-Some-subcommand_matches-2-clause-fault_is_true g c =
     let words = map g.S.AsStr.text c.args.words.now in
     let found = c.in-Some-subcommand_matches-2 in
     let rows = rows_of (found_of found.matches.now) in
     let met = (subst (λ (a : App). HasMatchesOf a words c.in-Ok.matches) c.in_ok-command_line.ensures c.in-Ok.ensures.matches) refl in
     let entered : GivesTable words rows = sym met.1 ∙ both_of _ _ _ _ _ (found.ensures.found.0 refl) found.ensures.rows in
-    let h = c.in_err-read_table-in-Some-subcommand_matches-2.ensures.err in
+    let h = c.in_err-read_table-in-Some-subcommand_matches-2.ensures.fault_is_true in
     let p = err_from_is_err_and (c.from_residual-in_err-read_table-in-Some-subcommand_matches-2).result (c.from_residual-in_err-read_table-in-Some-subcommand_matches-2).ensures.1 in
     rw (p.1, p.2) (subst (λ (u : Unread). IsUngiven words u) (sym h.0) (inr (inr (inr (rows, entered, h.1)))))

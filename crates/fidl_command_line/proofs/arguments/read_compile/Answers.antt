@@ -21,14 +21,14 @@ is_not : (P Q : Type 0) (b : Bool) → b ≡ false → MatchBool b P Q → Q
 is_not P Q true e h = cc
 is_not P Q false e h = h
 
-pub returns-in_default-clause-err : goal.returns-in_default-clause-err
-returns-in_default-clause-err c = inl (no_value _ _ _ c.in_default.is c.value_of.ensures)
+pub returns-in_default-clause-fault_is_true : goal.returns-in_default-clause-fault_is_true
+returns-in_default-clause-fault_is_true c = inl (no_value _ _ _ c.in_default.is c.value_of.ensures)
 
-pub returns-in_default-get_strs-clause-err : goal.returns-in_default-get_strs-clause-err
-returns-in_default-get_strs-clause-err c = inr (no_value _ _ _ c.in_default-get_strs.is (c.get_strs.ensures ∙ raw_values-rows (found_of c.args.matches.now) (codes "FILE")))
+pub returns-in_default-get_strs-clause-fault_is_true : goal.returns-in_default-get_strs-clause-fault_is_true
+returns-in_default-get_strs-clause-fault_is_true c = inr (no_value _ _ _ c.in_default-get_strs.is (c.get_strs.ensures ∙ raw_values-rows (found_of c.args.matches.now) (codes "FILE")))
 
-pub returns-then-is_among-clause-err : goal.returns-then-is_among-clause-err
-returns-then-is_among-clause-err c =
+pub returns-then-is_among-clause-fault_is_true : goal.returns-then-is_among-clause-fault_is_true
+returns-then-is_among-clause-fault_is_true c =
     let found = found_of c.args.matches.now in
     record {
       file = c.in-Some.out.now;

@@ -6,8 +6,8 @@ use Rattle.fidl_names.specs.Faults.{IsTrueOfAdding}
 use Rattle.fidl_compile.proofs.Refused.{adding_refused}
 use Rattle.fidl_compile.proofs.checking.add_files.Goals as goal
 
-pub returns-in_err-add-clause-refused : goal.returns-in_err-add-clause-refused
-returns-in_err-add-clause-refused c =
+pub returns-in_err-add-clause-fault_is_true : goal.returns-in_err-add-clause-fault_is_true
+returns-in_err-add-clause-fault_is_true c =
     let files = c.args.files.now in
     let fault = c.in_err-add.field-0.0 in
     let says = subst (λ (set : List File). IsTrueOfAdding (all_declared set) c.file-item.result (length set) fault) c.loop-file.invariant.0 c.in_err-add.ensures.fault_is_true in

@@ -21,8 +21,8 @@ protocol_refused files (protocol.BadSelector place) before h = (λ e. cc, before
 protocol_refused files (protocol.TooManyTypes place) before h = (λ e. cc, before, h)
 protocol_refused files protocol.Memory before h = tt
 
-pub returns-in_err-protocols-clause-refused : goal.returns-in_err-protocols-clause-refused
-returns-in_err-protocols-clause-refused c =
+pub returns-in_err-protocols-clause-fault_is_true : goal.returns-in_err-protocols-clause-fault_is_true
+returns-in_err-protocols-clause-fault_is_true c =
     let named = c.in_ok-named.ensures.ok in
     let same : c.in_ok-laid.laid ≡ c.args.set = c.in_ok-laid.ensures.ok ∙ c.in_ok-types.ensures.ok ∙ named in
     let evaluates = subst Evaluates named c.in_ok-consts.ensures.evaluates in

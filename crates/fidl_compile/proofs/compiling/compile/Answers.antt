@@ -10,15 +10,15 @@ use Rattle.fidl_compile.specs.Stages.{FilesRefused}
 use Rattle.fidl_compile.proofs.Whole.{all_read, rules_refused, not_stopped, table_of}
 use Rattle.fidl_compile.proofs.compiling.compile.Goals as goal
 
-pub returns-in_err-checked-clause-refused : goal.returns-in_err-checked-clause-refused
-returns-in_err-checked-clause-refused c =
+pub returns-in_err-checked-clause-fault_is_true : goal.returns-in_err-checked-clause-fault_is_true
+returns-in_err-checked-clause-fault_is_true c =
     let sources = map (λ s. s.now) c.args.sources.now in
     let files = c.in_ok-files.field-0.files.items in
     let count : length files ≡ length sources = not_stopped _ c.in_default.not-Some c.in_ok-files.ensures.all ∙ sym (length-map c.args.sources.now (λ s. s.now)) in
     let same : c.in_ok-set.set ≡ files = c.in_ok-set.ensures.ok ∙ c.deref.ensures.value in
     let distinct = subst (λ (fs : List File). AreDistinct (all_declared fs)) c.deref.ensures.value c.in_ok-set.ensures.distinct in
     let fault = c.in_err-checked.field-0.0 in
-    let refused = subst (λ (fs : List File). FilesRefused fs fault) same c.in_err-checked.ensures.refused in
+    let refused = subst (λ (fs : List File). FilesRefused fs fault) same c.in_err-checked.ensures.fault_is_true in
     let p = err_from_is_err_and c.from_residual-in_err-checked.result c.from_residual-in_err-checked.ensures.1 in
     rw (p.1, p.2) (rules_refused sources files fault (all_read sources files count c.in_ok-files.ensures.read) distinct refused)
 

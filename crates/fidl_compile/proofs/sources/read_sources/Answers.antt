@@ -12,7 +12,7 @@ returns-in-Err-clause-stop c =
     let count = sym c.loop-file.invariant.0 in
     let at = made_at (λ s. s.now) c.args.sources.now c.loop-file.file _ c.loop-file-test.true in
     subst (λ n. (src : List ℕ) × (slice_get (map (λ s. s.now) c.args.sources.now) n ≡ Some src) × SourceRefused src n c.in-Err.fault) count
-    (_, at, c.in-Err.ensures.refused)
+    (_, at, c.in-Err.ensures.fault_is_true)
 
 pub loop-file-preserved : goal.loop-file-preserved
 loop-file-preserved c =

@@ -10,7 +10,7 @@ use Rattle.fidl_tree.specs.Syntax.{Value}
 use Rattle.fidl_tree.specs.Views.{value_view, constraints_view}
 use Rattle.fidl_tree.specs.declared.value.Value.{Value as Tree}
 use Rattle.fidl_names.specs.Places.{value_paths}
-use Rattle.fidl_names.specs.ReferenceViews.{seen_values}
+use Rattle.fidl_names.specs.ReferenceViews.{value_list_view}
 use Rattle.fidl_const.specs.declared.const_type.NumberKind.TheVariants.{Uint32}
 use Rattle.fidl_const.specs.declared.const_type.ConstType.TheVariants as ty
 use Rattle.fidl_const.specs.declared.fault.ConstFault.{ConstFault}
@@ -25,27 +25,27 @@ use Rattle.fidl_const.proofs.bounds.own_limits.Goals as goal
 abbrev seen : Bor Tree → Value
 seen v = value_view v.now
 
-item_is : (found : List (Bor Tree)) (i : ℕ) (item : Bor Tree) → item ≡ get_or found i item → seen item ≡ get_or (seen_values found) i (seen item)
+item_is : (found : List (Bor Tree)) (i : ℕ) (item : Bor Tree) → item ≡ get_or found i item → seen item ≡ get_or (value_list_view found) i (seen item)
 item_is found i item is = ap seen is ∙ sym (get_or-map seen found i item)
 
-module _ (f : File) (cs : List Value) (found : List (Bor Tree)) (i : ℕ) (item : Bor Tree) (within : i < length found) (is : item ≡ get_or found i item) (whole : seen_values found ≡ cs) where
+module _ (f : File) (cs : List Value) (found : List (Bor Tree)) (i : ℕ) (item : Bor Tree) (within : i < length found) (is : item ≡ get_or found i item) (whole : value_list_view found ≡ cs) where
   -- a constraint that isn't the word `optional` is an ordinary one
   among_ordinary : is_optional f (seen item) ≡ false → Contains (ordinary f cs) (seen item)
   among_ordinary no_word =
-      let there : Contains (seen_values found) (seen item) = (i, omega (arith, within, length-map found seen), sym (item_is found i item is)) in
+      let there : Contains (value_list_view found) (seen item) = (i, omega (arith, within, length-map found seen), sym (item_is found i item is)) in
       among_passed (λ v. not (is_optional f v)) cs (seen item) (ap not no_word) (subst (λ l. Contains l (seen item)) whole there)
 
   -- the constraints up to it
-  taken : take (i + 1) (seen_values found) ≡ take i (seen_values found) ++ seen item ∷ []
+  taken : take (i + 1) (value_list_view found) ≡ take i (value_list_view found) ++ seen item ∷ []
   taken =
-      let vs = seen_values found in
+      let vs = value_list_view found in
       take_more vs i (seen item) (omega (arith, within, length-map found seen)) ∙ ap (λ x. take i vs ++ x ∷ []) (sym (item_is found i item is))
 
 pub with_constraint-requires-clause-settled : goal.with_constraint-requires-clause-settled
 with_constraint-requires-clause-settled c no_word path m h means known =
     let f = c.args.scope.now.file.tree.now in
     let cs = constraints_view (option_copied c.args.constraints) in
-    let whole = ap seen_values c.deref-value-items.ensures.value ∙ c.in_ok-items.ensures in
+    let whole = ap value_list_view c.deref-value-items.ensures.value ∙ c.in_ok-items.ensures in
     let among = among_ordinary f cs c.deref-value-items.result.now c.loop-value.value-index c.value-item.result c.loop-value-test.true c.value-item.is whole no_word in
     c.requires.settled path m (among_flat value_paths (ordinary f cs) (seen c.value-item.result) path among h) means known
 
@@ -55,7 +55,7 @@ returns-in_err-limits-clause-fault_is_true c =
     let f = c.args.scope.now.file.tree.now in
     let cs = constraints_view (option_copied c.args.constraints) in
     let item = c.value-item.result in
-    let whole = ap seen_values c.deref-value-items.ensures.value ∙ c.in_ok-items.ensures in
+    let whole = ap value_list_view c.deref-value-items.ensures.value ∙ c.in_ok-items.ensures in
     let among = among_ordinary f cs c.deref-value-items.result.now c.loop-value.value-index item c.loop-value-test.true c.value-item.is whole in
     let of_value = λ (fault : ConstFault). (is_optional f (seen item) ≡ false) × ValueFails files f c.args.scope.now.file.file_index (ty.Number Uint32) fault (seen item) in
     let fails = BoundFails files f c.args.scope.now.file.file_index (ordinary f cs) in
@@ -69,6 +69,6 @@ loop-value-preserved c =
     let f = c.args.scope.now.file.tree.now in
     let found = c.deref-value-items.result.now in
     let i = c.loop-value.value-index in
-    let whole = ap seen_values c.deref-value-items.ensures.value ∙ c.in_ok-items.ensures in
+    let whole = ap value_list_view c.deref-value-items.ensures.value ∙ c.in_ok-items.ensures in
     let its = taken f (constraints_view (option_copied c.args.constraints)) found i c.value-item.result c.loop-value-test.true c.value-item.is whole in
-    subst (λ (l : List Value). AreLimits files (IsOwnConstraint c.args.scope.now.file.file_index f l) c.in_ok-limits.limits) (sym its) (c.in_ok-limits.ensures.ok (take i (seen_values found)) c.loop-value.invariant)
+    subst (λ (l : List Value). AreLimits files (IsOwnConstraint c.args.scope.now.file.file_index f l) c.in_ok-limits.limits) (sym its) (c.in_ok-limits.ensures.ok (take i (value_list_view found)) c.loop-value.invariant)

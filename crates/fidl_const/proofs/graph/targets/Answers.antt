@@ -10,7 +10,7 @@ use Rattle.fidl_names.specs.OuterTypes.{texts}
 use Rattle.fidl_tree.specs.Views.{path_view}
 use Rattle.fidl_const.specs.declared.graph.NameUse.{NameUse}
 use Rattle.fidl_const.specs.Dependencies.{IsKnownNode}
-use Rattle.fidl_const.specs.Tables.{AreTargets, number_of, seen_uses}
+use Rattle.fidl_const.specs.Tables.{AreTargets, number_of, name_uses_view}
 use Rattle.fidl_const.proofs.Targets.{target_none, target_more}
 use Rattle.fidl_const.proofs.graph.targets.Goals.{in-Some+then-is_node+in_ok-push, in-Some+else-is_node, in_default}
 use Rattle.fidl_const.proofs.graph.targets.Goals as goal
@@ -21,7 +21,7 @@ loop-name-preserved c = λ f at.
     let ss = c.args.numbers.now.starts.items in
     let i = c.loop-name.name-index in
     let items = c.args.uses.now in
-    let us = seen_uses items in
+    let us = name_uses_view items in
     let name = c.name-item.result in
     let kind = name.kind in
     let path = path_view name.path.now in
@@ -57,7 +57,7 @@ loop-name-preserved c = λ f at.
 
 pub returns : goal.returns
 returns c = λ f at.
-    let us = seen_uses c.args.uses.now in
+    let us = name_uses_view c.args.uses.now in
     let i = c.loop-name.name-index in
     let past = c.loop-name-test.false in
     let over : length us ≤ i = omega (arith, past, length-map {B = Wanted × Path} c.args.uses.now (λ (u : NameUse). (u.kind, path_view u.path.now))) in

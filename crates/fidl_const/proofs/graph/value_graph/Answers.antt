@@ -9,7 +9,7 @@ use Rattle.fidl_names.specs.declared.meaning.Meaning.TheVariants as meaning
 use Rattle.fidl_names.specs.declared.meaning.Predeclared.TheVariants as name
 use Rattle.fidl_names.specs.Cycles.{points_of}
 use Rattle.fidl_const.specs.Dependencies.{IsKnownNode, Uses}
-use Rattle.fidl_const.specs.Tables.{AreNames, AreNumbered, AreRows, seen_uses}
+use Rattle.fidl_const.specs.Tables.{AreNames, AreNumbered, AreRows, name_uses_view}
 use Rattle.fidl_const.proofs.Targets.{node_within, row_of_targets, rows_more}
 use Rattle.fidl_const.proofs.graph.value_graph.Goals as goal
 
@@ -44,8 +44,8 @@ loop-meaning-preserved c =
     let lt : i < length nodes = subst (λ (l : List Meaning). i < length l) value inside in
     let more : take (i + 1) nodes ≡ take i nodes ++ one ∷ [] = take_more nodes i (meaning.Predeclared name.Bool) lt ∙ ap (λ (l : List Meaning). take i nodes ++ node_at l i ∷ []) (sym value) in
     let now : points_of c.push.new.self.items ≡ points_of rows ++ row.items ∷ [] = ap points_of c.in_ok-push.ensures.items ∙ map-append (λ (v : Vec ℕ). v.items) rows (row ∷ []) in
-    let new = row_of_targets fs ss one (seen_uses c.deref.result.now) row.items known
-    (λ f at. subst (λ l. AreNames (Uses fs one f) (seen_uses l)) (sym c.deref.ensures.value) (c.in_ok-uses.ensures f at))
+    let new = row_of_targets fs ss one (name_uses_view c.deref.result.now) row.items known
+    (λ f at. subst (λ l. AreNames (Uses fs one f) (name_uses_view l)) (sym c.deref.ensures.value) (c.in_ok-uses.ensures f at))
     (λ f at. c.in_ok-row.ensures f (ap (slice_get fs) c.file_number.ensures ∙ at)) in
     subst (λ (l : List Meaning). AreRows fs l ss (points_of c.push.new.self.items)) (sym more)
     (subst (AreRows fs (take i nodes ++ one ∷ []) ss) (sym now) (rows_more fs ss (take i nodes) (points_of rows) one row.items c.loop-meaning.invariant new))

@@ -73,23 +73,23 @@ returns-in_err-turn-clause-cost c =
     let so_far = c.loop-frame.invariant.steps in
     omega (arith, c.take_turn.ensures.cost, stack_work_top c.args.decoder.now.table.now (message_of c.args.decoder.now.bytes.now c.args.decoder.now.handles.now) c.pop.new.self.items c.in-Some.frame)
 
-pub returns-in_err-turn-clause-told : goal.returns-in_err-turn-clause-told
-returns-in_err-turn-clause-told c =
+pub returns-in_err-turn-clause-fault_is_true : goal.returns-in_err-turn-clause-fault_is_true
+returns-in_err-turn-clause-fault_is_true c =
     let broken : (fault : DecodeFault) → BreaksFrame c.args.decoder.now.table.now (message_of c.args.decoder.now.bytes.now c.args.decoder.now.handles.now) c.in-Some.frame (at_of c.loop-frame.state) fault → IsStopped c.args.decoder.now.table.now (message_of c.args.decoder.now.bytes.now c.args.decoder.now.handles.now) c.args.stack.now.items (at_of c.args.state.now) fault = λ fault b.
     broken_stopped c.args.decoder.now.table.now (message_of c.args.decoder.now.bytes.now c.args.decoder.now.handles.now) c.args.stack.now.items (at_of c.args.state.now) fault
     (c.loop-frame.invariant.breaks fault (subst (λ (l : List Frame). BreaksStack c.args.decoder.now.table.now (message_of c.args.decoder.now.bytes.now c.args.decoder.now.handles.now) l (at_of c.loop-frame.state) fault) (sym c.in-Some.ensures.items)
     (top_breaks c.args.decoder.now.table.now (message_of c.args.decoder.now.bytes.now c.args.decoder.now.handles.now) c.pop.new.self.items c.in-Some.frame (at_of c.loop-frame.state) fault b))) in
-    let h = broken _ c.in_err-turn.ensures.told in search (rules, h)
+    let h = broken _ c.in_err-turn.ensures.fault_is_true in search (rules, h)
 
-pub returns-then-state-decoder-clause-told : goal.returns-then-state-decoder-clause-told
-returns-then-state-decoder-clause-told c =
+pub returns-then-state-decoder-clause-fault_is_true : goal.returns-then-state-decoder-clause-fault_is_true
+returns-then-state-decoder-clause-fault_is_true c =
     let all = read_all c.args.decoder.now.table.now (message_of c.args.decoder.now.bytes.now c.args.decoder.now.handles.now) c.loop-frame.stack.items (at_of c.loop-frame.state) (λ lt. no_false (c.in_default.ensures.variant.1 lt)) in
     let state = c.loop-frame.invariant.state in
     let next = state.next in
     (omega (arith, next, c.if-state-decoder.true), (at_of c.loop-frame.state, (c.loop-frame.invariant.same (at_of c.loop-frame.state)).1 all, state, refl))
 
-pub returns-then-state-decoder-2-clause-told : goal.returns-then-state-decoder-2-clause-told
-returns-then-state-decoder-2-clause-told c =
+pub returns-then-state-decoder-2-clause-fault_is_true : goal.returns-then-state-decoder-2-clause-fault_is_true
+returns-then-state-decoder-2-clause-fault_is_true c =
     let all = read_all c.args.decoder.now.table.now (message_of c.args.decoder.now.bytes.now c.args.decoder.now.handles.now) c.loop-frame.stack.items (at_of c.loop-frame.state) (λ lt. no_false (c.in_default.ensures.variant.1 lt)) in
     let handle = c.loop-frame.invariant.state.handle in
     (refl, (at_of c.loop-frame.state, (c.loop-frame.invariant.same (at_of c.loop-frame.state)).1 all, c.if-state-decoder.false, omega (arith, handle, c.if-state-decoder-2.true)))

@@ -1,8 +1,8 @@
 use Rattle.std.proofs.Common.{rules, ◌≡◌, suc, ◌+◌, ◌-◌, ◌/◌, ◌^◌, ◌<◌, sym, subst, arith}
 use Rattle.std.specs.Prelude.{◌<ℤ◌}
-use Rattle.fidl_records.specs.Section.{header_of, value_at}
-use Rattle.fidl_records.specs.Terms.{as_number, underlying, value_number}
-use Rattle.fidl_records.specs.Entry.{enum_value}
+use Rattle.fidl_table_format.specs.Section.{header_of, value_at}
+use Rattle.fidl_table_format.specs.Terms.{as_number, underlying, value_number}
+use Rattle.fidl_table_format.specs.Entry.{enum_value}
 use Rattle.fidl_decode.specs.Machine.{probes}
 use Rattle.fidl_decode.proofs.Searching.{halved, neither, has, has_none, less_before, more_behind, less_at, more_at, clash}
 use Rattle.fidl_decode.proofs.values.has_value.Goals as goal

@@ -1,8 +1,8 @@
 use Rattle.std.proofs.Common.{◌-◌, ℕ, ◌^◌, ◌<◌, ◌≤◌}
 use Rattle.std.specs.Prelude.{◌<ℤ◌}
-use Rattle.fidl_records.specs.Section.{header_of}
-use Rattle.fidl_records.specs.Terms.{underlying, value_number}
-use Rattle.fidl_records.specs.Entry.{enum_value}
+use Rattle.fidl_table_format.specs.Section.{header_of}
+use Rattle.fidl_table_format.specs.Terms.{underlying, value_number}
+use Rattle.fidl_table_format.specs.Entry.{enum_value}
 use Rattle.fidl_decode.specs.Machine.{probes}
 use Rattle.fidl_decode.proofs.values.has_value.Given as goal
 

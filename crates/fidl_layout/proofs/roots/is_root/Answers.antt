@@ -3,8 +3,8 @@ use Rattle.std.specs.Prelude.{Some, None, slice_get}
 use Rattle.std.specs.List.{Contains}
 use Rattle.std.proofs.lemmas.Option.{slice_get_past, slice_get-get_or}
 use Rattle.fidl_span.specs.declared.words.Span.{Span}
-use Rattle.fidl_layouts.specs.declared.step.Step.TheVariants as step
-use Rattle.fidl_layouts.specs.FormViews.{seen_form}
+use Rattle.fidl_declarations.specs.declared.step.Step.TheVariants as step
+use Rattle.fidl_declarations.specs.FormViews.{form_view}
 use Rattle.fidl_layout.specs.Roots.{AreStarts}
 use Rattle.fidl_layout.proofs.Starts.{get_map, none_map, zip_none, zip_at, zip_back, any_there, plain_layout, old_there}
 use Rattle.fidl_layout.proofs.roots.is_root.Goals as goal
@@ -30,7 +30,7 @@ returns-in-Some-get c = λ files zipped.
     let keys_at : slice_get keys k ≡ Some set.keys = get_map (λ s. s.keys) sets k set at in (
       (λ e.
           let p = zip_back AreStarts files keys k set.keys zipped keys_at in
-          let l = plain_layout (seen_form c.args.form.now).kind (c.is_plain_layout.ensures.0 c.if-not-is_plain_layout.false) in
+          let l = plain_layout (form_view c.args.form.now).kind (c.is_plain_layout.ensures.0 c.if-not-is_plain_layout.false) in
           record { f = p.one; file_at = p.at; name = name; declared = (p.holds name.from).0 (old_there set.keys name.from (sym c.contains.ensures ∙ e)); path_is = path; layout = l.0; kind_is = l.1 }),
       (λ root.
           let same = same_name root.name name (sym root.path_is ∙ path) in

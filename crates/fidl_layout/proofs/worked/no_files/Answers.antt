@@ -2,9 +2,9 @@ use Rattle.std.proofs.Common.{ℕ, [], arith, inl, inr, refl}
 use Rattle.std.proofs.lemmas.Option.{none-some}
 use Rattle.fidl_wire.specs.Term.{Term}
 use Rattle.fidl_names.specs.Cycles.{Leads, step, further}
-use Rattle.fidl_term_rules.specs.Inline.{HoldsInline}
-use Rattle.fidl_entries.specs.Reached.{IsReached, root, part}
-use Rattle.fidl_entries.proofs.Members.{nothing_there}
+use Rattle.fidl_ir_rules.specs.Inline.{HoldsInline}
+use Rattle.fidl_reachable_types.specs.Reached.{IsReached, root, part}
+use Rattle.fidl_reachable_types.proofs.Members.{nothing_there}
 use Rattle.fidl_layout.proofs.worked.no_files.Goals as goal
 
 none_inline : (i j : ℕ) → Leads (HoldsInline []) i j → ⊥

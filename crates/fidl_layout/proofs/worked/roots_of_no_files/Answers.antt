@@ -1,6 +1,6 @@
 use Rattle.std.proofs.Common.{[]}
 use Rattle.std.proofs.lemmas.Option.{none-some}
-use Rattle.fidl_entries.proofs.Members.{here, nothing_there}
+use Rattle.fidl_reachable_types.proofs.Members.{here, nothing_there}
 use Rattle.fidl_layout.proofs.worked.roots_of_no_files.Goals as goal
 
 pub returns-clause-none : goal.returns-clause-none

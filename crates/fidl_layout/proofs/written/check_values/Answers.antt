@@ -2,9 +2,9 @@ use Rattle.std.proofs.Common.{◌≡◌, ◌≤◌, ◌∙◌, ◌<◌, get_or, 
 use Rattle.std.proofs.Math.ListN.{get_or-map, length-map}
 use Rattle.fidl_limits.specs.declared.limits.TheConstants.{MAX_LAYOUT_MEMBERS}
 use Rattle.fidl_names.proofs.Seeing.{all_take}
-use Rattle.fidl_layouts.specs.declared.form.Form.{Form as CodeForm}
-use Rattle.fidl_layouts.specs.Forms.{Form}
-use Rattle.fidl_layouts.specs.FormViews.{seen_form, seen_forms}
+use Rattle.fidl_declarations.specs.declared.form.Form.{Form as CodeForm}
+use Rattle.fidl_declarations.specs.Forms.{Form}
+use Rattle.fidl_declarations.specs.FormViews.{form_view, forms_view}
 use Rattle.fidl_layout.specs.Written.{written_values}
 use Rattle.fidl_layout.proofs.written.check_values.Goals as goal
 
@@ -14,9 +14,9 @@ loop-number-preserved c =
     let i = c.loop-number.number in
     let form = c.index-forms-number.result in
     let lt = c.loop-number-test.true in
-    let long = length-map forms seen_form in
-    let within : i < length (seen_forms forms) = omega (arith, lt, long) in
-    let is : seen_form form ≡ get_or (seen_forms forms) i (seen_form form) = ap seen_form c.index-forms-number.is ∙ sym (get_or-map seen_form forms i form) in
+    let long = length-map forms form_view in
+    let within : i < length (forms_view forms) = omega (arith, lt, long) in
+    let is : form_view form ≡ get_or (forms_view forms) i (form_view form) = ap form_view c.index-forms-number.is ∙ sym (get_or-map form_view forms i form) in
     let few = c.if-written_values.false in
-    let same : c.written_values.result ≡ written_values (seen_form form).kind = c.written_values.ensures ∙ ap (λ (f : CodeForm). written_values (seen_form f).kind) (sym c.index-forms-number.is) in
-    all_take (seen_forms forms) i (seen_form form) within is (λ (f : Form). written_values f.kind ≤ MAX_LAYOUT_MEMBERS) c.loop-number.invariant (omega (arith, few, same))
+    let same : c.written_values.result ≡ written_values (form_view form).kind = c.written_values.ensures ∙ ap (λ (f : CodeForm). written_values (form_view f).kind) (sym c.index-forms-number.is) in
+    all_take (forms_view forms) i (form_view form) within is (λ (f : Form). written_values f.kind ≤ MAX_LAYOUT_MEMBERS) c.loop-number.invariant (omega (arith, few, same))

@@ -6,7 +6,7 @@ use Rattle.fidl_names.specs.declared.meaning.Meaning.TheVariants as meaning
 use Rattle.fidl_names.specs.Meanings.{Means, IsJust}
 use Rattle.fidl_names.specs.OuterTypes.{texts}
 use Rattle.fidl_names.specs.Aliases.{Wants, IsArrayName}
-use Rattle.fidl_names.specs.ReferenceViews.{seen_path}
+use Rattle.fidl_names.specs.ReferenceViews.{optional_path_view}
 use Rattle.fidl_names.proofs.AliasFacts.{one_wanted, wants_seen, components_seen, meant_by}
 use Rattle.fidl_names.proofs.alias_graph.declaration_meant.Goals as goal
 
@@ -15,7 +15,7 @@ returns-then-not-wants_type c = λ q h.
     let fs = c.args.scope.now.names.set.now in
     let f = c.args.scope.now.file.now in
     let wants = wants_seen fs f c.args.argument_of c.in_ok-wanted.wanted c.in_ok-wanted.ensures in
-    let is = one_wanted (IsArrayName fs f) (seen_path c.args.argument_of) c.in_ok-wanted.wanted wanted.«Type» wants h.wants in
+    let is = one_wanted (IsArrayName fs f) (optional_path_view c.args.argument_of) c.in_ok-wanted.wanted wanted.«Type» wants h.wants in
     true≢false (sym (c.wants_type.ensures.1 is) ∙ c.if-not-wants_type.true)
 
 pub returns-in-None : goal.returns-in-None
@@ -31,7 +31,7 @@ pub returns-in-Some : goal.returns-in-Some
 returns-in-Some c =
     let fs = c.args.scope.now.names.set.now in
     let f = c.args.scope.now.file.now in
-    let of = seen_path c.args.argument_of in
+    let of = optional_path_view c.args.argument_of in
     let path = path_view c.args.path.now in
     let seen = components_seen f.src.now c.args.path.now in
     let read = subst (λ (n : List (List ℕ)). IsJust (Means fs f wanted.«Type» n) c.in_ok-read_type.field-0) seen c.in_ok-read_type.ensures in

@@ -13,7 +13,7 @@ use Rattle.fidl_names.specs.Meanings.{IsJust}
 use Rattle.fidl_names.specs.OuterTypes.{texts}
 use Rattle.fidl_names.specs.AliasGraph.{IsMeant, AreTargets}
 use Rattle.fidl_names.specs.DeclarationNumbers.{HasDeclaration, number_of}
-use Rattle.fidl_names.specs.ReferenceViews.{seen_path, read_types}
+use Rattle.fidl_names.specs.ReferenceViews.{optional_path_view, read_types}
 use Rattle.fidl_names.proofs.Seeing.{take_item}
 use Rattle.fidl_names.proofs.AliasFacts.{read_id}
 use Rattle.fidl_names.proofs.AliasEdges.{target_none, target_more}
@@ -29,7 +29,7 @@ declared fs f of path o q h is =
 pub number-requires-clause-file : goal.number-requires-clause-file
 number-requires-clause-file c =
     let outer = c.outer-item.result in
-    let there = declared c.args.scope.now.names.set.now c.args.scope.now.file.now (seen_path outer.argument_of) (path_view outer.path.now) c.in_ok-meant.meant c.in-Some.id c.in_ok-meant.ensures c.in-Some.is in
+    let there = declared c.args.scope.now.names.set.now c.args.scope.now.file.now (optional_path_view outer.argument_of) (path_view outer.path.now) c.in_ok-meant.meant c.in-Some.id c.in_ok-meant.ensures c.in-Some.is in
     let inside : c.in-Some.id.file < length c.args.scope.now.names.set.now = slice_get_within c.args.scope.now.names.set.now c.in-Some.id.file there.file there.file_at in
     omega (arith, inside, c.requires.long)
 
@@ -37,7 +37,7 @@ pub number-requires-clause-fits : goal.number-requires-clause-fits
 number-requires-clause-fits c =
     let q = c.in-Some.id in
     let outer = c.outer-item.result in
-    let there = declared c.args.scope.now.names.set.now c.args.scope.now.file.now (seen_path outer.argument_of) (path_view outer.path.now) c.in_ok-meant.meant q c.in_ok-meant.ensures c.in-Some.is in
+    let there = declared c.args.scope.now.names.set.now c.args.scope.now.file.now (optional_path_view outer.argument_of) (path_view outer.path.now) c.in_ok-meant.meant q c.in_ok-meant.ensures c.in-Some.is in
     slice_get_within c.args.numbers.now.ids.items (number_of c.args.numbers.now.starts.items q) q (c.requires.numbered q there)
 
 pub loop-outer-preserved : goal.loop-outer-preserved
@@ -49,12 +49,12 @@ loop-outer-preserved c =
     let items = c.deref-outer-items.result.now in
     let ts = read_types items in
     let outer = c.outer-item.result in
-    let of = seen_path outer.argument_of in
+    let of = optional_path_view outer.argument_of in
     let path = path_view outer.path.now in
     let inside = c.loop-outer-test.true in
-    let lt : i < length ts = omega (arith, inside, length-map {B = Option Path × Path} items (λ (t : OuterType). (seen_path t.argument_of, path_view t.path.now))) in
+    let lt : i < length ts = omega (arith, inside, length-map {B = Option Path × Path} items (λ (t : OuterType). (optional_path_view t.argument_of, path_view t.path.now))) in
     let at : ◌≡◌ {A = Option Path × Path} (of, path) (get_or ts i (of, path)) =
-    ap (λ (t : OuterType). (seen_path t.argument_of, path_view t.path.now)) c.outer-item.is ∙ sym (get_or-map (λ (t : OuterType). (seen_path t.argument_of, path_view t.path.now)) items i outer) in
+    ap (λ (t : OuterType). (optional_path_view t.argument_of, path_view t.path.now)) c.outer-item.is ∙ sym (get_or-map (λ (t : OuterType). (optional_path_view t.argument_of, path_view t.path.now)) items i outer) in
     let before = c.loop-outer.found.items in
     let more = take_item ts i (of, path) lt at in
     subst (λ (l : List (Option Path × Path)). AreTargets fs f ss l c.match-meant.found.items) (sym more)
@@ -75,6 +75,6 @@ returns c =
     let items = c.deref-outer-items.result.now in
     let i = c.loop-outer.outer-index in
     let past = c.loop-outer-test.false in
-    let over : length (read_types items) ≤ i = omega (arith, past, length-map {B = Option Path × Path} items (λ (t : OuterType). (seen_path t.argument_of, path_view t.path.now))) in
+    let over : length (read_types items) ≤ i = omega (arith, past, length-map {B = Option Path × Path} items (λ (t : OuterType). (optional_path_view t.argument_of, path_view t.path.now))) in
     subst (λ (l : List (Option Path × Path)). AreTargets c.args.scope.now.names.set.now c.args.scope.now.file.now c.args.numbers.now.starts.items l c.loop-outer.found.items)
     (take_all i (read_types items) over ∙ ap read_types c.deref-outer-items.ensures.value ∙ c.in_ok-types.ensures) c.loop-outer.invariant

@@ -4,7 +4,7 @@ use Rattle.fidl_names.specs.declared.place.Place.{Place}
 use Rattle.fidl_tree.specs.Leaf.{text_at}
 use Rattle.fidl_names.specs.Names.{IsOneOf, path_text}
 use Rattle.fidl_names.specs.Imports.{same}
-use Rattle.fidl_names.specs.NameMaps.{seen, seen_texts, names_of, IsRepeated}
+use Rattle.fidl_names.specs.NameMaps.{seen, texts_view, names_of, IsRepeated}
 use Rattle.fidl_names.proofs.Seeing.{names_of-texts-more, reported_alias}
 use Rattle.fidl_names.proofs.Taken.{taken}
 use Rattle.fidl_names.proofs.imports.add_import.Goals as goal
@@ -42,12 +42,12 @@ returns-in_err-add_alias-in-Some-clause-fault_is_true c =
     let library : c.in_ok-library.library.items ≡ path_text src i.path = c.in_ok-library.ensures in
     let own : c.in_ok-name.name.items ≡ path_text src i.path = c.in_ok-name.ensures.items ∙ c.deref.ensures.value ∙ library in
     let text : c.text.result.now ≡ text_at src a.name = c.text.ensures.bytes in
-    let names : names_of (seen_texts c.add_visible.new.visible.entries) ≡ names_of (seen_texts old) ++ path_text src i.path ∷ [] =
-    ap (λ es. names_of (seen_texts es)) c.in_ok-add_visible.ensures.ok
+    let names : names_of (texts_view c.add_visible.new.visible.entries) ≡ names_of (texts_view old) ++ path_text src i.path ∷ [] =
+    ap (λ es. names_of (texts_view es)) c.in_ok-add_visible.ensures.ok
     ∙ names_of-texts-more old c.in_ok-name.name c.in_ok-own.own
-    ∙ ap (λ n. names_of (seen_texts old) ++ n ∷ []) own in
+    ∙ ap (λ n. names_of (texts_view old) ++ n ∷ []) own in
     let other : same (text_at src a.name) (path_text src i.path) ≡ false =
     ap (λ t. same t (path_text src i.path)) (sym text) ∙ ap (same c.text.result.now) (sym library) ∙ c.in_err-add_alias-in-Some.ensures.other in
-    let fault_is_true = subst (λ t. IsRepeated (seen_texts c.add_visible.new.visible.entries) t (record { file = c.args.file_index; span = a.name }) c.in_err-add_alias-in-Some.field-0.0) text c.in_err-add_alias-in-Some.ensures.fault_is_true in
-    let h = reported_alias src i a c.args.file_index (names_of (seen c.args.libraries.now.entries)) (names_of (seen_texts old)) (seen_texts c.add_visible.new.visible.entries) c.in_err-add_alias-in-Some.field-0.0 c.in-Some.is other names fault_is_true in
+    let fault_is_true = subst (λ t. IsRepeated (texts_view c.add_visible.new.visible.entries) t (record { file = c.args.file_index; span = a.name }) c.in_err-add_alias-in-Some.field-0.0) text c.in_err-add_alias-in-Some.ensures.fault_is_true in
+    let h = reported_alias src i a c.args.file_index (names_of (seen c.args.libraries.now.entries)) (names_of (texts_view old)) (texts_view c.add_visible.new.visible.entries) c.in_err-add_alias-in-Some.field-0.0 c.in-Some.is other names fault_is_true in
     search (rules, h)

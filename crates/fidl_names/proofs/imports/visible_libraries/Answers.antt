@@ -4,7 +4,7 @@ use Rattle.std.proofs.lemmas.Option.{slice_get-get_or}
 use Rattle.fidl_tree.specs.declared.file.Import.{Import}
 use Rattle.fidl_names.specs.Names.{IsOneOf, path_text, library_of}
 use Rattle.fidl_names.specs.Imports.{visible_by, taken_names}
-use Rattle.fidl_names.specs.NameMaps.{seen, seen_texts, names_of}
+use Rattle.fidl_names.specs.NameMaps.{seen, texts_view, names_of}
 use Rattle.fidl_names.proofs.Seeing.{flat_take, all_take, names_of-visible, reported_import}
 use Rattle.fidl_names.proofs.imports.visible_libraries.Goals as goal
 
@@ -31,7 +31,7 @@ returns-in_err-add_import-clause-fault_is_true c =
     let lt = c.loop-import-test.true in
     let is : item ≡ get_or f.imports.items i item = c.import-item.is ∙ ap (λ (is : List Import). get_or is i item) c.deref-import-items.ensures.value in
     let at : slice_get f.imports.items i ≡ Some item = slice_get-get_or f.imports.items i item (omega (arith, c.deref-import-items.ensures.len)) ∙ ap (λ x. Some x) (sym is) in
-    let names : names_of (seen_texts c.loop-import.visible.entries) ≡ library_of f ∷ taken_names f.src.now (take i f.imports.items) =
+    let names : names_of (texts_view c.loop-import.visible.entries) ≡ library_of f ∷ taken_names f.src.now (take i f.imports.items) =
     ap names_of c.loop-import.invariant.ok ∙ ap (λ l. library_of f ∷ l) (names_of-visible f.src.now (take i f.imports.items)) in
     let h = reported_import (names_of (seen c.args.libraries.now.entries)) f c.args.file_index i item _ _ at names c.in_err-add_import.ensures.fault_is_true in
     search (rules, h)

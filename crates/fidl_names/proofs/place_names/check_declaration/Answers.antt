@@ -6,7 +6,7 @@ use Rattle.std.proofs.lemmas.Result.{err_from_is_err_and}
 use Rattle.std.proofs.Math.ListN.{get_or-map, length-map}
 use Rattle.fidl_tree.specs.Views.{declared_view}
 use Rattle.fidl_names.specs.Places.{body_places}
-use Rattle.fidl_names.specs.PlaceViews.{seen_place, seen_places}
+use Rattle.fidl_names.specs.PlaceViews.{name_place_view, name_places_view}
 use Rattle.fidl_names.specs.Resolved.{PlaceHolds, PlaceFails, DeclarationFails}
 use Rattle.fidl_names.proofs.Seeing.{all_take}
 use Rattle.fidl_names.proofs.Judging.{reports_more}
@@ -18,13 +18,13 @@ returns-in_err-check_place-clause-fault_is_true c =
     let f = c.args.scope.now.file.now in
     let body = declared_view c.args.body.now in
     let found = c.deref-place-items.result.now in
-    let places = seen_places found in
+    let places = name_places_view found in
     let i = c.loop-place.place-index in
-    let place = seen_place c.place-item.result in
+    let place = name_place_view c.place-item.result in
     let lt = c.loop-place-test.true in
-    let within : i < length places = omega (arith, length-map found seen_place) in
-    let is : place ≡ get_or places i place = ap seen_place c.place-item.is ∙ sym (get_or-map seen_place found i c.place-item.result) in
-    let whole : places ≡ body_places body = ap seen_places c.deref-place-items.ensures.value ∙ c.in_ok-places.ensures in
+    let within : i < length places = omega (arith, length-map found name_place_view) in
+    let is : place ≡ get_or places i place = ap name_place_view c.place-item.is ∙ sym (get_or-map name_place_view found i c.place-item.result) in
+    let whole : places ≡ body_places body = ap name_places_view c.deref-place-items.ensures.value ∙ c.in_ok-places.ensures in
     let there : Contains (body_places body) place = subst (λ l. Contains l place) whole (subst (Contains places) (sym is) (Contains-get_or places i place within)) in
     let h = reports_more (λ fault. PlaceFails files f c.args.scope.now.file_index fault place) (DeclarationFails files f c.args.scope.now.file_index body) (λ fault k. record { place = place; stands = there; fails = k }) c.in_err-check_place.field-0.0 c.in_err-check_place.ensures.fault_is_true in
     let p = err_from_is_err_and c.from_residual-in_err-check_place.result c.from_residual-in_err-check_place.ensures.1 in
@@ -33,12 +33,12 @@ returns-in_err-check_place-clause-fault_is_true c =
 pub loop-place-preserved : goal.loop-place-preserved
 loop-place-preserved c =
     let found = c.deref-place-items.result.now in
-    let places = seen_places found in
+    let places = name_places_view found in
     let i = c.loop-place.place-index in
-    let place = seen_place c.place-item.result in
+    let place = name_place_view c.place-item.result in
     let lt = c.loop-place-test.true in
-    let within : i < length places = omega (arith, length-map found seen_place) in
-    let is : place ≡ get_or places i place = ap seen_place c.place-item.is ∙ sym (get_or-map seen_place found i c.place-item.result) in
+    let within : i < length places = omega (arith, length-map found name_place_view) in
+    let is : place ≡ get_or places i place = ap name_place_view c.place-item.is ∙ sym (get_or-map name_place_view found i c.place-item.result) in
     all_take places i place within is (PlaceHolds c.args.scope.now.named.now c.args.scope.now.file.now) c.loop-place.invariant c.in_ok-check_place.ensures.ok
 
 pub returns-clause-ok : goal.returns-clause-ok
@@ -46,5 +46,5 @@ returns-clause-ok c =
     let holds = AllByRecursion (PlaceHolds c.args.scope.now.named.now c.args.scope.now.file.now) in
     let found = c.deref-place-items.result.now in
     let over = c.loop-place-test.false in
-    let all : holds (seen_places found) = subst holds (take_all c.loop-place.place-index (seen_places found) (omega (arith, length-map found seen_place))) c.loop-place.invariant in
-    subst holds (ap seen_places c.deref-place-items.ensures.value ∙ c.in_ok-places.ensures) all
+    let all : holds (name_places_view found) = subst holds (take_all c.loop-place.place-index (name_places_view found) (omega (arith, length-map found name_place_view))) c.loop-place.invariant in
+    subst holds (ap name_places_view c.deref-place-items.ensures.value ∙ c.in_ok-places.ensures) all

@@ -5,7 +5,7 @@ use Rattle.std.proofs.lemmas.Option.{get_or_from_slice_get}
 use Rattle.fidl_names.specs.declared.fault.NameFault.TheVariants.{Memory}
 use Rattle.fidl_names.specs.Imports.{visible, libraries_of, ImportsAreKnown, ImportsAreApart, IsTrueOfImports}
 use Rattle.fidl_names.specs.Faults.{IsTrueOfOne}
-use Rattle.fidl_names.specs.NameMaps.{seen, seen_texts, names_of}
+use Rattle.fidl_names.specs.NameMaps.{seen, texts_view, names_of}
 use Rattle.fidl_names.proofs.Seeing.{take_item, all_take}
 use Rattle.fidl_names.proofs.Sames.{known_by, reported_by}
 use Rattle.fidl_names.proofs.rules.all_imports.Goals as goal
@@ -21,9 +21,9 @@ loop-file_index-preserved c =
     let more = take_item files i f (omega arith) is in
     let known = known_by (names_of (seen c.args.libraries.now.entries)) (libraries_of files) f c.requires c.in_ok-visible_names.ensures.known in
     record {
-      ok = ap (map (λ visible_names. seen_texts visible_names.entries)) c.in_ok-push.ensures.items
-          ∙ map-append (λ visible_names. seen_texts visible_names.entries) c.loop-file_index.found.items (c.in_ok-visible_names.visible_names ∷ [])
-          ∙ ap (λ l. l ++ seen_texts c.in_ok-visible_names.visible_names.entries ∷ []) c.loop-file_index.invariant.ok
+      ok = ap (map (λ visible_names. texts_view visible_names.entries)) c.in_ok-push.ensures.items
+          ∙ map-append (λ visible_names. texts_view visible_names.entries) c.loop-file_index.found.items (c.in_ok-visible_names.visible_names ∷ [])
+          ∙ ap (λ l. l ++ texts_view c.in_ok-visible_names.visible_names.entries ∷ []) c.loop-file_index.invariant.ok
           ∙ ap (λ v. map visible (take i files) ++ v ∷ []) c.in_ok-visible_names.ensures.ok
           ∙ sym (ap (map visible) more ∙ map-append visible (take i files) (f ∷ []));
       apart = all_take files i f (omega arith) is ImportsAreApart c.loop-file_index.invariant.apart c.in_ok-visible_names.ensures.apart;

@@ -3,7 +3,7 @@ use Rattle.std.specs.Prelude.{option_map}
 use Rattle.fidl_tree.specs.Syntax.{method_member}
 use Rattle.fidl_tree.specs.Views.{payload_view, response_view, is_strict}
 use Rattle.fidl_tree.specs.declared.protocol.Response.{Response}
-use Rattle.fidl_layouts.specs.Sites.{has_result}
+use Rattle.fidl_declarations.specs.Sites.{has_result}
 use Rattle.fidl_payloads.specs.declared.payload.Payload.TheVariants as payload
 use Rattle.fidl_payloads.specs.Payloads.{result_path, MethodAnswers}
 use Rattle.fidl_payloads.specs.Members.{IsMemberOf, answer_types, TypesHold, TypesBreak, IsReportIn}

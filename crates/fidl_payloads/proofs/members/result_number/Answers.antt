@@ -1,7 +1,7 @@
 use Rattle.std.proofs.Common.{ℕ, List, subst}
 use Rattle.std.specs.Prelude.{IfSome}
-use Rattle.fidl_layouts.specs.Forms.{Form}
-use Rattle.fidl_terms.specs.Numbers.{all_forms}
+use Rattle.fidl_declarations.specs.Forms.{Form}
+use Rattle.fidl_lower_types.specs.Numbers.{all_forms}
 use Rattle.fidl_payloads.specs.Results.{IsFirstResult}
 use Rattle.fidl_payloads.specs.Payloads.{result_path}
 use Rattle.fidl_payloads.proofs.Finding.{too_many}

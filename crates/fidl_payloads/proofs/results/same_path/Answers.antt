@@ -1,8 +1,8 @@
 use Rattle.std.proofs.Common.{rules, ◌≡◌}
 use Rattle.std.specs.Bool.{Decides}
 use Rattle.std.proofs.lemmas.Slice.Eq.{slice_eq-Decides}
-use Rattle.fidl_layouts.specs.declared.step.Step.{Step}
-use Rattle.fidl_layouts.specs.contracts.step.StepPartialEq.TheImpl.{eq-value}
+use Rattle.fidl_declarations.specs.declared.step.Step.{Step}
+use Rattle.fidl_declarations.specs.contracts.step.StepPartialEq.TheImpl.{eq-value}
 use Rattle.fidl_payloads.proofs.results.same_path.Goals as goal
 
 step_decides : (a b : Step) → Decides (eq-value.it a b) (a ≡ b)

@@ -1,8 +1,8 @@
 use Rattle.std.proofs.Common.{◌≡◌, ◌∙◌, ◌<◌, ℕ, zero, suc, List, [], ◌∷◌, Some, refl, sym, subst, arith}
 use Rattle.std.specs.Prelude.{slice_get}
 use Rattle.std.proofs.lemmas.Option.{same_Some}
-use Rattle.fidl_layouts.specs.declared.step.Step.{Step}
-use Rattle.fidl_layouts.specs.Forms.{Form}
+use Rattle.fidl_declarations.specs.declared.step.Step.{Step}
+use Rattle.fidl_declarations.specs.Forms.{Form}
 use Rattle.fidl_payloads.specs.Results.{IsResultKind, IsResultForm}
 use Rattle.fidl_payloads.specs.Payloads.{result_path}
 use Rattle.fidl_payloads.proofs.worked.forms_of_results.Goals as goal

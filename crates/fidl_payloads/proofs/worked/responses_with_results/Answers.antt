@@ -1,6 +1,6 @@
 use Rattle.std.proofs.Common.{◌≡◌, true, Option, refl, sym, subst}
 use Rattle.fidl_tree.specs.Syntax.{TypeUse}
-use Rattle.fidl_layouts.specs.Sites.{has_result}
+use Rattle.fidl_declarations.specs.Sites.{has_result}
 use Rattle.fidl_payloads.specs.declared.payload.Payload.TheVariants as payload
 use Rattle.fidl_payloads.specs.Results.{IsResultNumber}
 use Rattle.fidl_payloads.specs.Payloads.{result_path, AnswerIs}

@@ -1,8 +1,8 @@
 use Rattle.std.proofs.Common.{◌≡◌, ◌∙◌, false, true, refl, sym, subst}
 use Rattle.std.proofs.lemmas.Option.{same_Some}
-use Rattle.fidl_layouts.specs.Forms.{Form}
+use Rattle.fidl_declarations.specs.Forms.{Form}
 use Rattle.fidl_wire.specs.Term as ty
-use Rattle.fidl_terms.proofs.OneTerm.{one_term}
+use Rattle.fidl_lower_types.proofs.OneTerm.{one_term}
 use Rattle.fidl_payloads.specs.Kinds.{IsPayloadForm}
 use Rattle.fidl_payloads.proofs.worked.types_of_payloads.Goals as goal
 

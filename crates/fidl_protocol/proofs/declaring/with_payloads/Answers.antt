@@ -1,6 +1,6 @@
 use Rattle.std.proofs.Common.{map}
 use Rattle.fidl_tree.specs.Views.{protocol_member_view}
-use Rattle.fidl_compositions.proofs.Lists.{among}
+use Rattle.fidl_composition.proofs.Lists.{among}
 use Rattle.fidl_protocol.proofs.Nodes.{member_of}
 use Rattle.fidl_protocol.proofs.Members.{seen_member, made}
 use Rattle.fidl_protocol.proofs.declaring.with_payloads.Goals as goal

@@ -1,7 +1,7 @@
 use Rattle.std.proofs.Common.{subst}
 use Rattle.fidl_tree.specs.Views.{file_view}
-use Rattle.fidl_methods.specs.declared.fault.MethodFault.{MethodFault}
-use Rattle.fidl_methods.specs.Rules.{ProtocolBreaks, IsReportIn}
+use Rattle.fidl_method_rules.specs.declared.fault.MethodFault.{MethodFault}
+use Rattle.fidl_method_rules.specs.Rules.{ProtocolBreaks, IsReportIn}
 use Rattle.fidl_protocol.proofs.parts.of_methods.Goals as goal
 
 pub returns-in-NotStrict : goal.returns-in-NotStrict

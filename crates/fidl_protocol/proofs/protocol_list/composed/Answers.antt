@@ -1,6 +1,6 @@
 use Rattle.std.proofs.Common.{List, subst}
 use Rattle.fidl_tree.specs.declared.file.File.{File}
-use Rattle.fidl_compositions.specs.Compositions.{IsTrueOfCompositions}
+use Rattle.fidl_composition.specs.Compositions.{IsTrueOfCompositions}
 use Rattle.fidl_protocol.proofs.protocol_list.composed.Goals as goal
 
 pub returns-in-Err-clause-fault_is_true : goal.returns-in-Err-clause-fault_is_true

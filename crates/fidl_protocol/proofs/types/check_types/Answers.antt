@@ -1,18 +1,18 @@
 use Rattle.std.proofs.Common.{◌≡◌, ℕ, List, subst}
 use Rattle.fidl_wire.specs.Term.{Term}
 use Rattle.fidl_tree.specs.declared.file.File.{File}
-use Rattle.fidl_term.specs.Terms.{seen_definitions}
-use Rattle.fidl_definitions.specs.Definitions.{DefinitionsAre}
-use Rattle.fidl_definitions.proofs.One.{one_definitions}
-use Rattle.fidl_entries.specs.Reached.{AreReached}
-use Rattle.fidl_entries.specs.Growing.{types_of}
+use Rattle.fidl_ir.specs.Terms.{definitions_view}
+use Rattle.fidl_lower_layouts.specs.Definitions.{DefinitionsAre}
+use Rattle.fidl_lower_layouts.proofs.One.{one_definitions}
+use Rattle.fidl_reachable_types.specs.Reached.{AreReached}
+use Rattle.fidl_reachable_types.specs.Growing.{types_of}
 use Rattle.fidl_protocol.specs.Starts.{AreStarts}
 use Rattle.fidl_protocol.proofs.types.check_types.Goals as goal
 
 pub returns-in-Ok-clause-ok : goal.returns-in-Ok-clause-ok
 returns-in-Ok-clause-ok c = λ ts checked.
     let files = c.args.laid.now in
-    let found = seen_definitions c.definitions.result.now in
+    let found = definitions_view c.definitions.result.now in
     let starts = c.in_ok-starts.starts.items in
     let definitions = subst (λ (fs : List File). DefinitionsAre fs found) c.types-types.ensures c.definitions.ensures.definitions in
     let same : found ≡ ts = one_definitions files found ts definitions checked.definitions in

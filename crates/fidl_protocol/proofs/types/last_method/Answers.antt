@@ -2,7 +2,7 @@ use Rattle.std.proofs.Common.{◌+◌, ◌-◌, List, length, take, sym, subst}
 use Rattle.std.specs.Prelude.{IfSome}
 use Rattle.std.specs.List.{Contains}
 use Rattle.std.proofs.lemmas.Option.{IfSome_then}
-use Rattle.fidl_compositions.proofs.Lists.{among}
+use Rattle.fidl_composition.proofs.Lists.{among}
 use Rattle.fidl_protocol.specs.declared.method.Method.{Method}
 use Rattle.fidl_protocol.proofs.Starting.{StandsIn, stands_here, stands_more, stands_declared}
 use Rattle.fidl_protocol.proofs.types.last_method.Goals.{in-Some, in_default}

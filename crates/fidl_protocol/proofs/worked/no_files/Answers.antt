@@ -2,8 +2,8 @@ use Rattle.std.proofs.Common.{List, [], arith, inl, inr, refl}
 use Rattle.std.proofs.lemmas.Option.{none-some}
 use Rattle.fidl_wire.specs.Term.{Term}
 use Rattle.fidl_names.specs.Cycles.{Leads, step, further}
-use Rattle.fidl_entries.specs.Reached.{IsReached, AreReached, root, part}
-use Rattle.fidl_compositions.proofs.Lists.{nothing_there, here}
+use Rattle.fidl_reachable_types.specs.Reached.{IsReached, AreReached, root, part}
+use Rattle.fidl_composition.proofs.Lists.{nothing_there, here}
 use Rattle.fidl_layout.specs.Laid.{AreLaidOut}
 use Rattle.fidl_protocol.specs.Starts.{AreStarts}
 use Rattle.fidl_protocol.specs.Checked.{ProtocolsHold}

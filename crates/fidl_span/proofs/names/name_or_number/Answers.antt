@@ -2,8 +2,8 @@ use Rattle.std.proofs.Common.{refl, sym, ◌∙◌}
 use Rattle.fidl_span.proofs.NameLaws.{bad_name_at}
 use Rattle.fidl_span.proofs.names.name_or_number.Goals as goal
 
-pub returns-else-is_identifier-clause-err : goal.returns-else-is_identifier-clause-err
-returns-else-is_identifier-clause-err c =
+pub returns-else-is_identifier-clause-fault_is_true : goal.returns-else-is_identifier-clause-fault_is_true
+returns-else-is_identifier-clause-fault_is_true c =
     let src = c.args.src.now in
     let run = c.word_end.ensures in (
       refl,

@@ -19,8 +19,8 @@ returns-in-Some-clause-ok c =
       },
     )
 
-pub returns-in-None-clause-err : goal.returns-in-None-clause-err
-returns-in-None-clause-err c = (
+pub returns-in-None-clause-fault_is_true : goal.returns-in-None-clause-fault_is_true
+returns-in-None-clause-fault_is_true c = (
   refl,
   record { ordered = omega arith; within = omega arith },
   record {

@@ -1,6 +1,6 @@
 use Rattle.std.proofs.Common.{◌+◌, List, take, sym, subst}
 use Rattle.std.specs.List.{AllZip}
-use Rattle.fidl_assembly.specs.declared.listing.MethodEntry.{MethodEntry}
+use Rattle.fidl_table_build.specs.declared.listing.MethodEntry.{MethodEntry}
 use Rattle.fidl_protocol.proofs.Lists.{zip_further}
 use Rattle.fidl_table.specs.Listed.{IsMethodEntry}
 use Rattle.fidl_table.proofs.methods.method_entries.Goals as goal

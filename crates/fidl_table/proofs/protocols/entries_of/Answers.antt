@@ -1,6 +1,6 @@
 use Rattle.std.proofs.Common.{◌+◌, List, take, sym, subst}
 use Rattle.std.specs.List.{AllZip}
-use Rattle.fidl_assembly.specs.declared.listing.ProtocolEntry.{ProtocolEntry}
+use Rattle.fidl_table_build.specs.declared.listing.ProtocolEntry.{ProtocolEntry}
 use Rattle.fidl_protocol.proofs.Lists.{zip_further}
 use Rattle.fidl_table.specs.Listed.{IsProtocolEntry}
 use Rattle.fidl_table.proofs.protocols.entries_of.Goals as goal

@@ -3,8 +3,8 @@ use Rattle.std.proofs.lemmas.Option.{none-some}
 use Rattle.fidl_wire.specs.Term.{Term}
 use Rattle.fidl_wire.specs.Figure.{no_declarations}
 use Rattle.fidl_names.specs.Cycles.{Leads, step, further}
-use Rattle.fidl_entries.specs.Reached.{IsReached, AreReached, root, part}
-use Rattle.fidl_compositions.proofs.Lists.{nothing_there}
+use Rattle.fidl_reachable_types.specs.Reached.{IsReached, AreReached, root, part}
+use Rattle.fidl_composition.proofs.Lists.{nothing_there}
 use Rattle.fidl_layout.specs.Laid.{AreLaidOut}
 use Rattle.fidl_table.proofs.Small.{left_out, surplus}
 use Rattle.fidl_table.proofs.worked.tables_of_files.Goals as goal

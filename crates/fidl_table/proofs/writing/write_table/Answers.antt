@@ -1,4 +1,4 @@
-use Rattle.fidl_assembly.specs.declared.listing.Listing.{Listing}
+use Rattle.fidl_table_build.specs.declared.listing.Listing.{Listing}
 use Rattle.fidl_table.proofs.Shown.{written}
 use Rattle.fidl_table.proofs.writing.write_table.Goals as goal
 

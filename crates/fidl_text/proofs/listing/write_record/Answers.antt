@@ -1,5 +1,5 @@
 use Rattle.std.proofs.Common.{sym, ap}
-use Rattle.fidl_records.specs.Section.{header_of}
+use Rattle.fidl_table_format.specs.Section.{header_of}
 use Rattle.fidl_text.specs.declared.listing.Section.{Section}
 use Rattle.fidl_text.specs.Listing.{record_line}
 use Rattle.fidl_text.proofs.Written.{writes_as}

@@ -1,6 +1,6 @@
 use Rattle.std.proofs.Common.{◌+◌, ◌-◌, ap, refl, ◌∙◌, arith}
-use Rattle.fidl_records.specs.Section.{header_of}
-use Rattle.fidl_records.specs.declared.record.Header.{Header}
+use Rattle.fidl_table_format.specs.Section.{header_of}
+use Rattle.fidl_table_format.specs.declared.record.Header.{Header}
 use Rattle.fidl_text.specs.Listing.{lines_from, record_line, count_of, section_text}
 use Rattle.fidl_text.proofs.Written.{so_far_none, so_far_more, so_far_failed, so_far_all, so_far_as, failed_as}
 use Rattle.fidl_text.proofs.Records.{lines_begin, lines_more, lines_end}

@@ -1,5 +1,5 @@
 use Rattle.std.proofs.Common.{◌≡◌, ◌-◌}
-use Rattle.fidl_records.specs.Section.{header_of}
+use Rattle.fidl_table_format.specs.Section.{header_of}
 use Rattle.fidl_text.specs.Listing.{lines_from, record_line, count_of, section_text}
 use Rattle.fidl_text.proofs.Written.{IsSoFar}
 use Rattle.fidl_text.proofs.listing.write_section.Given as goal

@@ -2,7 +2,7 @@ use Rattle.std.proofs.Common.{ℕ, List, [], ◌++◌, refl, ap, ◌∙◌}
 use Rattle.std.specs.Prelude.{codes}
 use Rattle.fidl_wire.specs.Term as ty
 use Rattle.fidl_wire.specs.Text.{Text}
-use Rattle.fidl_records.specs.Terms.{declarations_of}
+use Rattle.fidl_table_format.specs.Terms.{declarations_of}
 use Rattle.fidl_text.proofs.Written.{appends_as, appends_then, appends_kept, writes_kept, failed_as, begin_failed, front_as, so_far_begin, so_far_failed}
 use Rattle.fidl_text.proofs.Messages.{message_part, message_shallow}
 use Rattle.fidl_text.proofs.message.write_message.Goals as goal

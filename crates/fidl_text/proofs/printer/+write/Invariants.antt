@@ -1,5 +1,5 @@
 use Rattle.std.proofs.Common.{◌≡◌, ◌+◌, ◌*◌}
-use Rattle.fidl_records.specs.Section.{entry_at}
+use Rattle.fidl_table_format.specs.Section.{entry_at}
 use Rattle.fidl_text.proofs.Printing.{IsElementsLeft, IsMembersLeft}
 use Rattle.fidl_text.proofs.Tables.{IsTableLeft}
 use Rattle.fidl_text.proofs.printer.+write.Given as goal

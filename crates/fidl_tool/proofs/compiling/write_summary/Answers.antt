@@ -1,5 +1,5 @@
 use Rattle.std.proofs.Common.{ap, length}
-use Rattle.fidl_records.specs.declared.record.Header.{Header}
+use Rattle.fidl_table_format.specs.declared.record.Header.{Header}
 use Rattle.fidl_tool.specs.Compiling.{summary_text, summary_line}
 use Rattle.fidl_text.proofs.Written.{appends_kept, appends_as, writes_kept, front_as, failed_as}
 use Rattle.fidl_tool.proofs.compiling.write_summary.Goals as goal

@@ -2,7 +2,7 @@ use Rattle.std.proofs.Common.{ℕ, List, ◌++◌, ap, subst, ◌∙◌, inl, in
 use Rattle.std.specs.Prelude.{codes}
 use Rattle.fidl_wire.specs.Term as ty
 use Rattle.fidl_wire.specs.Text.{Text}
-use Rattle.fidl_records.specs.Terms.{declarations_of}
+use Rattle.fidl_table_format.specs.Terms.{declarations_of}
 use Rattle.fidl_decode.specs.Faults as message_faults
 use Rattle.fidl_tool.specs.declared.outcome.Outcome.TheVariants as outcome
 use Rattle.fidl_tool.specs.Decoding.{CanEndDecodeAs, refusal_line, message_line, value, of_message}
@@ -18,7 +18,7 @@ returns-in-Err-clause-refused g c q =
     ∙ ap (λ (l : List ℕ). refusal_line (codes "decode") (message_faults.number_of f) l c.at.result) c.name.ensures
     ∙ ap (λ k. refusal_line (codes "decode") (message_faults.number_of f) (message_faults.name_of f) k) c.at.ensures in
     let written = told_written c.write_refusal-written.result outcome.Refused c.where_written-in-Err.result c.where_written-in-Err.ensures q (λ e. cc) c.write_refusal-written.ensures.line in
-    (message_line f, of_message c.args.entry f c.requires.root c.in-Err.ensures.err c.in-Err.ensures.told, appends_as (g.E.Write.contents c.args.errors.now.writer) (g.E.Write.contents c.write_refusal-written.new.errors.writer) _ (message_line f) same written)
+    (message_line f, of_message c.args.entry f c.requires.root c.in-Err.ensures.err c.in-Err.ensures.fault_is_true, appends_as (g.E.Write.contents c.args.errors.now.writer) (g.E.Write.contents c.write_refusal-written.new.errors.writer) _ (message_line f) same written)
 
 pub returns-in-Ok-write_message-clause-done : goal.returns-in-Ok-write_message-clause-done
 returns-in-Ok-write_message-clause-done g c q =

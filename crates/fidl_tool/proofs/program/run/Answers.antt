@@ -17,12 +17,12 @@ written r other q n u = n (sym q ∙ u)
 pub returns-in-Err-clause-asked : goal.returns-in-Err-clause-asked
 returns-in-Err-clause-asked g c q =
     let w = written c.tell.result outcome.Asked q (λ e. cc) in
-    (c.in-Err.unread, c.in-Err.ensures.err, sym (c.tell.ensures.outcome w) ∙ q, c.tell.ensures.out w)
+    (c.in-Err.unread, c.in-Err.ensures.fault_is_true, sym (c.tell.ensures.outcome w) ∙ q, c.tell.ensures.out w)
 
 pub returns-in-Err-clause-wrong_line : goal.returns-in-Err-clause-wrong_line
 returns-in-Err-clause-wrong_line g c q =
     let w = written c.tell.result outcome.WrongLine q (λ e. cc) in
-    (c.in-Err.unread, c.in-Err.ensures.err, sym (c.tell.ensures.outcome w) ∙ q, c.tell.ensures.errors w)
+    (c.in-Err.unread, c.in-Err.ensures.fault_is_true, sym (c.tell.ensures.outcome w) ∙ q, c.tell.ensures.errors w)
 
 pub returns-in-Ok-Compile-clause-done : goal.returns-in-Ok-Compile-clause-done
 returns-in-Ok-Compile-clause-done g c q =

@@ -1,7 +1,7 @@
 use Rattle.std.proofs.Common.{◌≡◌, List, ℕ, map, ap, subst, ◌∙◌, inr}
 use Rattle.std.specs.Prelude.{Err, Option}
 use Rattle.std.specs.Io.KnownBytes.{Appends}
-use Rattle.fidl_records.specs.WellFormed.{WellFormed}
+use Rattle.fidl_table_format.specs.WellFormed.{WellFormed}
 use Rattle.fidl_compile.specs.Sources.{IsTableOf}
 use Rattle.fidl_tool.specs.Compiling.{Named, named_of, texts_of, summary_line, IsSourceRefusal}
 use Rattle.fidl_tool.specs.Files.{IsWritten, NamesFile}

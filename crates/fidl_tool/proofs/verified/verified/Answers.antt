@@ -16,4 +16,4 @@ returns-in-Err-clause-refused g c q =
     ∙ ap (λ (l : List ℕ). refusal_line (codes "table") (table_faults.number_of f) l c.at-place.result) c.name.ensures
     ∙ ap (λ k. refusal_line (codes "table") (table_faults.number_of f) (table_faults.name_of f) k) c.at-place.ensures in
     let written = told_written c.write_refusal-written.result outcome.Refused c.where_written.result c.where_written.ensures refused (λ e. cc) c.write_refusal-written.ensures.line in
-    (table_line f, of_fault f c.in-Err.ensures.none c.in-Err.ensures.err, appends_as (g.E.Write.contents c.args.errors.now.writer) (g.E.Write.contents c.write_refusal-written.new.errors.writer) _ (table_line f) same written)
+    (table_line f, of_fault f c.in-Err.ensures.none c.in-Err.ensures.fault_is_true, appends_as (g.E.Write.contents c.args.errors.now.writer) (g.E.Write.contents c.write_refusal-written.new.errors.writer) _ (table_line f) same written)

@@ -2,8 +2,8 @@ use Rattle.std.proofs.Common.{◌<◌, ◌^◌, List, length}
 use Rattle.std.specs.Prelude.{IsNone}
 use Rattle.std.proofs.lemmas.Result.{IfOk-weaker}
 use Rattle.fidl_wire.specs.Term.{Term}
-use Rattle.fidl_terms.specs.Numbers.{all_forms}
-use Rattle.fidl_definitions.specs.Definitions.{DefinitionsAre}
+use Rattle.fidl_lower_types.specs.Numbers.{all_forms}
+use Rattle.fidl_lower_layouts.specs.Definitions.{DefinitionsAre}
 use Rattle.fidl_types.proofs.Counted.{too_many}
 use Rattle.fidl_types.proofs.definitions.all_definitions.Goals as goal
 

@@ -1,8 +1,8 @@
 use Rattle.std.proofs.Common.{◌≡◌, ◌∙◌, [], ◌∷◌, List, refl, ap, sym, subst}
-use Rattle.fidl_layouts.specs.Forms.{Form}
-use Rattle.fidl_term_rules.specs.declared.mark.Mark.TheVariants.{Resource, Value, Result}
-use Rattle.fidl_term_rules.specs.Resources.{mark_of}
-use Rattle.fidl_term_rules.specs.Samples.{a_handle, holding}
+use Rattle.fidl_declarations.specs.Forms.{Form}
+use Rattle.fidl_ir_rules.specs.declared.mark.Mark.TheVariants.{Resource, Value, Result}
+use Rattle.fidl_ir_rules.specs.Resources.{mark_of}
+use Rattle.fidl_ir_rules.specs.Samples.{a_handle, holding}
 use Rattle.fidl_types.specs.Marks.{form_mark, marks_of}
 use Rattle.fidl_types.proofs.Small.{place_there, only_mark}
 use Rattle.fidl_types.proofs.worked.handles_in_structs.Goals as goal

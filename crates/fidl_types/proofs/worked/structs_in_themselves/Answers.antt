@@ -2,9 +2,9 @@ use Rattle.std.proofs.Common.{[], ◌∷◌, List, refl, subst, arith}
 use Rattle.fidl_wire.specs.Term as ty
 use Rattle.fidl_wire.specs.Term.{Term}
 use Rattle.fidl_names.specs.Cycles.{step}
-use Rattle.fidl_definitions.proofs.One.{one_definitions}
-use Rattle.fidl_term_rules.specs.Inline.{StandsInItself}
-use Rattle.fidl_term_rules.specs.Samples.{holding}
+use Rattle.fidl_lower_layouts.proofs.One.{one_definitions}
+use Rattle.fidl_ir_rules.specs.Inline.{StandsInItself}
+use Rattle.fidl_ir_rules.specs.Samples.{holding}
 use Rattle.fidl_types.proofs.Small.{place_there, only_place, apart}
 use Rattle.fidl_types.proofs.worked.structs_in_themselves.Goals as goal
 

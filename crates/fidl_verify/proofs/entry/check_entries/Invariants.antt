@@ -1,5 +1,5 @@
 use Rattle.std.proofs.Common.{ℕ, ◌<◌}
-use Rattle.fidl_records.specs.Entry.{IsEntry}
+use Rattle.fidl_table_format.specs.Entry.{IsEntry}
 use Rattle.fidl_verify.specs.Measured.{AreBefore, HasRoom}
 use Rattle.fidl_verify.proofs.entry.check_entries.Given as goal
 

@@ -1,5 +1,5 @@
 use Rattle.std.proofs.Common.{ℕ, ◌+◌, ◌<◌}
-use Rattle.fidl_records.specs.Section.{row_at}
+use Rattle.fidl_table_format.specs.Section.{row_at}
 use Rattle.fidl_verify.proofs.entry.rows_have_entries.Given as goal
 
 abbrev pub invariant-loop-index : goal.invariant-loop-index

@@ -1,7 +1,7 @@
 use Rattle.std.proofs.Common.{ℕ, subst, sym, arith}
-use Rattle.fidl_records.specs.declared.record.Row.{Row}
-use Rattle.fidl_records.specs.Section.{row_at}
-use Rattle.fidl_records.specs.Name.{IsMemberName}
+use Rattle.fidl_table_format.specs.declared.record.Row.{Row}
+use Rattle.fidl_table_format.specs.Section.{row_at}
+use Rattle.fidl_table_format.specs.Name.{IsMemberName}
 use Rattle.fidl_verify.proofs.Breaking.{refused}
 use Rattle.fidl_verify.proofs.Ranges.{of_range, one_more}
 use Rattle.fidl_verify.proofs.entry.rows_have_names.Goals as goal

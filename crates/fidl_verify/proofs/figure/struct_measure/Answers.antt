@@ -1,12 +1,12 @@
 use Rattle.std.proofs.Common.{rules, ◌≡◌, ℕ, suc, List, ◌+◌, ◌-◌, ◌<◌, max, get_or, subst, sym, ap, ◌∙◌, arith, add-one}
 use Rattle.std.proofs.lemmas.Grind.{common_steps}
 use Rattle.fidl_wire.specs.Figure.{figure}
-use Rattle.fidl_records.specs.declared.record.Header.{Header}
-use Rattle.fidl_records.specs.declared.record.Row.{Row}
-use Rattle.fidl_records.specs.declared.record.Entry.{Entry}
-use Rattle.fidl_records.specs.Section.{row_at, entry_at}
-use Rattle.fidl_records.specs.Terms.{stated_figure}
-use Rattle.fidl_records.specs.Entry.{figures_of}
+use Rattle.fidl_table_format.specs.declared.record.Header.{Header}
+use Rattle.fidl_table_format.specs.declared.record.Row.{Row}
+use Rattle.fidl_table_format.specs.declared.record.Entry.{Entry}
+use Rattle.fidl_table_format.specs.Section.{row_at, entry_at}
+use Rattle.fidl_table_format.specs.Terms.{stated_figure}
+use Rattle.fidl_table_format.specs.Entry.{figures_of}
 use Rattle.fidl_verify.proofs.Ranges.{of_range}
 use Rattle.fidl_verify.proofs.Stated.{stated_at}
 use Rattle.fidl_verify.proofs.Laying.{Left, begin, more, wrong, renamed}

@@ -1,6 +1,6 @@
-use Rattle.fidl_records.specs.Section.{header_of, entry_at}
-use Rattle.fidl_records.specs.declared.kind.EntryKind.TheVariants.{Array}
-use Rattle.fidl_records.specs.Uses.{uses_entry}
+use Rattle.fidl_table_format.specs.Section.{header_of, entry_at}
+use Rattle.fidl_table_format.specs.declared.kind.EntryKind.TheVariants.{Array}
+use Rattle.fidl_table_format.specs.Uses.{uses_entry}
 use Rattle.fidl_verify.proofs.Known.{test_of}
 use Rattle.fidl_verify.proofs.Declared.{element_nests}
 use Rattle.fidl_verify.proofs.laws.elements_nest_less.Goals as goal

@@ -1,6 +1,6 @@
 use Rattle.std.proofs.Common.{arith}
-use Rattle.fidl_records.specs.Section.{header_of, entry_at}
-use Rattle.fidl_records.specs.Entry.{enum_value}
+use Rattle.fidl_table_format.specs.Section.{header_of, entry_at}
+use Rattle.fidl_table_format.specs.Entry.{enum_value}
 use Rattle.fidl_verify.proofs.Enumerated.{rising}
 use Rattle.fidl_verify.proofs.laws.enum_values_rise.Goals as goal
 

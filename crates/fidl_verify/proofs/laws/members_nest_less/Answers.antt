@@ -1,6 +1,6 @@
-use Rattle.fidl_records.specs.Section.{header_of, entry_at}
-use Rattle.fidl_records.specs.declared.kind.EntryKind.TheVariants.{Struct}
-use Rattle.fidl_records.specs.Uses.{uses_rows}
+use Rattle.fidl_table_format.specs.Section.{header_of, entry_at}
+use Rattle.fidl_table_format.specs.declared.kind.EntryKind.TheVariants.{Struct}
+use Rattle.fidl_table_format.specs.Uses.{uses_rows}
 use Rattle.fidl_verify.proofs.Known.{test_of}
 use Rattle.fidl_verify.proofs.Declared.{member_nests}
 use Rattle.fidl_verify.proofs.laws.members_nest_less.Goals as goal

@@ -1,6 +1,6 @@
 use Rattle.std.proofs.Common.{arith}
-use Rattle.fidl_records.specs.Section.{header_of, entry_at}
-use Rattle.fidl_records.specs.Entry.{row_key}
+use Rattle.fidl_table_format.specs.Section.{header_of, entry_at}
+use Rattle.fidl_table_format.specs.Entry.{row_key}
 use Rattle.fidl_verify.proofs.Ordered.{rising_keys}
 use Rattle.fidl_verify.proofs.laws.ordinals_rise.Goals as goal
 

@@ -1,4 +1,4 @@
-use Rattle.fidl_records.specs.Section.{entry_at}
+use Rattle.fidl_table_format.specs.Section.{entry_at}
 use Rattle.fidl_verify.proofs.Enumerated.{bits_number, enum_number}
 use Rattle.fidl_verify.proofs.laws.underlying_types_are_numbers.Goals as goal
 

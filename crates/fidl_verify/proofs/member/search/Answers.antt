@@ -1,7 +1,7 @@
 use Rattle.std.proofs.Common.{◌≡◌, suc, ◌+◌, ◌-◌, ◌/◌, ◌^◌, ◌<◌, ap, subst, arith}
-use Rattle.fidl_records.specs.declared.record.Row.{Row}
-use Rattle.fidl_records.specs.Section.{header_of}
-use Rattle.fidl_records.specs.Entry.{row_key}
+use Rattle.fidl_table_format.specs.declared.record.Row.{Row}
+use Rattle.fidl_table_format.specs.Section.{header_of}
+use Rattle.fidl_table_format.specs.Entry.{row_key}
 use Rattle.fidl_verify.proofs.Ordered.{less_before, more_behind, no_key, halved, unspent, is_less, is_greater}
 use Rattle.fidl_verify.proofs.member.search.Goals as goal
 

@@ -1,6 +1,6 @@
 use Rattle.std.proofs.Common.{◌-◌, ℕ, ◌^◌, ◌<◌, ◌≤◌}
-use Rattle.fidl_records.specs.Section.{header_of}
-use Rattle.fidl_records.specs.Entry.{row_key}
+use Rattle.fidl_table_format.specs.Section.{header_of}
+use Rattle.fidl_table_format.specs.Entry.{row_key}
 use Rattle.fidl_verify.proofs.member.search.Given as goal
 
 -- the keys before `low` are less than the ordinal, and those from `high` on greater; each probe halves what is between

@@ -1,6 +1,6 @@
 use Rattle.std.proofs.Common.{◌≡◌, ap, ◌∙◌, inl, inr, arith}
 use Rattle.std.proofs.lemmas.Bool.{cases_lt}
-use Rattle.fidl_records.specs.Protocol.{methods_before}
+use Rattle.fidl_table_format.specs.Protocol.{methods_before}
 use Rattle.fidl_verify.proofs.Ordinals.{next_before}
 use Rattle.fidl_verify.proofs.methods.check_methods.Goals as goal
 

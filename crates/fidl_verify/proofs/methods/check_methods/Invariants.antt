@@ -1,6 +1,6 @@
 use Rattle.std.proofs.Common.{◌≡◌, ℕ, ◌<◌}
-use Rattle.fidl_records.specs.Protocol.{methods_before}
-use Rattle.fidl_records.specs.Method.{IsMethod}
+use Rattle.fidl_table_format.specs.Protocol.{methods_before}
+use Rattle.fidl_table_format.specs.Method.{IsMethod}
 use Rattle.fidl_verify.proofs.methods.check_methods.Given as goal
 
 abbrev pub invariant-loop-protocol : goal.invariant-loop-protocol

@@ -1,13 +1,13 @@
 use Rattle.std.proofs.Common.{◌≡◌, subst, sym, arith, inl, inr}
-use Rattle.fidl_records.specs.Protocol.{IsMethodOf}
-use Rattle.fidl_records.specs.Method.{IsMethod, ordinal_at}
+use Rattle.fidl_table_format.specs.Protocol.{IsMethodOf}
+use Rattle.fidl_table_format.specs.Method.{IsMethod, ordinal_at}
 use Rattle.fidl_verify.proofs.Breaking.{wrong_method_order}
 use Rattle.fidl_verify.proofs.Stated.{or_last}
 use Rattle.fidl_verify.proofs.Ordinals.{ordinal_rises, never_rises}
 use Rattle.fidl_verify.proofs.methods.check_methods_of.Goals as goal
 
-pub returns-then-ordinal-last-clause-err : goal.returns-then-ordinal-last-clause-err
-returns-then-ordinal-last-clause-err c =
+pub returns-then-ordinal-last-clause-fault_is_true : goal.returns-then-ordinal-last-clause-fault_is_true
+returns-then-ordinal-last-clause-fault_is_true c =
     let bytes = c.args.table.now.bytes.now in
     let h = c.args.table.now.header in
     let own : IsMethodOf bytes h c.args.protocol c.loop-index.index = record { from = omega (arith, c.loop-index.auto.index, c.requires.first); to = omega (arith, c.loop-index-test.true, c.requires.end) } in

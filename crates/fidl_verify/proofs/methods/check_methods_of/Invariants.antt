@@ -1,5 +1,5 @@
 use Rattle.std.proofs.Common.{◌≡◌, ℕ, suc, ◌<◌, ◌≤◌}
-use Rattle.fidl_records.specs.Method.{ordinal_at, IsMethod}
+use Rattle.fidl_table_format.specs.Method.{ordinal_at, IsMethod}
 use Rattle.fidl_verify.proofs.methods.check_methods_of.Given as goal
 
 -- the methods before this one keep their rules, and `last` is the ordinal of the one before, if any

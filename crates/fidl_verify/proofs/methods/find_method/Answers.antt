@@ -1,6 +1,6 @@
 use Rattle.std.proofs.Common.{◌≡◌, ◌+◌, ◌-◌, ◌/◌, ◌<◌, refl, ap, subst, arith, ℕ}
-use Rattle.fidl_records.specs.declared.record.MethodRecord.{MethodRecord}
-use Rattle.fidl_records.specs.Method.{ordinal_at}
+use Rattle.fidl_table_format.specs.declared.record.MethodRecord.{MethodRecord}
+use Rattle.fidl_table_format.specs.Method.{ordinal_at}
 use Rattle.fidl_verify.proofs.Ordered.{less_before, more_behind, is_less, is_greater}
 use Rattle.fidl_verify.proofs.methods.find_method.Goals as goal
 

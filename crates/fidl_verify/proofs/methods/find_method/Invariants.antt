@@ -1,5 +1,5 @@
 use Rattle.std.proofs.Common.{◌-◌, ℕ, ◌+◌, ◌<◌, ◌≤◌}
-use Rattle.fidl_records.specs.Method.{ordinal_at}
+use Rattle.fidl_table_format.specs.Method.{ordinal_at}
 use Rattle.fidl_verify.proofs.methods.find_method.Given as goal
 
 -- the ordinals before `low` are less than this one, and those from `high` on greater

@@ -1,6 +1,6 @@
 use Rattle.std.proofs.Common.{◌≡◌, ◌∙◌, sym, subst, inl, inr, arith, false, true}
 use Rattle.std.specs.Cmp.Lexicographic.{bytes_decides}
-use Rattle.fidl_records.specs.Method.{method_name}
+use Rattle.fidl_table_format.specs.Method.{method_name}
 use Rattle.fidl_verify.proofs.Stated.{or_last}
 use Rattle.fidl_verify.proofs.methods.find_named.Goals as goal
 

@@ -1,5 +1,5 @@
 use Rattle.std.proofs.Common.{◌≢◌, ℕ, ◌<◌, ◌≤◌}
-use Rattle.fidl_records.specs.Method.{method_name}
+use Rattle.fidl_table_format.specs.Method.{method_name}
 use Rattle.fidl_verify.proofs.methods.find_named.Given as goal
 
 abbrev pub invariant-loop-index : goal.invariant-loop-index

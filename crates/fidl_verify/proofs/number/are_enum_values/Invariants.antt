@@ -1,5 +1,5 @@
 use Rattle.std.proofs.Common.{ℕ, ◌<◌}
-use Rattle.fidl_records.specs.Entry.{IsEnumValue}
+use Rattle.fidl_table_format.specs.Entry.{IsEnumValue}
 use Rattle.fidl_verify.proofs.number.are_enum_values.Given as goal
 
 abbrev pub invariant-loop-place : goal.invariant-loop-place

@@ -1,5 +1,5 @@
 use Rattle.std.proofs.Common.{ℕ, ◌<◌}
-use Rattle.fidl_records.specs.Entry.{IsOrdinal}
+use Rattle.fidl_table_format.specs.Entry.{IsOrdinal}
 use Rattle.fidl_verify.proofs.ordinal.are_ordinals.Given as goal
 
 abbrev pub invariant-loop-place : goal.invariant-loop-place

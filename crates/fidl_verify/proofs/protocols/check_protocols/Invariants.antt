@@ -1,5 +1,5 @@
 use Rattle.std.proofs.Common.{◌≡◌, ℕ, ◌<◌, ◌≤◌}
-use Rattle.fidl_records.specs.Protocol.{IsProtocol, methods_before}
+use Rattle.fidl_table_format.specs.Protocol.{IsProtocol, methods_before}
 use Rattle.fidl_verify.proofs.protocols.check_protocols.Given as goal
 
 abbrev pub invariant-loop-index : goal.invariant-loop-index

@@ -1,6 +1,6 @@
 use Rattle.std.proofs.Common.{◌≢◌, ◌≡◌, ◌∙◌, sym, below_more, false, true}
 use Rattle.std.specs.Cmp.Lexicographic.{bytes_decides}
-use Rattle.fidl_records.specs.Protocol.{protocol_name}
+use Rattle.fidl_table_format.specs.Protocol.{protocol_name}
 use Rattle.fidl_verify.proofs.Ordinals.{next_before}
 use Rattle.fidl_verify.proofs.protocols.find_protocol.Goals as goal
 

@@ -1,5 +1,5 @@
 use Rattle.std.proofs.Common.{◌≡◌, ◌≢◌, ℕ, ◌<◌}
-use Rattle.fidl_records.specs.Protocol.{protocol_name, methods_before}
+use Rattle.fidl_table_format.specs.Protocol.{protocol_name, methods_before}
 use Rattle.fidl_verify.proofs.protocols.find_protocol.Given as goal
 
 abbrev pub invariant-loop-index : goal.invariant-loop-index

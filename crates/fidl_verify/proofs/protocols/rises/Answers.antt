@@ -1,4 +1,4 @@
-use Rattle.fidl_records.specs.Protocol.{protocol_name}
+use Rattle.fidl_table_format.specs.Protocol.{protocol_name}
 use Rattle.fidl_verify.proofs.Rising.{rises_from}
 use Rattle.fidl_verify.proofs.protocols.rises.Goals as goal
 

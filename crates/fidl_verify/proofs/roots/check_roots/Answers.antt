@@ -1,5 +1,5 @@
 use Rattle.std.proofs.Common.{below_more}
-use Rattle.fidl_records.specs.Root.{IsRoot}
+use Rattle.fidl_table_format.specs.Root.{IsRoot}
 use Rattle.fidl_verify.proofs.roots.check_roots.Goals as goal
 
 pub loop-index-preserved : goal.loop-index-preserved

@@ -1,5 +1,5 @@
 use Rattle.std.proofs.Common.{ℕ, ◌<◌}
-use Rattle.fidl_records.specs.Root.{IsRoot}
+use Rattle.fidl_table_format.specs.Root.{IsRoot}
 use Rattle.fidl_verify.proofs.roots.check_roots.Given as goal
 
 abbrev pub invariant-loop-index : goal.invariant-loop-index

@@ -1,6 +1,6 @@
 use Rattle.std.proofs.Common.{◌≢◌, ◌≡◌, ◌∙◌, sym, below_more, false, true}
 use Rattle.std.specs.Cmp.Lexicographic.{bytes_decides}
-use Rattle.fidl_records.specs.Root.{root_name}
+use Rattle.fidl_table_format.specs.Root.{root_name}
 use Rattle.fidl_verify.proofs.roots.find_root.Goals as goal
 
 pub loop-index-preserved : goal.loop-index-preserved

@@ -1,4 +1,4 @@
-use Rattle.fidl_records.specs.Root.{root_name}
+use Rattle.fidl_table_format.specs.Root.{root_name}
 use Rattle.fidl_verify.proofs.Rising.{rises_from}
 use Rattle.fidl_verify.proofs.roots.rises.Goals as goal
 

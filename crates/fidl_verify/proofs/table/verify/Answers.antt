@@ -1,6 +1,6 @@
 use Rattle.std.proofs.Common.{rules, IfErr, subst, sym, arith}
 use Rattle.std.proofs.lemmas.Grind.{common_steps}
-use Rattle.fidl_records.specs.WellFormed.{HasHeader, WellFormed}
+use Rattle.fidl_table_format.specs.WellFormed.{HasHeader, WellFormed}
 use Rattle.fidl_verify.specs.Faults.{Breaks}
 use Rattle.fidl_verify.proofs.Whole.{well_formed_from, none_of}
 use Rattle.fidl_verify.proofs.table.verify.Goals as goal

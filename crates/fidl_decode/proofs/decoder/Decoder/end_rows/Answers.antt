@@ -94,14 +94,14 @@ returns-clause-err c =
     let start = turns_start t m f old c.requires.frame c.requires.state f refl in
     on_err_weaker c.zeros_at.result (λ bad. over_refused t c.requires.table m f old old 0 f start c.requires.over c.requires.plain bad) c.zeros_at.ensures.err
 
-pub returns-clause-told : goal.returns-clause-told
-returns-clause-told c =
+pub returns-clause-fault_is_true : goal.returns-clause-fault_is_true
+returns-clause-fault_is_true c =
     let t = c.args.self.now.table.now in
     let m = message_of c.args.self.now.bytes.now c.args.self.now.handles.now in
     let f = c.args.frame in
     let old = at_of c.args.state.now in
     let start = turns_start t m f old c.requires.frame c.requires.state f refl in
-    IfErr-weaker c.zeros_at.result _ _ (λ fault bad. over_breaks t c.requires.table m f old old 0 f start c.requires.over c.requires.plain fault bad) c.zeros_at.ensures.told
+    IfErr-weaker c.zeros_at.result _ _ (λ fault bad. over_breaks t c.requires.table m f old old 0 f start c.requires.over c.requires.plain fault bad) c.zeros_at.ensures.fault_is_true
 
 pub returns-clause-cost : goal.returns-clause-cost
 returns-clause-cost c =

@@ -2,8 +2,8 @@ use Rattle.fidl_decode.proofs.Fitting.{front, apart, inside, at_most, small, end
 use Rattle.std.specs.Prelude.{◌/◌, List, slice_set}
 use Rattle.std.proofs.Common.{subst, ◌≡◌, ◌+◌, ℕ, refl, sym, ap, ◌∙◌, arith, length}
 use Rattle.std.specs.Int.{next_multiple_of}
-use Rattle.fidl_records.specs.declared.record.Entry.{Entry}
-use Rattle.fidl_records.specs.Section.{entry_at}
+use Rattle.fidl_table_format.specs.declared.record.Entry.{Entry}
+use Rattle.fidl_table_format.specs.Section.{entry_at}
 use Rattle.fidl_decode.specs.declared.fault.DecodeFault.TheVariants.{BadEnvelope, TooDeep, Truncated}
 use Rattle.fidl_decode.specs.declared.frame.Frame.{Frame}
 use Rattle.fidl_decode.specs.declared.frame.Until.{Until}

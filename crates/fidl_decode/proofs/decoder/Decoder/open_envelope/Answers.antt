@@ -1,8 +1,8 @@
 use Rattle.fidl_decode.proofs.Unchanged.{no_ok}
 use Rattle.std.proofs.Common.{sym, subst}
 use Rattle.std.specs.Prelude.{Option, Some, None}
-use Rattle.fidl_records.specs.declared.record.Row as raw
-use Rattle.fidl_records.specs.Terms.{declarations_of}
+use Rattle.fidl_table_format.specs.declared.record.Row as raw
+use Rattle.fidl_table_format.specs.Terms.{declarations_of}
 use Rattle.fidl_decode.specs.State.{At}
 use Rattle.fidl_decode.specs.Envelopes.{Contained}
 use Rattle.fidl_decode.specs.Machine.{Opens, member_term, at_of}
@@ -56,8 +56,8 @@ returns-in_err-skip_member-clause-steps c = c.in_err-skip_member.ensures.steps
 pub returns-in_default-clause-err : goal.returns-in_default-clause-err
 returns-in_default-clause-err c = tt
 
-pub returns-in_default-clause-told : goal.returns-in_default-clause-told
-returns-in_default-clause-told c = tt
+pub returns-in_default-clause-fault_is_true : goal.returns-in_default-clause-fault_is_true
+returns-in_default-clause-fault_is_true c = tt
 
 pub enter_member-requires-clause-table : goal.enter_member-requires-clause-table
 enter_member-requires-clause-table c = c.requires.table
@@ -83,8 +83,8 @@ returns-in_err-frame-clause-steps c = c.in_err-frame.ensures.steps
 pub returns-clause-err : goal.returns-clause-err
 returns-clause-err c = tt
 
-pub returns-clause-told : goal.returns-clause-told
-returns-clause-told c = tt
+pub returns-clause-fault_is_true : goal.returns-clause-fault_is_true
+returns-clause-fault_is_true c = tt
 
 pub returns-in_default-clause-steps : goal.returns-in_default-clause-steps
 returns-in_default-clause-steps c = c.in_ok-skip_member.ensures.steps

@@ -37,8 +37,8 @@ returns-in-Neither-clause-next c = tt
 pub returns-in-Neither-clause-shallow : goal.returns-in-Neither-clause-shallow
 returns-in-Neither-clause-shallow c = tt
 
-pub returns-in-Neither-clause-told : goal.returns-in-Neither-clause-told
-returns-in-Neither-clause-told c = (refl, c.in-Neither.ensures.0, c.in-Neither.ensures.1)
+pub returns-in-Neither-clause-fault_is_true : goal.returns-in-Neither-clause-fault_is_true
+returns-in-Neither-clause-fault_is_true c = (refl, c.in-Neither.ensures.0, c.in-Neither.ensures.1)
 
 pub returns-in-Neither-clause-steps : goal.returns-in-Neither-clause-steps
 returns-in-Neither-clause-steps c = refl
@@ -55,8 +55,8 @@ returns-then-count-ne0-clause-next c = tt
 pub returns-then-count-ne0-clause-shallow : goal.returns-then-count-ne0-clause-shallow
 returns-then-count-ne0-clause-shallow c = tt
 
-pub returns-then-count-ne0-clause-told : goal.returns-then-count-ne0-clause-told
-returns-then-count-ne0-clause-told c = (refl, inl (c.in-Absent.ensures, λ none. c.if-count-ne0.true (c.u64_at-count.ensures ∙ none)))
+pub returns-then-count-ne0-clause-fault_is_true : goal.returns-then-count-ne0-clause-fault_is_true
+returns-then-count-ne0-clause-fault_is_true c = (refl, inl (c.in-Absent.ensures, λ none. c.if-count-ne0.true (c.u64_at-count.ensures ∙ none)))
 
 pub returns-then-count-ne0-clause-steps : goal.returns-then-count-ne0-clause-steps
 returns-then-count-ne0-clause-steps c = refl
@@ -73,8 +73,8 @@ returns-in-Absent-clause-next c = tt
 pub returns-in-Absent-clause-shallow : goal.returns-in-Absent-clause-shallow
 returns-in-Absent-clause-shallow c = tt
 
-pub returns-in-Absent-clause-told : goal.returns-in-Absent-clause-told
-returns-in-Absent-clause-told c = (refl, refl, c.in-Absent.ensures)
+pub returns-in-Absent-clause-fault_is_true : goal.returns-in-Absent-clause-fault_is_true
+returns-in-Absent-clause-fault_is_true c = (refl, refl, c.in-Absent.ensures)
 
 pub returns-in-Absent-clause-steps : goal.returns-in-Absent-clause-steps
 returns-in-Absent-clause-steps c = refl
@@ -91,8 +91,8 @@ returns-then-count-rest-clause-next c = tt
 pub returns-then-count-rest-clause-shallow : goal.returns-then-count-rest-clause-shallow
 returns-then-count-rest-clause-shallow c = tt
 
-pub returns-then-count-rest-clause-told : goal.returns-then-count-rest-clause-told
-returns-then-count-rest-clause-told c = (refl, inr (c.in-Present.ensures, omega (arith, c.u64_at-count.ensures, c.if-count-rest.true)))
+pub returns-then-count-rest-clause-fault_is_true : goal.returns-then-count-rest-clause-fault_is_true
+returns-then-count-rest-clause-fault_is_true c = (refl, inr (c.in-Present.ensures, omega (arith, c.u64_at-count.ensures, c.if-count-rest.true)))
 
 pub returns-then-count-rest-clause-steps : goal.returns-then-count-rest-clause-steps
 returns-then-count-rest-clause-steps c = refl
@@ -109,8 +109,8 @@ returns-then-depth-eq-MAX_DEPTH-clause-next c = tt
 pub returns-then-depth-eq-MAX_DEPTH-clause-shallow : goal.returns-then-depth-eq-MAX_DEPTH-clause-shallow
 returns-then-depth-eq-MAX_DEPTH-clause-shallow c = tt
 
-pub returns-then-depth-eq-MAX_DEPTH-clause-told : goal.returns-then-depth-eq-MAX_DEPTH-clause-told
-returns-then-depth-eq-MAX_DEPTH-clause-told c = (refl, c.in-Present.ensures, omega (arith, c.if-depth-eq-MAX_DEPTH.true))
+pub returns-then-depth-eq-MAX_DEPTH-clause-fault_is_true : goal.returns-then-depth-eq-MAX_DEPTH-clause-fault_is_true
+returns-then-depth-eq-MAX_DEPTH-clause-fault_is_true c = (refl, c.in-Present.ensures, omega (arith, c.if-depth-eq-MAX_DEPTH.true))
 
 pub returns-then-depth-eq-MAX_DEPTH-clause-steps : goal.returns-then-depth-eq-MAX_DEPTH-clause-steps
 returns-then-depth-eq-MAX_DEPTH-clause-steps c = refl
@@ -121,8 +121,8 @@ returns-clause-next c = refl
 pub returns-clause-shallow : goal.returns-clause-shallow
 returns-clause-shallow c = omega (arith, c.requires.depth, c.if-depth-eq-MAX_DEPTH.false)
 
-pub returns-clause-told : goal.returns-clause-told
-returns-clause-told c = tt
+pub returns-clause-fault_is_true : goal.returns-clause-fault_is_true
+returns-clause-fault_is_true c = tt
 
 pub returns-clause-steps : goal.returns-clause-steps
 returns-clause-steps c = refl

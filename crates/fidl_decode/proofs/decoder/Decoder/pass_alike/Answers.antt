@@ -3,11 +3,11 @@ use Rattle.fidl_decode.proofs.Unchanged.{same_le}
 use Rattle.std.proofs.Common.{◌≡◌, ◌<◌, ℕ, List, refl, sym, ap, subst, ◌∙◌, inl, inr, add-one}
 use Rattle.std.specs.Prelude.{Some}
 use Rattle.fidl_wire.specs.Term.{find}
-use Rattle.fidl_records.specs.declared.kind.EntryKind.{EntryKind}
-use Rattle.fidl_records.specs.declared.kind.EntryKind.TheVariants.{Int32, Int64, Uint32, Uint64}
-use Rattle.fidl_records.specs.Kind.{kind_of}
-use Rattle.fidl_records.specs.Section.{header_of, entry_at}
-use Rattle.fidl_records.specs.Terms.{members_of}
+use Rattle.fidl_table_format.specs.declared.kind.EntryKind.{EntryKind}
+use Rattle.fidl_table_format.specs.declared.kind.EntryKind.TheVariants.{Int32, Int64, Uint32, Uint64}
+use Rattle.fidl_table_format.specs.Kind.{kind_of}
+use Rattle.fidl_table_format.specs.Section.{header_of, entry_at}
+use Rattle.fidl_table_format.specs.Terms.{members_of}
 use Rattle.fidl_decode.specs.Body.{BodyFine}
 use Rattle.fidl_decode.proofs.BodyTurns.{body_found, free_of}
 use Rattle.fidl_decode.proofs.decoder.Decoder.pass_alike.Goals as goal

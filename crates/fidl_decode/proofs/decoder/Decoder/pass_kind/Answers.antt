@@ -1,5 +1,5 @@
 use Rattle.std.specs.Prelude.{Some}
-use Rattle.fidl_records.specs.declared.kind.EntryKind.{EntryKind}
+use Rattle.fidl_table_format.specs.declared.kind.EntryKind.{EntryKind}
 use Rattle.std.proofs.Common.{ap, ◌∙◌}
 use Rattle.fidl_decode.proofs.decoder.Decoder.pass_kind.Goals as goal
 

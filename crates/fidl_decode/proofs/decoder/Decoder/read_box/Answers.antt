@@ -2,9 +2,9 @@ use Rattle.fidl_decode.proofs.Fitting.{inside, at_most, small, ended, deeper, so
 use Rattle.std.proofs.Common.{◌≡◌, ℕ, ◌+◌, ◌-◌, ◌<◌, refl, Bool, true, false, sym, ap, subst, ◌∙◌, arith, length}
 use Rattle.std.specs.Prelude.{Some}
 use Rattle.std.specs.Int.{next_multiple_of}
-use Rattle.fidl_records.specs.declared.record.Entry.{Entry}
-use Rattle.fidl_records.specs.declared.kind.EntryKind.TheVariants.{Box}
-use Rattle.fidl_records.specs.Section.{header_of, entry_at}
+use Rattle.fidl_table_format.specs.declared.record.Entry.{Entry}
+use Rattle.fidl_table_format.specs.declared.kind.EntryKind.TheVariants.{Box}
+use Rattle.fidl_table_format.specs.Section.{header_of, entry_at}
 use Rattle.fidl_decode.specs.declared.frame.Left.TheVariants.{Rows}
 use Rattle.fidl_decode.specs.declared.frame.Frame.{Frame}
 use Rattle.fidl_decode.specs.Faults.{message_of}
@@ -23,8 +23,8 @@ entry-content-requires c =
     let f = fine_as c.args.self.now.table.now c.requires.table c.args.entry Box c.requires.entry c.requires.kind in
     subst (λ (d : Entry). d.first < (header_of c.args.self.now.table.now).entries) (sym c.entry.ensures.value) f.content.0
 
-pub returns-then-size-self-clause-told : goal.returns-then-size-self-clause-told
-returns-then-size-self-clause-told c =
+pub returns-then-size-self-clause-fault_is_true : goal.returns-then-size-self-clause-fault_is_true
+returns-then-size-self-clause-fault_is_true c =
     let t = c.args.self.now.table.now in
     let content : c.entry-content.result ≡ entry_at t (entry_at t c.args.entry).first = c.entry-content.ensures.value ∙ ap (λ (d : Entry). entry_at t d.first) c.entry.ensures.value in
     let value : c.next_multiple_of-size.result ≡ next_multiple_of (entry_at t (entry_at t c.args.entry).first).size 8 = c.next_multiple_of-size.ensures.value ∙ ap (λ (d : Entry). next_multiple_of d.size 8) content in
@@ -66,8 +66,8 @@ clash is not = cc
 pub returns-then-is_absent-clause-fine : goal.returns-then-is_absent-clause-fine
 returns-then-is_absent-clause-fine c inside few = tt
 
-pub returns-then-is_absent-clause-told : goal.returns-then-is_absent-clause-told
-returns-then-is_absent-clause-told c = tt
+pub returns-then-is_absent-clause-fault_is_true : goal.returns-then-is_absent-clause-fault_is_true
+returns-then-is_absent-clause-fault_is_true c = tt
 
 pub returns-then-is_absent-clause-steps : goal.returns-then-is_absent-clause-steps
 returns-then-is_absent-clause-steps c = refl
@@ -78,8 +78,8 @@ returns-then-not-is_present-clause-ok c = tt
 pub returns-then-not-is_present-clause-fine : goal.returns-then-not-is_present-clause-fine
 returns-then-not-is_present-clause-fine c inside few = tt
 
-pub returns-then-not-is_present-clause-told : goal.returns-then-not-is_present-clause-told
-returns-then-not-is_present-clause-told c = (refl, λ z. clash (c.is_absent.ensures.1 z) c.if-is_absent.false, λ p. clash (c.is_present.ensures.1 p) c.if-not-is_present.true)
+pub returns-then-not-is_present-clause-fault_is_true : goal.returns-then-not-is_present-clause-fault_is_true
+returns-then-not-is_present-clause-fault_is_true c = (refl, λ z. clash (c.is_absent.ensures.1 z) c.if-is_absent.false, λ p. clash (c.is_present.ensures.1 p) c.if-not-is_present.true)
 
 pub returns-then-not-is_present-clause-steps : goal.returns-then-not-is_present-clause-steps
 returns-then-not-is_present-clause-steps c = refl
@@ -90,8 +90,8 @@ returns-then-depth-eq-MAX_DEPTH-clause-ok c = tt
 pub returns-then-depth-eq-MAX_DEPTH-clause-fine : goal.returns-then-depth-eq-MAX_DEPTH-clause-fine
 returns-then-depth-eq-MAX_DEPTH-clause-fine c inside few = tt
 
-pub returns-then-depth-eq-MAX_DEPTH-clause-told : goal.returns-then-depth-eq-MAX_DEPTH-clause-told
-returns-then-depth-eq-MAX_DEPTH-clause-told c = (refl, c.is_present.ensures.0 c.if-not-is_present.false, omega (arith, c.if-depth-eq-MAX_DEPTH.true))
+pub returns-then-depth-eq-MAX_DEPTH-clause-fault_is_true : goal.returns-then-depth-eq-MAX_DEPTH-clause-fault_is_true
+returns-then-depth-eq-MAX_DEPTH-clause-fault_is_true c = (refl, c.is_present.ensures.0 c.if-not-is_present.false, omega (arith, c.if-depth-eq-MAX_DEPTH.true))
 
 pub returns-then-depth-eq-MAX_DEPTH-clause-steps : goal.returns-then-depth-eq-MAX_DEPTH-clause-steps
 returns-then-depth-eq-MAX_DEPTH-clause-steps c = refl
@@ -105,8 +105,8 @@ returns-then-size-self-clause-fine c inside few = tt
 pub returns-then-size-self-clause-steps : goal.returns-then-size-self-clause-steps
 returns-then-size-self-clause-steps c = refl
 
-pub returns-clause-told : goal.returns-clause-told
-returns-clause-told c = tt
+pub returns-clause-fault_is_true : goal.returns-clause-fault_is_true
+returns-clause-fault_is_true c = tt
 
 pub returns-clause-steps : goal.returns-clause-steps
 returns-clause-steps c = refl

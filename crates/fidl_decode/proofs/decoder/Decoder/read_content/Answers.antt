@@ -2,11 +2,11 @@ use Rattle.fidl_decode.proofs.Fitting.{le_more, lt_le}
 use Rattle.fidl_decode.proofs.Unchanged.{no_ok, same_le}
 use Rattle.std.proofs.Common.{◌≡◌, ◌+◌, ◌≤◌, sym, ap, subst, ◌∙◌}
 use Rattle.std.specs.Prelude.{Some, None}
-use Rattle.fidl_records.specs.declared.record.Entry.{Entry}
-use Rattle.fidl_records.specs.Kind.{kind_of}
-use Rattle.fidl_records.specs.declared.kind.EntryKind.{EntryKind}
-use Rattle.fidl_records.specs.declared.kind.EntryKind.TheVariants.{Struct}
-use Rattle.fidl_records.specs.Section.{header_of, entry_at}
+use Rattle.fidl_table_format.specs.declared.record.Entry.{Entry}
+use Rattle.fidl_table_format.specs.Kind.{kind_of}
+use Rattle.fidl_table_format.specs.declared.kind.EntryKind.{EntryKind}
+use Rattle.fidl_table_format.specs.declared.kind.EntryKind.TheVariants.{Struct}
+use Rattle.fidl_table_format.specs.Section.{header_of, entry_at}
 use Rattle.fidl_decode.specs.Invariants.{IsFlat}
 use Rattle.fidl_decode.specs.declared.frame.Left.TheVariants.{Content}
 use Rattle.fidl_decode.specs.State.{At}
@@ -70,8 +70,8 @@ returns-then-count-ne1-clause-ended c = tt
 pub returns-then-count-ne1-clause-err : goal.returns-then-count-ne1-clause-err
 returns-then-count-ne1-clause-err c = tt
 
-pub returns-then-count-ne1-clause-told : goal.returns-then-count-ne1-clause-told
-returns-then-count-ne1-clause-told c = tt
+pub returns-then-count-ne1-clause-fault_is_true : goal.returns-then-count-ne1-clause-fault_is_true
+returns-then-count-ne1-clause-fault_is_true c = tt
 
 pub is_flat-requires-clause-table : goal.is_flat-requires-clause-table
 is_flat-requires-clause-table c = c.requires.table
@@ -82,8 +82,8 @@ returns-then-not-is_flat-clause-ended c = tt
 pub returns-then-not-is_flat-clause-err : goal.returns-then-not-is_flat-clause-err
 returns-then-not-is_flat-clause-err c = tt
 
-pub returns-then-not-is_flat-clause-told : goal.returns-then-not-is_flat-clause-told
-returns-then-not-is_flat-clause-told c = tt
+pub returns-then-not-is_flat-clause-fault_is_true : goal.returns-then-not-is_flat-clause-fault_is_true
+returns-then-not-is_flat-clause-fault_is_true c = tt
 
 pub read_whole-requires-clause-table : goal.read_whole-requires-clause-table
 read_whole-requires-clause-table c = c.requires.table
@@ -112,14 +112,14 @@ returns-in_err-read_whole-clause-ended c = no_ok c.from_residual.result c.in_err
 pub returns-in_err-read_whole-clause-cost : goal.returns-in_err-read_whole-clause-cost
 returns-in_err-read_whole-clause-cost c = c.in_err-read_whole.ensures.cost
 
-pub returns-in_err-read_whole-clause-told : goal.returns-in_err-read_whole-clause-told
-returns-in_err-read_whole-clause-told c = passed_on c.from_residual.result c.in_err-read_whole.field-0.0 _ c.from_residual.ensures.1 c.in_err-read_whole.ensures.told
+pub returns-in_err-read_whole-clause-fault_is_true : goal.returns-in_err-read_whole-clause-fault_is_true
+returns-in_err-read_whole-clause-fault_is_true c = passed_on c.from_residual.result c.in_err-read_whole.field-0.0 _ c.from_residual.ensures.1 c.in_err-read_whole.ensures.fault_is_true
 
 pub returns-clause-err : goal.returns-clause-err
 returns-clause-err c = tt
 
-pub returns-clause-told : goal.returns-clause-told
-returns-clause-told c = tt
+pub returns-clause-fault_is_true : goal.returns-clause-fault_is_true
+returns-clause-fault_is_true c = tt
 
 pub returns-clause-ok : goal.returns-clause-ok
 returns-clause-ok c = c.in_ok-read_whole.ensures.ok

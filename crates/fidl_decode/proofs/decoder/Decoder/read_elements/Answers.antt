@@ -5,9 +5,9 @@ use Rattle.std.specs.Prelude.{Some, None, true}
 use Rattle.fidl_decode.specs.Invariants.{is_free}
 use Rattle.fidl_wire.specs.Encoding.{zeros}
 use Rattle.fidl_wire.specs.Standing.{Stands}
-use Rattle.fidl_records.specs.declared.record.Entry.{Entry}
-use Rattle.fidl_records.specs.Kind.{kind_of}
-use Rattle.fidl_records.specs.Section.{entry_at}
+use Rattle.fidl_table_format.specs.declared.record.Entry.{Entry}
+use Rattle.fidl_table_format.specs.Kind.{kind_of}
+use Rattle.fidl_table_format.specs.Section.{entry_at}
 use Rattle.fidl_decode.specs.declared.frame.Left.TheVariants.{Elements}
 use Rattle.fidl_decode.specs.State.{At}
 use Rattle.fidl_decode.specs.Machine.{Reads, at_of}
@@ -109,13 +109,13 @@ returns-clause-ok c =
     let there : c.args.frame.base + c.args.frame.done + c.args.size * c.args.count ≡ c.args.frame.base + (c.args.frame.done + c.args.size * c.args.count) = omega arith in
     over_turns c.args.self.now.table.now c.requires.table (message_of c.args.self.now.bytes.now c.args.self.now.handles.now) c.args.frame (at_of c.args.state.now) (at_of c.args.state.now) 0 (going_on c.args.frame (Elements c.args.entry c.args.size 0) (c.args.frame.done + c.args.size * c.args.count)) any refl tt _ (omega (arith, there)) (subst (λ k. Stands c.args.self.now.bytes.now k (zeros (c.args.frame.base + c.args.frame.size - k))) there c.in_ok-zeros_at.ensures.ok)
 
-pub returns-in_err-zeros_at-clause-told : goal.returns-in_err-zeros_at-clause-told
-returns-in_err-zeros_at-clause-told c =
+pub returns-in_err-zeros_at-clause-fault_is_true : goal.returns-in_err-zeros_at-clause-fault_is_true
+returns-in_err-zeros_at-clause-fault_is_true c =
     let free : is_free c.in-Some.kind (entry_at c.args.self.now.table.now c.args.entry) ≡ true = (let r = ap (λ (d : Entry). is_free c.in-Some.kind d) (sym c.entry-e.ensures.value) ∙ sym c.is_free.ensures in search (rules, r, c.if-not-is_free.false)) in
     let any = free_turns c.args.self.now.table.now c.requires.table (message_of c.args.self.now.bytes.now c.args.self.now.handles.now) c.args.frame (at_of c.args.state.now) c.requires.frame c.requires.state c.args.entry c.args.size c.args.count c.requires.left c.in-Some.kind (ap (λ (e : Entry). kind_of e.kind) (sym c.entry-e.ensures.value) ∙ sym c.from_number.ensures ∙ c.in-Some.is) free (λ i. omega (arith, c.args.self.now.octets i)) in
     let there : c.args.frame.base + c.args.frame.done + c.args.size * c.args.count ≡ c.args.frame.base + (c.args.frame.done + c.args.size * c.args.count) = omega arith in
     passed_on c.from_residual-in_err-zeros_at.result c.in_err-zeros_at.field-0.0 _ c.from_residual-in_err-zeros_at.ensures.1
-    (over_breaks c.args.self.now.table.now c.requires.table (message_of c.args.self.now.bytes.now c.args.self.now.handles.now) c.args.frame (at_of c.args.state.now) (at_of c.args.state.now) 0 (going_on c.args.frame (Elements c.args.entry c.args.size 0) (c.args.frame.done + c.args.size * c.args.count)) any refl tt c.in_err-zeros_at.field-0.0 (subst (λ k. IsPadding c.args.self.now.bytes.now k (c.args.frame.base + c.args.frame.size) c.in_err-zeros_at.field-0.0) there c.in_err-zeros_at.ensures.told))
+    (over_breaks c.args.self.now.table.now c.requires.table (message_of c.args.self.now.bytes.now c.args.self.now.handles.now) c.args.frame (at_of c.args.state.now) (at_of c.args.state.now) 0 (going_on c.args.frame (Elements c.args.entry c.args.size 0) (c.args.frame.done + c.args.size * c.args.count)) any refl tt c.in_err-zeros_at.field-0.0 (subst (λ k. IsPadding c.args.self.now.bytes.now k (c.args.frame.base + c.args.frame.size) c.in_err-zeros_at.field-0.0) there c.in_err-zeros_at.ensures.fault_is_true))
 
 pub returns-in_err-read_each : goal.returns-in_err-read_each
 returns-in_err-read_each c = record {
@@ -124,7 +124,7 @@ returns-in_err-read_each c = record {
   ended = search rules;
   cost = search (rules, c.in_err-read_each.ensures.cost);
   err = search (rules, c.in_err-read_each.ensures.err);
-  told = passed_on c.from_residual.result c.in_err-read_each.field-0.0 _ c.from_residual.ensures.1 c.in_err-read_each.ensures.told;
+  told = passed_on c.from_residual.result c.in_err-read_each.field-0.0 _ c.from_residual.ensures.1 c.in_err-read_each.ensures.fault_is_true;
 }
 
 pub returns-then-count-eq0-clause-ended : goal.returns-then-count-eq0-clause-ended
@@ -133,8 +133,8 @@ returns-then-count-eq0-clause-ended c = tt
 pub returns-then-count-eq0-clause-err : goal.returns-then-count-eq0-clause-err
 returns-then-count-eq0-clause-err c = tt
 
-pub returns-then-count-eq0-clause-told : goal.returns-then-count-eq0-clause-told
-returns-then-count-eq0-clause-told c = tt
+pub returns-then-count-eq0-clause-fault_is_true : goal.returns-then-count-eq0-clause-fault_is_true
+returns-then-count-eq0-clause-fault_is_true c = tt
 
 pub returns-then-not-is_leaf-clause-ended : goal.returns-then-not-is_leaf-clause-ended
 returns-then-not-is_leaf-clause-ended c = tt
@@ -142,8 +142,8 @@ returns-then-not-is_leaf-clause-ended c = tt
 pub returns-then-not-is_leaf-clause-err : goal.returns-then-not-is_leaf-clause-err
 returns-then-not-is_leaf-clause-err c = tt
 
-pub returns-then-not-is_leaf-clause-told : goal.returns-then-not-is_leaf-clause-told
-returns-then-not-is_leaf-clause-told c = tt
+pub returns-then-not-is_leaf-clause-fault_is_true : goal.returns-then-not-is_leaf-clause-fault_is_true
+returns-then-not-is_leaf-clause-fault_is_true c = tt
 
 pub read_each-requires-clause-table : goal.read_each-requires-clause-table
 read_each-requires-clause-table c = c.requires.table
@@ -166,8 +166,8 @@ read_each-requires-clause-budget c = c.requires.budget
 pub returns-then-not-is_free-clause-err : goal.returns-then-not-is_free-clause-err
 returns-then-not-is_free-clause-err c = tt
 
-pub returns-then-not-is_free-clause-told : goal.returns-then-not-is_free-clause-told
-returns-then-not-is_free-clause-told c = tt
+pub returns-then-not-is_free-clause-fault_is_true : goal.returns-then-not-is_free-clause-fault_is_true
+returns-then-not-is_free-clause-fault_is_true c = tt
 
 pub returns-in_err-zeros_at-clause-ok : goal.returns-in_err-zeros_at-clause-ok
 returns-in_err-zeros_at-clause-ok c = no_ok c.from_residual-in_err-zeros_at.result c.in_err-zeros_at.field-0.0 _ c.from_residual-in_err-zeros_at.ensures.1
@@ -181,8 +181,8 @@ returns-in_err-zeros_at-clause-ended c = no_ok c.from_residual-in_err-zeros_at.r
 pub returns-clause-err : goal.returns-clause-err
 returns-clause-err c = tt
 
-pub returns-clause-told : goal.returns-clause-told
-returns-clause-told c = tt
+pub returns-clause-fault_is_true : goal.returns-clause-fault_is_true
+returns-clause-fault_is_true c = tt
 
 pub returns-then-not-is_free-clause-ok : goal.returns-then-not-is_free-clause-ok
 returns-then-not-is_free-clause-ok c = c.in_ok-read_each.ensures.ok

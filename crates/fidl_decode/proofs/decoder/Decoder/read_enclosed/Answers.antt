@@ -3,7 +3,7 @@ use Rattle.std.proofs.Common.{◌≡◌, ℕ, ◌-◌, arith}
 use Rattle.std.specs.Prelude.{Some, None}
 use Rattle.std.proofs.lemmas.Result.{on_err_weaker, IfErr-weaker}
 use Rattle.fidl_wire.specs.Term as ty
-use Rattle.fidl_records.specs.Terms.{declarations_of}
+use Rattle.fidl_table_format.specs.Terms.{declarations_of}
 use Rattle.fidl_decode.specs.declared.frame.Left.{Left}
 use Rattle.fidl_decode.specs.declared.frame.Left.TheVariants.{Content}
 use Rattle.fidl_decode.specs.declared.frame.Until.{Until}
@@ -108,8 +108,8 @@ returns-clause-err c =
     let still = x.steps in
     on_err_weaker c.read_whole.result (λ bad. opens_refused t m c.args.depth (Some (ty.named c.args.entry)) c.args.envelope old mid frame o bad) c.read_whole.ensures.err
 
-pub returns-clause-told : goal.returns-clause-told
-returns-clause-told c =
+pub returns-clause-fault_is_true : goal.returns-clause-fault_is_true
+returns-clause-fault_is_true c =
     let t = c.args.self.now.table.now in
     let m = message_of c.args.self.now.bytes.now c.args.self.now.handles.now in
     let old = at_of c.args.state.now in
@@ -119,7 +119,7 @@ returns-clause-told c =
     let o = opens_known t m c.args.depth c.args.envelope old mid x.state c.args.entry frame x.grows x.ok x.breaks x.fine x.deeper x.work in
     let work = opens_work t m c.args.depth (Some (ty.named c.args.entry)) c.args.envelope old mid frame o in
     let still = x.steps in
-    IfErr-weaker c.read_whole.result _ _ (λ fault b. o.breaks fault b) c.read_whole.ensures.told
+    IfErr-weaker c.read_whole.result _ _ (λ fault b. o.breaks fault b) c.read_whole.ensures.fault_is_true
 
 pub returns-clause-grows : goal.returns-clause-grows
 returns-clause-grows c =
@@ -171,8 +171,8 @@ returns-in_err-frame-clause-ok c = no_ok c.from_residual.result c.in_err-frame.f
 pub returns-in_err-frame-clause-pays : goal.returns-in_err-frame-clause-pays
 returns-in_err-frame-clause-pays c = no_ok c.from_residual.result c.in_err-frame.field-0.0 _ c.from_residual.ensures.1
 
-pub returns-in_err-frame-clause-told : goal.returns-in_err-frame-clause-told
-returns-in_err-frame-clause-told c = passed_on c.from_residual.result c.in_err-frame.field-0.0 _ c.from_residual.ensures.1 c.in_err-frame.ensures.told
+pub returns-in_err-frame-clause-fault_is_true : goal.returns-in_err-frame-clause-fault_is_true
+returns-in_err-frame-clause-fault_is_true c = passed_on c.from_residual.result c.in_err-frame.field-0.0 _ c.from_residual.ensures.1 c.in_err-frame.ensures.fault_is_true
 
 pub returns-in_err-frame-clause-grows : goal.returns-in_err-frame-clause-grows
 returns-in_err-frame-clause-grows c = no_ok c.from_residual.result c.in_err-frame.field-0.0 _ c.from_residual.ensures.1

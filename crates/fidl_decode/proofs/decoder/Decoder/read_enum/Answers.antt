@@ -2,15 +2,15 @@ use Rattle.fidl_decode.proofs.Unchanged.{same_le}
 use Rattle.std.proofs.Common.{rules, ◌≡◌, ap, sym, subst, refl}
 use Rattle.std.specs.Prelude.{Option, Some, None, true, Bool, ℤ, List, if◌then◌else◌}
 use Rattle.fidl_wire.specs.Term as ty
-use Rattle.fidl_records.specs.Section.{header_of}
-use Rattle.fidl_records.specs.Terms.{underlying, values_from, strict_values, is_strict}
+use Rattle.fidl_table_format.specs.Section.{header_of}
+use Rattle.fidl_table_format.specs.Terms.{underlying, values_from, strict_values, is_strict}
 use Rattle.fidl_decode.specs.declared.fault.DecodeFault.TheVariants.{UnknownValue}
 use Rattle.fidl_decode.specs.Breaks.{BreaksField}
 use Rattle.fidl_decode.specs.Faults.{message_of}
 use Rattle.fidl_decode.proofs.decoder.Decoder.read_enum.Goals as goal
 
-pub returns-then-not-has_value-clause-told : goal.returns-then-not-has_value-clause-told
-returns-then-not-has_value-clause-told c =
+pub returns-then-not-has_value-clause-fault_is_true : goal.returns-then-not-has_value-clause-fault_is_true
+returns-then-not-has_value-clause-fault_is_true c =
     let d = c.args.entry.now in
     let t = c.args.self.now.table.now in
     let strict : is_strict d ≡ true = (let r = sym c.is_strict.ensures in search (rules, r, c.if-not-is_strict.false)) in
@@ -20,8 +20,8 @@ returns-then-not-has_value-clause-told c =
 pub returns-then-not-is_strict-clause-err : goal.returns-then-not-is_strict-clause-err
 returns-then-not-is_strict-clause-err c = tt
 
-pub returns-then-not-is_strict-clause-told : goal.returns-then-not-is_strict-clause-told
-returns-then-not-is_strict-clause-told c = tt
+pub returns-then-not-is_strict-clause-fault_is_true : goal.returns-then-not-is_strict-clause-fault_is_true
+returns-then-not-is_strict-clause-fault_is_true c = tt
 
 pub returns-then-not-is_strict-clause-grows : goal.returns-then-not-is_strict-clause-grows
 returns-then-not-is_strict-clause-grows c = same_le _
@@ -38,5 +38,5 @@ returns-then-not-has_value-clause-ok c = tt
 pub returns-clause-err : goal.returns-clause-err
 returns-clause-err c = tt
 
-pub returns-clause-told : goal.returns-clause-told
-returns-clause-told c = tt
+pub returns-clause-fault_is_true : goal.returns-clause-fault_is_true
+returns-clause-fault_is_true c = tt

@@ -96,8 +96,8 @@ returns-in_err-below-clause-err c =
     let less = so_far.less in
     on_err _ ((to : At) → Reads t m f old to → ⊥) (turns_refused t m f old now a rest so_far c.in_err-below.ensures.err)
 
-pub returns-in_err-below-clause-told : goal.returns-in_err-below-clause-told
-returns-in_err-below-clause-told c =
+pub returns-in_err-below-clause-fault_is_true : goal.returns-in_err-below-clause-fault_is_true
+returns-in_err-below-clause-fault_is_true c =
     let t = c.args.self.now.table.now in
     let m = message_of c.args.self.now.bytes.now c.args.self.now.handles.now in
     let f = c.args.frame in
@@ -109,7 +109,7 @@ returns-in_err-below-clause-told c =
     let same = c.envelopes_from-now.ensures in
     let so_far = subst (λ (x : Frame). Turns t m f old now a (left_over (Some x))) (sym same) c.loop-many.invariant.turns in
     let less = so_far.less in
-    passed_on c.from_residual.result c.in_err-below.field-0.0 _ c.from_residual.ensures.1 (turns_break t m f old now a rest so_far _ c.in_err-below.ensures.told)
+    passed_on c.from_residual.result c.in_err-below.field-0.0 _ c.from_residual.ensures.1 (turns_break t m f old now a rest so_far _ c.in_err-below.ensures.fault_is_true)
 
 pub returns-in-Some-clause-ok : goal.returns-in-Some-clause-ok
 returns-in-Some-clause-ok c =
@@ -219,11 +219,11 @@ returns-in_err-below-clause-rises c = no_ok c.from_residual.result c.in_err-belo
 pub returns-in-Some-clause-err : goal.returns-in-Some-clause-err
 returns-in-Some-clause-err c = tt
 
-pub returns-in-Some-clause-told : goal.returns-in-Some-clause-told
-returns-in-Some-clause-told c = tt
+pub returns-in-Some-clause-fault_is_true : goal.returns-in-Some-clause-fault_is_true
+returns-in-Some-clause-fault_is_true c = tt
 
 pub returns-clause-err : goal.returns-clause-err
 returns-clause-err c = tt
 
-pub returns-clause-told : goal.returns-clause-told
-returns-clause-told c = tt
+pub returns-clause-fault_is_true : goal.returns-clause-fault_is_true
+returns-clause-fault_is_true c = tt

@@ -1,11 +1,11 @@
 use Rattle.std.proofs.Common.{◌≡◌, ◌-◌, false, true, refl, sym, ap, subst, ◌∙◌, arith, inl, inr}
 use Rattle.std.specs.Prelude.{Some}
 use Rattle.std.proofs.lemmas.Result.{on_err_weaker, IfErr-weaker}
-use Rattle.fidl_records.specs.declared.record.Entry.{Entry}
-use Rattle.fidl_records.specs.declared.kind.EntryKind.{EntryKind}
-use Rattle.fidl_records.specs.declared.kind.EntryKind.TheVariants.{Struct}
-use Rattle.fidl_records.specs.Kind.{kind_of}
-use Rattle.fidl_records.specs.Section.{entry_at}
+use Rattle.fidl_table_format.specs.declared.record.Entry.{Entry}
+use Rattle.fidl_table_format.specs.declared.kind.EntryKind.{EntryKind}
+use Rattle.fidl_table_format.specs.declared.kind.EntryKind.TheVariants.{Struct}
+use Rattle.fidl_table_format.specs.Kind.{kind_of}
+use Rattle.fidl_table_format.specs.Section.{entry_at}
 use Rattle.fidl_decode.specs.Invariants.{AreLeaves}
 use Rattle.fidl_decode.specs.declared.frame.Frame.{Frame}
 use Rattle.fidl_decode.specs.Machine.{FrameFine, Visits, value_work, at_of}
@@ -81,8 +81,8 @@ returns-clause-err c =
     (visits_struct t c.requires.table m c.args.depth c.args.entry c.args.place old c.requires.entry c.requires.state c.requires.depth 0 0 refl is c.requires.room) in
     on_err_weaker c.read_fields.result (λ bad. visits_refused t m c.args.depth c.args.entry c.args.place old old 0 (frame c.entry-e.result) visit bad) c.read_fields.ensures.err
 
-pub returns-clause-told : goal.returns-clause-told
-returns-clause-told c =
+pub returns-clause-fault_is_true : goal.returns-clause-fault_is_true
+returns-clause-fault_is_true c =
     let t = c.args.self.now.table.now in
     let m = message_of c.args.self.now.bytes.now c.args.self.now.handles.now in
     let old = at_of c.args.state.now in
@@ -92,7 +92,7 @@ returns-clause-told c =
     let frame : Entry → Frame = λ d. struct_frame d c.args.place c.args.depth 0 in
     let visit = subst (λ (d : Entry). Visits t m c.args.depth c.args.entry c.args.place old old 0 (Some (frame d))) (sym c.entry-e.ensures.value)
     (visits_struct t c.requires.table m c.args.depth c.args.entry c.args.place old c.requires.entry c.requires.state c.requires.depth 0 0 refl is c.requires.room) in
-    IfErr-weaker c.read_fields.result _ _ (λ fault b. visit.breaks fault b) c.read_fields.ensures.told
+    IfErr-weaker c.read_fields.result _ _ (λ fault b. visit.breaks fault b) c.read_fields.ensures.fault_is_true
 
 pub returns-clause-cost : goal.returns-clause-cost
 returns-clause-cost c =

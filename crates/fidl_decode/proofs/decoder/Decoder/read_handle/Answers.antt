@@ -2,7 +2,7 @@ use Rattle.std.proofs.Common.{◌≡◌, ◌+◌, ◌<◌, length, get_or, refl,
 use Rattle.std.proofs.lemmas.Option.{slice_get-get_or}
 use Rattle.fidl_wire.specs.declared.handle.HandleInfo.{HandleInfo}
 use Rattle.fidl_wire.specs.Term as ty
-use Rattle.fidl_records.specs.Terms.{declarations_of, is_optional}
+use Rattle.fidl_table_format.specs.Terms.{declarations_of, is_optional}
 use Rattle.fidl_decode.specs.Faults.{message_of}
 use Rattle.fidl_decode.specs.State.{At, taken}
 use Rattle.fidl_decode.specs.Machine.{Leads, at_of}
@@ -21,8 +21,8 @@ returns-then-not-is_allowed-clause-err c =
     let bad = c.if-not-is_allowed.true in
     wrong_refused (declarations_of c.args.self.now.table.now) (message_of c.args.self.now.bytes.now c.args.self.now.handles.now) c.args.depth (is_optional c.args.entry.now) c.args.entry.now.subtype c.args.entry.now.rights c.args.place (at_of c.args.state.now) c.in-Present.ensures (get_or c.args.self.now.handles.now c.args.state.now.handle nobody) (slice_get-get_or c.args.self.now.handles.now c.args.state.now.handle nobody within) (λ ok. let k = c.is_allowed.ensures.allowed.1 ok in cc)
 
-pub returns-then-not-is_allowed-clause-told : goal.returns-then-not-is_allowed-clause-told
-returns-then-not-is_allowed-clause-told c =
+pub returns-then-not-is_allowed-clause-fault_is_true : goal.returns-then-not-is_allowed-clause-fault_is_true
+returns-then-not-is_allowed-clause-fault_is_true c =
     let within : c.args.state.now.handle < length c.args.self.now.handles.now = (let h = c.requires.state.handle in omega (arith, h, c.if-state-self.false)) in
     let bad = c.if-not-is_allowed.true in
     (refl, c.in-Present.ensures, (get_or c.args.self.now.handles.now c.args.state.now.handle nobody, slice_get-get_or c.args.self.now.handles.now c.args.state.now.handle nobody within, λ ok. let k = c.is_allowed.ensures.allowed.1 ok in cc))
@@ -81,8 +81,8 @@ returns-then-not-is_allowed-clause-steps c = refl
 pub returns-else-not-is_optional-clause-err : goal.returns-else-not-is_optional-clause-err
 returns-else-not-is_optional-clause-err c = tt
 
-pub returns-else-not-is_optional-clause-told : goal.returns-else-not-is_optional-clause-told
-returns-else-not-is_optional-clause-told c = tt
+pub returns-else-not-is_optional-clause-fault_is_true : goal.returns-else-not-is_optional-clause-fault_is_true
+returns-else-not-is_optional-clause-fault_is_true c = tt
 
 pub returns-else-not-is_optional-clause-next : goal.returns-else-not-is_optional-clause-next
 returns-else-not-is_optional-clause-next c = refl
@@ -105,8 +105,8 @@ returns-in-Neither-clause-steps c = refl
 pub returns-else-not-is_allowed-clause-err : goal.returns-else-not-is_allowed-clause-err
 returns-else-not-is_allowed-clause-err c = tt
 
-pub returns-else-not-is_allowed-clause-told : goal.returns-else-not-is_allowed-clause-told
-returns-else-not-is_allowed-clause-told c = tt
+pub returns-else-not-is_allowed-clause-fault_is_true : goal.returns-else-not-is_allowed-clause-fault_is_true
+returns-else-not-is_allowed-clause-fault_is_true c = tt
 
 pub returns-else-not-is_allowed-clause-next : goal.returns-else-not-is_allowed-clause-next
 returns-else-not-is_allowed-clause-next c = refl

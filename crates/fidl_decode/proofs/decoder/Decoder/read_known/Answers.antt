@@ -2,12 +2,12 @@ use Rattle.fidl_decode.proofs.Unchanged.{no_ok}
 use Rattle.std.proofs.Common.{◌≡◌, ◌+◌, ◌≤◌, sym, ap, subst, ◌∙◌, arith}
 use Rattle.std.specs.Prelude.{Some, None}
 use Rattle.fidl_wire.specs.Term as ty
-use Rattle.fidl_records.specs.declared.record.Entry.{Entry}
-use Rattle.fidl_records.specs.declared.kind.EntryKind.{EntryKind}
-use Rattle.fidl_records.specs.declared.kind.EntryKind.TheVariants.{Struct}
-use Rattle.fidl_records.specs.Kind.{kind_of}
-use Rattle.fidl_records.specs.Section.{header_of, entry_at}
-use Rattle.fidl_records.specs.Terms.{declarations_of}
+use Rattle.fidl_table_format.specs.declared.record.Entry.{Entry}
+use Rattle.fidl_table_format.specs.declared.kind.EntryKind.{EntryKind}
+use Rattle.fidl_table_format.specs.declared.kind.EntryKind.TheVariants.{Struct}
+use Rattle.fidl_table_format.specs.Kind.{kind_of}
+use Rattle.fidl_table_format.specs.Section.{header_of, entry_at}
+use Rattle.fidl_table_format.specs.Terms.{declarations_of}
 use Rattle.fidl_decode.specs.Invariants.{IsFlat}
 use Rattle.fidl_decode.specs.State.{At}
 use Rattle.fidl_decode.specs.Envelopes.{Contained}
@@ -96,8 +96,8 @@ returns-in_err-read_enclosed-clause-err c =
     on_err _ ((to : At) → Contained (declarations_of t) m c.args.depth (Some (ty.named c.args.entry)) c.args.envelope old to → ⊥)
     (subst (λ (s : At). (to : At) → Contained (declarations_of t) m c.args.depth (Some (ty.named c.args.entry)) c.args.envelope s to → ⊥) kept c.in_err-read_enclosed.ensures.err)
 
-pub returns-in_err-read_enclosed-clause-told : goal.returns-in_err-read_enclosed-clause-told
-returns-in_err-read_enclosed-clause-told c =
+pub returns-in_err-read_enclosed-clause-fault_is_true : goal.returns-in_err-read_enclosed-clause-fault_is_true
+returns-in_err-read_enclosed-clause-fault_is_true c =
     let t = c.args.self.now.table.now in
     let m = message_of c.args.self.now.bytes.now c.args.self.now.handles.now in
     let old = at_of c.args.state.now in
@@ -105,7 +105,7 @@ returns-in_err-read_enclosed-clause-told c =
     let next : c.pass_member.new.state.next ≡ c.args.state.now.next = ap (λ (s : At). s.next) kept in
     let still : c.pass_member.new.state.steps ≡ c.args.state.now.steps = omega (arith, next, c.pass_member.ensures.grows, c.pass_member.ensures.pays) in
     passed_on c.from_residual.result c.in_err-read_enclosed.field-0.0 _ c.from_residual.ensures.1
-    (subst (λ (s : At). BreaksMember (declarations_of t) m c.args.depth (Some (ty.named c.args.entry)) c.args.envelope s c.in_err-read_enclosed.field-0.0) kept c.in_err-read_enclosed.ensures.told)
+    (subst (λ (s : At). BreaksMember (declarations_of t) m c.args.depth (Some (ty.named c.args.entry)) c.args.envelope s c.in_err-read_enclosed.field-0.0) kept c.in_err-read_enclosed.ensures.fault_is_true)
 
 pub returns-in_err-read_enclosed-clause-cost : goal.returns-in_err-read_enclosed-clause-cost
 returns-in_err-read_enclosed-clause-cost c =
@@ -180,8 +180,8 @@ returns-in_err-frame-clause-err c =
     on_err _ ((to : At) → Contained (declarations_of t) m c.args.depth (Some (ty.named c.args.entry)) c.args.envelope old to → ⊥)
     (subst (λ (s : At). (to : At) → Contained (declarations_of t) m c.args.depth (Some (ty.named c.args.entry)) c.args.envelope s to → ⊥) kept c.in_err-frame.ensures.err)
 
-pub returns-in_err-frame-clause-told : goal.returns-in_err-frame-clause-told
-returns-in_err-frame-clause-told c =
+pub returns-in_err-frame-clause-fault_is_true : goal.returns-in_err-frame-clause-fault_is_true
+returns-in_err-frame-clause-fault_is_true c =
     let t = c.args.self.now.table.now in
     let m = message_of c.args.self.now.bytes.now c.args.self.now.handles.now in
     let old = at_of c.args.state.now in
@@ -189,7 +189,7 @@ returns-in_err-frame-clause-told c =
     let next : c.pass_member.new.state.next ≡ c.args.state.now.next = ap (λ (s : At). s.next) kept in
     let still : c.pass_member.new.state.steps ≡ c.args.state.now.steps = omega (arith, next, c.pass_member.ensures.grows, c.pass_member.ensures.pays) in
     passed_on c.from_residual-in_err-frame.result c.in_err-frame.field-0.0 _ c.from_residual-in_err-frame.ensures.1
-    (subst (λ (s : At). BreaksMember (declarations_of t) m c.args.depth (Some (ty.named c.args.entry)) c.args.envelope s c.in_err-frame.field-0.0) kept c.in_err-frame.ensures.told)
+    (subst (λ (s : At). BreaksMember (declarations_of t) m c.args.depth (Some (ty.named c.args.entry)) c.args.envelope s c.in_err-frame.field-0.0) kept c.in_err-frame.ensures.fault_is_true)
 
 pub returns-clause-ok : goal.returns-clause-ok
 returns-clause-ok c =
@@ -247,8 +247,8 @@ pass_member-requires-clause-depth c = c.requires.depth
 pub returns-then-pass_member-clause-err : goal.returns-then-pass_member-clause-err
 returns-then-pass_member-clause-err c = tt
 
-pub returns-then-pass_member-clause-told : goal.returns-then-pass_member-clause-told
-returns-then-pass_member-clause-told c = tt
+pub returns-then-pass_member-clause-fault_is_true : goal.returns-then-pass_member-clause-fault_is_true
+returns-then-pass_member-clause-fault_is_true c = tt
 
 pub entry-e-requires : goal.entry-e-requires
 entry-e-requires c = c.requires.entry
@@ -283,8 +283,8 @@ returns-in_err-read_enclosed-clause-grows c = no_ok c.from_residual.result c.in_
 pub returns-then-is_flat-clause-err : goal.returns-then-is_flat-clause-err
 returns-then-is_flat-clause-err c = tt
 
-pub returns-then-is_flat-clause-told : goal.returns-then-is_flat-clause-told
-returns-then-is_flat-clause-told c = tt
+pub returns-then-is_flat-clause-fault_is_true : goal.returns-then-is_flat-clause-fault_is_true
+returns-then-is_flat-clause-fault_is_true c = tt
 
 pub enter_member-requires-clause-table : goal.enter_member-requires-clause-table
 enter_member-requires-clause-table c = c.requires.table
@@ -313,5 +313,5 @@ returns-in_err-frame-clause-grows c = no_ok c.from_residual-in_err-frame.result 
 pub returns-clause-err : goal.returns-clause-err
 returns-clause-err c = tt
 
-pub returns-clause-told : goal.returns-clause-told
-returns-clause-told c = tt
+pub returns-clause-fault_is_true : goal.returns-clause-fault_is_true
+returns-clause-fault_is_true c = tt

@@ -7,22 +7,22 @@ use Rattle.std.specs.Prelude.{Some, None, IfSome, Contains}
 use Rattle.std.specs.Int.{byte_len}
 use Rattle.fidl_wire.specs.Term as ty
 use Rattle.fidl_wire.specs.Term.{width}
-use Rattle.fidl_records.specs.Uses.{is_unsigned}
-use Rattle.fidl_records.specs.Entry.{subtype_is}
+use Rattle.fidl_table_format.specs.Uses.{is_unsigned}
+use Rattle.fidl_table_format.specs.Entry.{subtype_is}
 use Rattle.fidl_wire.specs.Typed.{InMask}
-use Rattle.fidl_records.specs.Number.{number_standing}
-use Rattle.fidl_records.specs.Terms.{underlying, mask_of, strict_values, declarations_of, is_optional}
-use Rattle.fidl_records.specs.declared.record.Entry.{Entry}
+use Rattle.fidl_table_format.specs.Number.{number_standing}
+use Rattle.fidl_table_format.specs.Terms.{underlying, mask_of, strict_values, declarations_of, is_optional}
+use Rattle.fidl_table_format.specs.declared.record.Entry.{Entry}
 use Rattle.fidl_decode.specs.Invariants.{EnumFine}
 use Rattle.fidl_decode.specs.Breaks.{BreaksField, BreaksHandle, BreaksText}
 use Rattle.fidl_decode.specs.State.{At, Item}
 use Rattle.fidl_decode.proofs.Turning.{on_ok_from, on_ok_two, on_ok_three, refused_by}
 use Rattle.fidl_decode.proofs.Written.{text_excluded}
 use Rattle.std.proofs.lemmas.Result.{on_err_weaker, IfErr-weaker}
-use Rattle.fidl_records.specs.declared.kind.EntryKind.{EntryKind}
-use Rattle.fidl_records.specs.declared.kind.EntryKind.TheVariants.{Bool as Boolean, Bits, Enum, Handle, String}
-use Rattle.fidl_records.specs.Kind.{kind_of}
-use Rattle.fidl_records.specs.Section.{header_of, entry_at}
+use Rattle.fidl_table_format.specs.declared.kind.EntryKind.{EntryKind}
+use Rattle.fidl_table_format.specs.declared.kind.EntryKind.TheVariants.{Bool as Boolean, Bits, Enum, Handle, String}
+use Rattle.fidl_table_format.specs.Kind.{kind_of}
+use Rattle.fidl_table_format.specs.Section.{header_of, entry_at}
 use Rattle.fidl_decode.proofs.Visiting.{size_is, size_as, visits_leaf, text_cost, refused_leaf, leaf_breaks, fine_as, positive, refused_bool, bool_breaks, visits_bool, free_else, visits_free, visits_bits, refused_bits, bits_break, visits_enum, refused_enum, enum_breaks}
 use Rattle.fidl_decode.proofs.decoder.Decoder.read_leaf.Goals as goal
 
@@ -37,8 +37,8 @@ returns-then-self-place-gt1-clause-err c =
     let is : kind_of (entry_at c.args.self.now.table.now c.args.entry).kind ≡ Some Boolean = c.requires.kind ∙ ap (λ (k : EntryKind). Some k) c.in-Bool.is in
     refused_bool c.args.self.now.table.now c.requires.table (message_of c.args.self.now.bytes.now c.args.self.now.handles.now) c.args.depth c.args.entry c.args.place (at_of c.args.state.now) c.requires.entry c.requires.state c.requires.depth is c.if-self-place-gt1.true
 
-pub returns-then-self-place-gt1-clause-told : goal.returns-then-self-place-gt1-clause-told
-returns-then-self-place-gt1-clause-told c =
+pub returns-then-self-place-gt1-clause-fault_is_true : goal.returns-then-self-place-gt1-clause-fault_is_true
+returns-then-self-place-gt1-clause-fault_is_true c =
     let is : kind_of (entry_at c.args.self.now.table.now c.args.entry).kind ≡ Some Boolean = c.requires.kind ∙ ap (λ (k : EntryKind). Some k) c.in-Bool.is in
     bool_breaks c.args.self.now.table.now c.requires.table (message_of c.args.self.now.bytes.now c.args.self.now.handles.now) c.args.depth c.args.entry c.args.place (at_of c.args.state.now) c.requires.entry c.requires.state c.requires.depth is c.if-self-place-gt1.true
 
@@ -66,11 +66,11 @@ returns-in-Bits-clause-err c =
     let own : c.entry.result ≡ entry_at c.args.self.now.table.now c.args.entry = c.entry.ensures.value in
     on_err_weaker c.read_bits.result (λ bad. refused_bits c.args.self.now.table.now c.requires.table (message_of c.args.self.now.bytes.now c.args.self.now.handles.now) c.args.depth c.args.entry c.args.place (at_of c.args.state.now) c.requires.entry c.requires.state c.requires.depth is (subst (λ (d : Entry). IfSome (mask_of d) (λ mask. InMask mask (number_standing (underlying d) c.args.self.now.bytes.now c.args.place)) → ⊥) own bad)) c.read_bits.ensures.err
 
-pub returns-in-Bits-clause-told : goal.returns-in-Bits-clause-told
-returns-in-Bits-clause-told c =
+pub returns-in-Bits-clause-fault_is_true : goal.returns-in-Bits-clause-fault_is_true
+returns-in-Bits-clause-fault_is_true c =
     let is : kind_of (entry_at c.args.self.now.table.now c.args.entry).kind ≡ Some Bits = c.requires.kind ∙ ap (λ (k : EntryKind). Some k) c.in-Bits.is in
     let own : c.entry.result ≡ entry_at c.args.self.now.table.now c.args.entry = c.entry.ensures.value in
-    IfErr-weaker c.read_bits.result _ _ (λ fault b. bits_break c.args.self.now.table.now c.requires.table (message_of c.args.self.now.bytes.now c.args.self.now.handles.now) c.args.depth c.args.entry c.args.place (at_of c.args.state.now) c.requires.entry c.requires.state c.requires.depth is fault (subst (λ (d : Entry). BreaksField (message_of c.args.self.now.bytes.now c.args.self.now.handles.now) (ty.bits (underlying d) (mask_of d)) c.args.place fault) own b)) c.read_bits.ensures.told
+    IfErr-weaker c.read_bits.result _ _ (λ fault b. bits_break c.args.self.now.table.now c.requires.table (message_of c.args.self.now.bytes.now c.args.self.now.handles.now) c.args.depth c.args.entry c.args.place (at_of c.args.state.now) c.requires.entry c.requires.state c.requires.depth is fault (subst (λ (d : Entry). BreaksField (message_of c.args.self.now.bytes.now c.args.self.now.handles.now) (ty.bits (underlying d) (mask_of d)) c.args.place fault) own b)) c.read_bits.ensures.fault_is_true
 
 pub returns-in-Enum-clause-ok : goal.returns-in-Enum-clause-ok
 returns-in-Enum-clause-ok c =
@@ -84,11 +84,11 @@ returns-in-Enum-clause-err c =
     let own : c.entry-in-Enum.result ≡ entry_at c.args.self.now.table.now c.args.entry = c.entry-in-Enum.ensures.value in
     on_err_weaker c.read_enum.result (λ bad. refused_enum c.args.self.now.table.now c.requires.table (message_of c.args.self.now.bytes.now c.args.self.now.handles.now) c.args.depth c.args.entry c.args.place (at_of c.args.state.now) c.requires.entry c.requires.state c.requires.depth is (subst (λ (d : Entry). IfSome (strict_values c.args.self.now.table.now (header_of c.args.self.now.table.now) d) (λ values. Contains values (number_standing (underlying d) c.args.self.now.bytes.now c.args.place)) → ⊥) own bad)) c.read_enum.ensures.err
 
-pub returns-in-Enum-clause-told : goal.returns-in-Enum-clause-told
-returns-in-Enum-clause-told c =
+pub returns-in-Enum-clause-fault_is_true : goal.returns-in-Enum-clause-fault_is_true
+returns-in-Enum-clause-fault_is_true c =
     let is : kind_of (entry_at c.args.self.now.table.now c.args.entry).kind ≡ Some Enum = c.requires.kind ∙ ap (λ (k : EntryKind). Some k) c.in-Enum.is in
     let own : c.entry-in-Enum.result ≡ entry_at c.args.self.now.table.now c.args.entry = c.entry-in-Enum.ensures.value in
-    IfErr-weaker c.read_enum.result _ _ (λ fault b. enum_breaks c.args.self.now.table.now c.requires.table (message_of c.args.self.now.bytes.now c.args.self.now.handles.now) c.args.depth c.args.entry c.args.place (at_of c.args.state.now) c.requires.entry c.requires.state c.requires.depth is fault (subst (λ (d : Entry). BreaksField (message_of c.args.self.now.bytes.now c.args.self.now.handles.now) (ty.enum (underlying d) (strict_values c.args.self.now.table.now (header_of c.args.self.now.table.now) d)) c.args.place fault) own b)) c.read_enum.ensures.told
+    IfErr-weaker c.read_enum.result _ _ (λ fault b. enum_breaks c.args.self.now.table.now c.requires.table (message_of c.args.self.now.bytes.now c.args.self.now.handles.now) c.args.depth c.args.entry c.args.place (at_of c.args.state.now) c.requires.entry c.requires.state c.requires.depth is fault (subst (λ (d : Entry). BreaksField (message_of c.args.self.now.bytes.now c.args.self.now.handles.now) (ty.enum (underlying d) (strict_values c.args.self.now.table.now (header_of c.args.self.now.table.now) d)) c.args.place fault) own b)) c.read_enum.ensures.fault_is_true
 
 pub read_enum-requires-clause-values : goal.read_enum-requires-clause-values
 read_enum-requires-clause-values c =
@@ -117,11 +117,11 @@ returns-in-Handle-clause-err c =
     let own : c.entry-in-Handle.result ≡ entry_at c.args.self.now.table.now c.args.entry = c.entry-in-Handle.ensures.value in
     on_err_weaker c.read_handle.result (λ bad. refused_leaf c.args.self.now.table.now c.requires.table (message_of c.args.self.now.bytes.now c.args.self.now.handles.now) c.args.depth c.args.entry c.args.place (at_of c.args.state.now) c.requires.entry c.requires.state c.requires.depth Handle is (subst (λ (d : Entry). (to : At) → Item (declarations_of c.args.self.now.table.now) (message_of c.args.self.now.bytes.now c.args.self.now.handles.now) c.args.depth (ty.handle (is_optional d) d.subtype d.rights) c.args.place (at_of c.args.state.now) to → ⊥) own bad)) c.read_handle.ensures.err
 
-pub returns-in-Handle-clause-told : goal.returns-in-Handle-clause-told
-returns-in-Handle-clause-told c =
+pub returns-in-Handle-clause-fault_is_true : goal.returns-in-Handle-clause-fault_is_true
+returns-in-Handle-clause-fault_is_true c =
     let is : kind_of (entry_at c.args.self.now.table.now c.args.entry).kind ≡ Some Handle = c.requires.kind ∙ ap (λ (k : EntryKind). Some k) c.in-Handle.is in
     let own : c.entry-in-Handle.result ≡ entry_at c.args.self.now.table.now c.args.entry = c.entry-in-Handle.ensures.value in
-    IfErr-weaker c.read_handle.result _ _ (λ fault b. leaf_breaks c.args.self.now.table.now c.requires.table (message_of c.args.self.now.bytes.now c.args.self.now.handles.now) c.args.depth c.args.entry c.args.place (at_of c.args.state.now) c.requires.entry c.requires.state c.requires.depth Handle is fault (subst (λ (d : Entry). BreaksHandle (message_of c.args.self.now.bytes.now c.args.self.now.handles.now) (is_optional d) d.subtype d.rights c.args.place c.args.state.now.handle fault) own b)) c.read_handle.ensures.told
+    IfErr-weaker c.read_handle.result _ _ (λ fault b. leaf_breaks c.args.self.now.table.now c.requires.table (message_of c.args.self.now.bytes.now c.args.self.now.handles.now) c.args.depth c.args.entry c.args.place (at_of c.args.state.now) c.requires.entry c.requires.state c.requires.depth Handle is fault (subst (λ (d : Entry). BreaksHandle (message_of c.args.self.now.bytes.now c.args.self.now.handles.now) (is_optional d) d.subtype d.rights c.args.place c.args.state.now.handle fault) own b)) c.read_handle.ensures.fault_is_true
 
 pub read_text-requires-clause-room : goal.read_text-requires-clause-room
 read_text-requires-clause-room c =
@@ -148,13 +148,13 @@ returns-in-String-clause-err c =
     refused_by c.read_text.result _ _
     (λ fault b. refused_leaf c.args.self.now.table.now c.requires.table (message_of c.args.self.now.bytes.now c.args.self.now.handles.now) c.args.depth c.args.entry c.args.place (at_of c.args.state.now) c.requires.entry c.requires.state c.requires.depth String is (λ to x. text_excluded (declarations_of c.args.self.now.table.now) (message_of c.args.self.now.bytes.now c.args.self.now.handles.now) (omega (arith, short)) c.args.depth (is_optional (entry_at c.args.self.now.table.now c.args.entry)) (entry_at c.args.self.now.table.now c.args.entry).bound c.args.place (at_of c.args.state.now) to fault
     (subst (λ (d : Entry). BreaksText (message_of c.args.self.now.bytes.now c.args.self.now.handles.now) c.args.depth (is_optional d) d.bound c.args.place c.args.state.now.next fault) own b) x))
-    c.read_text.ensures.told
+    c.read_text.ensures.fault_is_true
 
-pub returns-in-String-clause-told : goal.returns-in-String-clause-told
-returns-in-String-clause-told c =
+pub returns-in-String-clause-fault_is_true : goal.returns-in-String-clause-fault_is_true
+returns-in-String-clause-fault_is_true c =
     let is : kind_of (entry_at c.args.self.now.table.now c.args.entry).kind ≡ Some String = c.requires.kind ∙ ap (λ (k : EntryKind). Some k) c.in-String.is in
     let own : c.entry-in-String.result ≡ entry_at c.args.self.now.table.now c.args.entry = c.entry-in-String.ensures.value in
-    IfErr-weaker c.read_text.result _ _ (λ fault b. leaf_breaks c.args.self.now.table.now c.requires.table (message_of c.args.self.now.bytes.now c.args.self.now.handles.now) c.args.depth c.args.entry c.args.place (at_of c.args.state.now) c.requires.entry c.requires.state c.requires.depth String is fault (subst (λ (d : Entry). BreaksText (message_of c.args.self.now.bytes.now c.args.self.now.handles.now) c.args.depth (is_optional d) d.bound c.args.place c.args.state.now.next fault) own b)) c.read_text.ensures.told
+    IfErr-weaker c.read_text.result _ _ (λ fault b. leaf_breaks c.args.self.now.table.now c.requires.table (message_of c.args.self.now.bytes.now c.args.self.now.handles.now) c.args.depth c.args.entry c.args.place (at_of c.args.state.now) c.requires.entry c.requires.state c.requires.depth String is fault (subst (λ (d : Entry). BreaksText (message_of c.args.self.now.bytes.now c.args.self.now.handles.now) c.args.depth (is_optional d) d.bound c.args.place c.args.state.now.next fault) own b)) c.read_text.ensures.fault_is_true
 
 pub read_bits-requires-clause-kind : goal.read_bits-requires-clause-kind
 read_bits-requires-clause-kind c =
@@ -218,8 +218,8 @@ read_text-requires-clause-budget c = c.requires.budget
 pub returns-else-self-place-gt1-clause-err : goal.returns-else-self-place-gt1-clause-err
 returns-else-self-place-gt1-clause-err c = tt
 
-pub returns-else-self-place-gt1-clause-told : goal.returns-else-self-place-gt1-clause-told
-returns-else-self-place-gt1-clause-told c = tt
+pub returns-else-self-place-gt1-clause-fault_is_true : goal.returns-else-self-place-gt1-clause-fault_is_true
+returns-else-self-place-gt1-clause-fault_is_true c = tt
 
 pub returns-else-self-place-gt1-clause-grows : goal.returns-else-self-place-gt1-clause-grows
 returns-else-self-place-gt1-clause-grows c = same_le _
@@ -233,8 +233,8 @@ returns-in-String-clause-grows c = c.read_text.ensures.grows
 pub returns-in_default-clause-err : goal.returns-in_default-clause-err
 returns-in_default-clause-err c = tt
 
-pub returns-in_default-clause-told : goal.returns-in_default-clause-told
-returns-in_default-clause-told c = tt
+pub returns-in_default-clause-fault_is_true : goal.returns-in_default-clause-fault_is_true
+returns-in_default-clause-fault_is_true c = tt
 
 pub returns-in_default-clause-grows : goal.returns-in_default-clause-grows
 returns-in_default-clause-grows c = same_le _

@@ -53,8 +53,8 @@ returns-in-Envelopes-clause-ended c = tt
 pub returns-in-Envelopes-clause-err : goal.returns-in-Envelopes-clause-err
 returns-in-Envelopes-clause-err c = tt
 
-pub returns-in-Envelopes-clause-told : goal.returns-in-Envelopes-clause-told
-returns-in-Envelopes-clause-told c = tt
+pub returns-in-Envelopes-clause-fault_is_true : goal.returns-in-Envelopes-clause-fault_is_true
+returns-in-Envelopes-clause-fault_is_true c = tt
 
 pub returns-in-Rows-clause-ok : goal.returns-in-Rows-clause-ok
 returns-in-Rows-clause-ok c = c.read_boxed.ensures.ok
@@ -71,8 +71,8 @@ returns-in-Rows-clause-cost c = c.read_boxed.ensures.cost
 pub returns-in-Rows-clause-err : goal.returns-in-Rows-clause-err
 returns-in-Rows-clause-err c = c.read_boxed.ensures.err
 
-pub returns-in-Rows-clause-told : goal.returns-in-Rows-clause-told
-returns-in-Rows-clause-told c = c.read_boxed.ensures.told
+pub returns-in-Rows-clause-fault_is_true : goal.returns-in-Rows-clause-fault_is_true
+returns-in-Rows-clause-fault_is_true c = c.read_boxed.ensures.fault_is_true
 
 pub returns-in-Elements-clause-ok : goal.returns-in-Elements-clause-ok
 returns-in-Elements-clause-ok c = c.read_elements.ensures.ok
@@ -89,8 +89,8 @@ returns-in-Elements-clause-cost c = c.read_elements.ensures.cost
 pub returns-in-Elements-clause-err : goal.returns-in-Elements-clause-err
 returns-in-Elements-clause-err c = c.read_elements.ensures.err
 
-pub returns-in-Elements-clause-told : goal.returns-in-Elements-clause-told
-returns-in-Elements-clause-told c = c.read_elements.ensures.told
+pub returns-in-Elements-clause-fault_is_true : goal.returns-in-Elements-clause-fault_is_true
+returns-in-Elements-clause-fault_is_true c = c.read_elements.ensures.fault_is_true
 
 pub returns-in-Content-clause-ok : goal.returns-in-Content-clause-ok
 returns-in-Content-clause-ok c = c.read_content.ensures.ok
@@ -107,8 +107,8 @@ returns-in-Content-clause-cost c = c.read_content.ensures.cost
 pub returns-in-Content-clause-err : goal.returns-in-Content-clause-err
 returns-in-Content-clause-err c = c.read_content.ensures.err
 
-pub returns-in-Content-clause-told : goal.returns-in-Content-clause-told
-returns-in-Content-clause-told c = c.read_content.ensures.told
+pub returns-in-Content-clause-fault_is_true : goal.returns-in-Content-clause-fault_is_true
+returns-in-Content-clause-fault_is_true c = c.read_content.ensures.fault_is_true
 
 pub returns-in-Envelopes-clause-grows : goal.returns-in-Envelopes-clause-grows
 returns-in-Envelopes-clause-grows c = same_le _

@@ -1,8 +1,8 @@
 use Rattle.fidl_decode.proofs.Unchanged.{no_ok}
 use Rattle.std.proofs.Common.{sym, subst, arith}
 use Rattle.std.specs.Prelude.{Option, None, OnErr, IfErr, IfOk}
-use Rattle.fidl_records.specs.declared.record.Row as raw
-use Rattle.fidl_records.specs.Terms.{declarations_of}
+use Rattle.fidl_table_format.specs.declared.record.Row as raw
+use Rattle.fidl_table_format.specs.Terms.{declarations_of}
 use Rattle.fidl_decode.specs.Faults.{message_of}
 use Rattle.fidl_decode.specs.State.{At}
 use Rattle.fidl_decode.specs.Envelopes.{Contained}
@@ -56,12 +56,12 @@ returns-clause-err c =
     let old = at_of c.args.state.now in
     subst (λ (r : Option raw.Row). OnErr c.read_known.result ((to : At) → Contained (declarations_of t) m c.args.depth (member_term r) c.args.envelope old to → ⊥)) (sym c.in-Some.is) c.read_known.ensures.err
 
-pub returns-clause-told : goal.returns-clause-told
-returns-clause-told c =
+pub returns-clause-fault_is_true : goal.returns-clause-fault_is_true
+returns-clause-fault_is_true c =
     let t = c.args.self.now.table.now in
     let m = message_of c.args.self.now.bytes.now c.args.self.now.handles.now in
     let old = at_of c.args.state.now in
-    subst (λ (r : Option raw.Row). IfErr c.read_known.result (BreaksMember (declarations_of t) m c.args.depth (member_term r) c.args.envelope old)) (sym c.in-Some.is) c.read_known.ensures.told
+    subst (λ (r : Option raw.Row). IfErr c.read_known.result (BreaksMember (declarations_of t) m c.args.depth (member_term r) c.args.envelope old)) (sym c.in-Some.is) c.read_known.ensures.fault_is_true
 
 pub skip_member-requires-clause-table : goal.skip_member-requires-clause-table
 skip_member-requires-clause-table c = c.requires.table
@@ -90,8 +90,8 @@ returns-in_err-skip_member-clause-grows c = no_ok c.from_residual.result c.in_er
 pub returns-in_default-clause-err : goal.returns-in_default-clause-err
 returns-in_default-clause-err c = tt
 
-pub returns-in_default-clause-told : goal.returns-in_default-clause-told
-returns-in_default-clause-told c = tt
+pub returns-in_default-clause-fault_is_true : goal.returns-in_default-clause-fault_is_true
+returns-in_default-clause-fault_is_true c = tt
 
 pub read_known-requires-clause-table : goal.read_known-requires-clause-table
 read_known-requires-clause-table c = c.requires.table

@@ -2,10 +2,10 @@ use Rattle.fidl_decode.proofs.Unchanged.{no_ok}
 use Rattle.fidl_decode.proofs.Fitting.{budget_on, cost_on, cost_now, grows_on, rises_on, first_in, some_left, smaller_on, next_fits}
 use Rattle.std.proofs.Common.{◌≡◌, ◌+◌, ◌-◌, sym, ap, subst, ◌∙◌, arith, refl, ◌≤◌, ◌<◌, ◌^◌, []}
 use Rattle.std.specs.Prelude.{Option, Some, None}
-use Rattle.fidl_records.specs.declared.record.Row as raw
-use Rattle.fidl_records.specs.declared.record.Entry.{Entry}
-use Rattle.fidl_records.specs.Kind.{kind_of}
-use Rattle.fidl_records.specs.Section.{header_of, entry_at, row_at}
+use Rattle.fidl_table_format.specs.declared.record.Row as raw
+use Rattle.fidl_table_format.specs.declared.record.Entry.{Entry}
+use Rattle.fidl_table_format.specs.Kind.{kind_of}
+use Rattle.fidl_table_format.specs.Section.{header_of, entry_at, row_at}
 use Rattle.fidl_decode.specs.declared.frame.Frame.{Frame}
 use Rattle.fidl_decode.specs.declared.frame.Left.TheVariants.{Rows}
 use Rattle.fidl_decode.specs.State.{At}
@@ -54,8 +54,8 @@ returns-in_err-read_row-clause-err c =
     let less = so_far.less in
     on_err _ ((to : At) → Reads t m f old to → ⊥) (turns_refused t m f old now a rest so_far c.in_err-read_row.ensures.err)
 
-pub returns-in_err-read_row-clause-told : goal.returns-in_err-read_row-clause-told
-returns-in_err-read_row-clause-told c =
+pub returns-in_err-read_row-clause-fault_is_true : goal.returns-in_err-read_row-clause-fault_is_true
+returns-in_err-read_row-clause-fault_is_true c =
     let t = c.args.self.now.table.now in
     let m = message_of c.args.self.now.bytes.now c.args.self.now.handles.now in
     let f = c.args.frame in
@@ -67,7 +67,7 @@ returns-in_err-read_row-clause-told c =
     let same = c.rows_from-rest.ensures in
     let so_far = subst (λ (x : Frame). Turns t m f old now a (left_over (Some x))) (sym same) c.loop-many.invariant.turns in
     let less = so_far.less in
-    passed_on c.from_residual.result c.in_err-read_row.field-0.0 _ c.from_residual.ensures.1 (turns_break t m f old now a rest so_far _ c.in_err-read_row.ensures.told)
+    passed_on c.from_residual.result c.in_err-read_row.field-0.0 _ c.from_residual.ensures.1 (turns_break t m f old now a rest so_far _ c.in_err-read_row.ensures.fault_is_true)
 
 pub loop-many-preserved-then-is_leaf : goal.loop-many-preserved-then-is_leaf
 loop-many-preserved-then-is_leaf c =
@@ -160,8 +160,8 @@ returns-in_err-below-clause-err c =
     let less = so_far.less in
     on_err _ ((to : At) → Reads t m f old to → ⊥) (turns_refused t m f old now a rest so_far c.in_err-below.ensures.err)
 
-pub returns-in_err-below-clause-told : goal.returns-in_err-below-clause-told
-returns-in_err-below-clause-told c =
+pub returns-in_err-below-clause-fault_is_true : goal.returns-in_err-below-clause-fault_is_true
+returns-in_err-below-clause-fault_is_true c =
     let t = c.args.self.now.table.now in
     let m = message_of c.args.self.now.bytes.now c.args.self.now.handles.now in
     let f = c.args.frame in
@@ -173,7 +173,7 @@ returns-in_err-below-clause-told c =
     let same = c.rows_from-rest.ensures in
     let so_far = subst (λ (x : Frame). Turns t m f old now a (left_over (Some x))) (sym same) c.loop-many.invariant.turns in
     let less = so_far.less in
-    passed_on c.from_residual-in_err-below.result c.in_err-below.field-0.0 _ c.from_residual-in_err-below.ensures.1 (turns_break t m f old now a rest so_far _ c.in_err-below.ensures.told)
+    passed_on c.from_residual-in_err-below.result c.in_err-below.field-0.0 _ c.from_residual-in_err-below.ensures.1 (turns_break t m f old now a rest so_far _ c.in_err-below.ensures.fault_is_true)
 
 pub returns-in_default-2-clause-ok : goal.returns-in_default-2-clause-ok
 returns-in_default-2-clause-ok c =
@@ -371,8 +371,8 @@ returns-in_err-end_rows-clause-err c =
     let so_far = subst (λ (x : Frame). Turns t m f old now a (left_over (Some x))) (sym same) over in
     on_err _ ((to : At) → Reads t m f old to → ⊥) (turns_refused t m f old now a rest so_far c.in_err-end_rows.ensures.err)
 
-pub returns-in_err-end_rows-clause-told : goal.returns-in_err-end_rows-clause-told
-returns-in_err-end_rows-clause-told c =
+pub returns-in_err-end_rows-clause-fault_is_true : goal.returns-in_err-end_rows-clause-fault_is_true
+returns-in_err-end_rows-clause-fault_is_true c =
     let t = c.args.self.now.table.now in
     let m = message_of c.args.self.now.bytes.now c.args.self.now.handles.now in
     let f = c.args.frame in
@@ -385,7 +385,7 @@ returns-in_err-end_rows-clause-told c =
     let none : c.loop-many.many ≡ 0 = omega (arith, c.loop-many-test.false) in
     let over = subst (λ n. Turns t m f old now a (left_over (Some (going_on c.loop-many.holder (Rows c.loop-many.next n) c.loop-many.done)))) none c.loop-many.invariant.turns in
     let so_far = subst (λ (x : Frame). Turns t m f old now a (left_over (Some x))) (sym same) over in
-    passed_on c.from_residual-in_err-end_rows.result c.in_err-end_rows.field-0.0 _ c.from_residual-in_err-end_rows.ensures.1 (turns_break t m f old now a rest so_far _ c.in_err-end_rows.ensures.told)
+    passed_on c.from_residual-in_err-end_rows.result c.in_err-end_rows.field-0.0 _ c.from_residual-in_err-end_rows.ensures.1 (turns_break t m f old now a rest so_far _ c.in_err-end_rows.ensures.fault_is_true)
 
 pub returns-clause-ok : goal.returns-clause-ok
 returns-clause-ok c =
@@ -470,8 +470,8 @@ returns-then-not-ends_in_box-clause-cost c = cost_now _ _ _ c.args.state.now.ste
 pub returns-then-not-ends_in_box-clause-err : goal.returns-then-not-ends_in_box-clause-err
 returns-then-not-ends_in_box-clause-err c = tt
 
-pub returns-then-not-ends_in_box-clause-told : goal.returns-then-not-ends_in_box-clause-told
-returns-then-not-ends_in_box-clause-told c = tt
+pub returns-then-not-ends_in_box-clause-fault_is_true : goal.returns-then-not-ends_in_box-clause-fault_is_true
+returns-then-not-ends_in_box-clause-fault_is_true c = tt
 
 pub enter_box-requires-clause-table : goal.enter_box-requires-clause-table
 enter_box-requires-clause-table c = c.requires.table
@@ -521,8 +521,8 @@ returns-in_default-2-clause-cost c = cost_on _ _ _ c.args.state.now.steps c.loop
 pub returns-in_default-2-clause-err : goal.returns-in_default-2-clause-err
 returns-in_default-2-clause-err c = tt
 
-pub returns-in_default-2-clause-told : goal.returns-in_default-2-clause-told
-returns-in_default-2-clause-told c = tt
+pub returns-in_default-2-clause-fault_is_true : goal.returns-in_default-2-clause-fault_is_true
+returns-in_default-2-clause-fault_is_true c = tt
 
 pub returns-clause-grows : goal.returns-clause-grows
 returns-clause-grows c = grows_on _ _ _ c.loop-many.invariant.steps c.in_ok-end_rows.ensures.rises
@@ -536,8 +536,8 @@ returns-clause-cost c = cost_on _ _ _ c.args.state.now.steps c.loop-many.state.s
 pub returns-clause-err : goal.returns-clause-err
 returns-clause-err c = tt
 
-pub returns-clause-told : goal.returns-clause-told
-returns-clause-told c = tt
+pub returns-clause-fault_is_true : goal.returns-clause-fault_is_true
+returns-clause-fault_is_true c = tt
 
 pub returns-in_err-read_row-clause-ok : goal.returns-in_err-read_row-clause-ok
 returns-in_err-read_row-clause-ok c = no_ok c.from_residual.result c.in_err-read_row.field-0.0 _ c.from_residual.ensures.1

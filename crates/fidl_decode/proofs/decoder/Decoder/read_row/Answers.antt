@@ -1,9 +1,9 @@
 use Rattle.fidl_decode.proofs.Unchanged.{no_ok}
 use Rattle.std.proofs.Common.{◌≡◌, ◌+◌, ◌-◌, ◌≤◌, ap, subst, ◌∙◌, arith}
 use Rattle.std.specs.Prelude.{Some}
-use Rattle.fidl_records.specs.declared.record.Row as raw
-use Rattle.fidl_records.specs.Kind.{kind_of}
-use Rattle.fidl_records.specs.Section.{header_of, entry_at}
+use Rattle.fidl_table_format.specs.declared.record.Row as raw
+use Rattle.fidl_table_format.specs.Kind.{kind_of}
+use Rattle.fidl_table_format.specs.Section.{header_of, entry_at}
 use Rattle.fidl_decode.specs.declared.frame.Left.{Left}
 use Rattle.fidl_decode.specs.declared.frame.Left.TheVariants.{Rows}
 use Rattle.fidl_decode.specs.State.{At}
@@ -81,11 +81,11 @@ returns-in_err-zeros_at-clause-err c =
     let m = message_of c.args.self.now.bytes.now c.args.self.now.handles.now in
     on_err _ ((to : At) → Reads t m c.args.frame (at_of c.args.state.now) to → ⊥) (front_gap_refused t c.requires.table m c.args.frame c.args.first c.args.count c.row-row.result c.requires.left c.requires.some c.row-row.ensures.value (at_of c.args.state.now) c.requires.frame c.requires.state c.in_err-zeros_at.ensures.err)
 
-pub returns-in_err-zeros_at-clause-told : goal.returns-in_err-zeros_at-clause-told
-returns-in_err-zeros_at-clause-told c =
+pub returns-in_err-zeros_at-clause-fault_is_true : goal.returns-in_err-zeros_at-clause-fault_is_true
+returns-in_err-zeros_at-clause-fault_is_true c =
     let t = c.args.self.now.table.now in
     let m = message_of c.args.self.now.bytes.now c.args.self.now.handles.now in
-    passed_on c.from_residual.result c.in_err-zeros_at.field-0.0 _ c.from_residual.ensures.1 (front_gap_breaks t c.requires.table m c.args.frame c.args.first c.args.count c.row-row.result c.requires.left c.requires.some c.row-row.ensures.value (at_of c.args.state.now) c.requires.frame c.requires.state c.in_err-zeros_at.field-0.0 c.in_err-zeros_at.ensures.told)
+    passed_on c.from_residual.result c.in_err-zeros_at.field-0.0 _ c.from_residual.ensures.1 (front_gap_breaks t c.requires.table m c.args.frame c.args.first c.args.count c.row-row.result c.requires.left c.requires.some c.row-row.ensures.value (at_of c.args.state.now) c.requires.frame c.requires.state c.in_err-zeros_at.field-0.0 c.in_err-zeros_at.ensures.fault_is_true)
 
 pub read_leaf-requires-clause-kind : goal.read_leaf-requires-clause-kind
 read_leaf-requires-clause-kind c =
@@ -114,11 +114,11 @@ returns-in_err-read_leaf-clause-err c =
     let m = message_of c.args.self.now.bytes.now c.args.self.now.handles.now in
     on_err _ ((to : At) → Reads t m c.args.frame (at_of c.args.state.now) to → ⊥) (front_refused t c.requires.table m c.args.frame c.args.first c.args.count c.row-row.result c.requires.left c.requires.some c.row-row.ensures.value (at_of c.args.state.now) c.requires.frame c.requires.state c.in_err-read_leaf.ensures.err)
 
-pub returns-in_err-read_leaf-clause-told : goal.returns-in_err-read_leaf-clause-told
-returns-in_err-read_leaf-clause-told c =
+pub returns-in_err-read_leaf-clause-fault_is_true : goal.returns-in_err-read_leaf-clause-fault_is_true
+returns-in_err-read_leaf-clause-fault_is_true c =
     let t = c.args.self.now.table.now in
     let m = message_of c.args.self.now.bytes.now c.args.self.now.handles.now in
-    passed_on c.from_residual-in_err-read_leaf.result c.in_err-read_leaf.field-0.0 _ c.from_residual-in_err-read_leaf.ensures.1 (front_breaks t c.requires.table m c.args.frame c.args.first c.args.count c.row-row.result c.requires.left c.requires.some c.row-row.ensures.value (at_of c.args.state.now) c.requires.frame c.requires.state c.in_err-read_leaf.field-0.0 c.in_ok-zeros_at.ensures.ok c.in_err-read_leaf.ensures.told)
+    passed_on c.from_residual-in_err-read_leaf.result c.in_err-read_leaf.field-0.0 _ c.from_residual-in_err-read_leaf.ensures.1 (front_breaks t c.requires.table m c.args.frame c.args.first c.args.count c.row-row.result c.requires.left c.requires.some c.row-row.ensures.value (at_of c.args.state.now) c.requires.frame c.requires.state c.in_err-read_leaf.field-0.0 c.in_ok-zeros_at.ensures.ok c.in_err-read_leaf.ensures.fault_is_true)
 
 pub returns-clause-ok : goal.returns-clause-ok
 returns-clause-ok c =
@@ -150,8 +150,8 @@ read_leaf-requires-clause-state c = c.requires.state
 pub returns-clause-err : goal.returns-clause-err
 returns-clause-err c = tt
 
-pub returns-clause-told : goal.returns-clause-told
-returns-clause-told c = tt
+pub returns-clause-fault_is_true : goal.returns-clause-fault_is_true
+returns-clause-fault_is_true c = tt
 
 pub returns-in_err-zeros_at-clause-ok : goal.returns-in_err-zeros_at-clause-ok
 returns-in_err-zeros_at-clause-ok c = no_ok c.from_residual.result c.in_err-zeros_at.field-0.0 _ c.from_residual.ensures.1

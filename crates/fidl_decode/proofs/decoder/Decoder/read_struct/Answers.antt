@@ -75,12 +75,12 @@ returns-in_err-below-clause-err c =
     let one : Turns t m c.args.frame (at_of c.args.state.now) (at_of c.read_nested.new.state) (c.read_nested.new.state.steps - c.args.state.now.steps) (left_over (Some c.in-Some.now)) = subst (λ (o : Option Frame). Turns t m c.args.frame (at_of c.args.state.now) (at_of c.read_nested.new.state) (c.read_nested.new.state.steps - c.args.state.now.steps) (left_over o)) c.in-Some.is c.in_ok-now.ensures.ok in
     on_err _ ((to : At) → Reads t m c.args.frame (at_of c.args.state.now) to → ⊥) (turns_refused t m c.args.frame (at_of c.args.state.now) (at_of c.read_nested.new.state) (c.read_nested.new.state.steps - c.args.state.now.steps) c.in-Some.now one c.in_err-below.ensures.err)
 
-pub returns-in_err-below-clause-told : goal.returns-in_err-below-clause-told
-returns-in_err-below-clause-told c =
+pub returns-in_err-below-clause-fault_is_true : goal.returns-in_err-below-clause-fault_is_true
+returns-in_err-below-clause-fault_is_true c =
     let t = c.args.self.now.table.now in
     let m = message_of c.args.self.now.bytes.now c.args.self.now.handles.now in
     let one : Turns t m c.args.frame (at_of c.args.state.now) (at_of c.read_nested.new.state) (c.read_nested.new.state.steps - c.args.state.now.steps) (left_over (Some c.in-Some.now)) = subst (λ (o : Option Frame). Turns t m c.args.frame (at_of c.args.state.now) (at_of c.read_nested.new.state) (c.read_nested.new.state.steps - c.args.state.now.steps) (left_over o)) c.in-Some.is c.in_ok-now.ensures.ok in
-    passed_on c.from_residual-in_err-below.result c.in_err-below.field-0.0 _ c.from_residual-in_err-below.ensures.1 (turns_break t m c.args.frame (at_of c.args.state.now) (at_of c.read_nested.new.state) (c.read_nested.new.state.steps - c.args.state.now.steps) c.in-Some.now one c.in_err-below.field-0.0 c.in_err-below.ensures.told)
+    passed_on c.from_residual-in_err-below.result c.in_err-below.field-0.0 _ c.from_residual-in_err-below.ensures.1 (turns_break t m c.args.frame (at_of c.args.state.now) (at_of c.read_nested.new.state) (c.read_nested.new.state.steps - c.args.state.now.steps) c.in-Some.now one c.in_err-below.field-0.0 c.in_err-below.ensures.fault_is_true)
 
 pub returns-in_default-2-clause-ok : goal.returns-in_default-2-clause-ok
 returns-in_default-2-clause-ok c =
@@ -178,8 +178,8 @@ returns-in_err-inner-clause-err c =
     let less_held = held.less in
     on_err _ ((to : At) → Reads t m c.args.frame (at_of c.args.state.now) to → ⊥) (turns_refused t m c.args.frame (at_of c.args.state.now) (at_of c.read_last.new.state) (c.read_last.new.state.steps - c.args.state.now.steps) c.in-Some-2.below held c.in_err-inner.ensures.err)
 
-pub returns-in_err-inner-clause-told : goal.returns-in_err-inner-clause-told
-returns-in_err-inner-clause-told c =
+pub returns-in_err-inner-clause-fault_is_true : goal.returns-in_err-inner-clause-fault_is_true
+returns-in_err-inner-clause-fault_is_true c =
     let t = c.args.self.now.table.now in
     let m = message_of c.args.self.now.bytes.now c.args.self.now.handles.now in
     let one : Turns t m c.args.frame (at_of c.args.state.now) (at_of c.read_nested.new.state) (c.read_nested.new.state.steps - c.args.state.now.steps) (left_over (Some c.in-Some.now)) = subst (λ (o : Option Frame). Turns t m c.args.frame (at_of c.args.state.now) (at_of c.read_nested.new.state) (c.read_nested.new.state.steps - c.args.state.now.steps) (left_over o)) c.in-Some.is c.in_ok-now.ensures.ok in
@@ -188,7 +188,7 @@ returns-in_err-inner-clause-told c =
     let two : Turns t m c.in-Some.now (at_of c.read_nested.new.state) (at_of c.read_last.new.state) (c.read_last.new.state.steps - c.read_nested.new.state.steps) (left_over (Some c.in-Some-2.below)) = subst (λ (o : Option Frame). Turns t m c.in-Some.now (at_of c.read_nested.new.state) (at_of c.read_last.new.state) (c.read_last.new.state.steps - c.read_nested.new.state.steps) (left_over o)) c.in-Some-2.is c.in_ok-below.ensures.ok in
     let held : Turns t m c.args.frame (at_of c.args.state.now) (at_of c.read_last.new.state) (c.read_last.new.state.steps - c.args.state.now.steps) (left_over (Some c.in-Some-2.below)) = turns_then t m c.args.frame (at_of c.args.state.now) (at_of c.read_nested.new.state) (c.read_nested.new.state.steps - c.args.state.now.steps) c.in-Some.now one (at_of c.read_last.new.state) (c.read_last.new.state.steps - c.read_nested.new.state.steps) (c.read_last.new.state.steps - c.args.state.now.steps) (left_over (Some c.in-Some-2.below)) (omega (arith, rows_on, last_on)) two in
     let less_held = held.less in
-    passed_on c.from_residual-in_err-inner.result c.in_err-inner.field-0.0 _ c.from_residual-in_err-inner.ensures.1 (turns_break t m c.args.frame (at_of c.args.state.now) (at_of c.read_last.new.state) (c.read_last.new.state.steps - c.args.state.now.steps) c.in-Some-2.below held c.in_err-inner.field-0.0 c.in_err-inner.ensures.told)
+    passed_on c.from_residual-in_err-inner.result c.in_err-inner.field-0.0 _ c.from_residual-in_err-inner.ensures.1 (turns_break t m c.args.frame (at_of c.args.state.now) (at_of c.read_last.new.state) (c.read_last.new.state.steps - c.args.state.now.steps) c.in-Some-2.below held c.in_err-inner.field-0.0 c.in_err-inner.ensures.fault_is_true)
 
 pub returns-clause-ok : goal.returns-clause-ok
 returns-clause-ok c =

@@ -1,14 +1,14 @@
 use Rattle.std.proofs.Common.{refl, rules, ◌≡◌, ℕ, ◌+◌, ◌-◌, ◌≤◌, sym, ap, subst, ◌∙◌, arith, inl, inr}
 use Rattle.std.specs.Prelude.{Option, Some}
-use Rattle.fidl_records.specs.declared.record.Entry.{Entry}
+use Rattle.fidl_table_format.specs.declared.record.Entry.{Entry}
 use Rattle.fidl_decode.specs.declared.frame.Frame.{Frame}
 use Rattle.fidl_decode.specs.declared.frame.Left.TheVariants.{Elements}
 use Rattle.fidl_decode.specs.Rows.{Row}
 use Rattle.fidl_decode.specs.State.{At}
 use Rattle.fidl_decode.specs.Machine.{Reads, Visits, VisitFine, Turns, at_of}
 use Rattle.fidl_decode.specs.Faults.{message_of}
-use Rattle.fidl_records.specs.Section.{header_of}
-use Rattle.fidl_records.specs.declared.kind.EntryKind.TheVariants.{Struct}
+use Rattle.fidl_table_format.specs.Section.{header_of}
+use Rattle.fidl_table_format.specs.declared.kind.EntryKind.TheVariants.{Struct}
 use Rattle.fidl_decode.proofs.Visiting.{fine_as, struct_frame, visits_struct, struct_fine}
 use Rattle.fidl_decode.proofs.Turning.{passed_on, on_err}
 use Rattle.fidl_decode.proofs.Leaves.{going_on, left_over, same_frame, turns_start, next_size, next_room, next_takes, turns_below, turns_over, below_refused, below_breaks, over_room, over_turns, over_refused, over_breaks, elements_next, elements_over, no_zeros}
@@ -225,8 +225,8 @@ loop-i-init c =
     let all : c.args.count ≡ c.args.count - 0 = omega arith in
     record { turns = subst (λ (n : ℕ). Turns c.args.self.now.table.now (message_of c.args.self.now.bytes.now c.args.self.now.handles.now) c.args.frame (at_of c.args.state.now) (at_of c.args.state.now) n (left_over (Some (going_on c.args.frame (Elements c.args.entry c.args.size (c.args.count - 0)) c.args.frame.done)))) none (turns_start c.args.self.now.table.now (message_of c.args.self.now.bytes.now c.args.self.now.handles.now) c.args.frame (at_of c.args.state.now) c.requires.frame c.requires.state (going_on c.args.frame (Elements c.args.entry c.args.size (c.args.count - 0)) c.args.frame.done) (same_frame c.args.frame (Elements c.args.entry c.args.size (c.args.count - 0)) (c.requires.left ∙ ap (λ n. Elements c.args.entry c.args.size n) all))); steps = omega arith }
 
-pub returns-in_err-found-clause-told : goal.returns-in_err-found-clause-told
-returns-in_err-found-clause-told c =
+pub returns-in_err-found-clause-fault_is_true : goal.returns-in_err-found-clause-fault_is_true
+returns-in_err-found-clause-fault_is_true c =
     let is = c.loop-i.invariant.turns.rest_fine.0.left in
     let one = elements_next c.args.self.now.table.now c.args.entry c.args.size c.loop-i.i c.args.count c.loop-i.done is c.loop-i-test.true in
     let room = next_room c.args.self.now.table.now c.requires.table (message_of c.args.self.now.bytes.now c.args.self.now.handles.now) c.args.frame (at_of c.args.state.now) (at_of c.loop-i.state) (c.loop-i.state.steps - c.args.state.now.steps) (going_on c.args.frame (Elements c.args.entry c.args.size (c.args.count - c.loop-i.i)) c.loop-i.done) c.loop-i.invariant.turns (let x : Row = record { offset = c.loop-i.done; entry = c.args.entry } in x) (Elements c.args.entry c.args.size (c.args.count - (c.loop-i.i + 1))) one in
@@ -241,9 +241,9 @@ returns-in_err-found-clause-told c =
     let taken : Turns c.args.self.now.table.now (message_of c.args.self.now.bytes.now c.args.self.now.handles.now) c.args.frame (at_of c.args.state.now) (at_of c.loop-i.state) (c.loop-i.state.steps + 1 - c.args.state.now.steps) (record { below = Some (struct_frame c.entry-e.result (c.args.frame.base + c.loop-i.done) c.args.frame.depth c.args.frame.inside); rest = Some (going_on (going_on c.args.frame (Elements c.args.entry c.args.size (c.args.count - c.loop-i.i)) c.loop-i.done) (Elements c.args.entry c.args.size (c.args.count - (c.loop-i.i + 1))) (c.loop-i.done + c.args.size)) }) = next_takes c.args.self.now.table.now c.requires.table (message_of c.args.self.now.bytes.now c.args.self.now.handles.now) c.args.frame (at_of c.args.state.now) (at_of c.loop-i.state) (c.loop-i.state.steps - c.args.state.now.steps) (going_on c.args.frame (Elements c.args.entry c.args.size (c.args.count - c.loop-i.i)) c.loop-i.done) c.loop-i.invariant.turns (let x : Row = record { offset = c.loop-i.done; entry = c.args.entry } in x) (Elements c.args.entry c.args.size (c.args.count - (c.loop-i.i + 1))) one tt is tt (Some (struct_frame c.entry-e.result (c.args.frame.base + c.loop-i.done) c.args.frame.depth c.args.frame.inside)) (at_of c.loop-i.state) (c.loop-i.done + c.args.size) 0 (c.loop-i.state.steps + 1 - c.args.state.now.steps) (omega (arith, own, is)) (omega (arith, so_far)) (no_zeros c.args.self.now.bytes.now (c.args.frame.base + c.loop-i.done) _ none) seen seen_fine in
     let less = taken.less in
     passed_on c.from_residual.result c.in_err-found.field-0.0 _ c.from_residual.ensures.1
-    (below_breaks c.args.self.now.table.now (message_of c.args.self.now.bytes.now c.args.self.now.handles.now) c.args.frame (at_of c.args.state.now) (at_of c.loop-i.state) (c.loop-i.state.steps + 1 - c.args.state.now.steps) (struct_frame c.entry-e.result (c.args.frame.base + c.loop-i.done) c.args.frame.depth c.args.frame.inside) (going_on (going_on c.args.frame (Elements c.args.entry c.args.size (c.args.count - c.loop-i.i)) c.loop-i.done) (Elements c.args.entry c.args.size (c.args.count - (c.loop-i.i + 1))) (c.loop-i.done + c.args.size)) taken _ c.in_err-found.ensures.told)
+    (below_breaks c.args.self.now.table.now (message_of c.args.self.now.bytes.now c.args.self.now.handles.now) c.args.frame (at_of c.args.state.now) (at_of c.loop-i.state) (c.loop-i.state.steps + 1 - c.args.state.now.steps) (struct_frame c.entry-e.result (c.args.frame.base + c.loop-i.done) c.args.frame.depth c.args.frame.inside) (going_on (going_on c.args.frame (Elements c.args.entry c.args.size (c.args.count - c.loop-i.i)) c.loop-i.done) (Elements c.args.entry c.args.size (c.args.count - (c.loop-i.i + 1))) (c.loop-i.done + c.args.size)) taken _ c.in_err-found.ensures.fault_is_true)
 
-pub returns-in_err-zeros_at-clause-told : goal.returns-in_err-zeros_at-clause-told
-returns-in_err-zeros_at-clause-told c =
+pub returns-in_err-zeros_at-clause-fault_is_true : goal.returns-in_err-zeros_at-clause-fault_is_true
+returns-in_err-zeros_at-clause-fault_is_true c =
     let over = elements_over c.args.self.now.table.now c.args.entry c.args.size c.loop-i.i c.args.count c.loop-i.done (omega (arith, c.loop-i-test.false)) in
-    let h = (over_breaks c.args.self.now.table.now c.requires.table (message_of c.args.self.now.bytes.now c.args.self.now.handles.now) c.args.frame (at_of c.args.state.now) (at_of c.loop-i.state) (c.loop-i.state.steps - c.args.state.now.steps) (going_on c.args.frame (Elements c.args.entry c.args.size (c.args.count - c.loop-i.i)) c.loop-i.done) c.loop-i.invariant.turns over tt _ c.in_err-zeros_at.ensures.told) in search (rules, h)
+    let h = (over_breaks c.args.self.now.table.now c.requires.table (message_of c.args.self.now.bytes.now c.args.self.now.handles.now) c.args.frame (at_of c.args.state.now) (at_of c.loop-i.state) (c.loop-i.state.steps - c.args.state.now.steps) (going_on c.args.frame (Elements c.args.entry c.args.size (c.args.count - c.loop-i.i)) c.loop-i.done) c.loop-i.invariant.turns over tt _ c.in_err-zeros_at.ensures.fault_is_true) in search (rules, h)

@@ -104,8 +104,8 @@ left_of-requires-clause-state c = omega arith
 pub left_of-requires-clause-budget : goal.left_of-requires-clause-budget
 left_of-requires-clause-budget c = omega arith
 
-pub returns-clause-told : goal.returns-clause-told
-returns-clause-told c = tt
+pub returns-clause-fault_is_true : goal.returns-clause-fault_is_true
+returns-clause-fault_is_true c = tt
 
 pub returns-in_err-count-clause-ok : goal.returns-in_err-count-clause-ok
 returns-in_err-count-clause-ok c = no_ok c.from_residual.result c.in_err-count.field-0.0 _ c.from_residual.ensures.1
@@ -113,8 +113,8 @@ returns-in_err-count-clause-ok c = no_ok c.from_residual.result c.in_err-count.f
 pub returns-in_err-count-clause-fine : goal.returns-in_err-count-clause-fine
 returns-in_err-count-clause-fine c b0 b1 = no_ok c.from_residual.result c.in_err-count.field-0.0 _ c.from_residual.ensures.1
 
-pub returns-in_err-count-clause-told : goal.returns-in_err-count-clause-told
-returns-in_err-count-clause-told c = passed_on c.from_residual.result c.in_err-count.field-0.0 _ c.from_residual.ensures.1 c.in_err-count.ensures.told
+pub returns-in_err-count-clause-fault_is_true : goal.returns-in_err-count-clause-fault_is_true
+returns-in_err-count-clause-fault_is_true c = passed_on c.from_residual.result c.in_err-count.field-0.0 _ c.from_residual.ensures.1 c.in_err-count.ensures.fault_is_true
 
 pub returns-in_err-count-clause-grows : goal.returns-in_err-count-clause-grows
 returns-in_err-count-clause-grows c = eq_le _ _ c.open_table.ensures.steps

@@ -6,7 +6,7 @@ use Rattle.fidl_wire.specs.Term as ty
 use Rattle.fidl_wire.specs.Encoding.{zeros}
 use Rattle.fidl_wire.specs.Standing.{Stands}
 use Rattle.fidl_wire.proofs.Sizes.{le-next_multiple_of}
-use Rattle.fidl_records.specs.Terms.{declarations_of, is_optional}
+use Rattle.fidl_table_format.specs.Terms.{declarations_of, is_optional}
 use Rattle.fidl_decode.specs.Faults.{message_of}
 use Rattle.fidl_decode.specs.State.{At, linked}
 use Rattle.fidl_decode.specs.Machine.{Leads, at_of}
@@ -71,8 +71,8 @@ returns-then-not-is_optional-clause-spent c = tt
 pub returns-then-not-is_optional-clause-grows : goal.returns-then-not-is_optional-clause-grows
 returns-then-not-is_optional-clause-grows c = same_le _
 
-pub returns-then-not-is_present-clause-told : goal.returns-then-not-is_present-clause-told
-returns-then-not-is_present-clause-told c = tt
+pub returns-then-not-is_present-clause-fault_is_true : goal.returns-then-not-is_present-clause-fault_is_true
+returns-then-not-is_present-clause-fault_is_true c = tt
 
 pub returns-then-not-is_present-clause-spent : goal.returns-then-not-is_present-clause-spent
 returns-then-not-is_present-clause-spent c = refl
@@ -158,8 +158,8 @@ returns-then-not-is_text-clause-spent c = tt
 pub overflow_add-from-2 : goal.overflow_add-from-2
 overflow_add-from-2 c = record { fits = omega arith }
 
-pub returns-clause-told : goal.returns-clause-told
-returns-clause-told c = tt
+pub returns-clause-fault_is_true : goal.returns-clause-fault_is_true
+returns-clause-fault_is_true c = tt
 
 pub returns-in_err-zeros_at-clause-ok : goal.returns-in_err-zeros_at-clause-ok
 returns-in_err-zeros_at-clause-ok c = no_ok c.from_residual.result c.in_err-zeros_at.field-0.0 _ c.from_residual.ensures.1
@@ -170,29 +170,29 @@ returns-in_err-zeros_at-clause-state c = no_ok c.from_residual.result c.in_err-z
 pub returns-in_err-zeros_at-clause-spent : goal.returns-in_err-zeros_at-clause-spent
 returns-in_err-zeros_at-clause-spent c = no_ok c.from_residual.result c.in_err-zeros_at.field-0.0 _ c.from_residual.ensures.1
 
-pub returns-then-not-is_absent-clause-told : goal.returns-then-not-is_absent-clause-told
-returns-then-not-is_absent-clause-told c = (refl, λ z. clash (c.is_absent.ensures.1 z) c.if-not-is_absent.true, λ p. clash (c.is_present.ensures.1 p) c.if-not-is_present.true)
+pub returns-then-not-is_absent-clause-fault_is_true : goal.returns-then-not-is_absent-clause-fault_is_true
+returns-then-not-is_absent-clause-fault_is_true c = (refl, λ z. clash (c.is_absent.ensures.1 z) c.if-not-is_absent.true, λ p. clash (c.is_present.ensures.1 p) c.if-not-is_present.true)
 
-pub returns-then-count-ne0-clause-told : goal.returns-then-count-ne0-clause-told
-returns-then-count-ne0-clause-told c = (refl, inl (c.is_absent.ensures.0 c.if-not-is_absent.false, λ none. c.if-count-ne0.true (c.u64_at-count.ensures ∙ none)))
+pub returns-then-count-ne0-clause-fault_is_true : goal.returns-then-count-ne0-clause-fault_is_true
+returns-then-count-ne0-clause-fault_is_true c = (refl, inl (c.is_absent.ensures.0 c.if-not-is_absent.false, λ none. c.if-count-ne0.true (c.u64_at-count.ensures ∙ none)))
 
-pub returns-then-not-is_optional-clause-told : goal.returns-then-not-is_optional-clause-told
-returns-then-not-is_optional-clause-told c = (refl, sym c.is_optional.ensures ∙ c.if-not-is_optional.true, c.is_absent.ensures.0 c.if-not-is_absent.false)
+pub returns-then-not-is_optional-clause-fault_is_true : goal.returns-then-not-is_optional-clause-fault_is_true
+returns-then-not-is_optional-clause-fault_is_true c = (refl, sym c.is_optional.ensures ∙ c.if-not-is_optional.true, c.is_absent.ensures.0 c.if-not-is_absent.false)
 
 pub returns-then-not-is_present-clause-state : goal.returns-then-not-is_present-clause-state
 returns-then-not-is_present-clause-state c = c.requires.state
 
-pub returns-then-count-rest-clause-told : goal.returns-then-count-rest-clause-told
-returns-then-count-rest-clause-told c = (refl, inr (c.is_present.ensures.0 c.if-not-is_present.false, subst (λ n. length c.args.self.now.bytes.now - c.args.state.now.next < n) c.u64_at-count.ensures c.if-count-rest.true))
+pub returns-then-count-rest-clause-fault_is_true : goal.returns-then-count-rest-clause-fault_is_true
+returns-then-count-rest-clause-fault_is_true c = (refl, inr (c.is_present.ensures.0 c.if-not-is_present.false, subst (λ n. length c.args.self.now.bytes.now - c.args.state.now.next < n) c.u64_at-count.ensures c.if-count-rest.true))
 
-pub returns-then-count-entry-clause-told : goal.returns-then-count-entry-clause-told
-returns-then-count-entry-clause-told c = (refl, c.is_present.ensures.0 c.if-not-is_present.false, subst (λ n. c.args.entry.now.bound < n) c.u64_at-count.ensures c.if-count-entry.true)
+pub returns-then-count-entry-clause-fault_is_true : goal.returns-then-count-entry-clause-fault_is_true
+returns-then-count-entry-clause-fault_is_true c = (refl, c.is_present.ensures.0 c.if-not-is_present.false, subst (λ n. c.args.entry.now.bound < n) c.u64_at-count.ensures c.if-count-entry.true)
 
-pub returns-then-depth-eq-MAX_DEPTH-clause-told : goal.returns-then-depth-eq-MAX_DEPTH-clause-told
-returns-then-depth-eq-MAX_DEPTH-clause-told c = (refl, c.is_present.ensures.0 c.if-not-is_present.false, eq_le _ _ c.if-depth-eq-MAX_DEPTH.true)
+pub returns-then-depth-eq-MAX_DEPTH-clause-fault_is_true : goal.returns-then-depth-eq-MAX_DEPTH-clause-fault_is_true
+returns-then-depth-eq-MAX_DEPTH-clause-fault_is_true c = (refl, c.is_present.ensures.0 c.if-not-is_present.false, eq_le _ _ c.if-depth-eq-MAX_DEPTH.true)
 
-pub returns-then-size-rest-clause-told : goal.returns-then-size-rest-clause-told
-returns-then-size-rest-clause-told c = (refl, c.is_present.ensures.0 c.if-not-is_present.false, subst (λ n. length c.args.self.now.bytes.now - c.args.state.now.next < n) (c.next_multiple_of-size.ensures.value ∙ ap (λ k. next_multiple_of k 8) c.u64_at-count.ensures) c.if-size-rest.true)
+pub returns-then-size-rest-clause-fault_is_true : goal.returns-then-size-rest-clause-fault_is_true
+returns-then-size-rest-clause-fault_is_true c = (refl, c.is_present.ensures.0 c.if-not-is_present.false, subst (λ n. length c.args.self.now.bytes.now - c.args.state.now.next < n) (c.next_multiple_of-size.ensures.value ∙ ap (λ k. next_multiple_of k 8) c.u64_at-count.ensures) c.if-size-rest.true)
 
 pub returns-then-not-is_text-clause-grows : goal.returns-then-not-is_text-clause-grows
 returns-then-not-is_text-clause-grows c = le_more _ _

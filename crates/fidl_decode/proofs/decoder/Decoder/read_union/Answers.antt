@@ -3,8 +3,8 @@ use Rattle.std.proofs.Common.{true, false, ◌≡◌, ◌≢◌, ◌+◌, ◌-�
 use Rattle.std.specs.Prelude.{Option, None, not, IsFalse}
 use Rattle.std.proofs.lemmas.Result.{IfOk-weaker, IfErr-weaker, on_err_weaker}
 use Rattle.fidl_wire.specs.Term.{Term, find}
-use Rattle.fidl_records.specs.Section.{entry_at}
-use Rattle.fidl_records.specs.Terms.{declarations_of, members_of, is_optional, is_strict}
+use Rattle.fidl_table_format.specs.Section.{entry_at}
+use Rattle.fidl_table_format.specs.Terms.{declarations_of, members_of, is_optional, is_strict}
 use Rattle.fidl_decode.specs.declared.fault.DecodeFault.TheVariants.{BadEnvelope, AbsentRequired, UnknownOrdinal}
 use Rattle.fidl_decode.specs.Faults.{message_of}
 use Rattle.fidl_decode.specs.State.{At}
@@ -23,8 +23,8 @@ returns-then-not-is_absent-clause-err c =
     let b : BreaksUnion (message_of c.args.self.now.bytes.now c.args.self.now.handles.now) (is_optional (entry_at c.args.self.now.table.now c.args.entry)) (is_strict (entry_at c.args.self.now.table.now c.args.entry)) (members_of c.args.self.now.table.now c.args.entry) c.args.place (BadEnvelope (c.args.place + 8)) = (refl, sym c.u64_at-ordinal.ensures ∙ c.if-ordinal-eq0.true, λ z. no_true (sym c.if-not-is_absent.true ∙ c.is_absent.ensures.1 z)) in
     union_refused c.args.self.now.table.now c.requires.table (message_of c.args.self.now.bytes.now c.args.self.now.handles.now) c.args.depth c.args.entry c.args.place (at_of c.args.state.now) c.requires.entry c.requires.kind (BadEnvelope (c.args.place + 8)) b
 
-pub returns-then-not-is_absent-clause-told : goal.returns-then-not-is_absent-clause-told
-returns-then-not-is_absent-clause-told c =
+pub returns-then-not-is_absent-clause-fault_is_true : goal.returns-then-not-is_absent-clause-fault_is_true
+returns-then-not-is_absent-clause-fault_is_true c =
     let b : BreaksUnion (message_of c.args.self.now.bytes.now c.args.self.now.handles.now) (is_optional (entry_at c.args.self.now.table.now c.args.entry)) (is_strict (entry_at c.args.self.now.table.now c.args.entry)) (members_of c.args.self.now.table.now c.args.entry) c.args.place (BadEnvelope (c.args.place + 8)) = (refl, sym c.u64_at-ordinal.ensures ∙ c.if-ordinal-eq0.true, λ z. no_true (sym c.if-not-is_absent.true ∙ c.is_absent.ensures.1 z)) in
     union_breaks c.args.self.now.table.now c.requires.table (message_of c.args.self.now.bytes.now c.args.self.now.handles.now) c.args.depth c.args.entry c.args.place (at_of c.args.state.now) c.requires.entry c.requires.kind (BadEnvelope (c.args.place + 8)) b
 
@@ -33,8 +33,8 @@ returns-then-not-is_optional-clause-err c =
     let b : BreaksUnion (message_of c.args.self.now.bytes.now c.args.self.now.handles.now) (is_optional (entry_at c.args.self.now.table.now c.args.entry)) (is_strict (entry_at c.args.self.now.table.now c.args.entry)) (members_of c.args.self.now.table.now c.args.entry) c.args.place (AbsentRequired c.args.place) = (refl, sym (ap is_optional c.entry-e.ensures.value) ∙ sym c.is_optional.ensures ∙ c.if-not-is_optional.true, sym c.u64_at-ordinal.ensures ∙ c.if-ordinal-eq0.true, (c.is_absent.ensures.0 c.if-not-is_absent.false)) in
     union_refused c.args.self.now.table.now c.requires.table (message_of c.args.self.now.bytes.now c.args.self.now.handles.now) c.args.depth c.args.entry c.args.place (at_of c.args.state.now) c.requires.entry c.requires.kind (AbsentRequired c.args.place) b
 
-pub returns-then-not-is_optional-clause-told : goal.returns-then-not-is_optional-clause-told
-returns-then-not-is_optional-clause-told c =
+pub returns-then-not-is_optional-clause-fault_is_true : goal.returns-then-not-is_optional-clause-fault_is_true
+returns-then-not-is_optional-clause-fault_is_true c =
     let b : BreaksUnion (message_of c.args.self.now.bytes.now c.args.self.now.handles.now) (is_optional (entry_at c.args.self.now.table.now c.args.entry)) (is_strict (entry_at c.args.self.now.table.now c.args.entry)) (members_of c.args.self.now.table.now c.args.entry) c.args.place (AbsentRequired c.args.place) = (refl, sym (ap is_optional c.entry-e.ensures.value) ∙ sym c.is_optional.ensures ∙ c.if-not-is_optional.true, sym c.u64_at-ordinal.ensures ∙ c.if-ordinal-eq0.true, (c.is_absent.ensures.0 c.if-not-is_absent.false)) in
     union_breaks c.args.self.now.table.now c.requires.table (message_of c.args.self.now.bytes.now c.args.self.now.handles.now) c.args.depth c.args.entry c.args.place (at_of c.args.state.now) c.requires.entry c.requires.kind (AbsentRequired c.args.place) b
 
@@ -51,8 +51,8 @@ returns-then-is_strict-clause-err c =
     let b : BreaksUnion (message_of c.args.self.now.bytes.now c.args.self.now.handles.now) (is_optional (entry_at c.args.self.now.table.now c.args.entry)) (is_strict (entry_at c.args.self.now.table.now c.args.entry)) (members_of c.args.self.now.table.now c.args.entry) c.args.place (UnknownOrdinal c.args.place) = (refl, sym (ap is_strict c.entry-e.ensures.value) ∙ sym c.is_strict.ensures ∙ c.if-is_strict.true, some, sym same ∙ none) in
     union_refused c.args.self.now.table.now c.requires.table (message_of c.args.self.now.bytes.now c.args.self.now.handles.now) c.args.depth c.args.entry c.args.place (at_of c.args.state.now) c.requires.entry c.requires.kind (UnknownOrdinal c.args.place) b
 
-pub returns-then-is_strict-clause-told : goal.returns-then-is_strict-clause-told
-returns-then-is_strict-clause-told c =
+pub returns-then-is_strict-clause-fault_is_true : goal.returns-then-is_strict-clause-fault_is_true
+returns-then-is_strict-clause-fault_is_true c =
     let number : c.u64_at-ordinal.result ≡ ordinal_at c.args.self.now.bytes.now c.args.place = c.u64_at-ordinal.ensures in
     let some : (ordinal_at c.args.self.now.bytes.now c.args.place) ≢ 0 = (λ none. omega (arith, c.if-ordinal-eq0.false, number, none)) in
     let same : find (members_of c.args.self.now.table.now c.args.entry) c.u64_at-ordinal.result ≡ find (members_of c.args.self.now.table.now c.args.entry) (ordinal_at c.args.self.now.bytes.now c.args.place) = ap (λ k. find (members_of c.args.self.now.table.now c.args.entry) k) number in
@@ -88,8 +88,8 @@ returns-clause-err c =
     let tie : member_term c.member-member.result ≡ find (members_of c.args.self.now.table.now c.args.entry) (ordinal_at c.args.self.now.bytes.now c.args.place) = sym (member_is c.member-member.result (find (members_of c.args.self.now.table.now c.args.entry) c.u64_at-ordinal.result) c.member-member.ensures.none c.member-member.ensures.some) ∙ same in
     on_err_weaker c.open_envelope.result (λ bad. member_refused c.args.self.now.table.now c.requires.table (message_of c.args.self.now.bytes.now c.args.self.now.handles.now) c.args.depth c.args.entry c.args.place (at_of c.args.state.now) c.requires.entry c.requires.kind some (subst (λ (u : Option Term). (to : At) → Contained (declarations_of c.args.self.now.table.now) (message_of c.args.self.now.bytes.now c.args.self.now.handles.now) c.args.depth u (c.args.place + 8) (at_of c.args.state.now) to → ⊥) tie bad)) c.open_envelope.ensures.err
 
-pub returns-clause-told : goal.returns-clause-told
-returns-clause-told c =
+pub returns-clause-fault_is_true : goal.returns-clause-fault_is_true
+returns-clause-fault_is_true c =
     let number : c.u64_at-ordinal.result ≡ ordinal_at c.args.self.now.bytes.now c.args.place = c.u64_at-ordinal.ensures in
     let some : (ordinal_at c.args.self.now.bytes.now c.args.place) ≢ 0 = (λ none. omega (arith, c.if-ordinal-eq0.false, number, none)) in
     let same : find (members_of c.args.self.now.table.now c.args.entry) c.u64_at-ordinal.result ≡ find (members_of c.args.self.now.table.now c.args.entry) (ordinal_at c.args.self.now.bytes.now c.args.place) = ap (λ k. find (members_of c.args.self.now.table.now c.args.entry) k) number in
@@ -98,7 +98,7 @@ returns-clause-told c =
       | else-is_none-via-then-is_none+else-is_strict w ↦ (λ none. sym (ap is_strict c.entry-e.ensures.value) ∙ sym w.is_strict.ensures ∙ w.if-is_strict.false)
       | else-is_none-via-else-is_none w ↦ (λ none. absurd (one_member c.member-member.result (find (members_of c.args.self.now.table.now c.args.entry) c.u64_at-ordinal.result) c.member-member.ensures.some (c.is_none.ensures ∙ ap not w.if-is_none.false) (same ∙ none)))
     ] in
-    IfErr-weaker c.open_envelope.result _ _ (λ fault b. member_breaks c.args.self.now.table.now c.requires.table (message_of c.args.self.now.bytes.now c.args.self.now.handles.now) c.args.depth c.args.entry c.args.place (at_of c.args.state.now) c.requires.entry c.requires.kind some may fault (subst (λ (u : Option Term). BreaksMember (declarations_of c.args.self.now.table.now) (message_of c.args.self.now.bytes.now c.args.self.now.handles.now) c.args.depth u (c.args.place + 8) (at_of c.args.state.now) fault) tie b)) c.open_envelope.ensures.told
+    IfErr-weaker c.open_envelope.result _ _ (λ fault b. member_breaks c.args.self.now.table.now c.requires.table (message_of c.args.self.now.bytes.now c.args.self.now.handles.now) c.args.depth c.args.entry c.args.place (at_of c.args.state.now) c.requires.entry c.requires.kind some may fault (subst (λ (u : Option Term). BreaksMember (declarations_of c.args.self.now.table.now) (message_of c.args.self.now.bytes.now c.args.self.now.handles.now) c.args.depth u (c.args.place + 8) (at_of c.args.state.now) fault) tie b)) c.open_envelope.ensures.fault_is_true
 
 pub entry-e-requires : goal.entry-e-requires
 entry-e-requires c = c.requires.entry
@@ -127,8 +127,8 @@ returns-then-ordinal-eq0-clause-fine c = tt
 pub returns-then-ordinal-eq0-clause-err : goal.returns-then-ordinal-eq0-clause-err
 returns-then-ordinal-eq0-clause-err c = tt
 
-pub returns-then-ordinal-eq0-clause-told : goal.returns-then-ordinal-eq0-clause-told
-returns-then-ordinal-eq0-clause-told c = tt
+pub returns-then-ordinal-eq0-clause-fault_is_true : goal.returns-then-ordinal-eq0-clause-fault_is_true
+returns-then-ordinal-eq0-clause-fault_is_true c = tt
 
 pub returns-then-ordinal-eq0-clause-grows : goal.returns-then-ordinal-eq0-clause-grows
 returns-then-ordinal-eq0-clause-grows c = same_le _

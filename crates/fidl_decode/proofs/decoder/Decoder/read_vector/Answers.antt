@@ -2,10 +2,10 @@ use Rattle.fidl_decode.proofs.Fitting.{front, apart, inside, at_most, small, end
 use Rattle.std.proofs.Common.{◌≡◌, ℕ, ◌+◌, ◌-◌, ◌*◌, ◌<◌, refl, sym, ap, subst, ◌∙◌, arith, inl, inr, length}
 use Rattle.std.specs.Prelude.{Option, Some}
 use Rattle.std.specs.Int.{next_multiple_of}
-use Rattle.fidl_records.specs.declared.record.Entry.{Entry}
-use Rattle.fidl_records.specs.declared.kind.EntryKind.TheVariants.{Vector}
-use Rattle.fidl_records.specs.Section.{header_of, entry_at}
-use Rattle.fidl_records.specs.Terms.{is_optional}
+use Rattle.fidl_table_format.specs.declared.record.Entry.{Entry}
+use Rattle.fidl_table_format.specs.declared.kind.EntryKind.TheVariants.{Vector}
+use Rattle.fidl_table_format.specs.Section.{header_of, entry_at}
+use Rattle.fidl_table_format.specs.Terms.{is_optional}
 use Rattle.fidl_decode.specs.declared.frame.Left.TheVariants.{Elements}
 use Rattle.fidl_decode.specs.declared.frame.Frame.{Frame}
 use Rattle.fidl_decode.specs.Faults.{message_of}
@@ -27,8 +27,8 @@ entry-element-requires c =
     let f = fine_as c.args.self.now.table.now c.requires.table c.args.entry Vector c.requires.entry c.requires.kind in
     subst (λ (d : Entry). d.first < (header_of c.args.self.now.table.now).entries) (sym c.entry-e.ensures.value) f.content.0
 
-pub returns-then-count-rest-clause-told : goal.returns-then-count-rest-clause-told
-returns-then-count-rest-clause-told c =
+pub returns-then-count-rest-clause-fault_is_true : goal.returns-then-count-rest-clause-fault_is_true
+returns-then-count-rest-clause-fault_is_true c =
     let many = count_fits c.args.self.now.table.now c.requires.table (message_of c.args.self.now.bytes.now c.args.self.now.handles.now) c.args.depth c.args.entry c.args.place (at_of c.args.state.now) c.requires.entry c.requires.kind in
     (refl, inr (c.in-Present.ensures, omega (arith, many, c.u64_at-count.ensures, c.if-count-rest.true)))
 
@@ -87,8 +87,8 @@ returns-in-Neither-clause-ok c = tt
 pub returns-in-Neither-clause-fine : goal.returns-in-Neither-clause-fine
 returns-in-Neither-clause-fine c inside few = tt
 
-pub returns-in-Neither-clause-told : goal.returns-in-Neither-clause-told
-returns-in-Neither-clause-told c = (refl, c.in-Neither.ensures.0, c.in-Neither.ensures.1)
+pub returns-in-Neither-clause-fault_is_true : goal.returns-in-Neither-clause-fault_is_true
+returns-in-Neither-clause-fault_is_true c = (refl, c.in-Neither.ensures.0, c.in-Neither.ensures.1)
 
 pub returns-in-Neither-clause-steps : goal.returns-in-Neither-clause-steps
 returns-in-Neither-clause-steps c = refl
@@ -99,8 +99,8 @@ returns-then-count-ne0-clause-ok c = tt
 pub returns-then-count-ne0-clause-fine : goal.returns-then-count-ne0-clause-fine
 returns-then-count-ne0-clause-fine c inside few = tt
 
-pub returns-then-count-ne0-clause-told : goal.returns-then-count-ne0-clause-told
-returns-then-count-ne0-clause-told c = (refl, inl (c.in-Absent.ensures, λ none. c.if-count-ne0.true (c.u64_at-count.ensures ∙ none)))
+pub returns-then-count-ne0-clause-fault_is_true : goal.returns-then-count-ne0-clause-fault_is_true
+returns-then-count-ne0-clause-fault_is_true c = (refl, inl (c.in-Absent.ensures, λ none. c.if-count-ne0.true (c.u64_at-count.ensures ∙ none)))
 
 pub returns-then-count-ne0-clause-steps : goal.returns-then-count-ne0-clause-steps
 returns-then-count-ne0-clause-steps c = refl
@@ -111,8 +111,8 @@ returns-then-not-is_optional-clause-ok c = tt
 pub returns-then-not-is_optional-clause-fine : goal.returns-then-not-is_optional-clause-fine
 returns-then-not-is_optional-clause-fine c inside few = tt
 
-pub returns-then-not-is_optional-clause-told : goal.returns-then-not-is_optional-clause-told
-returns-then-not-is_optional-clause-told c = (refl, sym (ap is_optional c.entry-e.ensures.value) ∙ sym c.is_optional.ensures ∙ c.if-not-is_optional.true, c.in-Absent.ensures)
+pub returns-then-not-is_optional-clause-fault_is_true : goal.returns-then-not-is_optional-clause-fault_is_true
+returns-then-not-is_optional-clause-fault_is_true c = (refl, sym (ap is_optional c.entry-e.ensures.value) ∙ sym c.is_optional.ensures ∙ c.if-not-is_optional.true, c.in-Absent.ensures)
 
 pub returns-then-not-is_optional-clause-steps : goal.returns-then-not-is_optional-clause-steps
 returns-then-not-is_optional-clause-steps c = refl
@@ -120,8 +120,8 @@ returns-then-not-is_optional-clause-steps c = refl
 pub returns-in-Absent-clause-fine : goal.returns-in-Absent-clause-fine
 returns-in-Absent-clause-fine c inside few = tt
 
-pub returns-in-Absent-clause-told : goal.returns-in-Absent-clause-told
-returns-in-Absent-clause-told c = tt
+pub returns-in-Absent-clause-fault_is_true : goal.returns-in-Absent-clause-fault_is_true
+returns-in-Absent-clause-fault_is_true c = tt
 
 pub returns-in-Absent-clause-steps : goal.returns-in-Absent-clause-steps
 returns-in-Absent-clause-steps c = refl
@@ -141,8 +141,8 @@ returns-then-used-rest-clause-ok c = tt
 pub returns-then-used-rest-clause-fine : goal.returns-then-used-rest-clause-fine
 returns-then-used-rest-clause-fine c inside few = tt
 
-pub returns-then-used-rest-clause-told : goal.returns-then-used-rest-clause-told
-returns-then-used-rest-clause-told c =
+pub returns-then-used-rest-clause-fault_is_true : goal.returns-then-used-rest-clause-fault_is_true
+returns-then-used-rest-clause-fault_is_true c =
     let t = c.args.self.now.table.now in
     let d = entry_at t c.args.entry in
     let element : c.entry-element.result ≡ entry_at t d.first = c.entry-element.ensures.value ∙ ap (λ (d : Entry). entry_at t d.first) c.entry-e.ensures.value in
@@ -158,8 +158,8 @@ returns-then-count-e-clause-ok c = tt
 pub returns-then-count-e-clause-fine : goal.returns-then-count-e-clause-fine
 returns-then-count-e-clause-fine c inside few = tt
 
-pub returns-then-count-e-clause-told : goal.returns-then-count-e-clause-told
-returns-then-count-e-clause-told c =
+pub returns-then-count-e-clause-fault_is_true : goal.returns-then-count-e-clause-fault_is_true
+returns-then-count-e-clause-fault_is_true c =
     let bound = ap (λ (d : Entry). d.bound) c.entry-e.ensures.value in
     (refl, c.in-Present.ensures, omega (arith, bound, c.u64_at-count.ensures, c.if-count-e.true))
 
@@ -172,8 +172,8 @@ returns-then-depth-eq-MAX_DEPTH-clause-ok c = tt
 pub returns-then-depth-eq-MAX_DEPTH-clause-fine : goal.returns-then-depth-eq-MAX_DEPTH-clause-fine
 returns-then-depth-eq-MAX_DEPTH-clause-fine c inside few = tt
 
-pub returns-then-depth-eq-MAX_DEPTH-clause-told : goal.returns-then-depth-eq-MAX_DEPTH-clause-told
-returns-then-depth-eq-MAX_DEPTH-clause-told c = (refl, c.in-Present.ensures, omega (arith, c.if-depth-eq-MAX_DEPTH.true))
+pub returns-then-depth-eq-MAX_DEPTH-clause-fault_is_true : goal.returns-then-depth-eq-MAX_DEPTH-clause-fault_is_true
+returns-then-depth-eq-MAX_DEPTH-clause-fault_is_true c = (refl, c.in-Present.ensures, omega (arith, c.if-depth-eq-MAX_DEPTH.true))
 
 pub returns-then-depth-eq-MAX_DEPTH-clause-steps : goal.returns-then-depth-eq-MAX_DEPTH-clause-steps
 returns-then-depth-eq-MAX_DEPTH-clause-steps c = refl
@@ -184,8 +184,8 @@ returns-then-size-rest-clause-ok c = tt
 pub returns-then-size-rest-clause-fine : goal.returns-then-size-rest-clause-fine
 returns-then-size-rest-clause-fine c inside few = tt
 
-pub returns-then-size-rest-clause-told : goal.returns-then-size-rest-clause-told
-returns-then-size-rest-clause-told c =
+pub returns-then-size-rest-clause-fault_is_true : goal.returns-then-size-rest-clause-fault_is_true
+returns-then-size-rest-clause-fault_is_true c =
     let t = c.args.self.now.table.now in
     let d = entry_at t c.args.entry in
     let element : c.entry-element.result ≡ entry_at t d.first = c.entry-element.ensures.value ∙ ap (λ (d : Entry). entry_at t d.first) c.entry-e.ensures.value in
@@ -196,8 +196,8 @@ returns-then-size-rest-clause-told c =
 pub returns-then-size-rest-clause-steps : goal.returns-then-size-rest-clause-steps
 returns-then-size-rest-clause-steps c = refl
 
-pub returns-clause-told : goal.returns-clause-told
-returns-clause-told c = tt
+pub returns-clause-fault_is_true : goal.returns-clause-fault_is_true
+returns-clause-fault_is_true c = tt
 
 pub returns-clause-steps : goal.returns-clause-steps
 returns-clause-steps c = refl

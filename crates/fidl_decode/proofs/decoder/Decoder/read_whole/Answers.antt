@@ -49,11 +49,11 @@ returns-in_err-read_flat-clause-err c =
     let m = message_of c.args.self.now.bytes.now c.args.self.now.handles.now in
     on_err _ ((to : At) → Reads t m c.args.frame (at_of c.args.state.now) to → ⊥) (leaf_refused t c.requires.table m c.args.frame c.args.entry c.args.size 1 c.args.until c.requires.left refl (at_of c.args.state.now) c.requires.frame c.requires.state c.in_err-read_flat.ensures.err)
 
-pub returns-in_err-read_flat-clause-told : goal.returns-in_err-read_flat-clause-told
-returns-in_err-read_flat-clause-told c =
+pub returns-in_err-read_flat-clause-fault_is_true : goal.returns-in_err-read_flat-clause-fault_is_true
+returns-in_err-read_flat-clause-fault_is_true c =
     let t = c.args.self.now.table.now in
     let m = message_of c.args.self.now.bytes.now c.args.self.now.handles.now in
-    passed_on c.from_residual.result c.in_err-read_flat.field-0.0 _ c.from_residual.ensures.1 (leaf_breaks t c.requires.table m c.args.frame c.args.entry c.args.size 1 c.args.until c.requires.left refl (at_of c.args.state.now) c.requires.frame c.requires.state c.in_err-read_flat.field-0.0 c.in_err-read_flat.ensures.told)
+    passed_on c.from_residual.result c.in_err-read_flat.field-0.0 _ c.from_residual.ensures.1 (leaf_breaks t c.requires.table m c.args.frame c.args.entry c.args.size 1 c.args.until c.requires.left refl (at_of c.args.state.now) c.requires.frame c.requires.state c.in_err-read_flat.field-0.0 c.in_err-read_flat.ensures.fault_is_true)
 
 pub overflow_add-done : goal.overflow_add-done
 overflow_add-done c =
@@ -131,11 +131,11 @@ returns-in_err-zeros_at-clause-err c =
     let m = message_of c.args.self.now.bytes.now c.args.self.now.handles.now in
     on_err _ ((to : At) → Reads t m c.args.frame (at_of c.args.state.now) to → ⊥) (leaf_end_refused t c.requires.table m c.args.frame c.args.entry c.args.size 1 c.args.until c.requires.left refl (at_of c.args.state.now) c.requires.frame c.requires.state (at_of c.read_flat.new.state) (c.read_flat.new.state.steps - (c.args.state.now.steps + 1)) c.in_ok-read_flat.ensures.ok c.in_err-zeros_at.ensures.err)
 
-pub returns-in_err-zeros_at-clause-told : goal.returns-in_err-zeros_at-clause-told
-returns-in_err-zeros_at-clause-told c =
+pub returns-in_err-zeros_at-clause-fault_is_true : goal.returns-in_err-zeros_at-clause-fault_is_true
+returns-in_err-zeros_at-clause-fault_is_true c =
     let t = c.args.self.now.table.now in
     let m = message_of c.args.self.now.bytes.now c.args.self.now.handles.now in
-    passed_on c.from_residual-in_err-zeros_at.result c.in_err-zeros_at.field-0.0 _ c.from_residual-in_err-zeros_at.ensures.1 (leaf_end_breaks t c.requires.table m c.args.frame c.args.entry c.args.size 1 c.args.until c.requires.left refl (at_of c.args.state.now) c.requires.frame c.requires.state (at_of c.read_flat.new.state) (c.read_flat.new.state.steps - (c.args.state.now.steps + 1)) c.in_ok-read_flat.ensures.ok c.in_err-zeros_at.field-0.0 c.in_err-zeros_at.ensures.told)
+    passed_on c.from_residual-in_err-zeros_at.result c.in_err-zeros_at.field-0.0 _ c.from_residual-in_err-zeros_at.ensures.1 (leaf_end_breaks t c.requires.table m c.args.frame c.args.entry c.args.size 1 c.args.until c.requires.left refl (at_of c.args.state.now) c.requires.frame c.requires.state (at_of c.read_flat.new.state) (c.read_flat.new.state.steps - (c.args.state.now.steps + 1)) c.in_ok-read_flat.ensures.ok c.in_err-zeros_at.field-0.0 c.in_err-zeros_at.ensures.fault_is_true)
 
 pub returns-then-state-until-clause-cost : goal.returns-then-state-until-clause-cost
 returns-then-state-until-clause-cost c =
@@ -156,8 +156,8 @@ returns-then-state-until-clause-err c =
     ] in
     leaf_elsewhere t c.requires.table m c.args.frame c.args.entry c.args.size 1 c.args.until c.requires.left refl (at_of c.args.state.now) c.requires.frame c.requires.state (at_of c.read_flat.new.state) (c.read_flat.new.state.steps - (c.args.state.now.steps + 1)) c.in_ok-read_flat.ensures.ok c.in_ok-zeros_at.ensures.ok other
 
-pub returns-then-state-until-clause-told : goal.returns-then-state-until-clause-told
-returns-then-state-until-clause-told c =
+pub returns-then-state-until-clause-fault_is_true : goal.returns-then-state-until-clause-fault_is_true
+returns-then-state-until-clause-fault_is_true c =
     let t = c.args.self.now.table.now in
     let m = message_of c.args.self.now.bytes.now c.args.self.now.handles.now in
     let other : IsUntil c.args.until (at_of c.read_flat.new.state) → ⊥ = elim c.then-state-until.branch [
@@ -225,5 +225,5 @@ returns-then-state-until-clause-rises c = tt
 pub returns-clause-err : goal.returns-clause-err
 returns-clause-err c = tt
 
-pub returns-clause-told : goal.returns-clause-told
-returns-clause-told c = tt
+pub returns-clause-fault_is_true : goal.returns-clause-fault_is_true
+returns-clause-fault_is_true c = tt

@@ -2,7 +2,7 @@ use Rattle.std.proofs.Common.{◌≡◌, ◌+◌, ◌-◌, ◌≤◌, ℕ, List,
 use Rattle.fidl_wire.specs.Typed.{IsUnknownLength}
 use Rattle.std.specs.Prelude.{false, ◌/◌, ◌↔◌, slice_set, None}
 use Rattle.std.specs.Int.{next_multiple_of}
-use Rattle.fidl_records.specs.Terms.{declarations_of}
+use Rattle.fidl_table_format.specs.Terms.{declarations_of}
 use Rattle.fidl_decode.specs.declared.fault.DecodeFault.TheVariants.{BadEnvelope, TooDeep, Truncated, HandleMissing}
 use Rattle.fidl_decode.specs.Faults.{message_of}
 use Rattle.fidl_decode.specs.Envelopes.{Contained, bytes_below, handles_below}

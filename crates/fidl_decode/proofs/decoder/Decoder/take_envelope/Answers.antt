@@ -3,7 +3,7 @@ use Rattle.std.specs.Prelude.{Option, Some, None}
 use Rattle.fidl_wire.specs.Term.{Term, find}
 use Rattle.fidl_wire.specs.Encoding.{zeros}
 use Rattle.fidl_wire.specs.Standing.{Stands}
-use Rattle.fidl_records.specs.Terms.{declarations_of, members_of}
+use Rattle.fidl_table_format.specs.Terms.{declarations_of, members_of}
 use Rattle.fidl_decode.specs.declared.frame.Frame.{Frame}
 use Rattle.fidl_decode.specs.declared.frame.Left.TheVariants.{Envelopes}
 use Rattle.fidl_decode.specs.State.{At}
@@ -118,8 +118,8 @@ returns-clause-err c =
     (envelope_refused t c.requires.table m (c.requires.short, c.requires.state.few) f c.args.entry c.args.read c.args.count old gf c.requires.state (c.args.read + 1) (c.args.count - 1) (add-one c.args.read) (omega (arith, some)) some there (subst (λ (o : Option Term). (to : At) → Contained (declarations_of t) m f.depth o place old to → ⊥) (sym is) bad)))
     c.read_member.ensures.err
 
-pub returns-clause-told : goal.returns-clause-told
-returns-clause-told c =
+pub returns-clause-fault_is_true : goal.returns-clause-fault_is_true
+returns-clause-fault_is_true c =
     let t = c.args.self.now.table.now in
     let m = message_of c.args.self.now.bytes.now c.args.self.now.handles.now in
     let f = c.args.frame in
@@ -139,13 +139,13 @@ returns-clause-told c =
     IfErr-weaker c.read_member.result _ _
     (λ fault b. subst (λ (g : Frame). BreaksFrame t m g old fault) (sym same)
     (envelope_breaks t c.requires.table m (c.requires.short, c.requires.state.few) f c.args.entry c.args.read c.args.count old gf c.requires.state (c.args.read + 1) (c.args.count - 1) (add-one c.args.read) (omega (arith, some)) some there fault (subst (λ (o : Option Term). BreaksMember (declarations_of t) m f.depth o place old fault) (sym is) b)))
-    c.read_member.ensures.told
+    c.read_member.ensures.fault_is_true
 
 pub returns-then-is_absent-clause-err : goal.returns-then-is_absent-clause-err
 returns-then-is_absent-clause-err c = tt
 
-pub returns-then-is_absent-clause-told : goal.returns-then-is_absent-clause-told
-returns-then-is_absent-clause-told c = tt
+pub returns-then-is_absent-clause-fault_is_true : goal.returns-then-is_absent-clause-fault_is_true
+returns-then-is_absent-clause-fault_is_true c = tt
 
 pub row_of-member-requires-clause-parts : goal.row_of-member-requires-clause-parts
 row_of-member-requires-clause-parts c = c.requires.parts

@@ -3,8 +3,8 @@ use Rattle.std.proofs.Common.{rules, ℕ, ◌≡◌, ◌+◌, ◌-◌, subst, �
 use Rattle.std.specs.Prelude.{Some, None}
 use Rattle.fidl_wire.specs.Term as ty
 use Rattle.fidl_wire.specs.Figure.{size_of}
-use Rattle.fidl_records.specs.declared.record.Entry.{Entry}
-use Rattle.fidl_records.specs.Terms.{declarations_of}
+use Rattle.fidl_table_format.specs.declared.record.Entry.{Entry}
+use Rattle.fidl_table_format.specs.Terms.{declarations_of}
 use Rattle.fidl_decode.specs.Rows.{Row}
 use Rattle.fidl_decode.specs.State.{At}
 use Rattle.fidl_decode.specs.Machine.{Turns, Reads, at_of}
@@ -140,17 +140,17 @@ returns-clause-cost c =
     let w = spends_more c.args.frame.nest (c.in-Some.member.offset - c.args.frame.done) (c.args.frame.size - c.args.frame.done) (omega (arith, pos, r, f.1)) in
     omega (arith, c.visit.ensures.probes, w, g)
 
-pub returns-in_err-zeros_at-2-clause-told : goal.returns-in_err-zeros_at-2-clause-told
-returns-in_err-zeros_at-2-clause-told c =
-    let h = (gap_breaks c.args.self.now.table.now c.requires.table (message_of c.args.self.now.bytes.now c.args.self.now.handles.now) c.args.frame (at_of c.args.state.now) c.requires.frame c.requires.state (let x : Row = record { offset = c.in-Some.member.offset; entry = c.in-Some.member.entry } in x) c.in-Some.member.left c.in-Some.ensures.some c.requires.plain _ c.in_err-zeros_at-2.ensures.told) in search (rules, h)
+pub returns-in_err-zeros_at-2-clause-fault_is_true : goal.returns-in_err-zeros_at-2-clause-fault_is_true
+returns-in_err-zeros_at-2-clause-fault_is_true c =
+    let h = (gap_breaks c.args.self.now.table.now c.requires.table (message_of c.args.self.now.bytes.now c.args.self.now.handles.now) c.args.frame (at_of c.args.state.now) c.requires.frame c.requires.state (let x : Row = record { offset = c.in-Some.member.offset; entry = c.in-Some.member.entry } in x) c.in-Some.member.left c.in-Some.ensures.some c.requires.plain _ c.in_err-zeros_at-2.ensures.fault_is_true) in search (rules, h)
 
-pub returns-in_err-zeros_at-clause-told : goal.returns-in_err-zeros_at-clause-told
-returns-in_err-zeros_at-clause-told c =
-    let h = (end_breaks c.args.self.now.table.now c.requires.table (message_of c.args.self.now.bytes.now c.args.self.now.handles.now) c.args.frame (at_of c.args.state.now) c.requires.frame c.requires.state c.in_default.ensures.none c.requires.plain _ c.in_err-zeros_at.ensures.told) in search (rules, h)
+pub returns-in_err-zeros_at-clause-fault_is_true : goal.returns-in_err-zeros_at-clause-fault_is_true
+returns-in_err-zeros_at-clause-fault_is_true c =
+    let h = (end_breaks c.args.self.now.table.now c.requires.table (message_of c.args.self.now.bytes.now c.args.self.now.handles.now) c.args.frame (at_of c.args.state.now) c.requires.frame c.requires.state c.in_default.ensures.none c.requires.plain _ c.in_err-zeros_at.ensures.fault_is_true) in search (rules, h)
 
-pub returns-in_err-below-clause-told : goal.returns-in_err-below-clause-told
-returns-in_err-below-clause-told c =
-    let h = (visit_breaks c.args.self.now.table.now c.requires.table (message_of c.args.self.now.bytes.now c.args.self.now.handles.now) c.args.frame (at_of c.args.state.now) c.requires.frame c.requires.state (let x : Row = record { offset = c.in-Some.member.offset; entry = c.in-Some.member.entry } in x) c.in-Some.member.left c.in-Some.ensures.some c.requires.plain _ c.in_ok-zeros_at-2.ensures.ok c.in_err-below.ensures.told) in search (rules, h)
+pub returns-in_err-below-clause-fault_is_true : goal.returns-in_err-below-clause-fault_is_true
+returns-in_err-below-clause-fault_is_true c =
+    let h = (visit_breaks c.args.self.now.table.now c.requires.table (message_of c.args.self.now.bytes.now c.args.self.now.handles.now) c.args.frame (at_of c.args.state.now) c.requires.frame c.requires.state (let x : Row = record { offset = c.in-Some.member.offset; entry = c.in-Some.member.entry } in x) c.in-Some.member.left c.in-Some.ensures.some c.requires.plain _ c.in_ok-zeros_at-2.ensures.ok c.in_err-below.ensures.fault_is_true) in search (rules, h)
 
 pub visit-requires-clause-budget : goal.visit-requires-clause-budget
 visit-requires-clause-budget c =
@@ -175,8 +175,8 @@ returns-in_err-zeros_at-clause-ok c = no_ok c.from_residual.result c.in_err-zero
 pub returns-in_default-clause-err : goal.returns-in_default-clause-err
 returns-in_default-clause-err c = tt
 
-pub returns-in_default-clause-told : goal.returns-in_default-clause-told
-returns-in_default-clause-told c = tt
+pub returns-in_default-clause-fault_is_true : goal.returns-in_default-clause-fault_is_true
+returns-in_default-clause-fault_is_true c = tt
 
 pub returns-in_err-zeros_at-2-clause-ok : goal.returns-in_err-zeros_at-2-clause-ok
 returns-in_err-zeros_at-2-clause-ok c = no_ok c.from_residual-in_err-zeros_at-2.result c.in_err-zeros_at-2.field-0.0 _ c.from_residual-in_err-zeros_at-2.ensures.1
@@ -196,5 +196,5 @@ returns-in_err-below-clause-ok c = no_ok c.from_residual-in_err-below.result c.i
 pub returns-clause-err : goal.returns-clause-err
 returns-clause-err c = tt
 
-pub returns-clause-told : goal.returns-clause-told
-returns-clause-told c = tt
+pub returns-clause-fault_is_true : goal.returns-clause-fault_is_true
+returns-clause-fault_is_true c = tt

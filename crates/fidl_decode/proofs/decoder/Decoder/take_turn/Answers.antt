@@ -281,12 +281,12 @@ loop-now-preserved c =
     let three = subst (λ (o : Option Frame). Turns c.args.self.now.table.now (message_of c.args.self.now.bytes.now c.args.self.now.handles.now) c.in-Some-below.below (at_of c.take_member.new.state) (at_of c.read_leaves-in-loop-now.new.state) (c.read_leaves-in-loop-now.new.state.steps - c.take_member.new.state.steps) (left_over o)) c.in_default-2.is c.in_ok-inner.ensures.ok in
     record { turns = turns_over c.args.self.now.table.now (message_of c.args.self.now.bytes.now c.args.self.now.handles.now) c.args.frame (at_of c.args.state.now) (at_of c.take_member.new.state) (c.take_member.new.state.steps - c.args.state.now.steps) c.in-Some-below.below c.in-Some-rest.after both (at_of c.read_leaves-in-loop-now.new.state) _ _ (omega (arith, so_far, grows, rises, on)) three; steps = omega (arith, so_far, grows, rises, on) }
 
-pub returns-in_err-now-clause-told : goal.returns-in_err-now-clause-told
-returns-in_err-now-clause-told c =
-    let h = (turns_break c.args.self.now.table.now (message_of c.args.self.now.bytes.now c.args.self.now.handles.now) c.args.frame (at_of c.args.state.now) (at_of c.loop-now.state) (c.loop-now.state.steps - c.args.state.now.steps) c.loop-now.rest c.loop-now.invariant.turns _ c.in_err-now.ensures.told) in search (rules, h)
+pub returns-in_err-now-clause-fault_is_true : goal.returns-in_err-now-clause-fault_is_true
+returns-in_err-now-clause-fault_is_true c =
+    let h = (turns_break c.args.self.now.table.now (message_of c.args.self.now.bytes.now c.args.self.now.handles.now) c.args.frame (at_of c.args.state.now) (at_of c.loop-now.state) (c.loop-now.state.steps - c.args.state.now.steps) c.loop-now.rest c.loop-now.invariant.turns _ c.in_err-now.ensures.fault_is_true) in search (rules, h)
 
-pub returns-in_err-turn-clause-told : goal.returns-in_err-turn-clause-told
-returns-in_err-turn-clause-told c =
+pub returns-in_err-turn-clause-fault_is_true : goal.returns-in_err-turn-clause-fault_is_true
+returns-in_err-turn-clause-fault_is_true c =
     let so_far = c.loop-now.invariant.steps in
     let less = c.loop-now.invariant.turns.less in
     let grows = c.in_ok-now.ensures.grows in
@@ -294,10 +294,10 @@ returns-in_err-turn-clause-told c =
     let held : Turns c.args.self.now.table.now (message_of c.args.self.now.bytes.now c.args.self.now.handles.now) c.args.frame (at_of c.args.state.now) (at_of c.read_leaves.new.state) (c.read_leaves.new.state.steps - c.args.state.now.steps) (left_over (Some c.in-Some.now)) = turns_then c.args.self.now.table.now (message_of c.args.self.now.bytes.now c.args.self.now.handles.now) c.args.frame (at_of c.args.state.now) (at_of c.loop-now.state) (c.loop-now.state.steps - c.args.state.now.steps) c.loop-now.rest c.loop-now.invariant.turns (at_of c.read_leaves.new.state) _ _ (left_over (Some c.in-Some.now)) (omega (arith, so_far, grows)) two in
     let less_now = held.less in
     passed_on c.from_residual-in_err-turn.result c.in_err-turn.field-0.0 _ c.from_residual-in_err-turn.ensures.1
-    (turns_break c.args.self.now.table.now (message_of c.args.self.now.bytes.now c.args.self.now.handles.now) c.args.frame (at_of c.args.state.now) (at_of c.read_leaves.new.state) (c.read_leaves.new.state.steps - c.args.state.now.steps) c.in-Some.now held _ c.in_err-turn.ensures.told)
+    (turns_break c.args.self.now.table.now (message_of c.args.self.now.bytes.now c.args.self.now.handles.now) c.args.frame (at_of c.args.state.now) (at_of c.read_leaves.new.state) (c.read_leaves.new.state.steps - c.args.state.now.steps) c.in-Some.now held _ c.in_err-turn.ensures.fault_is_true)
 
-pub returns-in_err-inner-clause-told : goal.returns-in_err-inner-clause-told
-returns-in_err-inner-clause-told c =
+pub returns-in_err-inner-clause-fault_is_true : goal.returns-in_err-inner-clause-fault_is_true
+returns-in_err-inner-clause-fault_is_true c =
     let so_far = c.loop-now.invariant.steps in
     let less = c.loop-now.invariant.turns.less in
     let grows = c.in_ok-now.ensures.grows in
@@ -310,4 +310,4 @@ returns-in_err-inner-clause-told c =
     let both = subst (λ (x : Turn). Turns c.args.self.now.table.now (message_of c.args.self.now.bytes.now c.args.self.now.handles.now) c.args.frame (at_of c.args.state.now) (at_of c.take_member.new.state) (c.take_member.new.state.steps - c.args.state.now.steps) x) turn read in
     let less_both = both.less in
     passed_on c.from_residual-in_err-inner.result c.in_err-inner.field-0.0 _ c.from_residual-in_err-inner.ensures.1
-    (below_breaks c.args.self.now.table.now (message_of c.args.self.now.bytes.now c.args.self.now.handles.now) c.args.frame (at_of c.args.state.now) (at_of c.take_member.new.state) (c.take_member.new.state.steps - c.args.state.now.steps) c.in-Some-below.below c.in-Some-rest.after both _ c.in_err-inner.ensures.told)
+    (below_breaks c.args.self.now.table.now (message_of c.args.self.now.bytes.now c.args.self.now.handles.now) c.args.frame (at_of c.args.state.now) (at_of c.take_member.new.state) (c.take_member.new.state.steps - c.args.state.now.steps) c.in-Some-below.below c.in-Some-rest.after both _ c.in_err-inner.ensures.fault_is_true)

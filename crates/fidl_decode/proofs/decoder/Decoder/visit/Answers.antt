@@ -3,12 +3,12 @@ use Rattle.fidl_decode.proofs.Unchanged.{same_le, no_ok}
 use Rattle.std.proofs.Common.{◌-◌, arith, ◌≡◌, ◌<◌, sym, ap, subst, ◌∙◌, length, ◌+◌, ◌≤◌}
 use Rattle.std.specs.Prelude.{Some, None, IfOk}
 use Rattle.std.proofs.lemmas.Result.{IfErr-weaker}
-use Rattle.fidl_records.specs.declared.record.Entry.{Entry}
-use Rattle.fidl_records.specs.declared.kind.EntryKind.{EntryKind}
-use Rattle.fidl_records.specs.declared.kind.EntryKind.TheVariants.{Vector, Array, Box, Struct, Table, Union}
-use Rattle.fidl_records.specs.Kind.{kind_of}
-use Rattle.fidl_records.specs.Section.{header_of, entry_at}
-use Rattle.fidl_records.specs.Terms.{declarations_of, rows_from}
+use Rattle.fidl_table_format.specs.declared.record.Entry.{Entry}
+use Rattle.fidl_table_format.specs.declared.kind.EntryKind.{EntryKind}
+use Rattle.fidl_table_format.specs.declared.kind.EntryKind.TheVariants.{Vector, Array, Box, Struct, Table, Union}
+use Rattle.fidl_table_format.specs.Kind.{kind_of}
+use Rattle.fidl_table_format.specs.Section.{header_of, entry_at}
+use Rattle.fidl_table_format.specs.Terms.{declarations_of, rows_from}
 use Rattle.fidl_decode.specs.Machine.{at_of, Visits, VisitFine}
 use Rattle.fidl_decode.specs.Faults.{message_of}
 use Rattle.fidl_decode.proofs.Visiting.{fine_as, size_as, leaf_else, leaf_breaks, refused_leaf, visits_struct, visits_array, struct_fine, array_fine, struct_frame, array_frame}
@@ -59,9 +59,9 @@ returns-in-Array-clause-fine c =
     subst (λ (d : Entry). VisitFine c.args.self.now.table.now (message_of c.args.self.now.bytes.now c.args.self.now.handles.now) c.args.depth c.args.inside c.args.entry (Some (array_frame d c.entry-size.result.size c.args.place c.args.depth c.args.inside))) (sym c.entry-e.ensures.value)
     (array_fine c.args.self.now.table.now c.requires.table (message_of c.args.self.now.bytes.now c.args.self.now.handles.now) c.args.depth c.args.entry c.args.place (at_of c.args.state.now) c.requires.entry c.requires.state c.requires.depth c.args.inside c.entry-size.result.size is element c.requires.room c.requires.inside)
 
-pub returns-in_err-read_leaf-in_default-kind-clause-told : goal.returns-in_err-read_leaf-in_default-kind-clause-told
-returns-in_err-read_leaf-in_default-kind-clause-told c =
-    passed_on c.from_residual.result c.in_err-read_leaf-in_default-kind.field-0.0 _ c.from_residual.ensures.1 c.in_err-read_leaf-in_default-kind.ensures.told
+pub returns-in_err-read_leaf-in_default-kind-clause-fault_is_true : goal.returns-in_err-read_leaf-in_default-kind-clause-fault_is_true
+returns-in_err-read_leaf-in_default-kind-clause-fault_is_true c =
+    passed_on c.from_residual.result c.in_err-read_leaf-in_default-kind.field-0.0 _ c.from_residual.ensures.1 c.in_err-read_leaf-in_default-kind.ensures.fault_is_true
 
 pub read_box-requires-clause-kind : goal.read_box-requires-clause-kind
 read_box-requires-clause-kind c = ap (λ (e : Entry). kind_of e.kind) (sym c.entry-e.ensures.value) ∙ sym c.from_number.ensures ∙ c.in-Some.is ∙ ap (λ (k : EntryKind). Some k) c.in-Box.is
@@ -75,12 +75,12 @@ read_box-requires-clause-room c =
 pub returns-in-Box-clause-err : goal.returns-in-Box-clause-err
 returns-in-Box-clause-err c =
     let is : kind_of (entry_at c.args.self.now.table.now c.args.entry).kind ≡ Some Box = ap (λ (e : Entry). kind_of e.kind) (sym c.entry-e.ensures.value) ∙ sym c.from_number.ensures ∙ c.in-Some.is ∙ ap (λ (k : EntryKind). Some k) c.in-Box.is in
-    refused_by c.read_box.result _ _ (λ fault b. box_refused c.args.self.now.table.now c.requires.table (message_of c.args.self.now.bytes.now c.args.self.now.handles.now) c.args.depth c.args.entry c.args.place (at_of c.args.state.now) c.requires.entry is c.requires.state c.requires.depth fault b) c.read_box.ensures.told
+    refused_by c.read_box.result _ _ (λ fault b. box_refused c.args.self.now.table.now c.requires.table (message_of c.args.self.now.bytes.now c.args.self.now.handles.now) c.args.depth c.args.entry c.args.place (at_of c.args.state.now) c.requires.entry is c.requires.state c.requires.depth fault b) c.read_box.ensures.fault_is_true
 
-pub returns-in-Box-clause-told : goal.returns-in-Box-clause-told
-returns-in-Box-clause-told c =
+pub returns-in-Box-clause-fault_is_true : goal.returns-in-Box-clause-fault_is_true
+returns-in-Box-clause-fault_is_true c =
     let is : kind_of (entry_at c.args.self.now.table.now c.args.entry).kind ≡ Some Box = ap (λ (e : Entry). kind_of e.kind) (sym c.entry-e.ensures.value) ∙ sym c.from_number.ensures ∙ c.in-Some.is ∙ ap (λ (k : EntryKind). Some k) c.in-Box.is in
-    IfErr-weaker c.read_box.result _ _ (λ fault b. box_breaks c.args.self.now.table.now c.requires.table (message_of c.args.self.now.bytes.now c.args.self.now.handles.now) c.args.depth c.args.entry c.args.place (at_of c.args.state.now) c.requires.entry is c.requires.state c.requires.depth fault b) c.read_box.ensures.told
+    IfErr-weaker c.read_box.result _ _ (λ fault b. box_breaks c.args.self.now.table.now c.requires.table (message_of c.args.self.now.bytes.now c.args.self.now.handles.now) c.args.depth c.args.entry c.args.place (at_of c.args.state.now) c.requires.entry is c.requires.state c.requires.depth fault b) c.read_box.ensures.fault_is_true
 
 pub read_vector-requires-clause-kind : goal.read_vector-requires-clause-kind
 read_vector-requires-clause-kind c = ap (λ (e : Entry). kind_of e.kind) (sym c.entry-e.ensures.value) ∙ sym c.from_number.ensures ∙ c.in-Some.is ∙ ap (λ (k : EntryKind). Some k) c.in-Vector.is
@@ -94,23 +94,23 @@ read_vector-requires-clause-room c =
 pub returns-in-Vector-clause-err : goal.returns-in-Vector-clause-err
 returns-in-Vector-clause-err c =
     let is : kind_of (entry_at c.args.self.now.table.now c.args.entry).kind ≡ Some Vector = ap (λ (e : Entry). kind_of e.kind) (sym c.entry-e.ensures.value) ∙ sym c.from_number.ensures ∙ c.in-Some.is ∙ ap (λ (k : EntryKind). Some k) c.in-Vector.is in
-    refused_by c.read_vector.result _ _ (λ fault b. vector_refused c.args.self.now.table.now c.requires.table (message_of c.args.self.now.bytes.now c.args.self.now.handles.now) c.args.depth c.args.entry c.args.place (at_of c.args.state.now) c.requires.entry is c.requires.state c.requires.depth fault b) c.read_vector.ensures.told
+    refused_by c.read_vector.result _ _ (λ fault b. vector_refused c.args.self.now.table.now c.requires.table (message_of c.args.self.now.bytes.now c.args.self.now.handles.now) c.args.depth c.args.entry c.args.place (at_of c.args.state.now) c.requires.entry is c.requires.state c.requires.depth fault b) c.read_vector.ensures.fault_is_true
 
-pub returns-in-Vector-clause-told : goal.returns-in-Vector-clause-told
-returns-in-Vector-clause-told c =
+pub returns-in-Vector-clause-fault_is_true : goal.returns-in-Vector-clause-fault_is_true
+returns-in-Vector-clause-fault_is_true c =
     let is : kind_of (entry_at c.args.self.now.table.now c.args.entry).kind ≡ Some Vector = ap (λ (e : Entry). kind_of e.kind) (sym c.entry-e.ensures.value) ∙ sym c.from_number.ensures ∙ c.in-Some.is ∙ ap (λ (k : EntryKind). Some k) c.in-Vector.is in
-    IfErr-weaker c.read_vector.result _ _ (λ fault b. vector_breaks c.args.self.now.table.now c.requires.table (message_of c.args.self.now.bytes.now c.args.self.now.handles.now) c.args.depth c.args.entry c.args.place (at_of c.args.state.now) c.requires.entry is c.requires.state c.requires.depth fault b) c.read_vector.ensures.told
+    IfErr-weaker c.read_vector.result _ _ (λ fault b. vector_breaks c.args.self.now.table.now c.requires.table (message_of c.args.self.now.bytes.now c.args.self.now.handles.now) c.args.depth c.args.entry c.args.place (at_of c.args.state.now) c.requires.entry is c.requires.state c.requires.depth fault b) c.read_vector.ensures.fault_is_true
 
 pub returns-in-Table-clause-err : goal.returns-in-Table-clause-err
 returns-in-Table-clause-err c =
     let is : kind_of (entry_at c.args.self.now.table.now c.args.entry).kind ≡ Some Table = ap (λ (e : Entry). kind_of e.kind) (sym c.entry-e.ensures.value) ∙ sym c.from_number.ensures ∙ c.in-Some.is ∙ ap (λ (k : EntryKind). Some k) c.in-Table.is in
     refused_by c.read_table.result _ _ (λ fault b. refused_leaf c.args.self.now.table.now c.requires.table (message_of c.args.self.now.bytes.now c.args.self.now.handles.now) c.args.depth c.args.entry c.args.place (at_of c.args.state.now) c.requires.entry c.requires.state c.requires.depth Table is
-    (λ to x. table_excluded (declarations_of c.args.self.now.table.now) c.requires.table.laid_out (message_of c.args.self.now.bytes.now c.args.self.now.handles.now) c.args.depth (rows_from c.args.self.now.table.now (header_of c.args.self.now.table.now) (entry_at c.args.self.now.table.now c.args.entry).first (entry_at c.args.self.now.table.now c.args.entry).count) c.args.place (at_of c.args.state.now) to fault b x)) c.read_table.ensures.told
+    (λ to x. table_excluded (declarations_of c.args.self.now.table.now) c.requires.table.laid_out (message_of c.args.self.now.bytes.now c.args.self.now.handles.now) c.args.depth (rows_from c.args.self.now.table.now (header_of c.args.self.now.table.now) (entry_at c.args.self.now.table.now c.args.entry).first (entry_at c.args.self.now.table.now c.args.entry).count) c.args.place (at_of c.args.state.now) to fault b x)) c.read_table.ensures.fault_is_true
 
-pub returns-in-Table-clause-told : goal.returns-in-Table-clause-told
-returns-in-Table-clause-told c =
+pub returns-in-Table-clause-fault_is_true : goal.returns-in-Table-clause-fault_is_true
+returns-in-Table-clause-fault_is_true c =
     let is : kind_of (entry_at c.args.self.now.table.now c.args.entry).kind ≡ Some Table = ap (λ (e : Entry). kind_of e.kind) (sym c.entry-e.ensures.value) ∙ sym c.from_number.ensures ∙ c.in-Some.is ∙ ap (λ (k : EntryKind). Some k) c.in-Table.is in
-    IfErr-weaker c.read_table.result _ _ (λ fault b. leaf_breaks c.args.self.now.table.now c.requires.table (message_of c.args.self.now.bytes.now c.args.self.now.handles.now) c.args.depth c.args.entry c.args.place (at_of c.args.state.now) c.requires.entry c.requires.state c.requires.depth Table is fault b) c.read_table.ensures.told
+    IfErr-weaker c.read_table.result _ _ (λ fault b. leaf_breaks c.args.self.now.table.now c.requires.table (message_of c.args.self.now.bytes.now c.args.self.now.handles.now) c.args.depth c.args.entry c.args.place (at_of c.args.state.now) c.requires.entry c.requires.state c.requires.depth Table is fault b) c.read_table.ensures.fault_is_true
 
 pub read_leaf-requires-clause-leaf : goal.read_leaf-requires-clause-leaf
 read_leaf-requires-clause-leaf c =
@@ -229,8 +229,8 @@ read_leaf-requires-clause-budget c = c.requires.budget
 pub returns-in-Struct-clause-err : goal.returns-in-Struct-clause-err
 returns-in-Struct-clause-err c = tt
 
-pub returns-in-Struct-clause-told : goal.returns-in-Struct-clause-told
-returns-in-Struct-clause-told c = tt
+pub returns-in-Struct-clause-fault_is_true : goal.returns-in-Struct-clause-fault_is_true
+returns-in-Struct-clause-fault_is_true c = tt
 
 pub returns-in-Struct-clause-grows : goal.returns-in-Struct-clause-grows
 returns-in-Struct-clause-grows c = same_le _
@@ -238,8 +238,8 @@ returns-in-Struct-clause-grows c = same_le _
 pub returns-in-Array-clause-err : goal.returns-in-Array-clause-err
 returns-in-Array-clause-err c = tt
 
-pub returns-in-Array-clause-told : goal.returns-in-Array-clause-told
-returns-in-Array-clause-told c = tt
+pub returns-in-Array-clause-fault_is_true : goal.returns-in-Array-clause-fault_is_true
+returns-in-Array-clause-fault_is_true c = tt
 
 pub returns-in-Array-clause-grows : goal.returns-in-Array-clause-grows
 returns-in-Array-clause-grows c = same_le _
@@ -322,8 +322,8 @@ returns-in-Union-clause-ok c = c.read_union.ensures.ok
 pub returns-in-Union-clause-err : goal.returns-in-Union-clause-err
 returns-in-Union-clause-err c = c.read_union.ensures.err
 
-pub returns-in-Union-clause-told : goal.returns-in-Union-clause-told
-returns-in-Union-clause-told c = c.read_union.ensures.told
+pub returns-in-Union-clause-fault_is_true : goal.returns-in-Union-clause-fault_is_true
+returns-in-Union-clause-fault_is_true c = c.read_union.ensures.fault_is_true
 
 pub returns-in-Union-clause-grows : goal.returns-in-Union-clause-grows
 returns-in-Union-clause-grows c = c.read_union.ensures.grows

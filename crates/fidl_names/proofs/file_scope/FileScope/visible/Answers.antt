@@ -1,4 +1,4 @@
-use Rattle.fidl_names.specs.NameMaps.{seen_texts}
+use Rattle.fidl_names.specs.NameMaps.{texts_view}
 use Rattle.fidl_names.specs.Imports.{visible, ImportsAreApart}
 use Rattle.fidl_names.proofs.Layouts.{all_at}
 use Rattle.fidl_names.proofs.AliasFacts.{seen_at}
@@ -7,7 +7,7 @@ use Rattle.fidl_names.proofs.file_scope.FileScope.visible.Goals as goal
 pub returns-clause-sees : goal.returns-clause-sees
 returns-clause-sees c =
     let s = c.args.self.now in
-    rw (← c.index-self-self.is) (seen_at (λ v. seen_texts v.entries) visible s.names.visible_names.now s.names.set.now s.file_index c.index-self-self.result s.file.now s.names.sees s.file_at c.index-self-self.is)
+    rw (← c.index-self-self.is) (seen_at (λ v. texts_view v.entries) visible s.names.visible_names.now s.names.set.now s.file_index c.index-self-self.result s.file.now s.names.sees s.file_at c.index-self-self.is)
 
 pub returns-clause-apart : goal.returns-clause-apart
 returns-clause-apart c =

@@ -1,5 +1,5 @@
 use Rattle.std.proofs.Common.{◌≡◌, ◌∙◌, [], ◌∷◌, get_or, ap, sym, arith}
-use Rattle.fidl_layouts.specs.declared.step.Step.TheVariants as step
+use Rattle.fidl_declarations.specs.declared.step.Step.TheVariants as step
 use Rattle.fidl_table.specs.Samples.{piece}
 use Rattle.fidl_table.proofs.Small.{small_name}
 use Rattle.fidl_table.proofs.worked.listed.entries_of_methods.Goals as goal

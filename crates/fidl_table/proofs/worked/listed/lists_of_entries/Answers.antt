@@ -1,5 +1,5 @@
 use Rattle.std.proofs.Common.{[], ◌∷◌, inl, inr, subst, sym}
-use Rattle.fidl_compositions.proofs.Lists.{here, there, first_or_rest, just_one, nothing_there}
+use Rattle.fidl_composition.proofs.Lists.{here, there, first_or_rest, just_one, nothing_there}
 use Rattle.fidl_table.specs.Listed.{IsProtocolEntry}
 use Rattle.fidl_table.proofs.worked.listed.lists_of_entries.Goals as goal
 

@@ -1,5 +1,5 @@
 use Rattle.std.proofs.Common.{◌≡◌, [], ◌∷◌, subst, arith}
-use Rattle.fidl_compositions.proofs.Lists.{here, just_one}
+use Rattle.fidl_composition.proofs.Lists.{here, just_one}
 use Rattle.fidl_table.specs.Protocols.{ShowsProtocol}
 use Rattle.fidl_table.specs.Samples.{one_protocol}
 use Rattle.fidl_table.proofs.Small.{left_out, surplus}

@@ -1,5 +1,5 @@
 use Rattle.std.proofs.Common.{◌≡◌, ◌∙◌, [], ◌∷◌, get_or, ap, arith}
-use Rattle.fidl_layouts.specs.declared.step.Step.TheVariants as step
+use Rattle.fidl_declarations.specs.declared.step.Step.TheVariants as step
 use Rattle.fidl_table.specs.Samples.{piece}
 use Rattle.fidl_table.proofs.Small.{small_name}
 use Rattle.fidl_table.proofs.worked.protocols.methods_of_tables.Goals as goal

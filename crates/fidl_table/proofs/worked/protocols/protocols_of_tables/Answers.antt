@@ -1,6 +1,6 @@
 use Rattle.std.proofs.Common.{◌≡◌, ◌∙◌, [], ◌∷◌, slice_get, get_or, ap, arith}
 use Rattle.fidl_tree.specs.Syntax.{ajar_protocol, open_protocol}
-use Rattle.fidl_layouts.specs.declared.step.Step.TheVariants as step
+use Rattle.fidl_declarations.specs.declared.step.Step.TheVariants as step
 use Rattle.fidl_table.specs.Samples.{piece, a_method}
 use Rattle.fidl_table.proofs.Small.{small_name}
 use Rattle.fidl_table.proofs.worked.protocols.protocols_of_tables.Goals as goal

@@ -1,6 +1,6 @@
 use Rattle.std.proofs.Common.{sym, ◌∙◌, subst, ap}
 use Rattle.fidl_verify.specs.Lookups.{EntryHolds, request_of, method_record, payload_of}
-use Rattle.fidl_records.specs.Method.{has_request}
+use Rattle.fidl_table_format.specs.Method.{has_request}
 use Rattle.fidl_verify.proofs.Ordinals.{entry_holds}
 use Rattle.fidl_verify.proofs.method.Method.request.Goals as goal
 

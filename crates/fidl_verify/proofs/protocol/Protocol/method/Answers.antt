@@ -1,6 +1,6 @@
 use Rattle.std.proofs.Common.{◌≡◌, ℕ, ◌∙◌, subst}
-use Rattle.fidl_records.specs.Section.{header_of}
-use Rattle.fidl_records.specs.Method.{IsMethodAt, HasNoMethod, method_number}
+use Rattle.fidl_table_format.specs.Section.{header_of}
+use Rattle.fidl_table_format.specs.Method.{IsMethodAt, HasNoMethod, method_number}
 use Rattle.fidl_verify.specs.Lookups.{TableProtocol}
 use Rattle.fidl_verify.proofs.Placed.{rising, with_ordinal, without_ordinal}
 use Rattle.fidl_verify.proofs.protocol.Protocol.method.Goals as goal

@@ -1,7 +1,7 @@
 use Rattle.std.proofs.Common.{◌<◌, ℕ, suc, ◌∙◌, ap, sym, subst}
-use Rattle.fidl_records.specs.Section.{header_of}
-use Rattle.fidl_records.specs.Protocol.{IsProtocol, IsFirstProtocol, HasNoProtocol, methods_before}
-use Rattle.fidl_records.specs.WellFormed.{WellFormed}
+use Rattle.fidl_table_format.specs.Section.{header_of}
+use Rattle.fidl_table_format.specs.Protocol.{IsProtocol, IsFirstProtocol, HasNoProtocol, methods_before}
+use Rattle.fidl_table_format.specs.WellFormed.{WellFormed}
 use Rattle.fidl_verify.proofs.table.Table.protocol.Goals as goal
 
 pub find_protocol-requires : goal.find_protocol-requires

@@ -4,7 +4,7 @@ use Rattle.std.specs.Int.{w16, w32}
 use Rattle.std.proofs.Math.Logic.{∥∥₁_elim}
 use Rattle.std.proofs.Math.Bridge.{le_prop}
 use Rattle.fidl_wire.specs.Value.{unknown}
-use Rattle.fidl_records.specs.Field.{number_at}
+use Rattle.fidl_table_format.specs.Field.{number_at}
 use Rattle.fidl_decode.specs.Placed.{object_at}
 use Rattle.fidl_view.proofs.Raw as raw
 use Rattle.fidl_view.proofs.envelope.Envelope.raw_bytes.Goals as goal

@@ -3,8 +3,8 @@ use Rattle.std.specs.Prelude.{None, ◌==◌}
 use Rattle.std.specs.Int.{w16}
 use Rattle.fidl_wire.specs.Value.{Member, unknown}
 use Rattle.fidl_wire.specs.Term.{find}
-use Rattle.fidl_records.specs.Field.{number_at}
-use Rattle.fidl_records.specs.Terms.{members_of}
+use Rattle.fidl_table_format.specs.Field.{number_at}
+use Rattle.fidl_table_format.specs.Terms.{members_of}
 use Rattle.fidl_view.specs.Members.{ShowMember, term_at}
 use Rattle.fidl_view.proofs.Raw as raw
 use Rattle.fidl_view.proofs.envelope.Envelope.unknown.Goals as goal

@@ -1,8 +1,8 @@
 use Rattle.std.proofs.Common.{◌≡◌, ℕ, List, sym, subst, ◌∙◌}
 use Rattle.std.specs.Prelude.{IfSome}
-use Rattle.fidl_records.specs.declared.kind.EntryKind.TheVariants.{String}
-use Rattle.fidl_records.specs.Section.{header_of, entry_at}
-use Rattle.fidl_records.specs.Terms.{declarations_of, is_optional}
+use Rattle.fidl_table_format.specs.declared.kind.EntryKind.TheVariants.{String}
+use Rattle.fidl_table_format.specs.Section.{header_of, entry_at}
+use Rattle.fidl_table_format.specs.Terms.{declarations_of, is_optional}
 use Rattle.fidl_view.specs.Views.{type_shown, types_shown}
 use Rattle.fidl_view.proofs.Viewing as viewing
 use Rattle.fidl_view.proofs.Content as content

@@ -1,7 +1,7 @@
 use Rattle.std.proofs.Common.{◌≡◌, ℕ, List, ap, ◌∙◌}
 use Rattle.std.specs.Prelude.{Option}
 use Rattle.fidl_wire.specs.Term.{Kind}
-use Rattle.fidl_records.specs.Kind.{number_type}
+use Rattle.fidl_table_format.specs.Kind.{number_type}
 use Rattle.fidl_view.specs.Numbers.{unsigned_at}
 use Rattle.fidl_view.proofs.Viewing as viewing
 use Rattle.fidl_view.proofs.view.View.as_u64.Goals as goal

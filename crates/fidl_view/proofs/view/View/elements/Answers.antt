@@ -1,7 +1,7 @@
 use Rattle.std.proofs.Common.{◌≡◌, ℕ, ◌*◌, List, ap, sym, subst, ◌∙◌, arith}
 use Rattle.fidl_wire.specs.Value.{Value, none}
-use Rattle.fidl_records.specs.declared.record.Entry.{Entry}
-use Rattle.fidl_records.specs.Section.{entry_at}
+use Rattle.fidl_table_format.specs.declared.record.Entry.{Entry}
+use Rattle.fidl_table_format.specs.Section.{entry_at}
 use Rattle.fidl_view.specs.Parts.{elements_of}
 use Rattle.fidl_view.specs.Elements.{ShowEach}
 use Rattle.fidl_view.specs.Views.{parts_left}

@@ -1,5 +1,5 @@
-use Rattle.fidl_records.specs.Section.{header_of, entry_at}
-use Rattle.fidl_records.specs.Terms.{declarations_of}
+use Rattle.fidl_table_format.specs.Section.{header_of, entry_at}
+use Rattle.fidl_table_format.specs.Terms.{declarations_of}
 use Rattle.fidl_view.proofs.Viewing as viewing
 use Rattle.fidl_view.proofs.Lists as lists
 use Rattle.fidl_view.proofs.view.View.list.Goals as goal

@@ -1,8 +1,8 @@
 use Rattle.std.proofs.Common.{ap, ◌∙◌}
 use Rattle.std.specs.Prelude.{Option}
 use Rattle.fidl_wire.specs.Value.{Member}
-use Rattle.fidl_records.specs.Section.{header_of, entry_at}
-use Rattle.fidl_records.specs.Terms.{declarations_of}
+use Rattle.fidl_table_format.specs.Section.{header_of, entry_at}
+use Rattle.fidl_table_format.specs.Terms.{declarations_of}
 use Rattle.fidl_view.specs.Parts.{known_in}
 use Rattle.fidl_view.proofs.Viewing as viewing
 use Rattle.fidl_view.proofs.Keyed as keyed

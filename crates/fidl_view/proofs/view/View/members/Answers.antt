@@ -1,10 +1,10 @@
 use Rattle.std.proofs.Common.{◌≡◌, ℕ, ◌<◌, List, get_or, ap, sym, subst, ◌∙◌, arith}
 use Rattle.std.proofs.Math.Logic.{∥∥₁_map}
-use Rattle.fidl_records.specs.declared.record.Entry.{Entry}
-use Rattle.fidl_records.specs.declared.kind.EntryKind.TheVariants.{Struct}
-use Rattle.fidl_records.specs.Section.{header_of, entry_at}
-use Rattle.fidl_records.specs.Terms.{declarations_of}
-use Rattle.fidl_records.specs.Entry.{IsOf}
+use Rattle.fidl_table_format.specs.declared.record.Entry.{Entry}
+use Rattle.fidl_table_format.specs.declared.kind.EntryKind.TheVariants.{Struct}
+use Rattle.fidl_table_format.specs.Section.{header_of, entry_at}
+use Rattle.fidl_table_format.specs.Terms.{declarations_of}
+use Rattle.fidl_table_format.specs.Entry.{IsOf}
 use Rattle.fidl_view.specs.Members.{ShowMembers}
 use Rattle.fidl_view.proofs.Viewing as viewing
 use Rattle.fidl_view.proofs.MemberPlaces as places

@@ -2,13 +2,13 @@ use Rattle.std.proofs.Common.{◌≡◌, ℕ, List, ap, sym, subst, ◌∙◌, a
 use Rattle.std.specs.Prelude.{◌⊎◌, IsTrue}
 use Rattle.std.specs.Int.{byte_len}
 use Rattle.fidl_wire.specs.Term.{Kind, width}
-use Rattle.fidl_records.specs.declared.record.Entry.{Entry}
-use Rattle.fidl_records.specs.declared.kind.EntryKind.{EntryKind}
-use Rattle.fidl_records.specs.declared.kind.EntryKind.TheVariants.{Bits, Enum}
-use Rattle.fidl_records.specs.Section.{entry_at}
-use Rattle.fidl_records.specs.Terms.{as_number, underlying}
-use Rattle.fidl_records.specs.Uses.{is_number}
-use Rattle.fidl_records.specs.Entry.{IsOf, subtype_is}
+use Rattle.fidl_table_format.specs.declared.record.Entry.{Entry}
+use Rattle.fidl_table_format.specs.declared.kind.EntryKind.{EntryKind}
+use Rattle.fidl_table_format.specs.declared.kind.EntryKind.TheVariants.{Bits, Enum}
+use Rattle.fidl_table_format.specs.Section.{entry_at}
+use Rattle.fidl_table_format.specs.Terms.{as_number, underlying}
+use Rattle.fidl_table_format.specs.Uses.{is_number}
+use Rattle.fidl_table_format.specs.Entry.{IsOf, subtype_is}
 use Rattle.fidl_view.proofs.Viewing as viewing
 use Rattle.fidl_view.proofs.view.View.number_kind.Goals as goal
 

@@ -2,8 +2,8 @@ use Rattle.std.proofs.Common.{◌≡◌, ℕ, ◌+◌, ◌*◌, List, length, ap
 use Rattle.std.specs.Prelude.{Some, slice_range}
 use Rattle.fidl_wire.specs.Value.{Value}
 use Rattle.fidl_wire.specs.Term.{Term}
-use Rattle.fidl_records.specs.declared.kind.EntryKind.TheVariants.{Uint8}
-use Rattle.fidl_records.specs.Section.{header_of, entry_at}
+use Rattle.fidl_table_format.specs.declared.kind.EntryKind.TheVariants.{Uint8}
+use Rattle.fidl_table_format.specs.Section.{header_of, entry_at}
 use Rattle.fidl_decode.specs.Model.{Shown}
 use Rattle.fidl_decode.specs.Placed.{content_at}
 use Rattle.fidl_view.specs.Parts.{bytes_if, bytes_of}

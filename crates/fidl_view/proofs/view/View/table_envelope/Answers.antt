@@ -4,9 +4,9 @@ use Rattle.std.proofs.Math.Logic.{∥∥₁_map, ∥∥₁_elim}
 use Rattle.std.proofs.Math.Bridge.{le_prop}
 use Rattle.fidl_wire.specs.Encoding.{zeros}
 use Rattle.fidl_wire.specs.Standing.{Stands}
-use Rattle.fidl_records.specs.declared.kind.EntryKind.TheVariants.{Table}
-use Rattle.fidl_records.specs.Field.{number_at}
-use Rattle.fidl_records.specs.WellFormed.{WellFormed}
+use Rattle.fidl_table_format.specs.declared.kind.EntryKind.TheVariants.{Table}
+use Rattle.fidl_table_format.specs.Field.{number_at}
+use Rattle.fidl_table_format.specs.WellFormed.{WellFormed}
 use Rattle.fidl_view.specs.Members.{ShowMember}
 use Rattle.fidl_view.proofs.Content.{nonzero}
 use Rattle.fidl_view.proofs.Keyed as keyed

@@ -2,9 +2,9 @@ use Rattle.std.proofs.Common.{◌≡◌, ℕ, ◌+◌, List, refl, ap, sym, subs
 use Rattle.std.specs.Int.{w64}
 use Rattle.std.specs.Prelude.{Some}
 use Rattle.std.proofs.Math.Logic.{∥∥₁_map}
-use Rattle.fidl_records.specs.declared.kind.EntryKind.TheVariants.{Union}
-use Rattle.fidl_records.specs.Field.{number_at}
-use Rattle.fidl_records.specs.WellFormed.{WellFormed}
+use Rattle.fidl_table_format.specs.declared.kind.EntryKind.TheVariants.{Union}
+use Rattle.fidl_table_format.specs.Field.{number_at}
+use Rattle.fidl_table_format.specs.WellFormed.{WellFormed}
 use Rattle.fidl_view.specs.Members.{ShowMember}
 use Rattle.fidl_view.specs.Parts.{variant_of}
 use Rattle.fidl_view.proofs.Viewing as viewing

@@ -1,5 +1,5 @@
 use Rattle.std.proofs.Common.{ℕ, List, subst}
-use Rattle.fidl_records.specs.WellFormed.{WellFormed}
+use Rattle.fidl_table_format.specs.WellFormed.{WellFormed}
 use Rattle.fidl_view.proofs.Viewing as viewing
 use Rattle.fidl_view.proofs.views.DecodedViews.view.Goals as goal
 

@@ -1,0 +1,23 @@
+use Rattle.std.proofs.Common.{◌<◌, ℕ, sym, subst}
+use Rattle.std.specs.List.{Contains}
+use Rattle.fidl_names.proofs.Trails.{edge_to, target_of}
+use Rattle.fidl_composition.proofs.points.PointList.add_targets.Goals as goal
+
+pub add_all-requires-clause-within : goal.add_all-requires-clause-within
+add_all-requires-clause-within c = λ t h.
+    let edge = edge_to c.args.graph.now c.args.point c.index-graph-point.result c.requires.within c.index-graph-point.is t (subst (λ l. Contains l t) c.deref.ensures.value h) in
+    subst (λ (n : ℕ). t < n) (sym c.requires.long) (c.requires.edges c.args.point t edge)
+
+pub returns : goal.returns
+returns c =
+    let graph = c.args.graph.now in
+    let row = c.index-graph-point.result in
+    let value = c.deref.ensures.value in
+    record {
+      targets = c.deref.result.now;
+      edges = λ t. (
+        (λ e. subst (λ l. Contains l t) (sym value) (target_of graph c.args.point row c.requires.within c.index-graph-point.is t e)),
+        (λ h. edge_to graph c.args.point row c.requires.within c.index-graph-point.is t (subst (λ l. Contains l t) value h)),
+      );
+      grows = c.in_ok-add_all.ensures;
+    }

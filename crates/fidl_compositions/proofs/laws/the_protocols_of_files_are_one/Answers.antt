@@ -1,5 +1,0 @@
-use Rattle.fidl_compositions.proofs.Order.{one_protocols}
-use Rattle.fidl_compositions.proofs.laws.the_protocols_of_files_are_one.Goals as goal
-
-pub returns : goal.returns
-returns c = one_protocols

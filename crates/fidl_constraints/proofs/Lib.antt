@@ -1,0 +1,10 @@
+pub mod Amounts
+pub mod InSet
+pub mod Listing
+pub mod OneGathered
+pub mod OneHandle
+pub mod Pairing
+pub mod Protocols
+pub mod Naming
+pub mod OneBehind
+pub mod Walking

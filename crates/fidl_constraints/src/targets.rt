@@ -1,0 +1,155 @@
+//! What types refer to at once.
+ghost use Rattle.std.specs.Prelude.{◌≡◌, IfOk, IfSome, IsNone, option_map, option_copied};
+ghost use Rattle.fidl_tree.specs.Views.{declared_view, named_view, layout_view, body_view};
+ghost use Rattle.fidl_tree.specs.declared.file.File.{File as Tree};
+ghost use Rattle.fidl_tree.specs.declared.declaration.Declaration.{Declaration as Node};
+ghost use Rattle.fidl_names.specs.Constraints.{IsDeclarationAt};
+ghost use Rattle.fidl_constraints.specs.Behind.{Target as Plain, body_target, IsDeclared, RefersTo};
+ghost use Rattle.fidl_constraints.specs.Behind.{MeaningRefersTo};
+ghost use Rattle.fidl_constraints.specs.BehindViews.{arguments_view, target_view, use_view};
+
+use crate::heads::Head;
+use crate::type_use::{TypeUse, use_of};
+use fidl_names::{DeclarationId, Meaning, Named};
+use fidl_tree::{Declaration, DeclarationBody, File, Layout, LayoutBody, NamedType, TypeArguments};
+use std::alloc::AllocError;
+
+/// What a type refers to at once.
+#[derive(Clone, Copy, Drop)]
+pub(crate) enum Target<'f> {
+    /// The end of its aliases, in the file of this number.
+    Ends {
+        file_index: usize,
+        head: Head<'f>,
+    },
+    /// The type of an alias in the file of this number.
+    Follows {
+        file_index: usize,
+        next: TypeUse<'f>,
+    },
+}
+
+/// A declaration with its file.
+#[derive(Clone, Copy, Drop)]
+pub(crate) struct FoundDeclaration<'f, 's> {
+    pub file: &'f File<'s>,
+    pub declaration: &'f Declaration,
+}
+
+/// The declaration of an id.
+fn declaration_at<'f, 's>(
+    named: &Named<'f, 's>,
+    id: DeclarationId,
+) -> Option<FoundDeclaration<'f, 's>>
+    ensures found { IfSome result (λ x. IsDeclarationAt named.now id x.file.now x.declaration.now) }
+    ensures none { IsNone result → (f : Tree) (d : Node) → IsDeclarationAt named.now id f d → ⊥ }
+{
+    if id.file >= named.count() {
+        return None;
+    }
+    let file = named.file(id.file);
+    let declaration = file.declarations.get(id.index)?;
+    Some(FoundDeclaration { file, declaration })
+}
+
+/// What the name of a declaration refers to as a type.
+fn body_target<'f>(id: DeclarationId, body: &'f DeclarationBody) -> Option<Target<'f>>
+    ensures { option_map target_view result ≡ body_target id (declared_view body.now) }
+{
+    match body {
+        DeclarationBody::Alias(alias) => Some(Target::Follows {
+            file_index: id.file,
+            next: use_of(&alias.constructor),
+        }),
+        DeclarationBody::Type(declaration) => Some(Target::Ends {
+            file_index: id.file,
+            head: Head::Layout(&declaration.layout.body),
+        }),
+        DeclarationBody::Resource(_) => Some(Target::Ends {
+            file_index: id.file,
+            head: Head::Handle(id),
+        }),
+        DeclarationBody::Const(_) | DeclarationBody::Protocol(_) | DeclarationBody::Service(_) =>
+            None,
+    }
+}
+
+/// The same of the declaration of an id.
+fn declared_target<'f>(named: &Named<'f, '_>, id: DeclarationId) -> Option<Target<'f>>
+    ensures found { IfSome result (λ t. IsDeclared named.now id (target_view t)) }
+    ensures none { IsNone result → (t : Plain) → IsDeclared named.now id t → ⊥ }
+{
+    let found = declaration_at(named, id)?;
+    body_target(id, &found.declaration.body)
+}
+
+/// What a meaning refers to as a type, with these arguments in the file of this number.
+fn meaning_target<'f>(
+    named: &Named<'f, '_>,
+    file_index: usize,
+    arguments: Option<&'f TypeArguments>,
+    meaning: Meaning,
+) -> Option<Target<'f>>
+    ensures found { IfSome result (λ t. MeaningRefersTo named.now file_index
+        (arguments_view (option_copied arguments.entry)) meaning (target_view t)) }
+    ensures none { IsNone result → (t : Plain) → MeaningRefersTo named.now file_index
+        (arguments_view (option_copied arguments.entry)) meaning t → ⊥ }
+{
+    match meaning {
+        Meaning::Predeclared(name) => Some(Target::Ends {
+            file_index,
+            head: Head::Word { name, arguments },
+        }),
+        Meaning::Declared(id) => declared_target(named, id),
+        Meaning::Member { .. } | Meaning::PropertyMember { .. } => None,
+    }
+}
+
+/// What a name with its arguments refers to in the file of this number.
+fn named_target<'f>(
+    named: &Named<'f, '_>,
+    file_index: usize,
+    of: &'f NamedType,
+) -> Result<Option<Target<'f>>, AllocError>
+    ensures found { IfOk result (λ found. IfSome found
+        (λ t. RefersTo named.now file_index (named_view of.now) (target_view t))) }
+    ensures none { IfOk result (λ found. IsNone found
+        → (t : Plain) → RefersTo named.now file_index (named_view of.now) t → ⊥) }
+{
+    if file_index >= named.count() {
+        return Ok(None);
+    }
+    let Some(meaning) = named.type_meaning(file_index, &of.path)? else {
+        return Ok(None);
+    };
+    let arguments = of.arguments.as_ref();
+    let target = meaning_target(named, file_index, arguments, meaning);
+    Ok(target)
+}
+
+/// The layout without its attributes.
+fn body_of(layout: &Layout) -> &LayoutBody
+    ensures { body_view result.now ≡ (layout_view layout.now).1 }
+{
+    &layout.body
+}
+
+/// What a type refers to in the file of this number.
+pub(crate) fn refers_to<'f>(
+    named: &Named<'f, '_>,
+    file_index: usize,
+    of: TypeUse<'f>,
+) -> Result<Option<Target<'f>>, AllocError>
+    ensures found { IfOk result (λ found. IfSome found
+        (λ t. RefersTo named.now file_index (use_view of.entry) (target_view t))) }
+    ensures none { IfOk result (λ found. IsNone found
+        → (t : Plain) → RefersTo named.now file_index (use_view of.entry) t → ⊥) }
+{
+    match of {
+        TypeUse::Named(of_name) => named_target(named, file_index, of_name),
+        TypeUse::Written { layout, .. } => Ok(Some(Target::Ends {
+            file_index,
+            head: Head::Layout(body_of(layout)),
+        })),
+    }
+}

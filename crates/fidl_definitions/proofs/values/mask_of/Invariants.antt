@@ -1,7 +1,0 @@
-use Rattle.std.proofs.Common.{take}
-use Rattle.fidl_definitions.specs.Values.{IsMaskOf}
-use Rattle.fidl_definitions.proofs.values.mask_of.Given as goal
-
--- the mask so far is that of the numbers so far
-abbrev pub invariant-loop-number : goal.invariant-loop-number
-invariant-loop-number l = IsMaskOf (take l.number-index l.numbers) l.mask

@@ -1,3 +1,0 @@
-pub mod Excluded
-pub mod Numbers
-pub mod Reports

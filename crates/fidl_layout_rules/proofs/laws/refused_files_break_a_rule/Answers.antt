@@ -1,5 +1,0 @@
-use Rattle.fidl_layout_rules.proofs.Excluded.{refused_not}
-use Rattle.fidl_layout_rules.proofs.laws.refused_files_break_a_rule.Goals as goal
-
-pub returns : goal.returns
-returns c = refused_not

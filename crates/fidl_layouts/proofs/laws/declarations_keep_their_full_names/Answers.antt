@@ -1,5 +1,0 @@
-use Rattle.fidl_layouts.proofs.DeclaredNames.{full_names_same}
-use Rattle.fidl_layouts.proofs.laws.declarations_keep_their_full_names.Goals as goal
-
-pub returns : goal.returns
-returns c = full_names_same

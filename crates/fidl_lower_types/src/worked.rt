@@ -1,0 +1,65 @@
+//! Worked facts: what the definitions say of small types, and what they don't.
+ghost use Rattle.std.specs.Prelude.{◌≡◌, ◌≢◌, ◌<◌, ◌^◌, ℕ, List, [], ◌∷◌, Option, None, Some};
+ghost use Rattle.std.specs.Prelude.{true, false};
+ghost use Rattle.fidl_span.specs.declared.words.Span.{Span};
+ghost use Rattle.fidl_tree.specs.Leaf.{text_at};
+ghost use Rattle.fidl_tree.specs.Syntax.{Path, Value, TypeUse, named_type, no_arguments};
+ghost use Rattle.fidl_tree.specs.Syntax.{next_argument, number_argument, type_argument};
+ghost use Rattle.fidl_tree.specs.Syntax.{struct_layout, table_layout, Members};
+ghost use Rattle.fidl_tree.specs.declared.file.File.{File};
+ghost use Rattle.fidl_names.specs.declared.meaning.Predeclared.TheVariants as Words;
+ghost use Rattle.fidl_const.specs.Literals.{number_of};
+ghost use Rattle.fidl_wire.specs.Term as ty;
+ghost use Rattle.fidl_constraints.specs.Behind.{word_head};
+ghost use Rattle.fidl_constraints.specs.declared.parts.PartKind.TheVariants as Kinds;
+ghost use Rattle.fidl_constraints.specs.Examples.{part};
+ghost use Rattle.fidl_lower_types.specs.declared.node.Shape.TheVariants as Shapes;
+ghost use Rattle.fidl_lower_types.specs.Counts.{CountIs};
+ghost use Rattle.fidl_lower_types.specs.Terms.{Node, made_of, word_term, is_struct, leaf, holds};
+ghost use Rattle.fidl_lower_types.specs.Terms.{HeadIs};
+
+/// The terms of predeclared types: with their bounds, and none for numbers that are left out of the
+/// profile.
+pub fn terms_of_words()
+    ensures bool { word_term Words.Bool [] ≡ Some ty.bool }
+    ensures byte { word_term Words.Byte [] ≡ Some (ty.number ty.uint8) }
+    ensures int64 { word_term Words.Int64 [] ≡ Some (ty.number ty.int64) }
+    ensures string { word_term Words.String (part Kinds.Bound 4 ∷ part Kinds.Optional 0 ∷ [])
+        ≡ Some (ty.string true 4) }
+    ensures bytes { word_term Words.Bytes [] ≡ Some (ty.vector false 4294967295
+        (ty.number ty.uint8)) }
+    ensures ends { word_term Words.ClientEnd (part Kinds.Protocol 0 ∷ [])
+        ≡ Some (ty.handle false 4 2147483648) }
+    ensures floats { (word_term Words.Float32 [] ≡ None) × (word_term Words.Float64 [] ≡ None) }
+    ensures other { word_term Words.Int64 [] ≢ Some (ty.number ty.uint64) }
+{}
+
+/// Vectors and arrays have the term of their elements in them, and only structs are structs.
+pub fn terms_of_elements()
+    ensures vector { made_of (Shapes.Vector true 7) ty.bool ≡ ty.vector true 7 ty.bool }
+    ensures array { made_of (Shapes.Array 3) ty.bool ≡ ty.array ty.bool 3 }
+    ensures other { made_of (Shapes.Array 3) ty.bool ≢ ty.array ty.bool 4 }
+    ensures structs { (k : Span) (ms : Members) → (is_struct (struct_layout false k ms) ≡ true)
+        × (is_struct (table_layout false k ms) ≡ false) }
+{}
+
+/// A number word counts elements from 1 on; a name with a constraint counts none.
+pub fn counts_of_elements()
+    ensures word { (files : List File) (f : File) (s : Span) → number_of (text_at f.src.now s) ≡ 3
+        → CountIs files f (number_argument s) 3 }
+    ensures none { (files : List File) (f : File) (s : Span) → CountIs files f (number_argument s) 0
+        → ⊥ }
+    ensures constrained { (files : List File) (f : File) (path : Path) (v : Value) (n : ℕ)
+        → CountIs files f (type_argument (named_type path no_arguments (v ∷ []))) n → ⊥ }
+{}
+
+/// A vector of one type is of its elements, and a vector of nothing is nothing.
+pub fn vectors_hold_one_type()
+    ensures holds { (files : List File) (t : TypeUse)
+        → HeadIs files 0 [] (word_head Words.Vector (next_argument (type_argument t) no_arguments))
+        (holds 0 t (Shapes.Vector false 4294967295)) }
+    ensures none { (files : List File) (n : Node) → HeadIs files 0 []
+        (word_head Words.Vector no_arguments) n → ⊥ }
+    ensures bools { (files : List File) → HeadIs files 0 [] (word_head Words.Bool no_arguments)
+        (leaf ty.bool) }
+{}

@@ -1,0 +1,9 @@
+pub mod Excluded
+pub mod Numbers
+pub mod Reports
+pub mod ValuesExcluded
+pub mod Listing
+pub mod Members
+pub mod Powers
+pub mod ValueReports
+pub mod Values

@@ -1,8 +1,0 @@
-use Rattle.fidl_tree.specs.Views.{attribute_view}
-use Rattle.fidl_methods.specs.Selectors.{is_selector}
-use Rattle.fidl_methods.proofs.Selecting.{NoneBefore}
-use Rattle.fidl_methods.proofs.selector.first_selector.Given as goal
-
--- none of the attributes so far is a selector
-abbrev pub invariant-loop-number : goal.invariant-loop-number
-invariant-loop-number l = NoneBefore attribute_view (is_selector l.file.src.now) l.attributes l.number

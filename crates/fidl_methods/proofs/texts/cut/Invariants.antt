@@ -1,6 +1,0 @@
-use Rattle.fidl_methods.proofs.Cuts.{NoneBefore}
-use Rattle.fidl_methods.proofs.texts.cut.Given as goal
-
--- none of the bytes so far is such
-abbrev pub invariant-loop-at : goal.invariant-loop-at
-invariant-loop-at l = NoneBefore l.byte l.text l.at

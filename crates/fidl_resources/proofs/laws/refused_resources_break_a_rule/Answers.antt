@@ -1,5 +1,0 @@
-use Rattle.fidl_resources.proofs.Excluded.{refused_not}
-use Rattle.fidl_resources.proofs.laws.refused_resources_break_a_rule.Goals as goal
-
-pub returns : goal.returns
-returns c = refused_not

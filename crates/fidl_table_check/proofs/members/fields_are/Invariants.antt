@@ -1,0 +1,10 @@
+use Rattle.std.proofs.Common.{◌≡◌, ℕ, ◌<◌, Some, slice_get, map}
+use Rattle.fidl_ir.specs.declared.term.Field.{Field}
+use Rattle.fidl_reachable_types.specs.Growing.{reference_view}
+use Rattle.fidl_table_check.specs.Members.{IsField}
+use Rattle.fidl_table_check.proofs.members.fields_are.Given as goal
+
+-- the members so far are the entry's rows
+abbrev pub invariant-loop-place : goal.invariant-loop-place
+invariant-loop-place l = (k : ℕ) (f : Field) → k < l.place → slice_get l.fields k ≡ Some f
+    → IsField (map reference_view l.types) l.table l.entry k f

@@ -1,0 +1,8 @@
+use Rattle.std.proofs.Common.{rules, below_none, below_more}
+use Rattle.fidl_table_format.proofs.worked.ordinals.ordinals_of_unions.Goals as goal
+
+pub returns-clause-over : goal.returns-clause-over
+returns-clause-over c = record {
+  ordinals = λ is. below_more _ 1 (below_more _ 0 (below_none _) (record { some = search rules; limit = search rules; rises = search rules })) (record { some = search rules; limit = search rules; rises = search rules });
+  values = search rules;
+}

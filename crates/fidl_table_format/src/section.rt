@@ -1,0 +1,147 @@
+//! Readers of the records of a table's sections.
+ghost use Rattle.std.specs.Prelude.{◌≡◌, ◌+◌, ◌*◌, ◌≤◌, length, slice_range};
+ghost use Rattle.fidl_table_format.specs.Section.{header_of, entry_at, row_at, value_at, root_at};
+ghost use Rattle.fidl_table_format.specs.Section.{entry_place, row_place, value_place, root_place};
+ghost use Rattle.fidl_table_format.specs.Section.{protocol_place, protocol_at, method_place, method_at};
+ghost use Rattle.fidl_table_format.specs.Section.{names_place, name_at};
+
+use crate::field::{u16_at, u32_at, u64_at};
+use crate::record::{Entry, Header, MethodRecord, ProtocolRecord, Root, Row};
+
+/// The length of the header, in bytes.
+pub const HEADER_SIZE: usize = 40;
+
+/// The fields of the header.
+pub fn read_header(table: &[u8]) -> Header
+    requires { HEADER_SIZE ≤ length table.now }
+    ensures { result ≡ header_of table.now }
+{
+    Header {
+        magic: u32_at(table, 0),
+        version: u16_at(table, 4),
+        reserved: u16_at(table, 6),
+        entries: u32_at(table, 8),
+        rows: u32_at(table, 12),
+        values: u32_at(table, 16),
+        roots: u32_at(table, 20),
+        protocols: u32_at(table, 24),
+        methods: u32_at(table, 28),
+        names: u32_at(table, 32),
+        reserved_end: u32_at(table, 36),
+    }
+}
+
+/// The fields of an entry, by its number.
+pub fn read_entry(table: &[u8], index: u32) -> Entry
+    requires { entry_place index + 40 ≤ length table.now }
+    ensures { result ≡ entry_at table.now index }
+{
+    let place = HEADER_SIZE + 40 * index as usize;
+    Entry {
+        kind: table[place],
+        flags: table[place + 1],
+        alignment: table[place + 2],
+        nest: table[place + 3],
+        size: u32_at(table, place + 4),
+        first: u32_at(table, place + 8),
+        count: u32_at(table, place + 12),
+        bound: u64_at(table, place + 16),
+        subtype: u32_at(table, place + 24),
+        rights: u32_at(table, place + 28),
+        name_place: u32_at(table, place + 32),
+        name_length: u32_at(table, place + 36),
+    }
+}
+
+/// The fields of a row, by its number, in a table with this header.
+pub fn read_row(table: &[u8], header: &Header, index: u32) -> Row
+    requires { row_place header.now index + 16 ≤ length table.now }
+    ensures { result ≡ row_at table.now header.now index }
+{
+    let place = HEADER_SIZE + 40 * header.entries as usize + 16 * index as usize;
+    Row {
+        key: u32_at(table, place),
+        entry: u32_at(table, place + 4),
+        name_place: u32_at(table, place + 8),
+        name_length: u32_at(table, place + 12),
+    }
+}
+
+/// The eight bytes of a value as a number, by the value's number, in a table with this header.
+pub fn read_value(table: &[u8], header: &Header, index: u32) -> u64
+    requires { value_place header.now index + 8 ≤ length table.now }
+    ensures { result ≡ value_at table.now header.now index }
+{
+    let rows = HEADER_SIZE + 40 * header.entries as usize;
+    let values = rows + 16 * header.rows as usize;
+    u64_at(table, values + 8 * index as usize)
+}
+
+/// The fields of a root, by its number, in a table with this header.
+pub fn read_root(table: &[u8], header: &Header, index: u32) -> Root
+    requires { root_place header.now index + 12 ≤ length table.now }
+    ensures { result ≡ root_at table.now header.now index }
+{
+    let rows = HEADER_SIZE + 40 * header.entries as usize;
+    let values = rows + 16 * header.rows as usize;
+    let roots = values + 8 * header.values as usize;
+    let place = roots + 12 * index as usize;
+    Root {
+        name_place: u32_at(table, place),
+        name_length: u32_at(table, place + 4),
+        entry: u32_at(table, place + 8),
+    }
+}
+
+/// Where the protocols begin, in bytes from the start of a table with this header.
+fn protocols_start(header: &Header) -> usize
+    ensures { result ≡ protocol_place header.now 0 }
+{
+    let rows = HEADER_SIZE + 40 * header.entries as usize;
+    let values = rows + 16 * header.rows as usize;
+    let roots = values + 8 * header.values as usize;
+    roots + 12 * header.roots as usize
+}
+
+/// The fields of a protocol, by its number, in a table with this header.
+pub fn read_protocol(table: &[u8], header: &Header, index: u32) -> ProtocolRecord
+    requires { protocol_place header.now index + 16 ≤ length table.now }
+    ensures { result ≡ protocol_at table.now header.now index }
+{
+    let place = protocols_start(header) + 16 * index as usize;
+    ProtocolRecord {
+        name_place: u32_at(table, place),
+        name_length: u32_at(table, place + 4),
+        openness: u32_at(table, place + 8),
+        methods: u32_at(table, place + 12),
+    }
+}
+
+/// The fields of a method, by its number, in a table with this header.
+pub fn read_method(table: &[u8], header: &Header, index: u32) -> MethodRecord
+    requires { method_place header.now index + 32 ≤ length table.now }
+    ensures { result ≡ method_at table.now header.now index }
+{
+    let methods = protocols_start(header) + 16 * header.protocols as usize;
+    let place = methods + 32 * index as usize;
+    MethodRecord {
+        ordinal: u64_at(table, place),
+        name_place: u32_at(table, place + 8),
+        name_length: u32_at(table, place + 12),
+        flags: u32_at(table, place + 16),
+        request: u32_at(table, place + 20),
+        response: u32_at(table, place + 24),
+        reserved: u32_at(table, place + 28),
+    }
+}
+
+/// The bytes of a name, by its place and length in the names of a table with this header.
+pub fn name_bytes<'t>(table: &'t [u8], header: &Header, place: u32, name_length: u32) -> &'t [u8]
+    requires { names_place header.now + place + name_length ≤ length table.now }
+    ensures { result.now ≡ name_at table.now header.now place name_length }
+{
+    let methods = protocols_start(header) + 16 * header.protocols as usize;
+    let names = methods + 32 * header.methods as usize;
+    let from = names + place as usize;
+    &table[from..from + name_length as usize]
+}

@@ -1,9 +1,0 @@
-use Rattle.std.proofs.Common.{take}
-use Rattle.fidl_term.specs.Terms.{seen_fields}
-use Rattle.fidl_term.specs.Members.{field_types}
-use Rattle.fidl_term_rules.specs.Flags.{is_flagged, NoneBears}
-use Rattle.fidl_term_rules.proofs.resources.bearing_field.Given as goal
-
--- none so far bears
-abbrev pub invariant-loop-number : goal.invariant-loop-number
-invariant-loop-number l = NoneBears (is_flagged l.flags) (take l.number (field_types (seen_fields l.fields)))

@@ -1,6 +1,0 @@
-use Rattle.std.proofs.Common.{sym, arith}
-use Rattle.fidl_terms.specs.Counts.{CountIs}
-use Rattle.fidl_terms.proofs.worked.counts_of_elements.Goals as goal
-
-pub returns-clause-word : goal.returns-clause-word
-returns-clause-word c = λ files f s e. CountIs.of_word s 3 (sym e) (omega arith) (omega arith)

@@ -1,9 +1,0 @@
-use Rattle.std.proofs.Common.{refl}
-use Rattle.fidl_values.proofs.Powers.{not_three}
-use Rattle.fidl_values.proofs.worked.powers_of_two.Goals as goal
-
-pub returns-clause-eight : goal.returns-clause-eight
-returns-clause-eight c = (3, refl)
-
-pub returns-clause-three : goal.returns-clause-three
-returns-clause-three c = λ h. not_three h.0 h.1
