@@ -16,7 +16,8 @@ use Rattle.fidl_wire.proofs.Unique.{no_out}
 use Rattle.fidl_decode.specs.Rows.{Row, element_rows, RowsRise}
 use Rattle.fidl_decode.specs.Faults.{IsWithin}
 use Rattle.fidl_decode.specs.State.{Message, At, opened, linked, member_at, begun, after, after_member, StandsAt, Item, Members}
-use Rattle.fidl_decode.specs.Envelopes.{Contained, bytes_below, handles_below, flags_at}
+use Rattle.fidl_decode.specs.Envelopes.{Contained}
+use Rattle.fidl_wire.specs.Envelope.{bytes_below, handles_below, flags_at}
 use Rattle.fidl_decode.proofs.After.{length-pad8, length-object, after_past}
 use Rattle.fidl_decode.proofs.Rows.{members_end, members_more, more_members}
 use Rattle.fidl_decode.proofs.Covering.{object_stands}

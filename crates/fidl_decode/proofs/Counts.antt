@@ -10,7 +10,7 @@ use Rattle.fidl_wire.proofs.Sizes.{le_of_test}
 use Rattle.fidl_wire.proofs.Stand.{stands_to, stands_front, stands_back, stands_both}
 use Rattle.fidl_decode.specs.State.{Message}
 use Rattle.fidl_decode.specs.Faults.{IsWithin}
-use Rattle.fidl_decode.specs.Envelopes.{bytes_below, handles_below, flags_at}
+use Rattle.fidl_wire.specs.Envelope.{bytes_below, handles_below, flags_at}
 use Rattle.fidl_decode.proofs.Numbers.{number_16, number_32}
 use Rattle.fidl_decode.proofs.Scalars.{standing}
 

@@ -17,7 +17,8 @@ use Rattle.fidl_wire.proofs.Sizes.{size_of-resolve, length-inline, length-envelo
 use Rattle.fidl_wire.proofs.Stand.{stands_to, stands_front, stands_back, stands_both}
 use Rattle.fidl_wire.proofs.Unique.{no_out}
 use Rattle.fidl_decode.specs.State.{Message, At, passed, opened, member_at, begun, envelope_place, after, after_member, after_envelopes, StandsAt, Item, Slots}
-use Rattle.fidl_decode.specs.Envelopes.{Contained, bytes_below, handles_below, flags_at, depth_within}
+use Rattle.fidl_decode.specs.Envelopes.{Contained, depth_within}
+use Rattle.fidl_wire.specs.Envelope.{bytes_below, handles_below, flags_at}
 use Rattle.fidl_decode.specs.Faults.{IsWithin}
 use Rattle.fidl_decode.proofs.Numbers.{number_16, number_32}
 use Rattle.fidl_decode.proofs.After.{length-object, length-pad8, past, after_past, member_past, stands_alike}

@@ -20,7 +20,8 @@ use Rattle.fidl_decode.specs.declared.fault.DecodeFault.TheVariants.{BadEnvelope
 use Rattle.fidl_decode.specs.declared.frame.Frame.{Frame}
 use Rattle.fidl_decode.specs.declared.frame.Left.TheVariants.{Content}
 use Rattle.fidl_decode.specs.State.{Message, At, opened, linked, member_at, begun, Item}
-use Rattle.fidl_decode.specs.Envelopes.{Contained, bytes_below, handles_below, flags_at, CanHold, BreaksEnvelope, depth_within, Miscounts}
+use Rattle.fidl_decode.specs.Envelopes.{Contained, CanHold, BreaksEnvelope, depth_within, Miscounts}
+use Rattle.fidl_wire.specs.Envelope.{bytes_below, handles_below, flags_at}
 use Rattle.fidl_decode.specs.Breaks.{BreaksMember}
 use Rattle.fidl_decode.specs.Breaks as broken
 use Rattle.fidl_decode.specs.Machine.{Reads, BreaksFrame, FrameFine, StateFine, level, height, most_nest, inline_work, frame_work}

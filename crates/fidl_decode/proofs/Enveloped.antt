@@ -19,7 +19,8 @@ use Rattle.fidl_decode.specs.declared.fault.DecodeFault.{DecodeFault}
 use Rattle.fidl_decode.specs.declared.fault.DecodeFault.TheVariants.{BadEnvelope, TooDeep, Truncated, HandleMissing}
 use Rattle.fidl_decode.specs.State.{Message, At, StandsAt}
 use Rattle.fidl_decode.specs.Faults.{IsWithin}
-use Rattle.fidl_decode.specs.Envelopes.{Contained, bytes_below, handles_below, flags_at, CanBeInline, CanBeOut, first_object, BreaksEnvelope}
+use Rattle.fidl_decode.specs.Envelopes.{Contained, CanBeInline, CanBeOut, first_object, BreaksEnvelope}
+use Rattle.fidl_wire.specs.Envelope.{bytes_below, handles_below, flags_at}
 use Rattle.fidl_decode.proofs.Numbers.{number_16, number_32}
 use Rattle.fidl_decode.proofs.After.{length-object}
 

@@ -21,7 +21,7 @@ use Rattle.fidl_decode.specs.declared.frame.Frame.{Frame}
 use Rattle.fidl_decode.specs.declared.frame.Until.{Until}
 use Rattle.fidl_decode.specs.declared.frame.Left.TheVariants.{Rows, Content}
 use Rattle.fidl_decode.specs.State.{Message, At, opened, linked}
-use Rattle.fidl_decode.specs.Envelopes.{bytes_below, handles_below, flags_at}
+use Rattle.fidl_wire.specs.Envelope.{bytes_below, handles_below, flags_at}
 use Rattle.fidl_decode.specs.Machine.{IsUntil, StateFine, Visits, Turns, Passes, Opens, behind_rows}
 use Rattle.fidl_decode.proofs.Visiting.{size_as, struct_frame, struct_fine, visits_free, visits_bool, visits_struct}
 use Rattle.fidl_decode.proofs.Leaves.{left_over, no_zeros, over_room, over_turns}

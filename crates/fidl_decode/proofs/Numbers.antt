@@ -9,7 +9,7 @@ use Rattle.fidl_wire.specs.Standing.{Stands}
 use Rattle.fidl_wire.specs.Term.{Kind, int8, int16, int32, int64, uint8, uint16, uint32, uint64}
 use Rattle.fidl_wire.specs.Typed.{InRange}
 use Rattle.fidl_wire.specs.Encoding.{number_bytes}
-use Rattle.fidl_table_format.specs.Field.{number_at}
+use Rattle.fidl_wire.specs.Field.{number_at}
 use Rattle.fidl_table_format.specs.Number.{number_standing}
 
 -- what stands at a place is the slice there

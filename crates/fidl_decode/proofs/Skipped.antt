@@ -16,7 +16,8 @@ use Rattle.fidl_wire.proofs.Stand.{stands_to, stands_front, stands_back, stands_
 use Rattle.fidl_decode.specs.Faults.{IsWithin}
 use Rattle.fidl_decode.specs.State.{Message, At, opened, linked, passed, after_member, StandsAt}
 use Rattle.fidl_decode.specs.declared.fault.DecodeFault.{DecodeFault}
-use Rattle.fidl_decode.specs.Envelopes.{Contained, bytes_below, handles_below, flags_at, CanHold, BreaksEnvelope}
+use Rattle.fidl_decode.specs.Envelopes.{Contained, CanHold, BreaksEnvelope}
+use Rattle.fidl_wire.specs.Envelope.{bytes_below, handles_below, flags_at}
 use Rattle.fidl_decode.specs.Breaks.{BreaksMember}
 use Rattle.fidl_decode.specs.Breaks as broken
 use Rattle.fidl_decode.proofs.Scalars.{bytes_at, bytes_stand, length-bytes_at}

@@ -20,7 +20,7 @@ use Rattle.fidl_decode.specs.Invariants.{IsFine}
 use Rattle.fidl_decode.specs.Faults.{IsWithin}
 use Rattle.fidl_decode.specs.Breaks.{count_at}
 use Rattle.fidl_decode.specs.State.{Message, At, opened, linked}
-use Rattle.fidl_decode.specs.Envelopes.{bytes_below, handles_below, flags_at}
+use Rattle.fidl_wire.specs.Envelope.{bytes_below, handles_below, flags_at}
 use Rattle.fidl_decode.specs.Machine.{StateFine, Opens, Visits, Leads}
 use Rattle.fidl_decode.proofs.Visiting.{size_as, visits_leaf}
 use Rattle.fidl_decode.proofs.Leaves.{no_zeros}

@@ -11,8 +11,8 @@ use Rattle.fidl_wire.specs.Term.{uint32, uint64}
 use Rattle.fidl_wire.specs.Encoding.{zeros}
 use Rattle.fidl_wire.specs.Standing.{Stands}
 use Rattle.fidl_wire.proofs.Stand.{stands_to, stands_front, stands_back}
-use Rattle.fidl_table_format.specs.Field.{number_at}
-use Rattle.fidl_decode.specs.Envelopes.{bytes_below, handles_below, flags_at}
+use Rattle.fidl_wire.specs.Field.{number_at}
+use Rattle.fidl_wire.specs.Envelope.{bytes_below, handles_below, flags_at}
 use Rattle.fidl_decode.proofs.Numbers.{number_16, number_32}
 use Rattle.fidl_decode.proofs.Scalars.{standing}
 

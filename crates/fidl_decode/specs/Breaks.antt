@@ -13,7 +13,7 @@ use Rattle.fidl_wire.specs.Encoding.{zeros, present}
 use Rattle.fidl_wire.specs.declared.handle.HandleInfo.{HandleInfo}
 use Rattle.fidl_wire.specs.Typed.{InMask, IsAllowed}
 use Rattle.fidl_wire.specs.Standing.{Stands}
-use Rattle.fidl_table_format.specs.Field.{number_at}
+use Rattle.fidl_wire.specs.Field.{number_at}
 use Rattle.fidl_table_format.specs.Number.{number_standing}
 use Rattle.fidl_decode.specs.declared.fault.DecodeFault.{DecodeFault}
 use Rattle.fidl_decode.specs.declared.fault.DecodeFault.TheVariants.{Padding, BadBool, UnknownValue}

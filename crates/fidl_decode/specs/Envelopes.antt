@@ -10,7 +10,7 @@ use Rattle.fidl_wire.specs.Figure.{Declarations, size_of}
 use Rattle.fidl_wire.specs.Typed.{IsTypedMember, IsUnknownLength}
 use Rattle.fidl_wire.specs.Encoding.{enveloped}
 use Rattle.fidl_wire.specs.Depth.{member_depth}
-use Rattle.fidl_table_format.specs.Field.{number_at}
+use Rattle.fidl_wire.specs.Envelope.{bytes_below, handles_below, flags_at}
 use Rattle.fidl_decode.specs.declared.fault.DecodeFault.{DecodeFault}
 use Rattle.fidl_decode.specs.declared.fault.DecodeFault.TheVariants.{BadEnvelope}
 use Rattle.fidl_decode.specs.declared.fault.DecodeFault.TheVariants.{TooDeep, Truncated}
@@ -26,17 +26,6 @@ pub record Contained (ds : Declarations) (m : Message) (held : ℕ) (t : Option 
   pub shallow : member_depth ds t content + held ≤ MAX_DEPTH
   pub stands : StandsAt m (enveloped ds t content) envelope from
   pub end : to ≡ after_member ds t content envelope from
-
--- the numbers of the envelope at a place: how many bytes are out of line, how many handles are
--- below, and the flags
-abbrev pub bytes_below : List ℕ → (envelope : ℕ) → ℕ
-bytes_below bytes envelope = number_at w32 bytes envelope
-
-abbrev pub handles_below : List ℕ → (envelope : ℕ) → ℕ
-handles_below bytes envelope = number_at w16 bytes (envelope + 4)
-
-abbrev pub flags_at : List ℕ → (envelope : ℕ) → ℕ
-flags_at bytes envelope = number_at w16 bytes (envelope + 6)
 
 -- a member can be in an envelope: it is of at most four bytes, or unknown
 abbrev pub CanBeInline : Declarations → Option Term → Type 0

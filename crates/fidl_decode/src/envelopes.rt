@@ -21,8 +21,8 @@ ghost use Rattle.fidl_decode.specs.Machine.{level, height, most_nest, inline_wor
 use crate::decoder::Decoder;
 use crate::fault::DecodeFault;
 use crate::frame::{Frame, Left, State, Until};
-use fidl_table_format::{Entry, u16_at, u32_at};
-use fidl_wire::{HandleInfo, MAX_DEPTH};
+use fidl_table_format::Entry;
+use fidl_wire::{HandleInfo, MAX_DEPTH, byte_count_at, flags_at, handle_count_at};
 
 /// The frame of the content of an envelope, which is one value of an entry, and zeros behind it.
 fn content_frame(
@@ -131,9 +131,9 @@ impl<'t, 'm> Decoder<'t, 'm> {
             ≤ inline_work most_nest * (state.new.next - state.old.next) + 1)) }
     {
         let content = self.table.entry(entry);
-        let counted = u32_at(self.bytes, envelope) as usize;
-        let handles = u16_at(self.bytes, envelope + 4) as usize;
-        let flags = u16_at(self.bytes, envelope + 6);
+        let counted = byte_count_at(self.bytes, envelope) as usize;
+        let handles = handle_count_at(self.bytes, envelope) as usize;
+        let flags = flags_at(self.bytes, envelope);
         let size = content.size as usize;
         let next = state.next;
         if size <= 4 {
@@ -199,9 +199,9 @@ impl<'t, 'm> Decoder<'t, 'm> {
         ensures steps { state.new.steps ≡ state.old.steps }
         ensures grows { state.old.next ≤ state.new.next }
     {
-        let counted = u32_at(self.bytes, envelope) as usize;
-        let handles = u16_at(self.bytes, envelope + 4) as usize;
-        let flags = u16_at(self.bytes, envelope + 6);
+        let counted = byte_count_at(self.bytes, envelope) as usize;
+        let handles = handle_count_at(self.bytes, envelope) as usize;
+        let flags = flags_at(self.bytes, envelope);
         if flags == 1 {
             if handles > self.handles.len() - state.handle {
                 return Err(DecodeFault::HandleMissing { at: envelope });

@@ -5,8 +5,7 @@ ghost use Rattle.fidl_wire.specs.Marker.{Says};
 ghost use Rattle.fidl_wire.specs.Standing.{Stands};
 
 use crate::decoder::Decoder;
-use fidl_table_format::u64_at;
-use fidl_wire::Presence;
+use fidl_wire::{Presence, u64_at};
 
 impl<'t, 'm> Decoder<'t, 'm> {
     /// What the marker of eight bytes at a place says.

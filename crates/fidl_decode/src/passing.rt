@@ -15,8 +15,8 @@ ghost use Rattle.fidl_decode.specs.Machine.{StateFine, Opens, at_of};
 use crate::decoder::Decoder;
 use crate::frame::State;
 use crate::leaf::is_free;
-use fidl_table_format::{EntryKind, u16_at, u32_at, u64_at};
-use fidl_wire::MAX_DEPTH;
+use fidl_table_format::EntryKind;
+use fidl_wire::{MAX_DEPTH, byte_count_at, flags_at, handle_count_at, u32_at, u64_at};
 
 /// The last four bytes of an envelope that counts no handles and holds its member, as one number.
 const NO_HANDLES_INSIDE: u32 = 0x1_0000;
@@ -118,9 +118,9 @@ impl<'t, 'm> Decoder<'t, 'm> {
         ensures grows { state.old.steps ≤ state.new.steps }
         ensures pays { state.new.steps + state.old.next ≤ state.old.steps + state.new.next }
     {
-        let handles = u16_at(self.bytes, envelope + 4);
-        let flags = u16_at(self.bytes, envelope + 6);
-        if flags != 1 || handles != 0 || u32_at(self.bytes, envelope) > 1 {
+        let handles = handle_count_at(self.bytes, envelope);
+        let flags = flags_at(self.bytes, envelope);
+        if flags != 1 || handles != 0 || byte_count_at(self.bytes, envelope) > 1 {
             return false;
         }
         state.links.record(envelope + 4, state.handle);

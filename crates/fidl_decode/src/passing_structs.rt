@@ -12,8 +12,7 @@ ghost use Rattle.fidl_decode.specs.Machine.{StateFine, Opens, at_of};
 
 use crate::decoder::{Decoder, zeros_at};
 use crate::frame::State;
-use fidl_table_format::u64_at;
-use fidl_wire::MAX_DEPTH;
+use fidl_wire::{MAX_DEPTH, u64_at};
 
 impl<'t, 'm> Decoder<'t, 'm> {
     /// Passes over the envelope at a place, whose member is a struct of numbers, of which any bytes

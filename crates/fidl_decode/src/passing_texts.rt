@@ -15,8 +15,7 @@ ghost use Rattle.fidl_decode.specs.Machine.{StateFine, Opens, at_of};
 
 use crate::decoder::Decoder;
 use crate::frame::State;
-use fidl_table_format::u64_at;
-use fidl_wire::MAX_DEPTH;
+use fidl_wire::{MAX_DEPTH, u64_at};
 
 /// The high bits of eight bytes.
 const HIGH_BITS: u64 = 0x8080_8080_8080_8080;

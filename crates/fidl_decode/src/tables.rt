@@ -14,8 +14,7 @@ ghost use Rattle.fidl_decode.specs.Machine.{StateFine, Visits, VisitFine, at_of}
 use crate::decoder::Decoder;
 use crate::fault::DecodeFault;
 use crate::frame::{Frame, State};
-use fidl_table_format::u64_at;
-use fidl_wire::{MAX_DEPTH, Presence};
+use fidl_wire::{MAX_DEPTH, Presence, u64_at};
 
 impl<'t, 'm> Decoder<'t, 'm> {
     /// Reads the count and the marker of a table at a place, and links its envelopes; answers how many

@@ -13,8 +13,8 @@ use crate::decoder::{Decoder, zeros_at};
 use crate::fault::DecodeFault;
 use crate::frame::State;
 use crate::handles::is_optional;
-use fidl_table_format::{Entry, u64_at};
-use fidl_wire::MAX_DEPTH;
+use fidl_table_format::Entry;
+use fidl_wire::{MAX_DEPTH, u64_at};
 use simdutf8::is_utf8;
 
 /// The length up to which a text is looked at byte by byte, before it is as blocks.

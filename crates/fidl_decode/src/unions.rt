@@ -21,7 +21,8 @@ use crate::decoder::Decoder;
 use crate::fault::DecodeFault;
 use crate::frame::{Frame, State};
 use crate::handles::is_optional;
-use fidl_table_format::{Row, u64_at};
+use fidl_table_format::Row;
+use fidl_wire::u64_at;
 
 impl<'t, 'm> Decoder<'t, 'm> {
     /// Opens the envelope of a member at a place: a known one is left to read, one without a row is

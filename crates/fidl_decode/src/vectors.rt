@@ -15,8 +15,7 @@ use crate::decoder::Decoder;
 use crate::fault::DecodeFault;
 use crate::frame::{Frame, Left, State};
 use crate::handles::is_optional;
-use fidl_table_format::u64_at;
-use fidl_wire::{MAX_DEPTH, Presence};
+use fidl_wire::{MAX_DEPTH, Presence, u64_at};
 
 impl<'t, 'm> Decoder<'t, 'm> {
     /// Reads the count and the marker of a vector at a place, and links its elements, which are

@@ -1,5 +1,4 @@
 -- The definitions of the coding table, in the order in which to read them:
---   Field          numbers in a table
 --   Section        the sections and their records
 --   Kind           the kinds of entries
 --   Uses           what the entries of each kind use
@@ -11,7 +10,6 @@
 --   WellFormed     which tables are accepted
 --   Number         numbers at places of a message
 --   Samples        small tables for worked facts
-pub mod Field
 pub mod Kind
 pub mod Section
 pub mod Terms

@@ -2,7 +2,7 @@
 use Rattle.std.specs.Prelude.{ℕ, ℤ, pos, List, slice_index}
 use Rattle.std.specs.Int.{w8, w16, w32, w64, cast_signed}
 use Rattle.fidl_wire.specs.Term.{Kind, int8, int16, int32, int64, uint8, uint16, uint32, uint64}
-use Rattle.fidl_table_format.specs.Field.{number_at}
+use Rattle.fidl_wire.specs.Field.{number_at}
 
 -- the number whose little-endian bytes stand at a place, in two's complement where its type is
 -- signed

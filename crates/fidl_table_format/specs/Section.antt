@@ -7,7 +7,7 @@ use Rattle.fidl_table_format.specs.declared.record.Row.{Row}
 use Rattle.fidl_table_format.specs.declared.record.Root.{Root}
 use Rattle.fidl_table_format.specs.declared.record.ProtocolRecord.{ProtocolRecord}
 use Rattle.fidl_table_format.specs.declared.record.MethodRecord.{MethodRecord}
-use Rattle.fidl_table_format.specs.Field.{number_at}
+use Rattle.fidl_wire.specs.Field.{number_at}
 
 -- the fields of the header, 40 bytes
 abbrev pub header_of : List ℕ → Header

@@ -5,8 +5,8 @@ ghost use Rattle.fidl_wire.specs.Term.{width};
 ghost use Rattle.fidl_table_format.specs.Number.{number_standing};
 ghost use Rattle.fidl_table_format.specs.Terms.{as_number, value_number};
 
-use crate::field::{u16_at, u32_at, u64_at};
 use crate::kind::EntryKind;
+use fidl_wire::{u16_at, u32_at, u64_at};
 
 /// The number of a kind of numbers at a place, in 64 bits: a negative one in two's complement, as a
 /// table states the values of enums. Other kinds are read as uint8.

@@ -5,8 +5,8 @@ ghost use Rattle.fidl_table_format.specs.Section.{entry_place, row_place, value_
 ghost use Rattle.fidl_table_format.specs.Section.{protocol_place, protocol_at, method_place, method_at};
 ghost use Rattle.fidl_table_format.specs.Section.{names_place, name_at};
 
-use crate::field::{u16_at, u32_at, u64_at};
 use crate::record::{Entry, Header, MethodRecord, ProtocolRecord, Root, Row};
+use fidl_wire::{u16_at, u32_at, u64_at};
 
 /// The length of the header, in bytes.
 pub const HEADER_SIZE: usize = 40;

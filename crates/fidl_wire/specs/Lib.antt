@@ -4,7 +4,9 @@
 --   Figure         sizes, alignments, nests and offsets
 --   Typed          which values a type has
 --   Encoding       how a value is encoded: inline, out of line, and its handles
+--   Field          numbers at places of messages and tables
 --   Marker         what markers say
+--   Envelope       what envelopes say
 --   Depth          how deep the objects of a value lie
 --   Message        which messages encode a value
 --   Standing       parts that stand in a message at a place
@@ -20,6 +22,8 @@ pub mod Depth
 pub mod Message
 pub mod Text
 pub mod Standing
+pub mod Field
 pub mod Marker
+pub mod Envelope
 pub mod Views
 pub mod Samples

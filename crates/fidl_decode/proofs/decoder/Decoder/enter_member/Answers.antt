@@ -33,8 +33,8 @@ returns-then-flags-ne1 c =
     let m = message_of c.args.self.now.bytes.now c.args.self.now.handles.now in
     let old = at_of c.args.state.now in
     let size = ap (λ (d : Entry). d.size) c.entry-content.ensures.value in
-    let r = numbers_refuse t c.requires.table m (c.requires.short, c.requires.state.few) c.args.depth c.args.entry c.args.envelope old c.requires.entry c.requires.room (λ i. omega (arith, c.args.self.now.octets i)) c.requires.state c.requires.depth (BadEnvelope c.args.envelope) (refl, not_inside t c.requires.table m (c.requires.short, c.requires.state.few) c.args.depth c.args.entry c.args.envelope old c.requires.entry c.requires.room (λ i. omega (arith, c.args.self.now.octets i)) c.requires.state c.requires.depth (omega (arith, size, c.if-size-le4.true)) (λ f. c.if-flags-ne1.true (c.u16_at-flags.ensures ∙ f))) in
-    record { ok = tt; breaks = tt; fine = tt; deeper = tt; left = tt; state = c.requires.state; told = r.0; err = r.1; steps = refl; grows = omega arith; work = tt }
+    let r = numbers_refuse t c.requires.table m (c.requires.short, c.requires.state.few) c.args.depth c.args.entry c.args.envelope old c.requires.entry c.requires.room (λ i. omega (arith, c.args.self.now.octets i)) c.requires.state c.requires.depth (BadEnvelope c.args.envelope) (refl, not_inside t c.requires.table m (c.requires.short, c.requires.state.few) c.args.depth c.args.entry c.args.envelope old c.requires.entry c.requires.room (λ i. omega (arith, c.args.self.now.octets i)) c.requires.state c.requires.depth (omega (arith, size, c.if-size-le4.true)) (λ f. c.if-flags-ne1.true (c.flags_at-flags.ensures ∙ f))) in
+    record { ok = tt; breaks = tt; fine = tt; deeper = tt; left = tt; state = c.requires.state; fault_is_true = r.0; err = r.1; steps = refl; grows = omega arith; work = tt }
 
 pub returns-then-size-le4 : goal.returns-then-size-le4
 returns-then-size-le4 c =
@@ -44,11 +44,11 @@ returns-then-size-le4 c =
     let size = ap (λ (d : Entry). d.size) c.entry-content.ensures.value in
     let led : opened c.args.envelope old ≡ record { next = old.next; handle = old.handle; objects = c.record.new.self.objects; records = c.record.new.self.records }
     = λ i. record { next = old.next; handle = old.handle; objects = sym c.record.ensures.objects i; records = sym c.record.ensures.records i } in
-    let x = enters_inside_as t c.requires.table m (c.requires.short, c.requires.state.few) c.args.depth c.args.entry c.args.envelope old c.requires.entry c.requires.room (λ i. omega (arith, c.args.self.now.octets i)) c.requires.state c.requires.depth c.entry-content.result c.u16_at-handles.result (record { next = old.next; handle = old.handle; objects = c.record.new.self.objects; records = c.record.new.self.records }) c.entry-content.ensures.value c.u16_at-handles.ensures led c.if-size-le4.true (sym c.u16_at-flags.ensures ∙ c.if-flags-ne1.false) in
+    let x = enters_inside_as t c.requires.table m (c.requires.short, c.requires.state.few) c.args.depth c.args.entry c.args.envelope old c.requires.entry c.requires.room (λ i. omega (arith, c.args.self.now.octets i)) c.requires.state c.requires.depth c.entry-content.result c.handle_count_at-handles.result (record { next = old.next; handle = old.handle; objects = c.record.new.self.objects; records = c.record.new.self.records }) c.entry-content.ensures.value c.handle_count_at-handles.ensures led c.if-size-le4.true (sym c.flags_at-flags.ensures ∙ c.if-flags-ne1.false) in
     let y = subst (λ (f : Frame). Enters t m c.args.depth c.args.entry c.args.envelope old (record { next = old.next; handle = old.handle; objects = c.record.new.self.objects; records = c.record.new.self.records }) f) (sym c.content_frame.ensures) x in
-    let until : Until = record { envelope = c.args.envelope; next = old.next; handle = old.handle + c.u16_at-handles.result } in
+    let until : Until = record { envelope = c.args.envelope; next = old.next; handle = old.handle + c.handle_count_at-handles.result } in
     let left : c.content_frame.result.left ≡ Content c.args.entry (entry_at t c.args.entry).size 1 until = ap (λ (f : Frame). f.left) c.content_frame.ensures ∙ ap (λ n. Content c.args.entry n 1 until) size in
-    record { ok = y.same; breaks = y.breaks; fine = y.fine; deeper = y.deeper; left = (until, left); state = y.state; told = tt; err = tt; steps = refl; grows = omega arith; work = y.work }
+    record { ok = y.same; breaks = y.breaks; fine = y.fine; deeper = y.deeper; left = (until, left); state = y.state; fault_is_true = tt; err = tt; steps = refl; grows = omega arith; work = y.work }
 
 pub returns-then-flags-ne0 : goal.returns-then-flags-ne0
 returns-then-flags-ne0 c =
@@ -59,12 +59,12 @@ returns-then-flags-ne0 c =
     let r = numbers_refuse t c.requires.table m (c.requires.short, c.requires.state.few) c.args.depth c.args.entry c.args.envelope old c.requires.entry c.requires.room (λ i. omega (arith, c.args.self.now.octets i)) c.requires.state c.requires.depth (BadEnvelope c.args.envelope) (
       refl,
       not_below t c.requires.table m (c.requires.short, c.requires.state.few) c.args.depth c.args.entry c.args.envelope old c.requires.entry c.requires.room (λ i. omega (arith, c.args.self.now.octets i)) c.requires.state c.requires.depth (omega (arith, size, c.if-size-le4.false)) (λ f u. elim c.then-flags-ne0.branch [
-        | then-flags-ne0-via-then-flags-ne0 w ↦ w.if-flags-ne0.true (c.u16_at-flags.ensures ∙ f)
-        | then-flags-ne0-via-else-flags-ne0+then-counted-eq0 w ↦ omega (arith, w.if-counted-eq0.true, c.u32_at-counted.ensures, u.0)
-        | then-flags-ne0-via-else-flags-ne0+else-counted-eq0+then-counted-ne0 w ↦ omega (arith, w.if-counted-ne0.true, c.u32_at-counted.ensures, u.1)
+        | then-flags-ne0-via-then-flags-ne0 w ↦ w.if-flags-ne0.true (c.flags_at-flags.ensures ∙ f)
+        | then-flags-ne0-via-else-flags-ne0+then-counted-eq0 w ↦ omega (arith, w.if-counted-eq0.true, c.byte_count_at-counted.ensures, u.0)
+        | then-flags-ne0-via-else-flags-ne0+else-counted-eq0+then-counted-ne0 w ↦ omega (arith, w.if-counted-ne0.true, c.byte_count_at-counted.ensures, u.1)
       ]),
     ) in
-    record { ok = tt; breaks = tt; fine = tt; deeper = tt; left = tt; state = c.requires.state; told = r.0; err = r.1; steps = refl; grows = omega arith; work = tt }
+    record { ok = tt; breaks = tt; fine = tt; deeper = tt; left = tt; state = c.requires.state; fault_is_true = r.0; err = r.1; steps = refl; grows = omega arith; work = tt }
 
 pub returns-then-depth-eq-MAX_DEPTH : goal.returns-then-depth-eq-MAX_DEPTH
 returns-then-depth-eq-MAX_DEPTH c =
@@ -72,8 +72,8 @@ returns-then-depth-eq-MAX_DEPTH c =
     let m = message_of c.args.self.now.bytes.now c.args.self.now.handles.now in
     let old = at_of c.args.state.now in
     let size = ap (λ (d : Entry). d.size) c.entry-content.ensures.value in
-    let r = numbers_refuse t c.requires.table m (c.requires.short, c.requires.state.few) c.args.depth c.args.entry c.args.envelope old c.requires.entry c.requires.room (λ i. omega (arith, c.args.self.now.octets i)) c.requires.state c.requires.depth (TooDeep c.args.envelope) (refl, sym c.u16_at-flags.ensures ∙ c.if-flags-ne0.false, omega (arith, c.if-depth-eq-MAX_DEPTH.true)) in
-    record { ok = tt; breaks = tt; fine = tt; deeper = tt; left = tt; state = c.requires.state; told = r.0; err = r.1; steps = refl; grows = omega arith; work = tt }
+    let r = numbers_refuse t c.requires.table m (c.requires.short, c.requires.state.few) c.args.depth c.args.entry c.args.envelope old c.requires.entry c.requires.room (λ i. omega (arith, c.args.self.now.octets i)) c.requires.state c.requires.depth (TooDeep c.args.envelope) (refl, sym c.flags_at-flags.ensures ∙ c.if-flags-ne0.false, omega (arith, c.if-depth-eq-MAX_DEPTH.true)) in
+    record { ok = tt; breaks = tt; fine = tt; deeper = tt; left = tt; state = c.requires.state; fault_is_true = r.0; err = r.1; steps = refl; grows = omega arith; work = tt }
 
 pub returns-then-whole-self : goal.returns-then-whole-self
 returns-then-whole-self c =
@@ -83,8 +83,8 @@ returns-then-whole-self c =
     let size = ap (λ (d : Entry). d.size) c.entry-content.ensures.value in
     let up = cut_off t c.requires.table m (c.requires.short, c.requires.state.few) c.args.depth c.args.entry c.args.envelope old c.requires.entry c.requires.room (λ i. omega (arith, c.args.self.now.octets i)) c.requires.state c.requires.depth in
     let whole : c.next_multiple_of-whole.result ≡ next_multiple_of (entry_at t c.args.entry).size 8 = c.next_multiple_of-whole.ensures.value ∙ ap (λ k. next_multiple_of k 8) size in
-    let r = numbers_refuse t c.requires.table m (c.requires.short, c.requires.state.few) c.args.depth c.args.entry c.args.envelope old c.requires.entry c.requires.room (λ i. omega (arith, c.args.self.now.octets i)) c.requires.state c.requires.depth (Truncated old.next) (refl, sym c.u16_at-flags.ensures ∙ c.if-flags-ne0.false, omega (arith, c.if-whole-self.true, whole, up)) in
-    record { ok = tt; breaks = tt; fine = tt; deeper = tt; left = tt; state = c.requires.state; told = r.0; err = r.1; steps = refl; grows = omega arith; work = tt }
+    let r = numbers_refuse t c.requires.table m (c.requires.short, c.requires.state.few) c.args.depth c.args.entry c.args.envelope old c.requires.entry c.requires.room (λ i. omega (arith, c.args.self.now.octets i)) c.requires.state c.requires.depth (Truncated old.next) (refl, sym c.flags_at-flags.ensures ∙ c.if-flags-ne0.false, omega (arith, c.if-whole-self.true, whole, up)) in
+    record { ok = tt; breaks = tt; fine = tt; deeper = tt; left = tt; state = c.requires.state; fault_is_true = r.0; err = r.1; steps = refl; grows = omega arith; work = tt }
 
 pub returns : goal.returns
 returns c =
@@ -99,37 +99,22 @@ returns c =
     let records = c.link.ensures.records ∙ c.record-2.ensures.records in
     let led : linked c.args.envelope (entry_at t c.args.entry).size (opened c.args.envelope old) ≡ new
     = λ i. record { next = old.next + wide i; handle = old.handle; objects = sym objects i; records = sym records i } in
-    let x = enters_below_as t c.requires.table m (c.requires.short, c.requires.state.few) c.args.depth c.args.entry c.args.envelope old c.requires.entry c.requires.room (λ i. omega (arith, c.args.self.now.octets i)) c.requires.state c.requires.depth c.entry-content.result c.u32_at-counted.result c.u16_at-handles.result c.next_multiple_of-whole.result new
-    c.entry-content.ensures.value c.u32_at-counted.ensures c.u16_at-handles.ensures whole led c.if-size-le4.false (sym c.u16_at-flags.ensures ∙ c.if-flags-ne0.false)
+    let x = enters_below_as t c.requires.table m (c.requires.short, c.requires.state.few) c.args.depth c.args.entry c.args.envelope old c.requires.entry c.requires.room (λ i. omega (arith, c.args.self.now.octets i)) c.requires.state c.requires.depth c.entry-content.result c.byte_count_at-counted.result c.handle_count_at-handles.result c.next_multiple_of-whole.result new
+    c.entry-content.ensures.value c.byte_count_at-counted.ensures c.handle_count_at-handles.ensures whole led c.if-size-le4.false (sym c.flags_at-flags.ensures ∙ c.if-flags-ne0.false)
     (omega (arith, c.if-counted-eq0.false), omega (arith, c.if-counted-ne0.false)) (omega (arith, c.requires.depth, c.if-depth-eq-MAX_DEPTH.false)) (omega (arith, c.if-whole-self.false)) in
     let y = subst (λ (f : Frame). Enters t m c.args.depth c.args.entry c.args.envelope old new f) (sym c.content_frame-2.ensures) x in
-    let until : Until = record { envelope = c.args.envelope; next = old.next + c.u32_at-counted.result; handle = old.handle + c.u16_at-handles.result } in
+    let until : Until = record { envelope = c.args.envelope; next = old.next + c.byte_count_at-counted.result; handle = old.handle + c.handle_count_at-handles.result } in
     let left : c.content_frame-2.result.left ≡ Content c.args.entry (entry_at t c.args.entry).size 1 until = ap (λ (f : Frame). f.left) c.content_frame-2.ensures ∙ ap (λ n. Content c.args.entry n 1 until) size in
-    record { ok = y.same; breaks = y.breaks; fine = y.fine; deeper = y.deeper; left = (until, left); state = y.state; told = tt; err = tt; steps = refl; grows = omega arith; work = y.work }
+    record { ok = y.same; breaks = y.breaks; fine = y.fine; deeper = y.deeper; left = (until, left); state = y.state; fault_is_true = tt; err = tt; steps = refl; grows = omega arith; work = y.work }
 
 pub entry-content-requires : goal.entry-content-requires
 entry-content-requires c = c.requires.entry
 
-pub u32_at-counted-requires : goal.u32_at-counted-requires
-u32_at-counted-requires c = front c.args.envelope 4 4 (length c.args.self.now.bytes.now) c.requires.room
-
 pub overflow_add-envelope : goal.overflow_add-envelope
 overflow_add-envelope c = record { fits = small _ (length c.args.self.now.bytes.now) (front c.args.envelope 4 4 (length c.args.self.now.bytes.now) c.requires.room) c.requires.short }
 
-pub u16_at-handles-requires : goal.u16_at-handles-requires
-u16_at-handles-requires c = front (c.args.envelope + 4) 2 2 (length c.args.self.now.bytes.now) (apart c.args.envelope 4 4 (length c.args.self.now.bytes.now) c.requires.room)
-
 pub overflow_add-envelope-2 : goal.overflow_add-envelope-2
-overflow_add-envelope-2 c = record { fits = small _ (length c.args.self.now.bytes.now) (front c.args.envelope 6 2 (length c.args.self.now.bytes.now) c.requires.room) c.requires.short }
-
-pub u16_at-flags-requires : goal.u16_at-flags-requires
-u16_at-flags-requires c = apart c.args.envelope 6 2 (length c.args.self.now.bytes.now) c.requires.room
-
-pub overflow_add-envelope-then-size-le4 : goal.overflow_add-envelope-then-size-le4
-overflow_add-envelope-then-size-le4 c = record { fits = small _ (length c.args.self.now.bytes.now) (front c.args.envelope 4 4 (length c.args.self.now.bytes.now) c.requires.room) c.requires.short }
-
-pub overflow_add-envelope-3 : goal.overflow_add-envelope-3
-overflow_add-envelope-3 c = record { fits = small _ (length c.args.self.now.bytes.now) (front c.args.envelope 4 4 (length c.args.self.now.bytes.now) c.requires.room) c.requires.short }
+overflow_add-envelope-2 c = record { fits = small _ (length c.args.self.now.bytes.now) (front c.args.envelope 4 4 (length c.args.self.now.bytes.now) c.requires.room) c.requires.short }
 
 pub record-requires-clause-place : goal.record-requires-clause-place
 record-requires-clause-place c = inside (c.args.envelope + 4) 3 (length c.args.self.now.bytes.now) (apart c.args.envelope 4 4 (length c.args.self.now.bytes.now) c.requires.room) c.requires.short

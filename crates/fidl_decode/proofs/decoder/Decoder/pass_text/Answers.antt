@@ -7,7 +7,7 @@ use Rattle.fidl_wire.specs.Standing.{Stands}
 use Rattle.fidl_wire.proofs.Sizes.{le-next_multiple_of}
 use Rattle.fidl_table_format.specs.declared.kind.EntryKind.TheVariants.{String}
 use Rattle.fidl_table_format.specs.declared.record.Entry.{Entry}
-use Rattle.fidl_table_format.specs.Field.{number_at}
+use Rattle.fidl_wire.specs.Field.{number_at}
 use Rattle.fidl_table_format.specs.Section.{entry_at}
 use Rattle.fidl_decode.specs.Faults.{message_of}
 use Rattle.fidl_decode.specs.State.{At, opened, linked}

@@ -41,5 +41,5 @@ returns c =
       ended = IfOk-weaker c.read_struct.result _ (λ o. IfNone o (c.args.state.now.steps < c.read_struct.new.state.steps)) (λ o h. none_weaker o _ _ (λ lt. omega (arith, lt, grows)) h) c.read_struct.ensures.ended;
       cost = omega (arith, less, grows, c.read_struct.ensures.cost);
       err = on_err_weaker c.read_struct.result (λ bad. turns_refused t m f old mid first g one bad) c.read_struct.ensures.err;
-      told = IfErr-weaker c.read_struct.result _ (BreaksFrame t m f old) (λ fault b. turns_break t m f old mid first g one fault b) c.read_struct.ensures.fault_is_true;
+      fault_is_true = IfErr-weaker c.read_struct.result _ (BreaksFrame t m f old) (λ fault b. turns_break t m f old mid first g one fault b) c.read_struct.ensures.fault_is_true;
     }

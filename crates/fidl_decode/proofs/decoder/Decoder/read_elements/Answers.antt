@@ -124,7 +124,7 @@ returns-in_err-read_each c = record {
   ended = search rules;
   cost = search (rules, c.in_err-read_each.ensures.cost);
   err = search (rules, c.in_err-read_each.ensures.err);
-  told = passed_on c.from_residual.result c.in_err-read_each.field-0.0 _ c.from_residual.ensures.1 c.in_err-read_each.ensures.fault_is_true;
+  fault_is_true = passed_on c.from_residual.result c.in_err-read_each.field-0.0 _ c.from_residual.ensures.1 c.in_err-read_each.ensures.fault_is_true;
 }
 
 pub returns-then-count-eq0-clause-ended : goal.returns-then-count-eq0-clause-ended

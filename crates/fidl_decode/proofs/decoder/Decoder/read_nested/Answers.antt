@@ -284,7 +284,7 @@ returns-in_default-left c =
     let whole = c.pass_known-content.new.state.steps - c.args.state.now.steps in
     let all_read = turns_then t m f old new all c.in-Some-2.below run on (c.pass_known-content.new.state.steps - c.enter_box.new.state.steps) whole (left_over (Some content)) (omega (arith, begun, rises, passed)) c.pass_known-content.ensures.turns in
     let less_read = all_read.less in
-    record { ok = all_read; grows = omega (arith, begun, rises, passed); ended = tt; cost = omega (arith, begun, rises, passed, less_read); err = tt; told = tt }
+    record { ok = all_read; grows = omega (arith, begun, rises, passed); ended = tt; cost = omega (arith, begun, rises, passed, less_read); err = tt; fault_is_true = tt }
 
 pub loop-many-smaller : goal.loop-many-smaller
 loop-many-smaller c =

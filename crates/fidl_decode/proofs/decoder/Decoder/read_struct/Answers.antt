@@ -27,7 +27,7 @@ returns-in_default-left c =
     let m = message_of c.args.self.now.bytes.now c.args.self.now.handles.now in
     let one : Turns t m c.args.frame (at_of c.args.state.now) (at_of c.read_nested.new.state) (c.read_nested.new.state.steps - c.args.state.now.steps) (left_over (Some c.in-Some.now)) = subst (λ (o : Option Frame). Turns t m c.args.frame (at_of c.args.state.now) (at_of c.read_nested.new.state) (c.read_nested.new.state.steps - c.args.state.now.steps) (left_over o)) c.in-Some.is c.in_ok-now.ensures.ok in
     let rows_on = c.in_ok-now.ensures.grows in
-    record { ok = one; grows = rows_on; ended = tt; cost = c.in_ok-now.ensures.cost; err = tt; told = tt }
+    record { ok = one; grows = rows_on; ended = tt; cost = c.in_ok-now.ensures.cost; err = tt; fault_is_true = tt }
 
 pub returns-then-left-ne1-clause-ok : goal.returns-then-left-ne1-clause-ok
 returns-then-left-ne1-clause-ok c =

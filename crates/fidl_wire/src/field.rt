@@ -1,7 +1,7 @@
-//! Little-endian numbers at places of a table.
+//! Little-endian numbers at places of messages and tables.
 ghost use Rattle.std.specs.Prelude.{◌≡◌, ◌+◌, ◌≤◌, length, slice_index};
 ghost use Rattle.std.specs.Int.{w16, w32, w64};
-ghost use Rattle.fidl_table_format.specs.Field.{number_at};
+ghost use Rattle.fidl_wire.specs.Field.{number_at};
 
 /// The number of two bytes at a place.
 pub fn u16_at(bytes: &[u8], place: usize) -> u16

@@ -1,4 +1,4 @@
--- Numbers in a table (docs/table.md, "Records").
+-- Numbers in messages and tables (docs/wire.md, "Encoding").
 use Rattle.std.specs.Prelude.{ℕ, ◌+◌, List, slice_range}
 use Rattle.std.specs.Int.{Width, byte_len, from_le_bytes}
 
