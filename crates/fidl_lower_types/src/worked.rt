@@ -23,13 +23,22 @@ ghost use Rattle.fidl_lower_types.specs.Terms.{HeadIs};
 pub fn terms_of_words()
     ensures bool { word_term Words.Bool [] ≡ Some ty.bool }
     ensures byte { word_term Words.Byte [] ≡ Some (ty.number ty.uint8) }
-    ensures int64 { word_term Words.Int64 [] ≡ Some (ty.number ty.int64) }
+    ensures signed { (word_term Words.Int8 [] ≡ Some (ty.number ty.int8))
+        × (word_term Words.Int16 [] ≡ Some (ty.number ty.int16))
+        × (word_term Words.Int32 [] ≡ Some (ty.number ty.int32))
+        × (word_term Words.Int64 [] ≡ Some (ty.number ty.int64)) }
+    ensures unsigned { (word_term Words.Uint8 [] ≡ Some (ty.number ty.uint8))
+        × (word_term Words.Uint16 [] ≡ Some (ty.number ty.uint16))
+        × (word_term Words.Uint32 [] ≡ Some (ty.number ty.uint32))
+        × (word_term Words.Uint64 [] ≡ Some (ty.number ty.uint64)) }
     ensures string { word_term Words.String (part Kinds.Bound 4 ∷ part Kinds.Optional 0 ∷ [])
         ≡ Some (ty.string true 4) }
     ensures bytes { word_term Words.Bytes [] ≡ Some (ty.vector false 4294967295
         (ty.number ty.uint8)) }
-    ensures ends { word_term Words.ClientEnd (part Kinds.Protocol 0 ∷ [])
+    ensures clients { word_term Words.ClientEnd (part Kinds.Protocol 0 ∷ [])
         ≡ Some (ty.handle false 4 2147483648) }
+    ensures servers { word_term Words.ServerEnd (part Kinds.Protocol 0 ∷ part Kinds.Optional 0
+        ∷ []) ≡ Some (ty.handle true 4 2147483648) }
     ensures floats { (word_term Words.Float32 [] ≡ None) × (word_term Words.Float64 [] ≡ None) }
     ensures other { word_term Words.Int64 [] ≢ Some (ty.number ty.uint64) }
 {}

@@ -13,7 +13,10 @@ ghost use Rattle.fidl_member_rules.specs.Ordinals.{layout_ordinals, last_ordinal
 ghost use Rattle.fidl_member_rules.specs.Ordinals.{OrdinalsHold, IsOutside, IsRepeated};
 ghost use Rattle.fidl_member_rules.specs.Strict.{IsEmptyStrict};
 ghost use Rattle.fidl_member_rules.specs.Profile.{IsAvailable, NamesChannel, transport_attributes};
-ghost use Rattle.fidl_member_rules.specs.Rules.{Rule, FileBreaks, BreaksAt};
+ghost use Rattle.fidl_member_rules.specs.Rules.{Rule, FileBreaks, BreaksAt, SiteHolds};
+ghost use Rattle.fidl_member_rules.specs.Rules.{TransportHolds};
+ghost use Rattle.fidl_declarations.specs.declared.step.Step.{Step};
+ghost use Rattle.fidl_declarations.specs.Sites.{layout_site, attributes_site};
 
 /// `union {1: reserved; 2: a t;}` has two ordinals.
 pub fn reserved_ordinals_count()
@@ -77,6 +80,34 @@ pub fn attributes_that_give_versions()
         → IsAvailable src (record { name = n; arguments = [] }) }
     ensures other { (src : List ℕ) (n : Span) → text_at src n ≡ codes "doc"
         → IsAvailable src (record { name = n; arguments = [] }) → ⊥ }
+{}
+
+/// A site with `@available` does not keep the rules, and one without attributes does; nor does a
+/// union that repeats an ordinal.
+pub fn sites_that_keep_the_rules()
+    ensures versions { (src : List ℕ) (n : Span) → text_at src n ≡ codes "available"
+        → SiteHolds src (attributes_site (record { name = n; arguments = [] } ∷ [])) → ⊥ }
+    ensures none { (src : List ℕ) → SiteHolds src (attributes_site []) }
+    ensures repeated { (src : List ℕ) (path : List Step) (k one again a : Span) (t : TypeUse)
+        → text_at src one ≡ codes "1" → text_at src again ≡ codes "1"
+        → SiteHolds src (layout_site path (union_layout false false k
+        (next_member (ordinal_member [] one a t) (next_member (reserved_member [] again)
+        no_members)))) → ⊥ }
+{}
+
+/// A protocol with another transport than channels does not keep the rules, and a service does.
+pub fn transports_that_keep_the_rules()
+    ensures other { (src : List ℕ) (n name : Span) → text_at src n ≡ codes "transport"
+        → TransportHolds src (record {
+          attributes = record { name = n; arguments = [] } ∷ [];
+          name = name;
+          body = protocol_body open_protocol [];
+        }) → ⊥ }
+    ensures service { (src : List ℕ) (a : Attribute) (name : Span) → TransportHolds src (record {
+      attributes = a ∷ [];
+      name = name;
+      body = service_body no_members;
+    }) }
 {}
 
 /// `("Channel")` is the transport by channels; `("Socket")`, `(x="Channel")` and `()` are not.
