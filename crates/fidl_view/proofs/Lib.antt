@@ -9,3 +9,4 @@ pub mod MemberPlaces
 pub mod Envelopes
 pub mod Keyed
 pub mod Raw
+pub mod Types

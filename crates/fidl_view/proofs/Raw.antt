@@ -11,7 +11,7 @@ use Rattle.fidl_wire.specs.Typed.{IsTypedMember}
 use Rattle.fidl_wire.specs.Encoding.{envelope_end, enveloped}
 use Rattle.fidl_wire.specs.Standing.{Stands, Carries}
 use Rattle.fidl_wire.proofs.Stand.{stands_to, stands_front, stands_back}
-use Rattle.fidl_table_format.specs.Field.{number_at}
+use Rattle.fidl_wire.specs.Field.{number_at}
 use Rattle.fidl_table_format.specs.Terms.{declarations_of}
 use Rattle.fidl_decode.specs.Model.{Shown}
 use Rattle.fidl_decode.specs.Faults.{message_of}

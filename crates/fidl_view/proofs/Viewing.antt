@@ -16,7 +16,7 @@ use Rattle.fidl_wire.proofs.Sizes.{le-next_multiple_of}
 use Rattle.fidl_table_format.specs.declared.kind.EntryKind.{EntryKind}
 use Rattle.fidl_table_format.specs.declared.kind.EntryKind.TheVariants.{String, Vector, Union, Int8, Int16, Int32, Int64, Uint8, Uint16, Uint32, Uint64, Bits, Enum}
 use Rattle.fidl_table_format.specs.Section.{header_of, entry_at}
-use Rattle.fidl_table_format.specs.Field.{number_at}
+use Rattle.fidl_wire.specs.Field.{number_at}
 use Rattle.fidl_table_format.specs.Kind.{kind_of, number_type}
 use Rattle.fidl_table_format.specs.Terms.{is_optional, declarations_of, term_as, as_number, underlying}
 use Rattle.fidl_table_format.specs.Uses.{is_number, is_unsigned}

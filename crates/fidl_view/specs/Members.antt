@@ -1,10 +1,10 @@
 -- The members of a struct, a table or a union, where they stand in a message (docs/views.md,
 -- "Calls").
-use Rattle.std.specs.Prelude.{ℕ, ◌≤◌, false, length, Option}
+use Rattle.std.specs.Prelude.{ℕ, zero, suc, ◌≤◌, false, length, Option, Some, None}
 use Rattle.fidl_wire.specs.Value.{Values, Member}
-use Rattle.fidl_wire.specs.Term.{Term, Fields, find}
+use Rattle.fidl_wire.specs.Term.{Term, Fields, no_fields, field, resolve, find}
 use Rattle.fidl_wire.specs.Term as ty
-use Rattle.fidl_wire.specs.Figure.{size_of}
+use Rattle.fidl_wire.specs.Figure.{Declarations, size_of}
 use Rattle.fidl_wire.specs.Typed.{EachTyped, IsTypedMember}
 use Rattle.fidl_wire.specs.Encoding.{members, enveloped}
 use Rattle.fidl_wire.specs.Standing.{Stands}
@@ -53,3 +53,14 @@ pub record ShowMember (d : Shown) (index ordinal place : ℕ) (x : Member) : Typ
 -- some member is
 abbrev pub HaveMember : Shown → (index ordinal place : ℕ) → Type 0
 HaveMember d index ordinal place = (x : Member) × ShowMember d index ordinal place x
+
+-- a struct, or the struct in a box
+abbrev pub struct_of : Declarations → Term → Term
+struct_of ds (ty.box t) = resolve ds.terms t
+struct_of ds t = t
+
+-- the type of the member at a place of a struct's declaration
+abbrev pub field_at : Fields → (at : ℕ) → Option Term
+field_at no_fields at = None
+field_at (field name t fs) zero = Some t
+field_at (field name t fs) (suc at) = field_at fs at

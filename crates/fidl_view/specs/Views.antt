@@ -2,14 +2,16 @@
 -- and "Elements").
 use Rattle.std.specs.Prelude.{◌≡◌, ◌<◌, ℕ, ◌+◌, List, slice_range, Option, Some, None}
 use Rattle.std.specs.Prelude.{MatchOption}
+use Rattle.std.specs.Option.{option_map}
+use Rattle.std.specs.List.{AllByRecursion}
 use Rattle.std.specs.Int.{w64}
 use Rattle.fidl_wire.specs.Value.{Value, Values, list, fields, Member}
-use Rattle.fidl_wire.specs.Term.{Term}
+use Rattle.fidl_wire.specs.Term.{Term, resolve, fields_of}
 use Rattle.fidl_wire.specs.Term as ty
 use Rattle.fidl_wire.specs.Figure.{Declarations}
 use Rattle.fidl_wire.specs.Encoding.{element_of}
 use Rattle.fidl_wire.specs.Message.{Encodes}
-use Rattle.fidl_table_format.specs.Field.{number_at}
+use Rattle.fidl_wire.specs.Field.{number_at}
 use Rattle.fidl_table_format.specs.Terms.{declarations_of}
 use Rattle.fidl_decode.specs.Placed.{content_at, object_at}
 use Rattle.fidl_decode.specs.Model.{Shown}
@@ -20,7 +22,7 @@ use Rattle.fidl_view.specs.declared.envelope.Envelope.{Envelope}
 use Rattle.fidl_view.specs.Parts.{known_of}
 use Rattle.fidl_view.specs.Shows.{Shows, type_of}
 use Rattle.fidl_view.specs.Elements.{Part, part, parts_from, ShowEach}
-use Rattle.fidl_view.specs.Members.{ShowMembers, ShowMember}
+use Rattle.fidl_view.specs.Members.{ShowMembers, ShowMember, struct_of, field_at, fields_at, term_at}
 
 -- what a view is seen as
 abbrev pub part_of : View → Part
@@ -45,6 +47,20 @@ type_shown view = let p = part_of view in type_of p.message p.index
 
 abbrev pub types_shown : View → Declarations
 types_shown view = declarations_of (part_of view).message.table
+
+-- the type of the elements of an array or a vector
+abbrev pub element_type : View → Term
+element_type view = element_of (types_shown view) (type_shown view)
+
+-- the type of the member of a struct, or of the struct in a box, at this place in its declaration
+abbrev pub field_type : View → (at : ℕ) → Option Term
+field_type view at = option_map (resolve (types_shown view).terms)
+    (field_at (fields_of (struct_of (types_shown view) (type_shown view))) at)
+
+-- the type of the member of a table or a union at this ordinal
+abbrev pub member_type : View → (ordinal : ℕ) → Option Term
+member_type view ordinal = let p = part_of view in
+    option_map (resolve (types_shown view).terms) (term_at p.message p.index ordinal)
 
 -- how many elements an array of the type has, or a vector of the type by its count
 abbrev pub count_at : Term → (bytes : List ℕ) → (place : ℕ) → ℕ
@@ -91,6 +107,11 @@ pub record IsRunOf (view : View) (elements : Elements) : Type 0 where
   pub placed : 0 < elements.left → elements.place
       ≡ content_at (part_of view).message.links (type_shown view) view.place
 
+-- each part that is left is of the type of the view's elements
+abbrev pub AreOfElements : View → Elements → Type 0
+AreOfElements view elements =
+    AllByRecursion (λ (p : Part). type_of p.message p.index ≡ element_type view) (parts_left elements)
+
 -- the value is a list, and the parts that are left show its elements
 abbrev pub ShowsListOf : Value → Elements → Type 0
 ShowsListOf v elements = (vs : Values) × (v ≡ list vs) × ShowEach (parts_left elements) vs
@@ -98,6 +119,12 @@ ShowsListOf v elements = (vs : Values) × (v ≡ list vs) × ShowEach (parts_lef
 -- the decoded message of members
 abbrev pub message_held : Members → Shown
 message_held members = members.decoded.now
+
+-- they are those of a view's struct, or of the struct in its box
+abbrev pub AreFieldsOf : View → Members → Type 0
+AreFieldsOf view members =
+    fields_of (struct_of (types_shown view) (type_shown view))
+    ≡ fields_at members.decoded.now members.index
 
 -- the value has members, and they stand where a struct's members were found
 abbrev pub ShowsMembersOf : Value → Members → Type 0
@@ -107,6 +134,11 @@ ShowsMembersOf v members = (vs : Values) × (v ≡ fields vs)
 -- the decoded message of an envelope
 abbrev pub message_in : Envelope → Shown
 message_in envelope = envelope.decoded.now
+
+-- the type that the layout of an envelope's entry gives its member
+abbrev pub type_held : Envelope → Option Term
+type_held envelope = let d = envelope.decoded.now in
+    option_map (resolve (declarations_of d.table).terms) (term_at d envelope.index envelope.ordinal)
 
 -- the member is the one that the envelope holds
 abbrev pub IsHeldBy : Envelope → Member → Type 0

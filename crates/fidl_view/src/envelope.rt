@@ -16,8 +16,7 @@ ghost use Rattle.fidl_view.specs.Members.{HaveMember, term_at};
 
 use crate::view::View;
 use fidl_decode::Decoded;
-use fidl_table_format::{u16_at, u32_at};
-use fidl_wire::HandleInfo;
+use fidl_wire::{HandleInfo, byte_count_at, flags_at, handle_count_at};
 
 /// A member of a table or a union that the layout does not know, borrowed from the message.
 #[derive(Clone, Copy)]
@@ -49,6 +48,7 @@ pub(crate) struct Envelope<'v, 'm> {
 impl<'v, 'm> Envelope<'v, 'm> {
     ghost use Rattle.fidl_view.specs.Parts.{known_of, unknown_in};
     ghost use Rattle.fidl_view.specs.Views.{part_of, message_in, IsHeldBy, IsShownBy, ShowsKnown};
+    ghost use Rattle.fidl_view.specs.Views.{type_shown, type_held};
 
     /// Where a known member of this size stands: in the envelope, or as its object.
     fn content_place(self, size: u32) -> usize
@@ -65,6 +65,7 @@ impl<'v, 'm> Envelope<'v, 'm> {
     /// The view of the member, where it is known.
     pub(crate) fn known(self) -> Option<View<'v, 'm>>
         ensures message { IfSome result (λ part. (part_of part).message ≡ message_in self.entry) }
+        ensures typed { IfSome result (λ part. Some (type_shown part) ≡ type_held self.entry) }
         ensures part { (x : Member) → IsHeldBy self.entry x → ShowsKnown result x }
     {
         let mut probes = 0;
@@ -90,10 +91,10 @@ impl<'v, 'm> Envelope<'v, 'm> {
             → IsHeldBy self.entry (unknown inline bytes handles) → result.now ≡ bytes }
     {
         let bytes = self.decoded.bytes();
-        if u16_at(bytes, self.place + 6) == 1 {
+        if flags_at(bytes, self.place) == 1 {
             return &bytes[self.place..self.place + 4];
         }
-        let count = u32_at(bytes, self.place) as usize;
+        let count = byte_count_at(bytes, self.place) as usize;
         let from = self.decoded.object_at(self.place);
         &bytes[from..from + count]
     }
@@ -104,7 +105,7 @@ impl<'v, 'm> Envelope<'v, 'm> {
         ensures { (inline : Bool) (bytes : List ℕ) (handles : List HandleInfo)
             → IsHeldBy self.entry (unknown inline bytes handles) → result.now ≡ handles }
     {
-        let count = u16_at(self.decoded.bytes(), self.place + 4) as usize;
+        let count = handle_count_at(self.decoded.bytes(), self.place) as usize;
         if count == 0 {
             return &[];
         }
@@ -127,7 +128,7 @@ impl<'v, 'm> Envelope<'v, 'm> {
             return None;
         }
         Some(Unknown {
-            inline: u16_at(self.decoded.bytes(), self.place + 6) == 1,
+            inline: flags_at(self.decoded.bytes(), self.place) == 1,
             bytes: self.raw_bytes(),
             handles: self.raw_handles(),
         })

@@ -6,17 +6,19 @@ ghost use Rattle.fidl_table_format.specs.Section.{entry_at};
 ghost use Rattle.fidl_table_format.specs.Entry.{IsOf};
 ghost use Rattle.fidl_view.specs.Parts.{member_of, variant_of, held_of, unknown_of};
 ghost use Rattle.fidl_view.specs.Views.{part_of, message_in, IsHeldBy, IsShownBy, ShowsKnown};
+ghost use Rattle.fidl_view.specs.Views.{type_shown, type_held, member_type};
 
 use crate::envelope::{Envelope, Unknown};
 use crate::view::View;
-use fidl_table_format::{EntryKind, u64_at};
-use fidl_wire::{Presence, presence_at};
+use fidl_table_format::EntryKind;
+use fidl_wire::{Presence, presence_at, u64_at};
 
 impl<'v, 'm> View<'v, 'm> {
     /// The envelope of a table's member at this ordinal; none where it is absent.
     fn table_envelope(self, ordinal: u64) -> Option<Envelope<'v, 'm>>
         requires { IsOf EntryKind.Table (entry_at self.decoded.now.table self.index) }
         ensures message { IfSome result (λ e. message_in e ≡ (part_of self.entry).message) }
+        ensures typed { IfSome result (λ e. type_held e ≡ member_type self.entry ordinal) }
         ensures held { (v : Value) → IsShownBy self.entry v
             → MatchOption result (held_of v ordinal ≡ None)
             (λ e. (x : Member) × (held_of v ordinal ≡ Some x) × IsHeldBy e x) }
@@ -49,6 +51,7 @@ impl<'v, 'm> View<'v, 'm> {
     fn union_envelope(self) -> Option<Envelope<'v, 'm>>
         requires { IsOf EntryKind.Union (entry_at self.decoded.now.table self.index) }
         ensures message { IfSome result (λ e. message_in e ≡ (part_of self.entry).message) }
+        ensures typed { IfSome result (λ e. type_held e ≡ member_type self.entry e.ordinal) }
         ensures held { (v : Value) → IsShownBy self.entry v
             → MatchOption result (variant_of v ≡ None)
             (λ e. (x : Member) × (variant_of v ≡ Some (e.ordinal, x)) × IsHeldBy e x) }
@@ -96,6 +99,8 @@ impl<'v, 'm> View<'v, 'm> {
     pub fn member(self, ordinal: u64) -> Option<View<'v, 'm>>
         ensures message { IfSome result (λ part. (part_of part).message
             ≡ (part_of self.entry).message) }
+        ensures typed { IfSome result (λ part. Some (type_shown part)
+            ≡ member_type self.entry ordinal) }
         ensures part { (v : Value) → IsShownBy self.entry v
             → MatchOption result (member_of v ordinal ≡ None)
             (λ part. (x : Value) × (member_of v ordinal ≡ Some x) × IsShownBy part x) }
@@ -116,6 +121,8 @@ impl<'v, 'm> View<'v, 'm> {
     pub fn variant(self) -> Option<(u64, Option<View<'v, 'm>>)>
         ensures message { IfSome result (λ found. IfSome found.1 (λ part. (part_of part).message
             ≡ (part_of self.entry).message)) }
+        ensures typed { IfSome result (λ found. IfSome found.1 (λ part. Some (type_shown part)
+            ≡ member_type self.entry found.0)) }
         ensures part { (v : Value) → IsShownBy self.entry v
             → MatchOption result (variant_of v ≡ None)
             (λ found. (x : Member) × (variant_of v ≡ Some (found.0, x)) × ShowsKnown found.1 x) }

@@ -7,11 +7,12 @@ ghost use Rattle.fidl_table_format.specs.Entry.{IsOf};
 ghost use Rattle.fidl_view.specs.Parts.{length_of, element_of, elements_of, IsNoList};
 ghost use Rattle.fidl_view.specs.Elements.{ShowEach};
 ghost use Rattle.fidl_view.specs.Views.{part_of, parts_left, message_left, IsShownBy, IsRunOf};
-ghost use Rattle.fidl_view.specs.Views.{ShowsListOf};
+ghost use Rattle.fidl_view.specs.Views.{ShowsListOf, type_shown, element_type, AreOfElements};
 
 use crate::elements::Elements;
 use crate::view::View;
-use fidl_table_format::{EntryKind, u64_at};
+use fidl_table_format::EntryKind;
+use fidl_wire::u64_at;
 
 impl<'v, 'm> View<'v, 'm> {
     /// The elements of an array.
@@ -99,6 +100,7 @@ impl<'v, 'm> View<'v, 'm> {
     pub fn element(self, at: usize) -> Option<View<'v, 'm>>
         ensures message { IfSome result (λ part. (part_of part).message
             ≡ (part_of self.entry).message) }
+        ensures typed { IfSome result (λ part. type_shown part ≡ element_type self.entry) }
         ensures part { (v : Value) → IsShownBy self.entry v
             → MatchOption result (element_of v at ≡ None)
             (λ part. (x : Value) × (element_of v at ≡ Some x) × IsShownBy part x) }
@@ -120,6 +122,7 @@ impl<'v, 'm> View<'v, 'm> {
     /// there are none.
     pub fn elements(self) -> Elements<'v, 'm>
         ensures message { message_left result ≡ (part_of self.entry).message }
+        ensures typed { AreOfElements self.entry result }
         ensures parts { (v : Value) → IsShownBy self.entry v
             → ShowEach (parts_left result) (elements_of v) }
     {

@@ -27,12 +27,14 @@ pub(crate) struct Members<'v, 'm> {
 
 impl<'v, 'm> View<'v, 'm> {
     ghost use Rattle.fidl_view.specs.Views.{part_of, message_held, ShowsMembersOf, IsShownBy};
+    ghost use Rattle.fidl_view.specs.Views.{type_shown, field_type, AreFieldsOf};
 
     /// The members of a struct, or of the struct in a box; none where the box is absent, and of
     /// another kind.
     fn members(self) -> Option<Members<'v, 'm>>
         ensures message { IfSome result (λ members. message_held members
             ≡ (part_of self.entry).message) }
+        ensures of { IfSome result (AreFieldsOf self.entry) }
         ensures members { (v : Value) → IsShownBy self.entry v
             → MatchOption result (IsNoStruct v) (ShowsMembersOf v) }
     {
@@ -61,6 +63,8 @@ impl<'v, 'm> View<'v, 'm> {
     pub fn field(self, at: usize) -> Option<View<'v, 'm>>
         ensures message { IfSome result (λ part. (part_of part).message
             ≡ (part_of self.entry).message) }
+        ensures typed { IfSome result (λ part. Some (type_shown part)
+            ≡ field_type self.entry at) }
         ensures part { (v : Value) → IsShownBy self.entry v
             → MatchOption result (field_of v at ≡ None)
             (λ part. (x : Value) × (field_of v at ≡ Some x) × IsShownBy part x) }

@@ -9,7 +9,8 @@ ghost use Rattle.fidl_view.specs.Parts.{string_of};
 ghost use Rattle.fidl_view.specs.Views.{IsShownBy, bytes_shown};
 
 use crate::view::View;
-use fidl_table_format::{EntryKind, u64_at};
+use fidl_table_format::EntryKind;
+use fidl_wire::u64_at;
 use std::str::from_utf8_unchecked;
 
 impl<'v, 'm> View<'v, 'm> {

@@ -12,7 +12,8 @@ ghost use Rattle.fidl_view.specs.Shows.{HasValue};
 use crate::kind::entry_kind;
 use crate::number::{signed, unsigned};
 use fidl_decode::Decoded;
-use fidl_table_format::{EntryKind, u64_at};
+use fidl_table_format::EntryKind;
+use fidl_wire::u64_at;
 
 /// A part of a decoded message. It borrows the message, and every answer is a part of the value
 /// that the message encodes.

@@ -1,3 +1,5 @@
+use Rattle.fidl_wire.specs.Term.{resolve}
+use Rattle.std.specs.Option.{option_map}
 use Rattle.std.proofs.Common.{◌≡◌, ℕ, ◌<◌, nat_le, List, ap, sym, subst, ◌∙◌}
 use Rattle.std.specs.Prelude.{Some, None}
 use Rattle.std.proofs.Math.Logic.{∥∥₁_map, ∥∥₁_elim}
@@ -6,7 +8,7 @@ use Rattle.fidl_wire.specs.Term.{find}
 use Rattle.fidl_wire.specs.Term as ty
 use Rattle.fidl_table_format.specs.declared.record.Entry.{Entry}
 use Rattle.fidl_table_format.specs.Section.{header_of, entry_at}
-use Rattle.fidl_table_format.specs.Terms.{members_of}
+use Rattle.fidl_table_format.specs.Terms.{declarations_of, members_of}
 use Rattle.fidl_table_format.specs.WellFormed.{WellFormed}
 use Rattle.fidl_decode.specs.Placed.{enclosed_at}
 use Rattle.fidl_view.specs.Shows.{Shows}
@@ -57,3 +59,12 @@ returns-in_default-clause-part c x h =
     let i = c.args.self.index in
     let o = c.args.self.ordinal in
     raw.unknown_no_value d i o c.args.self.place (subst (λ (b : List ℕ). find (members_of b i) o ≡ None) c.table.ensures c.in_default.ensures.none) x h
+
+pub returns-clause-typed : goal.returns-clause-typed
+returns-clause-typed c =
+    let d = c.args.self.decoded.now in
+    let i = c.args.self.index in
+    let o = c.args.self.ordinal in
+    let row = c.in-Some.row in
+    let is : term_at d i o ≡ Some (ty.named row.entry) = subst (λ (b : List ℕ). find (members_of b i) o ≡ Some (ty.named row.entry)) c.table.ensures c.in-Some.ensures.some in
+    sym (ap (option_map (resolve (declarations_of d.table).terms)) is)

@@ -4,7 +4,7 @@ use Rattle.std.specs.Int.{w16}
 use Rattle.std.proofs.Math.Logic.{∥∥₁_elim}
 use Rattle.std.proofs.Math.Bridge.{le_prop}
 use Rattle.fidl_wire.specs.Value.{unknown}
-use Rattle.fidl_table_format.specs.Field.{number_at}
+use Rattle.fidl_wire.specs.Field.{number_at}
 use Rattle.fidl_decode.specs.Placed.{first_record_at}
 use Rattle.fidl_view.proofs.Raw as raw
 use Rattle.fidl_view.proofs.envelope.Envelope.raw_handles.Goals as goal
@@ -15,7 +15,7 @@ returns-then-count-eq0 c inline bytes handles h =
     let i = c.args.self.index in
     let o = c.args.self.ordinal in
     let p = c.args.self.place in
-    let count : c.u16_at-count.result ≡ number_at w16 d.bytes (p + 4) = c.u16_at-count.ensures ∙ ap (λ (b : List ℕ). number_at w16 b (p + 4)) c.bytes.ensures in
+    let count : c.handle_count_at-count.result ≡ number_at w16 d.bytes (p + 4) = c.handle_count_at-count.ensures ∙ ap (λ (b : List ℕ). number_at w16 b (p + 4)) c.bytes.ensures in
     raw.raw_none d i o p (unknown inline bytes handles) (raw.raw_there d i o p c.args.self.short c.args.self.few c.requires (unknown inline bytes handles) h) (sym count ∙ c.if-count-eq0.true)
 
 pub overflow_add-result : goal.overflow_add-result
@@ -24,7 +24,7 @@ overflow_add-result c =
     let i = c.args.self.index in
     let o = c.args.self.ordinal in
     let p = c.args.self.place in
-    let count : c.u16_at-count.result ≡ number_at w16 d.bytes (p + 4) = c.u16_at-count.ensures ∙ ap (λ (b : List ℕ). number_at w16 b (p + 4)) c.bytes.ensures in
+    let count : c.handle_count_at-count.result ≡ number_at w16 d.bytes (p + 4) = c.handle_count_at-count.ensures ∙ ap (λ (b : List ℕ). number_at w16 b (p + 4)) c.bytes.ensures in
     let some = λ (e : number_at w16 d.bytes (p + 4) ≡ 0). c.if-count-eq0.false (count ∙ e) in
     let from : c.record_at-first.result ≡ first_record_at d.links p = c.record_at-first.ensures in
     let room = ∥∥₁_elim c.args.self.shown le_prop (λ h. (raw.raw_some d i o p h.0 (raw.raw_there d i o p c.args.self.short c.args.self.few c.requires h.0 h.1) some).0) in
@@ -36,7 +36,7 @@ offset_bounds-handles-first c =
     let i = c.args.self.index in
     let o = c.args.self.ordinal in
     let p = c.args.self.place in
-    let count : c.u16_at-count.result ≡ number_at w16 d.bytes (p + 4) = c.u16_at-count.ensures ∙ ap (λ (b : List ℕ). number_at w16 b (p + 4)) c.bytes.ensures in
+    let count : c.handle_count_at-count.result ≡ number_at w16 d.bytes (p + 4) = c.handle_count_at-count.ensures ∙ ap (λ (b : List ℕ). number_at w16 b (p + 4)) c.bytes.ensures in
     let some = λ (e : number_at w16 d.bytes (p + 4) ≡ 0). c.if-count-eq0.false (count ∙ e) in
     let from : c.record_at-first.result ≡ first_record_at d.links p = c.record_at-first.ensures in
     let room = ∥∥₁_elim c.args.self.shown le_prop (λ h. (raw.raw_some d i o p h.0 (raw.raw_there d i o p c.args.self.short c.args.self.few c.requires h.0 h.1) some).0) in
@@ -48,7 +48,7 @@ slice_bounds-result-end-2 c =
     let i = c.args.self.index in
     let o = c.args.self.ordinal in
     let p = c.args.self.place in
-    let count : c.u16_at-count.result ≡ number_at w16 d.bytes (p + 4) = c.u16_at-count.ensures ∙ ap (λ (b : List ℕ). number_at w16 b (p + 4)) c.bytes.ensures in
+    let count : c.handle_count_at-count.result ≡ number_at w16 d.bytes (p + 4) = c.handle_count_at-count.ensures ∙ ap (λ (b : List ℕ). number_at w16 b (p + 4)) c.bytes.ensures in
     let some = λ (e : number_at w16 d.bytes (p + 4) ≡ 0). c.if-count-eq0.false (count ∙ e) in
     let from : c.record_at-first.result ≡ first_record_at d.links p = c.record_at-first.ensures in
     let room = ∥∥₁_elim c.args.self.shown le_prop (λ h. (raw.raw_some d i o p h.0 (raw.raw_there d i o p c.args.self.short c.args.self.few c.requires h.0 h.1) some).0) in
@@ -61,7 +61,7 @@ returns c inline bytes handles h =
     let i = c.args.self.index in
     let o = c.args.self.ordinal in
     let p = c.args.self.place in
-    let count : c.u16_at-count.result ≡ number_at w16 d.bytes (p + 4) = c.u16_at-count.ensures ∙ ap (λ (b : List ℕ). number_at w16 b (p + 4)) c.bytes.ensures in
+    let count : c.handle_count_at-count.result ≡ number_at w16 d.bytes (p + 4) = c.handle_count_at-count.ensures ∙ ap (λ (b : List ℕ). number_at w16 b (p + 4)) c.bytes.ensures in
     let some = λ (e : number_at w16 d.bytes (p + 4) ≡ 0). c.if-count-eq0.false (count ∙ e) in
     let from : c.record_at-first.result ≡ first_record_at d.links p = c.record_at-first.ensures in
     (λ j. slice_range (c.handles.ensures j) (from j) (from j + count j)) ∙ (raw.raw_some d i o p (unknown inline bytes handles) (raw.raw_there d i o p c.args.self.short c.args.self.few c.requires (unknown inline bytes handles) h) some).1

@@ -3,7 +3,7 @@ use Rattle.std.specs.Prelude.{None, ◌==◌}
 use Rattle.std.specs.Int.{w16}
 use Rattle.fidl_wire.specs.Value.{Member, unknown}
 use Rattle.fidl_wire.specs.Term.{find}
-use Rattle.fidl_table_format.specs.Field.{number_at}
+use Rattle.fidl_wire.specs.Field.{number_at}
 use Rattle.fidl_table_format.specs.Terms.{members_of}
 use Rattle.fidl_view.specs.Members.{ShowMember, term_at}
 use Rattle.fidl_view.proofs.Raw as raw
@@ -16,7 +16,7 @@ returns c x h =
     let o = c.args.self.ordinal in
     let p = c.args.self.place in
     let lacks : term_at d i o ≡ None = subst (λ (b : List ℕ). find (members_of b i) o ≡ None) c.table.ensures c.in_default.ensures.none in
-    let flag : c.u16_at.result ≡ number_at w16 d.bytes (p + 6) = c.u16_at.ensures ∙ ap (λ (b : List ℕ). number_at w16 b (p + 6)) c.bytes.ensures in
+    let flag : c.flags_at.result ≡ number_at w16 d.bytes (p + 6) = c.flags_at.ensures ∙ ap (λ (b : List ℕ). number_at w16 b (p + 6)) c.bytes.ensures in
     let r = raw.raw_there d i o p c.args.self.short c.args.self.few lacks x h in
     let own = subst (λ (y : Member). ShowMember d i o p y) r.is h in
     subst (λ n. x ≡ unknown (n == 1) c.raw_bytes.result.now c.raw_handles.result.now) (sym flag)

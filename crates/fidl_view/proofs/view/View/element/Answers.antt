@@ -1,4 +1,6 @@
-use Rattle.std.proofs.Common.{ap, ◌∙◌, arith}
+use Rattle.fidl_view.specs.Shows.{type_of}
+use Rattle.fidl_decode.specs.Model.{Shown}
+use Rattle.std.proofs.Common.{ap, sym, ◌∙◌, arith}
 use Rattle.std.proofs.Math.Logic.{∥∥₁_map}
 use Rattle.fidl_wire.specs.Value.{Value}
 use Rattle.fidl_view.specs.Parts.{element_of}
@@ -44,3 +46,9 @@ returns-clause-part c v h =
     let x = c.in-Some.ensures.parts v h in
     let r = lists.nth_shown s.decoded.now s.index s.size s.place s.left c.args.at x.0 (omega (arith, c.if-at-elements.false)) x.2 in
     (r.0, ap (λ (u : Value). element_of u c.args.at) x.1 ∙ r.1, r.2)
+
+pub returns-clause-typed : goal.returns-clause-typed
+returns-clause-typed c =
+    let s = c.in-Some.elements in
+    let r = c.in-Some.ensures.run in
+    ap (λ (d : Shown). type_of d s.index) r.message ∙ sym r.typed

@@ -1,10 +1,13 @@
+use Rattle.fidl_view.proofs.Types.{each_typed}
+use Rattle.fidl_view.specs.Shows.{type_of}
+use Rattle.fidl_decode.specs.Model.{Shown}
 use Rattle.std.proofs.Common.{◌≡◌, ℕ, ◌*◌, List, ap, sym, subst, ◌∙◌, arith}
 use Rattle.fidl_wire.specs.Value.{Value, none}
 use Rattle.fidl_table_format.specs.declared.record.Entry.{Entry}
 use Rattle.fidl_table_format.specs.Section.{entry_at}
 use Rattle.fidl_view.specs.Parts.{elements_of}
 use Rattle.fidl_view.specs.Elements.{ShowEach}
-use Rattle.fidl_view.specs.Views.{parts_left}
+use Rattle.fidl_view.specs.Views.{parts_left, element_type}
 use Rattle.fidl_view.proofs.Lists as lists
 use Rattle.fidl_view.proofs.view.View.elements.Goals as goal
 
@@ -29,3 +32,9 @@ invariant_of-result c =
 
 pub returns-clause-parts : goal.returns-clause-parts
 returns-clause-parts c v h = lists.no_elements v (c.in_default.ensures.parts v h)
+
+pub returns-in-Some-clause-typed : goal.returns-in-Some-clause-typed
+returns-in-Some-clause-typed c =
+    let s = c.in-Some.elements in
+    let r = c.in-Some.ensures.run in
+    each_typed s.decoded.now s.index s.size s.place s.left (element_type c.args.self) (ap (λ (d : Shown). type_of d s.index) r.message ∙ sym r.typed)

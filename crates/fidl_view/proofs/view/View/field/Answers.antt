@@ -1,3 +1,11 @@
+use Rattle.fidl_view.proofs.Types.{field_of_row}
+use Rattle.fidl_view.specs.Views.{type_shown, types_shown}
+use Rattle.fidl_view.specs.Members.{struct_of, field_at, fields_at}
+use Rattle.fidl_decode.specs.Model.{Shown}
+use Rattle.fidl_table_format.specs.Terms.{declarations_of}
+use Rattle.fidl_wire.specs.Term.{Fields, fields_of, resolve}
+use Rattle.std.specs.Option.{option_map}
+use Rattle.std.specs.Prelude.{Some}
 use Rattle.std.proofs.Common.{◌≡◌, ℕ, ◌+◌, ◌<◌, ◌≤◌, List, length, ap, sym, subst, ◌∙◌, arith}
 use Rattle.std.proofs.Math.Logic.{∥∥₁_map, ∥∥₁_elim}
 use Rattle.std.proofs.Math.Bridge.{le_prop}
@@ -7,7 +15,7 @@ use Rattle.fidl_table_format.specs.declared.record.Row.{Row}
 use Rattle.fidl_table_format.specs.Section.{header_of, entry_at, row_at}
 use Rattle.fidl_table_format.specs.WellFormed.{WellFormed}
 use Rattle.fidl_view.specs.Parts.{field_of}
-use Rattle.fidl_view.specs.Shows.{Shows}
+use Rattle.fidl_view.specs.Shows.{Shows, type_of}
 use Rattle.fidl_view.proofs.Lists as lists
 use Rattle.fidl_view.proofs.MemberPlaces as places
 use Rattle.fidl_view.proofs.view.View.field.Goals as goal
@@ -106,3 +114,21 @@ returns-clause-part c v h =
     let y = c.in-Some.ensures.members v h in
     let x = places.member_shown d w m.index m.place m.in_range m.of_struct c.args.at less y.0 y.2 in
     (x.0, ap (λ (u : Value). field_of u c.args.at) y.1 ∙ x.1, subst (λ (r : Row). Shows d r.entry (m.place + r.key) x.0) (sym here) x.2)
+
+pub returns-clause-typed : goal.returns-clause-typed
+returns-clause-typed c =
+    let m = c.in-Some.members in
+    let d = m.decoded.now in
+    let terms = (declarations_of d.table).terms in
+    let same : c.entry-entry.result ≡ entry_at d.table m.index = c.entry-entry.ensures.value ∙ ap (λ (b : List ℕ). entry_at b m.index) c.table.ensures in
+    let counted : c.entry-entry.result.count ≡ (entry_at d.table m.index).count = ap (λ (e : Entry). e.count) same in
+    let begun : c.entry-entry.result.first ≡ (entry_at d.table m.index).first = ap (λ (e : Entry). e.first) same in
+    let less : c.args.at < (entry_at d.table m.index).count = omega (arith, c.if-at-entry.false, counted) in
+    let own : c.row-row.result ≡ row_at d.table (header_of d.table) (c.entry-entry.result.first + c.args.at) = c.row-row.ensures.value ∙ ap (λ (b : List ℕ). row_at b (header_of b) (c.entry-entry.result.first + c.args.at)) c.table-3.ensures in
+    let here : c.row-row.result ≡ row_at d.table (header_of d.table) ((entry_at d.table m.index).first + c.args.at) = own ∙ ap (λ k. row_at d.table (header_of d.table) (k + c.args.at)) begun in
+    let found = field_of_row d.table (header_of d.table) (entry_at d.table m.index).first (entry_at d.table m.index).count c.args.at less in
+    let mine : Some (type_of d c.row-row.result.entry) ≡ option_map (resolve terms) (field_at (fields_at d m.index) c.args.at)
+    = ap (λ (r : Row). Some (type_of d r.entry)) here ∙ sym (ap (option_map (resolve terms)) found) in
+    let fields : Some (type_of d c.row-row.result.entry) ≡ option_map (resolve terms) (field_at (fields_of (struct_of (declarations_of c.args.self.decoded.now.table) (type_shown c.args.self))) c.args.at)
+    = mine ∙ ap (λ (fs : Fields). option_map (resolve terms) (field_at fs c.args.at)) (sym c.in-Some.ensures.of) in
+    fields ∙ ap (λ (s : Shown). option_map (resolve (declarations_of s.table).terms) (field_at (fields_of (struct_of (types_shown c.args.self) (type_shown c.args.self))) c.args.at)) c.in-Some.ensures.message

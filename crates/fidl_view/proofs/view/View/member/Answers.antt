@@ -1,3 +1,4 @@
+use Rattle.std.proofs.lemmas.Option.{IfSome_then}
 use Rattle.std.proofs.Common.{ap, ◌∙◌}
 use Rattle.std.specs.Prelude.{Option}
 use Rattle.fidl_wire.specs.Value.{Member}
@@ -26,10 +27,13 @@ returns-in_default c =
     let p = c.args.self.place in
     let lt = c.args.self.in_range in
     let w = c.kind.ensures.well_formed in
-    record { message = tt; part = λ v h. keyed.no_member (declarations_of d.table) d.table (header_of d.table) (entry_at d.table i) c.kind.result c.in_default.not-Table v (viewing.lies d w i p lt c.kind.result c.kind.ensures.of v h).0 c.args.ordinal }
+    record { message = tt; typed = tt; part = λ v h. keyed.no_member (declarations_of d.table) d.table (header_of d.table) (entry_at d.table i) c.kind.result c.in_default.not-Table v (viewing.lies d w i p lt c.kind.result c.kind.ensures.of v h).0 c.args.ordinal }
 
 pub returns-in_default-table_envelope-clause-part : goal.returns-in_default-table_envelope-clause-part
 returns-in_default-table_envelope-clause-part c v h =
     let d = c.args.self.decoded.now in
     let t = keyed.table_shown d c.kind.ensures.well_formed c.args.self.index c.args.self.place c.args.self.in_range c.in-Table.ensures.of v h in
     keyed.member_held v t.n t.ms t.is c.args.ordinal ∙ ap (λ (o : Option Member). known_in o) (c.in_default-table_envelope.ensures.held v h)
+
+pub returns-in-Some-clause-typed : goal.returns-in-Some-clause-typed
+returns-in-Some-clause-typed c = IfSome_then c.known.result c.known.ensures.typed (λ part e. e ∙ c.in-Some.ensures.typed)

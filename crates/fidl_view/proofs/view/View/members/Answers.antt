@@ -1,7 +1,9 @@
+use Rattle.fidl_view.specs.Members.{struct_of, fields_at}
+use Rattle.fidl_wire.specs.Term.{Term, fields_of}
 use Rattle.std.proofs.Common.{◌≡◌, ℕ, ◌<◌, List, get_or, ap, sym, subst, ◌∙◌, arith}
 use Rattle.std.proofs.Math.Logic.{∥∥₁_map}
 use Rattle.fidl_table_format.specs.declared.record.Entry.{Entry}
-use Rattle.fidl_table_format.specs.declared.kind.EntryKind.TheVariants.{Struct}
+use Rattle.fidl_table_format.specs.declared.kind.EntryKind.TheVariants.{Struct, Box}
 use Rattle.fidl_table_format.specs.Section.{header_of, entry_at}
 use Rattle.fidl_table_format.specs.Terms.{declarations_of}
 use Rattle.fidl_table_format.specs.Entry.{IsOf}
@@ -93,6 +95,27 @@ returns-in_default c =
     let w = c.kind.ensures.well_formed in
     record {
       message = tt;
+      of = tt;
       members = λ v h. places.no_struct_of (declarations_of d.table) d.table (header_of d.table) (entry_at d.table i) c.kind.result c.in_default.not-Struct c.in_default.not-Box v
           (viewing.lies d w i p lt c.kind.result c.kind.ensures.of v h).0;
     }
+
+pub returns-in-Struct-clause-of : goal.returns-in-Struct-clause-of
+returns-in-Struct-clause-of c =
+    let d = c.args.self.decoded.now in
+    let ds = declarations_of d.table in
+    ap (λ (t : Term). fields_of (struct_of ds t)) (viewing.own_type d c.kind.ensures.well_formed c.args.self.index c.args.self.place c.args.self.in_range Struct c.in-Struct.ensures.of)
+
+pub returns-else-bytes-self-eq0-clause-of : goal.returns-else-bytes-self-eq0-clause-of
+returns-else-bytes-self-eq0-clause-of c =
+    let d = c.args.self.decoded.now in
+    let i = c.args.self.index in
+    let p = c.args.self.place in
+    let lt = c.args.self.in_range in
+    let w = c.kind.ensures.well_formed in
+    let is = c.in-Box.ensures.of in
+    let ds = declarations_of d.table in
+    let b = places.box_struct d w i p lt is in
+    let f = (entry_at d.table i).first in
+    let begun : c.entry.result.first ≡ f = ap (λ (e : Entry). e.first) (c.entry.ensures.value ∙ ap (λ (b : List ℕ). entry_at b i) c.table.ensures) in
+    ap (λ (t : Term). fields_of (struct_of ds t)) (viewing.own_type d w i p lt Box is) ∙ ap fields_of (viewing.own_type d w f p b.0 Struct b.1) ∙ ap (λ k. fields_at d k) (sym begun)

@@ -5,7 +5,7 @@ use Rattle.std.proofs.Math.Bridge.{le_prop}
 use Rattle.fidl_wire.specs.Encoding.{zeros}
 use Rattle.fidl_wire.specs.Standing.{Stands}
 use Rattle.fidl_table_format.specs.declared.kind.EntryKind.TheVariants.{Table}
-use Rattle.fidl_table_format.specs.Field.{number_at}
+use Rattle.fidl_wire.specs.Field.{number_at}
 use Rattle.fidl_table_format.specs.WellFormed.{WellFormed}
 use Rattle.fidl_view.specs.Members.{ShowMember}
 use Rattle.fidl_view.proofs.Content.{nonzero}
@@ -148,6 +148,7 @@ returns c =
     (keyed.some_bytes c.bytes-bytes.result.now (c.object_at-first.result + 8 * (c.args.ordinal - 1)) c.presence_at.result c.presence_at.ensures c.in_default.not-Absent)) in
     record {
       message = refl;
+      typed = refl;
       held = λ v h. let x = keyed.held_there d w i p lt v (keyed.table_shown d w i p lt is v h) c.args.ordinal some le other in
           (x.0, x.1, subst (λ k. ShowMember d i c.args.ordinal (k + 8 * (c.args.ordinal - 1)) x.0) (sym start) x.2);
     }

@@ -3,7 +3,7 @@ use Rattle.std.specs.Int.{w64}
 use Rattle.std.specs.Prelude.{Some}
 use Rattle.std.proofs.Math.Logic.{∥∥₁_map}
 use Rattle.fidl_table_format.specs.declared.kind.EntryKind.TheVariants.{Union}
-use Rattle.fidl_table_format.specs.Field.{number_at}
+use Rattle.fidl_wire.specs.Field.{number_at}
 use Rattle.fidl_table_format.specs.WellFormed.{WellFormed}
 use Rattle.fidl_view.specs.Members.{ShowMember}
 use Rattle.fidl_view.specs.Parts.{variant_of}

@@ -1,3 +1,5 @@
+use Rattle.std.proofs.lemmas.Option.{IfSome_then}
+use Rattle.std.proofs.Common.{◌∙◌}
 use Rattle.fidl_table_format.specs.Section.{header_of, entry_at}
 use Rattle.fidl_table_format.specs.Terms.{declarations_of}
 use Rattle.fidl_view.proofs.Viewing as viewing
@@ -16,4 +18,7 @@ returns-in_default c =
     let p = c.args.self.place in
     let lt = c.args.self.in_range in
     let w = c.kind.ensures.well_formed in
-    record { message = tt; part = λ v h. keyed.no_variant (declarations_of d.table) d.table (header_of d.table) (entry_at d.table i) c.kind.result c.in_default.not-Union v (viewing.lies d w i p lt c.kind.result c.kind.ensures.of v h).0 }
+    record { message = tt; typed = tt; part = λ v h. keyed.no_variant (declarations_of d.table) d.table (header_of d.table) (entry_at d.table i) c.kind.result c.in_default.not-Union v (viewing.lies d w i p lt c.kind.result c.kind.ensures.of v h).0 }
+
+pub returns-in-Some-clause-typed : goal.returns-in-Some-clause-typed
+returns-in-Some-clause-typed c = IfSome_then c.known.result c.known.ensures.typed (λ part e. e ∙ c.in-Some.ensures.typed)
