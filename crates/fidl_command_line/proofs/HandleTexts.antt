@@ -1,26 +1,21 @@
 -- The texts of handles, read one after another.
-use Rattle.std.proofs.Common.{◌≡◌, ℕ, ◌+◌, ◌<◌, List, [], ◌∷◌, ◌++◌, length, get_or, take, map, Bor, sym, ap, subst, ◌∙◌, inl, inr, arith}
+use Rattle.std.proofs.Common.{◌≡◌, ℕ, ◌+◌, ◌<◌, List, [], ◌∷◌, ◌++◌, length, get_or, take, map, Bor, sym, ap, subst, ◌∙◌, arith}
 use Rattle.std.specs.List.{AllZip}
-use Rattle.std.specs.Prelude.{Option, Some, None, IfSome, IfNone, is_some, true, false}
-use Rattle.std.proofs.lemmas.List.{take_more, map-append, get_or-map, length-map}
-use Rattle.std.proofs.lemmas.Bool.{cases_lt}
+use Rattle.std.specs.Prelude.{Some}
+use Rattle.std.proofs.lemmas.List.{take_more, map-append, get_or-map, length-map, length-take-le}
 use Rattle.std.proofs.lemmas.Option.{slice_get-get_or}
 use Rattle.fidl_wire.specs.declared.handle.HandleInfo.{HandleInfo}
-use Rattle.fidl_command_line.specs.Handles.{IsHandleText, HasNoHandleText}
+use Rattle.std.proofs.lemmas.Slice.Zip.{AllZip-long}
+use Rattle.fidl_command_line.specs.declared.unread.Unread.{Unread}
+use Rattle.fidl_command_line.specs.declared.unread.Unread.TheVariants as unread
+use Rattle.fidl_command_line.specs.Handles.{IsHandleText}
+use Rattle.fidl_command_line.specs.Arguments.{IsHandleRefusal, AreNoHandles}
 
 zip_push : {A B : Type 0} (C : A → B → Type 0) (xs : List A) (ys : List B) (x : A) (y : B) → AllZip C xs ys → C x y → AllZip C (xs ++ x ∷ []) (ys ++ y ∷ [])
 zip_push C [] [] x y h c = (c, tt)
 zip_push C [] (b ∷ ys) x y h c = absurd h
 zip_push C (a ∷ xs) [] x y h c = absurd h
 zip_push C (a ∷ xs) (b ∷ ys) x y h c = (h.0, zip_push C xs ys x y h.1 c)
-
-pub none_given : {A : Type 0} {P : Type 0} (r : Option A) → is_some r ≡ false → IfNone r P → P
-none_given None e h = h
-none_given (Some x) e h = cc
-
-pub some_given : {A : Type 0} {P : A → Type 0} (r : Option A) → is_some r ≡ true → IfSome r P → (x : A) × P x
-some_given None e h = cc
-some_given (Some x) e h = (x, h)
 
 abbrev now : Bor (List ℕ) → List ℕ
 now text = text.now
@@ -34,14 +29,31 @@ module _ (texts : List (Bor (List ℕ))) (at : ℕ) (d : Bor (List ℕ)) (lt : a
       subst (AllZip IsHandleText (map now (take (at + 1) texts))) (sym e)
       (subst (λ (l : List (List ℕ)). AllZip IsHandleText l (old ++ h ∷ [])) (sym grown) (zip_push IsHandleText (map now (take at texts)) old (get_or texts at d).now h so one))
 
-  -- one text is no handle's
-  pub no_handle : ((h : HandleInfo) → ¬ IsHandleText (get_or texts at d).now h) → HasNoHandleText (map now texts)
-  no_handle none = (at, (get_or texts at d).now, slice_get-get_or (map now texts) at [] (subst (λ n. at < n) (sym (length-map texts now)) lt) ∙ ap Some (get_or-map now texts at d [] lt), none)
+  -- as many handles as texts so far
+  so_many : (old : List HandleInfo) → AllZip IsHandleText (map now (take at texts)) old → length old ≡ at
+  so_many old so =
+      let zipped = AllZip-long IsHandleText (map now (take at texts)) old so in
+      let mapped = length-map (take at texts) now in
+      let taken : length (take at texts) ≡ at = length-take-le at texts (omega (arith, lt)) in
+      zipped ∙ mapped ∙ taken
 
-  -- one text more is that of a handle
-  pub one_handle : (h : HandleInfo) → IsHandleText (get_or texts at d).now h → ((k : ℕ) (e : List ℕ) → k < at → (h : HandleInfo) × IsHandleText (get_or (map now texts) k e) h)
-      → (k : ℕ) (e : List ℕ) → k < at + 1 → (h : HandleInfo) × IsHandleText (get_or (map now texts) k e) h
-  one_handle h one so k e less = elim (cases_lt k at) [
-    | inl l ↦ so k e l
-    | inr ge ↦ let same : k ≡ at = omega arith in (h, subst (λ (t : List ℕ). IsHandleText t h) (sym (ap (λ j. get_or (map now texts) j e) same ∙ get_or-map now texts at d e lt)) one)
-  ]
+  -- the next text is no handle's
+  pub refused_handle : (old : List HandleInfo) (u : Unread) (number : ℕ) → AllZip IsHandleText (map now (take at texts)) old → ((h : HandleInfo) → ¬ IsHandleText (get_or texts at d).now h)
+      → number ≡ length old + 1 → IsHandleRefusal number u → AreNoHandles (map now texts) u
+  refused_handle old u number so none e h = refusal u (subst (λ n. IsHandleRefusal n u) (e ∙ ap (λ n. n + 1) (so_many old so)) h)
+    where
+      refusal : (u : Unread) → IsHandleRefusal (at + 1) u → AreNoHandles (map now texts) u
+      refusal (unread.BadHandle line) h = record {
+        at = at;
+        text = (get_or texts at d).now;
+        given = slice_get-get_or (map now texts) at [] (subst (λ n. at < n) (sym (length-map texts now)) lt) ∙ ap Some (get_or-map now texts at d [] lt);
+        no_handle = none;
+        line_is = h;
+      }
+      refusal unread.Memory h = tt
+      refusal (unread.Asked text) h = absurd h
+      refusal (unread.Wrong line) h = absurd h
+      refusal unread.NotText h = absurd h
+      refusal unread.Missing h = absurd h
+      refusal unread.BadHex h = absurd h
+      refusal unread.OutIsSource h = absurd h

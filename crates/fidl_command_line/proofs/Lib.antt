@@ -1,5 +1,5 @@
-mod Among
 mod Commands
 mod HandleText
 mod HandleTexts
 mod HexText
+mod Paths

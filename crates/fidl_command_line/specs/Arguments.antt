@@ -1,8 +1,10 @@
 -- What the words of a command line give, and why they give no arguments (docs/program.md,
 -- "Statuses").
-use Rattle.std.specs.Prelude.{◌≡◌, ◌≢◌, ◌⊎◌, ⊤, ℕ, List, [], codes, Some, None, Ok, IsErr}
-use Rattle.std.specs.Prelude.{false, unwrap_or, map}
-use Rattle.std.specs.List.{All, AllZip, Contains}
+use Rattle.std.specs.Prelude.{◌≡◌, ◌≢◌, ◌⊎◌, ⊤, ℕ, ◌+◌, List, [], codes, Some, None, Ok, IsErr}
+use Rattle.std.specs.Prelude.{Bool, true, false, unwrap_or, map, slice_get, string_bytes}
+use Rattle.std.specs.List.{AllZip, list_any}
+use Rattle.std.specs.Ordering.{is_eq}
+use Rattle.std.specs.Path.{path_cmp, path_join, cur_dir}
 use Rattle.clap.specs.Words.{Row, Text, takes, first_of}
 use Rattle.clap.specs.Walk.{all_of}
 use Rattle.clap.specs.declared.error.kind.ErrorKind.{ErrorKind}
@@ -19,16 +21,38 @@ use Rattle.fidl_command_line.specs.declared.arguments.Arguments.{Arguments}
 use Rattle.fidl_command_line.specs.declared.arguments.Arguments.TheVariants.{Compile, Decode, Table}
 use Rattle.fidl_wire.specs.declared.handle.HandleInfo.{HandleInfo}
 use Rattle.fidl_command_line.specs.CommandLine.{program, GivesCompile, GivesDecode, GivesTable}
-use Rattle.fidl_command_line.specs.Handles.{IsHandleText, HasNoHandleText}
+use Rattle.fidl_command_line.specs.Handles.{IsHandleText}
+use Rattle.fidl_command_line.specs.Complaints.{handle_line}
 
 -- an argument is not read: it is wrong and told so, or it is right and memory ran out
 abbrev pub IsTold : (told_wrong : Unread) (IsWrong IsRight : Type 0) → Unread → Type 0
 IsTold told_wrong IsWrong IsRight told = ((told ≡ told_wrong) × IsWrong)
     ⊎ ((told ≡ Memory) × IsRight)
 
--- each text is that of a handle
-abbrev pub AreHandleTexts : List (List ℕ) → Type 0
-AreHandleTexts texts = All (λ text. (h : HandleInfo) × IsHandleText text h) texts
+-- one of the texts is not that of a handle, and the line names it by its number
+pub record NamesHandle (texts : List (List ℕ)) (line : List ℕ) : Type 0 where
+  pub at : ℕ
+  pub text : List ℕ
+  pub given : slice_get texts at ≡ Some text
+  pub no_handle : (h : HandleInfo) → ¬ IsHandleText text h
+  pub line_is : line ≡ handle_line (at + 1)
+
+-- the refusal of the handle of this number
+abbrev pub IsHandleRefusal : (number : ℕ) → Unread → Type 0
+IsHandleRefusal number (BadHandle line) = string_bytes line ≡ handle_line number
+IsHandleRefusal number Memory = ⊤
+IsHandleRefusal number _ = ⊥
+
+-- why texts are not those of handles
+abbrev pub AreNoHandles : (texts : List (List ℕ)) → Unread → Type 0
+AreNoHandles texts (BadHandle line) = NamesHandle texts (string_bytes line)
+AreNoHandles texts Memory = ⊤
+AreNoHandles texts _ = ⊥
+
+-- two names are those of one path: their steps from the working directory on are the same, but for
+-- empty ones and `.`
+abbrev pub is_one_path : (one other : List ℕ) → Bool
+is_one_path one other = is_eq (path_cmp (path_join cur_dir one) (path_join cur_dir other))
 
 -- the texts of the handles among the values of the arguments
 abbrev pub handle_texts : List Row → List (List ℕ)
@@ -49,24 +73,25 @@ IsNoDecode rows Missing = (first_of (codes "TABLE") rows ≡ None)
     ⊎ (first_of (codes "ROOT") rows ≡ None) ⊎ (first_of (codes "HEX") rows ≡ None)
 IsNoDecode rows BadHex = (hex : List ℕ) × (first_of (codes "HEX") rows ≡ Some hex)
     × IsErr (decode_of hex)
-IsNoDecode rows BadHandle = HasNoHandleText (handle_texts rows)
+IsNoDecode rows (BadHandle line) = AreNoHandles (handle_texts rows) (BadHandle line)
 IsNoDecode rows Memory = ⊤
 IsNoDecode rows _ = ⊥
 
--- the values of the arguments are these arguments of `compile`: the file to write is none of the
--- sources
+-- the values of the arguments are these arguments of `compile`: the file to write has the path of
+-- none of the sources
 pub record IsCompile (rows : List Row) (given : CompileArguments) : Type 0 where
   pub out : first_of (codes "out") rows ≡ Some given.out.now
   pub sources : all_of (codes "FILE") rows ≡ Some (map (λ name. name.now) given.sources.items)
-  pub apart : Contains (map (λ name. name.now) given.sources.items) given.out.now → ⊥
+  pub apart : list_any (is_one_path given.out.now) (map (λ name. name.now) given.sources.items)
+      ≡ false
 
--- the file to write is one of the sources
+-- the file to write has the path of one of the sources
 pub record WritesSource (rows : List Row) : Type 0 where
   pub file : List ℕ
   pub sources : List (List ℕ)
   pub out : first_of (codes "out") rows ≡ Some file
   pub given : all_of (codes "FILE") rows ≡ Some sources
-  pub among : Contains sources file
+  pub among : list_any (is_one_path file) sources ≡ true
 
 -- why the values of the arguments are no arguments of `compile`
 abbrev pub IsNoCompile : List Row → Unread → Type 0

@@ -1,5 +1,5 @@
 -- What is wrong with a command line, in one line (docs/program.md, "Statuses").
-use Rattle.std.specs.Prelude.{ℕ, List, [], codes, string_bytes}
+use Rattle.std.specs.Prelude.{ℕ, List, [], ◌++◌, codes, decimal, string_bytes}
 use Rattle.fidl_command_line.specs.declared.unread.Unread.{Unread}
 use Rattle.fidl_command_line.specs.declared.unread.Unread.TheVariants.{Asked, Wrong, NotText}
 use Rattle.fidl_command_line.specs.declared.unread.Unread.TheVariants.{Missing, BadHex, BadHandle}
@@ -8,6 +8,11 @@ use Rattle.fidl_command_line.specs.declared.unread.Unread.TheVariants.{OutIsSour
 -- memory ran out
 abbrev pub no_memory : List ℕ
 no_memory = codes "error: out of memory"
+
+-- the line for a handle that is wrong, by its number from 1
+abbrev pub handle_line : (number : ℕ) → List ℕ
+handle_line number = codes "error: --handle number " ++ decimal number
+    ++ codes ": three decimal numbers of 32 bits are wanted, as in 1:3:0"
 
 -- what is wrong; nothing where help or the version was asked for
 abbrev pub complaint_of : Unread → List ℕ
@@ -18,6 +23,5 @@ complaint_of Missing =
     codes "error: the arguments: compile --out OUT FILE.., decode TABLE ROOT HEX or table TABLE is wanted"
 complaint_of OutIsSource = codes "error: --out: a file that is none of the sources is wanted"
 complaint_of BadHex = codes "error: HEX: an even number of hexadecimal digits is wanted"
-complaint_of BadHandle =
-    codes "error: --handle: three decimal numbers of 32 bits are wanted, as in 1:3:0"
+complaint_of (BadHandle line) = string_bytes line
 complaint_of Memory = no_memory

@@ -1,5 +1,5 @@
 -- Handles as they are written on a command line (docs/program.md, "Handles").
-use Rattle.std.specs.Prelude.{◌≡◌, ℕ, ◌^◌, ◌<◌, List, ◌∷◌, ◌++◌, slice_get, Some}
+use Rattle.std.specs.Prelude.{◌≡◌, ℕ, ◌^◌, ◌<◌, List, ◌∷◌, ◌++◌}
 use Rattle.std.specs.Str.Parse.{IsNumeral, digits_value}
 use Rattle.fidl_wire.specs.declared.handle.HandleInfo.{HandleInfo}
 
@@ -18,8 +18,3 @@ pub record IsHandleText (text : List ℕ) (h : HandleInfo) : Type 0 where
   pub id : IsDecimal id_text h.id
   pub object_type : IsDecimal type_text h.object_type
   pub rights : IsDecimal rights_text h.rights
-
--- one of the texts is not that of a handle
-abbrev pub HasNoHandleText : List (List ℕ) → Type 0
-HasNoHandleText texts = (at : ℕ) × (text : List ℕ) × (slice_get texts at ≡ Some text)
-    × ((h : HandleInfo) → ¬ IsHandleText text h)

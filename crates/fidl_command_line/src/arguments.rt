@@ -1,13 +1,14 @@
 //! What a command line gives.
 ghost use Rattle.std.specs.Prelude.{◌≡◌, IsErr, IsOk, Ok, IfOk, IfErr, MatchBool};
 ghost use Rattle.std.specs.Prelude.{map, option_map, codes, Some, None};
-ghost use Rattle.std.specs.List.{AllZip, Contains, list_all};
+ghost use Rattle.std.specs.List.{AllZip, list_all, list_any};
+ghost use Rattle.std.specs.Path.{path_buf_bytes, path_join, cur_dir};
 ghost use Rattle.clap.specs.Words.{found_of, rows_of, first_of};
 ghost use Rattle.hex.specs.Hex.{decode_of, is_hex_digit};
-ghost use Rattle.fidl_command_line.specs.Handles.{IsHandleText, HasNoHandleText};
-ghost use Rattle.fidl_command_line.specs.Arguments.{IsTold, AreHandleTexts, IsDecode, IsNoDecode};
+ghost use Rattle.fidl_command_line.specs.Handles.{IsHandleText};
+ghost use Rattle.fidl_command_line.specs.Arguments.{IsTold, AreNoHandles, IsDecode, IsNoDecode};
 ghost use Rattle.fidl_command_line.specs.Arguments.{IsCompile, IsNoCompile, IsGiven, IsUngiven};
-ghost use Rattle.fidl_command_line.specs.Arguments.{handle_texts};
+ghost use Rattle.fidl_command_line.specs.Arguments.{handle_texts, is_one_path, IsHandleRefusal};
 ghost use Rattle.fidl_command_line.specs.declared.unread.Unread.TheVariants as unread;
 
 use crate::command_line::command_line;
@@ -16,8 +17,9 @@ use crate::unread::Unread;
 use clap::ArgMatches;
 use fidl_wire::HandleInfo;
 use hex::FromHexError;
-use std::alloc::Global;
+use std::alloc::{AllocError, Global};
 use std::convert::AsStr;
+use std::path::{Path, PathBuf};
 
 /// What `fidl decode` is given: the table's file, the root's name, and a message.
 #[derive(Drop)]
@@ -76,38 +78,31 @@ fn read_bytes(alloc: Global, text: &str) -> Result<Vec<u8>, Unread>
     }
 }
 
-/// Whether each text is that of a handle.
-fn are_handles(texts: &[&str]) -> bool
-    ensures { MatchBool result (AreHandleTexts (map (λ text. text.now) texts.now))
-        (HasNoHandleText (map (λ text. text.now) texts.now)) }
+/// The refusal of the handle of this number, from 1.
+fn bad_handle(alloc: Global, number: usize) -> Unread
+    ensures { IsHandleRefusal number result }
 {
-    for text in texts {
-        if read_handle(*text).is_none() {
-            return false;
-        }
+    match format!(in alloc;
+        "error: --handle number {number}: three decimal numbers of 32 bits are wanted, as in 1:3:0"
+    ) {
+        Ok(line) => Unread::BadHandle { line },
+        Err(_) => Unread::Memory,
     }
-    true
 }
 
 /// The handles of a message, from their texts.
 fn read_handles(alloc: Global, texts: &[&str]) -> Result<Vec<HandleInfo>, Unread>
     ensures ok { IfOk result (λ handles.
         AllZip IsHandleText (map (λ text. text.now) texts.now) handles.items) }
-    ensures fault_is_true { IfErr result (IsTold unread.BadHandle
-        (HasNoHandleText (map (λ text. text.now) texts.now))
-        (AreHandleTexts (map (λ text. text.now) texts.now))) }
+    ensures fault_is_true { IfErr result (AreNoHandles (map (λ text. text.now) texts.now)) }
 {
     let mut handles = Vec::new(alloc);
     for text in texts {
         let Some(handle) = read_handle(*text) else {
-            return Err(Unread::BadHandle);
+            return Err(bad_handle(alloc, handles.len() + 1));
         };
         if handles.push(handle).is_err() {
-            return Err(if are_handles(texts) {
-                Unread::Memory
-            } else {
-                Unread::BadHandle
-            });
+            return Err(Unread::Memory);
         }
     }
     Ok(handles)
@@ -124,9 +119,8 @@ fn value_of<'a>(matches: &ArgMatches<'a>, id: &str) -> Option<&'a str>
 fn given_handles(alloc: Global, matches: &ArgMatches<'_>) -> Result<Vec<HandleInfo>, Unread>
     ensures ok { IfOk result (λ handles.
         AllZip IsHandleText (handle_texts (rows_of (found_of matches.now))) handles.items) }
-    ensures fault_is_true { IfErr result (IsTold unread.BadHandle
-        (HasNoHandleText (handle_texts (rows_of (found_of matches.now))))
-        (AreHandleTexts (handle_texts (rows_of (found_of matches.now))))) }
+    ensures fault_is_true { IfErr result
+        (AreNoHandles (handle_texts (rows_of (found_of matches.now)))) }
 {
     match matches.get_strs("handle") {
         Some(texts) => read_handles(alloc, texts),
@@ -156,17 +150,26 @@ fn read_decode<'a>(alloc: Global, matches: &ArgMatches<'a>) -> Result<DecodeArgu
     })
 }
 
-/// Whether a name is among these.
-fn is_among(name: &str, names: &[&str]) -> bool
-    ensures { MatchBool result (Contains (map (λ n. n.now) names.now) name.now)
-        (Contains (map (λ n. n.now) names.now) name.now → ⊥) }
+/// A name as a path from the working directory on.
+fn from_here(alloc: Global, name: &str) -> Result<PathBuf, AllocError>
+    ensures { IfOk result (λ path. path_buf_bytes path ≡ path_join cur_dir name.now) }
 {
+    Path::new(".").join(alloc, name)
+}
+
+/// Whether one of these names has the path of a name. Links are not followed, and `..` is not
+/// resolved.
+fn is_among(alloc: Global, name: &str, names: &[&str]) -> Result<bool, AllocError>
+    ensures { IfOk result (λ among.
+        among ≡ list_any (is_one_path name.now) (map (λ n. n.now) names.now)) }
+{
+    let path = from_here(alloc, name)?;
     for other in names {
-        if *other == name {
-            return true;
+        if path == from_here(alloc, *other)? {
+            return Ok(true);
         }
     }
-    false
+    Ok(false)
 }
 
 /// What `fidl compile` was given.
@@ -180,7 +183,8 @@ fn read_compile<'a>(alloc: Global, matches: &ArgMatches<'a>) -> Result<CompileAr
     let Some(names) = matches.get_strs("FILE") else {
         return Err(Unread::Missing);
     };
-    if is_among(out, names) {
+    let is_source = is_among(alloc, out, names)?;
+    if is_source {
         return Err(Unread::OutIsSource);
     }
     let sources = Vec::from_slice(alloc, names)?;

@@ -21,8 +21,9 @@ pub enum Unread {
     Missing,
     /// HEX is not an even number of hexadecimal digits.
     BadHex,
-    /// A handle is not three decimal numbers of 32 bits.
-    BadHandle,
+    /// A handle is not three decimal numbers of 32 bits, as the line says; it names the handle by its
+    /// number, from 1, among those that are given.
+    BadHandle { line: String },
     /// The file to write the table to is one of the sources.
     OutIsSource,
     /// Memory ran out.
@@ -77,16 +78,13 @@ impl Unread {
     {
         match self {
             Unread::Asked { .. } => "",
-            Unread::Wrong { line } => line.as_str(),
+            Unread::Wrong { line } | Unread::BadHandle { line } => line.as_str(),
             Unread::NotText => "error: the arguments: UTF-8 is wanted",
             Unread::Missing => {
                 "error: the arguments: compile --out OUT FILE.., decode TABLE ROOT HEX or table TABLE is wanted"
             }
             Unread::OutIsSource => "error: --out: a file that is none of the sources is wanted",
             Unread::BadHex => "error: HEX: an even number of hexadecimal digits is wanted",
-            Unread::BadHandle => {
-                "error: --handle: three decimal numbers of 32 bits are wanted, as in 1:3:0"
-            }
             Unread::Memory => "error: out of memory",
         }
     }

@@ -46,6 +46,10 @@ const BAD: &[u8] = b"library point;\ntype Point = struct {x Int;};";
 fn disk(alloc: Global) -> Result<Store, Fail> {
     let mut files = Vec::new(alloc);
     files.push(Stored {
+        name: "bad\n.fidl",
+        bytes: Vec::from_slice(alloc, BAD)?,
+    })?;
+    files.push(Stored {
         name: "point.fidl",
         bytes: Vec::from_slice(alloc, POINT)?,
     })?;
@@ -126,6 +130,9 @@ fn a_refused_run_writes_nothing(rt: HostRuntime) -> Result<(), Fail> {
         1,
         bad,
     )?;
+    let quoted = "\"bad\\n.fidl\":2:24: names 3 UnknownName\n";
+    let words = ["fidl", "compile", "--out", "o", "bad\n.fidl"];
+    refused(&rt, alloc, &words, 1, quoted)?;
     let twice = "point.fidl:1:21: names 1 DuplicateName\n";
     let words = ["fidl", "compile", "--out=o", "point.fidl", "point.fidl"];
     refused(&rt, alloc, &words, 1, twice)?;
@@ -150,6 +157,11 @@ fn a_wrong_command_line_reads_nothing(rt: HostRuntime) -> Result<(), Fail> {
         "--out",
         "point.fidl",
     ];
+    refused(&rt, alloc, &words, 2, same)?;
+    // The same path by another name.
+    let words = ["fidl", "compile", "--out", "./point.fidl", "point.fidl"];
+    refused(&rt, alloc, &words, 2, same)?;
+    let words = ["fidl", "compile", "--out", "a/b", ".//a/./b"];
     refused(&rt, alloc, &words, 2, same)
 }
 
@@ -168,6 +180,7 @@ fn a_file_that_cannot_be_written(rt: HostRuntime) -> Result<(), Fail> {
         ran.errors.as_slice(),
         b"error: \"o\": no storage space\n".as_slice()
     );
+    assert_eq!(rt; ran.out.as_slice(), b"".as_slice());
     assert_eq!(rt; ran.disk.written, None);
     Ok(())
 }

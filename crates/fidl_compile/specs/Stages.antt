@@ -22,9 +22,11 @@ use Rattle.fidl_const.specs.Evaluated.{Evaluates, IsTrueOfEvaluating}
 use Rattle.fidl_types.specs.declared.fault.TypeFault.{TypeFault}
 use Rattle.fidl_types.specs.declared.fault.TypeFault.TheVariants as types
 use Rattle.fidl_types.specs.Faults.{IsTrueOfTypes}
+use Rattle.fidl_types.specs.Types.{TypesAre}
 use Rattle.fidl_layout.specs.declared.fault.LayoutFault.{LayoutFault}
 use Rattle.fidl_layout.specs.declared.fault.LayoutFault.TheVariants as layout
 use Rattle.fidl_layout.specs.Faults.{IsTrueOfLayout}
+use Rattle.fidl_layout.specs.Laid.{AreLaidOut}
 use Rattle.fidl_protocol.specs.declared.fault.ProtocolFault.{ProtocolFault}
 use Rattle.fidl_protocol.specs.declared.fault.ProtocolFault.TheVariants as protocol
 use Rattle.fidl_protocol.specs.Faults.{IsTrueOfProtocols}
@@ -32,6 +34,8 @@ use Rattle.fidl_compile.specs.declared.fault.CompileFault.{CompileFault}
 use Rattle.fidl_compile.specs.declared.fault.CompileFault.TheVariants.{Lex, Parse, Names, Const}
 use Rattle.fidl_compile.specs.declared.fault.CompileFault.TheVariants.{Types, Layout, Protocol}
 use Rattle.fidl_compile.specs.declared.fault.CompileFault.TheVariants.{Memory}
+use Rattle.fidl_wire.specs.Term.{Term}
+use Rattle.fidl_wire.specs.Figure.{Declarations}
 use Rattle.fidl_compile.specs.Sources.{ReadAs}
 
 -- the fault of compiling that a stage's fault is
@@ -105,17 +109,35 @@ AddingRefused files (Names fault) = IsRefusedBehind files fault
 AddingRefused files Memory = ⊤
 AddingRefused files _ = ⊥
 
--- files of which no name is declared twice are refused by a stage, and by none before it
+-- files keep the rules of names and of constants
+pub record HaveValues (files : List File) : Type 0 where
+  pub resolved : Resolves files
+  pub evaluated : Evaluates files
+
+-- and those of types
+pub record HaveTypes (files : List File) : Type 0 where
+  pub before : HaveValues files
+  pub definitions : List Term
+  pub checked : TypesAre files definitions
+
+-- and the limits
+pub record HaveLayouts (files : List File) : Type 0 where
+  pub before : HaveTypes files
+  pub declarations : Declarations
+  pub laid_out : AreLaidOut files declarations
+
+-- files of which no name is declared twice are refused by a stage, and keep the rules of all stages
+-- before it
 abbrev pub FilesRefused : List File → CompileFault → Type 0
 FilesRefused files (Names fault) = (fault ≢ names.Memory) × IsTrueOfResolving files fault
 FilesRefused files (Const fault) =
     (fault ≢ const.Memory) × Resolves files × IsTrueOfEvaluating files fault
 FilesRefused files (Types fault) =
-    (fault ≢ types.Memory) × Evaluates files × IsTrueOfTypes files fault
+    (fault ≢ types.Memory) × HaveValues files × IsTrueOfTypes files fault
 FilesRefused files (Layout fault) =
-    (fault ≢ layout.Memory) × Evaluates files × IsTrueOfLayout files fault
+    (fault ≢ layout.Memory) × HaveTypes files × IsTrueOfLayout files fault
 FilesRefused files (Protocol fault) =
-    (fault ≢ protocol.Memory) × Evaluates files × IsTrueOfProtocols files fault
+    (fault ≢ protocol.Memory) × HaveLayouts files × IsTrueOfProtocols files fault
 FilesRefused files Memory = ⊤
 FilesRefused files _ = ⊥
 

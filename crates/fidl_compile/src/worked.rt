@@ -15,7 +15,16 @@ ghost use Rattle.fidl_names.specs.declared.fault.NameFault.{NameFault};
 ghost use Rattle.fidl_names.specs.declared.fault.NameFault.TheVariants as Names;
 ghost use Rattle.fidl_const.specs.declared.fault.ConstFault.{ConstFault};
 ghost use Rattle.fidl_const.specs.declared.fault.ConstFault.TheVariants as Const;
+ghost use Rattle.fidl_const.specs.Evaluated.{Evaluates};
+ghost use Rattle.fidl_names.specs.Resolved.{Resolves};
+ghost use Rattle.fidl_wire.specs.Term.{Term};
+ghost use Rattle.fidl_wire.specs.Figure.{Declarations};
+ghost use Rattle.fidl_types.specs.Types.{TypesAre};
+ghost use Rattle.fidl_types.specs.declared.fault.TypeFault.{TypeFault};
 ghost use Rattle.fidl_types.specs.declared.fault.TypeFault.TheVariants as Types;
+ghost use Rattle.fidl_layout.specs.Laid.{AreLaidOut};
+ghost use Rattle.fidl_layout.specs.declared.fault.LayoutFault.{LayoutFault};
+ghost use Rattle.fidl_protocol.specs.declared.fault.ProtocolFault.{ProtocolFault};
 ghost use Rattle.fidl_layout.specs.declared.fault.LayoutFault.TheVariants as Layout;
 ghost use Rattle.fidl_protocol.specs.declared.fault.ProtocolFault.TheVariants as Protocol;
 ghost use Rattle.fidl_compile.specs.declared.fault.CompileFault.{CompileFault};
@@ -38,7 +47,7 @@ pub fn sources_and_trees()
 {}
 
 /// A source is refused by its own words or tree, and under its own number; files by the stages that
-/// judge files. Memory that ran out is no stage's fault, and says nothing.
+/// judge files, and by each only where they keep the rules of those before it. Memory that ran out is no stage's fault, and says nothing.
 pub fn stages_of_refusals()
     ensures number { (src : List ℕ) (fault : LexFault)
         → SourceRefused src 0 (Faults.Lex 1 fault) → ⊥ }
@@ -56,6 +65,14 @@ pub fn stages_of_refusals()
     ensures lex_memory { SourceRefused [] 0 (Faults.Lex 0 Lex.Memory) → ⊥ }
     ensures const_memory { (files : List File)
         → FilesRefused files (Faults.Const Const.Memory) → ⊥ }
+    ensures before_types { (files : List File) (fault : TypeFault)
+        → FilesRefused files (Faults.Types fault) → Resolves files × Evaluates files }
+    ensures before_layout { (files : List File) (fault : LayoutFault)
+        → FilesRefused files (Faults.Layout fault)
+        → Resolves files × Evaluates files × ((ts : List Term) × TypesAre files ts) }
+    ensures before_protocols { (files : List File) (fault : ProtocolFault)
+        → FilesRefused files (Faults.Protocol fault)
+        → Resolves files × Evaluates files × ((ds : Declarations) × AreLaidOut files ds) }
     ensures memory { (sources : List (List ℕ)) → AreRefused sources Faults.Memory }
     ensures made { (of_lex 3 Lex.Memory ≡ Faults.Memory) × (of_names Names.Memory ≡ Faults.Memory) }
 {}

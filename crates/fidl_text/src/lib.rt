@@ -17,5 +17,5 @@ pub mod worked;
 pub use crate::listing::write_records;
 pub use crate::message::write_message;
 pub use crate::output::{Failed, Output};
-pub use crate::quoted::write_decimal;
+pub use crate::quoted::{write_decimal, write_quoted};
 pub use crate::words::{Word, write_words};

@@ -49,8 +49,8 @@ fn write_quoted_byte<W: Write>(byte: u8, out: &mut Output<W>) -> Result<(), Fail
     }
 }
 
-/// Writes a text between quotes.
-pub(crate) fn write_quoted<W: Write>(text: &[u8], out: &mut Output<W>) -> Result<(), Failed>
+/// Writes a text between quotes, with escapes for quotes, backslashes and control characters.
+pub fn write_quoted<W: Write>(text: &[u8], out: &mut Output<W>) -> Result<(), Failed>
     ensures text { Writes (W.contents out.old.writer) (W.contents out.new.writer)
         (codes "\"" ++ flat_map quoted_byte text.now ++ codes "\"") result }
     ensures kept { OnOk result (out.new.failure ≡ out.old.failure) }

@@ -16,7 +16,7 @@ use Rattle.fidl_tool.specs.declared.outcome.Outcome.TheVariants.{Done, Unwritten
 use Rattle.fidl_command_line.specs.declared.unread.Unread.{Unread}
 use Rattle.fidl_command_line.specs.declared.unread.Unread.TheVariants as unread
 use Rattle.fidl_command_line.specs.Complaints.{complaint_of}
-use Rattle.fidl_tool.specs.Reasons.{line_of}
+use Rattle.fidl_tool.specs.Reasons.{line_of, outcome_of}
 use Rattle.fidl_tool.specs.Decoding.{IsRootOf, LacksRoot, IsRefusal, of_table}
 use Rattle.fidl_tool.specs.Listing.{IsTableRefusal, of_fault}
 use Rattle.fidl_tool.specs.Outputs.{ReportsFailures}
@@ -86,12 +86,16 @@ pub at_ok : {T E P : Type 0} (r : Result T E) → P → OnOk r P
 at_ok (Ok x) h = h
 at_ok (Err x) h = tt
 
--- nothing failed up to a call that reports its own failure alone
-pub then_told : {F G : Type 0} (told : Outcome) (old_out out : Option F) (old_errors errors last : Option G) → ReportsFailures Done old_out out old_errors errors
-    → (errors ≡ None → (told ≡ Unwritten ↔ IsSome last)) → ReportsFailures told old_out out old_errors last
-then_told told a (Some x) b m last h t p q = let never : Done ≡ Unwritten = (h p q).1 (inl refl) in cc
-then_told told a None b (Some y) last h t p q = let never : Done ≡ Unwritten = (h p q).1 (inr refl) in cc
-then_told told a None b None last h t p q = let k = t refl in (λ u. inr (k.0 u), λ some. elim some [ inl none ↦ cc | inr failed ↦ k.1 failed ])
+-- no reason for which there are no arguments is a failed write
+pub never_unwritten : (u : Unread) → outcome_of u ≡ Unwritten → ⊥
+never_unwritten (unread.Asked text) e = cc
+never_unwritten (unread.Wrong line) e = cc
+never_unwritten unread.NotText e = cc
+never_unwritten unread.Missing e = cc
+never_unwritten unread.BadHex e = cc
+never_unwritten (unread.BadHandle line) e = cc
+never_unwritten unread.OutIsSource e = cc
+never_unwritten unread.Memory e = cc
 
 -- all but a request for help has a line
 pub line_otherwise : (u : Unread) → ((text : _) → u ≡ unread.Asked text → ⊥) → line_of u ≡ complaint_of u ++ codes "\n"
@@ -100,6 +104,6 @@ line_otherwise (unread.Wrong line) other = refl
 line_otherwise unread.NotText other = refl
 line_otherwise unread.Missing other = refl
 line_otherwise unread.BadHex other = refl
-line_otherwise unread.BadHandle other = refl
+line_otherwise (unread.BadHandle line) other = refl
 line_otherwise unread.OutIsSource other = refl
 line_otherwise unread.Memory other = refl

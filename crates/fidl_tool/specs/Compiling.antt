@@ -1,15 +1,14 @@
 -- What the command `compile` answers (docs/program.md, "compile").
 use Rattle.std.specs.Prelude.{ℕ, ◌≡◌, ⊤, List, [], ◌∷◌, ◌++◌, Some, map, length, slice_get, codes}
-use Rattle.std.specs.Prelude.{decimal, Result, Ok, Err}
+use Rattle.std.specs.Prelude.{Bool, not, ◌&&◌, ◌==◌, nat_le, if◌then◌else◌, flat_map, decimal}
+use Rattle.std.specs.List.{list_all}
+use Rattle.fidl_wire.specs.Text.{quoted_byte}
 use Rattle.std.specs.Option.{option_map_or}
-use Rattle.std.specs.Global.{Vec}
 use Rattle.fidl_span.specs.Lines.{line_of, column_of}
 use Rattle.fidl_names.specs.declared.place.Place.{Place}
 use Rattle.fidl_table_format.specs.declared.record.Header.{Header}
 use Rattle.fidl_table_format.specs.Section.{header_of}
-use Rattle.fidl_table_format.specs.WellFormed.{WellFormed}
 use Rattle.fidl_compile.specs.declared.fault.CompileFault.{CompileFault}
-use Rattle.fidl_compile.specs.Sources.{IsTableOf}
 use Rattle.fidl_compile.specs.Stages.{AreRefused}
 use Rattle.fidl_compile.specs.Reports.{Report, report_of}
 use Rattle.fidl_tool.specs.declared.compiling.LinePlace.{LinePlace}
@@ -56,10 +55,19 @@ located_at files place =
 abbrev pub located : LinePlace → Located
 located place = record { file = place.file.now; line = place.line; column = place.column }
 
+-- a byte that is no control character
+abbrev pub is_plain_byte : ℕ → Bool
+is_plain_byte b = nat_le 32 b && not (b == 127)
+
+-- a file's name at the front of a line: between quotes where it has a control character
+abbrev pub shown_name : List ℕ → List ℕ
+shown_name name = if list_all is_plain_byte name then name
+    else codes "\"" ++ flat_map quoted_byte name ++ codes "\""
+
 -- the line of a refusal: FILE:LINE:COLUMN: STAGE NUMBER NAME
 abbrev pub report_line : Located → Report → List ℕ
 report_line at r =
-    at.file ++ codes ":" ++ decimal at.line ++ codes ":" ++ decimal at.column
+    shown_name at.file ++ codes ":" ++ decimal at.line ++ codes ":" ++ decimal at.column
     ++ words_line (codes ":") (r.stage ∷ decimal r.number ∷ r.name ∷ [])
 
 -- the lines that are true refusals of sources
@@ -80,11 +88,6 @@ summary_text h size =
 abbrev pub summary_line : (table : List ℕ) → List ℕ
 summary_line table = summary_text (header_of table) (length table)
 
--- that line of a table of sources
-pub data IsSummary (sources : List (List ℕ)) : List ℕ → Type 0 where
-  of_table : (table : List ℕ) → WellFormed table → IsTableOf sources table
-      → IsSummary sources (summary_line table)
-
 -- what can happen to `compile` where it gives no table
 abbrev pub CanEndCompile : Outcome → Type 0
 CanEndCompile Refused = ⊤
@@ -92,7 +95,8 @@ CanEndCompile Unwritten = ⊤
 CanEndCompile NoMemory = ⊤
 CanEndCompile _ = ⊥
 
--- what happened to `compile`
-abbrev pub outcome_of : Result (Vec ℕ) Outcome → Outcome
-outcome_of (Ok table) = Done
-outcome_of (Err ended) = ended
+-- what can happen where a line is printed
+abbrev pub CanEndPrinting : Outcome → Type 0
+CanEndPrinting Done = ⊤
+CanEndPrinting Unwritten = ⊤
+CanEndPrinting _ = ⊥

@@ -3,7 +3,8 @@ use Rattle.std.specs.Prelude.{◌≡◌, ◌⊎◌, ⊤, ℕ, List, Option, Some
 use Rattle.std.specs.List.{AllZip}
 use Rattle.std.specs.Io.KnownBytes.{Appends}
 use Rattle.fidl_command_line.specs.Arguments.{IsGiven, IsUngiven}
-use Rattle.fidl_tool.specs.Decoding.{IsText, IsRefusal, LacksRoot}
+use Rattle.fidl_text.specs.Outputs.{AppendsFront}
+use Rattle.fidl_tool.specs.Decoding.{IsText, IsRefusal, LacksRoot, no_root_line}
 use Rattle.fidl_tool.specs.Listing.{IsListing, IsTableRefusal}
 use Rattle.fidl_table_format.specs.WellFormed.{WellFormed}
 use Rattle.fidl_compile.specs.Sources.{IsTableOf}
@@ -61,19 +62,26 @@ OfSources bytes_of names Holds =
 abbrev pub sources_of : CompileArguments → List (List ℕ)
 sources_of given = map (λ name. name.now) given.sources.items
 
--- this is the table of the sources, and what it holds is printed
-pub record IsPrinted (files : List Named) (old new : Option (List ℕ)) (table : List ℕ) : Type 0
-  where
-    pub well_formed : WellFormed table
-    pub shows : IsTableOf (texts_of files) table
-    pub printed : Appends old new (summary_line table)
+-- this is the table of the sources
+pub record IsCompiled (files : List Named) (table : List ℕ) : Type 0 where
+  pub well_formed : WellFormed table
+  pub shows : IsTableOf (texts_of files) table
 
--- the sources are compiled: what their table holds is printed, and the table is written
+-- the sources are compiled: their table is written, and what it holds is printed
 pub record AreCompiled (given : CompileArguments) (files : List Named) (old new : Option (List ℕ))
     (before after : Option (List Named)) : Type 0 where
   pub table : List ℕ
-  pub compiled : IsPrinted files old new table
+  pub compiled : IsCompiled files table
   pub written : IsWritten before after given.out.now table
+  pub printed : Appends old new (summary_line table)
+
+-- their table is written, and a front of the line of what it holds is printed
+pub record ArePrintedInPart (given : CompileArguments) (files : List Named)
+    (old new : Option (List ℕ)) (before after : Option (List Named)) : Type 0 where
+  pub table : List ℕ
+  pub compiled : IsCompiled files table
+  pub written : IsWritten before after given.out.now table
+  pub front : AppendsFront old new (summary_line table)
 
 -- what the command of the arguments prints and writes where it is done
 abbrev pub IsDone : (bytes_of : List ℕ → Option (List ℕ)) → Arguments → (old new : Option (List ℕ))
@@ -85,6 +93,20 @@ IsDone bytes_of (Decode given) old new before after = OfTable bytes_of given.tab
 IsDone bytes_of (Table file) old new before after = OfTable bytes_of file.now
     (λ table. AppendsOne (IsListing table) old new)
 
+-- a front of one of these lines is printed
+abbrev pub PrintsFront : (List ℕ → Type 0) → (old new : Option (List ℕ)) → Type 0
+PrintsFront IsLine old new = (line : List ℕ) × IsLine line × AppendsFront old new line
+
+-- what it prints and writes where its output fails
+abbrev pub IsDoneInPart : (bytes_of : List ℕ → Option (List ℕ)) → Arguments
+    → (old new : Option (List ℕ)) → (before after : Option (List Named)) → Type 0
+IsDoneInPart bytes_of (Compile given) old new before after = OfSources bytes_of (sources_of given)
+    (λ files. ArePrintedInPart given files old new before after)
+IsDoneInPart bytes_of (Decode given) old new before after = OfTable bytes_of given.table.now
+    (λ table. PrintsFront (IsMessageText given table) old new)
+IsDoneInPart bytes_of (Table file) old new before after = OfTable bytes_of file.now
+    (λ table. PrintsFront (IsListing table) old new)
+
 -- the line by which it refuses sources, a table or a message
 abbrev pub IsRefused : (bytes_of : List ℕ → Option (List ℕ)) → Arguments → (old new : Option (List ℕ))
     → Type 0
@@ -95,39 +117,39 @@ IsRefused bytes_of (Decode given) old new = OfTable bytes_of given.table.now
 IsRefused bytes_of (Table file) old new = OfTable bytes_of file.now
     (λ table. AppendsOne (IsTableRefusal table) old new)
 
--- the sources have a table, which is printed and not written: the line for the file to write is
--- printed, and this is none that is known to be written
+-- the sources have a table, which is not written: the line for the file to write is printed, and
+-- this is none that is known to be written
 pub record LacksOut (bytes_of : List ℕ → Option (List ℕ)) (can_write : List ℕ → Bool)
-    (given : CompileArguments) (old_out new_out old new : Option (List ℕ)) : Type 0 where
+    (given : CompileArguments) (old new : Option (List ℕ)) : Type 0 where
   pub compiled : OfSources bytes_of (sources_of given)
-      (λ files. (table : List ℕ) × IsPrinted files old_out new_out table)
+      (λ files. (table : List ℕ) × IsCompiled files table)
   pub unwritten : can_write given.out.now ≡ false
   pub named : NamesFile given.out.now old new
 
 -- `compile` lacks a source, or the file to write
 abbrev pub LacksSourceOrOut : (bytes_of : List ℕ → Option (List ℕ)) → (can_write : List ℕ → Bool)
-    → CompileArguments → (old_out new_out old new : Option (List ℕ)) → Type 0
-LacksSourceOrOut bytes_of can_write given old_out new_out old new =
-    HasMissing bytes_of (sources_of given) old new
-    ⊎ LacksOut bytes_of can_write given old_out new_out old new
+    → CompileArguments → (old new : Option (List ℕ)) → Type 0
+LacksSourceOrOut bytes_of can_write given old new =
+    HasMissing bytes_of (sources_of given) old new ⊎ LacksOut bytes_of can_write given old new
 
 -- a file that the command reads is none whose bytes are known, or the file that it writes is none
 -- that is known to be written; the line for this file is printed on the errors
 abbrev pub LacksGivenFile : (bytes_of : List ℕ → Option (List ℕ)) → (can_write : List ℕ → Bool)
-    → Arguments → (old_out new_out old new : Option (List ℕ)) → Type 0
-LacksGivenFile bytes_of can_write (Compile given) old_out new_out old new =
-    LacksSourceOrOut bytes_of can_write given old_out new_out old new
-LacksGivenFile bytes_of can_write (Decode given) old_out new_out old new =
+    → Arguments → (old new : Option (List ℕ)) → Type 0
+LacksGivenFile bytes_of can_write (Compile given) old new =
+    LacksSourceOrOut bytes_of can_write given old new
+LacksGivenFile bytes_of can_write (Decode given) old new =
     IsMissing bytes_of given.table.now old new
-LacksGivenFile bytes_of can_write (Table file) old_out new_out old new =
-    IsMissing bytes_of file.now old new
+LacksGivenFile bytes_of can_write (Table file) old new = IsMissing bytes_of file.now old new
 
--- the arguments name a root that their table does not have
-abbrev pub LacksGivenRoot : (bytes_of : List ℕ → Option (List ℕ)) → Arguments → Type 0
-LacksGivenRoot bytes_of (Compile given) = ⊥
-LacksGivenRoot bytes_of (Decode given) =
+-- the arguments name a root that their table does not have, and the line for it is printed
+abbrev pub LacksGivenRoot : (bytes_of : List ℕ → Option (List ℕ)) → Arguments
+    → (old new : Option (List ℕ)) → Type 0
+LacksGivenRoot bytes_of (Compile given) old new = ⊥
+LacksGivenRoot bytes_of (Decode given) old new =
     OfTable bytes_of given.table.now (λ table. LacksRoot table given.root.now)
-LacksGivenRoot bytes_of (Table file) = ⊥
+    × IfSome (no_root_line given.table.now given.root.now) (Appends old new)
+LacksGivenRoot bytes_of (Table file) old new = ⊥
 
 -- the words give arguments of which this holds
 abbrev pub Gives : List (List ℕ) → (Arguments → Type 0) → Type 0

@@ -2,17 +2,19 @@
 ghost use Rattle.std.specs.Prelude.{◌≡◌, ◌≢◌, ◌↔◌, map, None, Err, IfOk, IfErr, OnOk, OnErr};
 ghost use Rattle.std.specs.Prelude.{IsSome};
 ghost use Rattle.std.specs.Io.KnownBytes.{Appends};
+ghost use Rattle.std.specs.List.{list_all};
 ghost use Rattle.fidl_table_format.specs.WellFormed.{WellFormed};
 ghost use Rattle.fidl_compile.specs.Sources.{IsTableOf};
 ghost use Rattle.fidl_compile.specs.Stages.{AreRefused};
 ghost use Rattle.fidl_compile.specs.Reports.{reported};
+ghost use Rattle.fidl_compile.specs.declared.fault.CompileFault.TheVariants as compile_fault;
 ghost use Rattle.fidl_tool.specs.Compiling.{named_of, texts_of, name_at, text_at, report_line};
-ghost use Rattle.fidl_tool.specs.Compiling.{located, located_at};
+ghost use Rattle.fidl_tool.specs.Compiling.{located, located_at, is_plain_byte, shown_name};
 ghost use Rattle.fidl_tool.specs.Compiling.{summary_line, IsSourceRefusal, CanEndCompile};
-ghost use Rattle.fidl_tool.specs.Compiling.{IsSummary, outcome_of};
+ghost use Rattle.fidl_tool.specs.Compiling.{CanEndPrinting};
 ghost use Rattle.fidl_tool.specs.Decoding.{no_memory_line};
-ghost use Rattle.fidl_text.specs.Outputs.{Writes};
-ghost use Rattle.fidl_tool.specs.Outputs.{AppendsOne, AppendsFrontOfOne, ReportsFailures};
+ghost use Rattle.fidl_text.specs.Outputs.{AppendsFront, Writes};
+ghost use Rattle.fidl_tool.specs.Outputs.{AppendsOne, ReportsFailures};
 ghost use Rattle.fidl_tool.specs.declared.outcome.Outcome.TheVariants as outcome;
 
 use crate::files::File;
@@ -22,7 +24,7 @@ use fidl_compile::{CompileFault, Refusal};
 use fidl_names::Place;
 use fidl_span::line_col;
 use fidl_table_format::read_header;
-use fidl_text::{Failed, Output, Word, write_decimal, write_words};
+use fidl_text::{Failed, Output, Word, write_decimal, write_quoted, write_words};
 use std::alloc::{AllocError, Global};
 use std::io::Write;
 
@@ -72,6 +74,35 @@ fn line_place<'f>(files: &[File<'f>], place: Place) -> LinePlace<'f>
     }
 }
 
+/// Whether a byte is no control character.
+fn is_plain_byte(byte: u8) -> bool
+    ensures { result ≡ is_plain_byte byte }
+{
+    32 <= byte && byte != 127
+}
+
+/// Whether a file's name can stand in a line as it is: it has no control character.
+fn is_plain(name: &str) -> bool
+    ensures { result ≡ list_all is_plain_byte name.now }
+{
+    name.as_bytes().iter().all(|byte| is_plain_byte(*byte))
+}
+
+/// The name of a file at the front of a line: between quotes where it has a control character.
+fn write_name<E: Write>(name: &str, errors: &mut Output<E>) -> Result<(), Failed>
+    ensures name { OnOk result
+        (Appends (E.contents errors.old.writer) (E.contents errors.new.writer)
+        (shown_name name.now)) }
+    ensures kept { OnOk result (errors.new.failure ≡ errors.old.failure) }
+    ensures failed { OnErr result (IsSome errors.new.failure) }
+{
+    if is_plain(name) {
+        errors.write_all(name.as_bytes())
+    } else {
+        write_quoted(name.as_bytes(), errors)
+    }
+}
+
 /// The line of a refusal at its place.
 fn write_report<E: Write>(
     place: LinePlace<'_>,
@@ -85,7 +116,7 @@ fn write_report<E: Write>(
     ensures failed { OnErr result (IsSome errors.new.failure) }
 {
     let LinePlace { file, line, column } = place;
-    errors.write_all(file.as_bytes())?;
+    write_name(file, errors)?;
     errors.write_all(b":")?;
     write_decimal(line, errors)?;
     errors.write_all(b":")?;
@@ -103,6 +134,7 @@ fn write_report<E: Write>(
 fn refuse<E: Write>(files: &[File<'_>], fault: &CompileFault, errors: &mut Output<E>) -> Outcome
     requires { AreRefused (texts_of (named_of files.now)) fault.now }
     ensures ends { CanEndCompile result }
+    ensures memory { fault.now ≢ compile_fault.Memory → result ≢ outcome.NoMemory }
     ensures refused { result ≡ outcome.Refused
         → AppendsOne (IsSourceRefusal (named_of files.now))
         (E.contents errors.old.writer) (E.contents errors.new.writer) }
@@ -144,46 +176,58 @@ fn write_summary<W: Write>(table: &[u8], out: &mut Output<W>) -> Result<(), Fail
     out.flush()
 }
 
-/// Compiles the sources of libraries, prints what their table holds, and gives its bytes.
+/// Compiles the sources of libraries, and gives the bytes of their table.
 ///
 /// `Refused` where a stage refuses the sources, with one line on `errors`: the file, line and
-/// column, the stage, and the fault's number and name. `Unwritten` comes where a write of this call
-/// fails, and `NoMemory` where memory ran out.
-pub fn compile<W: Write, E: Write>(
+/// column, the stage, and the fault's number and name. `Unwritten` where that line is not written,
+/// and `NoMemory` where memory ran out.
+pub fn compile<E: Write>(
     alloc: Global,
     files: &[File<'_>],
-    out: &mut Output<W>,
     errors: &mut Output<E>,
 ) -> Result<Vec<u8>, Outcome>
     ensures ends { IfErr result CanEndCompile }
     ensures well_formed { IfOk result (λ table. WellFormed table.items) }
     ensures shows { IfOk result (λ table. IsTableOf (texts_of (named_of files.now)) table.items) }
-    ensures done { IfOk result (λ table. Appends (W.contents out.old.writer)
-        (W.contents out.new.writer) (summary_line table.items)) }
     ensures refused { result ≡ Err outcome.Refused
         → AppendsOne (IsSourceRefusal (named_of files.now))
         (E.contents errors.old.writer) (E.contents errors.new.writer) }
     ensures memory_line { result ≡ Err outcome.NoMemory
         → Appends (E.contents errors.old.writer) (E.contents errors.new.writer) no_memory_line }
-    ensures unwritten { ReportsFailures (outcome_of result) out.old.failure out.new.failure
-        errors.old.failure errors.new.failure }
-    ensures front { result ≡ Err outcome.Unwritten
-        → AppendsFrontOfOne (IsSummary (texts_of (named_of files.now)))
-        (W.contents out.old.writer) (W.contents out.new.writer) }
-    ensures out { IfErr result (λ ended. ended ≢ outcome.Unwritten
-        → W.contents out.new.writer ≡ W.contents out.old.writer) }
-    ensures errors { OnOk result
-        (E.contents errors.new.writer ≡ E.contents errors.old.writer) }
+    ensures unwritten { IfErr result (λ ended. errors.old.failure ≡ None
+        → (ended ≡ outcome.Unwritten ↔ IsSome errors.new.failure)) }
+    ensures kept { OnOk result (errors.new ≡ errors.old) }
 {
     let Ok(sources) = bytes_of(alloc, files) else {
         return Err(Outcome::NoMemory.where_written(&write_no_memory(errors)));
     };
-    let table = match fidl_compile::compile(alloc, &sources) {
-        Ok(table) => table,
-        Err(fault) => return Err(refuse(files, &fault, errors)),
-    };
-    match write_summary(&table, out) {
-        Ok(()) => Ok(table),
-        Err(Failed) => Err(Outcome::Unwritten.where_written(&write_no_output(errors, out))),
+    match fidl_compile::compile(alloc, &sources) {
+        Ok(table) => Ok(table),
+        Err(fault) => Err(refuse(files, &fault, errors)),
+    }
+}
+
+/// Prints what a table holds, in one line.
+///
+/// `Unwritten` where a write of this call fails.
+pub fn summarize<W: Write, E: Write>(
+    table: &[u8],
+    out: &mut Output<W>,
+    errors: &mut Output<E>,
+) -> Outcome
+    requires { WellFormed table.now }
+    ensures ends { CanEndPrinting result }
+    ensures done { result ≡ outcome.Done → Appends (W.contents out.old.writer)
+        (W.contents out.new.writer) (summary_line table.now) }
+    ensures unwritten { ReportsFailures result out.old.failure out.new.failure
+        errors.old.failure errors.new.failure }
+    ensures front { result ≡ outcome.Unwritten → AppendsFront (W.contents out.old.writer)
+        (W.contents out.new.writer) (summary_line table.now) }
+    ensures errors { result ≡ outcome.Done
+        → E.contents errors.new.writer ≡ E.contents errors.old.writer }
+{
+    match write_summary(table, out) {
+        Ok(()) => Outcome::Done,
+        Err(Failed) => Outcome::Unwritten.where_written(&write_no_output(errors, out)),
     }
 }

@@ -1,8 +1,9 @@
 //! The commands of the program `fidl`, as functions over values (docs/program.md).
 //!
 //! `compile`, `decode` and `table` are the commands: each takes files, arguments that were read
-//! already, and two outputs, and answers what happened, from which the exit status follows. `run`
-//! reads a command line and runs its command; `run_on_host` is the whole program.
+//! already, and outputs, and answers what happened, from which the exit status follows. The table
+//! that `compile` gives is written before `summarize` prints what it holds. `run` reads a command
+//! line and runs its command; `run_on_host` is the whole program.
 #![tactic(auto)]
 
 mod compiling;
@@ -18,7 +19,7 @@ mod telling;
 mod verified;
 pub mod worked;
 
-pub use crate::compiling::compile;
+pub use crate::compiling::{compile, summarize};
 pub use crate::decoding::{TypedMessage, decode};
 pub use crate::files::{File, Files};
 pub use crate::host::{Ran, run_on_host};

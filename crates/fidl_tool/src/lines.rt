@@ -1,6 +1,7 @@
 //! The lines that a command prints on its errors.
 ghost use Rattle.std.specs.Prelude.{◌≡◌, ◌++◌, codes, OnOk, OnErr, IfSome, IsSome};
 ghost use Rattle.std.specs.Io.KnownBytes.{Appends};
+ghost use Rattle.fidl_text.specs.Outputs.{Writes};
 ghost use Rattle.fidl_tool.specs.Decoding.{refusal_line, no_root_line, no_memory_line};
 ghost use Rattle.fidl_tool.specs.Files.{no_file_line};
 
@@ -9,8 +10,8 @@ use std::io::Write;
 
 /// A text as it is.
 pub(crate) fn write_text<W: Write>(out: &mut Output<W>, text: &str) -> Result<(), Failed>
-    ensures text { OnOk result
-        (Appends (W.contents out.old.writer) (W.contents out.new.writer) text.now) }
+    ensures text { Writes (W.contents out.old.writer) (W.contents out.new.writer)
+        text.now result }
     ensures kept { OnOk result (out.new.failure ≡ out.old.failure) }
     ensures failed { OnErr result (IsSome out.new.failure) }
 {

@@ -9,7 +9,7 @@ ghost use Rattle.fidl_tool.specs.Listing.{IsListing, IsTableRefusal};
 ghost use Rattle.fidl_tool.specs.Files.{IsMissing};
 ghost use Rattle.fidl_tool.specs.Running.{IsMessageText, IsMessageRefusal, OfTable};
 ghost use Rattle.fidl_tool.specs.Running.{IsDone, IsRefused, LacksGivenFile, LacksGivenRoot};
-ghost use Rattle.fidl_tool.specs.Running.{CanEndTableRun, Gives, GivesNone};
+ghost use Rattle.fidl_tool.specs.Running.{CanEndTableRun, Gives, GivesNone, IsDoneInPart};
 ghost use Rattle.fidl_tool.specs.declared.outcome.Outcome.TheVariants as outcome;
 
 use crate::decoding::{TypedMessage, decode};
@@ -147,10 +147,10 @@ pub fn run<S: AsStr, F: Files, W: Write, E: Write>(
         (λ given. IsRefused (F.bytes_of files.old) given
         (E.contents errors.old.writer) (E.contents errors.new.writer)) }
     ensures no_root { result ≡ outcome.NoRoot → Gives (map S.text words.now)
-        (LacksGivenRoot (F.bytes_of files.old)) }
+        (λ given. LacksGivenRoot (F.bytes_of files.old) given
+        (E.contents errors.old.writer) (E.contents errors.new.writer)) }
     ensures no_file { result ≡ outcome.NoFile → Gives (map S.text words.now)
         (λ given. LacksGivenFile (F.bytes_of files.old) (F.can_write files.old) given
-        (W.contents out.old.writer) (W.contents out.new.writer)
         (E.contents errors.old.writer) (E.contents errors.new.writer)) }
     ensures asked { result ≡ outcome.Asked → GivesNone (map S.text words.now) outcome.Asked
         (λ unread. Appends (W.contents out.old.writer) (W.contents out.new.writer)
@@ -161,9 +161,23 @@ pub fn run<S: AsStr, F: Files, W: Write, E: Write>(
         (line_of unread)) }
     ensures memory_line { result ≡ outcome.NoMemory
         → Appends (E.contents errors.old.writer) (E.contents errors.new.writer) no_memory_line }
-    ensures written { result ≢ outcome.Done → F.written files.new ≡ F.written files.old }
+    ensures written { result ≢ outcome.Done → result ≢ outcome.Unwritten
+        → F.written files.new ≡ F.written files.old }
     ensures unwritten { ReportsFailures result out.old.failure out.new.failure
         errors.old.failure errors.new.failure }
+    ensures front { result ≡ outcome.Unwritten
+        → ((W.contents out.new.writer ≡ W.contents out.old.writer)
+        × (F.written files.new ≡ F.written files.old))
+        ⊎ Gives (map S.text words.now) (λ given. IsDoneInPart (F.bytes_of files.old) given
+        (W.contents out.old.writer) (W.contents out.new.writer)
+        (F.written files.old) (F.written files.new))
+        ⊎ GivesNone (map S.text words.now) outcome.Asked
+        (λ unread. AppendsFront (W.contents out.old.writer) (W.contents out.new.writer)
+        (text_of unread)) }
+    ensures out { result ≢ outcome.Done → result ≢ outcome.Asked → result ≢ outcome.Unwritten
+        → W.contents out.new.writer ≡ W.contents out.old.writer }
+    ensures errors { result ≡ outcome.Done
+        → E.contents errors.new.writer ≡ E.contents errors.old.writer }
 {
     match read_arguments(alloc, words) {
         Ok(Arguments::Compile(arguments)) => run_compile(alloc, &arguments, files, out, errors),

@@ -1,5 +1,6 @@
 //! The command `compile` on files: reading its sources, and writing its table.
-ghost use Rattle.std.specs.Prelude.{◌≡◌, ◌≢◌, ◌↔◌, map, None, Err, IfOk, IfErr, OnOk, IsSome};
+ghost use Rattle.std.specs.Prelude.{◌≡◌, ◌≢◌, ◌↔◌, ◌⊎◌, map, None, Err, IfOk, IfErr, OnOk};
+ghost use Rattle.std.specs.Prelude.{IsSome};
 ghost use Rattle.std.specs.Io.KnownBytes.{Appends};
 ghost use Rattle.fidl_tool.specs.Decoding.{no_memory_line};
 ghost use Rattle.fidl_tool.specs.Compiling.{named_of, IsSourceRefusal};
@@ -7,10 +8,10 @@ ghost use Rattle.fidl_tool.specs.Outputs.{AppendsOne, ReportsFailures};
 ghost use Rattle.fidl_tool.specs.Running.{IsRead, AreRead, stored_as};
 ghost use Rattle.fidl_tool.specs.Files.{IsMissing, HasMissing};
 ghost use Rattle.fidl_tool.specs.Running.{OfSources, sources_of, AreCompiled, LacksSourceOrOut};
-ghost use Rattle.fidl_tool.specs.Running.{CanEndReading, CanEndCompileRun};
+ghost use Rattle.fidl_tool.specs.Running.{ArePrintedInPart, CanEndReading, CanEndCompileRun};
 ghost use Rattle.fidl_tool.specs.declared.outcome.Outcome.TheVariants as outcome;
 
-use crate::compiling::compile;
+use crate::compiling::{compile, summarize};
 use crate::files::{File, Files};
 use crate::lines::write_no_memory;
 use crate::outcome::Outcome;
@@ -94,7 +95,8 @@ fn files_of<'f>(alloc: Global, sources: &'f [Source<'_>]) -> Result<Vec<File<'f>
     Ok(files)
 }
 
-/// Reads the sources, compiles them, and writes their table.
+/// Reads the sources, compiles them, writes their table, and prints what it holds. The table stays
+/// written where the line is not.
 pub(crate) fn run_compile<F: Files, W: Write, E: Write>(
     alloc: Global,
     arguments: &CompileArguments<'_>,
@@ -114,13 +116,22 @@ pub(crate) fn run_compile<F: Files, W: Write, E: Write>(
         (E.contents errors.old.writer) (E.contents errors.new.writer)) }
     ensures no_file { result ≡ outcome.NoFile
         → LacksSourceOrOut (F.bytes_of files.old) (F.can_write files.old) arguments.now
-        (W.contents out.old.writer) (W.contents out.new.writer)
         (E.contents errors.old.writer) (E.contents errors.new.writer) }
     ensures memory_line { result ≡ outcome.NoMemory
         → Appends (E.contents errors.old.writer) (E.contents errors.new.writer) no_memory_line }
-    ensures written { result ≢ outcome.Done → F.written files.new ≡ F.written files.old }
+    ensures written { result ≢ outcome.Done → result ≢ outcome.Unwritten
+        → F.written files.new ≡ F.written files.old }
     ensures unwritten { ReportsFailures result out.old.failure out.new.failure
         errors.old.failure errors.new.failure }
+    ensures front { result ≡ outcome.Unwritten
+        → ((W.contents out.new.writer ≡ W.contents out.old.writer)
+        × (F.written files.new ≡ F.written files.old))
+        ⊎ OfSources (F.bytes_of files.old) (sources_of arguments.now)
+        (λ sources. ArePrintedInPart arguments.now sources
+        (W.contents out.old.writer) (W.contents out.new.writer)
+        (F.written files.old) (F.written files.new)) }
+    ensures out { result ≢ outcome.Done → result ≢ outcome.Unwritten
+        → W.contents out.new.writer ≡ W.contents out.old.writer }
     ensures errors { result ≡ outcome.Done
         → E.contents errors.new.writer ≡ E.contents errors.old.writer }
 {
@@ -131,12 +142,12 @@ pub(crate) fn run_compile<F: Files, W: Write, E: Write>(
     let Ok(named) = files_of(alloc, &sources) else {
         return Outcome::NoMemory.where_written(&write_no_memory(errors));
     };
-    let table = match compile(alloc, &named, out, errors) {
+    let table = match compile(alloc, &named, errors) {
         Ok(table) => table,
         Err(ended) => return ended,
     };
     match files.write(arguments.out, &table) {
-        Ok(()) => Outcome::Done,
+        Ok(()) => summarize(&table, out, errors),
         Err(error) => tell_no_file(alloc, arguments.out, &error, errors),
     }
 }

@@ -1,6 +1,7 @@
 //! Reports: what is printed, and the outcome that goes with it.
 ghost use Rattle.std.specs.Prelude.{◌≡◌, ◌≢◌, ◌↔◌, ◌⊎◌, None, IsSome, OnOk, OnErr};
 ghost use Rattle.std.specs.Io.KnownBytes.{Appends};
+ghost use Rattle.fidl_text.specs.Outputs.{AppendsFront, Writes};
 ghost use Rattle.std.specs.IoError.{error_kind};
 ghost use Rattle.std.specs.declared.io.ErrorKind.TheVariants as error_kinds;
 ghost use Rattle.fidl_tool.specs.Reasons.{outcome_of, text_of, line_of};
@@ -35,8 +36,10 @@ fn write_unread<W: Write, E: Write>(
     out: &mut Output<W>,
     errors: &mut Output<E>,
 ) -> Result<(), Failed>
-    ensures out { OnOk result (Appends (W.contents out.old.writer) (W.contents out.new.writer)
-        (text_of unread.now)) }
+    ensures out { Writes (W.contents out.old.writer) (W.contents out.new.writer)
+        (text_of unread.now) result }
+    ensures quiet { outcome_of unread.now ≢ outcome.Asked
+        → W.contents out.new.writer ≡ W.contents out.old.writer }
     ensures errors { OnOk result
         (Appends (E.contents errors.old.writer) (E.contents errors.new.writer)
         (line_of unread.now)) }
@@ -62,6 +65,10 @@ pub(crate) fn tell<W: Write, E: Write>(
     ensures errors { result ≢ outcome.Unwritten
         → Appends (E.contents errors.old.writer) (E.contents errors.new.writer)
         (line_of unread.now) }
+    ensures quiet { outcome_of unread.now ≢ outcome.Asked
+        → W.contents out.new.writer ≡ W.contents out.old.writer }
+    ensures front { result ≡ outcome.Unwritten → AppendsFront (W.contents out.old.writer)
+        (W.contents out.new.writer) (text_of unread.now) }
     ensures unwritten { ReportsFailures result out.old.failure out.new.failure
         errors.old.failure errors.new.failure }
 {

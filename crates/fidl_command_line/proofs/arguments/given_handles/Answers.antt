@@ -4,9 +4,8 @@ use Rattle.std.specs.List.{AllZip}
 use Rattle.clap.proofs.WalkLemmas.{raw_values-rows}
 use Rattle.clap.specs.Words.{found_of, rows_of}
 use Rattle.fidl_wire.specs.declared.handle.HandleInfo.{HandleInfo}
-use Rattle.fidl_command_line.specs.Handles.{IsHandleText, HasNoHandleText}
-use Rattle.fidl_command_line.specs.Arguments.{IsTold, AreHandleTexts, handle_texts}
-use Rattle.fidl_command_line.specs.declared.unread.Unread.TheVariants as unread
+use Rattle.fidl_command_line.specs.Handles.{IsHandleText}
+use Rattle.fidl_command_line.specs.Arguments.{AreNoHandles, handle_texts}
 use Rattle.fidl_command_line.proofs.arguments.given_handles.Goals as goal
 
 -- the texts that are there, or none
@@ -26,7 +25,7 @@ pub returns-in-Some-clause-fault_is_true : goal.returns-in-Some-clause-fault_is_
 returns-in-Some-clause-fault_is_true c =
     let found = found_of c.args.matches.now in
     let same = some_texts _ _ _ _ c.in-Some.is (c.get_strs.ensures ∙ raw_values-rows found (codes "handle")) in
-    subst (λ (texts : List (List ℕ)). IfErr c.read_handles.result (IsTold unread.BadHandle (HasNoHandleText texts) (AreHandleTexts texts))) same c.read_handles.ensures.fault_is_true
+    subst (λ (texts : List (List ℕ)). IfErr c.read_handles.result (AreNoHandles texts)) same c.read_handles.ensures.fault_is_true
 
 pub returns-in-None-clause-ok : goal.returns-in-None-clause-ok
 returns-in-None-clause-ok c =

@@ -18,7 +18,7 @@ badly words rows (Wrong line) e h = absurd h
 badly words rows NotText e h = absurd h
 badly words rows Missing e h = inr (inr (inl (record { rows = rows; entered = e; fails = h })))
 badly words rows BadHex e h = record { rows = rows; entered = e; fails = h }
-badly words rows BadHandle e h = record { rows = rows; entered = e; fails = h }
+badly words rows (BadHandle line) e h = record { rows = rows; entered = e; fails = h }
 badly words rows OutIsSource e h = absurd h
 badly words rows Memory e h = tt
 
@@ -28,7 +28,7 @@ badly_compiled words rows (Wrong line) e h = absurd h
 badly_compiled words rows NotText e h = absurd h
 badly_compiled words rows Missing e h = inr (inl (record { rows = rows; entered = e; fails = h }))
 badly_compiled words rows BadHex e h = absurd h
-badly_compiled words rows BadHandle e h = absurd h
+badly_compiled words rows (BadHandle line) e h = absurd h
 badly_compiled words rows OutIsSource e h = record { rows = rows; entered = e; fails = h }
 badly_compiled words rows Memory e h = tt
 
@@ -44,7 +44,7 @@ refused words kind (Wrong line) passes h = not_taken (takes program words) (λ t
 refused words kind NotText passes h = h
 refused words kind Missing passes h = absurd h
 refused words kind BadHex passes h = absurd h
-refused words kind BadHandle passes h = absurd h
+refused words kind (BadHandle line) passes h = absurd h
 refused words kind OutIsSource passes h = absurd h
 refused words kind Memory passes h = tt
 

@@ -1,23 +1,20 @@
 use Rattle.std.proofs.Common.{◌≡◌, List, ℕ, map, ap, subst, ◌∙◌, inr}
 use Rattle.std.specs.Prelude.{Err, Option}
-use Rattle.std.specs.Io.KnownBytes.{Appends}
 use Rattle.fidl_table_format.specs.WellFormed.{WellFormed}
 use Rattle.fidl_compile.specs.Sources.{IsTableOf}
 use Rattle.fidl_tool.specs.Compiling.{Named, named_of, texts_of, summary_line, IsSourceRefusal}
 use Rattle.fidl_tool.specs.Files.{IsWritten, NamesFile}
 use Rattle.fidl_tool.specs.Outputs.{AppendsOne}
-use Rattle.fidl_tool.specs.Running.{AreRead, IsPrinted, stored_as}
+use Rattle.fidl_tool.specs.Running.{AreRead, IsCompiled, stored_as}
 use Rattle.fidl_tool.proofs.NamedFiles.{files_read}
-use Rattle.fidl_tool.proofs.Told.{then_told}
+use Rattle.fidl_text.proofs.Written.{appends_as, front_as}
 use Rattle.fidl_tool.proofs.sources.run_compile.Goals as goal
 
--- the table that was printed is that of the files that are known
-printed_as : (made files : List Named) (table : List ℕ) (old new : Option (List ℕ)) → made ≡ files → WellFormed table → IsTableOf (texts_of made) table → Appends old new (summary_line table)
-    → IsPrinted files old new table
-printed_as made files table old new same well shows printed = record {
+-- the table of the files that were read is that of the files that are known
+compiled_as : (made files : List Named) (table : List ℕ) → made ≡ files → WellFormed table → IsTableOf (texts_of made) table → IsCompiled files table
+compiled_as made files table same well shows = record {
   well_formed = well;
   shows = subst (λ (fs : List Named). IsTableOf (texts_of fs) table) same shows;
-  printed = printed;
 }
 
 pub returns-in-Err-compile-clause-refused : goal.returns-in-Err-compile-clause-refused
@@ -42,26 +39,38 @@ returns-in-Ok-write-clause-done g c q files known =
     let same : named_of c.deref-3.result.now ≡ files = ap named_of c.deref-3.ensures.value ∙ files_read (g.F.Files.bytes_of c.args.files.now) _ sources c.in-Ok-files_of.named.items files read made known in
     record {
       table = table;
-      compiled = printed_as _ files table _ _ same c.in-Ok-compile.ensures.well_formed c.in-Ok-compile.ensures.shows c.in-Ok-compile.ensures.done;
+      compiled = compiled_as _ files table same c.in-Ok-compile.ensures.well_formed c.in-Ok-compile.ensures.shows;
       written = subst (λ (bytes : List ℕ). IsWritten (g.F.Files.written c.args.files.now) (g.F.Files.written c.write.new.self) c.args.arguments.now.out.now bytes) c.deref-4.ensures.value c.in-Ok-write.ensures.ok;
+      printed = appends_as _ _ (summary_line c.deref-5.result.now) (summary_line table) (ap summary_line c.deref-5.ensures.value) (c.summarize.ensures.done q);
     }
 
-pub returns-clause-unwritten : goal.returns-clause-unwritten
-returns-clause-unwritten g c out errors =
-    then_told c.tell_no_file.result _ _ _ _ _ c.in-Ok-compile.ensures.unwritten c.tell_no_file.ensures.unwritten out (ap (λ e. e.failure) c.in-Ok.ensures.kept ∙ errors)
-
-pub returns-clause-no_file : goal.returns-clause-no_file
-returns-clause-no_file g c q =
+pub returns-in-Ok-write-clause-front : goal.returns-in-Ok-write-clause-front
+returns-in-Ok-write-clause-front g c q = inr (λ files known.
     let sources = c.in-Ok.sources.items in
     let table = c.in-Ok-compile.table.items in
     let names = ap (map (λ n. n.now)) c.deref.ensures.value in
     let read = subst (λ (ns : List (List ℕ)). AreRead (g.F.Files.bytes_of c.args.files.now) ns (map stored_as sources)) names c.in-Ok.ensures.read in
     let made : named_of c.in-Ok-files_of.named.items ≡ map stored_as sources = c.in-Ok-files_of.ensures ∙ ap (map stored_as) c.deref-2.ensures.value in
-    let quiet = c.in-Ok-compile.ensures.errors ∙ ap (λ e. g.E.Write.contents e.writer) c.in-Ok.ensures.kept in
+    let same : named_of c.deref-3.result.now ≡ files = ap named_of c.deref-3.ensures.value ∙ files_read (g.F.Files.bytes_of c.args.files.now) _ sources c.in-Ok-files_of.named.items files read made known in
+    record {
+      table = table;
+      compiled = compiled_as _ files table same c.in-Ok-compile.ensures.well_formed c.in-Ok-compile.ensures.shows;
+      written = subst (λ (bytes : List ℕ). IsWritten (g.F.Files.written c.args.files.now) (g.F.Files.written c.write.new.self) c.args.arguments.now.out.now bytes) c.deref-4.ensures.value c.in-Ok-write.ensures.ok;
+      front = front_as _ _ (summary_line c.deref-5.result.now) (summary_line table) (ap summary_line c.deref-5.ensures.value) (c.summarize.ensures.front q);
+    })
+
+pub returns-in-Err-write-clause-no_file : goal.returns-in-Err-write-clause-no_file
+returns-in-Err-write-clause-no_file g c q =
+    let sources = c.in-Ok.sources.items in
+    let table = c.in-Ok-compile.table.items in
+    let names = ap (map (λ n. n.now)) c.deref.ensures.value in
+    let read = subst (λ (ns : List (List ℕ)). AreRead (g.F.Files.bytes_of c.args.files.now) ns (map stored_as sources)) names c.in-Ok.ensures.read in
+    let made : named_of c.in-Ok-files_of.named.items ≡ map stored_as sources = c.in-Ok-files_of.ensures ∙ ap (map stored_as) c.deref-2.ensures.value in
+    let quiet = ap (λ e. g.E.Write.contents e.writer) (c.in-Ok-compile.ensures.kept ∙ c.in-Ok.ensures.kept) in
     inr (record {
       compiled = λ files known.
           let same : named_of c.deref-3.result.now ≡ files = ap named_of c.deref-3.ensures.value ∙ files_read (g.F.Files.bytes_of c.args.files.now) _ sources c.in-Ok-files_of.named.items files read made known in
-          (table, printed_as _ files table _ _ same c.in-Ok-compile.ensures.well_formed c.in-Ok-compile.ensures.shows c.in-Ok-compile.ensures.done);
+          (table, compiled_as _ files table same c.in-Ok-compile.ensures.well_formed c.in-Ok-compile.ensures.shows);
       unwritten = c.in-Err-write.ensures.fault (c.tell_no_file.ensures.no_file q);
       named = subst (λ (old : Option (List ℕ)). NamesFile c.args.arguments.now.out.now old (g.E.Write.contents c.tell_no_file.new.errors.writer)) quiet (c.tell_no_file.ensures.line q);
     })
