@@ -8,7 +8,7 @@ use Rattle.fidl_reachable_types.proofs.Members.{here, nothing_there, first_or_re
 use Rattle.fidl_reachable_types.proofs.Growth.{joined_adds, joined_new}
 use Rattle.fidl_reachable_types.proofs.Reaching.{none_distinct}
 
-none_reached : (terms : List Term) (t : Term) → IsReached terms [] t → ⊥
+pub none_reached : (terms : List Term) (t : Term) → IsReached terms [] t → ⊥
 none_reached terms t (root i h) = nothing_there i h
 none_reached terms u (part t v h k) = none_reached terms t h
 

@@ -65,6 +65,15 @@ returns-clause-none c = record {
     sound = λ number lt. absurd (omega (arith, lt));
     complete = λ p h. absurd (nothing_there p h);
   };
+  entries = record {
+    roots = [];
+    roots_are = record { count = refl; each = λ root definition at. absurd (none-some definition at) };
+    protocols = [];
+    protocols_are = record { count = refl; each = λ number p at. absurd (none-some p at) };
+    types = [];
+    reached = reach_none [];
+    entries = record { count = refl; levels = λ number t at. absurd (none-some t at) };
+  };
 }
 
 pub returns-clause-fewer_roots : goal.returns-clause-fewer_roots
