@@ -7,3 +7,7 @@ pub mod One
 pub mod Ors
 pub mod Paths
 pub mod ValueKinds
+pub mod Rising
+pub mod Sorting
+pub mod Ordered
+pub mod WorkedMembers

@@ -20,7 +20,7 @@ use Rattle.fidl_wire.specs.Term.{Term, Rows, no_rows, row}
 use Rattle.fidl_ir.specs.declared.term.Row.{Row}
 use Rattle.fidl_ir.specs.Terms.{term_view, rows_view}
 use Rattle.fidl_lower_types.specs.Terms.{TermIs}
-use Rattle.fidl_lower_layouts.specs.Members.{RowIs, own_row, EachRow, RowsAre}
+use Rattle.fidl_lower_layouts.specs.Members.{RowIs, own_row, EachRow, WrittenRowsAre}
 
 module _ (files : List File) (number : ℕ) (f : File) where
   pub low_ordinal : (attributes : List Attribute) (ordinal name : Span) (t : TypeUse) (n : ℕ) (text : List ℕ) (e : Term) → RowIs files number f (ordinal_member attributes ordinal name t) n text e → number_of (text_at f.src.now ordinal) < 2 ^ 32
@@ -44,7 +44,7 @@ module _ (files : List File) (number : ℕ) (f : File) where
   row_of_first ms no_rows m h = absurd h
   row_of_first ms (row n text e rows) m h = (n, (text, (e, h.0)))
 
-  row_at : (ms : List Member) (rows : Rows) (k : ℕ) (w m : Member) → RowsAre files number f ms rows → slice_get ms k ≡ Some w → own_row w ≡ m ∷ [] → (n : ℕ) × ((text : List ℕ) × ((e : Term) × RowIs files number f m n text e))
+  row_at : (ms : List Member) (rows : Rows) (k : ℕ) (w m : Member) → WrittenRowsAre files number f ms rows → slice_get ms k ≡ Some w → own_row w ≡ m ∷ [] → (n : ℕ) × ((text : List ℕ) × ((e : Term) × RowIs files number f m n text e))
   row_at [] rows k w m h at is = absurd (none-some w at)
   row_at (v ∷ vs) rows zero w m h at is =
       let own : own_row v ≡ m ∷ [] = ap own_row (same_Some v w at) ∙ is in
@@ -67,15 +67,15 @@ module _ (files : List File) (number : ℕ) (f : File) where
     further : flat_map own_row (take (i + 1) all) ≡ flat_map own_row (take i all) ++ own_row (ordinal_member_view member)
     further = flat_take all i (ordinal_member_view member) seen_within seen_is own_row
 
-    pub one_row : (rows : Rows) (m : Member) → RowsAre files number f all rows → own_row (ordinal_member_view member) ≡ m ∷ [] → (n : ℕ) × ((text : List ℕ) × ((e : Term) × RowIs files number f m n text e))
+    pub one_row : (rows : Rows) (m : Member) → WrittenRowsAre files number f all rows → own_row (ordinal_member_view member) ≡ m ∷ [] → (n : ℕ) × ((text : List ℕ) × ((e : Term) × RowIs files number f m n text e))
     one_row rows m h own = row_at all rows i (ordinal_member_view member) m h (slice_get-get_or all i (ordinal_member_view member) seen_within ∙ ap Some (sym seen_is)) own
 
-    pub same_rows : (rows : Rows) → RowsAre files number f (take i all) rows → own_row (ordinal_member_view member) ≡ [] → RowsAre files number f (take (i + 1) all) rows
+    pub same_rows : (rows : Rows) → WrittenRowsAre files number f (take i all) rows → own_row (ordinal_member_view member) ≡ [] → WrittenRowsAre files number f (take (i + 1) all) rows
     same_rows rows h own =
         subst (λ (l : List Member). EachRow files number f l rows) (sym (further ∙ ap (λ (l : List Member). flat_map own_row (take i all) ++ l) own ∙ append-nil (flat_map own_row (take i all)))) h
 
-    pub more_rows : (xs : List Row) (x : Row) (m : Member) → RowsAre files number f (take i all) (rows_view xs) → own_row (ordinal_member_view member) ≡ m ∷ [] → RowIs files number f m x.ordinal x.name.items (term_view x.of)
-        → RowsAre files number f (take (i + 1) all) (rows_view (xs ++ x ∷ []))
+    pub more_rows : (xs : List Row) (x : Row) (m : Member) → WrittenRowsAre files number f (take i all) (rows_view xs) → own_row (ordinal_member_view member) ≡ m ∷ [] → RowIs files number f m x.ordinal x.name.items (term_view x.of)
+        → WrittenRowsAre files number f (take (i + 1) all) (rows_view (xs ++ x ∷ []))
     more_rows xs x m h own r =
         subst (λ (l : List Member). EachRow files number f l (rows_view (xs ++ x ∷ []))) (sym (further ∙ ap (λ (l : List Member). flat_map own_row (take i all) ++ l) own)) (row_push (flat_map own_row (take i all)) xs m x h r)
 

@@ -1,6 +1,9 @@
 -- A form has at most one definition.
 use Rattle.std.proofs.Common.{◌≡◌, ℕ, ℤ, Bool, true, false, List, [], ◌∷◌, Option, Some, None, map, refl, ap, sym, subst, ◌∙◌, inl, inr, arith}
-use Rattle.std.specs.Prelude.{pos, flat_map}
+use Rattle.std.specs.Prelude.{pos, ◌<ℤ◌}
+use Rattle.std.specs.Cmp.{int_chain}
+use Rattle.std.specs.Int.Signed.{<ℤ_irrefl}
+use Rattle.std.specs.List.Sorted.{IsPermutation}
 use Rattle.std.proofs.lemmas.Bool.{cases_lt}
 use Rattle.std.proofs.lemmas.Option.{same_Some}
 use Rattle.fidl_tree.specs.Syntax.{TypeUse, Response, Member, ValuesKind, bits_kind, enum_kind, Underlying, ValueMember, Layout, values_layout, struct_layout, table_layout, union_layout}
@@ -19,7 +22,9 @@ use Rattle.fidl_lower_types.specs.Numbers.{all_forms}
 use Rattle.fidl_lower_types.proofs.OneTerm.{one_term}
 use Rattle.fidl_member_rules.specs.Numbers.{HasNumber, NumbersAre}
 use Rattle.fidl_member_rules.proofs.Listing.{zip_one}
-use Rattle.fidl_lower_layouts.specs.Members.{members_in, FieldIs, FieldsAre, own_row, RowIs, EachRow}
+use Rattle.fidl_lower_layouts.specs.Members.{members_in, FieldIs, FieldsAre, RowIs, EachRow, RowsAre}
+use Rattle.fidl_lower_layouts.proofs.Rising.{one_moved}
+use Rattle.fidl_lower_layouts.proofs.Ordered.{same_members}
 use Rattle.fidl_lower_layouts.specs.Values.{kind_of, or_all, IsMaskOf, IsNumbered, ValuesAre}
 use Rattle.fidl_lower_layouts.specs.Results.{IsFirstEmpty, ResponseIs, ErrorIs, result_rows, IsResult}
 use Rattle.fidl_lower_layouts.specs.Definitions.{LayoutIs, KindIs, DefinitionIs, DefinitionsAre}
@@ -60,6 +65,10 @@ module _ (files : List File) (number : ℕ) (f : File) where
       let term : e ≡ d = first.1.1 in
       cc
 
+  -- the rows by rising ordinal
+  one_rows : (ms : List Member) (rs ss : Rows) → RowsAre files number f ms rs → RowsAre files number f ms ss → rs ≡ ss
+  one_rows ms rs ss h k = each_row k.members rs ss (subst (λ (l : List Member). EachRow files number f l rs) (same_members files number f ms rs ss h k) h.each) k.each
+
 -- Numbers.
 
 same_words : (ms ns : List ℕ) → map pos ms ≡ map pos ns → ms ≡ ns
@@ -91,7 +100,10 @@ module _ (files : List File) (f : File) where
       let mask = one_mask h.numbers h.mask k.mask h.masked (subst (λ zs. IsMaskOf zs k.mask) numbers k.masked) in
       h.is ∙ ap (λ n. ty.bits (kind_of kind) (Some n)) mask ∙ sym k.is
   one_numbered kind enum_kind true ms a b h k =
-      h.is ∙ ap (λ zs. ty.enum (kind_of kind) (Some zs)) (one_list kind ms h.numbers k.numbers h.are k.are) ∙ sym k.is
+      let written = one_list kind ms h.written k.written h.are k.are in
+      let moved : IsPermutation k.written h.numbers = subst (λ (zs : List ℤ). IsPermutation zs h.numbers) written h.same in
+      let numbers = one_moved (λ (y z : ℤ). y <ℤ z) (λ z lt. <ℤ_irrefl lt) int_chain k.written h.numbers k.numbers moved k.same h.rise k.rise in
+      h.is ∙ ap (λ zs. ty.enum (kind_of kind) (Some zs)) numbers ∙ sym k.is
 
   one_values : (values : ValuesKind) (strict : Bool) (u : Underlying) (ms : List ValueMember) (a b : Term) → ValuesAre files f values strict u ms a → ValuesAre files f values strict u ms b → a ≡ b
   one_values values strict u ms a b h k =
@@ -135,8 +147,8 @@ module _ (files : List File) (number : ℕ) (f : File) where
   one_layout : (optional : Bool) (l : Layout) (a b : Term) → LayoutIs files number f optional l a → LayoutIs files number f optional l b → a ≡ b
   one_layout optional (values_layout values strict keyword u ms) a b h k = one_values files f values strict u ms a b h k
   one_layout optional (struct_layout is_resource keyword ms) a b h k = h.is ∙ ap ty.struct (one_fields files number f (members_in ms) h.fields k.fields h.are k.are) ∙ sym k.is
-  one_layout optional (table_layout is_resource keyword ms) a b h k = h.is ∙ ap ty.table (each_row files number f (flat_map own_row (members_in ms)) h.rows k.rows h.are k.are) ∙ sym k.is
-  one_layout optional (union_layout strict is_resource keyword ms) a b h k = h.is ∙ ap (ty.union optional strict) (each_row files number f (flat_map own_row (members_in ms)) h.rows k.rows h.are k.are) ∙ sym k.is
+  one_layout optional (table_layout is_resource keyword ms) a b h k = h.is ∙ ap ty.table (one_rows files number f (members_in ms) h.rows k.rows h.are k.are) ∙ sym k.is
+  one_layout optional (union_layout strict is_resource keyword ms) a b h k = h.is ∙ ap (ty.union optional strict) (one_rows files number f (members_in ms) h.rows k.rows h.are k.are) ∙ sym k.is
 
   one_kind : (path : List Step) (kind : FormKind) (a b : Term) → KindIs files number f path kind a → KindIs files number f path kind b → a ≡ b
   one_kind path (layout_form optional l) a b h k = one_layout optional l a b h k

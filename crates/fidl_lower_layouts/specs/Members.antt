@@ -1,5 +1,7 @@
 -- The members of structs, tables and unions (docs/language.md, "Definitions").
 use Rattle.std.specs.Prelude.{ℕ, ◌<◌, ◌^◌, List, [], ◌∷◌, flat_map}
+use Rattle.std.specs.List.{AllPairs}
+use Rattle.std.specs.List.Sorted.{IsPermutation}
 use Rattle.fidl_tree.specs.Leaf.{text_at}
 use Rattle.fidl_tree.specs.Syntax.{Members, no_members, next_member}
 use Rattle.fidl_tree.specs.Syntax.{Member, named_member, ordinal_member, reserved_member}
@@ -48,6 +50,20 @@ EachRow files number f (m ∷ ms) no_rows = ⊥
 EachRow files number f (m ∷ ms) (row ordinal name e rows) =
     RowIs files number f m ordinal name e × EachRow files number f ms rows
 
--- the rows of a table or a union: one for each member that is not reserved, in written order
-abbrev pub RowsAre : List File → (number : ℕ) → File → List Member → Rows → Type 0
-RowsAre files number f ms rows = EachRow files number f (flat_map own_row ms) rows
+-- the rows of members, in written order
+abbrev pub WrittenRowsAre : List File → (number : ℕ) → File → List Member → Rows → Type 0
+WrittenRowsAre files number f ms rows = EachRow files number f (flat_map own_row ms) rows
+
+-- the ordinals of rows, in their order
+abbrev pub row_ordinals : Rows → List ℕ
+row_ordinals no_rows = []
+row_ordinals (row ordinal name e rows) = ordinal ∷ row_ordinals rows
+
+-- the rows of a table or a union: one for each member that is not reserved, by rising ordinal,
+-- whatever the order in which the members are written
+pub record RowsAre (files : List File) (number : ℕ) (f : File) (ms : List Member) (rows : Rows)
+    : Type 0 where
+  pub members : List Member
+  pub same : IsPermutation (flat_map own_row ms) members
+  pub each : EachRow files number f members rows
+  pub rise : AllPairs (λ m n. m < n) (row_ordinals rows)

@@ -1,7 +1,8 @@
 -- The numbers of bits and enums (docs/language.md, "Definitions").
-use Rattle.std.specs.Prelude.{ℕ, ◌≡◌, ◌<◌, ◌^◌, ℤ, pos, Bool, true, false, List, [], ◌∷◌, map}
+use Rattle.std.specs.Prelude.{ℕ, ◌≡◌, ◌<◌, ◌^◌, ℤ, pos, ◌<ℤ◌, Bool, true, false, List, [], ◌∷◌, map}
 use Rattle.std.specs.Prelude.{Some, None, bit_or}
-use Rattle.std.specs.List.{AllByRecursion}
+use Rattle.std.specs.List.{AllByRecursion, AllPairs}
+use Rattle.std.specs.List.Sorted.{IsPermutation}
 use Rattle.fidl_tree.specs.Syntax.{ValuesKind, bits_kind, enum_kind, Underlying, ValueMember}
 use Rattle.fidl_tree.specs.declared.file.File.{File}
 use Rattle.fidl_names.specs.Places.{underlying_path}
@@ -44,11 +45,15 @@ pub record AreStrictBits (files : List File) (f : File) (kind : NumberKind) (ms 
   pub masked : IsMaskOf numbers mask
   pub is : t ≡ ty.bits (kind_of kind) (Some mask)
 
--- a strict enum: with the numbers of its members, in written order
+-- a strict enum: with the numbers of its members, which rise, whatever the order in which the
+-- members are written
 pub record IsStrictEnum (files : List File) (f : File) (kind : NumberKind) (ms : List ValueMember)
     (t : Term) : Type 0 where
+  pub written : List ℤ
+  pub are : NumbersAre files f kind ms written
   pub numbers : List ℤ
-  pub are : NumbersAre files f kind ms numbers
+  pub same : IsPermutation written numbers
+  pub rise : AllPairs (λ y z. y <ℤ z) numbers
   pub is : t ≡ ty.enum (kind_of kind) (Some numbers)
 
 -- bits or an enum of this type of numbers: a flexible one has neither mask nor numbers

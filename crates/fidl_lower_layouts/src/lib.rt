@@ -4,10 +4,12 @@
 mod definition;
 mod laws;
 mod members;
+mod order;
 mod results;
 mod scope;
 mod values;
 pub mod worked;
+pub mod worked_members;
 
 pub use definition::{definition_of, definitions};
 pub use laws::{the_definition_of_a_form_is_one, the_definitions_of_files_are_one};

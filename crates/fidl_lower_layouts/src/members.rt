@@ -8,7 +8,9 @@ ghost use Rattle.fidl_wire.specs.Term.{Term, Fields, Rows};
 ghost use Rattle.fidl_ir.specs.Terms.{term_view, fields_view, rows_view};
 ghost use Rattle.fidl_lower_types.specs.TermViews.{AreKnown};
 ghost use Rattle.fidl_lower_layouts.specs.Members.{FieldIs, FieldsAre, RowIs, RowsAre};
+ghost use Rattle.fidl_lower_layouts.specs.Members.{WrittenRowsAre};
 
+use crate::order::by_ordinal;
 use crate::scope::Scope;
 use fidl_const::number_value;
 use fidl_constraints::use_of;
@@ -140,21 +142,17 @@ fn row_of<'f>(
     }
 }
 
-/// The members of a table or a union, in written order (public source: the FIDL language
-/// specification, "Tables" and "Unions"). A reserved one is left out. Nothing where the ordinal of
-/// another has more than 32 bits, or its type has no term.
-///
-/// `AllocError`: memory ran out.
-pub fn rows<'f>(
+/// The members of a table or a union that are not reserved, in written order.
+fn written_rows<'f>(
     scope: Scope<'_, 'f, '_>,
     members: &'f [OrdinalMember],
 ) -> Result<Option<Vec<Row>>, AllocError>
     requires within { scope.file_index < length scope.sources.now.named.now }
     requires known { AreKnown scope.sources.now }
-    ensures found { IfOk result (λ found. IfSome found (λ xs. RowsAre
+    ensures found { IfOk result (λ found. IfSome found (λ xs. WrittenRowsAre
         scope.entry.sources.now.named.now scope.entry.file_index scope.entry.file.now
         (map ordinal_member_view members.now) (rows_view xs.items))) }
-    ensures none { IfOk result (λ found. IsNone found → (rows : Rows) → RowsAre
+    ensures none { IfOk result (λ found. IsNone found → (rows : Rows) → WrittenRowsAre
         scope.entry.sources.now.named.now scope.entry.file_index scope.entry.file.now
         (map ordinal_member_view members.now) rows → ⊥) }
 {
@@ -171,4 +169,28 @@ pub fn rows<'f>(
         }
     }
     Ok(Some(found))
+}
+
+/// The members of a table or a union, by rising ordinal (public source: the FIDL language
+/// specification, "Tables" and "Unions"). A reserved one is left out. Nothing where the ordinal of
+/// another has more than 32 bits, its type has no term, or two have one ordinal.
+///
+/// `AllocError`: memory ran out.
+pub fn rows<'f>(
+    scope: Scope<'_, 'f, '_>,
+    members: &'f [OrdinalMember],
+) -> Result<Option<Vec<Row>>, AllocError>
+    requires within { scope.file_index < length scope.sources.now.named.now }
+    requires known { AreKnown scope.sources.now }
+    ensures found { IfOk result (λ found. IfSome found (λ xs. RowsAre
+        scope.entry.sources.now.named.now scope.entry.file_index scope.entry.file.now
+        (map ordinal_member_view members.now) (rows_view xs.items))) }
+    ensures none { IfOk result (λ found. IsNone found → (rows : Rows) → RowsAre
+        scope.entry.sources.now.named.now scope.entry.file_index scope.entry.file.now
+        (map ordinal_member_view members.now) rows → ⊥) }
+{
+    match written_rows(scope, members)? {
+        None => Ok(None),
+        Some(written) => Ok(by_ordinal(written)),
+    }
 }

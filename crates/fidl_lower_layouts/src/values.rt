@@ -15,6 +15,7 @@ ghost use Rattle.fidl_lower_layouts.specs.Values.{IsNumbered};
 ghost use Rattle.fidl_member_rules.specs.Numbers.{NumbersAre};
 ghost use Rattle.fidl_lower_layouts.specs.Definitions.{LayoutIs as PlainLayoutIs};
 
+use crate::order::rising;
 use crate::scope::Scope;
 use fidl_const::{ConstFault, NumberKind, underlying_kind};
 use fidl_ir::{Definition, NumberKind as Number};
@@ -144,7 +145,7 @@ fn strict_bits(
     }))
 }
 
-/// A strict enum, with the numbers of its members.
+/// A strict enum, with the numbers of its members, which rise. Nothing where two are the same.
 fn strict_enum(
     scope: Scope<'_, '_, '_>,
     kind: NumberKind,
@@ -159,13 +160,16 @@ fn strict_enum(
         scope.entry.sources.now.named.now scope.entry.file.now kind
         (map value_member_view members.now) t → ⊥) }
 {
-    match numbers_in(scope, kind, members)? {
-        None => Ok(None),
-        Some(numbers) => Ok(Some(Definition::Enum {
-            kind: kind_of(kind),
-            values: Some(numbers),
-        })),
-    }
+    let Some(written) = numbers_in(scope, kind, members)? else {
+        return Ok(None);
+    };
+    let Some(numbers) = rising(written) else {
+        return Ok(None);
+    };
+    Ok(Some(Definition::Enum {
+        kind: kind_of(kind),
+        values: Some(numbers),
+    }))
 }
 
 /// Flexible bits or a flexible enum, which may have any number.

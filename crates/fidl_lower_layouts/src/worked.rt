@@ -4,12 +4,11 @@ ghost use Rattle.std.specs.Prelude.{true, false, codes};
 ghost use Rattle.fidl_span.specs.declared.words.Span.{Span};
 ghost use Rattle.fidl_tree.specs.Leaf.{text_at};
 ghost use Rattle.fidl_tree.specs.Syntax.{Attribute, TypeUse, no_members};
-ghost use Rattle.fidl_tree.specs.Syntax.{named_member, ordinal_member, reserved_member};
-ghost use Rattle.fidl_tree.specs.Syntax.{ValueMember, bits_kind, enum_kind, struct_layout};
+ghost use Rattle.fidl_tree.specs.Syntax.{named_member};
+ghost use Rattle.fidl_tree.specs.Syntax.{ValueMember, bits_kind, struct_layout};
 ghost use Rattle.fidl_tree.specs.Syntax.{table_layout, union_layout, no_underlying, Response};
 ghost use Rattle.fidl_tree.specs.declared.file.File.{File};
 ghost use Rattle.fidl_const.specs.declared.const_type.NumberKind.TheVariants as Kinds;
-ghost use Rattle.fidl_const.specs.Literals.{number_of};
 ghost use Rattle.fidl_declarations.specs.declared.step.Step.{Step};
 ghost use Rattle.fidl_declarations.specs.declared.step.Step.TheVariants as Steps;
 ghost use Rattle.fidl_declarations.specs.Forms.{Form, layout_form, result_form, empty_response_form};
@@ -17,7 +16,7 @@ ghost use Rattle.fidl_wire.specs.Term as ty;
 ghost use Rattle.fidl_wire.specs.Term.{Term, no_fields, field, no_rows, row};
 ghost use Rattle.fidl_lower_types.specs.Terms.{TermIs};
 ghost use Rattle.fidl_member_rules.specs.Numbers.{NumbersAre};
-ghost use Rattle.fidl_lower_layouts.specs.Members.{FieldsAre, RowsAre};
+ghost use Rattle.fidl_lower_layouts.specs.Members.{FieldsAre};
 ghost use Rattle.fidl_lower_layouts.specs.Values.{kind_of, IsMaskOf, IsNumbered, ValuesAre};
 ghost use Rattle.fidl_lower_layouts.specs.Results.{AreOfOneMethod, IsEmptyOf, IsFirstEmpty};
 ghost use Rattle.fidl_lower_layouts.specs.Results.{IsEmptyNumber, ErrorIs, result_rows, IsResult};
@@ -40,31 +39,6 @@ pub fn fields_of_structs()
         → FieldsAre files n f (named_member attributes name t ∷ []) no_fields → ⊥ }
     ensures too_many { (files : List File) (n : ℕ) (f : File) (name : List ℕ) (e : Term)
         → FieldsAre files n f [] (field name e no_fields) → ⊥ }
-{}
-
-/// A member of a table has a row of its ordinal's number, of 32 bits, its name and its term; a
-/// reserved member has none.
-pub fn rows_of_tables()
-    ensures one { (files : List File) (n : ℕ) (f : File) (attributes : List Attribute)
-        (ordinal name : Span) (t : TypeUse) (e : Term)
-        → number_of (text_at f.src.now ordinal) ≡ 3 → TermIs files n t e
-        → RowsAre files n f (ordinal_member attributes ordinal name t ∷ [])
-        (row 3 (text_at f.src.now name) e no_rows) }
-    ensures other { (files : List File) (n : ℕ) (f : File) (attributes : List Attribute)
-        (ordinal name : Span) (t : TypeUse) (e : Term) (text : List ℕ)
-        → number_of (text_at f.src.now ordinal) ≡ 3
-        → RowsAre files n f (ordinal_member attributes ordinal name t ∷ [])
-        (row 4 text e no_rows) → ⊥ }
-    ensures too_high { (files : List File) (n : ℕ) (f : File) (attributes : List Attribute)
-        (ordinal name : Span) (t : TypeUse) (e : Term) (k : ℕ) (text : List ℕ)
-        → number_of (text_at f.src.now ordinal) ≡ 2 ^ 32
-        → RowsAre files n f (ordinal_member attributes ordinal name t ∷ []) (row k text e no_rows)
-        → ⊥ }
-    ensures reserved { (files : List File) (n : ℕ) (f : File) (attributes : List Attribute)
-        (ordinal : Span) → RowsAre files n f (reserved_member attributes ordinal ∷ []) no_rows }
-    ensures no_row { (files : List File) (n : ℕ) (f : File) (attributes : List Attribute)
-        (ordinal : Span) (text : List ℕ) (e : Term)
-        → RowsAre files n f (reserved_member attributes ordinal ∷ []) (row 3 text e no_rows) → ⊥ }
 {}
 
 /// Each type of whole numbers is the one of its name.
@@ -99,19 +73,6 @@ pub fn masks_of_bits()
         → IsNumbered files f Kinds.Uint8 bits_kind false ms (ty.bits ty.uint8 None) }
     ensures masked { (files : List File) (f : File) (ms : List ValueMember)
         → IsNumbered files f Kinds.Uint8 bits_kind false ms (ty.bits ty.uint8 (Some 5)) → ⊥ }
-{}
-
-/// Strict enums have the numbers of their members, flexible ones have none.
-pub fn numbers_of_enums()
-    ensures strict { (files : List File) (f : File) (ms : List ValueMember) (zs : List ℤ)
-        → NumbersAre files f Kinds.Int8 ms zs
-        → IsNumbered files f Kinds.Int8 enum_kind true ms (ty.enum ty.int8 (Some zs)) }
-    ensures empty { (files : List File) (f : File) (z : ℤ)
-        → IsNumbered files f Kinds.Int8 enum_kind true [] (ty.enum ty.int8 (Some (z ∷ []))) → ⊥ }
-    ensures flexible { (files : List File) (f : File) (ms : List ValueMember)
-        → IsNumbered files f Kinds.Int8 enum_kind false ms (ty.enum ty.int8 None) }
-    ensures held { (files : List File) (f : File) (ms : List ValueMember) (zs : List ℤ)
-        → IsNumbered files f Kinds.Int8 enum_kind false ms (ty.enum ty.int8 (Some zs)) → ⊥ }
 {}
 
 /// Bits without an underlying type are of uint32, and of no other.

@@ -8,8 +8,9 @@ use Rattle.fidl_wire.specs.Term.{Term}
 use Rattle.fidl_reachable_types.specs.declared.fault.EntryFault.{EntryFault}
 use Rattle.fidl_reachable_types.specs.declared.fault.EntryFault.TheVariants.{TooMany, Memory}
 use Rattle.fidl_reachable_types.specs.declared.list.TypeList.{TypeList}
+use Rattle.fidl_reachable_types.specs.Reached.{IsJoined, with_none, with_known, with_new}
 use Rattle.fidl_reachable_types.specs.Growing.{types_of, IsKept, Adds, GrowsBy, IsFull, IsFullBy}
-use Rattle.fidl_reachable_types.proofs.Members.{nothing_there, first_or_rest, distinct_push}
+use Rattle.fidl_reachable_types.proofs.Members.{here, there, nothing_there, first_or_rest, distinct_push}
 
 -- nothing is added
 pub adds_nothing : (ts parts : List Term) → Adds ts ts parts
@@ -40,29 +41,57 @@ adds_then old mid new ps a b = record {
 pub stays : (old new ps : List Term) → Adds old new ps → (t : Term) → Contains old t → Contains new t
 stays old new ps a t h = subst (λ l. Contains l t) (sym a.is) (Contains-append_left old a.added t h)
 
+-- What is joined.
+
+pub joined_new : (ts : List Term) (t : Term) → (Contains ts t → ⊥) → IsJoined ts (t ∷ []) (ts ++ t ∷ [])
+joined_new ts t fresh = with_new ts [] (ts ++ t ∷ []) t fresh (with_none (ts ++ t ∷ []))
+
+pub joined_known : (ts : List Term) (t : Term) → Contains ts t → IsJoined ts (t ∷ []) ts
+joined_known ts t h = with_known ts [] ts t h (with_none ts)
+
+pub joined_then : (old ps mid qs new : List Term) → IsJoined old ps mid → IsJoined mid qs new → IsJoined old (ps ++ qs) new
+joined_then _ _ _ qs new (with_none old) k = k
+joined_then _ _ _ qs new (with_known old parts mid t h j) k = with_known old (parts ++ qs) new t h (joined_then old parts mid qs new j k)
+joined_then _ _ _ qs new (with_new old parts mid t h j) k = with_new old (parts ++ qs) new t h (joined_then (old ++ t ∷ []) parts mid qs new j k)
+
+-- what is joined is added
+pub joined_adds : (old ps new : List Term) → IsJoined old ps new → Adds old new ps
+joined_adds _ _ _ (with_none old) = adds_nothing old []
+joined_adds _ _ _ (with_known old parts new t h j) = adds_among old new parts (t ∷ parts) (there t parts) (joined_adds old parts new j)
+joined_adds _ _ _ (with_new old parts new t h j) =
+    adds_then old (old ++ t ∷ []) new (t ∷ parts) (adds_among old (old ++ t ∷ []) (t ∷ []) (t ∷ parts) (first_of t parts) (adds_one old t h)) (adds_among (old ++ t ∷ []) new parts (t ∷ parts) (there t parts) (joined_adds (old ++ t ∷ []) parts new j))
+  where
+    first_of : (t : Term) (ps : List Term) (u : Term) → Contains (t ∷ []) u → Contains (t ∷ ps) u
+    first_of t ps u h = Contains-append_left (t ∷ []) ps u h
+
+-- and it has all that it was joined to
+pub joined_has : (old ps new : List Term) → IsJoined old ps new → (t : Term) → Contains ps t → Contains new t
+joined_has _ _ _ (with_none old) u among = absurd (nothing_there u among)
+joined_has _ _ _ (with_known old parts new t h j) u among = elim (first_or_rest t parts u among) [
+  | inl e ↦ subst (Contains new) e (stays old new parts (joined_adds old parts new j) t h)
+  | inr rest ↦ joined_has old parts new j u rest
+]
+joined_has _ _ _ (with_new old parts new t h j) u among = elim (first_or_rest t parts u among) [
+  | inl e ↦ subst (Contains new) e (stays (old ++ t ∷ []) new parts (joined_adds (old ++ t ∷ []) parts new j) t (Contains-append_right old (t ∷ []) t (here t [])))
+  | inr rest ↦ joined_has (old ++ t ∷ []) parts new j u rest
+]
+
 -- A list that grows, and grows again.
 
 pub begins : (list : TypeList) → IsKept list → GrowsBy list list []
-begins list kept = record { kept = kept; limit = refl; adds = adds_nothing (types_of list) []; has = λ t h. absurd (nothing_there t h) }
-
-left : (ps qs : List Term) (t : Term) → Contains ps t → Contains (ps ++ qs) t
-left ps qs t h = Contains-append_left ps qs t h
-
-right : (ps qs : List Term) (t : Term) → Contains qs t → Contains (ps ++ qs) t
-right ps qs t h = Contains-append_right ps qs t h
+begins list kept = record { kept = kept; limit = refl; joined = with_none (types_of list) }
 
 pub grows_then : (old mid new : TypeList) (ps qs : List Term) → GrowsBy old mid ps → GrowsBy mid new qs → GrowsBy old new (ps ++ qs)
 grows_then old mid new ps qs a b = record {
   kept = b.kept;
   limit = b.limit ∙ a.limit;
-  adds = adds_then (types_of old) (types_of mid) (types_of new) (ps ++ qs) (adds_among (types_of old) (types_of mid) ps (ps ++ qs) (left ps qs) a.adds) (adds_among (types_of mid) (types_of new) qs (ps ++ qs) (right ps qs) b.adds);
-  has = λ t h. elim (Contains-append_cases ps qs t h) [ inl l ↦ stays (types_of mid) (types_of new) qs b.adds t (a.has t l) | inr r ↦ b.has t r ];
+  joined = joined_then (types_of old) ps (types_of mid) qs (types_of new) a.joined b.joined;
 }
 
 pub full_then : (old mid : TypeList) (ps qs all : List Term) → ((t : Term) → Contains ps t → Contains all t) → ((t : Term) → Contains qs t → Contains all t) → GrowsBy old mid ps → IsFull mid qs → IsFull old all
 full_then old mid ps qs all of_ps of_qs a b = record {
   more = b.more;
-  adds = adds_then (types_of old) (types_of mid) b.more all (adds_among (types_of old) (types_of mid) ps all of_ps a.adds) (adds_among (types_of mid) b.more qs all of_qs b.adds);
+  adds = adds_then (types_of old) (types_of mid) b.more all (adds_among (types_of old) (types_of mid) ps all of_ps (joined_adds (types_of old) ps (types_of mid) a.joined)) (adds_among (types_of mid) b.more qs all of_qs b.adds);
   many = subst (λ n. n < length b.more) a.limit b.many;
 }
 

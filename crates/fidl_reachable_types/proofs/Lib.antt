@@ -4,3 +4,4 @@ pub mod Known
 pub mod Growth
 pub mod Reaching
 pub mod Small
+pub mod OneList

@@ -1,31 +1,21 @@
 -- A list on the way to all that roots reach.
-use Rattle.std.proofs.Common.{◌≡◌, ◌∙◌, ◌<◌, ◌≤◌, ◌+◌, ◌⊎◌, ℕ, zero, suc, List, [], ◌∷◌, ◌++◌, Some, None, get_or, length, map, refl, ap, sym, subst, inl, inr, arith}
-use Rattle.std.specs.Prelude.{slice_get}
+use Rattle.std.proofs.Common.{◌≡◌, ◌∙◌, ◌<◌, ◌≤◌, ◌+◌, ℕ, List, [], ◌∷◌, ◌++◌, Some, None, get_or, length, map, take, ap, sym, subst, inl, inr, arith}
+use Rattle.std.specs.Prelude.{slice_get, flat_map}
 use Rattle.std.specs.List.{Contains}
-use Rattle.std.proofs.lemmas.List.Elements.{Contains-append_cases}
+use Rattle.std.proofs.lemmas.List.{append-nil, take_all, take_more, take-append-le, flat_map_more}
+use Rattle.std.proofs.lemmas.List.Elements.{Contains-append_left, Contains-append_right, Contains-append_cases}
 use Rattle.std.proofs.lemmas.Option.{slice_get-get_or, slice_get_within, same_Some, none-some}
 use Rattle.std.proofs.lemmas.Bool.{cases_lt}
 use Rattle.fidl_wire.specs.Term.{Term, nothing}
 use Rattle.fidl_wire.specs.Term as ty
-use Rattle.fidl_reachable_types.specs.Reached.{held, IsReached, root, part, AreReached, AreDistinct}
+use Rattle.fidl_reachable_types.specs.Reached.{held, IsReached, root, part, IsJoined, parts_of, AreReached, AreDistinct}
 use Rattle.fidl_reachable_types.specs.Growing.{types_of, Adds, IsReaching, IsFullBy}
 use Rattle.fidl_reachable_types.specs.declared.fault.EntryFault.{EntryFault}
 use Rattle.fidl_reachable_types.specs.declared.fault.EntryFault.TheVariants.{TooMany, Memory}
 use Rattle.fidl_reachable_types.specs.declared.list.TypeList.{TypeList}
 use Rattle.fidl_reachable_types.specs.Faults.{IsTrueOf}
 use Rattle.fidl_reachable_types.proofs.Members.{here, there, nothing_there, first_or_rest}
-use Rattle.fidl_reachable_types.proofs.Growth.{stays}
-
-prefix_at : (xs ys : List Term) (k : ℕ) → k < length xs → slice_get (xs ++ ys) k ≡ slice_get xs k
-prefix_at [] ys k lt = absurd (omega (arith, lt))
-prefix_at (x ∷ xs) ys zero lt = refl
-prefix_at (x ∷ xs) ys (suc k) lt = prefix_at xs ys k (omega (arith, lt))
-
-lt_or_eq : (k n : ℕ) → k ≤ n → (k < n) ⊎ (k ≡ n)
-lt_or_eq zero zero le = inr refl
-lt_or_eq zero (suc n) le = inl (omega arith)
-lt_or_eq (suc k) zero le = absurd (omega (arith, le))
-lt_or_eq (suc k) (suc n) le = elim (lt_or_eq k n (omega (arith, le))) [ inl less ↦ inl (omega (arith, less)) | inr is ↦ inr (ap suc is) ]
+use Rattle.fidl_reachable_types.proofs.Growth.{joined_then, joined_adds, joined_has}
 
 pub none_distinct : AreDistinct []
 none_distinct i j d lt past = absurd (omega (arith, past))
@@ -46,22 +36,16 @@ module _ (terms : List Term) (roots : List ℕ) where
   pub added_sound : (old new parts : List Term) → Adds old new parts → ((t : Term) → Contains old t → IsReached terms roots t) → ((t : Term) → Contains parts t → IsReached terms roots t) → (t : Term) → Contains new t → IsReached terms roots t
   added_sound old new parts a before of_parts t h = elim (Contains-append_cases old a.added t (subst (λ l. Contains l t) a.is h)) [ inl l ↦ before t l | inr r ↦ of_parts t (a.only t r) ]
 
-  at_place : (types : List Term) (k : ℕ) (t : Term) → k < length types → get_or types k t ≡ t → slice_get types k ≡ Some t
-  at_place types k t lt e = slice_get-get_or types k t lt ∙ ap Some e
-
   there_at : (types : List Term) (k : ℕ) (t : Term) → slice_get types k ≡ Some t → Contains types t
   there_at types k t at = let lt = slice_get_within types k t at in (k, lt, same_Some (get_or types k t) t (sym (slice_get-get_or types k t lt) ∙ at))
 
-  -- where no type stands at the place, all that is reached is there
-  pub complete : (types : List Term) (place : ℕ) → length types ≤ place → IsReaching terms roots place types → (t : Term) → IsReached terms roots t → Contains types t
-  complete types place past r t (root i h) = r.roots_there i h
-  complete types place past r u (part t v h k) =
-      let c = complete types place past r t h in
-      let lt = c.1 in
-      r.held_there c.0 t u (omega (arith, lt, past)) (at_place types c.0 t lt c.2) k
-
-  pub whole : (types : List Term) (place : ℕ) → length types ≤ place → IsReaching terms roots place types → AreReached terms roots types
-  whole types place past r = record { distinct = r.distinct; sound = r.sound; complete = complete types place past r }
+  -- what a type of a list holds is among what its types hold
+  held_among : (types : List Term) (t u : Term) → Contains types t → Contains (held terms t) u → Contains (flat_map (held terms) types) u
+  held_among [] t u h k = absurd (nothing_there t h)
+  held_among (v ∷ types) t u h k = elim (first_or_rest v types t h) [
+    | inl e ↦ Contains-append_left (held terms v) (flat_map (held terms) types) u (subst (λ w. Contains (held terms w) u) (sym e) k)
+    | inr rest ↦ Contains-append_right (held terms v) (flat_map (held terms) types) u (held_among types t u rest k)
+  ]
 
   named_there : (is : List ℕ) (i : ℕ) → Contains is i → Contains (map ty.named is) (ty.named i)
   named_there [] i h = absurd (nothing_there i h)
@@ -70,59 +54,73 @@ module _ (terms : List Term) (roots : List ℕ) where
     | inr rest ↦ there (ty.named j) (map ty.named is) (ty.named i) (named_there is i rest)
   ]
 
-  module _ (old new : List Term) (empty : old ≡ []) (a : Adds old new (map ty.named roots)) where
+  -- a list that has its own parts has all that is reached
+  pub closed : (types : List Term) → ((u : Term) → Contains (parts_of terms roots types) u → Contains types u) → (t : Term) → IsReached terms roots t → Contains types t
+  closed types has t (root i h) = has (ty.named i) (Contains-append_left (map ty.named roots) (flat_map (held terms) types) (ty.named i) (named_there roots i h))
+  closed types has u (part t v h k) = has u (Contains-append_right (map ty.named roots) (flat_map (held terms) types) u (held_among types t u (closed types has t h) k))
+
+  module _ (types : List Term) (order : IsJoined [] (parts_of terms roots types) types) where
+    pub complete : (t : Term) → IsReached terms roots t → Contains types t
+    complete = closed types (joined_has [] (parts_of terms roots types) types order)
+
+    pub all_distinct : AreDistinct types
+    all_distinct = (joined_adds [] (parts_of terms roots types) types order).distinct none_distinct
+
+  -- where no type stands at the place, all that is reached is there
+  pub whole : (types : List Term) (place : ℕ) → length types ≤ place → IsReaching terms roots place types → AreReached terms roots types
+  whole types place past r =
+      let order = subst (λ l. IsJoined [] (parts_of terms roots l) types) (take_all place types past) r.order in
+      record { distinct = all_distinct types order; sound = r.sound; complete = complete types order; order = order }
+
+  module _ (old : List Term) (empty : old ≡ []) where
     none_before : (t : Term) → Contains old t → IsReached terms roots t
     none_before t h = absurd (nothing_there t (subst (λ l. Contains l t) empty h))
 
-    pub roots_distinct : AreDistinct new
-    roots_distinct = a.distinct (subst AreDistinct (sym empty) none_distinct)
+    pub roots_distinct : (new : List Term) → Adds old new (map ty.named roots) → AreDistinct new
+    roots_distinct new a = a.distinct (subst AreDistinct (sym empty) none_distinct)
 
-    pub roots_sound : (t : Term) → Contains new t → IsReached terms roots t
-    roots_sound = added_sound old new (map ty.named roots) a none_before root_sound
+    pub roots_sound : (new : List Term) → Adds old new (map ty.named roots) → (t : Term) → Contains new t → IsReached terms roots t
+    roots_sound new a = added_sound old new (map ty.named roots) a none_before root_sound
 
-    pub begin : ((t : Term) → Contains (map ty.named roots) t → Contains new t) → IsReaching terms roots 0 new
-    begin has = record {
-      distinct = roots_distinct;
-      sound = roots_sound;
-      roots_there = λ i h. has (ty.named i) (named_there roots i h);
-      held_there = λ k t u lt at h. absurd (omega (arith, lt));
+    pub begin : (new : List Term) → IsJoined old (map ty.named roots) new → IsReaching terms roots 0 new
+    begin new joined = record {
+      sound = roots_sound new (joined_adds old (map ty.named roots) new joined);
+      order = subst (λ l. IsJoined [] l new) (sym (append-nil (map ty.named roots))) (subst (λ l. IsJoined l (map ty.named roots) new) empty joined);
     }
 
-  module _ (old new : List Term) (place : ℕ) (t : Term) (at : slice_get old place ≡ Some t) (r : IsReaching terms roots place old) (a : Adds old new (held terms t)) where
-    pub next_distinct : AreDistinct new
-    next_distinct = a.distinct r.distinct
+  module _ (old : List Term) (place : ℕ) (t : Term) (at : slice_get old place ≡ Some t) (r : IsReaching terms roots place old) where
+    pub next_distinct : (new : List Term) → Adds old new (held terms t) → AreDistinct new
+    next_distinct new a = a.distinct ((joined_adds [] (parts_of terms roots (take place old)) old r.order).distinct none_distinct)
 
-    pub next_sound : (u : Term) → Contains new u → IsReached terms roots u
-    next_sound = added_sound old new (held terms t) a r.sound (λ u k. part t u (r.sound t (there_at old place t at)) k)
+    pub next_sound : (new : List Term) → Adds old new (held terms t) → (u : Term) → Contains new u → IsReached terms roots u
+    next_sound new a = added_sound old new (held terms t) a r.sound (λ u k. part t u (r.sound t (there_at old place t at)) k)
 
-    before : (k : ℕ) (v u : Term) → k < place → slice_get new k ≡ Some v → Contains (held terms v) u → Contains new u
-    before k v u lt there h =
+    -- the types up to the place are those before it, and the one that stands there
+    one_further : (new : List Term) → Adds old new (held terms t) → take (place + 1) new ≡ take place old ++ t ∷ []
+    one_further new a =
         let within = slice_get_within old place t at in
-        let same : slice_get new k ≡ slice_get old k = ap (λ l. slice_get l k) a.is ∙ prefix_at old a.added k (omega (arith, lt, within)) in
-        stays old new (held terms t) a u (r.held_there k v u lt (sym same ∙ there) h)
+        let found : t ≡ get_or old place t = same_Some t (get_or old place t) (sym at ∙ slice_get-get_or old place t within) in
+        ap (take (place + 1)) a.is ∙ take-append-le (place + 1) old a.added (omega (arith, within)) ∙ take_more old place t within ∙ ap (λ u. take place old ++ u ∷ []) (sym found)
 
-    last : ((u : Term) → Contains (held terms t) u → Contains new u) → (k : ℕ) (v u : Term) → k ≡ place → slice_get new k ≡ Some v → Contains (held terms v) u → Contains new u
-    last has k v u is there h =
-        let within = slice_get_within old place t at in
-        let same : slice_get new place ≡ slice_get old place = ap (λ l. slice_get l place) a.is ∙ prefix_at old a.added place within in
-        let one : t ≡ v = same_Some t v (sym at ∙ sym same ∙ ap (slice_get new) (sym is) ∙ there) in
-        has u (subst (λ w. Contains (held terms w) u) (sym one) h)
+    further_parts : (new : List Term) → Adds old new (held terms t) → parts_of terms roots (take (place + 1) new) ≡ parts_of terms roots (take place old) ++ held terms t
+    further_parts new a =
+        ap (parts_of terms roots) (one_further new a) ∙ sym (flat_map_more (held terms) (map ty.named roots) (take place old) t)
 
-    pub next : ((u : Term) → Contains (held terms t) u → Contains new u) → IsReaching terms roots (place + 1) new
-    next has = record {
-      distinct = next_distinct;
-      sound = next_sound;
-      roots_there = λ i h. stays old new (held terms t) a (ty.named i) (r.roots_there i h);
-      held_there = λ k v u lt there h. elim (lt_or_eq k place (omega (arith, lt))) [ inl less ↦ before k v u less there h | inr is ↦ last has k v u is there h ];
-    }
+    pub next : (new : List Term) → IsJoined old (held terms t) new → IsReaching terms roots (place + 1) new
+    next new joined =
+        let a = joined_adds old (held terms t) new joined in
+        record {
+          sound = next_sound new a;
+          order = subst (λ l. IsJoined [] l new) (sym (further_parts new a)) (joined_then [] (parts_of terms roots (take place old)) old (held terms t) new r.order joined);
+        }
 
   module _ (limit : ℕ) (list : TypeList) (same : list.limit ≡ limit) where
     pub roots_past : types_of list ≡ [] → (fault : EntryFault) → IsFullBy list (map ty.named roots) fault → IsTrueOf terms roots limit fault
-    roots_past empty TooMany full = record { types = full.more; distinct = roots_distinct (types_of list) full.more empty full.adds; sound = roots_sound (types_of list) full.more empty full.adds; many = subst (λ n. n < length full.more) same full.many }
+    roots_past empty TooMany full = record { types = full.more; distinct = roots_distinct (types_of list) empty full.more full.adds; sound = roots_sound (types_of list) empty full.more full.adds; many = subst (λ n. n < length full.more) same full.many }
     roots_past empty Memory full = tt
 
     pub held_past : (place : ℕ) (t : Term) → slice_get (types_of list) place ≡ Some t → IsReaching terms roots place (types_of list) → (fault : EntryFault) → IsFullBy list (held terms t) fault → IsTrueOf terms roots limit fault
-    held_past place t at r TooMany full = record { types = full.more; distinct = next_distinct (types_of list) full.more place t at r full.adds; sound = next_sound (types_of list) full.more place t at r full.adds; many = subst (λ n. n < length full.more) same full.many }
+    held_past place t at r TooMany full = record { types = full.more; distinct = next_distinct (types_of list) place t at r full.more full.adds; sound = next_sound (types_of list) place t at r full.more full.adds; many = subst (λ n. n < length full.more) same full.many }
     held_past place t at r Memory full = tt
 
   pub past_end : (types : List Term) (place : ℕ) → slice_get types place ≡ None → length types ≤ place

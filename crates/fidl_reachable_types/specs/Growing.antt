@@ -1,5 +1,5 @@
 -- Lists of types that grow, as the code has them.
-use Rattle.std.specs.Prelude.{ℕ, ◌≡◌, ◌≤◌, ◌<◌, ◌++◌, List, Some, length, map, slice_get}
+use Rattle.std.specs.Prelude.{ℕ, ◌≡◌, ◌≤◌, ◌<◌, ◌++◌, List, [], length, map, take}
 use Rattle.std.specs.List.{Contains}
 use Rattle.fidl_wire.specs.Term.{Term}
 use Rattle.fidl_wire.specs.Term as ty
@@ -9,7 +9,7 @@ use Rattle.fidl_reachable_types.specs.declared.fault.EntryFault.TheVariants.{Too
 use Rattle.fidl_reachable_types.specs.declared.list.TypeRef.{TypeRef}
 use Rattle.fidl_reachable_types.specs.declared.list.TypeRef.TheVariants.{Of, Layout}
 use Rattle.fidl_reachable_types.specs.declared.list.TypeList.{TypeList}
-use Rattle.fidl_reachable_types.specs.Reached.{AreDistinct, IsReached, held}
+use Rattle.fidl_reachable_types.specs.Reached.{AreDistinct, IsReached, IsJoined, parts_of}
 use Rattle.fidl_reachable_types.specs.Keys.{words}
 
 abbrev pub reference_view : TypeRef → Term
@@ -31,12 +31,12 @@ pub record Adds (old new parts : List Term) : Type 0 where
   pub only : (t : Term) → Contains added t → Contains parts t
   pub distinct : AreDistinct old → AreDistinct new
 
--- all of these parts are added to a list that lacks them; it keeps its set and its limit
+-- those of these parts that a list lacks are added to it, in their order; it keeps its set and its
+-- limit
 pub record GrowsBy (old new : TypeList) (parts : List Term) : Type 0 where
   pub kept : IsKept new
   pub limit : new.limit ≡ old.limit
-  pub adds : Adds (types_of old) (types_of new) parts
-  pub has : (t : Term) → Contains parts t → Contains (types_of new) t
+  pub joined : IsJoined (types_of old) parts (types_of new)
 
 -- with some of these parts a list is past its limit
 pub record IsFull (old : TypeList) (parts : List Term) : Type 0 where
@@ -49,11 +49,9 @@ abbrev pub IsFullBy : (old : TypeList) (parts : List Term) → EntryFault → Ty
 IsFullBy old parts TooMany = IsFull old parts
 IsFullBy old parts Memory = Unit {0}
 
--- a list on the way to all that roots reach: what the types before a place hold is in it
+-- a list on the way to all that roots reach: it has the roots, and then what the types before a
+-- place hold
 pub record IsReaching (terms : List Term) (roots : List ℕ) (place : ℕ) (types : List Term) : Type 0
   where
-    pub distinct : AreDistinct types
     pub sound : (t : Term) → Contains types t → IsReached terms roots t
-    pub roots_there : (i : ℕ) → Contains roots i → Contains types (ty.named i)
-    pub held_there : (k : ℕ) (t u : Term) → k < place → slice_get types k ≡ Some t
-        → Contains (held terms t) u → Contains types u
+    pub order : IsJoined [] (parts_of terms roots (take place types)) types

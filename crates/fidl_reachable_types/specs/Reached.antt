@@ -1,5 +1,5 @@
 -- The types that are reached from roots (docs/language.md, "Types of a table").
-use Rattle.std.specs.Prelude.{ℕ, ◌≢◌, List, [], ◌∷◌, get_or}
+use Rattle.std.specs.Prelude.{ℕ, ◌≢◌, List, [], ◌∷◌, ◌++◌, get_or, map, flat_map}
 use Rattle.std.specs.List.{Contains, AllPairs}
 use Rattle.fidl_wire.specs.Term.{Term, nothing}
 use Rattle.fidl_wire.specs.Term as ty
@@ -25,8 +25,22 @@ pub data IsReached (terms : List Term) (roots : List ℕ) : Term → Type 0 wher
 abbrev pub AreDistinct : List Term → Type 0
 AreDistinct = AllPairs (λ t u. t ≢ u)
 
--- a list has just the types that are reached, each once
+-- a list, followed by those of some parts that it lacks: in their order, each once
+pub data IsJoined : (old parts new : List Term) → Type 0 where
+  with_none : (old : List Term) → IsJoined old [] old
+  with_known : (old parts new : List Term) (t : Term) → Contains old t → IsJoined old parts new
+      → IsJoined old (t ∷ parts) new
+  with_new : (old parts new : List Term) (t : Term) → (Contains old t → ⊥)
+      → IsJoined (old ++ t ∷ []) parts new → IsJoined old (t ∷ parts) new
+
+-- the roots as types, and what each of these types holds, in the order of the types
+abbrev pub parts_of : (terms : List Term) (roots : List ℕ) (types : List Term) → List Term
+parts_of terms roots types = map ty.named roots ++ flat_map (held terms) types
+
+-- a list has just the types that are reached, each once: first the roots in their order, then what
+-- each type of the list holds, in order
 pub record AreReached (terms : List Term) (roots : List ℕ) (types : List Term) : Type 0 where
   pub distinct : AreDistinct types
   pub sound : (t : Term) → Contains types t → IsReached terms roots t
   pub complete : (t : Term) → IsReached terms roots t → Contains types t
+  pub order : IsJoined [] (parts_of terms roots types) types

@@ -20,3 +20,9 @@ pub fn the_number_of_types_is_one()
         → AreReached terms roots one → AreReached terms roots other
         → length one ≡ length other }
 {}
+
+/// Roots reach one list: its types and their order follow from the roots.
+pub fn reached_types_are_one_list()
+    ensures { (terms : List Term) (roots : List ℕ) (one other : List Term)
+        → AreReached terms roots one → AreReached terms roots other → one ≡ other }
+{}

@@ -87,6 +87,7 @@ impl<'d> TypeList<'d> {
     }
 
     /// Adds the types of members of a struct.
+    #[tactic(auto, using(crate::proofs::Growth::begins))]
     pub(crate) fn add_fields(
         &mut self,
         alloc: Global,
@@ -103,6 +104,7 @@ impl<'d> TypeList<'d> {
     }
 
     /// Adds the types of members of a table or a union.
+    #[tactic(auto, using(crate::proofs::Growth::begins))]
     pub(crate) fn add_rows(&mut self, alloc: Global, rows: &'d [Row]) -> Result<(), EntryFault>
         requires kept { IsKept self.old }
         ensures ok { OnOk result (GrowsBy self.old self.new (row_types (rows_view rows.now))) }

@@ -14,6 +14,7 @@ use fidl_ir::{Definition, Type};
 use std::alloc::Global;
 
 /// Adds the types of the members of a definition.
+#[tactic(auto, using(crate::proofs::Growth::begins))]
 fn add_members<'d>(
     list: &mut TypeList<'d>,
     alloc: Global,
@@ -54,6 +55,7 @@ fn add_layout<'d>(
 }
 
 /// Adds what a type holds.
+#[tactic(auto, using(crate::proofs::Growth::begins))]
 fn add_held<'d>(
     list: &mut TypeList<'d>,
     alloc: Global,
@@ -79,6 +81,7 @@ fn add_held<'d>(
 }
 
 /// Adds the definitions of these numbers.
+#[tactic(auto, using(crate::proofs::Growth::begins))]
 fn add_roots(list: &mut TypeList<'_>, alloc: Global, roots: &[u32]) -> Result<(), EntryFault>
     requires kept { IsKept list.old }
     ensures ok { OnOk result (GrowsBy list.old list.new (map ty.named roots.now)) }

@@ -2,7 +2,7 @@
 ghost use Rattle.std.specs.Prelude.{◌≡◌, ◌≢◌, ℕ, [], ◌∷◌, codes, true, false};
 ghost use Rattle.fidl_wire.specs.Term.{Term, no_rows, row};
 ghost use Rattle.fidl_wire.specs.Term as ty;
-ghost use Rattle.fidl_reachable_types.specs.Reached.{held, IsReached, AreReached};
+ghost use Rattle.fidl_reachable_types.specs.Reached.{held, IsReached, IsJoined, parts_of, AreReached};
 ghost use Rattle.fidl_reachable_types.specs.Faults.{AreTooMany};
 ghost use Rattle.fidl_reachable_types.specs.Samples.{holding, holding_two};
 
@@ -20,12 +20,34 @@ pub fn what_types_hold()
         ≢ ty.bool ∷ [] }
 {}
 
+/// A list is followed by the parts that it lacks, in their order, and each stands there once.
+pub fn what_is_joined()
+    ensures in_order { IsJoined [] (ty.named 0 ∷ ty.bool ∷ []) (ty.named 0 ∷ ty.bool ∷ []) }
+    ensures once { IsJoined (ty.bool ∷ []) (ty.named 0 ∷ ty.bool ∷ ty.named 0 ∷ [])
+        (ty.bool ∷ ty.named 0 ∷ []) }
+    ensures other_order { IsJoined [] (ty.named 0 ∷ ty.bool ∷ []) (ty.bool ∷ ty.named 0 ∷ []) → ⊥ }
+    ensures twice { IsJoined (ty.bool ∷ []) (ty.bool ∷ []) (ty.bool ∷ ty.bool ∷ []) → ⊥ }
+    ensures none_left_out { IsJoined [] (ty.bool ∷ []) [] → ⊥ }
+{}
+
+/// The parts of a list are the roots in their order, then what each type holds, place by place.
+pub fn parts_of_lists()
+    ensures of_roots { parts_of [] (1 ∷ 0 ∷ []) [] ≡ ty.named 1 ∷ ty.named 0 ∷ [] }
+    ensures of_types { parts_of (holding ty.bool ∷ []) (0 ∷ [])
+        (ty.named 0 ∷ ty.vector false 2 (ty.named 0) ∷ [])
+        ≡ ty.named 0 ∷ ty.bool ∷ ty.named 0 ∷ [] }
+    ensures other { parts_of (holding ty.bool ∷ []) (0 ∷ []) (ty.named 0 ∷ [])
+        ≢ ty.bool ∷ ty.named 0 ∷ [] }
+{}
+
 /// A struct reaches itself and its member, each once, and no other.
 pub fn what_is_reached()
     ensures both { AreReached (holding ty.bool ∷ []) (0 ∷ []) (ty.named 0 ∷ ty.bool ∷ []) }
     ensures itself { AreReached (holding (ty.named 0) ∷ []) (0 ∷ []) (ty.named 0 ∷ []) }
     ensures one_alone { AreReached (holding ty.bool ∷ []) (0 ∷ []) (ty.named 0 ∷ []) → ⊥ }
     ensures twice { AreReached (holding ty.bool ∷ []) (0 ∷ []) (ty.named 0 ∷ ty.bool ∷ ty.bool ∷ [])
+        → ⊥ }
+    ensures member_first { AreReached (holding ty.bool ∷ []) (0 ∷ []) (ty.bool ∷ ty.named 0 ∷ [])
         → ⊥ }
     ensures without_roots { (t : Term) → IsReached (holding ty.bool ∷ []) [] t → ⊥ }
 {}

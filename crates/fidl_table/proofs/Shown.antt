@@ -1,5 +1,6 @@
 -- What an assembled table shows of the library whose listing it was made from.
-use Rattle.std.proofs.Common.{◌≡◌, ◌∙◌, ◌<◌, ℕ, List, Some, map, ap, sym, subst}
+use Rattle.std.proofs.Common.{◌≡◌, ◌∙◌, ◌<◌, ℕ, List, [], ◌∷◌, ◌++◌, flat_map, Some, map, refl, ap, sym, subst}
+use Rattle.std.specs.List.{Contains, AllZip}
 use Rattle.std.specs.Prelude.{slice_get}
 use Rattle.std.specs.Global.{Vec}
 use Rattle.fidl_tree.specs.declared.file.File.{File}
@@ -7,6 +8,7 @@ use Rattle.fidl_wire.specs.Term.{Term}
 use Rattle.fidl_wire.specs.Term as ty
 use Rattle.fidl_wire.specs.Figure.{Figure, Declarations}
 use Rattle.fidl_ir.specs.Terms.{definitions_view}
+use Rattle.fidl_reachable_types.specs.Reached.{AreReached}
 use Rattle.fidl_equivalence.proofs.Levels.{alike_types, numbered_types}
 use Rattle.fidl_table_format.specs.Section.{header_of, root_at, method_at}
 use Rattle.fidl_table_format.specs.Root.{root_name}
@@ -21,6 +23,7 @@ use Rattle.fidl_table_build.specs.declared.listing.Listing.{Listing}
 use Rattle.fidl_table_build.specs.declared.listing.MethodEntry.{MethodEntry}
 use Rattle.fidl_table_build.specs.declared.listing.ProtocolEntry.{ProtocolEntry}
 use Rattle.fidl_table_build.specs.Assembled.{IsAssembled, names_of}
+use Rattle.fidl_table_build.specs.Starts.{carried_number, method_numbers, protocol_numbers}
 use Rattle.fidl_table_build.specs.Roots.{IsEntryOf}
 use Rattle.fidl_table_build.specs.Methods as listing
 use Rattle.fidl_declarations.specs.declared.form.Form.{Form as CodeForm}
@@ -30,17 +33,19 @@ use Rattle.fidl_lower_layouts.proofs.One.{one_definitions}
 use Rattle.fidl_types.specs.Types.{TypesAre}
 use Rattle.fidl_layout.specs.Laid.{AreLaidOut}
 use Rattle.fidl_layout.specs.Roots.{AreRoots, RootAt}
-use Rattle.fidl_composition.proofs.Lists.{found_at, among}
+use Rattle.fidl_composition.proofs.Lists.{found_at, among, here, there}
 use Rattle.fidl_payloads.specs.declared.payload.Payload.{Payload as Carried}
 use Rattle.fidl_payloads.specs.declared.payload.Payload.TheVariants.{Missing, Empty}
 use Rattle.fidl_payloads.specs.declared.payload.Payload.TheVariants as carried
 use Rattle.fidl_protocol.specs.declared.method.Method.{Method}
 use Rattle.fidl_protocol.specs.declared.method.Protocol.{Protocol}
+use Rattle.fidl_protocol.specs.Gathered.{payload_numbers, method_payloads, protocol_payloads}
 use Rattle.fidl_protocol.specs.Checked.{AreProtocolsWith}
 use Rattle.fidl_protocol.proofs.Lists.{zip_length}
 use Rattle.fidl_table.specs.Definitions.{definition_names, ShowsDefinition}
 use Rattle.fidl_table.specs.Roots.{IsRootOf, ShowsRoots}
 use Rattle.fidl_table.specs.Protocols.{ShowsPayload, ShowsMethod, ShowsProtocol, ShowsProtocols}
+use Rattle.fidl_table.specs.Entries.{ShowsEntries}
 use Rattle.fidl_table.specs.Shows.{Shows}
 use Rattle.fidl_table.specs.Listed as code
 use Rattle.fidl_table.specs.Listed.{carried_by, IsMethodEntry, IsProtocolEntry, AreListed}
@@ -124,12 +129,66 @@ module _ (files : List File) (l : Listing) (figures : List Figure) (bytes : List
         (e.1.0, subst (λ n. e.1.0 < n) (sym a.protocols.count) e.1.1, protocol_shown p e.0 e.1.0 (found_at l.protocols.now e.0 e.1) e.2);
   }
 
+  -- the protocols of a list of entries
+  listed_protocols : (ps : List Protocol) (es : List ProtocolEntry) → ((e : ProtocolEntry) → Contains es e → (p : Protocol) × Contains ps p × IsProtocolEntry files p e) → (qs : List Protocol) × AllZip (λ p e. Contains ps p × IsProtocolEntry files p e) qs es
+  listed_protocols ps [] sound = ([], tt)
+  listed_protocols ps (e ∷ es) sound =
+      let one = sound e (here e es) in
+      let rest = listed_protocols ps es (λ x c. sound x (there e es x c)) in
+      (one.0 ∷ rest.0, ((one.1, one.2), rest.1))
+
+  carried_payloads : (x : Carried) → carried_number (carried_by x) ≡ payload_numbers x
+  carried_payloads Missing = refl
+  carried_payloads Empty = refl
+  carried_payloads (carried.«Type» i) = refl
+
+  -- they carry the same definitions
+  methods_carry : (ms : List Method) (es : List MethodEntry) → AllZip (IsMethodEntry files) ms es → flat_map method_payloads ms ≡ flat_map method_numbers es
+  methods_carry [] [] h = refl
+  methods_carry [] (e ∷ es) h = absurd h
+  methods_carry (m ∷ ms) [] h = absurd h
+  methods_carry (m ∷ ms) (e ∷ es) h =
+      let request : payload_numbers m.payloads.request ≡ carried_number e.request = sym (ap carried_number h.0.request ∙ carried_payloads m.payloads.request) in
+      let response : payload_numbers m.payloads.response ≡ carried_number e.response = sym (ap carried_number h.0.response ∙ carried_payloads m.payloads.response) in
+      let rest = methods_carry ms es h.1 in
+      λ i. (request i ++ response i) ++ rest i
+
+  protocols_carry : (ps qs : List Protocol) (es : List ProtocolEntry) → AllZip (λ p e. Contains ps p × IsProtocolEntry files p e) qs es → flat_map protocol_payloads qs ≡ flat_map protocol_numbers es
+  protocols_carry ps [] [] h = refl
+  protocols_carry ps [] (e ∷ es) h = absurd h
+  protocols_carry ps (p ∷ qs) [] h = absurd h
+  protocols_carry ps (p ∷ qs) (e ∷ es) h =
+      let first = methods_carry p.methods.items e.methods.items h.0.1.methods in
+      let rest = protocols_carry ps qs es h.1 in
+      λ i. first i ++ rest i
+
+  entries_shown : AreRoots files l.roots.now → (ps : List Protocol) → AreListed files ps l.protocols.now → ShowsEntries files (declared l figures) ps bytes
+  entries_shown are ps listed =
+      let es = l.protocols.now in
+      let found = listed_protocols ps es listed.sound in
+      record {
+        roots = l.roots.now;
+        roots_are = record { count = a.roots.count; each = λ root definition at. root_shown root definition at (are.sound definition (among l.roots.now root definition at)) };
+        protocols = found.0;
+        protocols_are = record {
+          count = a.protocols.count ∙ sym (zip_length (λ p e. Contains ps p × IsProtocolEntry files p e) found.0 es found.1);
+          each = λ number p at.
+              let z = zip_at (λ p e. Contains ps p × IsProtocolEntry files p e) found.0 es number p found.1 at in
+              (z.2.0, protocol_shown p z.0 number z.1 z.2.1);
+        };
+        types = a.types;
+        reached = subst (λ (n : List ℕ). AreReached (definitions_view l.definitions.now) (l.roots.now ++ n) a.types) (sym (protocols_carry ps found.0 es found.1)) a.reached;
+        entries = a.entries figures;
+      }
+
   pub shown : AreRoots files l.roots.now → (ps : List Protocol) → AreProtocolsWith files ps → AreListed files ps l.protocols.now → Shows files bytes
+  unfolding protocols_shown
   shown roots ps are listed = record {
     declarations = declared l figures;
     laid_out = laid;
     roots = roots_shown roots;
     protocols = protocols_shown ps are listed;
+    entries = entries_shown roots ps listed;
   }
 
 -- the same where figures are those of some declarations that are laid out

@@ -1,6 +1,7 @@
 //! Worked facts: what small tables show of files, and what they don't.
-ghost use Rattle.std.specs.Prelude.{◌≡◌, ◌⊎◌, ℕ, List, [], ◌∷◌, codes};
+ghost use Rattle.std.specs.Prelude.{◌≡◌, ◌⊎◌, ℕ, List, [], ◌∷◌, codes, Some, slice_get};
 ghost use Rattle.fidl_tree.specs.declared.file.File.{File};
+ghost use Rattle.fidl_wire.specs.Term as ty;
 ghost use Rattle.fidl_wire.specs.Figure.{Declarations};
 ghost use Rattle.fidl_declarations.specs.Forms.{Form};
 ghost use Rattle.fidl_lower_types.specs.Numbers.{all_forms};
@@ -8,9 +9,11 @@ ghost use Rattle.fidl_layout.specs.Laid.{AreLaidOut};
 ghost use Rattle.fidl_layout.specs.Roots.{RootAt};
 ghost use Rattle.fidl_names.specs.declared.place.DeclarationId.{DeclarationId};
 ghost use Rattle.fidl_composition.specs.Protocols.{IsProtocol};
+ghost use Rattle.fidl_protocol.specs.declared.method.Protocol.{Protocol};
 ghost use Rattle.fidl_table_build.specs.Samples.{header_bytes};
 ghost use Rattle.fidl_table.specs.Definitions.{definition_names, ShowsDefinition};
 ghost use Rattle.fidl_table.specs.Roots.{IsRootOf, ShowsRoots};
+ghost use Rattle.fidl_table.specs.Entries.{ShowsEntries};
 ghost use Rattle.fidl_table.specs.Shows.{Shows};
 ghost use Rattle.fidl_table.specs.Samples.{three_types, three_names, two_roots, one_protocol};
 
@@ -61,6 +64,16 @@ pub fn lists_of_roots()
     ensures fewer { (files : List File) (ds : Declarations) (i : ℕ) → RootAt files i
         → ¬ ShowsRoots files ds (header_bytes 0 0 0 0) }
     ensures more { (ds : Declarations) → ¬ ShowsRoots [] ds (two_roots 16 0 1) }
+{}
+
+/// The entries of a table are the types that roots and payloads reach, the first root first.
+pub fn entries_of_tables()
+    ensures none { (ds : Declarations) → ShowsEntries [] ds [] (header_bytes 0 0 0 0) }
+    ensures first_root_first { (files : List File) (ds : Declarations) (library : List Protocol)
+        (bytes : List ℕ) (i : ℕ) (others : List ℕ) (e : ShowsEntries files ds library bytes)
+        → e.roots ≡ i ∷ others → slice_get e.types 0 ≡ Some (ty.named i) }
+    ensures more_entries { (files : List File) (ds : Declarations) (library : List Protocol)
+        → ¬ ShowsEntries files ds library (header_bytes 1 0 0 0) }
 {}
 
 /// A table shows files that are laid out, by their declared types and their protocols, all of both.

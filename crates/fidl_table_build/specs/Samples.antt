@@ -63,6 +63,16 @@ a_method name = record {
   response = Empty;
 }
 
+-- a strict method of this name: its request carries the definition 4, and its response 3
+abbrev pub two_payloads : Vec ℕ → MethodEntry
+two_payloads name = record {
+  ordinal = 8;
+  name = name;
+  strict = true;
+  request = Definition 4;
+  response = Definition 3;
+}
+
 -- an ajar protocol with this name and these methods
 abbrev pub a_protocol : Vec ℕ → Vec MethodEntry → ProtocolEntry
 a_protocol name methods = record { name = name; openness = Ajar; methods = methods }

@@ -52,14 +52,9 @@ impl Rows<'_, '_> {
         Ok(())
     }
 
-    /// Appends the rows of a table or a union, in the order of their ordinals.
+    /// Appends the rows of a table or a union, whose ordinals rise.
     fn push_members(&self, sections: &mut Sections, rows: &[Row]) -> Result<(), AllocError> {
-        let mut sorted = Vec::new(self.alloc);
         for row in rows {
-            sorted.push(row)?;
-        }
-        sorted.sort_by_key(|row| row.ordinal)?;
-        for row in &sorted {
             self.push(sections, row.ordinal, &row.name, &row.of)?;
         }
         Ok(())

@@ -76,7 +76,7 @@ pub(crate) fn table_bytes(
     let mut sections = Sections::new(alloc);
     push_entries(alloc, listing, list, &mut sections)?;
     push_rows(alloc, listing, list, &mut sections)?;
-    push_values(alloc, listing, list, &mut sections.values)?;
+    push_values(listing, list, &mut sections.values)?;
     push_roots(alloc, listing, list, &mut sections)?;
     push_protocols(listing.protocols, &mut sections)?;
     push_methods(alloc, list, listing.protocols, &mut sections)?;

@@ -4,7 +4,7 @@ use crate::entries::definition_number;
 use crate::listing::Listing;
 use fidl_ir::Definition;
 use fidl_reachable_types::TypeList;
-use std::alloc::{AllocError, Global};
+use std::alloc::AllocError;
 
 /// Appends the eight bytes of a value; a negative one is sign-extended.
 fn push_value(section: &mut Vec<u8>, value: i128) -> Result<(), AllocError> {
@@ -17,12 +17,9 @@ fn push_value(section: &mut Vec<u8>, value: i128) -> Result<(), AllocError> {
     }
 }
 
-/// Appends the values of a strict enum, in their order.
-fn push_enum(alloc: Global, section: &mut Vec<u8>, values: &[i128]) -> Result<(), AllocError> {
-    let mut sorted = Vec::new(alloc);
-    sorted.extend_from_slice(values)?;
-    sorted.sort()?;
-    for value in &sorted {
+/// Appends the values of a strict enum, which rise.
+fn push_enum(section: &mut Vec<u8>, values: &[i128]) -> Result<(), AllocError> {
+    for value in values {
         push_value(section, *value)?;
     }
     Ok(())
@@ -30,7 +27,6 @@ fn push_enum(alloc: Global, section: &mut Vec<u8>, values: &[i128]) -> Result<()
 
 /// Appends the values of all types of a list.
 pub(crate) fn push_values(
-    alloc: Global,
     listing: &Listing<'_>,
     list: &TypeList<'_>,
     section: &mut Vec<u8>,
@@ -46,7 +42,7 @@ pub(crate) fn push_values(
             },
         ) = listing.definitions.get(number as usize)
         {
-            push_enum(alloc, section, values)?;
+            push_enum(section, values)?;
         }
     }
     Ok(())

@@ -1,5 +1,5 @@
 //! Worked facts: small tables that show what is listed, and some that don't.
-ghost use Rattle.std.specs.Prelude.{◌≡◌, ◌≢◌, ℕ, List, [], ◌∷◌, codes};
+ghost use Rattle.std.specs.Prelude.{◌≡◌, ◌≢◌, ℕ, List, [], ◌∷◌, codes, Some, slice_get};
 ghost use Rattle.std.specs.Global.{Vec};
 ghost use Rattle.fidl_wire.specs.Term.{Term};
 ghost use Rattle.fidl_wire.specs.Term as ty;
@@ -10,12 +10,14 @@ ghost use Rattle.fidl_table_build.specs.declared.listing.Carried.TheVariants as 
 ghost use Rattle.fidl_table_build.specs.declared.listing.Listing.{Listing};
 ghost use Rattle.fidl_table_build.specs.declared.listing.MethodEntry.{MethodEntry};
 ghost use Rattle.fidl_table_build.specs.declared.listing.ProtocolEntry.{ProtocolEntry};
+ghost use Rattle.fidl_table_build.specs.Starts.{carried_number, method_numbers, protocol_numbers};
+ghost use Rattle.fidl_table_build.specs.Starts.{starts_of};
 ghost use Rattle.fidl_table_build.specs.Roots.{IsEntryOf, ShowsRoot, ShowsRoots};
 ghost use Rattle.fidl_table_build.specs.Methods.{ShowsPayload, ShowsMethod, ShowsProtocol};
 ghost use Rattle.fidl_table_build.specs.Methods.{ShowsProtocols};
 ghost use Rattle.fidl_table_build.specs.Assembled.{names_of, IsAssembled};
 ghost use Rattle.fidl_table_build.specs.Samples.{header_bytes, two_roots, two_methods, two_protocols};
-ghost use Rattle.fidl_table_build.specs.Samples.{one_struct, a_method, a_protocol};
+ghost use Rattle.fidl_table_build.specs.Samples.{one_struct, a_method, two_payloads, a_protocol};
 
 /// The entry of a definition is the place of its type in the list of types.
 pub fn entries_of_definitions()
@@ -136,6 +138,24 @@ pub fn lists_of_protocols()
         → ¬ ShowsProtocols types (p ∷ q ∷ []) (two_protocols 1 1 7) }
 {}
 
+/// The types are reached from the roots, then from what messages carry: a request before its
+/// response, and methods in their order.
+pub fn starts_of_listings()
+    ensures none { carried_number carried.Empty ≡ [] }
+    ensures a_request { (name : Vec ℕ) → method_numbers (a_method name) ≡ 2 ∷ [] }
+    ensures both { (name : Vec ℕ) → method_numbers (two_payloads name) ≡ 4 ∷ 3 ∷ [] }
+    ensures response_first { (name : Vec ℕ) → method_numbers (two_payloads name) ≢ 3 ∷ 4 ∷ [] }
+    ensures methods_in_order { (name own other : Vec ℕ) (methods : Vec MethodEntry)
+        → methods.items ≡ two_payloads own ∷ a_method other ∷ []
+        → protocol_numbers (a_protocol name methods) ≡ 4 ∷ 3 ∷ 2 ∷ [] }
+    ensures roots_first { (l : Listing) (name own : Vec ℕ) (methods : Vec MethodEntry)
+        → methods.items ≡ a_method own ∷ [] → l.roots.now ≡ 5 ∷ 1 ∷ []
+        → l.protocols.now ≡ a_protocol name methods ∷ [] → starts_of l ≡ 5 ∷ 1 ∷ 2 ∷ [] }
+    ensures payloads_first { (l : Listing) (name own : Vec ℕ) (methods : Vec MethodEntry)
+        → methods.items ≡ a_method own ∷ [] → l.roots.now ≡ 5 ∷ 1 ∷ []
+        → l.protocols.now ≡ a_protocol name methods ∷ [] → starts_of l ≢ 2 ∷ 5 ∷ 1 ∷ [] }
+{}
+
 /// A table is that of a listing where its entries, their names, its roots and its protocols are
 /// those of the listing.
 pub fn tables_of_listings()
@@ -147,6 +167,9 @@ pub fn tables_of_listings()
         → definitions_view l.definitions.now ≡ ty.struct ty.no_fields ∷ []
         → names_of l ≡ codes "a" ∷ [] → l.roots.now ≡ 0 ∷ [] → l.protocols.now ≡ []
         → IsAssembled l (one_struct 97 97) }
+    ensures first_root_first { (l : Listing) (bytes : List ℕ) (i : ℕ) (others : List ℕ)
+        → l.roots.now ≡ i ∷ others → (a : IsAssembled l bytes)
+        → slice_get a.types 0 ≡ Some (ty.named i) }
     ensures other_type { (l : Listing)
         → definitions_view l.definitions.now ≡ ty.table ty.no_rows ∷ []
         → l.roots.now ≡ 0 ∷ [] → ¬ IsAssembled l (one_struct 97 97) }

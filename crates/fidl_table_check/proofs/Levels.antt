@@ -10,12 +10,11 @@ use Rattle.fidl_table_format.specs.declared.kind.EntryKind.{EntryKind}
 use Rattle.fidl_table_format.specs.declared.kind.EntryKind.TheVariants as kinds
 use Rattle.fidl_table_format.specs.Section.{header_of, entry_at}
 use Rattle.fidl_table_format.specs.Terms.{below, term_of, declarations_of}
-use Rattle.fidl_table_format.specs.Uses.{uses_rows, uses_ordinals, uses_values}
-use Rattle.fidl_table_format.specs.Entry.{IsOf, IsEntry, row_key}
+use Rattle.fidl_table_format.specs.Uses.{uses_rows, uses_values}
+use Rattle.fidl_table_format.specs.Entry.{IsOf, IsEntry}
 use Rattle.fidl_table_format.specs.WellFormed.{WellFormed}
 use Rattle.fidl_verify.proofs.Known.{test_of}
 use Rattle.fidl_verify.proofs.Stated.{length-below, get_or-below}
-use Rattle.fidl_verify.proofs.Ordered.{rising_keys}
 use Rattle.fidl_table_check.specs.Numbered.{AreEntries}
 use Rattle.fidl_table_check.specs.Members.{IsEntryOf}
 
@@ -50,13 +49,6 @@ module _ (bytes : List ℕ) (well : WellFormed bytes) (e : Entry) (one : IsEntry
   values_within of =
       let own : IsOf kinds.Enum (entry_at bytes one.index) = subst (IsOf kinds.Enum) one.is of in
       subst (λ e. e.first + e.count ≤ (header_of bytes).values) (sym one.is) (rules.children.values (subst IsTrue (sym (test_of uses_values kinds.Enum (entry_at bytes one.index) own)) refl))
-
-  pub ordinals_rise : (k : EntryKind) → IsOf k e → IsTrue (uses_ordinals k) → (i j : ℕ) → i < j → j < e.count → row_key bytes (header_of bytes) e i < row_key bytes (header_of bytes) e j
-  ordinals_rise k of uses =
-      let own : IsOf k (entry_at bytes one.index) = subst (IsOf k) one.is of in
-      let is = subst IsTrue (sym (test_of uses_ordinals k (entry_at bytes one.index) own)) uses in
-      subst (λ e. (i j : ℕ) → i < j → j < e.count → row_key bytes (header_of bytes) e i < row_key bytes (header_of bytes) e j) (sym one.is)
-      (rising_keys (row_key bytes (header_of bytes) (entry_at bytes one.index)) (entry_at bytes one.index).count (λ k q. (rules.sorted.ordinals is k (omega (arith, q))).rises q))
 
 -- alike by what two terms are
 pub level : (R : Term → Term → Type 0) (t u a b : Term) → t ≡ a → u ≡ b → Alike R a b → Alike R t u

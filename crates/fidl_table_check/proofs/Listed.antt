@@ -1,8 +1,6 @@
 -- The values of enums.
 use Rattle.std.proofs.Common.{◌≡◌, ℕ, suc, ◌+◌, ℤ, Bool, true, false, not, IsTrue, List, [], ◌∷◌, length, Option, Some, None, if◌then◌else◌, slice_get, refl, sym, ◌∙◌, subst}
 use Rattle.std.specs.List.{Contains}
-use Rattle.std.specs.List.Sorted.{IsPermutation}
-use Rattle.std.proofs.lemmas.List.Sorted.{IsPermutation-sym, Contains-permutation}
 use Rattle.fidl_wire.specs.Term.{Kind}
 use Rattle.fidl_equivalence.specs.Alike.{AlikeValues, flexible, strict}
 use Rattle.fidl_table_format.specs.declared.record.Entry.{Entry}
@@ -20,12 +18,9 @@ same_values bytes kind (z ∷ zs) first each =
     let rest = same_values bytes kind zs (suc first) (λ k y at. next (λ i. y ≡ value_number kind (value_at bytes h i)) first k (each (suc k) y at)) in
     λ i. first_is i ∷ rest i
 
--- in whatever order they are listed
-pub alike_values : (zs sorted ws : List ℤ) → IsPermutation zs sorted → sorted ≡ ws → AlikeValues (Some zs) (Some ws)
-alike_values zs sorted ws moved is = strict (λ z. (
-  λ among. subst (λ l. Contains l z) is (Contains-permutation zs sorted z moved among),
-  λ among. Contains-permutation sorted zs z (IsPermutation-sym zs sorted moved) (subst (λ l. Contains l z) (sym is) among),
-))
+-- the same values
+pub alike_values : (zs ws : List ℤ) → zs ≡ ws → AlikeValues (Some zs) (Some ws)
+alike_values zs ws is = strict (λ z. (λ among. subst (λ l. Contains l z) is among, λ among. subst (λ l. Contains l z) (sym is) among))
 
 -- an entry that isn't strict has any values
 pub both_flexible : (bytes : List ℕ) (e : Entry) (zs : Option (List ℤ)) (flag : Bool) → zs ≡ None → flag ≡ is_strict e → IsTrue (not flag)

@@ -1,6 +1,6 @@
 -- What holds at each place of a list.
-use Rattle.std.proofs.Common.{◌≡◌, ℕ, zero, suc, ◌+◌, ◌<◌, List, [], ◌∷◌, length, map, get_or, Some, slice_get, inl, inr, refl, sym, ◌∙◌, subst, arith}
-use Rattle.std.proofs.lemmas.Option.{none-some, same_Some, slice_get_within, get_or_from_slice_get}
+use Rattle.std.proofs.Common.{◌≡◌, ℕ, suc, ◌+◌, ◌<◌, List, length, get_or, Some, slice_get, inl, inr, sym, ◌∙◌, subst, arith}
+use Rattle.std.proofs.lemmas.Option.{slice_get_within, get_or_from_slice_get}
 use Rattle.fidl_verify.proofs.Stated.{or_last}
 
 -- at one place more, and at all of them
@@ -17,13 +17,6 @@ module _ {X : Type 0} (xs : List X) (P : ℕ → X → Type 0) where
 
   pub all_places : (n : ℕ) → length xs ≡ n → ((k : ℕ) (y : X) → k < n → slice_get xs k ≡ Some y → P k y) → (k : ℕ) (y : X) → slice_get xs k ≡ Some y → P k y
   all_places n long before k y at = before k y (omega (arith, slice_get_within xs k y at, long)) at
-
--- what holds of the images of a list's elements holds of its image's elements
-pub mapped : {A B : Type 0} (v : A → B) (xs : List A) (P : ℕ → B → Type 0) → ((k : ℕ) (x : A) → slice_get xs k ≡ Some x → P k (v x))
-    → (k : ℕ) (y : B) → slice_get (map v xs) k ≡ Some y → P k y
-mapped v [] P each k y at = absurd (none-some y at)
-mapped v (x ∷ xs) P each zero y at = subst (P 0) (same_Some (v x) y at) (each 0 x refl)
-mapped v (x ∷ xs) P each (suc k) y at = mapped v xs (λ k. P (suc k)) (λ k. each (suc k)) k y at
 
 -- the next place, counted from the next number on
 pub next : (P : ℕ → Type 0) (first k : ℕ) → P (first + suc k) → P (suc first + k)

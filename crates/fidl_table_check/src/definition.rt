@@ -1,5 +1,5 @@
 //! Whether an entry is a type, one level deep.
-ghost use Rattle.std.specs.Prelude.{ℕ, List, map, IsTrue, IfOk};
+ghost use Rattle.std.specs.Prelude.{ℕ, List, map, IsTrue};
 ghost use Rattle.fidl_wire.specs.Term.{Term, resolve};
 ghost use Rattle.fidl_equivalence.specs.Alike.{Alike, IsNumbered};
 ghost use Rattle.fidl_ir.specs.Terms.{term_view, definition_view};
@@ -9,7 +9,7 @@ ghost use Rattle.fidl_table_format.specs.Section.{header_of};
 ghost use Rattle.fidl_table_format.specs.Terms.{term_of};
 ghost use Rattle.fidl_table_check.specs.Members.{IsEntryOf};
 
-use crate::members::{fields_are, members_are};
+use crate::members::{fields_are, rows_are};
 use crate::part::{is_layout, is_part};
 use crate::shape::{
     is_array, is_bits, is_bool, is_box, is_enum, is_handle, is_number, is_struct, is_table,
@@ -20,7 +20,6 @@ use fidl_ir::{Definition, Type};
 use fidl_reachable_types::TypeRef;
 use fidl_table_format::Entry;
 use fidl_verify::Table;
-use std::alloc::{AllocError, Global};
 
 /// Whether an entry is a type that is no definition.
 pub(crate) fn type_is(types: &[TypeRef<'_>], entry: &Entry, of: &Type) -> bool
@@ -52,45 +51,35 @@ pub(crate) fn type_is(types: &[TypeRef<'_>], entry: &Entry, of: &Type) -> bool
 
 /// Whether an entry is this definition.
 pub(crate) fn definition_is(
-    alloc: Global,
     table: &Table<'_>,
     types: &[TypeRef<'_>],
     entry: &Entry,
     definition: &Definition,
-) -> Result<bool, AllocError>
+) -> bool
     requires { IsEntryOf table.now entry.now }
-    ensures { IfOk result (λ is. IsTrue is
+    ensures { IsTrue result
         → Alike (λ t u. IsNumbered (map reference_view types.now) t u) (definition_view definition.now)
-        (term_of table.now (header_of table.now) entry.now)) }
+        (term_of table.now (header_of table.now) entry.now) }
 {
     // Read, for what is known of the entries of a verified table.
     let _entries = table.entries();
     match definition {
-        Definition::Bits { kind, mask } => Ok(is_bits(entry, *kind, *mask)),
+        Definition::Bits { kind, mask } => is_bits(entry, *kind, *mask),
         Definition::Enum { kind, values } => {
-            if !is_enum(entry, *kind) {
-                return Ok(false);
-            }
-            has_values(alloc, table, entry, values)
+            is_enum(entry, *kind) && has_values(table, entry, values)
         }
         Definition::Struct(fields) => {
-            Ok(is_struct(entry) && fields_are(table, types, entry, fields.as_slice()))
+            is_struct(entry) && fields_are(table, types, entry, fields.as_slice())
         }
         Definition::Table(rows) => {
-            if !is_table(entry) {
-                return Ok(false);
-            }
-            members_are(alloc, table, types, entry, rows.as_slice())
+            is_table(entry) && rows_are(table, types, entry, rows.as_slice())
         }
         Definition::Union {
             optional,
             strict,
             rows,
         } => {
-            if !is_union(entry, *optional, *strict) {
-                return Ok(false);
-            }
-            members_are(alloc, table, types, entry, rows.as_slice())
+            is_union(entry, *optional, *strict) && rows_are(table, types, entry, rows.as_slice())
         }
     }
 }

@@ -1,7 +1,6 @@
 //! The values of enums.
-ghost use Rattle.std.specs.Prelude.{◌≡◌, ◌+◌, ◌≤◌, IsTrue, IfOk};
+ghost use Rattle.std.specs.Prelude.{◌≡◌, ◌+◌, ◌≤◌, IsTrue};
 ghost use Rattle.std.specs.Option.{option_map};
-ghost use Rattle.std.specs.List.Sorted.{IsPermutation};
 ghost use Rattle.fidl_equivalence.specs.Alike.{AlikeValues};
 ghost use Rattle.fidl_table_format.specs.Section.{header_of};
 ghost use Rattle.fidl_table_format.specs.Terms.{as_number, value_number, underlying, values_from};
@@ -9,7 +8,6 @@ ghost use Rattle.fidl_table_format.specs.Terms.{strict_values};
 
 use fidl_table_format::{Entry, EntryKind};
 use fidl_verify::Table;
-use std::alloc::{AllocError, Global};
 
 /// The number of this kind that the eight bytes of a value stand for.
 fn number_of(kind: EntryKind, value: u64) -> i128
@@ -28,15 +26,6 @@ fn is_same_number(a: &i128, b: i128) -> bool
     ensures { IsTrue result → a.now ≡ b }
 {
     *a == b
-}
-
-/// The values of an enum in their order as numbers.
-fn in_order(alloc: Global, values: &[i128]) -> Result<Vec<i128>, AllocError>
-    ensures { IfOk result (λ sorted. IsPermutation values.now sorted.items) }
-{
-    let mut sorted = Vec::from_slice(alloc, values)?;
-    sorted.sort_unstable();
-    Ok(sorted)
 }
 
 /// Whether the values of an entry are these, in this order.
@@ -61,26 +50,14 @@ fn values_are(table: &Table<'_>, entry: &Entry, values: &[i128]) -> bool
     true
 }
 
-/// Whether an entry has the values of an enum, and is strict where there are any.
-pub(crate) fn has_values(
-    alloc: Global,
-    table: &Table<'_>,
-    entry: &Entry,
-    values: &Option<Vec<i128>>,
-) -> Result<bool, AllocError>
+/// Whether an entry has the values of an enum, in their order, and is strict where there are any.
+pub(crate) fn has_values(table: &Table<'_>, entry: &Entry, values: &Option<Vec<i128>>) -> bool
     requires { entry.now.first + entry.now.count ≤ (header_of table.now).values }
-    ensures { IfOk result (λ is. IsTrue is
-        → AlikeValues (option_map (λ vs. vs.items) values.now)
-        (strict_values table.now (header_of table.now) entry.now)) }
+    ensures { IsTrue result → AlikeValues (option_map (λ vs. vs.items) values.now)
+        (strict_values table.now (header_of table.now) entry.now) }
 {
     match values {
-        None => Ok(!entry.is_strict()),
-        Some(values) => {
-            if !entry.is_strict() {
-                return Ok(false);
-            }
-            let sorted = in_order(alloc, values.as_slice())?;
-            Ok(values_are(table, entry, sorted.as_slice()))
-        }
+        None => !entry.is_strict(),
+        Some(values) => entry.is_strict() && values_are(table, entry, values.as_slice()),
     }
 }

@@ -6,6 +6,7 @@ use Rattle.fidl_tree.specs.Views.{file_view}
 use Rattle.fidl_tree.specs.declared.file.File.{File}
 use Rattle.fidl_const.specs.Evaluated.{Evaluates}
 use Rattle.fidl_member_rules.specs.Rules.{RulesHold}
+use Rattle.fidl_member_rules.specs.ValueRules.{ValuesHold}
 use Rattle.fidl_declarations.specs.declared.form.Form.{Form as CodeForm}
 use Rattle.fidl_declarations.specs.FormViews.{form_view, forms_view}
 use Rattle.fidl_names.specs.Cycles.{Leads, step, further}
@@ -26,11 +27,11 @@ use Rattle.fidl_types.proofs.ShapedFiles.{file_shaped}
 use Rattle.std.specs.Prelude.{filter}
 
 -- where the rules hold and there are no definitions, there are too many forms
-pub too_many : (files : List File) → ((ts : List Term) → DefinitionsAre files ts → ⊥) → Evaluates files → RulesHold (map file_view files) → UsesHold files → 2 ^ 32 < length (all_forms files)
-too_many files none evaluates holds uses = elim (cases_lt (2 ^ 32) (length (all_forms files))) [
+pub too_many : (files : List File) → ((ts : List Term) → DefinitionsAre files ts → ⊥) → Evaluates files → RulesHold (map file_view files) → ValuesHold files → UsesHold files → 2 ^ 32 < length (all_forms files)
+too_many files none evaluates holds numbers uses = elim (cases_lt (2 ^ 32) (length (all_forms files))) [
   | inl many ↦ many
   | inr few ↦
-      let found = definitions_exist files evaluates.places holds uses few file_shaped in
+      let found = definitions_exist files evaluates.places holds numbers uses few file_shaped in
       absurd (none found.0 found.1)
 ]
 

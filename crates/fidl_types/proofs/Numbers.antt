@@ -1,7 +1,12 @@
 -- The numbers of bits and enums whose members have values, and their mask.
-use Rattle.std.proofs.Common.{◌≡◌, ℕ, ℤ, Bool, true, false, List, [], ◌∷◌, Option, Some, None, map, refl, subst, arith}
+use Rattle.std.proofs.Common.{◌≡◌, ◌≢◌, ◌⊎◌, ◌<ℤ◌, ℕ, ℤ, Bool, true, false, List, [], ◌∷◌, Option, Some, None, map, inl, inr, refl, subst, arith}
 use Rattle.std.specs.Prelude.{pos, negsuc}
-use Rattle.std.specs.List.{AllByRecursion}
+use Rattle.std.specs.Cmp.{int_chain, int_ranks}
+use Rattle.std.specs.Int.Signed.{<ℤ_irrefl}
+use Rattle.std.specs.Ordering.{int_cmp, MatchOrdering}
+use Rattle.std.specs.declared.cmp.Ordering.{Ordering}
+use Rattle.std.specs.declared.cmp.Ordering.TheVariants.{Less, Equal, Greater}
+use Rattle.std.specs.List.{AllByRecursion, AllPairs}
 use Rattle.std.proofs.lemmas.Int.{ints}
 use Rattle.fidl_tree.specs.declared.file.File.{File}
 use Rattle.fidl_tree.specs.Syntax.{Path, Value, Operand, ValueMember, ValuesKind, bits_kind, enum_kind, Underlying}
@@ -18,8 +23,19 @@ use Rattle.fidl_const.specs.Places.{MemberHolds, PlaceHolds}
 use Rattle.fidl_wire.specs.Term as ty
 use Rattle.fidl_wire.specs.Term.{Term}
 use Rattle.fidl_member_rules.specs.Numbers.{HasNumber, NumbersAre}
+use Rattle.fidl_member_rules.specs.ValueRules.{MembersAre, NumbersHold}
+use Rattle.fidl_lower_layouts.proofs.Rising.{rising, pairs_weaker}
 use Rattle.fidl_lower_layouts.specs.Values.{kind_of, or_all, IsMaskOf, IsNumbered, ValuesAre}
 use Rattle.fidl_lower_layouts.proofs.Masks.{IsWord}
+
+-- of two numbers that differ one is below the other
+by_order : (y z : ℤ) (o : Ordering) → MatchOrdering o (y <ℤ z) (y ≡ z) (z <ℤ y) → y ≢ z → (y <ℤ z) ⊎ (z <ℤ y)
+by_order y z Less h not = inl h
+by_order y z Equal h not = absurd (not h)
+by_order y z Greater h not = inr h
+
+one_below : (y z : ℤ) → y ≢ z → (y <ℤ z) ⊎ (z <ℤ y)
+one_below y z not = by_order y z (int_cmp y z) (int_ranks y z) not
 
 module _ (files : List File) where
   -- a value fits its type
@@ -105,32 +121,34 @@ module _ (files : List File) (f : File) (kind : NumberKind) where
   unsigned_of _ _ UnderlyingIs.unwritten e = let same : number.Uint32 ≡ kind = cc in subst (λ (n : NumberKind). is_unsigned n ≡ true) same refl
   unsigned_of _ _ (UnderlyingIs.written path t is) e = bits_unsigned t e
 
-  numbered : (values : ValuesKind) (strict : Bool) (path : Option Path) (ms : List ValueMember) → UnderlyingIs files f values path (Some kind) → (zs : List ℤ) → AreNumbers ms zs → (t : Term) × IsNumbered files f kind values strict ms t
-  numbered bits_kind false path ms of zs h = (ty.bits (kind_of kind) None, refl)
-  numbered enum_kind false path ms of zs h = (ty.enum (kind_of kind) None, refl)
-  numbered enum_kind true path ms of zs h = (ty.enum (kind_of kind) (Some zs), record { numbers = zs; are = h.0; is = refl })
-  numbered bits_kind true path ms of zs h =
+  numbered : (values : ValuesKind) (strict : Bool) (path : Option Path) (ms : List ValueMember) → UnderlyingIs files f values path (Some kind) → (zs : List ℤ) → AreNumbers ms zs → AllPairs (λ y z. y ≢ z) zs → (t : Term) × IsNumbered files f kind values strict ms t
+  numbered bits_kind false path ms of zs h apart = (ty.bits (kind_of kind) None, refl)
+  numbered enum_kind false path ms of zs h apart = (ty.enum (kind_of kind) None, refl)
+  numbered enum_kind true path ms of zs h apart =
+      let r = rising (λ (y z : ℤ). y <ℤ z) (λ z lt. <ℤ_irrefl lt) int_chain zs (pairs_weaker (λ y z. y ≢ z) (λ (y z : ℤ). (y <ℤ z) ⊎ (z <ℤ y)) one_below zs apart) in
+      (ty.enum (kind_of kind) (Some r.list), record { written = zs; are = h.0; numbers = r.list; same = r.same; rise = r.rise; is = refl })
+  numbered bits_kind true path ms of zs h apart =
       let masked = mask_of_words zs (all_words (unsigned_of path (Some kind) of refl) zs h.1) in
       (ty.bits (kind_of kind) (Some masked.0), record { numbers = zs; mask = masked.0; are = h.0; masked = masked.1; is = refl })
 
 module _ (files : List File) (f : File) where
-  values_from : (values : ValuesKind) (strict : Bool) (u : Underlying) (ms : List ValueMember) (place : NamePlace) → place ≡ a_members values (underlying_path u) ms → PlaceHolds files f place → (t : Term) × ValuesAre files f values strict u ms t
-  values_from values strict u ms _ e (PlaceHolds.of_members w path ns kind of members) =
+  values_from : (values : ValuesKind) (strict : Bool) (u : Underlying) (ms : List ValueMember) (place : NamePlace) → place ≡ a_members values (underlying_path u) ms → PlaceHolds files f place → ((zs : List ℤ) → MembersAre files f values u ms zs → NumbersHold values zs) → (t : Term) × ValuesAre files f values strict u ms t
+  values_from values strict u ms _ e (PlaceHolds.of_members w path ns kind of members) holds =
       let same : w ≡ values = cc in
       let paths : path ≡ underlying_path u = cc in
       let all : ns ≡ ms = cc in
       let suited : UnderlyingIs files f values (underlying_path u) (Some kind) = subst (λ (p : Option Path). UnderlyingIs files f values p (Some kind)) paths (subst (λ (v : ValuesKind). UnderlyingIs files f v path (Some kind)) same of) in
       let numbers = numbers_of files f kind ms (subst (λ (l : List ValueMember). AllByRecursion (MemberHolds files f kind) l) all members) in
-      let found = numbered files f kind values strict (underlying_path u) ms suited numbers.0 numbers.1 in
+      let found = numbered files f kind values strict (underlying_path u) ms suited numbers.0 numbers.1 (holds numbers.0 (record { kind = kind; of = suited; are = numbers.1.0 })).differ in
       (found.0, record { kind = kind; of = suited; is = found.1 })
-  values_from values strict u ms _ e (PlaceHolds.of_name kind path) = absurd (cc)
-  values_from values strict u ms _ e (PlaceHolds.of_layout cs) = absurd (cc)
-  values_from values strict u ms _ e (PlaceHolds.of_number of word wants) = absurd (cc)
-  values_from values strict u ms _ e (PlaceHolds.of_count of word wants fits) = absurd (cc)
-  values_from values strict u ms _ e (PlaceHolds.of_named_count of path cs k wants gives) = absurd (cc)
-  values_from values strict u ms _ e (PlaceHolds.of_type of path cs m end wants means resolves holds) = absurd (cc)
-  values_from values strict u ms _ e (PlaceHolds.of_no_type of path cs wants none) = absurd (cc)
+  values_from values strict u ms _ e (PlaceHolds.of_name kind path) apart = absurd (cc)
+  values_from values strict u ms _ e (PlaceHolds.of_layout cs) apart = absurd (cc)
+  values_from values strict u ms _ e (PlaceHolds.of_number of word wants) apart = absurd (cc)
+  values_from values strict u ms _ e (PlaceHolds.of_count of word wants fits) apart = absurd (cc)
+  values_from values strict u ms _ e (PlaceHolds.of_named_count of path cs k wants gives) apart = absurd (cc)
+  values_from values strict u ms _ e (PlaceHolds.of_type of path cs m end wants means resolves holds) apart = absurd (cc)
+  values_from values strict u ms _ e (PlaceHolds.of_no_type of path cs wants none) apart = absurd (cc)
 
   -- bits and enums whose place holds have a definition
-  pub values_of : (values : ValuesKind) (strict : Bool) (u : Underlying) (ms : List ValueMember) → PlaceHolds files f (a_members values (underlying_path u) ms) → (t : Term) × ValuesAre files f values strict u ms t
-  values_of values strict u ms h = values_from values strict u ms (a_members values (underlying_path u) ms) refl h
+  pub values_of : (values : ValuesKind) (strict : Bool) (u : Underlying) (ms : List ValueMember) → PlaceHolds files f (a_members values (underlying_path u) ms) → ((zs : List ℤ) → MembersAre files f values u ms zs → NumbersHold values zs) → (t : Term) × ValuesAre files f values strict u ms t
+  values_of values strict u ms h holds = values_from values strict u ms (a_members values (underlying_path u) ms) refl h holds

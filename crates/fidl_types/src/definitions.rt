@@ -3,6 +3,7 @@ ghost use Rattle.std.specs.Prelude.{◌<◌, ◌^◌, length, map, IfErr, IfOk, 
 ghost use Rattle.fidl_tree.specs.Views.{file_view};
 ghost use Rattle.fidl_const.specs.Evaluated.{Evaluates};
 ghost use Rattle.fidl_member_rules.specs.Rules.{RulesHold as LayoutsHold};
+ghost use Rattle.fidl_member_rules.specs.ValueRules.{ValuesHold};
 ghost use Rattle.fidl_lower_types.specs.Numbers.{all_forms};
 ghost use Rattle.fidl_lower_types.specs.TermViews.{AreKnown};
 ghost use Rattle.fidl_type_rules.specs.Uses.{UsesHold};
@@ -26,6 +27,7 @@ fn all_definitions(sources: &Sources<'_, '_, '_>) -> Result<Option<Vec<Definitio
     requires known { AreKnown sources.now }
     requires evaluated { Evaluates sources.now.named.now }
     requires layouts { LayoutsHold (map file_view sources.now.named.now) }
+    requires numbers { ValuesHold sources.now.named.now }
     requires uses { UsesHold sources.now.named.now }
     ensures found { IfOk result (λ found. IfSome found (λ ds. DefinitionsAre sources.now.named.now
         (definitions_view ds.items))) }
@@ -61,6 +63,7 @@ pub(crate) fn kept_definitions(sources: &Sources<'_, '_, '_>) -> Result<Vec<Defi
     requires known { AreKnown sources.now }
     requires evaluated { Evaluates sources.now.named.now }
     requires layouts { LayoutsHold (map file_view sources.now.named.now) }
+    requires numbers { ValuesHold sources.now.named.now }
     requires uses { UsesHold sources.now.named.now }
     ensures are { IfOk result (λ ds. DefinitionsAre sources.now.named.now
         (definitions_view ds.items)) }

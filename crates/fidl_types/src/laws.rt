@@ -4,6 +4,7 @@ ghost use Rattle.fidl_tree.specs.declared.file.File.{File};
 ghost use Rattle.fidl_tree.specs.Views.{file_view};
 ghost use Rattle.fidl_const.specs.Evaluated.{Evaluates};
 ghost use Rattle.fidl_member_rules.specs.Rules.{RulesHold};
+ghost use Rattle.fidl_member_rules.specs.ValueRules.{ValuesHold};
 ghost use Rattle.fidl_lower_types.specs.Numbers.{all_forms};
 ghost use Rattle.fidl_type_rules.specs.Uses.{UsesHold};
 ghost use Rattle.fidl_wire.specs.Term.{Term};
@@ -13,11 +14,12 @@ ghost use Rattle.fidl_types.specs.declared.fault.TypeFault.TheVariants as Faults
 ghost use Rattle.fidl_types.specs.Types.{TypesAre};
 ghost use Rattle.fidl_types.specs.Faults.{IsTrueOfTypes};
 
-/// Where files evaluate, their layouts keep the rules and their types are proper where they are
-/// used, each form has its definition; the number of forms fits into 32 bits.
+/// Where files evaluate, their layouts and the numbers of their members keep the rules and their
+/// types are proper where they are used, each form has its definition; the number of forms fits into
+/// 32 bits.
 pub fn definitions_exist()
     ensures { (files : List File) → Evaluates files → RulesHold (map file_view files)
-        → UsesHold files → length (all_forms files) ≤ 2 ^ 32
+        → ValuesHold files → UsesHold files → length (all_forms files) ≤ 2 ^ 32
         → (ts : List Term) × DefinitionsAre files ts }
 {}
 

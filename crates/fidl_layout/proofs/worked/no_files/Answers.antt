@@ -3,7 +3,7 @@ use Rattle.std.proofs.lemmas.Option.{none-some}
 use Rattle.fidl_wire.specs.Term.{Term}
 use Rattle.fidl_names.specs.Cycles.{Leads, step, further}
 use Rattle.fidl_ir_rules.specs.Inline.{HoldsInline}
-use Rattle.fidl_reachable_types.specs.Reached.{IsReached, root, part}
+use Rattle.fidl_reachable_types.specs.Reached.{IsReached, with_none, root, part}
 use Rattle.fidl_reachable_types.proofs.Members.{nothing_there}
 use Rattle.fidl_layout.proofs.worked.no_files.Goals as goal
 
@@ -32,7 +32,7 @@ returns-clause-laid_out c = record {
     roots = [];
     are = record { sound = λ i h. absurd (nothing_there i h); complete = λ i r. absurd (none-some r.form r.at) };
     types = [];
-    reached = record { distinct = λ i j d lt within. absurd (omega (arith, within)); sound = λ t h. absurd (nothing_there t h); complete = λ t h. absurd (none_reached t h) };
+    reached = record { distinct = λ i j d lt within. absurd (omega (arith, within)); sound = λ t h. absurd (nothing_there t h); complete = λ t h. absurd (none_reached t h); order = with_none [] };
     few = omega arith;
   };
 }

@@ -2,7 +2,7 @@ use Rattle.std.proofs.Common.{List, [], arith, inl, inr, refl}
 use Rattle.std.proofs.lemmas.Option.{none-some}
 use Rattle.fidl_wire.specs.Term.{Term}
 use Rattle.fidl_names.specs.Cycles.{Leads, step, further}
-use Rattle.fidl_reachable_types.specs.Reached.{IsReached, AreReached, root, part}
+use Rattle.fidl_reachable_types.specs.Reached.{IsReached, AreReached, with_none, root, part}
 use Rattle.fidl_composition.proofs.Lists.{nothing_there, here}
 use Rattle.fidl_layout.specs.Laid.{AreLaidOut}
 use Rattle.fidl_protocol.specs.Starts.{AreStarts}
@@ -22,6 +22,7 @@ reach_none terms = record {
   distinct = λ i j d lt within. absurd (omega (arith, within));
   sound = λ t h. absurd (nothing_there t h);
   complete = λ t h. absurd (none_reached terms t h);
+  order = with_none [];
 }
 
 no_starts : AreStarts [] []

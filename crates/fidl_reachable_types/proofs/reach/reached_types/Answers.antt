@@ -18,7 +18,7 @@ loop-place-init c =
     record {
       kept = grown.kept;
       limit = grown.limit ∙ c.new-list.ensures.limit;
-      reaching = begin (definitions_view c.args.definitions.now) c.args.roots.now (types_of c.new-list.result) (types_of c.add_roots.new.list) c.new-list.ensures.empty grown.adds grown.has;
+      reaching = begin (definitions_view c.args.definitions.now) c.args.roots.now (types_of c.new-list.result) c.new-list.ensures.empty (types_of c.add_roots.new.list) grown.joined;
     }
 
 pub returns-in_default-clause-ok : goal.returns-in_default-clause-ok
@@ -42,7 +42,7 @@ loop-place-preserved c =
     record {
       kept = grown.kept;
       limit = grown.limit ∙ c.loop-place.invariant.limit;
-      reaching = next (definitions_view c.args.definitions.now) c.args.roots.now types (types_of c.add_held.new.list) c.loop-place.place (reference_view c.in-Some.of) at c.loop-place.invariant.reaching grown.adds grown.has;
+      reaching = next (definitions_view c.args.definitions.now) c.args.roots.now types c.loop-place.place (reference_view c.in-Some.of) at c.loop-place.invariant.reaching (types_of c.add_held.new.list) grown.joined;
     }
 
 pub returns-clause-ok : goal.returns-clause-ok

@@ -2,7 +2,7 @@ use Rattle.std.proofs.Common.{[], refl, arith}
 use Rattle.fidl_wire.specs.Term as ty
 use Rattle.fidl_reachable_types.specs.Reached.{root, part}
 use Rattle.fidl_reachable_types.proofs.Members.{here}
-use Rattle.fidl_reachable_types.proofs.Small.{both_reached, itself_reached, none_reached, other}
+use Rattle.fidl_reachable_types.proofs.Small.{both_reached, member_first, itself_reached, none_reached, other}
 use Rattle.fidl_reachable_types.proofs.worked.what_is_reached.Goals as goal
 
 pub returns-clause-both : goal.returns-clause-both
@@ -19,3 +19,6 @@ returns-clause-twice c = λ r. r.distinct 1 2 ty.bool (omega arith) (omega arith
 
 pub returns-clause-without_roots : goal.returns-clause-without_roots
 returns-clause-without_roots c = none_reached
+
+pub returns-clause-member_first : goal.returns-clause-member_first
+returns-clause-member_first c = member_first

@@ -3,7 +3,7 @@ use Rattle.std.proofs.lemmas.Option.{none-some}
 use Rattle.fidl_wire.specs.Term.{Term}
 use Rattle.fidl_wire.specs.Figure.{no_declarations}
 use Rattle.fidl_names.specs.Cycles.{Leads, step, further}
-use Rattle.fidl_reachable_types.specs.Reached.{IsReached, AreReached, root, part}
+use Rattle.fidl_reachable_types.specs.Reached.{IsReached, AreReached, with_none, root, part}
 use Rattle.fidl_composition.proofs.Lists.{nothing_there}
 use Rattle.fidl_layout.specs.Laid.{AreLaidOut}
 use Rattle.fidl_table.proofs.Small.{left_out, surplus}
@@ -22,6 +22,7 @@ reach_none terms = record {
   distinct = λ i j d lt within. absurd (omega (arith, within));
   sound = λ t h. absurd (nothing_there t h);
   complete = λ t h. absurd (none_reached terms t h);
+  order = with_none [];
 }
 
 laid_out : AreLaidOut [] no_declarations
@@ -63,6 +64,15 @@ returns-clause-none c = record {
     };
     sound = λ number lt. absurd (omega (arith, lt));
     complete = λ p h. absurd (nothing_there p h);
+  };
+  entries = record {
+    roots = [];
+    roots_are = record { count = refl; each = λ root definition at. absurd (none-some definition at) };
+    protocols = [];
+    protocols_are = record { count = refl; each = λ number p at. absurd (none-some p at) };
+    types = [];
+    reached = reach_none [];
+    entries = record { count = refl; levels = λ number t at. absurd (none-some t at) };
   };
 }
 

@@ -1,4 +1,4 @@
-use Rattle.std.proofs.Common.{◌≡◌, ◌∙◌, ℕ, zero, suc, List, [], ◌∷◌, Some, slice_get, get_or, length, codes, refl, ap, sym, subst, arith}
+use Rattle.std.proofs.Common.{◌≡◌, ◌∙◌, ℕ, zero, suc, List, [], ◌∷◌, ◌++◌, flat_map, map, Some, slice_get, get_or, length, codes, refl, ap, sym, subst, arith}
 use Rattle.std.proofs.lemmas.Option.{none-some, same_Some}
 use Rattle.fidl_wire.specs.Term.{Term, nothing}
 use Rattle.fidl_wire.specs.Term as ty
@@ -9,7 +9,11 @@ use Rattle.fidl_equivalence.specs.Alike as like
 use Rattle.fidl_table_format.specs.Terms.{declarations_of}
 use Rattle.fidl_table_check.specs.Numbered.{HaveNames}
 use Rattle.fidl_table_build.specs.Assembled.{names_of}
+use Rattle.fidl_reachable_types.specs.Reached.{held, AreReached, parts_of}
+use Rattle.fidl_table_build.specs.declared.listing.ProtocolEntry.{ProtocolEntry}
+use Rattle.fidl_table_build.specs.Starts.{starts_of, protocol_numbers}
 use Rattle.fidl_table_build.specs.Roots.{ShowsRoot}
+use Rattle.fidl_table_build.proofs.Small.{reach_none, reach_one, first_joined}
 use Rattle.fidl_table_build.specs.Samples.{one_struct}
 use Rattle.fidl_table_build.proofs.worked.tables_of_listings.Goals as goal
 
@@ -33,9 +37,20 @@ rooted : (names : List (List ℕ)) → names ≡ codes "a" ∷ [] → (k i : ℕ
 rooted names is zero i at = subst (λ i. ShowsRoot names one_type (one_struct 97 97) i 0) (same_Some 0 i at) (record { name = ap (λ ns. slice_get ns 0) is; entry = refl })
 rooted names is (suc k) i at = absurd (none-some i at)
 
+pub returns-clause-none : goal.returns-clause-none
+returns-clause-none c = λ l roots protocols. record {
+  types = [];
+  reached = subst (λ (r : List ℕ). AreReached (definitions_view l.definitions.now) r []) (sym (ap (λ (r : List ℕ). r ++ flat_map protocol_numbers l.protocols.now) roots ∙ ap (flat_map protocol_numbers) protocols)) (reach_none (definitions_view l.definitions.now));
+  entries = λ figures. record { count = refl; levels = λ number t at. absurd (none-some t at) };
+  names = λ number i at. absurd (none-some (ty.named i) at);
+  roots = record { count = ap length (sym roots); each = λ k i at. absurd (none-some i (ap (λ (rs : List ℕ). slice_get rs k) (sym roots) ∙ at)) };
+  protocols = record { count = ap length (sym protocols); each = λ k p at. absurd (none-some p (ap (λ (ps : List ProtocolEntry). slice_get ps k) (sym protocols) ∙ at)) };
+}
+
 pub returns-clause-a_struct : goal.returns-clause-a_struct
 returns-clause-a_struct c = λ l definitions names roots protocols. record {
   types = one_type;
+  reached = subst (λ (ts : List Term). AreReached ts (starts_of l) one_type) (sym definitions) (subst (λ (r : List ℕ). AreReached (ty.struct ty.no_fields ∷ []) r one_type) (sym (ap (λ (r : List ℕ). r ++ flat_map protocol_numbers l.protocols.now) roots ∙ ap (λ (ps : List ProtocolEntry). 0 ∷ flat_map protocol_numbers ps) protocols)) reach_one);
   entries = λ figures. record { count = refl; levels = levels (definitions_view l.definitions.now) figures definitions };
   names = named (names_of l) names;
   roots = record {
@@ -68,3 +83,9 @@ returns-clause-other_root_name c = λ l names roots a.
     let root = a.roots.each 0 0 (ap (λ rs. slice_get rs 0) roots) in
     let never : 97 ≡ 98 = ap (λ l. get_or l 0 0) (same_Some (97 ∷ []) (98 ∷ []) (ap (λ ns. slice_get ns 0) (sym names) ∙ root.name)) in
     absurd (omega (arith, never))
+
+pub returns-clause-first_root_first : goal.returns-clause-first_root_first
+returns-clause-first_root_first c = λ l bytes i others roots a.
+    let terms = definitions_view l.definitions.now in
+    let rest : List Term = map ty.named (others ++ flat_map protocol_numbers l.protocols.now) ++ flat_map (held terms) a.types in
+    first_joined (ty.named i) rest (parts_of terms (starts_of l) a.types) a.types (ap (λ (r : List ℕ). parts_of terms (r ++ flat_map protocol_numbers l.protocols.now) a.types) roots) a.reached.order

@@ -1,9 +1,8 @@
-use Rattle.std.proofs.Common.{Bool, IsTrue, List, map, ap, refl, subst}
+use Rattle.std.proofs.Common.{List, map, ap, refl, subst}
 use Rattle.std.specs.Option.{option_map}
-use Rattle.std.proofs.lemmas.Result.{IfOk-weaker}
 use Rattle.fidl_wire.specs.Term.{Term}
 use Rattle.fidl_wire.specs.Term as ty
-use Rattle.fidl_equivalence.specs.Alike.{Alike, AlikeFields, AlikeRows, AlikeValues, IsNumbered}
+use Rattle.fidl_equivalence.specs.Alike.{Alike, AlikeFields, AlikeRows, IsNumbered}
 use Rattle.fidl_equivalence.specs.Alike as like
 use Rattle.fidl_ir.specs.declared.term.Field.{Field}
 use Rattle.fidl_ir.specs.declared.term.Row.{Row}
@@ -12,20 +11,12 @@ use Rattle.fidl_reachable_types.specs.Growing.{reference_view}
 use Rattle.fidl_table_format.specs.declared.kind.EntryKind.TheVariants as kinds
 use Rattle.fidl_table_format.specs.Section.{header_of}
 use Rattle.fidl_table_format.specs.Terms.{term_of, strict_values, fields_from, rows_from}
-use Rattle.fidl_table_check.proofs.Levels.{level, rows_within, ordinals_rise}
+use Rattle.fidl_table_check.proofs.Levels.{level, rows_within}
 use Rattle.fidl_table_check.proofs.definition.definition_is.Goals as goal
 
-pub members_are-requires-clause-rises : goal.members_are-requires-clause-rises
-members_are-requires-clause-rises c =
-    ordinals_rise c.args.table.now c.entries-entries.ensures.well_formed c.args.entry.now c.requires kinds.Table (c.is_table.ensures.of_kind c.if-not-is_table.false) refl
-
-pub members_are-requires-in-Union-clause-within : goal.members_are-requires-in-Union-clause-within
-members_are-requires-in-Union-clause-within c =
-    rows_within c.args.table.now c.entries-entries.ensures.well_formed c.args.entry.now c.requires kinds.Union (c.is_union.ensures.of_kind c.if-not-is_union.false) refl
-
-pub members_are-requires-in-Union-clause-rises : goal.members_are-requires-in-Union-clause-rises
-members_are-requires-in-Union-clause-rises c =
-    ordinals_rise c.args.table.now c.entries-entries.ensures.well_formed c.args.entry.now c.requires kinds.Union (c.is_union.ensures.of_kind c.if-not-is_union.false) refl
+pub rows_are-requires-then-is_union : goal.rows_are-requires-then-is_union
+rows_are-requires-then-is_union c =
+    rows_within c.args.table.now c.entries-entries.ensures.well_formed c.args.entry.now c.requires kinds.Union (c.is_union.ensures.of_kind c.if-is_union.true) refl
 
 pub returns-in-Bits : goal.returns-in-Bits
 returns-in-Bits c = λ is.
@@ -34,18 +25,14 @@ returns-in-Bits c = λ is.
     let one = ty.bits (number_kind_view c.in-Bits.kind) c.in-Bits.mask in
     level R (definition_view c.args.definition.now) (term_of bytes (header_of bytes) c.args.entry.now) one one (ap definition_view c.in-Bits.is) (c.is_bits.ensures is bytes (header_of bytes)) (like.bits refl refl)
 
-pub returns-else-not-is_enum : goal.returns-else-not-is_enum
-returns-else-not-is_enum c =
+pub returns-then-is_enum : goal.returns-then-is_enum
+returns-then-is_enum c = λ is.
     let R : Term → Term → Type 0 = λ t u. IsNumbered (map reference_view c.args.types.now) t u in
     let bytes = c.args.table.now in
     let zs = option_map (λ vs. vs.items) c.in-Enum.values in
     let ws = strict_values bytes (header_of bytes) c.args.entry.now in
     let kind = number_kind_view c.in-Enum.kind in
-    let P : Bool → Type 0 = λ is. IsTrue is → AlikeValues zs ws in
-    let Q : Bool → Type 0 = λ is. IsTrue is → Alike R (definition_view c.args.definition.now) (term_of bytes (header_of bytes) c.args.entry.now) in
-    IfOk-weaker c.has_values.result P Q
-    (λ is p yes. level R (definition_view c.args.definition.now) (term_of bytes (header_of bytes) c.args.entry.now) (ty.enum kind zs) (ty.enum kind ws) (ap definition_view c.in-Enum.is) (c.is_enum.ensures.declares c.if-not-is_enum.false bytes (header_of bytes)) (like.enum refl (p yes)))
-    c.has_values.ensures
+    level R (definition_view c.args.definition.now) (term_of bytes (header_of bytes) c.args.entry.now) (ty.enum kind zs) (ty.enum kind ws) (ap definition_view c.in-Enum.is) (c.is_enum.ensures.declares c.if-is_enum.true bytes (header_of bytes)) (like.enum refl (c.has_values.ensures is))
 
 pub returns-then-is_struct : goal.returns-then-is_struct
 returns-then-is_struct c = λ is.
@@ -56,28 +43,22 @@ returns-then-is_struct c = λ is.
     let alike : AlikeFields R (fields_view fs) gs = subst (λ l. AlikeFields R (fields_view l) gs) c.as_slice.ensures.value (c.fields_are.ensures is) in
     level R (definition_view c.args.definition.now) (term_of bytes (header_of bytes) c.args.entry.now) (ty.struct (fields_view fs)) (ty.struct gs) (ap definition_view c.in-Struct.is) (c.is_struct.ensures.declares c.if-is_struct.true bytes (header_of bytes)) (like.struct alike)
 
-pub returns-else-not-is_table : goal.returns-else-not-is_table
-returns-else-not-is_table c =
+pub returns-then-is_table : goal.returns-then-is_table
+returns-then-is_table c = λ is.
     let R : Term → Term → Type 0 = λ t u. IsNumbered (map reference_view c.args.types.now) t u in
     let bytes = c.args.table.now in
     let rows : List Row = c.in-Table.rows.items in
     let others = rows_from bytes (header_of bytes) c.args.entry.now.first c.args.entry.now.count in
-    let P : Bool → Type 0 = λ is. IsTrue is → AlikeRows R (rows_view c.as_slice-in-Table.result.now) others in
-    let Q : Bool → Type 0 = λ is. IsTrue is → Alike R (definition_view c.args.definition.now) (term_of bytes (header_of bytes) c.args.entry.now) in
-    IfOk-weaker c.members_are.result P Q
-    (λ is p yes. level R (definition_view c.args.definition.now) (term_of bytes (header_of bytes) c.args.entry.now) (ty.table (rows_view rows)) (ty.table others) (ap definition_view c.in-Table.is) (c.is_table.ensures.declares c.if-not-is_table.false bytes (header_of bytes)) (like.table (subst (λ l. AlikeRows R (rows_view l) others) c.as_slice-in-Table.ensures.value (p yes))))
-    c.members_are.ensures
+    let alike : AlikeRows R (rows_view rows) others = subst (λ l. AlikeRows R (rows_view l) others) c.as_slice-then-is_table.ensures.value (c.rows_are.ensures is) in
+    level R (definition_view c.args.definition.now) (term_of bytes (header_of bytes) c.args.entry.now) (ty.table (rows_view rows)) (ty.table others) (ap definition_view c.in-Table.is) (c.is_table.ensures.declares c.if-is_table.true bytes (header_of bytes)) (like.table alike)
 
-pub returns-else-not-is_union : goal.returns-else-not-is_union
-returns-else-not-is_union c =
+pub returns-then-is_union : goal.returns-then-is_union
+returns-then-is_union c = λ is.
     let R : Term → Term → Type 0 = λ t u. IsNumbered (map reference_view c.args.types.now) t u in
     let bytes = c.args.table.now in
     let rows : List Row = c.in-Union.rows.items in
     let o = c.in-Union.optional in
     let s = c.in-Union.strict in
     let others = rows_from bytes (header_of bytes) c.args.entry.now.first c.args.entry.now.count in
-    let P : Bool → Type 0 = λ is. IsTrue is → AlikeRows R (rows_view c.as_slice-in-Union.result.now) others in
-    let Q : Bool → Type 0 = λ is. IsTrue is → Alike R (definition_view c.args.definition.now) (term_of bytes (header_of bytes) c.args.entry.now) in
-    IfOk-weaker c.members_are-in-Union.result P Q
-    (λ is p yes. level R (definition_view c.args.definition.now) (term_of bytes (header_of bytes) c.args.entry.now) (ty.union o s (rows_view rows)) (ty.union o s others) (ap definition_view c.in-Union.is) (c.is_union.ensures.declares c.if-not-is_union.false bytes (header_of bytes)) (like.union refl refl (subst (λ l. AlikeRows R (rows_view l) others) c.as_slice-in-Union.ensures.value (p yes))))
-    c.members_are-in-Union.ensures
+    let alike : AlikeRows R (rows_view rows) others = subst (λ l. AlikeRows R (rows_view l) others) c.as_slice-then-is_union.ensures.value (c.rows_are-then-is_union.ensures is) in
+    level R (definition_view c.args.definition.now) (term_of bytes (header_of bytes) c.args.entry.now) (ty.union o s (rows_view rows)) (ty.union o s others) (ap definition_view c.in-Union.is) (c.is_union.ensures.declares c.if-is_union.true bytes (header_of bytes)) (like.union refl refl alike)

@@ -18,7 +18,7 @@ loop-number-preserved c = λ k t p at.
       | inl less ↦ c.loop-number.invariant k t less at
       | inr e ↦
           let P : ℕ → Type 0 = λ i. slice_get types i ≡ Some t → Alike (λ t u. IsNumbered types t u) (resolve (definitions_view c.args.definitions.now) t) (term_of bytes (header_of bytes) (entry_at bytes i)) in
-          subst P (sym e) (c.in_ok-entry_is.ensures c.if-not-branch.false t) at
+          subst P (sym e) (c.entry_is.ensures c.if-not-entry_is.false t) at
     ]
 
 pub returns : goal.returns

@@ -1,9 +1,8 @@
-use Rattle.std.proofs.Common.{◌≡◌, ◌∙◌, Bool, IsTrue, Some, slice_get, map, ap, sym}
+use Rattle.std.proofs.Common.{◌≡◌, ◌∙◌, map, ap, sym}
 use Rattle.std.proofs.lemmas.Option.{same_Some}
-use Rattle.std.proofs.lemmas.Result.{IfOk-weaker}
 use Rattle.fidl_wire.specs.Term.{Term, nothing, resolve}
 use Rattle.fidl_wire.specs.Term as ty
-use Rattle.fidl_equivalence.specs.Alike.{Alike, IsNumbered}
+use Rattle.fidl_equivalence.specs.Alike.{IsNumbered}
 use Rattle.fidl_ir.specs.Terms.{term_view, definition_view, definitions_view}
 use Rattle.fidl_reachable_types.specs.Growing.{reference_view}
 use Rattle.fidl_table_format.specs.Section.{header_of, entry_at}
@@ -12,20 +11,15 @@ use Rattle.fidl_table_check.proofs.Levels.{level}
 use Rattle.fidl_table_check.proofs.entries.entry_is.Goals as goal
 
 pub returns-in-Some-definition_at : goal.returns-in-Some-definition_at
-returns-in-Some-definition_at c =
+returns-in-Some-definition_at c = λ is t at.
     let types = map reference_view c.args.types.now in
     let bytes = c.args.table.now in
     let terms = definitions_view c.args.definitions.now in
     let R : Term → Term → Type 0 = λ t u. IsNumbered types t u in
     let one = definition_view c.in-Some-definition_at.definition.now in
     let declared = term_of bytes (header_of bytes) c.entry-entry.result in
-    let P : Bool → Type 0 = λ is. IsTrue is → Alike R one declared in
-    let Q : Bool → Type 0 = λ is. IsTrue is → (t : Term) → slice_get types c.args.number ≡ Some t → Alike R (resolve terms t) (term_of bytes (header_of bytes) (entry_at bytes c.args.number)) in
-    IfOk-weaker c.definition_is.result P Q
-    (λ is p yes t at.
     let own : t ≡ ty.named c.in-Some-layout_number.layout = sym (same_Some (reference_view c.in-Some.of) t (c.in-Some.ensures ∙ at)) ∙ c.in-Some-layout_number.ensures.some in
-    level R (resolve terms t) (term_of bytes (header_of bytes) (entry_at bytes c.args.number)) one declared (ap (resolve terms) own ∙ c.in-Some-definition_at.ensures) (sym (ap (term_of bytes (header_of bytes)) c.entry-entry.ensures.value)) (p yes))
-    c.definition_is.ensures
+    level R (resolve terms t) (term_of bytes (header_of bytes) (entry_at bytes c.args.number)) one declared (ap (resolve terms) own ∙ c.in-Some-definition_at.ensures) (sym (ap (term_of bytes (header_of bytes)) c.entry-entry.ensures.value)) (c.definition_is.ensures is)
 
 pub returns-in-Of : goal.returns-in-Of
 returns-in-Of c = λ is t at.

@@ -13,5 +13,5 @@ returns-clause-none c =
     IfOk-weaker c.definitions.result
     (λ found. IsNone found → (ts : List Term) → DefinitionsAre files ts → ⊥)
     (λ found. IsNone found → 2 ^ 32 < length (all_forms files))
-    (λ found h none. too_many files (h none) c.requires.evaluated c.requires.layouts c.requires.uses)
+    (λ found h none. too_many files (h none) c.requires.evaluated c.requires.layouts c.requires.numbers c.requires.uses)
     c.definitions.ensures.none

@@ -1,22 +1,14 @@
-use Rattle.std.proofs.Common.{◌≡◌, ◌∙◌, ◌∷◌, ◌++◌, [], Bool, true, false, not, List, inl, inr, map, length, sym, ap, subst, refl, arith, true≢false}
+use Rattle.std.proofs.Common.{◌≡◌, ◌∙◌, ◌∷◌, ◌++◌, [], Bool, true, false, not, map, length, sym, ap, subst, refl, arith, true≢false}
 use Rattle.std.specs.Bool.{if◌then◌else◌}
 use Rattle.std.specs.List.{list_any, Contains}
 use Rattle.std.proofs.Math.ListN.{length-map}
 use Rattle.std.proofs.lemmas.List.{length_push, map-append}
-use Rattle.std.proofs.lemmas.List.Elements.{Contains-push}
-use Rattle.fidl_wire.specs.Term.{Term}
-use Rattle.fidl_reachable_types.specs.Growing.{reference_view, Adds}
+use Rattle.fidl_reachable_types.specs.Growing.{reference_view}
+use Rattle.fidl_reachable_types.specs.Reached.{IsJoined}
 use Rattle.fidl_reachable_types.specs.Keys.{words}
 use Rattle.fidl_reachable_types.proofs.Known.{known, unknown, same_words}
-use Rattle.fidl_reachable_types.proofs.Members.{first_or_rest, nothing_there}
-use Rattle.fidl_reachable_types.proofs.Growth.{adds_nothing, adds_one}
+use Rattle.fidl_reachable_types.proofs.Growth.{adds_one, joined_new, joined_known}
 use Rattle.fidl_reachable_types.proofs.list.TypeList.add.Goals as goal
-
-just : (t : Term) (ts : List Term) → Contains ts t → (u : Term) → Contains (t ∷ []) u → Contains ts u
-just t ts h u among = elim (first_or_rest t [] u among) [
-  | inl e ↦ subst (Contains ts) e h
-  | inr none ↦ absurd (nothing_there u none)
-]
 
 not_new : (b : Bool) → false ≡ not b → b ≡ true
 not_new true e = refl
@@ -38,8 +30,7 @@ returns-then-not-is_new-clause-ok c =
     record {
       kept = record { same = ap (map (λ v. v.items)) keys ∙ c.requires.kept.same; within = c.requires.kept.within };
       limit = refl;
-      adds = adds_nothing (map reference_view rs) (reference_view r ∷ []);
-      has = just (reference_view r) (map reference_view rs) there;
+      joined = joined_known (map reference_view rs) (reference_view r) there;
     }
 
 -- src/list.rt:69:13
@@ -68,6 +59,5 @@ returns-clause-ok c =
         within = omega (arith, c.if-len-self.false, c.len.ensures, ap length c.in_ok-push.ensures.items, length_push rs r);
       };
       limit = refl;
-      adds = subst (λ l. Adds (map reference_view rs) l (reference_view r ∷ [])) (sym types) (adds_one (map reference_view rs) (reference_view r) fresh);
-      has = λ u h. subst (λ l. Contains l u) (sym types) (just (reference_view r) (map reference_view rs ++ reference_view r ∷ []) (Contains-push (map reference_view rs) (reference_view r)) u h);
+      joined = subst (IsJoined (map reference_view rs) (reference_view r ∷ [])) (sym types) (joined_new (map reference_view rs) (reference_view r) fresh);
     }

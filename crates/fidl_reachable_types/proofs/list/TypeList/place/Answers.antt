@@ -1,8 +1,6 @@
-use Rattle.std.proofs.Common.{◌≡◌, ◌∙◌, ℕ, Bool, true, false, List, Option, Some, None, IfSome, map, slice_get, refl, sym, subst}
-use Rattle.std.specs.List.{Contains, list_any, position}
-use Rattle.fidl_wire.specs.Term.{Term}
+use Rattle.std.proofs.Common.{◌≡◌, ◌∙◌, ℕ, false, List, Option, Some, None, IfSome, map, slice_get, refl, sym, subst}
+use Rattle.std.specs.List.{list_any, position}
 use Rattle.fidl_reachable_types.specs.Growing.{reference_view}
-use Rattle.fidl_reachable_types.specs.Keys.{words}
 use Rattle.fidl_reachable_types.proofs.Known.{unknown, place_found, same_words}
 use Rattle.fidl_reachable_types.proofs.list.TypeList.place.Goals as goal
 
