@@ -7,4 +7,5 @@ pub mod Ways
 pub mod Growing
 pub mod Excluded
 pub mod Naming
+pub mod Finding
 pub mod Facts

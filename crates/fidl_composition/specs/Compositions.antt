@@ -49,6 +49,13 @@ Composes files p q = (span : Span) × ComposesAt files p span q
 abbrev pub Reaches : List File → (p q : DeclarationId) → Type 0
 Reaches files p q = (p ≡ q) ⊎ Leads (Composes files) p q
 
+-- the place of a path by which one protocol composes a protocol that reaches another
+pub record IsWay (files : List File) (p q : DeclarationId) (place : Place) : Type 0 where
+  pub through : DeclarationId
+  pub composes : ComposesAt files p place.span through
+  pub reaches : Reaches files through q
+  pub file_is : place.file ≡ p.file
+
 -- What files owe.
 
 -- a protocol of the first openness may compose one of the second

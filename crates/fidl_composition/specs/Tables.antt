@@ -13,9 +13,10 @@ use Rattle.fidl_tree.specs.declared.declaration.DeclarationBody.TheVariants.{Pro
 use Rattle.fidl_names.specs.declared.place.Place.{Place}
 use Rattle.fidl_names.specs.declared.place.DeclarationId.{DeclarationId}
 use Rattle.fidl_names.specs.Constraints.{IsDeclarationAt}
+use Rattle.fidl_names.specs.Paths.{path_place}
 use Rattle.fidl_composition.specs.Protocols.{IsProtocolAt, IsProtocol, HasOpenness, IsBefore}
 use Rattle.fidl_composition.specs.Protocols.{AreProtocols}
-use Rattle.fidl_composition.specs.Compositions.{MeansProtocol, MayCompose}
+use Rattle.fidl_composition.specs.Compositions.{MeansProtocol, MayCompose, Reaches}
 use Rattle.fidl_composition.specs.Numbers.{IsComposedNumber}
 
 -- a declared protocol, by its id
@@ -107,6 +108,17 @@ pub record IsTargetBy (files : List File) (number : ℕ) (ids : List Declaration
   pub path : Path
   pub is : m ≡ compose_member attributes path
   pub target : IsTarget files number ids path t
+
+-- a member composes, by a path that stands here, a protocol that reaches another
+pub record IsWayBy (files : List File) (number : ℕ) (m : ProtocolMember) (q : DeclarationId)
+    (span : Span) : Type 0 where
+  pub attributes : List Attribute
+  pub path : Path
+  pub is : m ≡ compose_member attributes path
+  pub through : DeclarationId
+  pub means : MeansProtocol files number path through
+  pub reaches : Reaches files through q
+  pub place : span ≡ path_place path
 
 -- a protocol of this openness may compose what a path in its file means
 abbrev pub PathHolds : List File → (number : ℕ) → Openness → Path → Type 0

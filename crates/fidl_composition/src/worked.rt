@@ -16,8 +16,10 @@ ghost use Rattle.fidl_composition.specs.Protocols.{IsProtocolAt, HasOpenness, Is
 ghost use Rattle.fidl_composition.specs.Protocols.{IsBefore, AreProtocols};
 ghost use Rattle.fidl_composition.specs.Compositions.{MeansProtocol, ComposesAt, Composes};
 ghost use Rattle.fidl_composition.specs.Compositions.{Reaches, MayCompose, ComposesHold, BreaksAt};
-ghost use Rattle.fidl_composition.specs.Compositions.{ComposesFrom, IsFirstOfCycle};
+ghost use Rattle.fidl_composition.specs.Compositions.{ComposesFrom, IsFirstOfCycle, IsWay};
+ghost use Rattle.fidl_composition.specs.Compositions.{ProtocolHolds};
 ghost use Rattle.fidl_composition.specs.Numbers.{AreCompositions, ReachesByNumber};
+ghost use Rattle.fidl_composition.specs.Numbers.{IsComposedNumber, ComposesByNumber};
 ghost use Rattle.fidl_composition.specs.Tables.{at};
 
 /// A protocol may compose those that are no more open than itself, and no others.
@@ -153,4 +155,42 @@ pub fn protocols_by_their_numbers()
         → ReachesByNumber files (p ∷ []) 0 0 }
     ensures past { (files : List File) (p : DeclarationId)
         → ReachesByNumber files (p ∷ []) 0 1 → ⊥ }
+{}
+
+/// A way from a protocol to another is the path of one of its own compositions, in its own file, from
+/// whose protocol the other is reached.
+pub fn ways_to_protocols()
+    ensures there { (files : List File) (p q r : DeclarationId) (s : Span) → ComposesAt files p s q
+        → Reaches files q r → IsWay files p r (record { file = p.file; span = s }) }
+    ensures composed { (files : List File) (p q : DeclarationId) (s : Span)
+        → ComposesAt files p s q → IsWay files p q (record { file = p.file; span = s }) }
+    ensures elsewhere { (files : List File) (p q : DeclarationId) (place : Place)
+        → ((r : DeclarationId) → ComposesAt files p place.span r → ⊥) → IsWay files p q place → ⊥ }
+    ensures other_file { (files : List File) (p q : DeclarationId) (place : Place)
+        → place.file ≢ p.file → IsWay files p q place → ⊥ }
+    ensures not_reached { (files : List File) (p q : DeclarationId) (place : Place)
+        → ((r : DeclarationId) → Composes files p r → Reaches files r q → ⊥)
+        → IsWay files p q place → ⊥ }
+{}
+
+/// A protocol that composes another composes its number, and none past the last.
+pub fn numbers_of_composed_protocols()
+    ensures composed { (files : List File) (p q : DeclarationId) → Composes files p q
+        → IsComposedNumber files (q ∷ []) p 0 }
+    ensures other { (files : List File) (p q : DeclarationId) → (Composes files p q → ⊥)
+        → IsComposedNumber files (q ∷ []) p 0 → ⊥ }
+    ensures past { (files : List File) (p : DeclarationId) → IsComposedNumber files [] p 0 → ⊥ }
+    ensures both { (files : List File) (p q : DeclarationId) → Composes files p q
+        → ComposesByNumber files (p ∷ q ∷ []) 0 1 }
+    ensures neither { (files : List File) (p q : DeclarationId) → (Composes files p q → ⊥)
+        → ComposesByNumber files (p ∷ q ∷ []) 0 1 → ⊥ }
+{}
+
+/// A protocol that composes none may do so; a closed one may not compose an ajar one.
+pub fn what_one_protocol_owes()
+    ensures none { (files : List File) (p : DeclarationId)
+        → ((q : DeclarationId) → Composes files p q → ⊥) → ProtocolHolds files p }
+    ensures too_open { (files : List File) (p q : DeclarationId) → Composes files p q
+        → HasOpenness files p closed_protocol → HasOpenness files q ajar_protocol
+        → ProtocolHolds files p → ⊥ }
 {}

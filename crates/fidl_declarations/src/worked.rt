@@ -7,13 +7,14 @@ ghost use Rattle.fidl_tree.specs.Syntax.{Path, TypeUse, named_type, layout_type,
 ghost use Rattle.fidl_tree.specs.Syntax.{no_arguments, next_argument, type_argument};
 ghost use Rattle.fidl_tree.specs.Syntax.{struct_layout, union_layout, table_layout, Members};
 ghost use Rattle.fidl_tree.specs.Syntax.{no_members, next_member, named_member, ordinal_member};
-ghost use Rattle.fidl_tree.specs.Syntax.{reserved_member, alias_body, service_body};
+ghost use Rattle.fidl_tree.specs.Syntax.{reserved_member, alias_body, service_body, event_member};
 ghost use Rattle.fidl_declarations.specs.declared.step.Step.{Step};
 ghost use Rattle.fidl_declarations.specs.declared.step.Step.TheVariants as Steps;
 ghost use Rattle.fidl_declarations.specs.Sites.{any_type, present_type, aliased_type, service_type};
 ghost use Rattle.fidl_declarations.specs.Sites.{second_argument, within, type_site, layout_site};
 ghost use Rattle.fidl_declarations.specs.Sites.{result_site, empty_response_site, attributes_site};
 ghost use Rattle.fidl_declarations.specs.Sites.{type_sites, layout_sites, response_sites, body_sites};
+ghost use Rattle.fidl_declarations.specs.Sites.{protocol_sites};
 ghost use Rattle.fidl_declarations.specs.Forms.{layout_form, layout_kinds, steps_text, file_forms};
 ghost use Rattle.fidl_declarations.specs.Forms.{forms_from};
 ghost use Rattle.fidl_declarations.specs.Keywords.{layout_keyword};
@@ -126,6 +127,52 @@ pub fn names_of_requests()
         → text_at src m ≡ codes "M"
         → steps_text src (Steps.Name p ∷ Steps.Name m ∷ Steps.Request ∷ [])
         ≢ codes "P.request" }
+{}
+
+/// The response of `M` in `P` is named `P.M.response`, the type behind its `error` `P.M.error`, and
+/// the union in which it answers `P.M.result`.
+pub fn names_of_answers()
+    ensures response { (src : List ℕ) (p m : Span) → text_at src p ≡ codes "P"
+        → text_at src m ≡ codes "M"
+        → steps_text src (Steps.Name p ∷ Steps.Name m ∷ Steps.Response ∷ [])
+        ≡ codes "P.M.response" }
+    ensures error { (src : List ℕ) (p m : Span) → text_at src p ≡ codes "P"
+        → text_at src m ≡ codes "M"
+        → steps_text src (Steps.Name p ∷ Steps.Name m ∷ Steps.Error ∷ [])
+        ≡ codes "P.M.error" }
+    ensures result { (src : List ℕ) (p m : Span) → text_at src p ≡ codes "P"
+        → text_at src m ≡ codes "M"
+        → steps_text src (Steps.Name p ∷ Steps.Name m ∷ Steps.Result ∷ [])
+        ≡ codes "P.M.result" }
+    ensures other { (src : List ℕ) (p m : Span) → text_at src p ≡ codes "P"
+        → text_at src m ≡ codes "M"
+        → steps_text src (Steps.Name p ∷ Steps.Name m ∷ Steps.Error ∷ [])
+        ≢ codes "P.M.err" }
+{}
+
+/// What an event carries is named as a response: the layout that is written in `-> E(struct {})` of
+/// `P` stands at `P.E.response`, and not at the path of a request.
+pub fn payloads_of_events()
+    ensures seen { (p : List Step) (e k : Span) → protocol_sites p (event_member [] false e
+        (Some (layout_type [] (struct_layout false k no_members) [])))
+        ≡ attributes_site []
+        ∷ type_site any_type (layout_type [] (struct_layout false k no_members) [])
+        ∷ attributes_site []
+        ∷ layout_site (within (within p (Steps.Name e)) Steps.Response)
+        (struct_layout false k no_members) ∷ [] }
+    ensures other { (p : List Step) (e k : Span) → protocol_sites p (event_member [] false e
+        (Some (layout_type [] (struct_layout false k no_members) [])))
+        ≢ attributes_site []
+        ∷ type_site any_type (layout_type [] (struct_layout false k no_members) [])
+        ∷ attributes_site []
+        ∷ layout_site (within (within p (Steps.Name e)) Steps.Request)
+        (struct_layout false k no_members) ∷ [] }
+    ensures name { (src : List ℕ) (p e : Span) → text_at src p ≡ codes "P"
+        → text_at src e ≡ codes "E"
+        → steps_text src (within (within (Steps.Name p ∷ []) (Steps.Name e)) Steps.Response)
+        ≡ codes "P.E.response" }
+    ensures nothing { (p : List Step) (e : Span)
+        → protocol_sites p (event_member [] false e None) ≡ attributes_site [] ∷ [] }
 {}
 
 /// A union is numbered twice, and a table once.

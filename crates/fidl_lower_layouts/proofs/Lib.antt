@@ -1,5 +1,5 @@
 pub mod Bodies
-pub mod Finding
+pub mod Empties
 pub mod Making
 pub mod Masks
 pub mod Numbered

@@ -1,6 +1,5 @@
 -- The unions in which methods answer (docs/language.md, "Definitions").
-use Rattle.std.specs.Prelude.{ℕ, ◌≡◌, ◌<◌, ◌^◌, Bool, true, false, List, Option, Some, None}
-use Rattle.std.specs.Prelude.{slice_get, codes}
+use Rattle.std.specs.Prelude.{ℕ, ◌≡◌, Bool, true, false, List, Option, Some, None, codes}
 use Rattle.fidl_tree.specs.Syntax.{TypeUse, Response}
 use Rattle.fidl_tree.specs.declared.file.File.{File}
 use Rattle.fidl_declarations.specs.declared.step.Step.{Step}
@@ -9,7 +8,7 @@ use Rattle.fidl_declarations.specs.Sites.{within}
 use Rattle.fidl_declarations.specs.Forms.{Form, empty_response_form}
 use Rattle.fidl_wire.specs.Term as ty
 use Rattle.fidl_wire.specs.Term.{Term, Rows, no_rows, row}
-use Rattle.fidl_lower_types.specs.Numbers.{all_forms}
+use Rattle.fidl_lower_types.specs.Numbers.{all_forms, IsFirst}
 use Rattle.fidl_lower_types.specs.Terms.{TermIs}
 
 -- two paths are those of the result and of the response of one method
@@ -25,14 +24,8 @@ pub record IsEmptyOf (number : ℕ) (result_path : List Step) (form : Form) : Ty
   pub of_method : AreOfOneMethod result_path form.path
 
 -- it is the first such form of a list, and its place there is a number of 32 bits
-pub record IsFirstEmpty (forms : List Form) (number : ℕ) (result_path : List Step) (i : ℕ) : Type 0
-  where
-    pub form : Form
-    pub at : slice_get forms i ≡ Some form
-    pub is : IsEmptyOf number result_path form
-    pub first : (k : ℕ) (other : Form) → k < i → slice_get forms k ≡ Some other
-        → IsEmptyOf number result_path other → ⊥
-    pub low : i < 2 ^ 32
+abbrev pub IsFirstEmpty : List Form → (number : ℕ) → (result_path : List Step) → (i : ℕ) → Type 0
+IsFirstEmpty forms number result_path i = IsFirst forms (IsEmptyOf number result_path) i
 
 -- the number of an empty response
 abbrev pub IsEmptyNumber : List File → (number : ℕ) → (result_path : List Step) → (i : ℕ) → Type 0

@@ -1,96 +1,20 @@
 //! The unions in which methods answer.
-ghost use Rattle.std.specs.Prelude.{◌≡◌, ◌<◌, ◌^◌, ◌↔◌, ℕ, List, Option, length, option_map};
-ghost use Rattle.std.specs.Prelude.{IsTrue, IfOk, IfSome, IsNone};
+ghost use Rattle.std.specs.Prelude.{◌≡◌, ◌<◌, ℕ, Option, length, option_map};
+ghost use Rattle.std.specs.Prelude.{IfOk, IfSome, IsNone};
 ghost use Rattle.fidl_tree.specs.Views.{payload_view, error_view, response_view};
-ghost use Rattle.fidl_declarations.specs.declared.step.Step.{Step as Steps};
-ghost use Rattle.fidl_declarations.specs.Sites.{within};
-ghost use Rattle.fidl_declarations.specs.Forms.{empty_response_form};
-ghost use Rattle.fidl_declarations.specs.FormViews.{form_kind_view, form_view, forms_view};
 ghost use Rattle.fidl_wire.specs.Term.{Term};
 ghost use Rattle.fidl_ir.specs.Terms.{term_view, rows_view, definition_view};
 ghost use Rattle.fidl_lower_types.specs.TermViews.{AreKnown};
-ghost use Rattle.fidl_lower_layouts.specs.Results.{AreOfOneMethod, IsEmptyOf, IsFirstEmpty};
 ghost use Rattle.fidl_lower_layouts.specs.Results.{IsEmptyNumber, ResponseIs, ErrorIs, result_rows};
 ghost use Rattle.fidl_lower_layouts.specs.Results.{IsResult};
 
 use crate::scope::Scope;
 use fidl_constraints::use_of;
-use fidl_declarations::{Form, FormKind, Step};
+use fidl_declarations::Step;
 use fidl_ir::{Definition, NumberKind, Row, Type};
-use fidl_lower_types::{Sources, term_of};
+use fidl_lower_types::{Sources, empty_response_number, names_before, term_of};
 use fidl_tree::{ErrorType, Payload, Response};
 use std::alloc::{AllocError, Global};
-
-/// The path that this one is a step on from.
-fn before_step(path: &[Step], step: Step) -> Option<&[Step]>
-    ensures found { IfSome result (λ method. path.now ≡ within method.now step) }
-    ensures none { IsNone result → (method : List Steps) → path.now ≡ within method step → ⊥ }
-{
-    let last = path.last()?;
-    if *last != step {
-        return None;
-    }
-    Some(&path[..path.len() - 1])
-}
-
-/// Whether two paths are those of the result and of the response of one method.
-fn are_of_one_method(result_path: &[Step], response_path: &[Step]) -> bool
-    ensures { IsTrue result ↔ AreOfOneMethod result_path.now response_path.now }
-{
-    let Some(method) = before_step(result_path, Step::Result) else {
-        return false;
-    };
-    let Some(same) = before_step(response_path, Step::Response) else {
-        return false;
-    };
-    method == same
-}
-
-/// Whether a form is an empty response.
-fn is_empty_response(kind: FormKind<'_>) -> bool
-    ensures { IsTrue result ↔ (form_kind_view kind.entry ≡ empty_response_form) }
-{
-    match kind {
-        FormKind::EmptyResponse => true,
-        FormKind::Layout { .. } => false,
-        FormKind::Result { .. } => false,
-    }
-}
-
-/// Whether a form is the empty response in the result at this path.
-fn is_empty_of(form: &Form<'_, '_>, file_index: usize, result_path: &[Step]) -> bool
-    ensures { IsTrue result ↔ IsEmptyOf file_index result_path.now (form_view form.now) }
-{
-    is_empty_response(form.kind)
-        && form.file_index == file_index
-        && are_of_one_method(result_path, &form.path)
-}
-
-/// The same number, of 32 bits.
-fn small(index: usize) -> Option<u32>
-    ensures found { IfSome result (λ n. (n ≡ index) × (n < 2 ^ 32)) }
-    ensures none { IsNone result → index < 2 ^ 32 → ⊥ }
-{
-    if index > 4_294_967_295 {
-        return None;
-    }
-    Some(index as u32)
-}
-
-/// The place of the empty response in the result at this path.
-fn empty_place(forms: &[Form<'_, '_>], file_index: usize, result_path: &[Step]) -> Option<u32>
-    ensures found { IfSome result (IsFirstEmpty (forms_view forms.now) file_index
-        result_path.now) }
-    ensures none { IsNone result → (i : ℕ) → IsFirstEmpty (forms_view forms.now) file_index
-        result_path.now i → ⊥ }
-{
-    for (index, form) in forms.iter().enumerate() {
-        if is_empty_of(form, file_index, result_path) {
-            return small(index);
-        }
-    }
-    None
-}
 
 /// The number of the empty response in the result at this path.
 fn empty_number(
@@ -104,7 +28,8 @@ fn empty_number(
     ensures none { IsNone result → (i : ℕ) → IsEmptyNumber sources.now.named.now file_index
         result_path.now i → ⊥ }
 {
-    empty_place(sources.forms, file_index, result_path)
+    let (protocol, method) = names_before(result_path, Step::Result)?;
+    empty_response_number(sources, file_index, protocol, method)
 }
 
 /// The type of the member `response`.

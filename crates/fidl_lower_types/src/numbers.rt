@@ -1,14 +1,18 @@
-//! The numbers of layouts.
+//! The numbers of layouts and of all forms.
 ghost use Rattle.std.specs.Prelude.{◌≡◌, ◌<◌, ◌+◌, ◌^◌, ℕ, List, Some, slice_get, IfOk, IfSome};
 ghost use Rattle.std.specs.Prelude.{IsNone, OnOk};
 ghost use Rattle.fidl_tree.specs.Views.{body_view};
 ghost use Rattle.fidl_declarations.specs.Forms.{Form as Plain};
 ghost use Rattle.fidl_declarations.specs.FormViews.{form_view, forms_view};
+ghost use Rattle.indexmap.specs.IndexMap.{get};
 ghost use Rattle.fidl_declarations.specs.Keywords.{layout_keyword};
 ghost use Rattle.fidl_lower_types.specs.Numbers.{all_forms, IsFirstForm};
-ghost use Rattle.fidl_lower_types.specs.NumberViews.{layout_key, form_key, AreNumbers, AreNumbersBefore};
+ghost use Rattle.fidl_lower_types.specs.NumberViews.{layout_key, form_key, same_key, same_answer};
+ghost use Rattle.fidl_lower_types.specs.NumberViews.{IsLayoutKey, IsAnswerKey, AreHeldBefore};
+ghost use Rattle.fidl_lower_types.specs.NumberViews.{AreNumbers};
 ghost use Rattle.fidl_lower_types.specs.TermViews.{AreKnown};
 
+use crate::answers::{AnswerKey, key_of_answer};
 use crate::sources::Sources;
 use fidl_declarations::{Form, FormKind};
 use fidl_span::Span;
@@ -20,10 +24,12 @@ use std::alloc::{AllocError, Global};
 /// absent, and where its keyword begins and ends.
 type LayoutKey = (usize, bool, usize, usize);
 
-/// The numbers of the layouts of forms, by what each is known by.
+/// The numbers of forms, by what each is known by: those of layouts, and those of results and empty
+/// responses.
 #[derive(Drop)]
 pub struct LayoutNumbers {
     known: IndexMap<LayoutKey, u32>,
+    pub(crate) answers: IndexMap<AnswerKey, u32>,
 }
 
 /// Where the keyword of a layout stands.
@@ -73,14 +79,14 @@ fn small(index: usize) -> Option<u32>
 }
 
 /// Gives the layout of a form this number, where it has none yet.
-fn add_form(
-    numbers: &mut LayoutNumbers,
+fn add_layout(
+    known: &mut IndexMap<LayoutKey, u32>,
     form: &Form<'_, '_>,
     index: usize,
 ) -> Result<(), AllocError>
     ensures { OnOk result ((forms : List Plain) → slice_get forms index ≡ Some (form_view form.now)
-        → AreNumbersBefore forms index numbers.old
-        → AreNumbersBefore forms (index + 1) numbers.new) }
+        → AreHeldBefore IsLayoutKey (get same_key known.old) forms index
+        → AreHeldBefore IsLayoutKey (get same_key known.new) forms (index + 1)) }
 {
     let Some(key) = form_key(form) else {
         return Ok(());
@@ -88,26 +94,49 @@ fn add_form(
     let Some(number) = small(index) else {
         return Ok(());
     };
-    if numbers.known.contains_key(&key) {
+    if known.contains_key(&key) {
         return Ok(());
     }
-    numbers.known.insert(key, number)?;
+    known.insert(key, number)?;
     Ok(())
 }
 
-/// The numbers of the layouts of forms.
+/// Gives the result or the empty response that a form is this number, where it has none yet.
+fn add_answer(
+    answers: &mut IndexMap<AnswerKey, u32>,
+    form: &Form<'_, '_>,
+    index: usize,
+) -> Result<(), AllocError>
+    ensures { OnOk result ((forms : List Plain) → slice_get forms index ≡ Some (form_view form.now)
+        → AreHeldBefore IsAnswerKey (get same_answer answers.old) forms index
+        → AreHeldBefore IsAnswerKey (get same_answer answers.new) forms (index + 1)) }
+{
+    let Some(key) = key_of_answer(form) else {
+        return Ok(());
+    };
+    let Some(number) = small(index) else {
+        return Ok(());
+    };
+    if answers.contains_key(&key) {
+        return Ok(());
+    }
+    answers.insert(key, number)?;
+    Ok(())
+}
+
+/// The numbers of forms.
 ///
 /// `AllocError`: memory ran out.
 pub fn layout_numbers(alloc: Global, forms: &[Form<'_, '_>]) -> Result<LayoutNumbers, AllocError>
     ensures { IfOk result (AreNumbers (forms_view forms.now)) }
 {
-    let mut numbers = LayoutNumbers {
-        known: IndexMap::new(alloc),
-    };
+    let mut known = IndexMap::new(alloc);
+    let mut answers = IndexMap::new(alloc);
     for (index, form) in forms.iter().enumerate() {
-        add_form(&mut numbers, form, index)?;
+        add_layout(&mut known, form, index)?;
+        add_answer(&mut answers, form, index)?;
     }
-    Ok(numbers)
+    Ok(LayoutNumbers { known, answers })
 }
 
 /// The number of the layout whose keyword stands there, as it is or where it may be absent.

@@ -1,11 +1,11 @@
 //! Worked facts: what the definitions say of small types, and what they don't.
 ghost use Rattle.std.specs.Prelude.{◌≡◌, ◌≢◌, ◌<◌, ◌^◌, ℕ, List, [], ◌∷◌, Option, None, Some};
-ghost use Rattle.std.specs.Prelude.{true, false};
+ghost use Rattle.std.specs.Prelude.{Bool, true, false};
 ghost use Rattle.fidl_span.specs.declared.words.Span.{Span};
 ghost use Rattle.fidl_tree.specs.Leaf.{text_at};
 ghost use Rattle.fidl_tree.specs.Syntax.{Path, Value, TypeUse, named_type, no_arguments};
 ghost use Rattle.fidl_tree.specs.Syntax.{next_argument, number_argument, type_argument};
-ghost use Rattle.fidl_tree.specs.Syntax.{struct_layout, table_layout, Members};
+ghost use Rattle.fidl_tree.specs.Syntax.{struct_layout, table_layout, Members, Response};
 ghost use Rattle.fidl_tree.specs.declared.file.File.{File};
 ghost use Rattle.fidl_names.specs.declared.meaning.Predeclared.TheVariants as Words;
 ghost use Rattle.fidl_const.specs.Literals.{number_of};
@@ -14,6 +14,11 @@ ghost use Rattle.fidl_constraints.specs.Behind.{word_head};
 ghost use Rattle.fidl_constraints.specs.declared.parts.PartKind.TheVariants as Kinds;
 ghost use Rattle.fidl_constraints.specs.Examples.{part};
 ghost use Rattle.fidl_lower_types.specs.declared.node.Shape.TheVariants as Shapes;
+ghost use Rattle.fidl_declarations.specs.declared.step.Step.{Step};
+ghost use Rattle.fidl_declarations.specs.declared.step.Step.TheVariants as Steps;
+ghost use Rattle.fidl_declarations.specs.Forms.{Form, layout_form, result_form};
+ghost use Rattle.fidl_declarations.specs.Forms.{empty_response_form};
+ghost use Rattle.fidl_lower_types.specs.Numbers.{IsFormAt, IsFirst, IsFirstForm, IsAnswerAt};
 ghost use Rattle.fidl_lower_types.specs.Counts.{CountIs};
 ghost use Rattle.fidl_lower_types.specs.Terms.{Node, made_of, word_term, is_struct, leaf, holds};
 ghost use Rattle.fidl_lower_types.specs.Terms.{HeadIs};
@@ -71,4 +76,55 @@ pub fn vectors_hold_one_type()
         (word_head Words.Vector no_arguments) n → ⊥ }
     ensures bools { (files : List File) → HeadIs files 0 [] (word_head Words.Bool no_arguments)
         (leaf ty.bool) }
+{}
+
+/// A layout is known by where its keyword stands, in its own file and as it is or where it may be
+/// absent; the first form of it has its number.
+pub fn numbers_of_layouts()
+    ensures own { (path : List Step) (name : List ℕ) (k : Span) (ms : Members)
+        → IsFormAt 2 false k (record {
+          file = 2;
+          path = path;
+          name = name;
+          kind = layout_form false (struct_layout false k ms);
+        }) }
+    ensures optional { (form : Form) (k : Span) (ms : Members)
+        → form.kind ≡ layout_form false (struct_layout false k ms) → IsFormAt 2 true k form → ⊥ }
+    ensures elsewhere { (form : Form) (k j : Span) → k ≢ j → IsFormAt 2 false k form
+        → IsFormAt 2 false j form → ⊥ }
+    ensures first { (one other : Form) (k : Span) → (IsFormAt 2 false k one → ⊥)
+        → IsFormAt 2 false k other → IsFirstForm (one ∷ other ∷ []) 2 false k 1 }
+    ensures later { (one other : Form) (k : Span) → IsFormAt 2 false k one
+        → IsFirstForm (one ∷ other ∷ []) 2 false k 1 → ⊥ }
+    ensures too_high { (forms : List Form) (k : Span) → IsFirstForm forms 2 false k (2 ^ 32) → ⊥ }
+{}
+
+/// The result of a method, and the empty response in it, are known by the names of the protocol and
+/// of the method in their own file.
+pub fn numbers_of_answers()
+    ensures result { (p m : Span) (name : List ℕ) (strict : Bool) (r : Response)
+        → IsAnswerAt 2 false p m (record {
+          file = 2;
+          path = Steps.Name p ∷ Steps.Name m ∷ Steps.Result ∷ [];
+          name = name;
+          kind = result_form strict r;
+        }) }
+    ensures empty { (p m : Span) (name : List ℕ) → IsAnswerAt 2 true p m (record {
+      file = 2;
+      path = Steps.Name p ∷ Steps.Name m ∷ Steps.Response ∷ [];
+      name = name;
+      kind = empty_response_form;
+    }) }
+    ensures no_result { (p m : Span) (form : Form) → form.kind ≡ empty_response_form
+        → IsAnswerAt 2 false p m form → ⊥ }
+    ensures other_file { (p m : Span) (form : Form) → IsAnswerAt 2 true p m form
+        → IsAnswerAt 3 true p m form → ⊥ }
+    ensures other_method { (p m n : Span) (form : Form) → m ≢ n → IsAnswerAt 2 false p m form
+        → IsAnswerAt 2 false p n form → ⊥ }
+    ensures other_protocol { (p q m : Span) (form : Form) → p ≢ q → IsAnswerAt 2 false p m form
+        → IsAnswerAt 2 false q m form → ⊥ }
+    ensures layout { (p m k : Span) (ms : Members) (form : Form)
+        → form.kind ≡ layout_form false (struct_layout false k ms) → IsAnswerAt 2 false p m form
+        → ⊥ }
+    ensures none { (p m : Span) (i : ℕ) → IsFirst [] (IsAnswerAt 2 true p m) i → ⊥ }
 {}

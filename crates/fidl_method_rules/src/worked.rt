@@ -13,8 +13,12 @@ ghost use Rattle.fidl_method_rules.specs.Selectors.{selectors, Gives, SelectorsB
 ghost use Rattle.fidl_method_rules.specs.Methods.{Method, method_of, MayStand, named_in, Selects};
 ghost use Rattle.fidl_method_rules.specs.Methods.{OrdinalIs};
 ghost use Rattle.fidl_method_rules.specs.Rules.{MethodHolds, MemberHolds, MethodBreaks, strict_rule};
-ghost use Rattle.fidl_method_rules.specs.Rules.{ordinal_rule};
-ghost use Rattle.fidl_method_rules.specs.MethodViews.{AreMethods};
+ghost use Rattle.fidl_method_rules.specs.Rules.{ordinal_rule, Rule, ProtocolHolds, ProtocolBreaks};
+ghost use Rattle.fidl_method_rules.specs.Rules.{IsReportIn};
+ghost use Rattle.fidl_method_rules.specs.MethodViews.{AreMethods, IsEntryOf, IsEntry};
+ghost use Rattle.fidl_method_rules.specs.declared.fault.MethodFault.TheVariants as Faults;
+ghost use Rattle.fidl_method_rules.specs.declared.methods.OwnMethod.{OwnMethod};
+ghost use Rattle.fidl_names.specs.declared.place.Place.{Place};
 
 /// A flexible method stands in an open protocol, in an ajar one where it is no two-way method, and
 /// in no closed one.
@@ -129,4 +133,37 @@ pub fn entries_of_members()
     ensures none { (f : File) (p : Span) → AreMethods f p [] [] }
     ensures not_left_out { (f : File) (p : Span) (member : ProtocolMember) (m : Method)
         → method_of member ≡ Some m → AreMethods f p (member ∷ []) [] → ⊥ }
+{}
+
+/// A protocol without methods keeps the rules of methods. A closed one with a flexible method breaks
+/// one, which is reported at the method's name in its own file.
+pub fn protocols_and_their_methods()
+    ensures none { (f : File) (openness : Openness) (p : Span) → ProtocolHolds f openness p [] }
+    ensures composition { (f : File) (openness : Openness) (p : Span) (own : List Attribute)
+        (path : Path) → ProtocolHolds f openness p (compose_member own path ∷ []) }
+    ensures refused { (f : File) (p : Span) (member : ProtocolMember) (m : Method)
+        → method_of member ≡ Some m → m.is_strict ≡ false
+        → ProtocolHolds f closed_protocol p (member ∷ []) → ⊥ }
+    ensures there { (f : File) (p : Span) (member : ProtocolMember) (m : Method)
+        → method_of member ≡ Some m → m.is_strict ≡ false
+        → ProtocolBreaks f closed_protocol p (member ∷ []) strict_rule m.name }
+    ensures nothing { (f : File) (openness : Openness) (p : Span) (rule : Rule) (s : Span)
+        → ProtocolBreaks f openness p [] rule s → ⊥ }
+    ensures other_file { (f : File) (openness : Openness) (p : Span) (ms : List ProtocolMember)
+        (place : Place) → place.file ≡ 1
+        → IsReportIn 0 (ProtocolBreaks f openness p ms) (Faults.NotStrict place) → ⊥ }
+{}
+
+/// An entry says what a method of the protocol is; a composition has none, and nothing stands past
+/// the last member.
+pub fn what_entries_say()
+    ensures composition { (f : File) (p : Span) (own : List Attribute) (path : Path)
+        (entry : OwnMethod) → IsEntryOf f p (compose_member own path) entry → ⊥ }
+    ensures own { (f : File) (p : Span) (member : ProtocolMember) (m : Method) (entry : OwnMethod)
+        → method_of member ≡ Some m → entry.name ≡ m.name → entry.is_strict ≡ m.is_strict
+        → OrdinalIs f p m entry.ordinal → IsEntryOf f p member entry }
+    ensures other_name { (f : File) (p : Span) (member : ProtocolMember) (m : Method)
+        (entry : OwnMethod) → method_of member ≡ Some m → entry.name ≢ m.name
+        → IsEntryOf f p member entry → ⊥ }
+    ensures past { (f : File) (p : Span) (entry : OwnMethod) → IsEntry f p [] entry → ⊥ }
 {}
