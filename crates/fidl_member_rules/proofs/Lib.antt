@@ -1,5 +1,5 @@
 pub mod Excluded
-pub mod Numbers
+pub mod OrdinalNumbers
 pub mod Reports
 pub mod ValuesExcluded
 pub mod Listing

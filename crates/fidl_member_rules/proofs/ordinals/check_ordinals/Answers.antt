@@ -10,7 +10,7 @@ use Rattle.fidl_tree.specs.Leaf.{text_at}
 use Rattle.fidl_names.proofs.Seeing.{all_take}
 use Rattle.fidl_const.specs.Literals.{number_of}
 use Rattle.fidl_member_rules.specs.Ordinals.{ordinal_numbers, IsOrdinal}
-use Rattle.fidl_member_rules.proofs.Numbers.{keys_more, differ_more, number_within, number_is, report_outside, report_repeated}
+use Rattle.fidl_member_rules.proofs.OrdinalNumbers.{keys_more, differ_more, number_within, number_is, report_outside, report_repeated}
 use Rattle.fidl_member_rules.proofs.ordinals.check_ordinals.Goals as goal
 
 abbrev none : Span
