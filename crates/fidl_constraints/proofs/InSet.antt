@@ -33,7 +33,7 @@ module _ (files : List File) where
   meant_within number _ (meaning.Member p n) x lt at = absurd at
   meant_within number _ (meaning.PropertyMember p n i) x lt at = absurd at
 
-  target_within : (number : ℕ) (t : TypeUse) (x : Target) → number < length files → RefersTo files number t x → target_file x < length files
+  pub target_within : (number : ℕ) (t : TypeUse) (x : Target) → number < length files → RefersTo files number t x → target_file x < length files
   target_within number _ _ lt (RefersTo.by_layout attributes l cs) = lt
   target_within number _ x lt (RefersTo.by_name path written cs m _ h at) = meant_within number written m x lt at
 

@@ -22,4 +22,5 @@ pub use giving::amount_of;
 pub use heads::{Core, Given, Head};
 pub use laws::what_constraints_give_is_one;
 pub use parts::{Part, PartKind, Parts};
+pub use targets::{Target, refers_to};
 pub use type_use::{TypeUse, use_of};

@@ -16,7 +16,7 @@ use std::alloc::AllocError;
 
 /// What a type refers to at once.
 #[derive(Clone, Copy, Drop)]
-pub(crate) enum Target<'f> {
+pub enum Target<'f> {
     /// The end of its aliases, in the file of this number.
     Ends {
         file_index: usize,
@@ -134,8 +134,11 @@ fn body_of(layout: &Layout) -> &LayoutBody
     &layout.body
 }
 
-/// What a type refers to in the file of this number.
-pub(crate) fn refers_to<'f>(
+/// What a type refers to in the file of this number: the type of the alias that it names, or
+/// itself. Nothing where its name means no type.
+///
+/// `AllocError`: memory ran out.
+pub fn refers_to<'f>(
     named: &Named<'f, '_>,
     file_index: usize,
     of: TypeUse<'f>,

@@ -1,3 +1,4 @@
 pub mod Seen
 pub mod Flagged
 pub mod Targets
+pub mod Excluded

@@ -1,5 +1,5 @@
 -- The graph of what stands in what has the edges of the definition, of those that are there.
-use Rattle.std.proofs.Common.{◌≡◌, ℕ, zero, suc, ◌<◌, inl, inr, Bool, true, cond, List, [], ◌∷◌, length, map, get_or, nat_lt, Some, ap, sym, ◌∙◌, subst, arith}
+use Rattle.std.proofs.Common.{◌≡◌, ℕ, zero, suc, ◌<◌, ◌≤◌, inl, inr, Bool, true, cond, List, [], ◌∷◌, length, map, get_or, nat_lt, Some, ap, sym, ◌∙◌, subst, arith}
 use Rattle.std.specs.Prelude.{filter, slice_get}
 use Rattle.std.specs.List.{Contains}
 use Rattle.std.proofs.lemmas.Bool.{cases_Bool, cases_lt, ltb-true, lt-ltb}
@@ -8,7 +8,7 @@ use Rattle.std.proofs.lemmas.Option.{slice_get-get_or, get_or_from_slice_get}
 use Rattle.std.proofs.Math.ListN.{get_or-map, length-map}
 use Rattle.fidl_wire.specs.Term.{Term, nothing}
 use Rattle.fidl_names.specs.Cycles.{Leads, step, further, IsEdge, IsEdgeFrom, IsFirstEdge}
-use Rattle.fidl_ir_rules.specs.Inline.{inline_names, HoldsInline, StandsInItself}
+use Rattle.fidl_ir_rules.specs.Inline.{inline_names, HoldsInline, HoldsInlineFrom, StandsInItself, IsFirstInItself}
 
 more : {X : Type 0} (x y : X) (xs : List X) → Contains xs y → Contains (x ∷ xs) y
 more x y xs (k, within, is) = (suc k, omega (arith, within), is)
@@ -59,6 +59,11 @@ pub leads_by : {X : Type 0} (R S : X → X → Type 0) → ((x y : X) → R x y 
 leads_by R S each x y (step a b r) = step a b (each a b r)
 leads_by R S each x y (further a b c r h) = further a b c (each a b r) (leads_by R S each b c h)
 
+-- a way over points that don't stand before one begins at no point before it
+starts_from : (graph : List (List ℕ)) (first i j : ℕ) → Leads (IsEdgeFrom graph first) i j → first ≤ i
+starts_from graph first i j (step a b (edge, outer, inner)) = outer
+starts_from graph first i j (further a b c (edge, outer, inner) h) = outer
+
 module _ (terms : List Term) (count : ℕ) (long : length terms ≡ count) (graph : List (List ℕ)) (is_graph : graph ≡ map (λ d. filter (λ i. nat_lt i count) (inline_names d)) terms) where
   abbrev F : Term → List ℕ
   F d = filter (λ i. nat_lt i count) (inline_names d)
@@ -108,6 +113,13 @@ module _ (terms : List Term) (count : ℕ) (long : length terms ≡ count) (grap
   pub none_in_itself : ((t : ℕ) → Leads (IsEdge graph) t t → ⊥) → (i : ℕ) → StandsInItself terms i → ⊥
   none_in_itself none i h = none i (as_edges i i h (starts_within i i h))
 
-  -- what a cycle's edge leaves stands in itself
-  pub in_itself : (i j : ℕ) → IsFirstEdge graph i j → StandsInItself terms i
-  in_itself i j h = further i j i (edge_holds i j h.0) (leads_by (IsEdgeFrom graph i) (HoldsInline terms) (λ x y e. edge_holds x y e.0) j i h.1)
+  edge_holds_from : (first i j : ℕ) → IsEdgeFrom graph first i j → HoldsInlineFrom terms first i j
+  edge_holds_from first i j (edge, outer, inner) = (edge_holds i j edge, outer, inner)
+
+  -- what a cycle's first edge leaves is the first that stands in itself on that cycle
+  pub in_itself : (i j : ℕ) → IsFirstEdge graph i j → IsFirstInItself terms i
+  in_itself i j (edge, back) = further i j i (edge_holds i j edge, omega arith, starts_from graph i j i back) (leads_by (IsEdgeFrom graph i) (HoldsInlineFrom terms i) (edge_holds_from i) j i back)
+
+-- what is the first in itself stands in itself
+pub stands_in_itself : (terms : List Term) (i : ℕ) → IsFirstInItself terms i → StandsInItself terms i
+stands_in_itself terms i h = leads_by (HoldsInlineFrom terms i) (HoldsInline terms) (λ x y held. held.0) i i h

@@ -6,7 +6,7 @@ use Rattle.fidl_ir_rules.specs.declared.fault.DefinitionFault.{DefinitionFault}
 use Rattle.fidl_ir_rules.specs.declared.fault.DefinitionFault.TheVariants.{NotResource}
 use Rattle.fidl_ir_rules.specs.declared.fault.DefinitionFault.TheVariants.{InlineCycle, Memory}
 use Rattle.fidl_ir_rules.specs.Resources.{is_resource, HoldsResource, AllResourcesMarked}
-use Rattle.fidl_ir_rules.specs.Inline.{StandsInItself}
+use Rattle.fidl_ir_rules.specs.Inline.{StandsInItself, IsFirstInItself}
 
 -- both rules hold: what isn't marked holds no resource, and no definition stands in itself
 pub record RulesHold (terms : List Term) (marks : List Mark) : Type 0 where
@@ -17,5 +17,5 @@ pub record RulesHold (terms : List Term) (marks : List Mark) : Type 0 where
 abbrev pub IsTrueOf : (terms : List Term) → (marks : List Mark) → DefinitionFault → Type 0
 IsTrueOf terms marks (NotResource i m) =
     HoldsResource terms marks (is_resource terms marks) i m
-IsTrueOf terms marks (InlineCycle i) = StandsInItself terms i
+IsTrueOf terms marks (InlineCycle i) = IsFirstInItself terms i
 IsTrueOf terms marks Memory = Unit {0}

@@ -1,5 +1,5 @@
 -- Structs that stand in one another (docs/language.md, "Rules of definitions").
-use Rattle.std.specs.Prelude.{ℕ, List, [], Option, Some, None, get_or}
+use Rattle.std.specs.Prelude.{ℕ, ◌≤◌, List, [], Option, Some, None, get_or}
 use Rattle.std.specs.List.{Contains, filter_map}
 use Rattle.fidl_wire.specs.Term.{Term, nothing}
 use Rattle.fidl_wire.specs.Term as ty
@@ -24,3 +24,12 @@ HoldsInline terms outer inner = Contains (inline_names (get_or terms outer nothi
 -- a definition stands in itself, at once or over others
 abbrev pub StandsInItself : List Term → ℕ → Type 0
 StandsInItself terms i = Leads (HoldsInline terms) i i
+
+-- one definition stands in another at once, and neither has a lower number than this
+abbrev pub HoldsInlineFrom : List Term → (first : ℕ) → (outer inner : ℕ) → Type 0
+HoldsInlineFrom terms first outer inner =
+    HoldsInline terms outer inner × (first ≤ outer) × (first ≤ inner)
+
+-- a definition stands in itself, at once or over others, and is the first of these by its number
+abbrev pub IsFirstInItself : List Term → ℕ → Type 0
+IsFirstInItself terms i = Leads (HoldsInlineFrom terms i) i i

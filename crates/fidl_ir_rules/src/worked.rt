@@ -5,7 +5,7 @@ ghost use Rattle.fidl_wire.specs.Term as ty;
 ghost use Rattle.fidl_ir_rules.specs.declared.mark.Mark.TheVariants.{Resource, Value, Result};
 ghost use Rattle.fidl_ir_rules.specs.Resources.{bears, is_resource, AllResourcesMarked};
 ghost use Rattle.fidl_ir_rules.specs.Resources.{HoldsResource};
-ghost use Rattle.fidl_ir_rules.specs.Inline.{inline_names, StandsInItself};
+ghost use Rattle.fidl_ir_rules.specs.Inline.{inline_names, StandsInItself, IsFirstInItself};
 ghost use Rattle.fidl_ir_rules.specs.Samples.{a_handle, holding, holding_two};
 
 /// Handles and resources are held through vectors, arrays and boxes.
@@ -65,4 +65,12 @@ pub fn structs_in_themselves()
     ensures through_an_array { StandsInItself (holding (ty.array (ty.named 0) 2) ∷ []) 0 }
     ensures through_a_box { ¬ (StandsInItself (holding (ty.box (ty.named 0)) ∷ []) 0) }
     ensures of_another { ¬ (StandsInItself (holding (ty.named 1) ∷ holding (ty.named 1) ∷ []) 0) }
+{}
+
+/// Of two structs that hold each other the first is reported, and not the second.
+pub fn the_first_in_itself()
+    ensures alone { IsFirstInItself (holding (ty.named 0) ∷ []) 0 }
+    ensures first { IsFirstInItself (holding (ty.named 1) ∷ holding (ty.named 0) ∷ []) 0 }
+    ensures second { ¬ (IsFirstInItself (holding (ty.named 1) ∷ holding (ty.named 0) ∷ []) 1) }
+    ensures behind_another { IsFirstInItself (holding (ty.named 1) ∷ holding (ty.named 1) ∷ []) 1 }
 {}

@@ -1,4 +1,5 @@
 pub mod Excluded
 pub mod Named
-pub mod Reports
 pub mod Small
+pub mod Closed
+pub mod Stood

@@ -20,6 +20,7 @@ use Rattle.fidl_type_rules.specs.declared.fault.UseFault.TheVariants.{BadConstra
 use Rattle.fidl_type_rules.specs.declared.fault.UseFault.TheVariants.{OptionalMember, OutOfProfile}
 use Rattle.fidl_type_rules.specs.declared.fault.UseFault.TheVariants.{Memory}
 use Rattle.fidl_type_rules.specs.Words.{IsLeftOut, ArgumentsSuit, BoxesOther}
+use Rattle.fidl_type_rules.specs.Made.{IsOfTerms}
 use Rattle.fidl_type_rules.specs.Places.{WantsType, role_suits, presence_suits}
 
 -- What files owe.
@@ -67,9 +68,11 @@ pub data Rule : Type 0 where
   member_rule : Rule
   profile_rule : Rule
 
--- a type is not proper, though it is neither left out of the profile nor a box of no struct
+-- a type is not proper by itself: what it is made of has terms, and it is neither left out of the
+-- profile nor a box of no struct
 pub record IsImproper (files : List File) (number : ℕ) (role : Role) (t : TypeUse) : Type 0 where
   pub improper : (core : Core) (parts : List Part) → IsProper files number role t core parts → ⊥
+  pub made : IsOfTerms files number t
   pub kept : IsLeftOut files number t → ⊥
   pub boxed : (content : TypeUse) → BoxesOther files number t content → ⊥
 
@@ -119,19 +122,10 @@ pub record BreaksAt (files : List File) (rule : Rule) (place : Place) : Type 0 w
   pub file_at : slice_get files place.file ≡ Some f
   pub breaks : OneBreaks files place.file (file_sites (file_view f)) rule place.span
 
--- what a refusal says, by what it is to break a rule at a place; nothing where memory ran out
-abbrev pub IsReport : (Breaks : Rule → Place → Type 0) → UseFault → Type 0
-IsReport Breaks (BadConstraint place) = Breaks constraint_rule place
-IsReport Breaks (BadBox place) = Breaks box_rule place
-IsReport Breaks (OptionalMember place) = Breaks member_rule place
-IsReport Breaks (OutOfProfile place) = Breaks profile_rule place
-IsReport Breaks Memory = Unit {0}
-
--- of the files
+-- a refusal is true of files; that memory ran out says nothing of them
 abbrev pub IsTrueOfUses : List File → UseFault → Type 0
-IsTrueOfUses files = IsReport (BreaksAt files)
-
--- of a part of the file of this number
-abbrev pub IsReportIn : (number : ℕ) → (Breaks : Rule → Span → Type 0) → UseFault → Type 0
-IsReportIn number Breaks =
-    IsReport (λ rule place. (place.file ≡ number) × Breaks rule place.span)
+IsTrueOfUses files (BadConstraint place) = BreaksAt files constraint_rule place
+IsTrueOfUses files (BadBox place) = BreaksAt files box_rule place
+IsTrueOfUses files (OptionalMember place) = BreaksAt files member_rule place
+IsTrueOfUses files (OutOfProfile place) = BreaksAt files profile_rule place
+IsTrueOfUses files Memory = Unit {0}

@@ -1,7 +1,6 @@
 //! One written type: whether it is proper at its place.
 ghost use Rattle.std.specs.Prelude.{◌≡◌, ◌<◌, ◌↔◌, length, true, List, IfOk, IfSome, IsNone};
 ghost use Rattle.std.specs.Prelude.{IsTrue, IfErr, OnOk};
-ghost use Rattle.fidl_tree.specs.Syntax.{TypeUse as PlainUse};
 ghost use Rattle.fidl_constraints.specs.Behind.{Core as Plain};
 ghost use Rattle.fidl_constraints.specs.BehindViews.{core_view, use_view};
 ghost use Rattle.fidl_constraints.specs.declared.parts.Part.{Part};
@@ -9,11 +8,13 @@ ghost use Rattle.fidl_declarations.specs.SiteViews.{role_view};
 ghost use Rattle.fidl_wire.specs.Term.{Term};
 ghost use Rattle.fidl_lower_types.specs.Terms.{TermIs};
 ghost use Rattle.fidl_lower_types.specs.TermViews.{AreKnown};
-ghost use Rattle.fidl_type_rules.specs.Words.{IsLeftOut, BoxesOther};
-ghost use Rattle.fidl_type_rules.specs.Uses.{IsProper, UseHolds, UseBreaks, IsReportIn};
+ghost use Rattle.fidl_type_rules.specs.Made.{IsOfTerms};
+ghost use Rattle.fidl_type_rules.specs.Uses.{IsProper, UseHolds, IsTrueOfUses};
+ghost use Rattle.fidl_type_rules.specs.Standing.{Stands, IsImproperThere};
 
 use crate::boxes::other_content;
 use crate::fault::UseFault;
+use crate::origins::culprit_of;
 use crate::roles::{presence_suits, role_suits};
 use crate::used::{Used, type_span};
 use crate::words::{arguments_suit, is_left_out};
@@ -70,55 +71,64 @@ fn proper<'f>(
     Ok(Some(gathered))
 }
 
-/// A type that is neither left out of the profile nor a box of no struct is proper at its place,
-/// and present where that asks for it.
-fn check_proper(sources: &Sources<'_, '_, '_>, used: Used<'_>) -> Result<(), UseFault>
+/// The fault of a type that isn't proper by itself.
+fn own_fault(sources: &Sources<'_, '_, '_>, used: Used<'_>) -> Result<UseFault, AllocError>
     requires within { used.file_index < length sources.now.named.now }
     requires known { AreKnown sources.now }
-    requires kept { IsLeftOut sources.now.named.now used.file_index (use_view used.of) → ⊥ }
-    requires boxed { (content : PlainUse) → BoxesOther sources.now.named.now used.file_index
-        (use_view used.of) content → ⊥ }
-    ensures ok { OnOk result (UseHolds sources.now.named.now used.entry.file_index
-        (role_view used.entry.role) (use_view used.entry.of)) }
-    ensures fault_is_true { IfErr result (IsReportIn used.entry.file_index (UseBreaks
-        sources.now.named.now used.entry.file_index (role_view used.entry.role)
-        (use_view used.entry.of))) }
+    requires stands { Stands sources.now.named.now used }
+    requires improper { IsImproperThere sources.now.named.now used }
+    requires made { IsOfTerms sources.now.named.now used.file_index (use_view used.of) }
+    ensures { IfOk result (IsTrueOfUses sources.now.named.now) }
 {
-    let place = Place {
-        file: used.file_index,
-        span: type_span(used.of),
-    };
-    let Some(gathered) = proper(sources, used)? else {
-        return Err(UseFault::BadConstraint { place });
-    };
-    if !presence_suits(used.role, gathered.core.head, &gathered.parts) {
-        return Err(UseFault::OptionalMember { place });
+    let file = used.file_index;
+    if is_left_out(sources, file, used.of)? {
+        let span = type_span(used.of);
+        return Ok(UseFault::OutOfProfile {
+            place: Place { file, span },
+        });
     }
-    Ok(())
+    if let Some(content) = other_content(sources, file, used.of)? {
+        let span = type_span(content);
+        return Ok(UseFault::BadBox {
+            place: Place { file, span },
+        });
+    }
+    let span = type_span(used.of);
+    Ok(UseFault::BadConstraint {
+        place: Place { file, span },
+    })
+}
+
+/// The fault of a type that isn't proper: its own, or that of what it is made of.
+fn fault_of(sources: &Sources<'_, '_, '_>, used: Used<'_>) -> Result<UseFault, AllocError>
+    requires within { used.file_index < length sources.now.named.now }
+    requires known { AreKnown sources.now }
+    requires stands { Stands sources.now.named.now used }
+    requires improper { IsImproperThere sources.now.named.now used }
+    ensures { IfOk result (IsTrueOfUses sources.now.named.now) }
+{
+    let culprit = culprit_of(sources, used)?;
+    own_fault(sources, culprit)
 }
 
 /// A type is proper at its place, and present where that asks for it.
 pub(crate) fn check_use(sources: &Sources<'_, '_, '_>, used: Used<'_>) -> Result<(), UseFault>
     requires within { used.file_index < length sources.now.named.now }
     requires known { AreKnown sources.now }
+    requires stands { Stands sources.now.named.now used }
     ensures ok { OnOk result (UseHolds sources.now.named.now used.entry.file_index
         (role_view used.entry.role) (use_view used.entry.of)) }
-    ensures fault_is_true { IfErr result (IsReportIn used.entry.file_index (UseBreaks
-        sources.now.named.now used.entry.file_index (role_view used.entry.role)
-        (use_view used.entry.of))) }
+    ensures fault_is_true { IfErr result (IsTrueOfUses sources.now.named.now) }
 {
-    let file = used.file_index;
-    if is_left_out(sources, file, used.of)? {
-        let span = type_span(used.of);
-        return Err(UseFault::OutOfProfile {
-            place: Place { file, span },
-        });
+    let Some(gathered) = proper(sources, used)? else {
+        return Err(fault_of(sources, used)?);
+    };
+    if !presence_suits(used.role, gathered.core.head, &gathered.parts) {
+        let place = Place {
+            file: used.file_index,
+            span: type_span(used.of),
+        };
+        return Err(UseFault::OptionalMember { place });
     }
-    if let Some(content) = other_content(sources, file, used.of)? {
-        let span = type_span(content);
-        return Err(UseFault::BadBox {
-            place: Place { file, span },
-        });
-    }
-    check_proper(sources, used)
+    Ok(())
 }

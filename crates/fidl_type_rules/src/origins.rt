@@ -1,80 +1,152 @@
-//! What types are made of: where the fault of a type lies that has no term.
-ghost use Rattle.std.specs.Prelude.{◌<◌, length, IfOk, IfSome};
+//! What types are made of: where the fault of a type lies that isn't proper.
+ghost use Rattle.std.specs.Prelude.{◌≡◌, ◌<◌, ℕ, Some, length, IfOk, IfSome, IsNone};
+ghost use Rattle.fidl_tree.specs.Syntax.{TypeUse as Plain};
+ghost use Rattle.fidl_constraints.specs.Behind.{RefersTo, follows};
+ghost use Rattle.fidl_constraints.specs.BehindViews.{use_view};
 ghost use Rattle.fidl_lower_types.specs.TermViews.{AreKnown};
+ghost use Rattle.fidl_type_rules.specs.Words.{arguments_in};
+ghost use Rattle.fidl_type_rules.specs.Made.{first_type, HasTerm, IsOfTerms};
+ghost use Rattle.fidl_type_rules.specs.Standing.{Stands, IsImproperThere};
 
 use crate::judging::has_term;
-use crate::words::as_type;
-use fidl_constraints::{TypeUse, use_of};
+use crate::used::Used;
+use crate::words::first_argument;
+use fidl_constraints::{Target, refers_to};
+use fidl_declarations::Role;
 use fidl_lower_types::Sources;
-use fidl_names::{DeclarationId, Meaning};
-use fidl_tree::{DeclarationBody, NamedType};
 use std::alloc::AllocError;
 
-/// A type, and the number of the file that it stands in.
-#[derive(Clone, Copy, Drop)]
-struct Origin<'f> {
-    file_index: usize,
-    of: TypeUse<'f>,
-}
-
-/// The type that an alias stands for.
-fn aliased<'f>(sources: &Sources<'_, 'f, '_>, id: DeclarationId) -> Option<Origin<'f>>
-    ensures { IfSome result (λ o. o.file_index < length sources.now.named.now) }
-{
-    if id.file >= sources.named.count() {
-        return None;
-    }
-    let declaration = sources.named.file(id.file).declarations.get(id.index)?;
-    match &declaration.body {
-        DeclarationBody::Alias(alias) => Some(Origin {
-            file_index: id.file,
-            of: use_of(&alias.constructor),
-        }),
-        _ => None,
-    }
-}
-
-/// The type that is the first argument of another.
-fn first_argument(named: &NamedType) -> Option<TypeUse<'_>> {
-    let arguments = named.arguments.as_ref()?;
-    as_type(&arguments.first)
-}
-
-/// What a named type is made of: the first argument of a predeclared type, or the type that an
-/// alias stands for.
-fn origin_of<'f>(
+/// The type of the alias that a type names.
+fn aliased<'f>(
     sources: &Sources<'_, 'f, '_>,
-    file_index: usize,
-    named: &'f NamedType,
-) -> Result<Option<Origin<'f>>, AllocError>
-    requires { file_index < length sources.now.named.now }
-    ensures { IfOk result (λ found. IfSome found
+    used: Used<'f>,
+) -> Result<Option<Used<'f>>, AllocError>
+    requires within { used.file_index < length sources.now.named.now }
+    ensures within { IfOk result (λ found. IfSome found
         (λ o. o.file_index < length sources.now.named.now)) }
+    ensures stands { IfOk result (λ found. IfSome found (Stands sources.now.named.now)) }
+    ensures found { IfOk result (λ found. IfSome found (λ o. RefersTo sources.now.named.now
+        used.entry.file_index (use_view used.entry.of) (follows o.file_index (use_view o.of)))) }
+    ensures none { IfOk result (λ found. IsNone found → (n : ℕ) (u : Plain) → RefersTo
+        sources.now.named.now used.entry.file_index (use_view used.entry.of) (follows n u) → ⊥) }
 {
-    match sources.named.type_meaning(file_index, &named.path)? {
-        Some(Meaning::Declared(id)) => Ok(aliased(sources, id)),
-        _ => match first_argument(named) {
-            None => Ok(None),
-            Some(of) => Ok(Some(Origin { file_index, of })),
-        },
+    match refers_to(sources.named, used.file_index, used.of)? {
+        Some(Target::Follows { file_index, next }) => Ok(Some(Used {
+            file_index,
+            role: Role::Aliased,
+            of: next,
+        })),
+        Some(Target::Ends { .. }) => Ok(None),
+        None => Ok(None),
     }
 }
 
-/// Whether what a type is made of has a term, so that a fault lies with the type itself. This only
-/// decides which of several faults is reported.
-pub(crate) fn origin_has_term(
-    sources: &Sources<'_, '_, '_>,
-    file_index: usize,
-    of: TypeUse<'_>,
-) -> Result<bool, AllocError>
-    requires within { file_index < length sources.now.named.now }
+/// The same, if it has no term.
+fn aliased_without_term<'f>(
+    sources: &Sources<'_, 'f, '_>,
+    used: Used<'f>,
+) -> Result<Option<Used<'f>>, AllocError>
+    requires within { used.file_index < length sources.now.named.now }
     requires known { AreKnown sources.now }
+    ensures within { IfOk result (λ found. IfSome found
+        (λ o. o.file_index < length sources.now.named.now)) }
+    ensures stands { IfOk result (λ found. IfSome found (Stands sources.now.named.now)) }
+    ensures without { IfOk result (λ found. IfSome found
+        (λ o. HasTerm sources.now.named.now o.file_index (use_view o.of) → ⊥)) }
+    ensures none { IfOk result (λ found. IsNone found → (n : ℕ) (u : Plain) → RefersTo
+        sources.now.named.now used.entry.file_index (use_view used.entry.of) (follows n u)
+        → HasTerm sources.now.named.now n u) }
 {
-    let TypeUse::Named(named) = of else {
-        return Ok(true);
-    };
-    match origin_of(sources, file_index, named)? {
-        None => Ok(true),
-        Some(found) => has_term(sources, found.file_index, found.of),
+    match aliased(sources, used)? {
+        None => Ok(None),
+        Some(origin) => {
+            if has_term(sources, origin.file_index, origin.of)? {
+                return Ok(None);
+            }
+            Ok(Some(origin))
+        }
+    }
+}
+
+/// The first argument of a type, if it is a type without a term.
+fn argument_without_term<'f>(
+    sources: &Sources<'_, 'f, '_>,
+    used: Used<'f>,
+) -> Result<Option<Used<'f>>, AllocError>
+    requires within { used.file_index < length sources.now.named.now }
+    requires known { AreKnown sources.now }
+    requires stands { Stands sources.now.named.now used }
+    ensures within { IfOk result (λ found. IfSome found
+        (λ o. o.file_index < length sources.now.named.now)) }
+    ensures stands { IfOk result (λ found. IfSome found (Stands sources.now.named.now)) }
+    ensures without { IfOk result (λ found. IfSome found
+        (λ o. HasTerm sources.now.named.now o.file_index (use_view o.of) → ⊥)) }
+    ensures none { IfOk result (λ found. IsNone found → (u : Plain)
+        → first_type (arguments_in (use_view used.entry.of)) ≡ Some u
+        → HasTerm sources.now.named.now used.entry.file_index u) }
+{
+    match first_argument(used.of) {
+        None => Ok(None),
+        Some(argument) => {
+            if has_term(sources, used.file_index, argument)? {
+                return Ok(None);
+            }
+            Ok(Some(Used {
+                file_index: used.file_index,
+                role: Role::Any,
+                of: argument,
+            }))
+        }
+    }
+}
+
+/// What a type is made of that has no term, if some of it has none.
+fn without_term<'f>(
+    sources: &Sources<'_, 'f, '_>,
+    used: Used<'f>,
+) -> Result<Option<Used<'f>>, AllocError>
+    requires within { used.file_index < length sources.now.named.now }
+    requires known { AreKnown sources.now }
+    requires stands { Stands sources.now.named.now used }
+    ensures within { IfOk result (λ found. IfSome found
+        (λ o. o.file_index < length sources.now.named.now)) }
+    ensures stands { IfOk result (λ found. IfSome found (Stands sources.now.named.now)) }
+    ensures without { IfOk result (λ found. IfSome found
+        (λ o. HasTerm sources.now.named.now o.file_index (use_view o.of) → ⊥)) }
+    ensures none { IfOk result (λ found. IsNone found → IsOfTerms sources.now.named.now
+        used.entry.file_index (use_view used.entry.of)) }
+{
+    match aliased_without_term(sources, used)? {
+        Some(origin) => Ok(Some(origin)),
+        None => argument_without_term(sources, used),
+    }
+}
+
+/// Where the fault lies of a type that isn't proper: that type itself, or what it is made of, as
+/// deep as that has no term.
+pub(crate) fn culprit_of<'f>(
+    sources: &Sources<'_, 'f, '_>,
+    used: Used<'f>,
+) -> Result<Used<'f>, AllocError>
+    requires within { used.file_index < length sources.now.named.now }
+    requires known { AreKnown sources.now }
+    requires stands { Stands sources.now.named.now used }
+    requires improper { IsImproperThere sources.now.named.now used }
+    ensures within { IfOk result (λ o. o.file_index < length sources.now.named.now) }
+    ensures stands { IfOk result (Stands sources.now.named.now) }
+    ensures improper { IfOk result (IsImproperThere sources.now.named.now) }
+    ensures made { IfOk result (λ o. IsOfTerms sources.now.named.now o.file_index
+        (use_view o.of)) }
+{
+    let mut way = Vec::new(sources.alloc);
+    let mut current = used;
+    'origins: loop {
+        match without_term(sources, current)? {
+            None => return Ok(current),
+            Some(origin) => {
+                way.push(current.file_index)?;
+                current = origin;
+            }
+        }
     }
 }

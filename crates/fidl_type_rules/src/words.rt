@@ -1,6 +1,6 @@
 //! Types by the predeclared names that they are written with, and their arguments.
 ghost use Rattle.std.specs.Prelude.{◌≡◌, ◌<◌, ◌↔◌, length, IfOk, IfSome, IsNone, IsTrue};
-ghost use Rattle.std.specs.Prelude.{option_copied};
+ghost use Rattle.std.specs.Prelude.{option_copied, Some};
 ghost use Rattle.fidl_tree.specs.Syntax.{TypeUse as Plain, no_arguments, next_argument};
 ghost use Rattle.fidl_tree.specs.Syntax.{type_argument};
 ghost use Rattle.fidl_tree.specs.Views.{path_view, argument_view};
@@ -8,6 +8,7 @@ ghost use Rattle.fidl_names.specs.declared.meaning.Predeclared.{Predeclared as W
 ghost use Rattle.fidl_names.specs.declared.meaning.Meaning.TheVariants as Meanings;
 ghost use Rattle.fidl_constraints.specs.Behind.{MeansType};
 ghost use Rattle.fidl_constraints.specs.BehindViews.{arguments_view, use_view};
+ghost use Rattle.fidl_type_rules.specs.Made.{first_type};
 ghost use Rattle.fidl_type_rules.specs.Words.{IsWord, is_float, IsLeftOut, arguments_in, ArgumentsSuit};
 
 use fidl_constraints::{TypeUse, use_of};
@@ -124,7 +125,7 @@ pub(crate) fn arguments_suit(
 }
 
 /// The type that an argument is.
-pub(crate) fn as_type(argument: &TypeArgument) -> Option<TypeUse<'_>>
+fn as_type(argument: &TypeArgument) -> Option<TypeUse<'_>>
     ensures found { IfSome result (λ t. argument_view argument.now ≡ type_argument (use_view t)) }
     ensures none { IsNone result → (t : Plain) → argument_view argument.now ≡ type_argument t → ⊥ }
 {
@@ -132,6 +133,17 @@ pub(crate) fn as_type(argument: &TypeArgument) -> Option<TypeUse<'_>>
         TypeArgument::Type(constructor) => Some(use_of(constructor)),
         TypeArgument::Number(_) => None,
     }
+}
+
+/// The type that is the first argument of a type.
+pub(crate) fn first_argument<'f>(of: TypeUse<'f>) -> Option<TypeUse<'f>>
+    ensures found { IfSome result (λ t. first_type (arguments_in (use_view of.entry))
+        ≡ Some (use_view t)) }
+    ensures none { IsNone result → (t : Plain) → first_type (arguments_in (use_view of.entry))
+        ≡ Some t → ⊥ }
+{
+    let all = arguments_of(of)?;
+    as_type(&all.first)
 }
 
 /// The type that is the only one of the arguments.

@@ -11,7 +11,7 @@ ghost use Rattle.fidl_names.specs.declared.place.DeclarationId.{DeclarationId};
 ghost use Rattle.fidl_names.specs.declared.meaning.Predeclared.TheVariants as Words;
 ghost use Rattle.fidl_names.specs.declared.meaning.Meaning.TheVariants as Meanings;
 ghost use Rattle.fidl_names.specs.Paths.{path_place};
-ghost use Rattle.fidl_constraints.specs.Behind.{MeansType, word_head};
+ghost use Rattle.fidl_constraints.specs.Behind.{MeansType, RefersTo, follows, word_head};
 ghost use Rattle.fidl_constraints.specs.AliasExamples.{named_with, plain_word};
 ghost use Rattle.fidl_constraints.specs.declared.parts.PartKind.TheVariants as Kinds;
 ghost use Rattle.fidl_constraints.specs.Examples.{part};
@@ -19,6 +19,7 @@ ghost use Rattle.fidl_declarations.specs.Sites.{Role, any_type, aliased_type, ba
 ghost use Rattle.fidl_declarations.specs.Sites.{service_type, second_argument, type_site};
 ghost use Rattle.fidl_type_rules.specs.Words.{is_float, IsLeftOut, ArgumentsSuit, ComesToStruct};
 ghost use Rattle.fidl_type_rules.specs.Words.{IsBoxOf, BoxesOther};
+ghost use Rattle.fidl_type_rules.specs.Made.{first_type, IsMadeOf, HasTerm};
 ghost use Rattle.fidl_type_rules.specs.Places.{WantsType, is_complete, is_bare, role_suits};
 ghost use Rattle.fidl_type_rules.specs.Places.{presence_suits};
 ghost use Rattle.fidl_type_rules.specs.Uses.{UseHolds, SiteHolds, UseBreaks, SiteBreaks};
@@ -48,6 +49,33 @@ pub fn arguments_of_names()
     ensures declared { (files : List File) (n : ℕ) (path : Path) (p : DeclarationId)
         (a : Argument) (rest : Arguments) → MeansType files n path (Meanings.Declared p)
         → ArgumentsSuit files n (named_type path (next_argument a rest) []) → ⊥ }
+{}
+
+/// A type is made of its first argument, and of the type of the alias that it names.
+pub fn what_types_are_made_of()
+    ensures first { (t : TypeUse) (rest : Arguments)
+        → first_type (next_argument (type_argument t) rest) ≡ Some t }
+    ensures none { first_type no_arguments ≡ None }
+    ensures argument { (files : List File) (n : ℕ) (path : Path) (t : TypeUse) (rest : Arguments)
+        → IsMadeOf files n (named_type path (next_argument (type_argument t) rest) []) n t }
+    ensures alias { (files : List File) (n of : ℕ) (path : Path) (u : TypeUse)
+        → RefersTo files n (named_with path []) (follows of u)
+        → IsMadeOf files n (named_with path []) of u }
+    ensures layout { (files : List File) (n of : ℕ) (l : Layout) (u : TypeUse)
+        → IsMadeOf files n (layout_type [] l []) of u → ⊥ }
+{}
+
+/// A use of an alias whose type has no term isn't reported as wrongly written, nor is a type with
+/// such an argument: what it is made of is.
+pub fn what_is_made_of_wrong_types()
+    ensures alias { (files : List File) (n of : ℕ) (role : Role) (path : Path) (u : TypeUse)
+        (s : Span) → RefersTo files n (named_with path []) (follows of u)
+        → (HasTerm files of u → ⊥)
+        → UseBreaks files n role (named_with path []) constraint_rule s → ⊥ }
+    ensures argument { (files : List File) (n : ℕ) (role : Role) (path : Path) (u : TypeUse)
+        (s : Span) → (HasTerm files n u → ⊥)
+        → UseBreaks files n role (named_type path (next_argument (type_argument u) no_arguments)
+        []) constraint_rule s → ⊥ }
 {}
 
 /// A box is of its only argument; a struct is one, and a table is none.

@@ -41,7 +41,7 @@ module _ (terms : List Term) (figures : List Figure) (laid : map (figure_of figu
   member_nest (field name u fs) t (suc k, within, is) = let h = member_nest fs t (k, omega (arith, within), is) in omega (arith, h)
 
   -- a solution has nests as great as is true
-  as_nested : (n : ℕ) (t : Term) → Nested terms n t → n ≤ (figure_of figures t).nest
+  pub as_nested : (n : ℕ) (t : Term) → Nested terms n t → n ≤ (figure_of figures t).nest
   as_nested n t (none u) = omega arith
   as_nested n t empty = omega arith
   as_nested n t (in_struct k fs u among h) = let below = as_nested k u h in let near = member_nest fs u among in omega (arith, below, near)

@@ -66,6 +66,7 @@ pub past_in_struct : (figures : List wire.Figure) (fs : List Field) (i : ℕ) (f
 past_in_struct figures fs i f within is refusal h = record {
   part = h.part;
   among = among_more (ty.struct (fields_view fs)) h.part (parts_of_fields (fields_view fs)) (subst (λ (ts : List Term). Contains ts h.part) (sym (fields_flat fs)) (among_flat field_type fs i f within is h.part h.among));
+  own = h.own;
   past = h.past;
   inline = λ chosen settled. h.inline chosen (settled_field chosen fs i f within is settled);
 }
@@ -78,6 +79,7 @@ past_struct figures fs end align nest e a n (Err refusal) h =
     record {
       part = ty.struct fs;
       among = among_first (ty.struct fs) (parts_of_fields fs);
+      own = tt;
       past = subst (IsPast refusal) same h;
       inline = λ chosen settled. settled;
     }
@@ -95,7 +97,7 @@ start_within figures fs i f end within is h =
 
 -- what is past a limit in a member's type is so within the struct
 pub past_within : (figures : List wire.Figure) (fs : List Field) (i : ℕ) (f : Field) → i < length fs → f ≡ get_or fs i f → (refusal : Refusal) → HoldsPastInline figures (term_view f.of) refusal → IsPastWithin figures (ty.struct (fields_view fs)) refusal
-past_within figures fs i f within is Nest h = let k = past_in_struct figures fs i f within is Nest h in record { part = k.part; among = k.among; past = k.past }
-past_within figures fs i f within is Size h = let k = past_in_struct figures fs i f within is Size h in record { part = k.part; among = k.among; past = k.past }
+past_within figures fs i f within is Nest h = let k = past_in_struct figures fs i f within is Nest h in record { part = k.part; among = k.among; own = k.own; past = k.past }
+past_within figures fs i f within is Size h = let k = past_in_struct figures fs i f within is Size h in record { part = k.part; among = k.among; own = k.own; past = k.past }
 past_within figures fs i f within is Members h = absurd h.past
 past_within figures fs i f within is Memory h = absurd h.past

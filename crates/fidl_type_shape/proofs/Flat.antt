@@ -23,7 +23,7 @@ module _ {X : Type 0} (g : X → Term) where
   among_flat (y ∷ ys) (suc i) x within is u h = among_back (parts (g y)) (flat ys) u (among_flat ys i x (omega (arith, within)) is u h)
 
   pub past_in_flat : (figures : List wire.Figure) (xs : List X) (i : ℕ) (x : X) → i < length xs → x ≡ get_or xs i x → (refusal : Refusal) → HoldsPast figures (parts (g x)) refusal → HoldsPast figures (flat xs) refusal
-  past_in_flat figures xs i x within is refusal h = record { part = h.part; among = among_flat xs i x within is h.part h.among; past = h.past }
+  past_in_flat figures xs i x within is refusal h = record { part = h.part; among = among_flat xs i x within is h.part h.among; own = h.own; past = h.past }
 
   flat_suc : (P : Term → Type 0) (xs : List X) (i : ℕ) (x : X) → i < length xs → x ≡ get_or xs i x → AllByRecursion P (flat (take i xs)) → AllByRecursion P (parts (g x)) → AllByRecursion P (flat (take (suc i) xs))
   flat_suc P [] i x within is h k = absurd (omega (arith, within))

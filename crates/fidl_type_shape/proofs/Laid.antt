@@ -67,6 +67,7 @@ module _ (ds : List Definition) (figures : List Figure) (right : AreFound (defin
     part = h.part;
     stands = slice_get-get_or (definitions_view ds) i nothing (omega (arith, within, length-map ds definition_view)) ∙ ap Some (sym (definition_is ds i d within is));
     among = h.among;
+    own = h.own;
     nested = fewer (definitions_view ds) (figure_of (figures_view figures) h.part).nest (suc MAX_NEST) h.part h.past (nested_by (definitions_view ds) (figures_view figures) [] right h.part (settled_all [] (λ j. refl) h.part));
   }
   refused_within i d within is Size h = record {
@@ -74,6 +75,7 @@ module _ (ds : List Definition) (figures : List Figure) (right : AreFound (defin
     part = h.part;
     stands = slice_get-get_or (definitions_view ds) i nothing (omega (arith, within, length-map ds definition_view)) ∙ ap Some (sym (definition_is ds i d within is));
     among = h.among;
+    own = h.own;
     figures = figures_view figures;
     chosen = [];
     solve = λ j k. (right j k).solved;

@@ -8,3 +8,4 @@ pub mod Visits
 pub mod Laid
 pub mod Excluded
 pub mod Chains
+pub mod Holders

@@ -174,11 +174,12 @@ pub next_turn : (ds : List Definition) (before after : List Bool) → length bef
 next_turn ds before after long n h wait i unknown = around_definition (definitions_view ds) before (long ∙ sym (length-map ds definition_view)) n h (get_or (definitions_view ds) i nothing) (no_name_at ds i) (wait i unknown)
 
 -- a definition from which on too many stand in one another is refused
-pub too_nested : (terms : List Term) (i : ℕ) → i < length terms → Nested terms (suc MAX_NEST) (get_or terms i nothing) → IsTooNested terms i
-too_nested terms i within h = record {
+pub too_nested : (terms : List Term) (i : ℕ) → i < length terms → IsNoName (get_or terms i nothing) → Nested terms (suc MAX_NEST) (get_or terms i nothing) → IsTooNested terms i
+too_nested terms i within own h = record {
   definition = get_or terms i nothing;
   part = get_or terms i nothing;
   stands = slice_get-get_or terms i nothing within;
   among = itself (get_or terms i nothing);
+  own = own;
   nested = h;
 }

@@ -16,6 +16,7 @@ pub past_in_array : (figures : List wire.Figure) (t : Term) (n : ℕ) (refusal :
 past_in_array figures t n refusal h = record {
   part = h.part;
   among = among_more (ty.array t n) h.part (parts t) h.among;
+  own = h.own;
   past = h.past;
   inline = h.inline;
 }
@@ -25,6 +26,7 @@ pub past_array : (figures : List wire.Figure) (t : Term) (n : ℕ) (refusal : Re
 past_array figures t n refusal h = record {
   part = ty.array t n;
   among = among_first (ty.array t n) (parts t);
+  own = tt;
   past = h;
   inline = λ chosen settled. settled;
 }
@@ -37,7 +39,7 @@ past_array_of figures t n f (Err refusal) e h = past_array figures t n refusal (
 -- what is past a limit in a type is so in one around it
 pub past_below : (figures : List wire.Figure) (t : Term) (ts : List Term) (r : Result (Unit {0}) Refusal) → IfErr r (HoldsPast figures ts) → IfErr r (HoldsPast figures (t ∷ ts))
 past_below figures t ts (Ok g) h = tt
-past_below figures t ts (Err refusal) h = record { part = h.part; among = among_more t h.part ts h.among; past = h.past }
+past_below figures t ts (Err refusal) h = record { part = h.part; among = among_more t h.part ts h.among; own = h.own; past = h.past }
 
 -- a definition is within the limits
 pub within_named : (figures : List Figure) (i : ℕ) → IsWithin (get_or (figures_view figures) i (figure 1 1 0))

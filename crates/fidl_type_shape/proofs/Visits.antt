@@ -134,6 +134,7 @@ refused terms figures known right i within t is settled Nest h = record {
   part = h.part;
   stands = slice_get-get_or terms i nothing within ∙ ap Some (sym is);
   among = h.among;
+  own = h.own;
   nested = fewer terms (figure_of figures h.part).nest (suc MAX_NEST) h.part h.past (nested_by terms figures known right h.part (h.inline known settled));
 }
 refused terms figures known right i within t is settled Size h = record {
@@ -141,6 +142,7 @@ refused terms figures known right i within t is settled Size h = record {
   part = h.part;
   stands = slice_get-get_or terms i nothing within ∙ ap Some (sym is);
   among = h.among;
+  own = h.own;
   figures = figures;
   chosen = known;
   solve = λ j k. (right j k).solved;

@@ -3,7 +3,7 @@ use Rattle.std.specs.Prelude.{◌<◌, Bool, IsTrue, List}
 use Rattle.std.specs.List.{Contains}
 use Rattle.fidl_limits.specs.declared.limits.TheConstants.{MAX_INLINE_SIZE, MAX_NEST}
 use Rattle.fidl_limits.specs.declared.limits.TheConstants.{MAX_LAYOUT_MEMBERS}
-use Rattle.fidl_wire.specs.Term.{Term}
+use Rattle.fidl_wire.specs.Term.{Term, IsNoName}
 use Rattle.fidl_wire.specs.Figure.{Figure, figure_of}
 use Rattle.fidl_type_shape.specs.declared.fault.Refusal.{Refusal}
 use Rattle.fidl_type_shape.specs.declared.fault.Refusal.TheVariants.{Nest, Size, Members, Memory}
@@ -17,16 +17,19 @@ IsPast Size f = MAX_INLINE_SIZE < f.size
 IsPast Members f = ⊥
 IsPast Memory f = ⊥
 
--- one of these terms is past a limit
+-- one of these terms is past a limit, and is no name
 pub record HoldsPast (figures : List Figure) (terms : List Term) (refusal : Refusal) : Type 0 where
   pub part : Term
   pub among : Contains terms part
+  pub own : IsNoName part
   pub past : IsPast refusal (figure_of figures part)
 
--- a term that stands inline in another is past a limit: it has only names that the whole has
+-- a term that stands inline in another is past a limit and no name: it has only names that the
+-- whole has
 pub record HoldsPastInline (figures : List Figure) (whole : Term) (refusal : Refusal) : Type 0 where
   pub part : Term
   pub among : Contains (parts whole) part
+  pub own : IsNoName part
   pub past : IsPast refusal (figure_of figures part)
   pub inline : (chosen : List Bool) → IsTrue (is_settled chosen whole)
       → IsTrue (is_settled chosen part)

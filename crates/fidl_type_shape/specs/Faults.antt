@@ -3,7 +3,7 @@ use Rattle.std.specs.Prelude.{ℕ, suc, ◌≡◌, ◌<◌, Bool, IsTrue, List, 
 use Rattle.std.specs.List.{Contains}
 use Rattle.fidl_limits.specs.declared.limits.TheConstants.{MAX_INLINE_SIZE, MAX_LAYOUT_MEMBERS}
 use Rattle.fidl_limits.specs.declared.limits.TheConstants.{MAX_NEST}
-use Rattle.fidl_wire.specs.Term.{Term}
+use Rattle.fidl_wire.specs.Term.{Term, IsNoName}
 use Rattle.fidl_wire.specs.Figure.{Figure, figure_of}
 use Rattle.fidl_type_shape.specs.declared.fault.FigureFault.{FigureFault}
 use Rattle.fidl_type_shape.specs.declared.fault.FigureFault.TheVariants.{TooNested, TooLarge}
@@ -13,21 +13,24 @@ use Rattle.fidl_type_shape.specs.Nesting.{Nested}
 use Rattle.fidl_type_shape.specs.Solutions.{is_settled, Solve}
 
 -- in the definition of this number stands a type from which on 33 structs and arrays stand in one
--- another
+-- another: the definition itself or an array, and no other definition that it names
 pub record IsTooNested (terms : List Term) (i : ℕ) : Type 0 where
   pub definition : Term
   pub part : Term
   pub stands : slice_get terms i ≡ Some definition
   pub among : Contains (parts definition) part
+  pub own : IsNoName part
   pub nested : Nested terms (suc MAX_NEST) part
 
 -- in the definition of this number stands a type that is too large, by figures that solve the
--- equations of all definitions that stand inline in it
+-- equations of all definitions that stand inline in it: the definition itself or an array, and no
+-- other definition that it names
 pub record IsTooLarge (terms : List Term) (i : ℕ) : Type 0 where
   pub definition : Term
   pub part : Term
   pub stands : slice_get terms i ≡ Some definition
   pub among : Contains (parts definition) part
+  pub own : IsNoName part
   pub figures : List Figure
   pub chosen : List Bool
   pub solve : Solve terms figures chosen

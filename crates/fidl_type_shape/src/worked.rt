@@ -95,20 +95,27 @@ pub fn figures_of_some_definitions()
 {}
 
 /// 33 structs in one another are too many, and 32 are not; nor is a struct that has itself in a
-/// box.
+/// box, nor one that names the culprit in a vector.
 pub fn definitions_too_nested()
     ensures refused { IsTooNested (struct_in 32 ∷ []) 0 }
     ensures in_itself { IsTooNested (holding (ty.named 0) ∷ []) 0 }
     ensures last { ¬ (IsTooNested (struct_in 31 ∷ []) 0) }
     ensures in_a_box { ¬ (IsTooNested (holding (ty.box (ty.named 0)) ∷ []) 0) }
+    ensures holder { ¬ (IsTooNested (holding (ty.vector false 2 (ty.named 1)) ∷ struct_in 32 ∷ [])
+        0) }
+    ensures held { IsTooNested (holding (ty.vector false 2 (ty.named 1)) ∷ struct_in 32 ∷ []) 1 }
 {}
 
-/// 65,536 bytes are too large, and 65,535 are not.
+/// 65,536 bytes are too large, and 65,535 are not; nor is a struct that names the culprit in a
+/// vector.
 pub fn definitions_too_large()
     ensures refused { IsTooLarge (holding (bytes 65536) ∷ []) 0 }
     ensures in_a_table { IsTooLarge (ty.table (row 1 (codes "a") (bytes 65536) no_rows) ∷ []) 0 }
     ensures last { ¬ (IsTooLarge (holding (bytes 65535) ∷ []) 0) }
     ensures of_another { ¬ (IsTooLarge (ty.struct no_fields ∷ holding (bytes 65536) ∷ []) 0) }
+    ensures holder { ¬ (IsTooLarge (holding (ty.vector false 2 (ty.named 1))
+        ∷ holding (bytes 65536) ∷ []) 0) }
+    ensures in_a_vector { IsTooLarge (holding (ty.vector false 2 (bytes 65536)) ∷ []) 0 }
 {}
 
 /// 65,536 members are too many, and 65,535 are not.

@@ -21,7 +21,7 @@ use Rattle.fidl_ir_rules.specs.Faults.{IsTrueOf}
 use Rattle.fidl_ir_rules.specs.declared.fault.DefinitionFault.{DefinitionFault}
 use Rattle.fidl_ir_rules.specs.declared.fault.DefinitionFault.TheVariants as rule
 use Rattle.fidl_ir_rules.specs.declared.mark.Mark.{Mark}
-use Rattle.fidl_ir_rules.proofs.Targets.{holder_within}
+use Rattle.fidl_ir_rules.proofs.Targets.{holder_within, stands_in_itself}
 use Rattle.fidl_types.proofs.Made.{definitions_exist}
 use Rattle.fidl_types.proofs.ShapedFiles.{file_shaped}
 use Rattle.std.specs.Prelude.{filter}
@@ -58,4 +58,4 @@ module _ (files : List File) (forms : List CodeForm) (are : forms_view forms ≡
         within i (slice_get_within ts i holds.definition holds.stands)
 
     pub cycle_there : (i : ℕ) → fault ≡ rule.InlineCycle i → i < length forms
-    cycle_there i is = within i (stands_within ts i i (subst (λ (x : DefinitionFault). IsTrueOf ts marks x) is told))
+    cycle_there i is = within i (stands_within ts i i (stands_in_itself ts i (subst (λ (x : DefinitionFault). IsTrueOf ts marks x) is told)))

@@ -1,7 +1,6 @@
 -- Files of which a refusal is true don't keep all rules of types, and their definitions are one list.
-use Rattle.std.proofs.Common.{◌≡◌, ◌∙◌, ℕ, List, map, get_or, inl, inr, false, true≢false, refl, sym, subst}
+use Rattle.std.proofs.Common.{◌≡◌, ℕ, List, map, inl, inr, refl, subst}
 use Rattle.std.specs.Prelude.{◌≢◌}
-use Rattle.std.proofs.lemmas.Option.{slice_get_within, get_or_from_slice_get}
 use Rattle.fidl_tree.specs.Views.{file_view}
 use Rattle.fidl_tree.specs.declared.file.File.{File}
 use Rattle.fidl_names.specs.declared.place.Place.{Place}
@@ -13,30 +12,17 @@ use Rattle.fidl_resource_rules.specs.declared.fault.ResourceFault.TheVariants as
 use Rattle.fidl_resource_rules.proofs.Excluded.{refused_not as resources_not}
 use Rattle.fidl_type_rules.specs.declared.fault.UseFault.TheVariants as used
 use Rattle.fidl_type_rules.proofs.Excluded.{refused_not as uses_not}
-use Rattle.fidl_wire.specs.Term.{Term, nothing}
-use Rattle.fidl_ir.specs.Members.{member_types}
+use Rattle.fidl_wire.specs.Term.{Term}
 use Rattle.fidl_lower_types.specs.Numbers.{all_forms}
 use Rattle.fidl_lower_layouts.proofs.One.{one_definitions}
-use Rattle.fidl_ir_rules.specs.declared.mark.Mark.{Mark}
-use Rattle.fidl_ir_rules.specs.declared.mark.Mark.TheVariants.{Value}
-use Rattle.fidl_ir_rules.specs.Resources.{bears, is_resource, MembersHold, AllResourcesMarked, HoldsResource}
-use Rattle.fidl_ir_rules.specs.Inline.{StandsInItself}
+use Rattle.fidl_ir_rules.specs.Inline.{IsFirstInItself}
+use Rattle.fidl_ir_rules.proofs.Targets.{stands_in_itself}
+use Rattle.fidl_ir_rules.proofs.Excluded.{holds_not}
 use Rattle.fidl_types.specs.declared.fault.TypeFault.{TypeFault}
 use Rattle.fidl_types.specs.declared.fault.TypeFault.TheVariants.{NotResource, InlineCycle, BadOrdinal, DuplicateOrdinal, DuplicateValue, NotPowerOfTwo, EmptyStrict, OptionalMember, BadConstraint, BadBox, OutOfProfile, Memory}
 use Rattle.fidl_types.specs.Marks.{marks_of}
 use Rattle.fidl_types.specs.Types.{TypesAre}
 use Rattle.fidl_types.specs.Faults.{SomeHolds, FormBreaks, IsTrueOfTypes}
-use Rattle.fidl_types.proofs.Made.{all_among}
-
--- definitions of which all that isn't marked holds no resource
-holds_not : (ts : List Term) (marks : List Mark) (i m : ℕ) → AllResourcesMarked ts marks → HoldsResource ts marks (is_resource ts marks) i m → ⊥
-holds_not ts marks i m marked h =
-    let R = is_resource ts marks in
-    let of_value = subst (λ (k : Mark). MembersHold R k (get_or ts i nothing)) h.unmarked (marked i) in
-    let of_its = subst (λ (d : Term). MembersHold R Value d) (get_or_from_slice_get ts i h.definition nothing h.stands) of_value in
-    let types = member_types h.definition in
-    let bears_none = all_among (λ t. bears R t ≡ false) types h.member of_its (m, slice_get_within types m h.member h.among, get_or_from_slice_get types m h.member h.member h.among) in
-    true≢false (sym h.resource ∙ bears_none)
 
 module _ (files : List File) (ts : List Term) (holds : TypesAre files ts) where
   form_not : (Breaks : List Term → ℕ → Type 0) (place : Place) → ((i : ℕ) → Breaks ts i → ⊥) → FormBreaks files Breaks place → ⊥
@@ -46,7 +32,7 @@ module _ (files : List File) (ts : List Term) (holds : TypesAre files ts) where
 
   pub refused_not : (fault : TypeFault) → fault ≢ Memory → IsTrueOfTypes files fault → ⊥
   refused_not (NotResource place) other h = form_not (SomeHolds (marks_of (all_forms files))) place (λ i k. holds_not ts (marks_of (all_forms files)) i k.0 holds.kept.marked k.1) h
-  refused_not (InlineCycle place) other h = form_not StandsInItself place holds.kept.apart h
+  refused_not (InlineCycle place) other h = form_not IsFirstInItself place (λ i k. holds.kept.apart i (stands_in_itself ts i k)) h
   refused_not (BadOrdinal place) other h = layouts_not (map file_view files) (rule.BadOrdinal place) (λ e. cc) h holds.layouts
   refused_not (DuplicateOrdinal place) other h = layouts_not (map file_view files) (rule.DuplicateOrdinal place) (λ e. cc) h holds.layouts
   refused_not (DuplicateValue place) other h = values_not files (value.DuplicateValue place) (λ e. cc) h holds.numbers

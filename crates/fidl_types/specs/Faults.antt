@@ -16,7 +16,7 @@ use Rattle.fidl_lower_types.specs.Numbers.{all_forms}
 use Rattle.fidl_lower_layouts.specs.Definitions.{DefinitionsAre}
 use Rattle.fidl_ir_rules.specs.declared.mark.Mark.{Mark}
 use Rattle.fidl_ir_rules.specs.Resources.{is_resource, HoldsResource}
-use Rattle.fidl_ir_rules.specs.Inline.{StandsInItself}
+use Rattle.fidl_ir_rules.specs.Inline.{IsFirstInItself}
 use Rattle.fidl_types.specs.declared.fault.TypeFault.{TypeFault}
 use Rattle.fidl_types.specs.declared.fault.TypeFault.TheVariants.{NotResource, InlineCycle}
 use Rattle.fidl_types.specs.declared.fault.TypeFault.TheVariants.{BadOrdinal, DuplicateOrdinal}
@@ -44,7 +44,7 @@ pub record FormBreaks (files : List File) (Breaks : List Term → (i : ℕ) → 
 abbrev pub IsTrueOfTypes : List File → TypeFault → Type 0
 IsTrueOfTypes files (NotResource place) =
     FormBreaks files (SomeHolds (marks_of (all_forms files))) place
-IsTrueOfTypes files (InlineCycle place) = FormBreaks files StandsInItself place
+IsTrueOfTypes files (InlineCycle place) = FormBreaks files IsFirstInItself place
 IsTrueOfTypes files (BadOrdinal place) =
     IsTrueOfRules (map file_view files) (rule.BadOrdinal place)
 IsTrueOfTypes files (DuplicateOrdinal place) =

@@ -1,12 +1,17 @@
 //! The rules of whole files, crate by crate, and what a refusal of each says.
-ghost use Rattle.std.specs.Prelude.{List, map, IfErr, OnOk};
+ghost use Rattle.std.specs.Prelude.{◌≢◌, List, map, IfErr, OnOk};
 ghost use Rattle.fidl_tree.specs.Views.{file_view};
 ghost use Rattle.fidl_tree.specs.declared.file.File.{File as Tree};
+ghost use Rattle.fidl_member_rules.specs.declared.fault.RuleFault.TheVariants as Rules;
 ghost use Rattle.fidl_member_rules.specs.Rules.{RulesHold, IsTrueOfRules};
+ghost use Rattle.fidl_member_rules.specs.declared.value_fault.ValuesFault.TheVariants as Values;
 ghost use Rattle.fidl_member_rules.specs.ValueRules.{ValuesHold, IsTrueOfValues};
+ghost use Rattle.fidl_resource_rules.specs.declared.fault.ResourceFault.TheVariants as Resources;
 ghost use Rattle.fidl_resource_rules.specs.Resources.{ResourcesHold, IsTrueOfResources};
+ghost use Rattle.fidl_type_rules.specs.declared.fault.UseFault.TheVariants as Uses;
 ghost use Rattle.fidl_type_rules.specs.Uses.{UsesHold, IsTrueOfUses};
 ghost use Rattle.fidl_lower_types.specs.TermViews.{AreKnown};
+ghost use Rattle.fidl_types.specs.declared.fault.TypeFault.TheVariants as Faults;
 ghost use Rattle.fidl_types.specs.Faults.{IsTrueOfTypes};
 
 use crate::fault::TypeFault;
@@ -17,8 +22,9 @@ use fidl_type_rules::{UseFault, check_uses};
 
 /// A refusal of layouts.
 fn of_layouts(fault: RuleFault) -> TypeFault
-    ensures { (files : List Tree) → IsTrueOfRules (map file_view files) fault
+    ensures fault_is_true { (files : List Tree) → IsTrueOfRules (map file_view files) fault
         → IsTrueOfTypes files result }
+    ensures memory { fault ≢ Rules.Memory → result ≢ Faults.Memory }
 {
     match fault {
         RuleFault::BadOrdinal { place } => TypeFault::BadOrdinal { place },
@@ -31,7 +37,9 @@ fn of_layouts(fault: RuleFault) -> TypeFault
 
 /// A refusal of numbers.
 fn of_numbers(fault: ValuesFault) -> TypeFault
-    ensures { (files : List Tree) → IsTrueOfValues files fault → IsTrueOfTypes files result }
+    ensures fault_is_true { (files : List Tree) → IsTrueOfValues files fault
+        → IsTrueOfTypes files result }
+    ensures memory { fault ≢ Values.Memory → result ≢ Faults.Memory }
 {
     match fault {
         ValuesFault::DuplicateValue { place } => TypeFault::DuplicateValue { place },
@@ -42,7 +50,9 @@ fn of_numbers(fault: ValuesFault) -> TypeFault
 
 /// A refusal of resource definitions.
 fn of_resources(fault: ResourceFault) -> TypeFault
-    ensures { (files : List Tree) → IsTrueOfResources files fault → IsTrueOfTypes files result }
+    ensures fault_is_true { (files : List Tree) → IsTrueOfResources files fault
+        → IsTrueOfTypes files result }
+    ensures memory { fault ≢ Resources.Memory → result ≢ Faults.Memory }
 {
     match fault {
         ResourceFault::BadConstraint { place } => TypeFault::BadConstraint { place },
@@ -52,7 +62,9 @@ fn of_resources(fault: ResourceFault) -> TypeFault
 
 /// A refusal of the use of a type.
 fn of_uses(fault: UseFault) -> TypeFault
-    ensures { (files : List Tree) → IsTrueOfUses files fault → IsTrueOfTypes files result }
+    ensures fault_is_true { (files : List Tree) → IsTrueOfUses files fault
+        → IsTrueOfTypes files result }
+    ensures memory { fault ≢ Uses.Memory → result ≢ Faults.Memory }
 {
     match fault {
         UseFault::BadConstraint { place } => TypeFault::BadConstraint { place },

@@ -30,6 +30,12 @@ pub fn marks_of_forms()
         → form_mark (layout_form false (struct_layout true k ms)) ≡ Resource }
     ensures unmarked { (k : Span) (ms : Members)
         → form_mark (layout_form false (table_layout false k ms)) ≡ Value }
+    ensures table { (k : Span) (ms : Members)
+        → form_mark (layout_form false (table_layout true k ms)) ≡ Resource }
+    ensures plain_struct { (k : Span) (ms : Members)
+        → form_mark (layout_form false (struct_layout false k ms)) ≡ Value }
+    ensures plain_union { (strict : Bool) (k : Span) (ms : Members)
+        → form_mark (layout_form true (union_layout strict false k ms)) ≡ Value }
     ensures union { (k : Span) (ms : Members)
         → form_mark (layout_form true (union_layout false true k ms)) ≡ Resource }
     ensures strict_union { (k : Span) (ms : Members)

@@ -1,16 +1,10 @@
-use Rattle.std.proofs.Common.{rules}
-use Rattle.fidl_declarations.specs.SiteViews.{site_view, sites_view}
+use Rattle.fidl_declarations.specs.SiteViews.{site_view}
 use Rattle.fidl_declarations.proofs.Items.{among_seen, all_seen}
 use Rattle.fidl_type_rules.specs.Uses.{SiteHolds}
-use Rattle.fidl_type_rules.proofs.Reports.{report_one}
 use Rattle.fidl_type_rules.proofs.checking.check_sites.Goals as goal
 
-pub returns-in_err-check_site-clause-fault_is_true : goal.returns-in_err-check_site-clause-fault_is_true
-returns-in_err-check_site-clause-fault_is_true c =
-    let fs = c.args.sources.now.named.now in
-    let among = among_seen site_view c.args.sites.now c.loop-site.site-index c.site-item.result c.loop-site-test.true c.site-item.is in
-    let h = report_one fs c.args.file_index (sites_view c.args.sites.now) (site_view c.site-item.result) among c.in_err-check_site.field-0.0 c.in_err-check_site.ensures.fault_is_true in
-    search (rules, h)
+pub check_site-requires-clause-stands : goal.check_site-requires-clause-stands
+check_site-requires-clause-stands c = c.requires.stand (site_view c.site-item.result) (among_seen site_view c.args.sites.now c.loop-site.site-index c.site-item.result c.loop-site-test.true c.site-item.is)
 
 pub loop-site-preserved : goal.loop-site-preserved
-loop-site-preserved c = λ every. all_seen site_view c.args.sites.now c.loop-site.site-index c.site-item.result c.loop-site-test.true c.site-item.is (SiteHolds c.args.sources.now.named.now c.args.file_index) (c.loop-site.invariant every) (c.in_ok-check_site.ensures.ok every)
+loop-site-preserved c = all_seen site_view c.args.sites.now c.loop-site.site-index c.site-item.result c.loop-site-test.true c.site-item.is (SiteHolds c.args.sources.now.named.now c.args.file_index) c.loop-site.invariant c.in_ok-check_site.ensures.ok

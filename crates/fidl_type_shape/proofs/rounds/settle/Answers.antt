@@ -5,7 +5,7 @@ use Rattle.fidl_wire.specs.Term.{nothing}
 use Rattle.fidl_ir.specs.Terms.{definition_view, definitions_view}
 use Rattle.fidl_type_shape.specs.Nesting.{Nested, none}
 use Rattle.fidl_type_shape.specs.Views.{figures_view}
-use Rattle.fidl_type_shape.proofs.Nests.{next_turn, too_nested, fewer}
+use Rattle.fidl_type_shape.proofs.Nests.{next_turn, too_nested, fewer, no_name_at}
 use Rattle.fidl_type_shape.proofs.Visits.{unknown_within, all_known}
 use Rattle.fidl_type_shape.proofs.rounds.settle.Goals as goal
 
@@ -31,7 +31,7 @@ returns-in-Some-clause-fault c =
     let unknown = c.in-Some.ensures.some in
     let there = unknown_within c.loop-turn.known i unknown in
     let within : i < length terms = omega (arith, there, c.loop-turn.auto.known, c.requires.marks, length-map c.args.definitions.now definition_view) in
-    too_nested terms i within (fewer terms c.loop-turn._turn (suc MAX_NEST) (get_or terms i nothing) (omega (arith, c.loop-turn-test.false)) (c.loop-turn.invariant.nested i unknown))
+    too_nested terms i within (no_name_at c.args.definitions.now i) (fewer terms c.loop-turn._turn (suc MAX_NEST) (get_or terms i nothing) (omega (arith, c.loop-turn-test.false)) (c.loop-turn.invariant.nested i unknown))
 
 pub returns-in-None-clause-found : goal.returns-in-None-clause-found
 returns-in-None-clause-found c = all_known (definitions_view c.args.definitions.now) (figures_view c.loop-turn.figures) c.loop-turn.known c.loop-turn.invariant.right (c.in-None.ensures.none (search rules))

@@ -1,6 +1,5 @@
-use Rattle.std.proofs.Common.{ℕ, ◌<◌, ◌≤◌, List, subst, arith}
+use Rattle.std.proofs.Common.{List, subst, arith}
 use Rattle.std.specs.List.{Contains}
-use Rattle.fidl_limits.specs.declared.limits.TheConstants.{MAX_INLINE_SIZE, MAX_NEST}
 use Rattle.fidl_wire.specs.Term.{Term}
 use Rattle.fidl_wire.specs.Figure.{Figure, figure_of}
 use Rattle.fidl_type_shape.specs.declared.fault.Refusal.{Refusal}
@@ -9,7 +8,7 @@ use Rattle.fidl_type_shape.specs.Limits.{IsWithin, parts}
 use Rattle.fidl_ir.specs.Terms.{term_view}
 use Rattle.fidl_type_shape.specs.declared.figure.Figure.{Figure as Found}
 use Rattle.fidl_type_shape.specs.Views.{figures_view}
-use Rattle.fidl_type_shape.specs.Excesses.{IsPast, HoldsPastInline}
+use Rattle.fidl_type_shape.specs.Excesses.{IsPast}
 use Rattle.fidl_type_shape.proofs.finding.Figures.of_type.Goals as goal
 
 past : (refusal : Refusal) (f : Figure) → IsPast refusal f → IsWithin f → ⊥
