@@ -1,10 +1,10 @@
 -- The numbers of the unions in which methods answer (docs/language.md, "Payloads").
-use Rattle.std.specs.Prelude.{ℕ, ◌≡◌, ◌<◌, ◌^◌, List, Some, slice_get}
+use Rattle.std.specs.Prelude.{ℕ, ◌≡◌, List}
 use Rattle.std.specs.List.{Contains}
 use Rattle.fidl_tree.specs.declared.file.File.{File}
 use Rattle.fidl_declarations.specs.declared.step.Step.{Step}
 use Rattle.fidl_declarations.specs.Forms.{Form, FormKind, layout_form, result_form, empty_response_form}
-use Rattle.fidl_lower_types.specs.Numbers.{all_forms}
+use Rattle.fidl_lower_types.specs.Numbers.{all_forms, IsFirst}
 
 -- a form is a union in which a method answers
 abbrev pub IsResultKind : FormKind → Type 0
@@ -19,13 +19,8 @@ pub record IsResultForm (number : ℕ) (path : List Step) (form : Form) : Type 0
   pub path_is : form.path ≡ path
 
 -- it is the first such form of a list, and its place there is a number of 32 bits
-pub record IsFirstResult (forms : List Form) (number : ℕ) (path : List Step) (i : ℕ) : Type 0 where
-  pub form : Form
-  pub at : slice_get forms i ≡ Some form
-  pub is : IsResultForm number path form
-  pub first : (k : ℕ) (other : Form) → k < i → slice_get forms k ≡ Some other
-      → IsResultForm number path other → ⊥
-  pub low : i < 2 ^ 32
+abbrev pub IsFirstResult : List Form → (number : ℕ) → (path : List Step) → (i : ℕ) → Type 0
+IsFirstResult forms number path i = IsFirst forms (IsResultForm number path) i
 
 -- the number of the result at this path of the file of this number
 abbrev pub IsResultNumber : List File → (number : ℕ) → (path : List Step) → (i : ℕ) → Type 0

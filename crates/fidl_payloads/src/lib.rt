@@ -8,7 +8,6 @@ mod members;
 mod parts;
 mod payload;
 mod places;
-mod results;
 pub mod worked;
 
 pub use fault::PayloadFault;

@@ -18,9 +18,7 @@ ghost use Rattle.fidl_payloads.specs.Members.{IsReportIn};
 use crate::fault::PayloadFault;
 use crate::parts::part;
 use crate::payload::{Payload, Payloads};
-use crate::results::find_result;
-use fidl_declarations::Step;
-use fidl_lower_types::Sources;
+use fidl_lower_types::{Sources, result_number};
 use fidl_span::Span;
 use fidl_tree::{ErrorType, Event, Method, ProtocolMember, ProtocolMemberBody, Strictness};
 use fidl_types::Types;
@@ -47,7 +45,7 @@ fn has_result(strict: bool, error: &Option<ErrorType>) -> bool
 }
 
 /// The number of a method's result. Nothing only where there are too many forms.
-fn result_number(
+fn result_of(
     sources: &Sources<'_, '_, '_>,
     file_index: usize,
     protocol: Span,
@@ -60,8 +58,7 @@ fn result_number(
         (result_path protocol method)) }
     ensures none { IsNone result → 2 ^ 32 < length (all_forms sources.now.named.now) }
 {
-    let path = [Step::Name(protocol), Step::Name(method), Step::Result];
-    find_result(sources.forms, file_index, &path)
+    result_number(sources, file_index, protocol, method)
 }
 
 /// What the response of a method carries. What is written as one may be a payload, also where the
@@ -91,7 +88,7 @@ fn response_of(
     if !has_result(is_strict(&method.strictness), &response.error) {
         return Ok(written);
     }
-    match result_number(sources, file_index, protocol, method.name) {
+    match result_of(sources, file_index, protocol, method.name) {
         // A number of a definition has 32 bits, so more forms than that are as good as no memory.
         None => Err(PayloadFault::Memory),
         Some(number) => Ok(Payload::Type(number)),

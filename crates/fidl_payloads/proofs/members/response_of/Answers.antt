@@ -37,8 +37,8 @@ returns-then-not-has_result-clause-holds c =
     let r = c.in-Some.response in
     subst (λ (o : Option Response). TypesHold fs i (answer_types (option_map response_view o))) (sym c.in-Some.is) (part_holds fs i (payload_view r.payload) c.in_ok-written.written c.in_ok-written.ensures.ok)
 
-pub result_number-requires-clause-stands : goal.result_number-requires-clause-stands
-result_number-requires-clause-stands c =
+pub result_of-requires-clause-stands : goal.result_of-requires-clause-stands
+result_of-requires-clause-stands c =
     let fs = c.args.sources.now.named.now in
     let i = c.args.file_index in
     let p = c.args.protocol in
@@ -50,20 +50,20 @@ result_number-requires-clause-stands c =
     let member = subst (λ (o : Option Response). IsMemberOf fs i p (method_member h.0 strict m.name (payload_view m.request) (option_map response_view o))) c.in-Some.is h.1 in
     result_stands fs i p h.0 strict m.name (payload_view m.request) (response_view r) member has
 
-pub returns-in-Some-result_number-clause-ok : goal.returns-in-Some-result_number-clause-ok
-returns-in-Some-result_number-clause-ok c =
+pub returns-in-Some-result_of-clause-ok : goal.returns-in-Some-result_of-clause-ok
+returns-in-Some-result_of-clause-ok c =
     let fs = c.args.sources.now.named.now in
     let i = c.args.file_index in
     let m = c.args.method.now in
     let r = c.in-Some.response in
     let strict = is_strict m.strictness in
     let path = result_path c.args.protocol m.name in
-    let n = c.in-Some-result_number.number in
+    let n = c.in-Some-result_of.number in
     let has : has_result strict (response_view r).error ≡ true = sym (c.has_result.ensures ∙ ap (λ (b : Bool). has_result b (response_view r).error) c.is_strict.ensures) ∙ c.if-not-has_result.false in
-    subst (λ (o : Option Response). MethodAnswers fs i path strict (option_map response_view o) (payload.«Type» n)) (sym c.in-Some.is) (answers_result fs i path strict (response_view r) has n c.in-Some-result_number.ensures.found)
+    subst (λ (o : Option Response). MethodAnswers fs i path strict (option_map response_view o) (payload.«Type» n)) (sym c.in-Some.is) (answers_result fs i path strict (response_view r) has n c.in-Some-result_of.ensures.found)
 
-pub returns-in-Some-result_number-clause-holds : goal.returns-in-Some-result_number-clause-holds
-returns-in-Some-result_number-clause-holds c =
+pub returns-in-Some-result_of-clause-holds : goal.returns-in-Some-result_of-clause-holds
+returns-in-Some-result_of-clause-holds c =
     let fs = c.args.sources.now.named.now in
     let i = c.args.file_index in
     let r = c.in-Some.response in
