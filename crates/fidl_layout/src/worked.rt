@@ -1,5 +1,5 @@
 //! Worked facts: which forms are roots, how many members are written, and what refusals say.
-ghost use Rattle.std.specs.Prelude.{◌≡◌, ℕ, List, [], ◌∷◌, true, false};
+ghost use Rattle.std.specs.Prelude.{◌≡◌, ℕ, List, [], ◌∷◌, length, true, false};
 ghost use Rattle.std.specs.List.{Contains};
 ghost use Rattle.fidl_span.specs.declared.words.Span.{Span};
 ghost use Rattle.fidl_tree.specs.Syntax.{Layout, Members, ValueMember, bits_kind, no_underlying};
@@ -32,13 +32,22 @@ pub fn roots_of_no_files()
     ensures one { (i : ℕ) → AreRoots [] (i ∷ []) → ⊥ }
 {}
 
-/// Each member of bits and enums counts, and none of a struct.
+/// Each member of bits and enums counts, and none of a struct; 65,535 fit, and one more doesn't.
 pub fn how_many_are_written()
     ensures of_bits { (kw : Span) (m n : ValueMember) → written_values (layout_form false
         (values_layout bits_kind false kw no_underlying (m ∷ n ∷ []))) ≡ 2 }
     ensures of_structs { (is_resource : _) (kw : Span) (ms : Members) → written_values
         (layout_form false (struct_layout is_resource kw ms)) ≡ 0 }
     ensures fit { ValuesFit [] }
+    ensures last { (form : Form) (kw : Span) (ms : List ValueMember) → length ms ≡ 65535
+        → form.kind ≡ layout_form false (values_layout bits_kind false kw no_underlying ms)
+        → ValuesFit (form ∷ []) }
+    ensures past { (form : Form) (kw : Span) (ms : List ValueMember) → length ms ≡ 65536
+        → form.kind ≡ layout_form false (values_layout bits_kind false kw no_underlying ms)
+        → HasTooManyValues (form ∷ []) 0 }
+    ensures not_past { (form : Form) (kw : Span) (ms : List ValueMember) → length ms ≡ 65535
+        → form.kind ≡ layout_form false (values_layout bits_kind false kw no_underlying ms)
+        → HasTooManyValues (form ∷ []) 0 → ⊥ }
     ensures none { (i : ℕ) → HasTooManyValues [] i → ⊥ }
 {}
 
