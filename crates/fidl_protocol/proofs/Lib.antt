@@ -4,6 +4,7 @@ pub mod Members
 pub mod Gathering
 pub mod Naming
 pub mod Ordering
+pub mod Reporting
 pub mod Listing
 pub mod Starting
 pub mod Excluded

@@ -1,5 +1,5 @@
 -- The names of the methods of a protocol, and texts in a set.
-use Rattle.std.proofs.Common.{◌≡◌, ◌∙◌, ◌+◌, ◌<◌, ℕ, Bool, true, false, not, ◌||◌, List, [], ◌∷◌, ◌++◌, Option, Some, map, take, length, get_or, nat_eq, refl, ap, sym, subst, inl, inr, true≢false}
+use Rattle.std.proofs.Common.{◌≡◌, ◌∙◌, ◌+◌, ◌<◌, ℕ, zero, suc, Bool, true, false, not, ◌||◌, List, [], ◌∷◌, ◌++◌, Option, Some, map, take, length, get_or, nat_eq, refl, ap, sym, subst, inl, inr, arith, true≢false}
 use Rattle.std.specs.Prelude.{slice_get}
 use Rattle.std.specs.Bool.{Decides, if◌then◌else◌}
 use Rattle.std.specs.Global.{Vec}
@@ -8,17 +8,17 @@ use Rattle.std.specs.Option.{option_map_or}
 use Rattle.std.specs.Cmp.Lexicographic.{pointwise}
 use Rattle.std.proofs.lemmas.Slice.Eq.{slice_eq-Decides}
 use Rattle.std.proofs.lemmas.Bool.Decides.{Decides-eqb}
-use Rattle.std.proofs.lemmas.List.{map-append}
+use Rattle.std.proofs.lemmas.List.{map-append, get_or-take, length-take}
+use Rattle.std.proofs.lemmas.Option.{same_Some, none-some, slice_get_within, slice_get-get_or}
 use Rattle.fidl_tree.specs.Leaf.{text_at}
 use Rattle.fidl_tree.specs.declared.file.File.{File}
 use Rattle.fidl_names.specs.declared.place.DeclarationId.{DeclarationId}
 use Rattle.fidl_names.proofs.Seeing.{take_item}
-use Rattle.fidl_composition.proofs.Lists.{here, there, nothing_there, first_or_rest, map_there, map_back, pairs_push}
+use Rattle.fidl_composition.proofs.Lists.{among, here, there, nothing_there, first_or_rest, map_there, pairs_push}
 use Rattle.fidl_payloads.specs.declared.payload.Payload.TheVariants.{Missing}
 use Rattle.fidl_protocol.specs.declared.method.Method.{Method}
-use Rattle.fidl_protocol.specs.Methods.{IsDeclared, IsNamed, HaveOneName, method_place}
-use Rattle.fidl_protocol.specs.Gathered.{AreGathered, name_text, NamesDiffer}
-use Rattle.fidl_protocol.specs.Faults.{TwoAreAlike}
+use Rattle.fidl_protocol.specs.Methods.{IsDeclared, IsNamed, HaveOneName}
+use Rattle.fidl_protocol.specs.Gathered.{AreGathered, ArePair, name_text, NamesDiffer}
 use Rattle.fidl_protocol.proofs.Lists.{front_before, front_there, item_there}
 
 -- the default of a place in a list of methods
@@ -41,7 +41,7 @@ texts_of keys = map (λ (v : Vec ℕ). v.items) keys
 
 among_keys : (text : List ℕ) (keys : List (Vec ℕ)) → Decides (list_any (same_text text) keys) (Contains (texts_of keys) text)
 among_keys text [] = ((λ e. absurd (true≢false (sym e))), λ h. absurd (nothing_there text h))
-among_keys text (key ∷ keys) = among (among_keys text keys) (same_text text key) refl
+among_keys text (key ∷ keys) = tested (among_keys text keys) (same_text text key) refl
   where
     found : Decides (list_any (same_text text) keys) (Contains (texts_of keys) text) → Contains (texts_of (key ∷ keys)) text → same_text text key ≡ false → list_any (same_text text) keys ≡ true
     found rest h other = elim (first_or_rest key.items (texts_of keys) text h) [
@@ -49,9 +49,9 @@ among_keys text (key ∷ keys) = among (among_keys text keys) (same_text text ke
       | inr later ↦ rest.1 later
     ]
 
-    among : Decides (list_any (same_text text) keys) (Contains (texts_of keys) text) → (b : Bool) → same_text text key ≡ b → Decides (b || list_any (same_text text) keys) (Contains (texts_of (key ∷ keys)) text)
-    among rest true is = ((λ _. subst (λ x. Contains (x ∷ texts_of keys) text) ((text_test text key).0 is) (here text (texts_of keys))), λ _. refl)
-    among rest false other = ((λ e. there key.items (texts_of keys) text (rest.0 e)), λ h. found rest h other)
+    tested : Decides (list_any (same_text text) keys) (Contains (texts_of keys) text) → (b : Bool) → same_text text key ≡ b → Decides (b || list_any (same_text text) keys) (Contains (texts_of (key ∷ keys)) text)
+    tested rest true is = ((λ _. subst (λ x. Contains (x ∷ texts_of keys) text) ((text_test text key).0 is) (here text (texts_of keys))), λ _. refl)
+    tested rest false other = ((λ e. there key.items (texts_of keys) text (rest.0 e)), λ h. found rest h other)
 
 not_new : (b : Bool) → false ≡ not b → b ≡ true
 not_new true e = refl
@@ -60,6 +60,21 @@ not_new false e = absurd (true≢false (sym e))
 is_new : (b : Bool) → true ≡ not b → b ≡ false
 is_new true e = absurd (true≢false e)
 is_new false e = refl
+
+-- the keys of a set that has a text stay
+pub kept_keys : (keys new : List (Vec ℕ)) (name : Vec ℕ) → new ≡ (if list_any (same_text name.items) keys then keys else (keys ++ name ∷ [])) → false ≡ not (list_any (same_text name.items) keys) → new ≡ keys
+kept_keys keys new name inserted old = inserted ∙ ap (λ b. if b then keys else (keys ++ name ∷ [])) (not_new (list_any (same_text name.items) keys) old)
+
+-- what stands at a place of a list, and of the list of what a function gives of each
+pub seen_at : {X Y : Type 0} (g : X → Y) (xs : List X) (k : ℕ) (x : X) → slice_get xs k ≡ Some x → slice_get (map g xs) k ≡ Some (g x)
+seen_at g [] k x at = absurd (none-some x at)
+seen_at g (y ∷ ys) zero x at = ap (λ z. Some (g z)) (same_Some y x at)
+seen_at g (y ∷ ys) (suc k) x at = seen_at g ys k x at
+
+seen_back : {X Y : Type 0} (g : X → Y) (xs : List X) (k : ℕ) (y : Y) → slice_get (map g xs) k ≡ Some y → (x : X) × ((slice_get xs k ≡ Some x) × (g x ≡ y))
+seen_back g [] k y at = absurd (none-some y at)
+seen_back g (x ∷ xs) zero y at = (x, (refl, same_Some (g x) y at))
+seen_back g (x ∷ xs) (suc k) y at = seen_back g xs k y at
 
 module _ (files : List File) where
   pub named : (m : Method) → IsDeclared files m → IsNamed files m (name_text files m)
@@ -77,22 +92,41 @@ module _ (files : List File) where
 
   -- the names of methods, in a set
   module _ (ms : List Method) (i : ℕ) (m : Method) (lt : i < length ms) (is : m ≡ get_or ms i m) (keys : List (Vec ℕ)) (same : texts_of keys ≡ map (name_text files) (take i ms)) (name : Vec ℕ) (name_is : name.items ≡ name_text files m) where
-    pub old_name : (p : DeclarationId) → AreGathered files p ms → false ≡ not (list_any (same_text name.items) keys) → TwoAreAlike files (HaveOneName files) (method_place m)
-    old_name p g old =
-        let among : Contains (map (name_text files) (take i ms)) (name_text files m) = subst (λ l. Contains l (name_text files m)) same (subst (Contains (texts_of keys)) name_is ((among_keys name.items keys).0 (not_new (list_any (same_text name.items) keys) old))) in
-        let one = map_back (name_text files) (take i ms) (name_text files m) among in
-        let has_one = g.sound one.0 (front_there ms i one.0 one.1) in
-        let has_other = g.sound m (item_there ms i m lt is) in
-        record {
-          protocol = p;
-          one = one.0;
-          other = m;
-          has_one = has_one;
-          has_other = has_other;
-          differ = front_before (λ x y. x ≡ y → ⊥) ms i m lt is g.once one.0 one.1;
-          alike = record { name = name_text files m; one_is = subst (IsNamed files one.0) one.2 (named one.0 has_one.declared); other_is = named m has_other.declared };
-          place_is = refl;
+    -- a name that is there is that of the method before at the name's place
+    module _ (place : ℕ) (key : Vec ℕ) (at : slice_get keys place ≡ Some key) (equal : same_text name.items key ≡ true) where
+      earlier : (x : Method) × ((slice_get (take i ms) place ≡ Some x) × (name_text files x ≡ name_text files m))
+      earlier =
+          let there : slice_get (map (name_text files) (take i ms)) place ≡ Some key.items = ap (λ (l : List (List ℕ)). slice_get l place) (sym same) ∙ seen_at (λ (v : Vec ℕ). v.items) keys place key at in
+          let back = seen_back (name_text files) (take i ms) place key.items there in
+          (back.0, (back.1.0, back.1.1 ∙ sym ((text_test name.items key).0 equal) ∙ name_is))
+
+      before : place < i
+      before =
+          let within = slice_get_within (take i ms) place earlier.0 earlier.1.0 in
+          omega (arith, within, length-take i ms)
+
+      pub place_within : place < length ms
+      place_within = omega (arith, before, lt)
+
+      one_is : get_or ms place m ≡ earlier.0
+      one_is = sym (get_or-take i ms place m before) ∙ same_Some (get_or (take i ms) place m) earlier.0 (sym (slice_get-get_or (take i ms) place m (slice_get_within (take i ms) place earlier.0 earlier.1.0)) ∙ earlier.1.0)
+
+      module _ (one : Method) (here_is : one ≡ get_or ms place m) where
+        one_among : Contains (take i ms) one
+        one_among = subst (Contains (take i ms)) (sym (here_is ∙ one_is)) (among (take i ms) place earlier.0 earlier.1.0)
+
+        pub old_pair : (p : DeclarationId) → AreGathered files p ms → ArePair files p (record { one = one; other = m })
+        old_pair p g = record {
+          has_one = g.sound one (front_there ms i one one_among);
+          has_other = g.sound m (item_there ms i m lt is);
+          differ = front_before (λ x y. x ≡ y → ⊥) ms i m lt is g.once one one_among;
         }
+
+        pub old_name : (p : DeclarationId) → AreGathered files p ms → HaveOneName files one m
+        old_name p g =
+            let pair = old_pair p g in
+            let name_one : name_text files one ≡ name_text files m = ap (name_text files) (here_is ∙ one_is) ∙ earlier.1.1 in
+            record { name = name_text files m; one_is = subst (IsNamed files one) name_one (named one pair.has_one.declared); other_is = named m pair.has_other.declared }
 
     module _ (new : List (Vec ℕ)) (inserted : new ≡ (if list_any (same_text name.items) keys then keys else (keys ++ name ∷ []))) (fresh : true ≡ not (list_any (same_text name.items) keys)) where
       lacks : list_any (same_text name.items) keys ≡ false

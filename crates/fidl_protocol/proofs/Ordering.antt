@@ -8,10 +8,9 @@ use Rattle.std.proofs.lemmas.List.Sorted.{Contains-permutation, IsPermutation-sy
 use Rattle.fidl_tree.specs.declared.file.File.{File}
 use Rattle.fidl_names.specs.declared.place.DeclarationId.{DeclarationId}
 use Rattle.fidl_protocol.specs.declared.method.Method.{Method}
-use Rattle.fidl_protocol.specs.Methods.{MethodsDiffer, method_place}
+use Rattle.fidl_protocol.specs.Methods.{MethodsDiffer}
 use Rattle.fidl_protocol.specs.Checked.{AreMethodsOf}
-use Rattle.fidl_protocol.specs.Gathered.{AreGathered, name_text, NamesDiffer}
-use Rattle.fidl_protocol.specs.Faults.{TwoAreAlike, HaveOneOrdinal}
+use Rattle.fidl_protocol.specs.Gathered.{AreGathered, ArePair, name_text, NamesDiffer}
 use Rattle.fidl_protocol.proofs.Lists.{distinct_permutation, pair_cases}
 use Rattle.fidl_protocol.proofs.Naming.{its_name}
 
@@ -29,20 +28,15 @@ module _ (files : List File) (p : DeclarationId) where
   pub in_order_are : (ms : List Method) → AreGathered files p ms → AllPairs IsBelow ms → AreMethodsOf files p ms
   in_order_are ms g rise = record { sound = g.sound; complete = g.complete; rise = rise }
 
-  -- two methods of one ordinal stand beside each other
-  pub alike_beside : (ms : List Method) (i : ℕ) (d : Method) → 1 ≤ i → i < length ms → (get_or ms i d).own.ordinal ≡ (get_or ms (i - 1) d).own.ordinal → AreGathered files p ms → TwoAreAlike files HaveOneOrdinal (method_place (get_or ms i d))
-  alike_beside ms i d some lt same g =
+  -- methods that stand beside each other are a pair
+  pub pair_beside : (ms : List Method) (i : ℕ) (d : Method) → 1 ≤ i → i < length ms → AreGathered files p ms → ArePair files p (record { one = get_or ms (i - 1) d; other = get_or ms i d })
+  pair_beside ms i d some lt g =
       let before : i - 1 < length ms = omega (arith, some, lt) in
       let less : i - 1 < i = omega (arith, some) in
       record {
-        protocol = p;
-        one = get_or ms (i - 1) d;
-        other = get_or ms i d;
         has_one = g.sound (get_or ms (i - 1) d) (Contains-get_or ms (i - 1) d before);
         has_other = g.sound (get_or ms i d) (Contains-get_or ms i d lt);
         differ = g.once (i - 1) i d less lt;
-        alike = sym same;
-        place_is = refl;
       }
 
   -- methods whose names and ordinals differ

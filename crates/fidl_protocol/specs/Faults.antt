@@ -1,5 +1,5 @@
 -- What each refusal of protocols says (docs/language.md, "Checked protocols").
-use Rattle.std.specs.Prelude.{ℕ, ◌≡◌, ◌≢◌, List}
+use Rattle.std.specs.Prelude.{ℕ, ◌≡◌, ◌≢◌, ◌<◌, ◌⊎◌, List}
 use Rattle.std.specs.List.{Contains}
 use Rattle.fidl_limits.specs.declared.limits.TheConstants.{MAX_ENTRIES}
 use Rattle.fidl_span.specs.declared.words.Span.{Span}
@@ -13,7 +13,7 @@ use Rattle.fidl_lower_layouts.specs.Definitions.{DefinitionsAre}
 use Rattle.fidl_reachable_types.specs.Faults.{AreTooMany}
 use Rattle.fidl_composition.specs.declared.fault.ComposeFault.TheVariants as compose
 use Rattle.fidl_composition.specs.Protocols.{IsProtocolAt}
-use Rattle.fidl_composition.specs.Compositions.{IsTrueOfCompositions}
+use Rattle.fidl_composition.specs.Compositions.{IsTrueOfCompositions, IsWay}
 use Rattle.fidl_method_rules.specs.Rules.{Rule, strict_rule, selector_rule, ordinal_rule}
 use Rattle.fidl_method_rules.specs.Rules.{ProtocolBreaks}
 use Rattle.fidl_payloads.specs.Members.{MemberBreaks}
@@ -52,7 +52,29 @@ pub record PayloadBreaksAt (files : List File) (place : Place) : Type 0 where
   pub breaks : MemberBreaks files id.file member place.span
   pub file_is : place.file ≡ id.file
 
--- two methods of a protocol are alike; the place is that of the name of one of them
+-- one of two methods of a protocol is reported at its name: one that the protocol itself declares,
+-- and behind the other where it declares both
+pub record IsAtName (protocol : DeclarationId) (reported other : Method) (place : Place) : Type 0
+  where
+    pub own : reported.protocol ≡ protocol
+    pub later : other.protocol ≡ protocol → other.own.member < reported.own.member
+    pub place_is : place ≡ method_place reported
+
+-- the protocol declares neither, and one is reported at the path of a composition of the protocol
+-- through which it comes
+pub record IsAtPath (files : List File) (protocol : DeclarationId) (reported other : Method)
+    (place : Place) : Type 0 where
+  pub reported_composed : reported.protocol ≢ protocol
+  pub other_composed : other.protocol ≢ protocol
+  pub way : IsWay files protocol reported.protocol place
+
+-- where one of two methods of a protocol is reported
+abbrev pub IsReported : List File → (protocol : DeclarationId) → (reported other : Method) → Place
+    → Type 0
+IsReported files protocol reported other place =
+    IsAtName protocol reported other place ⊎ IsAtPath files protocol reported other place
+
+-- two methods of a protocol are alike, and one of them is reported in that protocol
 pub record TwoAreAlike (files : List File) (Alike : Method → Method → Type 0) (place : Place)
     : Type 0 where
   pub protocol : DeclarationId
@@ -62,7 +84,7 @@ pub record TwoAreAlike (files : List File) (Alike : Method → Method → Type 0
   pub has_other : HasMethod files protocol other
   pub differ : one ≢ other
   pub alike : Alike one other
-  pub place_is : place ≡ method_place other
+  pub reported : IsReported files protocol other one place
 
 abbrev pub HaveOneOrdinal : (one other : Method) → Type 0
 HaveOneOrdinal one other = one.own.ordinal ≡ other.own.ordinal

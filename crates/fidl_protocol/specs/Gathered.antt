@@ -1,5 +1,5 @@
 -- Methods on the way to all of a protocol, as the code has them.
-use Rattle.std.specs.Prelude.{ℕ, ◌≡◌, ◌≢◌, ◌++◌, ◌∷◌, List, [], Some, map, slice_get, flat_map}
+use Rattle.std.specs.Prelude.{ℕ, ◌≡◌, ◌≢◌, ◌<◌, ◌++◌, ◌∷◌, List, [], Some, map, slice_get, flat_map}
 use Rattle.std.specs.Option.{option_map_or}
 use Rattle.std.specs.List.{Contains, AllPairs, AllZip}
 use Rattle.std.specs.Global.{Vec}
@@ -14,6 +14,7 @@ use Rattle.fidl_payloads.specs.declared.payload.Payload.{Payload}
 use Rattle.fidl_payloads.specs.declared.payload.Payload.TheVariants.{Missing, Empty}
 use Rattle.fidl_payloads.specs.declared.payload.Payload.TheVariants as payload
 use Rattle.fidl_payloads.specs.Members.{MemberHolds}
+use Rattle.fidl_protocol.specs.declared.alike.Pair.{Pair}
 use Rattle.fidl_protocol.specs.declared.declaring.Found.{Found}
 use Rattle.fidl_protocol.specs.declared.method.Method.{Method}
 use Rattle.fidl_protocol.specs.declared.method.Protocol.{Protocol}
@@ -58,6 +59,17 @@ pub record AreGathered (files : List File) (p : DeclarationId) (ms : List Method
   pub sound : (m : Method) → Contains ms m → HasMethod files p m
   pub complete : (m : Method) → HasMethod files p m → Contains ms m
   pub once : AllPairs (λ (one other : Method). one ≢ other) ms
+
+-- two different methods of a protocol
+pub record ArePair (files : List File) (p : DeclarationId) (pair : Pair) : Type 0 where
+  pub has_one : HasMethod files p pair.one
+  pub has_other : HasMethod files p pair.other
+  pub differ : pair.one ≢ pair.other
+
+-- the protocol itself declares a method, behind another if it declares that too
+pub record IsLaterOwn (p : DeclarationId) (m other : Method) : Type 0 where
+  pub own : m.protocol ≡ p
+  pub later : other.protocol ≡ p → other.own.member < m.own.member
 
 -- the name of a method, without that of its protocol; empty where its file isn't there
 abbrev pub name_text : List File → Method → List ℕ

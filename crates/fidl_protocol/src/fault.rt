@@ -16,10 +16,11 @@ pub enum ProtocolFault {
     /// A protocol that isn't closed in a closed one, or an open one in an ajar one, at the path.
     #[error("a protocol of this openness may not be composed here")]
     BadCompose { place: Place },
-    /// Two methods of a protocol, composed ones too, have one name; at the name of one of them.
+    /// Two methods of a protocol, composed ones too, have one name: at the name of its own method,
+    /// the later of two own ones, or else at the path of a composition through which it has one.
     #[error("the protocol has another method of this name")]
     DuplicateMethod { place: Place },
-    /// Two methods of a protocol, composed ones too, have one ordinal; at the name of one of them.
+    /// Two methods of a protocol, composed ones too, have one ordinal; reported as those of one name.
     #[error("the protocol has another method of this ordinal")]
     DuplicateMethodOrdinal { place: Place },
     /// The ordinal of a method is 0, at the method's name.

@@ -2,6 +2,7 @@
 //! rules of the language (docs/language.md, "Checked protocols").
 #![tactic(auto)]
 
+mod alike;
 mod checked;
 mod checking;
 mod declaring;

@@ -1,11 +1,10 @@
 //! The names of the methods of a protocol.
-ghost use Rattle.std.specs.Prelude.{◌≡◌, OnOk, IfErr, IfOk};
+ghost use Rattle.std.specs.Prelude.{◌≡◌, IfOk, IfSome, IsNone};
 ghost use Rattle.fidl_names.specs.declared.place.DeclarationId.{DeclarationId as Id};
-ghost use Rattle.fidl_protocol.specs.Methods.{IsDeclared};
-ghost use Rattle.fidl_protocol.specs.Faults.{IsTrueOfProtocols};
-ghost use Rattle.fidl_protocol.specs.Gathered.{AreGathered, name_text, NamesDiffer};
+ghost use Rattle.fidl_protocol.specs.Methods.{IsDeclared, HaveOneName};
+ghost use Rattle.fidl_protocol.specs.Gathered.{AreGathered, ArePair, name_text, NamesDiffer};
 
-use crate::fault::ProtocolFault;
+use crate::alike::Pair;
 use crate::method::Method;
 use fidl_names::Named;
 use indexmap::IndexSet;
@@ -22,24 +21,29 @@ fn name_of(alloc: Global, named: &Named<'_, '_>, method: &Method) -> Result<Vec<
     Ok(name)
 }
 
-/// The names of all methods of a protocol differ.
-pub(crate) fn check_names(
+/// Two methods of a protocol that have one name: the first that has the name of one before it, and
+/// that one.
+pub(crate) fn two_of_one_name(
     alloc: Global,
     named: &Named<'_, '_>,
     methods: &[Method],
-) -> Result<(), ProtocolFault>
+) -> Result<Option<Pair>, AllocError>
     requires { (p : Id) × AreGathered named.now p methods.now }
-    ensures ok { OnOk result (NamesDiffer named.now methods.now) }
-    ensures fault_is_true { IfErr result (IsTrueOfProtocols named.now) }
+    ensures pair { IfOk result (λ found. IfSome found (λ pair. (p : Id)
+        → AreGathered named.now p methods.now → ArePair named.now p pair)) }
+    ensures name { IfOk result (λ found. IfSome found (λ pair. HaveOneName named.now pair.one
+        pair.other)) }
+    ensures none { IfOk result (λ found. IsNone found → NamesDiffer named.now methods.now) }
 {
     let mut names = IndexSet::new(alloc);
     for method in methods {
-        let (_place, is_new) = names.insert_full(name_of(alloc, named, method)?)?;
+        let (place, is_new) = names.insert_full(name_of(alloc, named, method)?)?;
         if !is_new {
-            return Err(ProtocolFault::DuplicateMethod {
-                place: method.place(),
-            });
+            return Ok(Some(Pair {
+                one: methods[place],
+                other: *method,
+            }));
         }
     }
-    Ok(())
+    Ok(None)
 }

@@ -11,12 +11,13 @@ ghost use Rattle.fidl_protocol.specs.Checked.{MembersHold, AreMethodsOf, AreProt
 ghost use Rattle.fidl_protocol.specs.Faults.{IsTrueOfProtocols};
 ghost use Rattle.fidl_protocol.specs.Gathered.{AreRows, AreGathered};
 
+use crate::alike::place_of_two;
 use crate::declaring::declared;
 use crate::fault::ProtocolFault;
 use crate::gathered::gathered;
 use crate::method::{Method, Protocol};
-use crate::names::check_names;
-use crate::ordinals::in_order;
+use crate::names::two_of_one_name;
+use crate::ordinals::{in_order, two_of_one_ordinal};
 use crate::parts::of_compositions;
 use fidl_composition::{Compositions, compositions};
 use fidl_names::DeclarationId;
@@ -57,17 +58,26 @@ fn all_methods(
 fn protocol(
     alloc: Global,
     types: &Types<'_, '_>,
+    compositions: &Compositions,
     id: DeclarationId,
     methods: Vec<Method>,
 ) -> Result<Protocol, ProtocolFault>
-    requires { AreGathered types.now id methods.items }
+    requires known { AreCompositions types.now compositions.now }
+    requires gathered { AreGathered types.now id methods.items }
     ensures id { IfOk result (λ p. p.id ≡ id) }
     ensures methods { IfOk result (λ p. AreMethodsOf types.now id p.methods.items) }
     ensures differ { OnOk result (MethodsDiffer types.now id) }
     ensures fault_is_true { IfErr result (IsTrueOfProtocols types.now) }
 {
-    check_names(alloc, types.named(), &methods)?;
+    if let Some(pair) = two_of_one_name(alloc, types.named(), &methods)? {
+        let place = place_of_two(alloc, types.named(), compositions, id, &pair)?;
+        return Err(ProtocolFault::DuplicateMethod { place });
+    }
     let methods = in_order(methods)?;
+    if let Some(pair) = two_of_one_ordinal(&methods) {
+        let place = place_of_two(alloc, types.named(), compositions, id, &pair)?;
+        return Err(ProtocolFault::DuplicateMethodOrdinal { place });
+    }
     Ok(Protocol { id, methods })
 }
 
@@ -87,7 +97,7 @@ fn protocols_of(
     let mut protocols = Vec::new(alloc);
     for (number, id) in compositions.protocols().iter().enumerate() {
         let methods = all_methods(alloc, compositions, rows, number)?;
-        protocols.push(protocol(alloc, types, *id, methods)?)?;
+        protocols.push(protocol(alloc, types, compositions, *id, methods)?)?;
     }
     Ok(protocols)
 }

@@ -27,4 +27,4 @@ returns-in-Err-clause-fault_is_true c =
     let m = c.index-member.result.now in
     let entry = c.requires.entry in
     let at = seen_member x.protocol.now.members.items c.args.own.member m entry.member entry.stands c.index-member.ensures in
-    c.of_payloads.ensures c.args.types.now x.id x.file.now _ _ _ (protocol_member_view m) c.requires.found (among (map protocol_member_view x.protocol.now.members.items) c.args.own.member (protocol_member_view m) at) c.in-Err.ensures.fault_is_true
+    c.of_payloads.ensures.holds c.args.types.now x.id x.file.now _ _ _ (protocol_member_view m) c.requires.found (among (map protocol_member_view x.protocol.now.members.items) c.args.own.member (protocol_member_view m) at) c.in-Err.ensures.fault_is_true

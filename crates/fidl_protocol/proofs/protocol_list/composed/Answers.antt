@@ -5,4 +5,4 @@ use Rattle.fidl_protocol.proofs.protocol_list.composed.Goals as goal
 
 pub returns-in-Err-clause-fault_is_true : goal.returns-in-Err-clause-fault_is_true
 returns-in-Err-clause-fault_is_true c =
-    c.of_compositions.ensures c.args.types.now (subst (λ (fs : List File). IsTrueOfCompositions fs c.in-Err.fault) c.named.ensures c.in-Err.ensures.fault_is_true)
+    c.of_compositions.ensures.holds c.args.types.now (subst (λ (fs : List File). IsTrueOfCompositions fs c.in-Err.fault) c.named.ensures c.in-Err.ensures.fault_is_true)

@@ -15,8 +15,8 @@ pub all_methods-requires-clause-long : goal.all_methods-requires-clause-long
 all_methods-requires-clause-long c =
     sym (zip_length (λ (id : DeclarationId) (row : Vec Method). AreDeclaredBy c.args.types.now id row.items) c.args.compositions.now.0 c.args.rows.now c.requires.rows)
 
-pub protocol-requires : goal.protocol-requires
-protocol-requires c =
+pub protocol-requires-clause-gathered : goal.protocol-requires-clause-gathered
+protocol-requires-clause-gathered c =
     let items = c.protocols-id-items.result.now in
     let n = c.loop-number.number in
     let id = get_or items n (record { file = 0; index = 0 }) in

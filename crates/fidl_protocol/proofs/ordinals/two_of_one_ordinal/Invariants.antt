@@ -1,7 +1,7 @@
 use Rattle.std.proofs.Common.{◌≤◌}
 use Rattle.std.specs.List.{AllAdjacentBelow}
 use Rattle.fidl_protocol.proofs.Ordering.{IsBelow}
-use Rattle.fidl_protocol.proofs.ordinals.check_rising.Given as goal
+use Rattle.fidl_protocol.proofs.ordinals.two_of_one_ordinal.Given as goal
 
 -- each of the first methods has a greater ordinal than the one before it
 abbrev pub invariant-loop-index : goal.invariant-loop-index
