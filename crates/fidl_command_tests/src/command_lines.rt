@@ -133,7 +133,8 @@ fn wrong_arguments_come_before_files(rt: HostRuntime) -> Result<(), Fail> {
         "",
         hex,
     )?;
-    let handle = "error: --handle number 1: three decimal numbers of 32 bits are wanted, as in 1:3:0\n";
+    let handle =
+        "error: --handle number 1: three decimal numbers of 32 bits are wanted, as in 1:3:0\n";
     let words = ["fidl", "decode", "--handle", "1:3", "none", "Point", "00"];
     expect(alloc, &words, 2, "", handle)?;
     let words = [
@@ -145,7 +146,8 @@ fn wrong_arguments_come_before_files(rt: HostRuntime) -> Result<(), Fail> {
         "Point",
         "00",
     ];
-    let second = "error: --handle number 2: three decimal numbers of 32 bits are wanted, as in 1:3:0\n";
+    let second =
+        "error: --handle number 2: three decimal numbers of 32 bits are wanted, as in 1:3:0\n";
     expect(alloc, &words, 2, "", second)
 }
 
