@@ -31,3 +31,8 @@ returns-clause-shows c =
     let kept = subst (λ (fs : List File). (ds : Declarations) × AreAccepted fs ds) same c.in_ok-checked.ensures.kept in
     let shows = subst (λ (fs : List File). Shows fs c.in_ok-write_table.field-0.items) (c.in_ok-checked.ensures.ok ∙ same) c.in_ok-write_table.ensures.shows in
     table_of sources files _ (all_read sources files count c.in_ok-files.ensures.read) kept shows
+
+pub returns-in_err-write_table-clause-fault_is_true : goal.returns-in_err-write_table-clause-fault_is_true
+returns-in_err-write_table-clause-fault_is_true c =
+    let p = err_from_is_err_and c.from_residual-in_err-write_table.result c.from_residual-in_err-write_table.ensures.1 in
+    rw (p.1, p.2) tt
