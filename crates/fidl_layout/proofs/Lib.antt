@@ -2,3 +2,4 @@ pub mod Forms
 pub mod Excluded
 pub mod Starts
 pub mod Found
+pub mod Held

@@ -14,6 +14,7 @@ use Rattle.fidl_type_shape.specs.Found.{figures_of, offsets_of, declarations_of}
 use Rattle.fidl_reachable_types.specs.Reached.{AreReached}
 use Rattle.fidl_layout.specs.Roots.{AreRoots}
 use Rattle.fidl_layout.specs.Written.{ValuesFit}
+use Rattle.fidl_layout.specs.Uses.{UsesFit}
 
 -- the roots of files reach few enough types
 pub record TypesFit (files : List File) (terms : List Term) : Type 0 where
@@ -30,6 +31,7 @@ pub record AreLaidOut (files : List File) (ds : Declarations) : Type 0 where
   pub laid_out : IsLaidOut ds
   pub limits : KeepLimits ds
   pub values : ValuesFit (all_forms files)
+  pub uses : UsesFit files ds.figures
   pub types : TypesFit files ds.terms
 
 -- the figures that were found for checked files
@@ -45,4 +47,5 @@ pub record AreFigures (files : List File) (found : Figures) : Type 0 where
 pub record AreHeld (files : List File) (found : Figures) : Type 0 where
   pub figures : AreFigures files found
   pub values : ValuesFit (all_forms files)
+  pub uses : UsesFit files (figures_of found)
   pub types : (terms : List Term) → TypesAre files terms → TypesFit files terms

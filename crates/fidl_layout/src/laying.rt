@@ -13,6 +13,7 @@ use crate::fault::LayoutFault;
 use crate::figures::all_figures;
 use crate::laid::Laid;
 use crate::roots::declared_types;
+use crate::uses::check_uses;
 use crate::written::check_values;
 use fidl_limits::MAX_ENTRIES;
 use fidl_reachable_types::{EntryFault, reached_types};
@@ -58,6 +59,7 @@ pub fn lay_out<'f, 's>(alloc: Global, types: Types<'f, 's>) -> Result<Laid<'f, '
 {
     check_values(&types)?;
     let figures = all_figures(alloc, &types)?;
+    check_uses(alloc, &types, &figures)?;
     check_types(alloc, &types)?;
     Ok(Laid { types, figures })
 }

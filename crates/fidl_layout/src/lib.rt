@@ -7,7 +7,9 @@ mod figures;
 mod laid;
 mod laws;
 mod laying;
+mod places;
 mod roots;
+mod uses;
 pub mod worked;
 mod written;
 

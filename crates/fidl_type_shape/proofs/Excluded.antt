@@ -13,11 +13,14 @@ use Rattle.fidl_ir.specs.declared.term.Definition.{Definition}
 use Rattle.fidl_ir.specs.Terms.{definitions_view}
 use Rattle.fidl_type_shape.specs.declared.fault.FigureFault.{FigureFault}
 use Rattle.fidl_type_shape.specs.declared.fault.FigureFault.TheVariants.{TooNested, TooLarge, TooManyMembers, Memory}
-use Rattle.fidl_type_shape.specs.Limits.{IsWithin, KeepLimits, parts, member_count}
+use Rattle.fidl_type_shape.specs.Limits.{IsWithin, KeepLimits, TypeFits, parts, member_count}
 use Rattle.fidl_type_shape.specs.Nesting.{Nested, none, empty, in_struct, in_array, by_name}
 use Rattle.fidl_ir.specs.Members.{field_types}
 use Rattle.fidl_type_shape.specs.Solutions.{is_settled, are_settled, Solve}
-use Rattle.fidl_type_shape.specs.Faults.{IsTrueOf}
+use Rattle.fidl_type_shape.specs.Faults.{IsTrueOf, IsBeyond, HoldsExcess}
+use Rattle.fidl_type_shape.specs.declared.fault.Excess.{Excess}
+use Rattle.fidl_type_shape.specs.declared.fault.Excess.TheVariants as excess
+use Rattle.fidl_type_shape.proofs.Agree.{settled_all}
 use Rattle.fidl_type_shape.proofs.Lists.{all_at}
 use Rattle.fidl_type_shape.proofs.Fields.{both_left, both_right}
 use Rattle.fidl_type_shape.proofs.Nests.{no_name_at}
@@ -101,6 +104,26 @@ module _ (terms : List Term) (figures : List Figure) (laid : map (figure_of figu
     same : (t : Term) → IsTrue (is_settled chosen t) → figure_of figures t ≡ figure_of some t
     unfolding IsSame
     same t s = same_of (figure_of some t).nest (unnamed (figure_of some t).nest) t s (omega arith)
+
+-- the figures of definitions, none a name, are one list, whatever term they are asked for
+pub same_figures : (terms : List Term) → ((i : ℕ) → IsNoName (get_or terms i nothing)) → (one other : List Figure) → map (figure_of one) terms ≡ one → map (figure_of other) terms ≡ other → (t : Term) → figure_of one t ≡ figure_of other t
+same_figures terms none_named one other a b t =
+    same terms one a none_named other [] (λ i k. record { settled = settled_all [] (λ j. refl) (get_or terms i nothing); solves = kept terms other b i }) t (settled_all [] (λ j. refl) t)
+
+-- a type that is within the limits is past none
+beyond_not : (excess : Excess) (f : Figure) → IsBeyond excess f → IsWithin f → ⊥
+beyond_not excess.Nest f h within = omega (arith, h, within.shallow)
+beyond_not excess.Size f h within = omega (arith, h, within.small)
+
+pub fits_not : (figures : List Figure) (t : Term) (excess : Excess) → HoldsExcess figures t excess → TypeFits figures t → ⊥
+fits_not figures t excess h fits = beyond_not excess (figure_of figures h.part) h.beyond (all_among (λ u. IsWithin (figure_of figures u)) (parts t) h.part fits h.among)
+
+-- a type that holds what is past a limit doesn't fit, by whatever figures of the definitions
+pub excess_not : (ds : List Definition) (one other : List Figure) → map (figure_of one) (definitions_view ds) ≡ one → map (figure_of other) (definitions_view ds) ≡ other → (t : Term) (excess : Excess) → HoldsExcess one t excess → TypeFits other t → ⊥
+excess_not ds one other a b t excess h fits =
+    let is = same_figures (definitions_view ds) (no_name_at ds) one other a b h.part in
+    let beyond : IsBeyond excess (figure_of other h.part) = subst (IsBeyond excess) is h.beyond in
+    fits_not other t excess (record { part = h.part; among = h.among; own = h.own; beyond = beyond }) fits
 
 -- what stands in a definition is within the limits
 part_within : (ds : Declarations) → KeepLimits ds → (i : ℕ) (d t : Term) → slice_get ds.terms i ≡ Some d → Contains (parts d) t → IsWithin (figure_of ds.figures t)

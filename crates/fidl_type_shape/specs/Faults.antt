@@ -8,6 +8,8 @@ use Rattle.fidl_wire.specs.Figure.{Figure, figure_of}
 use Rattle.fidl_type_shape.specs.declared.fault.FigureFault.{FigureFault}
 use Rattle.fidl_type_shape.specs.declared.fault.FigureFault.TheVariants.{TooNested, TooLarge}
 use Rattle.fidl_type_shape.specs.declared.fault.FigureFault.TheVariants.{TooManyMembers, Memory}
+use Rattle.fidl_type_shape.specs.declared.fault.Excess.{Excess}
+use Rattle.fidl_type_shape.specs.declared.fault.Excess.TheVariants.{Nest, Size}
 use Rattle.fidl_type_shape.specs.Limits.{parts, member_count}
 use Rattle.fidl_type_shape.specs.Nesting.{Nested}
 use Rattle.fidl_type_shape.specs.Solutions.{is_settled, Solve}
@@ -49,3 +51,18 @@ IsTrueOf terms (TooNested i) = IsTooNested terms i
 IsTrueOf terms (TooLarge i) = IsTooLarge terms i
 IsTrueOf terms (TooManyMembers i) = HasTooManyMembers terms i
 IsTrueOf terms Memory = Unit {0}
+
+-- What is said of one type, by the figures of all definitions.
+
+-- a figure is past a limit of types
+abbrev pub IsBeyond : Excess → Figure → Type 0
+IsBeyond Nest f = MAX_NEST < f.nest
+IsBeyond Size f = MAX_INLINE_SIZE < f.size
+
+-- in a type stands one that is past a limit: the type itself or an array in it, and no definition
+-- that it names
+pub record HoldsExcess (figures : List Figure) (t : Term) (excess : Excess) : Type 0 where
+  pub part : Term
+  pub among : Contains (parts t) part
+  pub own : IsNoName part
+  pub beyond : IsBeyond excess (figure_of figures part)

@@ -33,6 +33,10 @@ pub record IsWithin (f : Figure) : Type 0 where
   pub small : f.size ≤ MAX_INLINE_SIZE
   pub shallow : f.nest ≤ MAX_NEST
 
+-- all that stands in a type is within the limits
+abbrev pub TypeFits : (figures : List Figure) → Term → Type 0
+TypeFits figures t = AllByRecursion (λ part. IsWithin (figure_of figures part)) (parts t)
+
 -- how many members a layout has: of an enum those that its term has, where it is strict
 abbrev pub member_count : Term → ℕ
 member_count (ty.enum kind (Some values)) = length values
@@ -40,6 +44,5 @@ member_count d = length (member_types d)
 
 -- the limits hold of all that stands in declarations
 pub record KeepLimits (ds : Declarations) : Type 0 where
-  pub figures : AllByRecursion
-      (λ d. AllByRecursion (λ t. IsWithin (figure_of ds.figures t)) (parts d)) ds.terms
+  pub figures : AllByRecursion (TypeFits ds.figures) ds.terms
   pub members : AllByRecursion (λ d. member_count d ≤ MAX_LAYOUT_MEMBERS) ds.terms

@@ -12,6 +12,11 @@ holding t = ty.struct (field (codes "a") t no_fields)
 abbrev pub bytes : ℕ → Term
 bytes n = ty.array (ty.number ty.uint8) n
 
+-- as many arrays of one element in one another
+abbrev pub arrays : ℕ → Term
+arrays zero = ty.bool
+arrays (suc n) = ty.array (arrays n) 1
+
 -- a struct in as many others
 abbrev pub struct_in : ℕ → Term
 struct_in zero = ty.struct no_fields

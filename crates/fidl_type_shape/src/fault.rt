@@ -43,6 +43,15 @@ impl<T: Drop> From<AllocFailed<T>> for FigureFault {
     }
 }
 
+/// The limit of types that a type is past (docs/language.md, "Figures").
+#[derive(Clone, Copy, Debug, PartialEq, Eq, Drop)]
+pub enum Excess {
+    /// At most 32 structs and arrays stand inline in one another.
+    Nest,
+    /// A type has at most 65,535 bytes.
+    Size,
+}
+
 /// Why a definition has no figure: the limit that it is past, or memory that ran out.
 #[derive(Clone, Copy, Drop)]
 pub(crate) enum Refusal {

@@ -1,21 +1,23 @@
 //! The figures of definitions, and where the members of their structs stand.
 ghost use Rattle.std.specs.Prelude.{◌≡◌, [], length, map, slice_get, IfOk, IfErr, IfSome, IsNone};
+ghost use Rattle.std.specs.Prelude.{OnOk};
 ghost use Rattle.std.specs.Option.{option_map, option_and_then};
 ghost use Rattle.std.specs.List.{Contains};
 ghost use Rattle.fidl_wire.specs.Term.{Term, fields_of};
-ghost use Rattle.fidl_wire.specs.Figure.{IsLaidOut, figure_of, offsets};
+ghost use Rattle.fidl_wire.specs.Figure.{Figure as Plain, IsLaidOut, figure_of, offsets};
 ghost use Rattle.fidl_ir.specs.Terms.{definitions_view, term_view};
-ghost use Rattle.fidl_type_shape.specs.Limits.{IsWithin, KeepLimits, parts};
-ghost use Rattle.fidl_type_shape.specs.Faults.{IsTrueOf};
+ghost use Rattle.fidl_type_shape.specs.Limits.{IsWithin, KeepLimits, TypeFits, parts};
+ghost use Rattle.fidl_type_shape.specs.Faults.{IsTrueOf, IsBeyond, HoldsExcess};
+ghost use Rattle.fidl_type_shape.specs.Excesses.{IsPast};
 ghost use Rattle.fidl_type_shape.specs.Views.{figure_view, figures_view};
 ghost use Rattle.fidl_type_shape.specs.Progress.{AreFound};
 ghost use Rattle.fidl_type_shape.specs.Found.{figures_of, offsets_of, declarations_of};
 
-use crate::fault::FigureFault;
+use crate::fault::{Excess, FigureFault, Refusal};
 use crate::figure::Figure;
 use crate::places::place_all;
 use crate::rounds::settle;
-use crate::type_figure::type_figure;
+use crate::type_figure::{check_type, type_figure};
 use fidl_ir::{Definition, Type};
 use std::alloc::{AllocError, Global};
 
@@ -24,6 +26,16 @@ use std::alloc::{AllocError, Global};
 pub struct Figures {
     figures: Vec<Figure>,
     offsets: Vec<Vec<u32>>,
+}
+
+/// The limit that a type is past; no type has members of its own, or takes memory.
+fn excess_of(refusal: Refusal) -> Excess
+    ensures { (f : Plain) → IsPast refusal f → IsBeyond result f }
+{
+    match refusal {
+        Refusal::Nest => Excess::Nest,
+        Refusal::Size | Refusal::Members | Refusal::Memory => Excess::Size,
+    }
 }
 
 impl Figures {
@@ -46,6 +58,19 @@ impl Figures {
         match type_figure(&self.figures, of) {
             Ok(figure) => Some(figure),
             Err(_) => None,
+        }
+    }
+
+    /// All that stands in a type is within the limits, by the figures of the definitions. Refused
+    /// with the limit that the type is past, or an array in it.
+    pub fn check_type(&self, of: &Type) -> Result<(), Excess>
+        ensures ok { OnOk result (TypeFits (figures_of self.now) (term_view of.now)) }
+        ensures fault_is_true { IfErr result
+            (HoldsExcess (figures_of self.now) (term_view of.now)) }
+    {
+        match check_type(&self.figures, of) {
+            Ok(()) => Ok(()),
+            Err(refusal) => Err(excess_of(refusal)),
         }
     }
 

@@ -12,6 +12,6 @@ mod rounds;
 mod type_figure;
 pub mod worked;
 
-pub use fault::FigureFault;
+pub use fault::{Excess, FigureFault};
 pub use figure::Figure;
 pub use finding::{Figures, find_figures};

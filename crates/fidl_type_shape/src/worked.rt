@@ -4,11 +4,15 @@ ghost use Rattle.std.specs.Prelude.{IsTrue, None, Some, suc};
 ghost use Rattle.fidl_wire.specs.Term.{no_fields, field, no_rows, row};
 ghost use Rattle.fidl_wire.specs.Term as ty;
 ghost use Rattle.fidl_wire.specs.Figure.{IsLaidOut, figure, offsets};
-ghost use Rattle.fidl_type_shape.specs.Limits.{IsWithin, KeepLimits, parts, member_count};
+ghost use Rattle.fidl_type_shape.specs.Limits.{IsWithin, KeepLimits, TypeFits, parts};
+ghost use Rattle.fidl_type_shape.specs.Limits.{member_count};
+ghost use Rattle.fidl_type_shape.specs.declared.fault.Excess.TheVariants as Limits;
 ghost use Rattle.fidl_type_shape.specs.Nesting.{Nested};
 ghost use Rattle.fidl_type_shape.specs.Solutions.{is_settled, Solve};
 ghost use Rattle.fidl_type_shape.specs.Faults.{IsTooNested, IsTooLarge, HasTooManyMembers};
-ghost use Rattle.fidl_type_shape.specs.Samples.{holding, bytes, struct_in, bools, alone};
+ghost use Rattle.fidl_type_shape.specs.Faults.{HoldsExcess};
+ghost use Rattle.fidl_type_shape.specs.Samples.{holding, bytes, arrays, struct_in, bools};
+ghost use Rattle.fidl_type_shape.specs.Samples.{alone};
 
 /// What stands in a vector, an array or a member stands in what is around it; a name is not
 /// followed.
@@ -122,4 +126,17 @@ pub fn definitions_too_large()
 pub fn definitions_with_many_members()
     ensures refused { (n : ℕ) → 65535 < n → HasTooManyMembers (ty.struct (bools n) ∷ []) 0 }
     ensures last { (n : ℕ) → n ≤ 65535 → ¬ (HasTooManyMembers (ty.struct (bools n) ∷ []) 0) }
+{}
+
+/// A type alone holds what is past a limit where it is an array past it, or holds one, in a vector
+/// too; a definition that it names is none of its own.
+pub fn types_past_limits()
+    ensures large { HoldsExcess [] (bytes 65536) Limits.Size }
+    ensures last { TypeFits [] (bytes 65535) }
+    ensures not_last { ¬ (HoldsExcess [] (bytes 65535) Limits.Size) }
+    ensures in_a_vector { HoldsExcess [] (ty.vector false 2 (bytes 65536)) Limits.Size }
+    ensures deep { HoldsExcess [] (arrays 33) Limits.Nest }
+    ensures last_deep { TypeFits [] (arrays 32) }
+    ensures not_last_deep { ¬ (HoldsExcess [] (arrays 32) Limits.Nest) }
+    ensures of_a_name { ¬ (HoldsExcess (figure 65536 1 1 ∷ []) (ty.named 0) Limits.Size) }
 {}

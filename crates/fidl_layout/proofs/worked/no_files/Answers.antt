@@ -28,6 +28,7 @@ returns-clause-laid_out c = record {
   laid_out = refl;
   limits = record { figures = tt; members = tt };
   values = tt;
+  uses = λ number f at. absurd (none-some f at);
   types = record {
     roots = [];
     are = record { sound = λ i h. absurd (nothing_there i h); complete = λ i r. absurd (none-some r.form r.at) };
@@ -42,3 +43,9 @@ returns-clause-too_many c = λ place h. none-some h.root.form h.root.at
 
 pub returns-clause-members : goal.returns-clause-members
 returns-clause-members c = λ place h. elim h [ inl k ↦ none-some k.reported.form k.reported.at | inr k ↦ none-some k.reported.form k.reported.at ]
+
+pub returns-clause-large : goal.returns-clause-large
+returns-clause-large c = λ place h. elim h [ inl k ↦ none-some k.reported.form k.reported.at | inr k ↦ none-some k.is.at.f k.is.at.file_at ]
+
+pub returns-clause-nested : goal.returns-clause-nested
+returns-clause-nested c = λ place h. elim h [ inl k ↦ none-some k.reported.form k.reported.at | inr k ↦ none-some k.is.at.f k.is.at.file_at ]

@@ -38,6 +38,7 @@ laid_out = record {
   laid_out = refl;
   limits = record { figures = tt; members = tt };
   values = tt;
+  uses = λ number f at. absurd (none-some f at);
   types = record {
     roots = [];
     are = record { sound = λ i h. absurd (nothing_there i h); complete = λ i r. absurd (none-some r.form r.at) };
