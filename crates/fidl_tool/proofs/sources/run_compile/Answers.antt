@@ -41,7 +41,7 @@ returns-in-Ok-write-clause-done g c q files known =
       table = table;
       compiled = compiled_as _ files table same c.in-Ok-compile.ensures.well_formed c.in-Ok-compile.ensures.shows;
       written = subst (λ (bytes : List ℕ). IsWritten (g.F.Files.written c.args.files.now) (g.F.Files.written c.write.new.self) c.args.arguments.now.out.now bytes) c.deref-4.ensures.value c.in-Ok-write.ensures.ok;
-      printed = appends_as _ _ (summary_line c.deref-5.result.now) (summary_line table) (ap summary_line c.deref-5.ensures.value) (c.summarize.ensures.done q);
+      printed = appends_as _ _ (summary_line c.deref-in-Ok-write.result.now) (summary_line table) (ap summary_line c.deref-in-Ok-write.ensures.value) (c.summarize.ensures.done q);
     }
 
 pub returns-in-Ok-write-clause-front : goal.returns-in-Ok-write-clause-front
@@ -56,11 +56,11 @@ returns-in-Ok-write-clause-front g c q = inr (λ files known.
       table = table;
       compiled = compiled_as _ files table same c.in-Ok-compile.ensures.well_formed c.in-Ok-compile.ensures.shows;
       written = subst (λ (bytes : List ℕ). IsWritten (g.F.Files.written c.args.files.now) (g.F.Files.written c.write.new.self) c.args.arguments.now.out.now bytes) c.deref-4.ensures.value c.in-Ok-write.ensures.ok;
-      front = front_as _ _ (summary_line c.deref-5.result.now) (summary_line table) (ap summary_line c.deref-5.ensures.value) (c.summarize.ensures.front q);
+      front = front_as _ _ (summary_line c.deref-in-Ok-write.result.now) (summary_line table) (ap summary_line c.deref-in-Ok-write.ensures.value) (c.summarize.ensures.front q);
     })
 
-pub returns-in-Err-write-clause-no_file : goal.returns-in-Err-write-clause-no_file
-returns-in-Err-write-clause-no_file g c q =
+pub returns-clause-no_file : goal.returns-clause-no_file
+returns-clause-no_file g c q =
     let sources = c.in-Ok.sources.items in
     let table = c.in-Ok-compile.table.items in
     let names = ap (map (λ n. n.now)) c.deref.ensures.value in
