@@ -9,12 +9,14 @@ use Rattle.fidl_layout.specs.Laid.{AreLaidOut, AreHeld}
 
 pub held_laid : (files : List File) (found : Figures) → AreHeld files found → (ds : Declarations) × AreLaidOut files ds
 held_laid files found held =
-    let figures = held.figures in
-    (declarations_of figures.definitions found, record {
-      checked = figures.checked;
-      laid_out = figures.laid_out;
-      limits = figures.limits;
-      values = held.values;
-      uses = held.uses;
-      types = held.types (definitions_view figures.definitions) figures.checked;
-    })
+    let figures = held.figures in (
+      declarations_of figures.definitions found,
+      record {
+        checked = figures.checked;
+        laid_out = figures.laid_out;
+        limits = figures.limits;
+        values = held.values;
+        uses = held.uses;
+        types = held.types (definitions_view figures.definitions) figures.checked;
+      },
+    )
