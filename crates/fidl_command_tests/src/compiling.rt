@@ -184,3 +184,24 @@ fn a_file_that_cannot_be_written(rt: HostRuntime) -> Result<(), Fail> {
     assert_eq!(rt; ran.disk.written, None);
     Ok(())
 }
+
+#[test]
+fn the_table_stands_where_its_line_is_not_printed(rt: HostRuntime) -> Result<(), Fail> {
+    let alloc = rt.alloc();
+    let mut disk = disk(alloc)?;
+    let mut room = [0u8; 8];
+    let mut out = Output::new(room.as_mut_slice());
+    let mut errors = Output::new(Vec::new(alloc));
+    let words = ["fidl", "compile", "--out", "o", "point.fidl"];
+    let outcome = run(alloc, &words, &mut disk, &mut out, &mut errors);
+    assert_eq!(rt; outcome.status().number(), 3);
+    let told = b"error: the output: write zero\n".as_slice();
+    assert!(rt; errors.into_writer().as_slice() == told);
+    assert!(rt; room.as_slice() == b"entries ".as_slice());
+    let length = match &disk.written {
+        Some(table) => table.len(),
+        None => 0,
+    };
+    assert_eq!(rt; length, 188);
+    Ok(())
+}
