@@ -1,0 +1,9 @@
+pub mod Reading
+pub mod Leaves
+pub mod Readable
+pub mod Texts
+pub mod WordLaws
+pub mod Det
+pub mod First
+pub mod Single
+pub mod Refusing
