@@ -8,15 +8,18 @@
 mod counted;
 mod test_sink;
 mod test_source;
+mod writing;
 
 ghost use Rattle.std.specs.Prelude.{◌≡◌, ℕ, List, None, Option, is_err};
 ghost use Rattle.std.specs.Io.{ReadsAtMost, WritesAtMost};
 ghost use Rattle.std.specs.Io.KnownBytes.{Keeps, ReadConsumes, WriteAppends};
 ghost use Rattle.fidl_streams.specs.Counts.{add_count, count_when, is_refused};
+ghost use Rattle.fidl_streams.specs.Written.{Taken};
 
 pub use crate::counted::Counted;
 pub use crate::test_sink::{Refusal, TestSink};
 pub use crate::test_source::TestSource;
+pub use crate::writing::{Sent, send, write_all};
 
 /// A read, a write or a flush has failed.
 #[derive(Clone, Copy, PartialEq, Eq, Debug, Drop)]
@@ -44,21 +47,21 @@ pub trait Source {
 
 /// What bytes are written to.
 pub trait Sink {
-    /// The bytes taken so far, where they are known.
-    ghost contents: { Self → Option (List ℕ) };
-
-    /// The writes and flushes so far that failed; a write that takes none of some bytes is one. The
-    /// count stays at 2^64 - 1.
-    ghost failures: { Self → ℕ };
+    /// The bytes taken so far, where they are known, and the writes and flushes so far that failed;
+    /// a write that takes none of some bytes is one. The count stays at 2^64 - 1.
+    ghost taken: { Self → Taken };
 
     /// Takes a front of `buf`, and says how many bytes. A failure takes none.
     fn write(&mut self, buf: &[u8]) -> Result<usize, Failed>
         ensures bound { WritesAtMost result buf.now }
-        ensures bytes { WriteAppends (contents self.old) (contents self.new) result buf.now }
-        ensures failed { failures self.new ≡ count_when (failures self.old) (is_refused result buf.now) };
+        ensures bytes { WriteAppends (taken self.old).contents (taken self.new).contents result
+            buf.now }
+        ensures failed { (taken self.new).failures
+            ≡ count_when (taken self.old).failures (is_refused result buf.now) };
 
     /// Hands on what is still held back.
     fn flush(&mut self) -> Result<(), Failed>
-        ensures bytes { Keeps (contents self.old) (contents self.new) }
-        ensures failed { failures self.new ≡ count_when (failures self.old) (is_err result) };
+        ensures bytes { Keeps (taken self.old).contents (taken self.new).contents }
+        ensures failed { (taken self.new).failures
+            ≡ count_when (taken self.old).failures (is_err result) };
 }
