@@ -31,8 +31,12 @@ takes_then a b c xs ys h k = record {
 pub takes_as : (a b : Taken) (xs ys : List ℕ) → xs ≡ ys → Takes a b xs → Takes a b ys
 takes_as a b xs ys e h = subst (λ (l : List ℕ). Takes a b l) e h
 
-pub part_as : (a b : Taken) (xs ys : List ℕ) → xs ≡ ys → TakesPart a b xs → TakesPart a b ys
-part_as a b xs ys e h = subst (λ (l : List ℕ). TakesPart a b l) e h
+pub front_as : (a b : Taken) (xs ys : List ℕ) → xs ≡ ys → TakesPart a b xs → TakesPart a b ys
+front_as a b xs ys e h = subst (λ (l : List ℕ). TakesPart a b l) e h
+
+-- nothing is written
+pub takes_none : (a : Taken) → Takes a a []
+takes_none a = record { contents = Appends-nil a.contents; failures = refl }
 
 -- a front of the whole is taken, and this is left
 pub record IsSoFar (old now : Taken) (whole left : List ℕ) : Type 0 where
@@ -46,7 +50,7 @@ so_far_begin old now whole xs left h e = record { front = xs; taken = h; whole_i
 pub so_far_none : (a : Taken) (whole : List ℕ) → IsSoFar a a whole whole
 so_far_none a whole = record {
   front = [];
-  taken = record { contents = Appends-nil a.contents; failures = refl };
+  taken = takes_none a;
   whole_is = refl;
 }
 

@@ -8,7 +8,7 @@ use crate::{Failed, Sink};
 /// Writes all of the bytes, or fails and has written a front of them that is not all. Nothing is
 /// written after a failure.
 pub fn write_all<W: Sink>(out: &mut W, bytes: &[u8]) -> Result<(), Failed>
-    ensures bytes { Writes (W.taken out.old) (W.taken out.new) bytes.now result }
+    ensures { Writes (W.taken out.old) (W.taken out.new) bytes.now result }
 {
     let mut rest = bytes;
     while !rest.is_empty() {

@@ -13,6 +13,7 @@ use crate::kind::entry_kind;
 use crate::number::{signed, unsigned};
 use fidl_decode::Decoded;
 use fidl_table_format::EntryKind;
+use fidl_verify::Table;
 use fidl_wire::u64_at;
 
 /// A part of a decoded message. It borrows the message, and every answer is a part of the value
@@ -38,7 +39,22 @@ impl<'v, 'm> View<'v, 'm> {
     ghost use Rattle.fidl_table_format.specs.WellFormed.{WellFormed};
     ghost use Rattle.fidl_view.specs.Parts.{absence_of, bool_of, numbers_of, unsigned_of};
     ghost use Rattle.fidl_view.specs.Parts.{signed_of};
-    ghost use Rattle.fidl_view.specs.Views.{IsShownBy, type_shown};
+    ghost use Rattle.fidl_view.specs.Views.{IsShownBy, part_of, type_shown};
+
+    /// The table that the part's type is from.
+    pub fn table(self) -> &'v Table<'v>
+        ensures { result.now ≡ (part_of self.entry).message.table }
+    {
+        self.decoded.table()
+    }
+
+    /// The number of the entry of the part's type, which is below the table's `entries`.
+    pub fn entry(self) -> u32
+        ensures value { result ≡ (part_of self.entry).index }
+        ensures in_range { result < (header_of (part_of self.entry).message.table).entries }
+    {
+        self.index
+    }
 
     /// The kind of the part's type.
     pub(crate) fn kind(self) -> EntryKind

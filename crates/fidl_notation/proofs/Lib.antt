@@ -1,0 +1,10 @@
+pub mod Shallow
+mod Truncated
+pub mod Slots
+pub mod Tables
+mod Quoting
+pub mod Printing
+pub mod EntryTexts
+pub mod Numbers
+pub mod Whole
+mod RawText

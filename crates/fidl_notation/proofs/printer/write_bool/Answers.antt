@@ -1,0 +1,9 @@
+use Rattle.std.proofs.Common.{◌≡◌, Bool, sym, subst, refl}
+use Rattle.std.specs.Prelude.{Option, IsSome}
+use Rattle.std.proofs.Math.Logic.{∥∥₁_elim}
+use Rattle.fidl_notation.proofs.Truncated.{is_some_prop}
+use Rattle.fidl_notation.proofs.Printing.{only_bool}
+use Rattle.fidl_notation.proofs.printer.write_bool.Goals as goal
+
+pub unwrap-value-requires : goal.unwrap-value-requires
+unwrap-value-requires g c = ∥∥₁_elim c.requires (is_some_prop _) (λ q. only_bool q.0 q.1.0 q.1.1.typed c.as_bool.result (c.as_bool.ensures q.1.0 q.1.1.shown))
