@@ -1,13 +1,12 @@
 -- A value is at most one level deeper than it has bytes out of line: each level but the last holds a
 -- marker or an envelope, of eight bytes.
-use Rattle.std.proofs.Common.{◌≡◌, ℕ, zero, suc, ◌+◌, ◌-◌, ◌<◌, ◌≤◌, max, Bool, true, false, List, ◌++◌, length, Option, Some, None, refl, ap, sym, subst, arith, length-append, nat_le, if◌then◌else◌}
+use Rattle.std.proofs.Common.{◌≡◌, ℕ, zero, suc, ◌+◌, ◌-◌, ◌<◌, ◌≤◌, max, Bool, true, false, List, ◌++◌, length, Option, arith, length-append, nat_le, if◌then◌else◌}
 use Rattle.std.specs.Int.{next_multiple_of, w64, to_le_bytes}
-use Rattle.fidl_wire.specs.declared.handle.HandleInfo.{HandleInfo}
 use Rattle.fidl_wire.specs.Value.{Value, absent, bool, number, text, list, fields, handle, table, union, Values, none, value, Member, known, unknown, Members, empty, member, count}
 use Rattle.fidl_wire.specs.Term.{Term, Fields, no_fields, field, Rows, resolve, rows_of, find}
 use Rattle.fidl_wire.specs.Term as ty
 use Rattle.fidl_wire.specs.Figure.{Declarations, figure_of, size_of}
-use Rattle.fidl_wire.specs.Encoding.{Encoding, zeros, padded, pad8, present, inline_only, joined, object, pointing, envelope_end, inline_envelope, out_envelope, term_or, behind, element_of, content_of, encoding_of, elements, members, enveloped, envelopes}
+use Rattle.fidl_wire.specs.Encoding.{Encoding, zeros, padded, pad8, present, inline_only, joined, object, pointing, inline_envelope, out_envelope, term_or, behind, element_of, content_of, encoding_of, elements, members, enveloped, envelopes}
 use Rattle.fidl_wire.specs.Depth.{below, depth_of, elements_depth, fields_depth, member_depth, members_depth}
 
 -- an encoding has the bytes that its depth needs

@@ -1,5 +1,5 @@
 -- What a view shows is a value of its entry, which is no deeper than its message is long.
-use Rattle.std.proofs.Common.{◌≡◌, ℕ, suc, ◌+◌, ◌≤◌, List, arith, sym, subst}
+use Rattle.std.proofs.Common.{◌≡◌, ℕ, ◌+◌, ◌≤◌, List, arith, sym, subst}
 use Rattle.fidl_limits.specs.declared.limits.TheConstants.{MAX_MESSAGE_BYTES}
 use Rattle.std.specs.Prelude.{length}
 use Rattle.fidl_wire.specs.Value.{Value}

@@ -1,5 +1,5 @@
 -- What the printer is given, and what it writes: a view of a value, and the value's text.
-use Rattle.std.specs.Prelude.{◌≡◌, ◌≤◌, ℕ, List, Option, Result}
+use Rattle.std.specs.Prelude.{◌≡◌, ◌≤◌, ℕ, List, Result}
 use Rattle.fidl_wire.specs.Value.{Value, Values, list, fields}
 use Rattle.fidl_wire.specs.Term.{Term, resolve}
 use Rattle.fidl_wire.specs.Term as ty

@@ -18,9 +18,9 @@ ghost use Rattle.fidl_notation.specs.Slots.{IsValueOf, PrintsNamed, HasMemberWit
 ghost use Rattle.fidl_notation.specs.Slots.{PrintsSlot, later_behind};
 ghost use Rattle.fidl_streams.specs.Written.{Writes};
 
-use fidl_streams::{Failed, Sink, write_all};
 use crate::quoted::{write_comma, write_decimal, write_handle, write_quoted};
 use crate::unknown::write_unknown;
+use fidl_streams::{Failed, Sink, write_all};
 use fidl_table_format::{EntryKind, Row};
 use fidl_verify::Table;
 use fidl_view::View;

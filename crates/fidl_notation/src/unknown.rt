@@ -8,8 +8,8 @@ ghost use Rattle.fidl_wire.specs.Figure.{Declarations};
 ghost use Rattle.fidl_wire.specs.Text.{hex_byte, handles_text, member_text};
 ghost use Rattle.fidl_streams.specs.Written.{Writes};
 
-use fidl_streams::{Failed, Sink, write_all};
 use crate::quoted::{hex_digit, write_comma, write_decimal, write_handle};
+use fidl_streams::{Failed, Sink, write_all};
 use fidl_view::Unknown;
 use fidl_wire::HandleInfo;
 

@@ -2,12 +2,8 @@
 --   Outputs        what a write does to the bytes of a writer
 --   Words          lines of words
 --   Listing        the records of a table as text
---   Parts          what the printer is given, and what it writes
---   Slots          the same of the members of tables and unions
 --   Samples        a table of the worked facts
 pub mod Outputs
 pub mod Words
 pub mod Listing
-pub mod Parts
-pub mod Slots
 pub mod Samples

@@ -5,17 +5,17 @@
 //! and its contract says which bytes the writer has got.
 #![tactic(auto)]
 
+mod hex;
 mod listing;
 mod message;
 mod output;
-mod printer;
 mod quoted;
-mod unknown;
 mod words;
 pub mod worked;
 
 pub use crate::listing::write_records;
 pub use crate::message::write_message;
-pub use crate::output::{Failed, Output};
+pub use crate::output::Output;
 pub use crate::quoted::{write_decimal, write_quoted};
 pub use crate::words::{Word, write_words};
+pub use fidl_streams::Failed;

@@ -7,8 +7,9 @@ ghost use Rattle.fidl_text.specs.Listing.{method_line, record_line, count_of, se
 ghost use Rattle.fidl_text.specs.Listing.{sections_text, table_text};
 ghost use Rattle.fidl_text.specs.Outputs.{Writes};
 
-use crate::output::{Failed, Output};
+use crate::output::Output;
 use crate::words::{Word, write_words};
+use fidl_streams::Failed;
 use fidl_table_format::{
     EntryKind, Header, name_bytes, read_header, read_method, read_protocol, read_root,
 };

@@ -1,22 +1,26 @@
 //! A writer that keeps the error that it has failed with.
-ghost use Rattle.std.specs.Prelude.{◌≡◌, IfSome, IsSome, OnOk, OnErr, is_ok, None, option_map};
+ghost use Rattle.std.specs.Prelude.{◌≡◌, ◌↔◌, IfSome, IsSome, OnOk, OnErr, is_ok, is_err, None};
+ghost use Rattle.std.specs.Prelude.{option_map};
 ghost use Rattle.std.specs.Io.KnownBytes.{Appends, Keeps};
 ghost use Rattle.std.specs.Fmt.{with_newline};
+ghost use Rattle.std.specs.Io.{WritesAtMost};
+ghost use Rattle.std.specs.Io.KnownBytes.{WriteAppends};
+ghost use Rattle.fidl_streams.specs.Counts.{count_when};
 ghost use Rattle.fidl_text.specs.Outputs.{Writes};
 
+use fidl_streams::{Failed, Sink};
 use std::fmt::Display;
 use std::io;
 use std::io::Write;
-
-/// A write has failed; the output that was written to keeps the error.
-#[derive(Clone, Copy, PartialEq, Eq, Debug, Drop)]
-pub struct Failed;
 
 /// A writer, and the error of its last write that failed, as C's streams keep an error indicator.
 #[derive(Debug, Drop)]
 pub struct Output<W> {
     writer: W,
     failure: Option<io::Error>,
+    /// How many writes and flushes have failed.
+    failures: u64,
+    ghost told: { failures ≡ 0 ↔ failure ≡ None },
 }
 
 impl<W: Write> Output<W> {
@@ -28,6 +32,7 @@ impl<W: Write> Output<W> {
         Output {
             writer,
             failure: None,
+            failures: 0,
         }
     }
 
@@ -51,14 +56,35 @@ impl<W: Write> Output<W> {
         ensures same { is_ok result ≡ is_ok written }
         ensures kept { OnOk result (self.new.failure ≡ self.old.failure) }
         ensures failed { OnErr result (IsSome self.new.failure) }
+        ensures counted { self.new.failures ≡ count_when self.old.failures (is_err result) }
     {
         match written {
             Ok(()) => Ok(()),
             Err(error) => {
                 self.failure = Some(error);
+                self.failures = self.failures.saturating_add(1);
                 Err(Failed)
             }
         }
+    }
+
+    /// Writes a front of the bytes, as the writer takes it. A write that was interrupted is tried
+    /// again.
+    fn write_some(&mut self, bytes: &[u8]) -> io::Result<usize>
+        ensures bound { WritesAtMost result bytes.now }
+        ensures bytes { WriteAppends (W.contents self.old.writer) (W.contents self.new.writer) result
+            bytes.now }
+        ensures failure { self.new.failure ≡ self.old.failure }
+        ensures failures { self.new.failures ≡ self.old.failures }
+    {
+        for _ in 0..u64::MAX {
+            match self.writer.write(bytes) {
+                Ok(count) => return Ok(count),
+                Err(error) if error.kind() == io::ErrorKind::Interrupted => {}
+                Err(error) => return Err(error),
+            }
+        }
+        Err(io::Error::from(io::ErrorKind::Interrupted))
     }
 
     /// Writes all of the bytes, or a front of them and fails. A write that was interrupted is tried
@@ -112,8 +138,31 @@ impl<W: Write> Output<W> {
         ensures bytes { Keeps (W.contents self.old.writer) (W.contents self.new.writer) }
         ensures kept { OnOk result (self.new.failure ≡ self.old.failure) }
         ensures failed { OnErr result (IsSome self.new.failure) }
+        ensures counted { self.new.failures ≡ count_when self.old.failures (is_err result) }
     {
         let written = self.writer.flush();
         self.note(written)
+    }
+}
+
+impl<W: Write> Sink for Output<W> {
+    ghost taken = { λ s. record { contents = W.contents s.writer; failures = s.failures } };
+
+    fn write(&mut self, buf: &[u8]) -> Result<usize, Failed> {
+        match self.write_some(buf) {
+            Ok(0) if !buf.is_empty() => {
+                self.note(Err(io::Error::from(io::ErrorKind::WriteZero)))?;
+                Ok(0)
+            }
+            Ok(count) => Ok(count),
+            Err(error) => {
+                self.note(Err(error))?;
+                Ok(0)
+            }
+        }
+    }
+
+    fn flush(&mut self) -> Result<(), Failed> {
+        Output::flush(self)
     }
 }

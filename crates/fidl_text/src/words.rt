@@ -3,9 +3,10 @@ ghost use Rattle.std.specs.Prelude.{◌≡◌, ◌++◌, OnOk, OnErr, IsSome, co
 ghost use Rattle.fidl_text.specs.Words.{word_text, name_word, payload_word, words_line};
 ghost use Rattle.fidl_text.specs.Outputs.{Writes};
 
-use crate::output::{Failed, Output};
+use crate::hex::write_hex;
+use crate::output::Output;
 use crate::quoted::write_decimal;
-use crate::unknown::write_hex;
+use fidl_streams::Failed;
 use std::io::Write;
 
 /// What a method's record has in place of a payload's entry where there is none.

@@ -20,7 +20,7 @@ use Rattle.fidl_view.specs.declared.view.View.{View}
 use Rattle.fidl_view.specs.Parts.{element_of, field_of, held_of, length_of}
 use Rattle.fidl_view.specs.Views.{ShowsKnown}
 use Rattle.fidl_streams.proofs.Taking.{takes_none, writes_as, takes_as, takes_then, front_as, failed_as, so_far_first, so_far_second, so_far_begin, so_far_more, so_far_written, begin_failed, so_far_as, more_left, failed_then, writes_then}
-use Rattle.fidl_streams.specs.Written.{Taken, Writes}
+use Rattle.fidl_streams.specs.Written.{Writes}
 use Rattle.std.proofs.Math.Logic.{∥∥₁_map, ∥∥₁_elim}
 use Rattle.fidl_notation.proofs.Truncated.{is_some_prop}
 use Rattle.std.proofs.Math.Bridge.{le_prop}
@@ -48,17 +48,25 @@ pub write_elements-write_value-requires : goal.write_elements-write_value-requir
 write_elements-write_value-requires g t c κs within =
     let b = c.args.table.now in
     let d = c.args.view.decoded.now in
-    let message = printing.same_message d c.element.result c.unwrap-part.result c.unwrap-part.ensures c.element.ensures.message in
-    (
+    let message = printing.same_message d c.element.result c.unwrap-part.result c.unwrap-part.ensures c.element.ensures.message in (
       omega (arith, c.decreases),
-      (within, (ap (λ (s : Shown). s.table) message ∙ c.requires.table, (c.requires.element, ∥∥₁_map c.requires.part (λ q.
-      let vs = q.1 in
-      let p = q.2 in
-      let x = printing.part_shown d (element_of (list vs) c.loop-at.at) c.element.result c.unwrap-part.result c.unwrap-part.ensures (c.element.ensures.part (list vs) p.part.shown) in
-      let typed = printing.list_nth b c.args.element c.args.view q.0 vs p c.loop-at.at x.0 x.1 in
-      let deep = printing.nth_depth (declarations_of b) (resolve (declarations_of b).terms (ty.named c.args.element)) vs c.loop-at.at x.0 x.1 in
-      let message = printing.same_message d c.element.result c.unwrap-part.result c.unwrap-part.ensures c.element.ensures.message in
-        (x.0, record { shown = x.2; typed = typed }, omega (arith, deep, q.3)))))),
+      (
+        within,
+        (
+          ap (λ (s : Shown). s.table) message ∙ c.requires.table,
+          (
+            c.requires.element,
+            ∥∥₁_map c.requires.part (λ q.
+                let vs = q.1 in
+                let p = q.2 in
+                let x = printing.part_shown d (element_of (list vs) c.loop-at.at) c.element.result c.unwrap-part.result c.unwrap-part.ensures (c.element.ensures.part (list vs) p.part.shown) in
+                let typed = printing.list_nth b c.args.element c.args.view q.0 vs p c.loop-at.at x.0 x.1 in
+                let deep = printing.nth_depth (declarations_of b) (resolve (declarations_of b).terms (ty.named c.args.element)) vs c.loop-at.at x.0 x.1 in
+                let message = printing.same_message d c.element.result c.unwrap-part.result c.unwrap-part.ensures c.element.ensures.message in
+                (x.0, record { shown = x.2; typed = typed }, omega (arith, deep, q.3))),
+          ),
+        ),
+      ),
     )
 
 pub write_elements-loop-at-init : goal.write_elements-loop-at-init
@@ -172,21 +180,20 @@ write_members-write_named-requires g t c κs within =
             (
               c.row-row.ensures.entry,
               ∥∥₁_map c.requires.part (λ q.
-    let n = q.0 in
-    let vs = q.1 in
-    let p = q.2 in
-    let x = printing.part_shown d (field_of (fields vs) c.loop-at.at) c.field.result c.unwrap-part.result c.unwrap-part.ensures (c.field.ensures.part (fields vs) p.part.shown) in
-    let typed = entries.member_typed b w i lt c.args.view n vs p c.loop-at.at less x.0 x.1 in
-    let deep : depth_of (declarations_of b) (resolve (declarations_of b).terms (ty.named c.row-row.result.entry)) x.0 ≤ fields_depth (declarations_of b) (entries.members_at b w i lt) vs =
-    subst (λ k. depth_of (declarations_of b) (resolve (declarations_of b).terms (ty.named k)) x.0 ≤ fields_depth (declarations_of b) (entries.members_at b w i lt) vs) (sym entered) (entries.member_depth b w i lt c.args.view n vs p c.loop-at.at less x.0 x.1) in
-              (
-                x.0,
-                record {
-                  shown = x.2;
-                  typed = subst (λ k. IsTyped (declarations_of b) (resolve (declarations_of b).terms (ty.named k)) x.0) (sym entered) typed;
-                },
-                omega (arith, deep, q.3),
-              )),
+                  let n = q.0 in
+                  let vs = q.1 in
+                  let p = q.2 in
+                  let x = printing.part_shown d (field_of (fields vs) c.loop-at.at) c.field.result c.unwrap-part.result c.unwrap-part.ensures (c.field.ensures.part (fields vs) p.part.shown) in
+                  let typed = entries.member_typed b w i lt c.args.view n vs p c.loop-at.at less x.0 x.1 in
+                  let deep : depth_of (declarations_of b) (resolve (declarations_of b).terms (ty.named c.row-row.result.entry)) x.0 ≤ fields_depth (declarations_of b) (entries.members_at b w i lt) vs =
+                  subst (λ k. depth_of (declarations_of b) (resolve (declarations_of b).terms (ty.named k)) x.0 ≤ fields_depth (declarations_of b) (entries.members_at b w i lt) vs) (sym entered) (entries.member_depth b w i lt c.args.view n vs p c.loop-at.at less x.0 x.1) in (
+                    x.0,
+                    record {
+                      shown = x.2;
+                      typed = subst (λ k. IsTyped (declarations_of b) (resolve (declarations_of b).terms (ty.named k)) x.0) (sym entered) typed;
+                    },
+                    omega (arith, deep, q.3),
+                  )),
             ),
           ),
         ),
@@ -278,15 +285,23 @@ write_value-write_elements-requires g t c κs within =
     let e = entries.term_at b w i lt Array is ∙ ap (λ k. ty.array (ty.named k) (entry_at b i).count) (sym begun) in
     let lower : (entry_at b c.entry-entry.result.first).nest < (entry_at b i).nest = subst (λ k. (entry_at b k).nest < (entry_at b i).nest) (sym begun) (entries.element_less b w i lt is) in
     let fits : (entry_at b c.entry-entry.result.first).size ≤ (entry_at b i).size = subst (λ k. (entry_at b k).size ≤ (entry_at b i).size) (sym begun) (entries.element_fits b w i lt is) in
-    let inside = subst (λ k. k < (header_of b).entries) (sym begun) (entries.element_lt b w i lt is) in
-    (
+    let inside = subst (λ k. k < (header_of b).entries) (sym begun) (entries.element_lt b w i lt is) in (
       omega (arith, c.decreases, lower, fits),
-      (within, (c.requires.table, (inside, ∥∥₁_map c.requires.part (λ q.
-      let x = printing.elements_of_array b c.entry-entry.result.first (entry_at b i).count (resolve (declarations_of b).terms (ty.named i)) c.args.view q.0 e q.1 in
-      let lower : (entry_at b c.entry-entry.result.first).nest < (entry_at b i).nest = subst (λ k. (entry_at b k).nest < (entry_at b i).nest) (sym begun) (entries.element_less b w i lt is) in
-      let fits : (entry_at b c.entry-entry.result.first).size ≤ (entry_at b i).size = subst (λ k. (entry_at b k).size ≤ (entry_at b i).size) (sym begun) (entries.element_fits b w i lt is) in
-      let inside = subst (λ k. k < (header_of b).entries) (sym begun) (entries.element_lt b w i lt is) in
-        (ty.array (ty.named c.entry-entry.result.first) (entry_at b i).count, x.0, x.2, omega (arith, x.3, q.2)))))),
+      (
+        within,
+        (
+          c.requires.table,
+          (
+            inside,
+            ∥∥₁_map c.requires.part (λ q.
+                let x = printing.elements_of_array b c.entry-entry.result.first (entry_at b i).count (resolve (declarations_of b).terms (ty.named i)) c.args.view q.0 e q.1 in
+                let lower : (entry_at b c.entry-entry.result.first).nest < (entry_at b i).nest = subst (λ k. (entry_at b k).nest < (entry_at b i).nest) (sym begun) (entries.element_less b w i lt is) in
+                let fits : (entry_at b c.entry-entry.result.first).size ≤ (entry_at b i).size = subst (λ k. (entry_at b k).size ≤ (entry_at b i).size) (sym begun) (entries.element_fits b w i lt is) in
+                let inside = subst (λ k. k < (header_of b).entries) (sym begun) (entries.element_lt b w i lt is) in
+                (ty.array (ty.named c.entry-entry.result.first) (entry_at b i).count, x.0, x.2, omega (arith, x.3, q.2))),
+          ),
+        ),
+      ),
     )
 
 pub write_value-write_vector-requires : goal.write_value-write_vector-requires
@@ -298,14 +313,25 @@ write_value-write_vector-requires g t c κs within =
     let is : IsOf Vector (entry_at b i) = sym (c.from_number.ensures ∙ ap (λ (e : Entry). kind_of e.kind) c.entry-entry.ensures.value) ∙ c.unwrap-kind.ensures ∙ ap (λ (k : EntryKind). Some k) c.in-Vector.is in
     let begun = ap (λ (e : Entry). e.first) c.entry-entry.ensures.value in
     let e = entries.term_at b w i lt Vector is ∙ ap (λ k. ty.vector (is_optional (entry_at b i)) (entry_at b i).bound (ty.named k)) (sym begun) in
-    let inside = subst (λ k. k < (header_of b).entries) (sym begun) (entries.vector_lt b w i lt is) in
-    (
+    let inside = subst (λ k. k < (header_of b).entries) (sym begun) (entries.vector_lt b w i lt is) in (
       omega (arith, c.decreases),
-      (within, (c.requires.table, (inside, (w, ∥∥₁_map c.requires.part (λ q.
-      let v = q.0 in
-      let inside = subst (λ k. k < (header_of b).entries) (sym begun) (entries.vector_lt b w i lt is) in
-      let deep = subst (λ (u : Term). depth_of (declarations_of b) u v ≤ c.args.depth) e q.2 in
-        (is_optional (entry_at b i), (entry_at b i).bound, (v, part_as _ _ _ _ _ e q.1, deep))))))),
+      (
+        within,
+        (
+          c.requires.table,
+          (
+            inside,
+            (
+              w,
+              ∥∥₁_map c.requires.part (λ q.
+                  let v = q.0 in
+                  let inside = subst (λ k. k < (header_of b).entries) (sym begun) (entries.vector_lt b w i lt is) in
+                  let deep = subst (λ (u : Term). depth_of (declarations_of b) u v ≤ c.args.depth) e q.2 in
+                  (is_optional (entry_at b i), (entry_at b i).bound, (v, part_as _ _ _ _ _ e q.1, deep))),
+            ),
+          ),
+        ),
+      ),
     )
 
 pub write_value-write_members-requires : goal.write_value-write_members-requires
@@ -314,12 +340,23 @@ write_value-write_members-requires g t c κs within =
     let w = c.entry-entry.ensures.well_formed in
     let i = c.args.index in
     let lt = c.requires.index in
-    let is : IsOf Struct (entry_at b i) = sym (c.from_number.ensures ∙ ap (λ (e : Entry). kind_of e.kind) c.entry-entry.ensures.value) ∙ c.unwrap-kind.ensures ∙ ap (λ (k : EntryKind). Some k) c.in-Struct.is in
-    (
+    let is : IsOf Struct (entry_at b i) = sym (c.from_number.ensures ∙ ap (λ (e : Entry). kind_of e.kind) c.entry-entry.ensures.value) ∙ c.unwrap-kind.ensures ∙ ap (λ (k : EntryKind). Some k) c.in-Struct.is in (
       omega (arith, c.decreases),
-      (within, (c.requires.table, (lt, (is, ∥∥₁_map c.requires.part (λ q.
-      let x = entries.members_of_struct b w i lt is c.args.view q.0 q.1 in
-        ((resolve (declarations_of b).terms (ty.named i)), x.0, x.2, omega (arith, x.3, q.2))))))),
+      (
+        within,
+        (
+          c.requires.table,
+          (
+            lt,
+            (
+              is,
+              ∥∥₁_map c.requires.part (λ q.
+                  let x = entries.members_of_struct b w i lt is c.args.view q.0 q.1 in
+                  ((resolve (declarations_of b).terms (ty.named i)), x.0, x.2, omega (arith, x.3, q.2))),
+            ),
+          ),
+        ),
+      ),
     )
 
 pub write_value-write_box-requires : goal.write_value-write_box-requires
@@ -332,15 +369,29 @@ write_value-write_box-requires g t c κs within =
     let begun = ap (λ (e : Entry). e.first) c.entry-entry.ensures.value in
     let e = entries.term_at b w i lt Box is ∙ ap (λ k. ty.box (ty.named k)) (sym begun) in
     let inside = subst (λ k. k < (header_of b).entries) (sym begun) (entries.box_lt b w i lt is) in
-    let of = subst (λ k. IsOf Struct (entry_at b k)) (sym begun) (entries.box_struct b w i lt is) in
-    (
+    let of = subst (λ k. IsOf Struct (entry_at b k)) (sym begun) (entries.box_struct b w i lt is) in (
       omega (arith, c.decreases),
-      (within, (w, (c.requires.table, (inside, (of, ∥∥₁_map c.requires.part (λ q.
-      let v = q.0 in
-      let inside = subst (λ k. k < (header_of b).entries) (sym begun) (entries.box_lt b w i lt is) in
-      let of = subst (λ k. IsOf Struct (entry_at b k)) (sym begun) (entries.box_struct b w i lt is) in
-      let deep = subst (λ (u : Term). depth_of (declarations_of b) u v ≤ c.args.depth) e q.2 in
-        (v, part_as _ _ _ _ _ e q.1, deep))))))),
+      (
+        within,
+        (
+          w,
+          (
+            c.requires.table,
+            (
+              inside,
+              (
+                of,
+                ∥∥₁_map c.requires.part (λ q.
+                    let v = q.0 in
+                    let inside = subst (λ k. k < (header_of b).entries) (sym begun) (entries.box_lt b w i lt is) in
+                    let of = subst (λ k. IsOf Struct (entry_at b k)) (sym begun) (entries.box_struct b w i lt is) in
+                    let deep = subst (λ (u : Term). depth_of (declarations_of b) u v ≤ c.args.depth) e q.2 in
+                    (v, part_as _ _ _ _ _ e q.1, deep)),
+              ),
+            ),
+          ),
+        ),
+      ),
     )
 
 pub write_value-write_number-requires : goal.write_value-write_number-requires
@@ -447,18 +498,26 @@ write_vector-overflow_sub-depth g t c = ∥∥₁_elim c.requires.part le_prop (
 pub write_vector-write_elements-requires : goal.write_vector-write_elements-requires
 write_vector-write_elements-requires g t c κs within =
     let few = entries.nest_few c.args.table.now c.requires.well_formed c.args.element c.requires.element in
-    let small = entries.size_few c.args.table.now c.requires.well_formed c.args.element c.requires.element in
-    (
+    let small = entries.size_few c.args.table.now c.requires.well_formed c.args.element c.requires.element in (
       ∥∥₁_elim c.requires.part le_prop (λ q.
-      let x = printing.elements_of_vector c.args.table.now c.args.element q.0 q.1 c.args.view q.2.0 q.2.1 (sym c.if-is_absent.false ∙ c.is_absent.ensures q.2.0 q.2.1.shown) in
-      let few = entries.nest_few c.args.table.now c.requires.well_formed c.args.element c.requires.element in
-      let small = entries.size_few c.args.table.now c.requires.well_formed c.args.element c.requires.element in
-        omega (arith, c.decreases, few, small, x.3, q.2.2)),
-      (within, (c.requires.table, (c.requires.element, ∥∥₁_map c.requires.part (λ q.
-      let x = printing.elements_of_vector c.args.table.now c.args.element q.0 q.1 c.args.view q.2.0 q.2.1 (sym c.if-is_absent.false ∙ c.is_absent.ensures q.2.0 q.2.1.shown) in
-      let few = entries.nest_few c.args.table.now c.requires.well_formed c.args.element c.requires.element in
-      let small = entries.size_few c.args.table.now c.requires.well_formed c.args.element c.requires.element in
-        (ty.vector q.0 q.1 (ty.named c.args.element), x.0, x.2, omega (arith, x.3, q.2.2)))))),
+          let x = printing.elements_of_vector c.args.table.now c.args.element q.0 q.1 c.args.view q.2.0 q.2.1 (sym c.if-is_absent.false ∙ c.is_absent.ensures q.2.0 q.2.1.shown) in
+          let few = entries.nest_few c.args.table.now c.requires.well_formed c.args.element c.requires.element in
+          let small = entries.size_few c.args.table.now c.requires.well_formed c.args.element c.requires.element in
+          omega (arith, c.decreases, few, small, x.3, q.2.2)),
+      (
+        within,
+        (
+          c.requires.table,
+          (
+            c.requires.element,
+            ∥∥₁_map c.requires.part (λ q.
+                let x = printing.elements_of_vector c.args.table.now c.args.element q.0 q.1 c.args.view q.2.0 q.2.1 (sym c.if-is_absent.false ∙ c.is_absent.ensures q.2.0 q.2.1.shown) in
+                let few = entries.nest_few c.args.table.now c.requires.well_formed c.args.element c.requires.element in
+                let small = entries.size_few c.args.table.now c.requires.well_formed c.args.element c.requires.element in
+                (ty.vector q.0 q.1 (ty.named c.args.element), x.0, x.2, omega (arith, x.3, q.2.2))),
+          ),
+        ),
+      ),
     )
 
 pub write_vector-returns : goal.write_vector-returns
@@ -479,18 +538,29 @@ write_box-overflow_sub-depth g t c = ∥∥₁_elim c.requires.part le_prop (λ 
 pub write_box-write_members-requires : goal.write_box-write_members-requires
 write_box-write_members-requires g t c κs within =
     let few = entries.nest_few c.args.table.now c.requires.well_formed c.args.index c.requires.index in
-    let small = entries.size_few c.args.table.now c.requires.well_formed c.args.index c.requires.index in
-    (
+    let small = entries.size_few c.args.table.now c.requires.well_formed c.args.index c.requires.index in (
       ∥∥₁_elim c.requires.part le_prop (λ q.
-      let x = entries.members_of_box c.args.table.now c.requires.well_formed c.args.index c.requires.index c.requires.of_struct c.args.view q.0 q.1 (sym c.if-is_absent.false ∙ c.is_absent.ensures q.0 q.1.shown) in
-      let few = entries.nest_few c.args.table.now c.requires.well_formed c.args.index c.requires.index in
-      let small = entries.size_few c.args.table.now c.requires.well_formed c.args.index c.requires.index in
-        omega (arith, c.decreases, few, small, x.3, q.2)),
-      (within, (c.requires.table, (c.requires.index, (c.requires.of_struct, ∥∥₁_map c.requires.part (λ q.
-      let x = entries.members_of_box c.args.table.now c.requires.well_formed c.args.index c.requires.index c.requires.of_struct c.args.view q.0 q.1 (sym c.if-is_absent.false ∙ c.is_absent.ensures q.0 q.1.shown) in
-      let few = entries.nest_few c.args.table.now c.requires.well_formed c.args.index c.requires.index in
-      let small = entries.size_few c.args.table.now c.requires.well_formed c.args.index c.requires.index in
-        (ty.box (ty.named c.args.index), x.0, x.2, omega (arith, x.3, q.2))))))),
+          let x = entries.members_of_box c.args.table.now c.requires.well_formed c.args.index c.requires.index c.requires.of_struct c.args.view q.0 q.1 (sym c.if-is_absent.false ∙ c.is_absent.ensures q.0 q.1.shown) in
+          let few = entries.nest_few c.args.table.now c.requires.well_formed c.args.index c.requires.index in
+          let small = entries.size_few c.args.table.now c.requires.well_formed c.args.index c.requires.index in
+          omega (arith, c.decreases, few, small, x.3, q.2)),
+      (
+        within,
+        (
+          c.requires.table,
+          (
+            c.requires.index,
+            (
+              c.requires.of_struct,
+              ∥∥₁_map c.requires.part (λ q.
+                  let x = entries.members_of_box c.args.table.now c.requires.well_formed c.args.index c.requires.index c.requires.of_struct c.args.view q.0 q.1 (sym c.if-is_absent.false ∙ c.is_absent.ensures q.0 q.1.shown) in
+                  let few = entries.nest_few c.args.table.now c.requires.well_formed c.args.index c.requires.index in
+                  let small = entries.size_few c.args.table.now c.requires.well_formed c.args.index c.requires.index in
+                  (ty.box (ty.named c.args.index), x.0, x.2, omega (arith, x.3, q.2))),
+            ),
+          ),
+        ),
+      ),
     )
 
 pub write_box-returns : goal.write_box-returns
@@ -518,19 +588,30 @@ write_member-write_named-requires g t c κs within =
     let found = tables.of_some (λ r. find (members_of b i) c.args.slot.ordinal ≡ Some (ty.named r.entry)) c.member.result row c.unwrap-row.ensures c.member.ensures.some in
     let name = tables.of_some (λ r. r.name_place + r.name_length ≤ (header_of b).names) c.member.result row c.unwrap-row.ensures c.member.ensures.name in
     let sized = ap (λ (e : Entry). e.size) c.entry.ensures.value in
-    let few = entries.nest_few b w row.entry below in
-    (
+    let few = entries.nest_few b w row.entry below in (
       omega (arith, c.decreases, c.if-entry-le4.true, sized, few),
-      (within, (c.requires.table, (name, (below, ∥∥₁_map c.requires.part (λ q.
-      let p = q in
-      let below = tables.of_some (λ r. r.entry < (header_of b).entries) c.member.result row c.unwrap-row.ensures c.member.ensures.entry_below in
-      let found = tables.of_some (λ r. find (members_of b i) c.args.slot.ordinal ≡ Some (ty.named r.entry)) c.member.result row c.unwrap-row.ensures c.member.ensures.some in
-      let typed = tables.member_typed b w i lt c.args.slot.ordinal row.entry p.0 found p.1.typed in
-      let name = tables.of_some (λ r. r.name_place + r.name_length ≤ (header_of b).names) c.member.result row c.unwrap-row.ensures c.member.ensures.name in
-      let sized = ap (λ (e : Entry). e.size) c.entry.ensures.value in
-      let deep = tables.inline_depth b w i lt row.entry below p.0 typed (omega (arith, c.if-entry-le4.true, sized)) in
-      let few = entries.nest_few b w row.entry below in
-        (p.0, record { shown = p.1.shown; typed = typed }, omega (arith, deep))))))),
+      (
+        within,
+        (
+          c.requires.table,
+          (
+            name,
+            (
+              below,
+              ∥∥₁_map c.requires.part (λ q.
+                  let p = q in
+                  let below = tables.of_some (λ r. r.entry < (header_of b).entries) c.member.result row c.unwrap-row.ensures c.member.ensures.entry_below in
+                  let found = tables.of_some (λ r. find (members_of b i) c.args.slot.ordinal ≡ Some (ty.named r.entry)) c.member.result row c.unwrap-row.ensures c.member.ensures.some in
+                  let typed = tables.member_typed b w i lt c.args.slot.ordinal row.entry p.0 found p.1.typed in
+                  let name = tables.of_some (λ r. r.name_place + r.name_length ≤ (header_of b).names) c.member.result row c.unwrap-row.ensures c.member.ensures.name in
+                  let sized = ap (λ (e : Entry). e.size) c.entry.ensures.value in
+                  let deep = tables.inline_depth b w i lt row.entry below p.0 typed (omega (arith, c.if-entry-le4.true, sized)) in
+                  let few = entries.nest_few b w row.entry below in
+                  (p.0, record { shown = p.1.shown; typed = typed }, omega (arith, deep))),
+            ),
+          ),
+        ),
+      ),
     )
 
 pub write_member-write_named-requires-2 : goal.write_member-write_named-requires-2
@@ -545,30 +626,41 @@ write_member-write_named-requires-2 g t c κs within =
     let name = tables.of_some (λ r. r.name_place + r.name_length ≤ (header_of b).names) c.member.result row c.unwrap-row.ensures c.member.ensures.name in
     let sized = ap (λ (e : Entry). e.size) c.entry.ensures.value in
     let few = entries.nest_few b w row.entry below in
-    let small = entries.size_few b w row.entry below in
-    (
+    let small = entries.size_few b w row.entry below in (
       ∥∥₁_elim c.requires.part le_prop (λ q.
-      let p = q in
-      let below = tables.of_some (λ r. r.entry < (header_of b).entries) c.member.result row c.unwrap-row.ensures c.member.ensures.entry_below in
-      let found = tables.of_some (λ r. find (members_of b i) c.args.slot.ordinal ≡ Some (ty.named r.entry)) c.member.result row c.unwrap-row.ensures c.member.ensures.some in
-      let typed = tables.member_typed b w i lt c.args.slot.ordinal row.entry p.0 found p.1.typed in
-      let name = tables.of_some (λ r. r.name_place + r.name_length ≤ (header_of b).names) c.member.result row c.unwrap-row.ensures c.member.ensures.name in
-      let sized = ap (λ (e : Entry). e.size) c.entry.ensures.value in
-      let deep = tables.out_depth b w i lt c.args.slot.ordinal row.entry below p.0 c.args.slot.depth found p.2 (omega (arith, c.if-entry-le4.false, sized)) in
-      let few = entries.nest_few b w row.entry below in
-      let small = entries.size_few b w row.entry below in
-        omega (arith, c.decreases, few, small, deep)),
-      (within, (c.requires.table, (name, (below, ∥∥₁_map c.requires.part (λ q.
-      let p = q in
-      let below = tables.of_some (λ r. r.entry < (header_of b).entries) c.member.result row c.unwrap-row.ensures c.member.ensures.entry_below in
-      let found = tables.of_some (λ r. find (members_of b i) c.args.slot.ordinal ≡ Some (ty.named r.entry)) c.member.result row c.unwrap-row.ensures c.member.ensures.some in
-      let typed = tables.member_typed b w i lt c.args.slot.ordinal row.entry p.0 found p.1.typed in
-      let name = tables.of_some (λ r. r.name_place + r.name_length ≤ (header_of b).names) c.member.result row c.unwrap-row.ensures c.member.ensures.name in
-      let sized = ap (λ (e : Entry). e.size) c.entry.ensures.value in
-      let deep = tables.out_depth b w i lt c.args.slot.ordinal row.entry below p.0 c.args.slot.depth found p.2 (omega (arith, c.if-entry-le4.false, sized)) in
-      let few = entries.nest_few b w row.entry below in
-      let small = entries.size_few b w row.entry below in
-        (p.0, record { shown = p.1.shown; typed = typed }, omega (arith, deep))))))),
+          let p = q in
+          let below = tables.of_some (λ r. r.entry < (header_of b).entries) c.member.result row c.unwrap-row.ensures c.member.ensures.entry_below in
+          let found = tables.of_some (λ r. find (members_of b i) c.args.slot.ordinal ≡ Some (ty.named r.entry)) c.member.result row c.unwrap-row.ensures c.member.ensures.some in
+          let typed = tables.member_typed b w i lt c.args.slot.ordinal row.entry p.0 found p.1.typed in
+          let name = tables.of_some (λ r. r.name_place + r.name_length ≤ (header_of b).names) c.member.result row c.unwrap-row.ensures c.member.ensures.name in
+          let sized = ap (λ (e : Entry). e.size) c.entry.ensures.value in
+          let deep = tables.out_depth b w i lt c.args.slot.ordinal row.entry below p.0 c.args.slot.depth found p.2 (omega (arith, c.if-entry-le4.false, sized)) in
+          let few = entries.nest_few b w row.entry below in
+          let small = entries.size_few b w row.entry below in
+          omega (arith, c.decreases, few, small, deep)),
+      (
+        within,
+        (
+          c.requires.table,
+          (
+            name,
+            (
+              below,
+              ∥∥₁_map c.requires.part (λ q.
+                  let p = q in
+                  let below = tables.of_some (λ r. r.entry < (header_of b).entries) c.member.result row c.unwrap-row.ensures c.member.ensures.entry_below in
+                  let found = tables.of_some (λ r. find (members_of b i) c.args.slot.ordinal ≡ Some (ty.named r.entry)) c.member.result row c.unwrap-row.ensures c.member.ensures.some in
+                  let typed = tables.member_typed b w i lt c.args.slot.ordinal row.entry p.0 found p.1.typed in
+                  let name = tables.of_some (λ r. r.name_place + r.name_length ≤ (header_of b).names) c.member.result row c.unwrap-row.ensures c.member.ensures.name in
+                  let sized = ap (λ (e : Entry). e.size) c.entry.ensures.value in
+                  let deep = tables.out_depth b w i lt c.args.slot.ordinal row.entry below p.0 c.args.slot.depth found p.2 (omega (arith, c.if-entry-le4.false, sized)) in
+                  let few = entries.nest_few b w row.entry below in
+                  let small = entries.size_few b w row.entry below in
+                  (p.0, record { shown = p.1.shown; typed = typed }, omega (arith, deep))),
+            ),
+          ),
+        ),
+      ),
     )
 
 pub write_member-overflow_sub-slot : goal.write_member-overflow_sub-slot
@@ -629,22 +721,36 @@ write_slot-write_member-requires g t c κs within =
     let w = c.requires.well_formed in
     let i = c.args.slot.index in
     let lt = c.requires.index in
-    let is = c.requires.of_table in
-    (
+    let is = c.requires.of_table in (
       omega (arith, c.decreases),
-      (within, (ap (λ (s : Shown). s.table) c.in-Some.ensures.message ∙ c.requires.table, (w, (lt, (tables.has_ordinals b w i lt Table refl is, ∥∥₁_map c.requires.part (λ q.
-      let v = q.0 in
-      let p = q.1 in
-      let b = c.args.table.now in
-      let w = c.requires.well_formed in
-      let i = c.args.slot.index in
-      let lt = c.requires.index in
-      let is = c.requires.of_table in
-      let f = c.in-Some.ensures.part v p.shown in
-      let held = tables.held_known b w i lt is c.args.view v p c.args.slot.ordinal f.0 f.1 in
-      let typed = tables.held_typed b w i lt is c.args.view v p c.args.slot.ordinal (known f.0) held in
-      let deep = tables.held_depth b w i lt is c.args.view v p c.args.slot.ordinal (known f.0) c.args.slot.depth held (omega (arith, q.2)) in
-        (f.0, record { shown = f.2; typed = typed }, deep))))))),
+      (
+        within,
+        (
+          ap (λ (s : Shown). s.table) c.in-Some.ensures.message ∙ c.requires.table,
+          (
+            w,
+            (
+              lt,
+              (
+                tables.has_ordinals b w i lt Table refl is,
+                ∥∥₁_map c.requires.part (λ q.
+                    let v = q.0 in
+                    let p = q.1 in
+                    let b = c.args.table.now in
+                    let w = c.requires.well_formed in
+                    let i = c.args.slot.index in
+                    let lt = c.requires.index in
+                    let is = c.requires.of_table in
+                    let f = c.in-Some.ensures.part v p.shown in
+                    let held = tables.held_known b w i lt is c.args.view v p c.args.slot.ordinal f.0 f.1 in
+                    let typed = tables.held_typed b w i lt is c.args.view v p c.args.slot.ordinal (known f.0) held in
+                    let deep = tables.held_depth b w i lt is c.args.view v p c.args.slot.ordinal (known f.0) c.args.slot.depth held (omega (arith, q.2)) in
+                    (f.0, record { shown = f.2; typed = typed }, deep)),
+              ),
+            ),
+          ),
+        ),
+      ),
     )
 
 pub write_slot-returns-in_err-write_member-clause-text : goal.write_slot-returns-in_err-write_member-clause-text
@@ -765,19 +871,33 @@ write_table-overflow_sub-slot g t c = ∥∥₁_elim c.requires.part le_prop (λ
     omega (arith, deep))
 
 pub write_table-write_slot-requires : goal.write_table-write_slot-requires
-write_table-write_slot-requires g t c κs within =
+write_table-write_slot-requires g t c κs within = (
+  ∥∥₁_elim c.requires.part le_prop (λ q.
+      let v = q.0 in
+      let p = q.1 in
+      let deep = tables.some_depth c.args.table.now c.requires.well_formed c.args.index c.requires.index c.requires.of_table c.args.view v p c.args.depth q.2 in
+      omega (arith, c.decreases, deep)),
+  (
+    within,
     (
-      ∥∥₁_elim c.requires.part le_prop (λ q.
-      let v = q.0 in
-      let p = q.1 in
-      let deep = tables.some_depth c.args.table.now c.requires.well_formed c.args.index c.requires.index c.requires.of_table c.args.view v p c.args.depth q.2 in
-        omega (arith, c.decreases, deep)),
-      (within, (c.requires.table, (c.requires.well_formed, (c.requires.index, (c.requires.of_table, ∥∥₁_map c.requires.part (λ q.
-      let v = q.0 in
-      let p = q.1 in
-      let deep = tables.some_depth c.args.table.now c.requires.well_formed c.args.index c.requires.index c.requires.of_table c.args.view v p c.args.depth q.2 in
-        (v, p, omega (arith, deep, q.2)))))))),
-    )
+      c.requires.table,
+      (
+        c.requires.well_formed,
+        (
+          c.requires.index,
+          (
+            c.requires.of_table,
+            ∥∥₁_map c.requires.part (λ q.
+                let v = q.0 in
+                let p = q.1 in
+                let deep = tables.some_depth c.args.table.now c.requires.well_formed c.args.index c.requires.index c.requires.of_table c.args.view v p c.args.depth q.2 in
+                (v, p, omega (arith, deep, q.2))),
+          ),
+        ),
+      ),
+    ),
+  ),
+)
 
 pub write_table-returns-in_err-later : goal.write_table-returns-in_err-later
 write_table-returns-in_err-later g t c v p =
@@ -812,20 +932,34 @@ write_union-write_member-requires g t c κs within =
     let w = c.requires.well_formed in
     let i = c.args.index in
     let lt = c.requires.index in
-    let message = subst (λ (o : Option View). IfSome o (λ part. part.decoded.now ≡ c.args.view.decoded.now)) c.in-Some-known.is c.in-Some.ensures.message in
-    (
+    let message = subst (λ (o : Option View). IfSome o (λ part. part.decoded.now ≡ c.args.view.decoded.now)) c.in-Some-known.is c.in-Some.ensures.message in (
       omega (arith, c.decreases),
-      (within, (ap (λ (s : Shown). s.table) message ∙ c.requires.table, (w, (lt, (tables.has_ordinals b w i lt Union refl c.requires.of_union, ∥∥₁_map c.requires.part (λ q.
-      let v = q.0 in
-      let p = q.1 in
-      let f = c.in-Some.ensures.part v p.shown in
-      let own = tables.union_is c.args.table.now c.requires.well_formed c.args.index c.requires.index c.requires.of_union c.args.view v p c.in-Some.ordinal f.0 f.1 in
-      let k = subst (λ (o : Option View). ShowsKnown o f.0) c.in-Some-known.is f.2 in
-      let same = tables.known_is f.0 k.0 k.1 in
-      let message = subst (λ (o : Option View). IfSome o (λ part. part.decoded.now ≡ c.args.view.decoded.now)) c.in-Some-known.is c.in-Some.ensures.message in
-      let all : member_depth (declarations_of b) (find (members_of b i) c.in-Some.ordinal) f.0 ≤ c.args.depth = let whole = own.deep in omega (arith, whole, q.2) in
-      let deep = subst (λ (x : Member). member_depth (declarations_of b) (find (members_of b i) c.in-Some.ordinal) x ≤ c.args.depth) same all in
-        (k.0, record { shown = k.2; typed = own.typed k.0 same }, deep))))))),
+      (
+        within,
+        (
+          ap (λ (s : Shown). s.table) message ∙ c.requires.table,
+          (
+            w,
+            (
+              lt,
+              (
+                tables.has_ordinals b w i lt Union refl c.requires.of_union,
+                ∥∥₁_map c.requires.part (λ q.
+                    let v = q.0 in
+                    let p = q.1 in
+                    let f = c.in-Some.ensures.part v p.shown in
+                    let own = tables.union_is c.args.table.now c.requires.well_formed c.args.index c.requires.index c.requires.of_union c.args.view v p c.in-Some.ordinal f.0 f.1 in
+                    let k = subst (λ (o : Option View). ShowsKnown o f.0) c.in-Some-known.is f.2 in
+                    let same = tables.known_is f.0 k.0 k.1 in
+                    let message = subst (λ (o : Option View). IfSome o (λ part. part.decoded.now ≡ c.args.view.decoded.now)) c.in-Some-known.is c.in-Some.ensures.message in
+                    let all : member_depth (declarations_of b) (find (members_of b i) c.in-Some.ordinal) f.0 ≤ c.args.depth = let whole = own.deep in omega (arith, whole, q.2) in
+                    let deep = subst (λ (x : Member). member_depth (declarations_of b) (find (members_of b i) c.in-Some.ordinal) x ≤ c.args.depth) same all in
+                    (k.0, record { shown = k.2; typed = own.typed k.0 same }, deep)),
+              ),
+            ),
+          ),
+        ),
+      ),
     )
 
 pub write_union-returns-in_err-write_member : goal.write_union-returns-in_err-write_member

@@ -1,4 +1,4 @@
-use Rattle.std.proofs.Common.{◌≡◌, ◌+◌, ◌*◌}
+use Rattle.std.proofs.Common.{◌+◌, ◌*◌}
 use Rattle.fidl_table_format.specs.Section.{entry_at}
 use Rattle.fidl_notation.proofs.Printing.{IsElementsLeft, IsMembersLeft}
 use Rattle.fidl_notation.proofs.Tables.{IsTableLeft}

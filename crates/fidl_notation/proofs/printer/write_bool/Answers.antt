@@ -1,5 +1,3 @@
-use Rattle.std.proofs.Common.{◌≡◌, Bool, sym, subst, refl}
-use Rattle.std.specs.Prelude.{Option, IsSome}
 use Rattle.std.proofs.Math.Logic.{∥∥₁_elim}
 use Rattle.fidl_notation.proofs.Truncated.{is_some_prop}
 use Rattle.fidl_notation.proofs.Printing.{only_bool}

@@ -1,4 +1,4 @@
-use Rattle.std.proofs.Common.{◌+◌, refl, ◌∙◌, arith}
+use Rattle.std.proofs.Common.{◌+◌, refl, arith}
 use Rattle.std.specs.Prelude.{codes}
 use Rattle.fidl_streams.proofs.Taking.{begin_failed, so_far_begin, so_far_more, so_far_failed, so_far_written, so_far_as, failed_as}
 use Rattle.fidl_notation.proofs.Quoting.{quoted, quoted_left, quoted_more, quoted_end}
@@ -20,7 +20,7 @@ returns-in_err-write_quoted_byte g c =
 pub loop-byte-preserved : goal.loop-byte-preserved
 loop-byte-preserved g c =
     let text = c.args.text.now in
-      so_far_more _ _ _ (quoted text) (quoted_left text c.loop-byte.byte-index) _ (quoted_left text (c.loop-byte.byte-index + 1)) c.loop-byte.invariant c.in_ok-write_quoted_byte.ensures (quoted_more text c.loop-byte.byte-index _ c.loop-byte-test.true)
+    so_far_more _ _ _ (quoted text) (quoted_left text c.loop-byte.byte-index) _ (quoted_left text (c.loop-byte.byte-index + 1)) c.loop-byte.invariant c.in_ok-write_quoted_byte.ensures (quoted_more text c.loop-byte.byte-index _ c.loop-byte-test.true)
 
 pub returns : goal.returns
 returns g c =

@@ -1,4 +1,3 @@
-use Rattle.std.proofs.Common.{◌≡◌}
 use Rattle.fidl_streams.proofs.Taking.{IsSoFar}
 use Rattle.fidl_notation.proofs.Quoting.{quoted, quoted_left}
 use Rattle.fidl_notation.proofs.quoted.write_quoted.Given as goal

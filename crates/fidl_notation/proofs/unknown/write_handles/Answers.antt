@@ -1,4 +1,4 @@
-use Rattle.std.proofs.Common.{refl, ◌∙◌, arith, false}
+use Rattle.std.proofs.Common.{arith, false}
 use Rattle.fidl_wire.specs.Text.{handles_text}
 use Rattle.fidl_streams.proofs.Taking.{takes_then, so_far_none, so_far_more, so_far_first, so_far_second, so_far_all, failed_as}
 use Rattle.fidl_notation.proofs.RawText.{handles_more, handles_end}

@@ -1,4 +1,4 @@
-use Rattle.std.proofs.Common.{◌≡◌, false}
+use Rattle.std.proofs.Common.{false}
 use Rattle.fidl_wire.specs.Text.{handles_text}
 use Rattle.fidl_streams.proofs.Taking.{IsSoFar}
 use Rattle.fidl_notation.proofs.RawText.{handles_left}

@@ -1,4 +1,4 @@
-use Rattle.std.proofs.Common.{◌+◌, refl, ◌∙◌, arith}
+use Rattle.std.proofs.Common.{◌+◌, arith}
 use Rattle.std.specs.Prelude.{flat_map}
 use Rattle.fidl_wire.specs.Text.{hex_byte}
 use Rattle.fidl_streams.proofs.Taking.{so_far_none, so_far_more, so_far_failed, so_far_all, failed_as}
@@ -17,7 +17,7 @@ returns-in_err-write_hex_byte g c =
 pub loop-byte-preserved : goal.loop-byte-preserved
 loop-byte-preserved g c =
     let bytes = c.args.bytes.now in
-      so_far_more _ _ _ (flat_map hex_byte bytes) (hex_left bytes c.loop-byte.byte-index) _ (hex_left bytes (c.loop-byte.byte-index + 1)) c.loop-byte.invariant c.in_ok-write_hex_byte.ensures (hex_more bytes c.loop-byte.byte-index _ c.loop-byte-test.true)
+    so_far_more _ _ _ (flat_map hex_byte bytes) (hex_left bytes c.loop-byte.byte-index) _ (hex_left bytes (c.loop-byte.byte-index + 1)) c.loop-byte.invariant c.in_ok-write_hex_byte.ensures (hex_more bytes c.loop-byte.byte-index _ c.loop-byte-test.true)
 
 pub returns : goal.returns
 returns g c =

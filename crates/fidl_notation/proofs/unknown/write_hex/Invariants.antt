@@ -1,4 +1,3 @@
-use Rattle.std.proofs.Common.{◌≡◌}
 use Rattle.std.specs.Prelude.{flat_map}
 use Rattle.fidl_wire.specs.Text.{hex_byte}
 use Rattle.fidl_streams.proofs.Taking.{IsSoFar}

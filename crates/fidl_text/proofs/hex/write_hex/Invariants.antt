@@ -2,8 +2,8 @@ use Rattle.std.proofs.Common.{◌≡◌}
 use Rattle.std.specs.Prelude.{flat_map}
 use Rattle.fidl_wire.specs.Text.{hex_byte}
 use Rattle.fidl_text.proofs.Written.{IsSoFar}
-use Rattle.fidl_text.proofs.RawText.{hex_left}
-use Rattle.fidl_text.proofs.unknown.write_hex.Given as goal
+use Rattle.fidl_text.proofs.HexLeft.{hex_left}
+use Rattle.fidl_text.proofs.hex.write_hex.Given as goal
 
 abbrev pub invariant-loop-byte : goal.invariant-loop-byte
 invariant-loop-byte g l =

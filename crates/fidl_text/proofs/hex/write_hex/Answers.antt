@@ -2,8 +2,8 @@ use Rattle.std.proofs.Common.{◌+◌, refl, ◌∙◌, arith}
 use Rattle.std.specs.Prelude.{flat_map}
 use Rattle.fidl_wire.specs.Text.{hex_byte}
 use Rattle.fidl_text.proofs.Written.{so_far_none, so_far_more, so_far_failed, so_far_all, failed_as}
-use Rattle.fidl_text.proofs.RawText.{hex_left, hex_more, hex_end}
-use Rattle.fidl_text.proofs.unknown.write_hex.Goals as goal
+use Rattle.fidl_text.proofs.HexLeft.{hex_left, hex_more, hex_end}
+use Rattle.fidl_text.proofs.hex.write_hex.Goals as goal
 
 pub loop-byte-init : goal.loop-byte-init
 loop-byte-init g c = (so_far_none _ (flat_map hex_byte c.args.bytes.now), refl)
