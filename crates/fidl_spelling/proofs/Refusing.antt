@@ -1,10 +1,10 @@
 -- Words that are refused.
-use Rattle.std.proofs.Common.{rules, ◌≡◌, [], ◌∷◌, arith, sym, ap, subst, pos, get_or, drop, true, false}
+use Rattle.std.proofs.Common.{rules, ◌≡◌, [], ◌∷◌, arith, sym, ap, subst, ◌∙◌, pos, get_or, drop, true, false}
 use Rattle.std.specs.Prelude.{codes}
 use Rattle.fidl_wire.specs.Figure.{no_declarations}
 use Rattle.fidl_wire.specs.Term.{Term, no_fields, field, uint8}
 use Rattle.fidl_wire.specs.Term as ty
-use Rattle.fidl_wire.specs.Value.{Value, bool, number}
+use Rattle.fidl_wire.specs.Value.{Value, Values, absent, bool, number, list, fields, none, value}
 use Rattle.fidl_wire.specs.Typed.{InRange}
 use Rattle.fidl_spelling.specs.Spells.{Spelled, IsNumber}
 use Rattle.fidl_spelling.proofs.Det.{word_head, number_one}
@@ -27,3 +27,19 @@ no_256 (number z) p =
     let big : InRange uint8 (pos 256) = subst (λ y. InRange uint8 y) (number_one z (pos 256) (codes "256") n m) p.1.0 in
     absurd (omega (arith, big))
 no_256 _ p = absurd p
+
+pub no_more : (v : Value) → Spelled no_declarations ty.bool v (codes "true" ∷ codes "true" ∷ []) [] → ⊥
+no_more (bool true) p = let e = ap (λ l. drop 1 l) p in absurd (cc e)
+no_more (bool false) p = let e = ap (λ l. drop 1 l) p in absurd (cc e)
+no_more _ p = absurd p
+
+pub no_member : (v : Value) → Spelled no_declarations (ty.struct no_fields) v (codes "{" ∷ codes "a" ∷ codes "}" ∷ []) [] → ⊥
+no_member (fields none) p =
+    let behind = ap (λ l. drop 2 l) (p.1 ∙ ap (λ l. codes "{" ∷ l) (p.2.1 ∙ p.2.2)) in absurd (cc behind)
+no_member (fields (value v vs)) p = absurd p.2.1
+no_member _ p = absurd p
+
+pub no_braces : (v : Value) → Spelled no_declarations (ty.vector false 9 ty.bool) v (codes "{" ∷ codes "}" ∷ []) [] → ⊥
+no_braces (list vs) p = let e = ap (λ l. get_or (get_or l 0 []) 0 0) p.1 in absurd (omega (arith, e))
+no_braces absent p = let e = ap (λ l. get_or (get_or l 0 []) 0 0) p in absurd (omega (arith, e))
+no_braces _ p = absurd p

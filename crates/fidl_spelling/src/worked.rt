@@ -69,3 +69,30 @@ pub fn spellings_of_strings()
     ensures { SpellsBy no_declarations (ty.string false 9) (codes "\"a\\n\\u{00e9}\"" ∷ [])
         (text (97 ∷ 10 ∷ 0xc3 ∷ 0xa9 ∷ [])) }
 {}
+
+/// A vector and an array are their elements between brackets.
+pub fn spellings_of_lists()
+    ensures empty { SpellsBy no_declarations (ty.vector false 9 ty.bool)
+        (codes "[" ∷ codes "]" ∷ []) (list none) }
+    ensures of_two { SpellsBy no_declarations (ty.vector false 9 ty.bool)
+        (codes "[" ∷ codes "true" ∷ codes "," ∷ codes "false" ∷ codes "]" ∷ [])
+        (list (value (bool true) (value (bool false) none))) }
+    ensures array { SpellsBy no_declarations (ty.array (ty.number uint8) 1)
+        (codes "[" ∷ codes "007" ∷ codes "]" ∷ []) (list (value (number (pos 7)) none)) }
+{}
+
+/// A present box is its struct's members.
+pub fn spellings_of_boxes()
+    ensures { SpellsBy no_declarations
+        (ty.box (ty.struct (field (codes "a") ty.bool no_fields)))
+        (codes "{" ∷ codes "a" ∷ codes ":" ∷ codes "true" ∷ codes "}" ∷ [])
+        (fields (value (bool true) none)) }
+{}
+
+/// A handle is its three numbers.
+pub fn spellings_of_handles()
+    ensures { let h : HandleInfo = record { id = 9; object_type = 3; rights = 1 } in
+        SpellsBy no_declarations (ty.handle false 0 0x80000000)
+        (codes "handle" ∷ codes "(" ∷ codes "9" ∷ codes "," ∷ codes "03" ∷ codes "," ∷ codes "1"
+        ∷ codes ")" ∷ []) (handle h) }
+{}
