@@ -1,10 +1,7 @@
-pub mod Shallow
-mod Truncated
 pub mod Slots
 pub mod Tables
 mod Quoting
 pub mod Printing
 pub mod EntryTexts
 pub mod Numbers
-pub mod Whole
 mod RawText

@@ -13,8 +13,8 @@ use Rattle.fidl_table_format.specs.Terms.{declarations_of}
 use Rattle.fidl_table_format.specs.WellFormed.{WellFormed}
 use Rattle.fidl_view.specs.Parts.{numbers_of, unsigned_of, signed_of}
 use Rattle.fidl_streams.specs.Written.{Taken, Writes}
-use Rattle.fidl_notation.proofs.Printing.{only_number}
-use Rattle.fidl_notation.proofs.EntryTexts.{number_answered}
+use Rattle.fidl_view.proofs.Listed.{only_number}
+use Rattle.fidl_view.proofs.Entered.{number_answered}
 
 some_none : {A P : Type 0} {a : A} → Some a ≡ None → P
 some_none e = cc

@@ -1,4 +1,4 @@
--- What the printer is given, and what it writes: a view of a value, and the value's text.
+-- What the printer writes: the text of the value that a view shows.
 use Rattle.std.specs.Prelude.{◌≡◌, ◌≤◌, ℕ, List, Result}
 use Rattle.fidl_wire.specs.Value.{Value, Values, list, fields}
 use Rattle.fidl_wire.specs.Term.{Term, resolve}
@@ -13,15 +13,7 @@ use Rattle.fidl_table_format.specs.Terms.{declarations_of, fields_from}
 use Rattle.fidl_view.specs.Shows.{Shows}
 use Rattle.fidl_view.specs.declared.view.View.{View}
 use Rattle.fidl_streams.specs.Written.{Taken, Writes}
-
--- the view shows this value, which is one of the term
-pub record IsPart (ds : Declarations) (t : Term) (view : View) (v : Value) : Type 0 where
-  pub shown : Shows view.decoded.now view.index view.place v
-  pub typed : IsTyped ds t v
-
--- the view shows a value of the term
-abbrev pub HasPart : Declarations → Term → View → Type 0
-HasPart ds t view = (v : Value) × IsPart ds t view v
+use Rattle.fidl_view.specs.Within.{IsPart, IsElements, IsMembers}
 
 -- the text of the value that the view shows is written
 abbrev pub Prints : {T E : Type 0} → Declarations → Term → View → (old new : Taken)
@@ -29,34 +21,11 @@ abbrev pub Prints : {T E : Type 0} → Declarations → Term → View → (old n
 Prints ds t view old new result = (v : Value) → IsPart ds t view v
     → Writes old new (text_of ds t v) result
 
--- the same, of a value of at most this depth
-abbrev pub HasPartWithin : Declarations → Term → (depth : ℕ) → View → Type 0
-HasPartWithin ds t depth view = (v : Value) × IsPart ds t view v × (depth_of ds t v ≤ depth)
-
--- the view shows a value of an entry of a table, of at most this depth
-abbrev pub HasValueWithin : (table : List ℕ) (index depth : ℕ) → View → Type 0
-HasValueWithin table index depth view = let ds = declarations_of table in
-    HasPartWithin ds (resolve ds.terms (ty.named index)) depth view
-
 -- its text is written
 abbrev pub PrintsValue : {T E : Type 0} → (table : List ℕ) (index : ℕ) → View
     → (old new : Taken) → Result T E → Type 0
 PrintsValue table index view old new result = let ds = declarations_of table in
     Prints ds (resolve ds.terms (ty.named index)) view old new result
-
--- the view shows these elements, each of this entry
-pub record IsElements (table : List ℕ) (element : ℕ) (view : View) (t : Term) (vs : Values) : Type 0
-  where
-    pub part : IsPart (declarations_of table) t view (list vs)
-    pub each : let ds = declarations_of table in element_of ds t
-        ≡ resolve ds.terms (ty.named element)
-
--- the view shows some, each of at most this depth
-abbrev pub HasElementsWithin : (table : List ℕ) (element depth : ℕ) → View → Type 0
-HasElementsWithin table element depth view =
-    let ds = declarations_of table in
-    (t : Term) × (vs : Values) × IsElements table element view t vs
-    × (elements_depth ds (resolve ds.terms (ty.named element)) vs ≤ depth)
 
 -- the text of the elements that the view shows is written
 abbrev pub PrintsElements : {T E : Type 0} → (table : List ℕ) (element : ℕ) → View
@@ -64,21 +33,6 @@ abbrev pub PrintsElements : {T E : Type 0} → (table : List ℕ) (element : ℕ
 PrintsElements table element view old new result =
     (t : Term) (vs : Values) → IsElements table element view t vs
     → Writes old new (text_of (declarations_of table) t (list vs)) result
-
--- the view shows these members, of the struct of this entry
-pub record IsMembers (table : List ℕ) (index : ℕ) (view : View) (t : Term) (vs : Values) : Type 0
-  where
-    pub part : IsPart (declarations_of table) t view (fields vs)
-    pub each : let e = entry_at table index in content_of (declarations_of table) t
-        ≡ fields_from table (header_of table) e.first e.count
-
--- the view shows some, each of at most this depth
-abbrev pub HasMembersWithin : (table : List ℕ) (index depth : ℕ) → View → Type 0
-HasMembersWithin table index depth view =
-    (t : Term) × (vs : Values) × IsMembers table index view t vs
-    × (let e = entry_at table index in
-    fields_depth (declarations_of table) (fields_from table (header_of table) e.first e.count)
-    vs ≤ depth)
 
 -- the text of the members that the view shows is written
 abbrev pub PrintsMembers : {T E : Type 0} → (table : List ℕ) (index : ℕ) → View

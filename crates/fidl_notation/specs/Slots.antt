@@ -15,12 +15,7 @@ use Rattle.fidl_view.specs.Shows.{Shows}
 use Rattle.fidl_view.specs.declared.view.View.{View}
 use Rattle.fidl_notation.specs.declared.printer.Slot.{Slot}
 use Rattle.fidl_streams.specs.Written.{Taken, Writes}
-use Rattle.fidl_notation.specs.Parts.{IsPart}
-
--- the view shows this value, which is one of the entry's type
-abbrev pub IsValueOf : (table : List ℕ) (index : ℕ) → View → Value → Type 0
-IsValueOf table index view v = let ds = declarations_of table in
-    IsPart ds (resolve ds.terms (ty.named index)) view v
+use Rattle.fidl_view.specs.Within.{IsValueOf, IsMember}
 
 -- a value of a row's entry, behind the row's name
 abbrev pub named_text : (table : List ℕ) → Row → Value → List ℕ
@@ -35,22 +30,10 @@ abbrev pub PrintsNamed : {T E : Type 0} → (table : List ℕ) → Row → View
 PrintsNamed table row view old new result = (v : Value) → IsValueOf table row.entry view v
     → Writes old new (named_text table row v) result
 
--- the view shows this value, which is one of the type that the layout gives to the ordinal
-pub record IsMember (table : List ℕ) (slot : Slot) (view : View) (v : Value) : Type 0 where
-  pub shown : Shows view.decoded.now view.index view.place v
-  pub typed : IsTypedMember (declarations_of table) false
-      (find (members_of table slot.index) slot.ordinal) (known v)
-
--- the view shows some, and the member lies no deeper than the slot's depth
-abbrev pub HasMemberWithin : (table : List ℕ) → Slot → View → Type 0
-HasMemberWithin table slot view = (v : Value) × IsMember table slot view v
-    × (member_depth (declarations_of table) (find (members_of table slot.index) slot.ordinal)
-    (known v) ≤ slot.depth)
-
 -- the text of the known member whose value the view shows is written
 abbrev pub PrintsMember : {T E : Type 0} → (table : List ℕ) → Slot → View
     → (old new : Taken) → Result T E → Type 0
-PrintsMember table slot view old new result = (v : Value) → IsMember table slot view v
+PrintsMember table slot view old new result = (v : Value) → IsMember table slot.index slot.ordinal view v
     → Writes old new (member_text (declarations_of table) (members_of table slot.index)
     slot.ordinal (known v)) result
 

@@ -11,11 +11,11 @@ ghost use Rattle.fidl_table_format.specs.Entry.{IsOf, kind_is};
 ghost use Rattle.fidl_table_format.specs.Uses.{uses_ordinals};
 ghost use Rattle.fidl_table_format.specs.WellFormed.{WellFormed};
 ghost use Rattle.fidl_view.specs.Parts.{numbers_of, held_of};
-ghost use Rattle.fidl_notation.specs.Parts.{HasPart, HasPartWithin, Prints, HasValueWithin};
-ghost use Rattle.fidl_notation.specs.Parts.{PrintsValue, HasElementsWithin, PrintsElements};
-ghost use Rattle.fidl_notation.specs.Parts.{HasMembersWithin, PrintsMembers};
-ghost use Rattle.fidl_notation.specs.Slots.{IsValueOf, PrintsNamed, HasMemberWithin, PrintsMember};
-ghost use Rattle.fidl_notation.specs.Slots.{PrintsSlot, later_behind};
+ghost use Rattle.fidl_view.specs.Within.{HasPart, HasPartWithin, HasValueWithin};
+ghost use Rattle.fidl_view.specs.Within.{HasElementsWithin, HasMembersWithin, HasMemberWithin};
+ghost use Rattle.fidl_view.specs.Within.{IsValueOf};
+ghost use Rattle.fidl_notation.specs.Parts.{Prints, PrintsValue, PrintsElements, PrintsMembers};
+ghost use Rattle.fidl_notation.specs.Slots.{PrintsNamed, PrintsMember, PrintsSlot, later_behind};
 ghost use Rattle.fidl_streams.specs.Written.{Writes};
 
 use crate::quoted::{write_comma, write_decimal, write_handle, write_quoted};
@@ -221,7 +221,7 @@ fn write_member<W: Sink>(
     requires well_formed { WellFormed table.now }
     requires index { slot.index < (header_of table.now).entries }
     requires kind { IsTrue (kind_is uses_ordinals (entry_at table.now slot.index)) }
-    requires part { ∥ HasMemberWithin table.now slot view ∥₁ }
+    requires part { ∥ HasMemberWithin table.now slot.index slot.ordinal slot.depth view ∥₁ }
     ensures { PrintsMember table.now slot view.entry
         (W.taken out.old) (W.taken out.new) result }
 {

@@ -10,3 +10,10 @@ pub mod Envelopes
 pub mod Keyed
 pub mod Raw
 pub mod Types
+pub mod Listed
+pub mod Entered
+pub mod Held
+pub mod Tabled
+pub mod Truncated
+pub mod Shallow
+pub mod Whole

@@ -11,3 +11,4 @@ pub mod Elements
 pub mod Views
 pub mod Numbers
 pub mod Members
+pub mod Within

@@ -7,7 +7,7 @@ use Rattle.fidl_wire.specs.Term as ty
 use Rattle.fidl_table_format.specs.Terms.{declarations_of}
 use Rattle.fidl_view.specs.Views.{types_shown}
 use Rattle.fidl_streams.proofs.Taking.{takes_as, front_as}
-use Rattle.fidl_notation.proofs.Whole.{value_shown, not_deep}
+use Rattle.fidl_view.proofs.Whole.{value_shown, not_deep}
 use Rattle.fidl_notation.proofs.dumping.dump.Goals as goal
 
 pub write_value-requires-clause-part : goal.write_value-requires-clause-part

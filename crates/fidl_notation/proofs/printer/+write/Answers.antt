@@ -22,14 +22,17 @@ use Rattle.fidl_view.specs.Views.{ShowsKnown}
 use Rattle.fidl_streams.proofs.Taking.{takes_none, writes_as, takes_as, takes_then, front_as, failed_as, so_far_first, so_far_second, so_far_begin, so_far_more, so_far_written, begin_failed, so_far_as, more_left, failed_then, writes_then}
 use Rattle.fidl_streams.specs.Written.{Writes}
 use Rattle.std.proofs.Math.Logic.{∥∥₁_map, ∥∥₁_elim}
-use Rattle.fidl_notation.proofs.Truncated.{is_some_prop}
+use Rattle.fidl_view.proofs.Truncated.{is_some_prop}
 use Rattle.std.proofs.Math.Bridge.{le_prop}
 use Rattle.fidl_notation.proofs.Printing as printing
 use Rattle.fidl_notation.proofs.EntryTexts as entries
-use Rattle.fidl_notation.proofs.Slots as slots
+use Rattle.fidl_view.proofs.Listed as listed
+use Rattle.fidl_view.proofs.Entered as facts
+use Rattle.fidl_view.proofs.Tabled as tabled
+use Rattle.fidl_view.proofs.Held as held
 use Rattle.fidl_notation.proofs.Tables as tables
 use Rattle.fidl_notation.specs.Slots.{named_text, slot_text, later_behind}
-use Rattle.fidl_notation.proofs.Printing.{part_as}
+use Rattle.fidl_view.proofs.Listed.{part_as}
 use Rattle.fidl_notation.proofs.printer.+write.Goals as goal
 
 pub write_elements-unwrap-count-requires : goal.write_elements-unwrap-count-requires
@@ -40,15 +43,15 @@ write_elements-unwrap-part-requires g t c = ∥∥₁_elim c.requires.part (is_s
     let b = c.args.table.now in
     let vs = q.1 in
     let p = q.2 in
-    let size = printing.list_count b c.args.element c.args.view q.0 vs p c.len.result c.unwrap-count.result (c.len.ensures (list vs) p.part.shown) c.unwrap-count.ensures in
-    let x = printing.nth_there vs c.loop-at.at (omega (arith, c.loop-at-test.true, size)) in
-    printing.part_some c.args.view.decoded.now (element_of (list vs) c.loop-at.at) x.0 c.element.result x.1 (c.element.ensures.part (list vs) p.part.shown))
+    let size = listed.list_count b c.args.element c.args.view q.0 vs p c.len.result c.unwrap-count.result (c.len.ensures (list vs) p.part.shown) c.unwrap-count.ensures in
+    let x = listed.nth_there vs c.loop-at.at (omega (arith, c.loop-at-test.true, size)) in
+    listed.part_some c.args.view.decoded.now (element_of (list vs) c.loop-at.at) x.0 c.element.result x.1 (c.element.ensures.part (list vs) p.part.shown))
 
 pub write_elements-write_value-requires : goal.write_elements-write_value-requires
 write_elements-write_value-requires g t c κs within =
     let b = c.args.table.now in
     let d = c.args.view.decoded.now in
-    let message = printing.same_message d c.element.result c.unwrap-part.result c.unwrap-part.ensures c.element.ensures.message in (
+    let message = listed.same_message d c.element.result c.unwrap-part.result c.unwrap-part.ensures c.element.ensures.message in (
       omega (arith, c.decreases),
       (
         within,
@@ -59,10 +62,10 @@ write_elements-write_value-requires g t c κs within =
             ∥∥₁_map c.requires.part (λ q.
                 let vs = q.1 in
                 let p = q.2 in
-                let x = printing.part_shown d (element_of (list vs) c.loop-at.at) c.element.result c.unwrap-part.result c.unwrap-part.ensures (c.element.ensures.part (list vs) p.part.shown) in
-                let typed = printing.list_nth b c.args.element c.args.view q.0 vs p c.loop-at.at x.0 x.1 in
-                let deep = printing.nth_depth (declarations_of b) (resolve (declarations_of b).terms (ty.named c.args.element)) vs c.loop-at.at x.0 x.1 in
-                let message = printing.same_message d c.element.result c.unwrap-part.result c.unwrap-part.ensures c.element.ensures.message in
+                let x = listed.part_shown d (element_of (list vs) c.loop-at.at) c.element.result c.unwrap-part.result c.unwrap-part.ensures (c.element.ensures.part (list vs) p.part.shown) in
+                let typed = listed.list_nth b c.args.element c.args.view q.0 vs p c.loop-at.at x.0 x.1 in
+                let deep = listed.nth_depth (declarations_of b) (resolve (declarations_of b).terms (ty.named c.args.element)) vs c.loop-at.at x.0 x.1 in
+                let message = listed.same_message d c.element.result c.unwrap-part.result c.unwrap-part.ensures c.element.ensures.message in
                 (x.0, record { shown = x.2; typed = typed }, omega (arith, deep, q.3))),
           ),
         ),
@@ -78,8 +81,8 @@ write_elements-loop-at-preserved g t c =
     record {
       left = λ t vs p.
           let b = c.args.table.now in
-          let x = printing.part_shown c.args.view.decoded.now (element_of (list vs) c.loop-at.at) c.element.result c.unwrap-part.result c.unwrap-part.ensures (c.element.ensures.part (list vs) p.part.shown) in
-          let typed = printing.list_nth b c.args.element c.args.view t vs p c.loop-at.at x.0 x.1 in
+          let x = listed.part_shown c.args.view.decoded.now (element_of (list vs) c.loop-at.at) c.element.result c.unwrap-part.result c.unwrap-part.ensures (c.element.ensures.part (list vs) p.part.shown) in
+          let typed = listed.list_nth b c.args.element c.args.view t vs p c.loop-at.at x.0 x.1 in
           let wrote = takes_then _ _ _ _ _ c.in_ok-write_comma.ensures (c.in_ok-write_value.ensures x.0 (record { shown = x.2; typed = typed })) in
           so_far_more _ _ _ _ _ _ _ (c.loop-at.invariant.left t vs p) wrote (printing.elements_at (declarations_of b) (resolve (declarations_of b).terms (ty.named c.args.element)) vs c.loop-at.at (c.loop-at.at + 1) x.0 (codes "]") x.1 (omega arith));
     }
@@ -87,7 +90,7 @@ write_elements-loop-at-preserved g t c =
 pub write_elements-returns : goal.write_elements-returns
 write_elements-returns g t c n vs p =
     let b = c.args.table.now in
-    let size = printing.list_count b c.args.element c.args.view n vs p c.len.result c.unwrap-count.result (c.len.ensures (list vs) p.part.shown) c.unwrap-count.ensures in
+    let size = listed.list_count b c.args.element c.args.view n vs p c.len.result c.unwrap-count.result (c.len.ensures (list vs) p.part.shown) c.unwrap-count.ensures in
     let end = so_far_as _ _ _ _ (codes "]") (c.loop-at.invariant.left n vs p) (printing.elements_end (declarations_of b) (resolve (declarations_of b).terms (ty.named c.args.element)) vs c.loop-at.at _ (codes "]") (omega (arith, c.loop-at-test.false, c.loop-at.auto.at-end, size))) in
     so_far_written _ _ _ _ _ c.write_all-2.result end c.write_all-2.ensures
 
@@ -98,16 +101,16 @@ write_elements-returns-in_err-write_all g t c n vs p =
 pub write_elements-returns-in_err-write_comma : goal.write_elements-returns-in_err-write_comma
 write_elements-returns-in_err-write_comma g t c n vs p =
     let b = c.args.table.now in
-    let size = printing.list_count b c.args.element c.args.view n vs p c.len.result c.unwrap-count.result (c.len.ensures (list vs) p.part.shown) c.unwrap-count.ensures in
-    let x = printing.nth_there vs c.loop-at.at (omega (arith, c.loop-at-test.true, size)) in
+    let size = listed.list_count b c.args.element c.args.view n vs p c.len.result c.unwrap-count.result (c.len.ensures (list vs) p.part.shown) c.unwrap-count.ensures in
+    let x = listed.nth_there vs c.loop-at.at (omega (arith, c.loop-at-test.true, size)) in
     let step = printing.elements_at (declarations_of b) (resolve (declarations_of b).terms (ty.named c.args.element)) vs c.loop-at.at (c.loop-at.at + 1) x.0 (codes "]") x.1 (omega arith) in
     failed_as _ _ _ c.from_residual-in_err-write_comma.result c.from_residual-in_err-write_comma.ensures.0 (so_far_first _ _ _ _ _ _ _ _ (c.loop-at.invariant.left n vs p) c.in_err-write_comma.ensures step)
 
 pub write_elements-returns-in_err-write_value : goal.write_elements-returns-in_err-write_value
 write_elements-returns-in_err-write_value g t c n vs p =
     let b = c.args.table.now in
-    let x = printing.part_shown c.args.view.decoded.now (element_of (list vs) c.loop-at.at) c.element.result c.unwrap-part.result c.unwrap-part.ensures (c.element.ensures.part (list vs) p.part.shown) in
-    let typed = printing.list_nth b c.args.element c.args.view n vs p c.loop-at.at x.0 x.1 in
+    let x = listed.part_shown c.args.view.decoded.now (element_of (list vs) c.loop-at.at) c.element.result c.unwrap-part.result c.unwrap-part.ensures (c.element.ensures.part (list vs) p.part.shown) in
+    let typed = listed.list_nth b c.args.element c.args.view n vs p c.loop-at.at x.0 x.1 in
     let step = printing.elements_at (declarations_of b) (resolve (declarations_of b).terms (ty.named c.args.element)) vs c.loop-at.at (c.loop-at.at + 1) x.0 (codes "]") x.1 (omega arith) in
     failed_as _ _ _ c.from_residual-in_err-write_value.result c.from_residual-in_err-write_value.ensures.0
     (so_far_second _ _ _ _ _ _ _ _ _ (c.loop-at.invariant.left n vs p) c.in_ok-write_comma.ensures (c.in_err-write_value.ensures x.0 (record { shown = x.2; typed = typed })) step)
@@ -134,14 +137,14 @@ pub write_members-overflow_add-entry : goal.write_members-overflow_add-entry
 write_members-overflow_add-entry g t c =
     let counted = ap (λ (e : Entry). e.count) c.entry-entry.ensures.value in
     let begun = ap (λ (e : Entry). e.first) c.entry-entry.ensures.value in
-    let inside = entries.row_lt c.args.table.now c.entry-entry.ensures.well_formed c.args.index c.requires.index c.requires.of_struct c.loop-at.at (omega (arith, c.loop-at-test.true, counted)) in
+    let inside = facts.row_lt c.args.table.now c.entry-entry.ensures.well_formed c.args.index c.requires.index c.requires.of_struct c.loop-at.at (omega (arith, c.loop-at-test.true, counted)) in
     record { fits = omega (arith, inside, begun, c.rows-rows.ensures.value) }
 
 pub write_members-row-row-requires : goal.write_members-row-row-requires
 write_members-row-row-requires g t c =
     let counted = ap (λ (e : Entry). e.count) c.entry-entry.ensures.value in
     let begun = ap (λ (e : Entry). e.first) c.entry-entry.ensures.value in
-    let inside = entries.row_lt c.args.table.now c.entry-entry.ensures.well_formed c.args.index c.requires.index c.requires.of_struct c.loop-at.at (omega (arith, c.loop-at-test.true, counted)) in
+    let inside = facts.row_lt c.args.table.now c.entry-entry.ensures.well_formed c.args.index c.requires.index c.requires.of_struct c.loop-at.at (omega (arith, c.loop-at-test.true, counted)) in
     subst (λ k. k + c.loop-at.at < (header_of c.args.table.now).rows) (sym begun) inside
 
 pub write_members-unwrap-part-requires : goal.write_members-unwrap-part-requires
@@ -150,8 +153,8 @@ write_members-unwrap-part-requires g t c = ∥∥₁_elim c.requires.part (is_so
     let vs = q.1 in
     let p = q.2 in
     let counted = ap (λ (e : Entry). e.count) c.entry-entry.ensures.value in
-    let x = entries.member_there c.args.table.now c.entry-entry.ensures.well_formed c.args.index c.requires.index c.args.view n vs p c.loop-at.at (omega (arith, c.loop-at-test.true, counted)) in
-    printing.part_some c.args.view.decoded.now (field_of (fields vs) c.loop-at.at) x.0 c.field.result x.1 (c.field.ensures.part (fields vs) p.part.shown))
+    let x = facts.member_there c.args.table.now c.entry-entry.ensures.well_formed c.args.index c.requires.index c.args.view n vs p c.loop-at.at (omega (arith, c.loop-at-test.true, counted)) in
+    listed.part_some c.args.view.decoded.now (field_of (fields vs) c.loop-at.at) x.0 c.field.result x.1 (c.field.ensures.part (fields vs) p.part.shown))
 
 pub write_members-write_named-requires : goal.write_members-write_named-requires
 write_members-write_named-requires g t c κs within =
@@ -166,10 +169,10 @@ write_members-write_named-requires g t c κs within =
     let less : c.loop-at.at < (entry_at b i).count = omega (arith, c.loop-at-test.true, counted) in
     let here : c.row-row.result ≡ row_at b (header_of b) ((entry_at b i).first + c.loop-at.at) = c.row-row.ensures.value ∙ ap (λ k. row_at b (header_of b) (k + c.loop-at.at)) begun in
     let entered : c.row-row.result.entry ≡ (row_at b (header_of b) ((entry_at b i).first + c.loop-at.at)).entry = ap (λ (r : Row). r.entry) here in
-    let message = printing.same_message d c.field.result c.unwrap-part.result c.unwrap-part.ensures c.field.ensures.message in
-    let nest = entries.member_less b w i lt is c.loop-at.at less in
+    let message = listed.same_message d c.field.result c.unwrap-part.result c.unwrap-part.ensures c.field.ensures.message in
+    let nest = facts.member_less b w i lt is c.loop-at.at less in
     let lower : (entry_at b c.row-row.result.entry).nest < (entry_at b i).nest = subst (λ k. (entry_at b k).nest < (entry_at b i).nest) (sym entered) nest in
-    let fits : (entry_at b c.row-row.result.entry).size ≤ (entry_at b i).size = subst (λ k. (entry_at b k).size ≤ (entry_at b i).size) (sym entered) (entries.member_fits b w i lt is c.loop-at.at less) in (
+    let fits : (entry_at b c.row-row.result.entry).size ≤ (entry_at b i).size = subst (λ k. (entry_at b k).size ≤ (entry_at b i).size) (sym entered) (facts.member_fits b w i lt is c.loop-at.at less) in (
       omega (arith, c.decreases, lower, fits),
       (
         within,
@@ -183,10 +186,10 @@ write_members-write_named-requires g t c κs within =
                   let n = q.0 in
                   let vs = q.1 in
                   let p = q.2 in
-                  let x = printing.part_shown d (field_of (fields vs) c.loop-at.at) c.field.result c.unwrap-part.result c.unwrap-part.ensures (c.field.ensures.part (fields vs) p.part.shown) in
-                  let typed = entries.member_typed b w i lt c.args.view n vs p c.loop-at.at less x.0 x.1 in
-                  let deep : depth_of (declarations_of b) (resolve (declarations_of b).terms (ty.named c.row-row.result.entry)) x.0 ≤ fields_depth (declarations_of b) (entries.members_at b w i lt) vs =
-                  subst (λ k. depth_of (declarations_of b) (resolve (declarations_of b).terms (ty.named k)) x.0 ≤ fields_depth (declarations_of b) (entries.members_at b w i lt) vs) (sym entered) (entries.member_depth b w i lt c.args.view n vs p c.loop-at.at less x.0 x.1) in (
+                  let x = listed.part_shown d (field_of (fields vs) c.loop-at.at) c.field.result c.unwrap-part.result c.unwrap-part.ensures (c.field.ensures.part (fields vs) p.part.shown) in
+                  let typed = facts.member_typed b w i lt c.args.view n vs p c.loop-at.at less x.0 x.1 in
+                  let deep : depth_of (declarations_of b) (resolve (declarations_of b).terms (ty.named c.row-row.result.entry)) x.0 ≤ fields_depth (declarations_of b) (facts.members_at b w i lt) vs =
+                  subst (λ k. depth_of (declarations_of b) (resolve (declarations_of b).terms (ty.named k)) x.0 ≤ fields_depth (declarations_of b) (facts.members_at b w i lt) vs) (sym entered) (facts.member_depth b w i lt c.args.view n vs p c.loop-at.at less x.0 x.1) in (
                     x.0,
                     record {
                       shown = x.2;
@@ -212,8 +215,8 @@ write_members-loop-at-preserved g t c =
           let begun = ap (λ (e : Entry). e.first) c.entry-entry.ensures.value in
           let less : c.loop-at.at < (entry_at b i).count = omega (arith, c.loop-at-test.true, counted) in
           let here : c.row-row.result ≡ row_at b (header_of b) ((entry_at b i).first + c.loop-at.at) = c.row-row.ensures.value ∙ ap (λ k. row_at b (header_of b) (k + c.loop-at.at)) begun in
-          let x = printing.part_shown c.args.view.decoded.now (field_of (fields vs) c.loop-at.at) c.field.result c.unwrap-part.result c.unwrap-part.ensures (c.field.ensures.part (fields vs) p.part.shown) in
-          let typed = entries.member_typed b w i lt c.args.view n vs p c.loop-at.at less x.0 x.1 in
+          let x = listed.part_shown c.args.view.decoded.now (field_of (fields vs) c.loop-at.at) c.field.result c.unwrap-part.result c.unwrap-part.ensures (c.field.ensures.part (fields vs) p.part.shown) in
+          let typed = facts.member_typed b w i lt c.args.view n vs p c.loop-at.at less x.0 x.1 in
           let own = subst (λ (r : Row). IsTyped (declarations_of b) (resolve (declarations_of b).terms (ty.named r.entry)) x.0) (sym here) typed in
           let named = ap (λ (r : Row). named_text b r x.0) here in
           let step = entries.members_step b w i lt c.args.view n vs p c.loop-at.at (c.loop-at.at + 1) x.0 x.1 less (omega arith) in
@@ -240,7 +243,7 @@ write_members-returns-in_err-write_comma g t c n vs p =
     let lt = c.requires.index in
     let counted = ap (λ (e : Entry). e.count) c.entry-entry.ensures.value in
     let less : c.loop-at.at < (entry_at b i).count = omega (arith, c.loop-at-test.true, counted) in
-    let x = entries.member_there b w i lt c.args.view n vs p c.loop-at.at less in
+    let x = facts.member_there b w i lt c.args.view n vs p c.loop-at.at less in
     let step = entries.members_step b w i lt c.args.view n vs p c.loop-at.at (c.loop-at.at + 1) x.0 x.1 less (omega arith) in
     failed_as _ _ _ c.from_residual-in_err-write_comma.result c.from_residual-in_err-write_comma.ensures.0
     (so_far_first _ _ _ _ _ _ _ _ (c.loop-at.invariant.left n vs p) c.in_err-write_comma.ensures step)
@@ -255,8 +258,8 @@ write_members-returns-in_err-write_named g t c n vs p =
     let begun = ap (λ (e : Entry). e.first) c.entry-entry.ensures.value in
     let less : c.loop-at.at < (entry_at b i).count = omega (arith, c.loop-at-test.true, counted) in
     let here : c.row-row.result ≡ row_at b (header_of b) ((entry_at b i).first + c.loop-at.at) = c.row-row.ensures.value ∙ ap (λ k. row_at b (header_of b) (k + c.loop-at.at)) begun in
-    let x = printing.part_shown c.args.view.decoded.now (field_of (fields vs) c.loop-at.at) c.field.result c.unwrap-part.result c.unwrap-part.ensures (c.field.ensures.part (fields vs) p.part.shown) in
-    let typed = entries.member_typed b w i lt c.args.view n vs p c.loop-at.at less x.0 x.1 in
+    let x = listed.part_shown c.args.view.decoded.now (field_of (fields vs) c.loop-at.at) c.field.result c.unwrap-part.result c.unwrap-part.ensures (c.field.ensures.part (fields vs) p.part.shown) in
+    let typed = facts.member_typed b w i lt c.args.view n vs p c.loop-at.at less x.0 x.1 in
     let own = subst (λ (r : Row). IsTyped (declarations_of b) (resolve (declarations_of b).terms (ty.named r.entry)) x.0) (sym here) typed in
     let named = ap (λ (r : Row). named_text b r x.0) here in
     let step = entries.members_step b w i lt c.args.view n vs p c.loop-at.at (c.loop-at.at + 1) x.0 x.1 less (omega arith) in
@@ -265,14 +268,14 @@ write_members-returns-in_err-write_named g t c n vs p =
 
 pub write_value-unwrap-kind-requires : goal.write_value-unwrap-kind-requires
 write_value-unwrap-kind-requires g t c =
-    let k = entries.kind_at c.args.table.now c.entry-entry.ensures.well_formed c.args.index c.requires.index in
+    let k = facts.kind_at c.args.table.now c.entry-entry.ensures.well_formed c.args.index c.requires.index in
     subst (λ (o : Option EntryKind). IsSome o) (sym (c.from_number.ensures ∙ ap (λ (e : Entry). kind_of e.kind) c.entry-entry.ensures.value ∙ k.1)) refl
 
 pub write_value-write_bool-requires : goal.write_value-write_bool-requires
 write_value-write_bool-requires g t c =
     let b = c.args.table.now in
     let is : IsOf Boolean (entry_at b c.args.index) = sym (c.from_number.ensures ∙ ap (λ (e : Entry). kind_of e.kind) c.entry-entry.ensures.value) ∙ c.unwrap-kind.ensures ∙ ap (λ (k : EntryKind). Some k) c.in-Bool.is in
-    ∥∥₁_map c.requires.part (λ q. (declarations_of b, (q.0, part_as _ _ _ _ _ (entries.term_at b c.entry-entry.ensures.well_formed c.args.index c.requires.index Boolean is) q.1)))
+    ∥∥₁_map c.requires.part (λ q. (declarations_of b, (q.0, part_as _ _ _ _ _ (facts.term_at b c.entry-entry.ensures.well_formed c.args.index c.requires.index Boolean is) q.1)))
 
 pub write_value-write_elements-requires : goal.write_value-write_elements-requires
 write_value-write_elements-requires g t c κs within =
@@ -282,10 +285,10 @@ write_value-write_elements-requires g t c κs within =
     let lt = c.requires.index in
     let is : IsOf Array (entry_at b i) = sym (c.from_number.ensures ∙ ap (λ (e : Entry). kind_of e.kind) c.entry-entry.ensures.value) ∙ c.unwrap-kind.ensures ∙ ap (λ (k : EntryKind). Some k) c.in-Array.is in
     let begun = ap (λ (e : Entry). e.first) c.entry-entry.ensures.value in
-    let e = entries.term_at b w i lt Array is ∙ ap (λ k. ty.array (ty.named k) (entry_at b i).count) (sym begun) in
-    let lower : (entry_at b c.entry-entry.result.first).nest < (entry_at b i).nest = subst (λ k. (entry_at b k).nest < (entry_at b i).nest) (sym begun) (entries.element_less b w i lt is) in
-    let fits : (entry_at b c.entry-entry.result.first).size ≤ (entry_at b i).size = subst (λ k. (entry_at b k).size ≤ (entry_at b i).size) (sym begun) (entries.element_fits b w i lt is) in
-    let inside = subst (λ k. k < (header_of b).entries) (sym begun) (entries.element_lt b w i lt is) in (
+    let e = facts.term_at b w i lt Array is ∙ ap (λ k. ty.array (ty.named k) (entry_at b i).count) (sym begun) in
+    let lower : (entry_at b c.entry-entry.result.first).nest < (entry_at b i).nest = subst (λ k. (entry_at b k).nest < (entry_at b i).nest) (sym begun) (facts.element_less b w i lt is) in
+    let fits : (entry_at b c.entry-entry.result.first).size ≤ (entry_at b i).size = subst (λ k. (entry_at b k).size ≤ (entry_at b i).size) (sym begun) (facts.element_fits b w i lt is) in
+    let inside = subst (λ k. k < (header_of b).entries) (sym begun) (facts.element_lt b w i lt is) in (
       omega (arith, c.decreases, lower, fits),
       (
         within,
@@ -294,10 +297,10 @@ write_value-write_elements-requires g t c κs within =
           (
             inside,
             ∥∥₁_map c.requires.part (λ q.
-                let x = printing.elements_of_array b c.entry-entry.result.first (entry_at b i).count (resolve (declarations_of b).terms (ty.named i)) c.args.view q.0 e q.1 in
-                let lower : (entry_at b c.entry-entry.result.first).nest < (entry_at b i).nest = subst (λ k. (entry_at b k).nest < (entry_at b i).nest) (sym begun) (entries.element_less b w i lt is) in
-                let fits : (entry_at b c.entry-entry.result.first).size ≤ (entry_at b i).size = subst (λ k. (entry_at b k).size ≤ (entry_at b i).size) (sym begun) (entries.element_fits b w i lt is) in
-                let inside = subst (λ k. k < (header_of b).entries) (sym begun) (entries.element_lt b w i lt is) in
+                let x = listed.elements_of_array b c.entry-entry.result.first (entry_at b i).count (resolve (declarations_of b).terms (ty.named i)) c.args.view q.0 e q.1 in
+                let lower : (entry_at b c.entry-entry.result.first).nest < (entry_at b i).nest = subst (λ k. (entry_at b k).nest < (entry_at b i).nest) (sym begun) (facts.element_less b w i lt is) in
+                let fits : (entry_at b c.entry-entry.result.first).size ≤ (entry_at b i).size = subst (λ k. (entry_at b k).size ≤ (entry_at b i).size) (sym begun) (facts.element_fits b w i lt is) in
+                let inside = subst (λ k. k < (header_of b).entries) (sym begun) (facts.element_lt b w i lt is) in
                 (ty.array (ty.named c.entry-entry.result.first) (entry_at b i).count, x.0, x.2, omega (arith, x.3, q.2))),
           ),
         ),
@@ -312,8 +315,8 @@ write_value-write_vector-requires g t c κs within =
     let lt = c.requires.index in
     let is : IsOf Vector (entry_at b i) = sym (c.from_number.ensures ∙ ap (λ (e : Entry). kind_of e.kind) c.entry-entry.ensures.value) ∙ c.unwrap-kind.ensures ∙ ap (λ (k : EntryKind). Some k) c.in-Vector.is in
     let begun = ap (λ (e : Entry). e.first) c.entry-entry.ensures.value in
-    let e = entries.term_at b w i lt Vector is ∙ ap (λ k. ty.vector (is_optional (entry_at b i)) (entry_at b i).bound (ty.named k)) (sym begun) in
-    let inside = subst (λ k. k < (header_of b).entries) (sym begun) (entries.vector_lt b w i lt is) in (
+    let e = facts.term_at b w i lt Vector is ∙ ap (λ k. ty.vector (is_optional (entry_at b i)) (entry_at b i).bound (ty.named k)) (sym begun) in
+    let inside = subst (λ k. k < (header_of b).entries) (sym begun) (facts.vector_lt b w i lt is) in (
       omega (arith, c.decreases),
       (
         within,
@@ -325,7 +328,7 @@ write_value-write_vector-requires g t c κs within =
               w,
               ∥∥₁_map c.requires.part (λ q.
                   let v = q.0 in
-                  let inside = subst (λ k. k < (header_of b).entries) (sym begun) (entries.vector_lt b w i lt is) in
+                  let inside = subst (λ k. k < (header_of b).entries) (sym begun) (facts.vector_lt b w i lt is) in
                   let deep = subst (λ (u : Term). depth_of (declarations_of b) u v ≤ c.args.depth) e q.2 in
                   (is_optional (entry_at b i), (entry_at b i).bound, (v, part_as _ _ _ _ _ e q.1, deep))),
             ),
@@ -351,7 +354,7 @@ write_value-write_members-requires g t c κs within =
             (
               is,
               ∥∥₁_map c.requires.part (λ q.
-                  let x = entries.members_of_struct b w i lt is c.args.view q.0 q.1 in
+                  let x = facts.members_of_struct b w i lt is c.args.view q.0 q.1 in
                   ((resolve (declarations_of b).terms (ty.named i)), x.0, x.2, omega (arith, x.3, q.2))),
             ),
           ),
@@ -367,9 +370,9 @@ write_value-write_box-requires g t c κs within =
     let lt = c.requires.index in
     let is : IsOf Box (entry_at b i) = sym (c.from_number.ensures ∙ ap (λ (e : Entry). kind_of e.kind) c.entry-entry.ensures.value) ∙ c.unwrap-kind.ensures ∙ ap (λ (k : EntryKind). Some k) c.in-Box.is in
     let begun = ap (λ (e : Entry). e.first) c.entry-entry.ensures.value in
-    let e = entries.term_at b w i lt Box is ∙ ap (λ k. ty.box (ty.named k)) (sym begun) in
-    let inside = subst (λ k. k < (header_of b).entries) (sym begun) (entries.box_lt b w i lt is) in
-    let of = subst (λ k. IsOf Struct (entry_at b k)) (sym begun) (entries.box_struct b w i lt is) in (
+    let e = facts.term_at b w i lt Box is ∙ ap (λ k. ty.box (ty.named k)) (sym begun) in
+    let inside = subst (λ k. k < (header_of b).entries) (sym begun) (facts.box_lt b w i lt is) in
+    let of = subst (λ k. IsOf Struct (entry_at b k)) (sym begun) (facts.box_struct b w i lt is) in (
       omega (arith, c.decreases),
       (
         within,
@@ -383,8 +386,8 @@ write_value-write_box-requires g t c κs within =
                 of,
                 ∥∥₁_map c.requires.part (λ q.
                     let v = q.0 in
-                    let inside = subst (λ k. k < (header_of b).entries) (sym begun) (entries.box_lt b w i lt is) in
-                    let of = subst (λ k. IsOf Struct (entry_at b k)) (sym begun) (entries.box_struct b w i lt is) in
+                    let inside = subst (λ k. k < (header_of b).entries) (sym begun) (facts.box_lt b w i lt is) in
+                    let of = subst (λ k. IsOf Struct (entry_at b k)) (sym begun) (facts.box_struct b w i lt is) in
                     let deep = subst (λ (u : Term). depth_of (declarations_of b) u v ≤ c.args.depth) e q.2 in
                     (v, part_as _ _ _ _ _ e q.1, deep)),
               ),
@@ -401,17 +404,17 @@ write_value-write_number-requires g t c =
     let i = c.args.index in
     let lt = c.requires.index in
     let is : IsOf c.unwrap-kind.result (entry_at b i) = sym (c.from_number.ensures ∙ ap (λ (e : Entry). kind_of e.kind) c.entry-entry.ensures.value) ∙ c.unwrap-kind.ensures in
-    let number = printing.number_kind b (header_of b) (entry_at b i) c.unwrap-kind.result c.in_default.not-Bool c.in_default.not-Array c.in_default.not-Struct c.in_default.not-String c.in_default.not-Handle c.in_default.not-Vector c.in_default.not-Box c.in_default.not-Table c.in_default.not-Union in
+    let number = listed.number_kind b (header_of b) (entry_at b i) c.unwrap-kind.result c.in_default.not-Bool c.in_default.not-Array c.in_default.not-Struct c.in_default.not-String c.in_default.not-Handle c.in_default.not-Vector c.in_default.not-Box c.in_default.not-Table c.in_default.not-Union in
     record {
       well_formed = subst (λ (t : List ℕ). WellFormed t) (sym c.requires.table) w;
-      part = ∥∥₁_map c.requires.part (λ q. (declarations_of b, term_as c.unwrap-kind.result b (header_of b) (entry_at b i), number, (q.0, part_as _ _ _ _ _ (entries.term_at b w i lt c.unwrap-kind.result is) q.1)));
+      part = ∥∥₁_map c.requires.part (λ q. (declarations_of b, term_as c.unwrap-kind.result b (header_of b) (entry_at b i), number, (q.0, part_as _ _ _ _ _ (facts.term_at b w i lt c.unwrap-kind.result is) q.1)));
     }
 
 pub write_value-returns-in-Bool : goal.write_value-returns-in-Bool
 write_value-returns-in-Bool g t c v p =
     let b = c.args.table.now in
     let is : IsOf Boolean (entry_at b c.args.index) = sym (c.from_number.ensures ∙ ap (λ (e : Entry). kind_of e.kind) c.entry-entry.ensures.value) ∙ c.unwrap-kind.ensures ∙ ap (λ (k : EntryKind). Some k) c.in-Bool.is in
-    let e = entries.term_at b c.entry-entry.ensures.well_formed c.args.index c.requires.index Boolean is in
+    let e = facts.term_at b c.entry-entry.ensures.well_formed c.args.index c.requires.index Boolean is in
     subst (λ (u : Term). Writes (g.W.Sink.taken c.args.out.now) (g.W.Sink.taken c.write_bool.new.out) (text_of (declarations_of b) u v) c.write_bool.result) (sym e) (c.write_bool.ensures (declarations_of b) v (part_as _ _ _ _ _ e p))
 
 pub write_value-returns-in-String : goal.write_value-returns-in-String
@@ -419,7 +422,7 @@ write_value-returns-in-String g t c v p =
     let b = c.args.table.now in
     let i = c.args.index in
     let is : IsOf String (entry_at b i) = sym (c.from_number.ensures ∙ ap (λ (e : Entry). kind_of e.kind) c.entry-entry.ensures.value) ∙ c.unwrap-kind.ensures ∙ ap (λ (k : EntryKind). Some k) c.in-String.is in
-    let e = entries.term_at b c.entry-entry.ensures.well_formed i c.requires.index String is in
+    let e = facts.term_at b c.entry-entry.ensures.well_formed i c.requires.index String is in
     subst (λ (u : Term). Writes (g.W.Sink.taken c.args.out.now) (g.W.Sink.taken c.write_string.new.out) (text_of (declarations_of b) u v) c.write_string.result) (sym e) (c.write_string.ensures (declarations_of b) (is_optional (entry_at b i)) (entry_at b i).bound v (part_as _ _ _ _ _ e p))
 
 pub write_value-returns-in-Handle : goal.write_value-returns-in-Handle
@@ -427,7 +430,7 @@ write_value-returns-in-Handle g t c v p =
     let b = c.args.table.now in
     let i = c.args.index in
     let is : IsOf Handle (entry_at b i) = sym (c.from_number.ensures ∙ ap (λ (e : Entry). kind_of e.kind) c.entry-entry.ensures.value) ∙ c.unwrap-kind.ensures ∙ ap (λ (k : EntryKind). Some k) c.in-Handle.is in
-    let e = entries.term_at b c.entry-entry.ensures.well_formed i c.requires.index Handle is in
+    let e = facts.term_at b c.entry-entry.ensures.well_formed i c.requires.index Handle is in
     subst (λ (u : Term). Writes (g.W.Sink.taken c.args.out.now) (g.W.Sink.taken c.write_handle_or_absent.new.out) (text_of (declarations_of b) u v) c.write_handle_or_absent.result) (sym e) (c.write_handle_or_absent.ensures (declarations_of b) (is_optional (entry_at b i)) (entry_at b i).subtype (entry_at b i).rights v (part_as _ _ _ _ _ e p))
 
 pub write_value-returns-in-Array : goal.write_value-returns-in-Array
@@ -438,8 +441,8 @@ write_value-returns-in-Array g t c v p =
     let lt = c.requires.index in
     let is : IsOf Array (entry_at b i) = sym (c.from_number.ensures ∙ ap (λ (e : Entry). kind_of e.kind) c.entry-entry.ensures.value) ∙ c.unwrap-kind.ensures ∙ ap (λ (k : EntryKind). Some k) c.in-Array.is in
     let begun = ap (λ (e : Entry). e.first) c.entry-entry.ensures.value in
-    let e = entries.term_at b w i lt Array is ∙ ap (λ k. ty.array (ty.named k) (entry_at b i).count) (sym begun) in
-    let x = printing.elements_of_array b c.entry-entry.result.first (entry_at b i).count (resolve (declarations_of b).terms (ty.named i)) c.args.view v e p in
+    let e = facts.term_at b w i lt Array is ∙ ap (λ k. ty.array (ty.named k) (entry_at b i).count) (sym begun) in
+    let x = listed.elements_of_array b c.entry-entry.result.first (entry_at b i).count (resolve (declarations_of b).terms (ty.named i)) c.args.view v e p in
     subst (λ (u : Term). Writes (g.W.Sink.taken c.args.out.now) (g.W.Sink.taken c.write_elements.new.out) (text_of (declarations_of b) u v) c.write_elements.result) (sym e)
     (subst (λ (u : Value). Writes (g.W.Sink.taken c.args.out.now) (g.W.Sink.taken c.write_elements.new.out) (text_of (declarations_of b) (ty.array (ty.named c.entry-entry.result.first) (entry_at b i).count) u) c.write_elements.result) (sym x.1) (c.write_elements.ensures (ty.array (ty.named c.entry-entry.result.first) (entry_at b i).count) x.0 x.2))
 
@@ -451,7 +454,7 @@ write_value-returns-in-Vector g t c v p =
     let lt = c.requires.index in
     let is : IsOf Vector (entry_at b i) = sym (c.from_number.ensures ∙ ap (λ (e : Entry). kind_of e.kind) c.entry-entry.ensures.value) ∙ c.unwrap-kind.ensures ∙ ap (λ (k : EntryKind). Some k) c.in-Vector.is in
     let begun = ap (λ (e : Entry). e.first) c.entry-entry.ensures.value in
-    let e = entries.term_at b w i lt Vector is ∙ ap (λ k. ty.vector (is_optional (entry_at b i)) (entry_at b i).bound (ty.named k)) (sym begun) in
+    let e = facts.term_at b w i lt Vector is ∙ ap (λ k. ty.vector (is_optional (entry_at b i)) (entry_at b i).bound (ty.named k)) (sym begun) in
     subst (λ (u : Term). Writes (g.W.Sink.taken c.args.out.now) (g.W.Sink.taken c.write_vector.new.out) (text_of (declarations_of b) u v) c.write_vector.result) (sym e) (c.write_vector.ensures (is_optional (entry_at b i)) (entry_at b i).bound v (part_as _ _ _ _ _ e p))
 
 pub write_value-returns-in-Struct : goal.write_value-returns-in-Struct
@@ -461,7 +464,7 @@ write_value-returns-in-Struct g t c v p =
     let i = c.args.index in
     let lt = c.requires.index in
     let is : IsOf Struct (entry_at b i) = sym (c.from_number.ensures ∙ ap (λ (e : Entry). kind_of e.kind) c.entry-entry.ensures.value) ∙ c.unwrap-kind.ensures ∙ ap (λ (k : EntryKind). Some k) c.in-Struct.is in
-    let x = entries.members_of_struct b w i lt is c.args.view v p in
+    let x = facts.members_of_struct b w i lt is c.args.view v p in
     subst (λ (u : Value). Writes (g.W.Sink.taken c.args.out.now) (g.W.Sink.taken c.write_members.new.out) (text_of (declarations_of b) (resolve (declarations_of b).terms (ty.named i)) u) c.write_members.result) (sym x.1) (c.write_members.ensures (resolve (declarations_of b).terms (ty.named i)) x.0 x.2)
 
 pub write_value-returns-in-Box : goal.write_value-returns-in-Box
@@ -472,7 +475,7 @@ write_value-returns-in-Box g t c v p =
     let lt = c.requires.index in
     let is : IsOf Box (entry_at b i) = sym (c.from_number.ensures ∙ ap (λ (e : Entry). kind_of e.kind) c.entry-entry.ensures.value) ∙ c.unwrap-kind.ensures ∙ ap (λ (k : EntryKind). Some k) c.in-Box.is in
     let begun = ap (λ (e : Entry). e.first) c.entry-entry.ensures.value in
-    let e = entries.term_at b w i lt Box is ∙ ap (λ k. ty.box (ty.named k)) (sym begun) in
+    let e = facts.term_at b w i lt Box is ∙ ap (λ k. ty.box (ty.named k)) (sym begun) in
     subst (λ (u : Term). Writes (g.W.Sink.taken c.args.out.now) (g.W.Sink.taken c.write_box.new.out) (text_of (declarations_of b) u v) c.write_box.result) (sym e) (c.write_box.ensures v (part_as _ _ _ _ _ e p))
 
 pub write_value-returns-in_default : goal.write_value-returns-in_default
@@ -482,8 +485,8 @@ write_value-returns-in_default g t c v p =
     let i = c.args.index in
     let lt = c.requires.index in
     let is : IsOf c.unwrap-kind.result (entry_at b i) = sym (c.from_number.ensures ∙ ap (λ (e : Entry). kind_of e.kind) c.entry-entry.ensures.value) ∙ c.unwrap-kind.ensures in
-    let number = printing.number_kind b (header_of b) (entry_at b i) c.unwrap-kind.result c.in_default.not-Bool c.in_default.not-Array c.in_default.not-Struct c.in_default.not-String c.in_default.not-Handle c.in_default.not-Vector c.in_default.not-Box c.in_default.not-Table c.in_default.not-Union in
-    let e = entries.term_at b w i lt c.unwrap-kind.result is in
+    let number = listed.number_kind b (header_of b) (entry_at b i) c.unwrap-kind.result c.in_default.not-Bool c.in_default.not-Array c.in_default.not-Struct c.in_default.not-String c.in_default.not-Handle c.in_default.not-Vector c.in_default.not-Box c.in_default.not-Table c.in_default.not-Union in
+    let e = facts.term_at b w i lt c.unwrap-kind.result is in
     subst (λ (u : Term). Writes (g.W.Sink.taken c.args.out.now) (g.W.Sink.taken c.write_number.new.out) (text_of (declarations_of b) u v) c.write_number.result) (sym e) (c.write_number.ensures (declarations_of b) (term_as c.unwrap-kind.result b (header_of b) (entry_at b i)) number v (part_as _ _ _ _ _ e p))
 
 pub write_vector-returns-then-is_absent : goal.write_vector-returns-then-is_absent
@@ -492,17 +495,17 @@ write_vector-returns-then-is_absent g t c optional bound v p =
 
 pub write_vector-overflow_sub-depth : goal.write_vector-overflow_sub-depth
 write_vector-overflow_sub-depth g t c = ∥∥₁_elim c.requires.part le_prop (λ q.
-    let x = printing.elements_of_vector c.args.table.now c.args.element q.0 q.1 c.args.view q.2.0 q.2.1 (sym c.if-is_absent.false ∙ c.is_absent.ensures q.2.0 q.2.1.shown) in
+    let x = listed.elements_of_vector c.args.table.now c.args.element q.0 q.1 c.args.view q.2.0 q.2.1 (sym c.if-is_absent.false ∙ c.is_absent.ensures q.2.0 q.2.1.shown) in
     omega (arith, x.3, q.2.2))
 
 pub write_vector-write_elements-requires : goal.write_vector-write_elements-requires
 write_vector-write_elements-requires g t c κs within =
-    let few = entries.nest_few c.args.table.now c.requires.well_formed c.args.element c.requires.element in
-    let small = entries.size_few c.args.table.now c.requires.well_formed c.args.element c.requires.element in (
+    let few = facts.nest_few c.args.table.now c.requires.well_formed c.args.element c.requires.element in
+    let small = facts.size_few c.args.table.now c.requires.well_formed c.args.element c.requires.element in (
       ∥∥₁_elim c.requires.part le_prop (λ q.
-          let x = printing.elements_of_vector c.args.table.now c.args.element q.0 q.1 c.args.view q.2.0 q.2.1 (sym c.if-is_absent.false ∙ c.is_absent.ensures q.2.0 q.2.1.shown) in
-          let few = entries.nest_few c.args.table.now c.requires.well_formed c.args.element c.requires.element in
-          let small = entries.size_few c.args.table.now c.requires.well_formed c.args.element c.requires.element in
+          let x = listed.elements_of_vector c.args.table.now c.args.element q.0 q.1 c.args.view q.2.0 q.2.1 (sym c.if-is_absent.false ∙ c.is_absent.ensures q.2.0 q.2.1.shown) in
+          let few = facts.nest_few c.args.table.now c.requires.well_formed c.args.element c.requires.element in
+          let small = facts.size_few c.args.table.now c.requires.well_formed c.args.element c.requires.element in
           omega (arith, c.decreases, few, small, x.3, q.2.2)),
       (
         within,
@@ -511,9 +514,9 @@ write_vector-write_elements-requires g t c κs within =
           (
             c.requires.element,
             ∥∥₁_map c.requires.part (λ q.
-                let x = printing.elements_of_vector c.args.table.now c.args.element q.0 q.1 c.args.view q.2.0 q.2.1 (sym c.if-is_absent.false ∙ c.is_absent.ensures q.2.0 q.2.1.shown) in
-                let few = entries.nest_few c.args.table.now c.requires.well_formed c.args.element c.requires.element in
-                let small = entries.size_few c.args.table.now c.requires.well_formed c.args.element c.requires.element in
+                let x = listed.elements_of_vector c.args.table.now c.args.element q.0 q.1 c.args.view q.2.0 q.2.1 (sym c.if-is_absent.false ∙ c.is_absent.ensures q.2.0 q.2.1.shown) in
+                let few = facts.nest_few c.args.table.now c.requires.well_formed c.args.element c.requires.element in
+                let small = facts.size_few c.args.table.now c.requires.well_formed c.args.element c.requires.element in
                 (ty.vector q.0 q.1 (ty.named c.args.element), x.0, x.2, omega (arith, x.3, q.2.2))),
           ),
         ),
@@ -523,7 +526,7 @@ write_vector-write_elements-requires g t c κs within =
 pub write_vector-returns : goal.write_vector-returns
 write_vector-returns g t c optional bound v p =
     let ty' = ty.vector optional bound (ty.named c.args.element) in
-    let x = printing.elements_of_vector c.args.table.now c.args.element optional bound c.args.view v p (sym c.if-is_absent.false ∙ c.is_absent.ensures v p.shown) in
+    let x = listed.elements_of_vector c.args.table.now c.args.element optional bound c.args.view v p (sym c.if-is_absent.false ∙ c.is_absent.ensures v p.shown) in
     subst (λ (u : Value). Writes (g.W.Sink.taken c.args.out.now) (g.W.Sink.taken c.write_elements.new.out) (text_of (declarations_of c.args.table.now) ty' u) c.write_elements.result) (sym x.1) (c.write_elements.ensures ty' x.0 x.2)
 
 pub write_box-returns-then-is_absent : goal.write_box-returns-then-is_absent
@@ -532,17 +535,17 @@ write_box-returns-then-is_absent g t c v p =
 
 pub write_box-overflow_sub-depth : goal.write_box-overflow_sub-depth
 write_box-overflow_sub-depth g t c = ∥∥₁_elim c.requires.part le_prop (λ q.
-    let x = entries.members_of_box c.args.table.now c.requires.well_formed c.args.index c.requires.index c.requires.of_struct c.args.view q.0 q.1 (sym c.if-is_absent.false ∙ c.is_absent.ensures q.0 q.1.shown) in
+    let x = facts.members_of_box c.args.table.now c.requires.well_formed c.args.index c.requires.index c.requires.of_struct c.args.view q.0 q.1 (sym c.if-is_absent.false ∙ c.is_absent.ensures q.0 q.1.shown) in
     omega (arith, x.3, q.2))
 
 pub write_box-write_members-requires : goal.write_box-write_members-requires
 write_box-write_members-requires g t c κs within =
-    let few = entries.nest_few c.args.table.now c.requires.well_formed c.args.index c.requires.index in
-    let small = entries.size_few c.args.table.now c.requires.well_formed c.args.index c.requires.index in (
+    let few = facts.nest_few c.args.table.now c.requires.well_formed c.args.index c.requires.index in
+    let small = facts.size_few c.args.table.now c.requires.well_formed c.args.index c.requires.index in (
       ∥∥₁_elim c.requires.part le_prop (λ q.
-          let x = entries.members_of_box c.args.table.now c.requires.well_formed c.args.index c.requires.index c.requires.of_struct c.args.view q.0 q.1 (sym c.if-is_absent.false ∙ c.is_absent.ensures q.0 q.1.shown) in
-          let few = entries.nest_few c.args.table.now c.requires.well_formed c.args.index c.requires.index in
-          let small = entries.size_few c.args.table.now c.requires.well_formed c.args.index c.requires.index in
+          let x = facts.members_of_box c.args.table.now c.requires.well_formed c.args.index c.requires.index c.requires.of_struct c.args.view q.0 q.1 (sym c.if-is_absent.false ∙ c.is_absent.ensures q.0 q.1.shown) in
+          let few = facts.nest_few c.args.table.now c.requires.well_formed c.args.index c.requires.index in
+          let small = facts.size_few c.args.table.now c.requires.well_formed c.args.index c.requires.index in
           omega (arith, c.decreases, few, small, x.3, q.2)),
       (
         within,
@@ -553,9 +556,9 @@ write_box-write_members-requires g t c κs within =
             (
               c.requires.of_struct,
               ∥∥₁_map c.requires.part (λ q.
-                  let x = entries.members_of_box c.args.table.now c.requires.well_formed c.args.index c.requires.index c.requires.of_struct c.args.view q.0 q.1 (sym c.if-is_absent.false ∙ c.is_absent.ensures q.0 q.1.shown) in
-                  let few = entries.nest_few c.args.table.now c.requires.well_formed c.args.index c.requires.index in
-                  let small = entries.size_few c.args.table.now c.requires.well_formed c.args.index c.requires.index in
+                  let x = facts.members_of_box c.args.table.now c.requires.well_formed c.args.index c.requires.index c.requires.of_struct c.args.view q.0 q.1 (sym c.if-is_absent.false ∙ c.is_absent.ensures q.0 q.1.shown) in
+                  let few = facts.nest_few c.args.table.now c.requires.well_formed c.args.index c.requires.index in
+                  let small = facts.size_few c.args.table.now c.requires.well_formed c.args.index c.requires.index in
                   (ty.box (ty.named c.args.index), x.0, x.2, omega (arith, x.3, q.2))),
             ),
           ),
@@ -566,16 +569,16 @@ write_box-write_members-requires g t c κs within =
 pub write_box-returns : goal.write_box-returns
 write_box-returns g t c v p =
     let ty' = ty.box (ty.named c.args.index) in
-    let x = entries.members_of_box c.args.table.now c.requires.well_formed c.args.index c.requires.index c.requires.of_struct c.args.view v p (sym c.if-is_absent.false ∙ c.is_absent.ensures v p.shown) in
+    let x = facts.members_of_box c.args.table.now c.requires.well_formed c.args.index c.requires.index c.requires.of_struct c.args.view v p (sym c.if-is_absent.false ∙ c.is_absent.ensures v p.shown) in
     subst (λ (u : Value). Writes (g.W.Sink.taken c.args.out.now) (g.W.Sink.taken c.write_members.new.out) (text_of (declarations_of c.args.table.now) ty' u) c.write_members.result) (sym x.1) (c.write_members.ensures ty' x.0 x.2)
 
 pub write_member-unwrap-row-requires : goal.write_member-unwrap-row-requires
 write_member-unwrap-row-requires g t c = ∥∥₁_elim c.requires.part (is_some_prop _) (λ q.
     let p = q in
-    tables.row_there c.args.table.now c.requires.well_formed c.args.slot.index c.requires.index c.args.slot.ordinal p.0 c.member.result c.member.ensures.none p.1.typed)
+    tabled.row_there c.args.table.now c.requires.well_formed c.args.slot.index c.requires.index c.args.slot.ordinal p.0 c.member.result c.member.ensures.none p.1.typed)
 
 pub write_member-entry-requires : goal.write_member-entry-requires
-write_member-entry-requires g t c = tables.of_some (λ r. r.entry < (header_of c.args.table.now).entries) c.member.result c.unwrap-row.result c.unwrap-row.ensures c.member.ensures.entry_below
+write_member-entry-requires g t c = tabled.of_some (λ r. r.entry < (header_of c.args.table.now).entries) c.member.result c.unwrap-row.result c.unwrap-row.ensures c.member.ensures.entry_below
 
 pub write_member-write_named-requires : goal.write_member-write_named-requires
 write_member-write_named-requires g t c κs within =
@@ -584,11 +587,11 @@ write_member-write_named-requires g t c κs within =
     let i = c.args.slot.index in
     let lt = c.requires.index in
     let row = c.unwrap-row.result in
-    let below = tables.of_some (λ r. r.entry < (header_of b).entries) c.member.result row c.unwrap-row.ensures c.member.ensures.entry_below in
-    let found = tables.of_some (λ r. find (members_of b i) c.args.slot.ordinal ≡ Some (ty.named r.entry)) c.member.result row c.unwrap-row.ensures c.member.ensures.some in
-    let name = tables.of_some (λ r. r.name_place + r.name_length ≤ (header_of b).names) c.member.result row c.unwrap-row.ensures c.member.ensures.name in
+    let below = tabled.of_some (λ r. r.entry < (header_of b).entries) c.member.result row c.unwrap-row.ensures c.member.ensures.entry_below in
+    let found = tabled.of_some (λ r. find (members_of b i) c.args.slot.ordinal ≡ Some (ty.named r.entry)) c.member.result row c.unwrap-row.ensures c.member.ensures.some in
+    let name = tabled.of_some (λ r. r.name_place + r.name_length ≤ (header_of b).names) c.member.result row c.unwrap-row.ensures c.member.ensures.name in
     let sized = ap (λ (e : Entry). e.size) c.entry.ensures.value in
-    let few = entries.nest_few b w row.entry below in (
+    let few = facts.nest_few b w row.entry below in (
       omega (arith, c.decreases, c.if-entry-le4.true, sized, few),
       (
         within,
@@ -600,13 +603,13 @@ write_member-write_named-requires g t c κs within =
               below,
               ∥∥₁_map c.requires.part (λ q.
                   let p = q in
-                  let below = tables.of_some (λ r. r.entry < (header_of b).entries) c.member.result row c.unwrap-row.ensures c.member.ensures.entry_below in
-                  let found = tables.of_some (λ r. find (members_of b i) c.args.slot.ordinal ≡ Some (ty.named r.entry)) c.member.result row c.unwrap-row.ensures c.member.ensures.some in
-                  let typed = tables.member_typed b w i lt c.args.slot.ordinal row.entry p.0 found p.1.typed in
-                  let name = tables.of_some (λ r. r.name_place + r.name_length ≤ (header_of b).names) c.member.result row c.unwrap-row.ensures c.member.ensures.name in
+                  let below = tabled.of_some (λ r. r.entry < (header_of b).entries) c.member.result row c.unwrap-row.ensures c.member.ensures.entry_below in
+                  let found = tabled.of_some (λ r. find (members_of b i) c.args.slot.ordinal ≡ Some (ty.named r.entry)) c.member.result row c.unwrap-row.ensures c.member.ensures.some in
+                  let typed = tabled.member_typed b w i lt c.args.slot.ordinal row.entry p.0 found p.1.typed in
+                  let name = tabled.of_some (λ r. r.name_place + r.name_length ≤ (header_of b).names) c.member.result row c.unwrap-row.ensures c.member.ensures.name in
                   let sized = ap (λ (e : Entry). e.size) c.entry.ensures.value in
-                  let deep = tables.inline_depth b w i lt row.entry below p.0 typed (omega (arith, c.if-entry-le4.true, sized)) in
-                  let few = entries.nest_few b w row.entry below in
+                  let deep = tabled.inline_depth b w i lt row.entry below p.0 typed (omega (arith, c.if-entry-le4.true, sized)) in
+                  let few = facts.nest_few b w row.entry below in
                   (p.0, record { shown = p.1.shown; typed = typed }, omega (arith, deep))),
             ),
           ),
@@ -621,22 +624,22 @@ write_member-write_named-requires-2 g t c κs within =
     let i = c.args.slot.index in
     let lt = c.requires.index in
     let row = c.unwrap-row.result in
-    let below = tables.of_some (λ r. r.entry < (header_of b).entries) c.member.result row c.unwrap-row.ensures c.member.ensures.entry_below in
-    let found = tables.of_some (λ r. find (members_of b i) c.args.slot.ordinal ≡ Some (ty.named r.entry)) c.member.result row c.unwrap-row.ensures c.member.ensures.some in
-    let name = tables.of_some (λ r. r.name_place + r.name_length ≤ (header_of b).names) c.member.result row c.unwrap-row.ensures c.member.ensures.name in
+    let below = tabled.of_some (λ r. r.entry < (header_of b).entries) c.member.result row c.unwrap-row.ensures c.member.ensures.entry_below in
+    let found = tabled.of_some (λ r. find (members_of b i) c.args.slot.ordinal ≡ Some (ty.named r.entry)) c.member.result row c.unwrap-row.ensures c.member.ensures.some in
+    let name = tabled.of_some (λ r. r.name_place + r.name_length ≤ (header_of b).names) c.member.result row c.unwrap-row.ensures c.member.ensures.name in
     let sized = ap (λ (e : Entry). e.size) c.entry.ensures.value in
-    let few = entries.nest_few b w row.entry below in
-    let small = entries.size_few b w row.entry below in (
+    let few = facts.nest_few b w row.entry below in
+    let small = facts.size_few b w row.entry below in (
       ∥∥₁_elim c.requires.part le_prop (λ q.
           let p = q in
-          let below = tables.of_some (λ r. r.entry < (header_of b).entries) c.member.result row c.unwrap-row.ensures c.member.ensures.entry_below in
-          let found = tables.of_some (λ r. find (members_of b i) c.args.slot.ordinal ≡ Some (ty.named r.entry)) c.member.result row c.unwrap-row.ensures c.member.ensures.some in
-          let typed = tables.member_typed b w i lt c.args.slot.ordinal row.entry p.0 found p.1.typed in
-          let name = tables.of_some (λ r. r.name_place + r.name_length ≤ (header_of b).names) c.member.result row c.unwrap-row.ensures c.member.ensures.name in
+          let below = tabled.of_some (λ r. r.entry < (header_of b).entries) c.member.result row c.unwrap-row.ensures c.member.ensures.entry_below in
+          let found = tabled.of_some (λ r. find (members_of b i) c.args.slot.ordinal ≡ Some (ty.named r.entry)) c.member.result row c.unwrap-row.ensures c.member.ensures.some in
+          let typed = tabled.member_typed b w i lt c.args.slot.ordinal row.entry p.0 found p.1.typed in
+          let name = tabled.of_some (λ r. r.name_place + r.name_length ≤ (header_of b).names) c.member.result row c.unwrap-row.ensures c.member.ensures.name in
           let sized = ap (λ (e : Entry). e.size) c.entry.ensures.value in
-          let deep = tables.out_depth b w i lt c.args.slot.ordinal row.entry below p.0 c.args.slot.depth found p.2 (omega (arith, c.if-entry-le4.false, sized)) in
-          let few = entries.nest_few b w row.entry below in
-          let small = entries.size_few b w row.entry below in
+          let deep = tabled.out_depth b w i lt c.args.slot.ordinal row.entry below p.0 c.args.slot.depth found p.2 (omega (arith, c.if-entry-le4.false, sized)) in
+          let few = facts.nest_few b w row.entry below in
+          let small = facts.size_few b w row.entry below in
           omega (arith, c.decreases, few, small, deep)),
       (
         within,
@@ -648,14 +651,14 @@ write_member-write_named-requires-2 g t c κs within =
               below,
               ∥∥₁_map c.requires.part (λ q.
                   let p = q in
-                  let below = tables.of_some (λ r. r.entry < (header_of b).entries) c.member.result row c.unwrap-row.ensures c.member.ensures.entry_below in
-                  let found = tables.of_some (λ r. find (members_of b i) c.args.slot.ordinal ≡ Some (ty.named r.entry)) c.member.result row c.unwrap-row.ensures c.member.ensures.some in
-                  let typed = tables.member_typed b w i lt c.args.slot.ordinal row.entry p.0 found p.1.typed in
-                  let name = tables.of_some (λ r. r.name_place + r.name_length ≤ (header_of b).names) c.member.result row c.unwrap-row.ensures c.member.ensures.name in
+                  let below = tabled.of_some (λ r. r.entry < (header_of b).entries) c.member.result row c.unwrap-row.ensures c.member.ensures.entry_below in
+                  let found = tabled.of_some (λ r. find (members_of b i) c.args.slot.ordinal ≡ Some (ty.named r.entry)) c.member.result row c.unwrap-row.ensures c.member.ensures.some in
+                  let typed = tabled.member_typed b w i lt c.args.slot.ordinal row.entry p.0 found p.1.typed in
+                  let name = tabled.of_some (λ r. r.name_place + r.name_length ≤ (header_of b).names) c.member.result row c.unwrap-row.ensures c.member.ensures.name in
                   let sized = ap (λ (e : Entry). e.size) c.entry.ensures.value in
-                  let deep = tables.out_depth b w i lt c.args.slot.ordinal row.entry below p.0 c.args.slot.depth found p.2 (omega (arith, c.if-entry-le4.false, sized)) in
-                  let few = entries.nest_few b w row.entry below in
-                  let small = entries.size_few b w row.entry below in
+                  let deep = tabled.out_depth b w i lt c.args.slot.ordinal row.entry below p.0 c.args.slot.depth found p.2 (omega (arith, c.if-entry-le4.false, sized)) in
+                  let few = facts.nest_few b w row.entry below in
+                  let small = facts.size_few b w row.entry below in
                   (p.0, record { shown = p.1.shown; typed = typed }, omega (arith, deep))),
             ),
           ),
@@ -670,11 +673,11 @@ write_member-overflow_sub-slot g t c = ∥∥₁_elim c.requires.part le_prop (�
     let i = c.args.slot.index in
     let row = c.unwrap-row.result in
     let p = q in
-    let below = tables.of_some (λ r. r.entry < (header_of b).entries) c.member.result row c.unwrap-row.ensures c.member.ensures.entry_below in
-    let found = tables.of_some (λ r. find (members_of b i) c.args.slot.ordinal ≡ Some (ty.named r.entry)) c.member.result row c.unwrap-row.ensures c.member.ensures.some in
-    let name = tables.of_some (λ r. r.name_place + r.name_length ≤ (header_of b).names) c.member.result row c.unwrap-row.ensures c.member.ensures.name in
+    let below = tabled.of_some (λ r. r.entry < (header_of b).entries) c.member.result row c.unwrap-row.ensures c.member.ensures.entry_below in
+    let found = tabled.of_some (λ r. find (members_of b i) c.args.slot.ordinal ≡ Some (ty.named r.entry)) c.member.result row c.unwrap-row.ensures c.member.ensures.some in
+    let name = tabled.of_some (λ r. r.name_place + r.name_length ≤ (header_of b).names) c.member.result row c.unwrap-row.ensures c.member.ensures.name in
     let sized = ap (λ (e : Entry). e.size) c.entry.ensures.value in
-    let deep = tables.out_depth b w i c.requires.index c.args.slot.ordinal row.entry below p.0 c.args.slot.depth found p.2 (omega (arith, c.if-entry-le4.false, sized)) in
+    let deep = tabled.out_depth b w i c.requires.index c.args.slot.ordinal row.entry below p.0 c.args.slot.depth found p.2 (omega (arith, c.if-entry-le4.false, sized)) in
     omega (arith, deep))
 
 pub write_member-returns-then-entry-le4 : goal.write_member-returns-then-entry-le4
@@ -684,10 +687,10 @@ write_member-returns-then-entry-le4 g t c v m =
     let i = c.args.slot.index in
     let lt = c.requires.index in
     let row = c.unwrap-row.result in
-    let at = tables.of_some (λ r. tables.IsRowAt b w i lt c.args.slot.ordinal r) c.member.result row c.unwrap-row.ensures c.member.ensures.row in
-    let found = tables.of_some (λ r. find (members_of b i) c.args.slot.ordinal ≡ Some (ty.named r.entry)) c.member.result row c.unwrap-row.ensures c.member.ensures.some in
+    let at = tabled.of_some (λ r. tables.IsRowAt b w i lt c.args.slot.ordinal r) c.member.result row c.unwrap-row.ensures c.member.ensures.row in
+    let found = tabled.of_some (λ r. find (members_of b i) c.args.slot.ordinal ≡ Some (ty.named r.entry)) c.member.result row c.unwrap-row.ensures c.member.ensures.some in
     let whole = tables.member_whole b w i lt c.requires.kind c.args.slot.ordinal v row at found in
-    let typed = tables.member_typed b w i lt c.args.slot.ordinal row.entry v found m.typed in
+    let typed = tabled.member_typed b w i lt c.args.slot.ordinal row.entry v found m.typed in
     writes_as _ _ _ _ c.write_named.result (sym whole) (c.write_named.ensures v (record { shown = m.shown; typed = typed }))
 
 pub write_member-returns : goal.write_member-returns
@@ -697,10 +700,10 @@ write_member-returns g t c v m =
     let i = c.args.slot.index in
     let lt = c.requires.index in
     let row = c.unwrap-row.result in
-    let at = tables.of_some (λ r. tables.IsRowAt b w i lt c.args.slot.ordinal r) c.member.result row c.unwrap-row.ensures c.member.ensures.row in
-    let found = tables.of_some (λ r. find (members_of b i) c.args.slot.ordinal ≡ Some (ty.named r.entry)) c.member.result row c.unwrap-row.ensures c.member.ensures.some in
+    let at = tabled.of_some (λ r. tables.IsRowAt b w i lt c.args.slot.ordinal r) c.member.result row c.unwrap-row.ensures c.member.ensures.row in
+    let found = tabled.of_some (λ r. find (members_of b i) c.args.slot.ordinal ≡ Some (ty.named r.entry)) c.member.result row c.unwrap-row.ensures c.member.ensures.some in
     let whole = tables.member_whole b w i lt c.requires.kind c.args.slot.ordinal v row at found in
-    let typed = tables.member_typed b w i lt c.args.slot.ordinal row.entry v found m.typed in
+    let typed = tabled.member_typed b w i lt c.args.slot.ordinal row.entry v found m.typed in
     writes_as _ _ _ _ c.write_named-2.result (sym whole) (c.write_named-2.ensures v (record { shown = m.shown; typed = typed }))
 
 pub write_slot-returns-in_err-write_comma-clause-text : goal.write_slot-returns-in_err-write_comma-clause-text
@@ -711,7 +714,7 @@ write_slot-returns-in_err-write_comma-clause-text g t c v p =
     let lt = c.requires.index in
     let is = c.requires.of_table in
     let f = c.in-Some.ensures.part v p.shown in
-    let held = tables.held_known b w i lt is c.args.view v p c.args.slot.ordinal f.0 f.1 in
+    let held = tabled.held_known b w i lt is c.args.view v p c.args.slot.ordinal f.0 f.1 in
     failed_as _ _ _ c.from_residual.result c.from_residual.ensures.0
     (front_as _ _ _ _ (ap (λ (o : Option Member). slot_text (declarations_of b) (members_of b i) c.args.later c.args.slot.ordinal o) (sym held)) (more_left _ _ _ (member_text (declarations_of b) (members_of b i) c.args.slot.ordinal (known f.0)) c.in_err-write_comma.ensures))
 
@@ -732,7 +735,7 @@ write_slot-write_member-requires g t c κs within =
             (
               lt,
               (
-                tables.has_ordinals b w i lt Table refl is,
+                tabled.has_ordinals b w i lt Table refl is,
                 ∥∥₁_map c.requires.part (λ q.
                     let v = q.0 in
                     let p = q.1 in
@@ -742,9 +745,9 @@ write_slot-write_member-requires g t c κs within =
                     let lt = c.requires.index in
                     let is = c.requires.of_table in
                     let f = c.in-Some.ensures.part v p.shown in
-                    let held = tables.held_known b w i lt is c.args.view v p c.args.slot.ordinal f.0 f.1 in
-                    let typed = tables.held_typed b w i lt is c.args.view v p c.args.slot.ordinal (known f.0) held in
-                    let deep = tables.held_depth b w i lt is c.args.view v p c.args.slot.ordinal (known f.0) c.args.slot.depth held (omega (arith, q.2)) in
+                    let held = tabled.held_known b w i lt is c.args.view v p c.args.slot.ordinal f.0 f.1 in
+                    let typed = tabled.held_typed b w i lt is c.args.view v p c.args.slot.ordinal (known f.0) held in
+                    let deep = tabled.held_depth b w i lt is c.args.view v p c.args.slot.ordinal (known f.0) c.args.slot.depth held (omega (arith, q.2)) in
                     (f.0, record { shown = f.2; typed = typed }, deep)),
               ),
             ),
@@ -761,8 +764,8 @@ write_slot-returns-in_err-write_member-clause-text g t c v p =
     let lt = c.requires.index in
     let is = c.requires.of_table in
     let f = c.in-Some.ensures.part v p.shown in
-    let held = tables.held_known b w i lt is c.args.view v p c.args.slot.ordinal f.0 f.1 in
-    let typed = tables.held_typed b w i lt is c.args.view v p c.args.slot.ordinal (known f.0) held in
+    let held = tabled.held_known b w i lt is c.args.view v p c.args.slot.ordinal f.0 f.1 in
+    let typed = tabled.held_typed b w i lt is c.args.view v p c.args.slot.ordinal (known f.0) held in
     failed_as _ _ _ c.from_residual-in_err-write_member.result c.from_residual-in_err-write_member.ensures.0
     (front_as _ _ _ _ (ap (λ (o : Option Member). slot_text (declarations_of b) (members_of b i) c.args.later c.args.slot.ordinal o) (sym held)) (failed_then _ _ _ _ _ c.in_ok-write_comma.ensures (c.in_err-write_member.ensures f.0 (record { shown = f.2; typed = typed }))))
 
@@ -774,8 +777,8 @@ write_slot-returns-in-Some-clause-text g t c v p =
     let lt = c.requires.index in
     let is = c.requires.of_table in
     let f = c.in-Some.ensures.part v p.shown in
-    let held = tables.held_known b w i lt is c.args.view v p c.args.slot.ordinal f.0 f.1 in
-    let typed = tables.held_typed b w i lt is c.args.view v p c.args.slot.ordinal (known f.0) held in
+    let held = tabled.held_known b w i lt is c.args.view v p c.args.slot.ordinal f.0 f.1 in
+    let typed = tabled.held_typed b w i lt is c.args.view v p c.args.slot.ordinal (known f.0) held in
     takes_as _ _ _ _ (ap (λ (o : Option Member). slot_text (declarations_of b) (members_of b i) c.args.later c.args.slot.ordinal o) (sym held)) (takes_then _ _ _ _ _ c.in_ok-write_comma.ensures (c.in_ok-write_member.ensures f.0 (record { shown = f.2; typed = typed })))
 
 pub write_slot-returns-in-Some-clause-later : goal.write_slot-returns-in-Some-clause-later
@@ -786,7 +789,7 @@ write_slot-returns-in-Some-clause-later g t c v p =
     let lt = c.requires.index in
     let is = c.requires.of_table in
     let f = c.in-Some.ensures.part v p.shown in
-    let held = tables.held_known b w i lt is c.args.view v p c.args.slot.ordinal f.0 f.1 in
+    let held = tabled.held_known b w i lt is c.args.view v p c.args.slot.ordinal f.0 f.1 in
     ap (λ (o : Option Member). later_behind c.args.later o) (sym held)
 
 pub write_slot-returns-in_err-write_comma-2-clause-text : goal.write_slot-returns-in_err-write_comma-2-clause-text
@@ -794,7 +797,7 @@ write_slot-returns-in_err-write_comma-2-clause-text g t c v p =
     let b = c.args.table.now in
     let i = c.args.slot.index in
     let u = c.in-Some-unknown.member in
-    let held = slots.unknown_held (held_of v c.args.slot.ordinal) (unknown u.inline u.bytes.now u.handles.now) (c.in-Some-unknown.ensures v p.shown) in
+    let held = held.unknown_held (held_of v c.args.slot.ordinal) (unknown u.inline u.bytes.now u.handles.now) (c.in-Some-unknown.ensures v p.shown) in
     failed_as _ _ _ c.from_residual-in_err-write_comma-2.result c.from_residual-in_err-write_comma-2.ensures.0
     (front_as _ _ _ _ (ap (λ (o : Option Member). slot_text (declarations_of b) (members_of b i) c.args.later c.args.slot.ordinal o) (sym held)) (more_left _ _ _ (member_text (declarations_of b) (members_of b i) c.args.slot.ordinal (unknown u.inline u.bytes.now u.handles.now)) c.in_err-write_comma-2.ensures))
 
@@ -803,7 +806,7 @@ write_slot-returns-in_err-write_unknown-clause-text g t c v p =
     let b = c.args.table.now in
     let i = c.args.slot.index in
     let u = c.in-Some-unknown.member in
-    let held = slots.unknown_held (held_of v c.args.slot.ordinal) (unknown u.inline u.bytes.now u.handles.now) (c.in-Some-unknown.ensures v p.shown) in
+    let held = held.unknown_held (held_of v c.args.slot.ordinal) (unknown u.inline u.bytes.now u.handles.now) (c.in-Some-unknown.ensures v p.shown) in
     failed_as _ _ _ c.from_residual-in_err-write_unknown.result c.from_residual-in_err-write_unknown.ensures.0
     (front_as _ _ _ _ (ap (λ (o : Option Member). slot_text (declarations_of b) (members_of b i) c.args.later c.args.slot.ordinal o) (sym held)) (failed_then _ _ _ _ _ c.in_ok-write_comma-2.ensures (c.in_err-write_unknown.ensures (declarations_of b) (members_of b i))))
 
@@ -812,7 +815,7 @@ write_slot-returns-in-Some-unknown-clause-text g t c v p =
     let b = c.args.table.now in
     let i = c.args.slot.index in
     let u = c.in-Some-unknown.member in
-    let held = slots.unknown_held (held_of v c.args.slot.ordinal) (unknown u.inline u.bytes.now u.handles.now) (c.in-Some-unknown.ensures v p.shown) in
+    let held = held.unknown_held (held_of v c.args.slot.ordinal) (unknown u.inline u.bytes.now u.handles.now) (c.in-Some-unknown.ensures v p.shown) in
     takes_as _ _ _ _ (ap (λ (o : Option Member). slot_text (declarations_of b) (members_of b i) c.args.later c.args.slot.ordinal o) (sym held)) (takes_then _ _ _ _ _ c.in_ok-write_comma-2.ensures (c.in_ok-write_unknown.ensures (declarations_of b) (members_of b i)))
 
 pub write_slot-returns-in-Some-unknown-clause-later : goal.write_slot-returns-in-Some-unknown-clause-later
@@ -820,28 +823,28 @@ write_slot-returns-in-Some-unknown-clause-later g t c v p =
     let b = c.args.table.now in
     let i = c.args.slot.index in
     let u = c.in-Some-unknown.member in
-    let held = slots.unknown_held (held_of v c.args.slot.ordinal) (unknown u.inline u.bytes.now u.handles.now) (c.in-Some-unknown.ensures v p.shown) in
+    let held = held.unknown_held (held_of v c.args.slot.ordinal) (unknown u.inline u.bytes.now u.handles.now) (c.in-Some-unknown.ensures v p.shown) in
     ap (λ (o : Option Member). later_behind c.args.later o) (sym held)
 
 pub write_slot-returns-clause-text : goal.write_slot-returns-clause-text
 write_slot-returns-clause-text g t c v p =
     let b = c.args.table.now in
     let i = c.args.slot.index in
-    let held = tables.held_none b c.requires.well_formed i c.requires.index c.requires.of_table c.args.view v p c.args.slot.ordinal (c.in_default.ensures.part v p.shown) (c.in_default-unknown.ensures v p.shown) in
+    let held = tabled.held_none b c.requires.well_formed i c.requires.index c.requires.of_table c.args.view v p c.args.slot.ordinal (c.in_default.ensures.part v p.shown) (c.in_default-unknown.ensures v p.shown) in
     takes_as _ _ _ _ (ap (λ (o : Option Member). slot_text (declarations_of b) (members_of b i) c.args.later c.args.slot.ordinal o) (sym held)) (takes_none _)
 
 pub write_slot-returns-clause-later : goal.write_slot-returns-clause-later
 write_slot-returns-clause-later g t c v p =
     let b = c.args.table.now in
     let i = c.args.slot.index in
-    let held = tables.held_none b c.requires.well_formed i c.requires.index c.requires.of_table c.args.view v p c.args.slot.ordinal (c.in_default.ensures.part v p.shown) (c.in_default-unknown.ensures v p.shown) in
+    let held = tabled.held_none b c.requires.well_formed i c.requires.index c.requires.of_table c.args.view v p c.args.slot.ordinal (c.in_default.ensures.part v p.shown) (c.in_default-unknown.ensures v p.shown) in
     ap (λ (o : Option Member). later_behind c.args.later o) (sym held)
 
 pub write_table-unwrap-count-requires : goal.write_table-unwrap-count-requires
 write_table-unwrap-count-requires g t c = ∥∥₁_elim c.requires.part (is_some_prop _) (λ q.
     let v = q.0 in
     let p = q.1 in
-    let f = tables.as_table c.args.table.now c.requires.well_formed c.args.index c.requires.index c.requires.of_table c.args.view v p in
+    let f = tabled.as_table c.args.table.now c.requires.well_formed c.args.index c.requires.index c.requires.of_table c.args.view v p in
     subst (λ (o : Option ℕ). IsSome o) (sym (c.len.ensures v p.shown ∙ ap (λ (u : Value). length_of u) f.2)) refl)
 
 pub write_table-returns-in_err-write_all : goal.write_table-returns-in_err-write_all
@@ -867,7 +870,7 @@ pub write_table-overflow_sub-slot : goal.write_table-overflow_sub-slot
 write_table-overflow_sub-slot g t c = ∥∥₁_elim c.requires.part le_prop (λ q.
     let v = q.0 in
     let p = q.1 in
-    let deep = tables.some_depth c.args.table.now c.requires.well_formed c.args.index c.requires.index c.requires.of_table c.args.view v p c.args.depth q.2 in
+    let deep = tabled.some_depth c.args.table.now c.requires.well_formed c.args.index c.requires.index c.requires.of_table c.args.view v p c.args.depth q.2 in
     omega (arith, deep))
 
 pub write_table-write_slot-requires : goal.write_table-write_slot-requires
@@ -875,7 +878,7 @@ write_table-write_slot-requires g t c κs within = (
   ∥∥₁_elim c.requires.part le_prop (λ q.
       let v = q.0 in
       let p = q.1 in
-      let deep = tables.some_depth c.args.table.now c.requires.well_formed c.args.index c.requires.index c.requires.of_table c.args.view v p c.args.depth q.2 in
+      let deep = tabled.some_depth c.args.table.now c.requires.well_formed c.args.index c.requires.index c.requires.of_table c.args.view v p c.args.depth q.2 in
       omega (arith, c.decreases, deep)),
   (
     within,
@@ -890,7 +893,7 @@ write_table-write_slot-requires g t c κs within = (
             ∥∥₁_map c.requires.part (λ q.
                 let v = q.0 in
                 let p = q.1 in
-                let deep = tables.some_depth c.args.table.now c.requires.well_formed c.args.index c.requires.index c.requires.of_table c.args.view v p c.args.depth q.2 in
+                let deep = tabled.some_depth c.args.table.now c.requires.well_formed c.args.index c.requires.index c.requires.of_table c.args.view v p c.args.depth q.2 in
                 (v, p, omega (arith, deep, q.2))),
           ),
         ),
@@ -912,7 +915,7 @@ pub write_table-returns : goal.write_table-returns
 write_table-returns g t c v p =
     so_far_written _ _ _ _ _ c.write_all-3.result
     (tables.table_end c.args.table.now c.requires.well_formed c.args.index c.requires.index c.requires.of_table c.args.view (g.W.Sink.taken c.args.out.now) _ c.loop-at.at c.loop-at.later c.loop-at.invariant v p
-    (λ n ms e. let same = printing.some_same c.unwrap-count.result n (sym c.unwrap-count.ensures ∙ c.len.ensures v p.shown ∙ ap (λ (u : Value). length_of u) e) in omega (arith, c.loop-at-test.false, c.loop-at.auto.at-end, same)))
+    (λ n ms e. let same = listed.some_same c.unwrap-count.result n (sym c.unwrap-count.ensures ∙ c.len.ensures v p.shown ∙ ap (λ (u : Value). length_of u) e) in omega (arith, c.loop-at-test.false, c.loop-at.auto.at-end, same)))
     c.write_all-3.ensures
 
 pub write_union-returns-in_default : goal.write_union-returns-in_default
@@ -922,9 +925,10 @@ write_union-returns-in_default g t c v p =
 pub write_union-returns-in_err-write_all : goal.write_union-returns-in_err-write_all
 write_union-returns-in_err-write_all g t c v p =
     let f = c.in-Some.ensures.part v p.shown in
-    let own = tables.union_is c.args.table.now c.requires.well_formed c.args.index c.requires.index c.requires.of_union c.args.view v p c.in-Some.ordinal f.0 f.1 in
+    let own = tabled.union_is c.args.table.now c.requires.well_formed c.args.index c.requires.index c.requires.of_union c.args.view v p c.in-Some.ordinal f.0 f.1 in
+    let whole = tables.union_text c.args.table.now c.requires.well_formed c.args.index c.requires.index c.requires.of_union c.args.view v p c.in-Some.ordinal f.0 f.1 in
     failed_as _ _ _ c.from_residual.result c.from_residual.ensures.0
-    (front_as _ _ _ _ (sym own.text) (more_left _ _ _ (codes ")") (more_left _ _ _ (member_text (declarations_of c.args.table.now) (members_of c.args.table.now c.args.index) c.in-Some.ordinal f.0) c.in_err-write_all.ensures)))
+    (front_as _ _ _ _ (sym whole) (more_left _ _ _ (codes ")") (more_left _ _ _ (member_text (declarations_of c.args.table.now) (members_of c.args.table.now c.args.index) c.in-Some.ordinal f.0) c.in_err-write_all.ensures)))
 
 pub write_union-write_member-requires : goal.write_union-write_member-requires
 write_union-write_member-requires g t c κs within =
@@ -943,14 +947,15 @@ write_union-write_member-requires g t c κs within =
             (
               lt,
               (
-                tables.has_ordinals b w i lt Union refl c.requires.of_union,
+                tabled.has_ordinals b w i lt Union refl c.requires.of_union,
                 ∥∥₁_map c.requires.part (λ q.
                     let v = q.0 in
                     let p = q.1 in
                     let f = c.in-Some.ensures.part v p.shown in
-                    let own = tables.union_is c.args.table.now c.requires.well_formed c.args.index c.requires.index c.requires.of_union c.args.view v p c.in-Some.ordinal f.0 f.1 in
+                    let own = tabled.union_is c.args.table.now c.requires.well_formed c.args.index c.requires.index c.requires.of_union c.args.view v p c.in-Some.ordinal f.0 f.1 in
+    let whole = tables.union_text c.args.table.now c.requires.well_formed c.args.index c.requires.index c.requires.of_union c.args.view v p c.in-Some.ordinal f.0 f.1 in
                     let k = subst (λ (o : Option View). ShowsKnown o f.0) c.in-Some-known.is f.2 in
-                    let same = tables.known_is f.0 k.0 k.1 in
+                    let same = tabled.known_is f.0 k.0 k.1 in
                     let message = subst (λ (o : Option View). IfSome o (λ part. part.decoded.now ≡ c.args.view.decoded.now)) c.in-Some-known.is c.in-Some.ensures.message in
                     let all : member_depth (declarations_of b) (find (members_of b i) c.in-Some.ordinal) f.0 ≤ c.args.depth = let whole = own.deep in omega (arith, whole, q.2) in
                     let deep = subst (λ (x : Member). member_depth (declarations_of b) (find (members_of b i) c.in-Some.ordinal) x ≤ c.args.depth) same all in
@@ -965,19 +970,21 @@ write_union-write_member-requires g t c κs within =
 pub write_union-returns-in_err-write_member : goal.write_union-returns-in_err-write_member
 write_union-returns-in_err-write_member g t c v p =
     let f = c.in-Some.ensures.part v p.shown in
-    let own = tables.union_is c.args.table.now c.requires.well_formed c.args.index c.requires.index c.requires.of_union c.args.view v p c.in-Some.ordinal f.0 f.1 in
+    let own = tabled.union_is c.args.table.now c.requires.well_formed c.args.index c.requires.index c.requires.of_union c.args.view v p c.in-Some.ordinal f.0 f.1 in
+    let whole = tables.union_text c.args.table.now c.requires.well_formed c.args.index c.requires.index c.requires.of_union c.args.view v p c.in-Some.ordinal f.0 f.1 in
     let k = subst (λ (o : Option View). ShowsKnown o f.0) c.in-Some-known.is f.2 in
-    let same = tables.known_is f.0 k.0 k.1 in
+    let same = tabled.known_is f.0 k.0 k.1 in
     failed_as _ _ _ c.from_residual-in_err-write_member.result c.from_residual-in_err-write_member.ensures.0
-    (front_as _ _ _ _ (sym own.text) (more_left _ _ _ (codes ")") (failed_then _ _ _ _ _ c.in_ok-write_all.ensures (front_as _ _ _ _ (ap (λ (x : Member). member_text (declarations_of c.args.table.now) (members_of c.args.table.now c.args.index) c.in-Some.ordinal x) (sym same)) (c.in_err-write_member.ensures k.0 (record { shown = k.2; typed = own.typed k.0 same }))))))
+    (front_as _ _ _ _ (sym whole) (more_left _ _ _ (codes ")") (failed_then _ _ _ _ _ c.in_ok-write_all.ensures (front_as _ _ _ _ (ap (λ (x : Member). member_text (declarations_of c.args.table.now) (members_of c.args.table.now c.args.index) c.in-Some.ordinal x) (sym same)) (c.in_err-write_member.ensures k.0 (record { shown = k.2; typed = own.typed k.0 same }))))))
 
 pub write_union-returns-in-Some-known : goal.write_union-returns-in-Some-known
 write_union-returns-in-Some-known g t c v p =
     let f = c.in-Some.ensures.part v p.shown in
-    let own = tables.union_is c.args.table.now c.requires.well_formed c.args.index c.requires.index c.requires.of_union c.args.view v p c.in-Some.ordinal f.0 f.1 in
+    let own = tabled.union_is c.args.table.now c.requires.well_formed c.args.index c.requires.index c.requires.of_union c.args.view v p c.in-Some.ordinal f.0 f.1 in
+    let whole = tables.union_text c.args.table.now c.requires.well_formed c.args.index c.requires.index c.requires.of_union c.args.view v p c.in-Some.ordinal f.0 f.1 in
     let k = subst (λ (o : Option View). ShowsKnown o f.0) c.in-Some-known.is f.2 in
-    let same = tables.known_is f.0 k.0 k.1 in
-    writes_as _ _ _ _ c.write_all-in-Some-known.result (sym own.text)
+    let same = tabled.known_is f.0 k.0 k.1 in
+    writes_as _ _ _ _ c.write_all-in-Some-known.result (sym whole)
     (writes_then _ _ _ _ _ c.write_all-in-Some-known.result (takes_then _ _ _ _ _ c.in_ok-write_all.ensures (takes_as _ _ _ _ (ap (λ (x : Member). member_text (declarations_of c.args.table.now) (members_of c.args.table.now c.args.index) c.in-Some.ordinal x) (sym same)) (c.in_ok-write_member.ensures k.0 (record { shown = k.2; typed = own.typed k.0 same })))) c.write_all-in-Some-known.ensures)
 
 pub write_union-unwrap-member-requires : goal.write_union-unwrap-member-requires
@@ -986,26 +993,28 @@ write_union-unwrap-member-requires g t c = ∥∥₁_elim c.requires.part (is_so
     let p = q.1 in
     let f = c.in-Some.ensures.part v p.shown in
     let none = subst (λ (o : Option View). ShowsKnown o f.0) c.in_default-known.is f.2 in
-    tables.unknown_there c.unknown.result v c.in-Some.ordinal f.0 f.1 none (c.unknown.ensures v p.shown))
+    tabled.unknown_there c.unknown.result v c.in-Some.ordinal f.0 f.1 none (c.unknown.ensures v p.shown))
 
 pub write_union-returns-in_err-write_unknown : goal.write_union-returns-in_err-write_unknown
 write_union-returns-in_err-write_unknown g t c v p =
     let f = c.in-Some.ensures.part v p.shown in
-    let own = tables.union_is c.args.table.now c.requires.well_formed c.args.index c.requires.index c.requires.of_union c.args.view v p c.in-Some.ordinal f.0 f.1 in
+    let own = tabled.union_is c.args.table.now c.requires.well_formed c.args.index c.requires.index c.requires.of_union c.args.view v p c.in-Some.ordinal f.0 f.1 in
+    let whole = tables.union_text c.args.table.now c.requires.well_formed c.args.index c.requires.index c.requires.of_union c.args.view v p c.in-Some.ordinal f.0 f.1 in
     let none = subst (λ (o : Option View). ShowsKnown o f.0) c.in_default-known.is f.2 in
     let u = c.unwrap-member.result in
-    let same = tables.unknown_same c.unknown.result u v c.in-Some.ordinal f.0 f.1 none c.unwrap-member.ensures (c.unknown.ensures v p.shown) in
+    let same = tabled.unknown_same c.unknown.result u v c.in-Some.ordinal f.0 f.1 none c.unwrap-member.ensures (c.unknown.ensures v p.shown) in
     failed_as _ _ _ c.from_residual-in_err-write_unknown.result c.from_residual-in_err-write_unknown.ensures.0
-    (front_as _ _ _ _ (sym own.text) (more_left _ _ _ (codes ")") (failed_then _ _ _ _ _ c.in_ok-write_all.ensures (front_as _ _ _ _ (ap (λ (x : Member). member_text (declarations_of c.args.table.now) (members_of c.args.table.now c.args.index) c.in-Some.ordinal x) (sym same)) (c.in_err-write_unknown.ensures (declarations_of c.args.table.now) (members_of c.args.table.now c.args.index))))))
+    (front_as _ _ _ _ (sym whole) (more_left _ _ _ (codes ")") (failed_then _ _ _ _ _ c.in_ok-write_all.ensures (front_as _ _ _ _ (ap (λ (x : Member). member_text (declarations_of c.args.table.now) (members_of c.args.table.now c.args.index) c.in-Some.ordinal x) (sym same)) (c.in_err-write_unknown.ensures (declarations_of c.args.table.now) (members_of c.args.table.now c.args.index))))))
 
 pub write_union-returns : goal.write_union-returns
 write_union-returns g t c v p =
     let f = c.in-Some.ensures.part v p.shown in
-    let own = tables.union_is c.args.table.now c.requires.well_formed c.args.index c.requires.index c.requires.of_union c.args.view v p c.in-Some.ordinal f.0 f.1 in
+    let own = tabled.union_is c.args.table.now c.requires.well_formed c.args.index c.requires.index c.requires.of_union c.args.view v p c.in-Some.ordinal f.0 f.1 in
+    let whole = tables.union_text c.args.table.now c.requires.well_formed c.args.index c.requires.index c.requires.of_union c.args.view v p c.in-Some.ordinal f.0 f.1 in
     let none = subst (λ (o : Option View). ShowsKnown o f.0) c.in_default-known.is f.2 in
     let u = c.unwrap-member.result in
-    let same = tables.unknown_same c.unknown.result u v c.in-Some.ordinal f.0 f.1 none c.unwrap-member.ensures (c.unknown.ensures v p.shown) in
-    writes_as _ _ _ _ c.write_all-3.result (sym own.text)
+    let same = tabled.unknown_same c.unknown.result u v c.in-Some.ordinal f.0 f.1 none c.unwrap-member.ensures (c.unknown.ensures v p.shown) in
+    writes_as _ _ _ _ c.write_all-3.result (sym whole)
     (writes_then _ _ _ _ _ c.write_all-3.result (takes_then _ _ _ _ _ c.in_ok-write_all.ensures (takes_as _ _ _ _ (ap (λ (x : Member). member_text (declarations_of c.args.table.now) (members_of c.args.table.now c.args.index) c.in-Some.ordinal x) (sym same)) (c.in_ok-write_unknown.ensures (declarations_of c.args.table.now) (members_of c.args.table.now c.args.index)))) c.write_all-3.ensures)
 
 pub write_value-write_table-requires : goal.write_value-write_table-requires
@@ -1022,7 +1031,7 @@ write_value-write_union-requires g t c κs within =
     let b = c.args.table.now in
     let w = c.entry-entry.ensures.well_formed in
     let is : IsOf Union (entry_at b c.args.index) = sym (c.from_number.ensures ∙ ap (λ (e : Entry). kind_of e.kind) c.entry-entry.ensures.value) ∙ c.unwrap-kind.ensures ∙ ap (λ (k : EntryKind). Some k) c.in-Union.is in
-    let size = tables.union_size b w c.args.index c.requires.index is in (
+    let size = tabled.union_size b w c.args.index c.requires.index is in (
       omega (arith, c.decreases, size),
       (within, (c.requires.table, (w, (c.requires.index, (is, c.requires.part))))),
     )

@@ -1,6 +1,6 @@
 use Rattle.std.proofs.Math.Logic.{∥∥₁_elim}
-use Rattle.fidl_notation.proofs.Truncated.{is_some_prop}
-use Rattle.fidl_notation.proofs.Printing.{only_bool}
+use Rattle.fidl_view.proofs.Truncated.{is_some_prop}
+use Rattle.fidl_view.proofs.Listed.{only_bool}
 use Rattle.fidl_notation.proofs.printer.write_bool.Goals as goal
 
 pub unwrap-value-requires : goal.unwrap-value-requires

@@ -3,7 +3,7 @@ use Rattle.std.specs.Int.{w64}
 use Rattle.std.specs.Fmt.{signed_decimal}
 use Rattle.std.proofs.lemmas.Int.{to_z-of_z}
 use Rattle.std.proofs.Math.Logic.{∥∥₁_elim}
-use Rattle.fidl_notation.proofs.Truncated.{is_some_prop}
+use Rattle.fidl_view.proofs.Truncated.{is_some_prop}
 use Rattle.fidl_streams.proofs.Taking.{writes_as}
 use Rattle.fidl_notation.proofs.Numbers.{wants_signed, unsigned_text, signed_text}
 use Rattle.fidl_notation.proofs.printer.write_number.Goals as goal

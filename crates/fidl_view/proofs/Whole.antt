@@ -11,8 +11,8 @@ use Rattle.fidl_table_format.specs.Terms.{declarations_of}
 use Rattle.fidl_decode.specs.Model.{Shown}
 use Rattle.fidl_view.specs.Shows.{Shows, type_of}
 use Rattle.fidl_view.specs.declared.view.View.{View}
-use Rattle.fidl_notation.specs.Slots.{IsValueOf}
-use Rattle.fidl_notation.proofs.Shallow.{value_holds}
+use Rattle.fidl_view.specs.Within.{IsValueOf}
+use Rattle.fidl_view.proofs.Shallow.{value_holds}
 
 pub value_shown : (view : View) (v : Value) (table : List ℕ) (entry : ℕ) → table ≡ view.decoded.now.table → entry ≡ view.index → Shows view.decoded.now view.index view.place v → IsValueOf table entry view v
 value_shown view v table entry of at shows = record {
