@@ -1,8 +1,8 @@
 -- The text of a number that a view answers.
-use Rattle.std.proofs.Common.{◌≡◌, ℕ, ◌<◌, List, refl, sym, ap, subst, ◌∙◌, inl, inr}
-use Rattle.std.specs.Prelude.{◌⊎◌, Option, Some, None, Result, pos, ℤ, IsSome, decimal}
+use Rattle.std.proofs.Common.{◌≡◌, ℕ, ◌<◌, List, sym, ap, subst}
+use Rattle.std.specs.Prelude.{Option, Some, None, Result, ℤ, IsSome, decimal}
 use Rattle.std.specs.Fmt.{signed_decimal}
-use Rattle.fidl_wire.specs.Value.{Value, number}
+use Rattle.fidl_wire.specs.Value.{Value}
 use Rattle.fidl_wire.specs.Term.{Term, resolve}
 use Rattle.fidl_wire.specs.Term as ty
 use Rattle.fidl_wire.specs.Figure.{Declarations}
@@ -13,51 +13,18 @@ use Rattle.fidl_table_format.specs.Terms.{declarations_of}
 use Rattle.fidl_table_format.specs.WellFormed.{WellFormed}
 use Rattle.fidl_view.specs.Parts.{numbers_of, unsigned_of, signed_of}
 use Rattle.fidl_streams.specs.Written.{Taken, Writes}
-use Rattle.fidl_view.proofs.Listed.{only_number}
-use Rattle.fidl_view.proofs.Entered.{number_answered}
-
-some_none : {A P : Type 0} {a : A} → Some a ≡ None → P
-some_none e = cc
-
-one : {A : Type 0} (a b : A) → Some a ≡ Some b → a ≡ b
-one a b e = cc
+use Rattle.fidl_view.proofs.Numbered.{unsigned_is, signed_is}
 
 module _ (b : List ℕ) (w : WellFormed b) (i : ℕ) (lt : i < (header_of b).entries) where
   abbrev own : Term
   own = resolve (declarations_of b).terms (ty.named i)
 
   module _ (ds : Declarations) (t : Term) (is : IsSome (numbers_of t)) (v : Value) (h : IsTyped ds t v) (typed : IsTyped (declarations_of b) own v) where
-    abbrev found : (z : ℤ) × (v ≡ number z)
-    found = only_number ds t is v h
-
-    abbrev z : ℤ
-    z = found.0
-
-    same : v ≡ number z
-    same = found.1
-
-    answered : ((n : ℕ) × (z ≡ pos n) × (unsigned_of own v ≡ Some n)) ⊎ ((unsigned_of own v ≡ None) × (signed_of own v ≡ Some z))
-    answered = subst (λ (x : Value). ((n : ℕ) × (z ≡ pos n) × (unsigned_of own x ≡ Some n)) ⊎ ((unsigned_of own x ≡ None) × (signed_of own x ≡ Some z))) (sym same)
-        (number_answered b w i lt z (subst (λ (x : Value). IsTyped (declarations_of b) own x) same typed))
-
-    text_is : text_of ds t v ≡ signed_decimal z
-    text_is = ap (λ (x : Value). text_of ds t x) same
-
-    pub wants_signed : (u : Option ℕ) (s : Option ℤ) → u ≡ unsigned_of own v → u ≡ None → s ≡ signed_of own v → IsSome s
-    wants_signed u s eu none es = elim answered [
-      | inl x ↦ some_none (sym x.2 ∙ sym eu ∙ none)
-      | inr x ↦ subst (λ (o : Option ℤ). IsSome o) (sym (es ∙ x.1)) refl
-    ]
-
     pub unsigned_text : (u : Option ℕ) (n : ℕ) → u ≡ unsigned_of own v → u ≡ Some n → {T E : Type 0} (old new : Taken) (r : Result T E) → Writes old new (decimal n) r → Writes old new (text_of ds t v) r
-    unsigned_text u n eu some old new r written = elim answered [
-      | inl x ↦ subst (λ (l : List ℕ). Writes old new l r) (ap (λ (y : ℤ). signed_decimal y) (ap (λ k. pos k) (one n x.0 (sym some ∙ eu ∙ x.2)) ∙ sym x.1) ∙ sym text_is) written
-      | inr x ↦ some_none (sym some ∙ eu ∙ x.0)
-    ]
+    unsigned_text u n eu some old new r written =
+        subst (λ (l : List ℕ). Writes old new l r) (ap (λ (x : Value). text_of ds t x) (unsigned_is b w i lt ds t is v h typed u n eu some)) written
 
     pub signed_text : (u : Option ℕ) (s : Option ℤ) (y : ℤ) → u ≡ unsigned_of own v → u ≡ None → s ≡ signed_of own v → s ≡ Some y
         → {T E : Type 0} (old new : Taken) (r : Result T E) → Writes old new (signed_decimal y) r → Writes old new (text_of ds t v) r
-    signed_text u s y eu none es some old new r written = elim answered [
-      | inl x ↦ some_none (sym x.2 ∙ sym eu ∙ none)
-      | inr x ↦ subst (λ (l : List ℕ). Writes old new l r) (ap (λ (k : ℤ). signed_decimal k) (one y z (sym some ∙ es ∙ x.1)) ∙ sym text_is) written
-    ]
+    signed_text u s y eu none es some old new r written =
+        subst (λ (l : List ℕ). Writes old new l r) (ap (λ (x : Value). text_of ds t x) (signed_is b w i lt ds t is v h typed u s y eu none es some)) written

@@ -17,3 +17,6 @@ pub mod Tabled
 pub mod Truncated
 pub mod Shallow
 pub mod Whole
+pub mod Growing
+pub mod Numbered
+pub mod Owned

@@ -156,6 +156,14 @@ module _ (b : List ℕ) (w : WellFormed b) (i : ℕ) (lt : i < (header_of b).ent
       go (union key y) h e = subst (λ (q : ℕ × Member). UnionIs (union key y) q.0 q.1) (one_pair (key, y) (ordinal, x) e) (own_union key y h)
       go _ h e = cc
 
+  pub union_none : IsOf Union (entry_at b i) → (view : View) (v : Value) → IsValueOf b i view v → variant_of v ≡ None → v ≡ absent
+  union_none is view v p e = go v (subst (λ (t : Term). IsTyped ds t v) (union_term is) p.typed) e
+    where
+      go : (v : Value) → IsTyped ds (ty.union (is_optional (entry_at b i)) (is_strict (entry_at b i)) rows) v → variant_of v ≡ None → v ≡ absent
+      go (union key y) h e = cc
+      go absent h e = refl
+      go _ h e = absurd h
+
   pub union_size : IsOf Union (entry_at b i) → 16 ≡ (entry_at b i).size
   union_size is = ap (λ (f : Figure). f.size) (figure_is b (fine_of b w) i Union lt is)
 

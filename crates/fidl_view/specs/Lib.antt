@@ -12,3 +12,4 @@ pub mod Views
 pub mod Numbers
 pub mod Members
 pub mod Within
+pub mod Trees

@@ -13,6 +13,7 @@ mod list;
 mod number;
 mod structs;
 mod text;
+mod tree;
 mod view;
 mod views;
 pub mod worked;

@@ -5,7 +5,8 @@ use Rattle.std.proofs.lemmas.Int.{to_z-of_z}
 use Rattle.std.proofs.Math.Logic.{∥∥₁_elim}
 use Rattle.fidl_view.proofs.Truncated.{is_some_prop}
 use Rattle.fidl_streams.proofs.Taking.{writes_as}
-use Rattle.fidl_notation.proofs.Numbers.{wants_signed, unsigned_text, signed_text}
+use Rattle.fidl_view.proofs.Numbered.{wants_signed}
+use Rattle.fidl_notation.proofs.Numbers.{unsigned_text, signed_text}
 use Rattle.fidl_notation.proofs.printer.write_number.Goals as goal
 
 pub unwrap-number-requires : goal.unwrap-number-requires
