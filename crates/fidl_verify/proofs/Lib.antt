@@ -9,6 +9,7 @@ pub mod Declared
 pub mod Owning
 pub mod Standing
 pub mod Enumerated
+pub mod Valued
 pub mod Ordered
 pub mod Members
 pub mod Ordinals

@@ -1,0 +1,11 @@
+pub mod Adding
+pub mod Ending
+pub mod Leaving
+pub mod Masked
+pub mod Entries
+pub mod Elements
+pub mod Fields
+pub mod Enveloped
+pub mod Envelopes
+pub mod Trees
+pub mod Whole

@@ -1,0 +1,12 @@
+use Rattle.std.proofs.Common.{subst}
+use Rattle.std.specs.Int.{to_le_bytes, w64}
+use Rattle.fidl_wire.specs.Encoding.{present}
+use Rattle.fidl_encode.specs.Writing.{IsOver}
+use Rattle.fidl_encode.proofs.Adding.{over_both}
+use Rattle.fidl_encode.proofs.message.Message.put_count.Goals as goal
+
+pub returns-clause-over : goal.returns-clause-over
+returns-clause-over c =
+    over_both c.args.self.now.bytes.items c.put.new.self.bytes.items c.put-2.new.self.bytes.items c.args.at (to_le_bytes w64 c.args.count) present
+    (subst (λ x. IsOver c.args.self.now.bytes.items c.put.new.self.bytes.items c.args.at x) c.to_le_bytes.ensures c.put.ensures.over)
+    c.put-2.ensures.over

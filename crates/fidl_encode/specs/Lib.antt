@@ -1,0 +1,9 @@
+-- The definitions of the encoder, in the order in which to read them:
+--   Faults         the numbers and names of the refusals
+--   Writing        what is written so far, and which encoding is added
+--   Parts          what is to be written, and how its writing ends
+--   Told           what each refusal says of a value
+pub mod Faults
+pub mod Writing
+pub mod Parts
+pub mod Told
