@@ -1,5 +1,5 @@
 -- What breaks a rule of its type is not of the type.
-use Rattle.std.proofs.Common.{◌≡◌, ℕ, ◌<◌, ◌≤◌, Bool, Option, Some, None, false, inl, inr, ◌⊎◌, arith}
+use Rattle.std.proofs.Common.{ℕ, Bool, Option, Some, None, false, inl, inr, arith}
 use Rattle.fidl_wire.specs.Value.{Value, absent, bool, number, text, list, fields, handle, table, union, Values, none, value, Member, known, unknown, Members, empty, member}
 use Rattle.fidl_wire.specs.Term.{Term, Fields, no_fields, field, Rows, resolve, find}
 use Rattle.fidl_wire.specs.Term as ty

@@ -1,5 +1,5 @@
 -- Where a value breaks a rule of its type that a refusal names (docs/encoding.md, "Refusals").
-use Rattle.std.specs.Prelude.{◌<◌, ◌⊎◌, List, length, IfSome, IsUtf8, Contains, Option}
+use Rattle.std.specs.Prelude.{◌<◌, ◌⊎◌, length, IfSome, IsUtf8, Contains, Option}
 use Rattle.fidl_wire.specs.Value.{Value, absent, bool, number, text, list, fields, handle, table}
 use Rattle.fidl_wire.specs.Value.{union, Values, none, value, Member, known, unknown, Members}
 use Rattle.fidl_wire.specs.Value.{empty, member, count}
