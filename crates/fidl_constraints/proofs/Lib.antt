@@ -8,3 +8,4 @@ pub mod Protocols
 pub mod Naming
 pub mod OneBehind
 pub mod Walking
+pub mod Leading

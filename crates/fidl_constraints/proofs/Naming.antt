@@ -16,7 +16,7 @@ use Rattle.fidl_names.specs.Scopes.{OfFile}
 use Rattle.fidl_names.proofs.AliasFacts.{components_seen}
 use Rattle.fidl_names.proofs.PathViews.{means_seen}
 use Rattle.fidl_constraints.specs.declared.targets.Target.{Target as CodeTarget}
-use Rattle.fidl_constraints.specs.Behind.{Target, MeansType, MeaningRefersTo, RefersTo}
+use Rattle.fidl_constraints.specs.Behind.{Target, MeansType, MeaningRefersTo, RefersTo, LeadsTo}
 use Rattle.fidl_constraints.specs.BehindViews.{arguments_view, target_view}
 use Rattle.fidl_constraints.proofs.OneBehind.{one_meant}
 
@@ -73,3 +73,9 @@ pub some_refers : (files : List File) (number : ℕ) (P : Target → Type 0) (n 
     → (o : Option CodeTarget) → IfSome o (λ t. P (target_view t)) → IfSome o (λ t. RefersTo files number (named_view n) (target_view t))
 some_refers files number P n by None h = tt
 some_refers files number P n by (Some x) h = subst (λ (u : TypeUse). RefersTo files number u (target_view x)) (sym (named_seen n)) (by (target_view x) h)
+
+pub some_leads : (files : List File) (number : ℕ) (P : Target → Type 0) (n : NamedType)
+    → ((t : Target) → P t → LeadsTo files number (named_type (path_view (out-NamedType n).path) (arguments_view (out-NamedType n).arguments) (constraints_view (out-NamedType n).constraints)) t)
+    → (o : Option CodeTarget) → IfSome o (λ t. P (target_view t)) → IfSome o (λ t. LeadsTo files number (named_view n) (target_view t))
+some_leads files number P n by None h = tt
+some_leads files number P n by (Some x) h = subst (λ (u : TypeUse). LeadsTo files number u (target_view x)) (sym (named_seen n)) (by (target_view x) h)

@@ -1,5 +1,5 @@
 -- A type is just one thing behind its aliases.
-use Rattle.std.proofs.Common.{◌≡◌, ℕ, List, [], ◌∷◌, Some, refl, ap, sym, subst, ◌∙◌}
+use Rattle.std.proofs.Common.{◌≡◌, ℕ, List, Some, refl, ap, sym, subst, ◌∙◌}
 use Rattle.std.specs.Prelude.{slice_get}
 use Rattle.std.proofs.lemmas.Option.{same_Some}
 use Rattle.fidl_tree.specs.Syntax.{Path, Arguments, TypeUse}
@@ -50,7 +50,7 @@ module _ (files : List File) where
       let is : ends of head ≡ ends also other = one_target number t (ends of head) (ends also other) h k in
       let file : of ≡ also = cc in
       let head_is : head ≡ other = cc in
-      let gs = given_in number t ∷ [] in
+      let gs = given_in number t in
       ap (λ (x : ℕ). record { file = x; head = head; given = gs }) file ∙ ap (λ (x : Head). record { file = also; head = x; given = gs }) head_is
   one_behind _ _ _ _ (Behind.no_alias number t of head h) (Behind.an_alias _ _ also next c k rest) =
       let is : ends of head ≡ follows also next = one_target number t (ends of head) (follows also next) h k in

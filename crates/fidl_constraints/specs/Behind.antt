@@ -1,6 +1,6 @@
 -- What a type is behind its aliases, with all constraints that it is given on the way
 -- (docs/language.md, "Types behind aliases").
-use Rattle.std.specs.Prelude.{ℕ, ◌≡◌, List, [], ◌∷◌, Option, Some, None, slice_get}
+use Rattle.std.specs.Prelude.{ℕ, ◌≡◌, List, [], ◌∷◌, ◌++◌, Option, Some, None, slice_get}
 use Rattle.fidl_tree.specs.Syntax.{Path, Value, Attribute, TypeUse, named_type, layout_type}
 use Rattle.fidl_tree.specs.Syntax.{Arguments, Layout}
 use Rattle.fidl_tree.specs.Syntax.{Body, alias_body, type_body, resource_body}
@@ -29,7 +29,7 @@ pub record Given : Type 0 where
   pub values : List Value
 
 -- a type behind its aliases: its head, the number of the head's file, and the lists of constraints
--- on the way, the use's first and those of the last alias last
+-- that are written on the way, the use's first and that of the last alias last
 pub record Core : Type 0 where
   pub file : ℕ
   pub head : Head
@@ -40,12 +40,18 @@ abbrev pub constraints_in : TypeUse → List Value
 constraints_in (named_type _ _ constraints) = constraints
 constraints_in (layout_type _ _ constraints) = constraints
 
-abbrev pub given_in : (number : ℕ) → TypeUse → Given
-given_in number t = record { file = number; values = constraints_in t }
+-- these constraints in the file of this number as a list of them, where some are written
+abbrev pub list_of : (number : ℕ) → List Value → List Given
+list_of number [] = []
+list_of number (v ∷ vs) = record { file = number; values = v ∷ vs } ∷ []
 
--- with one more list of constraints before the others
-abbrev pub given_also : Given → Core → Core
-given_also g c = record { file = c.file; head = c.head; given = g ∷ c.given }
+-- the list of constraints of a use in the file of this number, if it has any
+abbrev pub given_in : (number : ℕ) → TypeUse → List Given
+given_in number t = list_of number (constraints_in t)
+
+-- with these lists of constraints before the others
+abbrev pub given_also : List Given → Core → Core
+given_also gs c = record { file = c.file; head = c.head; given = gs ++ c.given }
 
 -- What a type refers to at once.
 
@@ -89,6 +95,14 @@ pub data RefersTo (files : List File) (number : ℕ) : TypeUse → Target → Ty
       → MeansType files number path m → MeaningRefersTo files number arguments m t
       → RefersTo files number (named_type path arguments cs) t
 
+-- the same, or what an alias that it names refers to so, where that adds no constraints
+pub data LeadsTo (files : List File) : (number : ℕ) → TypeUse → Target → Type 0 where
+  at_once : (number : ℕ) (t : TypeUse) (x : Target) → RefersTo files number t x
+      → LeadsTo files number t x
+  by_alias : (number : ℕ) (t : TypeUse) (of : ℕ) (next : TypeUse) (x : Target)
+      → RefersTo files number t (follows of next) → constraints_in next ≡ []
+      → LeadsTo files of next x → LeadsTo files number t x
+
 -- What it is behind all aliases.
 
 -- what a type in the file of this number is behind its aliases: itself, or what the type of the
@@ -97,7 +111,7 @@ pub data Behind (files : List File) : (number : ℕ) → TypeUse → Core → Ty
   no_alias : (number : ℕ) (t : TypeUse) (of : ℕ) (head : Head)
       → RefersTo files number t (ends of head)
       → Behind files number t
-      (record { file = of; head = head; given = given_in number t ∷ [] })
+      (record { file = of; head = head; given = given_in number t })
   an_alias : (number : ℕ) (t : TypeUse) (of : ℕ) (next : TypeUse) (c : Core)
       → RefersTo files number t (follows of next) → Behind files of next c
       → Behind files number t (given_also (given_in number t) c)

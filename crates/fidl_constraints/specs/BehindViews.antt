@@ -1,5 +1,5 @@
 -- Types behind their aliases as the code has them.
-use Rattle.std.specs.Prelude.{Option, Some, None, map, option_copied}
+use Rattle.std.specs.Prelude.{List, Option, Some, None, flat_map, option_copied}
 use Rattle.fidl_tree.specs.Syntax.{TypeUse, layout_type, Arguments, no_arguments}
 use Rattle.fidl_tree.specs.Views.{named_view, layout_view, body_view, constraints_view}
 use Rattle.fidl_tree.specs.Views.{type_arguments_view}
@@ -13,7 +13,7 @@ use Rattle.fidl_constraints.specs.declared.heads.Core.{Core as CodeCore}
 use Rattle.fidl_constraints.specs.declared.targets.Target.{Target as CodeTarget}
 use Rattle.fidl_constraints.specs.declared.targets.Target.TheVariants as target
 use Rattle.fidl_constraints.specs.Behind.{Head, word_head, layout_head, handle_head, Given, Core}
-use Rattle.fidl_constraints.specs.Behind.{Target, ends, follows}
+use Rattle.fidl_constraints.specs.Behind.{list_of, Target, ends, follows}
 
 abbrev pub use_view : code.TypeUse → TypeUse
 use_view (written.Named n) = named_view n.now
@@ -35,11 +35,15 @@ abbrev pub given_view : CodeGiven → Given
 given_view g =
     record { file = g.file_index; values = constraints_view (option_copied g.constraints) }
 
+-- the lists in which constraints are written
+abbrev pub lists_view : List CodeGiven → List Given
+lists_view gs = flat_map (λ g. list_of g.file_index (constraints_view (option_copied g.constraints))) gs
+
 abbrev pub core_view : CodeCore → Core
 core_view c = record {
   file = c.file_index;
   head = head_view c.head;
-  given = map given_view c.given.items;
+  given = lists_view c.given.items;
 }
 
 abbrev pub target_view : CodeTarget → Target

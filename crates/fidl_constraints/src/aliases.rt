@@ -4,7 +4,7 @@ ghost use Rattle.fidl_constraints.specs.Behind.{Core as Plain, Behind};
 ghost use Rattle.fidl_constraints.specs.BehindViews.{core_view, use_view};
 
 use crate::heads::{Core, Given};
-use crate::targets::{Target, refers_to};
+use crate::targets::{Target, leads_to};
 use crate::type_use::{TypeUse, own_constraints};
 use fidl_names::Named;
 use std::alloc::{AllocError, Global};
@@ -33,7 +33,7 @@ pub fn behind<'f>(
             file_index: at,
             constraints: own_constraints(current),
         })?;
-        match refers_to(named, at, current)? {
+        match leads_to(named, at, current)? {
             None => return Ok(None),
             Some(Target::Ends { file_index, head }) => {
                 return Ok(Some(Core {

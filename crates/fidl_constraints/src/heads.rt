@@ -24,7 +24,7 @@ pub struct Given<'f> {
 }
 
 /// What a type is behind its aliases: its head with the number of the head's file, and all lists of
-/// constraints on the way to it, the use's first.
+/// constraints on the way to it, the use's first. Lists without constraints count for nothing.
 #[derive(Drop)]
 pub struct Core<'f> {
     pub file_index: usize,

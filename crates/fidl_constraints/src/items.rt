@@ -1,8 +1,10 @@
 //! The constraints of lists, each with its place among the others.
-ghost use Rattle.std.specs.Prelude.{◌≡◌, ◌<◌, ◌++◌, length, map, flat_map};
+ghost use Rattle.std.specs.Prelude.{◌≡◌, ◌<◌, ◌++◌, map, flat_map, option_copied};
 ghost use Rattle.std.specs.Prelude.{IfOk, OnOk};
 ghost use Rattle.fidl_constraints.specs.Items.{next_rank, items_of};
-ghost use Rattle.fidl_constraints.specs.BehindViews.{given_view};
+ghost use Rattle.fidl_tree.specs.Views.{constraints_view};
+ghost use Rattle.fidl_constraints.specs.Behind.{list_of};
+ghost use Rattle.fidl_constraints.specs.BehindViews.{given_view, lists_view};
 ghost use Rattle.fidl_constraints.specs.ItemViews.{items_view, AreInSet};
 
 use crate::Given;
@@ -36,12 +38,16 @@ fn push_items<'f>(
     named: &Named<'f, '_>,
     given: Given<'f>,
 ) -> Result<(), AllocError>
-    requires { given.file_index < length named.now }
+    requires { let values = constraints_view (option_copied given.constraints) in
+        AreInSet named.now (list_of given.file_index values) }
     ensures { OnOk result (items_view found.new.items ≡ items_view found.old.items
         ++ items_of named.now (given_view given.entry)) }
 {
+    let Some(constraints) = given.constraints else {
+        return Ok(());
+    };
     let file = named.file(given.file_index);
-    let values = items(alloc, given.constraints)?;
+    let values = items(alloc, Some(constraints))?;
     let mut rank = 0;
     for (index, value) in values.iter().enumerate() {
         let word = is_optional(alloc, file, value)?;
@@ -63,7 +69,7 @@ pub(crate) fn all_items<'f>(
     named: &Named<'f, '_>,
     lists: &[Given<'f>],
 ) -> Result<Vec<Item<'f>>, AllocError>
-    requires { AreInSet named.now (map given_view lists.now) }
+    requires { AreInSet named.now (lists_view lists.now) }
     ensures { IfOk result (λ found. items_view found.items
         ≡ flat_map (items_of named.now) (map given_view lists.now)) }
 {

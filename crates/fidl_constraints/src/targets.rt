@@ -5,7 +5,7 @@ ghost use Rattle.fidl_tree.specs.declared.file.File.{File as Tree};
 ghost use Rattle.fidl_tree.specs.declared.declaration.Declaration.{Declaration as Node};
 ghost use Rattle.fidl_names.specs.Constraints.{IsDeclarationAt};
 ghost use Rattle.fidl_constraints.specs.Behind.{Target as Plain, body_target, IsDeclared, RefersTo};
-ghost use Rattle.fidl_constraints.specs.Behind.{MeaningRefersTo};
+ghost use Rattle.fidl_constraints.specs.Behind.{MeaningRefersTo, LeadsTo};
 ghost use Rattle.fidl_constraints.specs.BehindViews.{arguments_view, target_view, use_view};
 
 use crate::heads::Head;
@@ -154,5 +154,48 @@ pub fn refers_to<'f>(
             file_index,
             head: Head::Layout(body_of(layout)),
         })),
+    }
+}
+
+/// What a name with its arguments leads to in the file of this number.
+fn named_next<'f>(
+    named: &Named<'f, '_>,
+    file_index: usize,
+    of: &'f NamedType,
+) -> Result<Option<Target<'f>>, AllocError>
+    ensures found { IfOk result (λ found. IfSome found
+        (λ t. LeadsTo named.now file_index (named_view of.now) (target_view t))) }
+    ensures none { IfOk result (λ found. IsNone found
+        → (t : Plain) → RefersTo named.now file_index (named_view of.now) t → ⊥) }
+{
+    if file_index >= named.count() {
+        return Ok(None);
+    }
+    let Some(meaning) = named.type_meaning(file_index, &of.path)? else {
+        return Ok(None);
+    };
+    let arguments = of.arguments.as_ref();
+    let passed = named.passed(meaning);
+    match meaning_target(named, file_index, arguments, passed) {
+        Some(target) => Ok(Some(target)),
+        None => Ok(meaning_target(named, file_index, arguments, meaning)),
+    }
+}
+
+/// What a type leads to in the file of this number: what it refers to, past the aliases that add no
+/// constraints.
+pub(crate) fn leads_to<'f>(
+    named: &Named<'f, '_>,
+    file_index: usize,
+    of: TypeUse<'f>,
+) -> Result<Option<Target<'f>>, AllocError>
+    ensures found { IfOk result (λ found. IfSome found
+        (λ t. LeadsTo named.now file_index (use_view of.entry) (target_view t))) }
+    ensures none { IfOk result (λ found. IsNone found
+        → (t : Plain) → RefersTo named.now file_index (use_view of.entry) t → ⊥) }
+{
+    match of {
+        TypeUse::Named(of_name) => named_next(named, file_index, of_name),
+        TypeUse::Written { .. } => refers_to(named, file_index, of),
     }
 }

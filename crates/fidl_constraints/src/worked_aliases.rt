@@ -37,18 +37,24 @@ pub fn layouts_refer_to_themselves()
 {}
 
 /// Behind an alias of `string` stands `string`, with the use's constraints before the alias's, and
-/// never after them.
+/// never after them. An alias without constraints adds no list.
 pub fn constraints_of_uses_come_first()
     ensures string { (files : List File) (n : ℕ) (path q : Path) (p : DeclarationId)
-        (cs ds : List Value) → MeansType files n path (Meanings.Declared p)
-        → IsDeclared files p (follows p.file (named_with q ds))
+        (c d : Value) (cs ds : List Value) → MeansType files n path (Meanings.Declared p)
+        → IsDeclared files p (follows p.file (named_with q (d ∷ ds)))
         → MeansType files p.file q (Meanings.Predeclared Words.String)
-        → Behind files n (named_with path cs) (core_of p.file (plain_word Words.String)
-        (list_in n cs ∷ list_in p.file ds ∷ [])) }
+        → Behind files n (named_with path (c ∷ cs)) (core_of p.file (plain_word Words.String)
+        (list_in n (c ∷ cs) ∷ list_in p.file (d ∷ ds) ∷ [])) }
+    ensures bare { (files : List File) (n : ℕ) (path q : Path) (p : DeclarationId)
+        (c : Value) (cs : List Value) → MeansType files n path (Meanings.Declared p)
+        → IsDeclared files p (follows p.file (named_with q []))
+        → MeansType files p.file q (Meanings.Predeclared Words.String)
+        → Behind files n (named_with path (c ∷ cs)) (core_of p.file (plain_word Words.String)
+        (list_in n (c ∷ cs) ∷ [])) }
     ensures other { (files : List File) (n : ℕ) (path q : Path) (p : DeclarationId)
-        (cs ds : List Value) → MeansType files n path (Meanings.Declared p)
-        → IsDeclared files p (follows p.file (named_with q ds))
+        (c d : Value) (cs ds : List Value) → MeansType files n path (Meanings.Declared p)
+        → IsDeclared files p (follows p.file (named_with q (d ∷ ds)))
         → MeansType files p.file q (Meanings.Predeclared Words.String) → n ≢ p.file
-        → Behind files n (named_with path cs) (core_of p.file (plain_word Words.String)
-        (list_in p.file ds ∷ list_in n cs ∷ [])) → ⊥ }
+        → Behind files n (named_with path (c ∷ cs)) (core_of p.file (plain_word Words.String)
+        (list_in p.file (d ∷ ds) ∷ list_in n (c ∷ cs) ∷ [])) → ⊥ }
 {}

@@ -25,9 +25,10 @@ use Rattle.fidl_names.specs.declared.meaning.Meaning.{Meaning}
 use Rattle.fidl_names.specs.declared.meaning.Meaning.TheVariants as meaning
 use Rattle.fidl_names.specs.Meanings.{components, Means, IsReading, declaration, member, IsOwn, IsDeclarationOf, IsMemberOf, IsJust}
 use Rattle.fidl_names.specs.OuterTypes.{outer_types, texts}
-use Rattle.fidl_names.specs.Aliases.{Wants, by_itself, count, argument, WantsKind, IsArrayName, IsAliasAt, Refers, Follows, type_path}
+use Rattle.fidl_names.specs.Aliases.{Wants, by_itself, count, argument, WantsKind, IsArrayName, IsAliasAt, Refers, Follows, itself, stays, IsEnd, type_path}
 use Rattle.fidl_names.specs.ReferenceViews.{read_path, optional_path_view}
 use Rattle.fidl_names.specs.AliasGraph.{IsMeant}
+use Rattle.fidl_names.specs.MeaningRows.{own_end}
 use Rattle.fidl_names.specs.DeclarationNumbers.{HasDeclaration}
 use Rattle.fidl_names.proofs.ResolvedMeanings.{one_file, one_alias}
 
@@ -169,3 +170,17 @@ follows_alias fs p m h =
     let both : meaning.Declared h.id ≡ meaning.Declared p = sym h.is in
     let same : h.id ≡ p = cc in
     (h.file, h.alias, subst (λ (r : DeclarationId). IsAliasAt fs r h.file h.alias) same h.alias_at)
+
+-- what follows nothing is its own end
+pub own_is_end : (fs : List File) (m : Meaning) → ((next : Meaning) → Follows fs m next → ⊥) → IsEnd fs m (own_end m)
+own_is_end fs m none = record {
+  resolved = itself m none;
+  passed = stays m (λ next h. none next h.follows);
+}
+
+-- the alias of an id that follows from a meaning
+pub followed_alias : (fs : List File) (p : DeclarationId) (next : Meaning) (h : Follows fs (meaning.Declared p) next) → IsAliasAt fs p h.file h.alias
+followed_alias fs p next h =
+    let both : meaning.Declared h.id ≡ meaning.Declared p = sym h.is in
+    let same : h.id ≡ p = cc in
+    subst (λ (r : DeclarationId). IsAliasAt fs r h.file h.alias) same h.alias_at

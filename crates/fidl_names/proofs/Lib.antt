@@ -20,6 +20,7 @@ pub mod Orders
 pub mod ResolvedMeanings
 pub mod Numbering
 pub mod MeaningRows
+pub mod KeptNames
 pub mod AliasFacts
 pub mod AliasEdges
 pub mod PathViews

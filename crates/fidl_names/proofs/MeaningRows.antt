@@ -5,9 +5,9 @@ use Rattle.std.proofs.lemmas.List.{length_push, get_or_push, get_or_append_left}
 use Rattle.std.proofs.lemmas.Option.{get_or_from_slice_get, slice_get_within, same_Some}
 use Rattle.fidl_tree.specs.declared.file.File.{File}
 use Rattle.fidl_names.specs.declared.place.DeclarationId.{DeclarationId}
-use Rattle.fidl_names.specs.declared.meaning.Meaning.{Meaning}
+use Rattle.fidl_names.specs.declared.alias_ends.AliasEnd.{AliasEnd}
 use Rattle.fidl_names.specs.declared.meaning.Meaning.TheVariants as meaning
-use Rattle.fidl_names.specs.Aliases.{ResolvesTo, HasEnd}
+use Rattle.fidl_names.specs.Aliases.{IsEnd, HasEnd}
 use Rattle.fidl_names.specs.DeclarationNumbers.{HasDeclaration}
 use Rattle.fidl_names.specs.MeaningRows.{IsWithin, with_end}
 use Rattle.fidl_names.proofs.FullNames.{at}
@@ -29,11 +29,11 @@ module _ {X : Type 0} where
 pub same_id : (p q : DeclarationId) → p.file ≡ q.file → p.index ≡ q.index → p ≡ q
 same_id p q file index = ap (λ n. at n p.index) file ∙ ap (at q.file) index
 
-module _ (rows : List (List Meaning)) (p : DeclarationId) (m : Meaning) (lt : IsWithin rows p) where
-  abbrev old_row : List Meaning
+module _ (rows : List (List AliasEnd)) (p : DeclarationId) (m : AliasEnd) (lt : IsWithin rows p) where
+  abbrev old_row : List AliasEnd
   old_row = get_or rows p.file []
 
-  abbrev row : List Meaning
+  abbrev row : List AliasEnd
   row = set old_row p.index m
 
   pub within_more : (q : DeclarationId) → IsWithin rows q → IsWithin (with_end rows p m) q
@@ -44,22 +44,22 @@ module _ (rows : List (List Meaning)) (p : DeclarationId) (m : Meaning) (lt : Is
         let long = length-set old_row p.index m in
         let inside : q.index < length row = subst (λ n. q.index < n) (ap length before ∙ sym long) h.1 in (
           subst (λ n. q.file < n) (sym (length-set rows p.file row)) h.0,
-          subst (λ (l : List Meaning). q.index < length l) (sym now) inside,
+          subst (λ (l : List AliasEnd). q.index < length l) (sym now) inside,
         )
     | inr other ↦ (
       subst (λ n. q.file < n) (sym (length-set rows p.file row)) h.0,
-      subst (λ (l : List Meaning). q.index < length l) (sym (get_or-set_other rows p.file q.file row [] other)) h.1,
+      subst (λ (l : List AliasEnd). q.index < length l) (sym (get_or-set_other rows p.file q.file row [] other)) h.1,
     )
   ]
 
-  module _ (files : List File) (resolved : ResolvesTo files (meaning.Declared p) m) where
+  module _ (files : List File) (is : IsEnd files (meaning.Declared p) m) where
     pub end_here : HasEnd files (with_end rows p m) p
     end_here = record {
       row = row;
       end = m;
       row_at = get_set rows p.file row lt.0;
       end_at = get_set old_row p.index m lt.1;
-      resolved = resolved;
+      is = is;
     }
 
     same_file : (q : DeclarationId) → HasEnd files rows q → q.file ≡ p.file → HasEnd files (with_end rows p m) q
@@ -72,7 +72,7 @@ module _ (rows : List (List Meaning)) (p : DeclarationId) (m : Meaning) (lt : Is
             end = h.end;
             row_at = ap (slice_get (with_end rows p m)) same ∙ get_set rows p.file row lt.0;
             end_at = get_set_other old_row p.index q.index m other ∙ ap (λ l. slice_get l q.index) its ∙ h.end_at;
-            resolved = h.resolved;
+            is = h.is;
           }
     ]
 
@@ -84,19 +84,19 @@ module _ (rows : List (List Meaning)) (p : DeclarationId) (m : Meaning) (lt : Is
         end = h.end;
         row_at = get_set_other rows p.file q.file row other ∙ h.row_at;
         end_at = h.end_at;
-        resolved = h.resolved;
+        is = h.is;
       }
     ]
 
 -- rows for the files before one, each as long as its file
-pub record AreRowsTo (files : List File) (k : ℕ) (rows : List (List Meaning)) : Type 0 where
+pub record AreRowsTo (files : List File) (k : ℕ) (rows : List (List AliasEnd)) : Type 0 where
   pub long : length rows ≡ k
   pub each : (i : ℕ) (f : File) → i < k → slice_get files i ≡ Some f → length (get_or rows i []) ≡ length f.declarations.items
 
 pub rows_none : (files : List File) → AreRowsTo files 0 []
 rows_none files = record { long = refl; each = λ i f lt at. let never : ⊥ = omega (arith, lt) in absurd never }
 
-pub rows_more : (files : List File) (k : ℕ) (rows : List (List Meaning)) (row : List Meaning) (f : File) → AreRowsTo files k rows → slice_get files k ≡ Some f → length row ≡ length f.declarations.items → AreRowsTo files (k + 1) (rows ++ row ∷ [])
+pub rows_more : (files : List File) (k : ℕ) (rows : List (List AliasEnd)) (row : List AliasEnd) (f : File) → AreRowsTo files k rows → slice_get files k ≡ Some f → length row ≡ length f.declarations.items → AreRowsTo files (k + 1) (rows ++ row ∷ [])
 rows_more files k rows row f h at long =
     let more = length_push rows row in
     let before = h.long in
@@ -114,7 +114,7 @@ rows_more files k rows row f h at long =
           ap length (get_or_append_left rows (row ∷ []) [] i within) ∙ h.each i g less there
     ]
 
-pub rows_within : (files : List File) (k : ℕ) (rows : List (List Meaning)) → length files ≤ k → AreRowsTo files k rows → (p : DeclarationId) → HasDeclaration files p → IsWithin rows p
+pub rows_within : (files : List File) (k : ℕ) (rows : List (List AliasEnd)) → length files ≤ k → AreRowsTo files k rows → (p : DeclarationId) → HasDeclaration files p → IsWithin rows p
 rows_within files k rows all h p there =
     let inside = slice_get_within files p.file there.file there.file_at in
     let less : p.file < k = omega (arith, all, inside) in

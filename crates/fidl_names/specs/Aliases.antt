@@ -1,5 +1,5 @@
 -- Aliases: what they refer to, and what they resolve to (docs/language.md, "Aliases").
-use Rattle.std.specs.Prelude.{◌≡◌, List, Option, Some, None, map, slice_get}
+use Rattle.std.specs.Prelude.{◌≡◌, List, [], Option, Some, None, map, slice_get}
 use Rattle.std.specs.List.{Contains}
 use Rattle.std.specs.Global.{Vec}
 use Rattle.fidl_tree.specs.Syntax as plain
@@ -13,6 +13,7 @@ use Rattle.fidl_tree.specs.declared.type_constructor.TypeConstructor.{TypeConstr
 use Rattle.fidl_tree.specs.declared.type_constructor.TypeConstructor.{out-TypeConstructor}
 use Rattle.fidl_tree.specs.declared.type_constructor.NamedType.{out-NamedType}
 use Rattle.fidl_tree.specs.declared.type_constructor.LayoutBody.TheOpen.{TypeConstructor-F}
+use Rattle.fidl_names.specs.declared.alias_ends.AliasEnd.{AliasEnd}
 use Rattle.fidl_names.specs.declared.place.Place.{Place}
 use Rattle.fidl_names.specs.declared.place.DeclarationId.{DeclarationId}
 use Rattle.fidl_names.specs.declared.fault.NameFault.{NameFault}
@@ -110,22 +111,45 @@ pub data ResolvesTo (files : List File) : Meaning → Meaning → Type 0 where
   further : (m next end : Meaning) → Follows files m next → ResolvesTo files next end
       → ResolvesTo files m end
 
--- what a row of meanings has for a declaration is what it resolves to
-pub record HasEnd (files : List File) (rows : List (List Meaning)) (p : DeclarationId)
+-- the constraints with which a type is written
+abbrev pub constraints_of : plain.TypeUse → List plain.Value
+constraints_of (plain.named_type _ _ constraints) = constraints
+constraints_of (plain.layout_type _ _ constraints) = constraints
+
+-- an alias that names a declaration as its type and adds no constraints to it, and that declaration
+pub record PassesOn (files : List File) (m next : Meaning) : Type 0 where
+  pub other : DeclarationId
+  pub follows : Follows files m next
+  pub bare : constraints_of (type_view follows.alias.constructor) ≡ []
+  pub next_is : next ≡ meaning.Declared other
+
+-- what a meaning comes to when aliases are followed as long as they add no constraints
+pub data PassesTo (files : List File) : Meaning → Meaning → Type 0 where
+  stays : (m : Meaning) → ((next : Meaning) → PassesOn files m next → ⊥) → PassesTo files m m
+  passes : (m next end : Meaning) → PassesOn files m next → PassesTo files next end
+      → PassesTo files m end
+
+-- both ends of a meaning
+pub record IsEnd (files : List File) (m : Meaning) (end : AliasEnd) : Type 0 where
+  pub resolved : ResolvesTo files m end.resolved
+  pub passed : PassesTo files m end.passed
+
+-- what a row has for a declaration are its ends
+pub record HasEnd (files : List File) (rows : List (List AliasEnd)) (p : DeclarationId)
     : Type 0 where
-  pub row : List Meaning
-  pub end : Meaning
+  pub row : List AliasEnd
+  pub end : AliasEnd
   pub row_at : slice_get rows p.file ≡ Some row
   pub end_at : slice_get row p.index ≡ Some end
-  pub resolved : ResolvesTo files (meaning.Declared p) end
+  pub is : IsEnd files (meaning.Declared p) end
 
--- rows of meanings, one for each file, have for each declaration what it resolves to
-abbrev pub AreEnds : List File → List (List Meaning) → Type 0
+-- rows, one for each file, have the ends of each declaration
+abbrev pub AreEnds : List File → List (List AliasEnd) → Type 0
 AreEnds files rows =
     (p : DeclarationId) (f : File) (d : Declaration)
     → slice_get files p.file ≡ Some f → slice_get f.declarations.items p.index ≡ Some d
     → HasEnd files rows p
 
 -- the same, as vectors hold them
-abbrev pub rows_of : List (Vec Meaning) → List (List Meaning)
+abbrev pub rows_of : List (Vec AliasEnd) → List (List AliasEnd)
 rows_of rows = map (λ v. v.items) rows

@@ -14,8 +14,9 @@
 --   Faults         the numbers, names and places of refusals
 -- The others are of the code alone: its graphs (Cycles, AliasGraph), the numbers by which it finds
 -- declarations and members (DeclarationNumbers, MemberNumbers), its maps of names (NameMaps), its
--- rows of meanings (MeaningRows), and how it holds what these say (PlaceViews, SpotViews,
--- ReferenceViews, Paths, Scopes, ScopeFacts, StoredFiles).
+-- rows of what aliases come to (MeaningRows), the meanings that it keeps (KeptNames), and how it
+-- holds what these say (PlaceViews, SpotViews, ReferenceViews, Paths, Scopes, ScopeFacts,
+-- StoredFiles).
 pub mod Names
 pub mod NameMaps
 pub mod Imports
@@ -33,6 +34,7 @@ pub mod ReferenceViews
 pub mod DeclarationNumbers
 pub mod AliasGraph
 pub mod MeaningRows
+pub mod KeptNames
 pub mod Faults
 pub mod StoredFiles
 pub mod ImportCycles

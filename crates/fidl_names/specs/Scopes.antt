@@ -2,21 +2,24 @@
 use Rattle.std.specs.Prelude.{ℕ, ◌≡◌, ◌⊎◌, List, Some, map, slice_get}
 use Rattle.std.specs.List.{AllByRecursion}
 use Rattle.fidl_tree.specs.declared.file.File.{File}
-use Rattle.fidl_names.specs.declared.meaning.Meaning.{Meaning}
+use Rattle.fidl_names.specs.declared.alias_ends.AliasEnd.{AliasEnd}
+use Rattle.fidl_names.specs.declared.kept_names.KeptName.{KeptName}
 use Rattle.fidl_names.specs.declared.fault.NameFault.{NameFault}
 use Rattle.fidl_names.specs.declared.fault.NameFault.TheVariants.{Memory}
 use Rattle.fidl_names.specs.Imports.{visible, ImportsAreApart}
 use Rattle.fidl_names.specs.Meanings.{MembersDiffer}
 use Rattle.fidl_names.specs.Aliases.{AreEnds}
+use Rattle.fidl_names.specs.KeptNames.{AreKeptIn}
 
--- what each file sees, and what each declaration resolves to, in files whose imports and members
--- differ
+-- what each file sees, the ends of each declaration, and the meanings that are kept, in files whose
+-- imports and members differ
 pub record IsKnown (files : List File) (visible_names : List (List (List ℕ × List ℕ)))
-    (rows : List (List Meaning)) : Type 0 where
+    (rows : List (List AliasEnd)) (kept : List (List KeptName)) : Type 0 where
   pub sees : visible_names ≡ map visible files
   pub apart : AllByRecursion ImportsAreApart files
   pub members : MembersDiffer files
   pub ends : AreEnds files rows
+  pub kept_are : AreKeptIn files kept
 
 -- the refusal where memory ran out, or one that says this
 abbrev pub IsMemoryOr : (NameFault → Type 0) → NameFault → Type 0

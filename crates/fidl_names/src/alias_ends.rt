@@ -1,76 +1,144 @@
-//! What aliases resolve to.
-ghost use Rattle.std.specs.Prelude.{◌≡◌, IfOk, OnOk};
+//! What aliases resolve to, and what they come to as long as they add no constraints.
+ghost use Rattle.std.specs.Prelude.{◌≡◌, ◌↔◌, [], Some, IsTrue, IfOk, OnOk};
+ghost use Rattle.fidl_tree.specs.Views.{type_view};
+ghost use Rattle.fidl_tree.specs.declared.file.File.{File as Tree};
+ghost use Rattle.fidl_tree.specs.declared.declaration.AliasDeclaration.{AliasDeclaration as Node};
 ghost use Rattle.fidl_names.specs.declared.meaning.Meaning.TheVariants as Given;
 ghost use Rattle.fidl_names.specs.declared.place.DeclarationId.{DeclarationId as Id};
-ghost use Rattle.fidl_names.specs.Aliases.{Follows, ResolvesTo, HasEnd, AreEnds, rows_of};
+ghost use Rattle.fidl_names.specs.Meanings.{IsJust};
+ghost use Rattle.fidl_names.specs.Aliases.{IsAliasAt, Follows, ResolvesTo, constraints_of, PassesTo};
+ghost use Rattle.fidl_names.specs.Aliases.{IsEnd, HasEnd, AreEnds, rows_of};
 ghost use Rattle.fidl_names.specs.AliasGraph.{IsAliasOrder};
 ghost use Rattle.fidl_names.specs.DeclarationNumbers.{HasDeclaration, AreNumbered};
-ghost use Rattle.fidl_names.specs.MeaningRows.{own_meanings, IsWithin, with_end};
+ghost use Rattle.fidl_names.specs.MeaningRows.{own_end, own_ends, IsWithin, with_end};
 
-use crate::alias_steps::next_meaning;
+use crate::alias_steps::{alias_at, next_meaning};
 use crate::declaration_numbers::{Numbers, has_declaration};
 use crate::file_scope::SetScope;
 use crate::library_set::LibrarySet;
 use crate::meaning::Meaning;
 use crate::place::DeclarationId;
 use crate::type_names::declared_id;
+use fidl_tree::TypeConstructor;
 use std::alloc::{AllocError, Global};
 
-/// What a meaning resolves to, by what the declaration that it may be resolves to.
-fn end_of(set: &LibrarySet<'_, '_>, ends: &[Vec<Meaning>], meaning: Meaning) -> Meaning
+/// What a meaning comes to when aliases are followed: to their end, and as long as they add no
+/// constraints.
+#[derive(Clone, Copy, Drop)]
+pub(crate) struct AliasEnd {
+    pub resolved: Meaning,
+    pub passed: Meaning,
+}
+
+/// A meaning that is its own end.
+fn own_end(meaning: Meaning) -> AliasEnd
+    ensures { result ≡ own_end meaning }
+{
+    AliasEnd {
+        resolved: meaning,
+        passed: meaning,
+    }
+}
+
+/// The ends of a meaning, by those of the declaration that it may be.
+pub(crate) fn end_of(set: &LibrarySet<'_, '_>, ends: &[Vec<AliasEnd>], meaning: Meaning) -> AliasEnd
     requires { (p : Id) → meaning ≡ Given.Declared p → HasDeclaration set.now p
         → HasEnd set.now (rows_of ends.now) p }
-    ensures { ResolvesTo set.now meaning result }
+    ensures { IsEnd set.now meaning result }
 {
     match declared_id(meaning) {
-        None => meaning,
+        None => own_end(meaning),
         Some(id) => {
             if has_declaration(set, id) {
                 return ends[id.file][id.index];
             }
-            meaning
+            own_end(meaning)
         }
     }
 }
 
-/// What a meaning resolves to, alias by alias.
-pub(crate) fn resolved(set: &LibrarySet<'_, '_>, ends: &[Vec<Meaning>], meaning: Meaning) -> Meaning
-    requires { AreEnds set.now (rows_of ends.now) }
-    ensures { ResolvesTo set.now meaning result }
+/// Whether a type is written without constraints.
+fn is_bare(constructor: &TypeConstructor) -> bool
+    ensures { IsTrue result ↔ (constraints_of (type_view constructor.now) ≡ []) }
 {
-    end_of(set, ends, meaning)
+    match constructor {
+        TypeConstructor::Named(named) => named.constraints.is_none(),
+        TypeConstructor::Layout { constraints, .. } => constraints.is_none(),
+    }
 }
 
-/// What the declaration of an id resolves to, where that is known of what it leads to.
+/// Whether the alias of an id adds no constraints to its type.
+fn adds_nothing(set: &LibrarySet<'_, '_>, id: DeclarationId) -> bool
+    requires { HasDeclaration set.now id }
+    ensures { (f : Tree) (a : Node) → IsAliasAt set.now id f a
+        → IsTrue result ↔ (constraints_of (type_view a.constructor) ≡ []) }
+{
+    match alias_at(set, id) {
+        None => false,
+        Some(found) => is_bare(&found.alias.constructor),
+    }
+}
+
+/// What the alias of an id comes to as long as no constraints are added, by what its type means
+/// and what that comes to.
+fn passed_end(
+    set: &LibrarySet<'_, '_>,
+    id: DeclarationId,
+    next: Meaning,
+    passed: Meaning,
+) -> Meaning
+    requires stands { HasDeclaration set.now id }
+    requires follows { IsJust (Follows set.now (Given.Declared id)) (Some next) }
+    requires passed { PassesTo set.now next passed }
+    ensures { PassesTo set.now (Given.Declared id) result }
+{
+    match declared_id(next) {
+        None => Meaning::Declared(id),
+        Some(_) => {
+            if adds_nothing(set, id) {
+                return passed;
+            }
+            Meaning::Declared(id)
+        }
+    }
+}
+
+/// The ends of the declaration of an id, where those of what it leads to are known.
 fn find_end(
     names: &SetScope<'_, '_, '_>,
-    ends: &[Vec<Meaning>],
+    ends: &[Vec<AliasEnd>],
     id: DeclarationId,
-) -> Result<Meaning, AllocError>
+) -> Result<AliasEnd, AllocError>
     requires stands { HasDeclaration names.now.set.now id }
     requires ends { (p : Id) → Follows names.now.set.now (Given.Declared id) (Given.Declared p)
         → HasDeclaration names.now.set.now p → HasEnd names.now.set.now (rows_of ends.now) p }
-    ensures { IfOk result (ResolvesTo names.now.set.now (Given.Declared id)) }
+    ensures { IfOk result (IsEnd names.now.set.now (Given.Declared id)) }
 {
     match next_meaning(names, id)? {
-        None => Ok(Meaning::Declared(id)),
-        Some(next) => Ok(end_of(names.set, ends, next)),
+        None => Ok(own_end(Meaning::Declared(id))),
+        Some(next) => {
+            let end = end_of(names.set, ends, next);
+            Ok(AliasEnd {
+                resolved: end.resolved,
+                passed: passed_end(names.set, id, next, end.passed),
+            })
+        }
     }
 }
 
 /// The first declarations of a file, each as itself.
-fn own_row(alloc: Global, file: usize, count: usize) -> Result<Vec<Meaning>, AllocError>
-    ensures { IfOk result (λ row. row.items ≡ own_meanings file count) }
+fn own_row(alloc: Global, file: usize, count: usize) -> Result<Vec<AliasEnd>, AllocError>
+    ensures { IfOk result (λ row. row.items ≡ own_ends file count) }
 {
     let mut row = Vec::new(alloc);
     for index in 0..count {
-        row.push(Meaning::Declared(DeclarationId { file, index }))?;
+        row.push(own_end(Meaning::Declared(DeclarationId { file, index })))?;
     }
     Ok(row)
 }
 
 /// All declarations, each as itself.
-fn own_rows(set: &LibrarySet<'_, '_>) -> Result<Vec<Vec<Meaning>>, AllocError>
+fn own_rows(set: &LibrarySet<'_, '_>) -> Result<Vec<Vec<AliasEnd>>, AllocError>
     ensures { IfOk result (λ rows. (p : Id) → HasDeclaration set.now p
         → IsWithin (rows_of rows.items) p) }
 {
@@ -83,20 +151,20 @@ fn own_rows(set: &LibrarySet<'_, '_>) -> Result<Vec<Vec<Meaning>>, AllocError>
     Ok(rows)
 }
 
-/// Writes what the declaration of an id resolves to.
-fn set_end(ends: &mut [Vec<Meaning>], id: DeclarationId, end: Meaning)
+/// Writes the ends of the declaration of an id.
+fn set_end(ends: &mut [Vec<AliasEnd>], id: DeclarationId, end: AliasEnd)
     requires { IsWithin (rows_of ends.old) id }
     ensures { rows_of ends.new ≡ with_end (rows_of ends.old) id end }
 {
     ends[id.file][id.index] = end;
 }
 
-/// What each declaration resolves to, where the order has an alias after all that it refers to.
+/// The ends of each declaration, where the order has an alias after all that it refers to.
 pub(crate) fn find_ends(
     names: &SetScope<'_, '_, '_>,
     numbers: &Numbers,
     order: &[usize],
-) -> Result<Vec<Vec<Meaning>>, AllocError>
+) -> Result<Vec<Vec<AliasEnd>>, AllocError>
     requires numbered { AreNumbered names.now.set.now numbers.now.ids.items
         numbers.now.starts.items }
     requires order { IsAliasOrder names.now.set.now numbers.now.starts.items numbers.now.ids.items

@@ -7,7 +7,7 @@ ghost use Rattle.fidl_names.specs.Aliases.{IsAliasAt, AliasesBack, IsTrueOfAlias
 ghost use Rattle.fidl_names.specs.Aliases.{rows_of};
 ghost use Rattle.fidl_names.specs.DeclarationNumbers.{HasDeclaration};
 
-use crate::alias_ends::find_ends;
+use crate::alias_ends::{AliasEnd, find_ends};
 use crate::alias_graph::alias_graph;
 use crate::cycles::find_cycle;
 use crate::declaration_numbers::number_declarations;
@@ -15,7 +15,6 @@ use crate::fault::NameFault;
 use crate::file_scope::SetScope;
 use crate::full_name::name_span;
 use crate::library_set::LibrarySet;
-use crate::meaning::Meaning;
 use crate::place::{DeclarationId, Place};
 
 /// Where the name of a declaration stands.
@@ -32,8 +31,8 @@ fn name_place(set: &LibrarySet<'_, '_>, id: DeclarationId) -> Place
     }
 }
 
-/// No alias leads back to itself; what each declaration resolves to.
-pub(crate) fn check_aliases(names: &SetScope<'_, '_, '_>) -> Result<Vec<Vec<Meaning>>, NameFault>
+/// No alias leads back to itself; the ends of each declaration.
+pub(crate) fn check_aliases(names: &SetScope<'_, '_, '_>) -> Result<Vec<Vec<AliasEnd>>, NameFault>
     ensures none { OnOk result ((place : Spot) → AliasesBack names.now.set.now place → ⊥) }
     ensures fault_is_true { IfErr result (IsTrueOfAliases names.now.set.now) }
     ensures ends { IfOk result (λ rows. AreEnds names.now.set.now (rows_of rows.items)) }

@@ -16,6 +16,8 @@ mod file_scope;
 mod full_name;
 mod import_cycles;
 mod imports;
+mod keeping;
+mod kept_names;
 mod laws;
 mod library_set;
 mod meaning;
@@ -35,6 +37,7 @@ mod rules;
 mod spots;
 mod type_names;
 pub mod worked;
+pub mod worked_aliases;
 
 pub use constraint_names::{is_optional, ordinary, path_alone};
 pub use cycles::{CycleEdge, find_cycle};

@@ -7,17 +7,18 @@ ghost use Rattle.fidl_tree.specs.declared.declaration.Declaration.{Declaration a
 ghost use Rattle.fidl_names.specs.declared.meaning.Wanted.TheVariants as Kind;
 ghost use Rattle.fidl_names.specs.declared.place.DeclarationId.{DeclarationId as Id};
 ghost use Rattle.fidl_names.specs.Meanings.{components, IsJust, Means, IsTrueOfName};
-ghost use Rattle.fidl_names.specs.Aliases.{ResolvesTo, WantsKind};
+ghost use Rattle.fidl_names.specs.Aliases.{ResolvesTo, PassesTo, WantsKind};
 ghost use Rattle.fidl_names.specs.Constraints.{IsDeclarationAt, IsPropertyAt, ItemMeans};
 ghost use Rattle.fidl_names.specs.Constraints.{NameOfItemFails};
 ghost use Rattle.fidl_names.specs.MemberNumbers.{AreNumbersOf};
 ghost use Rattle.fidl_names.specs.Scopes.{IsMemoryOr, OfFile};
 ghost use Rattle.fidl_names.specs.Resolved.{Resolves, IsTrueOfResolving};
 
-use crate::alias_ends::resolved;
+use crate::alias_ends::{AliasEnd, end_of};
 use crate::constraint_names::item_meaning;
 use crate::fault::NameFault;
 use crate::file_scope::{FileScope, SetScope};
+use crate::kept_names::KeptNames;
 use crate::library_set::{Found, LibrarySet};
 use crate::meaning::{Meaning, Wanted};
 use crate::named_file::NamedFile;
@@ -38,7 +39,8 @@ use std::marker::Model;
 pub struct Named<'f, 's> {
     set: LibrarySet<'f, 's>,
     visible_names: Vec<IndexMap<Vec<u8>, Vec<u8>>>,
-    ends: Vec<Vec<Meaning>>,
+    ends: Vec<Vec<AliasEnd>>,
+    kept: Vec<KeptNames<'f>>,
 }
 
 impl<'f, 's> Model for Named<'f, 's> {
@@ -46,6 +48,7 @@ impl<'f, 's> Model for Named<'f, 's> {
     ghost use Rattle.fidl_tree.specs.declared.file.File.{File as Tree};
     ghost use Rattle.fidl_names.specs.NameMaps.{texts_view};
     ghost use Rattle.fidl_names.specs.Aliases.{rows_of};
+    ghost use Rattle.fidl_names.specs.KeptNames.{kept_rows};
     ghost use Rattle.fidl_names.specs.Scopes.{IsKnown};
     ghost use Rattle.fidl_names.specs.StoredFiles.{files_coded};
 
@@ -56,7 +59,7 @@ impl<'f, 's> Model for Named<'f, 's> {
     ghost view = { λ s. s.set };
 
     ghost invariant = { λ s. IsKnown s.set (map (λ v. texts_view v.entries) s.visible_names.items)
-        (rows_of s.ends.items) };
+        (rows_of s.ends.items) (kept_rows s.kept.items) };
 }
 
 impl<'f, 's> Named<'f, 's> {
@@ -90,14 +93,25 @@ impl<'f, 's> Named<'f, 's> {
         ensures fault_is_true { IfErr result (λ fault. OfFile self.now file_index
             (λ f. IsTrueOfName self.now f file_index wanted path.now fault)) }
     {
-        read_name(&self.scope(file_index), path, wanted)
+        match self.kept(file_index, path, wanted) {
+            Some(meaning) => Ok(meaning),
+            None => self.read(file_index, path, wanted),
+        }
     }
 
     /// What a meaning resolves to: aliases of named types are followed to their end.
     pub fn resolved(&self, meaning: Meaning) -> Meaning
         ensures { ResolvesTo self.now meaning result }
     {
-        resolved(&self.set, &self.ends, meaning)
+        end_of(&self.set, &self.ends, meaning).resolved
+    }
+
+    /// What a meaning comes to when aliases are followed as long as they add no constraints to the
+    /// type that they name.
+    pub fn passed(&self, meaning: Meaning) -> Meaning
+        ensures { PassesTo self.now meaning result }
+    {
+        end_of(&self.set, &self.ends, meaning).passed
     }
 
     /// What a constraint means that is just a name, in the file of this number, by what its type
@@ -159,7 +173,7 @@ impl<'f, 's> Named<'f, 's> {
         ensures { IfOk result (λ found. OfFile self.now file_index (λ f. IsJust
             (Means self.now f Kind.«Type» (components f.src.now path.now)) found)) }
     {
-        find_meaning(&self.scope(file_index), path, Wanted::Type)
+        self.find(file_index, path, Wanted::Type)
     }
 
     /// What a name means as a value in the file of this number, if anything.
@@ -172,7 +186,59 @@ impl<'f, 's> Named<'f, 's> {
         ensures { IfOk result (λ found. OfFile self.now file_index (λ f. IsJust
             (Means self.now f Kind.Value (components f.src.now path.now)) found)) }
     {
-        find_meaning(&self.scope(file_index), path, Wanted::Value)
+        self.find(file_index, path, Wanted::Value)
+    }
+
+    /// What is kept of a name in the file of this number, where this kind is wanted.
+    fn kept(&self, file_index: usize, path: &Path, wanted: Wanted) -> Option<Meaning>
+        requires { file_index < length self.now }
+        ensures { IfSome result (λ m. OfFile self.now file_index
+            (λ f. Means self.now f wanted (components f.src.now path.now) m)) }
+    {
+        self.kept.get(file_index)?.find(path, wanted)
+    }
+
+    /// The same as `meaning`, from the sources alone.
+    fn read(&self, file_index: usize, path: &Path, wanted: Wanted) -> Result<Meaning, NameFault>
+        requires { file_index < length self.now }
+        ensures ok { IfOk result (λ m. OfFile self.now file_index
+            (λ f. Means self.now f wanted (components f.src.now path.now) m)) }
+        ensures fault_is_true { IfErr result (λ fault. OfFile self.now file_index
+            (λ f. IsTrueOfName self.now f file_index wanted path.now fault)) }
+    {
+        read_name(&self.scope(file_index), path, wanted)
+    }
+
+    /// What a name means in the file of this number where this kind is wanted, if anything, from
+    /// the sources alone.
+    fn search(
+        &self,
+        file_index: usize,
+        path: &Path,
+        wanted: Wanted,
+    ) -> Result<Option<Meaning>, AllocError>
+        requires { file_index < length self.now }
+        ensures { IfOk result (λ found. OfFile self.now file_index
+            (λ f. IsJust (Means self.now f wanted (components f.src.now path.now)) found)) }
+    {
+        find_meaning(&self.scope(file_index), path, wanted)
+    }
+
+    /// What a name means in the file of this number where this kind is wanted, if anything.
+    fn find(
+        &self,
+        file_index: usize,
+        path: &Path,
+        wanted: Wanted,
+    ) -> Result<Option<Meaning>, AllocError>
+        requires { file_index < length self.now }
+        ensures { IfOk result (λ found. OfFile self.now file_index
+            (λ f. IsJust (Means self.now f wanted (components f.src.now path.now)) found)) }
+    {
+        match self.kept(file_index, path, wanted) {
+            Some(meaning) => Ok(Some(meaning)),
+            None => self.search(file_index, path, wanted),
+        }
     }
 
     /// The file of this number, with what it sees by its imports.
@@ -225,11 +291,13 @@ impl<'f, 's> LibrarySet<'f, 's> {
         let Resolution {
             visible_names,
             ends,
+            kept,
         } = check_rules(&self)?;
         let named = Named {
             set: self,
             visible_names,
             ends,
+            kept,
         };
         check_names(&named)?;
         Ok(named)

@@ -5,13 +5,13 @@ use Rattle.fidl_tree.specs.declared.file.File.{File}
 use Rattle.fidl_names.specs.declared.meaning.Predeclared.{Predeclared}
 use Rattle.fidl_names.specs.declared.meaning.Meaning.TheVariants as meaning
 use Rattle.fidl_constraints.specs.Behind.{MeansType, Core, ends, RefersTo, Behind}
-use Rattle.fidl_constraints.specs.AliasExamples.{named_with, plain_word, list_in, core_of}
+use Rattle.fidl_constraints.specs.AliasExamples.{named_with, plain_word, core_of}
 use Rattle.fidl_wire.specs.Term.{Term}
 use Rattle.fidl_lower_types.specs.Terms.{word_term, HeadIs, TermIs}
 
 module _ (files : List File) (n : ℕ) (path : Path) (w : Predeclared) where
   abbrev pub word_core : Core
-  word_core = core_of n (plain_word w) (list_in n [] ∷ [])
+  word_core = core_of n (plain_word w) []
 
   pub word_behind : MeansType files n path (meaning.Predeclared w) → Behind files n (named_with path []) word_core
   word_behind h = Behind.no_alias n (named_with path []) n (plain_word w) (RefersTo.by_name path no_arguments [] (meaning.Predeclared w) (ends n (plain_word w)) h refl)

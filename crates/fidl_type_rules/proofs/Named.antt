@@ -30,7 +30,7 @@ module _ (files : List File) (number : ℕ) where
   word_refers (layout_type attributes l cs) path w is means = absurd (none-some path is)
 
   abbrev core_at : TypeUse → Predeclared → Core
-  core_at t w = record { file = number; head = word_head w (arguments_in t); given = given_in number t ∷ [] }
+  core_at t w = record { file = number; head = word_head w (arguments_in t); given = given_in number t }
 
   pub word_core : (t : TypeUse) (w : Predeclared) (core : Core) → IsWord files number t w → Behind files number t core → core ≡ core_at t w
   word_core t w core h k = one_behind files number t core (core_at t w) k (Behind.no_alias number t number (word_head w (arguments_in t)) (word_refers t h.path w h.named h.means))

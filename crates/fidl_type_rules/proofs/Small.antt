@@ -7,7 +7,7 @@ use Rattle.fidl_names.specs.declared.meaning.Predeclared.{Predeclared}
 use Rattle.fidl_names.specs.declared.meaning.Predeclared.TheVariants as name
 use Rattle.fidl_names.specs.declared.meaning.Meaning.TheVariants as meaning
 use Rattle.fidl_constraints.specs.Behind.{MeansType, Head, word_head, layout_head, Core, ends, RefersTo, Behind}
-use Rattle.fidl_constraints.specs.AliasExamples.{named_with, plain_word, list_in, core_of}
+use Rattle.fidl_constraints.specs.AliasExamples.{named_with, plain_word, core_of}
 use Rattle.fidl_constraints.proofs.OneBehind.{one_behind}
 use Rattle.fidl_constraints.specs.declared.parts.PartKind.{PartKind}
 use Rattle.fidl_constraints.specs.declared.parts.PartKind.TheVariants as kind
@@ -34,7 +34,7 @@ module _ (files : List File) (n : ℕ) (path : Path) where
 
   -- what it is without constraints
   abbrev core_with : Arguments → Predeclared → Core
-  core_with given w = core_of n (word_head w given) (list_in n [] ∷ [])
+  core_with given w = core_of n (word_head w given) []
 
   pub plain_gathered : (given : Arguments) (w : Predeclared) → MeansType files n path (meaning.Predeclared w) → IsGathered files n (named_type path given []) (core_with given w) []
   plain_gathered given w h = record {
@@ -92,7 +92,7 @@ bool_unconstrained files n path v h holds =
 
 module _ (files : List File) (n : ℕ) (l : Layout) where
   abbrev core_behind : Core
-  core_behind = core_of n (layout_head l) (list_in n [] ∷ [])
+  core_behind = core_of n (layout_head l) []
 
   layout_behind : Behind files n (layout_type [] l []) core_behind
   layout_behind = Behind.no_alias n (layout_type [] l []) n (layout_head l) (RefersTo.by_layout [] l [])

@@ -8,9 +8,9 @@ use Rattle.std.proofs.lemmas.List.Elements.{Contains-get_or, Contains-push_cases
 use Rattle.std.proofs.lemmas.Option.{slice_get-get_or, slice_get_read, same_Some}
 use Rattle.fidl_tree.specs.declared.file.File.{File}
 use Rattle.fidl_names.specs.declared.place.DeclarationId.{DeclarationId}
-use Rattle.fidl_names.specs.declared.meaning.Meaning.{Meaning}
+use Rattle.fidl_names.specs.declared.alias_ends.AliasEnd.{AliasEnd}
 use Rattle.fidl_names.specs.declared.meaning.Meaning.TheVariants as meaning
-use Rattle.fidl_names.specs.Aliases.{ResolvesTo, HasEnd, rows_of}
+use Rattle.fidl_names.specs.Aliases.{IsEnd, HasEnd, rows_of}
 use Rattle.fidl_names.specs.AliasGraph.{IsAliasOrder}
 use Rattle.fidl_names.specs.DeclarationNumbers.{HasDeclaration, number_of, AreNumbered}
 use Rattle.fidl_names.specs.MeaningRows.{IsWithin, with_end}
@@ -19,16 +19,16 @@ use Rattle.fidl_names.proofs.AliasFacts.{follows_refers}
 use Rattle.fidl_names.proofs.alias_ends.find_ends.Goals as goal
 
 -- one end more
-module _ (fs : List File) (ps : List DeclarationId) (ss : List ℕ) (numbered : AreNumbered fs ps ss) (order : List ℕ) (i : ℕ) (lt : i < length order) (p : DeclarationId) (at : slice_get ps (get_or order i 0) ≡ Some p) (rows : List (List Meaning))
-    (within : IsWithin rows p) (end : Meaning) (resolved : ResolvesTo fs (meaning.Declared p) end) where
+module _ (fs : List File) (ps : List DeclarationId) (ss : List ℕ) (numbered : AreNumbered fs ps ss) (order : List ℕ) (i : ℕ) (lt : i < length order) (p : DeclarationId) (at : slice_get ps (get_or order i 0) ≡ Some p) (rows : List (List AliasEnd))
+    (within : IsWithin rows p) (end : AliasEnd) (is_end : IsEnd fs (meaning.Declared p) end) where
   new_end : ((q : DeclarationId) → HasDeclaration fs q → Contains (take i order) (number_of ss q) → HasEnd fs rows q) → (q : DeclarationId) → HasDeclaration fs q → Contains (take (i + 1) order) (number_of ss q) → HasEnd fs (with_end rows p end) q
   new_end old q there h = either (Contains-push_cases (take i order) (get_or order i 0) (number_of ss q) (subst (λ l. Contains l (number_of ss q)) (take_more order i 0 lt) h))
     where
       either : Contains (take i order) (number_of ss q) ⊎ (get_or order i 0 ≡ number_of ss q) → HasEnd fs (with_end rows p end) q
-      either (inl before) = end_kept rows p end within fs resolved q (old q there before)
+      either (inl before) = end_kept rows p end within fs is_end q (old q there before)
       either (inr last) =
           let same = same_Some p q (sym at ∙ ap (slice_get ps) last ∙ numbered.numbered q there) in
-          subst (HasEnd fs (with_end rows p end)) same (end_here rows p end within fs resolved)
+          subst (HasEnd fs (with_end rows p end)) same (end_here rows p end within fs is_end)
 
 -- what stands at a number of the order
 at_number : (fs : List File) (ss : List ℕ) (ps : List DeclarationId) (order : List ℕ) → IsAliasOrder fs ss ps order → (i : ℕ) → i < length order → (p : DeclarationId) → p ≡ get_or ps (get_or order i 0) p → slice_get ps (get_or order i 0) ≡ Some p
@@ -56,7 +56,7 @@ find_end-requires-clause-ends c = λ q follows there.
     let p = c.index-id.result.now in
     let at = at_number fs c.args.numbers.now.starts.items c.args.numbers.now.ids.items order c.requires.order i c.loop-number-test.true p c.index-id.ensures in
     let before = c.requires.order.after i (get_or order i 0) p q (slice_get-get_or order i 0 c.loop-number-test.true) at (follows_refers fs p q follows) in
-    subst (λ (l : List (Vec Meaning)). HasEnd fs (rows_of l) q) (sym c.deref.ensures.value) (c.loop-number.invariant.ends q there before)
+    subst (λ (l : List (Vec AliasEnd)). HasEnd fs (rows_of l) q) (sym c.deref.ensures.value) (c.loop-number.invariant.ends q there before)
 
 pub set_end-requires : goal.set_end-requires
 set_end-requires c =
@@ -65,7 +65,7 @@ set_end-requires c =
     let p = c.index-id.result.now in
     let at = at_number c.args.names.now.set.now c.args.numbers.now.starts.items c.args.numbers.now.ids.items order c.requires.order i c.loop-number-test.true p c.index-id.ensures in
     let there = c.requires.numbered.declared (get_or order i 0) p at in
-    subst (λ (l : List (Vec Meaning)). IsWithin (rows_of l) p) (sym c.deref_mut.ensures.value) (c.loop-number.invariant.within p there)
+    subst (λ (l : List (Vec AliasEnd)). IsWithin (rows_of l) p) (sym c.deref_mut.ensures.value) (c.loop-number.invariant.within p there)
 
 pub loop-number-preserved : goal.loop-number-preserved
 loop-number-preserved c =
@@ -82,13 +82,13 @@ loop-number-preserved c =
     let at = at_number fs ss ps order c.requires.order i c.loop-number-test.true p c.index-id.ensures in
     let there = c.requires.numbered.declared (get_or order i 0) p at in
     let within = c.loop-number.invariant.within p there in
-    let now : rows_of new ≡ with_end rows p end = c.set_end.ensures ∙ ap (λ (l : List (Vec Meaning)). with_end (rows_of l) p end) c.deref_mut.ensures.value in
+    let now : rows_of new ≡ with_end rows p end = c.set_end.ensures ∙ ap (λ (l : List (Vec AliasEnd)). with_end (rows_of l) p end) c.deref_mut.ensures.value in
     let long : length new ≡ ends.len =
-    sym (length-map new (λ (v : Vec Meaning). v.items)) ∙ ap length now ∙ length-set rows p.file _ ∙ length-map ends.items (λ (v : Vec Meaning). v.items) ∙ sym ends.ok.0 in
+    sym (length-map new (λ (v : Vec AliasEnd). v.items)) ∙ ap length now ∙ length-set rows p.file _ ∙ length-map ends.items (λ (v : Vec AliasEnd). v.items) ∙ sym ends.ok.0 in
     let all = ap rows_of (take_at new (drop (length new) ends.items) ends.len long) ∙ now in
     record {
-      within = λ q here. subst (λ (l : List (List Meaning)). IsWithin l q) (sym all) (within_more rows p end within q (c.loop-number.invariant.within q here));
-      ends = λ q here h. subst (λ (l : List (List Meaning)). HasEnd fs l q) (sym all)
+      within = λ q here. subst (λ (l : List (List AliasEnd)). IsWithin l q) (sym all) (within_more rows p end within q (c.loop-number.invariant.within q here));
+      ends = λ q here h. subst (λ (l : List (List AliasEnd)). HasEnd fs l q) (sym all)
           (new_end fs ps ss c.requires.numbered order i c.loop-number-test.true p at rows within end c.in_ok-end.ensures c.loop-number.invariant.ends q here h);
     }
 

@@ -3,7 +3,7 @@ use Rattle.std.specs.Prelude.{codes}
 use Rattle.fidl_tree.specs.Syntax.{layout_type, values_layout, enum_kind, no_underlying}
 use Rattle.fidl_names.specs.declared.meaning.Predeclared.TheVariants as name
 use Rattle.fidl_constraints.specs.Behind.{Core, layout_head, RefersTo, Behind}
-use Rattle.fidl_constraints.specs.AliasExamples.{named_with, plain_word, list_in, core_of}
+use Rattle.fidl_constraints.specs.AliasExamples.{named_with, plain_word, core_of}
 use Rattle.fidl_constraints.proofs.OneBehind.{one_behind}
 use Rattle.fidl_resource_rules.specs.Kinds.{TypeSuits}
 use Rattle.fidl_resource_rules.proofs.Names.{of_subtype_name}
@@ -14,7 +14,7 @@ pub returns-clause-subtype : goal.returns-clause-subtype
 returns-clause-subtype c = λ files n k ms.
     let l = values_layout enum_kind false k no_underlying ms in
     TypeSuits.of_subtype refl (record {
-      core = core_of n (layout_head l) (list_in n [] ∷ []);
+      core = core_of n (layout_head l) [];
       layout = l;
       behind = Behind.no_alias n (layout_type [] l []) n (layout_head l) (RefersTo.by_layout [] l []);
       is = refl;

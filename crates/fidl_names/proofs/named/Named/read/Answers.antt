@@ -3,7 +3,7 @@ use Rattle.fidl_names.specs.declared.fault.NameFault.{NameFault}
 use Rattle.fidl_names.specs.declared.meaning.Meaning.{Meaning}
 use Rattle.fidl_names.specs.Meanings.{components, Means, IsTrueOfName}
 use Rattle.fidl_names.proofs.Scoped.{of_file}
-use Rattle.fidl_names.proofs.named.Named.meaning.Goals as goal
+use Rattle.fidl_names.proofs.named.Named.read.Goals as goal
 
 pub returns-clause-ok : goal.returns-clause-ok
 returns-clause-ok c =

@@ -1,0 +1,6 @@
+use Rattle.fidl_names.specs.KeptNames.{AreKept}
+use Rattle.fidl_names.proofs.keeping.keep_declaration.Given as goal
+
+-- the names that are kept so far mean that
+abbrev pub invariant-loop-place : goal.invariant-loop-place
+invariant-loop-place l = AreKept l.scope.names.set.now l.scope.file.now l.kept.names.items
