@@ -1,94 +1,71 @@
-//! A table of small types, and what the encoder answers to a value of one of its entries.
-use fidl_encode::{Message, encode};
-use fidl_verify::{Table, verify};
-use fidl_wire::Value;
-use std::alloc::Global;
+//! The cases.
+use crate::answers::{answer, table_bytes};
+use fidl_verify::verify;
 use std::test::Fail;
 
-/// A table written by hand after the table's rules: 0 `Point = struct {a uint32; a uint32;}`, 1
-/// `uint32`, 2 `table {1: a uint8; 2: a string;}`, 3 `uint8`, 4 `string`, 5 `Node = struct {a
-/// box<Node>;}`, 6 its box, 7 `vector<handle>`, 8 `handle`, 9 `string:2`, 10 `strict enum : uint32
-/// {1, 2}`, 11 `strict union {1: a uint32;}`, 12 `array<uint8, 3>`.
-const TABLE: &str = "
-    46435432 0100 0000 0d000000 06000000 02000000 00000000 00000000 00000000 01000000 00000000
-    10 00 04 01 08000000 00000000 02000000 0000000000000000 00000000 00000000 00000000 00000000
-    08 00 04 00 04000000 00000000 00000000 0000000000000000 00000000 00000000 00000000 00000000
-    11 00 08 00 10000000 02000000 02000000 0000000000000000 00000000 00000000 00000000 00000000
-    06 00 01 00 01000000 00000000 00000000 0000000000000000 00000000 00000000 00000000 00000000
-    0c 00 08 00 10000000 00000000 00000000 ffffffff00000000 00000000 00000000 00000000 00000000
-    10 00 08 01 08000000 04000000 01000000 0000000000000000 00000000 00000000 00000000 00000000
-    0f 00 08 00 08000000 05000000 00000000 0000000000000000 00000000 00000000 00000000 00000000
-    0d 00 08 00 10000000 08000000 00000000 ffffffff00000000 00000000 00000000 00000000 00000000
-    13 00 04 00 04000000 00000000 00000000 0000000000000000 00000000 00000080 00000000 00000000
-    0c 00 08 00 10000000 00000000 00000000 0200000000000000 00000000 00000000 00000000 00000000
-    0b 02 04 00 04000000 00000000 02000000 0000000000000000 08000000 00000000 00000000 00000000
-    12 02 08 00 10000000 05000000 01000000 0000000000000000 00000000 00000000 00000000 00000000
-    0e 00 01 01 03000000 03000000 03000000 0000000000000000 00000000 00000000 00000000 00000000
-    00000000 01000000 00000000 01000000
-    04000000 01000000 00000000 01000000
-    01000000 03000000 00000000 01000000
-    02000000 04000000 00000000 01000000
-    00000000 06000000 00000000 01000000
-    01000000 01000000 00000000 01000000
-    0100000000000000 0200000000000000 61
+const CASES: &str = "
+    0 fields 1 2 -> 0100000002000000 0
+    2 table 2 1=5 -> 0200000000000000ffffffffffffffff05000000000001000000000000000000 0
+    2 table 5 5:out:1122334455667788 -> 0500000000000000ffffffffffffffff000000000000000000000000000000000000000000000000000000000000000008000000010000001122334455667788 1
+    2 table 3 3:in:01020304 -> 0300000000000000ffffffffffffffff000000000000000000000000000000000102030401000100 1
+    4 text 6869 -> 0200000000000000ffffffffffffffff6869000000000000 0
+    4 text  -> 0000000000000000ffffffffffffffff 0
+    7 handles 1 -> 0100000000000000ffffffffffffffffffffffff00000000 1
+    10 number 2 -> 0200000000000000 0
+    11 union 1=7 -> 01000000000000000700000000000100 0
+    12 list 1 2 3 -> 0102030000000000 0
+    0 true -> 1 WrongShape
+    0 fields 1 -> 1 WrongShape
+    0 fields 1 2 3 -> 1 WrongShape
+    0 list 1 2 -> 1 WrongShape
+    0 fields 1 4294967296 -> 1 WrongShape
+    0 fields -1 0 -> 1 WrongShape
+    2 absent -> 1 WrongShape
+    2 table 2 1:in:01020304 -> 1 WrongShape
+    2 table 2 2=1 -> 1 WrongShape
+    2 table 3 3:in:010203 -> 1 WrongShape
+    2 table 3 3:out:01020304 -> 1 WrongShape
+    2 table 3 3:out: -> 1 WrongShape
+    2 table 1 2=1 -> 1 WrongShape
+    2 table 2 0=1 -> 1 WrongShape
+    2 table 2 1=1 1=1 -> 1 WrongShape
+    4 absent -> 1 WrongShape
+    5 fields 0 -> 1 WrongShape
+    8 absent -> 1 WrongShape
+    9 text 616263 -> 2 OverBound
+    4 text c080 -> 3 NotUtf8
+    10 number 3 -> 4 UnknownValue
+    10 number -1 -> 1 WrongShape
+    11 absent -> 1 WrongShape
+    11 union 0=7 -> 1 WrongShape
+    11 union 2:in:01020304 -> 1 WrongShape
+    12 list 1 2 -> 1 WrongShape
+    5 boxes 32 -> 264 bytes 0
+    5 boxes 33 -> 6 TooDeep
+    5 boxes 2000 -> 6 TooDeep
+    7 handles 64 -> 272 bytes 64
+    7 handles 65 -> 8 TooManyHandles
+    4 long 65520 -> 65536 bytes 0
+    4 long 65521 -> 7 TooLong
+    2 table 8190 1=1 -> 65536 bytes 0
+    2 table 8191 1=1 -> 7 TooLong
+    2 table 18446744073709551615 1=1 -> 7 TooLong
 ";
 
-/// The bytes of the table.
-pub(crate) fn table_bytes(alloc: Global) -> Option<Vec<u8>> {
-    let mut bytes = Vec::new(alloc);
-    for word in TABLE.split_whitespace() {
-        let more = hex::decode(alloc, word).ok()?;
-        bytes.extend_from_slice(more.as_slice()).ok()?;
-    }
-    Some(bytes)
-}
-
-/// A message: its bytes in hexadecimal digits, and each handle's three numbers.
-fn message_text(alloc: Global, message: &Message) -> Option<String> {
-    let mut text = hex::encode(alloc, message.bytes.as_slice()).ok()?;
-    for handle in &message.handles {
-        let part = format!(in alloc;
-            " {}:{}:{}",
-            handle.id, handle.object_type, handle.rights
-        ).ok()?;
-        text.push_str(&part).ok()?;
-    }
-    Some(text)
-}
-
-/// What is answered to a value of an entry: its message, or the fault's number and name.
-pub(crate) fn answer(
-    alloc: Global,
-    table: &Table<'_>,
-    entry: u32,
-    value: &Value,
-) -> Option<String> {
-    if table.entries() <= entry {
-        return None;
-    }
-    match encode(alloc, table, entry, value) {
-        Ok(message) => message_text(alloc, &message),
-        Err(fault) => format!(in alloc; "{} {}", fault.number(), fault.name()).ok(),
-    }
-}
-
-/// How many bytes and handles the message of a value has, or the fault's number and name.
-pub(crate) fn sizes(alloc: Global, table: &Table<'_>, entry: u32, value: &Value) -> Option<String> {
-    if table.entries() <= entry {
-        return None;
-    }
-    match encode(alloc, table, entry, value) {
-        Ok(message) => {
-            format!(in alloc; "{} {}", message.bytes.len(), message.handles.len()).ok()
-        }
-        Err(fault) => format!(in alloc; "{} {}", fault.number(), fault.name()).ok(),
-    }
-}
-
 #[test]
-fn the_table_is_accepted(rt: HostRuntime) -> Result<(), Fail> {
-    let bytes = table_bytes(rt.alloc()).unwrap_or(Vec::new(rt.alloc()));
+fn values_are_encoded(rt: HostRuntime) -> Result<(), Fail> {
+    let alloc = rt.alloc();
+    let bytes = table_bytes(alloc).unwrap_or(Vec::new(alloc));
     let table = verify(&bytes)?;
-    assert_eq!(rt; table.entries(), 13);
+    let mut count = 0u32;
+    for line in CASES.lines() {
+        let Some((given, want)) = line.trim_start().split_once(" -> ") else {
+            continue;
+        };
+        let got = answer(alloc, &table, given).unwrap_or(String::new(alloc));
+        assert_eq!(rt; got.as_str(), want, "{given}");
+        count = count.saturating_add(1);
+    }
+    assert_eq!(rt; count, 46);
     Ok(())
 }

@@ -1,98 +1,129 @@
-//! Values that tests encode.
+//! How cases write values.
+//!
+//! `absent`, `true`, `number -1`, `text 6869`, `long 65520` (so many bytes), `list 1 2`, `fields 1
+//! 2`, `handles 64` (a list of so many), `boxes 33` (a struct with so many boxes behind one
+//! another), `table 5 1=5 3:in:01020304` (the count, a known number, and an unknown member with one
+//! handle) and `union 1=7`.
 use fidl_wire::{Bytes, Content, HandleInfo, Handles, Member, Members, Value, Values};
-use std::alloc::{AllocError, Global};
+use std::alloc::Global;
 
-/// A string.
-pub(crate) fn text(alloc: Global, bytes: &[u8]) -> Result<Value, AllocError> {
-    let mut items = Vec::new(alloc);
-    items.extend_from_slice(bytes)?;
-    Ok(Value::Text(Bytes::from_vec(items)))
+/// The handle of this number.
+fn handle(id: u32) -> HandleInfo {
+    HandleInfo {
+        id,
+        object_type: 3,
+        rights: 1,
+    }
 }
 
-/// A string of so many times a byte.
-pub(crate) fn long_text(alloc: Global, count: usize) -> Result<Value, AllocError> {
+/// The bytes that a text says in hexadecimal digits.
+fn bytes(alloc: Global, text: &str) -> Option<Bytes> {
+    Some(Bytes::from_vec(hex::decode(alloc, text).ok()?))
+}
+
+/// So many bytes.
+fn long(alloc: Global, count: usize) -> Option<Bytes> {
     let mut items = Vec::new(alloc);
-    items.resize(count, b'a')?;
-    Ok(Value::Text(Bytes::from_vec(items)))
+    items.resize(count, b'a').ok()?;
+    Some(Bytes::from_vec(items))
 }
 
 /// Numbers, one behind the other.
-pub(crate) fn numbers(alloc: Global, all: &[i128]) -> Result<Values, AllocError> {
+fn numbers(alloc: Global, text: &str) -> Option<Values> {
     let mut values = Values::new(alloc);
-    for number in all {
-        values.push(Value::Number(*number))?;
+    for word in text.split_whitespace() {
+        let number = word.parse::<i64>().ok()?;
+        values.push(Value::Number(i128::from(number))).ok()?;
     }
-    Ok(values)
+    Some(values)
 }
 
 /// So many handles.
-pub(crate) fn handles(alloc: Global, count: u32) -> Result<Value, AllocError> {
+fn handles(alloc: Global, count: u32) -> Option<Values> {
     let mut values = Values::new(alloc);
     for id in 0..count {
-        values.push(Value::Handle(HandleInfo {
-            id,
-            object_type: 3,
-            rights: 1,
-        }))?;
+        values.push(Value::Handle(handle(id))).ok()?;
     }
-    Ok(Value::List(values))
+    Some(values)
 }
 
 /// A struct of one member.
-pub(crate) fn struct_of(alloc: Global, value: Value) -> Result<Value, AllocError> {
+fn struct_of(alloc: Global, value: Value) -> Option<Value> {
     let mut values = Values::new(alloc);
-    values.push(value)?;
-    Ok(Value::Fields(values))
+    values.push(value).ok()?;
+    Some(Value::Fields(values))
 }
 
 /// A struct with so many present boxes behind one another.
-pub(crate) fn boxes(alloc: Global, count: u32) -> Result<Value, AllocError> {
+fn boxes(alloc: Global, count: u32) -> Option<Value> {
     let mut value = struct_of(alloc, Value::Absent)?;
     for _ in 0..count {
         value = struct_of(alloc, value)?;
     }
-    Ok(value)
-}
-
-/// A table of so many envelopes with these members.
-pub(crate) fn table(
-    alloc: Global,
-    count: u64,
-    first: (u64, Member),
-    second: Option<(u64, Member)>,
-) -> Result<Value, AllocError> {
-    let mut members = Members::new(alloc);
-    let (ordinal, member) = first;
-    members.push(ordinal, member)?;
-    if let Some((ordinal, member)) = second {
-        members.push(ordinal, member)?;
-    }
-    Ok(Value::Table { count, members })
-}
-
-/// A union of a member.
-pub(crate) fn union(alloc: Global, ordinal: u64, member: Member) -> Result<Value, AllocError> {
-    Ok(Value::Union(ordinal, Content::new(alloc, member)?))
-}
-
-/// A known number.
-pub(crate) fn known(number: i128) -> Member {
-    Member::Known(Value::Number(number))
+    Some(value)
 }
 
 /// An unknown member of these bytes and one handle.
-pub(crate) fn unknown(alloc: Global, inline: bool, bytes: &[u8]) -> Result<Member, AllocError> {
-    let mut items = Vec::new(alloc);
-    items.extend_from_slice(bytes)?;
+fn unknown(alloc: Global, inline: bool, text: &str) -> Option<Member> {
     let mut handles = Handles::new(alloc);
-    handles.push(HandleInfo {
-        id: 9,
-        object_type: 3,
-        rights: 1,
-    })?;
-    Ok(Member::Unknown {
+    handles.push(handle(9)).ok()?;
+    Some(Member::Unknown {
         inline,
-        bytes: Bytes::from_vec(items),
+        bytes: bytes(alloc, text)?,
         handles,
     })
+}
+
+/// A member behind its ordinal.
+fn member(alloc: Global, word: &str) -> Option<(u64, Member)> {
+    if let Some((ordinal, number)) = word.split_once('=') {
+        let number = number.parse::<i64>().ok()?;
+        return Some((
+            ordinal.parse().ok()?,
+            Member::Known(Value::Number(i128::from(number))),
+        ));
+    }
+    let (ordinal, rest) = word.split_once(':')?;
+    let (place, text) = rest.split_once(':')?;
+    let member = unknown(alloc, place == "in", text)?;
+    Some((ordinal.parse().ok()?, member))
+}
+
+/// A table: its count, and its members.
+fn table(alloc: Global, text: &str) -> Option<Value> {
+    let (count, rest) = text.split_once(' ')?;
+    let mut members = Members::new(alloc);
+    for word in rest.split_whitespace() {
+        let (ordinal, member) = member(alloc, word)?;
+        members.push(ordinal, member).ok()?;
+    }
+    Some(Value::Table {
+        count: count.parse().ok()?,
+        members,
+    })
+}
+
+/// A union of a member.
+fn union(alloc: Global, text: &str) -> Option<Value> {
+    let (ordinal, member) = member(alloc, text)?;
+    Some(Value::Union(ordinal, Content::new(alloc, member).ok()?))
+}
+
+/// The value that a text says; nothing where it says none, or memory ran out.
+pub(crate) fn value_of(alloc: Global, text: &str) -> Option<Value> {
+    let (kind, rest) = text.split_once(' ').unwrap_or((text, ""));
+    match kind {
+        "absent" => Some(Value::Absent),
+        "true" => Some(Value::Bool(true)),
+        "number" => Some(Value::Number(i128::from(rest.parse::<i64>().ok()?))),
+        "text" => Some(Value::Text(bytes(alloc, rest)?)),
+        "long" => Some(Value::Text(long(alloc, rest.parse().ok()?)?)),
+        "list" => Some(Value::List(numbers(alloc, rest)?)),
+        "fields" => Some(Value::Fields(numbers(alloc, rest)?)),
+        "handles" => Some(Value::List(handles(alloc, rest.parse().ok()?)?)),
+        "boxes" => boxes(alloc, rest.parse().ok()?),
+        "table" => table(alloc, rest),
+        "union" => union(alloc, rest),
+        _ => None,
+    }
 }
