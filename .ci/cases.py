@@ -18,6 +18,11 @@ the next of that kind, are printed: `entries ..` by `compile`, all others by `ta
 beside others. A word `*` stands for any word, and `{x}` for any that is the same at each `{x}` of the case and another than those
 of other names. A line behind the word `no` is not printed. `bytes` and hexadecimal digits are the whole table.
 
+`cases/command/*.txt`: a line `file NAME` has the bytes of a file behind it, and a line `text NAME` its text, in which `^` is a line
+feed; `copy NAME PATH` takes a file of the repository, and `input` has the bytes of the standard input. They hold for the lines below.
+Each other line has the words of a command line, then `->`, the exit status and what is printed, on the output where the status is 0,
+else on the errors; `\\n` in it is a line feed.
+
 Empty lines, and those that begin with `#`, are remarks. A refused case prints one line on the errors, nothing on the output,
 writes no table and exits with 1; an accepted one prints on the output alone, and exits with 0.
 """
@@ -207,7 +212,51 @@ def table_cases(name, text):
         yield case
 
 
-READERS = {"compile": compile_cases, "decode": decode_cases, "table": table_cases}
+class CommandCase:
+    """A line of a file of command lines, with the files and the standard input that it reads."""
+
+    def __init__(self, where, words, files, given, status, wanted):
+        self.where, self.words, self.files, self.given, self.status, self.wanted = where, words, files, given, status, wanted
+
+    def what_fails(self, program, folder):
+        """Runs the case in a folder, and returns what is wrong with it, or nothing."""
+        for name, data in self.files.items():
+            with open(f"{folder}/{name}", "wb") as it:
+                it.write(data)
+        ran = subprocess.run([program, *self.words], cwd=folder, input=self.given, capture_output=True, timeout=120)
+        texts = [ran.stdout.decode(errors="replace"), ran.stderr.decode(errors="replace")]
+        printed, empty = reversed(texts) if self.status else texts
+        is_right = printed == self.wanted and not empty and ran.returncode == self.status
+        return "" if is_right else f"status {ran.returncode}, output {texts[0]!r}, errors {texts[1]!r}"
+
+
+def command_cases(name, text):
+    files, given = {}, b""
+    for number, line in remarks_left_out(text):
+        word, _, rest = line.partition(" ")
+        words, arrow, wanted = line.partition(" -> ")
+        if word in ("file", "text", "copy"):
+            of, _, data = rest.partition(" ")
+            files = {**files, of: read_by(word, data)}
+        elif word == "input":
+            given = bytes_of(rest.split())
+        else:
+            status, _, printed = wanted.partition(" ")
+            lines = printed.replace("\\n", "\n") + "\n" if printed else ""
+            yield CommandCase(f"{name}:{number}", words.split(), files, given, int(status), lines)
+
+
+def read_by(word, data):
+    """Returns the bytes that a line gives a file: hexadecimal words, a text, or those of a file of the repository."""
+    if word == "file":
+        return bytes_of(data.split())
+    if word == "text":
+        return data.replace("^", "\n").encode()
+    with open(f"{os.path.dirname(os.path.dirname(os.path.realpath(__file__)))}/{data}", "rb") as it:
+        return it.read()
+
+
+READERS = {"compile": compile_cases, "decode": decode_cases, "table": table_cases, "command": command_cases}
 
 
 def files_of(root):

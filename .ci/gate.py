@@ -13,7 +13,8 @@ changes (.ci/wrong_bodies.py), which takes seconds where a check of the crate ta
     .ci/run --whole     `rt ci` as it is, with every wrong body over its whole crate; where all passes it writes .ci/tried anew
 
 It prints first which wrong bodies it does not try again. After rt ci it runs the examples of the documents (.ci/examples.py) and
-the cases of the program (.ci/cases.py), each as two compilers build it, then tries the wrong bodies and the programs that must not
+the cases of the program (.ci/cases.py), each as two compilers build it, and compares the documents with the program
+(.ci/blocks.py, .ci/explained.py, .ci/manual.py), then tries the wrong bodies and the programs that must not
 compile (.ci/must_not_compile.py). Its last line but one says how long it took, and the last is rt ci's: `N passed, M failed`.
 
 A line of .ci/tried is `NAME KEY KIT`: every wrong body of the crate was refused at that key. The key is a sum of the
@@ -33,8 +34,11 @@ import time
 
 sys.dont_write_bytecode = True
 sys.path.insert(0, os.path.dirname(os.path.realpath(__file__)))
+import blocks  # noqa: E402
 import cases  # noqa: E402
 import examples  # noqa: E402
+import explained  # noqa: E402
+import manual  # noqa: E402
 import must_not_compile  # noqa: E402
 import wrong_bodies  # noqa: E402
 
@@ -209,9 +213,13 @@ def programs(room):
 
 
 def tells_right(room):
-    """Runs the examples of the documents and the cases by the program that this room has, and returns whether all are right."""
+    """Runs what the documents and the cases show by the program that this room has, and returns whether all is right."""
     built = programs(room)
-    return all([examples.run(room, it) for it in built]) and cases.run(room, built)
+    if not all([examples.run(room, it) for it in built]) or not cases.run(room, built):
+        return False
+    if not os.path.isfile(f"{room}/docs/fidl.1"):
+        return True
+    return all([blocks.run(room, built), explained.run(room, built), manual.run(room, built)])
 
 
 class Times:

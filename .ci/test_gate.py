@@ -15,8 +15,12 @@ import unittest.mock
 
 sys.dont_write_bytecode = True
 sys.path.insert(0, os.path.dirname(os.path.realpath(__file__)))
+import blocks  # noqa: E402
 import cases  # noqa: E402
+import explained  # noqa: E402
 import gate  # noqa: E402
+import manual  # noqa: E402
+import sentences  # noqa: E402
 import wrong_bodies  # noqa: E402
 
 FILES = {
@@ -486,6 +490,54 @@ echo made > out.fct; echo entries $#, roots 0, protocols 0, methods 0, bytes 40"
         status, lines = self.run_with("--record", f'echo more >> {self.root}/crates/low/src/lib.rt; echo "9 passed, 0 failed"')
         self.assertEqual((status, lines[-1]), (1, "0 passed, 1 failed"))
         self.assertEqual(self.tried_again(), ALL)
+
+    def program(self, script):
+        """Writes a program of this script, and returns its path."""
+        self.write("fidl", f"#!/bin/sh\n{script}\n")
+        os.chmod(f"{self.root}/fidl", 0o755)
+        return f"{self.root}/fidl"
+
+    def silently(self, run, *given):
+        with contextlib.redirect_stdout(io.StringIO()) as said:
+            return run(*given), said.getvalue()
+
+    def test_blocks_of_fidl_are_compiled(self):
+        program = self.program('grep -q bad a.fidl && echo "a.fidl:1:1: lex 2 BadByte" >&2 && exit 1; exit 0')
+        for text, wanted in (("good", True), ("bad", False), ("// refused: lex 2 BadByte\nbad", True), ("// refused: lex 3 BadIdentifier\nbad", False)):
+            self.write("docs/language/a.md", f"Text:\n\n```fidl\n{text}\n```\n")
+            self.assertEqual(self.silently(blocks.run, self.root, [program])[0], wanted, text)
+
+    def test_files_of_a_block(self):
+        self.assertEqual(explained.files_of(["// a.fidl", "x", "// b.fidl", "y", "z"]), {"a.fidl": "x\n", "b.fidl": "y\nz\n"})
+        self.assertEqual(explained.files_of(["// no file", "x"]), {"a.fidl": "// no file\nx\n"})
+
+    def test_an_explanation_whose_input_is_not_refused(self):
+        entry = explained.entries_of('lex 2 BadByte\n    It.\n    Rules: docs/a.md, "A"\n  Refused:\n    bad\n  Accepted:\n    good\n')[0]
+        self.assertEqual((str(entry), entry.rules, entry.parts), ("lex 2 BadByte", ("docs/a.md", ["A"]), {"Refused": ["bad"], "Accepted": ["good"]}))
+        refuses = 'grep -q bad a.fidl && echo "a.fidl:1:1: lex 2 BadByte" >&2 && exit 1; exit 0'
+        for script, wanted in ((refuses, True), ("exit 0", False), ('echo "a.fidl:1:1: lex 2 BadByte" >&2; exit 1', False), (refuses.replace("lex 2", "lex 3"), False)):
+            self.assertEqual(not explained.what_fails(self.program(script), self.root, entry), wanted, script)
+
+    def test_faults_that_only_the_documents_know(self):
+        self.write("docs/language.md", "- [A](a.md)\n| 1 NotUtf8, 2 BadByte | text |\n")
+        self.write("docs/table.md", "| 1 | BadMagic | 0 |\n")
+        self.write("docs/decoding.md", "| 1 TooLong | text |\n")
+        known = [explained.Entry([it, '    Rules: docs/language.md, "A"']) for it in ("lex 1 NotUtf8", "table 1 BadMagic", "decode 1 TooLong")]
+        self.assertEqual(explained.what_is_left_out(self.root, known), ["sources 2 BadByte: the program does not explain it"])
+
+    def test_a_manual_page_without_an_option(self):
+        text = "Usage: it\n\nCommands:\n  go  Goes\n"
+        help_of = {(): text, ("go",): "Arguments:\n  <FILE>...  The file\n\nOptions:\n      --fast  Fast\n  -h, --help  Print help\n"}
+        page = ".SH COMMANDS\n.SS go\n.TP\n\\fIFILE\\fR\nThe file.\n.TP\n\\fB\\-\\-fast\\fR\nFast.\n.TP\n\\fB\\-h\\fR, \\fB\\-\\-help\\fR\nHelp.\n"
+        with unittest.mock.patch.object(manual, "help_of", lambda program, *words: help_of[words]):
+            for wanted, text in ((True, page), (False, page.replace("fast", "slow")), (False, page.replace(".SS go", ".SS stop"))):
+                self.write("docs/fidl.1", text)
+                self.assertEqual(self.silently(manual.run, self.root, [self.program("")])[0], wanted)
+
+    def test_long_sentences(self):
+        long = " ".join(["word"] * 26)
+        text = f"# {long}\n\n{long}. Short one.\n\n- {long}\n\n    {long}\n\n| {long} | short |\n"
+        self.assertEqual([count for _, count, _ in sentences.sentences(text) if count > sentences.MOST], [26, 26, 26])
 
 
 if __name__ == "__main__":

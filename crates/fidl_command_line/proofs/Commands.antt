@@ -1,10 +1,12 @@
 -- What clap's builder makes of the program's command line, and what a parse of it gives.
 use Rattle.std.proofs.Common.{◌≡◌, refl, ap, ◌∙◌, List}
-use Rattle.std.specs.Prelude.{Option, Some, None, Result, Ok, Err, IfOk, IfErr, option_map}
-use Rattle.clap.specs.Words.{App, Shape, Row, Text, app_of}
-use Rattle.clap.specs.Simple.{shape_of, with_subcommand}
+use Rattle.std.specs.Prelude.{Option, Some, None, Result, Ok, Err, IfOk, IfErr, option_map, true, false, ◌||◌}
+use Rattle.clap.specs.Words.{App, Shape, Rule, Row, Text, app_of, rule_of}
+use Rattle.clap.specs.Simple.{shape_of, with_subcommand, with_rule}
+use Rattle.clap.specs.declared.builder.arg.Arg.{Arg}
 use Rattle.clap.specs.declared.builder.command.Command.{Command}
-use Rattle.clap.specs.Built.{AddsSubcommand}
+use Rattle.clap.specs.declared.builder.command.Command.TheViews.{out-Command}
+use Rattle.clap.specs.Built.{AddsArg, AddsSubcommand}
 use Rattle.fidl_command_line.specs.CommandLine.{IsCommandOf}
 
 -- what holds of a result's value leads to another fact of it
@@ -38,3 +40,21 @@ both_of name rows (Some x) n rs a b =
     let first : name x ≡ n = cc in
     let last : rows x ≡ rs = cc in
     rw (first, last) refl
+
+-- what an argument that is not global adds
+abbrev pub IsApp : App → Command → Type 0
+IsApp app c = (app_of c ≡ app) × ((out-Command c).has_globals ≡ false)
+
+pub grown : (old new : Command) (a : Arg) (app : App) (rule : Rule) → IsApp app old → AddsArg old a new → rule_of a ≡ rule → a.global ≡ false → IsApp (with_rule app rule) new
+grown old new a app rule is h e g = (
+  h.shape g ∙ ap (λ (x : App). with_rule x (rule_of a)) is.0 ∙ ap (λ (r : Rule). with_rule app r) e,
+  h.globals ∙ ap (λ b. b || a.global) is.1 ∙ g,
+)
+
+-- a subcommand of this name was not found, so the words do not give it
+name_of : {B : Type 0} (name : B → Text) (rows : B → List Row) (o : Option B) (n : Text) (rs : List Row) → option_map (pair_of name rows) o ≡ Some (n, rs) → option_map name o ≡ Some n
+name_of name rows None n rs e = cc
+name_of name rows (Some x) n rs e = let both : (name x, rows x) ≡ (n, rs) = cc in ap Some (ap (λ (p : Text × List Row). p.0) both)
+
+pub none_here : {B : Type 0} (name : B → Text) (rows : B → List Row) (o : Option B) (n : Text) (rs : List Row) → (option_map name o ≡ Some n → false ≡ true) → option_map (pair_of name rows) o ≡ Some (n, rs) → ⊥
+none_here name rows o n rs found given = let bad = found (name_of name rows o n rs given) in cc

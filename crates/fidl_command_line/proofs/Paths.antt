@@ -1,5 +1,5 @@
 -- Names that have the path of a name, one after another.
-use Rattle.std.proofs.Common.{◌≡◌, ℕ, ◌+◌, ◌<◌, ◌++◌, List, [], length, get_or, take, drop, take-append-drop, sym, ap, subst, ◌∙◌, true, false}
+use Rattle.std.proofs.Common.{◌≡◌, ℕ, ◌+◌, ◌<◌, List, [], length, get_or, take, drop, take-append-drop, sym, ap, subst, ◌∙◌, true, false}
 use Rattle.std.specs.Prelude.{Bool, ◌||◌}
 use Rattle.std.specs.List.{list_any}
 use Rattle.std.specs.Ordering.{is_eq}

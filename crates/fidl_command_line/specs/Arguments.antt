@@ -1,33 +1,38 @@
 -- What the words of a command line give, and why they give no arguments (docs/program.md,
 -- "Statuses").
-use Rattle.std.specs.Prelude.{◌≡◌, ◌≢◌, ◌⊎◌, ⊤, ℕ, ◌+◌, List, [], codes, Some, None, Ok, IsErr}
-use Rattle.std.specs.Prelude.{Bool, true, false, unwrap_or, map, slice_get, string_bytes}
+use Rattle.std.specs.Prelude.{◌≡◌, ◌≢◌, ◌⊎◌, ⊤, ℕ, ◌+◌, List, [], ◌∷◌, codes, Some, None}
+use Rattle.std.specs.Prelude.{Bool, true, false, Option, unwrap_or, map, slice_get, string_bytes}
 use Rattle.std.specs.List.{AllZip, list_any}
+use Rattle.std.specs.Option.{option_map_or}
 use Rattle.std.specs.Ordering.{is_eq}
 use Rattle.std.specs.Path.{path_cmp, path_join, cur_dir}
+use Rattle.std.specs.Str.{bytes_eq}
 use Rattle.clap.specs.Words.{Row, Text, takes, first_of}
 use Rattle.clap.specs.Walk.{all_of}
 use Rattle.clap.specs.declared.error.kind.ErrorKind.{ErrorKind}
 use Rattle.clap.specs.declared.error.kind.ErrorKind.TheVariants.{DisplayHelp, DisplayVersion}
 use Rattle.clap.specs.declared.error.kind.ErrorKind.TheVariants.{OutOfMemory}
-use Rattle.hex.specs.Hex.{decode_of}
+use Rattle.fidl_hints.specs.declared.explaining.Faults.{Faults}
+use Rattle.fidl_hints.specs.declared.explaining.Faults.TheVariants as faults
 use Rattle.fidl_command_line.specs.declared.unread.Unread.{Unread}
-use Rattle.fidl_command_line.specs.declared.unread.Unread.TheVariants.{Asked, Wrong, NotText, Missing}
-use Rattle.fidl_command_line.specs.declared.unread.Unread.TheVariants.{BadHex, BadHandle, OutIsSource}
-use Rattle.fidl_command_line.specs.declared.unread.Unread.TheVariants.{Memory}
+use Rattle.fidl_command_line.specs.declared.unread.Unread.TheVariants.{Asked, Wrong, Missing}
+use Rattle.fidl_command_line.specs.declared.unread.Unread.TheVariants.{BadHex, BadRaw, BadFault}
+use Rattle.fidl_command_line.specs.declared.unread.Unread.TheVariants.{TwoLists}
+use Rattle.fidl_command_line.specs.declared.unread.Unread.TheVariants.{BadHandle, OutIsSource, Memory}
 use Rattle.fidl_command_line.specs.declared.arguments.CompileArguments.{CompileArguments}
 use Rattle.fidl_command_line.specs.declared.arguments.DecodeArguments.{DecodeArguments}
+use Rattle.fidl_command_line.specs.declared.arguments.TableArguments.{TableArguments}
+use Rattle.fidl_command_line.specs.declared.arguments.Listing.{Listing}
+use Rattle.fidl_command_line.specs.declared.arguments.Listing.TheVariants.{Records, Roots, Protocols}
 use Rattle.fidl_command_line.specs.declared.arguments.Arguments.{Arguments}
 use Rattle.fidl_command_line.specs.declared.arguments.Arguments.TheVariants.{Compile, Decode, Table}
+use Rattle.fidl_command_line.specs.declared.arguments.Arguments.TheVariants.{Explain}
 use Rattle.fidl_wire.specs.declared.handle.HandleInfo.{HandleInfo}
 use Rattle.fidl_command_line.specs.CommandLine.{program, GivesCompile, GivesDecode, GivesTable}
-use Rattle.fidl_command_line.specs.Handles.{IsHandleText}
+use Rattle.fidl_command_line.specs.CommandLine.{GivesExplain}
+use Rattle.fidl_command_line.specs.Contents.{IsMessage, IsNoMessage}
+use Rattle.fidl_command_line.specs.Handles.{IsDecimal, IsHandleText}
 use Rattle.fidl_command_line.specs.Complaints.{handle_line}
-
--- an argument is not read: it is wrong and told so, or it is right and memory ran out
-abbrev pub IsTold : (told_wrong : Unread) (IsWrong IsRight : Type 0) → Unread → Type 0
-IsTold told_wrong IsWrong IsRight told = ((told ≡ told_wrong) × IsWrong)
-    ⊎ ((told ≡ Memory) × IsRight)
 
 -- one of the texts is not that of a handle, and the line names it by its number
 pub record NamesHandle (texts : List (List ℕ)) (line : List ℕ) : Type 0 where
@@ -58,21 +63,30 @@ is_one_path one other = is_eq (path_cmp (path_join cur_dir one) (path_join cur_d
 abbrev pub handle_texts : List Row → List (List ℕ)
 handle_texts rows = unwrap_or (all_of (codes "handle") rows) []
 
+-- whether an option without a value was given
+abbrev pub is_given : (id : List ℕ) (rows : List Row) → Bool
+is_given id rows = option_map_or (λ value. bytes_eq value (codes "true")) (first_of id rows) false
+
 -- the values of the arguments are these arguments of `decode`
 pub record IsDecode (rows : List Row) (given : DecodeArguments) : Type 0 where
   pub table : first_of (codes "TABLE") rows ≡ Some given.table.now
   pub root : first_of (codes "ROOT") rows ≡ Some given.root.now
   pub hex : List ℕ
   pub hex_given : first_of (codes "HEX") rows ≡ Some hex
-  pub bytes : decode_of hex ≡ Ok given.bytes.items
+  pub message : IsMessage hex (is_given (codes "raw") rows) given.message
   pub handles : AllZip IsHandleText (handle_texts rows) given.handles.items
+
+-- the argument HEX of `decode` gives no message
+abbrev pub HasNoMessage : List Row → Unread → Type 0
+HasNoMessage rows unread = (hex : List ℕ) × (first_of (codes "HEX") rows ≡ Some hex)
+    × IsNoMessage hex (is_given (codes "raw") rows) unread
 
 -- why the values of the arguments are no arguments of `decode`
 abbrev pub IsNoDecode : List Row → Unread → Type 0
 IsNoDecode rows Missing = (first_of (codes "TABLE") rows ≡ None)
     ⊎ (first_of (codes "ROOT") rows ≡ None) ⊎ (first_of (codes "HEX") rows ≡ None)
-IsNoDecode rows BadHex = (hex : List ℕ) × (first_of (codes "HEX") rows ≡ Some hex)
-    × IsErr (decode_of hex)
+IsNoDecode rows BadHex = HasNoMessage rows BadHex
+IsNoDecode rows BadRaw = HasNoMessage rows BadRaw
 IsNoDecode rows (BadHandle line) = AreNoHandles (handle_texts rows) (BadHandle line)
 IsNoDecode rows Memory = ⊤
 IsNoDecode rows _ = ⊥
@@ -81,6 +95,7 @@ IsNoDecode rows _ = ⊥
 -- none of the sources
 pub record IsCompile (rows : List Row) (given : CompileArguments) : Type 0 where
   pub out : first_of (codes "out") rows ≡ Some given.out.now
+  pub snippet : given.snippet ≡ is_given (codes "snippet") rows
   pub sources : all_of (codes "FILE") rows ≡ Some (map (λ name. name.now) given.sources.items)
   pub apart : list_any (is_one_path given.out.now) (map (λ name. name.now) given.sources.items)
       ≡ false
@@ -101,63 +116,83 @@ IsNoCompile rows OutIsSource = WritesSource rows
 IsNoCompile rows Memory = ⊤
 IsNoCompile rows _ = ⊥
 
--- the words give these arguments of `compile`
-pub record IsCompileGiven (words : List Text) (given : CompileArguments) : Type 0 where
-  pub rows : List Row
-  pub entered : GivesCompile words rows
-  pub compile : IsCompile rows given
+-- what is printed of a table, by whether `--roots` and `--protocols` were given; not both
+abbrev pub listing_of : (roots protocols : Bool) → Option Listing
+listing_of false false = Some Records
+listing_of true false = Some Roots
+listing_of false true = Some Protocols
+listing_of true true = None
 
--- the words give these arguments of `decode`
-pub record IsDecodeGiven (words : List Text) (given : DecodeArguments) : Type 0 where
-  pub rows : List Row
-  pub entered : GivesDecode words rows
-  pub decode : IsDecode rows given
+-- what the values of the arguments say is printed of a table
+abbrev pub listing_given : List Row → Option Listing
+listing_given rows = listing_of (is_given (codes "roots") rows) (is_given (codes "protocols") rows)
 
--- the words give `table` the name of this file
-pub record IsTableGiven (words : List Text) (file : List ℕ) : Type 0 where
-  pub rows : List Row
-  pub entered : GivesTable words rows
-  pub table : first_of (codes "TABLE") rows ≡ Some file
+-- the values of the arguments are these arguments of `table`
+pub record IsTable (rows : List Row) (given : TableArguments) : Type 0 where
+  pub file : first_of (codes "TABLE") rows ≡ Some given.file.now
+  pub listing : listing_given rows ≡ Some given.listing
+
+-- why the values of the arguments are no arguments of `table`
+abbrev pub IsNoTable : List Row → Unread → Type 0
+IsNoTable rows Missing = first_of (codes "TABLE") rows ≡ None
+IsNoTable rows TwoLists = listing_given rows ≡ None
+IsNoTable rows Memory = ⊤
+IsNoTable rows _ = ⊥
+
+-- one word is a fault's name, and two are a stage and a number
+abbrev pub IsAskedBy : (words : List (List ℕ)) → Faults → Type 0
+IsAskedBy words (faults.Named name) = words ≡ name.now ∷ []
+IsAskedBy words (faults.Numbered stage number) =
+    (text : List ℕ) × (words ≡ stage.now ∷ text ∷ []) × IsDecimal text number
+
+-- the words are neither
+abbrev pub NamesNoFault : (words : List (List ℕ)) → Type 0
+NamesNoFault words = (asked : Faults) → ¬ IsAskedBy words asked
+
+-- the values of the arguments ask for these faults
+abbrev pub IsExplain : List Row → Faults → Type 0
+IsExplain rows asked = (words : List (List ℕ)) × (all_of (codes "FAULT") rows ≡ Some words)
+    × IsAskedBy words asked
+
+-- why the values of the arguments ask for no faults
+abbrev pub IsNoExplain : List Row → Unread → Type 0
+IsNoExplain rows Missing = all_of (codes "FAULT") rows ≡ None
+IsNoExplain rows BadFault = (words : List (List ℕ))
+    × (all_of (codes "FAULT") rows ≡ Some words) × NamesNoFault words
+IsNoExplain rows Memory = ⊤
+IsNoExplain rows _ = ⊥
+
+-- the words name this command, and the values of its arguments are as they have to be
+abbrev pub Enters : (Names : List Row → Type 0) (Holds : List Row → Type 0) → Type 0
+Enters Names Holds = (rows : List Row) × Names rows × Holds rows
 
 -- the words give these arguments of a command
 abbrev pub IsGiven : List Text → Arguments → Type 0
-IsGiven words (Compile given) = IsCompileGiven words given
-IsGiven words (Decode given) = IsDecodeGiven words given
-IsGiven words (Table file) = IsTableGiven words file.now
+IsGiven words (Compile given) = Enters (GivesCompile words) (λ rows. IsCompile rows given)
+IsGiven words (Decode given) = Enters (GivesDecode words) (λ rows. IsDecode rows given)
+IsGiven words (Table given) = Enters (GivesTable words) (λ rows. IsTable rows given)
+IsGiven words (Explain asked) = Enters (GivesExplain words) (λ rows. IsExplain rows asked)
 
--- the words name `decode`, whose arguments have no such values
-pub record IsBadlyGiven (words : List Text) (unread : Unread) : Type 0 where
-  pub rows : List Row
-  pub entered : GivesDecode words rows
-  pub fails : IsNoDecode rows unread
-
--- the words name `compile`, whose arguments have no such values
-pub record IsBadlyCompiled (words : List Text) (unread : Unread) : Type 0 where
-  pub rows : List Row
-  pub entered : GivesCompile words rows
-  pub fails : IsNoCompile rows unread
+-- the words name a command whose arguments have no such values
+abbrev pub HasBadValues : List Text → Unread → Type 0
+HasBadValues words unread = Enters (GivesCompile words) (λ rows. IsNoCompile rows unread)
+    ⊎ Enters (GivesDecode words) (λ rows. IsNoDecode rows unread)
+    ⊎ Enters (GivesTable words) (λ rows. IsNoTable rows unread)
+    ⊎ Enters (GivesExplain words) (λ rows. IsNoExplain rows unread)
 
 -- the words name no command
 abbrev pub NamesNone : List Text → Type 0
 NamesNone words = (rows : List Row) → (GivesCompile words rows → ⊥) × (GivesDecode words rows → ⊥)
-    × (GivesTable words rows → ⊥)
-
--- the words name `table`, and no file
-abbrev pub LacksFile : List Text → Type 0
-LacksFile words = (rows : List Row) × GivesTable words rows
-    × (first_of (codes "TABLE") rows ≡ None)
+    × (GivesTable words rows → ⊥) × (GivesExplain words rows → ⊥)
 
 -- why the words give no arguments: they are no command line, or ask for help; or the arguments have
 -- no such values
 abbrev pub IsUngiven : List Text → Unread → Type 0
 IsUngiven words (Asked text) = takes program words ≡ false
 IsUngiven words (Wrong line) = takes program words ≡ false
-IsUngiven words NotText = ⊥
-IsUngiven words Missing = NamesNone words ⊎ IsBadlyCompiled words Missing
-    ⊎ IsBadlyGiven words Missing ⊎ LacksFile words
-IsUngiven words OutIsSource = IsBadlyCompiled words OutIsSource
+IsUngiven words Missing = NamesNone words ⊎ HasBadValues words Missing
 IsUngiven words Memory = ⊤
-IsUngiven words unread = IsBadlyGiven words unread
+IsUngiven words unread = HasBadValues words unread
 
 -- what is told where clap gives no matches, by the kind of its error; memory can run out while the
 -- text is made

@@ -5,7 +5,7 @@ use Rattle.clap.specs.Lexer.{usize_max}
 use Rattle.clap.specs.declared.builder.command.Command.{Command}
 use Rattle.clap.specs.declared.builder.command.Command.TheViews.{out-Command}
 use Rattle.clap.specs.Simple.{new_shape}
-use Rattle.clap.specs.declared.builder.action.ArgAction.TheVariants.{Set, Append}
+use Rattle.clap.specs.declared.builder.action.ArgAction.TheVariants.{Set, Append, SetTrue}
 
 -- an argument that must be given, by its place
 abbrev pub positional : Text → Rule
@@ -28,6 +28,18 @@ out_option = record (new_rule (codes "out")) {
   required = true;
 }
 
+-- an option without a value, which is given or not
+abbrev pub flag : Text → Rule
+flag id = record (new_rule id) { long = Some id; action = Some SetTrue }
+
+-- the name of a fault, or a stage and a number
+abbrev pub fault_argument : Rule
+fault_argument = record (new_rule (codes "FAULT")) {
+  range = Some (record { start_inclusive = 1; end_inclusive = usize_max });
+  action = Some Append;
+  required = true;
+}
+
 -- one file or more, by their places
 abbrev pub files_argument : Rule
 files_argument = record (new_rule (codes "FILE")) {
@@ -36,20 +48,28 @@ files_argument = record (new_rule (codes "FILE")) {
   required = true;
 }
 
--- `compile --out OUT FILE..`
+-- `compile --out OUT [--snippet] FILE..`
 abbrev pub compile_command : Shape
-compile_command = record (new_shape (codes "compile")) { rules = out_option ∷ files_argument ∷ [] }
+compile_command = record (new_shape (codes "compile")) {
+  rules = out_option ∷ flag (codes "snippet") ∷ files_argument ∷ [];
+}
 
--- `decode [--handle I:T:R].. TABLE ROOT HEX`
+-- `decode [--handle I:T:R].. [--raw] TABLE ROOT HEX`
 abbrev pub decode_command : Shape
 decode_command = record (new_shape (codes "decode")) {
-  rules = handle_option ∷ positional (codes "TABLE") ∷ positional (codes "ROOT")
+  rules = handle_option ∷ flag (codes "raw") ∷ positional (codes "TABLE") ∷ positional (codes "ROOT")
       ∷ positional (codes "HEX") ∷ [];
 }
 
--- `table TABLE`
+-- `table [--roots] [--protocols] TABLE`
 abbrev pub table_command : Shape
-table_command = record (new_shape (codes "table")) { rules = positional (codes "TABLE") ∷ [] }
+table_command = record (new_shape (codes "table")) {
+  rules = flag (codes "roots") ∷ flag (codes "protocols") ∷ positional (codes "TABLE") ∷ [];
+}
+
+-- `explain FAULT..`
+abbrev pub explain_command : Shape
+explain_command = record (new_shape (codes "explain")) { rules = fault_argument ∷ [] }
 
 -- `fidl COMMAND`; clap adds help and version
 abbrev pub program : App
@@ -61,7 +81,7 @@ program = record {
         is_leaf =
             false;
       };
-  subs = compile_command ∷ decode_command ∷ table_command ∷ [];
+  subs = compile_command ∷ decode_command ∷ table_command ∷ explain_command ∷ [];
 }
 
 -- this is a command of the program, with no commands of its own
@@ -80,3 +100,7 @@ GivesDecode words rows = subcommand_of program words ≡ Some (codes "decode", r
 -- the words name the command `table`, and give its argument this value
 abbrev pub GivesTable : List Text → List Row → Type 0
 GivesTable words rows = subcommand_of program words ≡ Some (codes "table", rows)
+
+-- the words name the command `explain`, and give its argument these values
+abbrev pub GivesExplain : List Text → List Row → Type 0
+GivesExplain words rows = subcommand_of program words ≡ Some (codes "explain", rows)

@@ -3,7 +3,8 @@ use Rattle.std.specs.Prelude.{ℕ, List, [], ◌++◌, codes, decimal, string_by
 use Rattle.fidl_command_line.specs.declared.unread.Unread.{Unread}
 use Rattle.fidl_command_line.specs.declared.unread.Unread.TheVariants.{Asked, Wrong, NotText}
 use Rattle.fidl_command_line.specs.declared.unread.Unread.TheVariants.{Missing, BadHex, BadHandle}
-use Rattle.fidl_command_line.specs.declared.unread.Unread.TheVariants.{OutIsSource, Memory}
+use Rattle.fidl_command_line.specs.declared.unread.Unread.TheVariants.{OutIsSource, BadRaw, TwoLists, BadFault}
+use Rattle.fidl_command_line.specs.declared.unread.Unread.TheVariants.{Memory}
 
 -- memory ran out
 abbrev pub no_memory : List ℕ
@@ -20,8 +21,12 @@ complaint_of (Asked text) = []
 complaint_of (Wrong line) = string_bytes line
 complaint_of NotText = codes "error: the arguments: UTF-8 is wanted"
 complaint_of Missing =
-    codes "error: the arguments: compile --out OUT FILE.., decode TABLE ROOT HEX or table TABLE is wanted"
+    codes "error: the arguments: compile --out OUT FILE.., decode TABLE ROOT HEX, table TABLE or explain FAULT is wanted"
 complaint_of OutIsSource = codes "error: --out: a file that is none of the sources is wanted"
 complaint_of BadHex = codes "error: HEX: an even number of hexadecimal digits is wanted"
+complaint_of BadRaw = codes "error: --raw: @FILE or - is wanted in place of HEX"
+complaint_of TwoLists = codes "error: --protocols: it does not go with --roots"
+complaint_of BadFault =
+    codes "error: FAULT: a name is wanted, or a stage and a number, as in types 9"
 complaint_of (BadHandle line) = string_bytes line
 complaint_of Memory = no_memory

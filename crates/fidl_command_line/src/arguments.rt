@@ -1,22 +1,22 @@
 //! What a command line gives.
-ghost use Rattle.std.specs.Prelude.{◌≡◌, IsErr, IsOk, Ok, IfOk, IfErr, MatchBool};
-ghost use Rattle.std.specs.Prelude.{map, option_map, codes, Some, None};
-ghost use Rattle.std.specs.List.{AllZip, list_all, list_any};
+ghost use Rattle.std.specs.Prelude.{◌≡◌, IfOk, IfErr, IfSome, IfNone, map, option_map};
+ghost use Rattle.std.specs.List.{AllZip, list_any};
 ghost use Rattle.std.specs.Path.{path_buf_bytes, path_join, cur_dir};
 ghost use Rattle.clap.specs.Words.{found_of, rows_of, first_of};
-ghost use Rattle.hex.specs.Hex.{decode_of, is_hex_digit};
 ghost use Rattle.fidl_command_line.specs.Handles.{IsHandleText};
-ghost use Rattle.fidl_command_line.specs.Arguments.{IsTold, AreNoHandles, IsDecode, IsNoDecode};
-ghost use Rattle.fidl_command_line.specs.Arguments.{IsCompile, IsNoCompile, IsGiven, IsUngiven};
-ghost use Rattle.fidl_command_line.specs.Arguments.{handle_texts, is_one_path, IsHandleRefusal};
-ghost use Rattle.fidl_command_line.specs.declared.unread.Unread.TheVariants as unread;
+ghost use Rattle.fidl_command_line.specs.Arguments.{AreNoHandles, IsDecode, IsNoDecode, is_given};
+ghost use Rattle.fidl_command_line.specs.Arguments.{IsCompile, IsNoCompile, IsTable, IsNoTable};
+ghost use Rattle.fidl_command_line.specs.Arguments.{IsAskedBy, NamesNoFault, IsExplain};
+ghost use Rattle.fidl_command_line.specs.Arguments.{IsNoExplain, IsGiven, IsUngiven};
+ghost use Rattle.fidl_command_line.specs.Arguments.{handle_texts, is_one_path, listing_of, IsHandleRefusal};
 
 use crate::command_line::command_line;
-use crate::handle::read_handle;
+use crate::content::{Message, read_message};
+use crate::handle::{read_handle, read_number};
 use crate::unread::Unread;
 use clap::ArgMatches;
+use fidl_hints::Faults;
 use fidl_wire::HandleInfo;
-use hex::FromHexError;
 use std::alloc::{AllocError, Global};
 use std::convert::AsStr;
 use std::path::{Path, PathBuf};
@@ -26,15 +26,35 @@ use std::path::{Path, PathBuf};
 pub struct DecodeArguments<'a> {
     pub table: &'a str,
     pub root: &'a str,
-    pub bytes: Vec<u8>,
+    pub message: Message<'a>,
     pub handles: Vec<HandleInfo>,
 }
 
-/// What `fidl compile` is given: the file to write the table to, and the sources' files.
+/// What `fidl compile` is given: the file to write the table to, the sources' files, and whether the
+/// line of a fault is shown.
 #[derive(Drop)]
 pub struct CompileArguments<'a> {
     pub out: &'a str,
+    pub snippet: bool,
     pub sources: Vec<&'a str>,
+}
+
+/// What is printed of a table.
+#[derive(Clone, Copy, PartialEq, Eq, Debug, Drop)]
+pub enum Listing {
+    /// All its records.
+    Records,
+    /// The names of its roots.
+    Roots,
+    /// The names of its protocols.
+    Protocols,
+}
+
+/// What `fidl table` is given: the table's file, and what is printed of it.
+#[derive(Clone, Copy, Debug, Drop)]
+pub struct TableArguments<'a> {
+    pub file: &'a str,
+    pub listing: Listing,
 }
 
 /// What the command line gives: a command with its arguments.
@@ -42,40 +62,9 @@ pub struct CompileArguments<'a> {
 pub enum Arguments<'a> {
     Compile(CompileArguments<'a>),
     Decode(DecodeArguments<'a>),
-    /// The table's file.
-    Table(&'a str),
-}
-
-fn is_hex_digit(byte: u8) -> bool
-    ensures { result ≡ is_hex_digit byte }
-{
-    matches!(byte, b'A'..=b'F' | b'a'..=b'f' | b'0'..=b'9')
-}
-
-fn are_hex_digits(text: &[u8]) -> bool
-    ensures { result ≡ list_all is_hex_digit text.now }
-{
-    text.iter().all(|byte| is_hex_digit(*byte))
-}
-
-/// Whether a text is an even number of hexadecimal digits.
-fn is_hex(text: &str) -> bool
-    ensures { MatchBool result (IsOk (decode_of text.now)) (IsErr (decode_of text.now)) }
-{
-    text.len() % 2 == 0 && are_hex_digits(text.as_bytes())
-}
-
-/// The bytes of a message, from their text.
-fn read_bytes(alloc: Global, text: &str) -> Result<Vec<u8>, Unread>
-    ensures ok { IfOk result (λ bytes. decode_of text.now ≡ Ok bytes.items) }
-    ensures fault_is_true { IfErr result (IsTold unread.BadHex
-        (IsErr (decode_of text.now)) (IsOk (decode_of text.now))) }
-{
-    match hex::decode(alloc, text) {
-        Ok(bytes) => Ok(bytes),
-        Err(FromHexError::OutOfMemory) if is_hex(text) => Err(Unread::Memory),
-        Err(_) => Err(Unread::BadHex),
-    }
+    Table(TableArguments<'a>),
+    /// The faults to explain.
+    Explain(Faults<'a>),
 }
 
 /// The refusal of the handle of this number, from 1.
@@ -115,6 +104,16 @@ fn value_of<'a>(matches: &ArgMatches<'a>, id: &str) -> Option<&'a str>
     matches.get_str(id)
 }
 
+/// Whether an option without a value was given.
+fn is_given(matches: &ArgMatches<'_>, id: &str) -> bool
+    ensures { result ≡ is_given id.now (rows_of (found_of matches.now)) }
+{
+    match value_of(matches, id) {
+        Some(value) => value == "true",
+        None => false,
+    }
+}
+
 /// The handles that were given.
 fn given_handles(alloc: Global, matches: &ArgMatches<'_>) -> Result<Vec<HandleInfo>, Unread>
     ensures ok { IfOk result (λ handles.
@@ -140,12 +139,12 @@ fn read_decode<'a>(alloc: Global, matches: &ArgMatches<'a>) -> Result<DecodeArgu
     ) else {
         return Err(Unread::Missing);
     };
-    let bytes = read_bytes(alloc, hex)?;
+    let message = read_message(alloc, hex, is_given(matches, "raw"))?;
     let handles = given_handles(alloc, matches)?;
     Ok(DecodeArguments {
         table,
         root,
-        bytes,
+        message,
         handles,
     })
 }
@@ -188,19 +187,70 @@ fn read_compile<'a>(alloc: Global, matches: &ArgMatches<'a>) -> Result<CompileAr
         return Err(Unread::OutIsSource);
     }
     let sources = Vec::from_slice(alloc, names)?;
-    Ok(CompileArguments { out, sources })
+    Ok(CompileArguments {
+        out,
+        snippet: is_given(matches, "snippet"),
+        sources,
+    })
 }
 
-/// The file that `fidl table` was given.
-fn read_table<'a>(matches: &ArgMatches<'a>) -> Result<&'a str, Unread>
-    ensures ok { IfOk result
-        (λ file. first_of (codes "TABLE") (rows_of (found_of matches.now)) ≡ Some file.now) }
-    ensures fault_is_true { IfErr result (λ u. (u ≡ unread.Missing)
-        × (first_of (codes "TABLE") (rows_of (found_of matches.now)) ≡ None)) }
+/// What is printed of a table, by the options that were given; None where both were.
+fn listing_of(roots: bool, protocols: bool) -> Option<Listing>
+    ensures { result ≡ listing_of roots protocols }
 {
-    match value_of(matches, "TABLE") {
-        Some(file) => Ok(file),
-        None => Err(Unread::Missing),
+    match (roots, protocols) {
+        (false, false) => Some(Listing::Records),
+        (true, false) => Some(Listing::Roots),
+        (false, true) => Some(Listing::Protocols),
+        (true, true) => None,
+    }
+}
+
+/// What `fidl table` was given.
+fn read_table<'a>(matches: &ArgMatches<'a>) -> Result<TableArguments<'a>, Unread>
+    ensures ok { IfOk result (IsTable (rows_of (found_of matches.now))) }
+    ensures fault_is_true { IfErr result (IsNoTable (rows_of (found_of matches.now))) }
+{
+    let Some(file) = value_of(matches, "TABLE") else {
+        return Err(Unread::Missing);
+    };
+    match listing_of(is_given(matches, "roots"), is_given(matches, "protocols")) {
+        Some(listing) => Ok(TableArguments { file, listing }),
+        None => Err(Unread::TwoLists),
+    }
+}
+
+/// The faults that words ask for: a name, or a stage and a number.
+fn asked_by<'a>(words: &[&'a str]) -> Option<Faults<'a>>
+    ensures some { IfSome result (IsAskedBy (map (λ w. w.now) words.now)) }
+    ensures none { IfNone result (NamesNoFault (map (λ w. w.now) words.now)) }
+{
+    if words.len() == 1 {
+        return Some(Faults::Named(words[0]));
+    }
+    if words.len() != 2 {
+        return None;
+    }
+    match read_number(words[1]) {
+        Some(number) => Some(Faults::Numbered {
+            stage: words[0],
+            number,
+        }),
+        None => None,
+    }
+}
+
+/// What `fidl explain` was given.
+fn read_explain<'a>(matches: &ArgMatches<'a>) -> Result<Faults<'a>, Unread>
+    ensures ok { IfOk result (IsExplain (rows_of (found_of matches.now))) }
+    ensures fault_is_true { IfErr result (IsNoExplain (rows_of (found_of matches.now))) }
+{
+    let Some(words) = matches.get_strs("FAULT") else {
+        return Err(Unread::Missing);
+    };
+    match asked_by(words) {
+        Some(faults) => Ok(faults),
+        None => Err(Unread::BadFault),
     }
 }
 
@@ -219,8 +269,11 @@ pub fn read_arguments<'a, S: AsStr>(alloc: Global, words: &'a [S]) -> Result<Arg
     if let Some(matches) = matches.subcommand_matches("decode") {
         return Ok(Arguments::Decode(read_decode(alloc, matches)?));
     }
-    match matches.subcommand_matches("table") {
-        Some(matches) => Ok(Arguments::Table(read_table(matches)?)),
+    if let Some(matches) = matches.subcommand_matches("table") {
+        return Ok(Arguments::Table(read_table(matches)?));
+    }
+    match matches.subcommand_matches("explain") {
+        Some(matches) => Ok(Arguments::Explain(read_explain(matches)?)),
         None => Err(Unread::Missing),
     }
 }

@@ -3,19 +3,95 @@ ghost use Rattle.std.specs.Prelude.{◌≡◌, IfOk, false};
 ghost use Rattle.clap.specs.Words.{app_of, rule_of};
 ghost use Rattle.fidl_command_line.specs.CommandLine as spec;
 ghost use Rattle.fidl_command_line.specs.CommandLine.{positional, out_option, files_argument};
-ghost use Rattle.fidl_command_line.specs.CommandLine.{handle_option, IsCommandOf, program};
+ghost use Rattle.fidl_command_line.specs.CommandLine.{handle_option, flag, fault_argument};
+ghost use Rattle.fidl_command_line.specs.CommandLine.{IsCommandOf, program};
 
 use clap::{Arg, ArgAction, Command};
 use std::alloc::{AllocError, Global};
 
+/// What the argument HEX is.
+const HEX_HELP: &str =
+    "The bytes of the message in hexadecimal; @FILE for the text of a file, - for \
+    that of the standard input";
+
+/// What stands below the help of the program, and of each command: an example, and the statuses.
+const PROGRAM_HELP: &str = "\
+Example:
+  fidl compile --out store.fct zx.fidl types.fidl store.fidl
+
+Status:
+  0  it is done
+  1  the sources, the table or the message are refused
+  2  the command line is wrong, or names a root or a fault that there is not
+  3  a file or a stream cannot be read or written
+  4  memory ran out";
+
+const COMPILE_HELP: &str = "\
+Example:
+  fidl compile --out store.fct zx.fidl types.fidl store.fidl
+
+Status:
+  0  the table is written
+  1  the sources are refused: FILE:LINE:COLUMN: STAGE NUMBER NAME
+  2  the command line is wrong
+  3  a file cannot be read or written
+  4  memory ran out";
+
+const DECODE_HELP: &str = "\
+Examples:
+  fidl decode point.fct Point 0100000002000000
+  fidl decode point.fct Point @message.hex
+  fidl decode --raw point.fct Point - <message
+
+Status:
+  0  the value is printed
+  1  the table or the message is refused
+  2  the command line is wrong, or the table has no such root
+  3  a file or a stream cannot be read or written
+  4  memory ran out";
+
+const TABLE_HELP: &str = "\
+Examples:
+  fidl table store.fct
+  fidl table --roots store.fct
+
+Status:
+  0  the records or the names are printed
+  1  the table is refused
+  2  the command line is wrong
+  3  a file or a stream cannot be read or written
+  4  memory ran out";
+
+const EXPLAIN_HELP: &str = "\
+Examples:
+  fidl explain types 9
+  fidl explain BadConstraint
+
+Status:
+  0  the explanation is printed
+  2  the command line is wrong, or there is no such fault
+  3  the output cannot be written
+  4  memory ran out";
+
 /// An argument that must be given, by its place.
-fn required<'a>(alloc: Global, id: &'a str, help: &'a str) -> Arg<'a>
+fn required<'a>(alloc: Global, id: &'a str, text: &'a str) -> Arg<'a>
     ensures rule { rule_of result ≡ positional id.entry.now }
     ensures local { result.global ≡ false }
 {
     Arg::new(alloc, id)
         .required(true)
         .action(ArgAction::Set)
+        .help(text)
+}
+
+/// An option without a value, which is given or not.
+fn flag<'a>(alloc: Global, id: &'a str, help: &'a str) -> Arg<'a>
+    ensures rule { rule_of result ≡ flag id.entry.now }
+    ensures local { result.global ≡ false }
+{
+    Arg::new(alloc, id)
+        .long(id)
+        .action(ArgAction::SetTrue)
         .help(help)
 }
 
@@ -56,13 +132,31 @@ fn handle<'a>(alloc: Global) -> Arg<'a>
         .help("A handle of the message: id, object type and rights, as decimal numbers")
 }
 
+/// `FAULT..`: a name, or a stage and a number.
+fn fault<'a>(alloc: Global) -> Arg<'a>
+    ensures rule { rule_of result ≡ fault_argument }
+    ensures local { result.global ≡ false }
+{
+    Arg::new(alloc, "FAULT")
+        .required(true)
+        .num_args(1..)
+        .action(ArgAction::Append)
+        .help("The name of a fault, as BadConstraint, or its stage and number, as types 9")
+}
+
 /// The command `compile`.
 fn compile_command<'a>(alloc: Global) -> Result<Command<'a>, AllocError>
     ensures { IfOk result (IsCommandOf spec.compile_command) }
 {
     Command::new(alloc, "compile")
         .about("Writes the coding table of libraries, from their sources")
+        .after_help(COMPILE_HELP)
         .arg(out(alloc))?
+        .arg(flag(
+            alloc,
+            "snippet",
+            "Shows the line of a fault, with a caret under its place",
+        ))?
         .arg(files(alloc))
 }
 
@@ -72,10 +166,16 @@ fn decode_command<'a>(alloc: Global) -> Result<Command<'a>, AllocError>
 {
     Command::new(alloc, "decode")
         .about("Prints the text of the value that a message encodes")
+        .after_help(DECODE_HELP)
         .arg(handle(alloc))?
+        .arg(flag(
+            alloc,
+            "raw",
+            "Takes the bytes of a file or of the standard input as they are",
+        ))?
         .arg(required(alloc, "TABLE", "The file of the coding table"))?
         .arg(required(alloc, "ROOT", "The name of the value's type in the table"))?
-        .arg(required(alloc, "HEX", "The bytes of the message, in hexadecimal"))
+        .arg(required(alloc, "HEX", HEX_HELP))
 }
 
 /// The command `table`.
@@ -84,7 +184,24 @@ fn table_command<'a>(alloc: Global) -> Result<Command<'a>, AllocError>
 {
     Command::new(alloc, "table")
         .about("Prints the records of a coding table")
+        .after_help(TABLE_HELP)
+        .arg(flag(alloc, "roots", "Prints the names of the roots alone"))?
+        .arg(flag(
+            alloc,
+            "protocols",
+            "Prints the names of the protocols alone",
+        ))?
         .arg(required(alloc, "TABLE", "The file of the coding table"))
+}
+
+/// The command `explain`.
+fn explain_command<'a>(alloc: Global) -> Result<Command<'a>, AllocError>
+    ensures { IfOk result (IsCommandOf spec.explain_command) }
+{
+    Command::new(alloc, "explain")
+        .about("Says what a fault means, with an example")
+        .after_help(EXPLAIN_HELP)
+        .arg(fault(alloc))
 }
 
 /// The command line of the program.
@@ -95,8 +212,10 @@ pub(crate) fn command_line<'a>(alloc: Global) -> Result<Command<'a>, AllocError>
         .bin_name("fidl")?
         .version("0.1")
         .about("Compiles FIDL libraries to coding tables, and reads messages by them")
+        .after_help(PROGRAM_HELP)
         .subcommand_required(true)
         .subcommand(compile_command(alloc)?)?
         .subcommand(decode_command(alloc)?)?
-        .subcommand(table_command(alloc)?)
+        .subcommand(table_command(alloc)?)?
+        .subcommand(explain_command(alloc)?)
 }

@@ -6,7 +6,7 @@ ghost use Rattle.fidl_command_line.specs.Handles.{IsDecimal, IsHandleText};
 use fidl_wire::HandleInfo;
 
 /// A number of 32 bits, in decimal digits alone.
-fn read_number(text: &str) -> Option<u32>
+pub(crate) fn read_number(text: &str) -> Option<u32>
     ensures some { IfSome result (IsDecimal text.now) }
     ensures none { IfNone result ((n : ℕ) → IsDecimal text.now n → ⊥) }
 {

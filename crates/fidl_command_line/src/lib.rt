@@ -6,9 +6,13 @@
 
 mod arguments;
 mod command_line;
+mod content;
 mod handle;
 mod unread;
 
-pub use crate::arguments::{Arguments, CompileArguments, DecodeArguments, read_arguments};
+pub use crate::arguments::{
+    Arguments, CompileArguments, DecodeArguments, Listing, TableArguments, read_arguments,
+};
+pub use crate::content::{Content, Message, Stored, content_of, message_bytes};
 pub use crate::handle::read_handle;
 pub use crate::unread::Unread;

@@ -21,6 +21,12 @@ pub enum Unread {
     Missing,
     /// HEX is not an even number of hexadecimal digits.
     BadHex,
+    /// `--raw` is given with a HEX that is no file and not the standard input.
+    BadRaw,
+    /// `--roots` and `--protocols` are given together.
+    TwoLists,
+    /// FAULT is neither a name nor a stage and a number.
+    BadFault,
     /// A handle is not three decimal numbers of 32 bits, as the line says; it names the handle by its
     /// number, from 1, among those that are given.
     BadHandle { line: String },
@@ -38,7 +44,20 @@ impl From<AllocError> for Unread {
     }
 }
 
-/// The first paragraph of a text, in one line.
+/// The name that `clap` suggests in a text: what stands behind the colon of a line `tip: ..`.
+fn suggested(text: &str) -> Option<&str> {
+    for part in text.lines() {
+        if let Some(tip) = part
+            .trim()
+            .strip_prefix("tip: a similar subcommand exists: ")
+        {
+            return Some(tip);
+        }
+    }
+    None
+}
+
+/// The first paragraph of a text in one line, and the name that it suggests.
 fn one_line(alloc: Global, text: &str) -> Result<String, AllocError> {
     let mut line = String::new(alloc);
     for part in text.lines() {
@@ -50,6 +69,11 @@ fn one_line(alloc: Global, text: &str) -> Result<String, AllocError> {
             line.push(' ')?;
         }
         line.push_str(part)?;
+    }
+    if let Some(name) = suggested(text) {
+        line.push_str("; did you mean ")?;
+        line.push_str(name)?;
+        line.push('?')?;
     }
     Ok(line)
 }
@@ -81,10 +105,14 @@ impl Unread {
             Unread::Wrong { line } | Unread::BadHandle { line } => line.as_str(),
             Unread::NotText => "error: the arguments: UTF-8 is wanted",
             Unread::Missing => {
-                "error: the arguments: compile --out OUT FILE.., decode TABLE ROOT HEX or table TABLE is wanted"
+                "error: the arguments: compile --out OUT FILE.., decode TABLE ROOT HEX, table TABLE or explain FAULT is wanted"
             }
             Unread::OutIsSource => "error: --out: a file that is none of the sources is wanted",
             Unread::BadHex => "error: HEX: an even number of hexadecimal digits is wanted",
+            Unread::BadRaw => "error: --raw: @FILE or - is wanted in place of HEX",
+            Unread::TwoLists => "error: --protocols: it does not go with --roots",
+            Unread::BadFault =>
+                "error: FAULT: a name is wanted, or a stage and a number, as in types 9",
             Unread::Memory => "error: out of memory",
         }
     }

@@ -1,3 +1,4 @@
 pub mod Told
 mod Pushed
 mod NamedFiles
+mod Names

@@ -95,6 +95,9 @@ never_unwritten unread.Missing e = cc
 never_unwritten unread.BadHex e = cc
 never_unwritten (unread.BadHandle line) e = cc
 never_unwritten unread.OutIsSource e = cc
+never_unwritten unread.BadRaw e = cc
+never_unwritten unread.TwoLists e = cc
+never_unwritten unread.BadFault e = cc
 never_unwritten unread.Memory e = cc
 
 -- all but a request for help has a line
@@ -106,4 +109,7 @@ line_otherwise unread.Missing other = refl
 line_otherwise unread.BadHex other = refl
 line_otherwise (unread.BadHandle line) other = refl
 line_otherwise unread.OutIsSource other = refl
+line_otherwise unread.BadRaw other = refl
+line_otherwise unread.TwoLists other = refl
+line_otherwise unread.BadFault other = refl
 line_otherwise unread.Memory other = refl

@@ -17,6 +17,7 @@ use Rattle.fidl_tool.specs.declared.outcome.Outcome.{Outcome}
 use Rattle.fidl_tool.specs.declared.outcome.Outcome.TheVariants.{Done, Refused, Unwritten}
 use Rattle.fidl_tool.specs.declared.outcome.Outcome.TheVariants.{NoMemory}
 use Rattle.fidl_text.specs.Words.{words_line}
+use Rattle.fidl_hints.specs.Snippets.{snippet_text}
 
 -- files by their names and their bytes
 abbrev pub Named : Type 0
@@ -70,11 +71,22 @@ report_line at r =
     shown_name at.file ++ codes ":" ++ decimal at.line ++ codes ":" ++ decimal at.column
     ++ words_line (codes ":") (r.stage ∷ decimal r.number ∷ r.name ∷ [])
 
+-- what stands behind the caret: how to ask for an explanation
+abbrev pub note_text : (stage : List ℕ) (number : ℕ) → List ℕ
+note_text stage number =
+    codes "see 'fidl explain " ++ (stage ++ (codes " " ++ (decimal number ++ codes "'")))
+
+-- what stands below the line of a refusal: the line of the source, where that is asked for
+abbrev pub shown_text : (snippet : Bool) → List Named → Report → List ℕ
+shown_text snippet files r =
+    if snippet then snippet_text (text_at files r.place.file) r.place.span.from
+    (note_text r.stage r.number) else []
+
 -- the lines that are true refusals of sources
-pub data IsSourceRefusal (files : List Named) : List ℕ → Type 0 where
+pub data IsSourceRefusal (snippet : Bool) (files : List Named) : List ℕ → Type 0 where
   of_fault : (fault : CompileFault) (report : Report) → AreRefused (texts_of files) fault
-      → report_of fault ≡ Some report
-      → IsSourceRefusal files (report_line (located_at files report.place) report)
+      → report_of fault ≡ Some report → IsSourceRefusal snippet files
+      (report_line (located_at files report.place) report ++ shown_text snippet files report)
 
 -- the line that says what a table holds: how many records of each kind, and how many bytes
 abbrev pub summary_text : Header → (size : ℕ) → List ℕ

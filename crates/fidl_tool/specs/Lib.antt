@@ -11,7 +11,10 @@ pub mod Status
 pub mod Files
 pub mod Reasons
 pub mod Outputs
+pub mod Contents
+pub mod Naming
 pub mod Decoding
 pub mod Listing
+pub mod Explaining
 pub mod Compiling
 pub mod Running

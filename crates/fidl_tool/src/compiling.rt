@@ -1,5 +1,5 @@
 //! The command `compile`: from the sources of libraries to their coding table.
-ghost use Rattle.std.specs.Prelude.{◌≡◌, ◌≢◌, ◌↔◌, map, None, Err, IfOk, IfErr, OnOk, OnErr};
+ghost use Rattle.std.specs.Prelude.{◌≡◌, ◌↔◌, ◌++◌, map, None, Err, IfOk, IfErr, OnOk, OnErr};
 ghost use Rattle.std.specs.Prelude.{IsSome};
 ghost use Rattle.std.specs.Io.KnownBytes.{Appends};
 ghost use Rattle.std.specs.List.{list_all};
@@ -7,9 +7,10 @@ ghost use Rattle.fidl_table_format.specs.WellFormed.{WellFormed};
 ghost use Rattle.fidl_compile.specs.Sources.{IsTableOf};
 ghost use Rattle.fidl_compile.specs.Stages.{AreRefused};
 ghost use Rattle.fidl_compile.specs.Reports.{reported};
-ghost use Rattle.fidl_compile.specs.declared.fault.CompileFault.TheVariants as compile_fault;
 ghost use Rattle.fidl_tool.specs.Compiling.{named_of, texts_of, name_at, text_at, report_line};
-ghost use Rattle.fidl_tool.specs.Compiling.{located, located_at, is_plain_byte, shown_name};
+ghost use Rattle.fidl_tool.specs.Compiling.{located, located_at, is_plain_byte, shown_name, shown_text};
+ghost use Rattle.fidl_tool.specs.Compiling.{note_text};
+ghost use Rattle.std.specs.Prelude.{string_bytes};
 ghost use Rattle.fidl_tool.specs.Compiling.{summary_line, IsSourceRefusal, CanEndCompile};
 ghost use Rattle.fidl_tool.specs.Compiling.{CanEndPrinting};
 ghost use Rattle.fidl_tool.specs.Decoding.{no_memory_line};
@@ -103,15 +104,42 @@ fn write_name<E: Write>(name: &str, errors: &mut Output<E>) -> Result<(), Failed
     }
 }
 
-/// The line of a refusal at its place.
+/// What stands behind the caret: how to ask for an explanation.
+fn note_text(alloc: Global, stage: &str, number: u32) -> Result<String, AllocError>
+    ensures { IfOk result (λ note. string_bytes note ≡ note_text stage.now number) }
+{
+    format!(in alloc; "see 'fidl explain {stage} {number}'")
+}
+
+/// What stands below the line of a refusal: the line of the source, where that is asked for.
+fn shown(
+    alloc: Global,
+    files: &[File<'_>],
+    refusal: &Refusal,
+    snippet: bool,
+) -> Result<Vec<u8>, AllocError>
+    ensures { IfOk result (λ text. text.items
+        ≡ shown_text snippet (named_of files.now) (reported refusal.now)) }
+{
+    if !snippet {
+        return Ok(Vec::new(alloc));
+    }
+    let note = note_text(alloc, refusal.stage, refusal.number)?;
+    let place = refusal.place;
+    let src = file_at(files, place.file).bytes;
+    fidl_hints::snippet(alloc, src, place.span.from, note.as_str())
+}
+
+/// The line of a refusal at its place, and what is shown below it.
 fn write_report<E: Write>(
     place: LinePlace<'_>,
     refusal: &Refusal,
+    shown: &[u8],
     errors: &mut Output<E>,
 ) -> Result<(), Failed>
     ensures line { OnOk result
         (Appends (E.contents errors.old.writer) (E.contents errors.new.writer)
-        (report_line (located place.entry) (reported refusal.now))) }
+        (report_line (located place.entry) (reported refusal.now) ++ shown.now)) }
     ensures kept { OnOk result (errors.new.failure ≡ errors.old.failure) }
     ensures failed { OnErr result (IsSome errors.new.failure) }
 {
@@ -127,16 +155,22 @@ fn write_report<E: Write>(
         Word::Text(refusal.name),
     ];
     write_words(":", &words, errors)?;
+    errors.write_all(shown)?;
     errors.flush()
 }
 
 /// Reports why sources have no table.
-fn refuse<E: Write>(files: &[File<'_>], fault: &CompileFault, errors: &mut Output<E>) -> Outcome
+fn refuse<E: Write>(
+    alloc: Global,
+    files: &[File<'_>],
+    fault: &CompileFault,
+    snippet: bool,
+    errors: &mut Output<E>,
+) -> Outcome
     requires { AreRefused (texts_of (named_of files.now)) fault.now }
     ensures ends { CanEndCompile result }
-    ensures memory { fault.now ≢ compile_fault.Memory → result ≢ outcome.NoMemory }
     ensures refused { result ≡ outcome.Refused
-        → AppendsOne (IsSourceRefusal (named_of files.now))
+        → AppendsOne (IsSourceRefusal snippet (named_of files.now))
         (E.contents errors.old.writer) (E.contents errors.new.writer) }
     ensures memory_line { result ≡ outcome.NoMemory
         → Appends (E.contents errors.old.writer) (E.contents errors.new.writer) no_memory_line }
@@ -145,8 +179,11 @@ fn refuse<E: Write>(files: &[File<'_>], fault: &CompileFault, errors: &mut Outpu
 {
     match fault.refusal() {
         Some(refusal) => {
+            let Ok(shown) = shown(alloc, files, &refusal, snippet) else {
+                return Outcome::NoMemory.where_written(&write_no_memory(errors));
+            };
             let place = line_place(files, refusal.place);
-            Outcome::Refused.where_written(&write_report(place, &refusal, errors))
+            Outcome::Refused.where_written(&write_report(place, &refusal, &shown, errors))
         }
         None => Outcome::NoMemory.where_written(&write_no_memory(errors)),
     }
@@ -179,18 +216,20 @@ fn write_summary<W: Write>(table: &[u8], out: &mut Output<W>) -> Result<(), Fail
 /// Compiles the sources of libraries, and gives the bytes of their table.
 ///
 /// `Refused` where a stage refuses the sources, with one line on `errors`: the file, line and
-/// column, the stage, and the fault's number and name. `Unwritten` where that line is not written,
+/// column, the stage, and the fault's number and name; with `snippet` the line of the source stands
+/// below it. `Unwritten` where that line is not written,
 /// and `NoMemory` where memory ran out.
 pub fn compile<E: Write>(
     alloc: Global,
     files: &[File<'_>],
+    snippet: bool,
     errors: &mut Output<E>,
 ) -> Result<Vec<u8>, Outcome>
     ensures ends { IfErr result CanEndCompile }
     ensures well_formed { IfOk result (λ table. WellFormed table.items) }
     ensures shows { IfOk result (λ table. IsTableOf (texts_of (named_of files.now)) table.items) }
     ensures refused { result ≡ Err outcome.Refused
-        → AppendsOne (IsSourceRefusal (named_of files.now))
+        → AppendsOne (IsSourceRefusal snippet (named_of files.now))
         (E.contents errors.old.writer) (E.contents errors.new.writer) }
     ensures memory_line { result ≡ Err outcome.NoMemory
         → Appends (E.contents errors.old.writer) (E.contents errors.new.writer) no_memory_line }
@@ -203,7 +242,7 @@ pub fn compile<E: Write>(
     };
     match fidl_compile::compile(alloc, &sources) {
         Ok(table) => Ok(table),
-        Err(fault) => Err(refuse(files, &fault, errors)),
+        Err(fault) => Err(refuse(alloc, files, &fault, snippet, errors)),
     }
 }
 

@@ -1,23 +1,29 @@
 //! The command `decode`.
 ghost use Rattle.std.specs.Prelude.{◌≡◌, ◌≢◌, ◌<◌, IfSome};
+ghost use Rattle.fidl_hints.specs.Nearest.{IsNearest};
+ghost use Rattle.fidl_tool.specs.Naming.{names_of};
+ghost use Rattle.fidl_tool.specs.declared.naming.Named.TheVariants.{Roots};
 ghost use Rattle.std.specs.Io.KnownBytes.{Appends};
 ghost use Rattle.fidl_table_format.specs.Section.{header_of};
 ghost use Rattle.fidl_tool.specs.Decoding.{IsRootOf, HasRoot, LacksRoot, IsTextOf, IsRefusalOf};
-ghost use Rattle.fidl_tool.specs.Decoding.{CanEndDecode, CanEndDecodeAs, no_root_line};
+ghost use Rattle.fidl_tool.specs.Decoding.{CanEndDecode, CanEndDecodeAs, TellsNoRoot};
 ghost use Rattle.fidl_tool.specs.Decoding.{no_memory_line};
 ghost use Rattle.fidl_tool.specs.Outputs.{AppendsOne, AppendsFrontOfOne, ReportsFailures};
 ghost use Rattle.fidl_tool.specs.declared.outcome.Outcome.TheVariants as outcome;
 
 use crate::files::File;
 use crate::lines::{write_no_memory, write_no_output, write_no_root, write_refusal};
+use crate::naming::Named;
 use crate::outcome::Outcome;
 use crate::verified::verified;
 use fidl_decode::Scratch;
+use fidl_hints::nearest;
 use fidl_text::{Failed, Output, write_message};
 use fidl_verify::Table;
 use fidl_wire::HandleInfo;
 use std::alloc::Global;
 use std::io::Write;
+use std::str;
 
 /// A message, and the root of a table whose type it is to be decoded by.
 #[derive(Clone, Copy, Debug, Drop)]
@@ -25,6 +31,19 @@ pub struct TypedMessage<'m> {
     pub root: &'m str,
     pub bytes: &'m [u8],
     pub handles: &'m [HandleInfo],
+}
+
+/// The name of a root that is nearest to a word; None where none is near, or memory ran out.
+fn near_root<'t>(alloc: Global, table: &Table<'t>, word: &str) -> Option<&'t str>
+    ensures { IfSome result (λ name. IsNearest word.now (names_of Roots table.now) name.now) }
+{
+    let Ok(names) = crate::naming::names_of(alloc, table, Named::Roots) else {
+        return None;
+    };
+    match nearest(alloc, word.as_bytes(), &names) {
+        Ok(Some(name)) => str::from_utf8(name).ok(),
+        _ => None,
+    }
 }
 
 /// Decodes a message by the entry of its root, and prints the text of the value that it encodes.
@@ -94,8 +113,8 @@ pub fn decode<W: Write, E: Write>(
     ensures no_root { result ≡ outcome.NoRoot
         → LacksRoot file.now.bytes.now message.now.root.now }
     ensures no_root_line { result ≡ outcome.NoRoot
-        → IfSome (no_root_line file.now.name.now message.now.root.now)
-        (Appends (E.contents errors.old.writer) (E.contents errors.new.writer)) }
+        → TellsNoRoot file.now.bytes.now file.now.name.now message.now.root.now
+        (E.contents errors.old.writer) (E.contents errors.new.writer) }
     ensures memory { result ≡ outcome.NoMemory
         → HasRoot file.now.bytes.now message.now.root.now }
     ensures memory_line { result ≡ outcome.NoMemory
@@ -117,7 +136,8 @@ pub fn decode<W: Write, E: Write>(
     match table.root(message.root.as_bytes()) {
         Some(entry) => decode_as(alloc, &table, entry, message, out, errors),
         None => {
-            let written = write_no_root(errors, file.name, message.root);
+            let near = near_root(alloc, &table, message.root);
+            let written = write_no_root(errors, file.name, message.root, near);
             Outcome::NoRoot.where_written(&written)
         }
     }

@@ -24,6 +24,9 @@ pub trait Files {
     // known.
     ghost written: { Self → Option (List (List ℕ × List ℕ)) } = { λ _. None };
 
+    // The bytes of the standard input, where they are known.
+    ghost input: { Self → Option (List ℕ) } = { λ _. None };
+
     // Whether the file of a name is known to be written wherever memory is left for it.
     ghost can_write: { Self → List ℕ → Bool } = { λ _ _. false };
 
@@ -33,6 +36,13 @@ pub trait Files {
             (λ bytes. read.items ≡ bytes)) }
         ensures fault { IfErr result
             (λ e. error_kind e ≢ error_kinds.OutOfMemory → bytes_of self.now name.now ≡ None) };
+
+    /// The bytes of the standard input.
+    fn read_input(&self, alloc: Global) -> io::Result<Vec<u8>>
+        ensures bytes { IfOk result (λ read. IfSome (input self.now)
+            (λ bytes. read.items ≡ bytes)) }
+        ensures fault { IfErr result
+            (λ e. error_kind e ≢ error_kinds.OutOfMemory → input self.now ≡ None) };
 
     /// Writes a file that has just these bytes.
     fn write(&mut self, name: &str, bytes: &[u8]) -> io::Result<()>

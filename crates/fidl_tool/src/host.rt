@@ -11,7 +11,7 @@ use crate::telling::tell;
 use fidl_command_line::Unread;
 use fidl_text::Output;
 use std::alloc::Global;
-use std::io::{BufWriter, Write};
+use std::io::{BufWriter, Read, Write};
 use std::process::{ExitCode, Termination};
 use std::{env, fs, io};
 
@@ -24,6 +24,12 @@ struct HostFiles<'r> {
 impl Files for HostFiles<'_> {
     fn read(&self, _alloc: Global, name: &str) -> io::Result<Vec<u8>> {
         fs::read(self.rt, name)
+    }
+
+    fn read_input(&self, alloc: Global) -> io::Result<Vec<u8>> {
+        let mut bytes = Vec::new(alloc);
+        self.rt.stdin().read_to_end(&mut bytes)?;
+        Ok(bytes)
     }
 
     fn write(&mut self, name: &str, bytes: &[u8]) -> io::Result<()> {

@@ -7,11 +7,14 @@
 #![tactic(auto)]
 
 mod compiling;
+mod contents;
 mod decoding;
+mod explaining;
 mod files;
 mod host;
 mod lines;
 mod listing;
+mod naming;
 mod outcome;
 mod program;
 mod sources;
@@ -21,10 +24,12 @@ pub mod worked;
 
 pub use crate::compiling::{compile, summarize};
 pub use crate::decoding::{TypedMessage, decode};
+pub use crate::explaining::explain;
 pub use crate::files::{File, Files};
 pub use crate::host::{Ran, run_on_host};
 pub use crate::listing::table;
 pub use crate::outcome::{Outcome, Status};
 pub use crate::program::run;
-pub use fidl_command_line::read_handle;
+pub use fidl_command_line::{Listing, read_handle};
+pub use fidl_hints::{Explanation, Faults};
 pub use fidl_text::{Failed, Output};

@@ -1,10 +1,12 @@
 //! The lines that a command prints on its errors.
-ghost use Rattle.std.specs.Prelude.{◌≡◌, ◌++◌, codes, OnOk, OnErr, IfSome, IsSome};
+ghost use Rattle.std.specs.Prelude.{◌≡◌, ◌++◌, codes, OnOk, OnErr, IfSome, IsSome, option_map};
 ghost use Rattle.std.specs.Io.KnownBytes.{Appends};
 ghost use Rattle.fidl_text.specs.Outputs.{Writes};
 ghost use Rattle.fidl_tool.specs.Decoding.{refusal_line, no_root_line, no_memory_line};
+ghost use Rattle.fidl_tool.specs.Explaining.{no_fault_line, no_name_line, no_number_line};
 ghost use Rattle.fidl_tool.specs.Files.{no_file_line};
 
+use fidl_hints::Faults;
 use fidl_text::{Failed, Output};
 use std::io::Write;
 
@@ -50,22 +52,87 @@ pub(crate) fn write_refusal<E: Write>(
     errors.flush()
 }
 
-/// The line for a root that the table does not have.
+/// The words for a root that the table does not have, with a name that was perhaps meant.
+fn write_root_words<E: Write>(
+    errors: &mut Output<E>,
+    table: &str,
+    root: &str,
+    near: Option<&str>,
+) -> Result<(), Failed>
+    ensures line { OnOk result (IfSome
+        (no_root_line table.now root.now (option_map (λ n. n.now) near.entry))
+        (Appends (E.contents errors.old.writer) (E.contents errors.new.writer))) }
+    ensures kept { OnOk result (errors.new.failure ≡ errors.old.failure) }
+    ensures failed { OnErr result (IsSome errors.new.failure) }
+{
+    match near {
+        Some(near) => writeln!(
+            errors,
+            "error: ROOT: no root of {table:?} has the name {root:?}; did you mean {near}?"
+        ),
+        None => writeln!(
+            errors,
+            "error: ROOT: no root of {table:?} has the name {root:?}"
+        ),
+    }
+}
+
+/// The line for a root that the table does not have, with a name that was perhaps meant.
 pub(crate) fn write_no_root<E: Write>(
     errors: &mut Output<E>,
     table: &str,
     root: &str,
+    near: Option<&str>,
 ) -> Result<(), Failed>
-    ensures line { OnOk result (IfSome (no_root_line table.now root.now)
+    ensures line { OnOk result (IfSome
+        (no_root_line table.now root.now (option_map (λ n. n.now) near.entry))
+        (Appends (E.contents errors.old.writer) (E.contents errors.new.writer))) }
+    ensures kept { OnOk result (errors.new.failure ≡ errors.old.failure) }
+    ensures failed { OnErr result (IsSome errors.new.failure) }
+{
+    write_root_words(errors, table, root, near)?;
+    errors.flush()
+}
+
+/// The words for a name that no fault has.
+fn write_no_name<E: Write>(errors: &mut Output<E>, name: &str) -> Result<(), Failed>
+    ensures line { OnOk result (IfSome (no_name_line name.now)
+        (Appends (E.contents errors.old.writer) (E.contents errors.new.writer))) }
+    ensures kept { OnOk result (errors.new.failure ≡ errors.old.failure) }
+    ensures failed { OnErr result (IsSome errors.new.failure) }
+{
+    writeln!(errors, "error: FAULT: no fault has the name {name:?}")?;
+    errors.flush()
+}
+
+/// The words for a stage and a number that no fault has.
+fn write_no_number<E: Write>(errors: &mut Output<E>, stage: &str, number: u32) -> Result<(), Failed>
+    ensures line { OnOk result (IfSome (no_number_line stage.now number)
         (Appends (E.contents errors.old.writer) (E.contents errors.new.writer))) }
     ensures kept { OnOk result (errors.new.failure ≡ errors.old.failure) }
     ensures failed { OnErr result (IsSome errors.new.failure) }
 {
     writeln!(
         errors,
-        "error: ROOT: no root of {table:?} has the name {root:?}"
+        "error: FAULT: no fault has the stage {stage:?} and the number {number}"
     )?;
     errors.flush()
+}
+
+/// The line for a fault that there is not.
+pub(crate) fn write_no_fault<E: Write>(
+    errors: &mut Output<E>,
+    faults: &Faults<'_>,
+) -> Result<(), Failed>
+    ensures line { OnOk result (IfSome (no_fault_line faults.now)
+        (Appends (E.contents errors.old.writer) (E.contents errors.new.writer))) }
+    ensures kept { OnOk result (errors.new.failure ≡ errors.old.failure) }
+    ensures failed { OnErr result (IsSome errors.new.failure) }
+{
+    match faults {
+        Faults::Named(name) => write_no_name(errors, name),
+        Faults::Numbered { stage, number } => write_no_number(errors, stage, *number),
+    }
 }
 
 /// The line for a file that cannot be read, or not be written.

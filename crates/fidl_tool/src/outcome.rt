@@ -17,6 +17,10 @@ pub enum Outcome {
     WrongLine,
     /// The table has no root of the name.
     NoRoot,
+    /// The guide has no fault of the name, or of the stage and the number.
+    NoFault,
+    /// What an argument names holds no text of the argument's kind.
+    WrongText,
     /// A file cannot be read.
     NoFile,
     /// A writer failed.
@@ -35,7 +39,9 @@ impl Outcome {
         match self {
             Outcome::Done | Outcome::Asked => Status::Done,
             Outcome::Refused => Status::Refused,
-            Outcome::WrongLine | Outcome::NoRoot => Status::Usage,
+            Outcome::WrongLine | Outcome::NoRoot | Outcome::NoFault | Outcome::WrongText => {
+                Status::Usage
+            }
             Outcome::NoFile | Outcome::Unwritten => Status::FileFault,
             Outcome::NoMemory => Status::Memory,
         }
@@ -59,7 +65,7 @@ pub enum Status {
     Done,
     /// A table or a message is refused.
     Refused,
-    /// The command line is wrong, or names a root that the table does not have.
+    /// The command line is wrong, or names a root or a fault that there is not.
     Usage,
     /// A file or a stream cannot be read or written.
     FileFault,

@@ -1,43 +1,39 @@
 //! The program, over its words, its files and two writers.
-ghost use Rattle.std.specs.Prelude.{◌≡◌, ◌≢◌, ◌⊎◌, ℕ, List, IfSome, map};
+ghost use Rattle.std.specs.Prelude.{◌≡◌, ◌≢◌, ◌⊎◌, ℕ, List, map};
 ghost use Rattle.std.specs.Io.KnownBytes.{Appends};
 ghost use Rattle.fidl_text.specs.Outputs.{AppendsFront};
 ghost use Rattle.fidl_tool.specs.Reasons.{text_of, line_of};
-ghost use Rattle.fidl_tool.specs.Decoding.{LacksRoot, no_root_line, no_memory_line, CanEndRun};
+ghost use Rattle.fidl_tool.specs.Contents.{OfMessage, HasNoBytes};
+ghost use Rattle.fidl_tool.specs.Decoding.{no_memory_line, CanEndRun};
 ghost use Rattle.fidl_tool.specs.Outputs.{AppendsOne, ReportsFailures};
 ghost use Rattle.fidl_tool.specs.Listing.{IsListing, IsTableRefusal};
 ghost use Rattle.fidl_tool.specs.Files.{IsMissing};
-ghost use Rattle.fidl_tool.specs.Running.{IsMessageText, IsMessageRefusal, OfTable};
+ghost use Rattle.fidl_tool.specs.Running.{IsMessageText, IsMessageRefusal, OfTable, known_of};
 ghost use Rattle.fidl_tool.specs.Running.{IsDone, IsRefused, LacksGivenFile, LacksGivenRoot};
+ghost use Rattle.fidl_tool.specs.Running.{LacksGivenFault, LacksGivenText, LacksRootIn};
+ghost use Rattle.fidl_tool.specs.Running.{LacksTableOrMessage, IsExplained, LacksFault};
+ghost use Rattle.fidl_tool.specs.Running.{CanEndArguments, PrintsExplainedFront};
+ghost use Rattle.fidl_tool.specs.Explaining.{CanEndExplain};
 ghost use Rattle.fidl_tool.specs.Running.{CanEndTableRun, Gives, GivesNone, IsDoneInPart};
 ghost use Rattle.fidl_tool.specs.declared.outcome.Outcome.TheVariants as outcome;
 
+use crate::contents::given_bytes;
 use crate::decoding::{TypedMessage, decode};
+use crate::explaining::explain;
 use crate::files::{File, Files};
+use crate::lines::write_no_memory;
 use crate::listing::table;
 use crate::outcome::Outcome;
 use crate::sources::run_compile;
 use crate::telling::{tell, tell_no_file};
-use fidl_command_line::{Arguments, DecodeArguments, read_arguments};
+use fidl_command_line::{Arguments, DecodeArguments, TableArguments, read_arguments};
+use fidl_hints::{Faults, guide};
 use fidl_text::Output;
 use std::alloc::Global;
 use std::convert::AsStr;
 use std::io::Write;
 
-/// The message of the arguments, with the name of its root.
-fn message_of<'a>(arguments: &'a DecodeArguments<'_>) -> TypedMessage<'a>
-    ensures root { result.root.now ≡ arguments.now.root.now }
-    ensures bytes { result.bytes.now ≡ arguments.now.bytes.items }
-    ensures handles { result.handles.now ≡ arguments.now.handles.items }
-{
-    TypedMessage {
-        root: arguments.root,
-        bytes: arguments.bytes.as_slice(),
-        handles: arguments.handles.as_slice(),
-    }
-}
-
-/// Reads the table's file, and decodes the message by it.
+/// Reads the table's file and the message, and decodes the message by the table.
 fn run_decode<F: Files, W: Write, E: Write>(
     alloc: Global,
     arguments: &DecodeArguments<'_>,
@@ -48,20 +44,22 @@ fn run_decode<F: Files, W: Write, E: Write>(
     ensures ends { CanEndRun result }
     ensures done { result ≡ outcome.Done
         → OfTable (F.bytes_of files.now) arguments.now.table.now
-        (λ table. AppendsOne (IsMessageText arguments.now table)
-        (W.contents out.old.writer) (W.contents out.new.writer)) }
+        (λ table. OfMessage (F.bytes_of files.now) (F.input files.now) arguments.now.message
+        (λ bytes. AppendsOne (IsMessageText arguments.now table bytes)
+        (W.contents out.old.writer) (W.contents out.new.writer))) }
     ensures refused { result ≡ outcome.Refused
         → OfTable (F.bytes_of files.now) arguments.now.table.now
-        (λ table. AppendsOne (IsMessageRefusal arguments.now table)
-        (E.contents errors.old.writer) (E.contents errors.new.writer)) }
+        (λ table. OfMessage (F.bytes_of files.now) (F.input files.now) arguments.now.message
+        (λ bytes. AppendsOne (IsMessageRefusal arguments.now table bytes)
+        (E.contents errors.old.writer) (E.contents errors.new.writer))) }
     ensures no_root { result ≡ outcome.NoRoot
-        → OfTable (F.bytes_of files.now) arguments.now.table.now
-        (λ table. LacksRoot table arguments.now.root.now) }
-    ensures no_root_line { result ≡ outcome.NoRoot
-        → IfSome (no_root_line arguments.now.table.now arguments.now.root.now)
-        (Appends (E.contents errors.old.writer) (E.contents errors.new.writer)) }
+        → LacksRootIn (known_of (F.bytes_of files.now) (F.input files.now)) arguments.now
+        (E.contents errors.old.writer) (E.contents errors.new.writer) }
     ensures no_file { result ≡ outcome.NoFile
-        → IsMissing (F.bytes_of files.now) arguments.now.table.now
+        → LacksTableOrMessage (known_of (F.bytes_of files.now) (F.input files.now)) arguments.now
+        (E.contents errors.old.writer) (E.contents errors.new.writer) }
+    ensures wrong_text { result ≡ outcome.WrongText
+        → HasNoBytes (F.bytes_of files.now) (F.input files.now) arguments.now.message
         (E.contents errors.old.writer) (E.contents errors.new.writer) }
     ensures memory_line { result ≡ outcome.NoMemory
         → Appends (E.contents errors.old.writer) (E.contents errors.new.writer) no_memory_line }
@@ -70,8 +68,9 @@ fn run_decode<F: Files, W: Write, E: Write>(
     ensures front { result ≡ outcome.Unwritten
         → W.contents out.new.writer ≡ W.contents out.old.writer
         ⊎ OfTable (F.bytes_of files.now) arguments.now.table.now
-        (λ table. (line : List ℕ) × IsMessageText arguments.now table line
-        × AppendsFront (W.contents out.old.writer) (W.contents out.new.writer) line) }
+        (λ table. OfMessage (F.bytes_of files.now) (F.input files.now) arguments.now.message
+        (λ bytes. (line : List ℕ) × IsMessageText arguments.now table bytes line
+        × AppendsFront (W.contents out.old.writer) (W.contents out.new.writer) line)) }
     ensures out { result ≢ outcome.Done → result ≢ outcome.Unwritten
         → W.contents out.new.writer ≡ W.contents out.old.writer }
     ensures errors { result ≡ outcome.Done
@@ -82,29 +81,40 @@ fn run_decode<F: Files, W: Write, E: Write>(
         Ok(table) => table,
         Err(error) => return tell_no_file(alloc, name, &error, errors),
     };
+    let bytes = match given_bytes(alloc, &arguments.message, files, errors) {
+        Ok(bytes) => bytes,
+        Err(ended) => return ended,
+    };
     let file = File {
         name,
         bytes: table.as_slice(),
     };
-    decode(alloc, &file, &message_of(arguments), out, errors)
+    let message = TypedMessage {
+        root: arguments.root,
+        bytes: bytes.as_slice(),
+        handles: arguments.handles.as_slice(),
+    };
+    decode(alloc, &file, &message, out, errors)
 }
 
-/// Reads the table's file, and prints its records.
+/// Reads the table's file, and prints its records, or names of it.
 fn run_table<F: Files, W: Write, E: Write>(
     alloc: Global,
-    name: &str,
+    arguments: &TableArguments<'_>,
     files: &F,
     out: &mut Output<W>,
     errors: &mut Output<E>,
 ) -> Outcome
     ensures ends { CanEndTableRun result }
-    ensures done { result ≡ outcome.Done → OfTable (F.bytes_of files.now) name.now
-        (λ table. AppendsOne (IsListing table)
+    ensures done { result ≡ outcome.Done → OfTable (F.bytes_of files.now) arguments.now.file.now
+        (λ table. AppendsOne (IsListing arguments.now.listing table)
         (W.contents out.old.writer) (W.contents out.new.writer)) }
-    ensures refused { result ≡ outcome.Refused → OfTable (F.bytes_of files.now) name.now
+    ensures refused { result ≡ outcome.Refused
+        → OfTable (F.bytes_of files.now) arguments.now.file.now
         (λ table. AppendsOne (IsTableRefusal table)
         (E.contents errors.old.writer) (E.contents errors.new.writer)) }
-    ensures no_file { result ≡ outcome.NoFile → IsMissing (F.bytes_of files.now) name.now
+    ensures no_file { result ≡ outcome.NoFile
+        → IsMissing (F.bytes_of files.now) arguments.now.file.now
         (E.contents errors.old.writer) (E.contents errors.new.writer) }
     ensures memory_line { result ≡ outcome.NoMemory
         → Appends (E.contents errors.old.writer) (E.contents errors.new.writer) no_memory_line }
@@ -112,14 +122,15 @@ fn run_table<F: Files, W: Write, E: Write>(
         errors.old.failure errors.new.failure }
     ensures front { result ≡ outcome.Unwritten
         → W.contents out.new.writer ≡ W.contents out.old.writer
-        ⊎ OfTable (F.bytes_of files.now) name.now (λ table. (line : List ℕ)
-        × IsListing table line
+        ⊎ OfTable (F.bytes_of files.now) arguments.now.file.now (λ table. (line : List ℕ)
+        × IsListing arguments.now.listing table line
         × AppendsFront (W.contents out.old.writer) (W.contents out.new.writer) line) }
     ensures out { result ≢ outcome.Done → result ≢ outcome.Unwritten
         → W.contents out.new.writer ≡ W.contents out.old.writer }
     ensures errors { result ≡ outcome.Done
         → E.contents errors.new.writer ≡ E.contents errors.old.writer }
 {
+    let name = arguments.file;
     let bytes = match files.read(alloc, name) {
         Ok(bytes) => bytes,
         Err(error) => return tell_no_file(alloc, name, &error, errors),
@@ -128,7 +139,91 @@ fn run_table<F: Files, W: Write, E: Write>(
         name,
         bytes: bytes.as_slice(),
     };
-    table(&file, out, errors)
+    table(&file, arguments.listing, out, errors)
+}
+
+/// Prints what the guide says of faults.
+fn run_explain<W: Write, E: Write>(
+    alloc: Global,
+    faults: &Faults<'_>,
+    out: &mut Output<W>,
+    errors: &mut Output<E>,
+) -> Outcome
+    ensures ends { CanEndExplain result }
+    ensures done { result ≡ outcome.Done → AppendsOne (IsExplained faults.now)
+        (W.contents out.old.writer) (W.contents out.new.writer) }
+    ensures no_fault { result ≡ outcome.NoFault → LacksFault faults.now
+        (E.contents errors.old.writer) (E.contents errors.new.writer) }
+    ensures memory_line { result ≡ outcome.NoMemory
+        → Appends (E.contents errors.old.writer) (E.contents errors.new.writer) no_memory_line }
+    ensures unwritten { ReportsFailures result out.old.failure out.new.failure
+        errors.old.failure errors.new.failure }
+    ensures front { result ≡ outcome.Unwritten
+        → W.contents out.new.writer ≡ W.contents out.old.writer
+        ⊎ PrintsExplainedFront faults.now (W.contents out.old.writer)
+        (W.contents out.new.writer) }
+    ensures out { result ≢ outcome.Done → result ≢ outcome.Unwritten
+        → W.contents out.new.writer ≡ W.contents out.old.writer }
+    ensures errors { result ≡ outcome.Done
+        → E.contents errors.new.writer ≡ E.contents errors.old.writer }
+{
+    match guide(alloc) {
+        Ok(guide) => explain(alloc, &guide, faults, out, errors),
+        Err(_) => Outcome::NoMemory.where_written(&write_no_memory(errors)),
+    }
+}
+
+/// Runs the command of these arguments.
+fn run_arguments<F: Files, W: Write, E: Write>(
+    alloc: Global,
+    arguments: &Arguments<'_>,
+    files: &mut F,
+    out: &mut Output<W>,
+    errors: &mut Output<E>,
+) -> Outcome
+    ensures ends { CanEndArguments result }
+    ensures done { result ≡ outcome.Done
+        → IsDone (known_of (F.bytes_of files.old) (F.input files.old)) arguments.now
+        (W.contents out.old.writer) (W.contents out.new.writer)
+        (F.written files.old) (F.written files.new) }
+    ensures refused { result ≡ outcome.Refused
+        → IsRefused (known_of (F.bytes_of files.old) (F.input files.old)) arguments.now
+        (E.contents errors.old.writer) (E.contents errors.new.writer) }
+    ensures no_root { result ≡ outcome.NoRoot
+        → LacksGivenRoot (known_of (F.bytes_of files.old) (F.input files.old)) arguments.now
+        (E.contents errors.old.writer) (E.contents errors.new.writer) }
+    ensures no_fault { result ≡ outcome.NoFault → LacksGivenFault arguments.now
+        (E.contents errors.old.writer) (E.contents errors.new.writer) }
+    ensures wrong_text { result ≡ outcome.WrongText
+        → LacksGivenText (known_of (F.bytes_of files.old) (F.input files.old)) arguments.now
+        (E.contents errors.old.writer) (E.contents errors.new.writer) }
+    ensures no_file { result ≡ outcome.NoFile
+        → LacksGivenFile (known_of (F.bytes_of files.old) (F.input files.old))
+        (F.can_write files.old) arguments.now
+        (E.contents errors.old.writer) (E.contents errors.new.writer) }
+    ensures memory_line { result ≡ outcome.NoMemory
+        → Appends (E.contents errors.old.writer) (E.contents errors.new.writer) no_memory_line }
+    ensures written { result ≢ outcome.Done → result ≢ outcome.Unwritten
+        → F.written files.new ≡ F.written files.old }
+    ensures unwritten { ReportsFailures result out.old.failure out.new.failure
+        errors.old.failure errors.new.failure }
+    ensures front { result ≡ outcome.Unwritten
+        → ((W.contents out.new.writer ≡ W.contents out.old.writer)
+        × (F.written files.new ≡ F.written files.old))
+        ⊎ IsDoneInPart (known_of (F.bytes_of files.old) (F.input files.old)) arguments.now
+        (W.contents out.old.writer) (W.contents out.new.writer)
+        (F.written files.old) (F.written files.new) }
+    ensures out { result ≢ outcome.Done → result ≢ outcome.Unwritten
+        → W.contents out.new.writer ≡ W.contents out.old.writer }
+    ensures errors { result ≡ outcome.Done
+        → E.contents errors.new.writer ≡ E.contents errors.old.writer }
+{
+    match arguments {
+        Arguments::Compile(arguments) => run_compile(alloc, arguments, files, out, errors),
+        Arguments::Decode(arguments) => run_decode(alloc, arguments, &*files, out, errors),
+        Arguments::Table(arguments) => run_table(alloc, arguments, &*files, out, errors),
+        Arguments::Explain(faults) => run_explain(alloc, faults, out, errors),
+    }
 }
 
 /// Runs the command that the words of a command line name; the first word is the program's name.
@@ -140,17 +235,24 @@ pub fn run<S: AsStr, F: Files, W: Write, E: Write>(
     errors: &mut Output<E>,
 ) -> Outcome
     ensures done { result ≡ outcome.Done → Gives (map S.text words.now)
-        (λ given. IsDone (F.bytes_of files.old) given
+        (λ given. IsDone (known_of (F.bytes_of files.old) (F.input files.old)) given
         (W.contents out.old.writer) (W.contents out.new.writer)
         (F.written files.old) (F.written files.new)) }
     ensures refused { result ≡ outcome.Refused → Gives (map S.text words.now)
-        (λ given. IsRefused (F.bytes_of files.old) given
+        (λ given. IsRefused (known_of (F.bytes_of files.old) (F.input files.old)) given
         (E.contents errors.old.writer) (E.contents errors.new.writer)) }
     ensures no_root { result ≡ outcome.NoRoot → Gives (map S.text words.now)
-        (λ given. LacksGivenRoot (F.bytes_of files.old) given
+        (λ given. LacksGivenRoot (known_of (F.bytes_of files.old) (F.input files.old)) given
+        (E.contents errors.old.writer) (E.contents errors.new.writer)) }
+    ensures no_fault { result ≡ outcome.NoFault → Gives (map S.text words.now)
+        (λ given. LacksGivenFault given
+        (E.contents errors.old.writer) (E.contents errors.new.writer)) }
+    ensures wrong_text { result ≡ outcome.WrongText → Gives (map S.text words.now)
+        (λ given. LacksGivenText (known_of (F.bytes_of files.old) (F.input files.old)) given
         (E.contents errors.old.writer) (E.contents errors.new.writer)) }
     ensures no_file { result ≡ outcome.NoFile → Gives (map S.text words.now)
-        (λ given. LacksGivenFile (F.bytes_of files.old) (F.can_write files.old) given
+        (λ given. LacksGivenFile (known_of (F.bytes_of files.old) (F.input files.old))
+        (F.can_write files.old) given
         (E.contents errors.old.writer) (E.contents errors.new.writer)) }
     ensures asked { result ≡ outcome.Asked → GivesNone (map S.text words.now) outcome.Asked
         (λ unread. Appends (W.contents out.old.writer) (W.contents out.new.writer)
@@ -168,7 +270,8 @@ pub fn run<S: AsStr, F: Files, W: Write, E: Write>(
     ensures front { result ≡ outcome.Unwritten
         → ((W.contents out.new.writer ≡ W.contents out.old.writer)
         × (F.written files.new ≡ F.written files.old))
-        ⊎ Gives (map S.text words.now) (λ given. IsDoneInPart (F.bytes_of files.old) given
+        ⊎ Gives (map S.text words.now) (λ given. IsDoneInPart
+        (known_of (F.bytes_of files.old) (F.input files.old)) given
         (W.contents out.old.writer) (W.contents out.new.writer)
         (F.written files.old) (F.written files.new))
         ⊎ GivesNone (map S.text words.now) outcome.Asked
@@ -180,9 +283,7 @@ pub fn run<S: AsStr, F: Files, W: Write, E: Write>(
         → E.contents errors.new.writer ≡ E.contents errors.old.writer }
 {
     match read_arguments(alloc, words) {
-        Ok(Arguments::Compile(arguments)) => run_compile(alloc, &arguments, files, out, errors),
-        Ok(Arguments::Decode(arguments)) => run_decode(alloc, &arguments, &*files, out, errors),
-        Ok(Arguments::Table(name)) => run_table(alloc, name, &*files, out, errors),
+        Ok(arguments) => run_arguments(alloc, &arguments, files, out, errors),
         Err(unread) => tell(&unread, out, errors),
     }
 }

@@ -112,7 +112,7 @@ pub(crate) fn run_compile<F: Files, W: Write, E: Write>(
         (F.written files.old) (F.written files.new)) }
     ensures refused { result ≡ outcome.Refused
         → OfSources (F.bytes_of files.old) (sources_of arguments.now)
-        (λ sources. AppendsOne (IsSourceRefusal sources)
+        (λ sources. AppendsOne (IsSourceRefusal arguments.now.snippet sources)
         (E.contents errors.old.writer) (E.contents errors.new.writer)) }
     ensures no_file { result ≡ outcome.NoFile
         → LacksSourceOrOut (F.bytes_of files.old) (F.can_write files.old) arguments.now
@@ -142,7 +142,7 @@ pub(crate) fn run_compile<F: Files, W: Write, E: Write>(
     let Ok(named) = files_of(alloc, &sources) else {
         return Outcome::NoMemory.where_written(&write_no_memory(errors));
     };
-    let table = match compile(alloc, &named, errors) {
+    let table = match compile(alloc, &named, arguments.snippet, errors) {
         Ok(table) => table,
         Err(ended) => return ended,
     };

@@ -1,4 +1,4 @@
-use Rattle.std.proofs.Common.{◌≡◌, sym, ap, subst, ◌∙◌, map, codes, inl, inr, true, false}
+use Rattle.std.proofs.Common.{◌≡◌, sym, ap, ◌∙◌, map, codes, inl, inr}
 use Rattle.std.specs.Prelude.{Option, Some, None, option_map}
 use Rattle.std.specs.List.{list_any}
 use Rattle.clap.proofs.WalkLemmas.{raw_values-rows}
@@ -36,6 +36,7 @@ returns-clause-ok c =
     let names = c.in_ok-sources.ensures.items in
     record {
       out = some_value _ _ _ _ c.in-Some.is c.value_of.ensures;
+      snippet = c.is_given.ensures;
       sources = some_value _ _ _ _ c.in-Some-get_strs.is (c.get_strs.ensures ∙ raw_values-rows found (codes "FILE")) ∙ ap (λ ns. Some (map (λ n. n.now) ns)) (sym names);
       apart = ap (λ ns. list_any (is_one_path c.in-Some.out.now) (map (λ n. n.now) ns)) names ∙ sym c.in_ok-is_source.ensures ∙ c.if-is_source.false;
     }

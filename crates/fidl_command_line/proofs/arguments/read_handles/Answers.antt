@@ -1,4 +1,4 @@
-use Rattle.std.proofs.Common.{rules, ◌+◌, ap}
+use Rattle.std.proofs.Common.{rules}
 use Rattle.fidl_command_line.proofs.HandleTexts.{one_more, refused_handle}
 use Rattle.fidl_command_line.proofs.arguments.read_handles.Goals as goal
 

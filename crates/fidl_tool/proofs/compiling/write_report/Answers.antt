@@ -18,4 +18,5 @@ returns-clause-line g c =
     let colon = appends_then _ _ _ (named ++ decimal place.line) (codes ":") line c.in_ok-write_all-2.ensures.bytes in
     let column = appends_then _ _ _ lined (decimal place.column) colon c.in_ok-write_decimal-2.ensures.text in
     let whole = appends_then _ _ _ (lined ++ decimal place.column) words column c.in_ok-write_words.ensures.text in
-    at_ok c.flush.result (appends_kept _ _ _ _ whole c.flush.ensures.bytes)
+    let shown = appends_then _ _ _ (lined ++ decimal place.column ++ words) c.args.shown.now whole c.in_ok-write_all-3.ensures.bytes in
+    at_ok c.flush.result (appends_kept _ _ _ _ shown c.flush.ensures.bytes)

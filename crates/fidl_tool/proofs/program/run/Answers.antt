@@ -2,7 +2,7 @@ use Rattle.std.proofs.Common.{◌≡◌, ◌≢◌, refl, sym, subst, ◌∙◌,
 use Rattle.std.specs.Prelude.{◌⊎◌}
 use Rattle.fidl_command_line.specs.Arguments.{IsGiven}
 use Rattle.fidl_command_line.specs.declared.arguments.Arguments.{Arguments}
-use Rattle.fidl_command_line.specs.declared.arguments.Arguments.TheVariants.{Compile, Decode, Table}
+use Rattle.fidl_command_line.specs.declared.arguments.Arguments.TheVariants.{Compile, Decode, Table, Explain}
 use Rattle.fidl_command_line.specs.declared.unread.Unread.{Unread}
 use Rattle.fidl_command_line.specs.declared.unread.Unread.TheVariants as unread
 use Rattle.fidl_text.proofs.Written.{appends_as}
@@ -25,45 +25,6 @@ returns-in-Err-clause-wrong_line g c q =
     let w = written c.tell.result outcome.WrongLine q (λ e. cc) in
     (c.in-Err.unread, c.in-Err.ensures.fault_is_true, sym (c.tell.ensures.outcome w) ∙ q, c.tell.ensures.errors w)
 
-pub returns-in-Ok-Compile-clause-done : goal.returns-in-Ok-Compile-clause-done
-returns-in-Ok-Compile-clause-done g c q =
-    let found = c.in-Ok-Compile in
-    let given : IsGiven (map g.S.AsStr.text c.args.words.now) (Compile found.arguments) = subst (λ (a : Arguments). IsGiven (map g.S.AsStr.text c.args.words.now) a) found.field-0-is found.ensures.ok in
-    (Compile found.arguments, given, c.run_compile.ensures.done q)
-
-pub returns-in-Ok-Compile-clause-no_file : goal.returns-in-Ok-Compile-clause-no_file
-returns-in-Ok-Compile-clause-no_file g c q =
-    let found = c.in-Ok-Compile in
-    let given : IsGiven (map g.S.AsStr.text c.args.words.now) (Compile found.arguments) = subst (λ (a : Arguments). IsGiven (map g.S.AsStr.text c.args.words.now) a) found.field-0-is found.ensures.ok in
-    (Compile found.arguments, given, c.run_compile.ensures.no_file q)
-
-pub returns-in-Ok-Compile-clause-front : goal.returns-in-Ok-Compile-clause-front
-returns-in-Ok-Compile-clause-front g c q =
-    let found = c.in-Ok-Compile in
-    let given : IsGiven (map g.S.AsStr.text c.args.words.now) (Compile found.arguments) = subst (λ (a : Arguments). IsGiven (map g.S.AsStr.text c.args.words.now) a) found.field-0-is found.ensures.ok in
-    elim (c.run_compile.ensures.front q) [
-      | inl a ↦ inl a
-      | inr b ↦ inr (inl (Compile found.arguments, given, b))
-    ]
-
-pub returns-in-Ok-Decode-clause-front : goal.returns-in-Ok-Decode-clause-front
-returns-in-Ok-Decode-clause-front g c q =
-    let found = c.in-Ok-Decode in
-    let given : IsGiven (map g.S.AsStr.text c.args.words.now) (Decode found.arguments) = subst (λ (a : Arguments). IsGiven (map g.S.AsStr.text c.args.words.now) a) found.field-0-is found.ensures.ok in
-    elim (c.run_decode.ensures.front q) [
-      | inl a ↦ inl (a, refl)
-      | inr b ↦ inr (inl (Decode found.arguments, given, b))
-    ]
-
-pub returns-in-Ok-Table-clause-front : goal.returns-in-Ok-Table-clause-front
-returns-in-Ok-Table-clause-front g c q =
-    let found = c.in-Ok-Table in
-    let given : IsGiven (map g.S.AsStr.text c.args.words.now) (Table found.name) = subst (λ (a : Arguments). IsGiven (map g.S.AsStr.text c.args.words.now) a) found.field-0-is found.ensures.ok in
-    elim (c.run_table.ensures.front q) [
-      | inl a ↦ inl (a, refl)
-      | inr b ↦ inr (inl (Table found.name, given, b))
-    ]
-
 -- help was asked for, or it was not
 asked_or_not : (u : Unread) → (outcome_of u ≡ outcome.Asked) ⊎ (outcome_of u ≢ outcome.Asked)
 asked_or_not (unread.Asked text) = inl refl
@@ -73,7 +34,16 @@ asked_or_not unread.Missing = inr (λ e. cc)
 asked_or_not unread.BadHex = inr (λ e. cc)
 asked_or_not (unread.BadHandle line) = inr (λ e. cc)
 asked_or_not unread.OutIsSource = inr (λ e. cc)
+asked_or_not unread.BadRaw = inr (λ e. cc)
+asked_or_not unread.TwoLists = inr (λ e. cc)
+asked_or_not unread.BadFault = inr (λ e. cc)
 asked_or_not unread.Memory = inr (λ e. cc)
+
+pub returns-in-Ok-clause-front : goal.returns-in-Ok-clause-front
+returns-in-Ok-clause-front g c q = elim (c.run_arguments.ensures.front q) [
+  | inl a ↦ inl a
+  | inr b ↦ inr (inl (c.in-Ok.arguments, c.in-Ok.ensures.ok, b))
+]
 
 pub returns-in-Err-clause-front : goal.returns-in-Err-clause-front
 returns-in-Err-clause-front g c q = elim (asked_or_not c.in-Err.unread) [
@@ -93,6 +63,9 @@ memory_told unread.Missing e = cc
 memory_told unread.BadHex e = cc
 memory_told (unread.BadHandle line) e = cc
 memory_told unread.OutIsSource e = cc
+memory_told unread.BadRaw e = cc
+memory_told unread.TwoLists e = cc
+memory_told unread.BadFault e = cc
 memory_told unread.Memory e = refl
 
 pub returns-in-Err-clause-memory_line : goal.returns-in-Err-clause-memory_line

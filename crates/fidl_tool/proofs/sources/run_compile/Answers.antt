@@ -26,8 +26,8 @@ returns-in-Err-compile-clause-refused g c q files known =
     let same : named_of c.deref-3.result.now ≡ files = ap named_of c.deref-3.ensures.value ∙ files_read (g.F.Files.bytes_of c.args.files.now) _ sources c.in-Ok-files_of.named.items files read made known in
     let refused = c.in-Err-compile.ensures.refused (ap (λ o. Err o) q) in
     let after = g.E.Write.contents c.compile.new.errors.writer in
-    let of_files = subst (λ (fs : List Named). AppendsOne (IsSourceRefusal fs) (g.E.Write.contents c.read_all.new.errors.writer) after) same refused in
-    subst (λ errors. AppendsOne (IsSourceRefusal files) (g.E.Write.contents errors.writer) after) c.in-Ok.ensures.kept of_files
+    let of_files = subst (λ (fs : List Named). AppendsOne (IsSourceRefusal c.args.arguments.now.snippet fs) (g.E.Write.contents c.read_all.new.errors.writer) after) same refused in
+    subst (λ errors. AppendsOne (IsSourceRefusal c.args.arguments.now.snippet files) (g.E.Write.contents errors.writer) after) c.in-Ok.ensures.kept of_files
 
 pub returns-in-Ok-write-clause-done : goal.returns-in-Ok-write-clause-done
 returns-in-Ok-write-clause-done g c q files known =
