@@ -6,8 +6,8 @@ use std::alloc::Global;
 use std::io;
 use std::test::Fail;
 
-/// Two files, `point.fct` and `short.fct`, which lacks its last byte, and one for which memory runs
-/// out, `vast`.
+/// Files: `point.fct` and `short.fct`, which lacks its last byte, texts of a message, and one for which
+/// memory runs out, `vast`. The standard input is a message's bytes.
 #[derive(Drop)]
 struct Desk;
 
@@ -17,11 +17,19 @@ impl Files for Desk {
             Ok(Vec::from_slice(alloc, &POINT)?)
         } else if name == "short.fct" {
             Ok(Vec::from_slice(alloc, &POINT[..175])?)
+        } else if name == "point.hex" {
+            Ok(Vec::from_slice(alloc, b"01 00\t00 00\r\n02000000\n")?)
+        } else if name == "odd.hex" {
+            Ok(Vec::from_slice(alloc, b"01 0\n")?)
         } else if name == "vast" {
             Err(io::Error::from(io::ErrorKind::OutOfMemory))
         } else {
             Err(io::Error::from(io::ErrorKind::NotFound))
         }
+    }
+
+    fn read_input(&self, alloc: Global) -> io::Result<Vec<u8>> {
+        Ok(Vec::from_slice(alloc, &[1, 0, 0, 0, 2, 0, 0, 0])?)
     }
 
     fn write(&mut self, _name: &str, _bytes: &[u8]) -> io::Result<()> {
@@ -112,7 +120,53 @@ fn files_and_roots_that_are_missing(rt: HostRuntime) -> Result<(), Fail> {
     expect(alloc, &words, 4, "", "error: out of memory\n")?;
     let words = ["fidl", "decode", "point.fct", "Line", POINT_HEX];
     let no_root = "error: ROOT: no root of \"point.fct\" has the name \"Line\"\n";
-    expect(alloc, &words, 2, "", no_root)
+    expect(alloc, &words, 2, "", no_root)?;
+    let words = ["fidl", "decode", "point.fct", "Paint", POINT_HEX];
+    let near =
+        "error: ROOT: no root of \"point.fct\" has the name \"Paint\"; did you mean Point?\n";
+    expect(alloc, &words, 2, "", near)
+}
+
+#[test]
+fn messages_stand_in_files_and_in_the_input(rt: HostRuntime) -> Result<(), Fail> {
+    let alloc = rt.alloc();
+    let words = ["fidl", "decode", "point.fct", "Point", "@point.hex"];
+    expect(alloc, &words, 0, "{x: 1, y: 2}\n", "")?;
+    let words = ["fidl", "decode", "--raw", "point.fct", "Point", "-"];
+    expect(alloc, &words, 0, "{x: 1, y: 2}\n", "")?;
+    let hex = "error: HEX: an even number of hexadecimal digits is wanted\n";
+    let words = ["fidl", "decode", "point.fct", "Point", "@odd.hex"];
+    expect(alloc, &words, 2, "", hex)?;
+    let words = ["fidl", "decode", "point.fct", "Point", "-"];
+    expect(alloc, &words, 2, "", hex)?;
+    let words = ["fidl", "decode", "point.fct", "Point", "@none"];
+    expect(alloc, &words, 3, "", "error: \"none\": entity not found\n")?;
+    let raw = "error: --raw: @FILE or - is wanted in place of HEX\n";
+    let words = ["fidl", "decode", "--raw", "point.fct", "Point", POINT_HEX];
+    expect(alloc, &words, 2, "", raw)
+}
+
+#[test]
+fn names_alone(rt: HostRuntime) -> Result<(), Fail> {
+    let alloc = rt.alloc();
+    let words = ["fidl", "table", "--roots", "point.fct"];
+    expect(alloc, &words, 0, "Point\n", "")?;
+    let words = ["fidl", "table", "--protocols", "point.fct"];
+    expect(alloc, &words, 0, "", "")?;
+    let both = "error: --protocols: it does not go with --roots\n";
+    let words = ["fidl", "table", "--roots", "--protocols", "point.fct"];
+    expect(alloc, &words, 2, "", both)
+}
+
+#[test]
+fn faults_that_there_are_not(rt: HostRuntime) -> Result<(), Fail> {
+    let alloc = rt.alloc();
+    let name = "error: FAULT: no fault has the name \"Wrong\"\n";
+    expect(alloc, &["fidl", "explain", "Wrong"], 2, "", name)?;
+    let number = "error: FAULT: no fault has the stage \"types\" and the number 99\n";
+    expect(alloc, &["fidl", "explain", "types", "99"], 2, "", number)?;
+    let wanted = "error: FAULT: a name is wanted, or a stage and a number, as in types 9\n";
+    expect(alloc, &["fidl", "explain", "types", "x"], 2, "", wanted)
 }
 
 #[test]
@@ -154,10 +208,10 @@ fn wrong_arguments_come_before_files(rt: HostRuntime) -> Result<(), Fail> {
 #[test]
 fn wrong_command_lines(rt: HostRuntime) -> Result<(), Fail> {
     let alloc = rt.alloc();
-    let unknown = "error: unrecognized subcommand 'encode'\n";
+    let unknown = "error: unrecognized subcommand 'decod'; did you mean 'decode'?\n";
     expect(
         alloc,
-        &["fidl", "encode", "point.fct", "Point", "{}"],
+        &["fidl", "decod", "point.fct", "Point", POINT_HEX],
         2,
         "",
         unknown,
@@ -173,7 +227,7 @@ fn wrong_command_lines(rt: HostRuntime) -> Result<(), Fail> {
         dash,
     )?;
     let none = "error: 'fidl' requires a subcommand but one was not provided [subcommands: \
-        compile, decode, table, help]\n";
+        compile, decode, table, explain, help]\n";
     expect(alloc, &["out/fidl"], 2, "", none)?;
     expect(alloc, &[], 2, "", none)
 }
@@ -187,8 +241,13 @@ fn help_and_version(rt: HostRuntime) -> Result<(), Fail> {
         compile  Writes the coding table of libraries, from their sources\n  \
         decode   Prints the text of the value that a message encodes\n  \
         table    Prints the records of a coding table\n  \
+        explain  Says what a fault means, with an example\n  \
         help     Print this message or the help of the given subcommand(s)\n\nOptions:\n  \
-        -h, --help     Print help\n  -V, --version  Print version\n";
+        -h, --help     Print help\n  -V, --version  Print version\n\nExample:\n  \
+        fidl compile --out store.fct zx.fidl types.fidl store.fidl\n\nStatus:\n  \
+        0  it is done\n  1  the sources, the table or the message are refused\n  \
+        2  the command line is wrong, or names a root or a fault that there is not\n  \
+        3  a file or a stream cannot be read or written\n  4  memory ran out\n";
     expect(alloc, &["fidl", "--help"], 0, help, "")?;
     expect(alloc, &["fidl", "help"], 0, help, "")
 }

@@ -29,6 +29,10 @@ impl Files for Store {
         Ok(Vec::from_slice(alloc, &file.bytes)?)
     }
 
+    fn read_input(&self, _alloc: Global) -> io::Result<Vec<u8>> {
+        Err(io::Error::from(io::ErrorKind::NotFound))
+    }
+
     fn write(&mut self, _name: &str, bytes: &[u8]) -> io::Result<()> {
         if self.is_full {
             return Err(io::Error::from(io::ErrorKind::StorageFull));
@@ -130,6 +134,10 @@ fn a_refused_run_writes_nothing(rt: HostRuntime) -> Result<(), Fail> {
         1,
         bad,
     )?;
+    let shown = "bad.fidl:2:24: names 3 UnknownName\n    type Point = struct {x Int;};\n\
+        \u{20}                          ^ see 'fidl explain names 3'\n";
+    let words = ["fidl", "compile", "--snippet", "--out", "o", "bad.fidl"];
+    refused(&rt, alloc, &words, 1, shown)?;
     let quoted = "\"bad\\n.fidl\":2:24: names 3 UnknownName\n";
     let words = ["fidl", "compile", "--out", "o", "bad\n.fidl"];
     refused(&rt, alloc, &words, 1, quoted)?;

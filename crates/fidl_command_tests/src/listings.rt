@@ -1,6 +1,6 @@
 //! Tests of `table`: what it prints of small tables, and what it refuses.
 use crate::tables::POINT;
-use fidl_tool::{File, Output, table};
+use fidl_tool::{File, Listing, Output, table};
 use std::alloc::Global;
 use std::test::Fail;
 
@@ -80,7 +80,7 @@ fn expect(alloc: Global, bytes: &[u8], status: u8, out: &str, errors: &str) -> R
     };
     let mut printed = Output::new(Vec::new(alloc));
     let mut told = Output::new(Vec::new(alloc));
-    let outcome = table(&file, &mut printed, &mut told);
+    let outcome = table(&file, Listing::Records, &mut printed, &mut told);
     if outcome.status().number() != status {
         return Err(Fail::from("another status"));
     }

@@ -1,7 +1,7 @@
 //! Tests of writers that fail: what is out then, and what is answered.
 use crate::listings::POINT_LINES;
 use crate::tables::POINT;
-use fidl_tool::{File, Outcome, Output, TypedMessage, decode, table};
+use fidl_tool::{File, Listing, Outcome, Output, TypedMessage, decode, table};
 use std::alloc::Global;
 use std::io;
 use std::io::Write;
@@ -128,7 +128,7 @@ fn an_output_that_fails_at_each_write_of_a_table(rt: HostRuntime) -> Result<(), 
     for writes in 0..120 {
         let mut out = Output::new(Brief::new(alloc, writes));
         let mut errors = Output::new(Vec::new(alloc));
-        let outcome = table(&FILE, &mut out, &mut errors);
+        let outcome = table(&FILE, Listing::Records, &mut out, &mut errors);
         let failed = out.failure().is_some();
         let held = out.into_writer().held;
         let told: &[u8] = if failed {
