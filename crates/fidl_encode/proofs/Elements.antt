@@ -1,5 +1,5 @@
 -- What is left of elements.
-use Rattle.std.proofs.Common.{◌≡◌, ℕ, zero, suc, ◌+◌, ◌*◌, ◌^◌, ◌<◌, ◌≤◌, Bool, IsTrue, List, [], ◌∷◌, ◌++◌, length, map, drop, get_or, refl, sym, ap, subst, ◌∙◌, arith, drop-cons, mul-suc}
+use Rattle.std.proofs.Common.{inl, inr, ◌≡◌, ℕ, zero, suc, ◌+◌, ◌*◌, ◌^◌, ◌<◌, ◌≤◌, Bool, IsTrue, List, [], ◌∷◌, ◌++◌, length, map, drop, get_or, refl, sym, ap, subst, ◌∙◌, arith, drop-cons, mul-suc}
 use Rattle.std.proofs.lemmas.List.{drop_all}
 use Rattle.std.proofs.Math.Nat.{mul-le-mul_left}
 use Rattle.fidl_wire.specs.declared.value.Value.{Value as Tree}
@@ -13,6 +13,8 @@ use Rattle.fidl_wire.specs.Typed.{IsTyped, AllTyped}
 use Rattle.fidl_wire.specs.Encoding.{counted, elements, present}
 use Rattle.fidl_wire.proofs.Sizes.{length-inline, length-elements}
 use Rattle.fidl_encode.specs.declared.fault.EncodeFault.{EncodeFault}
+use Rattle.fidl_encode.specs.declared.fault.EncodeFault.TheVariants.{OverBound}
+use Rattle.fidl_encode.specs.Broken.{Breaks}
 use Rattle.fidl_encode.specs.Writing.{Written, IsWithin}
 use Rattle.fidl_encode.specs.Parts.{Part, value_part, elements_part, IsWritten, IsRefused}
 use Rattle.fidl_encode.proofs.Ending.{Alike, Points, written_zeros}
@@ -95,21 +97,22 @@ pub points_elements : (ds : Declarations) → IsLaidOut ds → (optional : Bool)
 points_elements ds laid optional bound t vs size sized =
     record {
       from = λ h. h.1;
+      breaks = λ f b. inr b;
       depth = refl;
       encoding = ap (λ n. counted n (elements ds (resolve ds.terms t) (values_of vs))) (count-values_of vs);
       sized = λ h. length-elements ds laid (resolve ds.terms t) (values_of vs) h ∙ ap (λ n. n * count (values_of vs)) sized ∙ ap (λ n. size * n) (count-values_of vs);
     }
 
 -- a vector over its bound
-pub over_bound : (ds : Declarations) (optional : Bool) (bound : ℕ) (t : Term) (vs : List Value) → bound < length vs → IsTyped ds (ty.vector optional bound t) (list (values_of vs)) → ⊥
-over_bound ds optional bound t vs more h = omega (arith, more, h.0, count-values_of vs)
+pub over_bound : (ds : Declarations) (optional : Bool) (bound : ℕ) (t : Term) (vs : List Value) → bound < length vs → Breaks ds (ty.vector optional bound t) (list (values_of vs)) OverBound
+over_bound ds optional bound t vs more = inl (omega (arith, more, count-values_of vs))
 
 pub bounded : (ds : Declarations) (optional : Bool) (bound : ℕ) (t : Term) (vs : List Value) → length vs ≤ bound → AllTyped ds (resolve ds.terms t) (values_of vs) → IsTyped ds (ty.vector optional bound t) (list (values_of vs))
 bounded ds optional bound t vs le h = (omega (arith, le, count-values_of vs), h)
 
 -- an array is its elements
 pub array_alike : (ds : Declarations) (t : Term) (n : ℕ) (vs : List Value) → length vs ≡ n → Alike (elements_part ds (resolve ds.terms t) (values_of vs)) (value_part ds (ty.array t n) (list (values_of vs)))
-array_alike ds t n vs is = record { to = λ h. (count-values_of vs ∙ is, h); from = λ h. h.1; depth = refl; encoding = refl }
+array_alike ds t n vs is = record { to = λ h. (count-values_of vs ∙ is, h); from = λ h. h.1; breaks = λ f b. inr b; depth = refl; encoding = refl }
 
 -- what is no list is no vector and no array
 pub no_vector : (ds : Declarations) (optional : Bool) (bound : ℕ) (t : Term) (v : Value) → ((vs : Values) → v ≡ list vs → ⊥) → (IsTrue optional → v ≡ absent → ⊥) → IsTyped ds (ty.vector optional bound t) v → ⊥

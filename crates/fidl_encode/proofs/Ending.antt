@@ -1,5 +1,5 @@
 -- How the writing of a part ends, by how that of its parts does.
-use Rattle.std.proofs.Common.{◌≡◌, ℕ, suc, ◌+◌, ◌-◌, ◌*◌, ◌<◌, ◌≤◌, List, [], ◌++◌, length, max, refl, sym, ap, subst, ◌∙◌, arith, length-append}
+use Rattle.std.proofs.Common.{◌⊎◌, inl, inr, ◌≡◌, ℕ, suc, ◌+◌, ◌-◌, ◌*◌, ◌<◌, ◌≤◌, List, [], ◌++◌, length, max, refl, sym, ap, subst, ◌∙◌, arith, length-append}
 use Rattle.std.proofs.Math.ListN.{length-replicate}
 use Rattle.std.specs.Int.{next_multiple_of, to_le_bytes, w64}
 use Rattle.std.specs.Prelude.{IsUtf8, Bool}
@@ -12,27 +12,28 @@ use Rattle.fidl_wire.specs.Figure.{Declarations, size_of}
 use Rattle.fidl_wire.specs.Typed.{IsTyped, MayBeAbsent}
 use Rattle.fidl_wire.specs.Encoding.{Encoding, zeros, pad8, object, inline_only, joined, pointing, present}
 use Rattle.fidl_encode.specs.declared.fault.EncodeFault.{EncodeFault}
-use Rattle.fidl_encode.specs.declared.fault.EncodeFault.TheVariants.{TooDeep, TooLong, TooManyHandles, Memory}
+use Rattle.fidl_encode.specs.declared.fault.EncodeFault.TheVariants.{WrongShape, OverBound, NotUtf8, UnknownValue, WrongHandle, TooDeep, TooLong, TooManyHandles, Memory}
 use Rattle.fidl_encode.specs.Writing.{Written, Adds, IsOver, IsWithin}
-use Rattle.fidl_encode.specs.Parts.{Part, value_part, IsWritten, IsRefused, Exceeds, HasNoRoom}
+use Rattle.fidl_encode.specs.Parts.{Part, value_part, IsWritten, IsRefused, HasNoRoom}
 use Rattle.fidl_encode.proofs.Adding.{append-nil, adds_zeros, adds_joined, adds_inline, adds_pointing}
 
 -- two parts, the second behind the first
 abbrev pub both : Part → Part → Part
-both p q = record { Typed = p.Typed × q.Typed; depth = max p.depth q.depth; encoding = joined p.encoding q.encoding }
+both p q = record { Typed = p.Typed × q.Typed; breaks = λ f. p.breaks f ⊎ q.breaks f; depth = max p.depth q.depth; encoding = joined p.encoding q.encoding }
 
 -- zeros, and a part behind them
 abbrev pub led : ℕ → Part → Part
-led n p = record { Typed = p.Typed; depth = p.depth; encoding = joined (inline_only (zeros n)) p.encoding }
+led n p = record { Typed = p.Typed; breaks = p.breaks; depth = p.depth; encoding = joined (inline_only (zeros n)) p.encoding }
 
 -- nothing but bytes
 abbrev pub plain : List ℕ → Part
-plain bytes = record { Typed = Unit {0}; depth = 0; encoding = inline_only bytes }
+plain bytes = record { Typed = Unit {0}; breaks = λ f. ⊥; depth = 0; encoding = inline_only bytes }
 
 -- parts that are written and refused alike
 pub record Alike (p q : Part) : Type 0 where
   pub to : p.Typed → q.Typed
   pub from : q.Typed → p.Typed
+  pub breaks : (f : EncodeFault) → p.breaks f → q.breaks f
   pub depth : p.depth ≡ q.depth
   pub encoding : p.encoding ≡ q.encoding
 
@@ -46,11 +47,15 @@ written_alike p q depth at a b s h =
     }
 
 pub refused_alike : (p q : Part) (depth : ℕ) (a : Written) → Alike p q → (f : EncodeFault) → IsRefused p depth a f → IsRefused q depth a f
-refused_alike p q depth a s TooDeep h t = let e = s.depth in let n = h (s.from t) in omega (arith, e, n)
-refused_alike p q depth a s TooLong h t = subst (λ (e : Encoding). MAX_MESSAGE_BYTES < length a.bytes + length e.out) s.encoding (h (s.from t))
-refused_alike p q depth a s TooManyHandles h t = subst (λ (e : Encoding). MAX_MESSAGE_HANDLES < length a.handles + length e.handles) s.encoding (h (s.from t))
-refused_alike p q depth a s Memory h t = tt
-refused_alike p q depth a s _ h t = h (s.from t)
+refused_alike p q depth a s TooDeep h = λ t. let e = s.depth in let n = h (s.from t) in omega (arith, e, n)
+refused_alike p q depth a s TooLong h = λ t. subst (λ (e : Encoding). MAX_MESSAGE_BYTES < length a.bytes + length e.out) s.encoding (h (s.from t))
+refused_alike p q depth a s TooManyHandles h = λ t. subst (λ (e : Encoding). MAX_MESSAGE_HANDLES < length a.handles + length e.handles) s.encoding (h (s.from t))
+refused_alike p q depth a s Memory h = tt
+refused_alike p q depth a s WrongShape h = λ t. h (s.from t)
+refused_alike p q depth a s OverBound h = s.breaks OverBound h
+refused_alike p q depth a s NotUtf8 h = s.breaks NotUtf8 h
+refused_alike p q depth a s UnknownValue h = s.breaks UnknownValue h
+refused_alike p q depth a s WrongHandle h = s.breaks WrongHandle h
 
 module _ (p q : Part) (depth : ℕ) (a : Written) where
   pub written_both : (at : ℕ) (b c : Written) → IsWritten p depth at a b → IsWritten q depth (at + length p.encoding.inline) b c → IsWritten (both p q) depth at a c
@@ -63,22 +68,30 @@ module _ (p q : Part) (depth : ℕ) (a : Written) where
       }
 
   pub refused_first : (f : EncodeFault) → IsRefused p depth a f → IsRefused (both p q) depth a f
-  refused_first TooDeep h t = let n = h t.0 in omega (arith, n)
-  refused_first TooLong h t = let n = h t.0 in let s = length-append p.encoding.out q.encoding.out in omega (arith, n, s)
-  refused_first TooManyHandles h t = let n = h t.0 in let s = length-append p.encoding.handles q.encoding.handles in omega (arith, n, s)
-  refused_first Memory h t = tt
-  refused_first _ h t = h t.0
+  refused_first TooDeep h = λ t. let n = h t.0 in omega (arith, n)
+  refused_first TooLong h = λ t. let n = h t.0 in let s = length-append p.encoding.out q.encoding.out in omega (arith, n, s)
+  refused_first TooManyHandles h = λ t. let n = h t.0 in let s = length-append p.encoding.handles q.encoding.handles in omega (arith, n, s)
+  refused_first Memory h = tt
+  refused_first WrongShape h = λ t. h t.0
+  refused_first OverBound h = inl h
+  refused_first NotUtf8 h = inl h
+  refused_first UnknownValue h = inl h
+  refused_first WrongHandle h = inl h
 
   pub refused_rest : (at : ℕ) (b : Written) → IsWritten p depth at a b → (f : EncodeFault) → IsRefused q depth b f → IsRefused (both p q) depth a f
-  refused_rest at b w TooDeep h t = let n = h t.1 in omega (arith, n)
-  refused_rest at b w TooLong h t = let n = h t.1 in let s = length-append p.encoding.out q.encoding.out in let l = w.adds.longer in omega (arith, n, s, l)
-  refused_rest at b w TooManyHandles h t =
+  refused_rest at b w TooDeep h = λ t. let n = h t.1 in omega (arith, n)
+  refused_rest at b w TooLong h = λ t. let n = h t.1 in let s = length-append p.encoding.out q.encoding.out in let l = w.adds.longer in omega (arith, n, s, l)
+  refused_rest at b w TooManyHandles h = λ t.
       let n = h t.1 in
       let s = length-append p.encoding.handles q.encoding.handles in
       let l : length b.handles ≡ length a.handles + length p.encoding.handles = ap length w.adds.handles ∙ length-append a.handles p.encoding.handles in
       omega (arith, n, s, l)
-  refused_rest at b w Memory h t = tt
-  refused_rest at b w _ h t = h t.1
+  refused_rest at b w Memory h = tt
+  refused_rest at b w WrongShape h = λ t. h t.1
+  refused_rest at b w OverBound h = inr h
+  refused_rest at b w NotUtf8 h = inr h
+  refused_rest at b w UnknownValue h = inr h
+  refused_rest at b w WrongHandle h = inr h
 
 pub written_led : (n : ℕ) (p : Part) (depth at : ℕ) (a b : Written) → IsWritten p depth (at + n) a b → IsWritten (led n p) depth at a b
 written_led n p depth at a b h =
@@ -125,37 +138,42 @@ length_object e =
 -- a part `q` that is what points to an object `p`, of this inline size, behind all bytes
 pub record Points (bytes : List ℕ) (size : ℕ) (p q : Part) : Type 0 where
   pub from : q.Typed → p.Typed
+  pub breaks : (f : EncodeFault) → p.breaks f → q.breaks f
   pub depth : q.depth ≡ suc p.depth
   pub encoding : q.encoding ≡ pointing bytes p.encoding
   pub sized : p.Typed → length p.encoding.inline ≡ size
 
 module _ (bytes : List ℕ) (size : ℕ) (p q : Part) (s : Points bytes size p q) (depth : ℕ) (a : Written) where
   pub refused_deep : (f : EncodeFault) → f ≡ TooDeep → depth ≡ 0 → IsRefused q depth a f
-  refused_deep f is none t = let e = s.depth in subst (λ f. Exceeds q depth a f) (sym is) (omega (arith, e, none))
+  refused_deep f is none = let e = s.depth in subst (λ f. IsRefused q depth a f) (sym is) (λ t. omega (arith, e, none))
 
   long : q.Typed → length q.encoding.out ≡ next_multiple_of size 8 + length p.encoding.out
   long t = ap (λ (e : Encoding). length e.out) s.encoding ∙ length_object p.encoding ∙ ap (λ n. next_multiple_of n 8 + length p.encoding.out) (s.sized (s.from t))
 
   pub refused_room : (f : EncodeFault) → HasNoRoom a size f → IsRefused q depth a f
-  refused_room TooLong h t = let l = long t in omega (arith, h, l)
-  refused_room Memory h t = tt
-  refused_room _ h t = absurd h
+  refused_room TooLong h = λ t. let l = long t in omega (arith, h, l)
+  refused_room Memory h = tt
+  refused_room _ h = absurd h
 
   module _ (below : ℕ) (deeper : depth ≡ suc below) (b : Written) (room : b.bytes ≡ a.bytes ++ zeros (next_multiple_of size 8)) (kept : b.handles ≡ a.handles) where
     pub refused_below : (f : EncodeFault) → IsRefused p below b f → IsRefused q depth a f
-    refused_below TooDeep h t = let n = h (s.from t) in let e = s.depth in omega (arith, n, e, deeper)
-    refused_below TooLong h t =
+    refused_below TooDeep h = λ t. let n = h (s.from t) in let e = s.depth in omega (arith, n, e, deeper)
+    refused_below TooLong h = λ t.
         let n = h (s.from t) in
         let l = long t in
         let r : length b.bytes ≡ length a.bytes + next_multiple_of size 8 = ap length room ∙ length-append a.bytes (zeros (next_multiple_of size 8)) ∙ ap (λ n. length a.bytes + n) (length-replicate {A = ℕ} (next_multiple_of size 8) 0) in
         omega (arith, n, l, r)
-    refused_below TooManyHandles h t =
+    refused_below TooManyHandles h = λ t.
         let n = h (s.from t) in
         let l : length q.encoding.handles ≡ length p.encoding.handles = ap (λ (e : Encoding). length e.handles) s.encoding in
         let r : length b.handles ≡ length a.handles = ap length kept in
         omega (arith, n, l, r)
-    refused_below Memory h t = tt
-    refused_below _ h t = h (s.from t)
+    refused_below Memory h = tt
+    refused_below WrongShape h = λ t. h (s.from t)
+    refused_below OverBound h = s.breaks OverBound h
+    refused_below NotUtf8 h = s.breaks NotUtf8 h
+    refused_below UnknownValue h = s.breaks UnknownValue h
+    refused_below WrongHandle h = s.breaks WrongHandle h
 
     pub written_below : (c d : Written) (at : ℕ) → (p.Typed → q.Typed) → IsWritten p below (length a.bytes) b c → IsOver c.bytes d.bytes at bytes → length d.bytes ≡ length c.bytes → d.handles ≡ c.handles
         → IsWritten q depth at a d
@@ -185,7 +203,7 @@ pub written_text : (ds : Declarations) (optional : Bool) (bound : ℕ) (bytes : 
     → IsWritten (value_part ds (ty.string optional bound) (text bytes)) depth at a d
 written_text ds optional bound bytes utf8 small depth below deeper a b c d at room kept put same beside within over same2 beside2 =
     written_below (to_le_bytes w64 (length bytes) ++ present) (length bytes) (plain bytes) (value_part ds (ty.string optional bound) (text bytes))
-    (record { from = λ t. tt; depth = refl; encoding = refl; sized = λ t. refl }) depth a below deeper b room kept c d at (λ t. (utf8, small))
+    (record { from = λ t. tt; breaks = λ f b. absurd b; depth = refl; encoding = refl; sized = λ t. refl }) depth a below deeper b room kept c d at (λ t. (utf8, small))
     (written_inline (plain bytes) below (length a.bytes) b c bytes [] tt refl refl put same (beside ∙ sym (append-nil b.handles)) (within_same b c same beside within))
     over same2 beside2
 

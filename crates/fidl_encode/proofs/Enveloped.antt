@@ -4,7 +4,6 @@ use Rattle.std.proofs.Math.ListN.{length-replicate}
 use Rattle.std.specs.Prelude.{if◌then◌else◌, Some, None}
 use Rattle.std.specs.List.{AllByRecursion}
 use Rattle.std.specs.Int.{next_multiple_of, to_le_bytes, w32}
-use Rattle.fidl_limits.specs.declared.limits.TheConstants.{MAX_MESSAGE_HANDLES}
 use Rattle.fidl_wire.specs.declared.handle.HandleInfo.{HandleInfo}
 use Rattle.fidl_wire.specs.Value.{Value, absent, bool, number, text, list, fields, handle, table, union, Values, none, value, known, unknown, count}
 use Rattle.fidl_wire.specs.Term.{Term, Fields, no_fields, field, Rows, resolve}
@@ -16,9 +15,9 @@ use Rattle.fidl_wire.specs.Encoding.{Encoding, zeros, padded, pad8, object, inli
 use Rattle.fidl_wire.proofs.Sizes.{length-inline, size_of-resolve, end_of-le, le-next_multiple_of}
 use Rattle.fidl_wire.proofs.Unique.{no_out}
 use Rattle.fidl_encode.specs.declared.fault.EncodeFault.{EncodeFault}
-use Rattle.fidl_encode.specs.declared.fault.EncodeFault.TheVariants.{TooDeep, TooLong, TooManyHandles, Memory}
+use Rattle.fidl_encode.specs.declared.fault.EncodeFault.TheVariants.{WrongShape, OverBound, NotUtf8, UnknownValue, WrongHandle, TooDeep, TooLong, TooManyHandles, Memory}
 use Rattle.fidl_encode.specs.Writing.{Written, Adds, IsOver, IsWithin}
-use Rattle.fidl_encode.specs.Parts.{Part, value_part, member_part, IsWritten, IsRefused, HasNoHandles}
+use Rattle.fidl_encode.specs.Parts.{Part, value_part, member_part, IsWritten, IsRefused}
 use Rattle.fidl_encode.proofs.Adding.{append-nil, adds_zeros, adds_joined, adds_inline, over_both}
 use Rattle.fidl_encode.proofs.Ending.{Points, within_same, written_inline, written_below}
 
@@ -116,23 +115,28 @@ module _ (ds : Declarations) (laid : IsLaidOut ds) (t : Term) (v : Value) (depth
         }
 
     pub refused_in : (a : Written) (f : EncodeFault) → IsRefused own depth a f → IsRefused held depth a f
-    refused_in a TooDeep h typed = let n = h typed in let z = no_depth ds laid (resolve ds.terms t) v typed size_small in absurd (omega (arith, n, z))
-    refused_in a TooLong h typed =
+    refused_in a TooDeep h = λ typed. let n = h typed in let z = no_depth ds laid (resolve ds.terms t) v typed size_small in absurd (omega (arith, n, z))
+    refused_in a TooLong h = λ typed.
         let z : length own.encoding.out ≡ 0 = ap length (no_out ds laid (resolve ds.terms t) v typed size_small) in
         let n = h typed in
         omega (arith, n, z)
-    refused_in a TooManyHandles h typed =
+    refused_in a TooManyHandles h = λ typed.
         let e : length held.encoding.handles ≡ length own.encoding.handles = ap (λ (e : Encoding). length e.handles) inline_is in
         let n = h typed in
         omega (arith, n, e)
-    refused_in a Memory h typed = tt
-    refused_in a _ h typed = h typed
+    refused_in a Memory h = tt
+    refused_in a WrongShape h = λ typed. h typed
+    refused_in a OverBound h = h
+    refused_in a NotUtf8 h = h
+    refused_in a UnknownValue h = h
+    refused_in a WrongHandle h = h
 
   module _ (large : 4 < size_of ds t) where
     pub points_out : Points (to_le_bytes w32 (length (object own.encoding)) ++ envelope_end 0 own.encoding.handles) (size_of ds t) own held
     points_out =
         record {
           from = λ h. h;
+          breaks = λ f b. b;
           depth = ap (λ b. if b then 0 else suc own.depth) (large_test (size_of ds t) large);
           encoding = ap (λ b. if b then inline_envelope (padded 4 own.encoding.inline) own.encoding.handles else out_envelope (object own.encoding) own.encoding.handles) (large_test (size_of ds t) large);
           sized = λ h. length-inline ds laid (resolve ds.terms t) v h ∙ size_of-resolve ds laid t;
@@ -142,7 +146,7 @@ module _ (ds : Declarations) (laid : IsLaidOut ds) (t : Term) (v : Value) (depth
 
 -- bytes and handles alone
 abbrev pub raw : List ℕ → List HandleInfo → Part
-raw bytes handles = record { Typed = Unit {0}; depth = 0; encoding = record { inline = bytes; out = []; handles = handles } }
+raw bytes handles = record { Typed = Unit {0}; breaks = λ f. ⊥; depth = 0; encoding = record { inline = bytes; out = []; handles = handles } }
 
 no_padding : (bytes : List ℕ) → length bytes % 8 ≡ 0 → pad8 bytes ++ [] ≡ bytes
 no_padding bytes h =
@@ -154,17 +158,12 @@ pub points_raw : (ds : Declarations) (bytes : List ℕ) (handles : List HandleIn
 points_raw ds bytes handles whole =
     record {
       from = λ h. tt;
+      breaks = λ f b. absurd b;
       depth = refl;
       encoding =
           same_encoding (out_envelope bytes handles) (pointing (to_le_bytes w32 (length bytes) ++ envelope_end 0 handles) (record { inline = bytes; out = []; handles = handles })) refl (sym (no_padding bytes whole)) refl;
       sized = λ h. refl;
     }
-
--- handles that there is no room for
-pub refused_handles : (p : Part) (depth : ℕ) (a : Written) (handles : List HandleInfo) → p.encoding.handles ≡ handles → (f : EncodeFault) → HasNoHandles a handles f → IsRefused p depth a f
-refused_handles p depth a handles is TooManyHandles h t = subst (λ (l : List HandleInfo). MAX_MESSAGE_HANDLES < length a.handles + length l) (sym is) h
-refused_handles p depth a handles is Memory h t = tt
-refused_handles p depth a handles is _ h t = absurd h
 
 -- the four bytes of an unknown member, and the envelope's end behind them
 pub written_unknown_in : (ds : Declarations) (bytes : List ℕ) (handles : List HandleInfo) (depth at : ℕ) (a b c d : Written) → AreBytes bytes → length bytes ≡ 4 → AllByRecursion IsHandle handles

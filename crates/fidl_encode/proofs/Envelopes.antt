@@ -63,7 +63,7 @@ module _ (ds : Declarations) (rows : Rows) (n : ℕ) (ms : List (ℕ × Tree)) (
 
     module _ (rises : last < m.0) (le : m.0 ≤ n) where
       alike : Alike (led (8 * (m.0 - suc last)) (both own behind)) here
-      alike = record { to = λ h. (rises, le, h.0, h.1); from = λ h. (h.2, h.3); depth = refl; encoding = refl }
+      alike = record { to = λ h. (rises, le, h.0, h.1); from = λ h. (h.2, h.3); breaks = λ f b. b; depth = refl; encoding = refl }
 
       left_both : Leaves whole (both own behind) depth at (at + 8 * (m.0 - 1)) old now
       left_both =
@@ -108,6 +108,7 @@ pub points_envelopes : (ds : Declarations) → IsLaidOut ds → (rows : Rows) (n
 points_envelopes ds laid rows n ms =
     record {
       from = λ h. h.1;
+      breaks = λ f b. b;
       depth = refl;
       encoding = refl;
       sized = λ h. let e = length_rise ds laid rows 0 n ms (omega arith) h in omega (arith, e);
@@ -143,7 +144,7 @@ strictly ds strict (Some t) (unknown inline bytes handles) has h = h
 pub union_alike : (ds : Declarations) (optional strict : Bool) (rows : Rows) (ordinal : ℕ) (m : Member) → 0 < ordinal → ordinal < 2 ^ 64 → (IsTrue strict → find rows ordinal ≡ None → ⊥)
     → Alike (both (plain (to_le_bytes w64 ordinal)) (member_part ds false (find rows ordinal) m)) (value_part ds (ty.union optional strict rows) (union ordinal m))
 union_alike ds optional strict rows ordinal m some small has =
-    record { to = λ h. (some, small, strictly ds strict (find rows ordinal) m has h.1); from = λ h. (tt, loosely ds strict (find rows ordinal) m h.2); depth = omega arith; encoding = refl }
+    record { to = λ h. (some, small, strictly ds strict (find rows ordinal) m has h.1); from = λ h. (tt, loosely ds strict (find rows ordinal) m h.2); breaks = λ f b. elim b [ inl x ↦ absurd x | inr x ↦ x ]; depth = omega arith; encoding = refl }
 
 -- ordinal 0, or no member of a strict union
 pub no_member : (ds : Declarations) (optional strict : Bool) (rows : Rows) (ordinal : ℕ) (m : Member) → (ordinal ≡ 0) ⊎ (IsTrue strict × (find rows ordinal ≡ None)) → IsTyped ds (ty.union optional strict rows) (union ordinal m) → ⊥

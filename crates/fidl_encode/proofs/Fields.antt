@@ -16,6 +16,7 @@ use Rattle.fidl_table_format.specs.Section.{header_of, row_at}
 use Rattle.fidl_table_format.specs.Terms.{declarations_of, fields_from}
 use Rattle.fidl_table_format.specs.Entry.{keys_from, AreOffsets}
 use Rattle.fidl_encode.specs.declared.fault.EncodeFault.{EncodeFault}
+use Rattle.fidl_encode.specs.Broken.{FieldBreaks}
 use Rattle.fidl_encode.specs.Writing.{Written, IsWithin}
 use Rattle.fidl_encode.specs.Parts.{Part, type_at, value_part, fields_part, IsWritten, IsRefused}
 use Rattle.fidl_encode.proofs.Ending.{both, written_zeros, Points}
@@ -162,12 +163,13 @@ pub points_struct : (ds : Declarations) → IsLaidOut ds → (t : Term) (fs : Fi
     → Points present size (fields_part ds (size_of ds (ty.struct fs)) 0 fs vs) (value_part ds (ty.box t) (fields vs))
 points_struct ds laid t fs vs size is sized =
     subst (λ (u : Term). Points present size (fields_part ds (size_of ds (ty.struct fs)) 0 fs vs) (boxed u)) (sym is)
-    (record { from = λ h. h.1; depth = refl; encoding = refl; sized = λ h. length-inline ds laid (ty.struct fs) (fields vs) h ∙ sized })
+    (record { from = λ h. h.1; breaks = λ f b. b; depth = refl; encoding = refl; sized = λ h. length-inline ds laid (ty.struct fs) (fields vs) h ∙ sized })
   where
     boxed : Term → Part
     boxed u =
         record {
           Typed = IsStruct u × EachTyped ds (fields_of u) vs;
+          breaks = FieldBreaks ds (fields_of u) vs;
           depth = suc (fields_depth ds (fields_of u) vs);
           encoding = pointing present (members ds (size_of ds (ty.struct (fields_of u))) 0 (fields_of u) vs);
         }

@@ -9,6 +9,8 @@ use Rattle.fidl_wire.specs.Encoding.{number_bytes}
 use Rattle.fidl_table_format.specs.declared.record.Entry.{Entry}
 use Rattle.fidl_table_format.specs.Section.{header_of}
 use Rattle.fidl_table_format.specs.Terms.{underlying, strict_values, value_number}
+use Rattle.fidl_encode.specs.declared.fault.EncodeFault.TheVariants.{UnknownValue}
+use Rattle.fidl_encode.specs.Broken.{Breaks}
 use Rattle.fidl_encode.specs.Writing.{Written, IsOver, IsWithin}
 use Rattle.fidl_encode.specs.Parts.{value_part, IsWritten}
 use Rattle.fidl_encode.proofs.Adding.{append-nil}
@@ -33,9 +35,10 @@ module _ (ds : Declarations) (t : List ℕ) (v : Value) (e f : Entry) (same : e 
       by (number z) none h = none z h.0 refl
       by _ none h = h
 
-  -- nor is a number that it does not list
-  pub enum_unlisted : (w : ℕ) → v ≡ number (number_is w) → (Lists (number_is w) → ⊥) → IsTyped ds (term f) v → ⊥
-  enum_unlisted w is not h = let own : IsTyped ds (term e) (number (number_is w)) = subst (λ v. IsTyped ds (term e) v) is (subst (λ e. IsTyped ds (term e) v) (sym same) h) in not own.1
+  -- a number in range that it does not list is no value of it
+  pub enum_unlisted : (w : ℕ) → v ≡ number (number_is w) → InRange (underlying e) (number_is w) → (Lists (number_is w) → ⊥) → Breaks ds (term f) v UnknownValue
+  enum_unlisted w is range not =
+      subst (λ e. Breaks ds (term e) v UnknownValue) same (subst (λ v. Breaks ds (term e) v UnknownValue) (sym is) (range, not))
 
   pub enum_written : (w depth at : ℕ) (a b : Written) → v ≡ number (number_is w) → InRange (underlying e) (number_is w) → Lists (number_is w)
       → IsOver a.bytes b.bytes at (number_bytes (underlying e) (number_is w)) → length b.bytes ≡ length a.bytes → b.handles ≡ a.handles → IsWithin a

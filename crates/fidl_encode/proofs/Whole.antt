@@ -12,7 +12,8 @@ use Rattle.fidl_wire.specs.Typed.{Typed}
 use Rattle.fidl_wire.specs.Encoding.{Encoding, zeros, object, Enc}
 use Rattle.fidl_wire.specs.Message.{Message, Encodes}
 use Rattle.fidl_encode.specs.declared.fault.EncodeFault.{EncodeFault}
-use Rattle.fidl_encode.specs.declared.fault.EncodeFault.TheVariants.{TooDeep, TooLong, TooManyHandles, Memory}
+use Rattle.fidl_encode.specs.declared.fault.EncodeFault.TheVariants.{WrongShape, OverBound, NotUtf8, UnknownValue, WrongHandle, TooDeep, TooLong, TooManyHandles, Memory}
+use Rattle.fidl_encode.proofs.Excluding.{excluded}
 use Rattle.fidl_encode.specs.Writing.{Written, IsWithin}
 use Rattle.fidl_encode.specs.Parts.{Part, value_part, IsWritten, IsRefused, HasNoRoom}
 use Rattle.fidl_encode.specs.Told.{IsTold}
@@ -65,7 +66,11 @@ module _ (ds : Declarations) (t : Term) (v : Value) (size : ℕ) (old room : Wri
   told TooLong h = λ typed. let n = h typed in let s = long typed in omega (arith, n, s)
   told TooManyHandles h = λ typed. let n = h typed in let z : length room.handles ≡ 0 = ap length (same ∙ bare) in omega (arith, n, z)
   told Memory h = tt
-  told _ h = h
+  told WrongShape h = h
+  told OverBound h = h
+  told NotUtf8 h = h
+  told UnknownValue h = h
+  told WrongHandle h = h
 
 -- an inline part always has room
 pub told_room : (ds : Declarations) (t : Term) (v : Value) (size : ℕ) (old : Written) → old.bytes ≡ [] → size ≤ 65535 → (f : EncodeFault) → HasNoRoom old size f → IsTold ds t v f
@@ -87,4 +92,8 @@ no_message ds t v TooManyHandles told other bytes handles x =
     let e : length (Message ds t v).1 ≡ length handles = ap (λ (m : List ℕ × List HandleInfo). length m.1) x.message in
     omega (arith, n, s, e)
 no_message ds t v Memory told other bytes handles x = other refl
-no_message ds t v _ told other bytes handles x = told x.typed
+no_message ds t v WrongShape told other bytes handles x = told x.typed
+no_message ds t v OverBound told other bytes handles x = excluded ds OverBound (resolve ds.terms t) v told x.typed
+no_message ds t v NotUtf8 told other bytes handles x = excluded ds NotUtf8 (resolve ds.terms t) v told x.typed
+no_message ds t v UnknownValue told other bytes handles x = excluded ds UnknownValue (resolve ds.terms t) v told x.typed
+no_message ds t v WrongHandle told other bytes handles x = excluded ds WrongHandle (resolve ds.terms t) v told x.typed

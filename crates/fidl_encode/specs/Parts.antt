@@ -15,30 +15,45 @@ use Rattle.fidl_table_format.specs.Section.{header_of, entry_at}
 use Rattle.fidl_table_format.specs.Terms.{declarations_of, fields_from, strict_values, underlying}
 use Rattle.fidl_encode.specs.declared.fault.EncodeFault.{EncodeFault}
 use Rattle.fidl_encode.specs.declared.fault.EncodeFault.TheVariants.{TooDeep, TooLong, TooManyHandles}
-use Rattle.fidl_encode.specs.declared.fault.EncodeFault.TheVariants.{Memory}
+use Rattle.fidl_encode.specs.declared.fault.EncodeFault.TheVariants.{Memory, WrongShape, OverBound}
+use Rattle.fidl_encode.specs.declared.fault.EncodeFault.TheVariants.{NotUtf8, UnknownValue, WrongHandle}
+use Rattle.fidl_encode.specs.Broken.{Breaks, ElementBreaks, FieldBreaks, MemberBreaks, EntryBreaks}
 use Rattle.fidl_encode.specs.Writing.{Written, Adds, IsWithin}
 
--- what is to be written: that it is of its type, how deep it lies, and its encoding
+-- what is to be written: that it is of its type, which named rules it breaks, how deep it lies, and
+-- its encoding
 pub record Part : Type 1 where
   pub Typed : Type 0
+  pub breaks : EncodeFault → Type 0
   pub depth : ℕ
   pub encoding : Encoding
 
 -- a value of a term that is no name
 abbrev pub value_part : Declarations → Term → Value → Part
 value_part ds t v =
-    record { Typed = IsTyped ds t v; depth = depth_of ds t v; encoding = encoding_of ds t v }
+    record {
+      Typed = IsTyped ds t v;
+      breaks = Breaks ds t v;
+      depth = depth_of ds t v;
+      encoding = encoding_of ds t v;
+    }
 
 -- elements, one behind the other
 abbrev pub elements_part : Declarations → Term → Values → Part
 elements_part ds t vs =
-    record { Typed = AllTyped ds t vs; depth = elements_depth ds t vs; encoding = elements ds t vs }
+    record {
+      Typed = AllTyped ds t vs;
+      breaks = ElementBreaks ds t vs;
+      depth = elements_depth ds t vs;
+      encoding = elements ds t vs;
+    }
 
 -- a struct's members from an offset on, up to the struct's size
 abbrev pub fields_part : Declarations → (size from : ℕ) → Fields → Values → Part
 fields_part ds size from fs vs =
     record {
       Typed = EachTyped ds fs vs;
+      breaks = FieldBreaks ds fs vs;
       depth = fields_depth ds fs vs;
       encoding = members ds size from fs vs;
     }
@@ -48,6 +63,7 @@ abbrev pub member_part : Declarations → (strict : Bool) → Option Term → Me
 member_part ds strict t m =
     record {
       Typed = IsTypedMember ds strict t m;
+      breaks = MemberBreaks ds t m;
       depth = member_depth ds t m;
       encoding = enveloped ds t m;
     }
@@ -57,6 +73,7 @@ abbrev pub envelopes_part : Declarations → Rows → (last n : ℕ) → Members
 envelopes_part ds rows last n ms =
     record {
       Typed = RiseTyped ds rows last n ms;
+      breaks = EntryBreaks ds rows ms;
       depth = members_depth ds rows ms;
       encoding = envelopes ds rows (suc last) n ms;
     }
@@ -99,18 +116,20 @@ pub record IsWritten (p : Part) (depth at : ℕ) (old new : Written) : Type 0 wh
   pub adds : Adds old new at p.encoding
   pub within : IsWithin new
 
--- what a refusal says of a part that is of its type
-abbrev pub Exceeds : Part → (depth : ℕ) → Written → EncodeFault → Type 0
-Exceeds p depth old TooDeep = depth < p.depth
-Exceeds p depth old TooLong = MAX_MESSAGE_BYTES < length old.bytes + length p.encoding.out
-Exceeds p depth old TooManyHandles = MAX_MESSAGE_HANDLES
-    < length old.handles + length p.encoding.handles
-Exceeds p depth old Memory = Unit {0}
-Exceeds p depth old _ = ⊥
-
--- the part is refused, behind what is written: it is not of its type, or exceeds a limit
+-- the part is refused, behind what is written: it breaks the rule that the refusal names, is not of
+-- its type, or exceeds a limit where it is
 abbrev pub IsRefused : Part → (depth : ℕ) → Written → EncodeFault → Type 0
-IsRefused p depth old fault = p.Typed → Exceeds p depth old fault
+IsRefused p depth old TooDeep = p.Typed → depth < p.depth
+IsRefused p depth old TooLong = p.Typed
+    → MAX_MESSAGE_BYTES < length old.bytes + length p.encoding.out
+IsRefused p depth old TooManyHandles = p.Typed
+    → MAX_MESSAGE_HANDLES < length old.handles + length p.encoding.handles
+IsRefused p depth old Memory = Unit {0}
+IsRefused p depth old WrongShape = ¬ p.Typed
+IsRefused p depth old OverBound = p.breaks OverBound
+IsRefused p depth old NotUtf8 = p.breaks NotUtf8
+IsRefused p depth old UnknownValue = p.breaks UnknownValue
+IsRefused p depth old WrongHandle = p.breaks WrongHandle
 
 -- there is no room for an object of this size
 abbrev pub HasNoRoom : Written → (size : ℕ) → EncodeFault → Type 0

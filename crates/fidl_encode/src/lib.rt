@@ -14,6 +14,7 @@ mod structs;
 mod target;
 mod unknown;
 mod value;
+pub mod worked;
 
 pub use encoding::encode;
 pub use fault::EncodeFault;

@@ -23,5 +23,5 @@ returns-then-is_listed-clause-ok c ds =
 
 pub returns-else-is_listed-clause-fault_is_true : goal.returns-else-is_listed-clause-fault_is_true
 returns-else-is_listed-clause-fault_is_true c ds =
-    enum_unlisted ds c.args.table.now (value_view c.args.value.now) c.entry-entry.result (entry_at c.args.table.now c.args.index) c.entry-entry.ensures.value c.in_ok-word.word c.in_ok-word.ensures.value
+    enum_unlisted ds c.args.table.now (value_view c.args.value.now) c.entry-entry.result (entry_at c.args.table.now c.args.index) c.entry-entry.ensures.value c.in_ok-word.word c.in_ok-word.ensures.value c.in_ok-word.ensures.range
     (λ h. let t = c.is_listed.ensures.1 h in search rules)
