@@ -1,0 +1,16 @@
+//! From the notation's text to a value (docs/notation.md).
+#![tactic(auto)]
+
+mod brackets;
+mod classes;
+mod code;
+mod escapes;
+mod fault;
+mod lexer;
+mod quoted;
+mod word;
+mod words;
+
+pub use crate::fault::NotationFault;
+pub use crate::word::{Cut, Word};
+pub use crate::words::words_of;
