@@ -1,8 +1,8 @@
 -- Texts between quotes, read piece by piece.
-use Rattle.std.proofs.Common.{rules, false, ◌≡◌, ℕ, ◌+◌, ◌<◌, ◌≤◌, ◌==◌, List, [], ◌∷◌, ◌++◌, length, drop, get_or, slice_range, sym, refl, subst, ap, ◌∙◌, append_assoc, append-nil, arith}
+use Rattle.std.proofs.Common.{rules, false, ◌≡◌, ℕ, ◌+◌, ◌<◌, ◌≤◌, ◌==◌, List, [], ◌∷◌, ◌++◌, length, drop, get_or, slice_range, sym, refl, subst, ap, ◌∙◌, append_assoc, append-nil, arith, length-drop}
 use Rattle.std.proofs.lemmas.List.{drop_more}
 use Rattle.fidl_spelling.specs.Words.{Piece, plain, letter, character, Pieces, no_pieces, piece, IsQuoted, BeginsNo}
-use Rattle.fidl_spelling.proofs.WordLaws.{tail, no_both, pieces_same_one, no_quote_first}
+use Rattle.fidl_spelling.proofs.WordLaws.{tail, no_both, pieces_same, pieces_same_one, no_quote_first}
 use Rattle.fidl_reading.specs.Pieces.{BeginsNoPiece}
 use Rattle.fidl_reading.proofs.Slices.{cut, join, one_byte, slice_range-nil, slice_range-push}
 
@@ -55,3 +55,20 @@ end_no_piece _ _ rest (character p) e = absurd (cc e)
 
 pub no_equal : (a b : ℕ) → (a ≡ b → ⊥) → (a == b) ≡ false
 no_equal a b h = search (rules, h)
+
+-- a word that is a text between quotes is one of its own first quote
+pub no_whole : (w x : List ℕ) (at : ℕ) → 0 < length w → 1 ≤ at → Pieces (slice_range w 1 at) x → BeginsNoPiece (drop at w) → BeginsNo (λ b. b == 34) (drop at w) → (bytes : List ℕ) → IsQuoted w bytes → ⊥
+no_whole w x at some behind front stuck no_quote bytes k = no_quoted w x 0 at some behind front stuck no_quote w [] bytes k (sym (append-nil w))
+
+-- no byte stands behind the quote that closes pieces
+pub no_longer : (w x : List ℕ) (at : ℕ) → 1 ≤ at → at < length w → get_or w at 0 ≡ 34 → Pieces (slice_range w 1 at) x → (at + 1 ≡ length w → ⊥) → (bytes : List ℕ) → IsQuoted w bytes → ⊥
+no_longer w x at behind within quote front longer bytes k =
+    let rest : drop 1 w ≡ k.0 ++ 34 ∷ [] = ap (drop 1) k.2 in
+    let own : drop 1 w ≡ slice_range w 1 at ++ 34 ∷ drop (at + 1) w = cut w 1 at behind ∙ ap (λ l. slice_range w 1 at ++ l) (drop_more w at 0 within ∙ ap (λ b. b ∷ drop (at + 1) w) quote) in
+    let same = pieces_same (slice_range w 1 at) x k.0 bytes (drop (at + 1) w) [] front k.1 (sym own ∙ rest) in
+    let none : length (drop (at + 1) w) ≡ 0 = ap length same.2 in
+    longer (omega (arith, none, length-drop (at + 1) w, within))
+
+-- a word that begins with no quote is no text between quotes
+pub no_first : (w bytes : List ℕ) → (get_or w 0 0 ≡ 34 → ⊥) → IsQuoted w bytes → ⊥
+no_first w bytes h k = h (ap (λ l. get_or l 0 0) k.2)

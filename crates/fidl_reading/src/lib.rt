@@ -8,9 +8,11 @@ mod escapes;
 mod fault;
 mod lexer;
 mod quoted;
+mod text;
 mod word;
 mod words;
 
 pub use crate::fault::NotationFault;
+pub use crate::text::text_of;
 pub use crate::word::{Cut, Word};
 pub use crate::words::words_of;
