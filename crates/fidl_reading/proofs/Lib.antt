@@ -5,3 +5,4 @@ pub mod Escaping
 pub mod Quoting
 pub mod Cutting
 pub mod Limits
+pub mod Numbers

@@ -7,12 +7,14 @@ mod code;
 mod escapes;
 mod fault;
 mod lexer;
+mod number;
 mod quoted;
 mod text;
 mod word;
 mod words;
 
 pub use crate::fault::NotationFault;
+pub use crate::number::number_of;
 pub use crate::text::text_of;
 pub use crate::word::{Cut, Word};
 pub use crate::words::words_of;
