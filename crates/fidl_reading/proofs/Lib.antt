@@ -6,3 +6,4 @@ pub mod Quoting
 pub mod Cutting
 pub mod Limits
 pub mod Numbers
+pub mod HexDigits

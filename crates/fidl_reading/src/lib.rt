@@ -6,6 +6,7 @@ mod classes;
 mod code;
 mod escapes;
 mod fault;
+mod hex;
 mod lexer;
 mod number;
 mod quoted;
@@ -14,6 +15,7 @@ mod word;
 mod words;
 
 pub use crate::fault::NotationFault;
+pub use crate::hex::hex_of;
 pub use crate::number::number_of;
 pub use crate::text::text_of;
 pub use crate::word::{Cut, Word};
