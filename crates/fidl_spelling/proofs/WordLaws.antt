@@ -13,7 +13,7 @@ head a b x y e = ap (λ l. get_or l 0 0) e
 pub tail : (a b : ℕ) (x y : List ℕ) → a ∷ x ≡ b ∷ y → x ≡ y
 tail a b x y e = ap (λ l. drop 1 l) e
 
-no_both : (b : Bool) → b ≡ true → b ≡ false → ⊥
+pub no_both : (b : Bool) → b ≡ true → b ≡ false → ⊥
 no_both b h k = let e : true ≡ false = sym h ∙ k in absurd (cc e)
 
 pub and_left : (x y : Bool) → (x && y) ≡ true → x ≡ true
@@ -61,7 +61,7 @@ pieces_same_one _ _ _ _ r s (character {digits = d} p) (character {digits = f} q
     let k = runs_same is_ascii_hexdigit d f (125 ∷ r) (125 ∷ s) p.hex q.hex refl refl (sym (append_assoc d (125 ∷ []) r) ∙ t ∙ append_assoc f (125 ∷ []) s) in
     (ap (λ l. 92 ∷ 117 ∷ 123 ∷ (l ++ 125 ∷ [])) k.0, ap (λ l. encode_utf8 (digits_value 16 l)) k.0, tail 125 125 r s k.1)
 
-no_quote_first : (a x z r : List ℕ) → Piece a x → a ++ z ≡ 34 ∷ r → ⊥
+pub no_quote_first : (a x z r : List ℕ) → Piece a x → a ++ z ≡ 34 ∷ r → ⊥
 no_quote_first _ _ z r (plain {b = b} p) e = p.no_quote (head b 34 z r e)
 no_quote_first _ _ z r (letter {c = c} p) e = let h = head 92 34 (c ∷ z) r e in absurd (omega (arith, h))
 no_quote_first _ _ z r (character p) e = let h = head 92 34 _ r e in absurd (omega (arith, h))
