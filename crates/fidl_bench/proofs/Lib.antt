@@ -1,1 +1,3 @@
 pub mod Roots
+pub mod Writing
+pub mod Spelling

@@ -11,7 +11,7 @@ use Rattle.fidl_table_format.specs.Terms.{declarations_of}
 use Rattle.fidl_table_format.specs.Root.{IsRootEntry, HasNoRoot}
 use Rattle.fidl_table_format.specs.WellFormed.{WellFormed}
 use Rattle.fidl_bench.specs.declared.failure.Failure.{Failure}
-use Rattle.fidl_bench.specs.declared.failure.Failure.TheVariants.{BadTable, NoRoot, NoMemory, Refused, OtherShape, OtherSum}
+use Rattle.fidl_bench.specs.declared.failure.Failure.TheVariants.{BadTable, NoRoot, NoMemory, Refused, OtherShape, OtherSum, NoRoom}
 use Rattle.fidl_bench.specs.Failures.{IsRootOf, LacksRoot, IsValueOf, IsMessageOf, IsWhy, IsWhyUnread}
 
 pub root_of_file : (file table root : List ℕ) (entry : ℕ) → table ≡ file → WellFormed file → IsRootEntry table (header_of table) root entry → IsRootOf file root entry
@@ -68,7 +68,8 @@ lacks_of_name file table root name t n w h = lacks_of_file file table root t w (
 pub why_of_root : (file table root message : List ℕ) (entry : ℕ) (f : Failure) → table ≡ file → IsRootOf file root entry → IsWhyUnread (declarations_of table) (ty.named entry) message f → IsWhy file root message f
 why_of_root file table root message entry BadTable t r x = absurd x
 why_of_root file table root message entry NoRoot t r x = absurd x
-why_of_root file table root message entry NoMemory t r x = absurd x
+why_of_root file table root message entry NoMemory t r x = (entry, r)
 why_of_root file table root message entry Refused t r x = ((entry, r), no_message_of_root file table root message entry t r x)
 why_of_root file table root message entry OtherShape t r x = message_of_root file table root message entry t r x
 why_of_root file table root message entry OtherSum t r x = absurd x
+why_of_root file table root message entry NoRoom t r x = message_of_root file table root message entry t r x

@@ -13,7 +13,7 @@ use Rattle.fidl_bench.specs.declared.shape.Shape.{Shape}
 use Rattle.fidl_bench.specs.declared.shape.Shape.TheVariants.{Records, Chain, Wide}
 use Rattle.fidl_bench.specs.declared.failure.Failure.{Failure}
 use Rattle.fidl_bench.specs.declared.failure.Failure.TheVariants.{BadTable, NoRoot, NoMemory}
-use Rattle.fidl_bench.specs.declared.failure.Failure.TheVariants.{Refused, OtherShape, OtherSum}
+use Rattle.fidl_bench.specs.declared.failure.Failure.TheVariants.{Refused, OtherShape, OtherSum, NoRoom}
 
 -- the failure's number
 abbrev pub number_of : Failure → ℕ
@@ -23,6 +23,7 @@ number_of NoMemory = 3
 number_of Refused = 4
 number_of OtherShape = 5
 number_of OtherSum = 6
+number_of NoRoom = 7
 
 -- the table is accepted, and its first root of this name has this entry
 pub record IsRootOf (table root : List ℕ) (entry : ℕ) : Type 0 where
@@ -56,9 +57,13 @@ IsWhy table root message NoMemory = HasRoot table root
 IsWhy table root message Refused = HasRoot table root × ¬ IsMessageOf table root message
 IsWhy table root message OtherShape = IsMessageOf table root message
 IsWhy table root message OtherSum = IsMessageOf table root message
+IsWhy table root message NoRoom = IsMessageOf table root message
 
--- what a failure to decode and read a message says, where the table has the type
+-- what a failure to decode a message, and to read it or write its value, says where the table has
+-- the type
 abbrev pub IsWhyUnread : Declarations → Term → (message : List ℕ) → Failure → Type 0
+IsWhyUnread ds t message NoMemory = Unit {0}
+IsWhyUnread ds t message NoRoom = IsEncoding ds t message []
 IsWhyUnread ds t message Refused = ¬ IsEncoding ds t message []
 IsWhyUnread ds t message OtherShape = IsEncoding ds t message []
 IsWhyUnread ds t message _ = ⊥

@@ -21,16 +21,17 @@ use Rattle.fidl_command_line.specs.declared.unread.Unread.TheVariants.{TwoLists}
 use Rattle.fidl_command_line.specs.declared.unread.Unread.TheVariants.{BadHandle, OutIsSource, Memory}
 use Rattle.fidl_command_line.specs.declared.arguments.CompileArguments.{CompileArguments}
 use Rattle.fidl_command_line.specs.declared.arguments.DecodeArguments.{DecodeArguments}
+use Rattle.fidl_command_line.specs.declared.arguments.EncodeArguments.{EncodeArguments}
 use Rattle.fidl_command_line.specs.declared.arguments.TableArguments.{TableArguments}
 use Rattle.fidl_command_line.specs.declared.arguments.Listing.{Listing}
 use Rattle.fidl_command_line.specs.declared.arguments.Listing.TheVariants.{Records, Roots, Protocols}
 use Rattle.fidl_command_line.specs.declared.arguments.Arguments.{Arguments}
 use Rattle.fidl_command_line.specs.declared.arguments.Arguments.TheVariants.{Compile, Decode, Table}
-use Rattle.fidl_command_line.specs.declared.arguments.Arguments.TheVariants.{Explain}
+use Rattle.fidl_command_line.specs.declared.arguments.Arguments.TheVariants.{Explain, Encode}
 use Rattle.fidl_wire.specs.declared.handle.HandleInfo.{HandleInfo}
 use Rattle.fidl_command_line.specs.CommandLine.{program, GivesCompile, GivesDecode, GivesTable}
-use Rattle.fidl_command_line.specs.CommandLine.{GivesExplain}
-use Rattle.fidl_command_line.specs.Contents.{IsMessage, IsNoMessage}
+use Rattle.fidl_command_line.specs.CommandLine.{GivesExplain, GivesEncode}
+use Rattle.fidl_command_line.specs.Contents.{IsContent, IsMessage, IsNoMessage}
 use Rattle.fidl_command_line.specs.Handles.{IsDecimal, IsHandleText}
 use Rattle.fidl_command_line.specs.Complaints.{handle_line}
 
@@ -90,6 +91,21 @@ IsNoDecode rows BadRaw = HasNoMessage rows BadRaw
 IsNoDecode rows (BadHandle line) = AreNoHandles (handle_texts rows) (BadHandle line)
 IsNoDecode rows Memory = ⊤
 IsNoDecode rows _ = ⊥
+
+-- the values of the arguments are these arguments of `encode`
+pub record IsEncode (rows : List Row) (given : EncodeArguments) : Type 0 where
+  pub table : first_of (codes "TABLE") rows ≡ Some given.table.now
+  pub root : first_of (codes "ROOT") rows ≡ Some given.root.now
+  pub text : List ℕ
+  pub text_given : first_of (codes "TEXT") rows ≡ Some text
+  pub content : IsContent text given.text
+
+-- why the values of the arguments are no arguments of `encode`
+abbrev pub IsNoEncode : List Row → Unread → Type 0
+IsNoEncode rows Missing = (first_of (codes "TABLE") rows ≡ None)
+    ⊎ (first_of (codes "ROOT") rows ≡ None) ⊎ (first_of (codes "TEXT") rows ≡ None)
+IsNoEncode rows Memory = ⊤
+IsNoEncode rows _ = ⊥
 
 -- the values of the arguments are these arguments of `compile`: the file to write has the path of
 -- none of the sources
@@ -170,6 +186,7 @@ Enters Names Holds = (rows : List Row) × Names rows × Holds rows
 abbrev pub IsGiven : List Text → Arguments → Type 0
 IsGiven words (Compile given) = Enters (GivesCompile words) (λ rows. IsCompile rows given)
 IsGiven words (Decode given) = Enters (GivesDecode words) (λ rows. IsDecode rows given)
+IsGiven words (Encode given) = Enters (GivesEncode words) (λ rows. IsEncode rows given)
 IsGiven words (Table given) = Enters (GivesTable words) (λ rows. IsTable rows given)
 IsGiven words (Explain asked) = Enters (GivesExplain words) (λ rows. IsExplain rows asked)
 
@@ -177,13 +194,14 @@ IsGiven words (Explain asked) = Enters (GivesExplain words) (λ rows. IsExplain 
 abbrev pub HasBadValues : List Text → Unread → Type 0
 HasBadValues words unread = Enters (GivesCompile words) (λ rows. IsNoCompile rows unread)
     ⊎ Enters (GivesDecode words) (λ rows. IsNoDecode rows unread)
+    ⊎ Enters (GivesEncode words) (λ rows. IsNoEncode rows unread)
     ⊎ Enters (GivesTable words) (λ rows. IsNoTable rows unread)
     ⊎ Enters (GivesExplain words) (λ rows. IsNoExplain rows unread)
 
 -- the words name no command
 abbrev pub NamesNone : List Text → Type 0
 NamesNone words = (rows : List Row) → (GivesCompile words rows → ⊥) × (GivesDecode words rows → ⊥)
-    × (GivesTable words rows → ⊥) × (GivesExplain words rows → ⊥)
+    × (GivesEncode words rows → ⊥) × (GivesTable words rows → ⊥) × (GivesExplain words rows → ⊥)
 
 -- why the words give no arguments: they are no command line, or ask for help; or the arguments have
 -- no such values

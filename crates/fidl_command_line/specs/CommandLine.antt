@@ -61,6 +61,12 @@ decode_command = record (new_shape (codes "decode")) {
       ∷ positional (codes "HEX") ∷ [];
 }
 
+-- `encode TABLE ROOT TEXT`
+abbrev pub encode_command : Shape
+encode_command = record (new_shape (codes "encode")) {
+  rules = positional (codes "TABLE") ∷ positional (codes "ROOT") ∷ positional (codes "TEXT") ∷ [];
+}
+
 -- `table [--roots] [--protocols] TABLE`
 abbrev pub table_command : Shape
 table_command = record (new_shape (codes "table")) {
@@ -81,7 +87,7 @@ program = record {
         is_leaf =
             false;
       };
-  subs = compile_command ∷ decode_command ∷ table_command ∷ explain_command ∷ [];
+  subs = compile_command ∷ decode_command ∷ encode_command ∷ table_command ∷ explain_command ∷ [];
 }
 
 -- this is a command of the program, with no commands of its own
@@ -96,6 +102,10 @@ GivesCompile words rows = subcommand_of program words ≡ Some (codes "compile",
 -- the words name the command `decode`, and give its arguments these values
 abbrev pub GivesDecode : List Text → List Row → Type 0
 GivesDecode words rows = subcommand_of program words ≡ Some (codes "decode", rows)
+
+-- the words name the command `encode`, and give its arguments these values
+abbrev pub GivesEncode : List Text → List Row → Type 0
+GivesEncode words rows = subcommand_of program words ≡ Some (codes "encode", rows)
 
 -- the words name the command `table`, and give its argument this value
 abbrev pub GivesTable : List Text → List Row → Type 0

@@ -21,7 +21,7 @@ complaint_of (Asked text) = []
 complaint_of (Wrong line) = string_bytes line
 complaint_of NotText = codes "error: the arguments: UTF-8 is wanted"
 complaint_of Missing =
-    codes "error: the arguments: compile --out OUT FILE.., decode TABLE ROOT HEX, table TABLE or explain FAULT is wanted"
+    codes "error: the arguments: compile --out OUT FILE.., decode TABLE ROOT HEX, encode TABLE ROOT TEXT, table TABLE or explain FAULT is wanted"
 complaint_of OutIsSource = codes "error: --out: a file that is none of the sources is wanted"
 complaint_of BadHex = codes "error: HEX: an even number of hexadecimal digits is wanted"
 complaint_of BadRaw = codes "error: --raw: @FILE or - is wanted in place of HEX"

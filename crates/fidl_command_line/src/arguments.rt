@@ -6,12 +6,13 @@ ghost use Rattle.clap.specs.Words.{found_of, rows_of, first_of};
 ghost use Rattle.fidl_command_line.specs.Handles.{IsHandleText};
 ghost use Rattle.fidl_command_line.specs.Arguments.{AreNoHandles, IsDecode, IsNoDecode, is_given};
 ghost use Rattle.fidl_command_line.specs.Arguments.{IsCompile, IsNoCompile, IsTable, IsNoTable};
+ghost use Rattle.fidl_command_line.specs.Arguments.{IsEncode, IsNoEncode};
 ghost use Rattle.fidl_command_line.specs.Arguments.{IsAskedBy, NamesNoFault, IsExplain};
 ghost use Rattle.fidl_command_line.specs.Arguments.{IsNoExplain, IsGiven, IsUngiven};
 ghost use Rattle.fidl_command_line.specs.Arguments.{handle_texts, is_one_path, listing_of, IsHandleRefusal};
 
 use crate::command_line::command_line;
-use crate::content::{Message, read_message};
+use crate::content::{Content, Message, content_of, read_message};
 use crate::handle::{read_handle, read_number};
 use crate::unread::Unread;
 use clap::ArgMatches;
@@ -28,6 +29,15 @@ pub struct DecodeArguments<'a> {
     pub root: &'a str,
     pub message: Message<'a>,
     pub handles: Vec<HandleInfo>,
+}
+
+/// What `fidl encode` is given: the table's file, the root's name, and where the text of a value
+/// stands.
+#[derive(Clone, Copy, Debug, Drop)]
+pub struct EncodeArguments<'a> {
+    pub table: &'a str,
+    pub root: &'a str,
+    pub text: Content<'a>,
 }
 
 /// What `fidl compile` is given: the file to write the table to, the sources' files, and whether the
@@ -62,6 +72,7 @@ pub struct TableArguments<'a> {
 pub enum Arguments<'a> {
     Compile(CompileArguments<'a>),
     Decode(DecodeArguments<'a>),
+    Encode(EncodeArguments<'a>),
     Table(TableArguments<'a>),
     /// The faults to explain.
     Explain(Faults<'a>),
@@ -146,6 +157,24 @@ fn read_decode<'a>(alloc: Global, matches: &ArgMatches<'a>) -> Result<DecodeArgu
         root,
         message,
         handles,
+    })
+}
+
+/// What `fidl encode` was given.
+fn read_encode<'a>(matches: &ArgMatches<'a>) -> Result<EncodeArguments<'a>, Unread>
+    ensures ok { IfOk result (IsEncode (rows_of (found_of matches.now))) }
+    ensures fault_is_true { IfErr result (IsNoEncode (rows_of (found_of matches.now))) }
+{
+    let (Some(table), Some(root)) = (value_of(matches, "TABLE"), value_of(matches, "ROOT")) else {
+        return Err(Unread::Missing);
+    };
+    let Some(text) = value_of(matches, "TEXT") else {
+        return Err(Unread::Missing);
+    };
+    Ok(EncodeArguments {
+        table,
+        root,
+        text: content_of(text),
     })
 }
 
@@ -268,6 +297,9 @@ pub fn read_arguments<'a, S: AsStr>(alloc: Global, words: &'a [S]) -> Result<Arg
     }
     if let Some(matches) = matches.subcommand_matches("decode") {
         return Ok(Arguments::Decode(read_decode(alloc, matches)?));
+    }
+    if let Some(matches) = matches.subcommand_matches("encode") {
+        return Ok(Arguments::Encode(read_encode(matches)?));
     }
     if let Some(matches) = matches.subcommand_matches("table") {
         return Ok(Arguments::Table(read_table(matches)?));

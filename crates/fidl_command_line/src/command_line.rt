@@ -14,6 +14,11 @@ const HEX_HELP: &str =
     "The bytes of the message in hexadecimal; @FILE for the text of a file, - for \
     that of the standard input";
 
+/// What the argument TEXT is.
+const TEXT_HELP: &str =
+    "The text of the value, as decode prints it; @FILE for the text of a file, - for that of the \
+    standard input";
+
 /// What stands below the help of the program, and of each command: an example, and the statuses.
 const PROGRAM_HELP: &str = "\
 Example:
@@ -21,7 +26,7 @@ Example:
 
 Status:
   0  it is done
-  1  the sources, the table or the message are refused
+  1  the sources, the table, the message or the text are refused
   2  the command line is wrong, or names a root or a fault that there is not
   3  a file or a stream cannot be read or written
   4  memory ran out";
@@ -46,6 +51,18 @@ Examples:
 Status:
   0  the value is printed
   1  the table or the message is refused
+  2  the command line is wrong, or the table has no such root
+  3  a file or a stream cannot be read or written
+  4  memory ran out";
+
+const ENCODE_HELP: &str = "\
+Examples:
+  fidl encode point.fct Point '{x: 1, y: 2}'
+  fidl encode point.fct Point @value.txt
+
+Status:
+  0  the bytes are printed, and a line for each handle
+  1  the table, the text or its value is refused
   2  the command line is wrong, or the table has no such root
   3  a file or a stream cannot be read or written
   4  memory ran out";
@@ -178,6 +195,18 @@ fn decode_command<'a>(alloc: Global) -> Result<Command<'a>, AllocError>
         .arg(required(alloc, "HEX", HEX_HELP))
 }
 
+/// The command `encode`.
+fn encode_command<'a>(alloc: Global) -> Result<Command<'a>, AllocError>
+    ensures { IfOk result (IsCommandOf spec.encode_command) }
+{
+    Command::new(alloc, "encode")
+        .about("Prints the message that encodes the value of a text")
+        .after_help(ENCODE_HELP)
+        .arg(required(alloc, "TABLE", "The file of the coding table"))?
+        .arg(required(alloc, "ROOT", "The name of the value's type in the table"))?
+        .arg(required(alloc, "TEXT", TEXT_HELP))
+}
+
 /// The command `table`.
 fn table_command<'a>(alloc: Global) -> Result<Command<'a>, AllocError>
     ensures { IfOk result (IsCommandOf spec.table_command) }
@@ -211,11 +240,12 @@ pub(crate) fn command_line<'a>(alloc: Global) -> Result<Command<'a>, AllocError>
     Command::new(alloc, "fidl")
         .bin_name("fidl")?
         .version("0.1")
-        .about("Compiles FIDL libraries to coding tables, and reads messages by them")
+        .about("Compiles FIDL libraries to coding tables, and reads and writes messages by them")
         .after_help(PROGRAM_HELP)
         .subcommand_required(true)
         .subcommand(compile_command(alloc)?)?
         .subcommand(decode_command(alloc)?)?
+        .subcommand(encode_command(alloc)?)?
         .subcommand(table_command(alloc)?)?
         .subcommand(explain_command(alloc)?)
 }

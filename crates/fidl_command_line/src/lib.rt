@@ -11,7 +11,8 @@ mod handle;
 mod unread;
 
 pub use crate::arguments::{
-    Arguments, CompileArguments, DecodeArguments, Listing, TableArguments, read_arguments,
+    Arguments, CompileArguments, DecodeArguments, EncodeArguments, Listing, TableArguments,
+    read_arguments,
 };
 pub use crate::content::{Content, Message, Stored, content_of, message_bytes};
 pub use crate::handle::read_handle;

@@ -44,14 +44,19 @@ impl From<AllocError> for Unread {
     }
 }
 
-/// The name that `clap` suggests in a text: what stands behind the colon of a line `tip: ..`.
+/// The subcommand that the message of `clap` suggests in its line `tip: ..`: of several the last,
+/// which fits best.
 fn suggested(text: &str) -> Option<&str> {
     for part in text.lines() {
-        if let Some(tip) = part
-            .trim()
-            .strip_prefix("tip: a similar subcommand exists: ")
-        {
+        let part = part.trim();
+        if let Some(tip) = part.strip_prefix("tip: a similar subcommand exists: ") {
             return Some(tip);
+        }
+        if let Some(tips) = part.strip_prefix("tip: some similar subcommands exist: ") {
+            return match tips.rsplit_once(", ") {
+                Some((_, best)) => Some(best),
+                None => Some(tips),
+            };
         }
     }
     None
@@ -105,7 +110,7 @@ impl Unread {
             Unread::Wrong { line } | Unread::BadHandle { line } => line.as_str(),
             Unread::NotText => "error: the arguments: UTF-8 is wanted",
             Unread::Missing => {
-                "error: the arguments: compile --out OUT FILE.., decode TABLE ROOT HEX, table TABLE or explain FAULT is wanted"
+                "error: the arguments: compile --out OUT FILE.., decode TABLE ROOT HEX, encode TABLE ROOT TEXT, table TABLE or explain FAULT is wanted"
             }
             Unread::OutIsSource => "error: --out: a file that is none of the sources is wanted",
             Unread::BadHex => "error: HEX: an even number of hexadecimal digits is wanted",

@@ -206,16 +206,24 @@ fn wrong_arguments_come_before_files(rt: HostRuntime) -> Result<(), Fail> {
 }
 
 #[test]
+fn texts_are_encoded(rt: HostRuntime) -> Result<(), Fail> {
+    let alloc = rt.alloc();
+    let words = ["fidl", "encode", "point.fct", "Point", "{x: 1, y: 2}"];
+    expect(alloc, &words, 0, "0100000002000000\n", "")?;
+    let words = ["fidl", "encode", "point.fct", "Point", "{x: 1}"];
+    expect(alloc, &words, 1, "", "notation 1 Syntax at 5\n")?;
+    let words = ["fidl", "encode", "point.fct", "Point", "@none"];
+    let none = "error: \"none\": entity not found\n";
+    expect(alloc, &words, 3, "", none)?;
+    let words = ["fidl", "encode", "point.fct", "Point", "@vast"];
+    expect(alloc, &words, 4, "", "error: out of memory\n")
+}
+
+#[test]
 fn wrong_command_lines(rt: HostRuntime) -> Result<(), Fail> {
     let alloc = rt.alloc();
-    let unknown = "error: unrecognized subcommand 'decod'; did you mean 'decode'?\n";
-    expect(
-        alloc,
-        &["fidl", "decod", "point.fct", "Point", POINT_HEX],
-        2,
-        "",
-        unknown,
-    )?;
+    let unknown = "error: unrecognized subcommand 'explane'; did you mean 'explain'?\n";
+    expect(alloc, &["fidl", "explane"], 2, "", unknown)?;
     let missing = "error: the following required arguments were not provided: <ROOT> <HEX>\n";
     expect(alloc, &["fidl", "decode", "point.fct"], 2, "", missing)?;
     let dash = "error: unexpected argument '-1' found\n";
@@ -227,7 +235,7 @@ fn wrong_command_lines(rt: HostRuntime) -> Result<(), Fail> {
         dash,
     )?;
     let none = "error: 'fidl' requires a subcommand but one was not provided [subcommands: \
-        compile, decode, table, explain, help]\n";
+        compile, decode, encode, table, explain, help]\n";
     expect(alloc, &["out/fidl"], 2, "", none)?;
     expect(alloc, &[], 2, "", none)
 }
@@ -236,16 +244,17 @@ fn wrong_command_lines(rt: HostRuntime) -> Result<(), Fail> {
 fn help_and_version(rt: HostRuntime) -> Result<(), Fail> {
     let alloc = rt.alloc();
     expect(alloc, &["fidl", "--version"], 0, "fidl 0.1\n", "")?;
-    let help = "Compiles FIDL libraries to coding tables, and reads messages by them\n\n\
+    let help = "Compiles FIDL libraries to coding tables, and reads and writes messages by them\n\n\
         Usage: fidl <COMMAND>\n\nCommands:\n  \
         compile  Writes the coding table of libraries, from their sources\n  \
         decode   Prints the text of the value that a message encodes\n  \
+        encode   Prints the message that encodes the value of a text\n  \
         table    Prints the records of a coding table\n  \
         explain  Says what a fault means, with an example\n  \
         help     Print this message or the help of the given subcommand(s)\n\nOptions:\n  \
         -h, --help     Print help\n  -V, --version  Print version\n\nExample:\n  \
         fidl compile --out store.fct zx.fidl types.fidl store.fidl\n\nStatus:\n  \
-        0  it is done\n  1  the sources, the table or the message are refused\n  \
+        0  it is done\n  1  the sources, the table, the message or the text are refused\n  \
         2  the command line is wrong, or names a root or a fault that there is not\n  \
         3  a file or a stream cannot be read or written\n  4  memory ran out\n";
     expect(alloc, &["fidl", "--help"], 0, help, "")?;

@@ -7,10 +7,10 @@ use Rattle.fidl_parse.specs.declared.fault.ParseFault.TheVariants as parse
 use Rattle.fidl_parse.specs.Faults.{IsTrueOf}
 use Rattle.fidl_parse.specs.Trees.{HasTree}
 use Rattle.fidl_tree.specs.declared.file.File.{File}
-use Rattle.fidl_names.specs.declared.fault.NameFault.{NameFault}
-use Rattle.fidl_names.specs.declared.fault.NameFault.TheVariants as names
-use Rattle.fidl_names.specs.Names.{all_declared, AreDistinct}
-use Rattle.fidl_names.specs.Faults.{IsTrueOfAdding}
+use Rattle.fidl_named.specs.declared.fault.NameFault.{NameFault}
+use Rattle.fidl_named.specs.declared.fault.NameFault.TheVariants as names
+use Rattle.fidl_named.specs.Names.{all_declared, AreDistinct}
+use Rattle.fidl_names.specs.Refusals.{IsTrueOfAdding}
 use Rattle.fidl_compile.specs.Stages.{SourceRefused, AddingRefused, of_parse, of_names}
 
 -- words that have no tree refuse their source

@@ -2,7 +2,7 @@
 use Rattle.std.proofs.Common.{◌≡◌, ℕ, List, [], ◌∷◌, length, take, refl, ap, subst, inr}
 use Rattle.std.specs.Prelude.{Option, Some, None, IfNone}
 use Rattle.fidl_tree.specs.declared.file.File.{File}
-use Rattle.fidl_names.specs.Names.{all_declared, AreDistinct}
+use Rattle.fidl_named.specs.Names.{all_declared, AreDistinct}
 use Rattle.fidl_compile.specs.declared.fault.CompileFault.{CompileFault}
 use Rattle.fidl_compile.specs.declared.fault.CompileFault.TheVariants as faults
 use Rattle.fidl_wire.specs.Figure.{Declarations}

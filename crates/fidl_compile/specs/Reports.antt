@@ -4,9 +4,9 @@ use Rattle.std.specs.Option.{option_map}
 use Rattle.fidl_span.specs.declared.words.Span.{Span}
 use Rattle.fidl_span.specs.FaultNames as lex
 use Rattle.fidl_parse.specs.FaultNames as parse
-use Rattle.fidl_names.specs.declared.place.Place.{Place}
-use Rattle.fidl_names.specs.Faults as names
-use Rattle.fidl_const.specs.Faults as const
+use Rattle.fidl_named.specs.declared.place.Place.{Place}
+use Rattle.fidl_named.specs.Faults as names
+use Rattle.fidl_consts.specs.Faults as const
 use Rattle.fidl_types.specs.FaultNames as types
 use Rattle.fidl_layout.specs.FaultNames as layout
 use Rattle.fidl_protocol.specs.FaultNames as protocol

@@ -5,9 +5,9 @@ use Rattle.fidl_span.specs.Words.{Words}
 use Rattle.fidl_tree.specs.Brackets.{IsWithinLimit}
 use Rattle.fidl_tree.specs.File.{yield_of, IsProper}
 use Rattle.fidl_tree.specs.declared.file.File.{File}
-use Rattle.fidl_names.specs.Names.{all_declared, AreDistinct}
+use Rattle.fidl_named.specs.Names.{all_declared, AreDistinct}
 use Rattle.fidl_names.specs.Resolved.{Resolves}
-use Rattle.fidl_const.specs.Evaluated.{Evaluates}
+use Rattle.fidl_consts.specs.Evaluated.{Evaluates}
 use Rattle.fidl_wire.specs.Figure.{Declarations}
 use Rattle.fidl_protocol.specs.Checked.{AreChecked}
 use Rattle.fidl_table.specs.Shows.{Shows}

@@ -11,14 +11,15 @@ use Rattle.fidl_parse.specs.declared.fault.ParseFault.{ParseFault}
 use Rattle.fidl_parse.specs.declared.fault.ParseFault.TheVariants as parse
 use Rattle.fidl_parse.specs.Faults.{IsTrueOf}
 use Rattle.fidl_parse.specs.Trees.{HasTree}
-use Rattle.fidl_names.specs.declared.fault.NameFault.{NameFault}
-use Rattle.fidl_names.specs.declared.fault.NameFault.TheVariants as names
-use Rattle.fidl_names.specs.Names.{all_declared, AreDistinct}
-use Rattle.fidl_names.specs.Faults.{IsTrueOfAdding}
+use Rattle.fidl_named.specs.declared.fault.NameFault.{NameFault}
+use Rattle.fidl_named.specs.declared.fault.NameFault.TheVariants as names
+use Rattle.fidl_named.specs.Names.{all_declared, AreDistinct}
+use Rattle.fidl_names.specs.Refusals.{IsTrueOfAdding}
 use Rattle.fidl_names.specs.Resolved.{Resolves, IsTrueOfResolving}
-use Rattle.fidl_const.specs.declared.fault.ConstFault.{ConstFault}
-use Rattle.fidl_const.specs.declared.fault.ConstFault.TheVariants as const
-use Rattle.fidl_const.specs.Evaluated.{Evaluates, IsTrueOfEvaluating}
+use Rattle.fidl_consts.specs.declared.fault.ConstFault.{ConstFault}
+use Rattle.fidl_consts.specs.declared.fault.ConstFault.TheVariants as const
+use Rattle.fidl_consts.specs.Evaluated.{Evaluates}
+use Rattle.fidl_const.specs.Evaluating.{IsTrueOfEvaluating}
 use Rattle.fidl_types.specs.declared.fault.TypeFault.{TypeFault}
 use Rattle.fidl_types.specs.declared.fault.TypeFault.TheVariants as types
 use Rattle.fidl_types.specs.Faults.{IsTrueOfTypes}

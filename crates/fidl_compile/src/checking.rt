@@ -1,6 +1,6 @@
 //! From trees to a checked library.
 ghost use Rattle.std.specs.Prelude.{◌≡◌, IfOk, IfErr, OnOk};
-ghost use Rattle.fidl_names.specs.Names.{all_declared, AreDistinct};
+ghost use Rattle.fidl_named.specs.Names.{all_declared, AreDistinct};
 ghost use Rattle.fidl_wire.specs.Figure.{Declarations};
 ghost use Rattle.fidl_compile.specs.Sources.{AreAccepted};
 ghost use Rattle.fidl_compile.specs.Stages.{AddingRefused, FilesRefused};

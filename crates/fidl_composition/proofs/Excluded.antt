@@ -2,7 +2,7 @@
 use Rattle.std.proofs.Common.{List, refl}
 use Rattle.std.specs.Prelude.{◌≢◌}
 use Rattle.fidl_tree.specs.declared.file.File.{File}
-use Rattle.fidl_names.proofs.Firsts.{leads_by}
+use Rattle.fidl_cycles.proofs.Firsts.{leads_by}
 use Rattle.fidl_composition.specs.declared.fault.ComposeFault.{ComposeFault}
 use Rattle.fidl_composition.specs.declared.fault.ComposeFault.TheVariants.{BadCompose, ComposeCycle, Memory}
 use Rattle.fidl_composition.specs.Compositions.{Composes, ComposesFrom, ComposesHold, IsTrueOfCompositions}

@@ -8,11 +8,11 @@ use Rattle.fidl_tree.specs.Syntax.{Path, Attribute, ProtocolMember, Openness, Ty
 use Rattle.fidl_tree.specs.Views.{declared_name, declared_view}
 use Rattle.fidl_tree.specs.declared.file.File.{File}
 use Rattle.fidl_tree.specs.declared.declaration.Declaration.{Declaration}
-use Rattle.fidl_names.specs.declared.place.Place.{Place}
-use Rattle.fidl_names.specs.declared.place.DeclarationId.{DeclarationId}
-use Rattle.fidl_names.specs.Constraints.{IsDeclarationAt}
-use Rattle.fidl_names.specs.Cycles.{Leads, step, further}
-use Rattle.fidl_names.specs.Paths.{path_place}
+use Rattle.fidl_named.specs.declared.place.Place.{Place}
+use Rattle.fidl_named.specs.declared.place.DeclarationId.{DeclarationId}
+use Rattle.fidl_named.specs.Constraints.{IsDeclarationAt}
+use Rattle.fidl_cycles.specs.Cycles.{Leads, step, further}
+use Rattle.fidl_named.specs.Paths.{path_place}
 use Rattle.fidl_composition.specs.Protocols.{IsProtocolAt, HasOpenness, IsProtocol, IsBefore, AreProtocols}
 use Rattle.fidl_composition.specs.Compositions.{MeansProtocol, ComposesAt, Composes, Reaches, MayCompose, BreaksAt, ComposesFrom, IsFirstOfCycle}
 use Rattle.fidl_composition.specs.Numbers.{ReachesByNumber, AreCompositions}

@@ -12,8 +12,8 @@ use Rattle.fidl_tree.specs.Views.{protocol_member_view}
 use Rattle.fidl_tree.specs.declared.file.File.{File}
 use Rattle.fidl_tree.specs.declared.declaration.ProtocolDeclaration.{ProtocolDeclaration}
 use Rattle.fidl_tree.specs.declared.protocol.ProtocolMember as code
-use Rattle.fidl_names.specs.declared.place.DeclarationId.{DeclarationId}
-use Rattle.fidl_names.proofs.LibraryNumbers.{all_at, pick, any_of}
+use Rattle.fidl_named.specs.declared.place.DeclarationId.{DeclarationId}
+use Rattle.fidl_cycles.proofs.Lists.{all_at, pick, any_of}
 use Rattle.fidl_composition.specs.Compositions.{MeansProtocol, ComposesAt, Composes, Reaches, IsWay}
 use Rattle.fidl_composition.specs.Numbers.{ReachesByNumber}
 use Rattle.fidl_composition.specs.Tables.{IsProtocolNode, IsWayBy}

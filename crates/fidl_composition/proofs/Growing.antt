@@ -12,7 +12,7 @@ use Rattle.std.proofs.lemmas.Map.Made.{AllPairs-from_IsDistinct, IsDistinct-from
 use Rattle.std.proofs.lemmas.Map.Steps.{length-le_from_distinct_below}
 use Rattle.std.proofs.lemmas.Map.Views.{Contains-from_any}
 use Rattle.std.proofs.lemmas.Option.{slice_get-get_or, slice_get_within, same_Some, none-some}
-use Rattle.fidl_names.specs.Cycles.{Leads, step, further, IsEdge, EdgesWithin, points_of}
+use Rattle.fidl_cycles.specs.Cycles.{Leads, step, further, IsEdge, EdgesWithin, points_of}
 use Rattle.fidl_composition.specs.Points.{ReachesIn, AreDistinct, GrowsBy, IsReaching, AreReached}
 use Rattle.fidl_composition.proofs.Lists.{here, nothing_there, just_one, among, found_at, front_at}
 

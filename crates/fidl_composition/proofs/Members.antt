@@ -11,10 +11,10 @@ use Rattle.fidl_tree.specs.Views.{openness_view, protocol_member_view}
 use Rattle.fidl_tree.specs.declared.file.File.{File}
 use Rattle.fidl_tree.specs.declared.declaration.ProtocolDeclaration.{ProtocolDeclaration}
 use Rattle.fidl_tree.specs.declared.protocol.ProtocolMember as code
-use Rattle.fidl_names.specs.declared.place.DeclarationId.{DeclarationId}
-use Rattle.fidl_names.specs.Meanings.{IsJust}
-use Rattle.fidl_names.specs.Paths.{path_place}
-use Rattle.fidl_names.proofs.LibraryNumbers.{all_at, pick, any_of}
+use Rattle.fidl_named.specs.declared.place.DeclarationId.{DeclarationId}
+use Rattle.fidl_named.specs.Meanings.{IsJust}
+use Rattle.fidl_named.specs.Paths.{path_place}
+use Rattle.fidl_cycles.proofs.Lists.{all_at, pick, any_of}
 use Rattle.fidl_composition.specs.Compositions.{MeansProtocol, ComposesAt, MayCompose, ProtocolHolds}
 use Rattle.fidl_composition.specs.Numbers.{IsComposedNumber}
 use Rattle.fidl_composition.specs.Tables.{IsProtocolNode, IsWritten, IsTarget, IsTargetBy, PathHolds, MemberHolds, IsComposedRow, AreComposedRows}

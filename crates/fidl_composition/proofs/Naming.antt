@@ -5,18 +5,18 @@ use Rattle.fidl_tree.specs.Syntax.{Path}
 use Rattle.fidl_tree.specs.Views.{path_view}
 use Rattle.fidl_tree.specs.declared.path.Path as tree
 use Rattle.fidl_tree.specs.declared.file.File.{File}
-use Rattle.fidl_names.specs.declared.place.DeclarationId.{DeclarationId}
-use Rattle.fidl_names.specs.declared.meaning.Wanted.TheVariants as wanted
-use Rattle.fidl_names.specs.declared.meaning.Meaning.{Meaning}
-use Rattle.fidl_names.specs.declared.meaning.Meaning.TheVariants as meaning
-use Rattle.fidl_names.specs.declared.fault.NameFault.{NameFault}
-use Rattle.fidl_names.specs.declared.fault.NameFault.TheVariants.{DuplicateName, UnknownLibrary, UnknownName, AmbiguousName, AliasCycle, ImportCycle, BadImport, Memory}
-use Rattle.fidl_names.specs.Meanings.{components, Means, IsJust, IsTrueOfName}
-use Rattle.fidl_names.specs.OuterTypes.{texts}
-use Rattle.fidl_names.specs.Paths.{IsTrueOfPath}
-use Rattle.fidl_names.specs.Scopes.{OfFile}
-use Rattle.fidl_names.proofs.Numbering.{get_there}
-use Rattle.fidl_names.proofs.PathViews.{means_seen, refusal_seen}
+use Rattle.fidl_named.specs.declared.place.DeclarationId.{DeclarationId}
+use Rattle.fidl_named.specs.declared.meaning.Wanted.TheVariants as wanted
+use Rattle.fidl_named.specs.declared.meaning.Meaning.{Meaning}
+use Rattle.fidl_named.specs.declared.meaning.Meaning.TheVariants as meaning
+use Rattle.fidl_named.specs.declared.fault.NameFault.{NameFault}
+use Rattle.fidl_named.specs.declared.fault.NameFault.TheVariants.{DuplicateName, UnknownLibrary, UnknownName, AmbiguousName, AliasCycle, ImportCycle, BadImport, Memory}
+use Rattle.fidl_named.specs.Meanings.{components, Means, IsJust, IsTrueOfName}
+use Rattle.fidl_named.specs.Paths.{texts}
+use Rattle.fidl_named.specs.Paths.{IsTrueOfPath}
+use Rattle.fidl_named.specs.Scopes.{OfFile}
+use Rattle.fidl_cycles.proofs.Lists.{get_there}
+use Rattle.fidl_named.proofs.PathViews.{means_seen, refusal_seen}
 use Rattle.fidl_composition.specs.Compositions.{MeansProtocol}
 use Rattle.fidl_composition.proofs.Nodes.{one_meant}
 

@@ -10,13 +10,13 @@ use Rattle.fidl_tree.specs.declared.declaration.Declaration.{Declaration}
 use Rattle.fidl_tree.specs.declared.declaration.ProtocolDeclaration.{ProtocolDeclaration}
 use Rattle.fidl_tree.specs.declared.declaration.DeclarationBody.{DeclarationBody}
 use Rattle.fidl_tree.specs.declared.declaration.DeclarationBody.TheVariants as body
-use Rattle.fidl_names.specs.declared.place.DeclarationId.{DeclarationId}
-use Rattle.fidl_names.specs.declared.meaning.Wanted.TheVariants as wanted
-use Rattle.fidl_names.specs.declared.meaning.Meaning.TheVariants as meaning
-use Rattle.fidl_names.specs.Constraints.{IsDeclarationAt}
-use Rattle.fidl_names.specs.Meanings.{kind_of, IsReading, IsOwn, IsDeclarationOf, Means}
-use Rattle.fidl_names.specs.Names.{library_of}
-use Rattle.fidl_names.specs.OuterTypes.{texts}
+use Rattle.fidl_named.specs.declared.place.DeclarationId.{DeclarationId}
+use Rattle.fidl_named.specs.declared.meaning.Wanted.TheVariants as wanted
+use Rattle.fidl_named.specs.declared.meaning.Meaning.TheVariants as meaning
+use Rattle.fidl_named.specs.Constraints.{IsDeclarationAt}
+use Rattle.fidl_named.specs.Meanings.{kind_of, IsReading, IsOwn, IsDeclarationOf, Means}
+use Rattle.fidl_named.specs.Names.{library_of}
+use Rattle.fidl_named.specs.Paths.{texts}
 use Rattle.fidl_composition.specs.Protocols.{IsProtocolAt, HasOpenness, IsProtocol}
 use Rattle.fidl_composition.specs.Compositions.{MeansProtocol}
 use Rattle.fidl_composition.specs.Tables.{IsProtocolNode, IsProtocolBody}

@@ -7,9 +7,9 @@ use Rattle.std.proofs.lemmas.List.Elements.{Contains-push, Contains-push_cases, 
 use Rattle.fidl_tree.specs.Views.{declared_view}
 use Rattle.fidl_tree.specs.declared.file.File.{File}
 use Rattle.fidl_tree.specs.declared.declaration.Declaration.{Declaration}
-use Rattle.fidl_names.specs.declared.place.DeclarationId.{DeclarationId}
-use Rattle.fidl_names.specs.Constraints.{IsDeclarationAt}
-use Rattle.fidl_names.proofs.Trails.{same_or_not}
+use Rattle.fidl_named.specs.declared.place.DeclarationId.{DeclarationId}
+use Rattle.fidl_named.specs.Constraints.{IsDeclarationAt}
+use Rattle.fidl_cycles.proofs.Trails.{same_or_not}
 use Rattle.fidl_composition.specs.Protocols.{IsProtocol, IsBefore}
 use Rattle.fidl_composition.specs.Tables.{at, IsProtocolBody, AreProtocolsTo, AddsIfProtocol, Keeps, HasNumberIn, IsRowTo, IsRow, HasNumber, AreNumbered, AreNumberedTo}
 use Rattle.fidl_composition.proofs.Lists.{nothing_there, no_pairs, pairs_push, front_at, last_at}

@@ -4,10 +4,10 @@ use Rattle.std.specs.Prelude.{◌↔◌, slice_get}
 use Rattle.std.specs.List.{Contains, AllByRecursion}
 use Rattle.std.proofs.lemmas.Option.{slice_get_within, same_Some}
 use Rattle.fidl_tree.specs.declared.file.File.{File}
-use Rattle.fidl_names.specs.declared.place.DeclarationId.{DeclarationId}
-use Rattle.fidl_names.specs.Cycles.{Leads, step, further, IsEdge, IsEdgeFrom, IsFirstEdge}
-use Rattle.fidl_names.proofs.LibraryNumbers.{all_at}
-use Rattle.fidl_names.proofs.Numbering.{get_there}
+use Rattle.fidl_named.specs.declared.place.DeclarationId.{DeclarationId}
+use Rattle.fidl_cycles.specs.Cycles.{Leads, step, further, IsEdge, IsEdgeFrom, IsFirstEdge}
+use Rattle.fidl_cycles.proofs.Lists.{all_at}
+use Rattle.fidl_cycles.proofs.Lists.{get_there}
 use Rattle.fidl_composition.specs.Protocols.{IsProtocol}
 use Rattle.fidl_composition.specs.Compositions.{Composes, ComposesFrom, Reaches, ProtocolHolds, ComposesHold}
 use Rattle.fidl_composition.specs.Numbers.{ComposesByNumber, ReachesByNumber, AreCompositions}

@@ -5,14 +5,14 @@ use Rattle.fidl_span.specs.declared.words.Span.{Span}
 use Rattle.fidl_tree.specs.Syntax.{Path, Attribute, ProtocolMember, compose_member, Openness}
 use Rattle.fidl_tree.specs.Syntax.{open_protocol, ajar_protocol, closed_protocol}
 use Rattle.fidl_tree.specs.declared.file.File.{File}
-use Rattle.fidl_names.specs.declared.place.Place.{Place}
-use Rattle.fidl_names.specs.declared.place.DeclarationId.{DeclarationId}
-use Rattle.fidl_names.specs.declared.meaning.Wanted.TheVariants as wanted
-use Rattle.fidl_names.specs.declared.meaning.Meaning.TheVariants as meaning
-use Rattle.fidl_names.specs.Meanings.{Means}
-use Rattle.fidl_names.specs.OuterTypes.{texts}
-use Rattle.fidl_names.specs.Paths.{path_place}
-use Rattle.fidl_names.specs.Cycles.{Leads}
+use Rattle.fidl_named.specs.declared.place.Place.{Place}
+use Rattle.fidl_named.specs.declared.place.DeclarationId.{DeclarationId}
+use Rattle.fidl_named.specs.declared.meaning.Wanted.TheVariants as wanted
+use Rattle.fidl_named.specs.declared.meaning.Meaning.TheVariants as meaning
+use Rattle.fidl_named.specs.Meanings.{Means}
+use Rattle.fidl_named.specs.Paths.{texts}
+use Rattle.fidl_named.specs.Paths.{path_place}
+use Rattle.fidl_cycles.specs.Cycles.{Leads}
 use Rattle.fidl_composition.specs.declared.fault.ComposeFault.{ComposeFault}
 use Rattle.fidl_composition.specs.declared.fault.ComposeFault.TheVariants.{BadCompose}
 use Rattle.fidl_composition.specs.declared.fault.ComposeFault.TheVariants.{ComposeCycle, Memory}

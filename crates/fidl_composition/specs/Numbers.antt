@@ -1,8 +1,8 @@
 -- Protocols by their numbers, and what they compose as a graph (docs/language.md, "Compositions").
 use Rattle.std.specs.Prelude.{ℕ, ◌≡◌, ◌↔◌, List, Some, length, slice_get}
 use Rattle.fidl_tree.specs.declared.file.File.{File}
-use Rattle.fidl_names.specs.declared.place.DeclarationId.{DeclarationId}
-use Rattle.fidl_names.specs.Cycles.{IsEdge}
+use Rattle.fidl_named.specs.declared.place.DeclarationId.{DeclarationId}
+use Rattle.fidl_cycles.specs.Cycles.{IsEdge}
 use Rattle.fidl_composition.specs.Protocols.{AreProtocols}
 use Rattle.fidl_composition.specs.Compositions.{Composes, Reaches}
 

@@ -1,7 +1,7 @@
 -- Points of a graph that are reached from one, as the code lists them, and nothing of the language.
 use Rattle.std.specs.Prelude.{ℕ, ◌≡◌, ◌≢◌, ◌<◌, ◌⊎◌, ◌↔◌, ◌++◌, List, Some, slice_get}
 use Rattle.std.specs.List.{Contains, AllPairs}
-use Rattle.fidl_names.specs.Cycles.{Leads, IsEdge}
+use Rattle.fidl_cycles.specs.Cycles.{Leads, IsEdge}
 
 -- a point leads to another, or is it
 abbrev pub ReachesIn : (graph : List (List ℕ)) → ℕ → ℕ → Type 0

@@ -6,8 +6,8 @@ use Rattle.fidl_tree.specs.Syntax.{Openness, ProtocolMember, protocol_body}
 use Rattle.fidl_tree.specs.Views.{declared_name, declared_view}
 use Rattle.fidl_tree.specs.declared.file.File.{File}
 use Rattle.fidl_tree.specs.declared.declaration.Declaration.{Declaration}
-use Rattle.fidl_names.specs.declared.place.DeclarationId.{DeclarationId}
-use Rattle.fidl_names.specs.Constraints.{IsDeclarationAt}
+use Rattle.fidl_named.specs.declared.place.DeclarationId.{DeclarationId}
+use Rattle.fidl_named.specs.Constraints.{IsDeclarationAt}
 
 -- the declaration of this id, in this file, is a protocol: its openness, where its name stands, and
 -- its members

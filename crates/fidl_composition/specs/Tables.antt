@@ -10,10 +10,10 @@ use Rattle.fidl_tree.specs.declared.file.File.{File}
 use Rattle.fidl_tree.specs.declared.declaration.Declaration.{Declaration}
 use Rattle.fidl_tree.specs.declared.declaration.ProtocolDeclaration.{ProtocolDeclaration}
 use Rattle.fidl_tree.specs.declared.declaration.DeclarationBody.TheVariants.{Protocol}
-use Rattle.fidl_names.specs.declared.place.Place.{Place}
-use Rattle.fidl_names.specs.declared.place.DeclarationId.{DeclarationId}
-use Rattle.fidl_names.specs.Constraints.{IsDeclarationAt}
-use Rattle.fidl_names.specs.Paths.{path_place}
+use Rattle.fidl_named.specs.declared.place.Place.{Place}
+use Rattle.fidl_named.specs.declared.place.DeclarationId.{DeclarationId}
+use Rattle.fidl_named.specs.Constraints.{IsDeclarationAt}
+use Rattle.fidl_named.specs.Paths.{path_place}
 use Rattle.fidl_composition.specs.Protocols.{IsProtocolAt, IsProtocol, HasOpenness, IsBefore}
 use Rattle.fidl_composition.specs.Protocols.{AreProtocols}
 use Rattle.fidl_composition.specs.Compositions.{MeansProtocol, MayCompose, Reaches}

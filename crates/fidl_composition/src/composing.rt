@@ -3,9 +3,9 @@ ghost use Rattle.std.specs.Prelude.{◌≡◌, ◌↔◌, ◌⊎◌, ℕ, map, I
 ghost use Rattle.std.specs.List.{Contains};
 ghost use Rattle.fidl_tree.specs.Syntax.{Openness as Level};
 ghost use Rattle.fidl_tree.specs.Views.{openness_view, path_view, protocol_member_view};
-ghost use Rattle.fidl_names.specs.Cycles.{points_of};
-ghost use Rattle.fidl_names.specs.Meanings.{IsJust};
-ghost use Rattle.fidl_names.specs.Paths.{path_place};
+ghost use Rattle.fidl_cycles.specs.Cycles.{points_of};
+ghost use Rattle.fidl_named.specs.Meanings.{IsJust};
+ghost use Rattle.fidl_named.specs.Paths.{path_place};
 ghost use Rattle.fidl_composition.specs.Protocols.{HasOpenness};
 ghost use Rattle.fidl_composition.specs.Compositions.{ComposesAt, MayCompose, ProtocolHolds};
 ghost use Rattle.fidl_composition.specs.Compositions.{IsTrueOfCompositions};
@@ -17,7 +17,7 @@ use crate::found::protocol_at;
 use crate::names::protocol_meant;
 use crate::openness::may_compose;
 use crate::protocols::Numbers;
-use fidl_names::{DeclarationId, Named, Place, path_span};
+use fidl_named::{DeclarationId, Named, Place, path_span};
 use fidl_tree::{Path, ProtocolDeclaration, ProtocolMember, ProtocolMemberBody};
 use std::alloc::Global;
 

@@ -1,8 +1,8 @@
 //! No protocol leads to itself.
 ghost use Rattle.std.specs.Prelude.{◌<◌, length, IfErr, OnOk};
 ghost use Rattle.std.specs.List.{Contains};
-ghost use Rattle.fidl_names.specs.Cycles.{Leads, points_of};
-ghost use Rattle.fidl_names.specs.declared.place.DeclarationId.{DeclarationId as Id};
+ghost use Rattle.fidl_cycles.specs.Cycles.{Leads, points_of};
+ghost use Rattle.fidl_named.specs.declared.place.DeclarationId.{DeclarationId as Id};
 ghost use Rattle.fidl_composition.specs.Protocols.{IsProtocol};
 ghost use Rattle.fidl_composition.specs.Compositions.{Composes, IsTrueOfCompositions};
 ghost use Rattle.fidl_composition.specs.Numbers.{AreCompositions};
@@ -10,7 +10,8 @@ ghost use Rattle.fidl_composition.specs.Tables.{IsNamePlace};
 
 use crate::fault::ComposeFault;
 use crate::found::protocol_at;
-use fidl_names::{DeclarationId, Named, Place, find_cycle};
+use fidl_cycles::find_cycle;
+use fidl_named::{DeclarationId, Named, Place};
 use std::alloc::Global;
 
 /// The place of the name of the protocol of this number.

@@ -1,6 +1,6 @@
 //! Why the compositions of protocols are refused.
 
-use fidl_names::Place;
+use fidl_named::Place;
 use std::alloc::{AllocError, AllocFailed};
 use thiserror::Error;
 

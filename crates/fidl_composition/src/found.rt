@@ -2,11 +2,11 @@
 ghost use Rattle.std.specs.Prelude.{IfSome, IsNone};
 ghost use Rattle.fidl_tree.specs.declared.file.File.{File as Tree};
 ghost use Rattle.fidl_tree.specs.declared.declaration.Declaration.{Declaration as Node};
-ghost use Rattle.fidl_names.specs.Constraints.{IsDeclarationAt};
+ghost use Rattle.fidl_named.specs.Constraints.{IsDeclarationAt};
 ghost use Rattle.fidl_composition.specs.Protocols.{IsProtocol};
 ghost use Rattle.fidl_composition.specs.Tables.{IsProtocolNode};
 
-use fidl_names::{DeclarationId, Named};
+use fidl_named::{DeclarationId, Named};
 use fidl_tree::{Declaration, DeclarationBody, File, ProtocolDeclaration};
 
 /// A declaration with its file.

@@ -1,7 +1,7 @@
 //! What all protocols compose, as a graph over their numbers.
 ghost use Rattle.std.specs.Prelude.{IfOk, IfErr, OnOk};
 ghost use Rattle.std.specs.List.{AllByRecursion};
-ghost use Rattle.fidl_names.specs.Cycles.{points_of};
+ghost use Rattle.fidl_cycles.specs.Cycles.{points_of};
 ghost use Rattle.fidl_composition.specs.Protocols.{IsProtocol};
 ghost use Rattle.fidl_composition.specs.Compositions.{ProtocolHolds, IsTrueOfCompositions};
 ghost use Rattle.fidl_composition.specs.Tables.{AreNumbered, IsComposedRow, AreComposedRows};
@@ -10,7 +10,7 @@ use crate::composing::{Composing, composed_numbers};
 use crate::fault::ComposeFault;
 use crate::found::protocol_at;
 use crate::protocols::Numbers;
-use fidl_names::{DeclarationId, Named};
+use fidl_named::{DeclarationId, Named};
 use std::alloc::Global;
 
 /// The numbers of the protocols that the one of an id composes.

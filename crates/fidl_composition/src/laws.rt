@@ -1,7 +1,7 @@
 //! Laws of the definitions: the contracts of functions that do nothing.
 ghost use Rattle.std.specs.Prelude.{◌≡◌, ◌≢◌, List};
 ghost use Rattle.fidl_tree.specs.declared.file.File.{File};
-ghost use Rattle.fidl_names.specs.declared.place.DeclarationId.{DeclarationId};
+ghost use Rattle.fidl_named.specs.declared.place.DeclarationId.{DeclarationId};
 ghost use Rattle.fidl_composition.specs.declared.fault.ComposeFault.{ComposeFault};
 ghost use Rattle.fidl_composition.specs.declared.fault.ComposeFault.TheVariants as Faults;
 ghost use Rattle.fidl_composition.specs.Protocols.{AreProtocols};

@@ -1,6 +1,6 @@
 //! The points of a graph that a point reaches.
 ghost use Rattle.std.specs.Prelude.{◌<◌, length, IfOk, OnOk};
-ghost use Rattle.fidl_names.specs.Cycles.{EdgesWithin, points_of};
+ghost use Rattle.fidl_cycles.specs.Cycles.{EdgesWithin, points_of};
 ghost use Rattle.fidl_composition.specs.Points.{GrowsBy, GrowsAt, AreReached};
 
 use indexmap::IndexSet;

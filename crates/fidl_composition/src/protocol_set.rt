@@ -6,7 +6,7 @@ ghost use Rattle.fidl_composition.specs.Numbers.{AreCompositions, ReachesByNumbe
 ghost use Rattle.fidl_composition.specs.Points.{AreDistinct};
 
 use crate::points::reached_points;
-use fidl_names::DeclarationId;
+use fidl_named::DeclarationId;
 use std::alloc::{AllocError, Global};
 use std::marker::Model;
 
@@ -21,8 +21,8 @@ pub struct Compositions {
 
 impl Model for Compositions {
     ghost use Rattle.std.specs.Prelude.{◌≡◌, ℕ, List, length};
-    ghost use Rattle.fidl_names.specs.declared.place.DeclarationId.{DeclarationId};
-    ghost use Rattle.fidl_names.specs.Cycles.{EdgesWithin, points_of};
+    ghost use Rattle.fidl_named.specs.declared.place.DeclarationId.{DeclarationId};
+    ghost use Rattle.fidl_cycles.specs.Cycles.{EdgesWithin, points_of};
     ghost use Rattle.fidl_composition.specs.Stored.{compositions_coded};
 
     ghost Value = { List DeclarationId × List (List ℕ) };

@@ -2,11 +2,11 @@
 ghost use Rattle.std.specs.Prelude.{◌≡◌, ◌<◌, ◌+◌, ◌↔◌, length, Some, slice_get, IsTrue, IfOk};
 ghost use Rattle.std.specs.Prelude.{OnOk};
 ghost use Rattle.fidl_tree.specs.Views.{declared_view};
-ghost use Rattle.fidl_names.specs.Cycles.{points_of};
+ghost use Rattle.fidl_cycles.specs.Cycles.{points_of};
 ghost use Rattle.fidl_composition.specs.Tables.{IsProtocolBody, AddsIfProtocol, AreProtocolsTo};
 ghost use Rattle.fidl_composition.specs.Tables.{Keeps, IsRow, HasNumber, AreNumbered, at};
 
-use fidl_names::{DeclarationId, Named};
+use fidl_named::{DeclarationId, Named};
 use fidl_tree::{Declaration, DeclarationBody};
 use std::alloc::{AllocError, Global};
 

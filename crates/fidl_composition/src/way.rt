@@ -3,7 +3,7 @@ ghost use Rattle.std.specs.Prelude.{◌≡◌, ◌<◌, ◌↔◌, length, slice
 ghost use Rattle.std.specs.Prelude.{IsNone};
 ghost use Rattle.std.specs.List.{Contains};
 ghost use Rattle.fidl_span.specs.declared.words.Span.{Span as Where};
-ghost use Rattle.fidl_names.specs.declared.place.DeclarationId.{DeclarationId as Id};
+ghost use Rattle.fidl_named.specs.declared.place.DeclarationId.{DeclarationId as Id};
 ghost use Rattle.fidl_tree.specs.Views.{protocol_member_view};
 ghost use Rattle.fidl_composition.specs.Protocols.{IsProtocol};
 ghost use Rattle.fidl_composition.specs.Compositions.{Composes, Reaches, IsWay};
@@ -13,7 +13,7 @@ ghost use Rattle.fidl_composition.specs.Tables.{IsWayBy};
 use crate::found::protocol_at;
 use crate::names::protocol_meant;
 use crate::protocol_set::Compositions;
-use fidl_names::{DeclarationId, Named, Place, path_span};
+use fidl_named::{DeclarationId, Named, Place, path_span};
 use fidl_span::Span;
 use fidl_tree::{ProtocolMember, ProtocolMemberBody};
 use std::alloc::{AllocError, Global};

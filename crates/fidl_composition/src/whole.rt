@@ -8,7 +8,7 @@ use crate::fault::ComposeFault;
 use crate::graph::composition_graph;
 use crate::protocol_set::Compositions;
 use crate::protocols::number_protocols;
-use fidl_names::Named;
+use fidl_named::Named;
 use std::alloc::Global;
 
 /// The compositions of the protocols of files (public source: the FIDL language specification,

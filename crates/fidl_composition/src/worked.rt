@@ -7,11 +7,11 @@ ghost use Rattle.fidl_tree.specs.Syntax.{open_protocol, ajar_protocol, closed_pr
 ghost use Rattle.fidl_tree.specs.Views.{declared_name, declared_view};
 ghost use Rattle.fidl_tree.specs.declared.file.File.{File};
 ghost use Rattle.fidl_tree.specs.declared.declaration.Declaration.{Declaration};
-ghost use Rattle.fidl_names.specs.declared.place.Place.{Place};
-ghost use Rattle.fidl_names.specs.declared.place.DeclarationId.{DeclarationId};
-ghost use Rattle.fidl_names.specs.Constraints.{IsDeclarationAt};
-ghost use Rattle.fidl_names.specs.Cycles.{Leads};
-ghost use Rattle.fidl_names.specs.Paths.{path_place};
+ghost use Rattle.fidl_named.specs.declared.place.Place.{Place};
+ghost use Rattle.fidl_named.specs.declared.place.DeclarationId.{DeclarationId};
+ghost use Rattle.fidl_named.specs.Constraints.{IsDeclarationAt};
+ghost use Rattle.fidl_cycles.specs.Cycles.{Leads};
+ghost use Rattle.fidl_named.specs.Paths.{path_place};
 ghost use Rattle.fidl_composition.specs.Protocols.{IsProtocolAt, HasOpenness, IsProtocol};
 ghost use Rattle.fidl_composition.specs.Protocols.{IsBefore, AreProtocols};
 ghost use Rattle.fidl_composition.specs.Compositions.{MeansProtocol, ComposesAt, Composes};

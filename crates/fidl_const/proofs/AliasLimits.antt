@@ -6,22 +6,23 @@ use Rattle.fidl_tree.specs.declared.file.File.{File}
 use Rattle.fidl_tree.specs.Syntax.{Path, Value}
 use Rattle.fidl_tree.specs.declared.declaration.AliasDeclaration.{AliasDeclaration}
 use Rattle.fidl_tree.specs.declared.type_constructor.TypeConstructor.{TypeConstructor}
-use Rattle.fidl_names.specs.declared.place.DeclarationId.{DeclarationId}
-use Rattle.fidl_names.specs.declared.meaning.Wanted.TheVariants as wanted
-use Rattle.fidl_names.specs.declared.meaning.Predeclared.TheVariants as name
-use Rattle.fidl_names.specs.declared.meaning.Meaning.{Meaning}
-use Rattle.fidl_names.specs.declared.meaning.Meaning.TheVariants as meaning
-use Rattle.fidl_names.specs.Meanings.{Means}
-use Rattle.fidl_names.specs.OuterTypes.{texts}
-use Rattle.fidl_names.specs.Aliases.{IsAliasAt, ResolvesTo}
+use Rattle.fidl_named.specs.declared.place.DeclarationId.{DeclarationId}
+use Rattle.fidl_named.specs.declared.meaning.Wanted.TheVariants as wanted
+use Rattle.fidl_named.specs.declared.meaning.Predeclared.TheVariants as name
+use Rattle.fidl_named.specs.declared.meaning.Meaning.{Meaning}
+use Rattle.fidl_named.specs.declared.meaning.Meaning.TheVariants as meaning
+use Rattle.fidl_named.specs.Meanings.{Means}
+use Rattle.fidl_named.specs.Paths.{texts}
+use Rattle.fidl_named.specs.Aliases.{IsAliasAt, ResolvesTo}
 use Rattle.fidl_tree.specs.Views.{path_view}
-use Rattle.fidl_names.proofs.PathViews.{means_seen}
-use Rattle.fidl_names.proofs.ResolvedMeanings.{one_alias, one_file as alias_file}
-use Rattle.fidl_const.specs.declared.consts.Limits.{Limits}
-use Rattle.fidl_const.specs.Types.{IsStringType, constraints_of, own_path}
-use Rattle.fidl_const.specs.Dependencies.{IsKnownNode, IsNode}
-use Rattle.fidl_const.specs.Strings.{IsConstraintOf, IsInheritedConstraint}
-use Rattle.fidl_const.specs.Tables.{AreLimits, IsOwnConstraint}
+use Rattle.fidl_named.proofs.PathViews.{means_seen}
+use Rattle.fidl_named.proofs.ResolvedMeanings.{one_alias, one_file as alias_file}
+use Rattle.fidl_consts.specs.declared.consts.Limits.{Limits}
+use Rattle.fidl_consts.specs.Types.{IsStringType, constraints_of, own_path}
+use Rattle.fidl_consts.specs.Dependencies.{IsKnownNode, IsNode}
+use Rattle.fidl_consts.specs.Strings.{IsConstraintOf, IsInheritedConstraint}
+use Rattle.fidl_consts.specs.Tables.{AreLimits}
+use Rattle.fidl_const.specs.Columns.{IsOwnConstraint}
 use Rattle.fidl_const.proofs.LimitLaws.{same_limits}
 
 module _ (files : List File) where

@@ -10,38 +10,39 @@ use Rattle.fidl_tree.specs.declared.declaration.ConstDeclaration.{ConstDeclarati
 use Rattle.fidl_tree.specs.declared.declaration.AliasDeclaration.{AliasDeclaration}
 use Rattle.fidl_tree.specs.declared.type_constructor.TypeConstructor.{TypeConstructor}
 use Rattle.fidl_tree.specs.declared.type_constructor.ValuesLayout.{ValuesLayout, out-ValuesLayout}
-use Rattle.fidl_names.specs.declared.place.DeclarationId.{DeclarationId}
-use Rattle.fidl_names.specs.declared.meaning.Wanted.TheVariants as wanted
-use Rattle.fidl_names.specs.declared.meaning.Meaning.{Meaning}
-use Rattle.fidl_names.specs.declared.meaning.Meaning.TheVariants as meaning
-use Rattle.fidl_names.specs.declared.meaning.Predeclared.TheVariants as name
-use Rattle.fidl_names.specs.Aliases.{IsAliasAt, ResolvesTo, Wants, IsArrayName, by_itself}
-use Rattle.fidl_names.specs.Constraints.{ordinary, is_optional}
-use Rattle.fidl_names.specs.Places.{NamePlace, a_members, a_type, body_places}
-use Rattle.fidl_names.proofs.AliasFacts.{one_wanted}
-use Rattle.fidl_names.proofs.ResolvedMeanings.{one_resolved}
-use Rattle.fidl_names.proofs.Layouts.{all_at}
+use Rattle.fidl_named.specs.declared.place.DeclarationId.{DeclarationId}
+use Rattle.fidl_named.specs.declared.meaning.Wanted.TheVariants as wanted
+use Rattle.fidl_named.specs.declared.meaning.Meaning.{Meaning}
+use Rattle.fidl_named.specs.declared.meaning.Meaning.TheVariants as meaning
+use Rattle.fidl_named.specs.declared.meaning.Predeclared.TheVariants as name
+use Rattle.fidl_named.specs.Aliases.{IsAliasAt, ResolvesTo, Wants, IsArrayName, by_itself}
+use Rattle.fidl_named.specs.Constraints.{ordinary, is_optional}
+use Rattle.fidl_named.specs.Places.{NamePlace, a_members, a_type, body_places}
+use Rattle.fidl_named.proofs.AliasFacts.{one_wanted}
+use Rattle.fidl_named.proofs.ResolvedMeanings.{one_resolved}
+use Rattle.fidl_cycles.proofs.Lists.{all_get as all_at}
 use Rattle.fidl_tree.specs.Views.{kind_view, value_view, value_member_view, declared_view}
-use Rattle.fidl_const.specs.declared.fault.ConstFault.{ConstFault}
-use Rattle.fidl_const.specs.declared.fault.ConstFault.TheVariants.{OutOfRange, WrongKind, ConstCycle, NotBits, Memory}
-use Rattle.fidl_const.specs.declared.const_type.ConstType.{ConstType}
-use Rattle.fidl_const.specs.declared.const_type.NumberKind.{NumberKind}
-use Rattle.fidl_const.specs.declared.const_type.NumberKind.TheVariants.{Uint32}
-use Rattle.fidl_const.specs.declared.const_type.ConstType.TheVariants as ty
-use Rattle.fidl_const.specs.PlainValues.{PlainValue, a_number, text_length}
-use Rattle.fidl_const.specs.Types.{IsConstAt, IsValuesAt, IsStringType, TypeIs, constraints_of, own_path, path_of}
-use Rattle.fidl_const.specs.Values.{ValueIs, Offers}
-use Rattle.fidl_const.specs.Strings.{IsConstraintOf, TextFits, TextFails, BoundFails}
-use Rattle.fidl_const.specs.Constraints.{ItemIs, HandleValueIs, HandleValueFails, is_bounded, PropertyWants, ConstraintHolds, ConstraintFails, ConstraintsHold}
-use Rattle.fidl_const.specs.Places.{MemberHolds, MembersFail, PlaceHolds, PlaceFails, DeclarationHolds, PlacesHold}
-use Rattle.fidl_const.specs.Evaluated.{ConstantHolds, ConstantFails, Fails, Evaluates, IsTrueOfEvaluating}
-use Rattle.fidl_const.proofs.Among.{among_none, among_first, among_rest, among_cases, among_map}
-use Rattle.fidl_const.proofs.Standing.{one_file}
-use Rattle.fidl_const.proofs.OneType.{one_type, one_underlying}
-use Rattle.fidl_const.proofs.OneValue.{one_value, one_offered, one_const}
-use Rattle.fidl_const.proofs.NoValue.{no_value, no_name}
-use Rattle.fidl_const.proofs.NoItem.{no_item, no_underlying, one_wants}
-use Rattle.fidl_const.proofs.Graphs.{contains_there}
+use Rattle.fidl_consts.specs.declared.fault.ConstFault.{ConstFault}
+use Rattle.fidl_consts.specs.declared.fault.ConstFault.TheVariants.{OutOfRange, WrongKind, ConstCycle, NotBits, Memory}
+use Rattle.fidl_consts.specs.declared.const_type.ConstType.{ConstType}
+use Rattle.fidl_consts.specs.declared.const_type.NumberKind.{NumberKind}
+use Rattle.fidl_consts.specs.declared.const_type.NumberKind.TheVariants.{Uint32}
+use Rattle.fidl_consts.specs.declared.const_type.ConstType.TheVariants as ty
+use Rattle.fidl_consts.specs.PlainValues.{PlainValue, a_number, text_length}
+use Rattle.fidl_consts.specs.Types.{IsConstAt, IsValuesAt, IsStringType, TypeIs, constraints_of, own_path, path_of}
+use Rattle.fidl_consts.specs.Values.{ValueIs, Offers}
+use Rattle.fidl_consts.specs.Strings.{IsConstraintOf, TextFits, TextFails, BoundFails}
+use Rattle.fidl_consts.specs.Constraints.{ItemIs, HandleValueIs, HandleValueFails, is_bounded, PropertyWants, ConstraintHolds, ConstraintFails, ConstraintsHold}
+use Rattle.fidl_consts.specs.Places.{MemberHolds, MembersFail, PlaceHolds, PlaceFails, DeclarationHolds, PlacesHold}
+use Rattle.fidl_consts.specs.Evaluated.{ConstantHolds, Evaluates}
+use Rattle.fidl_const.specs.Evaluating.{ConstantFails, Fails, IsTrueOfEvaluating}
+use Rattle.fidl_consts.proofs.Among.{among_none, among_first, among_rest, among_cases, among_map}
+use Rattle.fidl_consts.proofs.Standing.{one_file}
+use Rattle.fidl_consts.proofs.OneType.{one_type, one_underlying}
+use Rattle.fidl_consts.proofs.OneValue.{one_value, one_offered, one_const}
+use Rattle.fidl_consts.proofs.NoValue.{no_value, no_name}
+use Rattle.fidl_consts.proofs.NoItem.{no_item, no_underlying, one_wants}
+use Rattle.fidl_cycles.proofs.Lists.{contains_at as contains_there}
 use Rattle.fidl_const.proofs.OwnPlaces.{members_place, type_place}
 
 -- what holds of all holds of each

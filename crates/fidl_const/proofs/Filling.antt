@@ -7,20 +7,21 @@ use Rattle.std.proofs.lemmas.List.{get_or-set_same, get_or-set_other}
 use Rattle.std.proofs.lemmas.Option.{slice_get_within, same_Some}
 use Rattle.fidl_tree.specs.declared.file.File.{File}
 use Rattle.fidl_tree.specs.declared.declaration.AliasDeclaration.{AliasDeclaration}
-use Rattle.fidl_names.specs.declared.place.DeclarationId.{DeclarationId}
-use Rattle.fidl_names.specs.declared.meaning.Meaning.{Meaning}
-use Rattle.fidl_names.specs.declared.meaning.Meaning.TheVariants as meaning
-use Rattle.fidl_names.specs.Aliases.{IsAliasAt}
-use Rattle.fidl_names.proofs.Trails.{same_or_not}
-use Rattle.fidl_const.specs.declared.consts.Consts.{Consts}
-use Rattle.fidl_const.specs.declared.consts.Entry.{Entry}
-use Rattle.fidl_const.specs.declared.consts.Limits.{Limits}
+use Rattle.fidl_named.specs.declared.place.DeclarationId.{DeclarationId}
+use Rattle.fidl_named.specs.declared.meaning.Meaning.{Meaning}
+use Rattle.fidl_named.specs.declared.meaning.Meaning.TheVariants as meaning
+use Rattle.fidl_named.specs.Aliases.{IsAliasAt}
+use Rattle.fidl_cycles.proofs.Trails.{same_or_not}
+use Rattle.fidl_consts.specs.declared.consts.Consts.{Consts}
+use Rattle.fidl_consts.specs.declared.consts.Entry.{Entry}
+use Rattle.fidl_consts.specs.declared.consts.Limits.{Limits}
 use Rattle.fidl_const.specs.declared.order.Found.{Found}
-use Rattle.fidl_const.specs.PlainValues.{seen}
-use Rattle.fidl_const.specs.Dependencies.{IsKnownNode}
-use Rattle.fidl_const.specs.Values.{Offers}
-use Rattle.fidl_const.specs.Strings.{IsConstraintOf}
-use Rattle.fidl_const.specs.Tables.{number_of, AreLimits, AreTrue, Extends, HasRoom, IsDone, IsFound, value_at, limits_at, with_values, with_limits}
+use Rattle.fidl_consts.specs.PlainValues.{seen}
+use Rattle.fidl_consts.specs.Dependencies.{IsKnownNode}
+use Rattle.fidl_consts.specs.Values.{Offers}
+use Rattle.fidl_consts.specs.Strings.{IsConstraintOf}
+use Rattle.fidl_consts.specs.Tables.{number_of, AreLimits, AreTrue, IsDone, value_at, limits_at}
+use Rattle.fidl_const.specs.Columns.{Extends, HasRoom, IsFound, with_values, with_limits}
 use Rattle.fidl_const.proofs.AliasLimits.{known_alias}
 
 some_there : {X : Type 0} (o : Option X) → (o ≡ None → ⊥) → IsSome o

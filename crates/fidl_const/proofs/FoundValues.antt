@@ -8,25 +8,27 @@ use Rattle.fidl_tree.specs.declared.declaration.Declaration.{Declaration}
 use Rattle.fidl_tree.specs.declared.declaration.DeclarationBody.TheVariants.{Const, Alias}
 use Rattle.fidl_tree.specs.declared.declaration.AliasDeclaration.{AliasDeclaration}
 use Rattle.fidl_tree.specs.declared.declaration.ConstDeclaration.{ConstDeclaration}
-use Rattle.fidl_names.specs.declared.place.DeclarationId.{DeclarationId}
-use Rattle.fidl_names.specs.declared.meaning.Meaning.{Meaning}
-use Rattle.fidl_names.specs.declared.meaning.Meaning.TheVariants as meaning
-use Rattle.fidl_names.specs.Aliases.{IsAliasAt}
-use Rattle.fidl_names.specs.Constraints.{IsDeclarationAt, ordinary}
-use Rattle.fidl_const.specs.declared.consts.Entry.{Entry}
-use Rattle.fidl_const.specs.declared.consts.Limits.{Limits}
-use Rattle.fidl_const.specs.declared.fault.ConstFault.{ConstFault}
-use Rattle.fidl_const.specs.PlainValues.{seen, text_length}
-use Rattle.fidl_const.specs.Types.{IsConstAt, IsStringType, IsValuesAt, constraints_of}
-use Rattle.fidl_const.specs.Values.{HasValue, Offers, constant, member, maximum}
-use Rattle.fidl_const.specs.Dependencies.{IsKnownNode}
-use Rattle.fidl_const.specs.Strings.{BoundFails, IsConstraintOf, TextFits}
-use Rattle.fidl_const.specs.Evaluated.{ConstantFails, ConstantHolds, Fails}
-use Rattle.fidl_const.specs.Tables.{AreLimits, IsFound, IsMemoryOr}
-use Rattle.fidl_names.proofs.ResolvedMeanings.{one_alias, one_file as alias_file}
-use Rattle.fidl_const.proofs.Standing.{one_file, one_declaration}
+use Rattle.fidl_named.specs.declared.place.DeclarationId.{DeclarationId}
+use Rattle.fidl_named.specs.declared.meaning.Meaning.{Meaning}
+use Rattle.fidl_named.specs.declared.meaning.Meaning.TheVariants as meaning
+use Rattle.fidl_named.specs.Aliases.{IsAliasAt}
+use Rattle.fidl_named.specs.Constraints.{IsDeclarationAt, ordinary}
+use Rattle.fidl_consts.specs.declared.consts.Entry.{Entry}
+use Rattle.fidl_consts.specs.declared.consts.Limits.{Limits}
+use Rattle.fidl_consts.specs.declared.fault.ConstFault.{ConstFault}
+use Rattle.fidl_consts.specs.PlainValues.{seen, text_length}
+use Rattle.fidl_consts.specs.Types.{IsConstAt, IsStringType, IsValuesAt, constraints_of}
+use Rattle.fidl_consts.specs.Values.{HasValue, Offers, constant, member, maximum}
+use Rattle.fidl_consts.specs.Dependencies.{IsKnownNode}
+use Rattle.fidl_consts.specs.Strings.{BoundFails, IsConstraintOf, TextFits}
+use Rattle.fidl_const.specs.Evaluating.{ConstantFails, Fails}
+use Rattle.fidl_consts.specs.Evaluated.{ConstantHolds}
+use Rattle.fidl_consts.specs.Tables.{AreLimits, IsMemoryOr}
+use Rattle.fidl_const.specs.Columns.{IsFound}
+use Rattle.fidl_named.proofs.ResolvedMeanings.{one_alias, one_file as alias_file}
+use Rattle.fidl_consts.proofs.Standing.{one_file, one_declaration}
 use Rattle.fidl_const.proofs.NodeFacts.{node_member}
-use Rattle.fidl_const.proofs.Reports.{reports_more}
+use Rattle.fidl_consts.proofs.Reports.{reports_more}
 
 module _ (fs : List File) (p : DeclarationId) where
   alias_stands : (f : File) (a : AliasDeclaration) (h : IsAliasAt fs p f a) → IsDeclarationAt fs p f h.declaration

@@ -1,21 +1,19 @@
 -- The graph of what depends on what: its edges, ways and orders are those of declarations and members.
 use Rattle.std.proofs.Common.{◌≡◌, ◌∙◌, ◌<◌, ℕ, List, [], Some, length, get_or, sym, subst}
 use Rattle.std.specs.Prelude.{slice_get}
-use Rattle.std.specs.List.{Contains}
-use Rattle.std.proofs.lemmas.Option.{same_Some, slice_get_within, slice_get-get_or, get_or_from_slice_get}
+use Rattle.std.proofs.lemmas.Option.{same_Some, slice_get_within, slice_get-get_or}
 use Rattle.fidl_tree.specs.declared.file.File.{File}
-use Rattle.fidl_names.specs.declared.meaning.Meaning.{Meaning}
-use Rattle.fidl_names.specs.Cycles.{Leads, step, further, IsEdge, IsEdgeFrom, IsFirstEdge, IsOrder}
+use Rattle.fidl_named.specs.declared.meaning.Meaning.{Meaning}
+use Rattle.fidl_cycles.specs.Cycles.{Leads, step, further, IsEdge, IsEdgeFrom, IsFirstEdge, IsOrder}
 use Rattle.std.specs.Global.{Vec}
-use Rattle.fidl_const.specs.Dependencies.{DependsOn}
-use Rattle.fidl_const.specs.Tables.{AreNumbered, AreRows, IsNodeOrder, number_of}
+use Rattle.fidl_consts.specs.Dependencies.{DependsOn}
+use Rattle.fidl_const.specs.Columns.{AreNumbered, AreRows, IsNodeOrder}
+use Rattle.fidl_consts.specs.Tables.{number_of}
 use Rattle.fidl_const.proofs.Targets.{uses_node}
+use Rattle.fidl_cycles.proofs.Lists.{contains_at as contains_there}
 
 some_there : {X : Type 0} (xs : List X) (n : ℕ) (d : X) → n < length xs → (x : X) × (slice_get xs n ≡ Some x)
 some_there xs n d within = (get_or xs n d, slice_get-get_or xs n d within)
-
-pub contains_there : {X : Type 0} (xs : List X) (i : ℕ) (x : X) → slice_get xs i ≡ Some x → Contains xs x
-contains_there xs i x is = (i, slice_get_within xs i x is, get_or_from_slice_get xs i x x is)
 
 module _ (files : List File) (nodes : List Meaning) (starts : List (Vec ℕ)) (graph : List (List ℕ)) (numbered : AreNumbered files nodes starts) (rows : AreRows files nodes starts graph) where
   from_within : (one other : ℕ) → IsEdge graph one other → one < length nodes

@@ -8,14 +8,15 @@ use Rattle.std.proofs.lemmas.List.Elements.{Contains-push_cases}
 use Rattle.std.proofs.lemmas.Option.{none-some, same_Some, slice_get-get_or, slice_get_read, slice_get_within}
 use Rattle.fidl_tree.specs.declared.file.File.{File}
 use Rattle.fidl_tree.specs.declared.declaration.ConstDeclaration.{ConstDeclaration}
-use Rattle.fidl_names.specs.declared.place.DeclarationId.{DeclarationId}
-use Rattle.fidl_names.specs.declared.meaning.Meaning.{Meaning}
-use Rattle.fidl_names.specs.declared.meaning.Meaning.TheVariants as meaning
-use Rattle.fidl_const.specs.declared.consts.Consts.{Consts}
-use Rattle.fidl_const.specs.Types.{IsConstAt}
-use Rattle.fidl_const.specs.Dependencies.{IsKnownNode, IsNode}
-use Rattle.fidl_const.specs.Evaluated.{ConstantHolds}
-use Rattle.fidl_const.specs.Tables.{number_of, AreConsts, AreNumbered, AreTrue, Extends, HasRoom, IsDone, IsNodeOrder, UsesSettled}
+use Rattle.fidl_named.specs.declared.place.DeclarationId.{DeclarationId}
+use Rattle.fidl_named.specs.declared.meaning.Meaning.{Meaning}
+use Rattle.fidl_named.specs.declared.meaning.Meaning.TheVariants as meaning
+use Rattle.fidl_consts.specs.declared.consts.Consts.{Consts}
+use Rattle.fidl_consts.specs.Types.{IsConstAt}
+use Rattle.fidl_consts.specs.Dependencies.{IsKnownNode, IsNode}
+use Rattle.fidl_consts.specs.Evaluated.{ConstantHolds}
+use Rattle.fidl_consts.specs.Tables.{number_of, AreConsts, AreTrue, IsDone}
+use Rattle.fidl_const.specs.Columns.{AreNumbered, Extends, HasRoom, IsNodeOrder, UsesSettled}
 
 nothing_at : {X : Type 0} (n k : ℕ) (x : X) → get_or (replicate n None) k None ≡ Some x → ⊥
 nothing_at zero k x is = none-some x is

@@ -5,15 +5,16 @@ use Rattle.std.proofs.lemmas.Bool.Decides.{leb_tells}
 use Rattle.std.proofs.lemmas.List.Elements.{Contains-append_left, Contains-append_right, Contains-append_cases}
 use Rattle.fidl_tree.specs.declared.file.File.{File}
 use Rattle.fidl_tree.specs.Syntax.{Value}
-use Rattle.fidl_names.specs.Constraints.{is_optional}
-use Rattle.fidl_const.specs.declared.consts.Limits.{Limits}
-use Rattle.fidl_const.specs.declared.const_type.NumberKind.TheVariants.{Uint32}
-use Rattle.fidl_const.specs.declared.const_type.ConstType.TheVariants as ty
-use Rattle.fidl_const.specs.PlainValues.{PlainValue, a_number, Fits}
-use Rattle.fidl_const.specs.Values.{ValueIs}
-use Rattle.fidl_const.specs.Strings.{Allows}
-use Rattle.fidl_const.specs.Tables.{AreLimits, IsBoundAmong, HasWord, IsOwnConstraint, IsBound, lesser}
-use Rattle.fidl_const.proofs.Among.{among_none, among_first, among_cases}
+use Rattle.fidl_named.specs.Constraints.{is_optional}
+use Rattle.fidl_consts.specs.declared.consts.Limits.{Limits}
+use Rattle.fidl_consts.specs.declared.const_type.NumberKind.TheVariants.{Uint32}
+use Rattle.fidl_consts.specs.declared.const_type.ConstType.TheVariants as ty
+use Rattle.fidl_consts.specs.PlainValues.{PlainValue, a_number, Fits}
+use Rattle.fidl_consts.specs.Values.{ValueIs}
+use Rattle.fidl_consts.specs.Strings.{Allows}
+use Rattle.fidl_consts.specs.Tables.{AreLimits, IsBoundAmong, HasWord}
+use Rattle.fidl_const.specs.Columns.{IsOwnConstraint, IsBound, lesser}
+use Rattle.fidl_consts.proofs.Among.{among_none, among_first, among_cases}
 
 module _ (files : List File) where
   fewer : (h : File) (v : Value) (n m : ℕ) → m ≤ n → Allows files h v n → Allows files h v m

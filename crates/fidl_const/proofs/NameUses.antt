@@ -13,19 +13,19 @@ use Rattle.fidl_tree.specs.declared.declaration.Declaration.{Declaration}
 use Rattle.fidl_tree.specs.declared.declaration.DeclarationBody.TheVariants.{Const, Alias}
 use Rattle.fidl_tree.specs.declared.declaration.ConstDeclaration.{ConstDeclaration}
 use Rattle.fidl_tree.specs.declared.declaration.AliasDeclaration.{AliasDeclaration}
-use Rattle.fidl_names.specs.declared.place.DeclarationId.{DeclarationId}
-use Rattle.fidl_names.specs.declared.meaning.Wanted.{Wanted}
-use Rattle.fidl_names.specs.declared.meaning.Wanted.TheVariants as wanted
-use Rattle.fidl_names.specs.declared.meaning.Meaning.{Meaning}
-use Rattle.fidl_names.specs.declared.meaning.Meaning.TheVariants as meaning
-use Rattle.fidl_names.specs.Constraints.{IsDeclarationAt, ordinary}
-use Rattle.fidl_names.specs.Places.{value_paths}
+use Rattle.fidl_named.specs.declared.place.DeclarationId.{DeclarationId}
+use Rattle.fidl_named.specs.declared.meaning.Wanted.{Wanted}
+use Rattle.fidl_named.specs.declared.meaning.Wanted.TheVariants as wanted
+use Rattle.fidl_named.specs.declared.meaning.Meaning.{Meaning}
+use Rattle.fidl_named.specs.declared.meaning.Meaning.TheVariants as meaning
+use Rattle.fidl_named.specs.Constraints.{IsDeclarationAt, ordinary}
+use Rattle.fidl_named.specs.Places.{value_paths}
 use Rattle.fidl_tree.specs.Views.{value_view}
-use Rattle.fidl_const.specs.Types.{IsStringType, IsValuesAt, constraints_of, own_path}
-use Rattle.fidl_const.specs.Dependencies.{Use, TypeUses, BodyUses, Uses, value_uses, path_uses, constraint_uses}
-use Rattle.fidl_const.specs.Tables.{AreNames, file_of}
-use Rattle.fidl_const.proofs.Among.{among_none, among_first, among_cases, among_map, among_uses}
-use Rattle.fidl_const.proofs.Standing.{one_declaration, one_file, one_layout}
+use Rattle.fidl_consts.specs.Types.{IsStringType, IsValuesAt, constraints_of, own_path}
+use Rattle.fidl_consts.specs.Dependencies.{Use, TypeUses, BodyUses, Uses, value_uses, path_uses, constraint_uses}
+use Rattle.fidl_const.specs.Columns.{AreNames, file_of}
+use Rattle.fidl_consts.proofs.Among.{among_none, among_first, among_cases, among_map, among_uses}
+use Rattle.fidl_consts.proofs.Standing.{one_declaration, one_file, one_layout}
 
 -- a name in a value is one where a value is wanted
 named_value : (paths : List Path) (kind : Wanted) (path : Path) → Contains (map {B = Use} (λ p. (wanted.Value, p)) paths) (kind, path) → (kind ≡ wanted.Value) × Contains paths path

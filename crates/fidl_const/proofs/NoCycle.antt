@@ -3,21 +3,21 @@ use Rattle.std.proofs.Common.{◌≡◌, ℕ, Bool, true, false, List, Option, S
 use Rattle.fidl_tree.specs.declared.file.File.{File}
 use Rattle.fidl_tree.specs.Syntax.{ValuesKind, Path, Operand, Value}
 use Rattle.fidl_tree.specs.declared.declaration.ConstDeclaration.{ConstDeclaration}
-use Rattle.fidl_names.specs.declared.place.Place.{Place}
-use Rattle.fidl_names.specs.declared.place.DeclarationId.{DeclarationId}
-use Rattle.fidl_names.specs.declared.meaning.Meaning.{Meaning}
-use Rattle.fidl_names.specs.Places.{NamePlace}
+use Rattle.fidl_named.specs.declared.place.Place.{Place}
+use Rattle.fidl_named.specs.declared.place.DeclarationId.{DeclarationId}
+use Rattle.fidl_named.specs.declared.meaning.Meaning.{Meaning}
+use Rattle.fidl_named.specs.Places.{NamePlace}
 use Rattle.fidl_tree.specs.Views.{value_view}
-use Rattle.fidl_const.specs.declared.fault.ConstFault.{ConstFault}
-use Rattle.fidl_const.specs.declared.fault.ConstFault.TheVariants.{OutOfRange, WrongKind, ConstCycle, NotBits, Memory}
-use Rattle.fidl_const.specs.declared.const_type.ConstType.{ConstType}
-use Rattle.fidl_const.specs.declared.const_type.ConstType.TheVariants as ty
-use Rattle.fidl_const.specs.Tables.{IsMemoryOr}
-use Rattle.fidl_const.specs.Refusals.{Misfits, NameFails, ValueFails, OperandFails}
-use Rattle.fidl_const.specs.Strings.{TextFails}
-use Rattle.fidl_const.specs.Constraints.{UnderlyingFails, PropertyMemberFails, ItemNameFails, ItemFails, HandleValueFails, ConstraintFails}
-use Rattle.fidl_const.specs.Places.{PlaceFails}
-use Rattle.fidl_const.specs.Evaluated.{ConstantFails, Fails, IsTrueOfEvaluating}
+use Rattle.fidl_consts.specs.declared.fault.ConstFault.{ConstFault}
+use Rattle.fidl_consts.specs.declared.fault.ConstFault.TheVariants.{OutOfRange, WrongKind, ConstCycle, NotBits, Memory}
+use Rattle.fidl_consts.specs.declared.const_type.ConstType.{ConstType}
+use Rattle.fidl_consts.specs.declared.const_type.ConstType.TheVariants as ty
+use Rattle.fidl_consts.specs.Tables.{IsMemoryOr}
+use Rattle.fidl_consts.specs.Refusals.{Misfits, NameFails, ValueFails, OperandFails}
+use Rattle.fidl_consts.specs.Strings.{TextFails}
+use Rattle.fidl_consts.specs.Constraints.{UnderlyingFails, PropertyMemberFails, ItemNameFails, ItemFails, HandleValueFails, ConstraintFails}
+use Rattle.fidl_consts.specs.Places.{PlaceFails}
+use Rattle.fidl_const.specs.Evaluating.{ConstantFails, Fails, IsTrueOfEvaluating}
 
 -- a fault says that something depends on itself
 abbrev is_cycle : ConstFault → Bool

@@ -23,10 +23,10 @@ use Rattle.fidl_tree.specs.declared.type_constructor.TypeConstructor as construc
 use Rattle.fidl_tree.specs.declared.type_constructor.TypeConstructor.{TypeConstructor, out-TypeConstructor}
 use Rattle.fidl_tree.specs.declared.type_constructor.ValuesLayout as values
 use Rattle.fidl_tree.specs.declared.type_constructor.ValuesLayout.{ValuesLayout, out-ValuesLayout}
-use Rattle.fidl_names.specs.Spots.{Spot, type_spot, layout_spot, type_spots, layout_spots, underlying_spots}
-use Rattle.fidl_names.specs.Places.{NamePlace, a_members, a_type, body_places, places_of, spot_places, use_path, underlying_path}
-use Rattle.fidl_const.specs.Types.{values_in, written_values, declared_values, constraints_of, own_path, path_of}
-use Rattle.fidl_const.proofs.Among.{among_first}
+use Rattle.fidl_named.specs.Spots.{Spot, type_spot, layout_spot, type_spots, layout_spots, underlying_spots}
+use Rattle.fidl_named.specs.Places.{NamePlace, a_members, a_type, body_places, places_of, spot_places, use_path, underlying_path}
+use Rattle.fidl_consts.specs.Types.{values_in, written_values, declared_values, constraints_of, own_path, path_of}
+use Rattle.fidl_consts.proofs.Among.{among_first}
 
 abbrev its_members : ValuesLayout → NamePlace
 its_members l = a_members (kind_view (out-ValuesLayout l).keyword) (path_of (out-ValuesLayout l).underlying) (map value_member_view (out-ValuesLayout l).members.items)

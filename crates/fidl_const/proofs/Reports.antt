@@ -1,37 +1,29 @@
--- What a refusal says of a whole, from what it says of a part.
-use Rattle.std.proofs.Common.{◌≡◌, ℕ, List, Option, Some, inl, inr, subst}
+-- What a refusal says of files, from what it says of a constant or a member.
+use Rattle.std.proofs.Common.{◌≡◌, ℕ, List, Option, Some, subst}
 use Rattle.std.specs.Prelude.{slice_get}
-use Rattle.std.specs.List.{Contains}
-use Rattle.std.proofs.lemmas.Option.{slice_get_within, get_or_from_slice_get}
 use Rattle.fidl_tree.specs.declared.file.File.{File}
 use Rattle.fidl_tree.specs.Syntax.{Path}
 use Rattle.fidl_tree.specs.declared.value_member.ValueMember.{ValueMember}
 use Rattle.fidl_tree.specs.declared.type_constructor.ValuesLayout.{ValuesLayout, out-ValuesLayout}
 use Rattle.fidl_tree.specs.declared.declaration.ConstDeclaration.{ConstDeclaration}
-use Rattle.fidl_names.specs.declared.place.DeclarationId.{DeclarationId}
-use Rattle.fidl_names.specs.declared.meaning.Meaning.TheVariants as meaning
+use Rattle.fidl_named.specs.declared.place.DeclarationId.{DeclarationId}
+use Rattle.fidl_named.specs.declared.meaning.Meaning.TheVariants as meaning
 use Rattle.fidl_tree.specs.Views.{kind_view, value_view}
-use Rattle.fidl_const.specs.declared.const_type.ConstType.{ConstType}
-use Rattle.fidl_const.specs.declared.const_type.ConstType.TheVariants as ty
-use Rattle.fidl_const.specs.declared.const_type.BitsOrEnum.TheVariants as layout
-use Rattle.fidl_const.specs.declared.const_type.NumberKind.{NumberKind}
-use Rattle.fidl_const.specs.declared.fault.ConstFault.{ConstFault}
-use Rattle.fidl_const.specs.PlainValues.{PlainValue, text_length}
-use Rattle.fidl_const.specs.Types.{IsStringType, IsValuesAt, TypeIs, UnderlyingIs, path_of}
-use Rattle.fidl_const.specs.Values.{Offers, ValueIs}
-use Rattle.fidl_const.specs.Refusals.{ValueFails}
-use Rattle.fidl_const.specs.Strings.{TextFails}
-use Rattle.fidl_const.specs.Constraints.{UnderlyingFails}
-use Rattle.fidl_const.specs.Evaluated.{ConstantFails, Fails}
-use Rattle.fidl_const.specs.Tables.{IsMemoryOr}
-
-contains_there : {X : Type 0} (xs : List X) (i : ℕ) (x : X) → slice_get xs i ≡ Some x → Contains xs x
-contains_there xs i x is = (i, slice_get_within xs i x is, get_or_from_slice_get xs i x x is)
-
-module _ (P Q : ConstFault → Type 0) (wider : (fault : ConstFault) → P fault → Q fault) where
-  pub reports_more : (fault : ConstFault) → IsMemoryOr P fault → IsMemoryOr Q fault
-  reports_more fault (inl e) = inl e
-  reports_more fault (inr h) = inr (wider fault h)
+use Rattle.fidl_consts.specs.declared.const_type.ConstType.{ConstType}
+use Rattle.fidl_consts.specs.declared.const_type.ConstType.TheVariants as ty
+use Rattle.fidl_consts.specs.declared.const_type.BitsOrEnum.TheVariants as layout
+use Rattle.fidl_consts.specs.declared.const_type.NumberKind.{NumberKind}
+use Rattle.fidl_consts.specs.declared.fault.ConstFault.{ConstFault}
+use Rattle.fidl_consts.specs.PlainValues.{PlainValue, text_length}
+use Rattle.fidl_consts.specs.Types.{IsStringType, IsValuesAt, TypeIs, UnderlyingIs, path_of}
+use Rattle.fidl_consts.specs.Values.{Offers, ValueIs}
+use Rattle.fidl_consts.specs.Refusals.{ValueFails}
+use Rattle.fidl_consts.specs.Strings.{TextFails}
+use Rattle.fidl_consts.specs.Constraints.{UnderlyingFails}
+use Rattle.fidl_const.specs.Evaluating.{ConstantFails, Fails}
+use Rattle.fidl_consts.specs.Tables.{IsMemoryOr}
+use Rattle.fidl_consts.proofs.Reports.{reports_more}
+use Rattle.fidl_cycles.proofs.Lists.{contains_at as contains_there}
 
 -- a constant's value, or its string, is refused
 module _ (fs : List File) (p : DeclarationId) (f : File) (c : ConstDeclaration) (own : ConstType) where

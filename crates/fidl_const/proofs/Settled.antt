@@ -10,21 +10,22 @@ use Rattle.fidl_tree.specs.declared.declaration.ConstDeclaration.{ConstDeclarati
 use Rattle.fidl_tree.specs.declared.declaration.DeclarationBody.{DeclarationBody}
 use Rattle.fidl_tree.specs.declared.declaration.DeclarationBody.TheVariants.{Const, Alias}
 use Rattle.fidl_tree.specs.declared.declaration.Declaration.{Declaration}
-use Rattle.fidl_names.specs.declared.place.DeclarationId.{DeclarationId}
-use Rattle.fidl_names.specs.declared.meaning.Wanted.{Wanted}
-use Rattle.fidl_names.specs.declared.meaning.Wanted.TheVariants as wanted
-use Rattle.fidl_names.specs.declared.meaning.Meaning.{Meaning}
-use Rattle.fidl_names.specs.declared.meaning.Meaning.TheVariants as meaning
-use Rattle.fidl_names.specs.Aliases.{IsAliasAt}
-use Rattle.fidl_names.specs.Constraints.{IsDeclarationAt}
-use Rattle.fidl_names.specs.Meanings.{Means}
-use Rattle.fidl_names.specs.OuterTypes.{texts}
-use Rattle.fidl_names.specs.Places.{value_paths}
+use Rattle.fidl_named.specs.declared.place.DeclarationId.{DeclarationId}
+use Rattle.fidl_named.specs.declared.meaning.Wanted.{Wanted}
+use Rattle.fidl_named.specs.declared.meaning.Wanted.TheVariants as wanted
+use Rattle.fidl_named.specs.declared.meaning.Meaning.{Meaning}
+use Rattle.fidl_named.specs.declared.meaning.Meaning.TheVariants as meaning
+use Rattle.fidl_named.specs.Aliases.{IsAliasAt}
+use Rattle.fidl_named.specs.Constraints.{IsDeclarationAt}
+use Rattle.fidl_named.specs.Meanings.{Means}
+use Rattle.fidl_named.specs.Paths.{texts}
+use Rattle.fidl_named.specs.Places.{value_paths}
 use Rattle.fidl_tree.specs.Views.{value_view}
-use Rattle.fidl_const.specs.declared.consts.Consts.{Consts}
-use Rattle.fidl_const.specs.Types.{IsConstAt, IsValuesAt}
-use Rattle.fidl_const.specs.Dependencies.{BodyUses, Uses, IsKnownNode}
-use Rattle.fidl_const.specs.Tables.{IsDone, PathsSettled, TypeSettled, UsesSettled}
+use Rattle.fidl_consts.specs.declared.consts.Consts.{Consts}
+use Rattle.fidl_consts.specs.Types.{IsConstAt, IsValuesAt}
+use Rattle.fidl_consts.specs.Dependencies.{BodyUses, Uses, IsKnownNode}
+use Rattle.fidl_consts.specs.Tables.{IsDone, PathsSettled, TypeSettled}
+use Rattle.fidl_const.specs.Columns.{UsesSettled}
 
 module _ (fs : List File) (c : Consts) where
   name_settled : (one : Meaning) (f : File) (kind : Wanted) (path : Path) (m : Meaning) → UsesSettled fs c one → Uses fs one f kind path → Means fs f kind (texts f.src.now path) m → IsKnownNode fs m → IsDone fs c m

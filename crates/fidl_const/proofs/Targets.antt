@@ -8,13 +8,14 @@ use Rattle.std.proofs.lemmas.List.Elements.{Contains-push, Contains-push_cases, 
 use Rattle.std.proofs.lemmas.Option.{slice_get_within, none-some}
 use Rattle.fidl_tree.specs.Syntax.{Path}
 use Rattle.fidl_tree.specs.declared.file.File.{File}
-use Rattle.fidl_names.specs.declared.place.Place.{Place}
-use Rattle.fidl_names.specs.declared.meaning.Wanted.{Wanted}
-use Rattle.fidl_names.specs.declared.meaning.Meaning.{Meaning}
-use Rattle.fidl_names.specs.Meanings.{Means}
-use Rattle.fidl_names.specs.OuterTypes.{texts}
-use Rattle.fidl_const.specs.Dependencies.{IsNode, IsKnownNode, Uses, DependsOn}
-use Rattle.fidl_const.specs.Tables.{number_of, file_of, AreNames, IsTarget, AreTargets, AreRows}
+use Rattle.fidl_named.specs.declared.place.Place.{Place}
+use Rattle.fidl_named.specs.declared.meaning.Wanted.{Wanted}
+use Rattle.fidl_named.specs.declared.meaning.Meaning.{Meaning}
+use Rattle.fidl_named.specs.Meanings.{Means}
+use Rattle.fidl_named.specs.Paths.{texts}
+use Rattle.fidl_consts.specs.Dependencies.{IsNode, IsKnownNode, Uses, DependsOn}
+use Rattle.fidl_consts.specs.Tables.{number_of}
+use Rattle.fidl_const.specs.Columns.{file_of, AreNames, IsTarget, AreTargets, AreRows}
 
 -- one name more
 module _ (fs : List File) (f : File) (ss : List (Vec ℕ)) (us : List (Wanted × Path)) (kind : Wanted) (path : Path) (row : List ℕ) (h : AreTargets fs f ss us row) where

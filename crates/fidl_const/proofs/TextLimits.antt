@@ -6,13 +6,13 @@ use Rattle.fidl_tree.specs.declared.file.File.{File}
 use Rattle.fidl_tree.specs.Syntax.{Value}
 use Rattle.fidl_tree.specs.declared.type_constructor.TypeConstructor.{TypeConstructor}
 use Rattle.fidl_tree.specs.declared.declaration.ConstDeclaration.{ConstDeclaration}
-use Rattle.fidl_names.specs.declared.place.DeclarationId.{DeclarationId}
+use Rattle.fidl_named.specs.declared.place.DeclarationId.{DeclarationId}
 use Rattle.fidl_tree.specs.Views.{type_view, value_view}
-use Rattle.fidl_const.specs.declared.consts.Limits.{Limits}
-use Rattle.fidl_const.specs.declared.fault.ConstFault.TheVariants.{OutOfRange, WrongKind}
-use Rattle.fidl_const.specs.Refusals.{type_span, value_span}
-use Rattle.fidl_const.specs.Strings.{Allows, IsConstraintOf, IsExceeded, IsOptionalText, TextFails, TextFits, long, optional}
-use Rattle.fidl_const.specs.Tables.{AreLimits, IsBoundAmong, IsMemoryOr}
+use Rattle.fidl_consts.specs.declared.consts.Limits.{Limits}
+use Rattle.fidl_consts.specs.declared.fault.ConstFault.TheVariants.{OutOfRange, WrongKind}
+use Rattle.fidl_consts.specs.Refusals.{type_span, value_span}
+use Rattle.fidl_consts.specs.Strings.{Allows, IsConstraintOf, IsExceeded, IsOptionalText, TextFails, TextFits, long, optional}
+use Rattle.fidl_consts.specs.Tables.{AreLimits, IsBoundAmong, IsMemoryOr}
 
 -- a string that isn't longer than the limit is no longer than what the limit keeps to
 within_limit : (fs : List File) (h : File) (v : Value) (count : ℕ) (o : Option ℕ) → IsSomeAnd o (Allows fs h v) → (IsSomeAnd o (λ bound. bound < count) → ⊥) → Allows fs h v count

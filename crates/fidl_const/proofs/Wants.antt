@@ -2,9 +2,9 @@
 use Rattle.std.proofs.Common.{◌≡◌, List, Option, refl}
 use Rattle.fidl_tree.specs.declared.file.File.{File}
 use Rattle.fidl_tree.specs.Syntax.{Path}
-use Rattle.fidl_names.specs.declared.meaning.Wanted.{Wanted}
-use Rattle.fidl_names.specs.declared.meaning.Wanted.TheVariants as wanted
-use Rattle.fidl_names.specs.Aliases.{Wants, IsArrayName, by_itself, count, argument}
+use Rattle.fidl_named.specs.declared.meaning.Wanted.{Wanted}
+use Rattle.fidl_named.specs.declared.meaning.Wanted.TheVariants as wanted
+use Rattle.fidl_named.specs.Aliases.{Wants, IsArrayName, by_itself, count, argument}
 
 -- a place that wants no value wants a type
 pub wants_type : (files : List File) (f : File) (of : Option Path) (kind : Wanted) → Wants (IsArrayName files f) of kind → (kind ≡ wanted.Value → ⊥) → Wants (IsArrayName files f) of wanted.«Type»

@@ -1,29 +1,8 @@
--- The definitions of constants' values, in the order in which to read them:
---   Literals     the values of the words of literals
---   PlainValues  values, and which of them fit a type
---   Types        the types of constants, and of the members of bits and enums
---   Values       the values of expressions, and of what names mean
---   Dependencies what depends on what, and so what a cycle is
---   Refusals     what is refused as a value, and where
---   Strings      how long the strings of a type may be
---   Constraints  the values that the constraints of types owe
---   Places       the places of a source that owe values
---   Evaluated    when files evaluate, and what each refusal says of them
---   Faults       the numbers, names and places of refusals
--- The others are of the code alone: Tables of the numbers of declarations and members, and of
--- columns by these numbers; Scopes of the files in which values are read; InSet of what such a file
--- needs.
-pub mod Literals
-pub mod PlainValues
-pub mod Types
-pub mod Values
-pub mod Dependencies
-pub mod Refusals
-pub mod Strings
-pub mod Constraints
-pub mod Places
-pub mod Evaluated
-pub mod Faults
-pub mod Tables
-pub mod Scopes
-pub mod InSet
+-- The values of constants, and when files evaluate, are defined in fidl_consts. Here is, in the
+-- order in which to read it:
+--   Evaluating   what a refusal says of files
+-- The others are of the code alone: Columns of the numbers of declarations and members, and of how
+-- columns by these numbers are filled; PlaceScopes of the files whose places are checked.
+pub mod Evaluating
+pub mod Columns
+pub mod PlaceScopes

@@ -1,27 +1,25 @@
 //! The values of constants and members.
 ghost use Rattle.std.specs.Prelude.{◌≡◌, ◌<◌, ◌↔◌, IfOk, IfErr, OnOk, IsTrue, IsSomeAnd};
 ghost use Rattle.fidl_tree.specs.Views.{keyword_span, body_view, type_view, value_view};
-ghost use Rattle.fidl_names.specs.declared.meaning.Meaning.TheVariants as Given;
-ghost use Rattle.fidl_const.specs.PlainValues.{seen, text_length};
-ghost use Rattle.fidl_const.specs.Types.{IsConstAt, IsValuesAt, IsStringType, IsMemberOf};
-ghost use Rattle.fidl_names.specs.Places.{value_paths};
-ghost use Rattle.fidl_const.specs.Refusals.{layout_span, type_span};
-ghost use Rattle.fidl_const.specs.Strings.{TextFits, TextFails};
-ghost use Rattle.fidl_const.specs.Evaluated.{ConstantFails, Fails};
-ghost use Rattle.fidl_const.specs.Tables.{AreTrue, PathsSettled, IsMemoryOr, TypeSettled, HasEntry};
+ghost use Rattle.fidl_named.specs.declared.meaning.Meaning.TheVariants as Given;
+ghost use Rattle.fidl_consts.specs.PlainValues.{seen, text_length};
+ghost use Rattle.fidl_consts.specs.Types.{IsConstAt, IsValuesAt, IsStringType, IsMemberOf};
+ghost use Rattle.fidl_named.specs.Places.{value_paths};
+ghost use Rattle.fidl_consts.specs.Refusals.{layout_span, type_span};
+ghost use Rattle.fidl_consts.specs.Strings.{TextFits, TextFails};
+ghost use Rattle.fidl_const.specs.Evaluating.{ConstantFails, Fails};
+ghost use Rattle.fidl_consts.specs.Tables.{AreTrue, PathsSettled, IsMemoryOr, TypeSettled};
+ghost use Rattle.fidl_consts.specs.Tables.{HasEntry};
 
 use crate::bounds::limits;
-use crate::const_type::{BitsOrEnum, ConstType};
-use crate::const_value::ConstValue;
-use crate::consts::{Entry, Limits};
-use crate::fault::ConstFault;
-use crate::found::{FoundConst, FoundMember};
-use crate::layouts::member_kind;
-use crate::names::path_place;
-use crate::scope::{FileScope, NamedFile, Scope};
-use crate::types::{is_string_type, underlying_path, written_type};
-use crate::values::{value_in, value_span};
-use fidl_names::{DeclarationId, Place};
+use fidl_consts::found::{FoundConst, FoundMember};
+use fidl_consts::layouts::member_kind;
+use fidl_consts::names::path_place;
+use fidl_consts::scope::{FileScope, NamedFile, Scope};
+use fidl_consts::types::{is_string_type, underlying_path, written_type};
+use fidl_consts::values::{value_in, value_span};
+use fidl_consts::{BitsOrEnum, ConstFault, ConstType, ConstValue, Entry, Limits};
+use fidl_named::{DeclarationId, Place};
 use fidl_span::Span;
 use fidl_tree::{LayoutBody, TypeConstructor, ValuesKeyword};
 

@@ -1,21 +1,22 @@
 //! The graph of what values depend on, over the numbers of declarations and members.
 ghost use Rattle.std.specs.Prelude.{◌≡◌, ◌<◌, ◌++◌, length, IfOk, OnOk};
 ghost use Rattle.fidl_tree.specs.Views.{value_view};
-ghost use Rattle.fidl_names.specs.Scopes.{OfFile};
-ghost use Rattle.fidl_const.specs.Types.{own_path};
-ghost use Rattle.fidl_names.specs.Cycles.{points_of};
-ghost use Rattle.fidl_const.specs.Dependencies.{TypeUses, BodyUses, Uses, value_uses, path_uses};
-ghost use Rattle.fidl_const.specs.Dependencies.{constraint_uses};
-ghost use Rattle.fidl_const.specs.Tables.{AreNames, AreNumbered, AreRows, AreTargets, file_of};
-ghost use Rattle.fidl_const.specs.Tables.{name_uses_view};
+ghost use Rattle.fidl_named.specs.Scopes.{OfFile};
+ghost use Rattle.fidl_consts.specs.Types.{own_path};
+ghost use Rattle.fidl_cycles.specs.Cycles.{points_of};
+ghost use Rattle.fidl_consts.specs.Dependencies.{TypeUses, BodyUses, Uses, value_uses, path_uses};
+ghost use Rattle.fidl_consts.specs.Dependencies.{constraint_uses};
+ghost use Rattle.fidl_const.specs.Columns.{AreNames, AreNumbered, AreRows, AreTargets, file_of};
+ghost use Rattle.fidl_const.specs.Columns.{name_uses_view};
 
-use crate::consts::node_number;
-use crate::found::{declaration_at, member_at};
-use crate::names::find;
-use crate::nodes::{Numbers, is_node};
-use crate::scope::NamedFile;
-use crate::types::{is_string_type, type_constraints, type_path};
-use fidl_names::{Meaning, Named, Wanted, ordinary, value_paths};
+use crate::nodes::Numbers;
+use fidl_consts::found::{declaration_at, member_at};
+use fidl_consts::names::find;
+use fidl_consts::node_number;
+use fidl_consts::nodes::is_node;
+use fidl_consts::scope::NamedFile;
+use fidl_consts::types::{is_string_type, type_constraints, type_path};
+use fidl_named::{Meaning, Named, Wanted, ordinary, value_paths};
 use fidl_tree::{DeclarationBody, File, Path, TypeConstructor, Value};
 use std::alloc::{AllocError, Global};
 

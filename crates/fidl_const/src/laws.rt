@@ -4,17 +4,18 @@ ghost use Rattle.std.specs.List.{Contains};
 ghost use Rattle.fidl_tree.specs.declared.file.File.{File};
 ghost use Rattle.fidl_tree.specs.Syntax.{Path, Value, Operand};
 ghost use Rattle.fidl_tree.specs.declared.type_constructor.TypeConstructor.{TypeConstructor};
-ghost use Rattle.fidl_names.specs.declared.meaning.Meaning.{Meaning};
-ghost use Rattle.fidl_names.specs.declared.meaning.Wanted.TheVariants as Kind;
-ghost use Rattle.fidl_const.specs.declared.const_type.ConstType.{ConstType};
-ghost use Rattle.fidl_const.specs.declared.fault.ConstFault.{ConstFault};
-ghost use Rattle.fidl_const.specs.declared.fault.ConstFault.TheVariants as Faults;
-ghost use Rattle.fidl_const.specs.PlainValues.{PlainValue};
-ghost use Rattle.fidl_const.specs.Types.{IsStringType};
-ghost use Rattle.fidl_const.specs.Dependencies.{TypeUses, constraint_paths};
-ghost use Rattle.fidl_const.specs.Values.{ValueIs, Offers, first_operand, later_operands};
-ghost use Rattle.fidl_const.specs.Refusals.{ValueFails, operand_span, value_span};
-ghost use Rattle.fidl_const.specs.Evaluated.{Evaluates, IsTrueOfEvaluating};
+ghost use Rattle.fidl_named.specs.declared.meaning.Meaning.{Meaning};
+ghost use Rattle.fidl_named.specs.declared.meaning.Wanted.TheVariants as Kind;
+ghost use Rattle.fidl_consts.specs.declared.const_type.ConstType.{ConstType};
+ghost use Rattle.fidl_consts.specs.declared.fault.ConstFault.{ConstFault};
+ghost use Rattle.fidl_consts.specs.declared.fault.ConstFault.TheVariants as Faults;
+ghost use Rattle.fidl_consts.specs.PlainValues.{PlainValue};
+ghost use Rattle.fidl_consts.specs.Types.{IsStringType};
+ghost use Rattle.fidl_consts.specs.Dependencies.{TypeUses, constraint_paths};
+ghost use Rattle.fidl_consts.specs.Values.{ValueIs, Offers, first_operand, later_operands};
+ghost use Rattle.fidl_consts.specs.Refusals.{ValueFails, operand_span, value_span};
+ghost use Rattle.fidl_consts.specs.Evaluated.{Evaluates};
+ghost use Rattle.fidl_const.specs.Evaluating.{IsTrueOfEvaluating};
 
 /// An expression has at most one value where a type is wanted; what has a value of its own has just
 /// that one, of one type.

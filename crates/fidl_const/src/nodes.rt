@@ -1,12 +1,12 @@
 //! Declarations and members by their numbers, in the order of the sources.
-ghost use Rattle.std.specs.Prelude.{◌≡◌, ◌↔◌, ◌++◌, List, length, Some, IfOk, OnOk, IsTrue};
-ghost use Rattle.fidl_names.specs.declared.place.Place.{Place as Spot};
+ghost use Rattle.std.specs.Prelude.{◌≡◌, ◌++◌, length, Some, IfOk, OnOk};
+ghost use Rattle.fidl_named.specs.declared.place.Place.{Place as Spot};
 ghost use Rattle.fidl_tree.specs.declared.file.File.{File as Tree};
-ghost use Rattle.fidl_const.specs.Dependencies.{IsNode, IsKnownNode};
-ghost use Rattle.fidl_const.specs.Tables.{AreNumbered, member_list, nodes_of, nodes_in, starts_in};
+ghost use Rattle.fidl_consts.specs.Dependencies.{IsNode};
+ghost use Rattle.fidl_const.specs.Columns.{AreNumbered, member_list, nodes_of, nodes_in, starts_in};
 
-use crate::found::{declaration_at, declared_values, member_at};
-use fidl_names::{DeclarationId, Meaning, Named, Place, name_span};
+use fidl_consts::found::{declaration_at, declared_values, member_at};
+use fidl_named::{DeclarationId, Meaning, Named, Place, name_span};
 use fidl_tree::{Declaration, DeclarationBody};
 use std::alloc::{AllocError, Global};
 
@@ -15,17 +15,6 @@ use std::alloc::{AllocError, Global};
 pub(crate) struct Numbers {
     pub nodes: Vec<Meaning>,
     pub starts: Vec<Vec<usize>>,
-}
-
-/// Whether it is a declaration, or a member of bits or an enum.
-pub(crate) fn is_node(named: &Named<'_, '_>, meaning: Meaning) -> bool
-    ensures { IsTrue result ↔ IsKnownNode named.now meaning }
-{
-    match meaning {
-        Meaning::Declared(id) => declaration_at(named, id).is_some(),
-        Meaning::Member { of, number } => member_at(named, of, number).is_some(),
-        Meaning::Predeclared(_) | Meaning::PropertyMember { .. } => false,
-    }
 }
 
 /// The place of the name of a declaration or a member.

@@ -1,23 +1,25 @@
 //! The values of all constants and members, in an order in which each follows all that it depends
 //! on.
 ghost use Rattle.std.specs.Prelude.{◌≡◌, ◌<◌, List, None, length, replicate, IfOk, IfErr, OnOk};
-ghost use Rattle.fidl_names.specs.declared.meaning.Meaning.{Meaning as Meant};
-ghost use Rattle.fidl_names.specs.declared.meaning.Meaning.TheVariants as Given;
-ghost use Rattle.fidl_const.specs.Dependencies.{IsKnownNode};
-ghost use Rattle.fidl_const.specs.Evaluated.{ConstantsHold, Fails};
-ghost use Rattle.fidl_const.specs.Tables.{AreNumbered, AreConsts, AreTrue, HasRoom, IsDone};
-ghost use Rattle.fidl_const.specs.Tables.{HoldsIfConstant, IsFound, IsNodeOrder, UsesSettled};
-ghost use Rattle.fidl_const.specs.Tables.{Extends, IsMemoryOr, with_values, with_limits};
+ghost use Rattle.fidl_named.specs.declared.meaning.Meaning.{Meaning as Meant};
+ghost use Rattle.fidl_named.specs.declared.meaning.Meaning.TheVariants as Given;
+ghost use Rattle.fidl_consts.specs.Dependencies.{IsKnownNode};
+ghost use Rattle.fidl_consts.specs.Evaluated.{ConstantsHold};
+ghost use Rattle.fidl_const.specs.Evaluating.{Fails};
+ghost use Rattle.fidl_const.specs.Columns.{AreNumbered, HasRoom};
+ghost use Rattle.fidl_consts.specs.Tables.{AreConsts, AreTrue, IsDone};
+ghost use Rattle.fidl_const.specs.Columns.{HoldsIfConstant, IsFound, IsNodeOrder, UsesSettled};
+ghost use Rattle.fidl_const.specs.Columns.{Extends, with_values, with_limits};
+ghost use Rattle.fidl_consts.specs.Tables.{IsMemoryOr};
 
 use crate::bounds::limits;
 use crate::constants::{constant_entry, member_entry};
-use crate::consts::{Consts, Entry, Limits, node_number};
-use crate::fault::ConstFault;
-use crate::found::{alias_at, const_at, member_at};
 use crate::nodes::Numbers;
-use crate::scope::{FileScope, NamedFile, Scope};
-use crate::types::is_string_type;
-use fidl_names::{DeclarationId, Meaning, Named};
+use fidl_consts::found::{alias_at, const_at, member_at};
+use fidl_consts::scope::{FileScope, NamedFile, Scope};
+use fidl_consts::types::is_string_type;
+use fidl_consts::{ConstFault, Consts, Entry, Limits, node_number};
+use fidl_named::{DeclarationId, Meaning, Named};
 use std::alloc::{AllocError, Global};
 
 /// What a declaration or a member has: a value, limits, or neither.

@@ -1,26 +1,25 @@
 //! The values at the places of declarations.
 ghost use Rattle.std.specs.Prelude.{◌↔◌, pos, IfErr, OnOk, IsTrue};
 ghost use Rattle.std.specs.List.{AllByRecursion};
-ghost use Rattle.fidl_names.specs.PlaceViews.{name_place_view};
-ghost use Rattle.fidl_const.specs.declared.const_type.NumberKind.TheVariants as Kinds;
-ghost use Rattle.fidl_const.specs.Literals.{number_of};
-ghost use Rattle.fidl_const.specs.PlainValues.{InRange};
-ghost use Rattle.fidl_const.specs.Places.{PlacesHold};
-ghost use Rattle.fidl_const.specs.Evaluated.{Fails};
-ghost use Rattle.fidl_const.specs.Tables.{AreConsts, IsMemoryOr};
-ghost use Rattle.fidl_const.specs.Scopes.{HoldsDeclaration, HoldsMembers, HoldsPlace, KnowsAll};
-ghost use Rattle.fidl_const.specs.Scopes.{RefusesDeclaration, RefusesMembers, RefusesPlace};
-ghost use Rattle.fidl_const.specs.Scopes.{members_place, number_place, type_place};
+ghost use Rattle.fidl_named.specs.PlaceViews.{name_place_view};
+ghost use Rattle.fidl_consts.specs.declared.const_type.NumberKind.TheVariants as Kinds;
+ghost use Rattle.fidl_consts.specs.Literals.{number_of};
+ghost use Rattle.fidl_consts.specs.PlainValues.{InRange};
+ghost use Rattle.fidl_consts.specs.Places.{PlacesHold};
+ghost use Rattle.fidl_const.specs.Evaluating.{Fails};
+ghost use Rattle.fidl_consts.specs.Tables.{AreConsts, IsMemoryOr};
+ghost use Rattle.fidl_const.specs.PlaceScopes.{HoldsDeclaration, HoldsMembers, HoldsPlace};
+ghost use Rattle.fidl_consts.specs.Scopes.{KnowsAll};
+ghost use Rattle.fidl_const.specs.PlaceScopes.{RefusesDeclaration, RefusesMembers, RefusesPlace};
+ghost use Rattle.fidl_const.specs.PlaceScopes.{members_place, number_place, type_place};
 
-use crate::const_type::{ConstType, NumberKind};
 use crate::constraints::check_constraints;
-use crate::fault::ConstFault;
-use crate::layouts::member_kind;
-use crate::names::find;
-use crate::numbers::number_value;
-use crate::scope::{FileScope, NamedFile, Scope};
-use crate::values::{name_value, value_in};
-use fidl_names::{NamePlace, Place, Wanted, name_places, wants_value};
+use fidl_consts::layouts::member_kind;
+use fidl_consts::names::find;
+use fidl_consts::scope::{FileScope, NamedFile, Scope};
+use fidl_consts::values::{name_value, value_in};
+use fidl_consts::{ConstFault, ConstType, NumberKind, number_value};
+use fidl_named::{NamePlace, Place, Wanted, name_places, wants_value};
 use fidl_span::Span;
 use fidl_tree::{Constraints, DeclarationBody, Path, ValueMember, ValuesKeyword};
 

@@ -5,24 +5,24 @@ use Rattle.std.proofs.lemmas.Int.{ints}
 use Rattle.std.proofs.lemmas.Option.{same_Some, none-some}
 use Rattle.fidl_tree.specs.declared.file.File.{File}
 use Rattle.fidl_tree.specs.Syntax.{Value, Operand}
-use Rattle.fidl_names.specs.declared.place.DeclarationId.{DeclarationId}
-use Rattle.fidl_names.specs.declared.meaning.Meaning.{Meaning}
-use Rattle.fidl_names.specs.declared.meaning.Meaning.TheVariants as meaning
-use Rattle.fidl_names.specs.Scopes.{OfFile}
-use Rattle.fidl_const.specs.declared.fault.ConstFault.{ConstFault}
-use Rattle.fidl_const.specs.declared.fault.ConstFault.TheVariants.{Memory}
-use Rattle.fidl_const.specs.declared.const_type.ConstType.{ConstType}
-use Rattle.fidl_const.specs.declared.const_type.NumberKind.TheVariants.{Uint32}
-use Rattle.fidl_const.specs.declared.const_type.ConstType.TheVariants as ty
-use Rattle.fidl_const.specs.declared.const_value.ConstValue.{ConstValue}
-use Rattle.fidl_const.specs.PlainValues.{PlainValue, a_number, seen, Fits, InRange}
-use Rattle.fidl_const.specs.Values.{ValueIs, OperandIs, Gives, first_operand, alone, several, literal_fits, group, named, offered}
-use Rattle.fidl_const.specs.Refusals.{ValueFails}
-use Rattle.fidl_const.specs.Constraints.{ItemIs, HandleValueIs, HandleValueFails, IsForNoProperty}
-use Rattle.fidl_const.specs.Tables.{IsMemoryOr}
-use Rattle.fidl_const.proofs.OneValue.{one_value}
-use Rattle.fidl_const.proofs.NoValue.{no_value}
-use Rattle.fidl_const.proofs.NoItem.{no_item, one_wants}
+use Rattle.fidl_named.specs.declared.place.DeclarationId.{DeclarationId}
+use Rattle.fidl_named.specs.declared.meaning.Meaning.{Meaning}
+use Rattle.fidl_named.specs.declared.meaning.Meaning.TheVariants as meaning
+use Rattle.fidl_named.specs.Scopes.{OfFile}
+use Rattle.fidl_consts.specs.declared.fault.ConstFault.{ConstFault}
+use Rattle.fidl_consts.specs.declared.fault.ConstFault.TheVariants.{Memory}
+use Rattle.fidl_consts.specs.declared.const_type.ConstType.{ConstType}
+use Rattle.fidl_consts.specs.declared.const_type.NumberKind.TheVariants.{Uint32}
+use Rattle.fidl_consts.specs.declared.const_type.ConstType.TheVariants as ty
+use Rattle.fidl_consts.specs.declared.const_value.ConstValue.{ConstValue}
+use Rattle.fidl_consts.specs.PlainValues.{PlainValue, a_number, seen, Fits, InRange}
+use Rattle.fidl_consts.specs.Values.{ValueIs, OperandIs, Gives, first_operand, alone, several, literal_fits, group, named, offered}
+use Rattle.fidl_consts.specs.Refusals.{ValueFails}
+use Rattle.fidl_consts.specs.Constraints.{ItemIs, HandleValueIs, HandleValueFails, IsForNoProperty}
+use Rattle.fidl_consts.specs.Tables.{IsMemoryOr}
+use Rattle.fidl_consts.proofs.OneValue.{one_value}
+use Rattle.fidl_consts.proofs.NoValue.{no_value}
+use Rattle.fidl_consts.proofs.NoItem.{no_item, one_wants}
 use Rattle.fidl_constraints.specs.Behind.{handle_head}
 use Rattle.fidl_constraints.proofs.Naming.{there}
 use Rattle.fidl_constraints.specs.Gives.{InFile, IsOfProperty}

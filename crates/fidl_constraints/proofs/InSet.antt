@@ -7,9 +7,9 @@ use Rattle.std.proofs.lemmas.Grind.{flat_map-append}
 use Rattle.fidl_tree.specs.Syntax.{TypeUse, Arguments, Value, Body, const_body, alias_body, type_body, protocol_body, service_body, resource_body}
 use Rattle.fidl_tree.specs.Views.{declared_view}
 use Rattle.fidl_tree.specs.declared.file.File.{File}
-use Rattle.fidl_names.specs.declared.place.DeclarationId.{DeclarationId}
-use Rattle.fidl_names.specs.declared.meaning.Meaning.{Meaning}
-use Rattle.fidl_names.specs.declared.meaning.Meaning.TheVariants as meaning
+use Rattle.fidl_named.specs.declared.place.DeclarationId.{DeclarationId}
+use Rattle.fidl_named.specs.declared.meaning.Meaning.{Meaning}
+use Rattle.fidl_named.specs.declared.meaning.Meaning.TheVariants as meaning
 use Rattle.fidl_tree.specs.Views.{constraints_view}
 use Rattle.fidl_tree.specs.declared.constraint.Constraints.{Constraints}
 use Rattle.fidl_tree.specs.declared.constraint.Constraints.TheVariants.{Single, List as Several}

@@ -11,12 +11,12 @@ use Rattle.fidl_tree.specs.declared.type_constructor.TypeConstructor as construc
 use Rattle.fidl_tree.specs.declared.type_constructor.TypeConstructor.{TypeConstructor, out-TypeConstructor}
 use Rattle.fidl_tree.specs.declared.type_constructor.NamedType.{out-NamedType}
 use Rattle.fidl_tree.specs.declared.type_constructor.LayoutBody.TheOpen.{TypeConstructor-F}
-use Rattle.fidl_names.specs.declared.place.DeclarationId.{DeclarationId}
-use Rattle.fidl_names.specs.declared.meaning.Meaning.{Meaning}
-use Rattle.fidl_names.specs.declared.meaning.Meaning.TheVariants as meaning
-use Rattle.fidl_names.specs.declared.meaning.Wanted.TheVariants as wanted
-use Rattle.fidl_names.specs.Aliases.{type_path, constraints_of, PassesOn, PassesTo}
-use Rattle.fidl_names.proofs.PathViews.{means_seen}
+use Rattle.fidl_named.specs.declared.place.DeclarationId.{DeclarationId}
+use Rattle.fidl_named.specs.declared.meaning.Meaning.{Meaning}
+use Rattle.fidl_named.specs.declared.meaning.Meaning.TheVariants as meaning
+use Rattle.fidl_named.specs.declared.meaning.Wanted.TheVariants as wanted
+use Rattle.fidl_named.specs.Aliases.{type_path, constraints_of, PassesOn, PassesTo}
+use Rattle.fidl_named.proofs.PathViews.{means_seen}
 use Rattle.fidl_constraints.specs.Behind.{Target, follows, constraints_in, MeansType, body_target, IsDeclared, MeaningRefersTo, RefersTo, LeadsTo}
 use Rattle.fidl_constraints.specs.BehindViews.{arguments_view}
 use Rattle.fidl_constraints.proofs.Naming.{named_seen}

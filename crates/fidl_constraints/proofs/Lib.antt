@@ -9,3 +9,4 @@ pub mod Naming
 pub mod OneBehind
 pub mod Walking
 pub mod Leading
+pub mod Few

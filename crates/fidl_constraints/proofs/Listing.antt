@@ -8,7 +8,7 @@ use Rattle.fidl_tree.specs.Syntax.{Value}
 use Rattle.fidl_tree.specs.Views.{value_view}
 use Rattle.fidl_tree.specs.declared.file.File.{File}
 use Rattle.fidl_tree.specs.declared.value.Value.{Value as Tree}
-use Rattle.fidl_names.specs.ReferenceViews.{value_list_view}
+use Rattle.fidl_named.specs.ReferenceViews.{value_list_view}
 use Rattle.fidl_constraints.specs.declared.items.Item.{Item as CodeItem}
 use Rattle.fidl_constraints.specs.Items.{Item, is_word, next_rank, is_last, items_from}
 use Rattle.fidl_constraints.specs.ItemViews.{item_view, items_view}

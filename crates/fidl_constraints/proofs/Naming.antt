@@ -9,12 +9,12 @@ use Rattle.fidl_tree.specs.declared.path.Path.{Path}
 use Rattle.fidl_tree.specs.declared.file.File.{File}
 use Rattle.fidl_tree.specs.declared.type_constructor.NamedType.{NamedType, out-NamedType}
 use Rattle.fidl_tree.specs.declared.type_constructor.LayoutBody.TheFolds.{fold_out-NamedType}
-use Rattle.fidl_names.specs.declared.meaning.Wanted.TheVariants as wanted
-use Rattle.fidl_names.specs.declared.meaning.Meaning.{Meaning}
-use Rattle.fidl_names.specs.Meanings.{components, Means, IsJust}
-use Rattle.fidl_names.specs.Scopes.{OfFile}
-use Rattle.fidl_names.proofs.AliasFacts.{components_seen}
-use Rattle.fidl_names.proofs.PathViews.{means_seen}
+use Rattle.fidl_named.specs.declared.meaning.Wanted.TheVariants as wanted
+use Rattle.fidl_named.specs.declared.meaning.Meaning.{Meaning}
+use Rattle.fidl_named.specs.Meanings.{components, Means, IsJust}
+use Rattle.fidl_named.specs.Scopes.{OfFile}
+use Rattle.fidl_named.proofs.AliasFacts.{components_seen}
+use Rattle.fidl_named.proofs.PathViews.{means_seen}
 use Rattle.fidl_constraints.specs.declared.targets.Target.{Target as CodeTarget}
 use Rattle.fidl_constraints.specs.Behind.{Target, MeansType, MeaningRefersTo, RefersTo, LeadsTo}
 use Rattle.fidl_constraints.specs.BehindViews.{arguments_view, target_view}

@@ -6,13 +6,13 @@ use Rattle.fidl_tree.specs.Syntax.{Path, Arguments, TypeUse}
 use Rattle.fidl_tree.specs.Views.{declared_view}
 use Rattle.fidl_tree.specs.declared.file.File.{File}
 use Rattle.fidl_tree.specs.declared.declaration.Declaration.{Declaration}
-use Rattle.fidl_names.specs.declared.place.DeclarationId.{DeclarationId}
-use Rattle.fidl_names.specs.declared.meaning.Wanted.TheVariants as wanted
-use Rattle.fidl_names.specs.declared.meaning.Meaning.{Meaning}
-use Rattle.fidl_names.specs.declared.meaning.Meaning.TheVariants as meaning
-use Rattle.fidl_names.specs.Meanings.{Means}
-use Rattle.fidl_names.specs.OuterTypes.{texts}
-use Rattle.fidl_names.specs.Constraints.{IsDeclarationAt}
+use Rattle.fidl_named.specs.declared.place.DeclarationId.{DeclarationId}
+use Rattle.fidl_named.specs.declared.meaning.Wanted.TheVariants as wanted
+use Rattle.fidl_named.specs.declared.meaning.Meaning.{Meaning}
+use Rattle.fidl_named.specs.declared.meaning.Meaning.TheVariants as meaning
+use Rattle.fidl_named.specs.Meanings.{Means}
+use Rattle.fidl_named.specs.Paths.{texts}
+use Rattle.fidl_named.specs.Constraints.{IsDeclarationAt}
 use Rattle.fidl_constraints.specs.Behind.{Head, Core, Target, ends, follows, MeansType, body_target, IsDeclared, MeaningRefersTo, RefersTo, given_in, given_also, Behind}
 
 module _ (files : List File) where

@@ -4,12 +4,12 @@ use Rattle.std.specs.Prelude.{pos}
 use Rattle.std.proofs.lemmas.Option.{same_Some}
 use Rattle.fidl_tree.specs.Syntax.{TypeUse, Value}
 use Rattle.fidl_tree.specs.declared.file.File.{File}
-use Rattle.fidl_names.specs.declared.meaning.Meaning.TheVariants as meaning
-use Rattle.fidl_const.specs.declared.const_type.NumberKind.TheVariants.{Uint32}
-use Rattle.fidl_const.specs.declared.const_type.ConstType.TheVariants as ty
-use Rattle.fidl_const.specs.PlainValues.{a_number}
-use Rattle.fidl_const.specs.Values.{ValueIs}
-use Rattle.fidl_const.proofs.OneValue.{one_value}
+use Rattle.fidl_named.specs.declared.meaning.Meaning.TheVariants as meaning
+use Rattle.fidl_consts.specs.declared.const_type.NumberKind.TheVariants.{Uint32}
+use Rattle.fidl_consts.specs.declared.const_type.ConstType.TheVariants as ty
+use Rattle.fidl_consts.specs.PlainValues.{a_number}
+use Rattle.fidl_consts.specs.Values.{ValueIs}
+use Rattle.fidl_consts.proofs.OneValue.{one_value}
 use Rattle.fidl_constraints.specs.Behind.{Head, word_head, layout_head, handle_head, Core}
 use Rattle.fidl_constraints.proofs.OneBehind.{one_behind}
 use Rattle.fidl_constraints.specs.declared.parts.PartKind.{PartKind}

@@ -7,18 +7,18 @@ use Rattle.fidl_tree.specs.Syntax.{Path, Value}
 use Rattle.fidl_tree.specs.declared.declaration.Property.{Property}
 use Rattle.fidl_tree.specs.declared.type_constructor.TypeConstructor.{TypeConstructor, out-TypeConstructor}
 use Rattle.fidl_tree.specs.declared.type_constructor.LayoutBody.TheOpen.{TypeConstructor-F}
-use Rattle.fidl_names.specs.declared.place.DeclarationId.{DeclarationId}
-use Rattle.fidl_names.specs.declared.meaning.Meaning.{Meaning}
-use Rattle.fidl_names.specs.declared.meaning.Meaning.TheVariants as meaning
-use Rattle.fidl_names.specs.Aliases.{type_path}
-use Rattle.fidl_names.specs.Constraints.{IsDeclaredMember, IsPropertyMember, IsOfProperty, ItemMeans, number_in, texts_of, written_members}
-use Rattle.fidl_names.proofs.PropertyMembers.{is_this, property_id, property_file, property_number, property_same}
-use Rattle.fidl_const.specs.declared.const_type.ConstType.{ConstType}
-use Rattle.fidl_const.specs.PlainValues.{PlainValue}
-use Rattle.fidl_const.specs.Values.{Gives, offered}
-use Rattle.fidl_const.specs.Constraints.{ItemNameGives, ItemIs, HandleValueIs}
-use Rattle.fidl_const.proofs.OneValue.{one_value, one_offered}
-use Rattle.fidl_const.proofs.NoItem.{one_wants}
+use Rattle.fidl_named.specs.declared.place.DeclarationId.{DeclarationId}
+use Rattle.fidl_named.specs.declared.meaning.Meaning.{Meaning}
+use Rattle.fidl_named.specs.declared.meaning.Meaning.TheVariants as meaning
+use Rattle.fidl_named.specs.Aliases.{type_path}
+use Rattle.fidl_named.specs.Constraints.{IsDeclaredMember, IsPropertyMember, IsOfProperty, ItemMeans, number_in, texts_of, written_members}
+use Rattle.fidl_named.proofs.PropertyMembers.{is_this, property_id, property_file, property_number, property_same}
+use Rattle.fidl_consts.specs.declared.const_type.ConstType.{ConstType}
+use Rattle.fidl_consts.specs.PlainValues.{PlainValue}
+use Rattle.fidl_consts.specs.Values.{Gives, offered}
+use Rattle.fidl_consts.specs.Constraints.{ItemNameGives, ItemIs, HandleValueIs}
+use Rattle.fidl_consts.proofs.OneValue.{one_value, one_offered}
+use Rattle.fidl_consts.proofs.NoItem.{one_wants}
 
 -- a type that is given by a name has no members written in it
 no_members_written : (t : TypeConstructor) (q : tree.Path) → type_path t ≡ Some q → written_members t ≡ []

@@ -2,7 +2,7 @@
 use Rattle.std.proofs.Common.{◌≡◌, ◌<◌, ◌+◌, ℕ, zero, suc, Bool, true, false, cond, List, [], ◌∷◌, ◌++◌, Some, take, length, get_or, refl, ap, sym, subst, ◌∙◌, true≢false, arith}
 use Rattle.std.specs.Prelude.{slice_get}
 use Rattle.std.specs.List.{AllZip}
-use Rattle.fidl_names.proofs.Seeing.{take_item}
+use Rattle.fidl_cycles.proofs.Lists.{take_item}
 use Rattle.std.proofs.Math.ListN.{get_or-map, length-map}
 use Rattle.std.proofs.lemmas.Option.{same_Some, none-some, slice_get-get_or}
 use Rattle.fidl_tree.specs.declared.file.File.{File}
@@ -44,11 +44,11 @@ module _ {A B : Type 0} (R : A → B → Type 0) where
 -- Once.
 
 -- the rest of a test that is false, and its first part
-rest_off : (b rest : Bool) → cond b true rest ≡ false → rest ≡ false
+pub rest_off : (b rest : Bool) → cond b true rest ≡ false → rest ≡ false
 rest_off true rest h = absurd (true≢false h)
 rest_off false rest h = h
 
-first_off : (b rest : Bool) → cond b true rest ≡ false → b ≡ false
+pub first_off : (b rest : Bool) → cond b true rest ≡ false → b ≡ false
 first_off true rest h = absurd (true≢false h)
 first_off false rest h = refl
 

@@ -6,16 +6,16 @@ use Rattle.fidl_tree.specs.declared.path.Path.{Path}
 use Rattle.fidl_tree.specs.Syntax as plain
 use Rattle.fidl_tree.specs.Syntax.{Value}
 use Rattle.fidl_tree.specs.Views.{path_view}
-use Rattle.fidl_names.specs.declared.meaning.Wanted.TheVariants as wanted
-use Rattle.fidl_names.specs.declared.meaning.Meaning.{Meaning}
-use Rattle.fidl_names.specs.declared.fault.NameFault.{NameFault}
-use Rattle.fidl_names.specs.declared.fault.NameFault.TheVariants.{Memory}
-use Rattle.fidl_names.specs.Meanings.{components, Means, IsTrueOfName}
-use Rattle.fidl_names.specs.OuterTypes.{texts}
-use Rattle.fidl_names.specs.Constraints.{path_alone}
-use Rattle.fidl_names.specs.Scopes.{OfFile}
-use Rattle.fidl_names.proofs.PathViews.{means_seen, refusal_seen}
-use Rattle.fidl_const.proofs.Unmeant.{no_meaning}
+use Rattle.fidl_named.specs.declared.meaning.Wanted.TheVariants as wanted
+use Rattle.fidl_named.specs.declared.meaning.Meaning.{Meaning}
+use Rattle.fidl_named.specs.declared.fault.NameFault.{NameFault}
+use Rattle.fidl_named.specs.declared.fault.NameFault.TheVariants.{Memory}
+use Rattle.fidl_named.specs.Meanings.{components, Means, IsTrueOfName}
+use Rattle.fidl_named.specs.Paths.{texts}
+use Rattle.fidl_named.specs.Constraints.{path_alone}
+use Rattle.fidl_named.specs.Scopes.{OfFile}
+use Rattle.fidl_named.proofs.PathViews.{means_seen, refusal_seen}
+use Rattle.fidl_consts.proofs.Unmeant.{no_meaning}
 use Rattle.fidl_constraints.specs.Gives.{InFile, NamesProtocol}
 use Rattle.fidl_constraints.proofs.Amounts.{in_file}
 

@@ -1,10 +1,10 @@
 -- From alias to alias: what a type refers to next is behind what it began with.
-use Rattle.std.proofs.Common.{◌≡◌, ℕ, List, [], ◌++◌, ap, sym, subst, append_assoc}
+use Rattle.std.proofs.Common.{◌≡◌, ◌≤◌, ℕ, List, [], ◌++◌, length, length-append, ap, sym, subst, append_assoc, arith}
 use Rattle.std.proofs.lemmas.List.{append-nil}
 use Rattle.fidl_tree.specs.Syntax.{TypeUse}
 use Rattle.fidl_tree.specs.declared.file.File.{File}
 use Rattle.fidl_constraints.specs.Behind.{Head, Given, Core, Target, ends, follows, list_of, constraints_in, RefersTo, LeadsTo, given_in, given_also, Behind}
-use Rattle.fidl_constraints.proofs.OneBehind.{one_target}
+use Rattle.fidl_constraints.proofs.OneBehind.{one_target, one_behind}
 
 -- a type that was reached from the first, with what was given on the way
 pub record IsReached (files : List File) (start : ℕ) (first : TypeUse) (gs : List Given) (at : ℕ) (t : TypeUse) : Type 0 where
@@ -70,3 +70,10 @@ module _ (files : List File) (start : ℕ) (first : TypeUse) (gs : List Given) (
         subst (λ (g : List Given). Behind files start first (record { file = c.file; head = c.head; given = g })) (sym (append_assoc gs (given_in at t) c.given)) there;
     back = λ c rest. let d = h.back c rest in leads_after files at t of next k d.0 d.1;
   }
+
+  -- the first is given at least what was given on the way
+  pub reached_many : (c : Core) → Behind files start first c → length gs ≤ length c.given
+  reached_many c k =
+      let d = h.back c k in
+      let is : c ≡ given_also gs d.0 = one_behind files start first c (given_also gs d.0) k (h.from d.0 d.1) in
+      omega (arith, ap (λ (x : Core). length x.given) is, length-append gs d.0.given)

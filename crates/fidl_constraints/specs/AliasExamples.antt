@@ -1,7 +1,7 @@
 -- Small types, for the worked facts.
 use Rattle.std.specs.Prelude.{ℕ, List}
 use Rattle.fidl_tree.specs.Syntax.{Path, Value, TypeUse, named_type, no_arguments}
-use Rattle.fidl_names.specs.declared.meaning.Predeclared.{Predeclared}
+use Rattle.fidl_named.specs.declared.meaning.Predeclared.{Predeclared}
 use Rattle.fidl_constraints.specs.Behind.{Head, word_head, Given, Core}
 
 -- a name with these constraints

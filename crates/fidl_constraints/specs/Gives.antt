@@ -5,18 +5,18 @@ use Rattle.std.specs.Prelude.{if◌then◌else◌, Option, Some, None, slice_get
 use Rattle.std.specs.List.{AllZip}
 use Rattle.fidl_tree.specs.Syntax.{Path, Value, TypeUse, union_layout}
 use Rattle.fidl_tree.specs.declared.file.File.{File}
-use Rattle.fidl_names.specs.declared.meaning.Wanted.TheVariants as wanted
-use Rattle.fidl_names.specs.declared.meaning.Predeclared.TheVariants as name
-use Rattle.fidl_names.specs.declared.meaning.Meaning.{Meaning}
-use Rattle.fidl_names.specs.declared.meaning.Meaning.TheVariants as meaning
-use Rattle.fidl_names.specs.Meanings.{Means}
-use Rattle.fidl_names.specs.OuterTypes.{texts}
-use Rattle.fidl_names.specs.Constraints.{path_alone}
-use Rattle.fidl_const.specs.declared.const_type.NumberKind.TheVariants.{Uint32}
-use Rattle.fidl_const.specs.declared.const_type.ConstType.TheVariants as ty
-use Rattle.fidl_const.specs.PlainValues.{a_number}
-use Rattle.fidl_const.specs.Values.{ValueIs}
-use Rattle.fidl_const.specs.Constraints.{HandleValueIs}
+use Rattle.fidl_named.specs.declared.meaning.Wanted.TheVariants as wanted
+use Rattle.fidl_named.specs.declared.meaning.Predeclared.TheVariants as name
+use Rattle.fidl_named.specs.declared.meaning.Meaning.{Meaning}
+use Rattle.fidl_named.specs.declared.meaning.Meaning.TheVariants as meaning
+use Rattle.fidl_named.specs.Meanings.{Means}
+use Rattle.fidl_named.specs.Paths.{texts}
+use Rattle.fidl_named.specs.Constraints.{path_alone}
+use Rattle.fidl_consts.specs.declared.const_type.NumberKind.TheVariants.{Uint32}
+use Rattle.fidl_consts.specs.declared.const_type.ConstType.TheVariants as ty
+use Rattle.fidl_consts.specs.PlainValues.{a_number}
+use Rattle.fidl_consts.specs.Values.{ValueIs}
+use Rattle.fidl_consts.specs.Constraints.{HandleValueIs}
 use Rattle.fidl_constraints.specs.declared.parts.PartKind.{PartKind}
 use Rattle.fidl_constraints.specs.declared.parts.PartKind.TheVariants.{Optional, Bound, Protocol}
 use Rattle.fidl_constraints.specs.declared.parts.PartKind.TheVariants.{Subtype, Rights}

@@ -3,10 +3,10 @@ use Rattle.std.specs.Prelude.{ℕ, ◌≡◌, ◌<◌, pos, List, map, length}
 use Rattle.std.specs.List.{AllByRecursion}
 use Rattle.fidl_tree.specs.declared.file.File.{File}
 use Rattle.fidl_tree.specs.Views.{value_view}
-use Rattle.fidl_const.specs.declared.const_type.NumberKind.TheVariants.{Uint32}
-use Rattle.fidl_const.specs.declared.const_type.ConstType.TheVariants as ty
-use Rattle.fidl_const.specs.PlainValues.{a_number}
-use Rattle.fidl_const.specs.Values.{ValueIs}
+use Rattle.fidl_consts.specs.declared.const_type.NumberKind.TheVariants.{Uint32}
+use Rattle.fidl_consts.specs.declared.const_type.ConstType.TheVariants as ty
+use Rattle.fidl_consts.specs.PlainValues.{a_number}
+use Rattle.fidl_consts.specs.Values.{ValueIs}
 use Rattle.fidl_constraints.specs.declared.items.Item.{Item as CodeItem}
 use Rattle.fidl_constraints.specs.Behind.{Given, Head}
 use Rattle.fidl_constraints.specs.Items.{Item}

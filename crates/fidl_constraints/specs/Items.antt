@@ -4,7 +4,7 @@ use Rattle.std.specs.Prelude.{ℕ, suc, Bool, true, false, List, [], ◌∷◌, 
 use Rattle.std.specs.Prelude.{slice_get, flat_map}
 use Rattle.fidl_tree.specs.Syntax.{Value}
 use Rattle.fidl_tree.specs.declared.file.File.{File}
-use Rattle.fidl_names.specs.Constraints.{is_optional}
+use Rattle.fidl_named.specs.Constraints.{is_optional}
 use Rattle.fidl_constraints.specs.Behind.{Given}
 
 -- a constraint: the number of its file, its value, whether it is the word `optional`, how many that

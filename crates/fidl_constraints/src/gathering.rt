@@ -1,7 +1,7 @@
 //! What all constraints of a type give.
 ghost use Rattle.std.specs.Prelude.{◌<◌, List, length, IfOk, IfSome};
 ghost use Rattle.std.specs.Prelude.{IsNone};
-ghost use Rattle.fidl_const.specs.Tables.{AreConsts};
+ghost use Rattle.fidl_consts.specs.Tables.{AreConsts};
 ghost use Rattle.fidl_constraints.specs.declared.parts.Part.{Part as GivenPart};
 ghost use Rattle.fidl_constraints.specs.Behind.{Core as Plain};
 ghost use Rattle.fidl_constraints.specs.Parts.{GivenOnce};
@@ -9,12 +9,13 @@ ghost use Rattle.fidl_constraints.specs.Gives.{EachGives, IsGathered};
 ghost use Rattle.fidl_constraints.specs.BehindViews.{core_view, head_view, use_view};
 ghost use Rattle.fidl_constraints.specs.ItemViews.{items_view, ItemsInSet};
 
+use crate::aliases::behind_few;
 use crate::giving::{Scope, part_of};
 use crate::items::{Item, all_items};
 use crate::parts::{Parts, has_kind};
-use crate::{Core, Head, TypeUse, behind};
-use fidl_const::Consts;
-use fidl_names::Named;
+use crate::{Core, Head, TypeUse};
+use fidl_consts::Consts;
+use fidl_named::Named;
 use std::alloc::{AllocError, Global};
 
 /// What constraints give to a type, if each gives a part and none what another gives.
@@ -72,7 +73,7 @@ pub fn gather<'f>(
     ensures none { IfOk result (λ found. IsNone found → (core : Plain) (parts : List GivenPart)
         → IsGathered named.now file_index (use_view of.entry) core parts → ⊥) }
 {
-    let Some(core) = behind(alloc, named, file_index, of)? else {
+    let Some(core) = behind_few(alloc, named, file_index, of)? else {
         return Ok(None);
     };
     let items = all_items(alloc, named, &core.given)?;

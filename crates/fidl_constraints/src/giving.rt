@@ -1,10 +1,10 @@
 //! What a constraint gives to a type.
 ghost use Rattle.std.specs.Prelude.{◌≡◌, ◌<◌, ◌^◌, ◌↔◌, ℕ, pos, IsTrue, length, Some, IfOk, IfSome};
 ghost use Rattle.std.specs.Prelude.{IsNone};
-ghost use Rattle.fidl_names.specs.declared.fault.NameFault.TheVariants as NameFaults;
-ghost use Rattle.fidl_const.specs.declared.fault.ConstFault.TheVariants as ConstFaults;
-ghost use Rattle.fidl_const.specs.PlainValues.{seen, a_number};
-ghost use Rattle.fidl_const.specs.Tables.{AreConsts};
+ghost use Rattle.fidl_named.specs.declared.fault.NameFault.TheVariants as NameFaults;
+ghost use Rattle.fidl_consts.specs.declared.fault.ConstFault.TheVariants as ConstFaults;
+ghost use Rattle.fidl_consts.specs.PlainValues.{seen, a_number};
+ghost use Rattle.fidl_consts.specs.Tables.{AreConsts};
 ghost use Rattle.fidl_constraints.specs.declared.parts.Part.{Part as Given};
 ghost use Rattle.fidl_constraints.specs.Gives.{may_be_absent, property_kind, ordinary_kind, item_kind};
 ghost use Rattle.fidl_constraints.specs.Gives.{IsAmount, Gives};
@@ -16,8 +16,8 @@ ghost use Rattle.fidl_constraints.specs.ItemViews.{IsHandleOf};
 use crate::Head;
 use crate::items::Item;
 use crate::parts::{Part, PartKind};
-use fidl_const::{ConstFault, ConstType, ConstValue, Constraint, Consts, NumberKind};
-use fidl_names::{DeclarationId, Meaning, NameFault, Named, Predeclared, Wanted, path_alone};
+use fidl_consts::{ConstFault, ConstType, ConstValue, Constraint, Consts, NumberKind};
+use fidl_named::{DeclarationId, Meaning, NameFault, Named, Predeclared, Wanted, path_alone};
 use fidl_tree::{LayoutBody, Value};
 use std::alloc::{AllocError, Global};
 

@@ -1,6 +1,6 @@
 //! Types behind their aliases.
 
-use fidl_names::{DeclarationId, Predeclared};
+use fidl_named::{DeclarationId, Predeclared};
 use fidl_tree::{Constraints, LayoutBody, TypeArguments};
 
 /// What a type is that is no alias.

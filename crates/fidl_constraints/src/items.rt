@@ -8,7 +8,7 @@ ghost use Rattle.fidl_constraints.specs.BehindViews.{given_view, lists_view};
 ghost use Rattle.fidl_constraints.specs.ItemViews.{items_view, AreInSet};
 
 use crate::Given;
-use fidl_names::{Named, is_optional, items};
+use fidl_named::{Named, is_optional, items};
 use fidl_tree::Value;
 use std::alloc::{AllocError, Global};
 

@@ -18,6 +18,9 @@ pub enum PartKind {
     Rights,
 }
 
+/// How many kinds of parts there are.
+pub(crate) const KINDS: usize = 5;
+
 /// A part that a constraint gives: its kind, and its number, which is 0 where the kind has none.
 #[derive(Clone, Copy, Drop)]
 pub struct Part {

@@ -3,14 +3,14 @@ ghost use Rattle.std.specs.Prelude.{◌≡◌, IfOk, IfSome, IsNone, option_map,
 ghost use Rattle.fidl_tree.specs.Views.{declared_view, named_view, layout_view, body_view};
 ghost use Rattle.fidl_tree.specs.declared.file.File.{File as Tree};
 ghost use Rattle.fidl_tree.specs.declared.declaration.Declaration.{Declaration as Node};
-ghost use Rattle.fidl_names.specs.Constraints.{IsDeclarationAt};
+ghost use Rattle.fidl_named.specs.Constraints.{IsDeclarationAt};
 ghost use Rattle.fidl_constraints.specs.Behind.{Target as Plain, body_target, IsDeclared, RefersTo};
 ghost use Rattle.fidl_constraints.specs.Behind.{MeaningRefersTo, LeadsTo};
 ghost use Rattle.fidl_constraints.specs.BehindViews.{arguments_view, target_view, use_view};
 
 use crate::heads::Head;
 use crate::type_use::{TypeUse, use_of};
-use fidl_names::{DeclarationId, Meaning, Named};
+use fidl_named::{DeclarationId, Meaning, Named};
 use fidl_tree::{Declaration, DeclarationBody, File, Layout, LayoutBody, NamedType, TypeArguments};
 use std::alloc::AllocError;
 

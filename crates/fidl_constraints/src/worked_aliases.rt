@@ -4,9 +4,9 @@ ghost use Rattle.fidl_tree.specs.Syntax.{Path, Value, Attribute, Layout, TypeUse
 ghost use Rattle.fidl_tree.specs.Syntax.{Members, Openness, ProtocolMember, alias_body};
 ghost use Rattle.fidl_tree.specs.Syntax.{protocol_body, resource_body, type_body};
 ghost use Rattle.fidl_tree.specs.declared.file.File.{File};
-ghost use Rattle.fidl_names.specs.declared.place.DeclarationId.{DeclarationId};
-ghost use Rattle.fidl_names.specs.declared.meaning.Predeclared.TheVariants as Words;
-ghost use Rattle.fidl_names.specs.declared.meaning.Meaning.TheVariants as Meanings;
+ghost use Rattle.fidl_named.specs.declared.place.DeclarationId.{DeclarationId};
+ghost use Rattle.fidl_named.specs.declared.meaning.Predeclared.TheVariants as Words;
+ghost use Rattle.fidl_named.specs.declared.meaning.Meaning.TheVariants as Meanings;
 ghost use Rattle.fidl_constraints.specs.Behind.{layout_head, handle_head, ends, follows, MeansType};
 ghost use Rattle.fidl_constraints.specs.Behind.{body_target, IsDeclared, RefersTo, Behind};
 ghost use Rattle.fidl_constraints.specs.AliasExamples.{named_with, plain_word, list_in, core_of};

@@ -10,7 +10,7 @@ use Rattle.fidl_tree.specs.declared.file.File.{File}
 use Rattle.fidl_tree.specs.declared.declaration.Declaration.{Declaration}
 use Rattle.fidl_tree.specs.declared.declaration.DeclarationBody.{DeclarationBody}
 use Rattle.fidl_tree.specs.declared.declaration.DeclarationBody.TheVariants.{Const, Alias, «Type» as Layout, Protocol, Service, Resource}
-use Rattle.fidl_names.specs.Names.{part_text, library_of, name_span, full_name}
+use Rattle.fidl_named.specs.Names.{part_text, library_of, name_span, full_name}
 use Rattle.fidl_declarations.specs.declared.step.Step.TheVariants as step
 use Rattle.fidl_declarations.specs.Forms.{dotted_step, name_by_path}
 

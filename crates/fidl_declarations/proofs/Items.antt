@@ -3,7 +3,7 @@ use Rattle.std.proofs.Common.{◌≡◌, ℕ, ◌+◌, ◌<◌, List, length, ge
 use Rattle.std.specs.List.{Contains, AllByRecursion}
 use Rattle.std.proofs.lemmas.List.Elements.{Contains-get_or}
 use Rattle.std.proofs.Math.ListN.{get_or-map, length-map}
-use Rattle.fidl_names.proofs.Seeing.{all_take}
+use Rattle.fidl_cycles.proofs.Lists.{all_take}
 
 module _ {X Y : Type 0} (g : X → Y) (xs : List X) (i : ℕ) (x : X) (lt : i < length xs) (is : x ≡ get_or xs i x) where
   seen_within : i < length (map g xs)

@@ -14,7 +14,7 @@ ghost use Rattle.fidl_declarations.specs.SiteViews.{sites_view};
 
 use crate::site::{Role, Site};
 use crate::step::Step;
-use crate::walk::{push_layout, push_members, push_type, within};
+use crate::walk::{push_layout, push_members, push_type, push_type_within, within};
 use fidl_span::Span;
 use fidl_tree::{
     Declaration, DeclarationBody, ErrorType, Event, File, Import, Method, Payload, Property,
@@ -44,7 +44,7 @@ fn push_payload<'f>(
 {
     match &payload.constructor {
         None => Ok(()),
-        Some(constructor) => push_type(sites, &within(path, step)?, Role::Any, constructor),
+        Some(constructor) => push_type_within(sites, path, step, Role::Any, constructor),
     }
 }
 
@@ -61,8 +61,7 @@ fn push_error<'f>(
     match error {
         None => Ok(()),
         Some(error) => {
-            let inner = within(path, Step::Error)?;
-            push_type(sites, &inner, Role::Present, &error.constructor)
+            push_type_within(sites, path, Step::Error, Role::Present, &error.constructor)
         }
     }
 }
@@ -187,8 +186,13 @@ fn push_property<'f>(
         ++ member_sites path.now.items bare_type (property_view property.now)) }
 {
     sites.push(Site::Attributes { attributes: &[] })?;
-    let inner = within(path, Step::Name(property.name))?;
-    push_type(sites, &inner, Role::Bare, &property.constructor)
+    push_type_within(
+        sites,
+        path,
+        Step::Name(property.name),
+        Role::Bare,
+        &property.constructor,
+    )
 }
 
 fn push_properties<'f>(
@@ -298,7 +302,8 @@ fn push_imports<'f>(sites: &mut Vec<Site<'f>>, imports: &'f [Import]) -> Result<
 pub fn file_sites<'f>(alloc: Global, file: &'f File<'_>) -> Result<Vec<Site<'f>>, AllocError>
     ensures ok { IfOk result (λ sites. sites_view sites.items ≡ file_sites (file_view file.now)) }
 {
-    let mut sites = Vec::new(alloc);
+    // About as many as a declaration has on average, so that the list seldom moves.
+    let mut sites = Vec::with_capacity(alloc, file.declarations.len().saturating_mul(8))?;
     sites.push(Site::Attributes {
         attributes: &file.library.attributes,
     })?;

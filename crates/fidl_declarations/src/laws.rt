@@ -3,7 +3,7 @@ ghost use Rattle.std.specs.Prelude.{◌≡◌, ◌∷◌, []};
 ghost use Rattle.fidl_tree.specs.Views.{declared_name, file_view};
 ghost use Rattle.fidl_tree.specs.declared.file.File.{File};
 ghost use Rattle.fidl_tree.specs.declared.declaration.Declaration.{Declaration};
-ghost use Rattle.fidl_names.specs.Names.{full_name};
+ghost use Rattle.fidl_named.specs.Names.{full_name};
 ghost use Rattle.fidl_declarations.specs.declared.step.Step.TheVariants as Steps;
 ghost use Rattle.fidl_declarations.specs.Forms.{name_by_path};
 

@@ -11,7 +11,7 @@ use crate::form::{Form, FormKind};
 use crate::site::Site;
 use crate::step::Step;
 use crate::walk::copy;
-use fidl_names::Named;
+use fidl_named::Named;
 use fidl_tree::{File, LayoutBody};
 use std::alloc::{AllocError, Global};
 

@@ -30,9 +30,34 @@ pub(crate) fn copy(path: &Vec<Step>) -> Result<Vec<Step>, AllocError>
 pub(crate) fn within(path: &Vec<Step>, step: Step) -> Result<Vec<Step>, AllocError>
     ensures { IfOk result (λ inner. inner.items ≡ within path.now.items step) }
 {
-    let mut inner = copy(path)?;
+    let mut inner = Vec::with_capacity(*path.allocator(), path.len().saturating_add(1))?;
+    inner.extend_from_slice(path)?;
     inner.push(step)?;
     Ok(inner)
+}
+
+/// What stands in a type, one step further. Only a layout has a path, so a name without arguments
+/// needs none.
+#[cycle(sites)]
+pub(crate) fn push_type_within<'f>(
+    sites: &mut Vec<Site<'f>>,
+    path: &Vec<Step>,
+    step: Step,
+    role: Role<'f>,
+    constructor: &'f TypeConstructor,
+) -> Result<(), AllocError>
+    ensures { OnOk result (sites_view sites.new.items ≡ sites_view sites.old.items
+        ++ type_sites (within path.now.items step) (role_view role.entry)
+        (type_view constructor.now)) }
+{
+    if let TypeConstructor::Named(named) = constructor {
+        if named.arguments.is_none() {
+            sites.push(Site::Named { role, named })?;
+            return Ok(());
+        }
+    }
+    let inner = within(path, step)?;
+    push_type(sites, &inner, role, constructor)
 }
 
 /// What stands in a type, after what stands before it.
@@ -213,8 +238,13 @@ fn push_member<'f>(
     sites.push(Site::Attributes {
         attributes: &member.attributes,
     })?;
-    let inner = within(path, Step::Name(member.name))?;
-    push_type(sites, &inner, role, &member.constructor)
+    push_type_within(
+        sites,
+        path,
+        Step::Name(member.name),
+        role,
+        &member.constructor,
+    )
 }
 
 /// What stands in the members of a table or a union.
@@ -249,8 +279,7 @@ fn push_ordinal<'f>(
     match &member.body {
         OrdinalBody::Reserved(_) => Ok(()),
         OrdinalBody::Typed { name, constructor } => {
-            let inner = within(path, Step::Name(*name))?;
-            push_type(sites, &inner, Role::Present, constructor)
+            push_type_within(sites, path, Step::Name(*name), Role::Present, constructor)
         }
     }
 }

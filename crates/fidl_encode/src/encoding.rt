@@ -15,6 +15,9 @@ use fidl_verify::Table;
 use fidl_wire::{MAX_DEPTH, Value};
 use std::alloc::Global;
 
+/// The bytes for which a message has room at first, so that a short one allocates once.
+const FIRST_ROOM: usize = 1024;
+
 /// Encodes a value as the message of an entry's type (public source: the FIDL wire format, version
 /// 2).
 ///
@@ -37,7 +40,7 @@ pub fn encode(
         (IsTold (declarations_of table.now) (ty.named entry) (value_view value.now)) }
 {
     let mut message = Message {
-        bytes: Vec::new(alloc),
+        bytes: Vec::with_capacity(alloc, FIRST_ROOM)?,
         handles: Vec::new(alloc),
     };
     let at = message.reserve(table.entry(entry).size as usize)?;

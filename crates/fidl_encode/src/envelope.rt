@@ -87,6 +87,7 @@ fn write_outside(
 
 /// Writes the envelope of a member of a table or union, whose row there is where the layout has it.
 #[cycle(write)]
+#[inline(always)]
 fn write_member(
     table: &Table<'_>,
     row: Option<Row>,

@@ -1,4 +1,4 @@
--- What stands behind the last of some byte, and before the first.
+-- The bytes that follow the last occurrence of a byte, and those before the first.
 use Rattle.std.proofs.Common.{◌≡◌, ℕ, ◌-◌, ◌≤◌, ◌<◌, ◌==◌, not, true, false, length, get_or, take, drop, List, sym, ap, ◌∙◌, arith}
 use Rattle.std.specs.List.{after_last, before_first}
 use Rattle.std.proofs.lemmas.List.{take_all, length-drop}

@@ -8,8 +8,8 @@ use Rattle.fidl_hints.specs.declared.names.Close.{Close}
 abbrev pub is_slash : ℕ → Bool
 is_slash b = b == 47
 
--- what of a name a word is compared with: a word without `/` with what stands behind the name's last
--- one, so that `Entry` is near to `demo.store/Entry`
+-- the part of a name that a word is compared with: what follows the last `/` where the word has
+-- none, so that `Entry` is near to `demo.store/Entry`
 abbrev pub compared : (word name : List ℕ) → List ℕ
 compared word name = if list_any is_slash word then name else after_last is_slash name
 

@@ -8,6 +8,7 @@ mod messages;
 mod names;
 mod protocols;
 mod tables;
+mod texts;
 mod types;
 mod words;
 
@@ -26,6 +27,7 @@ pub fn guide(alloc: Global) -> Result<Vec<Explanation<'static>>, AllocError> {
         protocols::all(),
         tables::all(),
         messages::all(),
+        texts::all(),
     ] {
         guide.extend_from_slice(faults)?;
     }

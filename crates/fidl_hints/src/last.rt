@@ -1,8 +1,8 @@
-//! What stands behind the last of some byte.
+//! The bytes that follow the last occurrence of a byte.
 ghost use Rattle.std.specs.Prelude.{◌≡◌, ◌==◌};
 ghost use Rattle.std.specs.List.{after_last, before_first};
 
-/// The bytes behind the last of this byte; all where there is none.
+/// The bytes that follow the last occurrence of this byte; all bytes where it does not occur.
 pub(crate) fn behind_last(byte: u8, bytes: &[u8]) -> &[u8]
     ensures { result.now ≡ after_last (λ b. b == byte) bytes.now }
 {

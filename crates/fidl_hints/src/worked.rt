@@ -11,7 +11,7 @@ pub fn the_caret_is_under_the_place()
         ≡ codes "     using x;\n           ^ note\n") }
 {}
 
-/// At the end of a source the caret stands behind the last line.
+/// At the end of a source the caret follows the last line.
 pub fn the_caret_is_behind_the_last_line()
     ensures { snippet_text (codes "a\nbc") 9 (codes "n") ≡ codes "    bc\n      ^ n\n" }
 {}

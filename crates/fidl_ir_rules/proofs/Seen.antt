@@ -3,7 +3,7 @@ use Rattle.std.proofs.Common.{◌≡◌, ℕ, ◌+◌, ◌<◌, Bool, true, fals
 use Rattle.std.specs.Prelude.{slice_get}
 use Rattle.std.proofs.lemmas.Option.{slice_get-get_or}
 use Rattle.std.proofs.Math.ListN.{get_or-map, length-map}
-use Rattle.fidl_names.proofs.Seeing.{all_take}
+use Rattle.fidl_cycles.proofs.Lists.{all_take}
 use Rattle.std.proofs.lemmas.List.{get_or_default}
 use Rattle.fidl_wire.specs.Term.{Term, nothing}
 use Rattle.fidl_ir.specs.declared.term.Definition.{Definition}

@@ -3,7 +3,7 @@ use Rattle.std.specs.Prelude.{ℕ, ◌≤◌, List, [], Option, Some, None, get_
 use Rattle.std.specs.List.{Contains, filter_map}
 use Rattle.fidl_wire.specs.Term.{Term, nothing}
 use Rattle.fidl_wire.specs.Term as ty
-use Rattle.fidl_names.specs.Cycles.{Leads}
+use Rattle.fidl_cycles.specs.Cycles.{Leads}
 use Rattle.fidl_ir.specs.Members.{field_types}
 
 -- the definition that a type is, or an array of it

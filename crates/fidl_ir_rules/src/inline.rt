@@ -2,7 +2,7 @@
 ghost use Rattle.std.specs.Prelude.{◌≡◌, ℕ, map, length, nat_lt, filter, IfOk, IfErr, OnOk};
 ghost use Rattle.std.specs.Prelude.{List};
 ghost use Rattle.std.specs.List.{filter_map};
-ghost use Rattle.fidl_names.specs.Cycles.{points_of};
+ghost use Rattle.fidl_cycles.specs.Cycles.{points_of};
 ghost use Rattle.fidl_ir.specs.Terms.{term_view, fields_view, definition_view, definitions_view};
 ghost use Rattle.fidl_ir.specs.Members.{field_types};
 ghost use Rattle.fidl_ir_rules.specs.Inline.{inline_name, inline_names, StandsInItself};
@@ -10,8 +10,8 @@ ghost use Rattle.fidl_ir_rules.specs.Faults.{IsTrueOf};
 ghost use Rattle.fidl_ir_rules.specs.declared.mark.Mark.{Mark};
 
 use crate::fault::DefinitionFault;
+use fidl_cycles::find_cycle;
 use fidl_ir::{Definition, Field, Type};
-use fidl_names::find_cycle;
 use std::alloc::{AllocError, Global};
 
 /// The definition that a type is, or an array of it.

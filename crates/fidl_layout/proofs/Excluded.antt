@@ -7,7 +7,7 @@ use Rattle.fidl_limits.specs.declared.limits.TheConstants.{MAX_LAYOUT_MEMBERS}
 use Rattle.fidl_tree.specs.Syntax.{TypeUse}
 use Rattle.fidl_tree.specs.Views.{file_view}
 use Rattle.fidl_tree.specs.declared.file.File.{File}
-use Rattle.fidl_names.specs.declared.place.Place.{Place}
+use Rattle.fidl_named.specs.declared.place.Place.{Place}
 use Rattle.fidl_declarations.specs.Forms.{Form}
 use Rattle.fidl_wire.specs.Term.{Term}
 use Rattle.fidl_declarations.specs.Sites.{file_sites}

@@ -3,3 +3,4 @@ pub mod Excluded
 pub mod Starts
 pub mod Found
 pub mod Held
+pub mod FirstVectors

@@ -16,7 +16,7 @@ use Rattle.std.proofs.lemmas.List.{append-nil}
 use Rattle.std.proofs.lemmas.List.Elements.{filter_map-append, Contains-append_left, Contains-push, Contains-push_cases}
 use Rattle.indexmap.specs.IndexSet.{insert_key}
 use Rattle.indexmap.proofs.CallerLemmas.{Contains-list_any}
-use Rattle.fidl_names.proofs.Seeing.{take_item}
+use Rattle.fidl_cycles.proofs.Lists.{take_item}
 use Rattle.fidl_reachable_types.proofs.Members.{nothing_there, first_or_rest}
 
 module _ (ks : List ℕ) (n : ℕ) where

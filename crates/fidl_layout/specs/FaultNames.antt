@@ -1,6 +1,6 @@
 -- The number, the name and the place of a fault (docs/language.md, "Laying out").
 use Rattle.std.specs.Prelude.{ℕ, List, Option, Some, None, codes}
-use Rattle.fidl_names.specs.declared.place.Place.{Place}
+use Rattle.fidl_named.specs.declared.place.Place.{Place}
 use Rattle.fidl_layout.specs.declared.fault.LayoutFault.{LayoutFault}
 use Rattle.fidl_layout.specs.declared.fault.LayoutFault.TheVariants.{TooNested, TooLarge}
 use Rattle.fidl_layout.specs.declared.fault.LayoutFault.TheVariants.{TooManyTypes, TooManyMembers}

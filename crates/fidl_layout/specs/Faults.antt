@@ -3,8 +3,8 @@ use Rattle.std.specs.Prelude.{ℕ, ◌≡◌, ◌⊎◌, List}
 use Rattle.fidl_limits.specs.declared.limits.TheConstants.{MAX_ENTRIES}
 use Rattle.fidl_tree.specs.Syntax.{TypeUse}
 use Rattle.fidl_tree.specs.declared.file.File.{File}
-use Rattle.fidl_names.specs.declared.place.Place.{Place}
-use Rattle.fidl_const.specs.Refusals.{type_span}
+use Rattle.fidl_named.specs.declared.place.Place.{Place}
+use Rattle.fidl_consts.specs.Refusals.{type_span}
 use Rattle.fidl_wire.specs.Term.{Term}
 use Rattle.fidl_wire.specs.Figure.{Declarations, IsLaidOut}
 use Rattle.fidl_lower_types.specs.Terms.{TermIs}

@@ -5,9 +5,11 @@
 --   Laid        when checked files are laid out within the limits
 --   Faults      what each refusal says
 --   FaultNames  the numbers, names and places of refusals
+-- The last is of the code alone (Shallow).
 pub mod Roots
 pub mod Written
 pub mod Uses
 pub mod Laid
 pub mod Faults
 pub mod FaultNames
+pub mod Shallow

@@ -1,7 +1,7 @@
 //! Why checked files aren't laid out.
 ghost use Rattle.std.specs.Prelude.{◌≡◌};
 
-use fidl_names::Place;
+use fidl_named::Place;
 use std::alloc::{AllocError, AllocFailed};
 use thiserror::Error;
 

@@ -21,7 +21,7 @@ pub struct Laid<'f, 's> {
 impl<'f, 's> Model for Laid<'f, 's> {
     ghost use Rattle.std.specs.Prelude.{List};
     ghost use Rattle.fidl_tree.specs.declared.file.File.{File as Tree};
-    ghost use Rattle.fidl_names.specs.StoredFiles.{files_coded};
+    ghost use Rattle.fidl_named.specs.StoredFiles.{files_coded};
     ghost use Rattle.fidl_layout.specs.Laid.{AreHeld};
 
     ghost Value = { List Tree };

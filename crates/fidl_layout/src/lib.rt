@@ -9,6 +9,7 @@ mod laws;
 mod laying;
 mod places;
 mod roots;
+mod shallow;
 mod uses;
 pub mod worked;
 mod written;

@@ -12,7 +12,7 @@ ghost use Rattle.fidl_layout.specs.Roots.{type_starts, AreStarts, IsPlain, IsRoo
 
 use crate::fault::LayoutFault;
 use fidl_declarations::{Form, FormKind, Step};
-use fidl_names::Named;
+use fidl_named::Named;
 use fidl_span::Span;
 use fidl_tree::{DeclarationBody, File};
 use fidl_types::Types;

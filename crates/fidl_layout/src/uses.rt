@@ -1,5 +1,6 @@
 //! The types that are written in files: all that stands in them is within the limits.
-ghost use Rattle.std.specs.Prelude.{◌≡◌, ◌<◌, List, length, slice_get, Some, IfErr, OnOk};
+ghost use Rattle.std.specs.Prelude.{◌≡◌, ◌<◌, List, length, slice_get, Some, IfErr, IfOk};
+ghost use Rattle.std.specs.Prelude.{IsTrue, OnOk};
 ghost use Rattle.std.specs.List.{AllByRecursion, Contains};
 ghost use Rattle.std.specs.Option.{option_map};
 ghost use Rattle.fidl_tree.specs.declared.file.File.{File as Tree};
@@ -8,17 +9,18 @@ ghost use Rattle.fidl_declarations.specs.Sites.{Site as Plain};
 ghost use Rattle.fidl_declarations.specs.SiteViews.{role_view, site_view, sites_view};
 ghost use Rattle.fidl_lower_types.specs.TermViews.{AreKnown};
 ghost use Rattle.fidl_type_shape.specs.Found.{figures_of};
-ghost use Rattle.fidl_layout.specs.Uses.{wanted_type, written_type, IsWritten, UseFits, SiteFits};
-ghost use Rattle.fidl_layout.specs.Uses.{StandsIn, FileFits, UsesFit};
+ghost use Rattle.fidl_layout.specs.Uses.{wanted_type, written_type, IsWritten, StandsIn, UsesFit};
+ghost use Rattle.fidl_layout.specs.Shallow.{UseFitsAtFirst, SiteFitsAtFirst, FileFitsAtFirst};
 ghost use Rattle.fidl_layout.specs.Laid.{AreFigures};
 ghost use Rattle.fidl_layout.specs.Faults.{UseExceeds, IsTrueOfLayout};
 
 use crate::fault::LayoutFault;
 use crate::places::type_span;
+use crate::shallow::shallow_term;
 use fidl_constraints::TypeUse;
 use fidl_declarations::{Role, Site, file_sites};
 use fidl_lower_types::{Sources, term_of};
-use fidl_names::Place;
+use fidl_named::Place;
 use fidl_type_shape::{Excess, Figures};
 use fidl_types::Types;
 use std::alloc::Global;
@@ -67,7 +69,29 @@ fn exceeded(excess: Excess, place: Place) -> LayoutFault
     }
 }
 
-/// All that stands in a written type is within the limits.
+/// Whether all that stands in a type is within the limits, down to its first vector.
+fn fits_at_first(
+    sources: &Sources<'_, '_, '_>,
+    figures: &Figures,
+    file_index: usize,
+    of: TypeUse<'_>,
+) -> Result<bool, LayoutFault>
+    requires within { file_index < length sources.now.named.now }
+    requires known { AreKnown sources.now }
+    ensures ok { IfOk result (λ b. IsTrue b → UseFitsAtFirst sources.now.named.now
+        (figures_of figures.now) file_index (use_view of.entry)) }
+    ensures fault_is_true { IfErr result (IsTrueOfLayout sources.now.named.now) }
+{
+    match shallow_term(sources, file_index, of)? {
+        None => Ok(false),
+        Some(term) => match figures.check_type(&term) {
+            Ok(()) => Ok(true),
+            Err(_excess) => Ok(false),
+        },
+    }
+}
+
+/// All that stands in a written type is within the limits, down to its first vector at least.
 fn check_use(
     sources: &Sources<'_, '_, '_>,
     figures: &Figures,
@@ -78,10 +102,13 @@ fn check_use(
     requires known { AreKnown sources.now }
     requires figures { AreFigures sources.now.named.now figures.now }
     requires written { IsWritten sources.now.named.now file_index (use_view of) }
-    ensures ok { OnOk result (UseFits sources.now.named.now (figures_of figures.now) file_index
-        (use_view of.entry)) }
+    ensures ok { OnOk result (UseFitsAtFirst sources.now.named.now (figures_of figures.now)
+        file_index (use_view of.entry)) }
     ensures fault_is_true { IfErr result (IsTrueOfLayout sources.now.named.now) }
 {
+    if fits_at_first(sources, figures, file_index, of)? {
+        return Ok(());
+    }
     let Some(term) = term_of(sources, file_index, of)? else {
         return Ok(());
     };
@@ -108,8 +135,8 @@ fn check_site(
     requires known { AreKnown sources.now }
     requires figures { AreFigures sources.now.named.now figures.now }
     requires stands { StandsIn sources.now.named.now file_index (site_view site.now) }
-    ensures ok { OnOk result (SiteFits sources.now.named.now (figures_of figures.now) file_index
-        (site_view site.now)) }
+    ensures ok { OnOk result (SiteFitsAtFirst sources.now.named.now (figures_of figures.now)
+        file_index (site_view site.now)) }
     ensures fault_is_true { IfErr result (IsTrueOfLayout sources.now.named.now) }
 {
     match written_type(site) {
@@ -131,7 +158,7 @@ fn check_sites(
     requires stand { (site : Plain) → Contains (sites_view sites.now) site
         → StandsIn sources.now.named.now file_index site }
     ensures ok { OnOk result (AllByRecursion
-        (SiteFits sources.now.named.now (figures_of figures.now) file_index)
+        (SiteFitsAtFirst sources.now.named.now (figures_of figures.now) file_index)
         (sites_view sites.now)) }
     ensures fault_is_true { IfErr result (IsTrueOfLayout sources.now.named.now) }
 {
@@ -151,14 +178,15 @@ fn check_file(
     requires known { AreKnown sources.now }
     requires figures { AreFigures sources.now.named.now figures.now }
     ensures ok { OnOk result ((f : Tree) → slice_get sources.now.named.now file_index ≡ Some f
-        → FileFits sources.now.named.now (figures_of figures.now) file_index f) }
+        → FileFitsAtFirst sources.now.named.now (figures_of figures.now) file_index f) }
     ensures fault_is_true { IfErr result (IsTrueOfLayout sources.now.named.now) }
 {
     let sites = file_sites(sources.alloc, sources.named.file(file_index))?;
     check_sites(sources, figures, file_index, &sites)
 }
 
-/// All types that are written in the files are within the limits.
+/// All types that are written in the files are within the limits. What a vector holds is written
+/// too, so each type is asked only down to its first vector.
 pub(crate) fn check_uses(
     alloc: Global,
     types: &Types<'_, '_>,

@@ -6,12 +6,12 @@ ghost use Rattle.fidl_tree.specs.Syntax.{Layout, Members, ValueMember, bits_kind
 ghost use Rattle.fidl_tree.specs.Syntax.{Attribute, Path, TypeUse};
 ghost use Rattle.fidl_tree.specs.Syntax.{Response, values_layout, struct_layout};
 ghost use Rattle.fidl_tree.specs.declared.file.File.{File};
-ghost use Rattle.fidl_names.specs.declared.place.Place.{Place};
+ghost use Rattle.fidl_named.specs.declared.place.Place.{Place};
 ghost use Rattle.fidl_declarations.specs.declared.step.Step.{Step};
 ghost use Rattle.fidl_declarations.specs.Forms.{Form, layout_form, result_form};
 ghost use Rattle.fidl_declarations.specs.Sites.{type_site, aliased_type, service_type};
 ghost use Rattle.fidl_declarations.specs.Sites.{second_argument, attributes_site};
-ghost use Rattle.fidl_const.specs.Refusals.{type_span};
+ghost use Rattle.fidl_consts.specs.Refusals.{type_span};
 ghost use Rattle.fidl_lower_types.specs.Terms.{TermIs};
 ghost use Rattle.fidl_lower_layouts.specs.Definitions.{DefinitionsAre};
 ghost use Rattle.fidl_type_shape.specs.declared.fault.Excess.{Excess};

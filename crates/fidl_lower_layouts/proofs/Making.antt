@@ -3,7 +3,7 @@ use Rattle.std.proofs.Common.{◌≡◌, ◌<◌, ◌+◌, ℕ, Bool, zero, suc,
 use Rattle.std.specs.Prelude.{slice_get}
 use Rattle.std.proofs.Math.ListN.{get_or-map, length-map}
 use Rattle.std.proofs.lemmas.Option.{same_Some, none-some, slice_get-get_or}
-use Rattle.fidl_names.proofs.Seeing.{take_item}
+use Rattle.fidl_cycles.proofs.Lists.{take_item}
 use Rattle.fidl_tree.specs.Syntax.{Member, named_member, members_of}
 use Rattle.fidl_tree.specs.declared.type_constructor.LayoutBody.TheFolds.{fold_out-Member}
 use Rattle.fidl_tree.specs.Leaf.{text_at}

@@ -8,7 +8,7 @@ use Rattle.std.proofs.lemmas.Nat.{or_comm}
 use Rattle.std.proofs.lemmas.Option.{same_Some, none-some, slice_get-get_or}
 use lib.IntN.{nat_abs}
 use lib.Signed.{lt_z}
-use Rattle.fidl_names.proofs.Seeing.{take_item}
+use Rattle.fidl_cycles.proofs.Lists.{take_item}
 use Rattle.fidl_lower_layouts.specs.Values.{or_all, IsMaskOf}
 use Rattle.fidl_lower_layouts.proofs.Ors.{or_assoc}
 

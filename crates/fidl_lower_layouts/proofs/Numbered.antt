@@ -5,7 +5,7 @@ use Rattle.std.proofs.Math.ListN.{get_or-map, length-map}
 use Rattle.std.proofs.lemmas.List.{append-nil}
 use Rattle.std.proofs.lemmas.Option.{same_Some, none-some, slice_get-get_or}
 use Rattle.fidl_span.specs.declared.words.Span.{Span}
-use Rattle.fidl_names.proofs.Seeing.{flat_take}
+use Rattle.fidl_cycles.proofs.Lists.{flat_take}
 use Rattle.fidl_tree.specs.Leaf.{text_at}
 use Rattle.fidl_tree.specs.Syntax.{Attribute, TypeUse, Member, named_member, ordinal_member, reserved_member}
 use Rattle.fidl_tree.specs.Views.{ordinal_member_view, type_view, attributes_view}
@@ -15,7 +15,7 @@ use Rattle.fidl_tree.specs.declared.type_constructor.OrdinalMember as members
 use Rattle.fidl_tree.specs.declared.type_constructor.OrdinalMember.{OrdinalMember, out-OrdinalMember}
 use Rattle.fidl_tree.specs.declared.type_constructor.OrdinalBody as bodies
 use Rattle.fidl_tree.specs.declared.type_constructor.OrdinalBody.{OrdinalBody, out-OrdinalBody}
-use Rattle.fidl_const.specs.Literals.{number_of}
+use Rattle.fidl_consts.specs.Literals.{number_of}
 use Rattle.fidl_wire.specs.Term.{Term, Rows, no_rows, row}
 use Rattle.fidl_ir.specs.declared.term.Row.{Row}
 use Rattle.fidl_ir.specs.Terms.{term_view, rows_view}

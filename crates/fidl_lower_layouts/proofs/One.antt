@@ -8,12 +8,12 @@ use Rattle.std.proofs.lemmas.Bool.{cases_lt}
 use Rattle.std.proofs.lemmas.Option.{same_Some}
 use Rattle.fidl_tree.specs.Syntax.{TypeUse, Response, Member, ValuesKind, bits_kind, enum_kind, Underlying, ValueMember, Layout, values_layout, struct_layout, table_layout, union_layout}
 use Rattle.fidl_tree.specs.declared.file.File.{File}
-use Rattle.fidl_names.specs.Places.{underlying_path}
-use Rattle.fidl_const.specs.declared.const_type.NumberKind.{NumberKind}
-use Rattle.fidl_const.specs.declared.const_type.ConstType.TheVariants as const
-use Rattle.fidl_const.specs.PlainValues.{a_number}
-use Rattle.fidl_const.proofs.OneType.{one_underlying}
-use Rattle.fidl_const.proofs.OneValue.{one_value}
+use Rattle.fidl_named.specs.Places.{underlying_path}
+use Rattle.fidl_consts.specs.declared.const_type.NumberKind.{NumberKind}
+use Rattle.fidl_consts.specs.declared.const_type.ConstType.TheVariants as const
+use Rattle.fidl_consts.specs.PlainValues.{a_number}
+use Rattle.fidl_consts.proofs.OneType.{one_underlying}
+use Rattle.fidl_consts.proofs.OneValue.{one_value}
 use Rattle.fidl_declarations.specs.declared.step.Step.{Step}
 use Rattle.fidl_declarations.specs.Forms.{Form, FormKind, layout_form, result_form, empty_response_form}
 use Rattle.fidl_wire.specs.Term as ty

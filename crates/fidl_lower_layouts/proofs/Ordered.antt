@@ -7,7 +7,7 @@ use Rattle.std.proofs.lemmas.List.Sorted.{IsPermutation-map, IsPermutation-sym, 
 use Rattle.fidl_tree.specs.Leaf.{text_at}
 use Rattle.fidl_tree.specs.Syntax.{Member, named_member, ordinal_member, reserved_member}
 use Rattle.fidl_tree.specs.declared.file.File.{File}
-use Rattle.fidl_const.specs.Literals.{number_of}
+use Rattle.fidl_consts.specs.Literals.{number_of}
 use Rattle.fidl_wire.specs.Term.{Term, Rows, no_rows, row}
 use Rattle.fidl_ir.specs.declared.term.Row.{Row}
 use Rattle.fidl_ir.specs.Terms.{term_view, rows_view}

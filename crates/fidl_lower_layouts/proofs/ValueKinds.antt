@@ -11,16 +11,16 @@ use Rattle.fidl_tree.specs.declared.type_constructor.NamedType as named
 use Rattle.fidl_tree.specs.declared.type_constructor.NamedType.{NamedType, out-NamedType}
 use Rattle.fidl_tree.specs.declared.type_constructor.ValuesLayout as values
 use Rattle.fidl_tree.specs.declared.type_constructor.ValuesLayout.{ValuesLayout, out-ValuesLayout}
-use Rattle.fidl_names.specs.Places.{use_path, underlying_path}
-use Rattle.fidl_names.specs.Scopes.{OfFile}
-use Rattle.fidl_const.specs.declared.const_type.NumberKind.{NumberKind}
-use Rattle.fidl_const.specs.declared.fault.ConstFault.{ConstFault}
-use Rattle.fidl_const.specs.declared.fault.ConstFault.TheVariants.{Memory}
-use Rattle.fidl_const.specs.Tables.{IsMemoryOr}
-use Rattle.fidl_const.specs.Types.{UnderlyingIs, LayoutIs, path_of}
-use Rattle.fidl_const.specs.Constraints.{LayoutFails}
-use Rattle.fidl_const.proofs.OneType.{one_underlying}
-use Rattle.fidl_const.proofs.NoItem.{no_underlying as none_of}
+use Rattle.fidl_named.specs.Places.{use_path, underlying_path}
+use Rattle.fidl_named.specs.Scopes.{OfFile}
+use Rattle.fidl_consts.specs.declared.const_type.NumberKind.{NumberKind}
+use Rattle.fidl_consts.specs.declared.fault.ConstFault.{ConstFault}
+use Rattle.fidl_consts.specs.declared.fault.ConstFault.TheVariants.{Memory}
+use Rattle.fidl_consts.specs.Tables.{IsMemoryOr}
+use Rattle.fidl_consts.specs.Types.{UnderlyingIs, LayoutIs, path_of}
+use Rattle.fidl_consts.specs.Constraints.{LayoutFails}
+use Rattle.fidl_consts.proofs.OneType.{one_underlying}
+use Rattle.fidl_consts.proofs.NoItem.{no_underlying as none_of}
 use Rattle.fidl_wire.specs.Term.{Term}
 use Rattle.fidl_lower_layouts.specs.Values.{IsNumbered, ValuesAre}
 use Rattle.fidl_lower_layouts.specs.Definitions.{LayoutIs as PlainLayoutIs}

@@ -6,7 +6,7 @@ use Rattle.fidl_tree.specs.Leaf.{text_at}
 use Rattle.fidl_tree.specs.Syntax.{Members, no_members, next_member}
 use Rattle.fidl_tree.specs.Syntax.{Member, named_member, ordinal_member, reserved_member}
 use Rattle.fidl_tree.specs.declared.file.File.{File}
-use Rattle.fidl_const.specs.Literals.{number_of}
+use Rattle.fidl_consts.specs.Literals.{number_of}
 use Rattle.fidl_wire.specs.Term.{Term, Fields, no_fields, field, Rows, no_rows, row}
 use Rattle.fidl_lower_types.specs.Terms.{TermIs}
 

@@ -5,10 +5,10 @@ use Rattle.std.specs.List.{AllByRecursion, AllPairs}
 use Rattle.std.specs.List.Sorted.{IsPermutation}
 use Rattle.fidl_tree.specs.Syntax.{ValuesKind, bits_kind, enum_kind, Underlying, ValueMember}
 use Rattle.fidl_tree.specs.declared.file.File.{File}
-use Rattle.fidl_names.specs.Places.{underlying_path}
-use Rattle.fidl_const.specs.declared.const_type.NumberKind.{NumberKind}
-use Rattle.fidl_const.specs.declared.const_type.NumberKind.TheVariants as number
-use Rattle.fidl_const.specs.Types.{UnderlyingIs}
+use Rattle.fidl_named.specs.Places.{underlying_path}
+use Rattle.fidl_consts.specs.declared.const_type.NumberKind.{NumberKind}
+use Rattle.fidl_consts.specs.declared.const_type.NumberKind.TheVariants as number
+use Rattle.fidl_consts.specs.Types.{UnderlyingIs}
 use Rattle.fidl_wire.specs.Term as ty
 use Rattle.fidl_wire.specs.Term.{Term}
 use Rattle.fidl_member_rules.specs.Numbers.{NumbersAre}

@@ -3,7 +3,7 @@ ghost use Rattle.std.specs.Prelude.{◌≡◌, ◌<◌, ◌^◌, ℕ, List, leng
 ghost use Rattle.fidl_tree.specs.Leaf.{text_at};
 ghost use Rattle.fidl_tree.specs.Syntax.{Attribute, ordinal_member};
 ghost use Rattle.fidl_tree.specs.Views.{member_view, ordinal_member_view, type_view};
-ghost use Rattle.fidl_const.specs.Literals.{number_of};
+ghost use Rattle.fidl_consts.specs.Literals.{number_of};
 ghost use Rattle.fidl_wire.specs.Term.{Term, Fields, Rows};
 ghost use Rattle.fidl_ir.specs.Terms.{term_view, fields_view, rows_view};
 ghost use Rattle.fidl_lower_types.specs.TermViews.{AreKnown};
@@ -12,8 +12,8 @@ ghost use Rattle.fidl_lower_layouts.specs.Members.{WrittenRowsAre};
 
 use crate::order::by_ordinal;
 use crate::scope::Scope;
-use fidl_const::number_value;
 use fidl_constraints::use_of;
+use fidl_consts::number_value;
 use fidl_ir::{Field, Row, Type};
 use fidl_lower_types::term_of;
 use fidl_span::Span;

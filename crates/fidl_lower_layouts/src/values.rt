@@ -4,9 +4,9 @@ ghost use Rattle.std.specs.Prelude.{IsTrue, IfOk, IfSome, IsNone};
 ghost use Rattle.fidl_tree.specs.Syntax.{ValueMember as Plain};
 ghost use Rattle.fidl_tree.specs.Views.{is_strict, kind_view, value_member_view, values_view};
 ghost use Rattle.fidl_tree.specs.declared.file.File.{File as Tree};
-ghost use Rattle.fidl_const.specs.declared.const_type.NumberKind.{NumberKind as Kinds};
-ghost use Rattle.fidl_const.specs.declared.fault.ConstFault.TheVariants as ConstFaults;
-ghost use Rattle.fidl_const.specs.Types.{LayoutIs};
+ghost use Rattle.fidl_consts.specs.declared.const_type.NumberKind.{NumberKind as Kinds};
+ghost use Rattle.fidl_consts.specs.declared.fault.ConstFault.TheVariants as ConstFaults;
+ghost use Rattle.fidl_consts.specs.Types.{LayoutIs};
 ghost use Rattle.fidl_wire.specs.Term.{Term};
 ghost use Rattle.fidl_ir.specs.Terms.{number_kind_view, definition_view};
 ghost use Rattle.fidl_lower_types.specs.TermViews.{AreKnown};
@@ -17,7 +17,7 @@ ghost use Rattle.fidl_lower_layouts.specs.Definitions.{LayoutIs as PlainLayoutIs
 
 use crate::order::rising;
 use crate::scope::Scope;
-use fidl_const::{ConstFault, NumberKind, underlying_kind};
+use fidl_consts::{ConstFault, NumberKind, underlying_kind};
 use fidl_ir::{Definition, NumberKind as Number};
 use fidl_member_rules::{ValueScope, member_numbers};
 use fidl_tree::{Strictness, ValueMember, ValuesKeyword, ValuesLayout};

@@ -8,7 +8,7 @@ ghost use Rattle.fidl_tree.specs.Syntax.{named_member};
 ghost use Rattle.fidl_tree.specs.Syntax.{ValueMember, bits_kind, struct_layout};
 ghost use Rattle.fidl_tree.specs.Syntax.{table_layout, union_layout, no_underlying, Response};
 ghost use Rattle.fidl_tree.specs.declared.file.File.{File};
-ghost use Rattle.fidl_const.specs.declared.const_type.NumberKind.TheVariants as Kinds;
+ghost use Rattle.fidl_consts.specs.declared.const_type.NumberKind.TheVariants as Kinds;
 ghost use Rattle.fidl_declarations.specs.declared.step.Step.{Step};
 ghost use Rattle.fidl_declarations.specs.declared.step.Step.TheVariants as Steps;
 ghost use Rattle.fidl_declarations.specs.Forms.{Form, layout_form, result_form, empty_response_form};

@@ -7,8 +7,8 @@ ghost use Rattle.fidl_tree.specs.Syntax.{Attribute, TypeUse, Member, no_members,
 ghost use Rattle.fidl_tree.specs.Syntax.{named_member, ordinal_member, reserved_member};
 ghost use Rattle.fidl_tree.specs.Syntax.{ValueMember, enum_kind};
 ghost use Rattle.fidl_tree.specs.declared.file.File.{File};
-ghost use Rattle.fidl_const.specs.declared.const_type.NumberKind.TheVariants as Kinds;
-ghost use Rattle.fidl_const.specs.Literals.{number_of};
+ghost use Rattle.fidl_consts.specs.declared.const_type.NumberKind.TheVariants as Kinds;
+ghost use Rattle.fidl_consts.specs.Literals.{number_of};
 ghost use Rattle.fidl_wire.specs.Term as ty;
 ghost use Rattle.fidl_wire.specs.Term.{Term, Rows, no_rows, row};
 ghost use Rattle.fidl_lower_types.specs.Terms.{TermIs};

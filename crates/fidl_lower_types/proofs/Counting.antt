@@ -10,28 +10,28 @@ use Rattle.fidl_tree.specs.Syntax.{named_type, no_arguments, Argument, number_ar
 use Rattle.fidl_tree.specs.Views.{path_view}
 use Rattle.fidl_tree.specs.declared.path.Path.{Path}
 use Rattle.fidl_tree.specs.declared.file.File.{File}
-use Rattle.fidl_names.specs.declared.place.Place.{Place}
-use Rattle.fidl_names.specs.declared.meaning.Wanted.TheVariants as wanted
-use Rattle.fidl_names.specs.declared.meaning.Meaning.{Meaning}
-use Rattle.fidl_names.specs.Meanings.{components, Means, IsJust}
-use Rattle.fidl_names.specs.OuterTypes.{texts}
-use Rattle.fidl_names.specs.Paths.{path_place}
-use Rattle.fidl_names.specs.Scopes.{OfFile}
-use Rattle.fidl_names.proofs.AliasFacts.{components_seen}
-use Rattle.fidl_names.proofs.PathViews.{means_seen}
-use Rattle.fidl_const.specs.declared.fault.ConstFault.TheVariants.{WrongKind}
-use Rattle.fidl_const.specs.declared.const_type.ConstType.{ConstType}
-use Rattle.fidl_const.specs.declared.const_type.NumberKind.TheVariants.{Uint32}
-use Rattle.fidl_const.specs.declared.const_type.ConstType.TheVariants as ty
-use Rattle.fidl_const.specs.declared.const_type.BitsOrEnum.{BitsOrEnum}
-use Rattle.fidl_const.specs.declared.consts.Entry.{Entry}
-use Rattle.fidl_const.specs.Literals.{number_of}
-use Rattle.fidl_const.specs.PlainValues.{PlainValue, a_number, seen, Fits, InRange, Suits}
-use Rattle.fidl_const.specs.Values.{HasValue, Gives, Offers, NameGives, is_member, offered}
-use Rattle.fidl_const.specs.Refusals.{NameFails, Misfits}
-use Rattle.fidl_const.specs.Tables.{HasEntry}
-use Rattle.fidl_const.proofs.OneValue.{one_offered}
-use Rattle.fidl_const.proofs.NoValue.{no_name}
+use Rattle.fidl_named.specs.declared.place.Place.{Place}
+use Rattle.fidl_named.specs.declared.meaning.Wanted.TheVariants as wanted
+use Rattle.fidl_named.specs.declared.meaning.Meaning.{Meaning}
+use Rattle.fidl_named.specs.Meanings.{components, Means, IsJust}
+use Rattle.fidl_named.specs.Paths.{texts}
+use Rattle.fidl_named.specs.Paths.{path_place}
+use Rattle.fidl_named.specs.Scopes.{OfFile}
+use Rattle.fidl_named.proofs.AliasFacts.{components_seen}
+use Rattle.fidl_named.proofs.PathViews.{means_seen}
+use Rattle.fidl_consts.specs.declared.fault.ConstFault.TheVariants.{WrongKind}
+use Rattle.fidl_consts.specs.declared.const_type.ConstType.{ConstType}
+use Rattle.fidl_consts.specs.declared.const_type.NumberKind.TheVariants.{Uint32}
+use Rattle.fidl_consts.specs.declared.const_type.ConstType.TheVariants as ty
+use Rattle.fidl_consts.specs.declared.const_type.BitsOrEnum.{BitsOrEnum}
+use Rattle.fidl_consts.specs.declared.consts.Entry.{Entry}
+use Rattle.fidl_consts.specs.Literals.{number_of}
+use Rattle.fidl_consts.specs.PlainValues.{PlainValue, a_number, seen, Fits, InRange, Suits}
+use Rattle.fidl_consts.specs.Values.{HasValue, Gives, Offers, NameGives, is_member, offered}
+use Rattle.fidl_consts.specs.Refusals.{NameFails, Misfits}
+use Rattle.fidl_consts.specs.Tables.{HasEntry}
+use Rattle.fidl_consts.proofs.OneValue.{one_offered}
+use Rattle.fidl_consts.proofs.NoValue.{no_name}
 use Rattle.fidl_constraints.specs.Gives.{InFile}
 use Rattle.fidl_constraints.proofs.Amounts.{in_file}
 use Rattle.fidl_lower_types.specs.Counts.{CountIs}

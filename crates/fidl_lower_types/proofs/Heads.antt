@@ -5,7 +5,7 @@ use Rattle.fidl_tree.specs.Views.{type_arguments_view, argument_view, next_argum
 use Rattle.fidl_tree.specs.declared.file.File.{File}
 use Rattle.fidl_tree.specs.declared.type_constructor.TypeArguments.{TypeArguments, out-TypeArguments}
 use Rattle.fidl_tree.specs.declared.type_constructor.LayoutBody.TheFolds.{fold_out-TypeArguments}
-use Rattle.fidl_names.specs.declared.meaning.Predeclared.TheVariants as name
+use Rattle.fidl_named.specs.declared.meaning.Predeclared.TheVariants as name
 use Rattle.fidl_constraints.specs.Behind.{Head, word_head, layout_head}
 use Rattle.fidl_constraints.specs.Parts.{optional_in}
 use Rattle.fidl_constraints.specs.declared.parts.Part.{Part}

@@ -7,12 +7,12 @@ use Rattle.fidl_span.specs.declared.words.Span.{Span}
 use Rattle.fidl_tree.specs.Syntax as plain
 use Rattle.fidl_tree.specs.Syntax.{TypeUse, Argument, Layout}
 use Rattle.fidl_tree.specs.declared.file.File.{File}
-use Rattle.fidl_names.specs.declared.meaning.Meaning.{Meaning}
-use Rattle.fidl_const.specs.declared.const_type.NumberKind.TheVariants.{Uint32}
-use Rattle.fidl_const.specs.declared.const_type.ConstType.TheVariants as const
-use Rattle.fidl_const.specs.PlainValues.{a_number}
-use Rattle.fidl_const.specs.Values.{Gives, NameGives}
-use Rattle.fidl_const.proofs.OneValue.{one_offered}
+use Rattle.fidl_named.specs.declared.meaning.Meaning.{Meaning}
+use Rattle.fidl_consts.specs.declared.const_type.NumberKind.TheVariants.{Uint32}
+use Rattle.fidl_consts.specs.declared.const_type.ConstType.TheVariants as const
+use Rattle.fidl_consts.specs.PlainValues.{a_number}
+use Rattle.fidl_consts.specs.Values.{Gives, NameGives}
+use Rattle.fidl_consts.proofs.OneValue.{one_offered}
 use Rattle.fidl_declarations.specs.Forms.{Form}
 use Rattle.fidl_declarations.specs.Keywords.{layout_keyword}
 use Rattle.fidl_constraints.specs.Parts.{optional_in}

@@ -5,11 +5,11 @@ use Rattle.fidl_tree.specs.Leaf.{text_at}
 use Rattle.fidl_tree.specs.Syntax.{Path, named_type, no_arguments, Argument, number_argument}
 use Rattle.fidl_tree.specs.Syntax.{type_argument}
 use Rattle.fidl_tree.specs.declared.file.File.{File}
-use Rattle.fidl_const.specs.declared.const_type.NumberKind.TheVariants.{Uint32}
-use Rattle.fidl_const.specs.declared.const_type.ConstType.TheVariants as const
-use Rattle.fidl_const.specs.Literals.{number_of}
-use Rattle.fidl_const.specs.PlainValues.{a_number}
-use Rattle.fidl_const.specs.Values.{NameGives}
+use Rattle.fidl_consts.specs.declared.const_type.NumberKind.TheVariants.{Uint32}
+use Rattle.fidl_consts.specs.declared.const_type.ConstType.TheVariants as const
+use Rattle.fidl_consts.specs.Literals.{number_of}
+use Rattle.fidl_consts.specs.PlainValues.{a_number}
+use Rattle.fidl_consts.specs.Values.{NameGives}
 
 -- an argument of a type in a file is this number: a number word, or a name that stands for a
 -- number. It is at least 1 and has 32 bits. A name with arguments or constraints is none

@@ -1,6 +1,6 @@
 -- What types are at once, as the code has it, and what the code knows of the files.
 use Rattle.std.specs.Prelude.{◌≡◌, List, [], ◌∷◌}
-use Rattle.fidl_const.specs.Tables.{AreConsts}
+use Rattle.fidl_consts.specs.Tables.{AreConsts}
 use Rattle.fidl_declarations.specs.FormViews.{forms_view}
 use Rattle.fidl_constraints.specs.BehindViews.{use_view}
 use Rattle.fidl_ir.specs.Terms.{term_view}

@@ -3,9 +3,9 @@ use Rattle.std.specs.Prelude.{ℕ, ◌≡◌, Bool, true, false, List, Option, S
 use Rattle.fidl_tree.specs.Syntax.{TypeUse, no_arguments, next_argument, Argument, type_argument}
 use Rattle.fidl_tree.specs.Syntax.{Layout, struct_layout}
 use Rattle.fidl_tree.specs.declared.file.File.{File}
-use Rattle.fidl_names.specs.declared.place.DeclarationId.{DeclarationId}
-use Rattle.fidl_names.specs.declared.meaning.Predeclared.{Predeclared}
-use Rattle.fidl_names.specs.declared.meaning.Predeclared.TheVariants as name
+use Rattle.fidl_named.specs.declared.place.DeclarationId.{DeclarationId}
+use Rattle.fidl_named.specs.declared.meaning.Predeclared.{Predeclared}
+use Rattle.fidl_named.specs.declared.meaning.Predeclared.TheVariants as name
 use Rattle.fidl_constraints.specs.Behind.{Head, word_head, layout_head, handle_head, Core}
 use Rattle.fidl_constraints.specs.declared.parts.Part.{Part}
 use Rattle.fidl_constraints.specs.Parts.{optional_in, bound_in, subtype_in, rights_in}

@@ -6,7 +6,7 @@ ghost use Rattle.fidl_tree.specs.Views.{body_view};
 ghost use Rattle.fidl_tree.specs.declared.file.File.{File as Tree};
 ghost use Rattle.fidl_constraints.specs.Behind.{word_head, layout_head};
 ghost use Rattle.fidl_constraints.specs.BehindViews.{arguments_view, head_view, use_view};
-ghost use Rattle.fidl_names.specs.declared.meaning.Predeclared.TheVariants as Words;
+ghost use Rattle.fidl_named.specs.declared.meaning.Predeclared.TheVariants as Words;
 ghost use Rattle.fidl_lower_types.specs.Numbers.{IsNumber};
 ghost use Rattle.fidl_lower_types.specs.Terms.{Node as Plain, HeadIs, IsStruct, NodeIs, is_struct};
 ghost use Rattle.fidl_lower_types.specs.TermViews.{node_view, AreKnown};
@@ -18,7 +18,7 @@ use crate::sources::Sources;
 use crate::words::word_type;
 use fidl_constraints::{Head, Parts, TypeUse, gather};
 use fidl_ir::Type;
-use fidl_names::Predeclared;
+use fidl_named::Predeclared;
 use fidl_tree::{LayoutBody, TypeArguments};
 use std::alloc::{AllocError, Global};
 
@@ -31,7 +31,7 @@ pub enum Shape {
 
 /// What a type is at once.
 #[derive(Drop)]
-pub(crate) enum Node<'f> {
+pub enum Node<'f> {
     /// A type that holds no elements.
     Leaf(Type),
     /// A vector or an array of this type in the file of this number.
@@ -228,8 +228,11 @@ fn word_node<'f>(
     }
 }
 
-/// What a type is at once whose head stands in the file of this number.
-fn head_node<'f>(
+/// What a type is at once whose head stands in the file of this number, with what its constraints
+/// give.
+///
+/// `AllocError`: memory ran out.
+pub fn head_node<'f>(
     sources: &Sources<'_, 'f, '_>,
     file_index: usize,
     head: Head<'f>,
@@ -258,8 +261,11 @@ fn head_node<'f>(
     }
 }
 
-/// What a type in the file of this number is at once, aliases followed.
-pub(crate) fn node_of<'f>(
+/// What a type in the file of this number is at once, aliases followed. Nothing where its name means
+/// no type, its arguments or constraints are of a wrong number or kind, or a box is of no struct.
+///
+/// `AllocError`: memory ran out.
+pub fn node_of<'f>(
     sources: &Sources<'_, 'f, '_>,
     file_index: usize,
     of: TypeUse<'f>,

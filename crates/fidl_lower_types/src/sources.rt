@@ -1,9 +1,9 @@
 //! The files whose types are read.
 
 use crate::numbers::LayoutNumbers;
-use fidl_const::Consts;
+use fidl_consts::Consts;
 use fidl_declarations::Form;
-use fidl_names::Named;
+use fidl_named::Named;
 use std::alloc::Global;
 
 /// A set of files, with the values of its constants and its forms, all in their order, and the

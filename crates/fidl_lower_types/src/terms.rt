@@ -38,7 +38,9 @@ fn from_end(shapes: &[Shape], behind: usize) -> Shape
 }
 
 /// The first shape of the second, that of the third and so on, the last one of this type.
-fn made_of_all(alloc: Global, shapes: &[Shape], of: Type) -> Result<Type, AllocError>
+///
+/// `AllocError`: memory ran out.
+pub fn made_of_all(alloc: Global, shapes: &[Shape], of: Type) -> Result<Type, AllocError>
     ensures { IfOk result (λ t. term_view t ≡ made_of_all shapes.now (term_view of)) }
 {
     let mut made = of;

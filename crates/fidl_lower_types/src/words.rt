@@ -7,7 +7,7 @@ ghost use Rattle.fidl_lower_types.specs.Terms.{end_term, word_kind, other_term, 
 
 use fidl_constraints::Parts;
 use fidl_ir::{NumberKind, Type};
-use fidl_names::Predeclared;
+use fidl_named::Predeclared;
 use std::alloc::{AllocError, Global};
 
 /// An end: a handle of a channel, with whatever rights came.

@@ -7,8 +7,8 @@ ghost use Rattle.fidl_tree.specs.Syntax.{Path, Value, TypeUse, named_type, no_ar
 ghost use Rattle.fidl_tree.specs.Syntax.{next_argument, number_argument, type_argument};
 ghost use Rattle.fidl_tree.specs.Syntax.{struct_layout, table_layout, Members, Response};
 ghost use Rattle.fidl_tree.specs.declared.file.File.{File};
-ghost use Rattle.fidl_names.specs.declared.meaning.Predeclared.TheVariants as Words;
-ghost use Rattle.fidl_const.specs.Literals.{number_of};
+ghost use Rattle.fidl_named.specs.declared.meaning.Predeclared.TheVariants as Words;
+ghost use Rattle.fidl_consts.specs.Literals.{number_of};
 ghost use Rattle.fidl_wire.specs.Term as ty;
 ghost use Rattle.fidl_constraints.specs.Behind.{word_head};
 ghost use Rattle.fidl_constraints.specs.declared.parts.PartKind.TheVariants as Kinds;

@@ -9,8 +9,8 @@ use Rattle.std.proofs.Math.ListN.{get_or-map, length-map}
 use Rattle.fidl_span.specs.declared.words.Span.{Span}
 use Rattle.fidl_tree.specs.Leaf.{text_at}
 use Rattle.fidl_tree.specs.Syntax.{Attribute, Layout, File}
-use Rattle.fidl_names.specs.declared.place.Place.{Place}
-use Rattle.fidl_const.specs.Literals.{number_of}
+use Rattle.fidl_named.specs.declared.place.Place.{Place}
+use Rattle.fidl_consts.specs.Literals.{number_of}
 use Rattle.fidl_member_rules.specs.declared.fault.RuleFault.{RuleFault}
 use Rattle.fidl_member_rules.specs.declared.fault.RuleFault.TheVariants.{BadOrdinal, DuplicateOrdinal, EmptyStrict, OutOfProfile, Memory}
 use Rattle.fidl_declarations.specs.Sites.{Site, type_site, layout_site, result_site, file_sites, empty_response_site, attributes_site}

@@ -6,7 +6,7 @@ use Rattle.std.proofs.Math.ListN.{get_or-map, length-map}
 use Rattle.std.proofs.lemmas.List.{get_or_default}
 use Rattle.std.proofs.lemmas.List.Quantifiers.{all_pairs_push}
 use Rattle.std.proofs.lemmas.Option.{same_Some, none-some, slice_get-get_or}
-use Rattle.fidl_names.proofs.Seeing.{take_item}
+use Rattle.fidl_cycles.proofs.Lists.{take_item}
 
 module _ {A B : Type 0} (R : A → B → Type 0) where
   zip_push : (xs : List A) (ys : List B) (x : A) (y : B) → AllZip R xs ys → R x y → AllZip R (xs ++ x ∷ []) (ys ++ y ∷ [])

@@ -12,19 +12,19 @@ use Rattle.fidl_tree.specs.declared.type_constructor.NamedType as named
 use Rattle.fidl_tree.specs.declared.type_constructor.NamedType.{NamedType, out-NamedType}
 use Rattle.fidl_tree.specs.declared.type_constructor.ValuesLayout as values
 use Rattle.fidl_tree.specs.declared.type_constructor.ValuesLayout.{ValuesLayout, out-ValuesLayout}
-use Rattle.fidl_names.specs.Places.{use_path, underlying_path}
-use Rattle.fidl_const.specs.declared.const_type.NumberKind.{NumberKind}
-use Rattle.fidl_const.specs.declared.const_type.ConstType.TheVariants as const
-use Rattle.fidl_const.specs.declared.fault.ConstFault.{ConstFault}
-use Rattle.fidl_names.specs.Scopes.{OfFile}
-use Rattle.fidl_const.specs.declared.fault.ConstFault.TheVariants.{Memory}
-use Rattle.fidl_const.specs.Tables.{IsMemoryOr}
-use Rattle.fidl_const.specs.PlainValues.{a_number}
-use Rattle.fidl_const.specs.Types.{UnderlyingIs, LayoutIs, path_of}
-use Rattle.fidl_const.specs.Constraints.{LayoutFails}
-use Rattle.fidl_const.proofs.OneType.{one_underlying}
-use Rattle.fidl_const.proofs.OneValue.{one_value}
-use Rattle.fidl_const.proofs.NoItem.{no_underlying as none_of}
+use Rattle.fidl_named.specs.Places.{use_path, underlying_path}
+use Rattle.fidl_consts.specs.declared.const_type.NumberKind.{NumberKind}
+use Rattle.fidl_consts.specs.declared.const_type.ConstType.TheVariants as const
+use Rattle.fidl_consts.specs.declared.fault.ConstFault.{ConstFault}
+use Rattle.fidl_named.specs.Scopes.{OfFile}
+use Rattle.fidl_consts.specs.declared.fault.ConstFault.TheVariants.{Memory}
+use Rattle.fidl_consts.specs.Tables.{IsMemoryOr}
+use Rattle.fidl_consts.specs.PlainValues.{a_number}
+use Rattle.fidl_consts.specs.Types.{UnderlyingIs, LayoutIs, path_of}
+use Rattle.fidl_consts.specs.Constraints.{LayoutFails}
+use Rattle.fidl_consts.proofs.OneType.{one_underlying}
+use Rattle.fidl_consts.proofs.OneValue.{one_value}
+use Rattle.fidl_consts.proofs.NoItem.{no_underlying as none_of}
 use Rattle.fidl_member_rules.specs.Numbers.{HasNumber, NumbersAre}
 use Rattle.fidl_member_rules.specs.ValueRules.{Rule, NumbersHold, MembersAre, LayoutHolds, MemberBreaks, LayoutBreaks}
 use Rattle.fidl_member_rules.proofs.Listing.{zip_one}

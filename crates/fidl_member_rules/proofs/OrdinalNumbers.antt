@@ -7,9 +7,9 @@ use Rattle.std.proofs.lemmas.List.Quantifiers.{all_pairs_push}
 use Rattle.std.proofs.Math.ListN.{get_or-map, length-map}
 use Rattle.fidl_span.specs.declared.words.Span.{Span}
 use Rattle.fidl_tree.specs.Leaf.{text_at}
-use Rattle.fidl_names.specs.declared.place.Place.{Place}
-use Rattle.fidl_names.proofs.Seeing.{take_item}
-use Rattle.fidl_const.specs.Literals.{number_of}
+use Rattle.fidl_named.specs.declared.place.Place.{Place}
+use Rattle.fidl_cycles.proofs.Lists.{take_item}
+use Rattle.fidl_consts.specs.Literals.{number_of}
 use Rattle.fidl_member_rules.specs.declared.fault.RuleFault.{RuleFault}
 use Rattle.fidl_member_rules.specs.Ordinals.{ordinal_numbers, IsOrdinal}
 use Rattle.fidl_member_rules.specs.Rules.{Rule, ordinal_rule, duplicate_rule, OrdinalsBreak, IsReport, IsReportIn}

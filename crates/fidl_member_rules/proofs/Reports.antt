@@ -4,7 +4,7 @@ use Rattle.std.specs.Prelude.{slice_get}
 use Rattle.std.specs.List.{Contains}
 use Rattle.fidl_span.specs.declared.words.Span.{Span}
 use Rattle.fidl_tree.specs.Syntax.{Layout, File}
-use Rattle.fidl_names.specs.declared.place.Place.{Place}
+use Rattle.fidl_named.specs.declared.place.Place.{Place}
 use Rattle.fidl_member_rules.specs.declared.fault.RuleFault.{RuleFault}
 use Rattle.fidl_member_rules.specs.declared.fault.RuleFault.TheVariants.{BadOrdinal, DuplicateOrdinal, EmptyStrict, OutOfProfile, Memory}
 use Rattle.fidl_member_rules.specs.Ordinals.{layout_ordinals, last_ordinal}

@@ -4,7 +4,7 @@ use Rattle.std.specs.Prelude.{slice_get}
 use Rattle.std.specs.List.{Contains}
 use Rattle.fidl_span.specs.declared.words.Span.{Span}
 use Rattle.fidl_tree.specs.declared.file.File.{File}
-use Rattle.fidl_names.specs.declared.place.Place.{Place}
+use Rattle.fidl_named.specs.declared.place.Place.{Place}
 use Rattle.fidl_declarations.specs.Sites.{Site}
 use Rattle.fidl_member_rules.specs.declared.value_fault.ValuesFault.{ValuesFault}
 use Rattle.fidl_member_rules.specs.declared.value_fault.ValuesFault.TheVariants.{DuplicateValue, NotPowerOfTwo, Memory}

@@ -3,18 +3,18 @@ use Rattle.std.proofs.Common.{◌≡◌, ℕ, ℤ, List, Option, Some, None, sub
 use Rattle.std.specs.Prelude.{slice_get, IfSome}
 use Rattle.fidl_tree.specs.Syntax.{ValueMember}
 use Rattle.fidl_tree.specs.declared.file.File.{File}
-use Rattle.fidl_names.specs.Scopes.{OfFile}
-use Rattle.fidl_const.specs.declared.const_type.NumberKind.{NumberKind}
-use Rattle.fidl_const.specs.declared.const_type.ConstType.TheVariants as const
-use Rattle.fidl_const.specs.declared.const_value.ConstValue.{ConstValue}
-use Rattle.fidl_const.specs.declared.fault.ConstFault.{ConstFault}
-use Rattle.fidl_const.specs.declared.fault.ConstFault.TheVariants.{Memory}
-use Rattle.fidl_const.specs.PlainValues.{PlainValue, seen, a_number}
-use Rattle.fidl_const.specs.Values.{ValueIs}
-use Rattle.fidl_const.specs.Refusals.{ValueFails}
-use Rattle.fidl_const.specs.Tables.{IsMemoryOr}
-use Rattle.fidl_const.proofs.OneValue.{one_value}
-use Rattle.fidl_const.proofs.NoValue.{no_value}
+use Rattle.fidl_named.specs.Scopes.{OfFile}
+use Rattle.fidl_consts.specs.declared.const_type.NumberKind.{NumberKind}
+use Rattle.fidl_consts.specs.declared.const_type.ConstType.TheVariants as const
+use Rattle.fidl_consts.specs.declared.const_value.ConstValue.{ConstValue}
+use Rattle.fidl_consts.specs.declared.fault.ConstFault.{ConstFault}
+use Rattle.fidl_consts.specs.declared.fault.ConstFault.TheVariants.{Memory}
+use Rattle.fidl_consts.specs.PlainValues.{PlainValue, seen, a_number}
+use Rattle.fidl_consts.specs.Values.{ValueIs}
+use Rattle.fidl_consts.specs.Refusals.{ValueFails}
+use Rattle.fidl_consts.specs.Tables.{IsMemoryOr}
+use Rattle.fidl_consts.proofs.OneValue.{one_value}
+use Rattle.fidl_consts.proofs.NoValue.{no_value}
 use Rattle.fidl_member_rules.specs.Numbers.{HasNumber}
 
 module _ (files : List File) (number : ℕ) (f : File) (at : slice_get files number ≡ Some f) (kind : NumberKind) (m : ValueMember) where

@@ -9,7 +9,7 @@ use Rattle.fidl_span.specs.declared.words.Span.{Span}
 use Rattle.fidl_tree.specs.Syntax.{Layout, values_layout, struct_layout, table_layout, union_layout, ValuesKind, ValueMember}
 use Rattle.fidl_tree.specs.Views.{file_view}
 use Rattle.fidl_tree.specs.declared.file.File.{File}
-use Rattle.fidl_names.specs.declared.place.Place.{Place}
+use Rattle.fidl_named.specs.declared.place.Place.{Place}
 use Rattle.fidl_declarations.specs.Sites.{Site, type_site, layout_site, result_site, file_sites, empty_response_site, attributes_site}
 use Rattle.fidl_member_rules.specs.declared.value_fault.ValuesFault.{ValuesFault}
 use Rattle.fidl_member_rules.specs.declared.value_fault.ValuesFault.TheVariants.{DuplicateValue, NotPowerOfTwo, Memory}

@@ -3,10 +3,10 @@ use Rattle.std.specs.Prelude.{ℕ, ◌≡◌, ◌^◌, ℤ, pos, List}
 use Rattle.std.specs.List.{AllZip}
 use Rattle.fidl_tree.specs.Syntax.{ValueMember}
 use Rattle.fidl_tree.specs.declared.file.File.{File}
-use Rattle.fidl_const.specs.declared.const_type.NumberKind.{NumberKind}
-use Rattle.fidl_const.specs.declared.const_type.ConstType.TheVariants as const
-use Rattle.fidl_const.specs.PlainValues.{a_number}
-use Rattle.fidl_const.specs.Values.{ValueIs}
+use Rattle.fidl_consts.specs.declared.const_type.NumberKind.{NumberKind}
+use Rattle.fidl_consts.specs.declared.const_type.ConstType.TheVariants as const
+use Rattle.fidl_consts.specs.PlainValues.{a_number}
+use Rattle.fidl_consts.specs.Values.{ValueIs}
 
 -- a member has this number, of this kind: that of its expression
 abbrev pub HasNumber : List File → File → NumberKind → ValueMember → ℤ → Type 0

@@ -7,7 +7,7 @@ use Rattle.fidl_tree.specs.Leaf.{text_at}
 use Rattle.fidl_tree.specs.Syntax.{Layout, values_layout, struct_layout, table_layout, union_layout}
 use Rattle.fidl_tree.specs.Syntax.{Members, no_members, next_member}
 use Rattle.fidl_tree.specs.Syntax.{Member, named_member, ordinal_member, reserved_member}
-use Rattle.fidl_const.specs.Literals.{number_of}
+use Rattle.fidl_consts.specs.Literals.{number_of}
 
 -- the ordinal of a member, where it has one: a reserved ordinal counts
 abbrev pub own_ordinal : Member → List Span

@@ -6,7 +6,7 @@ use Rattle.fidl_tree.specs.Leaf.{text_at}
 use Rattle.fidl_tree.specs.Syntax.{Attribute, AttributeArgument, Value, bitwise_or, string_operand}
 use Rattle.fidl_tree.specs.Syntax.{no_operands, Body, protocol_body, const_body, alias_body}
 use Rattle.fidl_tree.specs.Syntax.{type_body, service_body, resource_body, Declaration}
-use Rattle.fidl_const.specs.Literals.{string_of}
+use Rattle.fidl_consts.specs.Literals.{string_of}
 
 -- an attribute gives versions
 abbrev pub IsAvailable : (src : List ℕ) → Attribute → Type 0

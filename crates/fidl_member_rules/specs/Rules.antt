@@ -4,7 +4,7 @@ use Rattle.std.specs.Prelude.{ℕ, ◌≡◌, List, Some, slice_get}
 use Rattle.std.specs.List.{Contains, AllByRecursion}
 use Rattle.fidl_span.specs.declared.words.Span.{Span}
 use Rattle.fidl_tree.specs.Syntax.{Attribute, Layout, Declaration, File}
-use Rattle.fidl_names.specs.declared.place.Place.{Place}
+use Rattle.fidl_named.specs.declared.place.Place.{Place}
 use Rattle.fidl_member_rules.specs.declared.fault.RuleFault.{RuleFault}
 use Rattle.fidl_member_rules.specs.declared.fault.RuleFault.TheVariants.{BadOrdinal, DuplicateOrdinal}
 use Rattle.fidl_member_rules.specs.declared.fault.RuleFault.TheVariants.{EmptyStrict, OutOfProfile}

@@ -2,7 +2,7 @@
 use Rattle.std.specs.Prelude.{◌≡◌, Bool, true, false, []}
 use Rattle.fidl_tree.specs.Syntax.{Layout, values_layout, struct_layout, table_layout, union_layout}
 use Rattle.fidl_tree.specs.Syntax.{bits_kind, enum_kind}
-use Rattle.fidl_names.specs.MemberLists.{layout_names}
+use Rattle.fidl_named.specs.MemberNames.{layout_names}
 
 -- a strict enum and a strict union have a member; strict bits need none
 abbrev pub must_have_members : Layout → Bool

@@ -7,10 +7,10 @@ use Rattle.fidl_tree.specs.Syntax.{ValuesKind, bits_kind, Underlying, ValueMembe
 use Rattle.fidl_tree.specs.Syntax.{Layout, values_layout, struct_layout, table_layout, union_layout}
 use Rattle.fidl_tree.specs.Views.{file_view}
 use Rattle.fidl_tree.specs.declared.file.File.{File}
-use Rattle.fidl_names.specs.declared.place.Place.{Place}
-use Rattle.fidl_names.specs.Places.{underlying_path}
-use Rattle.fidl_const.specs.declared.const_type.NumberKind.{NumberKind}
-use Rattle.fidl_const.specs.Types.{UnderlyingIs}
+use Rattle.fidl_named.specs.declared.place.Place.{Place}
+use Rattle.fidl_named.specs.Places.{underlying_path}
+use Rattle.fidl_consts.specs.declared.const_type.NumberKind.{NumberKind}
+use Rattle.fidl_consts.specs.Types.{UnderlyingIs}
 use Rattle.fidl_declarations.specs.Sites.{Site, type_site, layout_site, result_site, file_sites}
 use Rattle.fidl_declarations.specs.Sites.{empty_response_site, attributes_site}
 use Rattle.fidl_member_rules.specs.declared.value_fault.ValuesFault.{ValuesFault}

@@ -3,13 +3,13 @@ ghost use Rattle.std.specs.Prelude.{◌≡◌, ◌↔◌, ℤ, List, Some, map, 
 ghost use Rattle.std.specs.Prelude.{IsNone, FitsSigned};
 ghost use Rattle.std.specs.Int.{w128};
 ghost use Rattle.fidl_tree.specs.Views.{value_member_view};
-ghost use Rattle.fidl_const.specs.declared.fault.ConstFault.TheVariants as ConstFaults;
-ghost use Rattle.fidl_const.specs.PlainValues.{seen, a_number};
-ghost use Rattle.fidl_const.specs.Tables.{AreConsts};
+ghost use Rattle.fidl_consts.specs.declared.fault.ConstFault.TheVariants as ConstFaults;
+ghost use Rattle.fidl_consts.specs.PlainValues.{seen, a_number};
+ghost use Rattle.fidl_consts.specs.Tables.{AreConsts};
 ghost use Rattle.fidl_member_rules.specs.Numbers.{HasNumber, NumbersAre, IsPowerOfTwo};
 
-use fidl_const::{ConstFault, ConstType, ConstValue, Consts, NumberKind};
-use fidl_names::Named;
+use fidl_consts::{ConstFault, ConstType, ConstValue, Consts, NumberKind};
+use fidl_named::Named;
 use fidl_tree::{File, ValueMember};
 use std::alloc::{AllocError, Global};
 

@@ -2,15 +2,15 @@
 ghost use Rattle.std.specs.Prelude.{◌≡◌, ◌++◌, ◌∷◌, [], map, Contains, IfOk, IfErr, OnOk};
 ghost use Rattle.fidl_tree.specs.Syntax.{members_of};
 ghost use Rattle.fidl_tree.specs.Views.{ordinal_member_view, body_view};
-ghost use Rattle.fidl_const.specs.Literals.{number_of};
+ghost use Rattle.fidl_consts.specs.Literals.{number_of};
 ghost use Rattle.fidl_member_rules.specs.Ordinals.{own_ordinal, member_ordinals, layout_ordinals};
 ghost use Rattle.fidl_member_rules.specs.Ordinals.{last_ordinal, IsOrdinal, OrdinalsHold};
 ghost use Rattle.fidl_member_rules.specs.Rules.{ordinal_rule, duplicate_rule, OrdinalsBreak};
 ghost use Rattle.fidl_member_rules.specs.Rules.{IsReport, IsReportIn};
 
 use crate::fault::RuleFault;
-use fidl_const::number_value;
-use fidl_names::Place;
+use fidl_consts::number_value;
+use fidl_named::Place;
 use fidl_span::Span;
 use fidl_tree::{File, LayoutBody, OrdinalBody, OrdinalMember};
 use indexmap::IndexSet;

@@ -6,7 +6,7 @@ ghost use Rattle.fidl_tree.specs.Views.{attribute_arguments_view};
 ghost use Rattle.fidl_member_rules.specs.Profile.{string_alone, only_string, NamesChannel, IsAvailable};
 ghost use Rattle.fidl_member_rules.specs.Profile.{IsOtherTransport, StandsAt};
 
-use fidl_const::string_bytes;
+use fidl_consts::string_bytes;
 use fidl_span::Span;
 use fidl_tree::{Arguments, Attribute, File, Operand, Value};
 use std::alloc::{AllocError, Global};

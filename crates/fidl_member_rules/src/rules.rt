@@ -17,7 +17,7 @@ use crate::ordinals::{check_ordinals, last_ordinal, layout_ordinals};
 use crate::profile::{available_attribute, other_transport};
 use crate::strict::{is_empty_strict, layout_keyword};
 use fidl_declarations::{Site, file_sites};
-use fidl_names::{Named, Place};
+use fidl_named::{Named, Place};
 use fidl_tree::{Attribute, Declaration, DeclarationBody, File, LayoutBody};
 use std::alloc::Global;
 

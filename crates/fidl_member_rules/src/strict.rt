@@ -3,7 +3,7 @@ ghost use Rattle.std.specs.Prelude.{◌≡◌, ◌↔◌, [], map, IsTrue};
 ghost use Rattle.fidl_tree.specs.Syntax.{members_of};
 ghost use Rattle.fidl_tree.specs.Views.{member_view, ordinal_member_view, body_view};
 ghost use Rattle.fidl_tree.specs.Views.{is_strict_union};
-ghost use Rattle.fidl_names.specs.MemberLists.{own_names, layout_names};
+ghost use Rattle.fidl_named.specs.MemberNames.{own_names, layout_names};
 ghost use Rattle.fidl_declarations.specs.Keywords.{layout_keyword};
 ghost use Rattle.fidl_member_rules.specs.Strict.{must_have_members, IsEmptyStrict};
 

@@ -1,7 +1,7 @@
 //! Why the numbers of bits and enums break a rule.
 ghost use Rattle.std.specs.Prelude.{◌≡◌};
 
-use fidl_names::Place;
+use fidl_named::Place;
 use std::alloc::{AllocError, AllocFailed};
 use thiserror::Error;
 

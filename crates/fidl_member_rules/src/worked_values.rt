@@ -4,7 +4,7 @@ ghost use Rattle.fidl_span.specs.declared.words.Span.{Span};
 ghost use Rattle.fidl_tree.specs.Syntax.{ValueMember, Underlying, Members, bits_kind, enum_kind};
 ghost use Rattle.fidl_tree.specs.Syntax.{values_layout, struct_layout};
 ghost use Rattle.fidl_tree.specs.declared.file.File.{File};
-ghost use Rattle.fidl_const.specs.declared.const_type.NumberKind.TheVariants as Kinds;
+ghost use Rattle.fidl_consts.specs.declared.const_type.NumberKind.TheVariants as Kinds;
 ghost use Rattle.fidl_member_rules.specs.Numbers.{HasNumber, NumbersAre, IsPowerOfTwo};
 ghost use Rattle.fidl_member_rules.specs.ValueRules.{duplicate_rule, power_rule, NumbersHold, MembersAre};
 ghost use Rattle.fidl_member_rules.specs.ValueRules.{LayoutHolds, NumberBreaks, MemberBreaks};

@@ -10,7 +10,7 @@ use Rattle.fidl_span.specs.declared.words.Span.{Span}
 use Rattle.fidl_tree.specs.Syntax.{File, ProtocolMember}
 use Rattle.fidl_tree.specs.Views.{protocol_member_view}
 use Rattle.fidl_tree.specs.declared.protocol.ProtocolMember.{ProtocolMember as Tree}
-use Rattle.fidl_names.proofs.Seeing.{take_item}
+use Rattle.fidl_cycles.proofs.Lists.{take_item}
 use Rattle.fidl_method_rules.specs.declared.methods.OwnMethod.{OwnMethod}
 use Rattle.fidl_method_rules.specs.Methods.{method_of}
 use Rattle.fidl_method_rules.specs.MethodViews.{IsEntryOf, IsEntry, member_numbers, AreMethods}

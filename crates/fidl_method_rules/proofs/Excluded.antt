@@ -8,7 +8,7 @@ use Rattle.fidl_span.specs.declared.words.Span.{Span}
 use Rattle.fidl_span.specs.Bytes.{is_word_byte, slash}
 use Rattle.fidl_tree.specs.Syntax.{Attribute, File, Openness, ProtocolMember}
 use Rattle.fidl_ordinal.specs.Ordinal.{ordinal}
-use Rattle.fidl_const.specs.Literals.{string_of}
+use Rattle.fidl_consts.specs.Literals.{string_of}
 use Rattle.fidl_tree.specs.Leaf.{text_at}
 use Rattle.fidl_method_rules.specs.declared.fault.MethodFault.{MethodFault}
 use Rattle.fidl_method_rules.specs.declared.fault.MethodFault.TheVariants.{NotStrict, BadSelector, ZeroOrdinal, Memory}

@@ -8,7 +8,7 @@ use Rattle.fidl_tree.specs.Views.{file_view}
 use Rattle.fidl_tree.specs.declared.path.PathPart.{PathPart}
 use Rattle.fidl_tree.specs.declared.file.File.{File}
 use Rattle.fidl_tree.specs.Syntax as plain
-use Rattle.fidl_names.specs.Names.{part_text}
+use Rattle.fidl_named.specs.Names.{part_text}
 use Rattle.fidl_declarations.specs.declared.step.Step.TheVariants as step
 use Rattle.fidl_declarations.specs.Forms.{dotted_step, steps_text, library_steps, name_by_path}
 use Rattle.fidl_method_rules.specs.Methods.{named_in}

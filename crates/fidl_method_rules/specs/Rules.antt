@@ -4,7 +4,7 @@ use Rattle.std.specs.Prelude.{ℕ, ◌≡◌, ◌≢◌, List, Some}
 use Rattle.std.specs.List.{Contains, AllByRecursion}
 use Rattle.fidl_span.specs.declared.words.Span.{Span}
 use Rattle.fidl_tree.specs.Syntax.{File, Openness, ProtocolMember}
-use Rattle.fidl_names.specs.declared.place.Place.{Place}
+use Rattle.fidl_named.specs.declared.place.Place.{Place}
 use Rattle.fidl_method_rules.specs.declared.fault.MethodFault.{MethodFault}
 use Rattle.fidl_method_rules.specs.declared.fault.MethodFault.TheVariants.{NotStrict, BadSelector}
 use Rattle.fidl_method_rules.specs.declared.fault.MethodFault.TheVariants.{ZeroOrdinal, Memory}

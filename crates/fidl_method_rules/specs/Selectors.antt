@@ -4,7 +4,7 @@ use Rattle.std.specs.List.{filter}
 use Rattle.fidl_span.specs.declared.words.Span.{Span}
 use Rattle.fidl_tree.specs.Leaf.{text_at}
 use Rattle.fidl_tree.specs.Syntax.{Attribute}
-use Rattle.fidl_const.specs.Literals.{string_of}
+use Rattle.fidl_consts.specs.Literals.{string_of}
 use Rattle.fidl_member_rules.specs.Profile.{only_string}
 use Rattle.fidl_method_rules.specs.Texts.{MaySelect}
 

@@ -1,7 +1,7 @@
 //! The full names of methods.
 ghost use Rattle.std.specs.Prelude.{◌≡◌, ◌++◌, ◌∷◌, [], flat_map, IfOk, OnOk};
 ghost use Rattle.fidl_tree.specs.Views.{file_view};
-ghost use Rattle.fidl_names.specs.Names.{part_text};
+ghost use Rattle.fidl_named.specs.Names.{part_text};
 ghost use Rattle.fidl_declarations.specs.declared.step.Step.TheVariants as Steps;
 ghost use Rattle.fidl_declarations.specs.Forms.{name_by_path};
 ghost use Rattle.fidl_method_rules.specs.Methods.{named_in};

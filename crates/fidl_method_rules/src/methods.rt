@@ -11,7 +11,7 @@ use crate::fault::MethodFault;
 use crate::full_name::method_full_name;
 use crate::member::{Method, may_stand, method_of};
 use crate::selector::{only_selector, selected_text};
-use fidl_names::Place;
+use fidl_named::Place;
 use fidl_ordinal::ordinal_of;
 use fidl_span::Span;
 use fidl_tree::{File, ProtocolDeclaration, ProtocolMember};

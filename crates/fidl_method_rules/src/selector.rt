@@ -10,7 +10,7 @@ ghost use Rattle.fidl_method_rules.specs.Methods.{Selects, SelectedBy};
 
 use crate::full_name::named_in;
 use crate::texts::{is_full_name, is_identifier};
-use fidl_const::string_bytes;
+use fidl_consts::string_bytes;
 use fidl_span::Span;
 use fidl_tree::{Arguments, Attribute, File, Operand, Value};
 use std::alloc::{AllocError, Global};

@@ -18,7 +18,7 @@ ghost use Rattle.fidl_method_rules.specs.Rules.{IsReportIn};
 ghost use Rattle.fidl_method_rules.specs.MethodViews.{AreMethods, IsEntryOf, IsEntry};
 ghost use Rattle.fidl_method_rules.specs.declared.fault.MethodFault.TheVariants as Faults;
 ghost use Rattle.fidl_method_rules.specs.declared.methods.OwnMethod.{OwnMethod};
-ghost use Rattle.fidl_names.specs.declared.place.Place.{Place};
+ghost use Rattle.fidl_named.specs.declared.place.Place.{Place};
 
 /// A flexible method stands in an open protocol, in an ajar one where it is no two-way method, and
 /// in no closed one.

@@ -1,9 +1,10 @@
 // Worked cases: values, at the types of constants and at others.
 ghost use Rattle.std.specs.Prelude.{◌<◌, length};
-ghost use Rattle.fidl_const.specs.Tables.{AreConsts};
+ghost use Rattle.fidl_consts.specs.Tables.{AreConsts};
 
-use fidl_const::{ConstType, ConstValue, Consts, NumberKind, evaluate};
-use fidl_names::{DeclarationId, Meaning, Named};
+use fidl_const::{Consts, evaluate};
+use fidl_consts::{ConstType, ConstValue, NumberKind};
+use fidl_named::{DeclarationId, Meaning, Named};
 use fidl_test_sources::{Parsed, named, trees};
 use fidl_tree::{DeclarationBody, File, Value};
 use std::alloc::Global;

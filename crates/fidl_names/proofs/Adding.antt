@@ -8,13 +8,14 @@ use Rattle.std.proofs.Math.ListN.{get_or-map, length-map}
 use Rattle.std.proofs.lemmas.List.FromFn.{get_or-enumerate_from, length-enumerate_from}
 use Rattle.fidl_tree.specs.declared.file.File.{File}
 use Rattle.fidl_tree.specs.declared.declaration.Declaration.{Declaration}
-use Rattle.fidl_names.specs.declared.place.Place.{Place}
-use Rattle.fidl_names.specs.declared.place.DeclarationId.{DeclarationId}
-use Rattle.fidl_names.specs.declared.fault.NameFault.{NameFault}
-use Rattle.fidl_names.specs.declared.fault.NameFault.TheVariants.{DuplicateName, UnknownLibrary, UnknownName, AmbiguousName, AliasCycle, ImportCycle, BadImport, Memory}
-use Rattle.fidl_names.specs.Names.{full_name, declared, entries_of, place_in, IsOneOf, AreDistinct}
-use Rattle.fidl_names.specs.NameMaps.{seen, names_of, IsTaken}
-use Rattle.fidl_names.specs.Faults.{IsTrueOfAdding}
+use Rattle.fidl_named.specs.declared.place.Place.{Place}
+use Rattle.fidl_named.specs.declared.place.DeclarationId.{DeclarationId}
+use Rattle.fidl_named.specs.declared.fault.NameFault.{NameFault}
+use Rattle.fidl_named.specs.declared.fault.NameFault.TheVariants.{DuplicateName, UnknownLibrary, UnknownName, AmbiguousName, AliasCycle, ImportCycle, BadImport, Memory}
+use Rattle.fidl_named.specs.Names.{full_name, declared, entries_of, place_in, IsOneOf, AreDistinct}
+use Rattle.fidl_named.specs.NameMaps.{seen, names_of}
+use Rattle.fidl_names.specs.TakenNames.{IsTaken}
+use Rattle.fidl_names.specs.Refusals.{IsTrueOfAdding}
 
 -- a name that is none of them may follow
 pub distinct_more : (xs : List (List ℕ)) (x : List ℕ) → AreDistinct xs → (IsOneOf xs x → ⊥) → AreDistinct (xs ++ x ∷ [])

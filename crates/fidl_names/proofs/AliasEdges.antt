@@ -9,17 +9,20 @@ use Rattle.fidl_tree.specs.Syntax.{Path}
 use Rattle.fidl_tree.specs.Views.{type_view}
 use Rattle.fidl_tree.specs.declared.file.File.{File}
 use Rattle.fidl_tree.specs.declared.declaration.AliasDeclaration.{AliasDeclaration}
-use Rattle.fidl_names.specs.declared.place.DeclarationId.{DeclarationId}
-use Rattle.fidl_names.specs.declared.meaning.Wanted.TheVariants as wanted
-use Rattle.fidl_names.specs.Meanings.{IsJust}
-use Rattle.fidl_names.specs.OuterTypes.{outer_types, texts}
-use Rattle.fidl_names.specs.Aliases.{IsAliasAt, Refers}
+use Rattle.fidl_named.specs.declared.place.DeclarationId.{DeclarationId}
+use Rattle.fidl_named.specs.declared.meaning.Wanted.TheVariants as wanted
+use Rattle.fidl_named.specs.Meanings.{IsJust}
+use Rattle.fidl_names.specs.OuterTypes.{outer_types}
+use Rattle.fidl_named.specs.Paths.{texts}
+use Rattle.fidl_named.specs.Aliases.{IsAliasAt}
+use Rattle.fidl_names.specs.AliasCycles.{Refers}
 use Rattle.fidl_names.specs.AliasGraph.{IsMeant, IsTarget, AreTargets, IsReferred, AreReferred, AreRows, IsAliasOrder}
-use Rattle.fidl_names.specs.Cycles.{Leads, step, further, IsEdge, IsEdgeFrom, IsFirstEdge, IsOrder}
-use Rattle.fidl_names.specs.DeclarationNumbers.{HasDeclaration, number_of, AreNumbered}
-use Rattle.fidl_names.proofs.ResolvedMeanings.{one_file, one_alias}
-use Rattle.fidl_names.proofs.Numbering.{get_left, get_right, get_either, get_there}
-use Rattle.fidl_names.proofs.AliasFacts.{read_id}
+use Rattle.fidl_cycles.specs.Cycles.{Leads, step, further, IsEdge, IsEdgeFrom, IsFirstEdge, IsOrder}
+use Rattle.fidl_named.specs.FullNames.{HasDeclaration}
+use Rattle.fidl_names.specs.DeclarationNumbers.{number_of, AreNumbered}
+use Rattle.fidl_named.proofs.ResolvedMeanings.{one_file, one_alias}
+use Rattle.fidl_cycles.proofs.Lists.{get_left, get_right, get_either, get_there}
+use Rattle.fidl_names.proofs.AliasNames.{read_id}
 
 -- one type more
 module _ (fs : List File) (f : File) (ss : List ℕ) (ts : List (Option Path × Path)) (of : Option Path) (path : Path) (found : List ℕ) (h : AreTargets fs f ss ts found) where

@@ -12,29 +12,30 @@ use Rattle.fidl_tree.specs.Views.{file_view, declared_view}
 use Rattle.fidl_tree.specs.declared.file.File.{File}
 use Rattle.fidl_tree.specs.declared.file.Import.{Import}
 use Rattle.fidl_tree.specs.declared.declaration.Declaration.{Declaration}
-use Rattle.fidl_names.specs.declared.place.Place.{Place}
-use Rattle.fidl_names.specs.declared.fault.NameFault.{NameFault}
-use Rattle.fidl_names.specs.declared.fault.NameFault.TheVariants.{DuplicateName, UnknownLibrary, UnknownName, AmbiguousName, AliasCycle, ImportCycle, BadImport, Memory}
-use Rattle.fidl_names.specs.declared.meaning.Wanted.{Wanted}
-use Rattle.fidl_names.specs.declared.meaning.Wanted.TheVariants as wanted
-use Rattle.fidl_names.specs.declared.meaning.Meaning.{Meaning}
-use Rattle.fidl_names.specs.Names.{IsOneOf, AreDistinct, library_of, path_text}
-use Rattle.fidl_names.specs.Imports.{import_names, visible_by, taken_names, libraries_of, ImportsAreKnown, ImportsAreApart, ImportsNothing, RepeatsImport}
-use Rattle.fidl_names.specs.Meanings.{Means}
-use Rattle.fidl_names.specs.NameMaps.{names_of}
-use Rattle.fidl_names.specs.OuterTypes.{texts}
-use Rattle.fidl_names.specs.Paths.{IsTrueOfPath}
-use Rattle.fidl_names.specs.Aliases.{IsArrayName, ResolvesTo}
-use Rattle.fidl_names.specs.Places.{NamePlace, value_paths, body_places}
-use Rattle.fidl_names.specs.Constraints.{item_kind, ItemMeans, NameOfItemFails, NameOfValueFails, ValueMeans, name_or_value, name_or_value_fails, path_alone, ItemsHold, ItemsFail}
+use Rattle.fidl_named.specs.declared.place.Place.{Place}
+use Rattle.fidl_named.specs.declared.fault.NameFault.{NameFault}
+use Rattle.fidl_named.specs.declared.fault.NameFault.TheVariants.{DuplicateName, UnknownLibrary, UnknownName, AmbiguousName, AliasCycle, ImportCycle, BadImport, Memory}
+use Rattle.fidl_named.specs.declared.meaning.Wanted.{Wanted}
+use Rattle.fidl_named.specs.declared.meaning.Wanted.TheVariants as wanted
+use Rattle.fidl_named.specs.declared.meaning.Meaning.{Meaning}
+use Rattle.fidl_named.specs.Names.{IsOneOf, AreDistinct, library_of, path_text}
+use Rattle.fidl_named.specs.Imports.{import_names, visible_by, ImportsAreApart}
+use Rattle.fidl_names.specs.ImportRules.{taken_names, libraries_of, ImportsAreKnown, ImportsNothing, RepeatsImport}
+use Rattle.fidl_named.specs.Meanings.{Means}
+use Rattle.fidl_named.specs.NameMaps.{names_of}
+use Rattle.fidl_named.specs.Paths.{texts}
+use Rattle.fidl_named.specs.Paths.{IsTrueOfPath}
+use Rattle.fidl_named.specs.Aliases.{IsArrayName, ResolvesTo}
+use Rattle.fidl_named.specs.Places.{NamePlace, value_paths, body_places}
+use Rattle.fidl_named.specs.Constraints.{item_kind, ItemMeans, NameOfItemFails, NameOfValueFails, ValueMeans, name_or_value, name_or_value_fails, path_alone, ItemsHold, ItemsFail}
 use Rattle.fidl_names.specs.MemberLists.{RepeatsMember, DistinctMembers, ListsDiffer, NamesDiffer, body_lists}
-use Rattle.fidl_names.specs.Faults.{IsTrueOfOne}
+use Rattle.fidl_names.specs.Refusals.{IsTrueOfOne}
 use Rattle.fidl_names.specs.Resolved.{PlaceHolds, PlaceFails, NameFails, NamesHold, DeclarationHolds, IsTrueOfResolving, Resolves}
-use Rattle.fidl_names.proofs.AliasFacts.{one_wanted}
-use Rattle.fidl_names.proofs.ResolvedMeanings.{one_resolved}
-use Rattle.fidl_names.proofs.Layouts.{all_at}
-use Rattle.fidl_names.proofs.Members.{place_among}
-use Rattle.fidl_names.proofs.FullNames.{entry_among}
+use Rattle.fidl_named.proofs.AliasFacts.{one_wanted}
+use Rattle.fidl_named.proofs.ResolvedMeanings.{one_resolved}
+use Rattle.fidl_cycles.proofs.Lists.{all_get as all_at}
+use Rattle.fidl_named.proofs.Members.{place_among}
+use Rattle.fidl_named.proofs.FullNames.{entry_among}
 use Rattle.fidl_names.proofs.Seeing.{names_of-visible}
 
 -- what holds of all holds of each

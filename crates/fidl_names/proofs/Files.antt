@@ -2,8 +2,8 @@
 use Rattle.std.proofs.Common.{◌≡◌, ℕ, suc, ◌+◌, List, [], ◌∷◌, ◌++◌, length, ap, sym, ◌∙◌, arith, zero-add, refl}
 use Rattle.std.proofs.lemmas.List.{append_assoc, append-nil, map-append}
 use Rattle.fidl_tree.specs.declared.file.File.{File}
-use Rattle.fidl_names.specs.Names.{declared, all_declared, entries_of, all_entries}
-use Rattle.fidl_names.specs.NameMaps.{names_of}
+use Rattle.fidl_named.specs.Names.{declared, all_declared, entries_of, all_entries}
+use Rattle.fidl_named.specs.NameMaps.{names_of}
 use Rattle.fidl_names.proofs.Adding.{names_of-entries}
 
 pub entries_after : (fs : List File) (f : File) (n : ℕ) → all_entries (fs ++ f ∷ []) n ≡ all_entries fs n ++ entries_of f (length fs + n)

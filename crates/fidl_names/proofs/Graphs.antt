@@ -1,31 +1,22 @@
 -- The graph of the libraries of a set, and the imports that make it.
-use Rattle.std.proofs.Common.{◌≡◌, ◌<◌, ◌+◌, ℕ, List, [], Some, inl, inr, refl, sym, subst, ◌∙◌, length, get_or, take, arith}
-use Rattle.std.specs.Prelude.{◌⊎◌, ◌↔◌, slice_get, replicate}
+use Rattle.std.proofs.Common.{◌≡◌, ◌<◌, ◌+◌, ℕ, List, Some, inl, inr, refl, sym, subst, length, get_or, take}
+use Rattle.std.specs.Prelude.{◌⊎◌, ◌↔◌, slice_get}
 use Rattle.std.specs.List.{Contains, Any, AllByRecursion}
-use Rattle.std.proofs.lemmas.List.{get_or-replicate, length-replicate}
-use Rattle.std.proofs.lemmas.Option.{slice_get_within, get_or_from_slice_get}
 use Rattle.fidl_tree.specs.declared.file.File.{File}
 use Rattle.fidl_tree.specs.declared.file.Import.{Import}
-use Rattle.fidl_names.specs.declared.place.Place.{Place}
-use Rattle.fidl_names.specs.Cycles.{Leads, step, further, IsEdge, IsEdgeFrom, IsFirstEdge}
-use Rattle.fidl_names.specs.Names.{IsOneOf, AreDistinct, path_text, library_of}
-use Rattle.fidl_names.specs.Imports.{libraries_of, ImportsAreKnown, IsEntry}
-use Rattle.fidl_names.specs.NameMaps.{names_of, HaveSame}
+use Rattle.fidl_named.specs.declared.place.Place.{Place}
+use Rattle.fidl_cycles.specs.Cycles.{Leads, step, further, IsEdge, IsEdgeFrom, IsFirstEdge}
+use Rattle.fidl_named.specs.Names.{IsOneOf, AreDistinct, path_text, library_of}
+use Rattle.fidl_names.specs.ImportRules.{libraries_of, ImportsAreKnown}
+use Rattle.fidl_named.specs.Imports.{IsEntry}
+use Rattle.fidl_named.specs.NameMaps.{names_of}
+use Rattle.fidl_names.specs.TakenNames.{HaveSame}
 use Rattle.fidl_names.specs.ImportCycles.{Imports, ImportsBack, AreNumbered, HasEdge, IsImportAt}
 use Rattle.fidl_names.proofs.Sames.{known_by}
-use Rattle.fidl_names.proofs.Firsts.{leads_by}
-use Rattle.fidl_names.proofs.FullNames.{one_entry}
-use Rattle.fidl_names.proofs.LibraryNumbers.{contains_at, all_at, one_of_them, pick, any_of, any_more, one_name, number_within, number_of}
-
--- points without edges
-pub no_edge : (n one other : ℕ) → IsEdge (replicate n []) one other → ⊥
-no_edge n one other e =
-    let within = slice_get_within (replicate n []) one e.targets e.stands in
-    let long = length-replicate {A = List ℕ} n [] in
-    let none : e.targets ≡ [] = sym (get_or_from_slice_get (replicate n []) one e.targets [] e.stands) ∙ get_or-replicate n one [] [] (omega (arith, within, long)) in
-    let m = subst (λ l. Contains l other) none e.among in
-    let lt = m.1 in
-    absurd (omega (arith, lt))
+use Rattle.fidl_cycles.proofs.Firsts.{leads_by}
+use Rattle.fidl_named.proofs.FullNames.{one_entry}
+use Rattle.fidl_cycles.proofs.Lists.{contains_at, all_at, pick, any_of, any_more}
+use Rattle.fidl_names.proofs.LibraryNumbers.{one_of_them, one_name, number_within, number_of}
 
 -- what is known so far, and one thing more
 pub both_more : (Before Now Old Part Last All : Type 0) → Before ↔ (Old ⊎ Part) → Now ↔ (Before ⊎ Last) → All ↔ (Part ⊎ Last) → Now ↔ (Old ⊎ All)
@@ -46,17 +37,6 @@ both_more Before Now Old Part Last All h k m = ((λ n. there (k.0 n)), (λ o. k.
     back : Old ⊎ All → Before ⊎ Last
     back (inl o) = inl (h.1 (inl o))
     back (inr a) = part (m.0 a)
-
-pub all_more : (Before Now Part Last All : Type 0) → Before ↔ Part → Now ↔ (Before ⊎ Last) → All ↔ (Part ⊎ Last) → Now ↔ All
-all_more Before Now Part Last All h k m = ((λ n. m.1 (there (k.0 n))), (λ a. k.1 (back (m.0 a))))
-  where
-    there : Before ⊎ Last → Part ⊎ Last
-    there (inl b) = inl (h.0 b)
-    there (inr l) = inr l
-
-    back : Part ⊎ Last → Before ⊎ Last
-    back (inl p) = inl (h.1 p)
-    back (inr l) = inr l
 
 -- one import more
 module _ (es : List (List ℕ × ℕ)) (names : AreDistinct (names_of es)) (f : File) (imports : List Import) (i : ℕ) (item : Import) (lt : i < length imports) (at : item ≡ get_or imports i item) (from to : ℕ)

@@ -1,9 +1,7 @@
 -- The members of declared bits and enums make one of the declaration's lists.
-use Rattle.std.proofs.Common.{rules, ◌≡◌, ◌<◌, ℕ, zero, suc, length, get_or, arith, List, [], ◌∷◌, map, refl, ap, sym, subst, ◌∙◌}
-use Rattle.std.specs.Prelude.{Some, slice_get}
+use Rattle.std.proofs.Common.{rules, ◌≡◌, ℕ, List, [], ◌∷◌, map, refl, ap, sym, subst, ◌∙◌}
 use Rattle.std.specs.List.{AllByRecursion}
 use Rattle.std.proofs.lemmas.Grind.{flat_map-append}
-use Rattle.std.proofs.lemmas.Option.{get_or_from_slice_get, slice_get_within}
 use Rattle.fidl_tree.specs.Leaf.{text_at}
 use Rattle.fidl_tree.specs.Syntax as plain
 use Rattle.fidl_tree.specs.Syntax.{values_layout, struct_layout, table_layout, union_layout}
@@ -20,11 +18,13 @@ use Rattle.fidl_tree.specs.declared.type_constructor.LayoutBody.{LayoutBody, out
 use Rattle.fidl_tree.specs.declared.type_constructor.LayoutBody.TheOpen.{LayoutBody-F}
 use Rattle.fidl_tree.specs.declared.type_constructor.ValuesLayout as values
 use Rattle.fidl_tree.specs.declared.type_constructor.ValuesLayout.{ValuesLayout, out-ValuesLayout}
-use Rattle.fidl_names.specs.Names.{AreDistinct}
-use Rattle.fidl_names.specs.Meanings.{layout_members, value_members, MembersDiffer}
-use Rattle.fidl_names.specs.Spots.{layout_spot, underlying_spots, layout_spots}
-use Rattle.fidl_names.specs.MemberLists.{value_names, spot_lists, lists_of, body_lists, layout_values, body_values, NamesDiffer, ListsDiffer, DistinctMembers}
-use Rattle.fidl_names.proofs.Trails.{all_last}
+use Rattle.fidl_named.specs.Names.{AreDistinct}
+use Rattle.fidl_named.specs.Meanings.{layout_members, value_members, MembersDiffer}
+use Rattle.fidl_named.specs.Spots.{layout_spot, underlying_spots, layout_spots}
+use Rattle.fidl_named.specs.MemberNames.{value_names}
+use Rattle.fidl_names.specs.MemberLists.{spot_lists, lists_of, body_lists, layout_values, body_values, NamesDiffer, ListsDiffer, DistinctMembers}
+use Rattle.fidl_cycles.proofs.Trails.{all_last}
+use Rattle.fidl_cycles.proofs.Lists.{all_get as all_at}
 
 -- in plain data
 
@@ -79,14 +79,6 @@ names_again src (m ∷ ms) = ap (λ l. text_at src m.name ∷ l) (names_again sr
 of_declaration : (src : List ℕ) (d : Declaration) → ListsDiffer src (declaration_view d) → AreDistinct (map (λ (m : ValueMember). text_at src m.name) (value_members d.body))
 of_declaration src d h =
     subst AreDistinct (ap (λ ms. map (text_at src) (value_names ms)) (sym (seen_members d.body)) ∙ names_again src (value_members d.body)) (of_plain src (declared_view d.body) h)
-
-all_get : {X : Type 0} (P : X → Type 0) (xs : List X) (i : ℕ) (d : X) → AllByRecursion P xs → i < length xs → P (get_or xs i d)
-all_get P [] i d h lt = absurd (omega (arith, lt))
-all_get P (x ∷ xs) zero d h lt = h.0
-all_get P (x ∷ xs) (suc i) d h lt = all_get P xs i d h.1 (omega (arith, lt))
-
-pub all_at : {X : Type 0} (P : X → Type 0) (xs : List X) (i : ℕ) (x : X) → AllByRecursion P xs → slice_get xs i ≡ Some x → P x
-all_at P xs i x h e = subst P (get_or_from_slice_get xs i x x e) (all_get P xs i x h (slice_get_within xs i x e))
 
 all_mapped : {X Y : Type 0} (view : X → Y) (P : Y → Type 0) (xs : List X) → AllByRecursion P (map view xs) → AllByRecursion (λ x. P (view x)) xs
 all_mapped view P [] h = tt

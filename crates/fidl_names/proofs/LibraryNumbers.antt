@@ -1,18 +1,15 @@
 -- Names with numbers, and what holds of one of the elements of a list.
-use Rattle.std.proofs.Common.{◌≡◌, ◌<◌, ◌+◌, ℕ, zero, suc, List, [], ◌∷◌, ◌++◌, Some, inl, inr, refl, sym, subst, ◌∙◌, ap, length, get_or, take, map, arith}
-use Rattle.std.specs.Prelude.{◌⊎◌, ◌↔◌, slice_get}
-use Rattle.std.specs.List.{Contains, Any, AllByRecursion}
+use Rattle.std.proofs.Common.{◌≡◌, ◌<◌, ◌+◌, ℕ, zero, suc, List, [], ◌∷◌, ◌++◌, Some, inl, inr, refl, sym, subst, ◌∙◌, ap, length, get_or, map, arith}
+use Rattle.std.specs.Prelude.{slice_get}
+use Rattle.std.specs.List.{Contains}
 use Rattle.std.proofs.lemmas.List.{map-append}
-use Rattle.std.proofs.lemmas.List.Elements.{All-from_recursion, All-contains, Contains-push_cases, Contains-append_left}
-use Rattle.std.proofs.lemmas.List.Quantifiers.{Any-push}
-use Rattle.std.proofs.lemmas.Option.{slice_get_within, get_or_from_slice_get, some_pair_parts}
-use Rattle.fidl_names.specs.Names.{IsOneOf, AreDistinct}
-use Rattle.fidl_names.specs.Imports.{IsEntry}
-use Rattle.fidl_names.specs.NameMaps.{names_of}
+use Rattle.std.proofs.lemmas.Option.{slice_get_within, some_pair_parts}
+use Rattle.fidl_named.specs.Names.{IsOneOf, AreDistinct}
+use Rattle.fidl_named.specs.Imports.{IsEntry}
+use Rattle.fidl_named.specs.NameMaps.{names_of}
 use Rattle.fidl_names.specs.ImportCycles.{AreNumbered}
 use Rattle.fidl_names.proofs.Adding.{distinct_more}
-use Rattle.fidl_names.proofs.FullNames.{entry_both}
-use Rattle.fidl_names.proofs.Seeing.{take_item}
+use Rattle.fidl_named.proofs.FullNames.{entry_both}
 
 module _ {X : Type 0} where
   front_at : (xs ys : List X) (k : ℕ) (x : X) → slice_get xs k ≡ Some x → slice_get (xs ++ ys) k ≡ Some x
@@ -24,12 +21,6 @@ module _ {X : Type 0} where
   last_at [] x = refl
   last_at (z ∷ xs) x = last_at xs x
 
-  pub contains_at : (xs : List X) (k : ℕ) (x : X) → slice_get xs k ≡ Some x → Contains xs x
-  contains_at xs k x is = (k, slice_get_within xs k x is, get_or_from_slice_get xs k x x is)
-
-  pub all_at : (P : X → Type 0) (xs : List X) (x : X) → AllByRecursion P xs → Contains xs x → P x
-  all_at P xs x h m = All-contains P xs x (All-from_recursion P xs h) m
-
   one_of_at : (f : X → List ℕ) (xs : List X) (k : ℕ) (d : X) → k < length xs → IsOneOf (map f xs) (f (get_or xs k d))
   one_of_at f [] k d lt = absurd (omega (arith, lt))
   one_of_at f (x ∷ xs) zero d lt = inl refl
@@ -37,40 +28,6 @@ module _ {X : Type 0} where
 
   pub one_of_them : (f : X → List ℕ) (xs : List X) (x : X) → Contains xs x → IsOneOf (map f xs) (f x)
   one_of_them f xs x m = subst (λ y. IsOneOf (map f xs) (f y)) m.2 (one_of_at f xs m.0 x m.1)
-
-  -- an element of which it holds
-  pub record Picked (P : X → Type 0) (xs : List X) : Type 0 where
-    pub item : X
-    pub among : Contains xs item
-    pub holds : P item
-
-  pub pick : (P : X → Type 0) (xs : List X) → Any P xs → Picked P xs
-  pick P xs (k, x, lt, is, p) = record { item = x; among = (k, lt, is); holds = p }
-
-  pub any_of : (P : X → Type 0) (xs : List X) (x : X) → Contains xs x → P x → Any P xs
-  any_of P xs x m p = (m.0, x, m.1, m.2, p)
-
-  pub any_none : (P : X → Type 0) → Any P [] → ⊥
-  any_none P (k, x, lt, is, p) = absurd (omega (arith, lt))
-
-  any_last : (P : X → Type 0) (xs : List X) (y : X) → Any P (xs ++ y ∷ []) ↔ (Any P xs ⊎ P y)
-  any_last P xs y = (there, back)
-    where
-      there : Any P (xs ++ y ∷ []) → Any P xs ⊎ P y
-      there a =
-          let r = pick P (xs ++ y ∷ []) a in
-          elim (Contains-push_cases xs y r.item r.among) as (λ _. Any P xs ⊎ P y) [
-            | inl m ↦ inl (any_of P xs r.item m r.holds)
-            | inr is ↦ inr (subst P (sym is) r.holds)
-          ]
-
-      back : Any P xs ⊎ P y → Any P (xs ++ y ∷ [])
-      back (inl a) = let r = pick P xs a in any_of P (xs ++ y ∷ []) r.item (Contains-append_left xs (y ∷ []) r.item r.among) r.holds
-      back (inr p) = Any-push P xs y p
-
-  -- it holds of one of an element more
-  pub any_more : (P : X → Type 0) (xs : List X) (i : ℕ) (x : X) → i < length xs → x ≡ get_or xs i x → Any P (take (i + 1) xs) ↔ (Any P (take i xs) ⊎ P x)
-  any_more P xs i x lt is = subst (λ l. Any P l ↔ (Any P (take i xs) ⊎ P x)) (sym (take_item xs i x lt is)) (any_last P (take i xs) x)
 
 module _ (es : List (List ℕ × ℕ)) where
   pub numbered_more : (name : List ℕ) (number : ℕ) → number ≡ length es → (IsOneOf (names_of es) name → ⊥) → AreNumbered es → AreNumbered (es ++ (name, number) ∷ [])

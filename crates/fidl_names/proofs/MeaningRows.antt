@@ -4,14 +4,14 @@ use Rattle.std.specs.Prelude.{slice_get}
 use Rattle.std.proofs.lemmas.List.{length_push, get_or_push, get_or_append_left}
 use Rattle.std.proofs.lemmas.Option.{get_or_from_slice_get, slice_get_within, same_Some}
 use Rattle.fidl_tree.specs.declared.file.File.{File}
-use Rattle.fidl_names.specs.declared.place.DeclarationId.{DeclarationId}
-use Rattle.fidl_names.specs.declared.alias_ends.AliasEnd.{AliasEnd}
-use Rattle.fidl_names.specs.declared.meaning.Meaning.TheVariants as meaning
-use Rattle.fidl_names.specs.Aliases.{IsEnd, HasEnd}
-use Rattle.fidl_names.specs.DeclarationNumbers.{HasDeclaration}
+use Rattle.fidl_named.specs.declared.place.DeclarationId.{DeclarationId}
+use Rattle.fidl_named.specs.declared.ends.AliasEnd.{AliasEnd}
+use Rattle.fidl_named.specs.declared.meaning.Meaning.TheVariants as meaning
+use Rattle.fidl_named.specs.Aliases.{IsEnd, HasEnd}
+use Rattle.fidl_named.specs.FullNames.{HasDeclaration}
 use Rattle.fidl_names.specs.MeaningRows.{IsWithin, with_end}
-use Rattle.fidl_names.proofs.FullNames.{at}
-use Rattle.fidl_names.proofs.Trails.{same_or_not}
+use Rattle.fidl_named.proofs.FullNames.{at}
+use Rattle.fidl_cycles.proofs.Trails.{same_or_not}
 
 module _ {X : Type 0} where
   get_set : (xs : List X) (i : ℕ) (x : X) → i < length xs → slice_get (set xs i x) i ≡ Some x

@@ -4,35 +4,12 @@ use Rattle.std.specs.Prelude.{slice_get}
 use Rattle.std.proofs.lemmas.List.{length_push, get_or_push, get_or_append_left}
 use Rattle.std.proofs.lemmas.Option.{slice_get_within, none-some}
 use Rattle.fidl_tree.specs.declared.file.File.{File}
-use Rattle.fidl_names.specs.declared.place.DeclarationId.{DeclarationId}
-use Rattle.fidl_names.specs.DeclarationNumbers.{HasDeclaration, ids_in, number_of, AreNumbered}
-use Rattle.fidl_names.proofs.FullNames.{at}
-use Rattle.fidl_names.proofs.Trails.{same_or_not}
-
-module _ {X : Type 0} where
-  pub get_left : (xs ys : List X) (n : ℕ) (x : X) → slice_get xs n ≡ Some x → slice_get (xs ++ ys) n ≡ Some x
-  get_left [] ys n x e = absurd (none-some x e)
-  get_left (y ∷ xs) ys zero x e = e
-  get_left (y ∷ xs) ys (suc n) x e = get_left xs ys n x e
-
-  pub get_right : (xs ys : List X) (n m : ℕ) → m ≡ length xs + n → slice_get (xs ++ ys) m ≡ slice_get ys n
-  get_right [] ys n m e = let same : m ≡ n = omega arith in ap (slice_get ys) same
-  get_right (x ∷ xs) ys n zero e = let no : ⊥ = omega arith in absurd no
-  get_right (x ∷ xs) ys n (suc m) e = let less : m ≡ length xs + n = omega arith in get_right xs ys n m less
-
-  pub get_either : (xs ys : List X) (n : ℕ) (x : X) → slice_get (xs ++ ys) n ≡ Some x → (slice_get xs n ≡ Some x) ⊎ ((j : ℕ) × (n ≡ length xs + j) × (slice_get ys j ≡ Some x))
-  get_either [] ys n x e = let same : n ≡ 0 + n = omega arith in inr (n, same, e)
-  get_either (y ∷ xs) ys zero x e = inl e
-  get_either (y ∷ xs) ys (suc n) x e = one_on (get_either xs ys n x e)
-    where
-      one_on : (slice_get xs n ≡ Some x) ⊎ ((j : ℕ) × (n ≡ length xs + j) × (slice_get ys j ≡ Some x)) → (slice_get xs n ≡ Some x) ⊎ ((j : ℕ) × (suc n ≡ suc (length xs) + j) × (slice_get ys j ≡ Some x))
-      one_on (inl h) = inl h
-      one_on (inr (j, is, h)) = let same : suc n ≡ suc (length xs) + j = omega (arith, is) in inr (j, same, h)
-
-  pub get_there : (xs : List X) (i : ℕ) → i < length xs → (x : X) × (slice_get xs i ≡ Some x)
-  get_there [] i lt = let no : ⊥ = omega (arith, lt) in absurd no
-  get_there (x ∷ xs) zero lt = (x, refl)
-  get_there (x ∷ xs) (suc i) lt = let less : i < length xs = omega (arith, lt) in get_there xs i less
+use Rattle.fidl_named.specs.declared.place.DeclarationId.{DeclarationId}
+use Rattle.fidl_named.specs.FullNames.{HasDeclaration}
+use Rattle.fidl_names.specs.DeclarationNumbers.{ids_in, number_of, AreNumbered}
+use Rattle.fidl_named.proofs.FullNames.{at}
+use Rattle.fidl_cycles.proofs.Trails.{same_or_not}
+use Rattle.fidl_cycles.proofs.Lists.{get_left, get_right, get_either, get_there}
 
 pub length_in : (file n : ℕ) → length (ids_in file n) ≡ n
 length_in file zero = refl

@@ -2,15 +2,15 @@
 use Rattle.std.proofs.Common.{ℕ, List, Option, Some, None, inl, inr, sym, subst}
 use Rattle.fidl_tree.specs.Syntax.{Path, Value}
 use Rattle.fidl_tree.specs.declared.file.File.{File}
-use Rattle.fidl_names.specs.declared.fault.NameFault.{NameFault}
-use Rattle.fidl_names.specs.declared.fault.NameFault.TheVariants.{DuplicateName, UnknownLibrary, UnknownName, AmbiguousName, AliasCycle, ImportCycle, BadImport, Memory}
-use Rattle.fidl_names.specs.declared.meaning.Wanted.{Wanted}
-use Rattle.fidl_names.specs.declared.meaning.Meaning.{Meaning}
-use Rattle.fidl_names.specs.Paths.{IsTrueOfPath}
-use Rattle.fidl_names.specs.Faults.{IsTrueOfOne}
-use Rattle.fidl_names.specs.Places.{NamePlace}
-use Rattle.fidl_names.specs.Constraints.{path_alone, name_or_value_fails, ItemsFail}
-use Rattle.fidl_names.specs.Scopes.{IsMemoryOr}
+use Rattle.fidl_named.specs.declared.fault.NameFault.{NameFault}
+use Rattle.fidl_named.specs.declared.fault.NameFault.TheVariants.{DuplicateName, UnknownLibrary, UnknownName, AmbiguousName, AliasCycle, ImportCycle, BadImport, Memory}
+use Rattle.fidl_named.specs.declared.meaning.Wanted.{Wanted}
+use Rattle.fidl_named.specs.declared.meaning.Meaning.{Meaning}
+use Rattle.fidl_named.specs.Paths.{IsTrueOfPath}
+use Rattle.fidl_names.specs.Refusals.{IsTrueOfOne}
+use Rattle.fidl_named.specs.Places.{NamePlace}
+use Rattle.fidl_named.specs.Constraints.{path_alone, name_or_value_fails, ItemsFail}
+use Rattle.fidl_named.specs.Scopes.{IsMemoryOr}
 use Rattle.fidl_names.specs.Resolved.{PlaceFails, NameFails, IsTrueOfResolving}
 
 -- the refusals of a name

@@ -4,11 +4,11 @@ use Rattle.std.specs.Prelude.{◌⊎◌}
 use Rattle.std.specs.List.{AllByRecursion}
 use Rattle.fidl_tree.specs.declared.file.File.{File}
 use Rattle.fidl_tree.specs.declared.file.Import.{Import}
-use Rattle.fidl_names.specs.declared.fault.NameFault.{NameFault}
-use Rattle.fidl_names.specs.declared.fault.NameFault.TheVariants.{DuplicateName, UnknownLibrary, UnknownName, AmbiguousName, AliasCycle, ImportCycle, BadImport, Memory}
-use Rattle.fidl_names.specs.Names.{IsOneOf, path_text}
-use Rattle.fidl_names.specs.Imports.{ImportsAreKnown, IsTrueOfImports}
-use Rattle.fidl_names.specs.NameMaps.{HaveSame}
+use Rattle.fidl_named.specs.declared.fault.NameFault.{NameFault}
+use Rattle.fidl_named.specs.declared.fault.NameFault.TheVariants.{DuplicateName, UnknownLibrary, UnknownName, AmbiguousName, AliasCycle, ImportCycle, BadImport, Memory}
+use Rattle.fidl_named.specs.Names.{IsOneOf, path_text}
+use Rattle.fidl_names.specs.ImportRules.{ImportsAreKnown, IsTrueOfImports}
+use Rattle.fidl_names.specs.TakenNames.{HaveSame}
 
 module _ (n x : List ℕ) where
   pub before_last : (xs : List (List ℕ)) → IsOneOf xs x → IsOneOf (xs ++ n ∷ []) x

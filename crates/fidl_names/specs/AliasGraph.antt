@@ -3,13 +3,15 @@ use Rattle.std.specs.Prelude.{ℕ, ◌≡◌, ◌<◌, ◌↔◌, List, Option, 
 use Rattle.std.specs.List.{Contains}
 use Rattle.fidl_tree.specs.Syntax.{Path}
 use Rattle.fidl_tree.specs.declared.file.File.{File}
-use Rattle.fidl_names.specs.declared.place.DeclarationId.{DeclarationId}
-use Rattle.fidl_names.specs.declared.meaning.Wanted.TheVariants as wanted
-use Rattle.fidl_names.specs.declared.meaning.Meaning.TheVariants as meaning
-use Rattle.fidl_names.specs.Meanings.{Means}
-use Rattle.fidl_names.specs.OuterTypes.{texts}
-use Rattle.fidl_names.specs.Aliases.{Wants, IsArrayName, Refers}
-use Rattle.fidl_names.specs.DeclarationNumbers.{HasDeclaration, number_of}
+use Rattle.fidl_named.specs.declared.place.DeclarationId.{DeclarationId}
+use Rattle.fidl_named.specs.declared.meaning.Wanted.TheVariants as wanted
+use Rattle.fidl_named.specs.declared.meaning.Meaning.TheVariants as meaning
+use Rattle.fidl_named.specs.Meanings.{Means}
+use Rattle.fidl_named.specs.Paths.{texts}
+use Rattle.fidl_named.specs.Aliases.{Wants, IsArrayName}
+use Rattle.fidl_names.specs.AliasCycles.{Refers}
+use Rattle.fidl_named.specs.FullNames.{HasDeclaration}
+use Rattle.fidl_names.specs.DeclarationNumbers.{number_of}
 
 -- a type's name, where a type is wanted, means the declaration of this id
 pub record IsMeant (files : List File) (f : File) (argument_of : Option Path) (path : Path)

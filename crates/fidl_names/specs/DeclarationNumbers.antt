@@ -2,15 +2,8 @@
 use Rattle.std.specs.Prelude.{ℕ, zero, suc, ◌≡◌, ◌≤◌, ◌+◌, ◌∷◌, [], ◌++◌, List, Some, length}
 use Rattle.std.specs.Prelude.{get_or, slice_get}
 use Rattle.fidl_tree.specs.declared.file.File.{File}
-use Rattle.fidl_tree.specs.declared.declaration.Declaration.{Declaration}
-use Rattle.fidl_names.specs.declared.place.DeclarationId.{DeclarationId}
-
--- a declaration has this id
-pub record HasDeclaration (files : List File) (p : DeclarationId) : Type 0 where
-  pub file : File
-  pub declaration : Declaration
-  pub file_at : slice_get files p.file ≡ Some file
-  pub stands : slice_get file.declarations.items p.index ≡ Some declaration
+use Rattle.fidl_named.specs.declared.place.DeclarationId.{DeclarationId}
+use Rattle.fidl_named.specs.FullNames.{HasDeclaration}
 
 -- the ids of the first declarations of a file, as many as these
 abbrev pub ids_in : (file count : ℕ) → List DeclarationId

@@ -4,13 +4,13 @@ use Rattle.std.specs.List.{Contains, Any}
 use Rattle.fidl_span.specs.declared.words.Span.{Span}
 use Rattle.fidl_tree.specs.declared.file.File.{File}
 use Rattle.fidl_tree.specs.declared.file.Import.{Import}
-use Rattle.fidl_names.specs.declared.place.Place.{Place}
-use Rattle.fidl_names.specs.declared.fault.NameFault.{NameFault}
-use Rattle.fidl_names.specs.declared.fault.NameFault.TheVariants.{ImportCycle, Memory}
-use Rattle.fidl_names.specs.Names.{path_text, library_of, AreDistinct}
-use Rattle.fidl_names.specs.NameMaps.{names_of}
-use Rattle.fidl_names.specs.Imports.{path_span, IsEntry}
-use Rattle.fidl_names.specs.Cycles.{Leads}
+use Rattle.fidl_named.specs.declared.place.Place.{Place}
+use Rattle.fidl_named.specs.declared.fault.NameFault.{NameFault}
+use Rattle.fidl_named.specs.declared.fault.NameFault.TheVariants.{ImportCycle, Memory}
+use Rattle.fidl_named.specs.Names.{path_text, library_of, AreDistinct}
+use Rattle.fidl_named.specs.NameMaps.{names_of}
+use Rattle.fidl_named.specs.Imports.{path_span, IsEntry}
+use Rattle.fidl_cycles.specs.Cycles.{Leads}
 
 -- a library imports another: a file of it does
 pub record Imports (files : List File) (library other : List ℕ) : Type 0 where

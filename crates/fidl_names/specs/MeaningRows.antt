@@ -1,14 +1,10 @@
 -- Rows of what aliases come to, by the ids of declarations.
 use Rattle.std.specs.Prelude.{ℕ, ◌<◌, [], List, length, map, get_or, set}
-use Rattle.fidl_names.specs.declared.place.DeclarationId.{DeclarationId}
-use Rattle.fidl_names.specs.declared.alias_ends.AliasEnd.{AliasEnd}
-use Rattle.fidl_names.specs.declared.meaning.Meaning.{Meaning}
-use Rattle.fidl_names.specs.declared.meaning.Meaning.TheVariants as meaning
+use Rattle.fidl_named.specs.declared.place.DeclarationId.{DeclarationId}
+use Rattle.fidl_named.specs.declared.ends.AliasEnd.{AliasEnd}
+use Rattle.fidl_named.specs.declared.meaning.Meaning.TheVariants as meaning
 use Rattle.fidl_names.specs.DeclarationNumbers.{ids_in}
-
--- a meaning that is its own end
-abbrev pub own_end : Meaning → AliasEnd
-own_end m = record { resolved = m; passed = m }
+use Rattle.fidl_named.specs.Aliases.{own_end}
 
 -- the first declarations of a file, as many as these, each as itself
 abbrev pub own_ends : (file count : ℕ) → List AliasEnd

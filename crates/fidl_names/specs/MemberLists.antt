@@ -10,37 +10,17 @@ use Rattle.fidl_tree.specs.Leaf.{text_at}
 use Rattle.fidl_tree.specs.Syntax.{ValueMember, Declaration, File}
 use Rattle.fidl_tree.specs.Syntax.{TypeUse}
 use Rattle.fidl_tree.specs.Syntax.{Layout, values_layout, struct_layout, table_layout, union_layout}
-use Rattle.fidl_tree.specs.Syntax.{Members, no_members, next_member}
-use Rattle.fidl_tree.specs.Syntax.{Member, named_member, ordinal_member, reserved_member}
+use Rattle.fidl_tree.specs.Syntax.{Members}
 use Rattle.fidl_tree.specs.Syntax.{Response, ProtocolMember, compose_member, method_member}
 use Rattle.fidl_tree.specs.Syntax.{event_member}
 use Rattle.fidl_tree.specs.Syntax.{Body, const_body, alias_body, type_body, protocol_body}
 use Rattle.fidl_tree.specs.Syntax.{service_body, resource_body}
-use Rattle.fidl_names.specs.declared.fault.NameFault.{NameFault}
-use Rattle.fidl_names.specs.declared.fault.NameFault.TheVariants.{DuplicateName, Memory}
-use Rattle.fidl_names.specs.Names.{IsOneOf, AreDistinct}
-use Rattle.fidl_names.specs.Spots.{Spot, type_spot, number_spot, layout_spot}
-use Rattle.fidl_names.specs.Spots.{type_spots, layout_spots, members_spots}
-
--- the names of members, in order: a reserved ordinal has none
-abbrev pub own_name : Member → List Span
-own_name (named_member attributes name t) = name ∷ []
-own_name (ordinal_member attributes ordinal name t) = name ∷ []
-own_name (reserved_member attributes ordinal) = []
-
-abbrev pub own_names : Members → List Span
-own_names no_members = []
-own_names (next_member m ms) = own_name m ++ own_names ms
-
-abbrev pub value_names : List ValueMember → List Span
-value_names members = map (λ (m : ValueMember). m.name) members
-
--- the names of the members of a layout
-abbrev pub layout_names : Layout → List Span
-layout_names (values_layout kind strict keyword u members) = value_names members
-layout_names (struct_layout is_resource keyword ms) = own_names ms
-layout_names (table_layout is_resource keyword ms) = own_names ms
-layout_names (union_layout strict is_resource keyword ms) = own_names ms
+use Rattle.fidl_named.specs.declared.fault.NameFault.{NameFault}
+use Rattle.fidl_named.specs.declared.fault.NameFault.TheVariants.{DuplicateName, Memory}
+use Rattle.fidl_named.specs.Names.{IsOneOf, AreDistinct}
+use Rattle.fidl_named.specs.Spots.{Spot, type_spot, number_spot, layout_spot}
+use Rattle.fidl_named.specs.Spots.{type_spots, layout_spots, members_spots}
+use Rattle.fidl_named.specs.MemberNames.{own_names, layout_names}
 
 -- the list that a spot of the walk makes, if it is a layout
 abbrev pub spot_lists : Spot → List (List Span)

@@ -1,7 +1,6 @@
 -- The types that a type names outside layouts: itself, and those in its arguments; each with the
 -- type whose second argument it is, if any (docs/language.md, "Aliases").
-use Rattle.std.specs.Prelude.{ℕ, List, [], ◌∷◌, ◌++◌, Option, Some, None, map}
-use Rattle.fidl_tree.specs.Leaf.{text_at}
+use Rattle.std.specs.Prelude.{List, [], ◌∷◌, ◌++◌, Option, Some, None}
 use Rattle.fidl_tree.specs.Syntax.{Path, TypeUse, named_type, layout_type}
 use Rattle.fidl_tree.specs.Syntax.{Arguments, no_arguments, next_argument, Argument}
 use Rattle.fidl_tree.specs.Syntax.{number_argument, type_argument}
@@ -28,7 +27,3 @@ abbrev mutual
 
 abbrev pub outer_types : TypeUse → List (Option Path × Path)
 outer_types t = outer_of None t
-
--- the components of a path
-abbrev pub texts : List ℕ → Path → List (List ℕ)
-texts src path = map (text_at src) path

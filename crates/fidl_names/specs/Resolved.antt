@@ -7,26 +7,28 @@ use Rattle.fidl_tree.specs.Syntax.{Path, Value, ValueMember, ValuesKind, Body}
 use Rattle.fidl_tree.specs.Views.{declared_view, file_view}
 use Rattle.fidl_tree.specs.declared.file.File.{File}
 use Rattle.fidl_tree.specs.declared.declaration.Declaration.{Declaration}
-use Rattle.fidl_names.specs.declared.place.Place.{Place}
-use Rattle.fidl_names.specs.declared.fault.NameFault.{NameFault}
-use Rattle.fidl_names.specs.declared.fault.NameFault.TheVariants.{DuplicateName, UnknownLibrary}
-use Rattle.fidl_names.specs.declared.fault.NameFault.TheVariants.{UnknownName, AmbiguousName}
-use Rattle.fidl_names.specs.declared.fault.NameFault.TheVariants.{AliasCycle, ImportCycle}
-use Rattle.fidl_names.specs.declared.fault.NameFault.TheVariants.{BadImport, Memory}
-use Rattle.fidl_names.specs.declared.meaning.Wanted.{Wanted}
-use Rattle.fidl_names.specs.declared.meaning.Meaning.{Meaning}
-use Rattle.fidl_names.specs.Imports.{libraries_of, ImportsAreKnown, ImportsAreApart}
-use Rattle.fidl_names.specs.Imports.{IsTrueOfImports}
-use Rattle.fidl_names.specs.Meanings.{Means}
-use Rattle.fidl_names.specs.OuterTypes.{texts}
-use Rattle.fidl_names.specs.Paths.{IsTrueOfPath}
+use Rattle.fidl_named.specs.declared.place.Place.{Place}
+use Rattle.fidl_named.specs.declared.fault.NameFault.{NameFault}
+use Rattle.fidl_named.specs.declared.fault.NameFault.TheVariants.{DuplicateName, UnknownLibrary}
+use Rattle.fidl_named.specs.declared.fault.NameFault.TheVariants.{UnknownName, AmbiguousName}
+use Rattle.fidl_named.specs.declared.fault.NameFault.TheVariants.{AliasCycle, ImportCycle}
+use Rattle.fidl_named.specs.declared.fault.NameFault.TheVariants.{BadImport, Memory}
+use Rattle.fidl_named.specs.declared.meaning.Wanted.{Wanted}
+use Rattle.fidl_named.specs.declared.meaning.Meaning.{Meaning}
+use Rattle.fidl_names.specs.ImportRules.{libraries_of, ImportsAreKnown}
+use Rattle.fidl_named.specs.Imports.{ImportsAreApart}
+use Rattle.fidl_names.specs.ImportRules.{IsTrueOfImports}
+use Rattle.fidl_named.specs.Meanings.{Means}
+use Rattle.fidl_named.specs.Paths.{texts}
+use Rattle.fidl_named.specs.Paths.{IsTrueOfPath}
 use Rattle.fidl_names.specs.MemberLists.{RepeatsMember, DistinctMembers, IsRepeatedAt}
-use Rattle.fidl_names.specs.Faults.{IsTrueOfOne}
+use Rattle.fidl_names.specs.Refusals.{IsTrueOfOne}
 use Rattle.fidl_names.specs.ImportCycles.{ImportsBack}
-use Rattle.fidl_names.specs.Aliases.{Wants, IsArrayName, ResolvesTo, AliasesBack}
-use Rattle.fidl_names.specs.Places.{NamePlace, a_name, a_type, a_layout, a_number, a_members}
-use Rattle.fidl_names.specs.Places.{body_places}
-use Rattle.fidl_names.specs.Constraints.{ItemsHold, ItemsFail, ValueMeans, NameOfValueFails}
+use Rattle.fidl_named.specs.Aliases.{Wants, IsArrayName, ResolvesTo}
+use Rattle.fidl_names.specs.AliasCycles.{AliasesBack}
+use Rattle.fidl_named.specs.Places.{NamePlace, a_name, a_type, a_layout, a_number, a_members}
+use Rattle.fidl_named.specs.Places.{body_places}
+use Rattle.fidl_named.specs.Constraints.{ItemsHold, ItemsFail, ValueMeans, NameOfValueFails}
 
 -- each name in the values of members means something
 abbrev pub MembersMean : List File → File → List ValueMember → Type 0

@@ -1,61 +1,27 @@
 //! What aliases resolve to, and what they come to as long as they add no constraints.
-ghost use Rattle.std.specs.Prelude.{◌≡◌, ◌↔◌, [], Some, IsTrue, IfOk, OnOk};
+ghost use Rattle.std.specs.Prelude.{◌≡◌, ◌↔◌, [], Some, IsTrue, IfOk};
 ghost use Rattle.fidl_tree.specs.Views.{type_view};
 ghost use Rattle.fidl_tree.specs.declared.file.File.{File as Tree};
 ghost use Rattle.fidl_tree.specs.declared.declaration.AliasDeclaration.{AliasDeclaration as Node};
-ghost use Rattle.fidl_names.specs.declared.meaning.Meaning.TheVariants as Given;
-ghost use Rattle.fidl_names.specs.declared.place.DeclarationId.{DeclarationId as Id};
-ghost use Rattle.fidl_names.specs.Meanings.{IsJust};
-ghost use Rattle.fidl_names.specs.Aliases.{IsAliasAt, Follows, ResolvesTo, constraints_of, PassesTo};
-ghost use Rattle.fidl_names.specs.Aliases.{IsEnd, HasEnd, AreEnds, rows_of};
+ghost use Rattle.fidl_named.specs.declared.meaning.Meaning.TheVariants as Given;
+ghost use Rattle.fidl_named.specs.declared.place.DeclarationId.{DeclarationId as Id};
+ghost use Rattle.fidl_named.specs.Meanings.{IsJust};
+ghost use Rattle.fidl_named.specs.Aliases.{IsAliasAt, Follows, constraints_of};
+ghost use Rattle.fidl_named.specs.Aliases.{PassesTo};
+ghost use Rattle.fidl_named.specs.Aliases.{IsEnd, HasEnd, AreEnds, rows_of};
 ghost use Rattle.fidl_names.specs.AliasGraph.{IsAliasOrder};
-ghost use Rattle.fidl_names.specs.DeclarationNumbers.{HasDeclaration, AreNumbered};
-ghost use Rattle.fidl_names.specs.MeaningRows.{own_end, own_ends, IsWithin, with_end};
+ghost use Rattle.fidl_named.specs.FullNames.{HasDeclaration};
+ghost use Rattle.fidl_names.specs.DeclarationNumbers.{AreNumbered};
+ghost use Rattle.fidl_named.specs.Aliases.{own_end};
+ghost use Rattle.fidl_names.specs.MeaningRows.{own_ends, IsWithin, with_end};
 
 use crate::alias_steps::{alias_at, next_meaning};
-use crate::declaration_numbers::{Numbers, has_declaration};
-use crate::file_scope::SetScope;
-use crate::library_set::LibrarySet;
-use crate::meaning::Meaning;
-use crate::place::DeclarationId;
-use crate::type_names::declared_id;
+use crate::declaration_numbers::Numbers;
+use fidl_named::{
+    AliasEnd, DeclarationId, FileSet, Meaning, SetScope, declared_id, end_of, own_end,
+};
 use fidl_tree::TypeConstructor;
 use std::alloc::{AllocError, Global};
-
-/// What a meaning comes to when aliases are followed: to their end, and as long as they add no
-/// constraints.
-#[derive(Clone, Copy, Drop)]
-pub(crate) struct AliasEnd {
-    pub resolved: Meaning,
-    pub passed: Meaning,
-}
-
-/// A meaning that is its own end.
-fn own_end(meaning: Meaning) -> AliasEnd
-    ensures { result ≡ own_end meaning }
-{
-    AliasEnd {
-        resolved: meaning,
-        passed: meaning,
-    }
-}
-
-/// The ends of a meaning, by those of the declaration that it may be.
-pub(crate) fn end_of(set: &LibrarySet<'_, '_>, ends: &[Vec<AliasEnd>], meaning: Meaning) -> AliasEnd
-    requires { (p : Id) → meaning ≡ Given.Declared p → HasDeclaration set.now p
-        → HasEnd set.now (rows_of ends.now) p }
-    ensures { IsEnd set.now meaning result }
-{
-    match declared_id(meaning) {
-        None => own_end(meaning),
-        Some(id) => {
-            if has_declaration(set, id) {
-                return ends[id.file][id.index];
-            }
-            own_end(meaning)
-        }
-    }
-}
 
 /// Whether a type is written without constraints.
 fn is_bare(constructor: &TypeConstructor) -> bool
@@ -68,7 +34,7 @@ fn is_bare(constructor: &TypeConstructor) -> bool
 }
 
 /// Whether the alias of an id adds no constraints to its type.
-fn adds_nothing(set: &LibrarySet<'_, '_>, id: DeclarationId) -> bool
+fn adds_nothing(set: &FileSet<'_, '_>, id: DeclarationId) -> bool
     requires { HasDeclaration set.now id }
     ensures { (f : Tree) (a : Node) → IsAliasAt set.now id f a
         → IsTrue result ↔ (constraints_of (type_view a.constructor) ≡ []) }
@@ -81,12 +47,7 @@ fn adds_nothing(set: &LibrarySet<'_, '_>, id: DeclarationId) -> bool
 
 /// What the alias of an id comes to as long as no constraints are added, by what its type means
 /// and what that comes to.
-fn passed_end(
-    set: &LibrarySet<'_, '_>,
-    id: DeclarationId,
-    next: Meaning,
-    passed: Meaning,
-) -> Meaning
+fn passed_end(set: &FileSet<'_, '_>, id: DeclarationId, next: Meaning, passed: Meaning) -> Meaning
     requires stands { HasDeclaration set.now id }
     requires follows { IsJust (Follows set.now (Given.Declared id)) (Some next) }
     requires passed { PassesTo set.now next passed }
@@ -138,7 +99,7 @@ fn own_row(alloc: Global, file: usize, count: usize) -> Result<Vec<AliasEnd>, Al
 }
 
 /// All declarations, each as itself.
-fn own_rows(set: &LibrarySet<'_, '_>) -> Result<Vec<Vec<AliasEnd>>, AllocError>
+fn own_rows(set: &FileSet<'_, '_>) -> Result<Vec<Vec<AliasEnd>>, AllocError>
     ensures { IfOk result (λ rows. (p : Id) → HasDeclaration set.now p
         → IsWithin (rows_of rows.items) p) }
 {

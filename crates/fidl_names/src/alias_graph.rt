@@ -1,21 +1,19 @@
 //! The graph of aliases, over the numbers of declarations.
 ghost use Rattle.std.specs.Prelude.{◌≡◌, ◌↔◌, IsTrue, IfOk};
-ghost use Rattle.fidl_names.specs.declared.meaning.Wanted.TheVariants as Kind;
+ghost use Rattle.fidl_named.specs.declared.meaning.Wanted.TheVariants as Kind;
 ghost use Rattle.fidl_tree.specs.Views.{path_view, type_view};
 ghost use Rattle.fidl_names.specs.AliasGraph.{IsMeant, AreTargets, AreReferred, AreRows};
-ghost use Rattle.fidl_names.specs.Cycles.{points_of};
-ghost use Rattle.fidl_names.specs.Meanings.{IsJust};
-ghost use Rattle.fidl_names.specs.DeclarationNumbers.{HasDeclaration, AreNumbered};
+ghost use Rattle.fidl_cycles.specs.Cycles.{points_of};
+ghost use Rattle.fidl_named.specs.Meanings.{IsJust};
+ghost use Rattle.fidl_named.specs.FullNames.{HasDeclaration};
+ghost use Rattle.fidl_names.specs.DeclarationNumbers.{AreNumbered};
 ghost use Rattle.fidl_names.specs.OuterTypes.{outer_types};
-ghost use Rattle.fidl_names.specs.ReferenceViews.{optional_path_view};
+ghost use Rattle.fidl_named.specs.ReferenceViews.{optional_path_view};
 
 use crate::alias_steps::alias_at;
 use crate::declaration_numbers::Numbers;
-use crate::file_scope::{FileScope, SetScope};
-use crate::meaning::Wanted;
 use crate::outer_types::outer_types;
-use crate::place::DeclarationId;
-use crate::type_names::{declared_id, read_type, wanted_kind};
+use fidl_named::{DeclarationId, FileScope, SetScope, Wanted, declared_id, read_type, wanted_kind};
 use fidl_tree::{Path, TypeConstructor};
 use std::alloc::AllocError;
 

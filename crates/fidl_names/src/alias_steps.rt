@@ -3,16 +3,12 @@ ghost use Rattle.std.specs.Prelude.{◌≡◌, IsNone, IfSome, IfOk};
 ghost use Rattle.fidl_tree.specs.declared.file.File.{File as Tree};
 ghost use Rattle.fidl_tree.specs.declared.declaration.AliasDeclaration.{AliasDeclaration as Node};
 ghost use Rattle.fidl_tree.specs.declared.declaration.DeclarationBody.TheVariants as Body;
-ghost use Rattle.fidl_names.specs.declared.meaning.Meaning.TheVariants as Given;
-ghost use Rattle.fidl_names.specs.Aliases.{IsAliasAt, Follows};
-ghost use Rattle.fidl_names.specs.Meanings.{IsJust};
-ghost use Rattle.fidl_names.specs.DeclarationNumbers.{HasDeclaration};
+ghost use Rattle.fidl_named.specs.declared.meaning.Meaning.TheVariants as Given;
+ghost use Rattle.fidl_named.specs.Aliases.{IsAliasAt, Follows};
+ghost use Rattle.fidl_named.specs.Meanings.{IsJust};
+ghost use Rattle.fidl_named.specs.FullNames.{HasDeclaration};
 
-use crate::file_scope::{FileScope, SetScope};
-use crate::library_set::LibrarySet;
-use crate::meaning::Meaning;
-use crate::place::DeclarationId;
-use crate::type_names::read_type;
+use fidl_named::{DeclarationId, FileScope, FileSet, Meaning, SetScope, read_type};
 use fidl_tree::{AliasDeclaration, DeclarationBody, File, TypeConstructor};
 use std::alloc::AllocError;
 
@@ -40,7 +36,7 @@ fn as_alias(body: &DeclarationBody) -> Option<&AliasDeclaration>
 
 /// The alias of this id.
 pub(crate) fn alias_at<'f, 's>(
-    set: &LibrarySet<'f, 's>,
+    set: &FileSet<'f, 's>,
     id: DeclarationId,
 ) -> Option<FoundAlias<'f, 's>>
     requires { HasDeclaration set.now id }

@@ -2,23 +2,20 @@
 ghost use Rattle.std.specs.Prelude.{◌≡◌, IfErr, IfOk, OnOk};
 ghost use Rattle.fidl_tree.specs.declared.file.File.{File as Tree};
 ghost use Rattle.fidl_tree.specs.declared.declaration.AliasDeclaration.{AliasDeclaration as Node};
-ghost use Rattle.fidl_names.specs.declared.place.Place.{Place as Spot};
-ghost use Rattle.fidl_names.specs.Aliases.{IsAliasAt, AliasesBack, IsTrueOfAliases, AreEnds};
-ghost use Rattle.fidl_names.specs.Aliases.{rows_of};
-ghost use Rattle.fidl_names.specs.DeclarationNumbers.{HasDeclaration};
+ghost use Rattle.fidl_named.specs.declared.place.Place.{Place as Spot};
+ghost use Rattle.fidl_named.specs.Aliases.{IsAliasAt, AreEnds};
+ghost use Rattle.fidl_names.specs.AliasCycles.{AliasesBack, IsTrueOfAliases};
+ghost use Rattle.fidl_named.specs.Aliases.{rows_of};
+ghost use Rattle.fidl_named.specs.FullNames.{HasDeclaration};
 
-use crate::alias_ends::{AliasEnd, find_ends};
+use crate::alias_ends::find_ends;
 use crate::alias_graph::alias_graph;
-use crate::cycles::find_cycle;
 use crate::declaration_numbers::number_declarations;
-use crate::fault::NameFault;
-use crate::file_scope::SetScope;
-use crate::full_name::name_span;
-use crate::library_set::LibrarySet;
-use crate::place::{DeclarationId, Place};
+use fidl_cycles::find_cycle;
+use fidl_named::{AliasEnd, DeclarationId, FileSet, NameFault, Place, SetScope, name_span};
 
 /// Where the name of a declaration stands.
-fn name_place(set: &LibrarySet<'_, '_>, id: DeclarationId) -> Place
+fn name_place(set: &FileSet<'_, '_>, id: DeclarationId) -> Place
     requires { HasDeclaration set.now id }
     ensures { (f : Tree) (a : Node) → IsAliasAt set.now id f a → result
         ≡ record { file = id.file; span = a.name } }

@@ -1,10 +1,9 @@
 //! Declarations by their numbers, in the order of the sources.
-ghost use Rattle.std.specs.Prelude.{◌≡◌, ◌<◌, ◌↔◌, ◌++◌, length, IsTrue, IfOk, OnOk};
-ghost use Rattle.fidl_names.specs.DeclarationNumbers.{HasDeclaration, AreNumbered, ids_in};
+ghost use Rattle.std.specs.Prelude.{◌≡◌, ◌<◌, ◌++◌, length, IfOk, OnOk};
+ghost use Rattle.fidl_names.specs.DeclarationNumbers.{AreNumbered, ids_in};
 ghost use Rattle.fidl_names.specs.DeclarationNumbers.{number_of};
 
-use crate::library_set::LibrarySet;
-use crate::place::DeclarationId;
+use fidl_named::{DeclarationId, FileSet};
 use std::alloc::AllocError;
 
 /// The ids of all declarations, and the number of each file's first.
@@ -25,16 +24,6 @@ impl Numbers {
     }
 }
 
-/// Whether a declaration has this id.
-pub(crate) fn has_declaration(set: &LibrarySet<'_, '_>, id: DeclarationId) -> bool
-    ensures { IsTrue result ↔ HasDeclaration set.now id }
-{
-    if id.file >= set.count() {
-        return false;
-    }
-    id.index < set.file(id.file).declarations.len()
-}
-
 /// The ids of a file's declarations, after those before them.
 fn push_ids(ids: &mut Vec<DeclarationId>, file: usize, count: usize) -> Result<(), AllocError>
     ensures { OnOk result (ids.new.items ≡ ids.old.items ++ ids_in file count) }
@@ -46,7 +35,7 @@ fn push_ids(ids: &mut Vec<DeclarationId>, file: usize, count: usize) -> Result<(
 }
 
 /// The numbers of a set's declarations.
-pub(crate) fn number_declarations(set: &LibrarySet<'_, '_>) -> Result<Numbers, AllocError>
+pub(crate) fn number_declarations(set: &FileSet<'_, '_>) -> Result<Numbers, AllocError>
     ensures { IfOk result (λ numbers. AreNumbered set.now numbers.ids.items numbers.starts.items) }
 {
     let alloc = set.alloc();

@@ -1,14 +1,12 @@
 //! The declarations of a set's files, by their full names.
-ghost use Rattle.std.specs.Prelude.{◌≡◌, ◌++◌, ◌∷◌, [], length, take, map, Contains, IfErr, IfOk};
+ghost use Rattle.std.specs.Prelude.{◌≡◌, ◌++◌, ◌∷◌, [], length, take, IfErr};
 ghost use Rattle.std.specs.Prelude.{OnOk, OnErr};
-ghost use Rattle.indexmap.specs.IndexMap.{index_map_len};
-ghost use Rattle.fidl_names.specs.Names.{IsOneOf, entries_of};
-ghost use Rattle.fidl_names.specs.Faults.{IsTrueOfAdding};
-ghost use Rattle.fidl_names.specs.NameMaps.{seen, names_of, IsTaken, StayDistinct};
+ghost use Rattle.fidl_named.specs.Names.{IsOneOf, entries_of};
+ghost use Rattle.fidl_names.specs.Refusals.{IsTrueOfAdding};
+ghost use Rattle.fidl_named.specs.NameMaps.{seen, names_of};
+ghost use Rattle.fidl_names.specs.TakenNames.{IsTaken, StayDistinct};
 
-use crate::fault::NameFault;
-use crate::full_name::{full_name, name_span, path_text};
-use crate::place::{DeclarationId, Place};
+use fidl_named::{DeclarationId, NameFault, Place, full_name, name_span, path_text};
 use fidl_tree::File;
 use indexmap::IndexMap;
 use std::alloc::Global;

@@ -7,9 +7,8 @@ ghost use Rattle.fidl_names.specs.MemberLists.{DistinctMembers, RepeatsName, Rep
 ghost use Rattle.fidl_names.specs.MemberLists.{RepeatsMember, IsRepeatedAt};
 
 use crate::declarations::declare;
-use crate::fault::NameFault;
 use crate::member_lists::member_lists;
-use crate::place::{DeclarationId, Place};
+use fidl_named::{DeclarationId, NameFault, Place};
 use fidl_span::Span;
 use fidl_tree::{Declaration, File};
 use indexmap::IndexMap;

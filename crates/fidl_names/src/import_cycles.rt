@@ -2,19 +2,17 @@
 ghost use Rattle.std.specs.Prelude.{◌≡◌, ◌<◌, ◌↔◌, ◌⊎◌, ℕ, length, IfErr, IfOk, OnOk, IfSome};
 ghost use Rattle.std.specs.Prelude.{IsNone};
 ghost use Rattle.std.specs.List.{AllByRecursion, Any};
-ghost use Rattle.fidl_names.specs.Cycles.{IsEdge, points_of};
-ghost use Rattle.fidl_names.specs.Names.{IsOneOf, AreDistinct, path_text, library_of};
-ghost use Rattle.fidl_names.specs.Imports.{libraries_of, ImportsAreKnown, IsEntry};
-ghost use Rattle.fidl_names.specs.NameMaps.{seen, names_of, HaveSame};
+ghost use Rattle.fidl_cycles.specs.Cycles.{IsEdge, points_of};
+ghost use Rattle.fidl_named.specs.Names.{IsOneOf, AreDistinct, path_text, library_of};
+ghost use Rattle.fidl_names.specs.ImportRules.{libraries_of, ImportsAreKnown};
+ghost use Rattle.fidl_named.specs.Imports.{IsEntry};
+ghost use Rattle.fidl_named.specs.NameMaps.{seen, names_of};
+ghost use Rattle.fidl_names.specs.TakenNames.{HaveSame};
 ghost use Rattle.fidl_names.specs.ImportCycles.{AreNumbered, HasEdge, HasEdgeAt, IsImportAt};
 ghost use Rattle.fidl_names.specs.ImportCycles.{ImportsBack, IsTrueOfImportCycle};
 
-use crate::cycles::{CycleEdge, add_edge, find_cycle, no_edges};
-use crate::fault::NameFault;
-use crate::full_name::path_text;
-use crate::imports::path_span;
-use crate::library_set::LibrarySet;
-use crate::place::Place;
+use fidl_cycles::{CycleEdge, add_edge, find_cycle, no_edges};
+use fidl_named::{FileSet, NameFault, Place, path_span, path_text};
 use fidl_span::Span;
 use fidl_tree::{File, Path};
 use indexmap::IndexMap;
@@ -64,7 +62,7 @@ fn add_imports(
 
 /// The libraries of a set as points, each with edges to those that it imports.
 fn import_graph(
-    set: &LibrarySet<'_, '_>,
+    set: &FileSet<'_, '_>,
     libraries: &IndexMap<Vec<u8>, usize>,
 ) -> Result<Vec<Vec<usize>>, AllocError>
     requires same { HaveSame (names_of (seen libraries.now.entries)) (libraries_of set.now) }
@@ -111,7 +109,7 @@ fn find_import(
 
 /// The place of the first import that makes an edge.
 fn find_place(
-    set: &LibrarySet<'_, '_>,
+    set: &FileSet<'_, '_>,
     libraries: &IndexMap<Vec<u8>, usize>,
     edge: CycleEdge,
 ) -> Result<Place, AllocError>
@@ -135,7 +133,7 @@ fn find_place(
 
 /// No library's imports lead back to it.
 pub(crate) fn check_import_cycles(
-    set: &LibrarySet<'_, '_>,
+    set: &FileSet<'_, '_>,
     libraries: &IndexMap<Vec<u8>, usize>,
 ) -> Result<(), NameFault>
     requires same { HaveSame (names_of (seen libraries.now.entries)) (libraries_of set.now) }

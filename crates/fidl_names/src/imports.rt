@@ -1,34 +1,19 @@
 //! The imports of a file, and the libraries that it sees by them.
 ghost use Rattle.std.specs.Prelude.{◌≡◌, ◌++◌, ◌∷◌, [], false, if◌then◌else◌, IfErr, IfOk, OnOk};
 ghost use Rattle.std.specs.Prelude.{OnErr};
-ghost use Rattle.fidl_tree.specs.Leaf.{text_at};
-ghost use Rattle.fidl_names.specs.Names.{IsOneOf, path_text, library_of};
-ghost use Rattle.fidl_names.specs.Imports.{path_span, visible, visible_by, alias_names};
-ghost use Rattle.fidl_names.specs.Imports.{ImportsAreKnown, ImportsAreApart, IsTrueOfImports};
-ghost use Rattle.fidl_names.specs.Imports.{IsTrueOfImport, same};
-ghost use Rattle.fidl_names.specs.NameMaps.{seen, texts_view, names_of, IsRepeated, StayDistinct};
+ghost use Rattle.fidl_named.specs.Names.{IsOneOf, path_text};
+ghost use Rattle.fidl_named.specs.Imports.{path_span, visible, visible_by};
+ghost use Rattle.fidl_names.specs.ImportRules.{ImportsAreKnown, IsTrueOfImports};
+ghost use Rattle.fidl_named.specs.Imports.{ImportsAreApart};
+ghost use Rattle.fidl_names.specs.ImportRules.{IsTrueOfImport};
+ghost use Rattle.fidl_named.specs.Imports.{same};
+ghost use Rattle.fidl_named.specs.NameMaps.{seen, texts_view, names_of};
+ghost use Rattle.fidl_names.specs.TakenNames.{IsRepeated, StayDistinct};
 
-use crate::fault::NameFault;
-use crate::full_name::path_text;
-use crate::place::Place;
-use fidl_span::Span;
+use fidl_named::{NameFault, Place, path_span, path_text};
 use fidl_tree::{File, Import, Path};
 use indexmap::IndexMap;
 use std::alloc::Global;
-
-/// Where a path stands.
-pub fn path_span(path: &Path) -> Span
-    ensures { result ≡ path_span path.now }
-{
-    let mut last = path.first;
-    for part in &path.rest {
-        last = part.name;
-    }
-    Span {
-        from: path.first.from,
-        to: last.to,
-    }
-}
 
 /// Makes a library visible under a name that must be new.
 fn add_visible(

@@ -1,14 +1,11 @@
 //! The names at the places of declarations, each read once and kept.
 ghost use Rattle.std.specs.Prelude.{IfOk, OnOk};
-ghost use Rattle.fidl_names.specs.KeptNames.{AreKept, AreKeptIn, kept_rows};
+ghost use Rattle.fidl_named.specs.KeptNames.{AreKept, AreKeptIn, kept_rows};
 
-use crate::constraint_names::ordinary;
-use crate::file_scope::{FileScope, SetScope};
-use crate::kept_names::{KeptName, KeptNames};
-use crate::meaning::Wanted;
-use crate::paths::value_paths;
-use crate::places::{NamePlace, name_places};
-use crate::type_names::{find_meaning, wanted_kind};
+use fidl_named::{
+    FileScope, KeptName, KeptNames, NamePlace, SetScope, Wanted, find_meaning, name_places,
+    ordinary, value_paths, wanted_kind,
+};
 use fidl_tree::{Constraints, DeclarationBody, Path, Value, ValueMember};
 use std::alloc::AllocError;
 

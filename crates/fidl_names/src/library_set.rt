@@ -1,36 +1,28 @@
 //! Libraries, as the files that belong to them.
-ghost use Rattle.std.specs.Prelude.{◌≡◌, ◌<◌, ◌++◌, ◌∷◌, [], length, slice_get, Some, IfErr, OnOk};
-ghost use Rattle.std.specs.Prelude.{OnErr, IfSome, IsNone};
+ghost use Rattle.std.specs.Prelude.{◌≡◌, ◌<◌, ◌++◌, ◌∷◌, [], length, IfErr, OnOk};
+ghost use Rattle.std.specs.Prelude.{IfOk, OnErr};
 ghost use Rattle.fidl_tree.specs.declared.file.File.{File as Tree};
-ghost use Rattle.fidl_tree.specs.declared.declaration.Declaration.{Declaration as Node};
-ghost use Rattle.fidl_names.specs.declared.place.DeclarationId.{DeclarationId};
-ghost use Rattle.fidl_names.specs.Names.{all_declared, AreDistinct};
-ghost use Rattle.fidl_names.specs.Faults.{IsTrueOfAdding};
-ghost use Rattle.fidl_names.specs.MemberNumbers.{AreNumbersOf};
-ghost use Rattle.fidl_names.specs.DeclarationNumbers.{HasDeclaration};
+ghost use Rattle.fidl_named.specs.declared.place.DeclarationId.{DeclarationId};
+ghost use Rattle.fidl_named.specs.Names.{all_declared, AreDistinct};
+ghost use Rattle.fidl_names.specs.Refusals.{IsTrueOfAdding};
+ghost use Rattle.fidl_names.specs.Resolved.{Resolves, IsTrueOfResolving};
 
 use crate::declarations::declare_all;
-use crate::fault::NameFault;
-use crate::member_numbers::{MemberNumbers, number_file};
-use crate::place::DeclarationId;
-use fidl_tree::{Declaration, File};
+use crate::member_numbers::number_file;
+use crate::place_names::check_names;
+use crate::resolution::{Resolution, check_rules};
+use fidl_named::{AddedFile, DeclarationId, FileSet, NameFault, Named};
+use fidl_tree::File;
 use indexmap::IndexMap;
 use std::alloc::Global;
 use std::marker::Model;
-
-/// A file of a set, with the numbers of its members by their names.
-#[derive(Drop)]
-struct Added<'f, 's> {
-    file: &'f File<'s>,
-    numbers: Vec<MemberNumbers>,
-}
 
 /// The files of libraries, in the order in which they were added. Contracts see the list of their
 /// trees.
 #[derive(Drop)]
 pub struct LibrarySet<'f, 's> {
     alloc: Global,
-    files: Vec<Added<'f, 's>>,
+    files: Vec<AddedFile<'f, 's>>,
     names: IndexMap<Vec<u8>, DeclarationId>,
 }
 
@@ -38,10 +30,10 @@ impl<'f, 's> Model for LibrarySet<'f, 's> {
     ghost use Rattle.std.specs.Prelude.{◌≡◌, List, map};
     ghost use Rattle.fidl_tree.specs.declared.file.File.{File as Tree};
     ghost use Rattle.std.specs.List.{AllByRecursion};
-    ghost use Rattle.fidl_names.specs.Names.{all_entries, AreDistinct};
-    ghost use Rattle.fidl_names.specs.MemberNumbers.{AreNumbersIn};
-    ghost use Rattle.fidl_names.specs.NameMaps.{seen, names_of};
-    ghost use Rattle.fidl_names.specs.StoredFiles.{files_coded};
+    ghost use Rattle.fidl_named.specs.Names.{all_entries, AreDistinct};
+    ghost use Rattle.fidl_named.specs.MemberNumbers.{AreNumbersIn};
+    ghost use Rattle.fidl_named.specs.NameMaps.{seen, names_of};
+    ghost use Rattle.fidl_named.specs.StoredFiles.{files_coded};
 
     ghost Value = { List Tree };
 
@@ -54,88 +46,7 @@ impl<'f, 's> Model for LibrarySet<'f, 's> {
         × AllByRecursion (λ a. AreNumbersIn a.file.now a.numbers.items) s.files.items };
 }
 
-/// A declaration of a set, with its file.
-#[derive(Clone, Copy, Drop)]
-pub(crate) struct Found<'a, 'f, 's> {
-    pub id: DeclarationId,
-    pub file: &'f File<'s>,
-    pub declaration: &'f Declaration,
-    /// The numbers of its members and properties.
-    pub numbers: &'a MemberNumbers,
-}
-
 impl<'f, 's> LibrarySet<'f, 's> {
-    ghost use Rattle.fidl_names.specs.FullNames.{IsDeclared};
-    ghost use Rattle.fidl_names.specs.Constraints.{IsDeclarationAt};
-
-    /// The declaration of a full name.
-    pub(crate) fn find(&self, full: &[u8]) -> Option<Found<'_, 'f, 's>>
-        ensures found { IfSome result (λ x.
-            IsDeclared self.now full.now x.id x.file.now x.declaration.now) }
-        ensures only { IfSome result (λ x. (p : DeclarationId) (f : Tree) (d : Node) →
-            IsDeclared self.now full.now p f d → p ≡ x.id) }
-        ensures numbers { IfSome result (λ x. AreNumbersOf x.file.now x.declaration.now
-            x.numbers.now) }
-        ensures none { IsNone result → (p : DeclarationId) (f : Tree) (d : Node) →
-            IsDeclared self.now full.now p f d → ⊥ }
-    {
-        let id = *self.names.get(full)?;
-        self.get(id)
-    }
-
-    /// The declaration of an id.
-    pub(crate) fn get(&self, id: DeclarationId) -> Option<Found<'_, 'f, 's>>
-        ensures found { IfSome result (λ x. (x.id ≡ id)
-            × IsDeclarationAt self.now id x.file.now x.declaration.now) }
-        ensures numbers { IfSome result (λ x. AreNumbersOf x.file.now x.declaration.now
-            x.numbers.now) }
-        ensures none { IsNone result → (f : Tree) (d : Node) → IsDeclarationAt self.now id f d → ⊥ }
-    {
-        if id.file >= self.files.len() {
-            return None;
-        }
-        let file = self.files[id.file].file;
-        if id.index >= file.declarations.len() {
-            return None;
-        }
-        Some(Found {
-            id,
-            file,
-            declaration: &file.declarations[id.index],
-            numbers: self.numbers(id),
-        })
-    }
-
-    /// The numbers of the declaration of an id.
-    fn numbers(&self, id: DeclarationId) -> &MemberNumbers
-        requires { HasDeclaration self.now id }
-        ensures { (f : Tree) (d : Node) → IsDeclarationAt self.now id f d
-            → AreNumbersOf f d result.now }
-    {
-        let added = &self.files[id.file];
-        &added.numbers[id.index]
-    }
-
-    /// What its memory comes from.
-    pub(crate) fn alloc(&self) -> Global {
-        self.alloc
-    }
-
-    /// How many files it has.
-    pub(crate) fn count(&self) -> usize
-        ensures { result ≡ length self.now }
-    {
-        self.files.len()
-    }
-
-    /// The file of this number.
-    pub(crate) fn file(&self, file_index: usize) -> &'f File<'s>
-        requires { file_index < length self.now }
-        ensures { slice_get self.now file_index ≡ Some result.now }
-    {
-        self.files[file_index].file
-    }
-
     /// No files; it takes no memory.
     pub fn new(alloc: Global) -> LibrarySet<'f, 's>
         ensures { result ≡ [] }
@@ -160,7 +71,7 @@ impl<'f, 's> LibrarySet<'f, 's> {
         let before = self.names.len();
         let file_index = self.files.len();
         let numbers = number_file(self.alloc, file)?;
-        self.files.push(Added { file, numbers })?;
+        self.files.push(AddedFile { file, numbers })?;
         match declare_all(&mut self.names, self.alloc, file, file_index) {
             Ok(()) => Ok(()),
             Err(fault) => {
@@ -169,5 +80,28 @@ impl<'f, 's> LibrarySet<'f, 's> {
                 Err(fault)
             }
         }
+    }
+
+    /// Resolves the names of all files (public source: the FIDL language specification, "Libraries"
+    /// and "Scoping"). Refused with DuplicateName where a list of members repeats a name,
+    /// UnknownLibrary where no file of an imported library was added, BadImport where an import
+    /// repeats a library or a name, ImportCycle where a library's imports lead back to it,
+    /// AliasCycle where an alias leads back to itself, UnknownName and AmbiguousName where a name
+    /// has no meaning at its place, or not just one, and Memory where memory ran out. The set is
+    /// spent either way.
+    pub fn resolve(self) -> Result<Named<'f, 's>, NameFault>
+        ensures ok { IfOk result (λ named. named ≡ self.entry) }
+        ensures resolves { OnOk result (Resolves self.entry) }
+        ensures fault_is_true { IfErr result (IsTrueOfResolving self.entry) }
+    {
+        let set = FileSet::new(self.alloc, self.files, self.names);
+        let Resolution {
+            visible_names,
+            ends,
+            kept,
+        } = check_rules(&set)?;
+        let named = Named::new(set, visible_names, ends, kept);
+        check_names(&named)?;
+        Ok(named)
     }
 }

@@ -5,15 +5,15 @@ ghost use Rattle.fidl_tree.specs.Views.{type_view, body_view, value_member_view,
 ghost use Rattle.fidl_tree.specs.Views.{ordinal_member_view, payload_view, response_view};
 ghost use Rattle.fidl_tree.specs.Views.{protocol_body_view, protocol_member_view, property_view};
 ghost use Rattle.fidl_tree.specs.Views.{declared_view};
-ghost use Rattle.fidl_names.specs.Spots.{layout_spots};
-ghost use Rattle.fidl_names.specs.SpotViews.{spots_view};
-ghost use Rattle.fidl_names.specs.MemberLists.{held, own_name, own_names, value_names};
-ghost use Rattle.fidl_names.specs.MemberLists.{layout_names};
+ghost use Rattle.fidl_named.specs.Spots.{layout_spots};
+ghost use Rattle.fidl_named.specs.SpotViews.{spots_view};
+ghost use Rattle.fidl_names.specs.MemberLists.{held};
+ghost use Rattle.fidl_named.specs.MemberNames.{own_name, own_names, value_names};
+ghost use Rattle.fidl_named.specs.MemberNames.{layout_names};
 ghost use Rattle.fidl_names.specs.MemberLists.{lists_of, type_lists, members_lists, perhaps};
 ghost use Rattle.fidl_names.specs.MemberLists.{response_lists, protocol_lists, body_lists};
 
-use crate::spots;
-use crate::spots::Spot;
+use fidl_named::spots::{self, Spot};
 use fidl_span::Span;
 use fidl_tree::{
     DeclarationBody, LayoutBody, Member, OrdinalBody, OrdinalMember, Payload, Property,

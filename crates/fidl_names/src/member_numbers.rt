@@ -1,29 +1,19 @@
-//! The numbers of members and of properties, by their names.
-ghost use Rattle.std.specs.Prelude.{◌≡◌, ◌++◌, ◌∷◌, [], ℕ, List, length, map, IfOk, OnOk};
-ghost use Rattle.fidl_names.specs.Meanings.{layout_members as members_of};
-ghost use Rattle.fidl_names.specs.Constraints.{number_in, property_names, texts_of};
-ghost use Rattle.fidl_names.specs.Constraints.{declared_members as declared};
-ghost use Rattle.fidl_names.specs.Constraints.{written_members as written};
-ghost use Rattle.fidl_names.specs.MemberNumbers.{AreNumbers, AreNumbersOf, AreNumbersIn, Match};
-ghost use Rattle.fidl_names.specs.MemberNumbers.{own_properties as properties_of, written_names};
-ghost use Rattle.fidl_names.specs.NameMaps.{seen};
+//! The numbers of members and of properties, by their names, for a file that is added.
+ghost use Rattle.std.specs.Prelude.{◌≡◌, ◌++◌, ◌∷◌, [], ℕ, List, length, IfOk, OnOk};
+ghost use Rattle.fidl_named.specs.Meanings.{layout_members as members_of};
+ghost use Rattle.fidl_named.specs.Constraints.{property_names, texts_of};
+ghost use Rattle.fidl_named.specs.Constraints.{declared_members as declared};
+ghost use Rattle.fidl_named.specs.Constraints.{written_members as written};
+ghost use Rattle.fidl_named.specs.MemberNumbers.{AreNumbers, AreNumbersOf, AreNumbersIn, Match};
+ghost use Rattle.fidl_named.specs.MemberNumbers.{own_properties as properties_of, written_names};
+ghost use Rattle.fidl_named.specs.NameMaps.{seen};
 
+use fidl_named::MemberNumbers;
 use fidl_tree::{
     Declaration, DeclarationBody, File, LayoutBody, Property, TypeConstructor, ValueMember,
 };
 use indexmap::IndexMap;
 use std::alloc::{AllocError, Global};
-
-/// The numbers of the names in the lists of a declaration.
-#[derive(Drop)]
-pub(crate) struct MemberNumbers {
-    /// Of declared bits or a declared enum, or of those that an alias resolves to.
-    pub members: IndexMap<Vec<u8>, usize>,
-    /// Of the properties of a resource definition.
-    pub properties: IndexMap<Vec<u8>, usize>,
-    /// For each of its properties, of the bits or the enum with which the type is written.
-    pub written: Vec<IndexMap<Vec<u8>, usize>>,
-}
 
 /// The members of a layout of bits or an enum.
 fn layout_members(body: &LayoutBody) -> &[ValueMember]
@@ -162,12 +152,4 @@ pub(crate) fn number_file(alloc: Global, file: &File<'_>) -> Result<Vec<MemberNu
         all.push(numbers)?;
     }
     Ok(all)
-}
-
-/// The number of a name.
-pub(crate) fn find_number(numbers: &IndexMap<Vec<u8>, usize>, name: &[u8]) -> Option<usize>
-    ensures { (names : List (List ℕ)) → AreNumbers names (seen numbers.now.entries)
-        → result ≡ number_in names name.now }
-{
-    numbers.get(name).copied()
 }

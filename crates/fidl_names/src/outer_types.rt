@@ -4,7 +4,8 @@ ghost use Rattle.fidl_tree.specs.Syntax.{arguments_of};
 ghost use Rattle.fidl_tree.specs.Views.{path_view, type_view, named_view, argument_view};
 ghost use Rattle.fidl_tree.specs.Views.{next_argument_view};
 ghost use Rattle.fidl_names.specs.OuterTypes.{outer_of, argument_outer, further_outer, outer_types};
-ghost use Rattle.fidl_names.specs.ReferenceViews.{optional_path_view, read_types};
+ghost use Rattle.fidl_named.specs.ReferenceViews.{optional_path_view};
+ghost use Rattle.fidl_names.specs.OuterViews.{read_types};
 
 use fidl_tree::{NamedType, NextTypeArgument, Path, TypeArgument, TypeConstructor};
 use std::alloc::{AllocError, Global};

@@ -4,19 +4,16 @@ ghost use Rattle.std.specs.Prelude.{IfErr, OnOk};
 ghost use Rattle.std.specs.List.{AllByRecursion};
 ghost use Rattle.fidl_tree.specs.Views.{path_view, constraints_view, value_member_view};
 ghost use Rattle.fidl_tree.specs.Views.{declared_view};
-ghost use Rattle.fidl_names.specs.PlaceViews.{name_place_view};
-ghost use Rattle.fidl_names.specs.Places.{a_type};
+ghost use Rattle.fidl_named.specs.PlaceViews.{name_place_view};
+ghost use Rattle.fidl_named.specs.Places.{a_type};
 ghost use Rattle.fidl_names.specs.Resolved.{MembersMean, MemberFails, PlaceHolds, PlaceFails};
 ghost use Rattle.fidl_names.specs.Resolved.{DeclarationHolds, DeclarationFails, NamesHold};
 ghost use Rattle.fidl_names.specs.Resolved.{NameFails};
-ghost use Rattle.fidl_names.specs.Faults.{IsTrueOfOne};
-ghost use Rattle.fidl_names.specs.Scopes.{IsMemoryOr};
+ghost use Rattle.fidl_names.specs.Refusals.{IsTrueOfOne};
+ghost use Rattle.fidl_named.specs.Scopes.{IsMemoryOr};
 
 use crate::constraint_names::{check_items, check_value};
-use crate::fault::NameFault;
-use crate::named::Named;
-use crate::named_file::NamedFile;
-use crate::places::{NamePlace, name_places};
+use fidl_named::{NameFault, NamePlace, Named, NamedFile, name_places};
 use fidl_tree::{Constraints, DeclarationBody, Path, ValueMember};
 
 /// Each name of a type and its constraints means something.

@@ -1,20 +1,16 @@
 //! The rules of resolving, but that each name has a meaning, and what their check finds out.
 ghost use Rattle.std.specs.Prelude.{map, IfErr, IfOk, OnOk};
-ghost use Rattle.fidl_names.specs.NameMaps.{texts_view};
-ghost use Rattle.fidl_names.specs.Aliases.{rows_of};
-ghost use Rattle.fidl_names.specs.KeptNames.{kept_rows};
-ghost use Rattle.fidl_names.specs.Scopes.{IsKnown};
+ghost use Rattle.fidl_named.specs.NameMaps.{texts_view};
+ghost use Rattle.fidl_named.specs.Aliases.{rows_of};
+ghost use Rattle.fidl_named.specs.KeptNames.{kept_rows};
+ghost use Rattle.fidl_named.specs.Scopes.{IsKnown};
 ghost use Rattle.fidl_names.specs.Resolved.{RulesHold, IsTrueOfResolving};
 
-use crate::alias_ends::AliasEnd;
 use crate::aliases::check_aliases;
-use crate::fault::NameFault;
-use crate::file_scope::SetScope;
 use crate::import_cycles::check_import_cycles;
 use crate::keeping::keep_names;
-use crate::kept_names::KeptNames;
-use crate::library_set::LibrarySet;
 use crate::rules::{all_imports, all_members, libraries};
+use fidl_named::{AliasEnd, FileSet, KeptNames, NameFault, SetScope};
 use indexmap::IndexMap;
 
 /// What each file sees by its imports, the ends of each declaration, and what the names of each file
@@ -27,7 +23,7 @@ pub(crate) struct Resolution<'f> {
 }
 
 /// Checks all rules but that each name has a meaning.
-pub(crate) fn check_rules<'f>(set: &LibrarySet<'f, '_>) -> Result<Resolution<'f>, NameFault>
+pub(crate) fn check_rules<'f>(set: &FileSet<'f, '_>) -> Result<Resolution<'f>, NameFault>
     ensures known { IfOk result (λ r. IsKnown set.now
         (map (λ v. texts_view v.entries) r.visible_names.items) (rows_of r.ends.items)
         (kept_rows r.kept.items)) }

@@ -2,19 +2,19 @@
 ghost use Rattle.std.specs.Prelude.{◌≡◌, ◌++◌, ◌∷◌, [], map, IfErr, IfOk, OnOk};
 ghost use Rattle.std.specs.List.{AllByRecursion};
 ghost use Rattle.fidl_tree.specs.Views.{file_view};
-ghost use Rattle.fidl_names.specs.Imports.{visible, libraries_of, ImportsAreKnown, ImportsAreApart};
-ghost use Rattle.fidl_names.specs.Imports.{IsTrueOfImports};
+ghost use Rattle.fidl_named.specs.Imports.{visible, ImportsAreApart};
+ghost use Rattle.fidl_names.specs.ImportRules.{libraries_of, ImportsAreKnown};
+ghost use Rattle.fidl_names.specs.ImportRules.{IsTrueOfImports};
 ghost use Rattle.fidl_names.specs.ImportCycles.{AreNumbered};
-ghost use Rattle.fidl_names.specs.Meanings.{MembersDiffer};
+ghost use Rattle.fidl_named.specs.Meanings.{MembersDiffer};
 ghost use Rattle.fidl_names.specs.MemberLists.{DistinctMembers, RepeatsMember, IsRepeatedAt};
-ghost use Rattle.fidl_names.specs.NameMaps.{seen, texts_view, names_of, HaveSame};
-ghost use Rattle.fidl_names.specs.Faults.{IsTrueOfOne};
+ghost use Rattle.fidl_named.specs.NameMaps.{seen, texts_view, names_of};
+ghost use Rattle.fidl_names.specs.TakenNames.{HaveSame};
+ghost use Rattle.fidl_names.specs.Refusals.{IsTrueOfOne};
 
 use crate::differ::check_members;
-use crate::fault::NameFault;
-use crate::full_name::path_text;
 use crate::imports::visible_libraries;
-use crate::library_set::LibrarySet;
+use fidl_named::{FileSet, NameFault, path_text};
 use indexmap::IndexMap;
 use std::alloc::AllocError;
 
@@ -34,7 +34,7 @@ fn add_library(libraries: &mut IndexMap<Vec<u8>, usize>, name: Vec<u8>) -> Resul
 }
 
 /// The libraries of a set, numbered in the order of their first files.
-pub(crate) fn libraries(set: &LibrarySet<'_, '_>) -> Result<IndexMap<Vec<u8>, usize>, AllocError>
+pub(crate) fn libraries(set: &FileSet<'_, '_>) -> Result<IndexMap<Vec<u8>, usize>, AllocError>
     ensures same { IfOk result (λ found. HaveSame (names_of (seen found.entries))
         (libraries_of set.now)) }
     ensures numbered { IfOk result (λ found. AreNumbered (seen found.entries)) }
@@ -50,7 +50,7 @@ pub(crate) fn libraries(set: &LibrarySet<'_, '_>) -> Result<IndexMap<Vec<u8>, us
 }
 
 /// Members differ in each file.
-pub(crate) fn all_members(set: &LibrarySet<'_, '_>) -> Result<(), NameFault>
+pub(crate) fn all_members(set: &FileSet<'_, '_>) -> Result<(), NameFault>
     ensures differ { OnOk result (AllByRecursion (λ f. DistinctMembers (file_view f)) set.now) }
     ensures values { OnOk result (MembersDiffer set.now) }
     ensures fault_is_true { IfErr result (IsTrueOfOne set.now
@@ -64,7 +64,7 @@ pub(crate) fn all_members(set: &LibrarySet<'_, '_>) -> Result<(), NameFault>
 
 /// What each file sees by its imports.
 pub(crate) fn all_imports(
-    set: &LibrarySet<'_, '_>,
+    set: &FileSet<'_, '_>,
     libraries: &IndexMap<Vec<u8>, usize>,
 ) -> Result<Vec<IndexMap<Vec<u8>, Vec<u8>>>, NameFault>
     requires { HaveSame (names_of (seen libraries.now.entries)) (libraries_of set.now) }

@@ -5,8 +5,8 @@ use Rattle.std.proofs.lemmas.List.Elements.{Contains-append_left, Contains-appen
 use Rattle.fidl_span.specs.declared.words.Span.{Span}
 use Rattle.fidl_tree.specs.Syntax.{TypeUse, Response}
 use Rattle.fidl_tree.specs.declared.file.File.{File}
-use Rattle.fidl_const.proofs.Among.{among_first}
-use Rattle.fidl_const.specs.Refusals.{type_span}
+use Rattle.fidl_consts.proofs.Among.{among_first}
+use Rattle.fidl_consts.specs.Refusals.{type_span}
 use Rattle.fidl_declarations.specs.declared.step.Step.{Step}
 use Rattle.fidl_declarations.specs.Sites.{has_result}
 use Rattle.fidl_payloads.specs.declared.fault.PayloadFault.{PayloadFault}

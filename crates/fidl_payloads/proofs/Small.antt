@@ -7,7 +7,7 @@ use Rattle.fidl_span.specs.declared.words.Span.{Span}
 use Rattle.fidl_tree.specs.Syntax.{TypeUse, Response, Declaration, ProtocolMember}
 use Rattle.fidl_tree.specs.Views.{file_view}
 use Rattle.fidl_tree.specs.declared.file.File.{File}
-use Rattle.fidl_const.proofs.Among.{among_none, among_cases}
+use Rattle.fidl_consts.proofs.Among.{among_none, among_cases}
 use Rattle.fidl_declarations.specs.declared.step.Step.{Step}
 use Rattle.fidl_declarations.specs.Sites.{has_result}
 use Rattle.fidl_payloads.specs.declared.payload.Payload.{Payload}

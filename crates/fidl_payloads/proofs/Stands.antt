@@ -12,7 +12,7 @@ use Rattle.fidl_tree.specs.declared.declaration.DeclarationBody.TheVariants as b
 use Rattle.fidl_tree.specs.declared.declaration.ProtocolDeclaration.{ProtocolDeclaration}
 use Rattle.fidl_tree.specs.declared.protocol.ProtocolMember.{ProtocolMember as CodeMember}
 use Rattle.fidl_tree.specs.declared.file.File.{File as Tree}
-use Rattle.fidl_const.proofs.Among.{among_first, among_rest, among_map, among_flat}
+use Rattle.fidl_consts.proofs.Among.{among_first, among_rest, among_map, among_flat}
 use Rattle.fidl_declarations.specs.declared.step.Step.{Step}
 use Rattle.fidl_declarations.specs.declared.step.Step.TheVariants as step
 use Rattle.fidl_declarations.specs.Sites.{any_type, present_type, Site, result_site, attributes_site, within, part_sites, has_result, empty_sites, result_sites, answer_sites, protocol_sites, body_sites, declaration_sites, import_site, file_sites}

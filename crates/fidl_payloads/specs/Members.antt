@@ -9,7 +9,7 @@ use Rattle.fidl_tree.specs.Syntax.{ProtocolMember, compose_member, method_member
 use Rattle.fidl_tree.specs.Views.{protocol_body_view, file_view}
 use Rattle.fidl_tree.specs.declared.file.File.{File}
 use Rattle.fidl_tree.specs.declared.protocol.ProtocolMemberBody.{ProtocolMemberBody}
-use Rattle.fidl_const.specs.Refusals.{type_span}
+use Rattle.fidl_consts.specs.Refusals.{type_span}
 use Rattle.fidl_payloads.specs.declared.fault.PayloadFault.{PayloadFault}
 use Rattle.fidl_payloads.specs.declared.fault.PayloadFault.TheVariants.{BadPayload, Memory}
 use Rattle.fidl_payloads.specs.Kinds.{IsPayload}

@@ -11,7 +11,7 @@ use crate::payload::Payload;
 use crate::places::type_span;
 use fidl_constraints::use_of;
 use fidl_lower_types::Sources;
-use fidl_names::Place;
+use fidl_named::Place;
 use fidl_tree::Payload as Written;
 
 /// What a message carries by what is written in parentheses.

@@ -1,12 +1,12 @@
 //! Where types stand.
 ghost use Rattle.std.specs.Prelude.{◌≡◌};
 ghost use Rattle.fidl_tree.specs.Views.{body_view, path_view};
-ghost use Rattle.fidl_names.specs.Paths.{path_place};
-ghost use Rattle.fidl_const.specs.Refusals.{layout_span, type_span};
+ghost use Rattle.fidl_named.specs.Paths.{path_place};
+ghost use Rattle.fidl_consts.specs.Refusals.{layout_span, type_span};
 ghost use Rattle.fidl_constraints.specs.BehindViews.{use_view};
 
 use fidl_constraints::TypeUse;
-use fidl_names::path_span;
+use fidl_named::path_span;
 use fidl_span::Span;
 use fidl_tree::{LayoutBody, Path, ValuesKeyword};
 

@@ -9,8 +9,8 @@ ghost use Rattle.fidl_tree.specs.Syntax.{ProtocolMember as Member, compose_membe
 ghost use Rattle.fidl_tree.specs.Syntax.{event_member, protocol_body, type_body, Layout};
 ghost use Rattle.fidl_tree.specs.Views.{file_view};
 ghost use Rattle.fidl_tree.specs.declared.file.File.{File};
-ghost use Rattle.fidl_names.specs.declared.place.Place.{Place};
-ghost use Rattle.fidl_const.specs.Refusals.{type_span};
+ghost use Rattle.fidl_named.specs.declared.place.Place.{Place};
+ghost use Rattle.fidl_consts.specs.Refusals.{type_span};
 ghost use Rattle.fidl_declarations.specs.declared.step.Step.{Step};
 ghost use Rattle.fidl_declarations.specs.declared.step.Step.TheVariants as Steps;
 ghost use Rattle.fidl_declarations.specs.Forms.{Form, layout_form, result_form, empty_response_form};

@@ -5,7 +5,7 @@ use Rattle.std.specs.List.{Contains}
 use Rattle.std.proofs.lemmas.List.Elements.{All-contains, All-from_recursion}
 use Rattle.fidl_tree.specs.Views.{file_view}
 use Rattle.fidl_tree.specs.declared.file.File.{File}
-use Rattle.fidl_names.specs.declared.place.Place.{Place}
+use Rattle.fidl_named.specs.declared.place.Place.{Place}
 use Rattle.fidl_wire.specs.Term.{Term}
 use Rattle.fidl_lower_layouts.specs.Definitions.{DefinitionsAre}
 use Rattle.fidl_lower_layouts.proofs.One.{one_definitions}

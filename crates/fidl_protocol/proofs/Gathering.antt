@@ -7,8 +7,8 @@ use Rattle.std.specs.Option.{option_map_or}
 use Rattle.std.proofs.lemmas.List.{append-nil}
 use Rattle.std.proofs.lemmas.Option.{same_Some, none-some}
 use Rattle.fidl_tree.specs.declared.file.File.{File}
-use Rattle.fidl_names.specs.declared.place.DeclarationId.{DeclarationId}
-use Rattle.fidl_names.proofs.Seeing.{flat_take}
+use Rattle.fidl_named.specs.declared.place.DeclarationId.{DeclarationId}
+use Rattle.fidl_cycles.proofs.Lists.{flat_take}
 use Rattle.fidl_composition.specs.Compositions.{Reaches}
 use Rattle.fidl_composition.specs.Numbers.{AreCompositions, ReachesByNumber}
 use Rattle.fidl_composition.specs.Points.{AreDistinct}

@@ -4,8 +4,8 @@ use Rattle.std.specs.List.{Contains, AllByRecursion}
 use Rattle.std.proofs.lemmas.List.{map-append}
 use Rattle.std.proofs.lemmas.List.Elements.{All-contains, All-from_recursion}
 use Rattle.fidl_tree.specs.declared.file.File.{File}
-use Rattle.fidl_names.specs.declared.place.DeclarationId.{DeclarationId}
-use Rattle.fidl_names.proofs.Seeing.{take_item}
+use Rattle.fidl_named.specs.declared.place.DeclarationId.{DeclarationId}
+use Rattle.fidl_cycles.proofs.Lists.{take_item}
 use Rattle.fidl_composition.specs.Protocols.{IsProtocol, AreProtocols}
 use Rattle.fidl_composition.specs.Compositions.{Reaches}
 use Rattle.fidl_composition.proofs.Lists.{map_back, nothing_there}

@@ -10,8 +10,8 @@ use Rattle.fidl_tree.specs.Syntax.{ProtocolMember, compose_member, method_member
 use Rattle.fidl_tree.specs.Views.{file_view, openness_view, protocol_member_view}
 use Rattle.fidl_tree.specs.declared.file.File.{File}
 use Rattle.fidl_tree.specs.declared.protocol.ProtocolMember.{ProtocolMember as CodeMember}
-use Rattle.fidl_names.specs.declared.place.DeclarationId.{DeclarationId}
-use Rattle.fidl_names.proofs.Seeing.{take_item}
+use Rattle.fidl_named.specs.declared.place.DeclarationId.{DeclarationId}
+use Rattle.fidl_cycles.proofs.Lists.{take_item}
 use Rattle.fidl_composition.specs.Protocols.{IsProtocolAt}
 use Rattle.fidl_composition.proofs.Lists.{map_back}
 use Rattle.fidl_method_rules.specs.Methods as plain

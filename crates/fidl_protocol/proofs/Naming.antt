@@ -12,8 +12,8 @@ use Rattle.std.proofs.lemmas.List.{map-append, get_or-take, length-take}
 use Rattle.std.proofs.lemmas.Option.{same_Some, none-some, slice_get_within, slice_get-get_or}
 use Rattle.fidl_tree.specs.Leaf.{text_at}
 use Rattle.fidl_tree.specs.declared.file.File.{File}
-use Rattle.fidl_names.specs.declared.place.DeclarationId.{DeclarationId}
-use Rattle.fidl_names.proofs.Seeing.{take_item}
+use Rattle.fidl_named.specs.declared.place.DeclarationId.{DeclarationId}
+use Rattle.fidl_cycles.proofs.Lists.{take_item}
 use Rattle.fidl_composition.proofs.Lists.{among, here, there, nothing_there, first_or_rest, map_there, pairs_push}
 use Rattle.fidl_payloads.specs.declared.payload.Payload.TheVariants.{Missing}
 use Rattle.fidl_protocol.specs.declared.method.Method.{Method}

@@ -8,7 +8,7 @@ use Rattle.fidl_tree.specs.Syntax.{Openness, ProtocolMember, File as Plain}
 use Rattle.fidl_tree.specs.Views.{file_view, declaration_view, declared_name}
 use Rattle.fidl_tree.specs.declared.file.File.{File}
 use Rattle.fidl_tree.specs.declared.declaration.Declaration.{Declaration}
-use Rattle.fidl_names.specs.declared.place.DeclarationId.{DeclarationId}
+use Rattle.fidl_named.specs.declared.place.DeclarationId.{DeclarationId}
 use Rattle.fidl_composition.specs.Protocols.{IsProtocolAt, IsProtocol}
 use Rattle.fidl_composition.proofs.Lists.{among, map_there}
 use Rattle.fidl_composition.proofs.Nodes.{one_declaration, one_openness, one_members}

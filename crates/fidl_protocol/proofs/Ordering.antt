@@ -6,7 +6,7 @@ use Rattle.std.proofs.lemmas.List.{get_or_default}
 use Rattle.std.proofs.lemmas.List.Elements.{Contains-get_or}
 use Rattle.std.proofs.lemmas.List.Sorted.{Contains-permutation, IsPermutation-sym, all_adjacent_more}
 use Rattle.fidl_tree.specs.declared.file.File.{File}
-use Rattle.fidl_names.specs.declared.place.DeclarationId.{DeclarationId}
+use Rattle.fidl_named.specs.declared.place.DeclarationId.{DeclarationId}
 use Rattle.fidl_protocol.specs.declared.method.Method.{Method}
 use Rattle.fidl_protocol.specs.Methods.{MethodsDiffer}
 use Rattle.fidl_protocol.specs.Checked.{AreMethodsOf}

@@ -3,9 +3,9 @@ use Rattle.std.proofs.Common.{◌≡◌, ◌∙◌, ◌<◌, ◌≤◌, ◌⊎�
 use Rattle.std.specs.Prelude.{◌≢◌}
 use Rattle.std.proofs.lemmas.Bool.{cases_lt}
 use Rattle.fidl_tree.specs.declared.file.File.{File}
-use Rattle.fidl_names.specs.declared.place.Place.{Place}
-use Rattle.fidl_names.specs.declared.place.DeclarationId.{DeclarationId}
-use Rattle.fidl_names.specs.Cycles.{Leads, step, further}
+use Rattle.fidl_named.specs.declared.place.Place.{Place}
+use Rattle.fidl_named.specs.declared.place.DeclarationId.{DeclarationId}
+use Rattle.fidl_cycles.specs.Cycles.{Leads, step, further}
 use Rattle.fidl_composition.specs.Compositions.{Composes, Reaches, IsWay}
 use Rattle.fidl_protocol.specs.declared.alike.Pair.{Pair}
 use Rattle.fidl_protocol.specs.declared.method.Method.{Method}

@@ -4,7 +4,7 @@ use Rattle.std.specs.Prelude.{flat_map}
 use Rattle.std.specs.List.{Contains}
 use Rattle.std.proofs.lemmas.List.Elements.{Contains-push, Contains-append_left, Contains-append_right, Contains-append_cases}
 use Rattle.fidl_tree.specs.declared.file.File.{File}
-use Rattle.fidl_names.proofs.Seeing.{take_item}
+use Rattle.fidl_cycles.proofs.Lists.{take_item}
 use Rattle.fidl_composition.proofs.Lists.{here, nothing_there, just_one}
 use Rattle.fidl_layout.specs.Roots.{AreRoots}
 use Rattle.fidl_payloads.specs.declared.payload.Payload.{Payload}

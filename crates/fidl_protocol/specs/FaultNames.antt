@@ -1,6 +1,6 @@
 -- The numbers, names and places of faults (docs/language.md, "Checked protocols").
 use Rattle.std.specs.Prelude.{ℕ, List, Option, Some, None, codes}
-use Rattle.fidl_names.specs.declared.place.Place.{Place}
+use Rattle.fidl_named.specs.declared.place.Place.{Place}
 use Rattle.fidl_protocol.specs.declared.fault.ProtocolFault.{ProtocolFault}
 use Rattle.fidl_protocol.specs.declared.fault.ProtocolFault.TheVariants.{NotStrict, BadCompose}
 use Rattle.fidl_protocol.specs.declared.fault.ProtocolFault.TheVariants.{DuplicateMethod}

@@ -6,8 +6,8 @@ use Rattle.fidl_span.specs.declared.words.Span.{Span}
 use Rattle.fidl_tree.specs.Syntax.{Openness, ProtocolMember}
 use Rattle.fidl_tree.specs.Views.{file_view}
 use Rattle.fidl_tree.specs.declared.file.File.{File}
-use Rattle.fidl_names.specs.declared.place.Place.{Place}
-use Rattle.fidl_names.specs.declared.place.DeclarationId.{DeclarationId}
+use Rattle.fidl_named.specs.declared.place.Place.{Place}
+use Rattle.fidl_named.specs.declared.place.DeclarationId.{DeclarationId}
 use Rattle.fidl_wire.specs.Term.{Term}
 use Rattle.fidl_lower_layouts.specs.Definitions.{DefinitionsAre}
 use Rattle.fidl_reachable_types.specs.Faults.{AreTooMany}

@@ -7,7 +7,7 @@ use Rattle.fidl_tree.specs.Leaf.{text_at}
 use Rattle.fidl_tree.specs.Syntax.{ProtocolMember}
 use Rattle.fidl_tree.specs.Views.{openness_view, protocol_member_view}
 use Rattle.fidl_tree.specs.declared.file.File.{File}
-use Rattle.fidl_names.specs.declared.place.DeclarationId.{DeclarationId}
+use Rattle.fidl_named.specs.declared.place.DeclarationId.{DeclarationId}
 use Rattle.fidl_composition.specs.Protocols.{IsProtocolAt}
 use Rattle.fidl_method_rules.specs.declared.methods.OwnMethod.{OwnMethod}
 use Rattle.fidl_payloads.specs.declared.payload.Payload.{Payload}

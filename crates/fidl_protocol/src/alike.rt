@@ -6,7 +6,7 @@ ghost use Rattle.fidl_protocol.specs.Gathered.{ArePair, IsLaterOwn};
 
 use crate::method::Method;
 use fidl_composition::{Compositions, way_to};
-use fidl_names::{DeclarationId, Named, Place};
+use fidl_named::{DeclarationId, Named, Place};
 use std::alloc::{AllocError, Global};
 
 /// Two methods of a protocol.

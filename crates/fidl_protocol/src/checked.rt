@@ -17,7 +17,7 @@ pub struct Checked<'f, 's> {
 impl<'f, 's> Model for Checked<'f, 's> {
     ghost use Rattle.std.specs.Prelude.{List};
     ghost use Rattle.fidl_tree.specs.declared.file.File.{File as Tree};
-    ghost use Rattle.fidl_names.specs.StoredFiles.{files_coded};
+    ghost use Rattle.fidl_named.specs.StoredFiles.{files_coded};
     ghost use Rattle.fidl_protocol.specs.Checked.{AreHeld};
 
     ghost Value = { List Tree };

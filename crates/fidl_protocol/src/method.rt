@@ -3,7 +3,7 @@ ghost use Rattle.std.specs.Prelude.{◌≡◌};
 ghost use Rattle.fidl_protocol.specs.Methods.{method_place};
 
 use fidl_method_rules::OwnMethod;
-use fidl_names::{DeclarationId, Place};
+use fidl_named::{DeclarationId, Place};
 use fidl_payloads::Payloads;
 
 /// A method of a protocol, its own or a composed one.

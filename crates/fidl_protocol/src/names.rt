@@ -1,12 +1,12 @@
 //! The names of the methods of a protocol.
 ghost use Rattle.std.specs.Prelude.{◌≡◌, IfOk, IfSome, IsNone};
-ghost use Rattle.fidl_names.specs.declared.place.DeclarationId.{DeclarationId as Id};
+ghost use Rattle.fidl_named.specs.declared.place.DeclarationId.{DeclarationId as Id};
 ghost use Rattle.fidl_protocol.specs.Methods.{IsDeclared, HaveOneName};
 ghost use Rattle.fidl_protocol.specs.Gathered.{AreGathered, ArePair, name_text, NamesDiffer};
 
 use crate::alike::Pair;
 use crate::method::Method;
-use fidl_names::Named;
+use fidl_named::Named;
 use indexmap::IndexSet;
 use std::alloc::{AllocError, Global};
 

@@ -3,7 +3,7 @@ ghost use Rattle.std.specs.Prelude.{◌≡◌, ◌<◌, IfOk, IfSome, IsNone, Li
 ghost use Rattle.std.specs.List.{AllPairs};
 ghost use Rattle.std.specs.List.Sorted.{IsNonDecreasingBy};
 ghost use Rattle.fidl_tree.specs.declared.file.File.{File as Tree};
-ghost use Rattle.fidl_names.specs.declared.place.DeclarationId.{DeclarationId as Id};
+ghost use Rattle.fidl_named.specs.declared.place.DeclarationId.{DeclarationId as Id};
 ghost use Rattle.fidl_protocol.specs.declared.method.Method.{Method as Entry};
 ghost use Rattle.fidl_protocol.specs.Faults.{HaveOneOrdinal};
 ghost use Rattle.fidl_protocol.specs.Gathered.{AreGathered, ArePair};

@@ -4,7 +4,7 @@ ghost use Rattle.fidl_span.specs.declared.words.Span.{Span as Where};
 ghost use Rattle.fidl_tree.specs.Syntax.{Openness, ProtocolMember as Member};
 ghost use Rattle.fidl_tree.specs.Views.{file_view};
 ghost use Rattle.fidl_tree.specs.declared.file.File.{File as Tree};
-ghost use Rattle.fidl_names.specs.declared.place.DeclarationId.{DeclarationId as Id};
+ghost use Rattle.fidl_named.specs.declared.place.DeclarationId.{DeclarationId as Id};
 ghost use Rattle.fidl_composition.specs.Protocols.{IsProtocolAt};
 ghost use Rattle.fidl_composition.specs.Compositions.{IsTrueOfCompositions};
 ghost use Rattle.fidl_method_rules.specs.Rules.{ProtocolBreaks, IsReportIn as IsMethodReport};

@@ -1,6 +1,6 @@
 //! All protocols of files with their methods.
 ghost use Rattle.std.specs.Prelude.{◌≡◌, ◌<◌, length, slice_get, Some, IfOk, IfErr, OnOk};
-ghost use Rattle.fidl_names.specs.declared.place.DeclarationId.{DeclarationId as Id};
+ghost use Rattle.fidl_named.specs.declared.place.DeclarationId.{DeclarationId as Id};
 ghost use Rattle.fidl_composition.specs.Compositions.{ComposesHold};
 ghost use Rattle.fidl_composition.specs.Numbers.{AreCompositions};
 ghost use Rattle.std.specs.Prelude.{List};
@@ -20,7 +20,7 @@ use crate::names::two_of_one_name;
 use crate::ordinals::{in_order, two_of_one_ordinal};
 use crate::parts::of_compositions;
 use fidl_composition::{Compositions, compositions};
-use fidl_names::DeclarationId;
+use fidl_named::DeclarationId;
 use fidl_types::Types;
 use std::alloc::Global;
 

@@ -1,8 +1,8 @@
 //! Worked facts: the methods of protocols, what they carry, and what refusals say of them.
 ghost use Rattle.std.specs.Prelude.{◌≡◌, ◌≢◌, ◌<◌, List, [], ◌∷◌};
 ghost use Rattle.fidl_tree.specs.declared.file.File.{File};
-ghost use Rattle.fidl_names.specs.declared.place.Place.{Place};
-ghost use Rattle.fidl_names.specs.declared.place.DeclarationId.{DeclarationId as Id};
+ghost use Rattle.fidl_named.specs.declared.place.Place.{Place};
+ghost use Rattle.fidl_named.specs.declared.place.DeclarationId.{DeclarationId as Id};
 ghost use Rattle.fidl_composition.specs.Compositions.{Composes, Reaches, IsWay};
 ghost use Rattle.fidl_payloads.specs.declared.payload.Payload.TheVariants as payload;
 ghost use Rattle.fidl_protocol.specs.declared.method.Method.{Method as Entry};

@@ -20,7 +20,7 @@ name_of (OutOfRange at) = codes "OutOfRange"
 name_of (Repeated at) = codes "Repeated"
 name_of Memory = codes "Memory"
 
--- the place in the text that the fault is told at
+-- the offset in the text that the fault reports
 abbrev pub place_of : NotationFault → Option ℕ
 place_of (Syntax at) = Some at
 place_of (UnknownName at) = Some at

@@ -6,7 +6,7 @@ abbrev pub signed : (negative : Bool) → ℕ → ℤ
 signed true m = neg_ℤ (pos m)
 signed false m = pos m
 
--- a word with a dash first and digits behind it, or one with no dash first
+-- a dash followed by digits, or a word that does not begin with a dash
 abbrev pub IsSplit : (word : List ℕ) (negative : Bool) (digits : List ℕ) → Type 0
 IsSplit word true digits = word ≡ 45 ∷ digits
 IsSplit word false digits = (word ≡ digits) × ((behind : List ℕ) → word ≢ 45 ∷ behind)

@@ -12,7 +12,7 @@ use crate::code::Code;
 /// A piece that was read.
 #[derive(Clone, Copy, Debug, Drop)]
 pub(crate) struct Part {
-    /// The place behind its last byte.
+    /// The offset after its last byte.
     pub(crate) to: usize,
     /// What it stands for.
     pub(crate) code: Code,

@@ -54,7 +54,7 @@ impl NotationFault {
         }
     }
 
-    /// The place in the text that the fault is told at, in bytes. `None` where memory ran out.
+    /// The offset in the text that the fault reports, in bytes. `None` where memory ran out.
     pub fn at(&self) -> Option<usize>
         ensures { result ≡ place_of self.now }
     {

@@ -27,7 +27,7 @@ fn is_numeral(word: &[u8]) -> bool
     !word.is_empty() && are_digits(word)
 }
 
-/// Whether a dash stands first, and what stands behind it.
+/// Whether the first byte is a dash, and the bytes that follow it.
 fn split_sign(word: &[u8]) -> (bool, &[u8])
     ensures { IsSplit word.now result.0 result.1.now }
 {

@@ -13,8 +13,8 @@ use std::str::from_utf8;
 /// Cuts a text into its words (docs/notation.md, "What a text spells").
 ///
 /// The words end at the text's end, or where no further word begins: then the text has no words.
-/// `Syntax` is told at the first byte that is not UTF-8, or at the first bracket that is open beyond
-/// the limit.
+/// `Syntax` reports the first byte that is not UTF-8, or the first bracket that is open beyond the
+/// limit.
 pub fn words_of(alloc: Global, text: &[u8]) -> Result<Cut<'_>, NotationFault>
     ensures utf8 { OnOk result (IsUtf8 text.now) }
     ensures cut { IfOk result (λ cut. IsCut text.now cut) }

@@ -7,7 +7,7 @@ use Rattle.fidl_tree.specs.declared.file.File.{File}
 use Rattle.fidl_tree.specs.declared.declaration.DeclarationBody.{DeclarationBody}
 use Rattle.fidl_tree.specs.declared.declaration.DeclarationBody.TheVariants as body
 use Rattle.fidl_tree.specs.declared.declaration.ResourceDefinition.{ResourceDefinition}
-use Rattle.fidl_names.specs.declared.place.Place.{Place}
+use Rattle.fidl_named.specs.declared.place.Place.{Place}
 use Rattle.fidl_resource_rules.specs.declared.fault.ResourceFault.{ResourceFault}
 use Rattle.fidl_resource_rules.specs.declared.fault.ResourceFault.TheVariants.{BadConstraint, Memory}
 use Rattle.fidl_resource_rules.specs.Resources.{PropertyHolds, ResourceHolds, BodyHolds, DeclarationHolds, ResourcesHold, ResourceBreaks, BodyBreaks, BreaksAt, IsTrueOfResources}

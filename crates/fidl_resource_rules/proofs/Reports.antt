@@ -7,8 +7,8 @@ use Rattle.fidl_tree.specs.declared.file.File.{File}
 use Rattle.fidl_tree.specs.declared.declaration.Declaration.{Declaration}
 use Rattle.fidl_tree.specs.Views.{type_view}
 use Rattle.fidl_tree.specs.declared.declaration.Property.{Property}
-use Rattle.fidl_names.specs.declared.place.Place.{Place}
-use Rattle.fidl_const.specs.Refusals.{type_span}
+use Rattle.fidl_named.specs.declared.place.Place.{Place}
+use Rattle.fidl_consts.specs.Refusals.{type_span}
 use Rattle.fidl_resource_rules.specs.declared.fault.ResourceFault.{ResourceFault}
 use Rattle.fidl_resource_rules.specs.declared.fault.ResourceFault.TheVariants.{BadConstraint, Memory}
 use Rattle.fidl_resource_rules.specs.Resources.{PropertyHolds, PropertyBreaks, BodyBreaks, OneBreaks, BreaksAt, IsReport, IsReportIn}

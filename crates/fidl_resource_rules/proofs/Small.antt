@@ -2,8 +2,8 @@
 use Rattle.std.proofs.Common.{◌≡◌, ℕ, List, [], ◌∷◌, Some, refl}
 use Rattle.fidl_tree.specs.Syntax.{Path, no_arguments}
 use Rattle.fidl_tree.specs.declared.file.File.{File}
-use Rattle.fidl_names.specs.declared.meaning.Predeclared.{Predeclared}
-use Rattle.fidl_names.specs.declared.meaning.Meaning.TheVariants as meaning
+use Rattle.fidl_named.specs.declared.meaning.Predeclared.{Predeclared}
+use Rattle.fidl_named.specs.declared.meaning.Meaning.TheVariants as meaning
 use Rattle.fidl_constraints.specs.Behind.{MeansType, Core, ends, RefersTo, Behind}
 use Rattle.fidl_constraints.specs.AliasExamples.{named_with, plain_word, core_of}
 use Rattle.fidl_wire.specs.Term.{Term}

@@ -11,9 +11,9 @@ use Rattle.fidl_tree.specs.declared.declaration.DeclarationBody.{DeclarationBody
 use Rattle.fidl_tree.specs.declared.declaration.DeclarationBody.TheVariants as body
 use Rattle.fidl_tree.specs.declared.declaration.Property.{Property}
 use Rattle.fidl_tree.specs.declared.declaration.ResourceDefinition.{ResourceDefinition}
-use Rattle.fidl_names.specs.declared.place.Place.{Place}
-use Rattle.fidl_names.specs.Constraints.{property_names}
-use Rattle.fidl_const.specs.Refusals.{type_span}
+use Rattle.fidl_named.specs.declared.place.Place.{Place}
+use Rattle.fidl_named.specs.Constraints.{property_names}
+use Rattle.fidl_consts.specs.Refusals.{type_span}
 use Rattle.fidl_resource_rules.specs.declared.fault.ResourceFault.{ResourceFault}
 use Rattle.fidl_resource_rules.specs.declared.fault.ResourceFault.TheVariants.{BadConstraint, Memory}
 use Rattle.fidl_resource_rules.specs.Kinds.{IsUint32, TypeSuits}

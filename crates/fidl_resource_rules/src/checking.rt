@@ -3,7 +3,7 @@ ghost use Rattle.std.specs.Prelude.{◌≡◌, ◌<◌, length, slice_get, Some,
 ghost use Rattle.std.specs.List.{AllByRecursion};
 ghost use Rattle.fidl_tree.specs.Views.{type_view};
 ghost use Rattle.fidl_tree.specs.declared.file.File.{File as Tree};
-ghost use Rattle.fidl_const.specs.Refusals.{type_span};
+ghost use Rattle.fidl_consts.specs.Refusals.{type_span};
 ghost use Rattle.fidl_lower_types.specs.TermViews.{AreKnown};
 ghost use Rattle.fidl_resource_rules.specs.Kinds.{IsUint32};
 ghost use Rattle.fidl_resource_rules.specs.Resources.{HasSubtype, ResourceHolds, BodyHolds};
@@ -17,7 +17,7 @@ use crate::places::type_span;
 use crate::properties::{check_properties, has_subtype};
 use fidl_constraints::use_of;
 use fidl_lower_types::Sources;
-use fidl_names::Place;
+use fidl_named::Place;
 use fidl_tree::{Declaration, DeclarationBody, File, ResourceDefinition};
 
 /// A resource definition is of uint32.

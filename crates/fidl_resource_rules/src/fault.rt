@@ -1,7 +1,7 @@
 //! Why a resource definition is refused.
 ghost use Rattle.std.specs.Prelude.{◌≡◌};
 
-use fidl_names::Place;
+use fidl_named::Place;
 use std::alloc::AllocError;
 use thiserror::Error;
 

@@ -4,7 +4,7 @@ ghost use Rattle.std.specs.Prelude.{codes, option_map, option_copied, slice_get}
 ghost use Rattle.std.specs.List.{AllByRecursion};
 ghost use Rattle.fidl_tree.specs.Syntax.{bits_kind, enum_kind};
 ghost use Rattle.fidl_tree.specs.Views.{kind_view, type_view};
-ghost use Rattle.fidl_const.specs.Refusals.{type_span};
+ghost use Rattle.fidl_consts.specs.Refusals.{type_span};
 ghost use Rattle.fidl_constraints.specs.BehindViews.{use_view};
 ghost use Rattle.fidl_lower_types.specs.TermViews.{AreKnown};
 ghost use Rattle.fidl_resource_rules.specs.Kinds.{AreOfUint32, RightsSuit, TypeSuits};
@@ -16,7 +16,7 @@ use crate::kinds::{is_uint32, values_of_uint32};
 use crate::places::type_span;
 use fidl_constraints::{TypeUse, use_of};
 use fidl_lower_types::Sources;
-use fidl_names::Place;
+use fidl_named::Place;
 use fidl_tree::{File, Property, ValuesKeyword};
 use std::alloc::AllocError;
 

@@ -8,7 +8,7 @@ use Rattle.fidl_wire.specs.Term as ty
 use Rattle.fidl_wire.specs.Figure.{Declarations}
 use Rattle.fidl_spelling.specs.Words.{Words, IsRun, is_word_byte}
 use Rattle.fidl_spelling.specs.Spells.{IsNumber, Bears, Spelled, AMember}
-use Rattle.fidl_spelling.specs.Readable.{AreRowsReadable}
+use Rattle.fidl_spelling.specs.Readable.{RowsHaveNames}
 use Rattle.fidl_spelling.proofs.Det.{number_first, word_head}
 use Rattle.fidl_spelling.proofs.WordLaws.{head}
 
@@ -62,20 +62,20 @@ value_first ds (ty.named i) absent ws r p = absurd p
 value_first ds _ _ ws r p = absurd p
 
 -- a name of a member is a run of word bytes
-name_run : (rows : Rows) (name : List ℕ) (ordinal : ℕ) → AreRowsReadable rows → Bears rows name ordinal → IsRun name
-name_run no_rows name ordinal g h = absurd h
-name_run (row key n t rows) name ordinal g (inl h) = subst IsRun (sym h.1) g.0
-name_run (row key n t rows) name ordinal g (inr h) = name_run rows name ordinal g.2 h
+name_run : (rule : Rows → Type 0) (rows : Rows) (name : List ℕ) (ordinal : ℕ) → RowsHaveNames rule rows → Bears rows name ordinal → IsRun name
+name_run rule no_rows name ordinal g h = absurd h
+name_run rule (row key n t rows) name ordinal g (inl h) = subst IsRun (sym h.1) g.0
+name_run rule (row key n t rows) name ordinal g (inr h) = name_run rule rows name ordinal g.2 h
 
 no_brace_run : (w : List ℕ) → IsRun w → w ≡ codes "}" → ⊥
 no_brace_run w h e = let b : false ≡ true = subst (λ l. list_all is_word_byte l ≡ true) e h.1 in absurd (cc b)
 
 -- no member begins with a closing brace
-pub member_no_brace : (ds : Declarations) (rows : Rows) (ordinal : ℕ) (m : Member) (ws r z : Words) → AreRowsReadable rows → AMember ds rows ordinal m ws r → ws ≡ codes "}" ∷ z → ⊥
-member_no_brace ds rows ordinal (known v) ws r z g p e =
+pub member_no_brace : (rule : Rows → Type 0) (ds : Declarations) (rows : Rows) (ordinal : ℕ) (m : Member) (ws r z : Words) → RowsHaveNames rule rows → AMember ds rows ordinal m ws r → ws ≡ codes "}" ∷ z → ⊥
+member_no_brace rule ds rows ordinal (known v) ws r z g p e =
     let n = p.1 in
-    no_brace_run n.0 (name_run rows n.0 ordinal g n.1.bears) (word_head n.0 (codes "}") p.0 z (sym n.2 ∙ e))
-member_no_brace ds rows ordinal (unknown inline bytes hs) ws r z g p e =
+    no_brace_run n.0 (name_run rule rows n.0 ordinal g n.1.bears) (word_head n.0 (codes "}") p.0 z (sym n.2 ∙ e))
+member_no_brace rule ds rows ordinal (unknown inline bytes hs) ws r z g p e =
     let n = p.1 in
     let c = number_first _ 125 [] (subst (λ l. IsNumber _ l) (word_head n.0 (codes "}") p.0 z (sym n.2 ∙ e)) n.1.1) (omega arith) in
     absurd (omega (arith, c))

@@ -7,3 +7,5 @@ pub mod Det
 pub mod First
 pub mod Single
 pub mod Refusing
+pub mod OpenWords
+pub mod Opening

@@ -8,42 +8,42 @@ use Rattle.fidl_wire.specs.Encoding.{term_or}
 use Rattle.fidl_wire.specs.Text.{name_at}
 use Rattle.fidl_spelling.specs.Words.{IsRun}
 use Rattle.fidl_spelling.specs.Spells.{Bears, Means}
-use Rattle.fidl_spelling.specs.Readable.{IsReadable, AreFieldsReadable, AreRowsReadable, AreNamesDistinct}
+use Rattle.fidl_spelling.specs.Readable.{HasNames, FieldsHaveNames, RowsHaveNames, AreNamesDistinct}
 
-readable_at : (terms : List Term) (i : ℕ) → AllByRecursion IsReadable terms → IsReadable (get_or terms i nothing)
-readable_at [] i h = tt
-readable_at (t ∷ terms) zero h = h.0
-readable_at (t ∷ terms) (suc i) h = readable_at terms i h.1
+readable_at : (rule : Rows → Type 0) (terms : List Term) (i : ℕ) → AllByRecursion (HasNames rule) terms → HasNames rule (get_or terms i nothing)
+readable_at rule [] i h = tt
+readable_at rule (t ∷ terms) zero h = h.0
+readable_at rule (t ∷ terms) (suc i) h = readable_at rule terms i h.1
 
-pub readable_resolve : (terms : List Term) (t : Term) → AllByRecursion IsReadable terms → IsReadable t → IsReadable (resolve terms t)
-readable_resolve terms (ty.named i) h p = readable_at terms i h
-readable_resolve terms ty.bool h p = p
-readable_resolve terms _ h p = p
+pub readable_resolve : (rule : Rows → Type 0) (terms : List Term) (t : Term) → AllByRecursion (HasNames rule) terms → HasNames rule t → HasNames rule (resolve terms t)
+readable_resolve rule terms (ty.named i) h p = readable_at rule terms i h
+readable_resolve rule terms ty.bool h p = p
+readable_resolve rule terms _ h p = p
 
-pub readable_fields : (t : Term) → IsReadable t → AreFieldsReadable (fields_of t)
-readable_fields (ty.struct fs) h = h
-readable_fields _ h = tt
+pub readable_fields : (rule : Rows → Type 0) (t : Term) → HasNames rule t → FieldsHaveNames rule (fields_of t)
+readable_fields rule (ty.struct fs) h = h
+readable_fields rule _ h = tt
 
 abbrev get_some : Term → Option Term → Term
 get_some u None = u
 get_some u (Some t) = t
 
 -- a member that the layout has: its name is a word, its type is readable, and it bears the name
-pub record IsThere (rows : Rows) (ordinal : ℕ) (t : Term) : Type 0 where
+pub record IsThere (rule : Rows → Type 0) (rows : Rows) (ordinal : ℕ) (t : Term) : Type 0 where
   pub run : IsRun (name_at rows ordinal)
-  pub readable : IsReadable t
+  pub readable : HasNames rule t
   pub bears : Bears rows (name_at rows ordinal) ordinal
 
-pub there : (rows : Rows) (ordinal : ℕ) (t : Term) → AreRowsReadable rows → find rows ordinal ≡ Some t → IsThere rows ordinal t
-there no_rows ordinal t h e = absurd (cc e)
-there (row key name u rows) ordinal t h e = go (λ f. there rows ordinal t h.2 f) (key == ordinal) refl e
+pub there : (rule : Rows → Type 0) (rows : Rows) (ordinal : ℕ) (t : Term) → RowsHaveNames rule rows → find rows ordinal ≡ Some t → IsThere rule rows ordinal t
+there rule no_rows ordinal t h e = absurd (cc e)
+there rule (row key name u rows) ordinal t h e = go (λ f. there rule rows ordinal t h.2 f) (key == ordinal) refl e
   where
-    go : (find rows ordinal ≡ Some t → IsThere rows ordinal t) → (b : Bool) → (key == ordinal) ≡ b → cond b (Some u) (find rows ordinal) ≡ Some t → IsThere (row key name u rows) ordinal t
+    go : (find rows ordinal ≡ Some t → IsThere rule rows ordinal t) → (b : Bool) → (key == ordinal) ≡ b → cond b (Some u) (find rows ordinal) ≡ Some t → IsThere rule (row key name u rows) ordinal t
     go more true is f =
         let same : name_at (row key name u rows) ordinal ≡ name = ap (λ b. cond b name (name_at rows ordinal)) is in
         record {
           run = subst IsRun (sym same) h.0;
-          readable = let u_is : u ≡ t = ap (λ o. get_some u o) f in subst IsReadable u_is h.1;
+          readable = let u_is : u ≡ t = ap (λ o. get_some u o) f in subst (HasNames rule) u_is h.1;
           bears = inl (sym (eqb-true key ordinal is), same);
         }
     go more false is f =
@@ -55,13 +55,13 @@ there (row key name u rows) ordinal t h e = go (λ f. there rows ordinal t h.2 f
           bears = inr (subst (λ n. Bears rows n ordinal) (sym same) k.bears);
         }
 
-pub means : (rows : Rows) (ordinal : ℕ) (t : Term) → AreNamesDistinct rows → IsThere rows ordinal t → Means rows ordinal (name_at rows ordinal)
+pub means : (rows : Rows) (ordinal : ℕ) (t : Term) → AreNamesDistinct rows → IsThere AreNamesDistinct rows ordinal t → Means rows ordinal (name_at rows ordinal)
 means rows ordinal t h k = record { bears = k.bears; lowest = λ j b. let e = h (name_at rows ordinal) ordinal j k.bears b in omega (arith, e) }
 
-pub readable_member : (rows : Rows) (ordinal : ℕ) → AreRowsReadable rows → IsReadable (term_or (find rows ordinal))
-readable_member no_rows ordinal g = tt
-readable_member (row key name t rows) ordinal g = go (key == ordinal) (readable_member rows ordinal g.2)
+pub readable_member : (rule : Rows → Type 0) (rows : Rows) (ordinal : ℕ) → RowsHaveNames rule rows → HasNames rule (term_or (find rows ordinal))
+readable_member rule no_rows ordinal g = tt
+readable_member rule (row key name t rows) ordinal g = go (key == ordinal) (readable_member rule rows ordinal g.2)
   where
-    go : (b : Bool) → IsReadable (term_or (find rows ordinal)) → IsReadable (term_or (cond b (Some t) (find rows ordinal)))
+    go : (b : Bool) → HasNames rule (term_or (find rows ordinal)) → HasNames rule (term_or (cond b (Some t) (find rows ordinal)))
     go true h = g.1
     go false h = h

@@ -4,7 +4,7 @@ use Rattle.std.specs.Prelude.{codes}
 use Rattle.fidl_wire.specs.Figure.{no_declarations}
 use Rattle.fidl_wire.specs.Term.{Term, no_fields, field, uint8}
 use Rattle.fidl_wire.specs.Term as ty
-use Rattle.fidl_wire.specs.Value.{Value, Values, absent, bool, number, list, fields, none, value}
+use Rattle.fidl_wire.specs.Value.{Value, absent, bool, number, list, fields, none, value}
 use Rattle.fidl_wire.specs.Typed.{InRange}
 use Rattle.fidl_spelling.specs.Spells.{Spelled, IsNumber}
 use Rattle.fidl_spelling.proofs.Det.{word_head, number_one}

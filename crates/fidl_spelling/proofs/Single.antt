@@ -1,6 +1,7 @@
 -- Words spell at most one value of a type.
 use Rattle.std.proofs.Common.{◌≡◌, ℕ, suc, ◌^◌, List, [], ◌∷◌, ◌++◌, refl, sym, ap, subst, ◌∙◌, Bool, true, false, arith}
 use Rattle.std.specs.Prelude.{codes, if◌then◌else◌}
+use Rattle.std.specs.List.{AllByRecursion}
 use Rattle.fidl_wire.specs.declared.handle.HandleInfo.{HandleInfo}
 use Rattle.fidl_wire.specs.Value.{Value, absent, bool, number, text, list, fields, handle, table, union, Values, none, value, Member, known, unknown, Members, empty, member}
 use Rattle.fidl_wire.specs.Term.{Term, Kind, Fields, no_fields, field, Rows, no_rows, row, resolve, fields_of, find}
@@ -9,7 +10,7 @@ use Rattle.fidl_wire.specs.Figure.{Declarations}
 use Rattle.fidl_wire.specs.Encoding.{term_or}
 use Rattle.fidl_spelling.specs.Words.{IsQuoted}
 use Rattle.fidl_spelling.specs.Spells.{The, One, ◌⨾◌, IsNumberOf, IsNumberBelow, AreHex, AHandle, Handles, Absence, Means, Spelled, Elements, Named, AMember, Rising}
-use Rattle.fidl_spelling.specs.Readable.{IsReadable, AreFieldsReadable, AreRowsReadable, AreReadable}
+use Rattle.fidl_spelling.specs.Readable.{HasNames, FieldsHaveNames, RowsHaveNames}
 use Rattle.fidl_spelling.proofs.Readable.{readable_resolve, readable_fields, readable_member}
 use Rattle.fidl_spelling.proofs.Det.{Det, word_head, word_tail, clash, det_the, det_one, det_then, det_comma, number_one, natural_one, hex_one, quoted_one, det_handle}
 use Rattle.fidl_spelling.proofs.First.{value_first, member_no_brace}
@@ -56,7 +57,7 @@ in_or_out false true ws r s p q = let e = clash 111 105 _ _ ws r s p q in absurd
 means_one : (rows : Rows) (i j : ℕ) (name : List ℕ) → Means rows i name → Means rows j name → i ≡ j
 means_one rows i j name h k = let a = h.lowest j k.bears in let b = k.lowest i h.bears in omega (arith, a, b)
 
-module _ (ds : Declarations) (ready : AreReadable ds) where
+module _ (rule : Rows → Type 0) (ds : Declarations) (ready : AllByRecursion (HasNames rule) ds.terms) where
   -- a member that is known, and one that is not
   known_only : (rows : Rows) (i j : ℕ) (v : Value) (y : Member)
       → ((w : Value) → Det (Spelled ds (resolve ds.terms (term_or (find rows i))) v) (Spelled ds (resolve ds.terms (term_or (find rows i))) w) (v ≡ w))
@@ -91,7 +92,7 @@ module _ (ds : Declarations) (ready : AreReadable ds) where
       ((x.0.0, (λ k. unknown (x.0.1.1.1.0 k) (x.0.1.1.1.1.0 k) (x.0.1.1.1.1.1.1 k))), x.1)
 
   mutual
-    pub only : (t : Term) (v w : Value) → IsReadable t → Det (Spelled ds t v) (Spelled ds t w) (v ≡ w)
+    pub only : (t : Term) (v w : Value) → HasNames rule t → Det (Spelled ds t v) (Spelled ds t w) (v ≡ w)
     only t absent w g = absent_only ds t w
     only ty.bool (bool true) w g = go w
       where
@@ -132,13 +133,13 @@ module _ (ds : Declarations) (ready : AreReadable ds) where
         go (text ys) ws r s p q = det_one (λ l. IsQuoted l bytes) (λ l. IsQuoted l ys) (text bytes ≡ text ys) (λ w f g. ap (λ l. text l) (quoted_one bytes ys w f g)) ws r s p q
         go absent ws r s p q = let e = clash 34 97 (p.1.0 ++ 34 ∷ []) _ ws r s (p.2 ∙ ap (λ w. w ∷ r) p.1.2) q in absurd (omega (arith, e))
         go _ ws r s p q = absurd q
-    only (ty.vector optional bound t) (list vs) w g = go w (λ us. only_elements (resolve ds.terms t) false vs us (readable_resolve ds.terms t ready g))
+    only (ty.vector optional bound t) (list vs) w g = go w (λ us. only_elements (resolve ds.terms t) false vs us (readable_resolve rule ds.terms t ready g))
       where
         go : (w : Value) → ((us : Values) → Det (Elements ds (resolve ds.terms t) false vs ⨾ The "]") (Elements ds (resolve ds.terms t) false us ⨾ The "]") (vs ≡ us)) → Det (Spelled ds (ty.vector optional bound t) (list vs)) (Spelled ds (ty.vector optional bound t) w) (list vs ≡ w)
         go (list us) h ws r s p q = let x = det_then _ _ _ _ _ _ (det_the (codes "[")) (h us) ws r s p q in (ap (λ l. list l) x.0.1, x.1)
         go absent h ws r s p q = let e = clash 91 97 [] _ ws p.0 s p.1 q in absurd (omega (arith, e))
         go _ h ws r s p q = absurd q
-    only (ty.array t n) (list vs) w g = go w (λ us. only_elements (resolve ds.terms t) false vs us (readable_resolve ds.terms t ready g))
+    only (ty.array t n) (list vs) w g = go w (λ us. only_elements (resolve ds.terms t) false vs us (readable_resolve rule ds.terms t ready g))
       where
         go : (w : Value) → ((us : Values) → Det (Elements ds (resolve ds.terms t) false vs ⨾ The "]") (Elements ds (resolve ds.terms t) false us ⨾ The "]") (vs ≡ us)) → Det (Spelled ds (ty.array t n) (list vs)) (Spelled ds (ty.array t n) w) (list vs ≡ w)
         go (list us) h ws r s p q = let x = det_then _ _ _ _ _ _ (det_the (codes "[")) (h us) ws r s p q in (ap (λ l. list l) x.0.1, x.1)
@@ -148,7 +149,7 @@ module _ (ds : Declarations) (ready : AreReadable ds) where
         go : (w : Value) → ((us : Values) → Det (Named ds fs false vs) (Named ds fs false us) (vs ≡ us)) → Det (Spelled ds (ty.struct fs) (fields vs)) (Spelled ds (ty.struct fs) w) (fields vs ≡ w)
         go (fields us) h ws r s p q = let x = det_then _ _ _ _ _ _ (det_the (codes "{")) (det_then _ _ _ _ _ _ (h us) (det_the (codes "}"))) ws r s p q in (ap (λ l. fields l) x.0.1.0, x.1)
         go _ h ws r s p q = absurd q
-    only (ty.box t) (fields vs) w g = go w (λ us. only_fields (fields_of (resolve ds.terms t)) false vs us (readable_fields (resolve ds.terms t) (readable_resolve ds.terms t ready g)))
+    only (ty.box t) (fields vs) w g = go w (λ us. only_fields (fields_of (resolve ds.terms t)) false vs us (readable_fields rule (resolve ds.terms t) (readable_resolve rule ds.terms t ready g)))
       where
         go : (w : Value) → ((us : Values) → Det (Named ds (fields_of (resolve ds.terms t)) false vs) (Named ds (fields_of (resolve ds.terms t)) false us) (vs ≡ us)) → Det (Spelled ds (ty.box t) (fields vs)) (Spelled ds (ty.box t) w) (fields vs ≡ w)
         go (fields us) h ws r s p q = let x = det_then _ _ _ _ _ _ (det_the (codes "{")) (det_then _ _ _ _ _ _ (h us) (det_the (codes "}"))) ws r s p q in (ap (λ l. fields l) x.0.1.0, x.1)
@@ -172,7 +173,7 @@ module _ (ds : Declarations) (ready : AreReadable ds) where
         go _ h ws r s p q = absurd q
     only _ _ w g = λ ws r s p q. absurd p
 
-    only_elements : (t : Term) (later : Bool) (vs us : Values) → IsReadable t → Det (Elements ds t later vs ⨾ The "]") (Elements ds t later us ⨾ The "]") (vs ≡ us)
+    only_elements : (t : Term) (later : Bool) (vs us : Values) → HasNames rule t → Det (Elements ds t later vs ⨾ The "]") (Elements ds t later us ⨾ The "]") (vs ≡ us)
     only_elements t later none none g ws r s p q = (refl, word_tail (codes "]") (codes "]") r s (sym (p.1 ∙ p.2) ∙ q.1 ∙ q.2))
     only_elements t true none (value u us) g ws r s p q = let e = clash 93 44 [] [] ws r q.1.0 (p.1 ∙ p.2) q.1.1 in absurd (omega (arith, e))
     only_elements t false none (value u us) g ws r s p q =
@@ -188,29 +189,29 @@ module _ (ds : Declarations) (ready : AreReadable ds) where
         let y = only_elements t true vs us g p.1.2.0 r s (p.0, p.1.2.2, p.2) (q.0, subst (λ m. Elements ds t true us m q.0) (sym x.1) q.1.2.2, q.2) in
         ((λ i. value (x.0 i) (y.0 i)), y.1)
 
-    only_fields : (fs : Fields) (later : Bool) (vs us : Values) → AreFieldsReadable fs → Det (Named ds fs later vs) (Named ds fs later us) (vs ≡ us)
+    only_fields : (fs : Fields) (later : Bool) (vs us : Values) → FieldsHaveNames rule fs → Det (Named ds fs later vs) (Named ds fs later us) (vs ≡ us)
     only_fields no_fields later none none g ws r s p q = (refl, sym p ∙ q)
     only_fields (field name t fs) later (value v vs) (value u us) g ws r s p q =
         let c = det_comma later ws p.0 q.0 p.1 q.1 in
         let n = det_one (λ w. w ≡ name) (λ w. w ≡ name) (Unit {0}) (λ w f g. tt) p.0 p.2.0 q.2.0 p.2.1 (subst (λ m. One (λ w. w ≡ name) m q.2.0) (sym c.1) q.2.1) in
         let d = det_the (codes ":") p.2.0 p.2.2.0 q.2.2.0 p.2.2.1 (subst (λ m. The ":" m q.2.2.0) (sym n.1) q.2.2.1) in
-        let x = only (resolve ds.terms t) v u (readable_resolve ds.terms t ready g.1) p.2.2.0 p.2.2.2.0 q.2.2.2.0 p.2.2.2.1 (subst (λ m. Spelled ds (resolve ds.terms t) u m q.2.2.2.0) (sym d.1) q.2.2.2.1) in
+        let x = only (resolve ds.terms t) v u (readable_resolve rule ds.terms t ready g.1) p.2.2.0 p.2.2.2.0 q.2.2.2.0 p.2.2.2.1 (subst (λ m. Spelled ds (resolve ds.terms t) u m q.2.2.2.0) (sym d.1) q.2.2.2.1) in
         let y = only_fields fs true vs us g.2 p.2.2.2.0 r s p.2.2.2.2 (subst (λ m. Named ds fs true us m s) (sym x.1) q.2.2.2.2) in
         ((λ i. value (x.0 i) (y.0 i)), y.1)
     only_fields no_fields later none (value u us) g ws r s p q = absurd q
     only_fields (field name t fs) later (value v vs) none g ws r s p q = absurd q
     only_fields _ later _ us g ws r s p q = absurd p
 
-    only_member : (rows : Rows) (i j : ℕ) (x y : Member) → AreRowsReadable rows → Det (AMember ds rows i x) (AMember ds rows j y) ((i ≡ j) × (x ≡ y))
-    only_member rows i j (known v) y g = known_only rows i j v y (λ w. only (resolve ds.terms (term_or (find rows i))) v w (readable_resolve ds.terms (term_or (find rows i)) ready (readable_member rows i g)))
+    pub only_member : (rows : Rows) (i j : ℕ) (x y : Member) → RowsHaveNames rule rows → Det (AMember ds rows i x) (AMember ds rows j y) ((i ≡ j) × (x ≡ y))
+    only_member rows i j (known v) y g = known_only rows i j v y (λ w. only (resolve ds.terms (term_or (find rows i))) v w (readable_resolve rule ds.terms (term_or (find rows i)) ready (readable_member rule rows i g)))
     only_member rows i j (unknown a xs hs) y g = unknown_only rows i j a xs hs y
 
-    only_members : (rows : Rows) (later : Bool) (l k : ℕ) (ms us : Members) → AreRowsReadable rows → Det (Rising ds rows later l ms ⨾ The "}") (Rising ds rows later k us ⨾ The "}") (ms ≡ us)
+    only_members : (rows : Rows) (later : Bool) (l k : ℕ) (ms us : Members) → RowsHaveNames rule rows → Det (Rising ds rows later l ms ⨾ The "}") (Rising ds rows later k us ⨾ The "}") (ms ≡ us)
     only_members rows later l k empty empty g ws r s p q = (refl, word_tail (codes "}") (codes "}") r s (sym (p.1 ∙ p.2) ∙ q.1 ∙ q.2))
     only_members rows true l k empty (member j y us) g ws r s p q = let e = clash 125 44 [] [] ws r q.1.1.0 (p.1 ∙ p.2) q.1.1.1 in absurd (omega (arith, e))
-    only_members rows false l k empty (member j y us) g ws r s p q = absurd (member_no_brace ds rows j y q.1.1.0 q.1.1.2.0 r g q.1.1.2.1 (sym q.1.1.1 ∙ p.1 ∙ p.2))
+    only_members rows false l k empty (member j y us) g ws r s p q = absurd (member_no_brace rule ds rows j y q.1.1.0 q.1.1.2.0 r g q.1.1.2.1 (sym q.1.1.1 ∙ p.1 ∙ p.2))
     only_members rows true l k (member i x ms) empty g ws r s p q = let e = clash 125 44 [] [] ws s p.1.1.0 (q.1 ∙ q.2) p.1.1.1 in absurd (omega (arith, e))
-    only_members rows false l k (member i x ms) empty g ws r s p q = absurd (member_no_brace ds rows i x p.1.1.0 p.1.1.2.0 s g p.1.1.2.1 (sym p.1.1.1 ∙ q.1 ∙ q.2))
+    only_members rows false l k (member i x ms) empty g ws r s p q = absurd (member_no_brace rule ds rows i x p.1.1.0 p.1.1.2.0 s g p.1.1.2.1 (sym p.1.1.1 ∙ q.1 ∙ q.2))
     only_members rows later l k (member i x ms) (member j y us) g ws r s p q =
         let c = det_comma later ws p.1.1.0 q.1.1.0 p.1.1.1 q.1.1.1 in
         let h = only_member rows i j x y g p.1.1.0 p.1.1.2.0 q.1.1.2.0 p.1.1.2.1 (subst (λ m. AMember ds rows j y m q.1.1.2.0) (sym c.1) q.1.1.2.1) in

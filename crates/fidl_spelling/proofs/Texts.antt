@@ -14,7 +14,7 @@ use Rattle.fidl_wire.specs.Typed.{InRange, IsTyped, AllTyped, EachTyped, IsTyped
 use Rattle.fidl_wire.specs.Text.{text_of, elements_text, fields_text, member_text, members_text, comma_if, name_at, hex_byte, handles_text, handle_text, quoted_byte}
 use Rattle.fidl_spelling.specs.Words.{IsQuoted}
 use Rattle.fidl_spelling.specs.Spells.{Nothing, AHandle, The, One, ◌⨾◌, CommaIf, IsNumberOf, IsNumberBelow, AreHex, Handles, Means, Spelled, Elements, Named, AMember, Rising}
-use Rattle.fidl_spelling.specs.Readable.{IsReadable, AreFieldsReadable, AreRowsReadable, AreNamesDistinct, AreReadable}
+use Rattle.fidl_spelling.specs.Readable.{IsReadable, FieldsHaveNames, RowsHaveNames, AreNamesDistinct, AreReadable}
 use Rattle.fidl_spelling.proofs.Reading.{Closed, Reads, Follows, reads_as, closed_reads, then_closed, closed_both, then_open, symbol_closed, symbol_blank, blank_symbol, one_run, one_negative, the_run, the_run_blank, nothing_closed, comma_closed}
 use Rattle.fidl_spelling.proofs.Leaves.{decimal_number, decimal_run, handle_closed, handles_closed, hex_reads, quoted_closed}
 use Rattle.fidl_spelling.proofs.Readable.{readable_resolve, readable_fields, there, means}
@@ -79,12 +79,12 @@ module _ (ds : Declarations) (ready : AreReadable ds) where
   members_follow rows empty rest f = f
   members_follow rows (member ordinal m ms) rest f = refl
 
-  known_reads : (strict : Bool) (rows : Rows) (ordinal : ℕ) (v : Value) (o : Option Term) → find rows ordinal ≡ o → AreNamesDistinct rows → AreRowsReadable rows → IsTypedMember ds strict o (known v)
+  known_reads : (strict : Bool) (rows : Rows) (ordinal : ℕ) (v : Value) (o : Option Term) → find rows ordinal ≡ o → AreNamesDistinct rows → RowsHaveNames AreNamesDistinct rows → IsTypedMember ds strict o (known v)
       → ((t : Term) → IsReadable t → IsTyped ds (resolve ds.terms t) v → Reads (Spelled ds (resolve ds.terms t) v) (text_of ds (resolve ds.terms t) v))
       → Reads (AMember ds rows ordinal (known v)) (member_text ds rows ordinal (known v))
   known_reads strict rows ordinal v None is d g h k = absurd h
   known_reads strict rows ordinal v (Some t) is d g h k =
-      let b = there rows ordinal t g is in
+      let b = there AreNamesDistinct rows ordinal t g is in
       let u = term_or (find rows ordinal) in
       let name = name_at rows ordinal in
       let x = text_of ds (resolve ds.terms u) v in
@@ -123,18 +123,18 @@ module _ (ds : Declarations) (ready : AreReadable ds) where
     spells (ty.vector optional bound t) (list vs) g h =
         let u = resolve ds.terms t in
         then_closed (The "[") _ (codes "[") (elements_text ds u false vs ++ codes "]") (symbol_closed 91 refl)
-        (then_open (Elements ds u false vs) (The "]") (elements_text ds u false vs) (codes "]") (spell_elements u false vs (readable_resolve ds.terms t ready g) h.1) (λ rest f. refl) (closed_reads (The "]") (codes "]") (symbol_closed 93 refl)))
+        (then_open (Elements ds u false vs) (The "]") (elements_text ds u false vs) (codes "]") (spell_elements u false vs (readable_resolve AreNamesDistinct ds.terms t ready g) h.1) (λ rest f. refl) (closed_reads (The "]") (codes "]") (symbol_closed 93 refl)))
     spells (ty.array t n) (list vs) g h =
         let u = resolve ds.terms t in
         then_closed (The "[") _ (codes "[") (elements_text ds u false vs ++ codes "]") (symbol_closed 91 refl)
-        (then_open (Elements ds u false vs) (The "]") (elements_text ds u false vs) (codes "]") (spell_elements u false vs (readable_resolve ds.terms t ready g) h.1) (λ rest f. refl) (closed_reads (The "]") (codes "]") (symbol_closed 93 refl)))
+        (then_open (Elements ds u false vs) (The "]") (elements_text ds u false vs) (codes "]") (spell_elements u false vs (readable_resolve AreNamesDistinct ds.terms t ready g) h.1) (λ rest f. refl) (closed_reads (The "]") (codes "]") (symbol_closed 93 refl)))
     spells (ty.struct fs) (fields vs) g h =
         then_closed (The "{") _ (codes "{") (fields_text ds fs false vs ++ codes "}") (symbol_closed 123 refl)
         (then_open (Named ds fs false vs) (The "}") (fields_text ds fs false vs) (codes "}") (spell_fields fs false vs g h) (λ rest f. refl) (closed_reads (The "}") (codes "}") (symbol_closed 125 refl)))
     spells (ty.box t) (fields vs) g h =
         let fs = fields_of (resolve ds.terms t) in
         then_closed (The "{") _ (codes "{") (fields_text ds fs false vs ++ codes "}") (symbol_closed 123 refl)
-        (then_open (Named ds fs false vs) (The "}") (fields_text ds fs false vs) (codes "}") (spell_fields fs false vs (readable_fields (resolve ds.terms t) (readable_resolve ds.terms t ready g)) h.1) (λ rest f. refl) (closed_reads (The "}") (codes "}") (symbol_closed 125 refl)))
+        (then_open (Named ds fs false vs) (The "}") (fields_text ds fs false vs) (codes "}") (spell_fields fs false vs (readable_fields AreNamesDistinct (resolve ds.terms t) (readable_resolve AreNamesDistinct ds.terms t ready g)) h.1) (λ rest f. refl) (closed_reads (The "}") (codes "}") (symbol_closed 125 refl)))
     spells (ty.table rows) (table n ms) g h =
         let body = members_text ds rows false ms in
         reads_as (Spelled ds (ty.table rows) (table n ms)) (codes "table(" ++ (decimal n ++ (codes ") {" ++ (body ++ codes "}")))) (text_of ds (ty.table rows) (table n ms)) (apart5 (codes "table(") (decimal n) (codes ") {") body (codes "}"))
@@ -166,7 +166,7 @@ module _ (ds : Declarations) (ready : AreReadable ds) where
         (then_closed (CommaIf later) (Spelled ds t v ⨾ Elements ds t true vs) (comma_if later) (a ++ b) (comma_closed later)
         (then_open (Spelled ds t v) (Elements ds t true vs) a b (spells t v g h.0) (elements_follow t vs) (spell_elements t true vs g h.1)))
 
-    spell_fields : (fs : Fields) (later : Bool) (vs : Values) → AreFieldsReadable fs → EachTyped ds fs vs → Reads (Named ds fs later vs) (fields_text ds fs later vs)
+    spell_fields : (fs : Fields) (later : Bool) (vs : Values) → FieldsHaveNames AreNamesDistinct fs → EachTyped ds fs vs → Reads (Named ds fs later vs) (fields_text ds fs later vs)
     spell_fields no_fields later none g h = closed_reads Nothing [] nothing_closed
     spell_fields (field name t fs) later (value v vs) g h =
         let u = resolve ds.terms t in
@@ -176,14 +176,14 @@ module _ (ds : Declarations) (ready : AreReadable ds) where
         (then_closed (CommaIf later) _ (comma_if later) (name ++ (codes ": " ++ (a ++ b))) (comma_closed later)
         (then_open (One (λ w. w ≡ name)) _ name (codes ": " ++ (a ++ b)) (one_run (λ w. w ≡ name) name refl g.0) (λ rest f. refl)
         (then_closed (The ":") _ (codes ": ") (a ++ b) (symbol_blank 58 refl)
-        (then_open (Spelled ds u v) (Named ds fs true vs) a b (spells u v (readable_resolve ds.terms t ready g.1) h.0) (fields_follow fs vs) (spell_fields fs true vs g.2 h.1)))))
+        (then_open (Spelled ds u v) (Named ds fs true vs) a b (spells u v (readable_resolve AreNamesDistinct ds.terms t ready g.1) h.0) (fields_follow fs vs) (spell_fields fs true vs g.2 h.1)))))
     spell_fields _ later _ g h = absurd h
 
-    spell_member : (strict : Bool) (rows : Rows) (ordinal : ℕ) (m : Member) → AreNamesDistinct rows → AreRowsReadable rows → ordinal < 2 ^ 64 → IsTypedMember ds strict (find rows ordinal) m → Reads (AMember ds rows ordinal m) (member_text ds rows ordinal m)
-    spell_member strict rows ordinal (known v) d g small h = known_reads strict rows ordinal v (find rows ordinal) refl d g h (λ t k i. spells (resolve ds.terms t) v (readable_resolve ds.terms t ready k) i)
+    spell_member : (strict : Bool) (rows : Rows) (ordinal : ℕ) (m : Member) → AreNamesDistinct rows → RowsHaveNames AreNamesDistinct rows → ordinal < 2 ^ 64 → IsTypedMember ds strict (find rows ordinal) m → Reads (AMember ds rows ordinal m) (member_text ds rows ordinal m)
+    spell_member strict rows ordinal (known v) d g small h = known_reads strict rows ordinal v (find rows ordinal) refl d g h (λ t k i. spells (resolve ds.terms t) v (readable_resolve AreNamesDistinct ds.terms t ready k) i)
     spell_member strict rows ordinal (unknown inline bytes hs) d g small h = unknown_reads strict rows ordinal inline bytes hs (find rows ordinal) small h
 
-    spell_members : (rows : Rows) (later : Bool) (least last n : ℕ) (ms : Members) → AreNamesDistinct rows → AreRowsReadable rows → n < 2 ^ 64 → least ≤ suc last → RiseTyped ds rows last n ms → Reads (Rising ds rows later least ms) (members_text ds rows later ms)
+    spell_members : (rows : Rows) (later : Bool) (least last n : ℕ) (ms : Members) → AreNamesDistinct rows → RowsHaveNames AreNamesDistinct rows → n < 2 ^ 64 → least ≤ suc last → RiseTyped ds rows last n ms → Reads (Rising ds rows later least ms) (members_text ds rows later ms)
     spell_members rows later least last n empty d g small le h = closed_reads Nothing [] nothing_closed
     spell_members rows later least last n (member ordinal m ms) d g small le h =
         let a = member_text ds rows ordinal m in

@@ -6,8 +6,8 @@ use Rattle.fidl_tree.specs.Views.{file_view, openness_view, protocol_member_view
 use Rattle.fidl_tree.specs.declared.file.File.{File}
 use Rattle.fidl_tree.specs.declared.declaration.Declaration.{Declaration}
 use Rattle.fidl_tree.specs.declared.declaration.DeclarationBody.TheVariants as body
-use Rattle.fidl_names.specs.declared.place.DeclarationId.{DeclarationId}
-use Rattle.fidl_names.specs.Constraints.{IsDeclarationAt}
+use Rattle.fidl_named.specs.declared.place.DeclarationId.{DeclarationId}
+use Rattle.fidl_named.specs.Constraints.{IsDeclarationAt}
 use Rattle.fidl_declarations.specs.declared.step.Step.TheVariants as step
 use Rattle.fidl_declarations.specs.Forms.{name_by_path}
 use Rattle.fidl_composition.specs.Tables.{IsProtocolNode}

@@ -6,7 +6,7 @@ use Rattle.fidl_span.specs.declared.words.Span.{Span}
 use Rattle.fidl_tree.specs.Syntax.{Openness, ProtocolMember}
 use Rattle.fidl_tree.specs.Views.{file_view, openness_view}
 use Rattle.fidl_tree.specs.declared.file.File.{File}
-use Rattle.fidl_names.specs.declared.place.DeclarationId.{DeclarationId}
+use Rattle.fidl_named.specs.declared.place.DeclarationId.{DeclarationId}
 use Rattle.fidl_declarations.specs.declared.step.Step.TheVariants as step
 use Rattle.fidl_declarations.specs.Forms.{Form, name_by_path}
 use Rattle.fidl_composition.specs.Protocols.{IsProtocolAt}

@@ -1,9 +1,9 @@
 //! The protocols of ids, with their files.
 ghost use Rattle.std.specs.Prelude.{IfSome};
-ghost use Rattle.fidl_names.specs.Constraints.{IsDeclarationAt};
+ghost use Rattle.fidl_named.specs.Constraints.{IsDeclarationAt};
 ghost use Rattle.fidl_table.specs.Listed.{IsFound};
 
-use fidl_names::{DeclarationId, Named};
+use fidl_named::{DeclarationId, Named};
 use fidl_tree::{Declaration, DeclarationBody, File, ProtocolDeclaration};
 
 /// A protocol, with the file where it is declared.

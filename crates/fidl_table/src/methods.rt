@@ -5,7 +5,7 @@ ghost use Rattle.fidl_table.specs.Listed.{carried_by, IsMethodEntry};
 
 use crate::found::find;
 use fidl_method_rules::method_full_name;
-use fidl_names::Named;
+use fidl_named::Named;
 use fidl_payloads::Payload;
 use fidl_protocol::Method;
 use fidl_table_build::{Carried, MethodEntry};

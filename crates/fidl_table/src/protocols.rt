@@ -9,7 +9,7 @@ ghost use Rattle.fidl_table.specs.Listed.{IsProtocolEntry, AreListed};
 use crate::found::find;
 use crate::methods::method_entries;
 use fidl_method_rules::declared_name;
-use fidl_names::Named;
+use fidl_named::Named;
 use fidl_protocol::Protocol;
 use fidl_table_build::ProtocolEntry;
 use fidl_tree::Openness as Written;

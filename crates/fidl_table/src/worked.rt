@@ -7,7 +7,7 @@ ghost use Rattle.fidl_declarations.specs.Forms.{Form};
 ghost use Rattle.fidl_lower_types.specs.Numbers.{all_forms};
 ghost use Rattle.fidl_layout.specs.Laid.{AreLaidOut};
 ghost use Rattle.fidl_layout.specs.Roots.{RootAt};
-ghost use Rattle.fidl_names.specs.declared.place.DeclarationId.{DeclarationId};
+ghost use Rattle.fidl_named.specs.declared.place.DeclarationId.{DeclarationId};
 ghost use Rattle.fidl_composition.specs.Protocols.{IsProtocol};
 ghost use Rattle.fidl_protocol.specs.declared.method.Protocol.{Protocol};
 ghost use Rattle.fidl_table_build.specs.Samples.{header_bytes};

@@ -1,4 +1,2 @@
-pub mod Told
 mod Pushed
 mod NamedFiles
-mod Names

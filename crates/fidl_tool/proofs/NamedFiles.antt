@@ -2,7 +2,7 @@
 use Rattle.std.proofs.Common.{◌≡◌, ℕ, List, [], ◌∷◌, map, refl, sym, ap, subst, ◌∙◌}
 use Rattle.std.specs.Prelude.{Option, IfSome}
 use Rattle.std.specs.List.{AllZip}
-use Rattle.fidl_tool.specs.declared.files.File.{File}
+use Rattle.fidl_commands.specs.declared.files.File.{File}
 use Rattle.fidl_tool.specs.declared.sources.Source.{Source}
 use Rattle.fidl_tool.specs.Compiling.{Named, named_of, texts_of}
 use Rattle.fidl_tool.specs.Running.{IsRead, AreRead, IsKnown, stored_as}

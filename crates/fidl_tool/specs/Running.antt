@@ -1,53 +1,27 @@
 -- What the program answers to its words and its files (docs/program.md, "Statuses").
-use Rattle.std.specs.Prelude.{◌≡◌, ◌≢◌, ◌⊎◌, ⊤, ℕ, List, [], Option, Some, Bool, false, IfSome, map}
+use Rattle.std.specs.Prelude.{◌≡◌, ◌⊎◌, ⊤, ℕ, List, Option, Some, Bool, false, IfSome, map}
 use Rattle.std.specs.List.{AllZip}
 use Rattle.std.specs.Io.KnownBytes.{Appends}
 use Rattle.fidl_command_line.specs.Arguments.{IsGiven, IsUngiven}
 use Rattle.fidl_text.specs.Outputs.{AppendsFront}
-use Rattle.fidl_hints.specs.Explanations.{answer}
-use Rattle.fidl_hints.specs.declared.explaining.Explanation.{Explanation}
-use Rattle.fidl_hints.specs.declared.explaining.Faults.{Faults}
-use Rattle.fidl_tool.specs.Contents.{OfMessage, LacksContent, HasNoBytes}
-use Rattle.fidl_tool.specs.Decoding.{IsText, IsRefusal, LacksRoot, TellsNoRoot}
-use Rattle.fidl_tool.specs.Explaining.{no_fault_line}
-use Rattle.fidl_tool.specs.Listing.{IsListing, IsTableRefusal}
+use Rattle.fidl_commands.specs.Contents.{OfMessage, OfText, HasNoBytes}
+use Rattle.fidl_commands.specs.Encoding.{IsEncoded, IsEncodeRefusal}
+use Rattle.fidl_commands.specs.Listing.{IsListing, IsTableRefusal}
 use Rattle.fidl_table_format.specs.WellFormed.{WellFormed}
 use Rattle.fidl_compile.specs.Sources.{IsTableOf}
 use Rattle.fidl_tool.specs.Compiling.{Named, texts_of, summary_line, IsSourceRefusal}
-use Rattle.fidl_tool.specs.Files.{IsWritten, NamesFile, IsMissing, HasMissing}
-use Rattle.fidl_tool.specs.Outputs.{AppendsOne}
-use Rattle.fidl_tool.specs.Reasons.{outcome_of}
+use Rattle.fidl_commands.specs.Files.{IsWritten, NamesFile, IsMissing, HasMissing}
+use Rattle.fidl_commands.specs.Outputs.{AppendsOne}
+use Rattle.fidl_commands.specs.Reasons.{outcome_of}
+use Rattle.fidl_commands.specs.Running.{IsMessageText, IsMessageRefusal, Known, OfTable, PrintsFront, IsExplained, PrintsExplainedFront, LacksTableOrMessage, LacksTableOrText, LacksRootIn, LacksFault}
 use Rattle.fidl_command_line.specs.declared.arguments.Arguments.{Arguments}
-use Rattle.fidl_command_line.specs.declared.arguments.Arguments.TheVariants.{Compile, Decode, Table, Explain}
+use Rattle.fidl_command_line.specs.declared.arguments.Arguments.TheVariants.{Compile, Decode, Encode, Table, Explain}
 use Rattle.fidl_command_line.specs.declared.arguments.CompileArguments.{CompileArguments}
-use Rattle.fidl_command_line.specs.declared.arguments.DecodeArguments.{DecodeArguments}
-use Rattle.fidl_tool.specs.declared.outcome.Outcome.{Outcome}
-use Rattle.fidl_tool.specs.declared.outcome.Outcome.TheVariants.{Asked, WrongLine, NoRoot}
-use Rattle.fidl_tool.specs.declared.outcome.Outcome.TheVariants.{NoFile, Unwritten, NoMemory, NoFault, WrongText}
+use Rattle.fidl_commands.specs.declared.outcome.Outcome.{Outcome}
+use Rattle.fidl_commands.specs.declared.outcome.Outcome.TheVariants.{Asked, WrongLine, NoRoot}
+use Rattle.fidl_commands.specs.declared.outcome.Outcome.TheVariants.{NoFault, WrongText}
 use Rattle.fidl_tool.specs.declared.sources.Source.{Source}
 use Rattle.fidl_command_line.specs.declared.unread.Unread.{Unread}
-
--- the line of the text that this message encodes, by this table, as a value of the root of the
--- arguments
-abbrev pub IsMessageText : DecodeArguments → (table bytes : List ℕ) → List ℕ → Type 0
-IsMessageText given table bytes = IsText table given.root.now bytes given.handles.items
-
--- a line that refuses this table, or this message by it
-abbrev pub IsMessageRefusal : DecodeArguments → (table bytes : List ℕ) → List ℕ → Type 0
-IsMessageRefusal given table bytes = IsRefusal table given.root.now bytes given.handles.items
-
--- what is known of the files, and of the standard input
-pub record Known : Type 0 where
-  pub bytes_of : List ℕ → Option (List ℕ)
-  pub input : Option (List ℕ)
-
-abbrev pub known_of : (bytes_of : List ℕ → Option (List ℕ)) → (input : Option (List ℕ)) → Known
-known_of bytes_of input = record { bytes_of = bytes_of; input = input }
-
--- where the bytes of the file of this name are known, this holds of them
-abbrev pub OfTable : (bytes_of : List ℕ → Option (List ℕ)) → (file : List ℕ) → (List ℕ → Type 0)
-    → Type 0
-OfTable bytes_of file Holds = IfSome (bytes_of file) Holds
 
 -- a source by its name and its bytes
 abbrev pub stored_as : Source → Named
@@ -96,16 +70,6 @@ pub record ArePrintedInPart (given : CompileArguments) (files : List Named)
   pub written : IsWritten before after given.out.now table
   pub front : AppendsFront old new (summary_line table)
 
--- explanations, in some guide, of the faults that are asked for
-pub data IsExplained (asked : Faults) : List ℕ → Type 0 where
-  by_guide : (guide : List Explanation) → answer guide asked ≢ []
-      → IsExplained asked (answer guide asked)
-
--- a front of these explanations in some guide is printed
-abbrev pub PrintsExplainedFront : Faults → (old new : Option (List ℕ)) → Type 0
-PrintsExplainedFront asked old new =
-    (guide : List Explanation) × AppendsFront old new (answer guide asked)
-
 -- what the command of the arguments prints and writes where it is done
 abbrev pub IsDone : Known → Arguments → (old new : Option (List ℕ))
     → (before after : Option (List Named)) → Type 0
@@ -114,13 +78,12 @@ IsDone known (Compile given) old new before after = OfSources known.bytes_of (so
 IsDone known (Decode given) old new before after = OfTable known.bytes_of given.table.now
     (λ table. OfMessage known.bytes_of known.input given.message
     (λ bytes. AppendsOne (IsMessageText given table bytes) old new))
+IsDone known (Encode given) old new before after = OfTable known.bytes_of given.table.now
+    (λ table. OfText known.bytes_of known.input given.text
+    (λ text. AppendsOne (IsEncoded table given.root.now text) old new))
 IsDone known (Table given) old new before after = OfTable known.bytes_of given.file.now
     (λ table. AppendsOne (IsListing given.listing table) old new)
 IsDone known (Explain asked) old new before after = AppendsOne (IsExplained asked) old new
-
--- a front of one of these lines is printed
-abbrev pub PrintsFront : (List ℕ → Type 0) → (old new : Option (List ℕ)) → Type 0
-PrintsFront IsLine old new = (line : List ℕ) × IsLine line × AppendsFront old new line
 
 -- what it prints and writes where its output fails
 abbrev pub IsDoneInPart : Known → Arguments → (old new : Option (List ℕ))
@@ -131,6 +94,9 @@ IsDoneInPart known (Compile given) old new before after =
 IsDoneInPart known (Decode given) old new before after = OfTable known.bytes_of given.table.now
     (λ table. OfMessage known.bytes_of known.input given.message
     (λ bytes. PrintsFront (IsMessageText given table bytes) old new))
+IsDoneInPart known (Encode given) old new before after = OfTable known.bytes_of given.table.now
+    (λ table. OfText known.bytes_of known.input given.text
+    (λ text. PrintsFront (IsEncoded table given.root.now text) old new))
 IsDoneInPart known (Table given) old new before after = OfTable known.bytes_of given.file.now
     (λ table. PrintsFront (IsListing given.listing table) old new)
 IsDoneInPart known (Explain asked) old new before after = PrintsExplainedFront asked old new
@@ -142,6 +108,9 @@ IsRefused known (Compile given) old new = OfSources known.bytes_of (sources_of g
 IsRefused known (Decode given) old new = OfTable known.bytes_of given.table.now
     (λ table. OfMessage known.bytes_of known.input given.message
     (λ bytes. AppendsOne (IsMessageRefusal given table bytes) old new))
+IsRefused known (Encode given) old new = OfTable known.bytes_of given.table.now
+    (λ table. OfText known.bytes_of known.input given.text
+    (λ text. AppendsOne (IsEncodeRefusal table given.root.now text) old new))
 IsRefused known (Table given) old new = OfTable known.bytes_of given.file.now
     (λ table. AppendsOne (IsTableRefusal table) old new)
 IsRefused known (Explain asked) old new = ⊥
@@ -161,11 +130,6 @@ abbrev pub LacksSourceOrOut : (bytes_of : List ℕ → Option (List ℕ)) → (c
 LacksSourceOrOut bytes_of can_write given old new =
     HasMissing bytes_of (sources_of given) old new ⊎ LacksOut bytes_of can_write given old new
 
--- `decode` lacks the table's file, or what it names in place of a message
-abbrev pub LacksTableOrMessage : Known → DecodeArguments → (old new : Option (List ℕ)) → Type 0
-LacksTableOrMessage known given old new = IsMissing known.bytes_of given.table.now old new
-    ⊎ LacksContent known.bytes_of known.input given.message old new
-
 -- a file that the command reads is none whose bytes are known, or the file that it writes is none
 -- that is known to be written; the line for this file is printed on the errors
 abbrev pub LacksGivenFile : Known → (can_write : List ℕ → Bool) → Arguments
@@ -173,20 +137,17 @@ abbrev pub LacksGivenFile : Known → (can_write : List ℕ → Bool) → Argume
 LacksGivenFile known can_write (Compile given) old new =
     LacksSourceOrOut known.bytes_of can_write given old new
 LacksGivenFile known can_write (Decode given) old new = LacksTableOrMessage known given old new
+LacksGivenFile known can_write (Encode given) old new = LacksTableOrText known given old new
 LacksGivenFile known can_write (Table given) old new =
     IsMissing known.bytes_of given.file.now old new
 LacksGivenFile known can_write (Explain asked) old new = ⊥
 
--- this table was read, and has no root of the name of the arguments; the line for it is printed
-pub record LacksRootIn (known : Known) (given : DecodeArguments) (old new : Option (List ℕ)) : Type 0 where
-  pub table : List ℕ
-  pub read : IfSome (known.bytes_of given.table.now) (λ bytes. table ≡ bytes)
-  pub lacks : LacksRoot table given.root.now
-  pub line : TellsNoRoot table given.table.now given.root.now old new
-
 -- the arguments name a root that their table does not have, and the line for it is printed
 abbrev pub LacksGivenRoot : Known → Arguments → (old new : Option (List ℕ)) → Type 0
-LacksGivenRoot known (Decode given) old new = LacksRootIn known given old new
+LacksGivenRoot known (Decode given) old new =
+    LacksRootIn known given.table.now given.root.now old new
+LacksGivenRoot known (Encode given) old new =
+    LacksRootIn known given.table.now given.root.now old new
 LacksGivenRoot known _ old new = ⊥
 
 -- what the arguments name in place of a message holds none, and the line that says so is printed
@@ -194,11 +155,6 @@ abbrev pub LacksGivenText : Known → Arguments → (old new : Option (List ℕ)
 LacksGivenText known (Decode given) old new =
     HasNoBytes known.bytes_of known.input given.message old new
 LacksGivenText known _ old new = ⊥
-
--- some guide has none of these faults, and the line for it is printed
-abbrev pub LacksFault : Faults → (old new : Option (List ℕ)) → Type 0
-LacksFault asked old new = (guide : List Explanation) × (answer guide asked ≡ [])
-    × IfSome (no_fault_line asked) (Appends old new)
 
 -- the arguments ask for faults that are not in some guide, and the line for it is printed
 abbrev pub LacksGivenFault : Arguments → (old new : Option (List ℕ)) → Type 0
@@ -214,15 +170,6 @@ abbrev pub GivesNone : List (List ℕ) → Outcome → (Unread → Type 0) → T
 GivesNone words ends Holds = (unread : Unread) × IsUngiven words unread × (outcome_of unread ≡ ends)
     × Holds unread
 
--- what can happen to `table` with its argument read, and its file to be read
-abbrev pub CanEndTableRun : Outcome → Type 0
-CanEndTableRun Asked = ⊥
-CanEndTableRun WrongLine = ⊥
-CanEndTableRun NoRoot = ⊥
-CanEndTableRun NoFault = ⊥
-CanEndTableRun WrongText = ⊥
-CanEndTableRun _ = ⊤
-
 -- what can happen to `compile` with its arguments read, and its files to be read and written
 abbrev pub CanEndCompileRun : Outcome → Type 0
 CanEndCompileRun Asked = ⊥
@@ -231,13 +178,6 @@ CanEndCompileRun NoRoot = ⊥
 CanEndCompileRun NoFault = ⊥
 CanEndCompileRun WrongText = ⊥
 CanEndCompileRun _ = ⊤
-
--- what can happen where a source is not read
-abbrev pub CanEndReading : Outcome → Type 0
-CanEndReading NoFile = ⊤
-CanEndReading Unwritten = ⊤
-CanEndReading NoMemory = ⊤
-CanEndReading _ = ⊥
 
 -- what can happen to a command whose arguments are read
 abbrev pub CanEndArguments : Outcome → Type 0

@@ -8,21 +8,20 @@ ghost use Rattle.fidl_compile.specs.Sources.{IsTableOf};
 ghost use Rattle.fidl_compile.specs.Stages.{AreRefused};
 ghost use Rattle.fidl_compile.specs.Reports.{reported};
 ghost use Rattle.fidl_tool.specs.Compiling.{named_of, texts_of, name_at, text_at, report_line};
-ghost use Rattle.fidl_tool.specs.Compiling.{located, located_at, is_plain_byte, shown_name, shown_text};
-ghost use Rattle.fidl_tool.specs.Compiling.{note_text};
+ghost use Rattle.fidl_tool.specs.Compiling.{located, located_at, is_plain_byte, shown_name};
+ghost use Rattle.fidl_tool.specs.Compiling.{note_text, IsWanted, IsShown};
 ghost use Rattle.std.specs.Prelude.{string_bytes};
 ghost use Rattle.fidl_tool.specs.Compiling.{summary_line, IsSourceRefusal, CanEndCompile};
 ghost use Rattle.fidl_tool.specs.Compiling.{CanEndPrinting};
-ghost use Rattle.fidl_tool.specs.Decoding.{no_memory_line};
+ghost use Rattle.fidl_commands.specs.Decoding.{no_memory_line};
 ghost use Rattle.fidl_text.specs.Outputs.{AppendsFront, Writes};
-ghost use Rattle.fidl_tool.specs.Outputs.{AppendsOne, ReportsFailures};
-ghost use Rattle.fidl_tool.specs.declared.outcome.Outcome.TheVariants as outcome;
+ghost use Rattle.fidl_commands.specs.Outputs.{AppendsOne, ReportsFailures};
+ghost use Rattle.fidl_commands.specs.declared.outcome.Outcome.TheVariants as outcome;
 
-use crate::files::File;
-use crate::lines::{write_no_memory, write_no_output};
-use crate::outcome::Outcome;
+use fidl_commands::{File, Outcome, write_no_memory, write_no_output};
 use fidl_compile::{CompileFault, Refusal};
-use fidl_names::Place;
+use fidl_expected::{Wanted, expected};
+use fidl_named::Place;
 use fidl_span::line_col;
 use fidl_table_format::read_header;
 use fidl_text::{Failed, Output, Word, write_decimal, write_quoted, write_words};
@@ -104,11 +103,34 @@ fn write_name<E: Write>(name: &str, errors: &mut Output<E>) -> Result<(), Failed
     }
 }
 
-/// What stands behind the caret: how to ask for an explanation.
-fn note_text(alloc: Global, stage: &str, number: u32) -> Result<String, AllocError>
-    ensures { IfOk result (λ note. string_bytes note ≡ note_text stage.now number) }
+/// The word that was expected where the parser refuses a source, if one is known.
+fn wanted_at(alloc: Global, src: &[u8], refusal: &Refusal) -> Result<Option<Wanted>, AllocError>
+    ensures { IfOk result (IsWanted src.now (reported refusal.now)) }
 {
-    format!(in alloc; "see 'fidl explain {stage} {number}'")
+    let at = refusal.place.span.from;
+    if refusal.stage == "parse" && refusal.number == 1 && at <= src.len() {
+        return expected(alloc, src, at);
+    }
+    Ok(None)
+}
+
+/// The note that follows the caret: what was expected, if that is known, and how to ask for an
+/// explanation.
+fn note_text(
+    alloc: Global,
+    wanted: Option<Wanted>,
+    stage: &str,
+    number: u32,
+) -> Result<String, AllocError>
+    ensures { IfOk result (λ note. string_bytes note ≡ note_text wanted stage.now number) }
+{
+    match wanted {
+        Some(wanted) => {
+            let word = wanted.shown();
+            format!(in alloc; "expected {word}, see 'fidl explain {stage} {number}'")
+        }
+        None => format!(in alloc; "see 'fidl explain {stage} {number}'"),
+    }
 }
 
 /// What stands below the line of a refusal: the line of the source, where that is asked for.
@@ -118,15 +140,16 @@ fn shown(
     refusal: &Refusal,
     snippet: bool,
 ) -> Result<Vec<u8>, AllocError>
-    ensures { IfOk result (λ text. text.items
-        ≡ shown_text snippet (named_of files.now) (reported refusal.now)) }
+    ensures { IfOk result (λ text.
+        IsShown snippet (named_of files.now) (reported refusal.now) text.items) }
 {
     if !snippet {
         return Ok(Vec::new(alloc));
     }
-    let note = note_text(alloc, refusal.stage, refusal.number)?;
     let place = refusal.place;
     let src = file_at(files, place.file).bytes;
+    let wanted = wanted_at(alloc, src, refusal)?;
+    let note = note_text(alloc, wanted, refusal.stage, refusal.number)?;
     fidl_hints::snippet(alloc, src, place.span.from, note.as_str())
 }
 

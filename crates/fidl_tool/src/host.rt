@@ -1,14 +1,11 @@
 //! The program on the system: its words, its files, the standard output and the standard error.
 ghost use Rattle.std.specs.Prelude.{◌≡◌};
 ghost use Rattle.std.specs.Process.{exit_status};
-ghost use Rattle.fidl_tool.specs.Status.{status_of, number_of};
+ghost use Rattle.fidl_commands.specs.Status.{status_of, number_of};
 
-use crate::files::Files;
-use crate::lines::write_no_memory;
-use crate::outcome::Outcome;
 use crate::program::run;
-use crate::telling::tell;
 use fidl_command_line::Unread;
+use fidl_commands::{Files, Outcome, tell, write_no_memory};
 use fidl_text::Output;
 use std::alloc::Global;
 use std::io::{BufWriter, Read, Write};

@@ -2,21 +2,19 @@
 ghost use Rattle.std.specs.Prelude.{◌≡◌, ◌≢◌, ◌↔◌, ◌⊎◌, map, None, Err, IfOk, IfErr, OnOk};
 ghost use Rattle.std.specs.Prelude.{IsSome};
 ghost use Rattle.std.specs.Io.KnownBytes.{Appends};
-ghost use Rattle.fidl_tool.specs.Decoding.{no_memory_line};
+ghost use Rattle.fidl_commands.specs.Decoding.{no_memory_line};
 ghost use Rattle.fidl_tool.specs.Compiling.{named_of, IsSourceRefusal};
-ghost use Rattle.fidl_tool.specs.Outputs.{AppendsOne, ReportsFailures};
+ghost use Rattle.fidl_commands.specs.Outputs.{AppendsOne, ReportsFailures};
 ghost use Rattle.fidl_tool.specs.Running.{IsRead, AreRead, stored_as};
-ghost use Rattle.fidl_tool.specs.Files.{IsMissing, HasMissing};
+ghost use Rattle.fidl_commands.specs.Files.{IsMissing, HasMissing};
 ghost use Rattle.fidl_tool.specs.Running.{OfSources, sources_of, AreCompiled, LacksSourceOrOut};
-ghost use Rattle.fidl_tool.specs.Running.{ArePrintedInPart, CanEndReading, CanEndCompileRun};
-ghost use Rattle.fidl_tool.specs.declared.outcome.Outcome.TheVariants as outcome;
+ghost use Rattle.fidl_tool.specs.Running.{ArePrintedInPart, CanEndCompileRun};
+ghost use Rattle.fidl_commands.specs.Contents.{CanEndReading};
+ghost use Rattle.fidl_commands.specs.declared.outcome.Outcome.TheVariants as outcome;
 
 use crate::compiling::{compile, summarize};
-use crate::files::{File, Files};
-use crate::lines::write_no_memory;
-use crate::outcome::Outcome;
-use crate::telling::tell_no_file;
 use fidl_command_line::CompileArguments;
+use fidl_commands::{File, Files, Outcome, tell_no_file, write_no_memory};
 use fidl_text::Output;
 use std::alloc::{AllocError, Global};
 use std::io::Write;

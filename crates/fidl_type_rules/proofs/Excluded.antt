@@ -6,7 +6,7 @@ use Rattle.fidl_span.specs.declared.words.Span.{Span}
 use Rattle.fidl_tree.specs.Syntax.{TypeUse}
 use Rattle.fidl_tree.specs.Views.{file_view}
 use Rattle.fidl_tree.specs.declared.file.File.{File}
-use Rattle.fidl_names.specs.declared.place.Place.{Place}
+use Rattle.fidl_named.specs.declared.place.Place.{Place}
 use Rattle.fidl_constraints.specs.Behind.{Core}
 use Rattle.fidl_constraints.specs.declared.parts.Part.{Part}
 use Rattle.fidl_constraints.proofs.OneGathered.{one_gathered}

@@ -3,3 +3,5 @@ pub mod Named
 pub mod Small
 pub mod Closed
 pub mod Stood
+pub mod Held
+pub mod Aliases

@@ -7,10 +7,10 @@ use Rattle.fidl_tree.specs.Views.{path_view, named_view, type_arguments_view}
 use Rattle.fidl_tree.specs.declared.type_constructor.NamedType.{NamedType, out-NamedType}
 use Rattle.fidl_tree.specs.declared.type_constructor.TypeArguments.{TypeArguments}
 use Rattle.fidl_tree.specs.declared.file.File.{File}
-use Rattle.fidl_names.specs.declared.meaning.Predeclared.{Predeclared}
-use Rattle.fidl_names.specs.declared.meaning.Predeclared.TheVariants as name
-use Rattle.fidl_names.specs.declared.meaning.Meaning.TheVariants as meaning
-use Rattle.fidl_names.specs.Places.{use_path}
+use Rattle.fidl_named.specs.declared.meaning.Predeclared.{Predeclared}
+use Rattle.fidl_named.specs.declared.meaning.Predeclared.TheVariants as name
+use Rattle.fidl_named.specs.declared.meaning.Meaning.TheVariants as meaning
+use Rattle.fidl_named.specs.Places.{use_path}
 use Rattle.fidl_constraints.specs.Behind.{MeansType, Head, word_head, Core, given_in, ends, RefersTo, Behind}
 use Rattle.fidl_constraints.proofs.OneBehind.{one_meant, one_behind}
 use Rattle.fidl_constraints.proofs.Naming.{named_seen}

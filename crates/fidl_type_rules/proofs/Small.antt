@@ -3,9 +3,9 @@ use Rattle.std.proofs.Common.{◌≡◌, ◌∙◌, ℕ, Bool, true, false, true
 use Rattle.std.proofs.lemmas.Option.{same_Some, none-some}
 use Rattle.fidl_tree.specs.Syntax.{Path, Value, named_type, layout_type, Arguments, no_arguments, next_argument, type_argument, Layout}
 use Rattle.fidl_tree.specs.declared.file.File.{File}
-use Rattle.fidl_names.specs.declared.meaning.Predeclared.{Predeclared}
-use Rattle.fidl_names.specs.declared.meaning.Predeclared.TheVariants as name
-use Rattle.fidl_names.specs.declared.meaning.Meaning.TheVariants as meaning
+use Rattle.fidl_named.specs.declared.meaning.Predeclared.{Predeclared}
+use Rattle.fidl_named.specs.declared.meaning.Predeclared.TheVariants as name
+use Rattle.fidl_named.specs.declared.meaning.Meaning.TheVariants as meaning
 use Rattle.fidl_constraints.specs.Behind.{MeansType, Head, word_head, layout_head, Core, ends, RefersTo, Behind}
 use Rattle.fidl_constraints.specs.AliasExamples.{named_with, plain_word, core_of}
 use Rattle.fidl_constraints.proofs.OneBehind.{one_behind}

@@ -8,10 +8,10 @@ use Rattle.fidl_tree.specs.Syntax.{TypeUse, Arguments, Body, const_body, alias_b
 use Rattle.fidl_tree.specs.Views.{file_view, declared_view, declaration_view}
 use Rattle.fidl_tree.specs.declared.file.File.{File}
 use Rattle.fidl_tree.specs.declared.declaration.Declaration.{Declaration}
-use Rattle.fidl_names.specs.declared.place.DeclarationId.{DeclarationId}
-use Rattle.fidl_names.specs.declared.meaning.Meaning.{Meaning}
-use Rattle.fidl_names.specs.declared.meaning.Meaning.TheVariants as meaning
-use Rattle.fidl_const.proofs.Among.{among_map}
+use Rattle.fidl_named.specs.declared.place.DeclarationId.{DeclarationId}
+use Rattle.fidl_named.specs.declared.meaning.Meaning.{Meaning}
+use Rattle.fidl_named.specs.declared.meaning.Meaning.TheVariants as meaning
+use Rattle.fidl_consts.proofs.Among.{among_map}
 use Rattle.fidl_constraints.specs.Behind.{Target, ends, follows, body_target, MeaningRefersTo, RefersTo}
 use Rattle.fidl_constraints.specs.BehindViews.{use_view}
 use Rattle.fidl_declarations.specs.Sites.{Role, any_type, aliased_type, type_site, file_sites}

@@ -3,9 +3,10 @@
 --   Made     what a type is made of
 --   Places   what the place of a type asks of it
 --   Uses     when written types are proper, and what each refusal says
--- The last is of the code alone (Standing).
+-- The others are of the code alone (Standing, Known).
 pub mod Words
 pub mod Made
 pub mod Places
 pub mod Uses
 pub mod Standing
+pub mod Known

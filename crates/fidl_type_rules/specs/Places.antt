@@ -2,8 +2,8 @@
 use Rattle.std.specs.Prelude.{ℕ, Bool, true, false, if◌then◌else◌, List, []}
 use Rattle.fidl_tree.specs.Syntax.{TypeUse, named_type, layout_type, no_arguments}
 use Rattle.fidl_tree.specs.declared.file.File.{File}
-use Rattle.fidl_names.specs.declared.meaning.Predeclared.TheVariants as name
-use Rattle.fidl_names.specs.declared.meaning.Meaning.TheVariants as meaning
+use Rattle.fidl_named.specs.declared.meaning.Predeclared.TheVariants as name
+use Rattle.fidl_named.specs.declared.meaning.Meaning.TheVariants as meaning
 use Rattle.fidl_constraints.specs.Behind.{Head, word_head, MeansType}
 use Rattle.fidl_constraints.specs.declared.parts.Part.{Part}
 use Rattle.fidl_constraints.specs.Parts.{optional_in, protocol_in}

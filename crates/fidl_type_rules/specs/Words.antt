@@ -4,10 +4,10 @@ use Rattle.std.specs.Prelude.{ℕ, ◌≡◌, Bool, true, false, List, Some}
 use Rattle.fidl_tree.specs.Syntax.{Path, TypeUse, named_type, layout_type}
 use Rattle.fidl_tree.specs.Syntax.{Arguments, no_arguments, next_argument, type_argument, Layout}
 use Rattle.fidl_tree.specs.declared.file.File.{File}
-use Rattle.fidl_names.specs.declared.meaning.Predeclared.{Predeclared}
-use Rattle.fidl_names.specs.declared.meaning.Predeclared.TheVariants as name
-use Rattle.fidl_names.specs.declared.meaning.Meaning.TheVariants as meaning
-use Rattle.fidl_names.specs.Places.{use_path}
+use Rattle.fidl_named.specs.declared.meaning.Predeclared.{Predeclared}
+use Rattle.fidl_named.specs.declared.meaning.Predeclared.TheVariants as name
+use Rattle.fidl_named.specs.declared.meaning.Meaning.TheVariants as meaning
+use Rattle.fidl_named.specs.Places.{use_path}
 use Rattle.fidl_constraints.specs.Behind.{MeansType, Core, layout_head}
 use Rattle.fidl_constraints.specs.declared.parts.Part.{Part}
 use Rattle.fidl_constraints.specs.Gives.{IsGathered}

@@ -5,7 +5,7 @@ ghost use Rattle.fidl_tree.specs.Syntax.{TypeUse as Plain, Layout};
 ghost use Rattle.fidl_tree.specs.Views.{body_view};
 ghost use Rattle.fidl_constraints.specs.Behind.{layout_head};
 ghost use Rattle.fidl_constraints.specs.BehindViews.{head_view, use_view};
-ghost use Rattle.fidl_names.specs.declared.meaning.Predeclared.TheVariants as Words;
+ghost use Rattle.fidl_named.specs.declared.meaning.Predeclared.TheVariants as Words;
 ghost use Rattle.fidl_lower_types.specs.Terms.{is_struct};
 ghost use Rattle.fidl_lower_types.specs.TermViews.{AreKnown};
 ghost use Rattle.fidl_type_rules.specs.Words.{ComesToStruct, IsBoxOf, BoxesOther};
@@ -13,7 +13,7 @@ ghost use Rattle.fidl_type_rules.specs.Words.{ComesToStruct, IsBoxOf, BoxesOther
 use crate::words::{only_argument, word_of};
 use fidl_constraints::{Head, TypeUse, gather};
 use fidl_lower_types::Sources;
-use fidl_names::Predeclared;
+use fidl_named::Predeclared;
 use fidl_tree::LayoutBody;
 use std::alloc::AllocError;
 

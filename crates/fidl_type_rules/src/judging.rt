@@ -8,19 +8,21 @@ ghost use Rattle.fidl_declarations.specs.SiteViews.{role_view};
 ghost use Rattle.fidl_wire.specs.Term.{Term};
 ghost use Rattle.fidl_lower_types.specs.Terms.{TermIs};
 ghost use Rattle.fidl_lower_types.specs.TermViews.{AreKnown};
+ghost use Rattle.fidl_type_rules.specs.Known.{AreKnownAliases};
 ghost use Rattle.fidl_type_rules.specs.Made.{IsOfTerms};
 ghost use Rattle.fidl_type_rules.specs.Uses.{IsProper, UseHolds, IsTrueOfUses};
 ghost use Rattle.fidl_type_rules.specs.Standing.{Stands, IsImproperThere};
 
 use crate::boxes::other_content;
 use crate::fault::UseFault;
-use crate::origins::culprit_of;
+use crate::known::{Aliases, node_has_term};
+use crate::origins::{culprit_of, failing};
 use crate::roles::{presence_suits, role_suits};
 use crate::used::{Used, type_span};
 use crate::words::{arguments_suit, is_left_out};
 use fidl_constraints::{Gathered, TypeUse, gather};
-use fidl_lower_types::{Sources, term_of};
-use fidl_names::Place;
+use fidl_lower_types::{Sources, head_node, term_of};
+use fidl_named::Place;
 use std::alloc::AllocError;
 
 /// Whether a type in the file of this number has a term.
@@ -43,10 +45,13 @@ pub(crate) fn has_term(
 /// place.
 fn proper<'f>(
     sources: &Sources<'_, 'f, '_>,
+    known: &mut Aliases,
     used: Used<'f>,
 ) -> Result<Option<Gathered<'f>>, AllocError>
     requires within { used.file_index < length sources.now.named.now }
     requires known { AreKnown sources.now }
+    requires aliases { AreKnownAliases sources.now.named.now known.old.keys }
+    ensures aliases { OnOk result (AreKnownAliases sources.now.named.now known.new.keys) }
     ensures found { IfOk result (λ found. IfSome found (λ g. IsProper sources.now.named.now
         used.entry.file_index (role_view used.entry.role) (use_view used.entry.of)
         (core_view g.core) g.parts.list.items)) }
@@ -65,7 +70,11 @@ fn proper<'f>(
     if !arguments_suit(sources, at, used.of)? {
         return Ok(None);
     }
-    if !has_term(sources, at, used.of)? {
+    let core = &gathered.core;
+    let Some(node) = head_node(sources, core.file_index, core.head, &gathered.parts)? else {
+        return Ok(None);
+    };
+    if !node_has_term(sources, known, node)? {
         return Ok(None);
     }
     Ok(Some(gathered))
@@ -107,20 +116,26 @@ fn fault_of(sources: &Sources<'_, '_, '_>, used: Used<'_>) -> Result<UseFault, A
     requires improper { IsImproperThere sources.now.named.now used }
     ensures { IfOk result (IsTrueOfUses sources.now.named.now) }
 {
-    let culprit = culprit_of(sources, used)?;
+    let culprit = culprit_of(sources, failing(sources, used)?)?;
     own_fault(sources, culprit)
 }
 
 /// A type is proper at its place, and present where that asks for it.
-pub(crate) fn check_use(sources: &Sources<'_, '_, '_>, used: Used<'_>) -> Result<(), UseFault>
+pub(crate) fn check_use(
+    sources: &Sources<'_, '_, '_>,
+    known: &mut Aliases,
+    used: Used<'_>,
+) -> Result<(), UseFault>
     requires within { used.file_index < length sources.now.named.now }
     requires known { AreKnown sources.now }
+    requires aliases { AreKnownAliases sources.now.named.now known.old.keys }
     requires stands { Stands sources.now.named.now used }
+    ensures aliases { OnOk result (AreKnownAliases sources.now.named.now known.new.keys) }
     ensures ok { OnOk result (UseHolds sources.now.named.now used.entry.file_index
         (role_view used.entry.role) (use_view used.entry.of)) }
     ensures fault_is_true { IfErr result (IsTrueOfUses sources.now.named.now) }
 {
-    let Some(gathered) = proper(sources, used)? else {
+    let Some(gathered) = proper(sources, known, used)? else {
         return Err(fault_of(sources, used)?);
     };
     if !presence_suits(used.role, gathered.core.head, &gathered.parts) {

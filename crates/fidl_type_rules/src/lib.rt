@@ -6,6 +6,7 @@ mod boxes;
 mod checking;
 mod fault;
 mod judging;
+mod known;
 mod laws;
 mod origins;
 mod roles;

@@ -13,7 +13,7 @@ use crate::used::Used;
 use crate::words::first_argument;
 use fidl_constraints::{Target, refers_to};
 use fidl_declarations::Role;
-use fidl_lower_types::Sources;
+use fidl_lower_types::{Node, Sources, node_of};
 use std::alloc::AllocError;
 
 /// The type of the alias that a type names.
@@ -146,6 +146,66 @@ pub(crate) fn culprit_of<'f>(
             Some(origin) => {
                 way.push(current.file_index)?;
                 current = origin;
+            }
+        }
+    }
+}
+
+/// What a type holds, if it holds elements; nothing where the type is nothing at once.
+fn element_of<'f>(
+    sources: &Sources<'_, 'f, '_>,
+    used: Used<'f>,
+) -> Result<Option<Option<Used<'f>>>, AllocError>
+    requires within { used.file_index < length sources.now.named.now }
+    requires known { AreKnown sources.now }
+    requires stands { Stands sources.now.named.now used }
+    ensures within { IfOk result (λ found. IfSome found (λ element. IfSome element
+        (λ o. o.file_index < length sources.now.named.now))) }
+    ensures stands { IfOk result (λ found. IfSome found (λ element. IfSome element
+        (Stands sources.now.named.now))) }
+    ensures nothing { IfOk result (λ found. IsNone found
+        → HasTerm sources.now.named.now used.entry.file_index (use_view used.entry.of) → ⊥) }
+{
+    match node_of(sources, used.file_index, used.of)? {
+        None => Ok(None),
+        Some(Node::Leaf(_last)) => Ok(Some(None)),
+        Some(
+            Node::Elements {
+                file_index,
+                next,
+                shape: _shape,
+            },
+        ) => Ok(Some(Some(Used {
+            file_index,
+            role: Role::Any,
+            of: next,
+        }))),
+    }
+}
+
+/// The first of a type and its elements that is nothing at once, or that type itself where there is
+/// none.
+pub(crate) fn failing<'f>(
+    sources: &Sources<'_, 'f, '_>,
+    used: Used<'f>,
+) -> Result<Used<'f>, AllocError>
+    requires within { used.file_index < length sources.now.named.now }
+    requires known { AreKnown sources.now }
+    requires stands { Stands sources.now.named.now used }
+    requires improper { IsImproperThere sources.now.named.now used }
+    ensures within { IfOk result (λ o. o.file_index < length sources.now.named.now) }
+    ensures stands { IfOk result (Stands sources.now.named.now) }
+    ensures improper { IfOk result (IsImproperThere sources.now.named.now) }
+{
+    let mut way = Vec::new(sources.alloc);
+    let mut current = used;
+    'elements: loop {
+        match element_of(sources, current)? {
+            None => return Ok(current),
+            Some(None) => return Ok(used),
+            Some(Some(element)) => {
+                way.push(current.file_index)?;
+                current = element;
             }
         }
     }

@@ -10,7 +10,7 @@ use crate::words::word_at;
 use fidl_constraints::{Head, Parts, TypeUse};
 use fidl_declarations::Role;
 use fidl_lower_types::Sources;
-use fidl_names::Predeclared;
+use fidl_named::Predeclared;
 use std::alloc::AllocError;
 
 /// Whether a type is wanted at the place, and no number.

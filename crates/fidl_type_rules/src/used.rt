@@ -2,15 +2,15 @@
 ghost use Rattle.std.specs.Prelude.{◌≡◌, IfSome, IsNone};
 ghost use Rattle.fidl_tree.specs.Syntax.{TypeUse as Plain};
 ghost use Rattle.fidl_tree.specs.Views.{body_view, path_view};
-ghost use Rattle.fidl_names.specs.Paths.{path_place};
-ghost use Rattle.fidl_const.specs.Refusals.{layout_span, type_span};
+ghost use Rattle.fidl_named.specs.Paths.{path_place};
+ghost use Rattle.fidl_consts.specs.Refusals.{layout_span, type_span};
 ghost use Rattle.fidl_constraints.specs.BehindViews.{use_view};
 ghost use Rattle.fidl_declarations.specs.Sites.{Role as PlainRole, type_site};
 ghost use Rattle.fidl_declarations.specs.SiteViews.{role_view, site_view};
 
 use fidl_constraints::TypeUse;
 use fidl_declarations::{Role, Site};
-use fidl_names::path_span;
+use fidl_named::path_span;
 use fidl_span::Span;
 use fidl_tree::{LayoutBody, Path, ValuesKeyword};
 

@@ -4,8 +4,8 @@ ghost use Rattle.std.specs.Prelude.{option_copied, Some};
 ghost use Rattle.fidl_tree.specs.Syntax.{TypeUse as Plain, no_arguments, next_argument};
 ghost use Rattle.fidl_tree.specs.Syntax.{type_argument};
 ghost use Rattle.fidl_tree.specs.Views.{path_view, argument_view};
-ghost use Rattle.fidl_names.specs.declared.meaning.Predeclared.{Predeclared as Word};
-ghost use Rattle.fidl_names.specs.declared.meaning.Meaning.TheVariants as Meanings;
+ghost use Rattle.fidl_named.specs.declared.meaning.Predeclared.{Predeclared as Word};
+ghost use Rattle.fidl_named.specs.declared.meaning.Meaning.TheVariants as Meanings;
 ghost use Rattle.fidl_constraints.specs.Behind.{MeansType};
 ghost use Rattle.fidl_constraints.specs.BehindViews.{arguments_view, use_view};
 ghost use Rattle.fidl_type_rules.specs.Made.{first_type};
@@ -13,7 +13,7 @@ ghost use Rattle.fidl_type_rules.specs.Words.{IsWord, is_float, IsLeftOut, argum
 
 use fidl_constraints::{TypeUse, use_of};
 use fidl_lower_types::Sources;
-use fidl_names::{Meaning, Predeclared};
+use fidl_named::{Meaning, Predeclared};
 use fidl_tree::{Path, TypeArgument, TypeArguments};
 use std::alloc::AllocError;
 

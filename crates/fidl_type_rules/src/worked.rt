@@ -7,10 +7,10 @@ ghost use Rattle.fidl_tree.specs.Syntax.{Arguments, no_arguments, next_argument,
 ghost use Rattle.fidl_tree.specs.Syntax.{type_argument, Layout, Members, struct_layout};
 ghost use Rattle.fidl_tree.specs.Syntax.{table_layout};
 ghost use Rattle.fidl_tree.specs.declared.file.File.{File};
-ghost use Rattle.fidl_names.specs.declared.place.DeclarationId.{DeclarationId};
-ghost use Rattle.fidl_names.specs.declared.meaning.Predeclared.TheVariants as Words;
-ghost use Rattle.fidl_names.specs.declared.meaning.Meaning.TheVariants as Meanings;
-ghost use Rattle.fidl_names.specs.Paths.{path_place};
+ghost use Rattle.fidl_named.specs.declared.place.DeclarationId.{DeclarationId};
+ghost use Rattle.fidl_named.specs.declared.meaning.Predeclared.TheVariants as Words;
+ghost use Rattle.fidl_named.specs.declared.meaning.Meaning.TheVariants as Meanings;
+ghost use Rattle.fidl_named.specs.Paths.{path_place};
 ghost use Rattle.fidl_constraints.specs.Behind.{MeansType, RefersTo, follows, word_head};
 ghost use Rattle.fidl_constraints.specs.AliasExamples.{named_with, plain_word};
 ghost use Rattle.fidl_constraints.specs.declared.parts.PartKind.TheVariants as Kinds;

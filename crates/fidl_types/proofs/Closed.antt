@@ -9,7 +9,7 @@ use Rattle.fidl_tree.specs.Syntax.{Layout, values_layout, struct_layout, table_l
 use Rattle.fidl_tree.specs.Syntax.{Members, no_members, next_member, Member, named_member, ordinal_member, reserved_member}
 use Rattle.fidl_tree.specs.Syntax.{Response, ProtocolMember, compose_member, method_member, event_member}
 use Rattle.fidl_tree.specs.Syntax.{Body, const_body, alias_body, type_body, protocol_body, service_body, resource_body, Declaration, Import, File}
-use Rattle.fidl_const.proofs.Among.{among_first}
+use Rattle.fidl_consts.proofs.Among.{among_first}
 use Rattle.fidl_declarations.specs.declared.step.Step.{Step}
 use Rattle.fidl_declarations.specs.declared.step.Step.TheVariants as step
 use Rattle.fidl_declarations.specs.Sites.{Role, any_type, aliased_type, bare_type, present_type, service_type, second_argument, Site, type_site, layout_site, result_site, empty_response_site, attributes_site}

@@ -4,12 +4,12 @@ use Rattle.std.proofs.lemmas.Bool.{cases_lt}
 use Rattle.std.proofs.lemmas.Option.{slice_get_within}
 use Rattle.fidl_tree.specs.Views.{file_view}
 use Rattle.fidl_tree.specs.declared.file.File.{File}
-use Rattle.fidl_const.specs.Evaluated.{Evaluates}
+use Rattle.fidl_consts.specs.Evaluated.{Evaluates}
 use Rattle.fidl_member_rules.specs.Rules.{RulesHold}
 use Rattle.fidl_member_rules.specs.ValueRules.{ValuesHold}
 use Rattle.fidl_declarations.specs.declared.form.Form.{Form as CodeForm}
 use Rattle.fidl_declarations.specs.FormViews.{form_view, forms_view}
-use Rattle.fidl_names.specs.Cycles.{Leads, step, further}
+use Rattle.fidl_cycles.specs.Cycles.{Leads, step, further}
 use Rattle.fidl_lower_types.specs.Numbers.{all_forms}
 use Rattle.fidl_type_rules.specs.Uses.{UsesHold}
 use Rattle.fidl_wire.specs.Term.{Term}

@@ -5,7 +5,7 @@ use Rattle.std.specs.List.{Contains}
 use Rattle.std.proofs.lemmas.Bool.{cases_lt}
 use Rattle.std.proofs.lemmas.Option.{same_Some, slice_get_within}
 use Rattle.fidl_span.specs.declared.words.Span.{Span}
-use Rattle.fidl_const.proofs.Among.{among_none, among_cases}
+use Rattle.fidl_consts.proofs.Among.{among_none, among_cases}
 use Rattle.fidl_declarations.specs.declared.step.Step.{Step}
 use Rattle.fidl_declarations.specs.declared.step.Step.TheVariants as step
 use Rattle.fidl_declarations.specs.Sites.{within}

@@ -11,9 +11,9 @@ use Rattle.fidl_tree.specs.Syntax.{TypeUse, Response, Members, no_members, next_
 use Rattle.fidl_tree.specs.Syntax.{Layout, values_layout, struct_layout, table_layout, union_layout}
 use Rattle.fidl_tree.specs.Views.{file_view}
 use Rattle.fidl_tree.specs.declared.file.File.{File}
-use Rattle.fidl_const.specs.Literals.{number_of}
-use Rattle.fidl_const.specs.Places.{PlacesHold}
-use Rattle.fidl_const.proofs.Among.{among_none, among_first, among_cases, among_flat}
+use Rattle.fidl_consts.specs.Literals.{number_of}
+use Rattle.fidl_consts.specs.Places.{PlacesHold}
+use Rattle.fidl_consts.proofs.Among.{among_none, among_first, among_cases, among_flat}
 use Rattle.fidl_declarations.specs.declared.step.Step.{Step}
 use Rattle.fidl_declarations.specs.declared.step.Step.TheVariants as step
 use Rattle.fidl_declarations.specs.Sites.{any_type, present_type, Site, type_site, layout_site, result_site, empty_response_site, attributes_site, within, file_sites}

@@ -10,16 +10,16 @@ use Rattle.std.specs.List.{AllByRecursion, AllPairs}
 use Rattle.std.proofs.lemmas.Int.{ints}
 use Rattle.fidl_tree.specs.declared.file.File.{File}
 use Rattle.fidl_tree.specs.Syntax.{Path, Value, Operand, ValueMember, ValuesKind, bits_kind, enum_kind, Underlying}
-use Rattle.fidl_names.specs.declared.meaning.Meaning.{Meaning}
-use Rattle.fidl_names.specs.Places.{NamePlace, a_members, underlying_path}
-use Rattle.fidl_const.specs.declared.const_type.NumberKind.{NumberKind}
-use Rattle.fidl_const.specs.declared.const_type.NumberKind.TheVariants as number
-use Rattle.fidl_const.specs.declared.const_type.ConstType.{ConstType}
-use Rattle.fidl_const.specs.declared.const_type.ConstType.TheVariants as const
-use Rattle.fidl_const.specs.PlainValues.{PlainValue, a_truth, a_number, a_text, InRange, Fits, is_unsigned}
-use Rattle.fidl_const.specs.Types.{UnderlyingIs, underlying_kind}
-use Rattle.fidl_const.specs.Values.{first_operand, ValueIs, OperandIs, Gives, alone, several, literal_fits, group, named, offered}
-use Rattle.fidl_const.specs.Places.{MemberHolds, PlaceHolds}
+use Rattle.fidl_named.specs.declared.meaning.Meaning.{Meaning}
+use Rattle.fidl_named.specs.Places.{NamePlace, a_members, underlying_path}
+use Rattle.fidl_consts.specs.declared.const_type.NumberKind.{NumberKind}
+use Rattle.fidl_consts.specs.declared.const_type.NumberKind.TheVariants as number
+use Rattle.fidl_consts.specs.declared.const_type.ConstType.{ConstType}
+use Rattle.fidl_consts.specs.declared.const_type.ConstType.TheVariants as const
+use Rattle.fidl_consts.specs.PlainValues.{PlainValue, a_truth, a_number, a_text, InRange, Fits, is_unsigned}
+use Rattle.fidl_consts.specs.Types.{UnderlyingIs, underlying_kind}
+use Rattle.fidl_consts.specs.Values.{first_operand, ValueIs, OperandIs, Gives, alone, several, literal_fits, group, named, offered}
+use Rattle.fidl_consts.specs.Places.{MemberHolds, PlaceHolds}
 use Rattle.fidl_wire.specs.Term as ty
 use Rattle.fidl_wire.specs.Term.{Term}
 use Rattle.fidl_member_rules.specs.Numbers.{HasNumber, NumbersAre}

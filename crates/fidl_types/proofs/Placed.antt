@@ -11,9 +11,9 @@ use Rattle.fidl_tree.specs.Syntax.{Body, const_body, alias_body, type_body, prot
 use Rattle.fidl_tree.specs.Views.{declared_view, declaration_view, file_view}
 use Rattle.fidl_tree.specs.declared.file.File.{File}
 use Rattle.fidl_tree.specs.declared.declaration.Declaration.{Declaration}
-use Rattle.fidl_names.specs.Spots.{Spot, type_spot, layout_spot, type_spots, arguments_spots, further_spots, argument_spots, layout_spots, underlying_spots, members_spots, member_spots}
-use Rattle.fidl_names.specs.Places.{NamePlace, a_members, underlying_path, spot_places, places_of, perhaps, response_places, protocol_places, value_places}
-use Rattle.fidl_const.specs.Places.{PlaceHolds, DeclarationHolds, PlacesHold}
+use Rattle.fidl_named.specs.Spots.{Spot, type_spot, layout_spot, type_spots, arguments_spots, further_spots, argument_spots, layout_spots, underlying_spots, members_spots, member_spots}
+use Rattle.fidl_named.specs.Places.{NamePlace, a_members, underlying_path, spot_places, places_of, perhaps, response_places, protocol_places, value_places}
+use Rattle.fidl_consts.specs.Places.{PlaceHolds, DeclarationHolds, PlacesHold}
 use Rattle.fidl_declarations.specs.declared.step.Step.{Step}
 use Rattle.fidl_declarations.specs.declared.step.Step.TheVariants as step
 use Rattle.fidl_declarations.specs.Sites.{Role, any_type, aliased_type, bare_type, present_type, service_type, second_argument, Site, type_site, layout_site, result_site, empty_response_site, attributes_site}

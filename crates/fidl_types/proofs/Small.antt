@@ -3,8 +3,8 @@ use Rattle.std.proofs.Common.{◌≡◌, ◌∙◌, ℕ, zero, suc, List, [], �
 use Rattle.std.specs.Prelude.{slice_get}
 use Rattle.std.proofs.lemmas.Option.{same_Some, none-some}
 use Rattle.fidl_tree.specs.declared.file.File.{File}
-use Rattle.fidl_names.specs.declared.place.Place.{Place}
-use Rattle.fidl_names.specs.Cycles.{Leads, step, further}
+use Rattle.fidl_named.specs.declared.place.Place.{Place}
+use Rattle.fidl_cycles.specs.Cycles.{Leads, step, further}
 use Rattle.fidl_declarations.specs.Forms.{Form}
 use Rattle.fidl_wire.specs.Term.{Term}
 use Rattle.fidl_lower_types.specs.Numbers.{all_forms}

@@ -1,6 +1,6 @@
 -- The number, the name and the place of a fault (docs/language.md, "Checking types").
 use Rattle.std.specs.Prelude.{ℕ, List, Option, Some, None, codes}
-use Rattle.fidl_names.specs.declared.place.Place.{Place}
+use Rattle.fidl_named.specs.declared.place.Place.{Place}
 use Rattle.fidl_types.specs.declared.fault.TypeFault.{TypeFault}
 use Rattle.fidl_types.specs.declared.fault.TypeFault.TheVariants.{NotResource, InlineCycle}
 use Rattle.fidl_types.specs.declared.fault.TypeFault.TheVariants.{BadOrdinal, DuplicateOrdinal}

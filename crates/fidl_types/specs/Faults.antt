@@ -2,7 +2,7 @@
 use Rattle.std.specs.Prelude.{ℕ, ◌⊎◌, List, map}
 use Rattle.fidl_tree.specs.Views.{file_view}
 use Rattle.fidl_tree.specs.declared.file.File.{File}
-use Rattle.fidl_names.specs.declared.place.Place.{Place}
+use Rattle.fidl_named.specs.declared.place.Place.{Place}
 use Rattle.fidl_member_rules.specs.declared.fault.RuleFault.TheVariants as rule
 use Rattle.fidl_member_rules.specs.Rules.{IsTrueOfRules}
 use Rattle.fidl_member_rules.specs.declared.value_fault.ValuesFault.TheVariants as value

@@ -2,7 +2,7 @@
 use Rattle.std.specs.Prelude.{ℕ, ◌≡◌, List, Option, Some, None, slice_get, unwrap_or}
 use Rattle.std.specs.List.{filter_map, last_or}
 use Rattle.fidl_span.specs.declared.words.Span.{Span}
-use Rattle.fidl_names.specs.declared.place.Place.{Place}
+use Rattle.fidl_named.specs.declared.place.Place.{Place}
 use Rattle.fidl_declarations.specs.declared.step.Step.{Step}
 use Rattle.fidl_declarations.specs.declared.step.Step.TheVariants as step
 use Rattle.fidl_declarations.specs.Forms.{Form}

@@ -2,8 +2,8 @@
 use Rattle.std.specs.Prelude.{◌≡◌, List, map}
 use Rattle.fidl_tree.specs.Views.{file_view}
 use Rattle.fidl_tree.specs.declared.file.File.{File}
-use Rattle.fidl_const.specs.declared.consts.Consts.{Consts}
-use Rattle.fidl_const.specs.Tables.{AreConsts}
+use Rattle.fidl_consts.specs.declared.consts.Consts.{Consts}
+use Rattle.fidl_consts.specs.Tables.{AreConsts}
 use Rattle.fidl_declarations.specs.Forms.{Form}
 use Rattle.fidl_member_rules.specs.Rules.{RulesHold as LayoutsHold}
 use Rattle.fidl_member_rules.specs.ValueRules.{ValuesHold}

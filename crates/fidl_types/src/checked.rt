@@ -1,6 +1,6 @@
 //! Files whose types are checked.
 ghost use Rattle.std.specs.Prelude.{◌≡◌};
-ghost use Rattle.fidl_const.specs.Tables.{AreConsts};
+ghost use Rattle.fidl_consts.specs.Tables.{AreConsts};
 ghost use Rattle.fidl_declarations.specs.FormViews.{forms_view};
 ghost use Rattle.fidl_lower_types.specs.Numbers.{all_forms};
 ghost use Rattle.fidl_lower_types.specs.NumberViews.{AreNumbers};
@@ -8,11 +8,11 @@ ghost use Rattle.fidl_lower_types.specs.TermViews.{AreKnown};
 ghost use Rattle.fidl_ir.specs.Terms.{definitions_view};
 ghost use Rattle.fidl_types.specs.Types.{TypesAre};
 
-use fidl_const::Consts;
+use fidl_consts::Consts;
 use fidl_declarations::Form;
 use fidl_ir::Definition;
 use fidl_lower_types::{LayoutNumbers, Sources};
-use fidl_names::Named;
+use fidl_named::Named;
 use std::alloc::Global;
 use std::marker::Model;
 
@@ -30,7 +30,7 @@ pub struct Types<'f, 's> {
 impl<'f, 's> Model for Types<'f, 's> {
     ghost use Rattle.std.specs.Prelude.{List};
     ghost use Rattle.fidl_tree.specs.declared.file.File.{File as Tree};
-    ghost use Rattle.fidl_names.specs.StoredFiles.{files_coded};
+    ghost use Rattle.fidl_named.specs.StoredFiles.{files_coded};
     ghost use Rattle.fidl_declarations.specs.FormViews.{forms_view};
     ghost use Rattle.fidl_ir.specs.Terms.{definitions_view};
     ghost use Rattle.fidl_types.specs.Types.{AreHeld};

@@ -1,7 +1,7 @@
 //! The check of all types of files.
 ghost use Rattle.std.specs.Prelude.{◌≡◌, List, IfErr, IfOk, OnOk};
-ghost use Rattle.fidl_const.specs.Evaluated.{Evaluates};
-ghost use Rattle.fidl_const.specs.Tables.{AreConsts};
+ghost use Rattle.fidl_consts.specs.Evaluated.{Evaluates};
+ghost use Rattle.fidl_consts.specs.Tables.{AreConsts};
 ghost use Rattle.fidl_lower_types.specs.TermViews.{AreKnown};
 ghost use Rattle.fidl_wire.specs.Term.{Term};
 ghost use Rattle.fidl_ir.specs.Terms.{definitions_view};
@@ -12,11 +12,11 @@ use crate::checked::Types;
 use crate::definitions::kept_definitions;
 use crate::fault::TypeFault;
 use crate::parts::check_parts;
-use fidl_const::Consts;
+use fidl_consts::Consts;
 use fidl_declarations::forms;
 use fidl_ir::Definition;
 use fidl_lower_types::{Sources, layout_numbers};
-use fidl_names::Named;
+use fidl_named::Named;
 use std::alloc::Global;
 
 /// The definitions of all forms, where the files keep all rules.

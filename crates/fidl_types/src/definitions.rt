@@ -1,7 +1,7 @@
 //! The definitions of all forms, and the rules over them.
 ghost use Rattle.std.specs.Prelude.{◌<◌, ◌^◌, length, map, IfErr, IfOk, IfSome, IsNone, OnOk};
 ghost use Rattle.fidl_tree.specs.Views.{file_view};
-ghost use Rattle.fidl_const.specs.Evaluated.{Evaluates};
+ghost use Rattle.fidl_consts.specs.Evaluated.{Evaluates};
 ghost use Rattle.fidl_member_rules.specs.Rules.{RulesHold as LayoutsHold};
 ghost use Rattle.fidl_member_rules.specs.ValueRules.{ValuesHold};
 ghost use Rattle.fidl_lower_types.specs.Numbers.{all_forms};

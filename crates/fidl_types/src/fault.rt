@@ -1,7 +1,7 @@
 //! Why the types of files are refused.
 ghost use Rattle.std.specs.Prelude.{◌≡◌};
 
-use fidl_names::Place;
+use fidl_named::Place;
 use std::alloc::AllocError;
 use thiserror::Error;
 

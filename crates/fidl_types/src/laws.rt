@@ -2,7 +2,7 @@
 ghost use Rattle.std.specs.Prelude.{◌≡◌, ◌≢◌, ◌≤◌, ◌^◌, List, length, map};
 ghost use Rattle.fidl_tree.specs.declared.file.File.{File};
 ghost use Rattle.fidl_tree.specs.Views.{file_view};
-ghost use Rattle.fidl_const.specs.Evaluated.{Evaluates};
+ghost use Rattle.fidl_consts.specs.Evaluated.{Evaluates};
 ghost use Rattle.fidl_member_rules.specs.Rules.{RulesHold};
 ghost use Rattle.fidl_member_rules.specs.ValueRules.{ValuesHold};
 ghost use Rattle.fidl_lower_types.specs.Numbers.{all_forms};

@@ -4,7 +4,7 @@ ghost use Rattle.fidl_declarations.specs.FormViews.{form_view, forms_view};
 ghost use Rattle.fidl_types.specs.Places.{last_name, name_place, form_place, IsPlaceOf};
 
 use fidl_declarations::{Form, Step};
-use fidl_names::Place;
+use fidl_named::Place;
 use fidl_span::Span;
 
 /// The last name in a path.

@@ -4,7 +4,7 @@ ghost use Rattle.fidl_span.specs.declared.words.Span.{Span};
 ghost use Rattle.fidl_tree.specs.Syntax.{ValuesKind, Underlying, ValueMember, Members, Response};
 ghost use Rattle.fidl_tree.specs.Syntax.{values_layout, struct_layout, table_layout, union_layout};
 ghost use Rattle.fidl_tree.specs.declared.file.File.{File};
-ghost use Rattle.fidl_names.specs.declared.place.Place.{Place};
+ghost use Rattle.fidl_named.specs.declared.place.Place.{Place};
 ghost use Rattle.fidl_declarations.specs.declared.step.Step.TheVariants as Steps;
 ghost use Rattle.fidl_declarations.specs.Forms.{Form, layout_form, result_form, empty_response_form};
 ghost use Rattle.fidl_resource_rules.specs.declared.fault.ResourceFault.TheVariants as Resources;

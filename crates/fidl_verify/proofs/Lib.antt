@@ -14,3 +14,4 @@ pub mod Ordered
 pub mod Members
 pub mod Ordinals
 pub mod Placed
+pub mod Classes

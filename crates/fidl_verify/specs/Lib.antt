@@ -4,3 +4,4 @@
 pub mod Faults
 pub mod Measured
 pub mod Lookups
+pub mod Runs

@@ -14,6 +14,7 @@ use crate::header::read_sections;
 use crate::methods::check_methods;
 use crate::protocols::check_protocols;
 use crate::roots::{check_roots, find_root};
+use crate::runs::Seen;
 use crate::sections::Sections;
 use fidl_table_format::{Entry, Row};
 use std::marker::Model;
@@ -63,11 +64,12 @@ pub fn verify(bytes: &[u8]) -> Result<Table<'_>, TableFault>
     ensures none { OnErr result (WellFormed bytes.now → ⊥) }
 {
     let sections = read_sections(bytes)?;
-    let parts = check_entries(&sections)?;
+    let mut seen = Seen::new(&sections);
+    let parts = check_entries(&sections, &mut seen)?;
     check_covered(&sections, parts)?;
-    check_roots(&sections)?;
-    check_protocols(&sections)?;
-    check_methods(&sections)?;
+    check_roots(&sections, &mut seen)?;
+    check_protocols(&sections, &mut seen)?;
+    check_methods(&sections, &mut seen)?;
     Ok(Table { sections })
 }
 

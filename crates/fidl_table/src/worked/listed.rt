@@ -6,7 +6,7 @@ ghost use Rattle.fidl_tree.specs.Syntax.{Openness, ProtocolMember};
 ghost use Rattle.fidl_tree.specs.Syntax.{ajar_protocol, open_protocol};
 ghost use Rattle.fidl_tree.specs.Views.{openness_view};
 ghost use Rattle.fidl_tree.specs.declared.file.File.{File};
-ghost use Rattle.fidl_names.specs.declared.place.DeclarationId.{DeclarationId};
+ghost use Rattle.fidl_named.specs.declared.place.DeclarationId.{DeclarationId};
 ghost use Rattle.fidl_declarations.specs.Forms.{Form};
 ghost use Rattle.fidl_composition.specs.Protocols.{IsProtocolAt};
 ghost use Rattle.fidl_payloads.specs.declared.payload.Payload.TheVariants as payload;

@@ -4,7 +4,7 @@ ghost use Rattle.std.specs.Global.{Vec};
 ghost use Rattle.fidl_tree.specs.Syntax.{Openness, ProtocolMember};
 ghost use Rattle.fidl_tree.specs.Syntax.{closed_protocol, ajar_protocol, open_protocol};
 ghost use Rattle.fidl_tree.specs.declared.file.File.{File};
-ghost use Rattle.fidl_names.specs.declared.place.DeclarationId.{DeclarationId};
+ghost use Rattle.fidl_named.specs.declared.place.DeclarationId.{DeclarationId};
 ghost use Rattle.fidl_wire.specs.Figure.{Declarations};
 ghost use Rattle.fidl_composition.specs.Protocols.{IsProtocolAt, IsProtocol};
 ghost use Rattle.fidl_payloads.specs.declared.payload.Payload.TheVariants as carried;

@@ -11,5 +11,6 @@ returns c =
     ∙ ap (λ (x : App). record x { top = record x.top { has_version = true } }) (ap app_of_fields c.in_ok-bin_name.ensures.0 ∙ c.new.ensures.app)) in
     let one = joined _ _ _ _ _ c.in_ok-subcommand.ensures c.in_ok-compile_command.ensures whole in
     let two = joined _ _ _ _ _ c.in_ok-subcommand-2.ensures c.in_ok-decode_command.ensures one in
-    let three = joined _ _ _ _ _ c.in_ok-subcommand-3.ensures c.in_ok-table_command.ensures two in
-    if_ok _ _ c.subcommand-4.result (λ r h. joined _ _ _ _ _ h c.in_ok-explain_command.ensures three) c.subcommand-4.ensures
+    let three = joined _ _ _ _ _ c.in_ok-subcommand-3.ensures c.in_ok-encode_command.ensures two in
+    let four = joined _ _ _ _ _ c.in_ok-subcommand-4.ensures c.in_ok-table_command.ensures three in
+    if_ok _ _ c.subcommand-5.result (λ r h. joined _ _ _ _ _ h c.in_ok-explain_command.ensures four) c.subcommand-5.ensures

@@ -1,8 +1,8 @@
 use Rattle.std.proofs.Common.{List, subst, length}
 use Rattle.std.proofs.lemmas.Result.{err_from_is_err_and}
 use Rattle.fidl_tree.specs.declared.file.File.{File}
-use Rattle.fidl_names.specs.Names.{all_declared}
-use Rattle.fidl_names.specs.Faults.{IsTrueOfAdding}
+use Rattle.fidl_named.specs.Names.{all_declared}
+use Rattle.fidl_names.specs.Refusals.{IsTrueOfAdding}
 use Rattle.fidl_compile.proofs.Refused.{adding_refused}
 use Rattle.fidl_compile.proofs.checking.add_files.Goals as goal
 

@@ -1,5 +1,5 @@
 use Rattle.std.proofs.Common.{◌≡◌, take}
-use Rattle.fidl_names.specs.Names.{all_declared, AreDistinct}
+use Rattle.fidl_named.specs.Names.{all_declared, AreDistinct}
 use Rattle.fidl_compile.proofs.checking.add_files.Given as goal
 
 -- the files so far are in the set, and no name of theirs is declared twice

@@ -1,7 +1,7 @@
 use Rattle.std.proofs.Common.{◌≡◌, ◌∙◌, List, subst}
 use Rattle.std.proofs.lemmas.Result.{err_from_is_err_and}
 use Rattle.fidl_tree.specs.declared.file.File.{File}
-use Rattle.fidl_const.specs.Evaluated.{Evaluates}
+use Rattle.fidl_consts.specs.Evaluated.{Evaluates}
 use Rattle.fidl_protocol.specs.Checked.{AreChecked}
 use Rattle.fidl_protocol.specs.Faults.{IsTrueOfProtocols}
 use Rattle.fidl_protocol.specs.declared.fault.ProtocolFault.{ProtocolFault}

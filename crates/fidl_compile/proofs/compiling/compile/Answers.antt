@@ -2,7 +2,7 @@ use Rattle.std.proofs.Common.{◌≡◌, List, length, map, sym, subst, ◌∙�
 use Rattle.std.proofs.lemmas.List.{length-map}
 use Rattle.std.proofs.lemmas.Result.{err_from_is_err_and}
 use Rattle.fidl_tree.specs.declared.file.File.{File}
-use Rattle.fidl_names.specs.Names.{all_declared, AreDistinct}
+use Rattle.fidl_named.specs.Names.{all_declared, AreDistinct}
 use Rattle.fidl_wire.specs.Figure.{Declarations}
 use Rattle.fidl_table.specs.Shows.{Shows}
 use Rattle.fidl_compile.specs.Sources.{AreAccepted}

@@ -6,7 +6,7 @@ use Rattle.fidl_tree.specs.declared.protocol.Compose.{Compose}
 use Rattle.fidl_tree.specs.declared.protocol.ProtocolMember.{ProtocolMember}
 use Rattle.fidl_tree.specs.declared.protocol.ProtocolMemberBody.{ProtocolMemberBody}
 use Rattle.fidl_tree.specs.declared.protocol.ProtocolMemberBody.TheVariants as body
-use Rattle.fidl_names.specs.Meanings.{IsJust}
+use Rattle.fidl_named.specs.Meanings.{IsJust}
 use Rattle.fidl_composition.specs.Tables.{IsTarget}
 use Rattle.fidl_composition.proofs.Lists.{map_there}
 use Rattle.fidl_composition.proofs.Members.{row_none, row_some, path_holds}

@@ -1,7 +1,7 @@
 use Rattle.std.proofs.Common.{◌∙◌, refl, sym, subst, true≢false}
 use Rattle.fidl_span.specs.declared.words.Span.{Span}
 use Rattle.fidl_tree.specs.Views.{openness_view}
-use Rattle.fidl_names.proofs.PathViews.{place_seen}
+use Rattle.fidl_named.proofs.PathViews.{place_seen}
 use Rattle.fidl_composition.specs.Compositions.{MayCompose, ComposesAt}
 use Rattle.fidl_composition.proofs.Nodes.{openness_is, has_openness}
 use Rattle.fidl_composition.proofs.composing.check_openness.Goals as goal

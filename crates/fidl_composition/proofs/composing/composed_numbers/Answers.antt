@@ -4,9 +4,9 @@ use Rattle.std.specs.List.{Contains, Any, AllByRecursion}
 use Rattle.std.proofs.lemmas.List.{take_all}
 use Rattle.fidl_tree.specs.Views.{openness_view, protocol_member_view}
 use Rattle.fidl_tree.specs.declared.protocol.ProtocolMember.{ProtocolMember}
-use Rattle.fidl_names.proofs.Graphs.{all_more}
-use Rattle.fidl_names.proofs.LibraryNumbers.{any_more}
-use Rattle.fidl_names.proofs.Seeing.{all_take}
+use Rattle.fidl_cycles.proofs.Lists.{all_more}
+use Rattle.fidl_cycles.proofs.Lists.{any_more}
+use Rattle.fidl_cycles.proofs.Lists.{all_take}
 use Rattle.fidl_composition.specs.Tables.{IsTargetBy, MemberHolds}
 use Rattle.fidl_composition.proofs.Members.{composed_row, protocol_holds}
 use Rattle.fidl_composition.proofs.composing.composed_numbers.Goals as goal

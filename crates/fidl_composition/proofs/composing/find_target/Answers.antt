@@ -4,8 +4,8 @@ use Rattle.std.proofs.lemmas.Option.{slice_get_within}
 use Rattle.fidl_tree.specs.Syntax.{Path}
 use Rattle.fidl_tree.specs.declared.file.File.{File}
 use Rattle.fidl_tree.specs.Views.{path_view}
-use Rattle.fidl_names.specs.declared.place.DeclarationId.{DeclarationId}
-use Rattle.fidl_names.specs.Meanings.{IsJust}
+use Rattle.fidl_named.specs.declared.place.DeclarationId.{DeclarationId}
+use Rattle.fidl_named.specs.Meanings.{IsJust}
 use Rattle.fidl_composition.specs.Protocols.{HasOpenness}
 use Rattle.fidl_composition.specs.Compositions.{MeansProtocol}
 use Rattle.fidl_composition.proofs.Nodes.{meant_protocol}

@@ -3,7 +3,7 @@ use Rattle.std.specs.Prelude.{is_ok}
 use Rattle.std.proofs.Math.ListN.{length-map}
 use Rattle.std.specs.Global.{Vec}
 use Rattle.std.proofs.lemmas.Option.{slice_get_within}
-use Rattle.fidl_names.specs.Cycles.{IsFirstEdge, points_of}
+use Rattle.fidl_cycles.specs.Cycles.{IsFirstEdge, points_of}
 use Rattle.fidl_composition.proofs.Ways.{edge_within, number_within, none_back, first_back}
 use Rattle.fidl_composition.proofs.cycle.check_cycles.Goals as goal
 

@@ -3,9 +3,9 @@ use Rattle.std.specs.Global.{Vec}
 use Rattle.std.specs.List.{Contains, AllByRecursion}
 use Rattle.std.proofs.lemmas.List.{take_all, take_more, map-append, get_or_default}
 use Rattle.std.proofs.lemmas.List.Elements.{Contains-get_or}
-use Rattle.fidl_names.specs.declared.place.DeclarationId.{DeclarationId}
-use Rattle.fidl_names.specs.Cycles.{points_of}
-use Rattle.fidl_names.proofs.Seeing.{all_take}
+use Rattle.fidl_named.specs.declared.place.DeclarationId.{DeclarationId}
+use Rattle.fidl_cycles.specs.Cycles.{points_of}
+use Rattle.fidl_cycles.proofs.Lists.{all_take}
 use Rattle.fidl_composition.specs.Compositions.{ProtocolHolds}
 use Rattle.fidl_composition.specs.Tables.{at, AreComposedRows}
 use Rattle.fidl_composition.proofs.Members.{no_rows, rows_more}

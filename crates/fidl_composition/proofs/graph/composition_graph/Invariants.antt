@@ -1,6 +1,6 @@
 use Rattle.std.proofs.Common.{take}
 use Rattle.std.specs.List.{AllByRecursion}
-use Rattle.fidl_names.specs.Cycles.{points_of}
+use Rattle.fidl_cycles.specs.Cycles.{points_of}
 use Rattle.fidl_composition.specs.Compositions.{ProtocolHolds}
 use Rattle.fidl_composition.specs.Tables.{AreComposedRows}
 use Rattle.fidl_composition.proofs.graph.composition_graph.Given as goal

@@ -1,6 +1,6 @@
 use Rattle.std.proofs.Common.{sym, subst}
 use Rattle.std.specs.List.{Contains}
-use Rattle.fidl_names.proofs.Trails.{edge_to, target_of}
+use Rattle.fidl_cycles.proofs.Trails.{edge_to, target_of}
 use Rattle.fidl_composition.proofs.points.add_targets.Goals as goal
 
 pub returns : goal.returns

@@ -1,6 +1,6 @@
 use Rattle.std.proofs.Common.{◌≡◌, ◌∙◌, Some, None, sym, arith}
 use Rattle.std.specs.Prelude.{slice_get}
-use Rattle.fidl_names.specs.Cycles.{points_of}
+use Rattle.fidl_cycles.specs.Cycles.{points_of}
 use Rattle.fidl_composition.proofs.Lists.{among}
 use Rattle.fidl_composition.proofs.Growing.{goes_on, whole, past_end, reached_within, no_more}
 use Rattle.fidl_composition.proofs.points.reached_set.Goals as goal

@@ -1,4 +1,4 @@
-use Rattle.fidl_names.specs.Cycles.{points_of}
+use Rattle.fidl_cycles.specs.Cycles.{points_of}
 use Rattle.fidl_composition.specs.Points.{AreDistinct, IsReaching}
 use Rattle.fidl_composition.proofs.points.reached_set.Given as goal
 

@@ -1,8 +1,8 @@
 use Rattle.std.proofs.Common.{◌≡◌, ◌∙◌, ◌∷◌, [], ◌++◌, ℕ, List, ap, sym, subst, arith}
 use Rattle.std.specs.Global.{Vec}
 use Rattle.std.proofs.lemmas.List.{map-append}
-use Rattle.fidl_names.specs.declared.place.DeclarationId.{DeclarationId}
-use Rattle.fidl_names.specs.Cycles.{points_of}
+use Rattle.fidl_named.specs.declared.place.DeclarationId.{DeclarationId}
+use Rattle.fidl_cycles.specs.Cycles.{points_of}
 use Rattle.fidl_composition.specs.Tables.{AreNumberedTo}
 use Rattle.fidl_composition.proofs.Numbering.{none_numbered, file_more, all_numbered}
 use Rattle.fidl_composition.proofs.protocols.number_protocols.Goals as goal

@@ -1,4 +1,4 @@
-use Rattle.fidl_names.specs.Cycles.{points_of}
+use Rattle.fidl_cycles.specs.Cycles.{points_of}
 use Rattle.fidl_composition.specs.Tables.{AreNumberedTo}
 use Rattle.fidl_composition.proofs.protocols.number_protocols.Given as goal
 

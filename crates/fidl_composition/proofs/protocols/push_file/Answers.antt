@@ -2,7 +2,7 @@ use Rattle.std.proofs.Common.{◌≡◌, ◌≤◌, ◌∙◌, ◌∷◌, [], �
 use Rattle.std.specs.Prelude.{slice_get}
 use Rattle.std.proofs.lemmas.Option.{slice_get_read}
 use Rattle.fidl_tree.specs.declared.declaration.Declaration.{Declaration}
-use Rattle.fidl_names.specs.Constraints.{IsDeclarationAt}
+use Rattle.fidl_named.specs.Constraints.{IsDeclarationAt}
 use Rattle.fidl_composition.specs.Tables.{at, IsRowTo}
 use Rattle.fidl_composition.proofs.Numbering.{keeps_itself, keeps_then, row_begins, adds_keeps, to_next, row_next, to_end, row_whole}
 use Rattle.fidl_composition.proofs.protocols.push_file.Goals as goal

@@ -5,8 +5,8 @@ use Rattle.fidl_tree.specs.declared.protocol.Compose.{Compose}
 use Rattle.fidl_tree.specs.declared.protocol.ProtocolMember.{ProtocolMember as CodeMember}
 use Rattle.fidl_tree.specs.declared.protocol.ProtocolMemberBody.{ProtocolMemberBody}
 use Rattle.fidl_tree.specs.declared.protocol.ProtocolMemberBody.TheVariants as body
-use Rattle.fidl_names.specs.Meanings.{IsJust}
-use Rattle.fidl_names.proofs.PathViews.{place_seen}
+use Rattle.fidl_named.specs.Meanings.{IsJust}
+use Rattle.fidl_named.proofs.PathViews.{place_seen}
 use Rattle.fidl_composition.specs.Compositions.{MeansProtocol}
 use Rattle.fidl_composition.proofs.Nodes.{meant_protocol}
 use Rattle.fidl_composition.proofs.Finding.{nothing_meant, not_reached}

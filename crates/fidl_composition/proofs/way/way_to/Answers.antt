@@ -7,7 +7,7 @@ use Rattle.std.proofs.lemmas.Option.{slice_get_within}
 use Rattle.fidl_span.specs.declared.words.Span.{Span}
 use Rattle.fidl_tree.specs.Views.{protocol_member_view}
 use Rattle.fidl_tree.specs.declared.protocol.ProtocolMember.{ProtocolMember}
-use Rattle.fidl_names.proofs.Seeing.{all_take}
+use Rattle.fidl_cycles.proofs.Lists.{all_take}
 use Rattle.fidl_composition.specs.Tables.{IsWayBy}
 use Rattle.fidl_composition.proofs.Ways.{composing}
 use Rattle.fidl_composition.proofs.Finding.{NoWay, way_is, no_way}

@@ -1,8 +1,8 @@
 use Rattle.std.proofs.Common.{◌<◌, ◌∙◌, ℕ, List, sym, subst}
 use Rattle.std.proofs.Math.ListN.{length-map}
 use Rattle.std.specs.Global.{Vec}
-use Rattle.fidl_names.specs.declared.place.DeclarationId.{DeclarationId}
-use Rattle.fidl_names.specs.Cycles.{points_of}
+use Rattle.fidl_named.specs.declared.place.DeclarationId.{DeclarationId}
+use Rattle.fidl_cycles.specs.Cycles.{points_of}
 use Rattle.fidl_composition.specs.Numbers.{AreCompositions}
 use Rattle.fidl_composition.proofs.Ways.{compositions_of, hold_of, edge_within}
 use Rattle.fidl_composition.proofs.whole.compositions.Goals as goal

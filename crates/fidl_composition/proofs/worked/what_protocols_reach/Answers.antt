@@ -1,5 +1,5 @@
 use Rattle.std.proofs.Common.{inl, inr, refl}
-use Rattle.fidl_names.specs.Cycles.{step}
+use Rattle.fidl_cycles.specs.Cycles.{step}
 use Rattle.fidl_composition.proofs.Facts.{reaches_through, reaches_none}
 use Rattle.fidl_composition.proofs.worked.what_protocols_reach.Goals as goal
 

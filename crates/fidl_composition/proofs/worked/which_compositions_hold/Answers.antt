@@ -1,5 +1,5 @@
 use Rattle.fidl_tree.specs.Syntax.{closed_protocol, ajar_protocol}
-use Rattle.fidl_names.specs.Cycles.{step}
+use Rattle.fidl_cycles.specs.Cycles.{step}
 use Rattle.fidl_composition.proofs.Facts.{none_composes, none_leads}
 use Rattle.fidl_composition.proofs.worked.which_compositions_hold.Goals as goal
 

@@ -1,15 +1,15 @@
 use Rattle.std.proofs.Common.{◌≡◌, Option, Some, refl, sym, subst, ap, ◌∙◌, true≢false}
 use Rattle.std.specs.Prelude.{IsSome}
 use Rattle.fidl_tree.specs.Views.{path_view}
-use Rattle.fidl_const.specs.Dependencies.{TypeUses}
-use Rattle.fidl_names.specs.declared.meaning.Wanted.TheVariants as wanted
-use Rattle.fidl_names.specs.declared.meaning.Meaning.{Meaning}
-use Rattle.fidl_names.specs.declared.meaning.Meaning.TheVariants as meaning
-use Rattle.fidl_names.specs.Meanings.{Means}
-use Rattle.fidl_names.specs.OuterTypes.{texts}
-use Rattle.fidl_const.specs.Types.{own_path}
-use Rattle.fidl_const.specs.declared.consts.Limits.{Limits}
-use Rattle.fidl_names.proofs.Justs.{the_just, just_one, no_just}
+use Rattle.fidl_consts.specs.Dependencies.{TypeUses}
+use Rattle.fidl_named.specs.declared.meaning.Wanted.TheVariants as wanted
+use Rattle.fidl_named.specs.declared.meaning.Meaning.{Meaning}
+use Rattle.fidl_named.specs.declared.meaning.Meaning.TheVariants as meaning
+use Rattle.fidl_named.specs.Meanings.{Means}
+use Rattle.fidl_named.specs.Paths.{texts}
+use Rattle.fidl_consts.specs.Types.{own_path}
+use Rattle.fidl_consts.specs.declared.consts.Limits.{Limits}
+use Rattle.fidl_named.proofs.Justs.{the_just, just_one, no_just}
 use Rattle.fidl_const.proofs.AliasLimits.{known_alias, none_after, string_alias, limits_ahead}
 use Rattle.fidl_const.proofs.LimitLaws.{no_limits}
 use Rattle.fidl_const.proofs.bounds.inherited_limits.Goals as goal

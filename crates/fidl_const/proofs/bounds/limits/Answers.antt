@@ -2,11 +2,12 @@ use Rattle.std.proofs.Common.{List, sym, subst, ◌∙◌, inl, inr, true≢fals
 use Rattle.std.specs.Prelude.{flat_map}
 use Rattle.std.specs.List.{Contains}
 use Rattle.fidl_tree.specs.Syntax.{Value}
-use Rattle.fidl_names.specs.declared.meaning.Wanted.TheVariants as wanted
-use Rattle.fidl_names.specs.Constraints.{ordinary}
-use Rattle.fidl_names.specs.Places.{value_paths}
-use Rattle.fidl_const.specs.Dependencies.{TypeUses, constraint_paths}
-use Rattle.fidl_const.specs.Tables.{AreLimits, IsOwnConstraint}
+use Rattle.fidl_named.specs.declared.meaning.Wanted.TheVariants as wanted
+use Rattle.fidl_named.specs.Constraints.{ordinary}
+use Rattle.fidl_named.specs.Places.{value_paths}
+use Rattle.fidl_consts.specs.Dependencies.{TypeUses, constraint_paths}
+use Rattle.fidl_consts.specs.Tables.{AreLimits}
+use Rattle.fidl_const.specs.Columns.{IsOwnConstraint}
 use Rattle.fidl_const.proofs.AliasLimits.{own_constraint, inherited_constraint, constraint_cases}
 use Rattle.fidl_const.proofs.LimitLaws.{both_limits}
 use Rattle.fidl_const.proofs.bounds.limits.Goals as goal

@@ -5,20 +5,21 @@ use Rattle.std.proofs.lemmas.List.{take_more}
 use Rattle.std.proofs.lemmas.Result.{err_from_is_err_and}
 use Rattle.std.proofs.Math.ListN.{get_or-map, length-map}
 use Rattle.fidl_tree.specs.declared.file.File.{File}
-use Rattle.fidl_names.specs.Constraints.{is_optional, ordinary}
+use Rattle.fidl_named.specs.Constraints.{is_optional, ordinary}
 use Rattle.fidl_tree.specs.Syntax.{Value}
 use Rattle.fidl_tree.specs.Views.{value_view, constraints_view}
 use Rattle.fidl_tree.specs.declared.value.Value.{Value as Tree}
-use Rattle.fidl_names.specs.Places.{value_paths}
-use Rattle.fidl_names.specs.ReferenceViews.{value_list_view}
-use Rattle.fidl_const.specs.declared.const_type.NumberKind.TheVariants.{Uint32}
-use Rattle.fidl_const.specs.declared.const_type.ConstType.TheVariants as ty
-use Rattle.fidl_const.specs.declared.fault.ConstFault.{ConstFault}
-use Rattle.fidl_const.specs.Refusals.{ValueFails}
-use Rattle.fidl_const.specs.Strings.{BoundFails}
-use Rattle.fidl_const.specs.Tables.{AreLimits, IsOwnConstraint, IsMemoryOr}
-use Rattle.fidl_const.proofs.Among.{among_flat, among_passed}
-use Rattle.fidl_const.proofs.Expressions.{reports_weaker}
+use Rattle.fidl_named.specs.Places.{value_paths}
+use Rattle.fidl_named.specs.ReferenceViews.{value_list_view}
+use Rattle.fidl_consts.specs.declared.const_type.NumberKind.TheVariants.{Uint32}
+use Rattle.fidl_consts.specs.declared.const_type.ConstType.TheVariants as ty
+use Rattle.fidl_consts.specs.declared.fault.ConstFault.{ConstFault}
+use Rattle.fidl_consts.specs.Refusals.{ValueFails}
+use Rattle.fidl_consts.specs.Strings.{BoundFails}
+use Rattle.fidl_consts.specs.Tables.{AreLimits, IsMemoryOr}
+use Rattle.fidl_const.specs.Columns.{IsOwnConstraint}
+use Rattle.fidl_consts.proofs.Among.{among_flat, among_passed}
+use Rattle.fidl_consts.proofs.Expressions.{reports_weaker}
 use Rattle.fidl_const.proofs.bounds.own_limits.Goals as goal
 
 -- a value as the plain data that it represents

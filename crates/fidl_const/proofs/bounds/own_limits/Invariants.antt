@@ -1,6 +1,7 @@
 use Rattle.std.proofs.Common.{take}
-use Rattle.fidl_names.specs.ReferenceViews.{value_list_view}
-use Rattle.fidl_const.specs.Tables.{AreLimits, IsOwnConstraint}
+use Rattle.fidl_named.specs.ReferenceViews.{value_list_view}
+use Rattle.fidl_consts.specs.Tables.{AreLimits}
+use Rattle.fidl_const.specs.Columns.{IsOwnConstraint}
 use Rattle.fidl_const.proofs.bounds.own_limits.Given as goal
 
 -- the limits so far are those of the constraints so far

@@ -1,6 +1,6 @@
 use Rattle.std.proofs.Common.{refl, sym, ◌∙◌, inl, inr, true≢false}
 use Rattle.fidl_tree.specs.Views.{value_view}
-use Rattle.fidl_const.specs.PlainValues.{seen}
+use Rattle.fidl_consts.specs.PlainValues.{seen}
 use Rattle.fidl_const.proofs.LimitLaws.{lesser_none, word_limits, bound_limits, more_limits}
 use Rattle.fidl_const.proofs.bounds.with_constraint.Goals as goal
 

@@ -1,6 +1,6 @@
 use Rattle.std.proofs.Common.{◌<◌, true≢false, sym, subst, ◌∙◌}
 use Rattle.std.specs.Prelude.{IsSomeAnd}
-use Rattle.fidl_const.specs.PlainValues.{seen, text_length}
+use Rattle.fidl_consts.specs.PlainValues.{seen, text_length}
 use Rattle.fidl_const.proofs.TextLimits.{long_fails, optional_fails, fits_limits}
 use Rattle.fidl_const.proofs.constants.check_text.Goals as goal
 

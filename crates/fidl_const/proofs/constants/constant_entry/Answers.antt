@@ -1,9 +1,9 @@
 use Rattle.std.proofs.Common.{subst}
 use Rattle.std.proofs.lemmas.Result.{err_from_is_err_and}
-use Rattle.fidl_names.specs.declared.meaning.Meaning.TheVariants as meaning
-use Rattle.fidl_const.specs.PlainValues.{seen}
-use Rattle.fidl_const.specs.Types.{TypeIs}
-use Rattle.fidl_const.specs.Values.{Offers, constant}
+use Rattle.fidl_named.specs.declared.meaning.Meaning.TheVariants as meaning
+use Rattle.fidl_consts.specs.PlainValues.{seen}
+use Rattle.fidl_consts.specs.Types.{TypeIs}
+use Rattle.fidl_consts.specs.Values.{Offers, constant}
 use Rattle.fidl_const.proofs.Reports.{value_reported, text_reported}
 use Rattle.fidl_const.proofs.constants.constant_entry.Goals as goal
 

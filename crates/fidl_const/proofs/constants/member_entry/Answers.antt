@@ -1,5 +1,5 @@
 use Rattle.std.proofs.lemmas.Result.{err_from_is_err_and}
-use Rattle.fidl_const.specs.PlainValues.{seen}
+use Rattle.fidl_consts.specs.PlainValues.{seen}
 use Rattle.fidl_const.proofs.Reports.{underlying_reported, member_reported, member_offers}
 use Rattle.fidl_const.proofs.constants.member_entry.Goals as goal
 

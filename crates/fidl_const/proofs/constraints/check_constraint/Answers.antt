@@ -4,14 +4,14 @@ use Rattle.std.proofs.lemmas.Result.{err_from_is_err_and}
 use Rattle.fidl_tree.specs.declared.file.File.{File}
 use Rattle.fidl_tree.specs.Syntax.{Value}
 use Rattle.fidl_tree.specs.declared.declaration.Property.{Property}
-use Rattle.fidl_names.specs.declared.place.DeclarationId.{DeclarationId}
-use Rattle.fidl_names.specs.declared.meaning.Meaning.{Meaning}
-use Rattle.fidl_names.specs.Constraints.{IsPropertyFor}
+use Rattle.fidl_named.specs.declared.place.DeclarationId.{DeclarationId}
+use Rattle.fidl_named.specs.declared.meaning.Meaning.{Meaning}
+use Rattle.fidl_named.specs.Constraints.{IsPropertyFor}
 use Rattle.fidl_tree.specs.Views.{value_view}
-use Rattle.fidl_const.specs.declared.const_value.ConstValue.{ConstValue}
-use Rattle.fidl_const.specs.PlainValues.{seen}
-use Rattle.fidl_const.specs.Constraints.{HandleValueIs, HandleValueFails, is_bounded, ConstraintHolds, ConstraintFails}
-use Rattle.fidl_const.proofs.Reports.{reports_more}
+use Rattle.fidl_consts.specs.declared.const_value.ConstValue.{ConstValue}
+use Rattle.fidl_consts.specs.PlainValues.{seen}
+use Rattle.fidl_consts.specs.Constraints.{HandleValueIs, HandleValueFails, is_bounded, ConstraintHolds, ConstraintFails}
+use Rattle.fidl_consts.proofs.Reports.{reports_more}
 use Rattle.fidl_const.proofs.constraints.check_constraint.Goals as goal
 
 -- a constraint that is no bound has what a property wants, if one wants anything

@@ -5,10 +5,10 @@ use Rattle.std.proofs.lemmas.Result.{err_from_is_err_and}
 use Rattle.std.proofs.Math.ListN.{get_or-map, length-map}
 use Rattle.fidl_tree.specs.Views.{value_view, constraints_view}
 use Rattle.fidl_tree.specs.declared.value.Value.{Value as Tree}
-use Rattle.fidl_names.specs.Constraints.{ordinary}
-use Rattle.fidl_const.specs.Constraints.{ConstraintHolds, ConstraintFails, ConstraintsFail}
-use Rattle.fidl_names.proofs.Judging.{holds_more}
-use Rattle.fidl_const.proofs.Reports.{reports_more}
+use Rattle.fidl_named.specs.Constraints.{ordinary}
+use Rattle.fidl_consts.specs.Constraints.{ConstraintHolds, ConstraintFails, ConstraintsFail}
+use Rattle.fidl_named.proofs.Judging.{holds_more}
+use Rattle.fidl_consts.proofs.Reports.{reports_more}
 use Rattle.fidl_const.proofs.constraints.check_constraints.Goals as goal
 
 pub returns-in_err-check_constraint-clause-fault_is_true : goal.returns-in_err-check_constraint-clause-fault_is_true

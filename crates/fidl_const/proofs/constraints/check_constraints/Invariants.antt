@@ -1,8 +1,8 @@
 use Rattle.std.proofs.Common.{ℕ, ◌≡◌, ◌<◌}
 use Rattle.std.specs.Prelude.{slice_get, Some}
 use Rattle.fidl_tree.specs.Syntax.{Value}
-use Rattle.fidl_names.specs.ReferenceViews.{value_list_view}
-use Rattle.fidl_const.specs.Constraints.{ConstraintHolds}
+use Rattle.fidl_named.specs.ReferenceViews.{value_list_view}
+use Rattle.fidl_consts.specs.Constraints.{ConstraintHolds}
 use Rattle.fidl_const.proofs.constraints.check_constraints.Given as goal
 
 -- the constraints so far have the values that they owe

@@ -4,13 +4,13 @@ use Rattle.std.specs.Global.{Vec}
 use Rattle.std.proofs.lemmas.Option.{same_Some, slice_get_read}
 use Rattle.std.proofs.lemmas.Result.{err_from_is_err_and}
 use Rattle.std.proofs.Math.ListN.{length-map}
-use Rattle.fidl_names.specs.declared.meaning.Predeclared.TheVariants as name
-use Rattle.fidl_names.specs.declared.meaning.Meaning.TheVariants as meaning
-use Rattle.fidl_names.specs.declared.place.Place.{Place}
-use Rattle.fidl_names.specs.declared.cycles.CycleEdge.{CycleEdge}
-use Rattle.fidl_names.specs.Cycles.{Leads, IsEdge, IsFirstEdge, IsOrder, points_of}
-use Rattle.fidl_const.specs.Dependencies.{IsNode}
-use Rattle.fidl_const.specs.Tables.{AreRows, IsNodeOrder}
+use Rattle.fidl_named.specs.declared.meaning.Predeclared.TheVariants as name
+use Rattle.fidl_named.specs.declared.meaning.Meaning.TheVariants as meaning
+use Rattle.fidl_named.specs.declared.place.Place.{Place}
+use Rattle.fidl_cycles.specs.declared.cycles.CycleEdge.{CycleEdge}
+use Rattle.fidl_cycles.specs.Cycles.{Leads, IsEdge, IsFirstEdge, IsOrder, points_of}
+use Rattle.fidl_consts.specs.Dependencies.{IsNode}
+use Rattle.fidl_const.specs.Columns.{AreRows, IsNodeOrder}
 use Rattle.fidl_const.proofs.Graphs.{edges_within, back, none_back, start_within, node_order}
 use Rattle.fidl_const.proofs.NoCycle.{reported_true}
 use Rattle.fidl_const.proofs.evaluation.evaluate.Goals as goal

@@ -2,8 +2,8 @@ use Rattle.std.proofs.Common.{sym, subst}
 use Rattle.std.proofs.lemmas.Result.{IfOk-weaker}
 use Rattle.fidl_tree.specs.declared.declaration.DeclarationBody.{DeclarationBody}
 use Rattle.fidl_tree.specs.declared.declaration.DeclarationBody.TheVariants.{Const}
-use Rattle.fidl_const.specs.Dependencies.{BodyUses, TypeUses}
-use Rattle.fidl_const.specs.Tables.{AreNames, name_uses_view}
+use Rattle.fidl_consts.specs.Dependencies.{BodyUses, TypeUses}
+use Rattle.fidl_const.specs.Columns.{AreNames, name_uses_view}
 use Rattle.fidl_const.proofs.NameUses.{const_names, alias_names}
 use Rattle.fidl_const.proofs.graph.body_uses.Goals as goal
 

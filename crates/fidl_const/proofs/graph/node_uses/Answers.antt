@@ -3,8 +3,8 @@ use Rattle.std.specs.Prelude.{slice_get}
 use Rattle.std.proofs.lemmas.Result.{IfOk-weaker}
 use Rattle.fidl_tree.specs.declared.file.File.{File}
 use Rattle.fidl_tree.specs.Views.{value_view}
-use Rattle.fidl_const.specs.Dependencies.{BodyUses, Uses, value_uses}
-use Rattle.fidl_const.specs.Tables.{AreNames, file_of, name_uses_view}
+use Rattle.fidl_consts.specs.Dependencies.{BodyUses, Uses, value_uses}
+use Rattle.fidl_const.specs.Columns.{AreNames, file_of, name_uses_view}
 use Rattle.fidl_const.proofs.NameUses.{declared_names, member_names, no_member_names}
 use Rattle.fidl_const.proofs.graph.node_uses.Goals as goal
 

@@ -1,8 +1,8 @@
 use Rattle.std.proofs.Common.{◌≡◌, ◌++◌, drop}
 use Rattle.std.specs.Prelude.{flat_map}
-use Rattle.fidl_names.specs.ReferenceViews.{value_list_view}
-use Rattle.fidl_const.specs.Dependencies.{value_uses}
-use Rattle.fidl_const.specs.Tables.{name_uses_view}
+use Rattle.fidl_named.specs.ReferenceViews.{value_list_view}
+use Rattle.fidl_consts.specs.Dependencies.{value_uses}
+use Rattle.fidl_const.specs.Columns.{name_uses_view}
 use Rattle.fidl_const.proofs.graph.push_constraints.Given as goal
 
 -- the names so far and those of the constraints to come are all

@@ -1,9 +1,9 @@
 use Rattle.std.proofs.Common.{◌≡◌, ◌++◌, map, drop}
 use Rattle.fidl_tree.specs.Syntax.{Path}
-use Rattle.fidl_names.specs.declared.meaning.Wanted.TheVariants as wanted
-use Rattle.fidl_names.specs.ReferenceViews.{paths_view}
-use Rattle.fidl_const.specs.Dependencies.{Use}
-use Rattle.fidl_const.specs.Tables.{name_uses_view}
+use Rattle.fidl_named.specs.declared.meaning.Wanted.TheVariants as wanted
+use Rattle.fidl_named.specs.ReferenceViews.{paths_view}
+use Rattle.fidl_consts.specs.Dependencies.{Use}
+use Rattle.fidl_const.specs.Columns.{name_uses_view}
 use Rattle.fidl_const.proofs.graph.push_value.Given as goal
 
 -- the names so far and those to come are all

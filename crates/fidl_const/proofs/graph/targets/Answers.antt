@@ -3,14 +3,15 @@ use Rattle.std.specs.Global.{Vec}
 use Rattle.std.proofs.Math.ListN.{get_or-map, length-map}
 use Rattle.std.proofs.lemmas.List.{take_all, take_more}
 use Rattle.fidl_tree.specs.Syntax.{Path}
-use Rattle.fidl_names.specs.declared.meaning.Wanted.{Wanted}
-use Rattle.fidl_names.specs.declared.meaning.Meaning.{Meaning}
-use Rattle.fidl_names.specs.Meanings.{Means, IsJust}
-use Rattle.fidl_names.specs.OuterTypes.{texts}
+use Rattle.fidl_named.specs.declared.meaning.Wanted.{Wanted}
+use Rattle.fidl_named.specs.declared.meaning.Meaning.{Meaning}
+use Rattle.fidl_named.specs.Meanings.{Means, IsJust}
+use Rattle.fidl_named.specs.Paths.{texts}
 use Rattle.fidl_tree.specs.Views.{path_view}
 use Rattle.fidl_const.specs.declared.graph.NameUse.{NameUse}
-use Rattle.fidl_const.specs.Dependencies.{IsKnownNode}
-use Rattle.fidl_const.specs.Tables.{AreTargets, number_of, name_uses_view}
+use Rattle.fidl_consts.specs.Dependencies.{IsKnownNode}
+use Rattle.fidl_const.specs.Columns.{AreTargets, name_uses_view}
+use Rattle.fidl_consts.specs.Tables.{number_of}
 use Rattle.fidl_const.proofs.Targets.{target_none, target_more}
 use Rattle.fidl_const.proofs.graph.targets.Goals.{in-Some+then-is_node+in_ok-push, in-Some+else-is_node, in_default}
 use Rattle.fidl_const.proofs.graph.targets.Goals as goal

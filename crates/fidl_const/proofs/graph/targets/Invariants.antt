@@ -1,7 +1,7 @@
 use Rattle.std.proofs.Common.{◌≡◌, Some, take}
 use Rattle.std.specs.Prelude.{slice_get}
 use Rattle.fidl_tree.specs.declared.file.File.{File}
-use Rattle.fidl_const.specs.Tables.{AreTargets, name_uses_view}
+use Rattle.fidl_const.specs.Columns.{AreTargets, name_uses_view}
 use Rattle.fidl_const.proofs.graph.targets.Given as goal
 
 -- the numbers of what the names so far mean

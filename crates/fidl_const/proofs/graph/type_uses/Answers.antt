@@ -1,9 +1,9 @@
 use Rattle.std.proofs.Common.{◌≡◌, ◌++◌, ap, sym, subst, ◌∙◌, true≢false}
 use Rattle.std.specs.Global.{Vec}
-use Rattle.fidl_const.specs.Types.{own_path}
+use Rattle.fidl_consts.specs.Types.{own_path}
 use Rattle.fidl_const.specs.declared.graph.NameUse.{NameUse}
-use Rattle.fidl_const.specs.Dependencies.{TypeUses, path_uses, constraint_uses}
-use Rattle.fidl_const.specs.Tables.{AreNames, name_uses_view}
+use Rattle.fidl_consts.specs.Dependencies.{TypeUses, path_uses, constraint_uses}
+use Rattle.fidl_const.specs.Columns.{AreNames, name_uses_view}
 use Rattle.fidl_const.proofs.NameUses.{string_names, other_names}
 use Rattle.fidl_const.proofs.graph.type_uses.Goals.{then-branch+in_ok-push_constraints, else-branch}
 use Rattle.fidl_const.proofs.graph.type_uses.Goals as goal

@@ -4,12 +4,12 @@ use Rattle.std.specs.Global.{Vec}
 use Rattle.std.proofs.lemmas.List.{take_all, take_more, map-append}
 use Rattle.std.proofs.lemmas.Option.{slice_get-get_or}
 use Rattle.fidl_tree.specs.declared.file.File.{File}
-use Rattle.fidl_names.specs.declared.meaning.Meaning.{Meaning}
-use Rattle.fidl_names.specs.declared.meaning.Meaning.TheVariants as meaning
-use Rattle.fidl_names.specs.declared.meaning.Predeclared.TheVariants as name
-use Rattle.fidl_names.specs.Cycles.{points_of}
-use Rattle.fidl_const.specs.Dependencies.{IsKnownNode, Uses}
-use Rattle.fidl_const.specs.Tables.{AreNames, AreNumbered, AreRows, name_uses_view}
+use Rattle.fidl_named.specs.declared.meaning.Meaning.{Meaning}
+use Rattle.fidl_named.specs.declared.meaning.Meaning.TheVariants as meaning
+use Rattle.fidl_named.specs.declared.meaning.Predeclared.TheVariants as name
+use Rattle.fidl_cycles.specs.Cycles.{points_of}
+use Rattle.fidl_consts.specs.Dependencies.{IsKnownNode, Uses}
+use Rattle.fidl_const.specs.Columns.{AreNames, AreNumbered, AreRows, name_uses_view}
 use Rattle.fidl_const.proofs.Targets.{node_within, row_of_targets, rows_more}
 use Rattle.fidl_const.proofs.graph.value_graph.Goals as goal
 

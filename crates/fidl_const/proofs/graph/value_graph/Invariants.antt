@@ -1,6 +1,6 @@
 use Rattle.std.proofs.Common.{take}
-use Rattle.fidl_names.specs.Cycles.{points_of}
-use Rattle.fidl_const.specs.Tables.{AreRows}
+use Rattle.fidl_cycles.specs.Cycles.{points_of}
+use Rattle.fidl_const.specs.Columns.{AreRows}
 use Rattle.fidl_const.proofs.graph.value_graph.Given as goal
 
 -- the rows so far

@@ -3,10 +3,10 @@ use Rattle.std.proofs.Common.{◌≡◌, List, refl}
 use Rattle.fidl_tree.specs.declared.file.File.{File}
 use Rattle.fidl_tree.specs.Syntax.{Path}
 use Rattle.fidl_tree.specs.declared.type_constructor.TypeConstructor.{TypeConstructor}
-use Rattle.fidl_names.specs.declared.meaning.Wanted.{Wanted}
-use Rattle.fidl_names.specs.declared.meaning.Wanted.TheVariants as wanted
-use Rattle.fidl_const.specs.Types.{IsStringType}
-use Rattle.fidl_const.specs.Dependencies.{TypeUses}
+use Rattle.fidl_named.specs.declared.meaning.Wanted.{Wanted}
+use Rattle.fidl_named.specs.declared.meaning.Wanted.TheVariants as wanted
+use Rattle.fidl_consts.specs.Types.{IsStringType}
+use Rattle.fidl_consts.specs.Dependencies.{TypeUses}
 use Rattle.fidl_const.proofs.laws.only_bounds_of_strings_are_read.Goals as goal
 
 value_of_string : (files : List File) (f : File) (t : TypeConstructor) (kind : Wanted) (path : Path) → TypeUses files f t kind path → kind ≡ wanted.Value → IsStringType files f t

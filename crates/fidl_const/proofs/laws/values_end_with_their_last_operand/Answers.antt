@@ -4,8 +4,8 @@ use Rattle.std.specs.Prelude.{slice_get}
 use Rattle.std.proofs.lemmas.List.{length_push}
 use Rattle.fidl_span.specs.declared.words.Span.{Span}
 use Rattle.fidl_tree.specs.Syntax.{Operand}
-use Rattle.fidl_const.specs.Values.{first_operand, later_operands}
-use Rattle.fidl_const.specs.Refusals.{operand_span, to_end}
+use Rattle.fidl_consts.specs.Values.{first_operand, later_operands}
+use Rattle.fidl_consts.specs.Refusals.{operand_span, to_end}
 use Rattle.fidl_const.proofs.laws.values_end_with_their_last_operand.Goals as goal
 
 at_end : {X : Type 0} (xs : List X) (x : X) → slice_get (xs ++ x ∷ []) (length xs) ≡ Some x

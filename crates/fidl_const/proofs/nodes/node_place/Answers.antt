@@ -1,6 +1,6 @@
 use Rattle.std.proofs.Common.{refl, subst}
-use Rattle.fidl_const.specs.Dependencies.{IsKnownNode}
-use Rattle.fidl_const.proofs.NumberedNodes.{member_node}
+use Rattle.fidl_consts.specs.Dependencies.{IsKnownNode}
+use Rattle.fidl_consts.proofs.KnownNodes.{member_node}
 use Rattle.fidl_const.proofs.nodes.node_place.Goals as goal
 
 pub returns-in_err-found-in-Member : goal.returns-in_err-found-in-Member

@@ -1,7 +1,7 @@
 use Rattle.std.proofs.Common.{◌≡◌, ◌+◌, ◌++◌, List, length, ap, sym, subst, ◌∙◌, arith}
 use Rattle.std.specs.Global.{Vec}
-use Rattle.fidl_names.specs.declared.meaning.Meaning.{Meaning}
-use Rattle.fidl_const.specs.Tables.{nodes_in, starts_in}
+use Rattle.fidl_named.specs.declared.meaning.Meaning.{Meaning}
+use Rattle.fidl_const.specs.Columns.{nodes_in, starts_in}
 use Rattle.fidl_const.proofs.NumberedNodes.{AreNumberedTo, numbered_more, numbered_all}
 use Rattle.fidl_const.proofs.nodes.number_nodes.Goals as goal
 

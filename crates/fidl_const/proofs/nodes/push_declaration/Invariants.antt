@@ -1,5 +1,5 @@
 use Rattle.std.proofs.Common.{◌≡◌, ◌++◌}
-use Rattle.fidl_const.specs.Tables.{nodes_of}
+use Rattle.fidl_const.specs.Columns.{nodes_of}
 use Rattle.fidl_const.proofs.nodes.push_declaration.Given as goal
 
 -- the declaration and its members so far

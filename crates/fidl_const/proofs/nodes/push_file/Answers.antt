@@ -1,7 +1,7 @@
 use Rattle.std.proofs.Common.{◌≡◌, ◌+◌, ◌++◌, ◌∷◌, [], ◌<◌, ℕ, List, length, take, ap, sym, ◌∙◌, append_assoc, length-append, arith}
 use Rattle.std.proofs.lemmas.List.{take_more, length-take-le}
-use Rattle.fidl_names.proofs.FullNames.{at}
-use Rattle.fidl_const.specs.Tables.{member_list, nodes_of, nodes_in, starts_in}
+use Rattle.fidl_named.proofs.FullNames.{at}
+use Rattle.fidl_const.specs.Columns.{member_list, nodes_of, nodes_in, starts_in}
 use Rattle.fidl_const.proofs.NumberedNodes.{nodes_more, starts_more}
 use Rattle.fidl_const.proofs.nodes.push_file.Goals as goal
 

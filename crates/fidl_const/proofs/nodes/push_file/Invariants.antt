@@ -1,5 +1,5 @@
 use Rattle.std.proofs.Common.{◌≡◌, ◌++◌, length, take}
-use Rattle.fidl_const.specs.Tables.{nodes_in, starts_in}
+use Rattle.fidl_const.specs.Columns.{nodes_in, starts_in}
 use Rattle.fidl_const.proofs.nodes.push_file.Given as goal
 
 -- those of the declarations so far

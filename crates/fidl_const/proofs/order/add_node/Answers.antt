@@ -1,6 +1,7 @@
 use Rattle.std.proofs.Common.{◌≡◌, ℕ, List, ap, ◌∙◌}
 use Rattle.std.specs.Global.{Vec}
-use Rattle.fidl_const.specs.Tables.{number_of, with_values, with_limits}
+use Rattle.fidl_consts.specs.Tables.{number_of}
+use Rattle.fidl_const.specs.Columns.{with_values, with_limits}
 use Rattle.fidl_const.proofs.Filling.{extends, one_done, true_with}
 use Rattle.fidl_const.proofs.order.add_node.Goals.{After-set_found}
 use Rattle.fidl_const.proofs.order.add_node.Goals as goal

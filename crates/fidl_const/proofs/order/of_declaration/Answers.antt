@@ -1,9 +1,9 @@
 use Rattle.std.proofs.Common.{Option, None, refl, sym, subst, ◌∙◌, true≢false}
 use Rattle.std.proofs.lemmas.Result.{err_from_is_err_and}
-use Rattle.fidl_names.specs.declared.meaning.Meaning.TheVariants as meaning
-use Rattle.fidl_const.specs.declared.consts.Limits.{Limits}
-use Rattle.fidl_const.specs.Types.{IsStringType}
-use Rattle.fidl_const.specs.Tables.{IsFound}
+use Rattle.fidl_named.specs.declared.meaning.Meaning.TheVariants as meaning
+use Rattle.fidl_consts.specs.declared.consts.Limits.{Limits}
+use Rattle.fidl_consts.specs.Types.{IsStringType}
+use Rattle.fidl_const.specs.Columns.{IsFound}
 use Rattle.fidl_const.proofs.Settled.{alias_settled, const_type_settled, const_value_settled}
 use Rattle.fidl_const.proofs.FoundValues.{bound_reported, const_reported, found_const, found_limits, found_nothing, other_type}
 use Rattle.fidl_const.proofs.order.of_declaration.Goals.{in-Some-alias_at+in_ok-is_string_type+then-branch+in_ok-limits, in-Some-alias_at+in_ok-is_string_type+else-branch, in_default-alias_at}

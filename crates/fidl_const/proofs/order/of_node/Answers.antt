@@ -1,5 +1,5 @@
 use Rattle.std.proofs.Common.{refl, subst}
-use Rattle.fidl_const.specs.Tables.{UsesSettled}
+use Rattle.fidl_const.specs.Columns.{UsesSettled}
 use Rattle.fidl_const.proofs.Settled.{member_settled}
 use Rattle.fidl_const.proofs.FoundValues.{found_member, no_member}
 use Rattle.fidl_const.proofs.order.of_node.Goals as goal

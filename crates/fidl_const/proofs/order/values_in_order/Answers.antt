@@ -1,5 +1,5 @@
 use Rattle.std.proofs.Common.{rules, ◌≡◌, ◌<◌, None, length, get_or, replicate, ap, sym, subst, ◌∙◌, arith}
-use Rattle.fidl_const.specs.declared.consts.Consts.{Consts}
+use Rattle.fidl_consts.specs.declared.consts.Consts.{Consts}
 use Rattle.fidl_const.proofs.InOrder.{all_done, all_hold, done_more, holds_more, next_at, next_settled, next_within, room_empty, room_kept, true_empty}
 use Rattle.fidl_const.proofs.order.values_in_order.Goals as goal
 

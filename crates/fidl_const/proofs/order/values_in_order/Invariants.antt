@@ -1,5 +1,6 @@
 use Rattle.std.proofs.Common.{take}
-use Rattle.fidl_const.specs.Tables.{AreTrue, HasRoom}
+use Rattle.fidl_consts.specs.Tables.{AreTrue}
+use Rattle.fidl_const.specs.Columns.{HasRoom}
 use Rattle.fidl_const.proofs.InOrder.{AllHold, AreDone}
 use Rattle.fidl_const.proofs.order.values_in_order.Given as goal
 

@@ -4,12 +4,12 @@ use Rattle.std.proofs.lemmas.List.{take_all}
 use Rattle.std.proofs.lemmas.List.Elements.{Contains-get_or}
 use Rattle.std.proofs.lemmas.Result.{err_from_is_err_and}
 use Rattle.std.proofs.Math.ListN.{get_or-map, length-map}
-use Rattle.fidl_names.specs.Places.{body_places}
-use Rattle.fidl_names.specs.PlaceViews.{name_place_view, name_places_view}
+use Rattle.fidl_named.specs.Places.{body_places}
+use Rattle.fidl_named.specs.PlaceViews.{name_place_view, name_places_view}
 use Rattle.fidl_tree.specs.Views.{declared_view}
-use Rattle.fidl_const.specs.Places.{PlaceHolds, PlaceFails, DeclarationFails}
-use Rattle.fidl_names.proofs.Seeing.{all_take}
-use Rattle.fidl_const.proofs.Reports.{reports_more}
+use Rattle.fidl_consts.specs.Places.{PlaceHolds, PlaceFails, DeclarationFails}
+use Rattle.fidl_cycles.proofs.Lists.{all_take}
+use Rattle.fidl_consts.proofs.Reports.{reports_more}
 use Rattle.fidl_const.proofs.places.check_declaration.Goals as goal
 
 pub returns-in_err-check_place-clause-fault_is_true : goal.returns-in_err-check_place-clause-fault_is_true

@@ -1,7 +1,7 @@
 use Rattle.std.proofs.Common.{take}
 use Rattle.std.specs.List.{AllByRecursion}
-use Rattle.fidl_names.specs.PlaceViews.{name_places_view}
-use Rattle.fidl_const.specs.Places.{PlaceHolds}
+use Rattle.fidl_named.specs.PlaceViews.{name_places_view}
+use Rattle.fidl_consts.specs.Places.{PlaceHolds}
 use Rattle.fidl_const.proofs.places.check_declaration.Given as goal
 
 -- the places so far have the values that they owe

@@ -4,9 +4,9 @@ use Rattle.std.proofs.lemmas.List.Elements.{Contains-get_or}
 use Rattle.std.proofs.lemmas.Result.{err_from_is_err_and}
 use Rattle.fidl_tree.specs.declared.declaration.Declaration.{Declaration}
 use Rattle.fidl_tree.specs.Views.{declared_view}
-use Rattle.fidl_const.specs.Places.{DeclarationFails}
-use Rattle.fidl_const.specs.Evaluated.{Fails}
-use Rattle.fidl_const.proofs.Reports.{reports_more}
+use Rattle.fidl_consts.specs.Places.{DeclarationFails}
+use Rattle.fidl_const.specs.Evaluating.{Fails}
+use Rattle.fidl_consts.proofs.Reports.{reports_more}
 use Rattle.fidl_const.proofs.places.check_file.Goals as goal
 
 pub returns-in_err-check_declaration-clause-fault_is_true : goal.returns-in_err-check_declaration-clause-fault_is_true

@@ -2,7 +2,7 @@ use Rattle.std.proofs.Common.{take}
 use Rattle.std.specs.List.{AllByRecursion}
 use Rattle.fidl_tree.specs.declared.declaration.Declaration.{Declaration}
 use Rattle.fidl_tree.specs.Views.{declared_view}
-use Rattle.fidl_const.specs.Places.{DeclarationHolds}
+use Rattle.fidl_consts.specs.Places.{DeclarationHolds}
 use Rattle.fidl_const.proofs.places.check_file.Given as goal
 
 -- the declarations so far hold

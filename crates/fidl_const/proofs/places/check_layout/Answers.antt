@@ -1,12 +1,12 @@
 use Rattle.std.specs.Prelude.{map, option_copied, option_map}
 use Rattle.std.specs.List.{AllByRecursion}
 use Rattle.std.proofs.lemmas.Result.{err_from_is_err_and, on_ok_weaker}
-use Rattle.fidl_names.specs.Places.{a_members}
+use Rattle.fidl_named.specs.Places.{a_members}
 use Rattle.fidl_tree.specs.Views.{kind_view, path_view, value_member_view}
-use Rattle.fidl_const.specs.Constraints.{UnderlyingFails}
-use Rattle.fidl_const.specs.Places.{MemberHolds, MembersFail, PlaceHolds, PlaceFails}
-use Rattle.fidl_const.proofs.Judging.{reported_more}
-use Rattle.fidl_const.proofs.Reports.{reports_more}
+use Rattle.fidl_consts.specs.Constraints.{UnderlyingFails}
+use Rattle.fidl_consts.specs.Places.{MemberHolds, MembersFail, PlaceHolds, PlaceFails}
+use Rattle.fidl_consts.proofs.Judging.{reported_more}
+use Rattle.fidl_consts.proofs.Reports.{reports_more}
 use Rattle.fidl_const.proofs.places.check_layout.Goals as goal
 
 pub returns-in_err-kind-clause-fault_is_true : goal.returns-in_err-kind-clause-fault_is_true

@@ -4,13 +4,13 @@ use Rattle.std.specs.List.{Contains}
 use Rattle.std.proofs.lemmas.List.Elements.{Contains-get_or}
 use Rattle.std.proofs.lemmas.Result.{err_from_is_err_and}
 use Rattle.fidl_tree.specs.Views.{value_view, value_member_view}
-use Rattle.fidl_const.specs.declared.const_type.ConstType.TheVariants as ty
-use Rattle.fidl_const.specs.PlainValues.{seen}
-use Rattle.fidl_const.specs.Refusals.{ValueFails}
-use Rattle.fidl_const.specs.Places.{MemberHolds, MembersFail}
-use Rattle.fidl_names.proofs.Seeing.{all_take}
-use Rattle.fidl_const.proofs.Among.{among_map}
-use Rattle.fidl_const.proofs.Reports.{reports_more}
+use Rattle.fidl_consts.specs.declared.const_type.ConstType.TheVariants as ty
+use Rattle.fidl_consts.specs.PlainValues.{seen}
+use Rattle.fidl_consts.specs.Refusals.{ValueFails}
+use Rattle.fidl_consts.specs.Places.{MemberHolds, MembersFail}
+use Rattle.fidl_cycles.proofs.Lists.{all_take}
+use Rattle.fidl_consts.proofs.Among.{among_map}
+use Rattle.fidl_consts.proofs.Reports.{reports_more}
 use Rattle.fidl_const.proofs.places.check_members.Goals as goal
 
 pub returns-in_err-value_in-clause-fault_is_true : goal.returns-in_err-value_in-clause-fault_is_true

@@ -1,7 +1,7 @@
 use Rattle.std.proofs.Common.{map, take}
 use Rattle.std.specs.List.{AllByRecursion}
 use Rattle.fidl_tree.specs.Views.{value_member_view}
-use Rattle.fidl_const.specs.Places.{MemberHolds}
+use Rattle.fidl_consts.specs.Places.{MemberHolds}
 use Rattle.fidl_const.proofs.places.check_members.Given as goal
 
 -- the members so far have values

@@ -1,13 +1,13 @@
 use Rattle.std.proofs.Common.{◌∙◌, ℕ, List, option_copied, inr, refl, sym, true≢false, subst}
 use Rattle.std.specs.Prelude.{option_map, pos}
-use Rattle.fidl_names.specs.declared.meaning.Wanted.{Wanted}
-use Rattle.fidl_names.specs.Aliases.{Wants, IsArrayName}
+use Rattle.fidl_named.specs.declared.meaning.Wanted.{Wanted}
+use Rattle.fidl_named.specs.Aliases.{Wants, IsArrayName}
 use Rattle.fidl_tree.specs.Views.{path_view}
-use Rattle.fidl_names.proofs.PathViews.{wants_view}
-use Rattle.fidl_const.specs.declared.const_type.NumberKind.TheVariants.{Uint32}
-use Rattle.fidl_const.specs.Literals.{number_of}
-use Rattle.fidl_const.specs.PlainValues.{InRange}
-use Rattle.fidl_const.specs.Places.{PlaceHolds, PlaceFails}
+use Rattle.fidl_named.proofs.PathViews.{wants_view}
+use Rattle.fidl_consts.specs.declared.const_type.NumberKind.TheVariants.{Uint32}
+use Rattle.fidl_consts.specs.Literals.{number_of}
+use Rattle.fidl_consts.specs.PlainValues.{InRange}
+use Rattle.fidl_consts.specs.Places.{PlaceHolds, PlaceFails}
 use Rattle.fidl_const.proofs.Wants.{wants_type}
 use Rattle.fidl_const.proofs.places.check_number.Goals as goal
 

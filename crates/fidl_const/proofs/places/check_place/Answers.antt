@@ -1,4 +1,4 @@
-use Rattle.fidl_const.specs.Places.{PlaceHolds}
+use Rattle.fidl_consts.specs.Places.{PlaceHolds}
 use Rattle.fidl_const.proofs.places.check_place.Goals as goal
 
 pub returns-in-Name-clause-ok : goal.returns-in-Name-clause-ok

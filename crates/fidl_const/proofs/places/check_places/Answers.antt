@@ -1,7 +1,7 @@
 use Rattle.std.proofs.Common.{◌≡◌, get_or, sym, arith}
 use Rattle.std.proofs.lemmas.Option.{get_or_from_slice_get}
-use Rattle.fidl_const.specs.Places.{PlacesHold}
-use Rattle.fidl_names.proofs.Seeing.{all_take}
+use Rattle.fidl_consts.specs.Places.{PlacesHold}
+use Rattle.fidl_cycles.proofs.Lists.{all_take}
 use Rattle.fidl_const.proofs.places.check_places.Goals as goal
 
 pub loop-file_index-preserved : goal.loop-file_index-preserved

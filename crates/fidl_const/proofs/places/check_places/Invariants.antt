@@ -1,6 +1,6 @@
 use Rattle.std.proofs.Common.{take}
 use Rattle.std.specs.List.{AllByRecursion}
-use Rattle.fidl_const.specs.Places.{PlacesHold}
+use Rattle.fidl_consts.specs.Places.{PlacesHold}
 use Rattle.fidl_const.proofs.places.check_places.Given as goal
 
 -- the places of the files so far have the values that they owe

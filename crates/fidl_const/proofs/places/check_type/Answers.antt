@@ -2,23 +2,23 @@ use Rattle.std.proofs.Common.{◌∙◌, sym, subst, true≢false}
 use Rattle.std.specs.Prelude.{option_copied, option_map}
 use Rattle.std.proofs.lemmas.Option.{slice_get_within}
 use Rattle.std.proofs.lemmas.Result.{err_from_is_err_and, on_ok_weaker}
-use Rattle.fidl_names.specs.declared.meaning.Wanted.{Wanted}
-use Rattle.fidl_names.specs.declared.meaning.Wanted.TheVariants as wanted
-use Rattle.fidl_names.specs.Meanings.{Means, IsJust}
-use Rattle.fidl_names.specs.OuterTypes.{texts}
-use Rattle.fidl_names.specs.Aliases.{Wants, IsArrayName}
-use Rattle.fidl_names.specs.Places.{a_type}
+use Rattle.fidl_named.specs.declared.meaning.Wanted.{Wanted}
+use Rattle.fidl_named.specs.declared.meaning.Wanted.TheVariants as wanted
+use Rattle.fidl_named.specs.Meanings.{Means, IsJust}
+use Rattle.fidl_named.specs.Paths.{texts}
+use Rattle.fidl_named.specs.Aliases.{Wants, IsArrayName}
+use Rattle.fidl_named.specs.Places.{a_type}
 use Rattle.fidl_tree.specs.Views.{path_view, constraints_view}
-use Rattle.fidl_names.proofs.PathViews.{wants_view}
-use Rattle.fidl_const.specs.declared.const_type.NumberKind.TheVariants.{Uint32}
-use Rattle.fidl_const.specs.declared.const_type.ConstType.TheVariants as ty
-use Rattle.fidl_const.specs.PlainValues.{seen}
-use Rattle.fidl_const.specs.Refusals.{NameFails}
-use Rattle.fidl_const.specs.Constraints.{ConstraintsHold, ConstraintsFail}
-use Rattle.fidl_const.specs.Places.{PlaceHolds, PlaceFails}
+use Rattle.fidl_named.proofs.PathViews.{wants_view}
+use Rattle.fidl_consts.specs.declared.const_type.NumberKind.TheVariants.{Uint32}
+use Rattle.fidl_consts.specs.declared.const_type.ConstType.TheVariants as ty
+use Rattle.fidl_consts.specs.PlainValues.{seen}
+use Rattle.fidl_consts.specs.Refusals.{NameFails}
+use Rattle.fidl_consts.specs.Constraints.{ConstraintsHold, ConstraintsFail}
+use Rattle.fidl_consts.specs.Places.{PlaceHolds, PlaceFails}
 use Rattle.fidl_const.proofs.Wants.{wants_type}
-use Rattle.fidl_const.proofs.Judging.{reported_more}
-use Rattle.fidl_const.proofs.Reports.{reports_more}
+use Rattle.fidl_consts.proofs.Judging.{reported_more}
+use Rattle.fidl_consts.proofs.Reports.{reports_more}
 use Rattle.fidl_const.proofs.places.check_type.Goals as goal
 
 pub returns-in_err-name_value-clause-fault_is_true : goal.returns-in_err-name_value-clause-fault_is_true

@@ -1,6 +1,6 @@
-use Rattle.fidl_const.specs.Values.{OrOperandsAre}
-use Rattle.fidl_const.specs.PlainValues.{seen}
-use Rattle.fidl_const.proofs.OneValue.{all_of_none}
+use Rattle.fidl_consts.specs.Values.{OrOperandsAre}
+use Rattle.fidl_consts.specs.PlainValues.{seen}
+use Rattle.fidl_consts.proofs.OneValue.{all_of_none}
 use Rattle.fidl_const.proofs.worked.values_without_or_operands.Goals as goal
 
 pub returns-clause-seen : goal.returns-clause-seen

@@ -1,6 +1,6 @@
 use Rattle.std.proofs.Common.{◌≡◌, ◌<◌, ◌+◌, ◌∙◌, List, false, length, take, ap, refl, sym, subst, true≢false}
 use Rattle.std.specs.Prelude.{Option, IfSome, IsNone}
-use Rattle.fidl_names.proofs.Layouts.{all_at}
+use Rattle.fidl_cycles.proofs.Lists.{all_get as all_at}
 use Rattle.fidl_constraints.specs.BehindViews.{head_view}
 use Rattle.fidl_constraints.specs.declared.parts.Part.{Part}
 use Rattle.fidl_constraints.specs.Items.{Item}

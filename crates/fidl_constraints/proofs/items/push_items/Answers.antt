@@ -3,7 +3,7 @@ use Rattle.std.specs.Prelude.{slice_get}
 use Rattle.std.proofs.Math.ListN.{length-map}
 use Rattle.fidl_tree.specs.Views.{value_view}
 use Rattle.fidl_tree.specs.declared.value.Value.{Value as Tree}
-use Rattle.fidl_names.specs.ReferenceViews.{value_list_view}
+use Rattle.fidl_named.specs.ReferenceViews.{value_list_view}
 use Rattle.fidl_constraints.specs.BehindViews.{given_view}
 use Rattle.fidl_constraints.specs.Items.{is_word, next_rank, items_of}
 use Rattle.fidl_constraints.specs.ItemViews.{items_view}

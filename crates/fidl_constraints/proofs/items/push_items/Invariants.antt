@@ -1,6 +1,6 @@
 use Rattle.std.proofs.Common.{◌≡◌, ◌≤◌, ◌++◌, drop}
 use Rattle.std.specs.Prelude.{slice_get}
-use Rattle.fidl_names.specs.ReferenceViews.{value_list_view}
+use Rattle.fidl_named.specs.ReferenceViews.{value_list_view}
 use Rattle.fidl_constraints.specs.Items.{items_from, items_of}
 use Rattle.fidl_constraints.specs.BehindViews.{given_view}
 use Rattle.fidl_constraints.specs.ItemViews.{items_view}

@@ -3,8 +3,8 @@ use Rattle.std.specs.Prelude.{option_copied, IfSome}
 use Rattle.fidl_tree.specs.Syntax.{TypeUse, Arguments}
 use Rattle.fidl_tree.specs.Views.{path_view, constraints_view}
 use Rattle.fidl_tree.specs.declared.type_constructor.NamedType.{out-NamedType}
-use Rattle.fidl_names.specs.declared.meaning.Meaning.{Meaning}
-use Rattle.fidl_names.specs.Meanings.{IsJust}
+use Rattle.fidl_named.specs.declared.meaning.Meaning.{Meaning}
+use Rattle.fidl_named.specs.Meanings.{IsJust}
 use Rattle.fidl_constraints.specs.declared.targets.Target.{Target as CodeTarget}
 use Rattle.fidl_constraints.specs.Behind.{MeansType, MeaningRefersTo, RefersTo, LeadsTo}
 use Rattle.fidl_constraints.specs.BehindViews.{arguments_view, target_view}

@@ -2,11 +2,11 @@ use Rattle.std.proofs.Common.{◌≡◌, ◌∙◌, sym, subst}
 use Rattle.std.specs.Prelude.{pos}
 use Rattle.std.proofs.lemmas.Option.{same_Some}
 use Rattle.fidl_tree.specs.declared.file.File.{File}
-use Rattle.fidl_const.specs.declared.const_type.NumberKind.TheVariants.{Uint32}
-use Rattle.fidl_const.specs.declared.const_type.ConstType.TheVariants as ty
-use Rattle.fidl_const.specs.PlainValues.{a_number}
-use Rattle.fidl_const.specs.Values.{ValueIs}
-use Rattle.fidl_const.proofs.OneValue.{one_value}
+use Rattle.fidl_consts.specs.declared.const_type.NumberKind.TheVariants.{Uint32}
+use Rattle.fidl_consts.specs.declared.const_type.ConstType.TheVariants as ty
+use Rattle.fidl_consts.specs.PlainValues.{a_number}
+use Rattle.fidl_consts.specs.Values.{ValueIs}
+use Rattle.fidl_consts.proofs.OneValue.{one_value}
 use Rattle.fidl_constraints.proofs.worked.bounds_are_their_values.Goals as goal
 
 pub returns-clause-other : goal.returns-clause-other

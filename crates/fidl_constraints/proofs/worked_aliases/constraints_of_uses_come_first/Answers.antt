@@ -1,7 +1,7 @@
 use Rattle.std.proofs.Common.{[], ◌∷◌, refl}
 use Rattle.fidl_tree.specs.Syntax.{no_arguments}
-use Rattle.fidl_names.specs.declared.meaning.Predeclared.TheVariants as name
-use Rattle.fidl_names.specs.declared.meaning.Meaning.TheVariants as meaning
+use Rattle.fidl_named.specs.declared.meaning.Predeclared.TheVariants as name
+use Rattle.fidl_named.specs.declared.meaning.Meaning.TheVariants as meaning
 use Rattle.fidl_constraints.specs.Behind.{ends, follows, RefersTo, Behind}
 use Rattle.fidl_constraints.specs.AliasExamples.{named_with, plain_word, list_in, core_of}
 use Rattle.fidl_constraints.proofs.worked_aliases.constraints_of_uses_come_first.Goals as goal

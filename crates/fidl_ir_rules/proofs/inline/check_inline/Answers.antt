@@ -2,7 +2,7 @@ use Rattle.std.proofs.Common.{rules, ◌≡◌, ◌∙◌, ℕ, List, length, na
 use Rattle.std.specs.Prelude.{filter}
 use Rattle.std.proofs.Math.ListN.{length-map}
 use Rattle.std.specs.Global.{Vec}
-use Rattle.fidl_names.specs.Cycles.{points_of, IsFirstEdge}
+use Rattle.fidl_cycles.specs.Cycles.{points_of, IsFirstEdge}
 use Rattle.fidl_wire.specs.Term.{Term}
 use Rattle.fidl_ir.specs.Terms.{definition_view, definitions_view}
 use Rattle.fidl_ir_rules.specs.Inline.{inline_names}

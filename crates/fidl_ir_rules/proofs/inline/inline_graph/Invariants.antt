@@ -1,6 +1,6 @@
 use Rattle.std.proofs.Common.{◌≡◌, ◌++◌, drop, map, length, nat_lt}
 use Rattle.std.specs.Prelude.{filter}
-use Rattle.fidl_names.specs.Cycles.{points_of}
+use Rattle.fidl_cycles.specs.Cycles.{points_of}
 use Rattle.fidl_ir.specs.Terms.{definitions_view}
 use Rattle.fidl_ir_rules.specs.Inline.{inline_names}
 use Rattle.fidl_ir_rules.proofs.inline.inline_graph.Given as goal

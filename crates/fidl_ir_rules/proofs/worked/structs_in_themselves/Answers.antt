@@ -2,7 +2,7 @@ use Rattle.std.proofs.Common.{◌≡◌, ℕ, zero, suc, List, [], ◌∷◌, re
 use Rattle.std.specs.List.{Contains}
 use Rattle.fidl_wire.specs.Term.{Term}
 use Rattle.fidl_wire.specs.Term as ty
-use Rattle.fidl_names.specs.Cycles.{Leads, step, further}
+use Rattle.fidl_cycles.specs.Cycles.{Leads, step, further}
 use Rattle.fidl_ir_rules.specs.Inline.{HoldsInline}
 use Rattle.fidl_ir_rules.specs.Samples.{holding}
 use Rattle.fidl_ir_rules.proofs.worked.structs_in_themselves.Goals as goal

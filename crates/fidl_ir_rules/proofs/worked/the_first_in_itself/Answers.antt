@@ -2,7 +2,7 @@ use Rattle.std.proofs.Common.{◌≡◌, ◌≤◌, ℕ, zero, suc, List, [], �
 use Rattle.std.specs.List.{Contains}
 use Rattle.fidl_wire.specs.Term.{Term}
 use Rattle.fidl_wire.specs.Term as ty
-use Rattle.fidl_names.specs.Cycles.{Leads, step, further}
+use Rattle.fidl_cycles.specs.Cycles.{Leads, step, further}
 use Rattle.fidl_ir_rules.specs.Inline.{HoldsInlineFrom}
 use Rattle.fidl_ir_rules.specs.Samples.{holding}
 use Rattle.fidl_ir_rules.proofs.worked.the_first_in_itself.Goals as goal

@@ -7,15 +7,16 @@ use Rattle.fidl_lower_types.specs.Terms.{TermIs}
 use Rattle.fidl_lower_types.proofs.OneTerm.{one_term}
 use Rattle.fidl_type_shape.specs.Limits.{TypeFits}
 use Rattle.fidl_type_shape.specs.Found.{figures_of, declarations_of}
+use Rattle.fidl_layout.specs.Shallow.{UseFitsAtFirst}
 use Rattle.fidl_layout.proofs.uses.check_use.Goals as goal
 
 pub returns-in-Ok-clause-ok : goal.returns-in-Ok-clause-ok
-returns-in-Ok-clause-ok c = λ term is.
+returns-in-Ok-clause-ok c = UseFitsAtFirst.whole (λ term is.
     let files = c.args.sources.now.named.now in
     let t = use_view c.args.of in
     let found = subst (λ (o : Option CodeType). IfSome o (λ u. TermIs files c.args.file_index t (term_view u))) c.in-Some.is c.in_ok-term.ensures.found in
     let same = one_term files c.args.file_index t (term_view c.in-Some.term) term found is in
-    subst (TypeFits (figures_of c.args.figures.now)) same c.in-Ok.ensures.ok
+    subst (TypeFits (figures_of c.args.figures.now)) same c.in-Ok.ensures.ok)
 
 pub returns-clause-fault_is_true : goal.returns-clause-fault_is_true
 returns-clause-fault_is_true c =
@@ -33,3 +34,6 @@ returns-clause-fault_is_true c =
       term_is = subst (λ (o : Option CodeType). IfSome o (λ u. TermIs files c.args.file_index t (term_view u))) c.in-Some.is c.in_ok-term.ensures.found;
       exceeds = c.in-Err.ensures.fault_is_true;
     })
+
+pub returns-then-branch-clause-ok : goal.returns-then-branch-clause-ok
+returns-then-branch-clause-ok c = c.in_ok-fits_at_first.ensures.ok c.if-branch.true

@@ -1,7 +1,7 @@
 use Rattle.std.proofs.Common.{ℕ, [], arith, inl, inr, refl}
 use Rattle.std.proofs.lemmas.Option.{none-some}
 use Rattle.fidl_wire.specs.Term.{Term}
-use Rattle.fidl_names.specs.Cycles.{Leads, step, further}
+use Rattle.fidl_cycles.specs.Cycles.{Leads, step, further}
 use Rattle.fidl_ir_rules.specs.Inline.{HoldsInline}
 use Rattle.fidl_reachable_types.specs.Reached.{IsReached, with_none, root, part}
 use Rattle.fidl_reachable_types.proofs.Members.{nothing_there}

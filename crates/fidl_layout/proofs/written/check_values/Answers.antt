@@ -1,7 +1,7 @@
 use Rattle.std.proofs.Common.{◌≡◌, ◌≤◌, ◌∙◌, ◌<◌, get_or, length, ap, sym, arith}
 use Rattle.std.proofs.Math.ListN.{get_or-map, length-map}
 use Rattle.fidl_limits.specs.declared.limits.TheConstants.{MAX_LAYOUT_MEMBERS}
-use Rattle.fidl_names.proofs.Seeing.{all_take}
+use Rattle.fidl_cycles.proofs.Lists.{all_take}
 use Rattle.fidl_declarations.specs.declared.form.Form.{Form as CodeForm}
 use Rattle.fidl_declarations.specs.Forms.{Form}
 use Rattle.fidl_declarations.specs.FormViews.{form_view, forms_view}

@@ -6,7 +6,7 @@ use Rattle.fidl_declarations.specs.declared.step.Step.{Step}
 use Rattle.fidl_declarations.specs.declared.step.Step.TheVariants as step
 use Rattle.fidl_lower_types.specs.Numbers.{all_forms, IsFirst, IsAnswerAt, method_path}
 use Rattle.fidl_lower_types.proofs.Indexing.{first_too}
-use Rattle.fidl_const.proofs.Graphs.{contains_there}
+use Rattle.fidl_cycles.proofs.Lists.{contains_at as contains_there}
 use Rattle.fidl_lower_layouts.specs.Results.{IsEmptyOf, IsEmptyNumber}
 use Rattle.fidl_lower_layouts.proofs.Empties.{answer_is_empty, empty_is_answer, path_before}
 use Rattle.fidl_lower_layouts.proofs.results.empty_number.Goals as goal

@@ -4,8 +4,8 @@ use Rattle.std.proofs.lemmas.Result.{IfOk-weaker}
 use Rattle.fidl_tree.specs.Views.{kind_view, is_strict, value_member_view, values_view}
 use Rattle.fidl_tree.specs.declared.value_member.ValueMember.{ValueMember}
 use Rattle.fidl_tree.specs.declared.type_constructor.ValuesLayout.{out-ValuesLayout}
-use Rattle.fidl_const.specs.declared.const_type.NumberKind.{NumberKind}
-use Rattle.fidl_const.specs.Types.{LayoutIs}
+use Rattle.fidl_consts.specs.declared.const_type.NumberKind.{NumberKind}
+use Rattle.fidl_consts.specs.Types.{LayoutIs}
 use Rattle.fidl_wire.specs.Term.{Term}
 use Rattle.fidl_ir.specs.declared.term.Definition.{Definition}
 use Rattle.fidl_lower_layouts.specs.Values.{IsNumbered}

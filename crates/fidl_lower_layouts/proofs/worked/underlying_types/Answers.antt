@@ -1,7 +1,7 @@
 use Rattle.std.proofs.Common.{◌≡◌, None, Some, refl, ap, ◌∙◌}
-use Rattle.fidl_const.specs.declared.const_type.NumberKind.TheVariants as number
-use Rattle.fidl_const.specs.Types.{UnderlyingIs}
-use Rattle.fidl_const.proofs.OneType.{one_underlying}
+use Rattle.fidl_consts.specs.declared.const_type.NumberKind.TheVariants as number
+use Rattle.fidl_consts.specs.Types.{UnderlyingIs}
+use Rattle.fidl_consts.proofs.OneType.{one_underlying}
 use Rattle.fidl_tree.specs.Syntax.{bits_kind}
 use Rattle.fidl_wire.specs.Term as ty
 use Rattle.fidl_lower_layouts.specs.Values.{kind_of}

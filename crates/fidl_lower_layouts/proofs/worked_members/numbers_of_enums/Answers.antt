@@ -7,7 +7,7 @@ use Rattle.std.specs.List.Sorted.{IsPermutation}
 use Rattle.std.proofs.lemmas.Int.{ints}
 use Rattle.std.proofs.lemmas.Bool.Decides.{Decides-int_eq}
 use Rattle.std.proofs.lemmas.List.Sorted.{IsPermutation-refl, IsPermutation-middle, IsPermutation-sym, length_permutation}
-use Rattle.fidl_const.specs.declared.const_type.NumberKind.TheVariants as number
+use Rattle.fidl_consts.specs.declared.const_type.NumberKind.TheVariants as number
 use Rattle.fidl_wire.specs.Term as ty
 use Rattle.fidl_lower_layouts.proofs.One.{one_list}
 use Rattle.fidl_lower_layouts.proofs.Rising.{pairs_weaker, two_pairs}

@@ -1,17 +1,17 @@
 use Rattle.std.proofs.Common.{◌∙◌, Option, refl, sym, subst, true≢false}
 use Rattle.std.specs.Prelude.{IfSome, IsNone}
 use Rattle.fidl_tree.specs.Views.{path_view}
-use Rattle.fidl_names.specs.declared.meaning.Wanted.TheVariants as wanted
-use Rattle.fidl_names.specs.declared.meaning.Meaning.{Meaning}
-use Rattle.fidl_names.specs.Meanings.{Means, IsJust}
-use Rattle.fidl_names.specs.OuterTypes.{texts}
-use Rattle.fidl_names.specs.Scopes.{OfFile}
-use Rattle.fidl_const.specs.declared.consts.Entry.{Entry}
-use Rattle.fidl_const.specs.declared.const_type.NumberKind.TheVariants.{Uint32}
-use Rattle.fidl_const.specs.declared.const_type.ConstType.TheVariants as ty
-use Rattle.fidl_const.specs.PlainValues.{Suits}
-use Rattle.fidl_const.specs.Values.{HasValue}
-use Rattle.fidl_const.specs.Tables.{HasEntry}
+use Rattle.fidl_named.specs.declared.meaning.Wanted.TheVariants as wanted
+use Rattle.fidl_named.specs.declared.meaning.Meaning.{Meaning}
+use Rattle.fidl_named.specs.Meanings.{Means, IsJust}
+use Rattle.fidl_named.specs.Paths.{texts}
+use Rattle.fidl_named.specs.Scopes.{OfFile}
+use Rattle.fidl_consts.specs.declared.consts.Entry.{Entry}
+use Rattle.fidl_consts.specs.declared.const_type.NumberKind.TheVariants.{Uint32}
+use Rattle.fidl_consts.specs.declared.const_type.ConstType.TheVariants as ty
+use Rattle.fidl_consts.specs.PlainValues.{Suits}
+use Rattle.fidl_consts.specs.Values.{HasValue}
+use Rattle.fidl_consts.specs.Tables.{HasEntry}
 use Rattle.fidl_lower_types.proofs.Counting.{value_meant, name_unmeant, name_valueless, name_unsuited, name_found, name_none}
 use Rattle.fidl_lower_types.proofs.counts.name_amount.Goals as goal
 

@@ -1,10 +1,10 @@
 use Rattle.std.proofs.Common.{◌≡◌, Option, ℕ, refl, subst, arith}
 use Rattle.std.specs.Prelude.{pos, IfSome, IsNone}
 use Rattle.fidl_tree.specs.Views.{path_view}
-use Rattle.fidl_const.specs.declared.const_type.NumberKind.TheVariants.{Uint32}
-use Rattle.fidl_const.specs.declared.const_type.ConstType.TheVariants as ty
-use Rattle.fidl_const.specs.PlainValues.{a_number}
-use Rattle.fidl_const.specs.Values.{NameGives}
+use Rattle.fidl_consts.specs.declared.const_type.NumberKind.TheVariants.{Uint32}
+use Rattle.fidl_consts.specs.declared.const_type.ConstType.TheVariants as ty
+use Rattle.fidl_consts.specs.PlainValues.{a_number}
+use Rattle.fidl_consts.specs.Values.{NameGives}
 use Rattle.fidl_constraints.specs.Gives.{InFile}
 use Rattle.fidl_lower_types.proofs.Counting.{name_counts, name_counted, one_named}
 use Rattle.fidl_lower_types.proofs.counts.name_count.Goals as goal

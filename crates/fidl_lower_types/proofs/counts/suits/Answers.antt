@@ -1,8 +1,8 @@
 use Rattle.std.proofs.Common.{refl, sym, subst}
-use Rattle.fidl_const.specs.declared.const_type.ConstType.{ConstType}
-use Rattle.fidl_const.specs.declared.const_type.NumberKind.TheVariants.{Uint32}
-use Rattle.fidl_const.specs.declared.const_type.ConstType.TheVariants as ty
-use Rattle.fidl_const.specs.PlainValues.{Suits}
+use Rattle.fidl_consts.specs.declared.const_type.ConstType.{ConstType}
+use Rattle.fidl_consts.specs.declared.const_type.NumberKind.TheVariants.{Uint32}
+use Rattle.fidl_consts.specs.declared.const_type.ConstType.TheVariants as ty
+use Rattle.fidl_consts.specs.PlainValues.{Suits}
 use Rattle.fidl_lower_types.proofs.Counting.{values_suit}
 use Rattle.fidl_lower_types.proofs.counts.suits.Goals as goal
 

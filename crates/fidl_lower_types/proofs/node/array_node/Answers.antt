@@ -2,7 +2,7 @@ use Rattle.std.proofs.Common.{ℕ, refl, sym, subst}
 use Rattle.std.specs.Prelude.{Option, IfSome, IsNone, option_copied}
 use Rattle.fidl_tree.specs.Syntax.{Arguments}
 use Rattle.fidl_tree.specs.Views.{argument_view}
-use Rattle.fidl_names.specs.declared.meaning.Predeclared.TheVariants as name
+use Rattle.fidl_named.specs.declared.meaning.Predeclared.TheVariants as name
 use Rattle.fidl_constraints.specs.Behind.{word_head}
 use Rattle.fidl_constraints.specs.BehindViews.{arguments_view, use_view}
 use Rattle.fidl_constraints.specs.Gives.{InFile}

@@ -1,6 +1,6 @@
 use Rattle.std.proofs.Common.{◌≡◌, ◌∙◌, Bool, ℕ, ap, sym, subst}
 use Rattle.fidl_tree.specs.Syntax.{Arguments, next_argument, type_argument, no_arguments}
-use Rattle.fidl_names.specs.declared.meaning.Predeclared.TheVariants as name
+use Rattle.fidl_named.specs.declared.meaning.Predeclared.TheVariants as name
 use Rattle.fidl_constraints.specs.Behind.{word_head}
 use Rattle.fidl_constraints.specs.BehindViews.{use_view}
 use Rattle.fidl_constraints.specs.Parts.{optional_in, bound_in}

@@ -7,8 +7,8 @@ use Rattle.std.proofs.lemmas.Option.{slice_get-get_or}
 use Rattle.std.proofs.Math.ListN.{length-map}
 use Rattle.fidl_span.specs.declared.words.Span.{Span}
 use Rattle.fidl_tree.specs.Leaf.{text_at}
-use Rattle.fidl_names.proofs.Seeing.{all_take}
-use Rattle.fidl_const.specs.Literals.{number_of}
+use Rattle.fidl_cycles.proofs.Lists.{all_take}
+use Rattle.fidl_consts.specs.Literals.{number_of}
 use Rattle.fidl_member_rules.specs.Ordinals.{ordinal_numbers, IsOrdinal}
 use Rattle.fidl_member_rules.proofs.OrdinalNumbers.{keys_more, differ_more, number_within, number_is, report_outside, report_repeated}
 use Rattle.fidl_member_rules.proofs.ordinals.check_ordinals.Goals as goal

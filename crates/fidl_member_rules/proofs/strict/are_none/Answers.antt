@@ -4,7 +4,7 @@ use Rattle.fidl_tree.specs.Syntax.{members_of}
 use Rattle.fidl_tree.specs.Views.{member_view}
 use Rattle.fidl_tree.specs.declared.type_constructor.Member.{Member, out-Member}
 use Rattle.fidl_tree.specs.declared.type_constructor.LayoutBody.TheFolds.{fold_out-Member}
-use Rattle.fidl_names.specs.MemberLists.{own_names}
+use Rattle.fidl_named.specs.MemberNames.{own_names}
 use Rattle.fidl_member_rules.proofs.strict.are_none.Goals as goal
 
 -- each member has a name

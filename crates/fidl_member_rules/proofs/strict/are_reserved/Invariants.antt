@@ -1,7 +1,7 @@
 use Rattle.std.proofs.Common.{◌≡◌, map, drop}
 use Rattle.fidl_tree.specs.Syntax.{members_of}
 use Rattle.fidl_tree.specs.Views.{ordinal_member_view}
-use Rattle.fidl_names.specs.MemberLists.{own_names}
+use Rattle.fidl_named.specs.MemberNames.{own_names}
 use Rattle.fidl_member_rules.proofs.strict.are_reserved.Given as goal
 
 -- the members to come have all names

@@ -5,7 +5,7 @@ use Rattle.std.proofs.lemmas.Int.{to_z-of_z}
 use Rattle.std.proofs.lemmas.List.{get_or_default}
 use Rattle.std.proofs.lemmas.Option.{slice_get-get_or}
 use Rattle.fidl_tree.specs.Views.{value_member_view, kind_view}
-use Rattle.fidl_names.proofs.Seeing.{all_take}
+use Rattle.fidl_cycles.proofs.Lists.{all_take}
 use mir.Val.{SFits, of_z, to_z}
 use mir.Syntax.{w128}
 use Rattle.fidl_member_rules.specs.Numbers.{IsPowerOfTwo}

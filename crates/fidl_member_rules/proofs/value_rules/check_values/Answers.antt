@@ -1,6 +1,6 @@
 use Rattle.std.proofs.Common.{rules, ◌≡◌, ◌<◌, length, get_or, sym}
 use Rattle.std.proofs.lemmas.Option.{slice_get_within, get_or_from_slice_get}
-use Rattle.fidl_names.proofs.Seeing.{all_take}
+use Rattle.fidl_cycles.proofs.Lists.{all_take}
 use Rattle.fidl_member_rules.specs.ValueRules.{FileHolds}
 use Rattle.fidl_member_rules.proofs.ValueReports.{report_file}
 use Rattle.fidl_member_rules.proofs.value_rules.check_values.Goals as goal

@@ -1,6 +1,6 @@
 use Rattle.std.proofs.Common.{◌≡◌, refl, ap, arith}
 use Rattle.fidl_tree.specs.Leaf.{text_at}
-use Rattle.fidl_const.specs.Literals.{number_of}
+use Rattle.fidl_consts.specs.Literals.{number_of}
 use Rattle.fidl_member_rules.proofs.worked_rules.ordinals_begin_at_one.Goals as goal
 
 pub returns-clause-refused : goal.returns-clause-refused

@@ -4,7 +4,7 @@ use Rattle.std.specs.List.{Contains, AllPairs}
 use Rattle.std.proofs.lemmas.List.Quantifiers.{all_pairs_push}
 use Rattle.std.proofs.lemmas.Option.{slice_get_within}
 use Rattle.fidl_tree.specs.Leaf.{text_at}
-use Rattle.fidl_const.specs.Literals.{number_of}
+use Rattle.fidl_consts.specs.Literals.{number_of}
 use Rattle.fidl_member_rules.proofs.worked_rules.ordinals_differ.Goals as goal
 
 differs : (m n : ℕ) → m ≢ n → (k d : ℕ) → k < length (m ∷ []) → get_or (m ∷ []) k d ≢ n

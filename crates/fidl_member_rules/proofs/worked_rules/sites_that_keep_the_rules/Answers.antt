@@ -1,6 +1,6 @@
 use Rattle.std.proofs.Common.{◌≡◌, ◌∙◌, ap, sym, arith}
 use Rattle.fidl_tree.specs.Leaf.{text_at}
-use Rattle.fidl_const.specs.Literals.{number_of}
+use Rattle.fidl_consts.specs.Literals.{number_of}
 use Rattle.fidl_member_rules.proofs.worked_rules.sites_that_keep_the_rules.Goals as goal
 
 pub returns-clause-versions : goal.returns-clause-versions

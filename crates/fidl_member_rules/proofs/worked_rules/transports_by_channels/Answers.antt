@@ -2,7 +2,7 @@ use Rattle.std.proofs.Common.{◌≡◌, ◌∙◌, ℕ, List, get_or, unwrap_or
 use Rattle.std.specs.Prelude.{codes}
 use Rattle.fidl_span.specs.declared.words.Span.{Span}
 use Rattle.fidl_tree.specs.Leaf.{text_at}
-use Rattle.fidl_const.specs.Literals.{string_of}
+use Rattle.fidl_consts.specs.Literals.{string_of}
 use Rattle.fidl_member_rules.proofs.worked_rules.transports_by_channels.Goals as goal
 
 pub returns-clause-seen : goal.returns-clause-seen

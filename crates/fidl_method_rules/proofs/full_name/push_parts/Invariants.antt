@@ -1,6 +1,6 @@
 use Rattle.std.proofs.Common.{◌≡◌, ◌++◌, take}
 use Rattle.std.specs.Prelude.{flat_map}
-use Rattle.fidl_names.specs.Names.{part_text}
+use Rattle.fidl_named.specs.Names.{part_text}
 use Rattle.fidl_method_rules.proofs.full_name.push_parts.Given as goal
 
 -- the text of the parts so far

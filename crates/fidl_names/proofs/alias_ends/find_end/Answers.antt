@@ -1,9 +1,9 @@
 use Rattle.std.proofs.Common.{Option, sym, subst}
-use Rattle.fidl_names.specs.declared.meaning.Meaning.{Meaning}
-use Rattle.fidl_names.specs.declared.meaning.Meaning.TheVariants as meaning
-use Rattle.fidl_names.specs.Meanings.{IsJust}
-use Rattle.fidl_names.specs.Aliases.{Follows, IsEnd, further}
-use Rattle.fidl_names.proofs.AliasFacts.{own_is_end}
+use Rattle.fidl_named.specs.declared.meaning.Meaning.{Meaning}
+use Rattle.fidl_named.specs.declared.meaning.Meaning.TheVariants as meaning
+use Rattle.fidl_named.specs.Meanings.{IsJust}
+use Rattle.fidl_named.specs.Aliases.{Follows, IsEnd, further}
+use Rattle.fidl_named.proofs.AliasFacts.{own_is_end}
 use Rattle.fidl_names.proofs.alias_ends.find_end.Goals as goal
 
 pub returns-in-None : goal.returns-in-None

@@ -7,15 +7,16 @@ use Rattle.std.proofs.lemmas.List.{take_all, take_more, take_at}
 use Rattle.std.proofs.lemmas.List.Elements.{Contains-get_or, Contains-push_cases}
 use Rattle.std.proofs.lemmas.Option.{slice_get-get_or, slice_get_read, same_Some}
 use Rattle.fidl_tree.specs.declared.file.File.{File}
-use Rattle.fidl_names.specs.declared.place.DeclarationId.{DeclarationId}
-use Rattle.fidl_names.specs.declared.alias_ends.AliasEnd.{AliasEnd}
-use Rattle.fidl_names.specs.declared.meaning.Meaning.TheVariants as meaning
-use Rattle.fidl_names.specs.Aliases.{IsEnd, HasEnd, rows_of}
+use Rattle.fidl_named.specs.declared.place.DeclarationId.{DeclarationId}
+use Rattle.fidl_named.specs.declared.ends.AliasEnd.{AliasEnd}
+use Rattle.fidl_named.specs.declared.meaning.Meaning.TheVariants as meaning
+use Rattle.fidl_named.specs.Aliases.{IsEnd, HasEnd, rows_of}
 use Rattle.fidl_names.specs.AliasGraph.{IsAliasOrder}
-use Rattle.fidl_names.specs.DeclarationNumbers.{HasDeclaration, number_of, AreNumbered}
+use Rattle.fidl_named.specs.FullNames.{HasDeclaration}
+use Rattle.fidl_names.specs.DeclarationNumbers.{number_of, AreNumbered}
 use Rattle.fidl_names.specs.MeaningRows.{IsWithin, with_end}
 use Rattle.fidl_names.proofs.MeaningRows.{within_more, end_here, end_kept}
-use Rattle.fidl_names.proofs.AliasFacts.{follows_refers}
+use Rattle.fidl_names.proofs.AliasNames.{follows_refers}
 use Rattle.fidl_names.proofs.alias_ends.find_ends.Goals as goal
 
 -- one end more

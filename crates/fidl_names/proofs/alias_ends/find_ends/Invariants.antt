@@ -1,8 +1,9 @@
 use Rattle.std.proofs.Common.{take}
 use Rattle.std.specs.List.{Contains}
-use Rattle.fidl_names.specs.declared.place.DeclarationId.{DeclarationId}
-use Rattle.fidl_names.specs.Aliases.{HasEnd, rows_of}
-use Rattle.fidl_names.specs.DeclarationNumbers.{HasDeclaration, number_of}
+use Rattle.fidl_named.specs.declared.place.DeclarationId.{DeclarationId}
+use Rattle.fidl_named.specs.Aliases.{HasEnd, rows_of}
+use Rattle.fidl_named.specs.FullNames.{HasDeclaration}
+use Rattle.fidl_names.specs.DeclarationNumbers.{number_of}
 use Rattle.fidl_names.specs.MeaningRows.{IsWithin}
 use Rattle.fidl_names.proofs.alias_ends.find_ends.Given as goal
 

@@ -2,12 +2,12 @@ use Rattle.std.proofs.Common.{◌≡◌, ◌+◌, ◌++◌, ◌∷◌, [], lengt
 use Rattle.std.specs.Global.{Vec}
 use Rattle.std.proofs.Math.ListN.{length-map}
 use Rattle.std.proofs.lemmas.List.{map-append}
-use Rattle.fidl_names.specs.declared.alias_ends.AliasEnd.{AliasEnd}
-use Rattle.fidl_names.specs.declared.meaning.Meaning.TheVariants as meaning
-use Rattle.fidl_names.specs.declared.place.DeclarationId.{DeclarationId}
-use Rattle.fidl_names.specs.Aliases.{rows_of}
+use Rattle.fidl_named.specs.declared.ends.AliasEnd.{AliasEnd}
+use Rattle.fidl_named.specs.declared.meaning.Meaning.TheVariants as meaning
+use Rattle.fidl_named.specs.declared.place.DeclarationId.{DeclarationId}
+use Rattle.fidl_named.specs.Aliases.{rows_of}
 use Rattle.fidl_names.specs.DeclarationNumbers.{ids_in}
-use Rattle.fidl_names.specs.MeaningRows.{own_end}
+use Rattle.fidl_named.specs.Aliases.{own_end}
 use Rattle.fidl_names.proofs.Numbering.{length_in}
 use Rattle.fidl_names.proofs.MeaningRows.{AreRowsTo, rows_more, rows_within}
 use Rattle.fidl_names.proofs.alias_ends.own_rows.Goals as goal

@@ -1,4 +1,4 @@
-use Rattle.fidl_names.specs.Aliases.{rows_of}
+use Rattle.fidl_named.specs.Aliases.{rows_of}
 use Rattle.fidl_names.proofs.MeaningRows.{AreRowsTo}
 use Rattle.fidl_names.proofs.alias_ends.own_rows.Given as goal
 

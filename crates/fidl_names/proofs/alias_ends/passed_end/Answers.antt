@@ -1,7 +1,7 @@
 use Rattle.std.proofs.Common.{sym, ◌∙◌, refl, true≢false}
-use Rattle.fidl_names.specs.declared.meaning.Meaning.TheVariants as meaning
-use Rattle.fidl_names.specs.Aliases.{PassesOn, stays, passes}
-use Rattle.fidl_names.proofs.AliasFacts.{followed_alias}
+use Rattle.fidl_named.specs.declared.meaning.Meaning.TheVariants as meaning
+use Rattle.fidl_named.specs.Aliases.{PassesOn, stays, passes}
+use Rattle.fidl_names.proofs.AliasNames.{followed_alias}
 use Rattle.fidl_names.proofs.alias_ends.passed_end.Goals as goal
 
 pub returns-in-None : goal.returns-in-None

@@ -2,8 +2,8 @@ use Rattle.std.proofs.Common.{List, [], set, ap, sym, ◌∙◌}
 use Rattle.std.specs.Global.{Vec}
 use Rattle.std.proofs.lemmas.List.{map-set, get_or_default}
 use Rattle.std.proofs.Math.ListN.{get_or-map}
-use Rattle.fidl_names.specs.declared.alias_ends.AliasEnd.{AliasEnd}
-use Rattle.fidl_names.specs.Aliases.{rows_of}
+use Rattle.fidl_named.specs.declared.ends.AliasEnd.{AliasEnd}
+use Rattle.fidl_named.specs.Aliases.{rows_of}
 use Rattle.fidl_names.proofs.alias_ends.set_end.Goals as goal
 
 pub returns : goal.returns

@@ -3,10 +3,10 @@ use Rattle.std.specs.Prelude.{slice_get}
 use Rattle.std.specs.Global.{Vec}
 use Rattle.std.proofs.lemmas.List.{take_all, take_more, map-append}
 use Rattle.std.proofs.lemmas.Option.{slice_get-get_or}
-use Rattle.fidl_names.specs.declared.place.DeclarationId.{DeclarationId}
+use Rattle.fidl_named.specs.declared.place.DeclarationId.{DeclarationId}
 use Rattle.fidl_names.specs.AliasGraph.{AreRows}
-use Rattle.fidl_names.specs.Cycles.{points_of}
-use Rattle.fidl_names.proofs.FullNames.{at}
+use Rattle.fidl_cycles.specs.Cycles.{points_of}
+use Rattle.fidl_named.proofs.FullNames.{at}
 use Rattle.fidl_names.proofs.AliasEdges.{edges_more}
 use Rattle.fidl_names.proofs.alias_graph.alias_graph.Goals as goal
 

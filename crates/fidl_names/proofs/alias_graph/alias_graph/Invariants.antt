@@ -1,6 +1,6 @@
 use Rattle.std.proofs.Common.{take}
 use Rattle.fidl_names.specs.AliasGraph.{AreRows}
-use Rattle.fidl_names.specs.Cycles.{points_of}
+use Rattle.fidl_cycles.specs.Cycles.{points_of}
 use Rattle.fidl_names.proofs.alias_graph.alias_graph.Given as goal
 
 -- the rows so far

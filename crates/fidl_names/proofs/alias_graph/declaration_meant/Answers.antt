@@ -1,13 +1,14 @@
 use Rattle.std.proofs.Common.{ℕ, List, Option, sym, subst, ◌∙◌, true≢false}
 use Rattle.fidl_tree.specs.Views.{path_view}
-use Rattle.fidl_names.specs.declared.meaning.Wanted.TheVariants as wanted
-use Rattle.fidl_names.specs.declared.meaning.Meaning.{Meaning}
-use Rattle.fidl_names.specs.declared.meaning.Meaning.TheVariants as meaning
-use Rattle.fidl_names.specs.Meanings.{Means, IsJust}
-use Rattle.fidl_names.specs.OuterTypes.{texts}
-use Rattle.fidl_names.specs.Aliases.{Wants, IsArrayName}
-use Rattle.fidl_names.specs.ReferenceViews.{optional_path_view}
-use Rattle.fidl_names.proofs.AliasFacts.{one_wanted, wants_seen, components_seen, meant_by}
+use Rattle.fidl_named.specs.declared.meaning.Wanted.TheVariants as wanted
+use Rattle.fidl_named.specs.declared.meaning.Meaning.{Meaning}
+use Rattle.fidl_named.specs.declared.meaning.Meaning.TheVariants as meaning
+use Rattle.fidl_named.specs.Meanings.{Means, IsJust}
+use Rattle.fidl_named.specs.Paths.{texts}
+use Rattle.fidl_named.specs.Aliases.{Wants, IsArrayName}
+use Rattle.fidl_named.specs.ReferenceViews.{optional_path_view}
+use Rattle.fidl_named.proofs.AliasFacts.{one_wanted, components_seen}
+use Rattle.fidl_names.proofs.AliasNames.{wants_seen, meant_by}
 use Rattle.fidl_names.proofs.alias_graph.declaration_meant.Goals as goal
 
 pub returns-then-not-wants_type : goal.returns-then-not-wants_type

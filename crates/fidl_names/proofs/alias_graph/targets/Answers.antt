@@ -7,15 +7,17 @@ use Rattle.fidl_tree.specs.Syntax.{Path}
 use Rattle.fidl_tree.specs.Views.{path_view}
 use Rattle.fidl_tree.specs.declared.file.File.{File}
 use Rattle.fidl_names.specs.declared.outer_types.OuterType.{OuterType}
-use Rattle.fidl_names.specs.declared.place.DeclarationId.{DeclarationId}
-use Rattle.fidl_names.specs.declared.meaning.Wanted.TheVariants as wanted
-use Rattle.fidl_names.specs.Meanings.{IsJust}
-use Rattle.fidl_names.specs.OuterTypes.{texts}
+use Rattle.fidl_named.specs.declared.place.DeclarationId.{DeclarationId}
+use Rattle.fidl_named.specs.declared.meaning.Wanted.TheVariants as wanted
+use Rattle.fidl_named.specs.Meanings.{IsJust}
+use Rattle.fidl_named.specs.Paths.{texts}
 use Rattle.fidl_names.specs.AliasGraph.{IsMeant, AreTargets}
-use Rattle.fidl_names.specs.DeclarationNumbers.{HasDeclaration, number_of}
-use Rattle.fidl_names.specs.ReferenceViews.{optional_path_view, read_types}
-use Rattle.fidl_names.proofs.Seeing.{take_item}
-use Rattle.fidl_names.proofs.AliasFacts.{read_id}
+use Rattle.fidl_named.specs.FullNames.{HasDeclaration}
+use Rattle.fidl_names.specs.DeclarationNumbers.{number_of}
+use Rattle.fidl_named.specs.ReferenceViews.{optional_path_view}
+use Rattle.fidl_names.specs.OuterViews.{read_types}
+use Rattle.fidl_cycles.proofs.Lists.{take_item}
+use Rattle.fidl_names.proofs.AliasNames.{read_id}
 use Rattle.fidl_names.proofs.AliasEdges.{target_none, target_more}
 use Rattle.fidl_names.proofs.alias_graph.targets.Goals.{in-Some+in_ok-push, in_default}
 use Rattle.fidl_names.proofs.alias_graph.targets.Goals as goal

@@ -1,6 +1,6 @@
 use Rattle.std.proofs.Common.{take}
 use Rattle.fidl_names.specs.AliasGraph.{AreTargets}
-use Rattle.fidl_names.specs.ReferenceViews.{read_types}
+use Rattle.fidl_names.specs.OuterViews.{read_types}
 use Rattle.fidl_names.proofs.alias_graph.targets.Given as goal
 
 -- the numbers of what the types so far mean

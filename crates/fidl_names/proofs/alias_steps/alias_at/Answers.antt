@@ -1,6 +1,6 @@
 use Rattle.std.proofs.Common.{length, refl}
 use Rattle.std.proofs.lemmas.Option.{slice_get_read}
-use Rattle.fidl_names.proofs.AliasFacts.{id_within}
+use Rattle.fidl_named.proofs.AliasFacts.{id_within}
 use Rattle.fidl_names.proofs.alias_steps.alias_at.Goals as goal
 
 pub returns-in-Some-clause-found : goal.returns-in-Some-clause-found

@@ -1,9 +1,9 @@
 use Rattle.std.proofs.Common.{rules, ◌≡◌, Some, refl, ap, sym, ◌∙◌}
 use Rattle.fidl_tree.specs.declared.type_constructor.TypeConstructor.{the_lemmas}
 use Rattle.fidl_tree.specs.declared.type_constructor.NamedType.{NamedType, out-NamedType}
-use Rattle.fidl_names.specs.Aliases.{type_path}
-use Rattle.fidl_names.proofs.Readings.{ok_iff}
-use Rattle.fidl_names.proofs.AliasFacts.{means_follows, follows_means, follows_alias}
+use Rattle.fidl_named.specs.Aliases.{type_path}
+use Rattle.fidl_named.proofs.Readings.{ok_iff}
+use Rattle.fidl_names.proofs.AliasNames.{means_follows, follows_means, follows_alias}
 use Rattle.fidl_names.proofs.alias_steps.next_meaning.Goals as goal
 
 pub returns-in-None : goal.returns-in-None

@@ -3,11 +3,11 @@ use Rattle.std.specs.Prelude.{IfErr, IfOk, IsOk}
 use Rattle.std.specs.Global.{Vec}
 use Rattle.std.proofs.Math.ListN.{length-map}
 use Rattle.std.proofs.lemmas.Option.{slice_get_within, slice_get_read}
-use Rattle.fidl_names.specs.declared.cycles.CycleEdge.{CycleEdge}
+use Rattle.fidl_cycles.specs.declared.cycles.CycleEdge.{CycleEdge}
 use Rattle.fidl_names.specs.AliasGraph.{IsAliasOrder}
-use Rattle.fidl_names.specs.Cycles.{Leads, IsEdge, IsFirstEdge, IsOrder, points_of}
+use Rattle.fidl_cycles.specs.Cycles.{Leads, IsEdge, IsFirstEdge, IsOrder, points_of}
 use Rattle.fidl_names.specs.DeclarationNumbers.{number_of}
-use Rattle.fidl_names.proofs.AliasFacts.{alias_id}
+use Rattle.fidl_named.proofs.AliasFacts.{alias_id}
 use Rattle.fidl_names.proofs.AliasEdges.{edge_within, first_back, alias_order, leads_edges, leading_alias}
 use Rattle.fidl_names.proofs.aliases.check_aliases.Goals as goal
 

@@ -5,8 +5,8 @@ use Rattle.std.proofs.lemmas.Result.{err_from_is_err_and}
 use Rattle.std.proofs.Math.ListN.{get_or-map, length-map}
 use Rattle.fidl_tree.specs.Views.{value_view, constraints_view}
 use Rattle.fidl_tree.specs.declared.value.Value.{Value as Tree}
-use Rattle.fidl_names.specs.Constraints.{ordinary, ItemHolds, ItemFails, ItemsFail}
-use Rattle.fidl_names.proofs.Judging.{reports_more, holds_more}
+use Rattle.fidl_named.specs.Constraints.{ordinary, ItemHolds, ItemFails, ItemsFail}
+use Rattle.fidl_named.proofs.Judging.{reports_more, holds_more}
 use Rattle.fidl_names.proofs.constraint_names.check_items.Goals as goal
 
 pub returns-in_err-check_item-clause-fault_is_true : goal.returns-in_err-check_item-clause-fault_is_true

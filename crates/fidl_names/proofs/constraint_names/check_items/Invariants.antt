@@ -1,8 +1,8 @@
 use Rattle.std.proofs.Common.{ℕ, ◌≡◌, ◌<◌}
 use Rattle.std.specs.Prelude.{slice_get, Some}
 use Rattle.fidl_tree.specs.Syntax.{Value}
-use Rattle.fidl_names.specs.Constraints.{ItemHolds}
-use Rattle.fidl_names.specs.ReferenceViews.{value_list_view}
+use Rattle.fidl_named.specs.Constraints.{ItemHolds}
+use Rattle.fidl_named.specs.ReferenceViews.{value_list_view}
 use Rattle.fidl_names.proofs.constraint_names.check_items.Given as goal
 
 -- each name in the constraints so far means something

@@ -6,15 +6,15 @@ use Rattle.std.proofs.Math.ListN.{get_or-map, length-map}
 use Rattle.fidl_tree.specs.Syntax.{Path}
 use Rattle.fidl_tree.specs.Views.{path_view, value_view}
 use Rattle.fidl_tree.specs.declared.path.Path.{Path as Tree}
-use Rattle.fidl_names.specs.declared.meaning.Meaning.{Meaning}
-use Rattle.fidl_names.specs.declared.meaning.Wanted.TheVariants as wanted
-use Rattle.fidl_names.specs.Meanings.{Means}
-use Rattle.fidl_names.specs.OuterTypes.{texts}
-use Rattle.fidl_names.specs.Places.{value_paths}
-use Rattle.fidl_names.specs.Constraints.{NameOfValueFails}
-use Rattle.fidl_names.specs.Scopes.{IsMemoryOr}
-use Rattle.fidl_names.proofs.Seeing.{all_take}
-use Rattle.fidl_names.proofs.PathViews.{means_seen, refusal_seen}
+use Rattle.fidl_named.specs.declared.meaning.Meaning.{Meaning}
+use Rattle.fidl_named.specs.declared.meaning.Wanted.TheVariants as wanted
+use Rattle.fidl_named.specs.Meanings.{Means}
+use Rattle.fidl_named.specs.Paths.{texts}
+use Rattle.fidl_named.specs.Places.{value_paths}
+use Rattle.fidl_named.specs.Constraints.{NameOfValueFails}
+use Rattle.fidl_named.specs.Scopes.{IsMemoryOr}
+use Rattle.fidl_cycles.proofs.Lists.{all_take}
+use Rattle.fidl_named.proofs.PathViews.{means_seen, refusal_seen}
 use Rattle.fidl_names.proofs.constraint_names.check_value.Goals as goal
 
 pub returns-in_err-read-clause-fault_is_true : goal.returns-in_err-read-clause-fault_is_true

@@ -1,10 +1,10 @@
 use Rattle.std.proofs.Common.{take}
 use Rattle.std.specs.List.{AllByRecursion}
-use Rattle.fidl_names.specs.declared.meaning.Meaning.{Meaning}
-use Rattle.fidl_names.specs.declared.meaning.Wanted.TheVariants as wanted
-use Rattle.fidl_names.specs.Meanings.{Means}
-use Rattle.fidl_names.specs.OuterTypes.{texts}
-use Rattle.fidl_names.specs.ReferenceViews.{paths_view}
+use Rattle.fidl_named.specs.declared.meaning.Meaning.{Meaning}
+use Rattle.fidl_named.specs.declared.meaning.Wanted.TheVariants as wanted
+use Rattle.fidl_named.specs.Meanings.{Means}
+use Rattle.fidl_named.specs.Paths.{texts}
+use Rattle.fidl_named.specs.ReferenceViews.{paths_view}
 use Rattle.fidl_names.proofs.constraint_names.check_value.Given as goal
 
 -- the paths so far mean something

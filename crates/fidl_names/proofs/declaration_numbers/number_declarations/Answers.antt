@@ -1,5 +1,5 @@
 use Rattle.std.proofs.Common.{◌≡◌, ◌+◌, ◌++◌, ◌∷◌, [], ℕ, List, length, ap, sym, subst, ◌∙◌, arith}
-use Rattle.fidl_names.specs.declared.place.DeclarationId.{DeclarationId}
+use Rattle.fidl_named.specs.declared.place.DeclarationId.{DeclarationId}
 use Rattle.fidl_names.specs.DeclarationNumbers.{ids_in}
 use Rattle.fidl_names.proofs.Numbering.{AreNumberedTo, numbered_more, numbered_all}
 use Rattle.fidl_names.proofs.declaration_numbers.number_declarations.Goals as goal

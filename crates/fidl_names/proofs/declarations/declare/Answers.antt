@@ -1,6 +1,6 @@
 use Rattle.std.proofs.Common.{◌∙◌, true≢false, sym, refl}
 use Rattle.indexmap.proofs.CallerLemmas.{insert_entry-new}
-use Rattle.fidl_names.proofs.Taken.{taken, none_there}
+use Rattle.fidl_named.proofs.Taken.{taken, none_there}
 use Rattle.fidl_names.proofs.declarations.declare.Goals as goal
 
 pub returns-clause-ok : goal.returns-clause-ok

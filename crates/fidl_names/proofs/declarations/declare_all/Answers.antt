@@ -5,10 +5,10 @@ use Rattle.std.proofs.lemmas.Option.{slice_get-get_or}
 use Rattle.fidl_tree.specs.Leaf.{text_at}
 use Rattle.fidl_tree.specs.declared.declaration.Declaration.{Declaration}
 use Rattle.fidl_span.specs.declared.words.Span.{Span}
-use Rattle.fidl_names.specs.Names.{AreDistinct, entries_of, library_of, full_name, place_in}
-use Rattle.fidl_names.specs.declared.place.Place.{Place}
-use Rattle.fidl_names.specs.declared.place.DeclarationId.{DeclarationId}
-use Rattle.fidl_names.specs.NameMaps.{seen, names_of}
+use Rattle.fidl_named.specs.Names.{AreDistinct, entries_of, library_of, full_name, place_in}
+use Rattle.fidl_named.specs.declared.place.Place.{Place}
+use Rattle.fidl_named.specs.declared.place.DeclarationId.{DeclarationId}
+use Rattle.fidl_named.specs.NameMaps.{seen, names_of}
 use Rattle.fidl_names.proofs.Adding.{distinct_more, names_more, seen_more, length-entries, entries_more, names_so_far, reported_taken}
 use Rattle.fidl_names.proofs.declarations.declare_all.Goals as goal
 

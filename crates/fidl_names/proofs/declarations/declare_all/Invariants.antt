@@ -1,6 +1,6 @@
 use Rattle.std.proofs.Common.{◌≡◌, ◌++◌, ◌≤◌, length, take}
-use Rattle.fidl_names.specs.Names.{AreDistinct, entries_of}
-use Rattle.fidl_names.specs.NameMaps.{seen, names_of}
+use Rattle.fidl_named.specs.Names.{AreDistinct, entries_of}
+use Rattle.fidl_named.specs.NameMaps.{seen, names_of}
 use Rattle.fidl_names.proofs.declarations.declare_all.Given as goal
 
 -- after what stood before stand the declarations so far, and all differ if those before did

@@ -5,7 +5,7 @@ use Rattle.std.proofs.lemmas.List.Elements.{Contains-get_or}
 use Rattle.std.proofs.Math.ListN.{get_or-map, length-map}
 use Rattle.fidl_span.specs.declared.words.Span.{Span}
 use Rattle.fidl_names.specs.MemberLists.{held, NamesDiffer, RepeatsName, RepeatsIn, IsRepeatedAt}
-use Rattle.fidl_names.proofs.Seeing.{all_take}
+use Rattle.fidl_cycles.proofs.Lists.{all_take}
 use Rattle.fidl_names.proofs.Differing.{repeated_within}
 use Rattle.fidl_names.proofs.differ.check_lists.Goals as goal
 

@@ -5,7 +5,7 @@ use Rattle.std.proofs.Math.ListN.{get_or-map, length-map}
 use Rattle.fidl_tree.specs.Views.{declaration_view, file_view}
 use Rattle.fidl_tree.specs.declared.declaration.Declaration.{Declaration}
 use Rattle.fidl_names.specs.MemberLists.{body_lists, ListsDiffer, RepeatsIn, RepeatsMember}
-use Rattle.fidl_names.proofs.Seeing.{all_take}
+use Rattle.fidl_cycles.proofs.Lists.{all_take}
 use Rattle.fidl_names.proofs.Differing.{repeated_within}
 use Rattle.fidl_names.proofs.differ.check_members.Goals as goal
 

@@ -3,8 +3,8 @@ use Rattle.std.proofs.lemmas.List.{take_more}
 use Rattle.std.proofs.Math.ListN.{get_or-map, length-map}
 use Rattle.fidl_span.specs.declared.words.Span.{Span}
 use Rattle.fidl_tree.specs.Leaf.{text_at}
-use Rattle.fidl_names.specs.Names.{AreDistinct, IsOneOf}
-use Rattle.fidl_names.specs.NameMaps.{seen, names_of}
+use Rattle.fidl_named.specs.Names.{AreDistinct, IsOneOf}
+use Rattle.fidl_named.specs.NameMaps.{seen, names_of}
 use Rattle.fidl_names.proofs.Adding.{distinct_more, names_more, seen_more}
 use Rattle.fidl_names.proofs.differ.check_names.Goals as goal
 

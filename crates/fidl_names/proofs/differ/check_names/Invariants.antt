@@ -1,7 +1,7 @@
 use Rattle.std.proofs.Common.{◌≡◌, map, take}
 use Rattle.fidl_tree.specs.Leaf.{text_at}
-use Rattle.fidl_names.specs.Names.{AreDistinct}
-use Rattle.fidl_names.specs.NameMaps.{seen, names_of}
+use Rattle.fidl_named.specs.Names.{AreDistinct}
+use Rattle.fidl_named.specs.NameMaps.{seen, names_of}
 use Rattle.fidl_names.proofs.differ.check_names.Given as goal
 
 -- the names so far, which differ

@@ -2,8 +2,8 @@ use Rattle.std.proofs.Common.{◌≡◌, ◌<◌, ◌+◌, ℕ, List, length, ge
 use Rattle.std.specs.Prelude.{◌⊎◌, ◌↔◌}
 use Rattle.std.proofs.lemmas.List.{take_all}
 use Rattle.fidl_tree.specs.declared.file.Import.{Import}
-use Rattle.fidl_names.specs.Cycles.{IsEdge, points_of}
-use Rattle.fidl_names.specs.NameMaps.{seen}
+use Rattle.fidl_cycles.specs.Cycles.{IsEdge, points_of}
+use Rattle.fidl_named.specs.NameMaps.{seen}
 use Rattle.fidl_names.specs.ImportCycles.{HasEdge}
 use Rattle.fidl_names.proofs.Graphs.{both_more, edge_more}
 use Rattle.fidl_names.proofs.import_cycles.add_imports.Goals as goal

@@ -1,7 +1,7 @@
 use Rattle.std.proofs.Common.{ℕ, take}
 use Rattle.std.specs.Prelude.{◌⊎◌, ◌↔◌}
-use Rattle.fidl_names.specs.Cycles.{IsEdge, points_of}
-use Rattle.fidl_names.specs.NameMaps.{seen}
+use Rattle.fidl_cycles.specs.Cycles.{IsEdge, points_of}
+use Rattle.fidl_named.specs.NameMaps.{seen}
 use Rattle.fidl_names.specs.ImportCycles.{HasEdge}
 use Rattle.fidl_names.proofs.import_cycles.add_imports.Given as goal
 

@@ -2,8 +2,8 @@ use Rattle.std.proofs.Common.{ℕ, List, length, ap, subst, arith}
 use Rattle.std.proofs.Math.ListN.{length-map}
 use Rattle.std.specs.Prelude.{is_ok}
 use Rattle.std.specs.Global.{Vec}
-use Rattle.fidl_names.specs.Cycles.{Leads, IsEdge, IsFirstEdge, points_of}
-use Rattle.fidl_names.specs.NameMaps.{seen}
+use Rattle.fidl_cycles.specs.Cycles.{Leads, IsEdge, IsFirstEdge, points_of}
+use Rattle.fidl_named.specs.NameMaps.{seen}
 use Rattle.fidl_names.proofs.Graphs.{edge_within, reported_back, none_back}
 use Rattle.fidl_names.proofs.import_cycles.check_import_cycles.Goals as goal
 

@@ -2,11 +2,11 @@ use Rattle.std.proofs.Common.{◌≡◌, ◌<◌, List, length, get_or, inl, inr
 use Rattle.std.specs.List.{Any}
 use Rattle.std.proofs.lemmas.List.{take_all}
 use Rattle.fidl_tree.specs.declared.file.Import.{Import}
-use Rattle.fidl_names.specs.Names.{path_text, library_of}
-use Rattle.fidl_names.specs.Imports.{IsEntry}
-use Rattle.fidl_names.specs.NameMaps.{seen}
-use Rattle.fidl_names.proofs.FullNames.{one_entry}
-use Rattle.fidl_names.proofs.LibraryNumbers.{any_more}
+use Rattle.fidl_named.specs.Names.{path_text, library_of}
+use Rattle.fidl_named.specs.Imports.{IsEntry}
+use Rattle.fidl_named.specs.NameMaps.{seen}
+use Rattle.fidl_named.proofs.FullNames.{one_entry}
+use Rattle.fidl_cycles.proofs.Lists.{any_more}
 use Rattle.fidl_names.proofs.import_cycles.find_import.Goals as goal
 
 pub returns-then-branch-edge-clause-none : goal.returns-then-branch-edge-clause-none

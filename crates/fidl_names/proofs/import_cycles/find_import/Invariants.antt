@@ -1,8 +1,8 @@
 use Rattle.std.proofs.Common.{take}
 use Rattle.std.specs.List.{Any}
-use Rattle.fidl_names.specs.Names.{path_text}
-use Rattle.fidl_names.specs.Imports.{IsEntry}
-use Rattle.fidl_names.specs.NameMaps.{seen}
+use Rattle.fidl_named.specs.Names.{path_text}
+use Rattle.fidl_named.specs.Imports.{IsEntry}
+use Rattle.fidl_named.specs.NameMaps.{seen}
 use Rattle.fidl_names.proofs.import_cycles.find_import.Given as goal
 
 -- no import so far names that library

@@ -4,9 +4,9 @@ use Rattle.std.specs.List.{Any}
 use Rattle.std.proofs.lemmas.List.{take_all}
 use Rattle.std.proofs.lemmas.Option.{get_or_from_slice_get}
 use Rattle.fidl_tree.specs.declared.file.File.{File}
-use Rattle.fidl_names.specs.NameMaps.{seen, names_of}
+use Rattle.fidl_named.specs.NameMaps.{seen, names_of}
 use Rattle.fidl_names.specs.ImportCycles.{HasEdge}
-use Rattle.fidl_names.proofs.LibraryNumbers.{any_more}
+use Rattle.fidl_cycles.proofs.Lists.{any_more}
 use Rattle.fidl_names.proofs.Graphs.{own_known, imports_known}
 use Rattle.fidl_names.proofs.import_cycles.find_place.Goals as goal
 

@@ -1,6 +1,6 @@
 use Rattle.std.proofs.Common.{take}
 use Rattle.std.specs.List.{Any}
-use Rattle.fidl_names.specs.NameMaps.{seen}
+use Rattle.fidl_named.specs.NameMaps.{seen}
 use Rattle.fidl_names.specs.ImportCycles.{HasEdge}
 use Rattle.fidl_names.proofs.import_cycles.find_place.Given as goal
 

@@ -5,11 +5,12 @@ use Rattle.std.specs.Global.{Vec}
 use Rattle.std.proofs.lemmas.List.{take_all, take_at}
 use Rattle.std.proofs.lemmas.Option.{get_or_from_slice_get}
 use Rattle.fidl_tree.specs.declared.file.File.{File}
-use Rattle.fidl_names.specs.Cycles.{IsEdge, points_of}
-use Rattle.fidl_names.specs.NameMaps.{seen, names_of}
+use Rattle.fidl_cycles.specs.Cycles.{IsEdge, points_of}
+use Rattle.fidl_named.specs.NameMaps.{seen, names_of}
 use Rattle.fidl_names.specs.ImportCycles.{HasEdge}
-use Rattle.fidl_names.proofs.LibraryNumbers.{any_more, any_none}
-use Rattle.fidl_names.proofs.Graphs.{own_known, imports_known, all_more}
+use Rattle.fidl_cycles.proofs.Lists.{any_more, any_none}
+use Rattle.fidl_names.proofs.Graphs.{own_known, imports_known}
+use Rattle.fidl_cycles.proofs.Lists.{all_more}
 use Rattle.fidl_names.proofs.import_cycles.import_graph.Goals as goal
 
 pub loop-file_index-init : goal.loop-file_index-init

@@ -1,8 +1,8 @@
 use Rattle.std.proofs.Common.{◌≡◌, ℕ, length, take}
 use Rattle.std.specs.Prelude.{◌↔◌}
 use Rattle.std.specs.List.{Any}
-use Rattle.fidl_names.specs.Cycles.{IsEdge, points_of}
-use Rattle.fidl_names.specs.NameMaps.{seen}
+use Rattle.fidl_cycles.specs.Cycles.{IsEdge, points_of}
+use Rattle.fidl_named.specs.NameMaps.{seen}
 use Rattle.fidl_names.specs.ImportCycles.{HasEdge}
 use Rattle.fidl_names.proofs.import_cycles.import_graph.Given as goal
 

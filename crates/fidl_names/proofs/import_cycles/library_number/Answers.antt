@@ -1,9 +1,9 @@
 use Rattle.std.proofs.Common.{ℕ, List, sym, subst, ◌∙◌, ap, true≢false}
 use Rattle.std.specs.Prelude.{is_some}
-use Rattle.fidl_names.specs.Names.{IsOneOf}
-use Rattle.fidl_names.specs.Imports.{IsEntry}
-use Rattle.fidl_names.specs.NameMaps.{seen, names_of}
-use Rattle.fidl_names.proofs.Taken.{taken, found_entry}
+use Rattle.fidl_named.specs.Names.{IsOneOf}
+use Rattle.fidl_named.specs.Imports.{IsEntry}
+use Rattle.fidl_named.specs.NameMaps.{seen, names_of}
+use Rattle.fidl_named.proofs.Taken.{taken, found_entry}
 use Rattle.fidl_names.proofs.import_cycles.library_number.Goals as goal
 
 pub unreachable-requires : goal.unreachable-requires

@@ -1,12 +1,13 @@
 use Rattle.std.proofs.Common.{rules, ◌≡◌, ◌++◌, ◌∷◌, [], false, sym, ap, subst, ◌∙◌, true≢false}
 use Rattle.fidl_span.specs.declared.words.Span.{Span}
-use Rattle.fidl_names.specs.declared.place.Place.{Place}
+use Rattle.fidl_named.specs.declared.place.Place.{Place}
 use Rattle.fidl_tree.specs.Leaf.{text_at}
-use Rattle.fidl_names.specs.Names.{IsOneOf, path_text}
-use Rattle.fidl_names.specs.Imports.{same}
-use Rattle.fidl_names.specs.NameMaps.{seen, texts_view, names_of, IsRepeated}
+use Rattle.fidl_named.specs.Names.{IsOneOf, path_text}
+use Rattle.fidl_named.specs.Imports.{same}
+use Rattle.fidl_named.specs.NameMaps.{seen, texts_view, names_of}
+use Rattle.fidl_names.specs.TakenNames.{IsRepeated}
 use Rattle.fidl_names.proofs.Seeing.{names_of-texts-more, reported_alias}
-use Rattle.fidl_names.proofs.Taken.{taken}
+use Rattle.fidl_named.proofs.Taken.{taken}
 use Rattle.fidl_names.proofs.imports.add_import.Goals as goal
 
 pub returns-then-not-contains_key-clause-fault_is_true : goal.returns-then-not-contains_key-clause-fault_is_true

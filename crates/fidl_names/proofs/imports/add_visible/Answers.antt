@@ -1,6 +1,6 @@
 use Rattle.std.proofs.Common.{sym, ◌∙◌, true≢false, refl}
 use Rattle.indexmap.proofs.CallerLemmas.{insert_entry-new}
-use Rattle.fidl_names.proofs.Taken.{taken_text, none_there}
+use Rattle.fidl_named.proofs.Taken.{taken_text, none_there}
 use Rattle.fidl_names.proofs.Seeing.{distinct_texts}
 use Rattle.fidl_names.proofs.imports.add_visible.Goals as goal
 

@@ -2,10 +2,12 @@ use Rattle.std.proofs.Common.{rules, ◌≡◌, ◌++◌, ◌∷◌, List, take,
 use Rattle.std.specs.Prelude.{slice_get}
 use Rattle.std.proofs.lemmas.Option.{slice_get-get_or}
 use Rattle.fidl_tree.specs.declared.file.Import.{Import}
-use Rattle.fidl_names.specs.Names.{IsOneOf, path_text, library_of}
-use Rattle.fidl_names.specs.Imports.{visible_by, taken_names}
-use Rattle.fidl_names.specs.NameMaps.{seen, texts_view, names_of}
-use Rattle.fidl_names.proofs.Seeing.{flat_take, all_take, names_of-visible, reported_import}
+use Rattle.fidl_named.specs.Names.{IsOneOf, path_text, library_of}
+use Rattle.fidl_named.specs.Imports.{visible_by}
+use Rattle.fidl_names.specs.ImportRules.{taken_names}
+use Rattle.fidl_named.specs.NameMaps.{seen, texts_view, names_of}
+use Rattle.fidl_cycles.proofs.Lists.{flat_take, all_take}
+use Rattle.fidl_names.proofs.Seeing.{names_of-visible, reported_import}
 use Rattle.fidl_names.proofs.imports.visible_libraries.Goals as goal
 
 pub loop-import-preserved : goal.loop-import-preserved

@@ -1,9 +1,9 @@
 use Rattle.std.proofs.Common.{◌≡◌, ◌∷◌, take}
 use Rattle.std.specs.Prelude.{flat_map}
 use Rattle.std.specs.List.{AllByRecursion}
-use Rattle.fidl_names.specs.Names.{IsOneOf, AreDistinct, path_text, library_of}
-use Rattle.fidl_names.specs.Imports.{visible_by}
-use Rattle.fidl_names.specs.NameMaps.{seen, texts_view, names_of}
+use Rattle.fidl_named.specs.Names.{IsOneOf, AreDistinct, path_text, library_of}
+use Rattle.fidl_named.specs.Imports.{visible_by}
+use Rattle.fidl_named.specs.NameMaps.{seen, texts_view, names_of}
 use Rattle.fidl_names.proofs.imports.visible_libraries.Given as goal
 
 -- what the own library and the imports so far make visible, under names that differ, of libraries that are known

@@ -1,9 +1,9 @@
 use Rattle.std.proofs.Common.{Option, sym, subst}
-use Rattle.fidl_names.specs.declared.kept_names.KeptName.{KeptName}
-use Rattle.fidl_names.specs.declared.meaning.Meaning.{Meaning}
-use Rattle.fidl_names.specs.Meanings.{components, IsJust, Means}
-use Rattle.fidl_names.specs.KeptNames.{AreKept}
-use Rattle.fidl_names.proofs.KeptNames.{kept_more}
+use Rattle.fidl_named.specs.declared.kept_names.KeptName.{KeptName}
+use Rattle.fidl_named.specs.declared.meaning.Meaning.{Meaning}
+use Rattle.fidl_named.specs.Meanings.{components, IsJust, Means}
+use Rattle.fidl_named.specs.KeptNames.{AreKept}
+use Rattle.fidl_named.proofs.KeptMeanings.{kept_more}
 use Rattle.fidl_names.proofs.keeping.keep.Goals as goal
 
 pub returns-in_ok-add-in-Some : goal.returns-in_ok-add-in-Some

@@ -1,4 +1,4 @@
-use Rattle.fidl_names.specs.KeptNames.{AreKept}
+use Rattle.fidl_named.specs.KeptNames.{AreKept}
 use Rattle.fidl_names.proofs.keeping.keep_members.Given as goal
 
 -- the names that are kept so far mean that

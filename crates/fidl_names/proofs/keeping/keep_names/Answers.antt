@@ -2,9 +2,9 @@ use Rattle.std.proofs.Common.{◌≡◌, ◌++◌, ◌∷◌, [], length, ap, sy
 use Rattle.std.specs.Prelude.{slice_get, Some}
 use Rattle.std.proofs.Math.ListN.{length-map}
 use Rattle.std.proofs.lemmas.List.{length_push, map-append}
-use Rattle.fidl_names.specs.declared.kept_names.KeptNames.{KeptNames}
-use Rattle.fidl_names.specs.KeptNames.{AreKeptIn, kept_rows}
-use Rattle.fidl_names.proofs.KeptNames.{kept_rows_more}
+use Rattle.fidl_named.specs.declared.kept_names.KeptNames.{KeptNames}
+use Rattle.fidl_named.specs.KeptNames.{AreKeptIn, kept_rows}
+use Rattle.fidl_named.proofs.KeptMeanings.{kept_rows_more}
 use Rattle.fidl_names.proofs.keeping.keep_names.Goals as goal
 
 pub loop-file_index-preserved : goal.loop-file_index-preserved

@@ -1,5 +1,5 @@
 use Rattle.std.proofs.Common.{◌≡◌, length}
-use Rattle.fidl_names.specs.KeptNames.{AreKeptIn, kept_rows}
+use Rattle.fidl_named.specs.KeptNames.{AreKeptIn, kept_rows}
 use Rattle.fidl_names.proofs.keeping.keep_names.Given as goal
 
 -- the rows of the files so far

@@ -1,7 +1,7 @@
 use Rattle.std.proofs.Common.{◌≡◌, ◌++◌, map, drop}
 use Rattle.fidl_tree.specs.Syntax.{members_of}
 use Rattle.fidl_tree.specs.Views.{ordinal_member_view}
-use Rattle.fidl_names.specs.MemberLists.{own_names}
+use Rattle.fidl_named.specs.MemberNames.{own_names}
 use Rattle.fidl_names.proofs.member_lists.push_ordinals.Given as goal
 
 -- the names so far and those to come are all

@@ -1,6 +1,6 @@
 use Rattle.std.proofs.Common.{◌≡◌, ◌++◌, map, drop}
 use Rattle.fidl_tree.specs.Views.{value_member_view}
-use Rattle.fidl_names.specs.MemberLists.{value_names}
+use Rattle.fidl_named.specs.MemberNames.{value_names}
 use Rattle.fidl_names.proofs.member_lists.push_values.Given as goal
 
 -- the names so far and those to come are all

@@ -2,10 +2,10 @@ use Rattle.std.proofs.Common.{ℕ, [], ◌∷◌, ◌++◌, ap, sym, subst, ◌�
 use Rattle.std.specs.Global.{Vec}
 use Rattle.std.proofs.lemmas.List.{map-append}
 use Rattle.indexmap.proofs.CallerLemmas.{insert_entry-new}
-use Rattle.fidl_names.specs.NameMaps.{seen}
-use Rattle.fidl_names.specs.MemberNumbers.{AreNumbers}
-use Rattle.fidl_names.proofs.Taken.{taken, none_there}
-use Rattle.fidl_names.proofs.MemberNumbers.{numbers_there, numbers_more}
+use Rattle.fidl_named.specs.NameMaps.{seen}
+use Rattle.fidl_named.specs.MemberNumbers.{AreNumbers}
+use Rattle.fidl_named.proofs.Taken.{taken, none_there}
+use Rattle.fidl_named.proofs.NumbersOfNames.{numbers_there, numbers_more}
 use Rattle.fidl_names.proofs.member_numbers.add_name.Goals as goal
 
 pub returns-then-contains_key : goal.returns-then-contains_key

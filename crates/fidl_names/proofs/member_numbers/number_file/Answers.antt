@@ -1,7 +1,7 @@
 use Rattle.std.proofs.Common.{◌≡◌, ◌<◌, List, length, get_or, ap, ◌∙◌, arith}
 use Rattle.fidl_tree.specs.declared.declaration.Declaration.{Declaration}
-use Rattle.fidl_names.specs.MemberNumbers.{AreNumbersOf}
-use Rattle.fidl_names.proofs.MemberNumbers.{match_step}
+use Rattle.fidl_named.specs.MemberNumbers.{AreNumbersOf}
+use Rattle.fidl_named.proofs.NumbersOfNames.{match_step}
 use Rattle.fidl_names.proofs.member_numbers.number_file.Goals as goal
 
 pub loop-declaration-preserved : goal.loop-declaration-preserved

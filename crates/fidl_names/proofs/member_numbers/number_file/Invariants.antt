@@ -1,5 +1,5 @@
 use Rattle.std.proofs.Common.{take}
-use Rattle.fidl_names.specs.MemberNumbers.{AreNumbersOf, Match}
+use Rattle.fidl_named.specs.MemberNumbers.{AreNumbersOf, Match}
 use Rattle.fidl_names.proofs.member_numbers.number_file.Given as goal
 
 -- the numbers of the declarations so far

@@ -1,7 +1,7 @@
 use Rattle.std.proofs.Common.{subst}
-use Rattle.fidl_names.specs.Constraints.{texts_of, property_names}
-use Rattle.fidl_names.specs.MemberNumbers.{AreNumbers, Match, written_names}
-use Rattle.fidl_names.specs.NameMaps.{seen}
+use Rattle.fidl_named.specs.Constraints.{texts_of, property_names}
+use Rattle.fidl_named.specs.MemberNumbers.{AreNumbers, Match, written_names}
+use Rattle.fidl_named.specs.NameMaps.{seen}
 use Rattle.fidl_names.proofs.member_numbers.number_lists.Goals as goal
 
 pub returns : goal.returns

@@ -1,7 +1,7 @@
 use Rattle.std.proofs.Common.{take}
-use Rattle.fidl_names.specs.Constraints.{texts_of}
-use Rattle.fidl_names.specs.MemberNumbers.{AreNumbers}
-use Rattle.fidl_names.specs.NameMaps.{seen}
+use Rattle.fidl_named.specs.Constraints.{texts_of}
+use Rattle.fidl_named.specs.MemberNumbers.{AreNumbers}
+use Rattle.fidl_named.specs.NameMaps.{seen}
 use Rattle.fidl_names.proofs.member_numbers.number_members.Given as goal
 
 -- the numbers of the members so far

@@ -1,8 +1,8 @@
 use Rattle.std.proofs.Common.{◌∙◌}
 use Rattle.fidl_tree.specs.Leaf.{text_at}
 use Rattle.fidl_tree.specs.declared.declaration.Property.{Property}
-use Rattle.fidl_names.specs.NameMaps.{seen}
-use Rattle.fidl_names.proofs.MemberNumbers.{numbers_step}
+use Rattle.fidl_named.specs.NameMaps.{seen}
+use Rattle.fidl_named.proofs.NumbersOfNames.{numbers_step}
 use Rattle.fidl_names.proofs.member_numbers.number_properties.Goals as goal
 
 pub loop-number-preserved : goal.loop-number-preserved

@@ -1,8 +1,8 @@
 use Rattle.std.proofs.Common.{subst}
-use Rattle.fidl_names.specs.Constraints.{texts_of}
-use Rattle.fidl_names.specs.MemberNumbers.{AreNumbers, written_names}
-use Rattle.fidl_names.specs.NameMaps.{seen}
-use Rattle.fidl_names.proofs.MemberNumbers.{match_step}
+use Rattle.fidl_named.specs.Constraints.{texts_of}
+use Rattle.fidl_named.specs.MemberNumbers.{AreNumbers, written_names}
+use Rattle.fidl_named.specs.NameMaps.{seen}
+use Rattle.fidl_named.proofs.NumbersOfNames.{match_step}
 use Rattle.fidl_names.proofs.member_numbers.number_written.Goals as goal
 
 pub loop-property-preserved : goal.loop-property-preserved

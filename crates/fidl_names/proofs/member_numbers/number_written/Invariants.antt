@@ -1,6 +1,6 @@
 use Rattle.std.proofs.Common.{take}
-use Rattle.fidl_names.specs.MemberNumbers.{AreNumbers, Match, written_names}
-use Rattle.fidl_names.specs.NameMaps.{seen}
+use Rattle.fidl_named.specs.MemberNumbers.{AreNumbers, Match, written_names}
+use Rattle.fidl_named.specs.NameMaps.{seen}
 use Rattle.fidl_names.proofs.member_numbers.number_written.Given as goal
 
 -- the numbers of the properties so far

@@ -2,7 +2,8 @@ use Rattle.std.proofs.Common.{◌≡◌, ◌++◌, Some, map, drop}
 use Rattle.fidl_tree.specs.Syntax.{arguments_of}
 use Rattle.fidl_tree.specs.Views.{path_view, next_argument_view}
 use Rattle.fidl_names.specs.OuterTypes.{further_outer}
-use Rattle.fidl_names.specs.ReferenceViews.{optional_path_view, read_types}
+use Rattle.fidl_named.specs.ReferenceViews.{optional_path_view}
+use Rattle.fidl_names.specs.OuterViews.{read_types}
 use Rattle.fidl_names.proofs.outer_types.+outer.Given as goal
 
 -- the types so far and those of the arguments to come are all

@@ -5,11 +5,11 @@ use Rattle.std.proofs.lemmas.List.Elements.{Contains-get_or}
 use Rattle.std.proofs.lemmas.Result.{err_from_is_err_and}
 use Rattle.std.proofs.Math.ListN.{get_or-map, length-map}
 use Rattle.fidl_tree.specs.Views.{declared_view}
-use Rattle.fidl_names.specs.Places.{body_places}
-use Rattle.fidl_names.specs.PlaceViews.{name_place_view, name_places_view}
+use Rattle.fidl_named.specs.Places.{body_places}
+use Rattle.fidl_named.specs.PlaceViews.{name_place_view, name_places_view}
 use Rattle.fidl_names.specs.Resolved.{PlaceHolds, PlaceFails, DeclarationFails}
-use Rattle.fidl_names.proofs.Seeing.{all_take}
-use Rattle.fidl_names.proofs.Judging.{reports_more}
+use Rattle.fidl_cycles.proofs.Lists.{all_take}
+use Rattle.fidl_named.proofs.Judging.{reports_more}
 use Rattle.fidl_names.proofs.place_names.check_declaration.Goals as goal
 
 pub returns-in_err-check_place-clause-fault_is_true : goal.returns-in_err-check_place-clause-fault_is_true

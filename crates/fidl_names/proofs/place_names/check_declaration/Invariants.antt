@@ -1,6 +1,6 @@
 use Rattle.std.proofs.Common.{take}
 use Rattle.std.specs.List.{AllByRecursion}
-use Rattle.fidl_names.specs.PlaceViews.{name_places_view}
+use Rattle.fidl_named.specs.PlaceViews.{name_places_view}
 use Rattle.fidl_names.specs.Resolved.{PlaceHolds}
 use Rattle.fidl_names.proofs.place_names.check_declaration.Given as goal
 

@@ -5,7 +5,7 @@ use Rattle.std.proofs.lemmas.Result.{err_from_is_err_and}
 use Rattle.fidl_tree.specs.Views.{declared_view}
 use Rattle.fidl_tree.specs.declared.declaration.Declaration.{Declaration}
 use Rattle.fidl_names.specs.Resolved.{DeclarationFails, NameFails}
-use Rattle.fidl_names.proofs.Judging.{reports_more}
+use Rattle.fidl_named.proofs.Judging.{reports_more}
 use Rattle.fidl_names.proofs.place_names.check_file.Goals as goal
 
 pub returns-in_err-check_declaration-clause-fault_is_true : goal.returns-in_err-check_declaration-clause-fault_is_true

@@ -1,10 +1,10 @@
 use Rattle.std.proofs.Common.{◌≡◌, get_or, sym, arith}
 use Rattle.std.proofs.lemmas.Option.{get_or_from_slice_get}
 use Rattle.std.proofs.lemmas.Result.{err_from_is_err_and}
-use Rattle.fidl_names.specs.Faults.{IsTrueOfOne}
+use Rattle.fidl_names.specs.Refusals.{IsTrueOfOne}
 use Rattle.fidl_names.specs.Resolved.{NamesHold, NameFails}
-use Rattle.fidl_names.proofs.Seeing.{all_take}
-use Rattle.fidl_names.proofs.Judging.{reports_more}
+use Rattle.fidl_cycles.proofs.Lists.{all_take}
+use Rattle.fidl_named.proofs.Judging.{reports_more}
 use Rattle.fidl_names.proofs.place_names.check_names.Goals as goal
 
 pub returns-in_err-check_file-clause-fault_is_true : goal.returns-in_err-check_file-clause-fault_is_true

@@ -2,12 +2,12 @@ use Rattle.std.proofs.Common.{inr, map}
 use Rattle.std.specs.Prelude.{None, option_map, option_copied}
 use Rattle.std.proofs.lemmas.Result.{err_from_is_err_and, on_ok_weaker}
 use Rattle.fidl_tree.specs.Views.{path_view, constraints_view, kind_view, value_member_view}
-use Rattle.fidl_names.specs.Places.{a_name, a_layout, a_members}
-use Rattle.fidl_names.specs.Constraints.{ItemsHold, ItemsFail}
+use Rattle.fidl_named.specs.Places.{a_name, a_layout, a_members}
+use Rattle.fidl_named.specs.Constraints.{ItemsHold, ItemsFail}
 use Rattle.fidl_names.specs.Resolved.{MembersMean, MemberFails, PlaceHolds, PlaceFails}
-use Rattle.fidl_names.specs.Scopes.{IsMemoryOr}
-use Rattle.fidl_names.proofs.Judging.{reported_more}
-use Rattle.fidl_names.proofs.PathViews.{means_seen, refusal_seen}
+use Rattle.fidl_named.specs.Scopes.{IsMemoryOr}
+use Rattle.fidl_named.proofs.Judging.{reported_more}
+use Rattle.fidl_named.proofs.PathViews.{means_seen, refusal_seen}
 use Rattle.fidl_names.proofs.place_names.check_place.Goals as goal
 
 pub returns-in_err-read-in-Name-clause-fault_is_true : goal.returns-in_err-read-in-Name-clause-fault_is_true

@@ -2,12 +2,12 @@ use Rattle.std.proofs.Common.{inr}
 use Rattle.std.specs.Prelude.{Some, option_map, option_copied}
 use Rattle.std.proofs.lemmas.Result.{err_from_is_err_and, on_ok_weaker}
 use Rattle.fidl_tree.specs.Views.{path_view, constraints_view}
-use Rattle.fidl_names.specs.Places.{a_type}
-use Rattle.fidl_names.specs.Constraints.{ItemsHold, ItemsFail}
+use Rattle.fidl_named.specs.Places.{a_type}
+use Rattle.fidl_named.specs.Constraints.{ItemsHold, ItemsFail}
 use Rattle.fidl_names.specs.Resolved.{PlaceHolds, PlaceFails, of_constraint}
-use Rattle.fidl_names.specs.Scopes.{IsMemoryOr}
-use Rattle.fidl_names.proofs.Judging.{reported_more}
-use Rattle.fidl_names.proofs.PathViews.{means_seen, refusal_seen, wants_view}
+use Rattle.fidl_named.specs.Scopes.{IsMemoryOr}
+use Rattle.fidl_named.proofs.Judging.{reported_more}
+use Rattle.fidl_named.proofs.PathViews.{means_seen, refusal_seen, wants_view}
 use Rattle.fidl_names.proofs.place_names.check_type.Goals as goal
 
 pub returns-in_err-meaning-clause-fault_is_true : goal.returns-in_err-meaning-clause-fault_is_true

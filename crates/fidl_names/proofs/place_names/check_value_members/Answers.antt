@@ -5,10 +5,10 @@ use Rattle.std.proofs.lemmas.Result.{err_from_is_err_and}
 use Rattle.std.proofs.Math.ListN.{get_or-map, length-map}
 use Rattle.fidl_tree.specs.Syntax.{ValueMember}
 use Rattle.fidl_tree.specs.Views.{value_member_view}
-use Rattle.fidl_names.specs.Constraints.{ValueMeans, NameOfValueFails}
+use Rattle.fidl_named.specs.Constraints.{ValueMeans, NameOfValueFails}
 use Rattle.fidl_names.specs.Resolved.{MemberFails}
-use Rattle.fidl_names.proofs.Seeing.{all_take}
-use Rattle.fidl_names.proofs.Judging.{reports_more}
+use Rattle.fidl_cycles.proofs.Lists.{all_take}
+use Rattle.fidl_named.proofs.Judging.{reports_more}
 use Rattle.fidl_names.proofs.place_names.check_value_members.Goals as goal
 
 pub returns-in_err-check_value-clause-fault_is_true : goal.returns-in_err-check_value-clause-fault_is_true

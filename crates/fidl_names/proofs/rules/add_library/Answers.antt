@@ -3,9 +3,9 @@ use Rattle.std.specs.Global.{Vec}
 use Rattle.std.proofs.lemmas.List.{map-append}
 use Rattle.std.proofs.Math.ListN.{length-map}
 use Rattle.indexmap.proofs.CallerLemmas.{insert_entry-new}
-use Rattle.fidl_names.specs.NameMaps.{seen, names_of}
+use Rattle.fidl_named.specs.NameMaps.{seen, names_of}
 use Rattle.fidl_names.specs.ImportCycles.{AreNumbered}
-use Rattle.fidl_names.proofs.Taken.{taken, none_there}
+use Rattle.fidl_named.proofs.Taken.{taken, none_there}
 use Rattle.fidl_names.proofs.Sames.{same_there, same_as}
 use Rattle.fidl_names.proofs.LibraryNumbers.{numbered_more}
 use Rattle.fidl_names.proofs.rules.add_library.Goals as goal

@@ -2,11 +2,12 @@ use Rattle.std.proofs.Common.{◌≡◌, ◌++◌, ◌∷◌, [], get_or, map, t
 use Rattle.std.proofs.lemmas.List.{map-append}
 use Rattle.std.proofs.lemmas.Result.{err_from_is_err_and}
 use Rattle.std.proofs.lemmas.Option.{get_or_from_slice_get}
-use Rattle.fidl_names.specs.declared.fault.NameFault.TheVariants.{Memory}
-use Rattle.fidl_names.specs.Imports.{visible, libraries_of, ImportsAreKnown, ImportsAreApart, IsTrueOfImports}
-use Rattle.fidl_names.specs.Faults.{IsTrueOfOne}
-use Rattle.fidl_names.specs.NameMaps.{seen, texts_view, names_of}
-use Rattle.fidl_names.proofs.Seeing.{take_item, all_take}
+use Rattle.fidl_named.specs.declared.fault.NameFault.TheVariants.{Memory}
+use Rattle.fidl_named.specs.Imports.{visible, ImportsAreApart}
+use Rattle.fidl_names.specs.ImportRules.{libraries_of, ImportsAreKnown, IsTrueOfImports}
+use Rattle.fidl_names.specs.Refusals.{IsTrueOfOne}
+use Rattle.fidl_named.specs.NameMaps.{seen, texts_view, names_of}
+use Rattle.fidl_cycles.proofs.Lists.{take_item, all_take}
 use Rattle.fidl_names.proofs.Sames.{known_by, reported_by}
 use Rattle.fidl_names.proofs.rules.all_imports.Goals as goal
 

@@ -1,7 +1,8 @@
 use Rattle.std.proofs.Common.{◌≡◌, map, take}
 use Rattle.std.specs.List.{AllByRecursion}
-use Rattle.fidl_names.specs.Imports.{visible, libraries_of, ImportsAreKnown, ImportsAreApart}
-use Rattle.fidl_names.specs.NameMaps.{texts_view}
+use Rattle.fidl_named.specs.Imports.{visible, ImportsAreApart}
+use Rattle.fidl_names.specs.ImportRules.{libraries_of, ImportsAreKnown}
+use Rattle.fidl_named.specs.NameMaps.{texts_view}
 use Rattle.fidl_names.proofs.rules.all_imports.Given as goal
 
 -- the same of the files so far

@@ -6,8 +6,8 @@ use Rattle.std.proofs.lemmas.Option.{get_or_from_slice_get}
 use Rattle.fidl_tree.specs.declared.file.File.{File}
 use Rattle.fidl_tree.specs.Views.{file_view}
 use Rattle.fidl_names.specs.MemberLists.{DistinctMembers, RepeatsMember, IsRepeatedAt}
-use Rattle.fidl_names.specs.Faults.{IsTrueOfOne}
-use Rattle.fidl_names.proofs.Seeing.{all_take}
+use Rattle.fidl_names.specs.Refusals.{IsTrueOfOne}
+use Rattle.fidl_cycles.proofs.Lists.{all_take}
 use Rattle.fidl_names.proofs.Layouts.{members_differ}
 use Rattle.fidl_names.proofs.rules.all_members.Goals as goal
 

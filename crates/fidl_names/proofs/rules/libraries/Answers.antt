@@ -1,10 +1,11 @@
 use Rattle.std.proofs.Common.{◌≡◌, ◌++◌, ◌∷◌, [], get_or, take, ap, sym, subst, ◌∙◌, arith}
 use Rattle.std.proofs.Math.ListN.{get_or-map, length-map}
 use Rattle.std.proofs.lemmas.Option.{get_or_from_slice_get}
-use Rattle.fidl_names.specs.Names.{library_of}
-use Rattle.fidl_names.specs.Imports.{libraries_of}
-use Rattle.fidl_names.specs.NameMaps.{seen, names_of, HaveSame}
-use Rattle.fidl_names.proofs.Seeing.{take_item}
+use Rattle.fidl_named.specs.Names.{library_of}
+use Rattle.fidl_names.specs.ImportRules.{libraries_of}
+use Rattle.fidl_named.specs.NameMaps.{seen, names_of}
+use Rattle.fidl_names.specs.TakenNames.{HaveSame}
+use Rattle.fidl_cycles.proofs.Lists.{take_item}
 use Rattle.fidl_names.proofs.Sames.{same_more}
 use Rattle.fidl_names.proofs.rules.libraries.Goals as goal
 

@@ -1,6 +1,7 @@
 use Rattle.std.proofs.Common.{take}
-use Rattle.fidl_names.specs.Imports.{libraries_of}
-use Rattle.fidl_names.specs.NameMaps.{seen, names_of, HaveSame}
+use Rattle.fidl_names.specs.ImportRules.{libraries_of}
+use Rattle.fidl_named.specs.NameMaps.{seen, names_of}
+use Rattle.fidl_names.specs.TakenNames.{HaveSame}
 use Rattle.fidl_names.specs.ImportCycles.{AreNumbered}
 use Rattle.fidl_names.proofs.rules.libraries.Given as goal
 

@@ -4,7 +4,7 @@ use Rattle.fidl_tree.specs.Syntax.{TypeUse}
 use Rattle.fidl_tree.specs.Views.{type_view}
 use Rattle.fidl_tree.specs.declared.type_constructor.TypeConstructor.{TypeConstructor}
 use Rattle.fidl_constraints.specs.BehindViews.{use_view}
-use Rattle.fidl_const.specs.Refusals.{type_span}
+use Rattle.fidl_consts.specs.Refusals.{type_span}
 use Rattle.fidl_payloads.specs.declared.payload.Payload.TheVariants as payload
 use Rattle.fidl_payloads.specs.Kinds.{IsPayload}
 use Rattle.fidl_payloads.specs.Payloads.{PartIs}

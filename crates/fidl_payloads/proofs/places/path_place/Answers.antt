@@ -1,5 +1,5 @@
 use Rattle.std.proofs.Common.{◌∙◌}
-use Rattle.fidl_names.proofs.PathViews.{place_seen}
+use Rattle.fidl_named.proofs.PathViews.{place_seen}
 use Rattle.fidl_payloads.proofs.places.path_place.Goals as goal
 
 pub returns : goal.returns

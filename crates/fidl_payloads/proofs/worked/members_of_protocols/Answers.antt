@@ -2,7 +2,7 @@ use Rattle.std.proofs.Common.{◌≡◌, ◌∙◌, List, [], ◌∷◌, refl, a
 use Rattle.std.specs.List.{Contains}
 use Rattle.std.proofs.lemmas.Option.{none-some}
 use Rattle.fidl_tree.specs.Syntax.{Declaration, ProtocolMember, protocol_body, type_body}
-use Rattle.fidl_const.proofs.Among.{among_none, among_first, among_rest}
+use Rattle.fidl_consts.proofs.Among.{among_none, among_first, among_rest}
 use Rattle.fidl_payloads.proofs.Small.{its_declaration}
 use Rattle.fidl_payloads.proofs.worked.members_of_protocols.Goals as goal
 

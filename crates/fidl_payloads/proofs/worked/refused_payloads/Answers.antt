@@ -1,6 +1,6 @@
 use Rattle.std.proofs.Common.{◌≡◌, ◌∙◌, ℕ, Option, refl, ap, sym, subst, arith}
 use Rattle.fidl_tree.specs.Syntax.{TypeUse}
-use Rattle.fidl_const.specs.Refusals.{type_span}
+use Rattle.fidl_consts.specs.Refusals.{type_span}
 use Rattle.fidl_payloads.specs.Kinds.{IsPayload}
 use Rattle.fidl_payloads.specs.Members.{part_types, TypesHold, TypesBreak}
 use Rattle.fidl_payloads.proofs.Owed.{alone_breaks}

@@ -1,6 +1,6 @@
 use Rattle.std.proofs.Common.{◌∙◌, Option, ap, inl, inr, sym, subst, true≢false}
 use Rattle.std.specs.Prelude.{is_some, IfSome}
-use Rattle.fidl_names.specs.declared.place.Place.{Place}
+use Rattle.fidl_named.specs.declared.place.Place.{Place}
 use Rattle.fidl_composition.specs.Compositions.{IsWay}
 use Rattle.fidl_protocol.specs.Gathered.{IsLaterOwn}
 use Rattle.fidl_protocol.proofs.Nodes.{declares}

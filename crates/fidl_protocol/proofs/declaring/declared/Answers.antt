@@ -1,7 +1,7 @@
 use Rattle.std.proofs.Common.{◌+◌, List, take, get_or, sym, subst}
 use Rattle.std.specs.Global.{Vec}
 use Rattle.std.proofs.lemmas.List.{get_or_default}
-use Rattle.fidl_names.specs.declared.place.DeclarationId.{DeclarationId}
+use Rattle.fidl_named.specs.declared.place.DeclarationId.{DeclarationId}
 use Rattle.fidl_protocol.specs.declared.method.Method.{Method}
 use Rattle.fidl_protocol.specs.Checked.{MembersHold}
 use Rattle.fidl_protocol.specs.Gathered.{AreDeclaredBy, AreRows}

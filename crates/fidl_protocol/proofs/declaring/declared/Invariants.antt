@@ -1,6 +1,6 @@
 use Rattle.std.proofs.Common.{take}
 use Rattle.std.specs.List.{Contains}
-use Rattle.fidl_names.specs.declared.place.DeclarationId.{DeclarationId}
+use Rattle.fidl_named.specs.declared.place.DeclarationId.{DeclarationId}
 use Rattle.fidl_protocol.specs.Checked.{MembersHold}
 use Rattle.fidl_protocol.specs.Gathered.{AreRows}
 use Rattle.fidl_protocol.proofs.declaring.declared.Given as goal

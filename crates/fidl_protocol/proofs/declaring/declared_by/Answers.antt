@@ -3,7 +3,7 @@ use Rattle.std.specs.Global.{Vec}
 use Rattle.std.specs.List.{AllZip}
 use Rattle.std.proofs.lemmas.Result.{IfOk-weaker}
 use Rattle.fidl_tree.specs.declared.file.File.{File}
-use Rattle.fidl_names.specs.declared.place.DeclarationId.{DeclarationId}
+use Rattle.fidl_named.specs.declared.place.DeclarationId.{DeclarationId}
 use Rattle.fidl_method_rules.specs.declared.methods.OwnMethod.{OwnMethod}
 use Rattle.fidl_protocol.specs.declared.method.Method.{Method}
 use Rattle.fidl_protocol.specs.Checked.{MembersHold}

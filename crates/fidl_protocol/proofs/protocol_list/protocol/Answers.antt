@@ -2,7 +2,7 @@ use Rattle.std.proofs.Common.{◌∙◌, ◌⊎◌, List, Option, ap, refl, sym,
 use Rattle.std.specs.Prelude.{is_some, IfSome}
 use Rattle.std.specs.List.{AllPairs}
 use Rattle.fidl_tree.specs.declared.file.File.{File}
-use Rattle.fidl_names.specs.declared.place.DeclarationId.{DeclarationId}
+use Rattle.fidl_named.specs.declared.place.DeclarationId.{DeclarationId}
 use Rattle.fidl_protocol.specs.declared.alike.Pair.{Pair}
 use Rattle.fidl_protocol.specs.declared.method.Method.{Method}
 use Rattle.fidl_protocol.specs.Methods.{HaveOneName}

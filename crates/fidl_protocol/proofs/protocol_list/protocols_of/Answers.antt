@@ -4,7 +4,7 @@ use Rattle.std.specs.Global.{Vec}
 use Rattle.std.specs.List.{Contains}
 use Rattle.std.proofs.lemmas.List.{get_or_default, take_all}
 use Rattle.std.proofs.lemmas.Option.{slice_get-get_or}
-use Rattle.fidl_names.specs.declared.place.DeclarationId.{DeclarationId}
+use Rattle.fidl_named.specs.declared.place.DeclarationId.{DeclarationId}
 use Rattle.fidl_protocol.specs.declared.method.Method.{Method}
 use Rattle.fidl_protocol.specs.Gathered.{AreDeclaredBy}
 use Rattle.fidl_protocol.proofs.Lists.{zip_length}

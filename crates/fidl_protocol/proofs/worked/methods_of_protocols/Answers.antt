@@ -1,5 +1,5 @@
 use Rattle.std.proofs.Common.{inl, inr, refl}
-use Rattle.fidl_names.specs.Cycles.{step}
+use Rattle.fidl_cycles.specs.Cycles.{step}
 use Rattle.fidl_protocol.proofs.worked.methods_of_protocols.Goals as goal
 
 pub returns-clause-own : goal.returns-clause-own

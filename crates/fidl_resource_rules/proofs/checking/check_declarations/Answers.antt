@@ -1,7 +1,7 @@
 use Rattle.std.proofs.Common.{rules, sym, subst}
 use Rattle.std.specs.List.{Contains}
 use Rattle.std.proofs.lemmas.List.Elements.{Contains-get_or}
-use Rattle.fidl_names.proofs.Seeing.{all_take}
+use Rattle.fidl_cycles.proofs.Lists.{all_take}
 use Rattle.fidl_resource_rules.specs.Resources.{DeclarationHolds}
 use Rattle.fidl_resource_rules.proofs.Reports.{report_one}
 use Rattle.fidl_resource_rules.proofs.checking.check_declarations.Goals as goal

@@ -2,7 +2,7 @@ use Rattle.std.proofs.Common.{rules, ◌≡◌}
 use Rattle.std.proofs.lemmas.Result.{on_ok_weaker, IfErr-weaker}
 use Rattle.fidl_span.specs.declared.words.Span.{Span}
 use Rattle.fidl_tree.specs.Views.{type_view}
-use Rattle.fidl_const.specs.Refusals.{type_span}
+use Rattle.fidl_consts.specs.Refusals.{type_span}
 use Rattle.fidl_resource_rules.specs.Kinds.{IsUint32}
 use Rattle.fidl_resource_rules.specs.Resources.{HasSubtype, PropertyBreaks, ResourceBreaks, IsReportIn}
 use Rattle.fidl_resource_rules.proofs.Reports.{report_in}

@@ -3,7 +3,7 @@ use Rattle.std.specs.Prelude.{codes}
 use Rattle.std.specs.List.{Contains}
 use Rattle.fidl_tree.specs.Leaf.{text_at}
 use Rattle.fidl_tree.specs.declared.declaration.Property.{Property}
-use Rattle.fidl_names.specs.Constraints.{property_names}
+use Rattle.fidl_named.specs.Constraints.{property_names}
 use Rattle.fidl_declarations.proofs.Items.{among_seen, all_seen}
 use Rattle.fidl_resource_rules.proofs.properties.has_subtype.Goals as goal
 

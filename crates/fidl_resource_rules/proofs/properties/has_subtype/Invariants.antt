@@ -1,7 +1,7 @@
 use Rattle.std.proofs.Common.{◌≡◌, List, ℕ, take}
 use Rattle.std.specs.Prelude.{codes}
 use Rattle.std.specs.List.{AllByRecursion}
-use Rattle.fidl_names.specs.Constraints.{property_names}
+use Rattle.fidl_named.specs.Constraints.{property_names}
 use Rattle.fidl_resource_rules.proofs.properties.has_subtype.Given as goal
 
 -- none of the properties so far is the subtype

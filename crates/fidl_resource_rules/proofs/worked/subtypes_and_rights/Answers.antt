@@ -1,7 +1,7 @@
 use Rattle.std.proofs.Common.{◌≡◌, ◌∙◌, [], false, ◌∷◌, refl, ap, sym}
 use Rattle.std.specs.Prelude.{codes}
 use Rattle.fidl_tree.specs.Syntax.{layout_type, values_layout, enum_kind, no_underlying}
-use Rattle.fidl_names.specs.declared.meaning.Predeclared.TheVariants as name
+use Rattle.fidl_named.specs.declared.meaning.Predeclared.TheVariants as name
 use Rattle.fidl_constraints.specs.Behind.{Core, layout_head, RefersTo, Behind}
 use Rattle.fidl_constraints.specs.AliasExamples.{named_with, plain_word, core_of}
 use Rattle.fidl_constraints.proofs.OneBehind.{one_behind}

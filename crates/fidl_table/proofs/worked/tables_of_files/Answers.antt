@@ -2,7 +2,7 @@ use Rattle.std.proofs.Common.{◌<◌, List, [], rules, arith, refl}
 use Rattle.std.proofs.lemmas.Option.{none-some}
 use Rattle.fidl_wire.specs.Term.{Term}
 use Rattle.fidl_wire.specs.Figure.{no_declarations}
-use Rattle.fidl_names.specs.Cycles.{Leads, step, further}
+use Rattle.fidl_cycles.specs.Cycles.{Leads, step, further}
 use Rattle.fidl_reachable_types.specs.Reached.{IsReached, AreReached, with_none, root, part}
 use Rattle.fidl_composition.proofs.Lists.{nothing_there}
 use Rattle.fidl_layout.specs.Laid.{AreLaidOut}

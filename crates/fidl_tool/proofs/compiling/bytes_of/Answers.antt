@@ -1,5 +1,5 @@
 use Rattle.std.proofs.Common.{refl, ◌∙◌, arith}
-use Rattle.fidl_tool.specs.declared.files.File.{File}
+use Rattle.fidl_commands.specs.declared.files.File.{File}
 use Rattle.fidl_tool.proofs.Pushed.{map_at, map_done}
 use Rattle.fidl_tool.proofs.NamedFiles.{bytes_named}
 use Rattle.fidl_tool.proofs.compiling.bytes_of.Goals as goal

@@ -1,5 +1,5 @@
 use Rattle.std.proofs.Common.{◌≡◌, map, take}
-use Rattle.fidl_tool.specs.declared.files.File.{File}
+use Rattle.fidl_commands.specs.declared.files.File.{File}
 use Rattle.fidl_tool.proofs.compiling.bytes_of.Given as goal
 
 -- the texts so far are those of the files so far

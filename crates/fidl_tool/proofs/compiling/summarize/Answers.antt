@@ -1,7 +1,7 @@
 use Rattle.std.proofs.Common.{subst, sym, inl}
-use Rattle.fidl_tool.specs.declared.outcome.Outcome.TheVariants as outcome
+use Rattle.fidl_commands.specs.declared.outcome.Outcome.TheVariants as outcome
 use Rattle.fidl_tool.specs.Compiling.{CanEndPrinting}
-use Rattle.fidl_tool.proofs.Told.{told_never, only_unwritten}
+use Rattle.fidl_commands.proofs.Told.{told_never, only_unwritten}
 use Rattle.fidl_tool.proofs.compiling.summarize.Goals as goal
 
 pub returns-in-Err-clause-ends : goal.returns-in-Err-clause-ends

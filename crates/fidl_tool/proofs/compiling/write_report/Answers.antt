@@ -1,7 +1,7 @@
 use Rattle.std.proofs.Common.{List, ℕ, [], ◌∷◌, ◌++◌}
 use Rattle.std.specs.Prelude.{codes, decimal}
 use Rattle.fidl_text.specs.Words.{words_line}
-use Rattle.fidl_tool.proofs.Told.{at_ok}
+use Rattle.fidl_commands.proofs.Told.{at_ok}
 use Rattle.fidl_text.proofs.Written.{appends_kept, appends_then}
 use Rattle.fidl_tool.specs.Compiling.{shown_name}
 use Rattle.fidl_tool.proofs.compiling.write_report.Goals as goal

@@ -6,10 +6,10 @@ use Rattle.fidl_command_line.specs.declared.arguments.Arguments.TheVariants.{Com
 use Rattle.fidl_command_line.specs.declared.unread.Unread.{Unread}
 use Rattle.fidl_command_line.specs.declared.unread.Unread.TheVariants as unread
 use Rattle.fidl_text.proofs.Written.{appends_as}
-use Rattle.fidl_tool.specs.Decoding.{no_memory_line}
-use Rattle.fidl_tool.specs.Reasons.{outcome_of, line_of}
-use Rattle.fidl_tool.specs.declared.outcome.Outcome.{Outcome}
-use Rattle.fidl_tool.specs.declared.outcome.Outcome.TheVariants as outcome
+use Rattle.fidl_commands.specs.Decoding.{no_memory_line}
+use Rattle.fidl_commands.specs.Reasons.{outcome_of, line_of}
+use Rattle.fidl_commands.specs.declared.outcome.Outcome.{Outcome}
+use Rattle.fidl_commands.specs.declared.outcome.Outcome.TheVariants as outcome
 use Rattle.fidl_tool.proofs.program.run.Goals as goal
 
 written : (r other : Outcome) → r ≡ other → other ≢ outcome.Unwritten → r ≢ outcome.Unwritten

@@ -1,5 +1,5 @@
 use Rattle.std.proofs.Common.{ap, arith}
-use Rattle.fidl_tool.specs.declared.files.File.{File}
+use Rattle.fidl_commands.specs.declared.files.File.{File}
 use Rattle.fidl_tool.specs.Running.{stored_as}
 use Rattle.fidl_tool.proofs.Pushed.{map_more, map_done}
 use Rattle.fidl_tool.proofs.sources.files_of.Goals as goal

@@ -3,8 +3,8 @@ use Rattle.std.specs.Prelude.{Err, Option}
 use Rattle.fidl_table_format.specs.WellFormed.{WellFormed}
 use Rattle.fidl_compile.specs.Sources.{IsTableOf}
 use Rattle.fidl_tool.specs.Compiling.{Named, named_of, texts_of, summary_line, IsSourceRefusal}
-use Rattle.fidl_tool.specs.Files.{IsWritten, NamesFile}
-use Rattle.fidl_tool.specs.Outputs.{AppendsOne}
+use Rattle.fidl_commands.specs.Files.{IsWritten, NamesFile}
+use Rattle.fidl_commands.specs.Outputs.{AppendsOne}
 use Rattle.fidl_tool.specs.Running.{AreRead, IsCompiled, stored_as}
 use Rattle.fidl_tool.proofs.NamedFiles.{files_read}
 use Rattle.fidl_text.proofs.Written.{appends_as, front_as}

@@ -1,6 +1,6 @@
 use Rattle.std.proofs.Common.{Option, refl, sym, subst, true≢false}
 use Rattle.std.specs.Prelude.{IsNone}
-use Rattle.fidl_names.specs.declared.meaning.Predeclared.{Predeclared}
+use Rattle.fidl_named.specs.declared.meaning.Predeclared.{Predeclared}
 use Rattle.fidl_constraints.specs.BehindViews.{use_view}
 use Rattle.fidl_type_rules.specs.Words.{IsWord}
 use Rattle.fidl_type_rules.proofs.words.is_left_out.Goals as goal

@@ -1,9 +1,9 @@
 use Rattle.std.proofs.Common.{◌∙◌, Some, ap, subst}
 use Rattle.std.specs.Prelude.{Option}
 use Rattle.fidl_tree.specs.Views.{path_view}
-use Rattle.fidl_names.specs.declared.meaning.Meaning.{Meaning}
-use Rattle.fidl_names.specs.declared.meaning.Meaning.TheVariants as meaning
-use Rattle.fidl_names.specs.Meanings.{IsJust}
+use Rattle.fidl_named.specs.declared.meaning.Meaning.{Meaning}
+use Rattle.fidl_named.specs.declared.meaning.Meaning.TheVariants as meaning
+use Rattle.fidl_named.specs.Meanings.{IsJust}
 use Rattle.fidl_constraints.specs.Behind.{MeansType}
 use Rattle.fidl_constraints.proofs.Naming.{just_meant}
 use Rattle.fidl_type_rules.proofs.words.word_at.Goals as goal

@@ -3,8 +3,8 @@ use Rattle.std.specs.Prelude.{IfSome, IsNone}
 use Rattle.std.proofs.lemmas.Result.{IfOk-weaker}
 use Rattle.fidl_tree.specs.Views.{path_view}
 use Rattle.fidl_tree.specs.declared.type_constructor.NamedType.{out-NamedType}
-use Rattle.fidl_names.specs.declared.meaning.Predeclared.{Predeclared}
-use Rattle.fidl_names.specs.declared.meaning.Meaning.TheVariants as meaning
+use Rattle.fidl_named.specs.declared.meaning.Predeclared.{Predeclared}
+use Rattle.fidl_named.specs.declared.meaning.Meaning.TheVariants as meaning
 use Rattle.fidl_constraints.specs.Behind.{MeansType}
 use Rattle.fidl_constraints.specs.BehindViews.{use_view}
 use Rattle.fidl_type_rules.specs.Words.{IsWord}

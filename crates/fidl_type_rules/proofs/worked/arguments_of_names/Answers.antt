@@ -1,5 +1,5 @@
 use Rattle.std.proofs.Common.{[]}
-use Rattle.fidl_names.specs.declared.meaning.Predeclared.TheVariants as name
+use Rattle.fidl_named.specs.declared.meaning.Predeclared.TheVariants as name
 use Rattle.fidl_type_rules.specs.Words.{ArgumentsSuit}
 use Rattle.fidl_type_rules.proofs.Small.{word_is}
 use Rattle.fidl_type_rules.proofs.worked.arguments_of_names.Goals as goal

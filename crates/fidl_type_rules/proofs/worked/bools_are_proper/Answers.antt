@@ -1,5 +1,5 @@
 use Rattle.std.proofs.Common.{[], refl}
-use Rattle.fidl_names.specs.declared.meaning.Predeclared.TheVariants as name
+use Rattle.fidl_named.specs.declared.meaning.Predeclared.TheVariants as name
 use Rattle.fidl_wire.specs.Term as ty
 use Rattle.fidl_declarations.specs.Sites.{present_type}
 use Rattle.fidl_constraints.specs.AliasExamples.{named_with}

@@ -1,5 +1,5 @@
 use Rattle.std.proofs.Common.{[], refl}
-use Rattle.fidl_names.specs.declared.meaning.Predeclared.TheVariants as name
+use Rattle.fidl_named.specs.declared.meaning.Predeclared.TheVariants as name
 use Rattle.fidl_declarations.specs.Sites.{aliased_type}
 use Rattle.fidl_lower_types.specs.Terms.{end_term}
 use Rattle.fidl_type_rules.proofs.Small.{plain_holds, open_not}

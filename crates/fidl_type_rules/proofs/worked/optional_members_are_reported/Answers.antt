@@ -1,5 +1,5 @@
 use Rattle.std.proofs.Common.{[], ◌∷◌, refl}
-use Rattle.fidl_names.specs.declared.meaning.Predeclared.TheVariants as name
+use Rattle.fidl_named.specs.declared.meaning.Predeclared.TheVariants as name
 use Rattle.fidl_tree.specs.Syntax.{next_argument, type_argument, no_arguments}
 use Rattle.fidl_constraints.specs.Behind.{word_head}
 use Rattle.fidl_constraints.specs.AliasExamples.{core_of}

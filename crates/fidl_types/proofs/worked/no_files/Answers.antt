@@ -1,6 +1,6 @@
 use Rattle.std.proofs.Common.{ℕ, [], arith}
 use Rattle.std.proofs.lemmas.Option.{none-some}
-use Rattle.fidl_names.specs.Cycles.{Leads, step, further}
+use Rattle.fidl_cycles.specs.Cycles.{Leads, step, further}
 use Rattle.fidl_ir_rules.specs.Inline.{HoldsInline}
 use Rattle.fidl_types.proofs.worked.no_files.Goals as goal
 

@@ -1,7 +1,7 @@
 use Rattle.std.proofs.Common.{[], ◌∷◌, List, refl, subst, arith}
 use Rattle.fidl_wire.specs.Term as ty
 use Rattle.fidl_wire.specs.Term.{Term}
-use Rattle.fidl_names.specs.Cycles.{step}
+use Rattle.fidl_cycles.specs.Cycles.{step}
 use Rattle.fidl_lower_layouts.proofs.One.{one_definitions}
 use Rattle.fidl_ir_rules.specs.Inline.{IsFirstInItself}
 use Rattle.fidl_ir_rules.proofs.Targets.{stands_in_itself}

@@ -7,4 +7,4 @@ returns-then-not-is_sorted-clause-fault_is_true c =
 
 pub returns-then-not-has_names-clause-fault_is_true : goal.returns-then-not-has_names-clause-fault_is_true
 returns-then-not-has_names-clause-fault_is_true c =
-    wrong_names c.args.table.now.bytes.now c.args.table.now.header c.args.table.now.is_header c.args.table.now.whole c.args.index c.requires.within c.entry-entry.result c.entry-entry.ensures (refused c.if-not-has_names.ensures)
+    wrong_names c.args.table.now.bytes.now c.args.table.now.header c.args.table.now.is_header c.args.table.now.whole c.args.index c.requires.within c.entry-entry.result c.entry-entry.ensures (refused c.if-not-has_names.ensures.value)

@@ -5,10 +5,10 @@ use Rattle.fidl_verify.proofs.methods.check_method.Goals as goal
 
 pub returns-then-not-has_shape-clause-fault_is_true : goal.returns-then-not-has_shape-clause-fault_is_true
 returns-then-not-has_shape-clause-fault_is_true c =
-    wrong_method c.args.table.now.bytes.now c.args.table.now.header c.args.table.now.is_header c.args.table.now.whole c.args.index c.requires
+    wrong_method c.args.table.now.bytes.now c.args.table.now.header c.args.table.now.is_header c.args.table.now.whole c.args.index c.requires.within
     (subst (λ m. HasMethodShape c.args.table.now.bytes.now c.args.table.now.header m → ⊥) c.method-method.ensures (refused c.if-not-has_shape.ensures))
 
 pub returns-then-not-is_full_name-clause-fault_is_true : goal.returns-then-not-is_full_name-clause-fault_is_true
 returns-then-not-is_full_name-clause-fault_is_true c =
-    wrong_method_name c.args.table.now.bytes.now c.args.table.now.header c.args.table.now.is_header c.args.table.now.whole c.args.index c.requires
-    (subst (λ m. HasMethodName c.args.table.now.bytes.now c.args.table.now.header m → ⊥) c.method-method.ensures (refused c.if-not-is_full_name.ensures))
+    wrong_method_name c.args.table.now.bytes.now c.args.table.now.header c.args.table.now.is_header c.args.table.now.whole c.args.index c.requires.within
+    (subst (λ m. HasMethodName c.args.table.now.bytes.now c.args.table.now.header m → ⊥) c.method-method.ensures (refused c.if-not-is_full_name.ensures.value))

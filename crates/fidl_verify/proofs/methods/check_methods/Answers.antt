@@ -8,6 +8,7 @@ pub loop-protocol-preserved : goal.loop-protocol-preserved
 loop-protocol-preserved c = record {
   before = next_before c.args.table.now.bytes.now c.args.table.now.header c.loop-protocol.protocol c.loop-protocol.first c.protocol.result c.protocol.ensures c.loop-protocol.invariant.before;
   rules = λ k p. elim (cases_lt k c.loop-protocol.first) [ inl less ↦ c.loop-protocol.invariant.rules k less | inr from ↦ c.in_ok-check_methods_of.ensures.ok k (omega (arith, from)) p ];
+  seen = c.in_ok-check_methods_of.ensures.seen;
 }
 
 pub returns-clause-ok : goal.returns-clause-ok

@@ -28,5 +28,6 @@ loop-index-preserved c =
     record {
       rules = λ k from p. elim (or_last k c.loop-index.index (omega (arith, p))) [ inl less ↦ c.loop-index.invariant.rules k from less | inr same ↦ subst (IsMethod bytes h) (sym same) here ];
       start = λ e. absurd (omega (arith, e, c.loop-index.auto.index));
+      seen = c.in_ok-ordinal.ensures.seen;
       before = λ k from e. let same : k ≡ c.loop-index.index = omega (arith, e) in subst (λ i. c.in_ok-ordinal.ordinal ≡ ordinal_at bytes h i) (sym same) c.in_ok-ordinal.ensures.ordinal;
     }

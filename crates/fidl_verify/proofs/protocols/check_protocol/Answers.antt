@@ -12,11 +12,11 @@ returns-then-protocol-gt2-clause-fault_is_true c =
 
 pub returns-then-not-has_protocol_name-clause-fault_is_true : goal.returns-then-not-has_protocol_name-clause-fault_is_true
 returns-then-not-has_protocol_name-clause-fault_is_true c =
-    wrong_protocol_name c.args.table.now.bytes.now c.args.table.now.header c.args.table.now.is_header c.args.table.now.whole c.args.index c.requires.within (refused c.if-not-has_protocol_name.ensures)
+    wrong_protocol_name c.args.table.now.bytes.now c.args.table.now.header c.args.table.now.is_header c.args.table.now.whole c.args.index c.requires.within (refused c.if-not-has_protocol_name.ensures.value)
 
 pub rises-requires-clause-named : goal.rises-requires-clause-named
 rises-requires-clause-named c =
-    up_to (λ k. HasProtocolName c.args.table.now.bytes.now c.args.table.now.header k) c.args.index (λ k p. (c.requires.rules k p).name) (c.has_protocol_name.ensures.0 c.if-not-has_protocol_name.false)
+    up_to (λ k. HasProtocolName c.args.table.now.bytes.now c.args.table.now.header k) c.args.index (λ k p. (c.requires.rules k p).name) (c.has_protocol_name.ensures.value.0 c.if-not-has_protocol_name.false)
 
 pub returns-then-not-rises-clause-fault_is_true : goal.returns-then-not-rises-clause-fault_is_true
 returns-then-not-rises-clause-fault_is_true c =

@@ -8,6 +8,7 @@ loop-index-preserved c = record {
   rules = below_more (λ k. IsProtocol c.args.table.now.bytes.now c.args.table.now.header k) _ c.loop-index.invariant.rules c.in_ok-methods.ensures.ok;
   before = c.in_ok-methods.ensures.methods ∙ ap (methods_before c.args.table.now.bytes.now c.args.table.now.header) (sym (add-one c.loop-index.index));
   room = subst (λ n. n ≤ c.args.table.now.header.methods) (sym c.in_ok-methods.ensures.methods) c.in_ok-methods.ensures.ok.methods;
+  seen = c.in_ok-methods.ensures.seen;
 }
 
 pub returns-then-methods-table-clause-fault_is_true : goal.returns-then-methods-table-clause-fault_is_true

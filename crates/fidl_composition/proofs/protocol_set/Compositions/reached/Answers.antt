@@ -4,8 +4,8 @@ use Rattle.std.specs.List.{Contains}
 use Rattle.std.specs.Global.{Vec}
 use Rattle.std.proofs.lemmas.Result.{IfOk-weaker}
 use Rattle.fidl_tree.specs.declared.file.File.{File}
-use Rattle.fidl_names.specs.declared.place.DeclarationId.{DeclarationId}
-use Rattle.fidl_names.specs.Cycles.{EdgesWithin, points_of}
+use Rattle.fidl_named.specs.declared.place.DeclarationId.{DeclarationId}
+use Rattle.fidl_cycles.specs.Cycles.{EdgesWithin, points_of}
 use Rattle.fidl_composition.specs.Numbers.{AreCompositions, ReachesByNumber}
 use Rattle.fidl_composition.specs.Points.{AreDistinct, AreReached}
 use Rattle.fidl_composition.proofs.Ways.{reached_all}

@@ -2,13 +2,13 @@ use Rattle.std.proofs.Common.{◌≡◌, ◌++◌, ◌∷◌, [], ◌+◌, List,
 use Rattle.std.proofs.lemmas.List.{map-append}
 use Rattle.std.proofs.Math.ListN.{length-map}
 use Rattle.fidl_tree.specs.declared.file.File.{File}
-use Rattle.fidl_names.specs.Names.{all_declared, all_entries, entries_of, AreDistinct}
-use Rattle.fidl_names.specs.Faults.{IsTrueOfAdding}
-use Rattle.fidl_names.specs.NameMaps.{seen, names_of}
+use Rattle.fidl_named.specs.Names.{all_declared, all_entries, entries_of, AreDistinct}
+use Rattle.fidl_names.specs.Refusals.{IsTrueOfAdding}
+use Rattle.fidl_named.specs.NameMaps.{seen, names_of}
 use Rattle.fidl_names.proofs.Files.{entries_after, names_of-all}
 use Rattle.std.specs.List.{AllByRecursion}
-use Rattle.fidl_names.proofs.FileNumbers.{tree_of, numbered}
-use Rattle.fidl_names.proofs.MemberNumbers.{all_more}
+use Rattle.fidl_named.proofs.FileNumbers.{tree_of, numbered}
+use Rattle.fidl_named.proofs.NumbersOfNames.{all_more}
 use Rattle.fidl_names.proofs.library_set.LibrarySet.add.Goals as goal
 
 pub invariant_of-self-in-Ok : goal.invariant_of-self-in-Ok

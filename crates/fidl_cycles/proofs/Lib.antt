@@ -1,0 +1,5 @@
+pub mod Lists
+pub mod Trails
+pub mod Edges
+pub mod Firsts
+pub mod Orders

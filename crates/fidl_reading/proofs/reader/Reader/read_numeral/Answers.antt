@@ -1,0 +1,6 @@
+use Rattle.fidl_reading.proofs.Handing.{handed_so}
+use Rattle.fidl_reading.proofs.Leaves.{no_numeral}
+use Rattle.fidl_reading.proofs.reader.Reader.read_numeral.Goals as goal
+
+pub returns-in_err-number-clause-fault_is_true : goal.returns-in_err-number-clause-fault_is_true
+returns-in_err-number-clause-fault_is_true c = handed_so c.from_residual.result c.in_err-number.field-0.0 _ c.from_residual.ensures.1 (no_numeral _ _ c.in_err-number.ensures.fault_is_true)

@@ -1,5 +1,0 @@
-use Rattle.fidl_tool.specs.Running.{by_guide}
-use Rattle.fidl_tool.proofs.program.run_explain.Goals as goal
-
-pub returns-in-Ok-clause-done : goal.returns-in-Ok-clause-done
-returns-in-Ok-clause-done g c q = (_, by_guide _ (c.explain.ensures.some q), c.explain.ensures.done q)
