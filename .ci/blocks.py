@@ -14,6 +14,7 @@ import tempfile
 
 sys.dont_write_bytecode = True
 sys.path.insert(0, os.path.dirname(os.path.realpath(__file__)))
+import by_hand  # noqa: E402
 import explained  # noqa: E402
 
 BLOCK = re.compile(r"^```fidl\n(.*?)^```$", re.M | re.S)
@@ -59,6 +60,4 @@ def run(root, programs):
 
 
 if __name__ == "__main__":
-    top = os.path.dirname(os.path.dirname(os.path.realpath(__file__)))
-    given = sys.argv[1:] or [f"{top}/crates/fidl/out/fidl"]
-    sys.exit(not run(top, [os.path.abspath(it) for it in given]))
+    by_hand.start(run)

@@ -18,6 +18,10 @@ the next of that kind, are printed: `entries ..` by `compile`, all others by `ta
 beside others. A word `*` stands for any word, and `{x}` for any that is the same at each `{x}` of the case and another than those
 of other names. A line behind the word `no` is not printed. `bytes` and hexadecimal digits are the whole table.
 
+`cases/encode/*.txt`: a line behind the word `of` has the sources of a table, as in a line of `cases/compile`. Each line below it, to the next
+of that kind, is a root and the text of a value; then `->`, the exit status and what `encode` prints, on the output where the status is 0,
+else on the errors; `\\n` in it is a line feed.
+
 `cases/command/*.txt`: a line `file NAME` has the bytes of a file behind it, and a line `text NAME` its text, in which `^` is a line
 feed; `copy NAME PATH` takes a file of the repository, and `input` has the bytes of the standard input. They hold for the lines below.
 Each other line has the words of a command line, then `->`, the exit status and what is printed, on the output where the status is 0,
@@ -32,6 +36,10 @@ import re
 import subprocess
 import sys
 import tempfile
+
+sys.dont_write_bytecode = True
+sys.path.insert(0, os.path.dirname(os.path.realpath(__file__)))
+import by_hand  # noqa: E402
 
 LETTERS = "tuvwxyz"
 REPEATED = re.compile(r"\[(\d+)\.\.(\d+):(.*?)\]")
@@ -226,7 +234,7 @@ class CommandCase:
         ran = subprocess.run([program, *self.words], cwd=folder, input=self.given, capture_output=True, timeout=120)
         texts = [ran.stdout.decode(errors="replace"), ran.stderr.decode(errors="replace")]
         printed, empty = reversed(texts) if self.status else texts
-        is_right = printed == self.wanted and not empty and ran.returncode == self.status
+        is_right = self.wanted in (None, printed) and not empty and ran.returncode == self.status
         return "" if is_right else f"status {ran.returncode}, output {texts[0]!r}, errors {texts[1]!r}"
 
 
@@ -246,6 +254,30 @@ def command_cases(name, text):
             yield CommandCase(f"{name}:{number}", words.split(), files, given, int(status), lines)
 
 
+class EncodeCase(CommandCase):
+    """A text that is encoded by the table of sources."""
+
+    def __init__(self, where, sources, root, text, status, wanted):
+        super().__init__(where, ["encode", "out.fct", root, "--", text], sources_of(sources, {}), b"", status, wanted)
+
+    def what_fails(self, program, folder):
+        """Compiles the sources in a folder and runs the case there, and returns what is wrong with it, or nothing."""
+        compiled = CommandCase(self.where, ["compile", "--out", "out.fct", *self.files], self.files, b"", 0, None)
+        return compiled.what_fails(program, folder) or super().what_fails(program, folder)
+
+
+def encode_cases(name, text):
+    sources = ""
+    for number, line in remarks_left_out(text):
+        if line.startswith("of "):
+            sources = repeated(line[3:])
+        else:
+            given, _, wanted = repeated(line).partition(" -> ")
+            root, _, value = given.partition(" ")
+            status, _, printed = wanted.partition(" ")
+            yield EncodeCase(f"{name}:{number}", sources, root, value, int(status), printed.replace("\\n", "\n") + "\n")
+
+
 def read_by(word, data):
     """Returns the bytes that a line gives a file: hexadecimal words, a text, or those of a file of the repository."""
     if word == "file":
@@ -256,7 +288,7 @@ def read_by(word, data):
         return it.read()
 
 
-READERS = {"compile": compile_cases, "decode": decode_cases, "table": table_cases, "command": command_cases}
+READERS = {"compile": compile_cases, "decode": decode_cases, "encode": encode_cases, "table": table_cases, "command": command_cases}
 
 
 def files_of(root):
@@ -292,5 +324,4 @@ def run(root, programs):
 
 
 if __name__ == "__main__":
-    top = os.path.dirname(os.path.dirname(os.path.realpath(__file__)))
-    sys.exit(not run(top, [os.path.abspath(it) for it in sys.argv[1:]] or [f"{top}/crates/fidl/out/fidl"]))
+    by_hand.start(run)

@@ -14,6 +14,10 @@ import subprocess
 import sys
 import tempfile
 
+sys.dont_write_bytecode = True
+sys.path.insert(0, os.path.dirname(os.path.realpath(__file__)))
+import by_hand  # noqa: E402
+
 START = "    $ ./fidl "
 STATUS = re.compile(r"    # status (\d+)$")
 
@@ -85,5 +89,4 @@ def run(root, program):
 
 
 if __name__ == "__main__":
-    top = os.path.dirname(os.path.dirname(os.path.realpath(__file__)))
-    sys.exit(not run(top, f"{top}/crates/fidl/out/fidl"))
+    by_hand.start(lambda root, programs: all([run(root, it) for it in programs]))

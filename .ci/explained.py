@@ -5,7 +5,8 @@
 
 An explanation is a line `STAGE NUMBER NAME` and lines behind blanks. Under `Refused:` stands an input that has the fault, under
 `Accepted:` one that has not. An input is the source of a library, of which a line such as `// a.fidl` begins another file; or,
-where a library stands under `Of the library:`, a message: a root, hexadecimal digits, and behind `with` its handles.
+where a library stands under `Of the library:`, a message: a root, hexadecimal digits, and behind `with` its handles. Of the stages
+`notation` and `encode` it is a root and the text of a value.
 """
 import os
 import re
@@ -13,7 +14,12 @@ import subprocess
 import sys
 import tempfile
 
-STAGES = ("lex", "parse", "names", "const", "types", "layout", "protocol", "table", "decode")
+sys.dont_write_bytecode = True
+sys.path.insert(0, os.path.dirname(os.path.realpath(__file__)))
+import by_hand  # noqa: E402
+
+STAGES = ("lex", "parse", "names", "const", "types", "layout", "protocol", "table", "decode", "notation", "encode")
+TEXTS = ("notation", "encode")
 HEADING = re.compile(r"(\w+) (\d+) (\w+)")
 RULES = re.compile(r"Rules: (docs/\S+\.md), (\".*\")")
 ROW = re.compile(r"^\| (?:\d+ [A-Z]|\d+ \| [A-Z])")
@@ -95,13 +101,18 @@ def decoded(program, folder, lines):
     return ran(program, folder, "decode", *words, "t.fct", *given.split())
 
 
+def encoded(program, folder, lines):
+    root, _, text = lines[0].partition(" ")
+    return ran(program, folder, "encode", "t.fct", root, text)
+
+
 def what_fails(program, folder, entry):
     """Runs the inputs of an entry, and returns what is wrong with it, or nothing."""
     if "Refused" not in entry.parts:
         return ""
     run = compiled
     if "Of the library" in entry.parts:
-        run = decoded
+        run = encoded if entry.stage in TEXTS else decoded
         if compiled(program, folder, entry.parts["Of the library"]).returncode:
             return "its library is refused"
     refused = run(program, folder, entry.parts["Refused"])
@@ -120,11 +131,12 @@ def sections_of(path):
 
 
 def documented(root):
-    """Returns the numbers and names of the faults in the documents' tables: of sources, of tables and of messages."""
+    """Returns the numbers and names of the faults in the documents' tables: of sources, of tables, of messages, and of texts and values."""
     found = {}
     folder = f"{root}/docs/language"
     chapters = [f"{folder}/{it}" for it in sorted(os.listdir(folder))] if os.path.isdir(folder) else []
     groups = {"sources": [f"{root}/docs/language.md", *chapters], "table": [f"{root}/docs/table.md"], "decode": [f"{root}/docs/decoding.md"]}
+    groups |= {"notation": [f"{root}/docs/notation.md"], "encode": [f"{root}/docs/encoding.md"]}
     for group, paths in groups.items():
         found[group] = set()
         for path in paths:
@@ -137,7 +149,7 @@ def documented(root):
 
 
 def group_of(entry):
-    return entry.stage if entry.stage in ("table", "decode") else "sources"
+    return entry.stage if entry.stage in ("table", "decode", *TEXTS) else "sources"
 
 
 def what_is_left_out(root, entries):
@@ -176,12 +188,8 @@ def run(root, programs):
         said += what_is_left_out(root, entries)
         tried = sum("Refused" in it.parts for it in entries)
         print(f"gate: {len(entries)} faults are explained, {tried} of them with inputs, {len(said)} failed", flush=True)
-    for it in said:
-        print(f"gate: FAILED: {it}")
-    return not said
+    return by_hand.all_passed(said)
 
 
 if __name__ == "__main__":
-    top = os.path.dirname(os.path.dirname(os.path.realpath(__file__)))
-    given = sys.argv[1:] or [f"{top}/crates/fidl/out/fidl"]
-    sys.exit(not run(top, [os.path.abspath(it) for it in given]))
+    by_hand.start(run)

@@ -14,8 +14,8 @@ changes (.ci/wrong_bodies.py), which takes seconds where a check of the crate ta
 
 It prints first which wrong bodies it does not try again. After rt ci it runs the examples of the documents (.ci/examples.py) and
 the cases of the program (.ci/cases.py), each as two compilers build it, and compares the documents with the program
-(.ci/blocks.py, .ci/explained.py, .ci/manual.py), then tries the wrong bodies and the programs that must not
-compile (.ci/must_not_compile.py). Its last line but one says how long it took, and the last is rt ci's: `N passed, M failed`.
+(.ci/blocks.py, .ci/explained.py, .ci/manual.py). It refuses the program's allocations in turn (.ci/refused_memory.py) and
+gives it changed inputs (.ci/fuzz.py), then tries the wrong bodies and the programs that must not compile (.ci/must_not_compile.py). Its last line but one says how long it took, and the last is rt ci's: `N passed, M failed`.
 
 A line of .ci/tried is `NAME KEY KIT`: every wrong body of the crate was refused at that key. The key is a sum of the
 toolchain, of HANDLES, of the crate's line in crates.txt, of its sources and wrong bodies, and of the lines and
@@ -38,8 +38,10 @@ import blocks  # noqa: E402
 import cases  # noqa: E402
 import examples  # noqa: E402
 import explained  # noqa: E402
+import fuzz  # noqa: E402
 import manual  # noqa: E402
 import must_not_compile  # noqa: E402
+import refused_memory  # noqa: E402
 import wrong_bodies  # noqa: E402
 
 PARTS = ("src", "specs", "proofs")
@@ -219,7 +221,7 @@ def tells_right(room):
         return False
     if not os.path.isfile(f"{room}/docs/fidl.1"):
         return True
-    return all([blocks.run(room, built), explained.run(room, built), manual.run(room, built)])
+    return all([it.run(room, built) for it in (blocks, explained, manual, refused_memory, fuzz)])
 
 
 class Times:

@@ -10,6 +10,10 @@ import re
 import subprocess
 import sys
 
+sys.dont_write_bytecode = True
+sys.path.insert(0, os.path.dirname(os.path.realpath(__file__)))
+import by_hand  # noqa: E402
+
 
 def help_of(program, *words):
     return subprocess.run([program, *words, "--help"], stdin=subprocess.DEVNULL, capture_output=True, timeout=120, text=True).stdout
@@ -69,12 +73,8 @@ def run(root, programs):
                 said += [f"docs/fidl.1: {name}: {it}: only the help has it" for it in sorted(both[0] - both[1])]
                 said += [f"docs/fidl.1: {name}: {it}: only the page has it" for it in sorted(both[1] - both[0])]
     print(f"gate: docs/fidl.1: {len(manual)} commands, {len(said)} differences", flush=True)
-    for it in said:
-        print(f"gate: FAILED: {it}")
-    return not said
+    return by_hand.all_passed(said)
 
 
 if __name__ == "__main__":
-    top = os.path.dirname(os.path.dirname(os.path.realpath(__file__)))
-    given = sys.argv[1:] or [f"{top}/crates/fidl/out/fidl"]
-    sys.exit(not run(top, [os.path.abspath(it) for it in given]))
+    by_hand.start(run)

@@ -5,6 +5,7 @@ They make a small repository and a stand-in for `rt` that proves nothing; `rt` i
 import contextlib
 import io
 import os
+import random
 import re
 import subprocess
 import sys
@@ -18,8 +19,10 @@ sys.path.insert(0, os.path.dirname(os.path.realpath(__file__)))
 import blocks  # noqa: E402
 import cases  # noqa: E402
 import explained  # noqa: E402
+import fuzz  # noqa: E402
 import gate  # noqa: E402
 import manual  # noqa: E402
+import refused_memory  # noqa: E402
 import sentences  # noqa: E402
 import wrong_bodies  # noqa: E402
 
@@ -522,7 +525,9 @@ echo made > out.fct; echo entries $#, roots 0, protocols 0, methods 0, bytes 40"
         self.write("docs/language.md", "- [A](a.md)\n| 1 NotUtf8, 2 BadByte | text |\n")
         self.write("docs/table.md", "| 1 | BadMagic | 0 |\n")
         self.write("docs/decoding.md", "| 1 TooLong | text |\n")
-        known = [explained.Entry([it, '    Rules: docs/language.md, "A"']) for it in ("lex 1 NotUtf8", "table 1 BadMagic", "decode 1 TooLong")]
+        self.write("docs/notation.md", "| 1 | Syntax | text |\n")
+        self.write("docs/encoding.md", "| 1 | WrongShape | text |\n")
+        known = [explained.Entry([it, '    Rules: docs/language.md, "A"']) for it in ("lex 1 NotUtf8", "table 1 BadMagic", "decode 1 TooLong", "notation 1 Syntax", "encode 1 WrongShape")]
         self.assertEqual(explained.what_is_left_out(self.root, known), ["sources 2 BadByte: the program does not explain it"])
 
     def test_a_manual_page_without_an_option(self):
@@ -533,6 +538,41 @@ echo made > out.fct; echo entries $#, roots 0, protocols 0, methods 0, bytes 40"
             for wanted, text in ((True, page), (False, page.replace("fast", "slow")), (False, page.replace(".SS go", ".SS stop"))):
                 self.write("docs/fidl.1", text)
                 self.assertEqual(self.silently(manual.run, self.root, [self.program("")])[0], wanted)
+
+    def test_an_answer_to_a_changed_input(self):
+        right = 'echo "decode 4 Padding at 2" >&2; exit 1'
+        for script, wanted in (
+            (right, True), ("echo 5", True), ("exit 0", False), ("echo 5; echo 6 >&2", False), ("echo 5; exit 1", False), ("exit 1", False),
+            (right.replace("exit 1", "exit 4"), False), (right.replace("decode", "decoder"), False), (right.replace("4", "four"), False), ("kill -SEGV $$", False), ("while :; do :; done", False),
+        ):
+            answer = fuzz.Answer(self.program(script), [])
+            self.assertEqual(not answer.what_fails(fuzz.OTHER_LINE), wanted, script)
+
+    def test_changed_inputs_are_the_same_in_each_run(self):
+        def inputs():
+            return [fuzz.changed(b"type A = struct { x uint8; };", words, random.Random(it)) for it in range(200) for words in (None, fuzz.WORDS)]
+
+        self.assertEqual(inputs(), inputs())
+        self.assertGreater(len(set(inputs())), 250)
+        self.assertEqual([fuzz.changed(b"", words, random.Random(1)) is not None for words in (None, fuzz.WORDS)], [True, True])
+
+    def test_answers_without_memory(self):
+        whole = (2, b"", b"error: no root; did you mean A?\n")
+        for got, wanted in (
+            ((refused_memory.MEMORY, refused_memory.OLD), True), ((refused_memory.MEMORY, b"new"), False), ((whole, b"new"), True), ((whole, refused_memory.OLD), False),
+            (((2, b"", b"error: no root\n"), b"new"), True), (((1, b"", b"error: no root\n"), b"new"), False), (((2, b"", b"error: no file\n"), b"new"), False),
+            (((4, b"x", refused_memory.MEMORY[2]), refused_memory.OLD), False),
+        ):
+            self.assertEqual(refused_memory.is_right(got, (whole, b"new")), wanted, got)
+
+    def test_each_allocation_is_refused(self):
+        for store in refused_memory.STORE:
+            self.write(store, "")
+        for ends in ("echo wrong >&2; exit 3", "kill -SEGV $$"):
+            program = self.program(f'[ "${{REFUSE:-0}}" = 0 ] && exec /bin/ls /; {ends}')
+            passed, said = self.silently(refused_memory.run, self.root, [program], [["--help"]])
+            self.assertFalse(passed, ends)
+            self.assertRegex(said, r"gate: [1-9]\d* allocations of 1 commands")
 
     def test_long_sentences(self):
         long = " ".join(["word"] * 26)

@@ -8,12 +8,13 @@
 #include "fidl.h"
 #include "flat.h"
 #include "line.h"
+#include "plain.h"
 #include "proto.h"
 #include "values.h"
 
 static const uint8_t* start(const std::string& bytes) { return reinterpret_cast<const uint8_t*>(bytes.data()); }
 
-// ---------------------------------------------------------------- the decoder
+// ---------------------------------------------------------------- the decoder, the encoder and the notation
 
 static uint32_t decode(const std::string& table, const std::string& root, const std::string& message, uint64_t times) {
   return fidl_bench_decode(start(table), table.size(), start(root), root.size(), start(message), message.size(), times - 1);
@@ -26,18 +27,22 @@ static uint64_t decode_and_read(const std::string& table, const FidlShape& fidl,
   return sum;
 }
 
-static void fidl_lines(const Printer& printer, const char* shape, const FidlShape& fidl, uint64_t want) {
-  static const std::string table = fidl_table();
-  size_t size = fidl.message.size();
-  std::vector<char> copy(size);
-  must(decode(table, fidl.root, fidl.message, 1) == 0, "the decoder refuses a message");
-  must(decode(table, fidl.root, fidl.message.substr(0, size - 8), 1) == 4, "the decoder accepts a message that is cut off");
-  must(decode_and_read(table, fidl, 1) == want, "the decoder reads another sum");
-  printer.line(shape, "memcpy", "copy", size, each([&] {
-                 memcpy(copy.data(), fidl.message.data(), size);
+static void copy_line(const Printer& printer, const char* shape, const char* what, const std::string& bytes) {
+  std::vector<char> copy(bytes.size());
+  printer.line(shape, "memcpy", what, bytes.size(), each([&] {
+                 memcpy(copy.data(), bytes.data(), bytes.size());
                  asm volatile("" : : "r"(copy.data()) : "memory");
                  return 1;
                }));
+}
+
+static void fidl_lines(const Printer& printer, const char* shape, const FidlShape& fidl, uint64_t want) {
+  static const std::string table = fidl_table();
+  size_t size = fidl.message.size();
+  must(decode(table, fidl.root, fidl.message, 1) == 0, "the decoder refuses a message");
+  must(decode(table, fidl.root, fidl.message.substr(0, size - 8), 1) == 4, "the decoder accepts a message that is cut off");
+  must(decode_and_read(table, fidl, 1) == want, "the decoder reads another sum");
+  copy_line(printer, shape, "copy", fidl.message);
   printer.line(shape, "rongkhab", "decode", size, [&](uint64_t times) {
     must(decode(table, fidl.root, fidl.message, times) == 0, "the decoder refuses a message");
     return 0;
@@ -45,11 +50,48 @@ static void fidl_lines(const Printer& printer, const char* shape, const FidlShap
   printer.line(shape, "rongkhab", "decode + read", size, [&](uint64_t times) { return decode_and_read(table, fidl, times); });
 }
 
+// The text of the message's value, in room for one byte more.
+static std::string dump(const std::string& table, const FidlShape& fidl, uint64_t times) {
+  std::string text(fidl.text.size() + 1, 0);
+  uint32_t failure = fidl_bench_dump(start(table), table.size(), start(fidl.root), strlen(fidl.root), start(fidl.message),
+                                     fidl.message.size(), times - 1, reinterpret_cast<uint8_t*>(text.data()), text.size());
+  must(failure == 0, "the text of a message is not written");
+  return text.c_str();
+}
+
+static std::string encode(const std::string& table, const FidlShape& fidl, uint64_t times) {
+  std::string copy(fidl.message.size(), 0);
+  uint32_t failure = fidl_bench_encode(start(table), table.size(), start(fidl.root), strlen(fidl.root), start(fidl.message),
+                                       fidl.message.size(), times - 1, reinterpret_cast<uint8_t*>(copy.data()), copy.size());
+  must(failure == 0, "the encoder refuses a value");
+  return copy;
+}
+
+static uint32_t read_text(const std::string& table, const FidlShape& fidl, const std::string& text, uint64_t times) {
+  return fidl_bench_read_text(start(table), table.size(), start(fidl.root), strlen(fidl.root), start(text), text.size(), times - 1);
+}
+
+static void fidl_writing_lines(const Printer& printer, const char* shape, const FidlShape& fidl) {
+  static const std::string table = fidl_table();
+  must(encode(table, fidl, 1) == fidl.message, "the encoder writes another message");
+  must(dump(table, fidl, 1) == fidl.text, "another text is written");
+  printer.line(shape, "rongkhab", "encode", fidl.message.size(), [&](uint64_t times) { return encode(table, fidl, times).size(); });
+  copy_line(printer, shape, "copy text", fidl.text);
+  printer.line(shape, "rongkhab", "dump", fidl.text.size(), [&](uint64_t times) { return dump(table, fidl, times).size(); });
+  must(read_text(table, fidl, fidl.text, 1) == 0, "a text is not read");
+  must(read_text(table, fidl, fidl.text.substr(0, fidl.text.size() - 1), 1) != 0, "a text that is cut is read");
+  printer.line(shape, "rongkhab", "read text", fidl.text.size(), [&](uint64_t times) {
+    must(read_text(table, fidl, fidl.text, times) == 0, "a text is not read");
+    return times;
+  });
+}
+
 // ---------------------------------------------------------------- its peers
 
 template <class Shape>
 static void flat_lines(const Printer& printer, const char* shape, uint64_t want) {
-  const std::string message = Shape::make();
+  const typename Shape::Plain value = Shape::value();
+  const std::string message = flat::message_of<Shape>(value);
   auto verify = [&] {
     must(flat::verifies<typename Shape::Root>(message), "FlatBuffers refuses a message");
     return 1;
@@ -57,6 +99,17 @@ static void flat_lines(const Printer& printer, const char* shape, uint64_t want)
   must(verify() && Shape::read(message) == want, "FlatBuffers reads another sum");
   printer.line(shape, "flatbuffers", "verify", message.size(), each(verify));
   printer.line(shape, "flatbuffers", "verify + read", message.size(), each([&] { return verify() + Shape::read(message); }));
+  printer.line(shape, "flatbuffers", "build", message.size(), each([&] {
+                 flatbuffers::FlatBufferBuilder builder;
+                 Shape::build(builder, value);
+                 return builder.GetSize();
+               }));
+  flatbuffers::FlatBufferBuilder reused;
+  printer.line(shape, "flatbuffers", "build reused", message.size(), each([&] {
+                 reused.Clear();
+                 Shape::build(reused, value);
+                 return reused.GetSize();
+               }));
 }
 
 template <class Shape>
@@ -82,17 +135,23 @@ int main(int count, char** words) {
   Printer printer{count > 1 ? words[1] : nullptr, count > 2 ? strtoull(words[2], nullptr, 10) : 0};
   printf("%-8s %-12s %-24s %7s %12s %12s\n", "shape", "codec", "operation", "bytes", "ns/message", "allocations");
 
-  fidl_lines(printer, "records", {"bench/Records", fidl_table_format(), fidl_bench_read_records}, sum_of_records());
+  const FidlShape records{"bench/Records", fidl_table_format(), fidl_bench_read_records, plain::text(plain::records())};
+  fidl_lines(printer, "records", records, sum_of_records());
+  fidl_writing_lines(printer, "records", records);
   flat_lines<flat::Records>(printer, "records", sum_of_records());
   capn_lines<capn::Records>(printer, "records", sum_of_records());
   proto_lines<proto::Records>(printer, "records", sum_of_records());
 
-  fidl_lines(printer, "chain", {"bench/Node", fidl_chain(), fidl_bench_read_chain}, sum_of_chain());
+  const FidlShape chain{"bench/Node", fidl_chain(), fidl_bench_read_chain, plain::text(plain::chain())};
+  fidl_lines(printer, "chain", chain, sum_of_chain());
+  fidl_writing_lines(printer, "chain", chain);
   flat_lines<flat::Chain>(printer, "chain", sum_of_chain());
   capn_lines<capn::Chain>(printer, "chain", sum_of_chain());
   proto_lines<proto::Chain>(printer, "chain", sum_of_chain());
 
-  fidl_lines(printer, "wide", {"bench/Wide", fidl_wide(), fidl_bench_read_wide}, sum_of_wide());
+  const FidlShape wide{"bench/Wide", fidl_wide(), fidl_bench_read_wide, plain::text(plain::wide())};
+  fidl_lines(printer, "wide", wide, sum_of_wide());
+  fidl_writing_lines(printer, "wide", wide);
   flat_lines<flat::Wide>(printer, "wide", sum_of_wide());
   capn_lines<capn::Wide>(printer, "wide", sum_of_wide());
   proto_lines<proto::Wide>(printer, "wide", sum_of_wide());

@@ -1,5 +1,5 @@
-// The decoder: the coding table and the messages of the shapes in FIDL, and the calls of its library
-// (crates/fidl_bench).
+// The decoder, the encoder and the notation: the coding table and the messages of the shapes in FIDL,
+// and the calls of their library (crates/fidl_bench).
 #pragma once
 #include <cstddef>
 #include <cstdint>
@@ -18,13 +18,27 @@ uint32_t fidl_bench_read_chain(const uint8_t* table, size_t table_length, const 
                                size_t message_length, uint64_t again, uint64_t* sum);
 uint32_t fidl_bench_read_wide(const uint8_t* table, size_t table_length, const uint8_t* message,
                               size_t message_length, uint64_t again, uint64_t* sum);
+// Decodes the message once, and encodes its value `again` times after the first. `copy`, which is as
+// long as the message, gets the bytes of the last.
+uint32_t fidl_bench_encode(const uint8_t* table, size_t table_length, const uint8_t* root, size_t root_length,
+                           const uint8_t* message, size_t message_length, uint64_t again, uint8_t* copy,
+                           size_t copy_length);
+// Decodes the message once, and writes the text of its value `again` times after the first, to a
+// buffer of `text_length` bytes that is allocated once. The front of `text` gets the last.
+uint32_t fidl_bench_dump(const uint8_t* table, size_t table_length, const uint8_t* root, size_t root_length,
+                         const uint8_t* message, size_t message_length, uint64_t again, uint8_t* text,
+                         size_t text_length);
+// Reads the value that a text spells `again` times after the first, and drops each.
+uint32_t fidl_bench_read_text(const uint8_t* table, size_t table_length, const uint8_t* root, size_t root_length,
+                              const uint8_t* text, size_t text_length, uint64_t again);
 }
 
-// A shape that the decoder reads: its root in the table, its message, and the call that reads it.
+// A shape: its root in the table, its message, the call that reads it, and the text of its value.
 struct FidlShape {
   const char* root;
   std::string message;
   decltype(&fidl_bench_read_records) read;
+  std::string text;
 };
 
 std::string fidl_table();

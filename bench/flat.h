@@ -1,15 +1,20 @@
-// FlatBuffers: messages of the shapes, their verification and their reading.
+// FlatBuffers: messages of the shapes, built from plain structs, their verification and their reading.
 #pragma once
 #include <cstdint>
 #include <string>
 #include <vector>
 
+#include "plain.h"
 #include "shapes_generated.h"
 #include "values.h"
 
 namespace flat {
 
-inline std::string finished(flatbuffers::FlatBufferBuilder& builder) {
+// The message that a builder has finished.
+template <class Shape>
+std::string message_of(const typename Shape::Plain& value) {
+  flatbuffers::FlatBufferBuilder builder;
+  Shape::build(builder, value);
   return std::string(reinterpret_cast<const char*>(builder.GetBufferPointer()), builder.GetSize());
 }
 
@@ -22,16 +27,17 @@ bool verifies(const std::string& message) {
 
 struct Records {
   using Root = fb::Records;
-  static std::string make() {
-    flatbuffers::FlatBufferBuilder b;
+  using Plain = plain::Records;
+  static Plain value() { return plain::records(); }
+  static void build(flatbuffers::FlatBufferBuilder& b, const Plain& all) {
     std::vector<flatbuffers::Offset<fb::Record>> items;
-    for (uint32_t i = 0; i < RECORDS; i++) {
-      auto name = b.CreateString(name_of(i));
-      flatbuffers::Offset<fb::Nested> extra = has_extra(i) ? fb::CreateNested(b, i + 1ull, i) : 0;
-      items.push_back(fb::CreateRecord(b, i, kind_of(i), flags_of(i), active_of(i), score_of(i), name, extra));
+    items.reserve(all.items.size());
+    for (const plain::Record& r : all.items) {
+      auto name = b.CreateString(r.name);
+      flatbuffers::Offset<fb::Nested> extra = r.has_extra ? fb::CreateNested(b, r.extra.a, r.extra.b) : 0;
+      items.push_back(fb::CreateRecord(b, r.id, r.kind, r.flags, r.active, r.score, name, extra));
     }
     b.Finish(fb::CreateRecords(b, b.CreateVector(items)));
-    return finished(b);
   }
   static uint64_t read(const std::string& message) {
     uint64_t sum = 0;
@@ -45,12 +51,12 @@ struct Records {
 
 struct Chain {
   using Root = fb::Node;
-  static std::string make() {
-    flatbuffers::FlatBufferBuilder b;
+  using Plain = plain::Chain;
+  static Plain value() { return plain::chain(); }
+  static void build(flatbuffers::FlatBufferBuilder& b, const Plain& all) {
     flatbuffers::Offset<fb::Node> node = 0;
-    for (uint32_t i = BOXES + 1; i-- > 0;) node = fb::CreateNode(b, i, node);
+    for (size_t i = all.values.size(); i-- > 0;) node = fb::CreateNode(b, all.values[i], node);
     b.Finish(node);
-    return finished(b);
   }
   static uint64_t read(const std::string& message) {
     uint64_t sum = 0;
@@ -61,15 +67,15 @@ struct Chain {
 
 struct Wide {
   using Root = fb::Wide;
-  static std::string make() {
-    flatbuffers::FlatBufferBuilder b;
+  using Plain = plain::Wide;
+  static Plain value() { return plain::wide(); }
+  static void build(flatbuffers::FlatBufferBuilder& b, const Plain& w) {
     flatbuffers::Offset<flatbuffers::String> texts[4];
-    for (uint32_t k = 0; k < 4; k++) texts[k] = b.CreateString(text_of(15 + k));
-    auto nested = fb::CreateNested(b, 7, 9);
-    b.Finish(fb::CreateWide(b, small_of(1), small_of(2), small_of(3), small_of(4), small_of(5), small_of(6), small_of(7),
-                            small_of(8), large_of(9), large_of(10), large_of(11), large_of(12), large_of(13), large_of(14),
-                            texts[0], texts[1], texts[2], texts[3], nested, true));
-    return finished(b);
+    for (uint32_t k = 0; k < 4; k++) texts[k] = b.CreateString(w.texts[k]);
+    auto nested = fb::CreateNested(b, w.nested.a, w.nested.b);
+    b.Finish(fb::CreateWide(b, w.small[0], w.small[1], w.small[2], w.small[3], w.small[4], w.small[5], w.small[6], w.small[7],
+                            w.large[0], w.large[1], w.large[2], w.large[3], w.large[4], w.large[5], texts[0], texts[1],
+                            texts[2], texts[3], nested, w.truth));
   }
   static uint64_t read(const std::string& message) {
     auto w = flatbuffers::GetRoot<Root>(message.data());
