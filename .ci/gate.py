@@ -257,13 +257,16 @@ class ByFunction:
             self.tries.begin(name)
 
     def ended(self, last):
-        """Tries what is left, and returns the status and the last line with all of them."""
+        """Tries what is left, and returns the status and the last line with all of them. What was not refused is told once more at the
+        end, where no other line hides it."""
         names = [*self.tries.begun, *self.left]
         try:
             for name in sorted(self.left):
                 self.begin(name)
             self.tries.hurry()
-            refused, failed = self.tries.counts()
+            refused, others = self.tries.told()
+            print(*[f"gate: failed: {it}\n" for it in others], sep="", end="", flush=True)
+            failed = len(others)
         except (Exception, SystemExit) as error:  # the parts of another rt may be other than they seem
             print(f"gate: wrong bodies can't be tried by their functions here ({type(error).__name__}: {error}), so rt must-fail tries them", flush=True)
             refused, failed = tried_by_crate(self.room, names)

@@ -350,6 +350,7 @@ echo made > out.fct; echo entries $#, roots 0, protocols 0, methods 0, bytes 40"
         status, lines = self.run_by_function({"first"}, names=["low"])
         self.assertEqual((status, lines[-1]), (1, "2 passed, 1 failed"))
         self.assertIn("must-fail low/two.edit: NOT REFUSED", lines)
+        self.assertIn("gate: failed: must-fail low/two.edit: NOT REFUSED", lines[-4:])
         self.assertEqual(self.tried_again(), ALL)
 
     def test_a_function_that_is_not_proved_unedited_refuses_nothing(self):

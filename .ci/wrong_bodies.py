@@ -301,14 +301,15 @@ class Tries:
             self.turn.release()
             self.later -= 1
 
-    def counts(self):
-        """Prints the answer of each try once it is there, and returns how many wrong bodies were refused and how many not."""
-        refused = failed = 0
+    def told(self):
+        """Prints the answer of each try once it is there, and returns how many wrong bodies were refused, and what was said of the others."""
+        refused, others = 0, []
         for done in self.begun.values():
             for well, text in done.result():
                 print(text, flush=True)
-                refused, failed = refused + well, failed + (not well)
-        return refused, failed
+                refused += well
+                others += [] if well else [text]
+        return refused, others
 
     def close(self):
         """Ends the tries, those that did not begin yet without an answer."""
