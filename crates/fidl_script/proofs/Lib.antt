@@ -1,0 +1,12 @@
+pub mod Passing
+pub mod Finding
+pub mod Cutting
+pub mod Splitting
+pub mod Looking
+pub mod Mapped
+pub mod Spelled
+pub mod Rising
+pub mod Gathered
+pub mod Given
+pub mod Refused
+pub mod Told
