@@ -1,0 +1,15 @@
+pub mod Outputs
+pub mod Exits
+pub mod Going
+pub mod Extending
+pub mod Growing
+pub mod Whole
+pub mod Places
+pub mod Frames
+pub mod Verdicts
+pub mod Ready
+pub mod Protocols
+pub mod Requests
+pub mod Searching
+pub mod Runs
+pub mod Calls

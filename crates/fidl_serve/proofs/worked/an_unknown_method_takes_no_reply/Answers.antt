@@ -1,0 +1,7 @@
+use Rattle.std.proofs.Common.{refl}
+use Rattle.fidl_serve.specs.Replying.{script_after}
+use Rattle.fidl_serve.proofs.worked.an_unknown_method_takes_no_reply.Goals as goal
+
+pub returns : goal.returns
+unfolding script_after
+returns c = refl
