@@ -8,6 +8,7 @@ use Rattle.fidl_table.specs.Shows.{Shows}
 use Rattle.fidl_compile.specs.Sources.{AreAccepted}
 use Rattle.fidl_compile.specs.Stages.{FilesRefused}
 use Rattle.fidl_compile.proofs.Whole.{all_read, rules_refused, not_stopped, table_of}
+use Rattle.fidl_distinct_names.proofs.Tables.{tables_differ}
 use Rattle.fidl_compile.proofs.compiling.compile.Goals as goal
 
 pub returns-in_err-checked-clause-fault_is_true : goal.returns-in_err-checked-clause-fault_is_true
@@ -36,3 +37,11 @@ pub returns-in_err-write_table-clause-fault_is_true : goal.returns-in_err-write_
 returns-in_err-write_table-clause-fault_is_true c =
     let p = err_from_is_err_and c.from_residual-in_err-write_table.result c.from_residual-in_err-write_table.ensures.1 in
     rw (p.1, p.2) tt
+
+pub returns-clause-distinct : goal.returns-clause-distinct
+returns-clause-distinct c =
+    let files = c.in_ok-files.field-0.files.items in
+    let same : c.in_ok-set.set ≡ files = c.in_ok-set.ensures.ok ∙ c.deref.ensures.value in
+    let kept = subst (λ (fs : List File). (ds : Declarations) × AreAccepted fs ds) same c.in_ok-checked.ensures.kept in
+    let shows = subst (λ (fs : List File). Shows fs c.in_ok-write_table.field-0.items) (c.in_ok-checked.ensures.ok ∙ same) c.in_ok-write_table.ensures.shows in
+    tables_differ files c.in_ok-write_table.field-0.items kept.1.resolved shows c.in_ok-write_table.ensures.well_formed

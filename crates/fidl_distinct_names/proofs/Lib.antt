@@ -1,0 +1,5 @@
+mod Walked
+mod Forms
+mod Plain
+mod Rows
+pub mod Tables
