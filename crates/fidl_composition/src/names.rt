@@ -1,22 +1,15 @@
 //! The protocols that paths mean.
-ghost use Rattle.std.specs.Prelude.{◌≡◌, ◌<◌, ◌↔◌, length, IsTrue, IfOk, IfSome, IsNone};
+ghost use Rattle.std.specs.Prelude.{◌≡◌, ◌<◌, length, IfOk, IfSome, IsNone};
 ghost use Rattle.fidl_tree.specs.Views.{path_view};
-ghost use Rattle.fidl_named.specs.declared.fault.NameFault.TheVariants as Fault;
 ghost use Rattle.fidl_named.specs.declared.meaning.Meaning.TheVariants as Meanings;
 ghost use Rattle.fidl_named.specs.declared.place.DeclarationId.{DeclarationId as Id};
 ghost use Rattle.fidl_named.specs.Meanings.{IsJust};
 ghost use Rattle.fidl_composition.specs.Compositions.{MeansProtocol};
 
-use fidl_named::{DeclarationId, Meaning, NameFault, Named, Wanted};
+use fidl_consts::names::is_memory;
+use fidl_named::{DeclarationId, Meaning, Named, Wanted};
 use fidl_tree::Path;
 use std::alloc::AllocError;
-
-/// Whether memory ran out.
-fn is_memory(fault: NameFault) -> bool
-    ensures { IsTrue result ↔ (fault ≡ Fault.Memory) }
-{
-    matches!(fault, NameFault::Memory)
-}
 
 /// The declaration that a meaning is.
 fn declared(meaning: Meaning) -> Option<DeclarationId>

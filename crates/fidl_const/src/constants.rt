@@ -1,11 +1,11 @@
 //! The values of constants and members.
-ghost use Rattle.std.specs.Prelude.{◌≡◌, ◌<◌, ◌↔◌, IfOk, IfErr, OnOk, IsTrue, IsSomeAnd};
-ghost use Rattle.fidl_tree.specs.Views.{keyword_span, body_view, type_view, value_view};
+ghost use Rattle.std.specs.Prelude.{◌<◌, ◌↔◌, IfOk, IfErr, OnOk, IsTrue, IsSomeAnd};
+ghost use Rattle.fidl_tree.specs.Views.{value_view};
 ghost use Rattle.fidl_named.specs.declared.meaning.Meaning.TheVariants as Given;
 ghost use Rattle.fidl_consts.specs.PlainValues.{seen, text_length};
 ghost use Rattle.fidl_consts.specs.Types.{IsConstAt, IsValuesAt, IsStringType, IsMemberOf};
 ghost use Rattle.fidl_named.specs.Places.{value_paths};
-ghost use Rattle.fidl_consts.specs.Refusals.{layout_span, type_span};
+ghost use Rattle.fidl_consts.specs.Refusals.{type_span};
 ghost use Rattle.fidl_consts.specs.Strings.{TextFits, TextFails};
 ghost use Rattle.fidl_const.specs.Evaluating.{ConstantFails, Fails};
 ghost use Rattle.fidl_consts.specs.Tables.{AreTrue, PathsSettled, IsMemoryOr, TypeSettled};
@@ -14,45 +14,13 @@ ghost use Rattle.fidl_consts.specs.Tables.{HasEntry};
 use crate::bounds::limits;
 use fidl_consts::found::{FoundConst, FoundMember};
 use fidl_consts::layouts::member_kind;
-use fidl_consts::names::path_place;
+use fidl_consts::places::type_span;
 use fidl_consts::scope::{FileScope, NamedFile, Scope};
 use fidl_consts::types::{is_string_type, underlying_path, written_type};
 use fidl_consts::values::{value_in, value_span};
 use fidl_consts::{BitsOrEnum, ConstFault, ConstType, ConstValue, Entry, Limits};
 use fidl_named::{DeclarationId, Place};
-use fidl_span::Span;
-use fidl_tree::{LayoutBody, TypeConstructor, ValuesKeyword};
-
-/// The place of the keyword of bits or an enum.
-fn keyword_span(keyword: &ValuesKeyword) -> Span
-    ensures { result ≡ keyword_span keyword.now }
-{
-    match keyword {
-        ValuesKeyword::Bits(span) | ValuesKeyword::Enum(span) => *span,
-    }
-}
-
-/// The place of a layout's keyword.
-fn layout_span(body: &LayoutBody) -> Span
-    ensures { result ≡ layout_span (body_view body.now) }
-{
-    match body {
-        LayoutBody::Values(layout) => keyword_span(&layout.keyword),
-        LayoutBody::Struct(layout) => layout.keyword,
-        LayoutBody::Table(layout) => layout.keyword,
-        LayoutBody::Union(layout) => layout.keyword,
-    }
-}
-
-/// The place of a type: its name, or its layout's keyword.
-fn type_span(constructor: &TypeConstructor) -> Span
-    ensures { result ≡ type_span (type_view constructor.now) }
-{
-    match constructor {
-        TypeConstructor::Named(named) => path_place(&named.path),
-        TypeConstructor::Layout { layout, .. } => layout_span(&layout.body),
-    }
-}
+use fidl_tree::TypeConstructor;
 
 /// Whether so many bytes are more than a limit.
 fn exceeds(limits: Limits, count: usize) -> bool

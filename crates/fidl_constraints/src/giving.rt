@@ -1,8 +1,6 @@
 //! What a constraint gives to a type.
-ghost use Rattle.std.specs.Prelude.{◌≡◌, ◌<◌, ◌^◌, ◌↔◌, ℕ, pos, IsTrue, length, Some, IfOk, IfSome};
+ghost use Rattle.std.specs.Prelude.{◌≡◌, ◌<◌, ◌^◌, ℕ, pos, length, Some, IfOk, IfSome};
 ghost use Rattle.std.specs.Prelude.{IsNone};
-ghost use Rattle.fidl_named.specs.declared.fault.NameFault.TheVariants as NameFaults;
-ghost use Rattle.fidl_consts.specs.declared.fault.ConstFault.TheVariants as ConstFaults;
 ghost use Rattle.fidl_consts.specs.PlainValues.{seen, a_number};
 ghost use Rattle.fidl_consts.specs.Tables.{AreConsts};
 ghost use Rattle.fidl_constraints.specs.declared.parts.Part.{Part as Given};
@@ -16,8 +14,9 @@ ghost use Rattle.fidl_constraints.specs.ItemViews.{IsHandleOf};
 use crate::Head;
 use crate::items::Item;
 use crate::parts::{Part, PartKind};
-use fidl_consts::{ConstFault, ConstType, ConstValue, Constraint, Consts, NumberKind};
-use fidl_named::{DeclarationId, Meaning, NameFault, Named, Predeclared, Wanted, path_alone};
+use fidl_consts::names::is_memory as is_name_memory;
+use fidl_consts::{ConstType, ConstValue, Constraint, Consts, NumberKind, is_memory};
+use fidl_named::{DeclarationId, Meaning, Named, Predeclared, Wanted, path_alone};
 use fidl_tree::{LayoutBody, Value};
 use std::alloc::{AllocError, Global};
 
@@ -95,20 +94,6 @@ pub fn amount_of(value: &ConstValue) -> Option<u32>
         },
         ConstValue::Bool(_) | ConstValue::Text(_) => None,
     }
-}
-
-/// Whether memory ran out.
-fn is_memory(fault: ConstFault) -> bool
-    ensures { IsTrue result ↔ (fault ≡ ConstFaults.Memory) }
-{
-    matches!(fault, ConstFault::Memory)
-}
-
-/// Whether memory ran out.
-fn is_name_memory(fault: NameFault) -> bool
-    ensures { IsTrue result ↔ (fault ≡ NameFaults.Memory) }
-{
-    matches!(fault, NameFault::Memory)
 }
 
 /// The bound that a constraint gives.

@@ -1,17 +1,15 @@
 //! What types refer to at once.
 ghost use Rattle.std.specs.Prelude.{◌≡◌, IfOk, IfSome, IsNone, option_map, option_copied};
 ghost use Rattle.fidl_tree.specs.Views.{declared_view, named_view, layout_view, body_view};
-ghost use Rattle.fidl_tree.specs.declared.file.File.{File as Tree};
-ghost use Rattle.fidl_tree.specs.declared.declaration.Declaration.{Declaration as Node};
-ghost use Rattle.fidl_named.specs.Constraints.{IsDeclarationAt};
 ghost use Rattle.fidl_constraints.specs.Behind.{Target as Plain, body_target, IsDeclared, RefersTo};
 ghost use Rattle.fidl_constraints.specs.Behind.{MeaningRefersTo, LeadsTo};
 ghost use Rattle.fidl_constraints.specs.BehindViews.{arguments_view, target_view, use_view};
 
 use crate::heads::Head;
 use crate::type_use::{TypeUse, use_of};
+use fidl_consts::found::declaration_at;
 use fidl_named::{DeclarationId, Meaning, Named};
-use fidl_tree::{Declaration, DeclarationBody, File, Layout, LayoutBody, NamedType, TypeArguments};
+use fidl_tree::{DeclarationBody, Layout, LayoutBody, NamedType, TypeArguments};
 use std::alloc::AllocError;
 
 /// What a type refers to at once.
@@ -27,29 +25,6 @@ pub enum Target<'f> {
         file_index: usize,
         next: TypeUse<'f>,
     },
-}
-
-/// A declaration with its file.
-#[derive(Clone, Copy, Drop)]
-pub(crate) struct FoundDeclaration<'f, 's> {
-    pub file: &'f File<'s>,
-    pub declaration: &'f Declaration,
-}
-
-/// The declaration of an id.
-fn declaration_at<'f, 's>(
-    named: &Named<'f, 's>,
-    id: DeclarationId,
-) -> Option<FoundDeclaration<'f, 's>>
-    ensures found { IfSome result (λ x. IsDeclarationAt named.now id x.file.now x.declaration.now) }
-    ensures none { IsNone result → (f : Tree) (d : Node) → IsDeclarationAt named.now id f d → ⊥ }
-{
-    if id.file >= named.count() {
-        return None;
-    }
-    let file = named.file(id.file);
-    let declaration = file.declarations.get(id.index)?;
-    Some(FoundDeclaration { file, declaration })
 }
 
 /// What the name of a declaration refers to as a type.

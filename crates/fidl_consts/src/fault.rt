@@ -1,5 +1,6 @@
 //! Why constants have no values.
-ghost use Rattle.std.specs.Prelude.{◌≡◌};
+ghost use Rattle.std.specs.Prelude.{◌≡◌, ◌↔◌, IsTrue};
+ghost use Rattle.fidl_consts.specs.declared.fault.ConstFault.TheVariants.{Memory};
 
 use fidl_named::Place;
 use std::alloc::{AllocError, AllocFailed};
@@ -24,6 +25,13 @@ pub enum ConstFault {
     /// Memory ran out.
     #[error("memory ran out")]
     Memory,
+}
+
+/// Whether memory ran out.
+pub fn is_memory(fault: ConstFault) -> bool
+    ensures { IsTrue result ↔ (fault ≡ Memory) }
+{
+    matches!(fault, ConstFault::Memory)
 }
 
 impl ConstFault {

@@ -7,7 +7,6 @@ mod figures;
 mod laid;
 mod laws;
 mod laying;
-mod places;
 mod roots;
 mod shallow;
 mod uses;

@@ -15,9 +15,8 @@ ghost use Rattle.fidl_layout.specs.Laid.{AreFigures};
 ghost use Rattle.fidl_layout.specs.Faults.{UseExceeds, IsTrueOfLayout};
 
 use crate::fault::LayoutFault;
-use crate::places::type_span;
 use crate::shallow::shallow_term;
-use fidl_constraints::TypeUse;
+use fidl_constraints::{TypeUse, type_span};
 use fidl_declarations::{Role, Site, file_sites};
 use fidl_lower_types::{Sources, term_of};
 use fidl_named::Place;

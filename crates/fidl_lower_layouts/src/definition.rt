@@ -3,7 +3,6 @@ ghost use Rattle.std.specs.Prelude.{◌≡◌, ◌<◌, List, Some, length, map,
 ghost use Rattle.std.specs.Prelude.{IsNone};
 ghost use Rattle.fidl_tree.specs.Syntax.{members_of};
 ghost use Rattle.fidl_tree.specs.Views.{body_view, member_view, ordinal_member_view};
-ghost use Rattle.fidl_tree.specs.Views.{is_strict_union};
 ghost use Rattle.fidl_declarations.specs.FormViews.{form_kind_view, form_view};
 ghost use Rattle.fidl_wire.specs.Term.{Term};
 ghost use Rattle.fidl_ir.specs.Terms.{definition_view, definitions_view};
@@ -14,25 +13,13 @@ ghost use Rattle.fidl_lower_layouts.specs.Definitions.{KindIs, DefinitionIs, Def
 use crate::members::{fields, rows};
 use crate::results::result_definition;
 use crate::scope::Scope;
-use crate::values::{is_strict, values_definition};
+use crate::values::values_definition;
 use fidl_declarations::{Form, FormKind};
 use fidl_ir::Definition;
 use fidl_lower_types::Sources;
-use fidl_tree::{LayoutBody, Member, OrdinalMember, Strictness, UnionModifiers};
+use fidl_member_rules::is_strict_union;
+use fidl_tree::{LayoutBody, Member, OrdinalMember};
 use std::alloc::AllocError;
-
-/// Whether a union is marked `strict`.
-fn is_strict_union(modifiers: &UnionModifiers) -> bool
-    ensures { result ≡ is_strict_union modifiers.now }
-{
-    match modifiers {
-        UnionModifiers::StrictnessFirst { strictness, .. } => is_strict(strictness),
-        UnionModifiers::ResourceFirst { strictness, .. } => match strictness {
-            Strictness::Strict(_) => true,
-            Strictness::Flexible(_) => false,
-        },
-    }
-}
 
 /// A struct of these members.
 fn struct_of<'f>(

@@ -1,11 +1,10 @@
 //! The numbers of bits and enums.
-ghost use Rattle.std.specs.Prelude.{◌≡◌, ◌↔◌, ℕ, ℤ, Bool, false, List, Some, map, slice_get};
-ghost use Rattle.std.specs.Prelude.{IsTrue, IfOk, IfSome, IsNone};
+ghost use Rattle.std.specs.Prelude.{◌≡◌, ℕ, ℤ, Bool, false, List, Some, map, slice_get};
+ghost use Rattle.std.specs.Prelude.{IfOk, IfSome, IsNone};
 ghost use Rattle.fidl_tree.specs.Syntax.{ValueMember as Plain};
 ghost use Rattle.fidl_tree.specs.Views.{is_strict, kind_view, value_member_view, values_view};
 ghost use Rattle.fidl_tree.specs.declared.file.File.{File as Tree};
 ghost use Rattle.fidl_consts.specs.declared.const_type.NumberKind.{NumberKind as Kinds};
-ghost use Rattle.fidl_consts.specs.declared.fault.ConstFault.TheVariants as ConstFaults;
 ghost use Rattle.fidl_consts.specs.Types.{LayoutIs};
 ghost use Rattle.fidl_wire.specs.Term.{Term};
 ghost use Rattle.fidl_ir.specs.Terms.{number_kind_view, definition_view};
@@ -17,10 +16,11 @@ ghost use Rattle.fidl_lower_layouts.specs.Definitions.{LayoutIs as PlainLayoutIs
 
 use crate::order::rising;
 use crate::scope::Scope;
-use fidl_consts::{ConstFault, NumberKind, underlying_kind};
+use fidl_consts::{NumberKind, is_memory, underlying_kind};
+use fidl_declarations::is_strict;
 use fidl_ir::{Definition, NumberKind as Number};
 use fidl_member_rules::{ValueScope, member_numbers};
-use fidl_tree::{Strictness, ValueMember, ValuesKeyword, ValuesLayout};
+use fidl_tree::{ValueMember, ValuesKeyword, ValuesLayout};
 use std::alloc::AllocError;
 
 /// The same type of whole numbers, in messages.
@@ -37,23 +37,6 @@ fn kind_of(kind: NumberKind) -> Number
         NumberKind::Uint32 => Number::Uint32,
         NumberKind::Uint64 => Number::Uint64,
     }
-}
-
-/// Whether a layout is marked `strict`.
-pub(crate) fn is_strict(strictness: &Option<Strictness>) -> bool
-    ensures { result ≡ is_strict strictness.now }
-{
-    match strictness {
-        Some(Strictness::Strict(_)) => true,
-        Some(Strictness::Flexible(_)) | None => false,
-    }
-}
-
-/// Whether memory ran out.
-fn is_memory(fault: ConstFault) -> bool
-    ensures { IsTrue result ↔ (fault ≡ ConstFaults.Memory) }
-{
-    matches!(fault, ConstFault::Memory)
 }
 
 /// The type of the numbers of bits or an enum.

@@ -3,12 +3,11 @@ ghost use Rattle.std.specs.Prelude.{◌≡◌, ◌↔◌, ℤ, List, Some, map, 
 ghost use Rattle.std.specs.Prelude.{IsNone, FitsSigned};
 ghost use Rattle.std.specs.Int.{w128};
 ghost use Rattle.fidl_tree.specs.Views.{value_member_view};
-ghost use Rattle.fidl_consts.specs.declared.fault.ConstFault.TheVariants as ConstFaults;
 ghost use Rattle.fidl_consts.specs.PlainValues.{seen, a_number};
 ghost use Rattle.fidl_consts.specs.Tables.{AreConsts};
 ghost use Rattle.fidl_member_rules.specs.Numbers.{HasNumber, NumbersAre, IsPowerOfTwo};
 
-use fidl_consts::{ConstFault, ConstType, ConstValue, Consts, NumberKind};
+use fidl_consts::{ConstType, ConstValue, Consts, NumberKind, is_memory};
 use fidl_named::Named;
 use fidl_tree::{File, ValueMember};
 use std::alloc::{AllocError, Global};
@@ -21,13 +20,6 @@ pub struct ValueScope<'a, 'f, 's> {
     pub consts: &'a Consts,
     pub file_index: usize,
     pub file: &'f File<'s>,
-}
-
-/// Whether memory ran out.
-pub(crate) fn is_memory(fault: ConstFault) -> bool
-    ensures { IsTrue result ↔ (fault ≡ ConstFaults.Memory) }
-{
-    matches!(fault, ConstFault::Memory)
 }
 
 /// The whole number that a value is.

@@ -58,7 +58,7 @@ fn string_alone(value: &Value) -> Option<Span>
 }
 
 /// The string literal that is the only argument, and has no name.
-fn only_string(arguments: &Option<Arguments>) -> Option<Span>
+pub fn only_string(arguments: &Option<Arguments>) -> Option<Span>
     ensures { result ≡ only_string (attribute_arguments_view arguments.now) }
 {
     let list = arguments.as_ref()?.list.as_ref()?;

@@ -14,7 +14,7 @@ use fidl_tree::{
 };
 
 /// Whether a union is marked `strict`.
-fn is_strict_union(modifiers: &UnionModifiers) -> bool
+pub fn is_strict_union(modifiers: &UnionModifiers) -> bool
     ensures { result ≡ is_strict_union modifiers.now }
 {
     match modifiers {

@@ -4,7 +4,6 @@ ghost use Rattle.std.specs.Prelude.{slice_get, IfErr, OnOk};
 ghost use Rattle.std.specs.List.{AllByRecursion};
 ghost use Rattle.fidl_tree.specs.Syntax.{bits_kind};
 ghost use Rattle.fidl_tree.specs.Views.{value_member_view, kind_view, values_view, body_view};
-ghost use Rattle.fidl_tree.specs.Views.{file_view};
 ghost use Rattle.fidl_consts.specs.Tables.{AreConsts};
 ghost use Rattle.fidl_declarations.specs.Sites.{file_sites};
 ghost use Rattle.fidl_declarations.specs.SiteViews.{site_view, sites_view};
@@ -14,9 +13,9 @@ ghost use Rattle.fidl_member_rules.specs.ValueRules.{LayoutHolds, SiteHolds, Fil
 ghost use Rattle.fidl_member_rules.specs.ValueRules.{LayoutBreaks, SiteBreaks, OneBreaks, FileBreaks};
 ghost use Rattle.fidl_member_rules.specs.ValueRules.{IsReport, IsReportIn, IsTrueOfValues};
 
-use crate::numbers::{ValueScope, is_memory, is_power_of_two, member_numbers};
+use crate::numbers::{ValueScope, is_power_of_two, member_numbers};
 use crate::value_fault::ValuesFault;
-use fidl_consts::{Consts, underlying_kind};
+use fidl_consts::{Consts, is_memory, underlying_kind};
 use fidl_declarations::{Site, file_sites};
 use fidl_named::{Named, Place};
 use fidl_tree::{LayoutBody, ValueMember, ValuesKeyword, ValuesLayout};

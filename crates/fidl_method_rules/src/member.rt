@@ -1,12 +1,12 @@
 //! The methods and events among the members of a protocol.
 ghost use Rattle.std.specs.Prelude.{◌≡◌, ◌↔◌, Some, None, IsTrue, IfSome, IsNone};
-ghost use Rattle.fidl_tree.specs.Views as Views;
 ghost use Rattle.fidl_tree.specs.Views.{openness_view, protocol_member_view};
 ghost use Rattle.fidl_method_rules.specs.Methods.{method_of, MayStand};
 ghost use Rattle.fidl_method_rules.specs.MethodViews.{method_view};
 
+use fidl_declarations::is_strict;
 use fidl_span::Span;
-use fidl_tree::{Attribute, Openness, ProtocolMember, ProtocolMemberBody, Strictness};
+use fidl_tree::{Attribute, Openness, ProtocolMember, ProtocolMemberBody};
 
 /// A method or an event of a protocol, without its payloads.
 #[derive(Clone, Copy, Drop)]
@@ -15,13 +15,6 @@ pub(crate) struct Method<'f> {
     pub name: Span,
     pub is_strict: bool,
     pub is_two_way: bool,
-}
-
-/// Whether it is written `strict`.
-fn is_strict(strictness: &Option<Strictness>) -> bool
-    ensures { result ≡ Views.is_strict strictness.now }
-{
-    matches!(strictness, Some(Strictness::Strict(_)))
 }
 
 /// The method or the event that a member is, where it is one.

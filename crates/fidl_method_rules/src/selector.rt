@@ -1,9 +1,7 @@
 //! The attribute `@selector`.
 ghost use Rattle.std.specs.Prelude.{◌≡◌, ◌∷◌, [], List, ℕ, codes, bytes_eq, IfOk, IfErr, IfSome};
 ghost use Rattle.std.specs.Prelude.{IsNone};
-ghost use Rattle.fidl_tree.specs.Views.{value_view, attribute_view, attributes_view, file_view};
-ghost use Rattle.fidl_tree.specs.Views.{attribute_arguments_view};
-ghost use Rattle.fidl_member_rules.specs.Profile.{string_alone, only_string};
+ghost use Rattle.fidl_tree.specs.Views.{attribute_view, attributes_view, file_view};
 ghost use Rattle.fidl_method_rules.specs.Texts.{MaySelect};
 ghost use Rattle.fidl_method_rules.specs.Selectors.{selectors, Gives, SelectorsBreak};
 ghost use Rattle.fidl_method_rules.specs.Methods.{Selects, SelectedBy};
@@ -11,8 +9,9 @@ ghost use Rattle.fidl_method_rules.specs.Methods.{Selects, SelectedBy};
 use crate::full_name::named_in;
 use crate::texts::{is_full_name, is_identifier};
 use fidl_consts::string_bytes;
+use fidl_member_rules::only_string;
 use fidl_span::Span;
-use fidl_tree::{Arguments, Attribute, File, Operand, Value};
+use fidl_tree::{Attribute, File};
 use std::alloc::{AllocError, Global};
 
 /// Whether a text is `selector`.
@@ -59,37 +58,6 @@ pub(crate) fn only_selector<'f>(
     match first_selector(file, rest) {
         None => Ok(Some(first)),
         Some((second, _)) => Err(second.name),
-    }
-}
-
-/// The string literal that a value is just.
-fn string_alone(value: &Value) -> Option<Span>
-    ensures { result ≡ string_alone (value_view value.now) }
-{
-    match value.rest.split_first() {
-        Some(_) => None,
-        None => match &value.first {
-            Operand::String(span) => Some(*span),
-            Operand::Number { .. }
-            | Operand::True(_)
-            | Operand::False(_)
-            | Operand::Path(_)
-            | Operand::Group { .. } => None,
-        },
-    }
-}
-
-/// The string literal that is the only argument, and has no name.
-fn only_string(arguments: &Option<Arguments>) -> Option<Span>
-    ensures { result ≡ only_string (attribute_arguments_view arguments.now) }
-{
-    let list = arguments.as_ref()?.list.as_ref()?;
-    match list.rest.split_first() {
-        Some(_) => None,
-        None => match &list.first.name {
-            Some(_) => None,
-            None => string_alone(&list.first.value),
-        },
     }
 }
 

@@ -7,7 +7,6 @@ mod laws;
 mod members;
 mod parts;
 mod payload;
-mod places;
 pub mod worked;
 
 pub use fault::PayloadFault;

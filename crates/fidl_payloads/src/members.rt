@@ -18,21 +18,12 @@ ghost use Rattle.fidl_payloads.specs.Members.{IsReportIn};
 use crate::fault::PayloadFault;
 use crate::parts::part;
 use crate::payload::{Payload, Payloads};
+use fidl_declarations::is_strict;
 use fidl_lower_types::{Sources, result_number};
 use fidl_span::Span;
-use fidl_tree::{ErrorType, Event, Method, ProtocolMember, ProtocolMemberBody, Strictness};
+use fidl_tree::{ErrorType, Event, Method, ProtocolMember, ProtocolMemberBody};
 use fidl_types::Types;
 use std::alloc::Global;
-
-/// Whether a method is marked `strict`.
-fn is_strict(strictness: &Option<Strictness>) -> bool
-    ensures { result ≡ is_strict strictness.now }
-{
-    match strictness {
-        Some(Strictness::Strict(_)) => true,
-        Some(Strictness::Flexible(_)) | None => false,
-    }
-}
 
 /// Whether a two-way method has a result: where `error` is written, and where it is flexible.
 fn has_result(strict: bool, error: &Option<ErrorType>) -> bool

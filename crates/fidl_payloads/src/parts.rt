@@ -8,8 +8,7 @@ ghost use Rattle.fidl_payloads.specs.Members.{part_types, TypesBreak, IsReportIn
 use crate::fault::PayloadFault;
 use crate::kinds::payload_number;
 use crate::payload::Payload;
-use crate::places::type_span;
-use fidl_constraints::use_of;
+use fidl_constraints::{type_span, use_of};
 use fidl_lower_types::Sources;
 use fidl_named::Place;
 use fidl_tree::Payload as Written;

@@ -6,16 +6,15 @@ ghost use Rattle.fidl_tree.specs.declared.file.File.{File as Tree};
 ghost use Rattle.fidl_consts.specs.Refusals.{type_span};
 ghost use Rattle.fidl_lower_types.specs.TermViews.{AreKnown};
 ghost use Rattle.fidl_resource_rules.specs.Kinds.{IsUint32};
-ghost use Rattle.fidl_resource_rules.specs.Resources.{HasSubtype, ResourceHolds, BodyHolds};
+ghost use Rattle.fidl_resource_rules.specs.Resources.{HasSubtype, ResourceHolds};
 ghost use Rattle.fidl_resource_rules.specs.Resources.{DeclarationHolds, ResourcesHold, ResourceBreaks};
 ghost use Rattle.fidl_resource_rules.specs.Resources.{BodyBreaks, OneBreaks, IsReportIn};
 ghost use Rattle.fidl_resource_rules.specs.Resources.{IsTrueOfResources};
 
 use crate::fault::ResourceFault;
 use crate::kinds::is_uint32;
-use crate::places::type_span;
 use crate::properties::{check_properties, has_subtype};
-use fidl_constraints::use_of;
+use fidl_constraints::{type_span, use_of};
 use fidl_lower_types::Sources;
 use fidl_named::Place;
 use fidl_tree::{Declaration, DeclarationBody, File, ResourceDefinition};

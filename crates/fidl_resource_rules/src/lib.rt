@@ -6,7 +6,6 @@ mod checking;
 mod fault;
 mod kinds;
 mod laws;
-mod places;
 mod properties;
 pub mod worked;
 

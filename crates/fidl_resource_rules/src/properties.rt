@@ -1,6 +1,6 @@
 //! The properties of a resource definition.
 ghost use Rattle.std.specs.Prelude.{◌≡◌, ◌<◌, ◌↔◌, length, Some, IfOk, IfErr, OnOk, IsTrue};
-ghost use Rattle.std.specs.Prelude.{codes, option_map, option_copied, slice_get};
+ghost use Rattle.std.specs.Prelude.{codes};
 ghost use Rattle.std.specs.List.{AllByRecursion};
 ghost use Rattle.fidl_tree.specs.Syntax.{bits_kind, enum_kind};
 ghost use Rattle.fidl_tree.specs.Views.{kind_view, type_view};
@@ -13,8 +13,7 @@ ghost use Rattle.fidl_resource_rules.specs.Resources.{IsReportIn};
 
 use crate::fault::ResourceFault;
 use crate::kinds::{is_uint32, values_of_uint32};
-use crate::places::type_span;
-use fidl_constraints::{TypeUse, use_of};
+use fidl_constraints::{TypeUse, type_span, use_of};
 use fidl_lower_types::Sources;
 use fidl_named::Place;
 use fidl_tree::{File, Property, ValuesKeyword};

@@ -1,5 +1,5 @@
 //! One written type: whether it is proper at its place.
-ghost use Rattle.std.specs.Prelude.{◌≡◌, ◌<◌, ◌↔◌, length, true, List, IfOk, IfSome, IsNone};
+ghost use Rattle.std.specs.Prelude.{◌<◌, length, List, IfOk, IfSome, IsNone};
 ghost use Rattle.std.specs.Prelude.{IsTrue, IfErr, OnOk};
 ghost use Rattle.fidl_constraints.specs.Behind.{Core as Plain};
 ghost use Rattle.fidl_constraints.specs.BehindViews.{core_view, use_view};
@@ -18,9 +18,9 @@ use crate::fault::UseFault;
 use crate::known::{Aliases, node_has_term};
 use crate::origins::{culprit_of, failing};
 use crate::roles::{presence_suits, role_suits};
-use crate::used::{Used, type_span};
+use crate::used::Used;
 use crate::words::{arguments_suit, is_left_out};
-use fidl_constraints::{Gathered, TypeUse, gather};
+use fidl_constraints::{Gathered, TypeUse, gather, type_span};
 use fidl_lower_types::{Sources, head_node, term_of};
 use fidl_named::Place;
 use std::alloc::AllocError;
