@@ -159,6 +159,15 @@ class Repository:
         listed = subprocess.run(words, stdout=subprocess.PIPE, check=True).stdout.decode().split("\0")
         return sorted({it for it in listed if it and os.path.lexists(f"{self.root}/{it}")})
 
+    def conflicts(self):
+        """Returns the files in which a merge left both sides of a conflict, each with the line."""
+        found = []
+        for file in self.files():
+            with open(f"{self.root}/{file}", "rb") as it:
+                lines = it.read().split(b"\n") if os.path.isfile(f"{self.root}/{file}") else []
+            found += [f"{file}:{number}" for number, line in enumerate(lines, 1) if line.startswith((b"<<<<<<< ", b">>>>>>> "))]
+        return found
+
     def copy(self, room, kept, only):
         """Copies the repository, with only these crates, and without the wrong bodies of those that are kept."""
         for file in self.files():
@@ -329,6 +338,10 @@ def main(words):
     names = words[1:] if words[:1] == ["--record"] else []
     if words[: len(words) - len(names)] not in ([], ["--whole"], ["--record"]) or not set(names) <= set(repository.lines):
         sys.exit(__doc__)
+    conflicts = repository.conflicts()
+    if conflicts:
+        print(*[f"gate: a conflict of a merge stands at {it}" for it in conflicts], "0 passed, 1 failed", sep="\n")
+        return 1
     return run(repository, words[0] if words else None, names)
 
 

@@ -136,6 +136,10 @@ class GateTest(unittest.TestCase):
     def test_a_comment_in_crates_changes_nothing(self):
         self.assertEqual(self.changed("crates.txt", "# a comment\n" + FILES["crates.txt"]), set())
 
+    def test_a_conflict_of_a_merge_is_found(self):
+        self.write("docs/it.md", "one\n<<<<<<" + "< HEAD\ntwo\n=======\nthree\n>>>>>>" + "> other\n")
+        self.assertEqual(self.repository().conflicts(), ["docs/it.md:2", "docs/it.md:6"])
+
     def run_with(self, mode, script, names=()):
         """Runs the gate with this script in the place of rt; returns its status and lines."""
         programs = f"{self.root}/out/bin"
