@@ -10,12 +10,12 @@ use Rattle.std.specs.Global.{Vec}
 use Rattle.fidl_encode.specs.declared.message.Message.{Message}
 use Rattle.std.proofs.lemmas.List.Elements.{All-contains, All-from_recursion, Contains-append_right}
 use Rattle.std.proofs.lemmas.List.Kept.{AllPairs-cons}
-use Rattle.fidl_table_format.specs.Method.{has_response, is_strict}
+use Rattle.fidl_table_format.specs.Method.{is_strict}
 use Rattle.fidl_verify.specs.Lookups.{TableProtocol, IsProtocolOfTable, protocol_record, response_of}
 use Rattle.fidl_verify.specs.declared.method.Payload.{Payload}
 use Rattle.fidl_verify.specs.declared.method.Payload.TheVariants.{Missing, Empty, Entry}
 use Rattle.fidl_script.specs.Lines.{Line}
-use Rattle.fidl_script.specs.Script.{Body, Replies, empty_body, bodies_of, IsReplyOf, method_of, IsTwoWay, AreRepliesOf}
+use Rattle.fidl_script.specs.Script.{Body, Replies, empty_body, bodies_of, IsReplyOf, method_of, has_both, IsTwoWay, AreRepliesOf}
 use Rattle.fidl_script.specs.Text.{Reply, IsReply, GivesBody, replies_with}
 use Rattle.fidl_script.specs.Held.{bodies_view, replies_of}
 use Rattle.fidl_script.specs.Faults.{LacksReply}
@@ -68,12 +68,12 @@ module _ (p : TableProtocol) where
 
   -- the methods of one place more
   pub held_push : (places : List (List Body)) (k n : ℕ) (bodies : List Body) → n ≡ k + length places
-      → held_from p k (places ++ bodies ∷ []) ≡ held_from p k places ++ (if has_response (method_of p n) then held_at n bodies ∷ [] else [])
+      → held_from p k (places ++ bodies ∷ []) ≡ held_from p k places ++ (if has_both (method_of p n) then held_at n bodies ∷ [] else [])
   held_push [] k n bodies e =
       let same : k ≡ n = omega (arith, e) in
-      ap (λ j. if has_response (method_of p j) then held_at j bodies ∷ [] else []) same
+      ap (λ j. if has_both (method_of p j) then held_at j bodies ∷ [] else []) same
   held_push (x ∷ places) k n bodies e =
-      if_push (has_response (method_of p k)) (held_at k x) (held_from p (suc k) (places ++ bodies ∷ [])) (held_from p (suc k) places) _ (held_push places (suc k) n bodies (omega (arith, e)))
+      if_push (has_both (method_of p k)) (held_at k x) (held_from p (suc k) (places ++ bodies ∷ [])) (held_from p (suc k) places) _ (held_push places (suc k) n bodies (omega (arith, e)))
 
   -- what each place keeps
   abbrev Each : (P : ℕ → List Body → Type 0) → (k : ℕ) → List (List Body) → Type 0
@@ -84,23 +84,23 @@ module _ (p : TableProtocol) where
   each P k [] h = tt
   each P k (x ∷ xs) h = (h 0 k (omega arith) (omega arith), each P (suc k) xs (λ i n less e. h (suc i) n (omega (arith, less)) (omega (arith, e))))
 
-  held_all : (Q : Replies → Type 0) (k : ℕ) (xs : List (List Body)) → Each (λ n bodies. has_response (method_of p n) ≡ true → Q (held_at n bodies)) k xs → AllByRecursion Q (held_from p k xs)
+  held_all : (Q : Replies → Type 0) (k : ℕ) (xs : List (List Body)) → Each (λ n bodies. has_both (method_of p n) ≡ true → Q (held_at n bodies)) k xs → AllByRecursion Q (held_from p k xs)
   held_all Q k [] h = tt
-  held_all Q k (x ∷ xs) h = if_all Q (has_response (method_of p k)) (held_at k x) (held_from p (suc k) xs) h.0 (held_all Q (suc k) xs h.1)
+  held_all Q k (x ∷ xs) h = if_all Q (has_both (method_of p k)) (held_at k x) (held_from p (suc k) xs) h.0 (held_all Q (suc k) xs h.1)
 
-  held_has : (k i n : ℕ) (xs : List (List Body)) → i < length xs → n ≡ k + i → has_response (method_of p n) ≡ true → Contains (held_from p k xs) (held_at n (get_or xs i []))
+  held_has : (k i n : ℕ) (xs : List (List Body)) → i < length xs → n ≡ k + i → has_both (method_of p n) ≡ true → Contains (held_from p k xs) (held_at n (get_or xs i []))
   held_has k i n [] less e has = absurd (omega (arith, less))
   held_has k zero n (x ∷ xs) less e has =
       let same : k ≡ n = omega (arith, e) in
-      subst (λ j. has_response (method_of p j) ≡ true → Contains (held_from p k (x ∷ xs)) (held_at j x)) same (if_first (has_response (method_of p k)) (held_at k x) (held_from p (suc k) xs)) has
+      subst (λ j. has_both (method_of p j) ≡ true → Contains (held_from p k (x ∷ xs)) (held_at j x)) same (if_first (has_both (method_of p k)) (held_at k x) (held_from p (suc k) xs)) has
   held_has k (suc i) n (x ∷ xs) less e has =
-      if_later (has_response (method_of p k)) (held_at k x) (held_from p (suc k) xs) (held_at n (get_or xs i [])) (held_has (suc k) i n xs (omega (arith, less)) (omega (arith, e)) has)
+      if_later (has_both (method_of p k)) (held_at k x) (held_from p (suc k) xs) (held_at n (get_or xs i [])) (held_has (suc k) i n xs (omega (arith, less)) (omega (arith, e)) has)
 
   module _ (is : IsProtocolOfTable p) where
     held_rise : (k : ℕ) (xs : List (List Body)) → k + length xs ≤ (protocol_record p).methods → AllPairs (λ (r q : Replies). r.ordinal < q.ordinal) (held_from p k xs)
     held_rise k [] within = λ i j d less in'. absurd (omega (arith, in'))
     held_rise k (x ∷ xs) within =
-        if_pairs (λ (r q : Replies). r.ordinal < q.ordinal) (has_response (method_of p k)) (held_at k x) (held_from p (suc k) xs)
+        if_pairs (λ (r q : Replies). r.ordinal < q.ordinal) (has_both (method_of p k)) (held_at k x) (held_from p (suc k) xs)
         (All-from_recursion (λ (q : Replies). (method_of p k).ordinal < q.ordinal) (held_from p (suc k) xs)
         (held_all (λ (q : Replies). (method_of p k).ordinal < q.ordinal) (suc k) xs
         (each _ (suc k) xs (λ i n less e has. rises p is k n (omega (arith, e)) (omega (arith, e, less, within))))))
@@ -123,23 +123,23 @@ module _ (p : TableProtocol) where
             gives_reply p.table (response_of (method_of p place)) h.text r.body (subst (λ n. GivesBody p.table (response_of (method_of p n)) h.text r.body) same h.body)
 
     module _ (lines : List Line) (places : List (List Body)) (collected : AreCollected p lines places) (some : HaveBodies p places) where
-      two_way : (place i : ℕ) → i < length places → place ≡ 0 + i → has_response (method_of p place) ≡ true → IsTwoWay p place
-      two_way place i less e has = record { within = omega (arith, less, e, collected.long); response = has }
+      two_way : (place i : ℕ) → i < length places → place ≡ 0 + i → has_both (method_of p place) ≡ true → IsTwoWay p place
+      two_way place i less e has = record { within = omega (arith, less, e, collected.long); messages = has }
 
       bodies_at : (place i : ℕ) → i < length places → place ≡ 0 + i → get_or places i [] ≡ replies_with (method_of p place).ordinal collected.replies
       bodies_at place i less e =
           let same : place ≡ i = omega (arith, e) in
           ap (λ n. get_or places n []) (sym same) ∙ collected.bodies place (omega (arith, less, e, collected.long))
 
-      some_at : (place i : ℕ) → i < length places → place ≡ 0 + i → has_response (method_of p place) ≡ true → 0 < length (get_or places i [])
+      some_at : (place i : ℕ) → i < length places → place ≡ 0 + i → has_both (method_of p place) ≡ true → 0 < length (get_or places i [])
       some_at place i less e has =
           let same : place ≡ i = omega (arith, e) in
           subst (λ n. 0 < length (get_or places n [])) same (some place (omega (arith, less, e)) (two_way place i less e has))
 
-      all_of : (place i : ℕ) → i < length places → place ≡ 0 + i → has_response (method_of p place) ≡ true → bodies_of (held_at place (get_or places i [])) ≡ replies_with (method_of p place).ordinal collected.replies
+      all_of : (place i : ℕ) → i < length places → place ≡ 0 + i → has_both (method_of p place) ≡ true → bodies_of (held_at place (get_or places i [])) ≡ replies_with (method_of p place).ordinal collected.replies
       all_of place i less e has = whole (get_or places i []) (some_at place i less e has) ∙ bodies_at place i less e
 
-      are_replies : (place i : ℕ) → i < length places → place ≡ 0 + i → has_response (method_of p place) ≡ true → AreRepliesOf p place (held_at place (get_or places i []))
+      are_replies : (place i : ℕ) → i < length places → place ≡ 0 + i → has_both (method_of p place) ≡ true → AreRepliesOf p place (held_at place (get_or places i []))
       are_replies place i less e has =
           let way = two_way place i less e has in
           record {
@@ -161,7 +161,7 @@ module _ (p : TableProtocol) where
         complete = λ place way. (
             let less : place < length places = omega (arith, way.within, collected.long) in
             let e : place ≡ 0 + place = omega arith in
-            (held_at place (get_or places place []), held_has 0 place place places less e way.response, are_replies place place less e way.response)
+            (held_at place (get_or places place []), held_has 0 place place places less e way.messages, are_replies place place less e way.messages)
             );
         rise = held_rise 0 places (omega (arith, collected.long));
       }
@@ -191,14 +191,14 @@ module _ (p : TableProtocol) (places : List (List Body)) (bodies : List Body) wh
 
 -- a place without a method is that of a one-way one
 pub one_way : (p : TableProtocol) (place : ℕ) (bodies : List Body) → place < (protocol_record p).methods → ¬ (IsTwoWay p place) → held_from p place (bodies ∷ []) ≡ []
-one_way p place bodies within none = go (has_response (method_of p place)) refl
+one_way p place bodies within none = go (has_both (method_of p place)) refl
   where
-    go : (t : Bool) → has_response (method_of p place) ≡ t → held_from p place (bodies ∷ []) ≡ []
-    go true e = absurd (none (record { within = within; response = e }))
+    go : (t : Bool) → has_both (method_of p place) ≡ t → held_from p place (bodies ∷ []) ≡ []
+    go true e = absurd (none (record { within = within; messages = e }))
     go false e = ap (λ t. if t then held_at p place bodies ∷ [] else []) e
 
 pub two_way_held : (p : TableProtocol) (place : ℕ) (bodies : List Body) → IsTwoWay p place → held_from p place (bodies ∷ []) ≡ held_at p place bodies ∷ []
-two_way_held p place bodies way = ap (λ t. if t then held_at p place bodies ∷ [] else []) way.response
+two_way_held p place bodies way = ap (λ t. if t then held_at p place bodies ∷ [] else []) way.messages
 
 -- a place without bodies
 pub lacks_at : (p : TableProtocol) (ms : List (Vec Message)) (place : ℕ) (m : Vec Message) → place < length ms → m ≡ get_or ms place m → IsTwoWay p place → m.items ≡ [] → LacksBody p (places_view ms)

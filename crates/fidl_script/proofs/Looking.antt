@@ -1,31 +1,17 @@
 -- The methods of a protocol by their places and names.
-use Rattle.std.proofs.Common.{◌≡◌, ◌<◌, ℕ, List, Bool, true, false, refl, sym, ap, subst, ◌∙◌, inl, inr, if◌then◌else◌}
-use Rattle.std.specs.Prelude.{Option, Some, IfSome, ◌==◌}
+use Rattle.std.proofs.Common.{◌≡◌, ◌<◌, ℕ, List, Bool, true, false, refl, sym, ap, subst, ◌∙◌, inl, inr}
+use Rattle.std.specs.Prelude.{Option, Some, IfSome}
 use Rattle.std.proofs.lemmas.Bool.{cases_order}
 use Rattle.fidl_table_format.specs.Section.{header_of}
-use Rattle.fidl_table_format.specs.Method.{has_response, method_name, method_number, no_payload}
-use Rattle.fidl_verify.specs.Lookups.{TableProtocol, TableMethod, protocol_record, method_record, payload_of, response_of}
+use Rattle.fidl_table_format.specs.Method.{method_name, method_number}
+use Rattle.fidl_verify.specs.Lookups.{TableProtocol, TableMethod, protocol_record, method_record, response_of}
 use Rattle.fidl_verify.specs.declared.method.Payload.{Payload}
-use Rattle.fidl_verify.specs.declared.method.Payload.TheVariants.{Missing, Empty, Entry}
 use Rattle.fidl_script.specs.Lines.{Line}
 use Rattle.fidl_script.specs.Phrases.{IsReplyLine}
-use Rattle.fidl_script.specs.Script.{Body, method_of, IsTwoWay}
+use Rattle.fidl_script.specs.Script.{Body, method_of, has_both, IsTwoWay}
 use Rattle.fidl_script.specs.Text.{Means, GivesBody, IsReply}
 use Rattle.fidl_script.specs.Faults.{GivesNoBody}
 use Rattle.fidl_script.specs.Named.{name_of_method, HasNoneNamed, IsFirstNamed}
-
--- a message that there is carries something or nothing
-there : (t : Bool) (entry : ℕ) → (payload_of t entry ≡ Missing → ⊥) → t ≡ true
-there true entry h = refl
-there false entry h = absurd (h refl)
-
-not_missing : (t : Bool) (entry : ℕ) → (if t then Empty else Entry entry) ≡ Missing → ⊥
-not_missing true entry e = absurd (cc e)
-not_missing false entry e = absurd (cc e)
-
-not_there : (t : Bool) (entry : ℕ) → payload_of t entry ≡ Missing → t ≡ true → ⊥
-not_there true entry e h = not_missing (entry == no_payload) entry e
-not_there false entry e h = absurd (cc h)
 
 module _ (p : TableProtocol) where
   module _ (place : ℕ) (m : TableMethod) (table : m.table ≡ p.table) (number : m.number ≡ method_number p.table (header_of p.table) p.number place) where
@@ -38,15 +24,11 @@ module _ (p : TableProtocol) where
     pub same_name : method_name m.table (header_of m.table) m.number ≡ name_of_method p place
     same_name = ap (λ (n : TableMethod). method_name n.table (header_of n.table) n.number) same_method
 
-    pub not_two_way : (payload : Payload) → payload ≡ response_of (method_record m) → payload ≡ Missing → ¬ (IsTwoWay p place)
-    not_two_way payload value is h =
-        not_there (has_response (method_of p place)) (method_of p place).response (ap response_of (sym same_record) ∙ sym value ∙ is) h.response
+    pub not_two_way : (both : Bool) → both ≡ has_both (method_record m) → both ≡ false → ¬ (IsTwoWay p place)
+    not_two_way both value is h = let never : false ≡ true = sym is ∙ value ∙ ap has_both same_record ∙ h.messages in absurd (cc never)
 
-    pub two_way : place < (protocol_record p).methods → (payload : Payload) → payload ≡ response_of (method_record m) → (payload ≡ Missing → ⊥) → IsTwoWay p place
-    two_way within payload value some = record {
-      within = within;
-      response = there (has_response (method_of p place)) (method_of p place).response (λ e. some (value ∙ ap response_of same_record ∙ e));
-    }
+    pub two_way : place < (protocol_record p).methods → (both : Bool) → both ≡ has_both (method_record m) → both ≡ true → IsTwoWay p place
+    two_way within both value is = record { within = within; messages = ap has_both (sym same_record) ∙ sym value ∙ is }
 
   pub named_at : (place : ℕ) (o : Option TableMethod) (m : TableMethod) → o ≡ Some m → IfSome o (λ n. n.table ≡ p.table) → IfSome o (λ n. n.number ≡ method_number p.table (header_of p.table) p.number place)
       → (name : List ℕ) → name ≡ method_name m.table (header_of m.table) m.number → name ≡ name_of_method p place

@@ -4,10 +4,10 @@ use Rattle.std.specs.Prelude.{if◌then◌else◌}
 use Rattle.std.specs.List.{AllByRecursion, AllPairs, AllZip, Contains}
 use Rattle.std.specs.Global.{Vec}
 use Rattle.fidl_encode.specs.declared.message.Message.{Message}
-use Rattle.fidl_table_format.specs.Method.{is_strict, has_response}
+use Rattle.fidl_table_format.specs.Method.{is_strict}
 use Rattle.fidl_verify.specs.Lookups.{TableProtocol, protocol_record}
 use Rattle.fidl_script.specs.Lines.{Line}
-use Rattle.fidl_script.specs.Script.{Body, Replies, bodies_of, method_of, IsTwoWay, AreRepliesOf}
+use Rattle.fidl_script.specs.Script.{Body, Replies, bodies_of, method_of, has_both, IsTwoWay, AreRepliesOf}
 use Rattle.fidl_script.specs.Text.{Reply, IsReply, replies_with}
 use Rattle.fidl_script.specs.Held.{bodies_view, replies_of}
 
@@ -29,7 +29,7 @@ abbrev pub held_from : TableProtocol → (place : ℕ) → (places : List (List 
 held_from p place [] = []
 held_from p place (bodies ∷ places) =
     let m = method_of p place in
-    if has_response m
+    if has_both m
     then replies_of m.ordinal (not (is_strict m)) bodies ∷ held_from p (suc place) places
     else held_from p (suc place) places
 

@@ -7,6 +7,7 @@
 --   Held       what the structs of the code stand for
 --   Named      methods that are found by their names
 --   Collected  the replies that are read so far
+--   Samples    the method records of the worked facts
 pub mod Lines
 pub mod Phrases
 pub mod Script
@@ -15,3 +16,4 @@ pub mod Faults
 pub mod Held
 pub mod Named
 pub mod Collected
+pub mod Samples

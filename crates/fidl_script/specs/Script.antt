@@ -1,5 +1,5 @@
 -- What a service holds of a script (docs/service.md, "Scripts").
-use Rattle.std.specs.Prelude.{◌≡◌, ℕ, ◌+◌, ◌<◌, ◌≤◌, Bool, not, IsTrue, List, [], ◌∷◌, length}
+use Rattle.std.specs.Prelude.{◌≡◌, ℕ, ◌+◌, ◌<◌, ◌≤◌, ◌&&◌, Bool, not, IsTrue, List, [], ◌∷◌, length}
 use Rattle.std.specs.List.{AllByRecursion, AllPairs, Contains}
 use Rattle.fidl_limits.specs.declared.limits.TheConstants.{MAX_MESSAGE_BYTES}
 use Rattle.fidl_wire.specs.declared.handle.HandleInfo.{HandleInfo}
@@ -9,7 +9,7 @@ use Rattle.fidl_table_format.specs.declared.record.MethodRecord.{MethodRecord}
 use Rattle.fidl_table_format.specs.Section.{header_of, method_at}
 use Rattle.fidl_table_format.specs.Terms.{declarations_of}
 use Rattle.fidl_table_format.specs.Protocol.{IsFirstProtocol}
-use Rattle.fidl_table_format.specs.Method.{is_strict, has_response, method_number}
+use Rattle.fidl_table_format.specs.Method.{is_strict, has_request, has_response, method_number}
 use Rattle.fidl_verify.specs.Lookups.{response_of, TableProtocol, protocol_record}
 use Rattle.fidl_verify.specs.declared.method.Payload.{Payload}
 use Rattle.fidl_verify.specs.declared.method.Payload.TheVariants.{Missing, Empty, Entry}
@@ -55,10 +55,14 @@ abbrev pub method_of : TableProtocol → (place : ℕ) → MethodRecord
 method_of p place = method_at p.table (header_of p.table)
     (method_number p.table (header_of p.table) p.number place)
 
+-- the method is two-way: it has a request and a response, so it is no event
+abbrev pub has_both : MethodRecord → Bool
+has_both m = has_request m && has_response m
+
 -- the protocol has a two-way method at this place
 pub record IsTwoWay (p : TableProtocol) (place : ℕ) : Type 0 where
   pub within : place < (protocol_record p).methods
-  pub response : IsTrue (has_response (method_of p place))
+  pub messages : IsTrue (has_both (method_of p place))
 
 -- the replies are those of the two-way method at this place of the protocol
 pub record AreRepliesOf (p : TableProtocol) (place : ℕ) (r : Replies) : Type 0 where

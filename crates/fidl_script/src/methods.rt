@@ -1,9 +1,9 @@
 //! The methods of a protocol by their names.
 ghost use Rattle.std.specs.Prelude.{◌≡◌, ◌<◌, ℕ, IfOk, IfSome, IfNone, OnSome};
 ghost use Rattle.fidl_table_format.specs.Section.{header_of};
-ghost use Rattle.fidl_table_format.specs.Method.{method_number};
-ghost use Rattle.fidl_verify.specs.Lookups.{protocol_record};
-ghost use Rattle.fidl_script.specs.Script.{IsTwoWay};
+ghost use Rattle.fidl_table_format.specs.Method.{method_number, has_request, has_response};
+ghost use Rattle.fidl_verify.specs.Lookups.{protocol_record, method_record};
+ghost use Rattle.fidl_script.specs.Script.{IsTwoWay, has_both};
 ghost use Rattle.fidl_script.specs.Text.{Means};
 ghost use Rattle.fidl_script.specs.Named.{FindsAll, HasNoneNamed, IsFirstNamed, name_of_method};
 
@@ -83,6 +83,27 @@ fn first_named(protocol: &Protocol<'_>, name: &[u8]) -> Option<u32>
     None
 }
 
+/// Whether a method has a request.
+fn has_request(method: &Method<'_>) -> bool
+    ensures { result ≡ has_request (method_record method.now) }
+{
+    !matches!(method.request(), Payload::Missing)
+}
+
+/// Whether a method has a response.
+fn has_response(method: &Method<'_>) -> bool
+    ensures { result ≡ has_response (method_record method.now) }
+{
+    !matches!(method.response(), Payload::Missing)
+}
+
+/// Whether a method has both: an event has no request.
+fn is_two_way(method: &Method<'_>) -> bool
+    ensures { result ≡ has_both (method_record method.now) }
+{
+    has_request(method) && has_response(method)
+}
+
 /// The method at this place, where it is two-way.
 pub(crate) fn two_way_at<'t>(protocol: &Protocol<'t>, place: u32) -> Option<Method<'t>>
     ensures table { IfSome result (λ m. m.table ≡ protocol.now.table) }
@@ -92,10 +113,10 @@ pub(crate) fn two_way_at<'t>(protocol: &Protocol<'t>, place: u32) -> Option<Meth
     ensures none { IfNone result (¬ (IsTwoWay protocol.now place)) }
 {
     let method = protocol.at(place)?;
-    match method.response() {
-        Payload::Missing => None,
-        Payload::Empty => Some(method),
-        Payload::Entry(_) => Some(method),
+    if is_two_way(&method) {
+        Some(method)
+    } else {
+        None
     }
 }
 

@@ -1,9 +1,11 @@
 //! Worked texts of scripts.
-ghost use Rattle.std.specs.Prelude.{◌≡◌, ℕ, List, [], ◌∷◌, codes, length, Option, Some, None};
+ghost use Rattle.std.specs.Prelude.{◌≡◌, ℕ, List, [], ◌∷◌, codes, length, Option, Some, None, true};
+ghost use Rattle.std.specs.Prelude.{false};
 ghost use Rattle.fidl_verify.specs.declared.method.Payload.TheVariants.{Empty, Entry};
 ghost use Rattle.fidl_script.specs.Lines.{said_lines};
 ghost use Rattle.fidl_script.specs.Phrases.{IsProtocolLine, IsReplyLine};
-ghost use Rattle.fidl_script.specs.Script.{Body, empty_body, FitsBehindHeader};
+ghost use Rattle.fidl_script.specs.Script.{Body, empty_body, FitsBehindHeader, has_both};
+ghost use Rattle.fidl_script.specs.Samples.{a_method};
 ghost use Rattle.fidl_script.specs.Text.{GivesBody, replies_with};
 ghost use Rattle.fidl_script.specs.Faults.{BeginsBadly};
 
@@ -16,6 +18,15 @@ pub fn lines_that_say_something()
     ensures none { said_lines (codes "\n#\n\n") ≡ [] }
     ensures returns { said_lines (codes "a\r\nb\n") ≡ record { number = 1; bytes = codes "a\r" }
         ∷ record { number = 2; bytes = codes "b" } ∷ [] }
+{}
+
+/// A two-way method has flag 2, for its request, and flag 4, for its response. A one-way method lacks
+/// the response, and an event the request.
+pub fn two_way_methods()
+    ensures two_way { has_both (a_method 6) ≡ true }
+    ensures strict_two_way { has_both (a_method 7) ≡ true }
+    ensures one_way { has_both (a_method 3) ≡ false }
+    ensures event { has_both (a_method 5) ≡ false }
 {}
 
 /// A protocol line has one name, behind one blank.

@@ -2,9 +2,8 @@
 -- its method.
 use Rattle.std.proofs.Common.{◌≡◌, ℕ, zero, suc, ◌<◌, List, [], ◌∷◌, length, get_or, arith, refl, sym, ap, subst, ◌∙◌}
 use Rattle.std.proofs.lemmas.List.{get_or-map, length-map}
-use Rattle.std.specs.Prelude.{IsTrue}
+use Rattle.std.specs.Prelude.{IsTrue, ◌&&◌, Bool, true, false}
 use Rattle.std.specs.List.{AllByRecursion, Contains}
-use Rattle.fidl_table_format.specs.Method.{has_response}
 use Rattle.fidl_verify.specs.Lookups.{TableProtocol, response_of}
 use Rattle.fidl_verify.specs.declared.method.Payload.{Payload}
 use Rattle.fidl_verify.specs.declared.method.Payload.TheVariants.{Missing, Empty, Entry}
@@ -12,7 +11,7 @@ use Rattle.fidl_requests.specs.declared.verdict.Verdict.{Verdict}
 use Rattle.fidl_requests.specs.declared.verdict.Verdict.TheVariants.{Silence, Unknown, Call, End}
 use Rattle.fidl_requests.specs.Methods.{record_of}
 use Rattle.fidl_requests.specs.Verdict.{IsVerdict}
-use Rattle.fidl_script.specs.Script.{Body, Replies, Script, bodies_of, IsReplyOf, IsTwoWay, method_of, IsScriptFor}
+use Rattle.fidl_script.specs.Script.{Body, Replies, Script, bodies_of, IsReplyOf, IsTwoWay, has_both, method_of, IsScriptFor}
 use Rattle.fidl_encode.specs.declared.message.Message.{Message}
 use Rattle.fidl_script.specs.Held.{body_view, bodies_view}
 use Rattle.fidl_serve.specs.Cursors.{HasMethodOf, HasMethodFor, Fits, AreReady}
@@ -35,11 +34,15 @@ fit_all table payload (b ∷ bs) i = (fits table payload b i.0, fit_all table pa
 pub ready : (p : TableProtocol) (s : Script) → IsScriptFor p s → AreReady s.methods
 ready p s f = record { rise = f.rise; fit = all_from _ s.methods (λ r c. let a = f.sound r c in fit_all p.table (response_of (method_of p a.0)) (bodies_of r) a.1.bodies) }
 
+both_true : (a b : Bool) → a ≡ true → b ≡ true → (a && b) ≡ true
+both_true true b h k = k
+both_true false b h k = absurd (cc h)
+
 -- the script has the method of a call
 pub known_by : (p : TableProtocol) (s : Script) (frame : List ℕ) (txid ordinal : ℕ) → IsScriptFor p s → IsCall p frame txid ordinal → HasMethodOf ordinal s.methods
 known_by p s frame txid ordinal f c =
     let r = c.requested in
-    let two_way : IsTwoWay p r.place = record { within = r.at.within; response = subst (λ (n : ℕ). IsTrue (has_response (record_of p.table n))) r.is c.two_way } in
+    let two_way : IsTwoWay p r.place = record { within = r.at.within; messages = subst (λ (n : ℕ). IsTrue (has_both (record_of p.table n))) r.is (both_true _ _ r.request c.two_way) } in
     let m = f.complete r.place two_way in (
       m.0,
       m.1,
