@@ -9,7 +9,7 @@ ghost use Rattle.fidl_requests.specs.Samples.{one_protocol, protocol_of, one_boo
 
 pub mod verdicts;
 
-/// The message of a frame stands behind its head, and the handles behind that.
+/// The message of a frame follows its counts, and the handles follow the message.
 pub fn parts_of_a_frame()
     ensures message { message_of a_handle_frame ≡ 9 ∷ [] }
     ensures handles { handles_of a_handle_frame

@@ -7,8 +7,8 @@ use thiserror::Error;
 /// Why a text is no script for a protocol of a table. Lines are counted from 1, skipped ones too.
 #[derive(Clone, Copy, PartialEq, Eq, Debug, Drop, Error)]
 pub enum ScriptFault {
-    /// The line is neither skipped nor of the form that its place asks for. Line 1 is told where the
-    /// text is not UTF-8, and where all its lines are skipped.
+    /// The line does not have the form that is required there. Line 1 is reported if the text is not
+    /// UTF-8, or if all its lines are skipped.
     #[error("line {line} is no line of a script")]
     Syntax { line: u64 },
     /// The table has no protocol of the name.

@@ -10,7 +10,7 @@ use crate::lines::place_of;
 pub(crate) struct ReplyWords<'x> {
     /// The name of the method.
     pub(crate) method: &'x [u8],
-    /// What stands behind the blank that follows the name, where there is one.
+    /// The text after the blank that follows the name, if there is one.
     pub(crate) text: Option<&'x [u8]>,
 }
 

@@ -59,7 +59,7 @@ impl Replies {
         self.flexible
     }
 
-    /// What stands behind the headers of its replies, in the order in which they are given.
+    /// The bodies of its replies, without headers, in the order of the script's lines.
     pub fn bodies(&self) -> &[Message]
         ensures bodies { bodies_view result.now ≡ bodies_of self.now }
         ensures some { 0 < length result.now }

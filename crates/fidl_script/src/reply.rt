@@ -19,7 +19,7 @@ use std::alloc::Global;
 pub(crate) struct ReadReply {
     /// The place of its method in the protocol.
     pub(crate) place: u32,
-    /// What stands behind its header.
+    /// Its body, without the header.
     pub(crate) message: Message,
 }
 
