@@ -1,6 +1,6 @@
 -- What a return says that changes nothing.
 use Rattle.std.proofs.Common.{◌≡◌, ℕ, ◌≤◌, Bool, false, true, arith}
-use Rattle.std.specs.Prelude.{Result, Ok, Err, IfOk}
+use Rattle.std.specs.Prelude.{Result, Ok, Err, IfOk, OnOk, Option, Some, None, IfNone}
 use Rattle.std.specs.Result.{IsErrAnd}
 
 -- a `false` is no `true`
@@ -18,6 +18,15 @@ same_le n = omega arith
 pub no_ok : {T E : Type 0} (r : Result T E) (e : E) (P : T → Type 0) → IsErrAnd r (λ y. y ≡ e) → IfOk r P
 no_ok (Ok x) e P h = absurd h
 no_ok (Err y) e P h = tt
+
+-- what holds anyway holds where there is a value, and where there is none
+pub on_ok : {T E : Type 0} (r : Result T E) (P : Type 0) → P → OnOk r P
+on_ok (Ok x) P h = h
+on_ok (Err e) P h = tt
+
+pub if_none : {T : Type 0} (o : Option T) (P : Type 0) → P → IfNone o P
+if_none None P h = h
+if_none (Some x) P h = tt
 
 -- what a test says is not so
 pub clash : {b : Bool} → b ≡ true → b ≡ false → ⊥

@@ -2,7 +2,7 @@
 -- themselves (docs/decoding.md, "Refusals").
 use Rattle.std.specs.Prelude.{◌≡◌, ◌≢◌, ◌⊎◌, ℕ, ◌+◌, ◌-◌, ◌<◌, ◌≤◌, Bool, true, false, nat_le, List}
 use Rattle.std.specs.Prelude.{length, Option, Some, None}
-use Rattle.std.specs.Int.{next_multiple_of, w16, w32}
+use Rattle.std.specs.Int.{next_multiple_of}
 use Rattle.fidl_limits.specs.declared.limits.TheConstants.{MAX_DEPTH}
 use Rattle.fidl_wire.specs.Value.{Member}
 use Rattle.fidl_wire.specs.Term.{Term, resolve}

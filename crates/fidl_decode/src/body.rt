@@ -72,7 +72,6 @@ impl<'t, 'm> Decoder<'t, 'm> {
     /// The envelopes of a value of a table entry, so many of them from a place on.
     #[inline(always)]
     pub(crate) fn body_of(&self, entry: u32, base: usize, count: u32, depth: u8) -> TableBody<'t>
-        requires table { IsFine self.now.table.now }
         requires entry { entry < (header_of self.now.table.now).entries }
         requires kind { kind_of (entry_at self.now.table.now entry).kind ≡ Some kinds.Table }
         ensures fine { BodyFine self.now.table.now result }
@@ -106,12 +105,10 @@ impl<'t, 'm> Decoder<'t, 'm> {
         how: Passing,
         state: &mut State,
     ) -> bool
-        requires table { IsFine self.now.table.now }
         requires body { BodyFine self.now.table.now body.now }
         requires more { read < body.now.known }
         requires entry { entry < (header_of self.now.table.now).entries }
         requires how { IsPassing self.now.table.now entry how }
-        requires short { length self.now.bytes.now ≤ MAX_MESSAGE_BYTES }
         requires frame { FrameFine self.now.table.now self.now.bytes.now
             (rest_of body.now read) }
         requires state { StateFine (message_of self.now.bytes.now self.now.handles.now)
@@ -147,12 +144,10 @@ impl<'t, 'm> Decoder<'t, 'm> {
         how: Passing,
         state: &mut State,
     ) -> u32
-        requires table { IsFine self.now.table.now }
         requires body { BodyFine self.now.table.now body.now }
         requires more { from ≤ body.now.known }
         requires entry { entry < (header_of self.now.table.now).entries }
         requires how { IsPassing self.now.table.now entry how }
-        requires short { length self.now.bytes.now ≤ MAX_MESSAGE_BYTES }
         requires frame { FrameFine self.now.table.now self.now.bytes.now
             (rest_of body.now from) }
         requires state { StateFine (message_of self.now.bytes.now self.now.handles.now)
@@ -186,14 +181,12 @@ impl<'t, 'm> Decoder<'t, 'm> {
         kind: EntryKind,
         state: &mut State,
     ) -> u32
-        requires table { IsFine self.now.table.now }
         requires body { BodyFine self.now.table.now body.now }
         requires more { from < body.now.known }
         requires found { find (members_of self.now.table.now body.now.entry) (from + 1)
             ≡ Some (ty.named entry) }
         requires entry { entry < (header_of self.now.table.now).entries }
         requires kind { kind_of (entry_at self.now.table.now entry).kind ≡ Some kind }
-        requires short { length self.now.bytes.now ≤ MAX_MESSAGE_BYTES }
         requires frame { FrameFine self.now.table.now self.now.bytes.now
             (rest_of body.now from) }
         requires state { StateFine (message_of self.now.bytes.now self.now.handles.now)
@@ -220,10 +213,8 @@ impl<'t, 'm> Decoder<'t, 'm> {
     /// The steps, one for each, are not counted yet.
     #[inline(always)]
     fn pass_alike(&self, body: &TableBody<'_>, from: u32, state: &mut State) -> u32
-        requires table { IsFine self.now.table.now }
         requires body { BodyFine self.now.table.now body.now }
         requires more { from < body.now.known }
-        requires short { length self.now.bytes.now ≤ MAX_MESSAGE_BYTES }
         requires frame { FrameFine self.now.table.now self.now.bytes.now
             (rest_of body.now from) }
         requires state { StateFine (message_of self.now.bytes.now self.now.handles.now)
@@ -262,10 +253,8 @@ impl<'t, 'm> Decoder<'t, 'm> {
     /// how many are read then. The steps, one for each, are not counted yet.
     #[inline(always)]
     fn pass_some(&self, body: &TableBody<'_>, from: u32, state: &mut State) -> u32
-        requires table { IsFine self.now.table.now }
         requires body { BodyFine self.now.table.now body.now }
         requires more { from < body.now.known }
-        requires short { length self.now.bytes.now ≤ MAX_MESSAGE_BYTES }
         requires frame { FrameFine self.now.table.now self.now.bytes.now
             (rest_of body.now from) }
         requires state { StateFine (message_of self.now.bytes.now self.now.handles.now)
@@ -291,9 +280,7 @@ impl<'t, 'm> Decoder<'t, 'm> {
     /// Passes over the first envelopes of a table's value, and answers how many are read then.
     #[inline(never)]
     pub(crate) fn pass_front(&self, body: &TableBody<'_>, state: &mut State) -> u32
-        requires table { IsFine self.now.table.now }
         requires body { BodyFine self.now.table.now body.now }
-        requires short { length self.now.bytes.now ≤ MAX_MESSAGE_BYTES }
         requires frame { FrameFine self.now.table.now self.now.bytes.now
             (rest_of body.now 0) }
         requires state { StateFine (message_of self.now.bytes.now self.now.handles.now)
@@ -330,10 +317,8 @@ impl<'t, 'm> Decoder<'t, 'm> {
         read: u32,
         state: &mut State,
     ) -> Option<Frame>
-        requires table { IsFine self.now.table.now }
         requires body { BodyFine self.now.table.now body.now }
         requires order { read ≤ body.now.count }
-        requires short { length self.now.bytes.now ≤ MAX_MESSAGE_BYTES }
         requires frame { FrameFine self.now.table.now self.now.bytes.now
             (rest_of body.now read) }
         requires state { StateFine (message_of self.now.bytes.now self.now.handles.now)

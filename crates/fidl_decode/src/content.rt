@@ -29,9 +29,7 @@ impl<'t, 'm> Decoder<'t, 'm> {
         until: Until,
         state: &mut State,
     ) -> Result<Turn, DecodeFault>
-        requires table { IsFine self.now.table.now }
         requires left { frame.left ≡ left.Content entry size count until }
-        requires short { length self.now.bytes.now ≤ MAX_MESSAGE_BYTES }
         requires frame { FrameFine self.now.table.now self.now.bytes.now frame }
         requires state { StateFine (message_of self.now.bytes.now self.now.handles.now)
             (at_of state.old) }
@@ -98,8 +96,6 @@ impl<'t, 'm> Decoder<'t, 'm> {
         until: Until,
         state: &mut State,
     ) -> Result<(), DecodeFault>
-        requires table { IsFine self.now.table.now }
-        requires short { length self.now.bytes.now ≤ MAX_MESSAGE_BYTES }
         requires frame { FrameFine self.now.table.now self.now.bytes.now frame }
         requires left { frame.left ≡ left.Content entry size 1 until }
         requires kind { kind_of (entry_at self.now.table.now entry).kind ≡ Some kind }
@@ -149,8 +145,6 @@ impl<'t, 'm> Decoder<'t, 'm> {
         until: Until,
         state: &mut State,
     ) -> Result<Option<Frame>, DecodeFault>
-        requires table { IsFine self.now.table.now }
-        requires short { length self.now.bytes.now ≤ MAX_MESSAGE_BYTES }
         requires frame { FrameFine self.now.table.now self.now.bytes.now frame }
         requires left { frame.left ≡ left.Content entry size count until }
         requires state { StateFine (message_of self.now.bytes.now self.now.handles.now)
@@ -190,8 +184,6 @@ impl<'t, 'm> Decoder<'t, 'm> {
     /// Reads the next member of a frame, or its end; of a table all members that are read in place.
     #[inline(always)]
     pub(crate) fn take_member(&self, frame: Frame, state: &mut State) -> Result<Turn, DecodeFault>
-        requires table { IsFine self.now.table.now }
-        requires short { length self.now.bytes.now ≤ MAX_MESSAGE_BYTES }
         requires frame { FrameFine self.now.table.now self.now.bytes.now frame }
         requires state { StateFine (message_of self.now.bytes.now self.now.handles.now)
             (at_of state.old) }

@@ -12,6 +12,7 @@ ghost use Rattle.fidl_table_format.specs.Kind.{kind_of};
 ghost use Rattle.fidl_table_format.specs.Section.{header_of, entry_at};
 ghost use Rattle.fidl_table_format.specs.Terms.{declarations_of};
 ghost use Rattle.fidl_decode.specs.Invariants.{IsFine};
+ghost use Rattle.fidl_decode.specs.Fine.{fine_prop};
 ghost use Rattle.fidl_decode.specs.Faults.{message_of};
 ghost use Rattle.fidl_decode.specs.Breaks.{IsPadding, Breaks};
 ghost use Rattle.fidl_decode.specs.State.{At, Item};
@@ -89,13 +90,15 @@ fn next_member(table: &Table, left: Left, done: usize) -> Option<Member>
     }
 }
 
-/// What decoding reads and never changes: a verified table, and a message.
+/// What decoding reads and never changes: a verified table, and a message within the limit of bytes.
 #[derive(Clone, Copy)]
 pub(crate) struct Decoder<'t, 'm> {
     pub table: &'t Table<'t>,
     pub bytes: &'m [u8],
     pub handles: &'m [HandleInfo],
     ghost octets: { (i : ℕ) → slice_index bytes.now i < 256 },
+    ghost fine: { IsFine table.now } by { fine_prop table.now },
+    ghost short: { length bytes.now ≤ MAX_MESSAGE_BYTES },
 }
 
 impl<'t, 'm> Decoder<'t, 'm> {
@@ -109,9 +112,7 @@ impl<'t, 'm> Decoder<'t, 'm> {
         inside: u8,
         state: &mut State,
     ) -> Result<Option<Frame>, DecodeFault>
-        requires table { IsFine self.now.table.now }
         requires entry { entry < (header_of self.now.table.now).entries }
-        requires short { length self.now.bytes.now ≤ MAX_MESSAGE_BYTES }
         requires room { place + (entry_at self.now.table.now entry).size
             ≤ length self.now.bytes.now }
         requires state { StateFine (message_of self.now.bytes.now self.now.handles.now)
@@ -191,8 +192,6 @@ impl<'t, 'm> Decoder<'t, 'm> {
     /// Reads the zeros before the next member and that member, or the zeros at the end.
     #[inline(always)]
     pub(crate) fn take_row(&self, frame: Frame, state: &mut State) -> Result<Turn, DecodeFault>
-        requires table { IsFine self.now.table.now }
-        requires short { length self.now.bytes.now ≤ MAX_MESSAGE_BYTES }
         requires frame { FrameFine self.now.table.now self.now.bytes.now frame }
         requires plain { IsPlain frame.left }
         requires state { StateFine (message_of self.now.bytes.now self.now.handles.now)

@@ -89,9 +89,7 @@ impl<'t, 'm> Decoder<'t, 'm> {
         depth: u8,
         state: &mut State,
     ) -> Result<Frame, DecodeFault>
-        requires table { IsFine self.now.table.now }
         requires entry { entry < (header_of self.now.table.now).entries }
-        requires short { length self.now.bytes.now ≤ MAX_MESSAGE_BYTES }
         requires room { envelope + 8 ≤ length self.now.bytes.now }
         requires state { StateFine (message_of self.now.bytes.now self.now.handles.now)
             (at_of state.old) }
@@ -177,8 +175,6 @@ impl<'t, 'm> Decoder<'t, 'm> {
         depth: u8,
         state: &mut State,
     ) -> Result<(), DecodeFault>
-        requires table { IsFine self.now.table.now }
-        requires short { length self.now.bytes.now ≤ MAX_MESSAGE_BYTES }
         requires room { envelope + 8 ≤ length self.now.bytes.now }
         requires state { StateFine (message_of self.now.bytes.now self.now.handles.now)
             (at_of state.old) }

@@ -29,8 +29,6 @@ impl<'t, 'm> Decoder<'t, 'm> {
         count: u32,
         state: &mut State,
     ) -> Result<Option<Frame>, DecodeFault>
-        requires table { IsFine self.now.table.now }
-        requires short { length self.now.bytes.now ≤ MAX_MESSAGE_BYTES }
         requires frame { FrameFine self.now.table.now self.now.bytes.now frame }
         requires left { frame.left ≡ left.Rows first count }
         requires state { StateFine (message_of self.now.bytes.now self.now.handles.now)
@@ -78,8 +76,6 @@ impl<'t, 'm> Decoder<'t, 'm> {
         known: &Plain,
         state: &mut State,
     ) -> Result<Option<Frame>, DecodeFault>
-        requires table { IsFine self.now.table.now }
-        requires short { length self.now.bytes.now ≤ MAX_MESSAGE_BYTES }
         requires frame { FrameFine self.now.table.now self.now.bytes.now frame }
         requires known { IsKnown self.now.table.now
             (message_of self.now.bytes.now self.now.handles.now) known.now.rows known.now.first
@@ -134,8 +130,6 @@ impl<'t, 'm> Decoder<'t, 'm> {
         count: u32,
         state: &mut State,
     ) -> Result<(), DecodeFault>
-        requires table { IsFine self.now.table.now }
-        requires short { length self.now.bytes.now ≤ MAX_MESSAGE_BYTES }
         requires frame { FrameFine self.now.table.now self.now.bytes.now frame }
         requires left { frame.left ≡ left.Elements entry size count }
         requires entry { entry < (header_of self.now.table.now).entries }
@@ -183,8 +177,6 @@ impl<'t, 'm> Decoder<'t, 'm> {
         count: u32,
         state: &mut State,
     ) -> Result<Option<Frame>, DecodeFault>
-        requires table { IsFine self.now.table.now }
-        requires short { length self.now.bytes.now ≤ MAX_MESSAGE_BYTES }
         requires frame { FrameFine self.now.table.now self.now.bytes.now frame }
         requires left { frame.left ≡ left.Elements entry size count }
         requires state { StateFine (message_of self.now.bytes.now self.now.handles.now)
@@ -236,8 +228,6 @@ impl<'t, 'm> Decoder<'t, 'm> {
         frame: Frame,
         state: &mut State,
     ) -> Result<Option<Frame>, DecodeFault>
-        requires table { IsFine self.now.table.now }
-        requires short { length self.now.bytes.now ≤ MAX_MESSAGE_BYTES }
         requires frame { FrameFine self.now.table.now self.now.bytes.now frame }
         requires state { StateFine (message_of self.now.bytes.now self.now.handles.now)
             (at_of state.old) }

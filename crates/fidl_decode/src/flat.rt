@@ -28,7 +28,6 @@ impl<'t, 'm> Decoder<'t, 'm> {
     /// leaves.
     #[inline(never)]
     fn are_leaves(&self, first: u32, count: u32) -> bool
-        requires table { IsFine self.now.table.now }
         requires within { first + count ≤ (header_of self.now.table.now).rows }
         ensures { IsTrue result → AreLeaves self.now.table.now first count }
     {
@@ -52,7 +51,6 @@ impl<'t, 'm> Decoder<'t, 'm> {
     /// Whether a value of the entry, which is of this kind, is a leaf, or a struct of leaves.
     #[inline(always)]
     pub(crate) fn is_flat(&self, entry: &Entry, kind: EntryKind) -> bool
-        requires table { IsFine self.now.table.now }
         requires rows { kind ≡ kinds.Struct
             → entry.now.first + entry.now.count ≤ (header_of self.now.table.now).rows }
         ensures { IsTrue result → IsFlat self.now.table.now entry.now kind }
@@ -72,8 +70,6 @@ impl<'t, 'm> Decoder<'t, 'm> {
         count: u32,
         state: &mut State,
     ) -> Result<(), DecodeFault>
-        requires table { IsFine self.now.table.now }
-        requires short { length self.now.bytes.now ≤ MAX_MESSAGE_BYTES }
         requires frame { FrameFine self.now.table.now self.now.bytes.now frame }
         requires left { frame.left ≡ left.Rows first count }
         requires leaves { AreLeaves self.now.table.now first count }
@@ -126,11 +122,9 @@ impl<'t, 'm> Decoder<'t, 'm> {
         depth: u8,
         state: &mut State,
     ) -> Result<(), DecodeFault>
-        requires table { IsFine self.now.table.now }
         requires entry { entry < (header_of self.now.table.now).entries }
         requires kind { kind_of (entry_at self.now.table.now entry).kind ≡ Some kind }
         requires flat { IsFlat self.now.table.now (entry_at self.now.table.now entry) kind }
-        requires short { length self.now.bytes.now ≤ MAX_MESSAGE_BYTES }
         requires room { place + (entry_at self.now.table.now entry).size
             ≤ length self.now.bytes.now }
         requires state { StateFine (message_of self.now.bytes.now self.now.handles.now)

@@ -42,7 +42,6 @@ impl<'t, 'm> Decoder<'t, 'm> {
         depth: u8,
         state: &mut State,
     ) -> Result<(), DecodeFault>
-        requires short { length self.now.bytes.now ≤ MAX_MESSAGE_BYTES }
         requires room { place + 4 ≤ length self.now.bytes.now }
         requires depth { depth ≤ MAX_DEPTH }
         requires state { StateFine (message_of self.now.bytes.now self.now.handles.now)

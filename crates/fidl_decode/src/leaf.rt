@@ -121,11 +121,9 @@ impl<'t, 'm> Decoder<'t, 'm> {
         depth: u8,
         state: &mut State,
     ) -> Result<(), DecodeFault>
-        requires table { IsFine self.now.table.now }
         requires entry { entry < (header_of self.now.table.now).entries }
         requires kind { kind_of (entry_at self.now.table.now entry).kind ≡ Some kind }
         requires leaf { is_leaf kind ≡ true }
-        requires short { length self.now.bytes.now ≤ MAX_MESSAGE_BYTES }
         requires room { place + (entry_at self.now.table.now entry).size
             ≤ length self.now.bytes.now }
         requires state { StateFine (message_of self.now.bytes.now self.now.handles.now)

@@ -24,7 +24,6 @@ impl<'t, 'm> Decoder<'t, 'm> {
     /// Whether a row is the last of a struct of this size, and a box behind which nothing is left.
     #[inline(always)]
     fn ends_in_box(&self, first: u32, count: u32, size: usize) -> bool
-        requires table { IsFine self.now.table.now }
         requires within { first + count ≤ (header_of self.now.table.now).rows }
         ensures { let row = row_at self.now.table.now (header_of self.now.table.now) first in
             IsTrue result → (count ≡ 1)
@@ -51,8 +50,6 @@ impl<'t, 'm> Decoder<'t, 'm> {
         first: u32,
         state: &mut State,
     ) -> Result<Option<Frame>, DecodeFault>
-        requires table { IsFine self.now.table.now }
-        requires short { length self.now.bytes.now ≤ MAX_MESSAGE_BYTES }
         requires frame { FrameFine self.now.table.now self.now.bytes.now frame }
         requires left { frame.left ≡ left.Rows first 1 }
         requires kind { let row = row_at self.now.table.now (header_of self.now.table.now) first in
@@ -97,8 +94,6 @@ impl<'t, 'm> Decoder<'t, 'm> {
         kind: EntryKind,
         state: &mut State,
     ) -> Result<(), DecodeFault>
-        requires table { IsFine self.now.table.now }
-        requires short { length self.now.bytes.now ≤ MAX_MESSAGE_BYTES }
         requires frame { FrameFine self.now.table.now self.now.bytes.now frame }
         requires left { frame.left ≡ left.Rows first count }
         requires some { 0 < count }
@@ -140,8 +135,6 @@ impl<'t, 'm> Decoder<'t, 'm> {
     /// Reads the zeros behind the last row of a struct. Nothing is left then.
     #[inline(always)]
     pub(crate) fn end_rows(&self, frame: Frame, state: &mut State) -> Result<(), DecodeFault>
-        requires table { IsFine self.now.table.now }
-        requires short { length self.now.bytes.now ≤ MAX_MESSAGE_BYTES }
         requires frame { FrameFine self.now.table.now self.now.bytes.now frame }
         requires plain { IsPlain frame.left }
         requires over { rows_left self.now.table.now frame.done frame.left ≡ [] }
@@ -179,8 +172,6 @@ impl<'t, 'm> Decoder<'t, 'm> {
         known: &Plain,
         state: &mut State,
     ) -> Result<Option<Frame>, DecodeFault>
-        requires table { IsFine self.now.table.now }
-        requires short { length self.now.bytes.now ≤ MAX_MESSAGE_BYTES }
         requires frame { FrameFine self.now.table.now self.now.bytes.now frame }
         requires known { IsKnown self.now.table.now
             (message_of self.now.bytes.now self.now.handles.now) known.now.rows known.now.first
@@ -258,8 +249,6 @@ impl<'t, 'm> Decoder<'t, 'm> {
         frame: Frame,
         state: &mut State,
     ) -> Result<Option<Frame>, DecodeFault>
-        requires table { IsFine self.now.table.now }
-        requires short { length self.now.bytes.now ≤ MAX_MESSAGE_BYTES }
         requires frame { FrameFine self.now.table.now self.now.bytes.now frame }
         requires state { StateFine (message_of self.now.bytes.now self.now.handles.now)
             (at_of state.old) }

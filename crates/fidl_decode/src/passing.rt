@@ -32,13 +32,11 @@ impl<'t, 'm> Decoder<'t, 'm> {
         depth: u8,
         state: &mut State,
     ) -> bool
-        requires table { IsFine self.now.table.now }
         requires entry { entry < (header_of self.now.table.now).entries }
         requires free { (kind : EntryKind)
             × (kind_of (entry_at self.now.table.now entry).kind ≡ Some kind)
             × (is_free kind (entry_at self.now.table.now entry) ≡ true) }
         requires size { (entry_at self.now.table.now entry).size ≡ 4 }
-        requires short { length self.now.bytes.now ≤ MAX_MESSAGE_BYTES }
         requires room { envelope + 8 ≤ length self.now.bytes.now }
         requires state { StateFine (message_of self.now.bytes.now self.now.handles.now)
             (at_of state.old) }
@@ -67,13 +65,11 @@ impl<'t, 'm> Decoder<'t, 'm> {
         depth: u8,
         state: &mut State,
     ) -> bool
-        requires table { IsFine self.now.table.now }
         requires entry { entry < (header_of self.now.table.now).entries }
         requires free { (kind : EntryKind)
             × (kind_of (entry_at self.now.table.now entry).kind ≡ Some kind)
             × (is_free kind (entry_at self.now.table.now entry) ≡ true) }
         requires size { (entry_at self.now.table.now entry).size ≡ 8 }
-        requires short { length self.now.bytes.now ≤ MAX_MESSAGE_BYTES }
         requires room { envelope + 8 ≤ length self.now.bytes.now }
         requires state { StateFine (message_of self.now.bytes.now self.now.handles.now)
             (at_of state.old) }
@@ -102,10 +98,8 @@ impl<'t, 'm> Decoder<'t, 'm> {
     /// it is one. Else nothing is read.
     #[inline(always)]
     fn pass_bool(&self, entry: u32, envelope: usize, depth: u8, state: &mut State) -> bool
-        requires table { IsFine self.now.table.now }
         requires entry { entry < (header_of self.now.table.now).entries }
         requires kind { kind_of (entry_at self.now.table.now entry).kind ≡ Some kinds.Bool }
-        requires short { length self.now.bytes.now ≤ MAX_MESSAGE_BYTES }
         requires room { envelope + 8 ≤ length self.now.bytes.now }
         requires state { StateFine (message_of self.now.bytes.now self.now.handles.now)
             (at_of state.old) }
@@ -138,10 +132,8 @@ impl<'t, 'm> Decoder<'t, 'm> {
         depth: u8,
         state: &mut State,
     ) -> bool
-        requires table { IsFine self.now.table.now }
         requires entry { entry < (header_of self.now.table.now).entries }
         requires kind { kind_of (entry_at self.now.table.now entry).kind ≡ Some kind }
-        requires short { length self.now.bytes.now ≤ MAX_MESSAGE_BYTES }
         requires room { envelope + 8 ≤ length self.now.bytes.now }
         requires state { StateFine (message_of self.now.bytes.now self.now.handles.now)
             (at_of state.old) }
@@ -175,10 +167,8 @@ impl<'t, 'm> Decoder<'t, 'm> {
         depth: u8,
         state: &mut State,
     ) -> bool
-        requires table { IsFine self.now.table.now }
         requires entry { entry < (header_of self.now.table.now).entries }
         requires kind { kind_of (entry_at self.now.table.now entry).kind ≡ Some kind }
-        requires short { length self.now.bytes.now ≤ MAX_MESSAGE_BYTES }
         requires room { envelope + 8 ≤ length self.now.bytes.now }
         requires state { StateFine (message_of self.now.bytes.now self.now.handles.now)
             (at_of state.old) }
@@ -208,9 +198,7 @@ impl<'t, 'm> Decoder<'t, 'm> {
         depth: u8,
         state: &mut State,
     ) -> bool
-        requires table { IsFine self.now.table.now }
         requires entry { entry < (header_of self.now.table.now).entries }
-        requires short { length self.now.bytes.now ≤ MAX_MESSAGE_BYTES }
         requires room { envelope + 8 ≤ length self.now.bytes.now }
         requires state { StateFine (message_of self.now.bytes.now self.now.handles.now)
             (at_of state.old) }

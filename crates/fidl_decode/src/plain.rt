@@ -74,7 +74,6 @@ impl<'t, 'm> Decoder<'t, 'm> {
     /// value.
     #[inline(always)]
     fn takes_any(&self, row: &Row, done: usize) -> bool
-        requires table { IsFine self.now.table.now }
         requires row { row.now.entry < (header_of self.now.table.now).entries }
         ensures stands { IsTrue result → row.now.key ≡ done }
         ensures free { IsTrue result → (kind : EntryKind)
@@ -93,7 +92,6 @@ impl<'t, 'm> Decoder<'t, 'm> {
     /// only bool.
     #[inline(always)]
     fn next_flag(&self, row: &Row, done: usize, flag: Option<u32>) -> Option<Option<u32>>
-        requires table { IsFine self.now.table.now }
         requires row { row.now.entry < (header_of self.now.table.now).entries }
         ensures stands { IfSome result (λ next. row.now.key ≡ done) }
         ensures keeps { IfSome result (λ next. (base : ℕ) → IsGood self.now.bytes.now base next
@@ -125,7 +123,6 @@ impl<'t, 'm> Decoder<'t, 'm> {
     /// closer: numbers, and bits and enums that are not strict, and one bool, that stand behind one
     /// another without a gap.
     pub(crate) fn plain_rows(&self, first: u32, count: u32) -> Plain
-        requires table { IsFine self.now.table.now }
         requires within { first + count ≤ (header_of self.now.table.now).rows }
         ensures few { result.rows ≤ count }
         ensures first { result.first ≡ first + result.rows }
@@ -165,7 +162,6 @@ impl<'t, 'm> Decoder<'t, 'm> {
 
     /// The same rows of the struct in the box that is the last of these rows; none where it is no box.
     pub(crate) fn plain_below(&self, first: u32, count: u32) -> Plain
-        requires table { IsFine self.now.table.now }
         requires within { first + count ≤ (header_of self.now.table.now).rows }
         ensures known { IsKnown self.now.table.now
             (message_of self.now.bytes.now self.now.handles.now) result.rows result.first
@@ -203,7 +199,6 @@ impl<'t, 'm> Decoder<'t, 'm> {
     /// the bool is wrong, the frame is left as it is.
     #[inline(always)]
     fn pass_over(&self, frame: Frame, plain: &Plain, state: &mut State) -> Frame
-        requires short { length self.now.bytes.now ≤ MAX_MESSAGE_BYTES }
         requires frame { FrameFine self.now.table.now self.now.bytes.now frame }
         requires start { frame.done ≡ 0 }
         requires passes { Passes self.now.table.now
@@ -229,7 +224,6 @@ impl<'t, 'm> Decoder<'t, 'm> {
     /// Passes over the first rows of a struct, where they are those that are known.
     #[inline(always)]
     pub(crate) fn pass_known(&self, frame: Frame, known: &Plain, state: &mut State) -> Frame
-        requires short { length self.now.bytes.now ≤ MAX_MESSAGE_BYTES }
         requires frame { FrameFine self.now.table.now self.now.bytes.now frame }
         requires known { IsKnown self.now.table.now
             (message_of self.now.bytes.now self.now.handles.now) known.now.rows known.now.first
@@ -269,8 +263,6 @@ impl<'t, 'm> Decoder<'t, 'm> {
         known: &Plain,
         state: &mut State,
     ) -> Result<Option<Frame>, DecodeFault>
-        requires table { IsFine self.now.table.now }
-        requires short { length self.now.bytes.now ≤ MAX_MESSAGE_BYTES }
         requires frame { FrameFine self.now.table.now self.now.bytes.now frame }
         requires start { frame.done ≡ 0 }
         requires passes { Passes self.now.table.now

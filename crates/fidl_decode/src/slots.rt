@@ -51,11 +51,9 @@ impl<'t, 'm> Decoder<'t, 'm> {
         depth: u8,
         state: &mut State,
     ) -> Result<(), DecodeFault>
-        requires table { IsFine self.now.table.now }
         requires entry { entry < (header_of self.now.table.now).entries }
         requires kind { kind_of (entry_at self.now.table.now entry).kind ≡ Some kind }
         requires flat { IsFlat self.now.table.now (entry_at self.now.table.now entry) kind }
-        requires short { length self.now.bytes.now ≤ MAX_MESSAGE_BYTES }
         requires room { envelope + 8 ≤ length self.now.bytes.now }
         requires state { StateFine (message_of self.now.bytes.now self.now.handles.now)
             (at_of state.old) }
@@ -94,9 +92,7 @@ impl<'t, 'm> Decoder<'t, 'm> {
         depth: u8,
         state: &mut State,
     ) -> Result<Option<Frame>, DecodeFault>
-        requires table { IsFine self.now.table.now }
         requires entry { entry < (header_of self.now.table.now).entries }
-        requires short { length self.now.bytes.now ≤ MAX_MESSAGE_BYTES }
         requires room { envelope + 8 ≤ length self.now.bytes.now }
         requires state { StateFine (message_of self.now.bytes.now self.now.handles.now)
             (at_of state.old) }
@@ -143,10 +139,8 @@ impl<'t, 'm> Decoder<'t, 'm> {
         depth: u8,
         state: &mut State,
     ) -> Result<Option<Frame>, DecodeFault>
-        requires table { IsFine self.now.table.now }
         requires member { IfSome member
             (λ row. row.entry < (header_of self.now.table.now).entries) }
-        requires short { length self.now.bytes.now ≤ MAX_MESSAGE_BYTES }
         requires room { envelope + 8 ≤ length self.now.bytes.now }
         requires state { StateFine (message_of self.now.bytes.now self.now.handles.now)
             (at_of state.old) }
@@ -215,11 +209,9 @@ impl<'t, 'm> Decoder<'t, 'm> {
         count: u32,
         state: &mut State,
     ) -> Result<Option<Frame>, DecodeFault>
-        requires table { IsFine self.now.table.now }
         requires left { frame.left ≡ left.Envelopes entry read count }
         requires parts { parts.now ≡ entry_at self.now.table.now entry }
         requires some { 0 < count }
-        requires short { length self.now.bytes.now ≤ MAX_MESSAGE_BYTES }
         requires frame { FrameFine self.now.table.now self.now.bytes.now frame }
         requires state { StateFine (message_of self.now.bytes.now self.now.handles.now)
             (at_of state.old) }
@@ -263,9 +255,7 @@ impl<'t, 'm> Decoder<'t, 'm> {
         count: u32,
         state: &mut State,
     ) -> Result<Turn, DecodeFault>
-        requires table { IsFine self.now.table.now }
         requires left { frame.left ≡ left.Envelopes entry read count }
-        requires short { length self.now.bytes.now ≤ MAX_MESSAGE_BYTES }
         requires frame { FrameFine self.now.table.now self.now.bytes.now frame }
         requires state { StateFine (message_of self.now.bytes.now self.now.handles.now)
             (at_of state.old) }

@@ -41,11 +41,9 @@ impl<'t, 'm> Decoder<'t, 'm> {
         count: u32,
         state: &mut State,
     ) -> Result<Turn, DecodeFault>
-        requires table { IsFine self.now.table.now }
         requires left { frame.left ≡ left.Elements entry size count }
         requires entry { entry < (header_of self.now.table.now).entries }
         requires kind { kind_of (entry_at self.now.table.now entry).kind ≡ Some kinds.Struct }
-        requires short { length self.now.bytes.now ≤ MAX_MESSAGE_BYTES }
         requires frame { FrameFine self.now.table.now self.now.bytes.now frame }
         requires state { StateFine (message_of self.now.bytes.now self.now.handles.now)
             (at_of state.old) }
@@ -126,9 +124,7 @@ impl<'t, 'm> Decoder<'t, 'm> {
         count: u32,
         state: &mut State,
     ) -> Result<Turn, DecodeFault>
-        requires table { IsFine self.now.table.now }
         requires left { frame.left ≡ left.Elements entry size count }
-        requires short { length self.now.bytes.now ≤ MAX_MESSAGE_BYTES }
         requires frame { FrameFine self.now.table.now self.now.bytes.now frame }
         requires state { StateFine (message_of self.now.bytes.now self.now.handles.now)
             (at_of state.old) }
@@ -160,8 +156,6 @@ impl<'t, 'm> Decoder<'t, 'm> {
     /// Reads a frame in place, and what it holds, up to a frame that holds another: that one, where
     /// it stopped, is to be read next. The last object that a frame holds takes its place.
     pub(crate) fn take_turn(&self, frame: Frame, state: &mut State) -> Result<Turn, DecodeFault>
-        requires table { IsFine self.now.table.now }
-        requires short { length self.now.bytes.now ≤ MAX_MESSAGE_BYTES }
         requires frame { FrameFine self.now.table.now self.now.bytes.now frame }
         requires state { StateFine (message_of self.now.bytes.now self.now.handles.now)
             (at_of state.old) }

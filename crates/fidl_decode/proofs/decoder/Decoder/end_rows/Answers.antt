@@ -13,8 +13,8 @@ overflow_add-over c =
     let f = c.args.frame in
     let old = at_of c.args.state.now in
     let start = turns_start t m f old c.requires.frame c.requires.state f refl in
-    let room = over_room t c.requires.table m f old old 0 f start in
-    record { fits = omega (arith, room.0, room.1, c.requires.short) }
+    let room = over_room t c.args.self.now.fine m f old old 0 f start in
+    record { fits = omega (arith, room.0, room.1, c.args.self.now.short) }
 
 pub overflow_add-stop : goal.overflow_add-stop
 overflow_add-stop c =
@@ -23,8 +23,8 @@ overflow_add-stop c =
     let f = c.args.frame in
     let old = at_of c.args.state.now in
     let start = turns_start t m f old c.requires.frame c.requires.state f refl in
-    let room = over_room t c.requires.table m f old old 0 f start in
-    record { fits = omega (arith, room.1, c.requires.short) }
+    let room = over_room t c.args.self.now.fine m f old old 0 f start in
+    record { fits = omega (arith, room.1, c.args.self.now.short) }
 
 pub overflow_sub-state : goal.overflow_sub-state
 overflow_sub-state c =
@@ -33,7 +33,7 @@ overflow_sub-state c =
     let f = c.args.frame in
     let old = at_of c.args.state.now in
     let start = turns_start t m f old c.requires.frame c.requires.state f refl in
-    let room = over_room t c.requires.table m f old old 0 f start in
+    let room = over_room t c.args.self.now.fine m f old old 0 f start in
     omega (arith, room.0)
 
 pub overflow_add-state : goal.overflow_add-state
@@ -43,8 +43,8 @@ overflow_add-state c =
     let f = c.args.frame in
     let old = at_of c.args.state.now in
     let start = turns_start t m f old c.requires.frame c.requires.state f refl in
-    let room = over_room t c.requires.table m f old old 0 f start in
-    record { fits = omega (arith, room.1, c.requires.short) }
+    let room = over_room t c.args.self.now.fine m f old old 0 f start in
+    record { fits = omega (arith, room.1, c.args.self.now.short) }
 
 pub overflow_add-state-2 : goal.overflow_add-state-2
 overflow_add-state-2 c =
@@ -53,8 +53,8 @@ overflow_add-state-2 c =
     let f = c.args.frame in
     let old = at_of c.args.state.now in
     let start = turns_start t m f old c.requires.frame c.requires.state f refl in
-    let room = over_room t c.requires.table m f old old 0 f start in
-    record { fits = omega (arith, room.1, c.requires.short, c.requires.budget) }
+    let room = over_room t c.args.self.now.fine m f old old 0 f start in
+    record { fits = omega (arith, room.1, c.args.self.now.short, c.requires.budget) }
 
 pub zeros_at-requires-clause-order : goal.zeros_at-requires-clause-order
 zeros_at-requires-clause-order c =
@@ -63,7 +63,7 @@ zeros_at-requires-clause-order c =
     let f = c.args.frame in
     let old = at_of c.args.state.now in
     let start = turns_start t m f old c.requires.frame c.requires.state f refl in
-    let room = over_room t c.requires.table m f old old 0 f start in
+    let room = over_room t c.args.self.now.fine m f old old 0 f start in
     omega (arith, room.0)
 
 pub zeros_at-requires-clause-room : goal.zeros_at-requires-clause-room
@@ -73,7 +73,7 @@ zeros_at-requires-clause-room c =
     let f = c.args.frame in
     let old = at_of c.args.state.now in
     let start = turns_start t m f old c.requires.frame c.requires.state f refl in
-    let room = over_room t c.requires.table m f old old 0 f start in
+    let room = over_room t c.args.self.now.fine m f old old 0 f start in
     omega (arith, room.1)
 
 pub returns-clause-ok : goal.returns-clause-ok
@@ -83,7 +83,7 @@ returns-clause-ok c =
     let f = c.args.frame in
     let old = at_of c.args.state.now in
     let start = turns_start t m f old c.requires.frame c.requires.state f refl in
-    on_ok_from c.zeros_at.result (λ z. over_turns t c.requires.table m f old old 0 f start c.requires.over c.requires.plain _ (omega arith) z) c.zeros_at.ensures.ok
+    on_ok_from c.zeros_at.result (λ z. over_turns t c.args.self.now.fine m f old old 0 f start c.requires.over c.requires.plain _ (omega arith) z) c.zeros_at.ensures.ok
 
 pub returns-clause-err : goal.returns-clause-err
 returns-clause-err c =
@@ -92,7 +92,7 @@ returns-clause-err c =
     let f = c.args.frame in
     let old = at_of c.args.state.now in
     let start = turns_start t m f old c.requires.frame c.requires.state f refl in
-    on_err_weaker c.zeros_at.result (λ bad. over_refused t c.requires.table m f old old 0 f start c.requires.over c.requires.plain bad) c.zeros_at.ensures.err
+    on_err_weaker c.zeros_at.result (λ bad. over_refused t c.args.self.now.fine m f old old 0 f start c.requires.over c.requires.plain bad) c.zeros_at.ensures.err
 
 pub returns-clause-fault_is_true : goal.returns-clause-fault_is_true
 returns-clause-fault_is_true c =
@@ -101,7 +101,7 @@ returns-clause-fault_is_true c =
     let f = c.args.frame in
     let old = at_of c.args.state.now in
     let start = turns_start t m f old c.requires.frame c.requires.state f refl in
-    IfErr-weaker c.zeros_at.result _ _ (λ fault bad. over_breaks t c.requires.table m f old old 0 f start c.requires.over c.requires.plain fault bad) c.zeros_at.ensures.fault_is_true
+    IfErr-weaker c.zeros_at.result _ _ (λ fault bad. over_breaks t c.args.self.now.fine m f old old 0 f start c.requires.over c.requires.plain fault bad) c.zeros_at.ensures.fault_is_true
 
 pub returns-clause-cost : goal.returns-clause-cost
 returns-clause-cost c =
@@ -110,5 +110,5 @@ returns-clause-cost c =
     let f = c.args.frame in
     let old = at_of c.args.state.now in
     let start = turns_start t m f old c.requires.frame c.requires.state f refl in
-    let room = over_room t c.requires.table m f old old 0 f start in
+    let room = over_room t c.args.self.now.fine m f old old 0 f start in
     omega (arith, room.0, room.2)

@@ -25,23 +25,23 @@ overflow_add-read c =
     let t = c.args.self.now.table.now in
     let m = message_of c.args.self.now.bytes.now c.args.self.now.handles.now in
     let last = c.requires.left in
-    let room = last_room t c.requires.table m c.args.frame c.args.first c.row-row.result last c.row-row.ensures.value (at_of c.args.state.now) c.requires.frame c.requires.state in
-    record { fits = omega (arith, room.0, room.1, room.2, c.requires.short) }
+    let room = last_room t c.args.self.now.fine m c.args.frame c.args.first c.row-row.result last c.row-row.ensures.value (at_of c.args.state.now) c.requires.frame c.requires.state in
+    record { fits = omega (arith, room.0, room.1, room.2, c.args.self.now.short) }
 
 pub overflow_add-place : goal.overflow_add-place
 overflow_add-place c =
     let t = c.args.self.now.table.now in
     let m = message_of c.args.self.now.bytes.now c.args.self.now.handles.now in
     let last = c.requires.left in
-    let room = last_room t c.requires.table m c.args.frame c.args.first c.row-row.result last c.row-row.ensures.value (at_of c.args.state.now) c.requires.frame c.requires.state in
-    record { fits = omega (arith, room.1, room.2, c.requires.short) }
+    let room = last_room t c.args.self.now.fine m c.args.frame c.args.first c.row-row.result last c.row-row.ensures.value (at_of c.args.state.now) c.requires.frame c.requires.state in
+    record { fits = omega (arith, room.1, room.2, c.args.self.now.short) }
 
 pub overflow_sub-state : goal.overflow_sub-state
 overflow_sub-state c =
     let t = c.args.self.now.table.now in
     let m = message_of c.args.self.now.bytes.now c.args.self.now.handles.now in
     let last = c.requires.left in
-    let room = last_room t c.requires.table m c.args.frame c.args.first c.row-row.result last c.row-row.ensures.value (at_of c.args.state.now) c.requires.frame c.requires.state in
+    let room = last_room t c.args.self.now.fine m c.args.frame c.args.first c.row-row.result last c.row-row.ensures.value (at_of c.args.state.now) c.requires.frame c.requires.state in
     omega (arith, room.0)
 
 pub overflow_add-state : goal.overflow_add-state
@@ -49,23 +49,23 @@ overflow_add-state c =
     let t = c.args.self.now.table.now in
     let m = message_of c.args.self.now.bytes.now c.args.self.now.handles.now in
     let last = c.requires.left in
-    let room = last_room t c.requires.table m c.args.frame c.args.first c.row-row.result last c.row-row.ensures.value (at_of c.args.state.now) c.requires.frame c.requires.state in
-    record { fits = omega (arith, room.1, room.2, c.requires.short) }
+    let room = last_room t c.args.self.now.fine m c.args.frame c.args.first c.row-row.result last c.row-row.ensures.value (at_of c.args.state.now) c.requires.frame c.requires.state in
+    record { fits = omega (arith, room.1, room.2, c.args.self.now.short) }
 
 pub overflow_add-state-2 : goal.overflow_add-state-2
 overflow_add-state-2 c =
     let t = c.args.self.now.table.now in
     let m = message_of c.args.self.now.bytes.now c.args.self.now.handles.now in
     let last = c.requires.left in
-    let room = last_room t c.requires.table m c.args.frame c.args.first c.row-row.result last c.row-row.ensures.value (at_of c.args.state.now) c.requires.frame c.requires.state in
-    record { fits = omega (arith, room.1, room.2, c.requires.short, c.requires.budget) }
+    let room = last_room t c.args.self.now.fine m c.args.frame c.args.first c.row-row.result last c.row-row.ensures.value (at_of c.args.state.now) c.requires.frame c.requires.state in
+    record { fits = omega (arith, room.1, room.2, c.args.self.now.short, c.requires.budget) }
 
 pub zeros_at-requires-clause-order : goal.zeros_at-requires-clause-order
 zeros_at-requires-clause-order c =
     let t = c.args.self.now.table.now in
     let m = message_of c.args.self.now.bytes.now c.args.self.now.handles.now in
     let last = c.requires.left in
-    let room = last_room t c.requires.table m c.args.frame c.args.first c.row-row.result last c.row-row.ensures.value (at_of c.args.state.now) c.requires.frame c.requires.state in
+    let room = last_room t c.args.self.now.fine m c.args.frame c.args.first c.row-row.result last c.row-row.ensures.value (at_of c.args.state.now) c.requires.frame c.requires.state in
     omega (arith, room.0)
 
 pub zeros_at-requires-clause-room : goal.zeros_at-requires-clause-room
@@ -73,7 +73,7 @@ zeros_at-requires-clause-room c =
     let t = c.args.self.now.table.now in
     let m = message_of c.args.self.now.bytes.now c.args.self.now.handles.now in
     let last = c.requires.left in
-    let room = last_room t c.requires.table m c.args.frame c.args.first c.row-row.result last c.row-row.ensures.value (at_of c.args.state.now) c.requires.frame c.requires.state in
+    let room = last_room t c.args.self.now.fine m c.args.frame c.args.first c.row-row.result last c.row-row.ensures.value (at_of c.args.state.now) c.requires.frame c.requires.state in
     omega (arith, room.1, room.2)
 
 pub returns-in_err-zeros_at-clause-cost : goal.returns-in_err-zeros_at-clause-cost
@@ -81,7 +81,7 @@ returns-in_err-zeros_at-clause-cost c =
     let t = c.args.self.now.table.now in
     let m = message_of c.args.self.now.bytes.now c.args.self.now.handles.now in
     let last = c.requires.left in
-    let room = last_room t c.requires.table m c.args.frame c.args.first c.row-row.result last c.row-row.ensures.value (at_of c.args.state.now) c.requires.frame c.requires.state in
+    let room = last_room t c.args.self.now.fine m c.args.frame c.args.first c.row-row.result last c.row-row.ensures.value (at_of c.args.state.now) c.requires.frame c.requires.state in
     omega (arith, room.3, room.0)
 
 pub returns-in_err-zeros_at-clause-err : goal.returns-in_err-zeros_at-clause-err
@@ -89,14 +89,14 @@ returns-in_err-zeros_at-clause-err c =
     let t = c.args.self.now.table.now in
     let m = message_of c.args.self.now.bytes.now c.args.self.now.handles.now in
     let last = c.requires.left in
-    on_err _ ((to : At) → Reads t m c.args.frame (at_of c.args.state.now) to → ⊥) (last_gap_refused t c.requires.table m c.args.frame c.args.first c.row-row.result last c.row-row.ensures.value (at_of c.args.state.now) c.requires.frame c.requires.state c.in_err-zeros_at.ensures.err)
+    on_err _ ((to : At) → Reads t m c.args.frame (at_of c.args.state.now) to → ⊥) (last_gap_refused t c.args.self.now.fine m c.args.frame c.args.first c.row-row.result last c.row-row.ensures.value (at_of c.args.state.now) c.requires.frame c.requires.state c.in_err-zeros_at.ensures.err)
 
 pub returns-in_err-zeros_at-clause-fault_is_true : goal.returns-in_err-zeros_at-clause-fault_is_true
 returns-in_err-zeros_at-clause-fault_is_true c =
     let t = c.args.self.now.table.now in
     let m = message_of c.args.self.now.bytes.now c.args.self.now.handles.now in
     let last = c.requires.left in
-    passed_on c.from_residual.result c.in_err-zeros_at.field-0.0 _ c.from_residual.ensures.1 (last_gap_breaks t c.requires.table m c.args.frame c.args.first c.row-row.result last c.row-row.ensures.value (at_of c.args.state.now) c.requires.frame c.requires.state c.in_err-zeros_at.field-0.0 c.in_err-zeros_at.ensures.fault_is_true)
+    passed_on c.from_residual.result c.in_err-zeros_at.field-0.0 _ c.from_residual.ensures.1 (last_gap_breaks t c.args.self.now.fine m c.args.frame c.args.first c.row-row.result last c.row-row.ensures.value (at_of c.args.state.now) c.requires.frame c.requires.state c.in_err-zeros_at.field-0.0 c.in_err-zeros_at.ensures.fault_is_true)
 
 pub read_box-requires-clause-room : goal.read_box-requires-clause-room
 read_box-requires-clause-room c =
@@ -104,8 +104,8 @@ read_box-requires-clause-room c =
     let m = message_of c.args.self.now.bytes.now c.args.self.now.handles.now in
     let last = c.requires.left in
     let is : kind_of (entry_at t c.row-row.result.entry).kind ≡ Some Box = ap (λ (w : raw.Row). kind_of (entry_at t w.entry).kind) c.row-row.ensures.value ∙ c.requires.kind in
-    let room = last_room t c.requires.table m c.args.frame c.args.first c.row-row.result last c.row-row.ensures.value (at_of c.args.state.now) c.requires.frame c.requires.state in
-    let size : 8 ≡ (entry_at t c.row-row.result.entry).size = size_as t c.requires.table c.row-row.result.entry Box c.row-row.ensures.entry is in
+    let room = last_room t c.args.self.now.fine m c.args.frame c.args.first c.row-row.result last c.row-row.ensures.value (at_of c.args.state.now) c.requires.frame c.requires.state in
+    let size : 8 ≡ (entry_at t c.row-row.result.entry).size = size_as t c.args.self.now.fine c.row-row.result.entry Box c.row-row.ensures.entry is in
     omega (arith, room.1, room.2, size)
 
 pub returns-in_err-below-clause-cost : goal.returns-in_err-below-clause-cost
@@ -113,7 +113,7 @@ returns-in_err-below-clause-cost c =
     let t = c.args.self.now.table.now in
     let m = message_of c.args.self.now.bytes.now c.args.self.now.handles.now in
     let last = c.requires.left in
-    let room = last_room t c.requires.table m c.args.frame c.args.first c.row-row.result last c.row-row.ensures.value (at_of c.args.state.now) c.requires.frame c.requires.state in
+    let room = last_room t c.args.self.now.fine m c.args.frame c.args.first c.row-row.result last c.row-row.ensures.value (at_of c.args.state.now) c.requires.frame c.requires.state in
     let still = c.in_err-below.ensures.steps in
     omega (arith, still, room.3, room.0)
 
@@ -123,7 +123,7 @@ returns-in_err-below-clause-err c =
     let m = message_of c.args.self.now.bytes.now c.args.self.now.handles.now in
     let last = c.requires.left in
     let is : kind_of (entry_at t c.row-row.result.entry).kind ≡ Some Box = ap (λ (w : raw.Row). kind_of (entry_at t w.entry).kind) c.row-row.ensures.value ∙ c.requires.kind in
-    on_err _ ((to : At) → Reads t m c.args.frame (at_of c.args.state.now) to → ⊥) (last_refused t c.requires.table m c.args.frame c.args.first c.row-row.result last c.row-row.ensures.value (at_of c.args.state.now) c.requires.frame c.requires.state (box_refused t c.requires.table m c.args.frame.depth c.row-row.result.entry (c.args.frame.base + c.row-row.result.key) (at_of c.args.state.now) c.row-row.ensures.entry is c.requires.state c.requires.frame.depth c.in_err-below.field-0.0 c.in_err-below.ensures.fault_is_true))
+    on_err _ ((to : At) → Reads t m c.args.frame (at_of c.args.state.now) to → ⊥) (last_refused t c.args.self.now.fine m c.args.frame c.args.first c.row-row.result last c.row-row.ensures.value (at_of c.args.state.now) c.requires.frame c.requires.state (box_refused t c.args.self.now.fine m c.args.frame.depth c.row-row.result.entry (c.args.frame.base + c.row-row.result.key) (at_of c.args.state.now) c.row-row.ensures.entry is c.requires.state c.requires.frame.depth c.in_err-below.field-0.0 c.in_err-below.ensures.fault_is_true))
 
 pub returns-in_err-below-clause-fault_is_true : goal.returns-in_err-below-clause-fault_is_true
 returns-in_err-below-clause-fault_is_true c =
@@ -131,7 +131,7 @@ returns-in_err-below-clause-fault_is_true c =
     let m = message_of c.args.self.now.bytes.now c.args.self.now.handles.now in
     let last = c.requires.left in
     let is : kind_of (entry_at t c.row-row.result.entry).kind ≡ Some Box = ap (λ (w : raw.Row). kind_of (entry_at t w.entry).kind) c.row-row.ensures.value ∙ c.requires.kind in
-    passed_on c.from_residual-in_err-below.result c.in_err-below.field-0.0 _ c.from_residual-in_err-below.ensures.1 (last_breaks t c.requires.table m c.args.frame c.args.first c.row-row.result last c.row-row.ensures.value (at_of c.args.state.now) c.requires.frame c.requires.state c.in_err-below.field-0.0 c.in_ok-zeros_at.ensures.ok (box_breaks t c.requires.table m c.args.frame.depth c.row-row.result.entry (c.args.frame.base + c.row-row.result.key) (at_of c.args.state.now) c.row-row.ensures.entry is c.requires.state c.requires.frame.depth c.in_err-below.field-0.0 c.in_err-below.ensures.fault_is_true))
+    passed_on c.from_residual-in_err-below.result c.in_err-below.field-0.0 _ c.from_residual-in_err-below.ensures.1 (last_breaks t c.args.self.now.fine m c.args.frame c.args.first c.row-row.result last c.row-row.ensures.value (at_of c.args.state.now) c.requires.frame c.requires.state c.in_err-below.field-0.0 c.in_ok-zeros_at.ensures.ok (box_breaks t c.args.self.now.fine m c.args.frame.depth c.row-row.result.entry (c.args.frame.base + c.row-row.result.key) (at_of c.args.state.now) c.row-row.ensures.entry is c.requires.state c.requires.frame.depth c.in_err-below.field-0.0 c.in_err-below.ensures.fault_is_true))
 
 pub returns-clause-ok : goal.returns-clause-ok
 returns-clause-ok c =
@@ -141,14 +141,14 @@ returns-clause-ok c =
     let still = c.in_ok-below.ensures.steps in
     let whole : c.row-row.result.key + (entry_at t c.row-row.result.entry).size ≡ c.args.frame.size = ap (λ (w : raw.Row). w.key + (entry_at t w.entry).size) c.row-row.ensures.value ∙ c.requires.whole in
     let few : c.args.frame.inside ≤ 1 = elim c.requires.frame.inside [ inl out ↦ omega (arith, out) | inr own ↦ (let one = own.0 in omega (arith, one)) ] in
-    last_turns t c.requires.table m c.args.frame c.args.first c.row-row.result last c.row-row.ensures.value (at_of c.args.state.now) c.requires.frame c.requires.state (at_of c.read_box.new.state) (c.read_box.new.state.steps - (c.args.state.now.steps + (c.args.frame.base + c.row-row.result.key - (c.args.frame.base + c.args.frame.done) + 1))) (c.read_box.new.state.steps - c.args.state.now.steps) whole (omega (arith, still)) c.in_ok-zeros_at.ensures.ok c.in_ok-below.below c.in_ok-below.ensures.ok (c.in_ok-below.ensures.fine c.args.frame.inside few)
+    last_turns t c.args.self.now.fine m c.args.frame c.args.first c.row-row.result last c.row-row.ensures.value (at_of c.args.state.now) c.requires.frame c.requires.state (at_of c.read_box.new.state) (c.read_box.new.state.steps - (c.args.state.now.steps + (c.args.frame.base + c.row-row.result.key - (c.args.frame.base + c.args.frame.done) + 1))) (c.read_box.new.state.steps - c.args.state.now.steps) whole (omega (arith, still)) c.in_ok-zeros_at.ensures.ok c.in_ok-below.below c.in_ok-below.ensures.ok (c.in_ok-below.ensures.fine c.args.frame.inside few)
 
 pub returns-clause-cost : goal.returns-clause-cost
 returns-clause-cost c =
     let t = c.args.self.now.table.now in
     let m = message_of c.args.self.now.bytes.now c.args.self.now.handles.now in
     let last = c.requires.left in
-    let room = last_room t c.requires.table m c.args.frame c.args.first c.row-row.result last c.row-row.ensures.value (at_of c.args.state.now) c.requires.frame c.requires.state in
+    let room = last_room t c.args.self.now.fine m c.args.frame c.args.first c.row-row.result last c.row-row.ensures.value (at_of c.args.state.now) c.requires.frame c.requires.state in
     let still = c.in_ok-below.ensures.steps in
     omega (arith, still, room.3, room.0)
 
@@ -160,12 +160,6 @@ read_box-requires-clause-kind c =
 
 pub returns-in_err-zeros_at-clause-ok : goal.returns-in_err-zeros_at-clause-ok
 returns-in_err-zeros_at-clause-ok c = no_ok c.from_residual.result c.in_err-zeros_at.field-0.0 _ c.from_residual.ensures.1
-
-pub read_box-requires-clause-table : goal.read_box-requires-clause-table
-read_box-requires-clause-table c = c.requires.table
-
-pub read_box-requires-clause-short : goal.read_box-requires-clause-short
-read_box-requires-clause-short c = c.requires.short
 
 pub read_box-requires-clause-state : goal.read_box-requires-clause-state
 read_box-requires-clause-state c = c.requires.state

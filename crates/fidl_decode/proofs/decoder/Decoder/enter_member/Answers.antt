@@ -17,13 +17,13 @@ use Rattle.fidl_decode.proofs.decoder.Decoder.enter_member.Goals as goal
 
 pub content_frame-requires : goal.content_frame-requires
 content_frame-requires c =
-    let n = (c.requires.table.each c.args.entry c.requires.entry).1.nest in
+    let n = (c.args.self.now.fine.each c.args.entry c.requires.entry).1.nest in
     let nest = ap (λ (d : Entry). d.nest) c.entry-content.ensures.value in
     omega (arith, n, nest)
 
 pub content_frame-requires-2 : goal.content_frame-requires-2
 content_frame-requires-2 c =
-    let n = (c.requires.table.each c.args.entry c.requires.entry).1.nest in
+    let n = (c.args.self.now.fine.each c.args.entry c.requires.entry).1.nest in
     let nest = ap (λ (d : Entry). d.nest) c.entry-content.ensures.value in
     omega (arith, n, nest)
 
@@ -33,7 +33,7 @@ returns-then-flags-ne1 c =
     let m = message_of c.args.self.now.bytes.now c.args.self.now.handles.now in
     let old = at_of c.args.state.now in
     let size = ap (λ (d : Entry). d.size) c.entry-content.ensures.value in
-    let r = numbers_refuse t c.requires.table m (c.requires.short, c.requires.state.few) c.args.depth c.args.entry c.args.envelope old c.requires.entry c.requires.room (λ i. omega (arith, c.args.self.now.octets i)) c.requires.state c.requires.depth (BadEnvelope c.args.envelope) (refl, not_inside t c.requires.table m (c.requires.short, c.requires.state.few) c.args.depth c.args.entry c.args.envelope old c.requires.entry c.requires.room (λ i. omega (arith, c.args.self.now.octets i)) c.requires.state c.requires.depth (omega (arith, size, c.if-size-le4.true)) (λ f. c.if-flags-ne1.true (c.flags_at-flags.ensures ∙ f))) in
+    let r = numbers_refuse t c.args.self.now.fine m (c.args.self.now.short, c.requires.state.few) c.args.depth c.args.entry c.args.envelope old c.requires.entry c.requires.room (λ i. omega (arith, c.args.self.now.octets i)) c.requires.state c.requires.depth (BadEnvelope c.args.envelope) (refl, not_inside t c.args.self.now.fine m (c.args.self.now.short, c.requires.state.few) c.args.depth c.args.entry c.args.envelope old c.requires.entry c.requires.room (λ i. omega (arith, c.args.self.now.octets i)) c.requires.state c.requires.depth (omega (arith, size, c.if-size-le4.true)) (λ f. c.if-flags-ne1.true (c.flags_at-flags.ensures ∙ f))) in
     record { ok = tt; breaks = tt; fine = tt; deeper = tt; left = tt; state = c.requires.state; fault_is_true = r.0; err = r.1; steps = refl; grows = omega arith; work = tt }
 
 pub returns-then-size-le4 : goal.returns-then-size-le4
@@ -44,7 +44,7 @@ returns-then-size-le4 c =
     let size = ap (λ (d : Entry). d.size) c.entry-content.ensures.value in
     let led : opened c.args.envelope old ≡ record { next = old.next; handle = old.handle; objects = c.record.new.self.objects; records = c.record.new.self.records }
     = λ i. record { next = old.next; handle = old.handle; objects = sym c.record.ensures.objects i; records = sym c.record.ensures.records i } in
-    let x = enters_inside_as t c.requires.table m (c.requires.short, c.requires.state.few) c.args.depth c.args.entry c.args.envelope old c.requires.entry c.requires.room (λ i. omega (arith, c.args.self.now.octets i)) c.requires.state c.requires.depth c.entry-content.result c.handle_count_at-handles.result (record { next = old.next; handle = old.handle; objects = c.record.new.self.objects; records = c.record.new.self.records }) c.entry-content.ensures.value c.handle_count_at-handles.ensures led c.if-size-le4.true (sym c.flags_at-flags.ensures ∙ c.if-flags-ne1.false) in
+    let x = enters_inside_as t c.args.self.now.fine m (c.args.self.now.short, c.requires.state.few) c.args.depth c.args.entry c.args.envelope old c.requires.entry c.requires.room (λ i. omega (arith, c.args.self.now.octets i)) c.requires.state c.requires.depth c.entry-content.result c.handle_count_at-handles.result (record { next = old.next; handle = old.handle; objects = c.record.new.self.objects; records = c.record.new.self.records }) c.entry-content.ensures.value c.handle_count_at-handles.ensures led c.if-size-le4.true (sym c.flags_at-flags.ensures ∙ c.if-flags-ne1.false) in
     let y = subst (λ (f : Frame). Enters t m c.args.depth c.args.entry c.args.envelope old (record { next = old.next; handle = old.handle; objects = c.record.new.self.objects; records = c.record.new.self.records }) f) (sym c.content_frame.ensures) x in
     let until : Until = record { envelope = c.args.envelope; next = old.next; handle = old.handle + c.handle_count_at-handles.result } in
     let left : c.content_frame.result.left ≡ Content c.args.entry (entry_at t c.args.entry).size 1 until = ap (λ (f : Frame). f.left) c.content_frame.ensures ∙ ap (λ n. Content c.args.entry n 1 until) size in
@@ -56,9 +56,9 @@ returns-then-flags-ne0 c =
     let m = message_of c.args.self.now.bytes.now c.args.self.now.handles.now in
     let old = at_of c.args.state.now in
     let size = ap (λ (d : Entry). d.size) c.entry-content.ensures.value in
-    let r = numbers_refuse t c.requires.table m (c.requires.short, c.requires.state.few) c.args.depth c.args.entry c.args.envelope old c.requires.entry c.requires.room (λ i. omega (arith, c.args.self.now.octets i)) c.requires.state c.requires.depth (BadEnvelope c.args.envelope) (
+    let r = numbers_refuse t c.args.self.now.fine m (c.args.self.now.short, c.requires.state.few) c.args.depth c.args.entry c.args.envelope old c.requires.entry c.requires.room (λ i. omega (arith, c.args.self.now.octets i)) c.requires.state c.requires.depth (BadEnvelope c.args.envelope) (
       refl,
-      not_below t c.requires.table m (c.requires.short, c.requires.state.few) c.args.depth c.args.entry c.args.envelope old c.requires.entry c.requires.room (λ i. omega (arith, c.args.self.now.octets i)) c.requires.state c.requires.depth (omega (arith, size, c.if-size-le4.false)) (λ f u. elim c.then-flags-ne0.branch [
+      not_below t c.args.self.now.fine m (c.args.self.now.short, c.requires.state.few) c.args.depth c.args.entry c.args.envelope old c.requires.entry c.requires.room (λ i. omega (arith, c.args.self.now.octets i)) c.requires.state c.requires.depth (omega (arith, size, c.if-size-le4.false)) (λ f u. elim c.then-flags-ne0.branch [
         | then-flags-ne0-via-then-flags-ne0 w ↦ w.if-flags-ne0.true (c.flags_at-flags.ensures ∙ f)
         | then-flags-ne0-via-else-flags-ne0+then-counted-eq0 w ↦ omega (arith, w.if-counted-eq0.true, c.byte_count_at-counted.ensures, u.0)
         | then-flags-ne0-via-else-flags-ne0+else-counted-eq0+then-counted-ne0 w ↦ omega (arith, w.if-counted-ne0.true, c.byte_count_at-counted.ensures, u.1)
@@ -72,7 +72,7 @@ returns-then-depth-eq-MAX_DEPTH c =
     let m = message_of c.args.self.now.bytes.now c.args.self.now.handles.now in
     let old = at_of c.args.state.now in
     let size = ap (λ (d : Entry). d.size) c.entry-content.ensures.value in
-    let r = numbers_refuse t c.requires.table m (c.requires.short, c.requires.state.few) c.args.depth c.args.entry c.args.envelope old c.requires.entry c.requires.room (λ i. omega (arith, c.args.self.now.octets i)) c.requires.state c.requires.depth (TooDeep c.args.envelope) (refl, sym c.flags_at-flags.ensures ∙ c.if-flags-ne0.false, omega (arith, c.if-depth-eq-MAX_DEPTH.true)) in
+    let r = numbers_refuse t c.args.self.now.fine m (c.args.self.now.short, c.requires.state.few) c.args.depth c.args.entry c.args.envelope old c.requires.entry c.requires.room (λ i. omega (arith, c.args.self.now.octets i)) c.requires.state c.requires.depth (TooDeep c.args.envelope) (refl, sym c.flags_at-flags.ensures ∙ c.if-flags-ne0.false, omega (arith, c.if-depth-eq-MAX_DEPTH.true)) in
     record { ok = tt; breaks = tt; fine = tt; deeper = tt; left = tt; state = c.requires.state; fault_is_true = r.0; err = r.1; steps = refl; grows = omega arith; work = tt }
 
 pub returns-then-whole-self : goal.returns-then-whole-self
@@ -81,9 +81,9 @@ returns-then-whole-self c =
     let m = message_of c.args.self.now.bytes.now c.args.self.now.handles.now in
     let old = at_of c.args.state.now in
     let size = ap (λ (d : Entry). d.size) c.entry-content.ensures.value in
-    let up = cut_off t c.requires.table m (c.requires.short, c.requires.state.few) c.args.depth c.args.entry c.args.envelope old c.requires.entry c.requires.room (λ i. omega (arith, c.args.self.now.octets i)) c.requires.state c.requires.depth in
+    let up = cut_off t c.args.self.now.fine m (c.args.self.now.short, c.requires.state.few) c.args.depth c.args.entry c.args.envelope old c.requires.entry c.requires.room (λ i. omega (arith, c.args.self.now.octets i)) c.requires.state c.requires.depth in
     let whole : c.next_multiple_of-whole.result ≡ next_multiple_of (entry_at t c.args.entry).size 8 = c.next_multiple_of-whole.ensures.value ∙ ap (λ k. next_multiple_of k 8) size in
-    let r = numbers_refuse t c.requires.table m (c.requires.short, c.requires.state.few) c.args.depth c.args.entry c.args.envelope old c.requires.entry c.requires.room (λ i. omega (arith, c.args.self.now.octets i)) c.requires.state c.requires.depth (Truncated old.next) (refl, sym c.flags_at-flags.ensures ∙ c.if-flags-ne0.false, omega (arith, c.if-whole-self.true, whole, up)) in
+    let r = numbers_refuse t c.args.self.now.fine m (c.args.self.now.short, c.requires.state.few) c.args.depth c.args.entry c.args.envelope old c.requires.entry c.requires.room (λ i. omega (arith, c.args.self.now.octets i)) c.requires.state c.requires.depth (Truncated old.next) (refl, sym c.flags_at-flags.ensures ∙ c.if-flags-ne0.false, omega (arith, c.if-whole-self.true, whole, up)) in
     record { ok = tt; breaks = tt; fine = tt; deeper = tt; left = tt; state = c.requires.state; fault_is_true = r.0; err = r.1; steps = refl; grows = omega arith; work = tt }
 
 pub returns : goal.returns
@@ -99,7 +99,7 @@ returns c =
     let records = c.link.ensures.records ∙ c.record-2.ensures.records in
     let led : linked c.args.envelope (entry_at t c.args.entry).size (opened c.args.envelope old) ≡ new
     = λ i. record { next = old.next + wide i; handle = old.handle; objects = sym objects i; records = sym records i } in
-    let x = enters_below_as t c.requires.table m (c.requires.short, c.requires.state.few) c.args.depth c.args.entry c.args.envelope old c.requires.entry c.requires.room (λ i. omega (arith, c.args.self.now.octets i)) c.requires.state c.requires.depth c.entry-content.result c.byte_count_at-counted.result c.handle_count_at-handles.result c.next_multiple_of-whole.result new
+    let x = enters_below_as t c.args.self.now.fine m (c.args.self.now.short, c.requires.state.few) c.args.depth c.args.entry c.args.envelope old c.requires.entry c.requires.room (λ i. omega (arith, c.args.self.now.octets i)) c.requires.state c.requires.depth c.entry-content.result c.byte_count_at-counted.result c.handle_count_at-handles.result c.next_multiple_of-whole.result new
     c.entry-content.ensures.value c.byte_count_at-counted.ensures c.handle_count_at-handles.ensures whole led c.if-size-le4.false (sym c.flags_at-flags.ensures ∙ c.if-flags-ne0.false)
     (omega (arith, c.if-counted-eq0.false), omega (arith, c.if-counted-ne0.false)) (omega (arith, c.requires.depth, c.if-depth-eq-MAX_DEPTH.false)) (omega (arith, c.if-whole-self.false)) in
     let y = subst (λ (f : Frame). Enters t m c.args.depth c.args.entry c.args.envelope old new f) (sym c.content_frame-2.ensures) x in
@@ -111,19 +111,19 @@ pub entry-content-requires : goal.entry-content-requires
 entry-content-requires c = c.requires.entry
 
 pub overflow_add-envelope : goal.overflow_add-envelope
-overflow_add-envelope c = record { fits = small _ (length c.args.self.now.bytes.now) (front c.args.envelope 4 4 (length c.args.self.now.bytes.now) c.requires.room) c.requires.short }
+overflow_add-envelope c = record { fits = small _ (length c.args.self.now.bytes.now) (front c.args.envelope 4 4 (length c.args.self.now.bytes.now) c.requires.room) c.args.self.now.short }
 
 pub overflow_add-envelope-2 : goal.overflow_add-envelope-2
-overflow_add-envelope-2 c = record { fits = small _ (length c.args.self.now.bytes.now) (front c.args.envelope 4 4 (length c.args.self.now.bytes.now) c.requires.room) c.requires.short }
+overflow_add-envelope-2 c = record { fits = small _ (length c.args.self.now.bytes.now) (front c.args.envelope 4 4 (length c.args.self.now.bytes.now) c.requires.room) c.args.self.now.short }
 
 pub record-requires-clause-place : goal.record-requires-clause-place
-record-requires-clause-place c = inside (c.args.envelope + 4) 3 (length c.args.self.now.bytes.now) (apart c.args.envelope 4 4 (length c.args.self.now.bytes.now) c.requires.room) c.requires.short
+record-requires-clause-place c = inside (c.args.envelope + 4) 3 (length c.args.self.now.bytes.now) (apart c.args.envelope 4 4 (length c.args.self.now.bytes.now) c.requires.room) c.args.self.now.short
 
 pub record-requires-clause-index : goal.record-requires-clause-index
 record-requires-clause-index c = few_32 c.args.state.now.handle _ c.requires.state.handle c.requires.state.few
 
 pub record-requires-2-clause-place : goal.record-requires-2-clause-place
-record-requires-2-clause-place c = inside (c.args.envelope + 4) 3 (length c.args.self.now.bytes.now) (apart c.args.envelope 4 4 (length c.args.self.now.bytes.now) c.requires.room) c.requires.short
+record-requires-2-clause-place c = inside (c.args.envelope + 4) 3 (length c.args.self.now.bytes.now) (apart c.args.envelope 4 4 (length c.args.self.now.bytes.now) c.requires.room) c.args.self.now.short
 
 pub record-requires-2-clause-index : goal.record-requires-2-clause-index
 record-requires-2-clause-index c = few_32 c.args.state.now.handle _ c.requires.state.handle c.requires.state.few
@@ -135,13 +135,13 @@ pub overflow_sub-self : goal.overflow_sub-self
 overflow_sub-self c = c.requires.state.next
 
 pub link-requires-clause-marker : goal.link-requires-clause-marker
-link-requires-clause-marker c = inside c.args.envelope 7 (length c.args.self.now.bytes.now) c.requires.room c.requires.short
+link-requires-clause-marker c = inside c.args.envelope 7 (length c.args.self.now.bytes.now) c.requires.room c.args.self.now.short
 
 pub link-requires-clause-object : goal.link-requires-clause-object
-link-requires-clause-object c = at_most c.args.state.now.next (length c.args.self.now.bytes.now) c.requires.state.next c.requires.short
+link-requires-clause-object c = at_most c.args.state.now.next (length c.args.self.now.bytes.now) c.requires.state.next c.args.self.now.short
 
 pub overflow_add-state : goal.overflow_add-state
-overflow_add-state c = record { fits = small _ (length c.args.self.now.bytes.now) (ended c.args.state.now.next c.next_multiple_of-whole.result (length c.args.self.now.bytes.now) c.requires.state.next c.if-whole-self.false) c.requires.short }
+overflow_add-state c = record { fits = small _ (length c.args.self.now.bytes.now) (ended c.args.state.now.next c.next_multiple_of-whole.result (length c.args.self.now.bytes.now) c.requires.state.next c.if-whole-self.false) c.args.self.now.short }
 
 pub overflow_add-depth : goal.overflow_add-depth
 overflow_add-depth c = record { fits = deeper c.args.depth c.requires.depth }

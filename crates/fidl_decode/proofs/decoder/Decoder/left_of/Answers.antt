@@ -10,4 +10,4 @@ returns-then-read-body-clause-turns c =
     let t = c.args.self.now.table.now in
     let m = message_of c.args.self.now.bytes.now c.args.self.now.handles.now in
     let body = c.args.body.now in
-    envelopes_over t c.requires.table m (c.requires.short, c.requires.state.few) (rest_of body c.args.read) body.entry c.args.read (body.count - c.args.read) (at_of c.args.state.now) c.requires.frame c.requires.state (omega (arith, c.if-read-body.true)) (c.args.state.now.steps + 1 - c.args.state.now.steps) (omega arith)
+    envelopes_over t c.args.self.now.fine m (c.args.self.now.short, c.requires.state.few) (rest_of body c.args.read) body.entry c.args.read (body.count - c.args.read) (at_of c.args.state.now) c.requires.frame c.requires.state (omega (arith, c.if-read-body.true)) (c.args.state.now.steps + 1 - c.args.state.now.steps) (omega arith)

@@ -32,12 +32,6 @@ returns-clause-ok c =
     subst (λ (o : Option raw.Row). Opens c.args.self.now.table.now (message_of c.args.self.now.bytes.now c.args.self.now.handles.now) c.args.depth (member_term o) c.args.envelope (at_of c.args.state.now) (at_of c.enter_member.new.state) (Some c.in_ok-frame.frame)) (sym c.in-Some.is)
     (opens_known c.args.self.now.table.now (message_of c.args.self.now.bytes.now c.args.self.now.handles.now) c.args.depth c.args.envelope (at_of c.args.state.now) (at_of c.enter_member.new.state) known.state c.in-Some.row.entry c.in_ok-frame.frame known.grows known.ok known.breaks known.fine known.deeper known.work)
 
-pub skip_member-requires-clause-table : goal.skip_member-requires-clause-table
-skip_member-requires-clause-table c = c.requires.table
-
-pub skip_member-requires-clause-short : goal.skip_member-requires-clause-short
-skip_member-requires-clause-short c = c.requires.short
-
 pub skip_member-requires-clause-room : goal.skip_member-requires-clause-room
 skip_member-requires-clause-room c = c.requires.room
 
@@ -58,12 +52,6 @@ returns-in_default-clause-err c = tt
 
 pub returns-in_default-clause-fault_is_true : goal.returns-in_default-clause-fault_is_true
 returns-in_default-clause-fault_is_true c = tt
-
-pub enter_member-requires-clause-table : goal.enter_member-requires-clause-table
-enter_member-requires-clause-table c = c.requires.table
-
-pub enter_member-requires-clause-short : goal.enter_member-requires-clause-short
-enter_member-requires-clause-short c = c.requires.short
 
 pub enter_member-requires-clause-room : goal.enter_member-requires-clause-room
 enter_member-requires-clause-room c = c.requires.room

@@ -22,8 +22,8 @@ pass_run-requires-clause-how c =
     let number : c.kind_of.result ≡ (entry_at t e).kind = c.kind_of.ensures ∙ ap (λ (u : List ℕ). (entry_at u e).kind) c.requires.body.table in
     let is : kind_of (entry_at t e).kind ≡ Some c.in-Some.kind = ap kind_of (sym number) ∙ sym c.from_number.ensures ∙ c.in-Some.is in
     elim c.in-Int32.is [
-      | inl k ↦ free_of t c.requires.table e (subst (λ u. e < (header_of u).entries) c.requires.body.table c.row-row.ensures.entry) Int32 (is ∙ ap (λ (k : EntryKind). Some k) k) refl 4 refl
-      | inr k ↦ free_of t c.requires.table e (subst (λ u. e < (header_of u).entries) c.requires.body.table c.row-row.ensures.entry) Uint32 (is ∙ ap (λ (k : EntryKind). Some k) k) refl 4 refl
+      | inl k ↦ free_of t c.args.self.now.fine e (subst (λ u. e < (header_of u).entries) c.requires.body.table c.row-row.ensures.entry) Int32 (is ∙ ap (λ (k : EntryKind). Some k) k) refl 4 refl
+      | inr k ↦ free_of t c.args.self.now.fine e (subst (λ u. e < (header_of u).entries) c.requires.body.table c.row-row.ensures.entry) Uint32 (is ∙ ap (λ (k : EntryKind). Some k) k) refl 4 refl
     ]
 
 pub pass_run-requires-in-Int64-clause-how : goal.pass_run-requires-in-Int64-clause-how
@@ -33,8 +33,8 @@ pass_run-requires-in-Int64-clause-how c =
     let number : c.kind_of.result ≡ (entry_at t e).kind = c.kind_of.ensures ∙ ap (λ (u : List ℕ). (entry_at u e).kind) c.requires.body.table in
     let is : kind_of (entry_at t e).kind ≡ Some c.in-Some.kind = ap kind_of (sym number) ∙ sym c.from_number.ensures ∙ c.in-Some.is in
     elim c.in-Int64.is [
-      | inl k ↦ free_of t c.requires.table e (subst (λ u. e < (header_of u).entries) c.requires.body.table c.row-row.ensures.entry) Int64 (is ∙ ap (λ (k : EntryKind). Some k) k) refl 8 refl
-      | inr k ↦ free_of t c.requires.table e (subst (λ u. e < (header_of u).entries) c.requires.body.table c.row-row.ensures.entry) Uint64 (is ∙ ap (λ (k : EntryKind). Some k) k) refl 8 refl
+      | inl k ↦ free_of t c.args.self.now.fine e (subst (λ u. e < (header_of u).entries) c.requires.body.table c.row-row.ensures.entry) Int64 (is ∙ ap (λ (k : EntryKind). Some k) k) refl 8 refl
+      | inr k ↦ free_of t c.args.self.now.fine e (subst (λ u. e < (header_of u).entries) c.requires.body.table c.row-row.ensures.entry) Uint64 (is ∙ ap (λ (k : EntryKind). Some k) k) refl 8 refl
     ]
 
 pub pass_one-requires : goal.pass_one-requires
@@ -45,13 +45,11 @@ pass_one-requires c =
     let is : kind_of (entry_at t e).kind ≡ Some c.in-Some.kind = ap kind_of (sym number) ∙ sym c.from_number.ensures ∙ c.in-Some.is in
     let found = body_found t c.args.body.now c.requires.body c.args.from c.requires.more c.row-row.result c.row-row.ensures.value c.if-row-from.false in
     record {
-      table = c.requires.table;
       body = c.requires.body;
       more = c.requires.more;
       found = ap (λ n. find (members_of t c.args.body.now.entry) n) (add-one c.args.from) ∙ found;
       entry = subst (λ u. e < (header_of u).entries) c.requires.body.table c.row-row.ensures.entry;
       kind = is;
-      short = c.requires.short;
       frame = c.requires.frame;
       state = c.requires.state;
       budget = c.requires.budget;
@@ -69,14 +67,8 @@ returns-then-row-from-clause-grows c = same_le _
 pub returns-then-row-from-clause-pays : goal.returns-then-row-from-clause-pays
 returns-then-row-from-clause-pays c = same_le _
 
-pub pass_run-requires-clause-table : goal.pass_run-requires-clause-table
-pass_run-requires-clause-table c = c.requires.table
-
 pub pass_run-requires-clause-body : goal.pass_run-requires-clause-body
 pass_run-requires-clause-body c = c.requires.body
-
-pub pass_run-requires-clause-short : goal.pass_run-requires-clause-short
-pass_run-requires-clause-short c = c.requires.short
 
 pub pass_run-requires-clause-frame : goal.pass_run-requires-clause-frame
 pass_run-requires-clause-frame c = c.requires.frame
@@ -87,14 +79,8 @@ pass_run-requires-clause-state c = c.requires.state
 pub pass_run-requires-clause-budget : goal.pass_run-requires-clause-budget
 pass_run-requires-clause-budget c = c.requires.budget
 
-pub pass_run-requires-in-Int64-clause-table : goal.pass_run-requires-in-Int64-clause-table
-pass_run-requires-in-Int64-clause-table c = c.requires.table
-
 pub pass_run-requires-in-Int64-clause-body : goal.pass_run-requires-in-Int64-clause-body
 pass_run-requires-in-Int64-clause-body c = c.requires.body
-
-pub pass_run-requires-in-Int64-clause-short : goal.pass_run-requires-in-Int64-clause-short
-pass_run-requires-in-Int64-clause-short c = c.requires.short
 
 pub pass_run-requires-in-Int64-clause-frame : goal.pass_run-requires-in-Int64-clause-frame
 pass_run-requires-in-Int64-clause-frame c = c.requires.frame

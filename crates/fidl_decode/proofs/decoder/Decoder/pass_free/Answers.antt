@@ -20,14 +20,8 @@ returns-then-not-is_free-clause-grows c = same_le _
 pub returns-then-not-is_free-clause-steps : goal.returns-then-not-is_free-clause-steps
 returns-then-not-is_free-clause-steps c = refl
 
-pub pass_inside-requires-clause-table : goal.pass_inside-requires-clause-table
-pass_inside-requires-clause-table c = c.requires.table
-
 pub pass_inside-requires-clause-entry : goal.pass_inside-requires-clause-entry
 pass_inside-requires-clause-entry c = c.requires.entry
-
-pub pass_inside-requires-clause-short : goal.pass_inside-requires-clause-short
-pass_inside-requires-clause-short c = c.requires.short
 
 pub pass_inside-requires-clause-room : goal.pass_inside-requires-clause-room
 pass_inside-requires-clause-room c = c.requires.room
@@ -38,14 +32,8 @@ pass_inside-requires-clause-state c = c.requires.state
 pub pass_inside-requires-clause-depth : goal.pass_inside-requires-clause-depth
 pass_inside-requires-clause-depth c = c.requires.depth
 
-pub pass_below-requires-clause-table : goal.pass_below-requires-clause-table
-pass_below-requires-clause-table c = c.requires.table
-
 pub pass_below-requires-clause-entry : goal.pass_below-requires-clause-entry
 pass_below-requires-clause-entry c = c.requires.entry
-
-pub pass_below-requires-clause-short : goal.pass_below-requires-clause-short
-pass_below-requires-clause-short c = c.requires.short
 
 pub pass_below-requires-clause-room : goal.pass_below-requires-clause-room
 pass_below-requires-clause-room c = c.requires.room

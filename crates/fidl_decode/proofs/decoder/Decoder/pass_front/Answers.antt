@@ -47,11 +47,5 @@ returns-clause-turns c =
     ] in
     subst (λ n. Turns t m (rest_of body 0) (at_of old) (at_of c.loop-from-test.state) (c.loop-from-test.state.steps + n - old.steps) x) (sym c.from.ensures) so_far
 
-pub pass_some-read-requires-clause-table : goal.pass_some-read-requires-clause-table
-pass_some-read-requires-clause-table c = c.requires.table
-
 pub pass_some-read-requires-clause-body : goal.pass_some-read-requires-clause-body
 pass_some-read-requires-clause-body c = c.requires.body
-
-pub pass_some-read-requires-clause-short : goal.pass_some-read-requires-clause-short
-pass_some-read-requires-clause-short c = c.requires.short

@@ -3,14 +3,8 @@ use Rattle.fidl_table_format.specs.declared.kind.EntryKind.{EntryKind}
 use Rattle.std.proofs.Common.{ap, ◌∙◌}
 use Rattle.fidl_decode.proofs.decoder.Decoder.pass_kind.Goals as goal
 
-pub pass_bool-requires-clause-table : goal.pass_bool-requires-clause-table
-pass_bool-requires-clause-table c = c.requires.table
-
 pub pass_bool-requires-clause-entry : goal.pass_bool-requires-clause-entry
 pass_bool-requires-clause-entry c = c.requires.entry
-
-pub pass_bool-requires-clause-short : goal.pass_bool-requires-clause-short
-pass_bool-requires-clause-short c = c.requires.short
 
 pub pass_bool-requires-clause-room : goal.pass_bool-requires-clause-room
 pass_bool-requires-clause-room c = c.requires.room
@@ -24,14 +18,8 @@ pass_bool-requires-clause-depth c = c.requires.depth
 pub pass_bool-requires-clause-budget : goal.pass_bool-requires-clause-budget
 pass_bool-requires-clause-budget c = c.requires.budget
 
-pub pass_text-requires-clause-table : goal.pass_text-requires-clause-table
-pass_text-requires-clause-table c = c.requires.table
-
 pub pass_text-requires-clause-entry : goal.pass_text-requires-clause-entry
 pass_text-requires-clause-entry c = c.requires.entry
-
-pub pass_text-requires-clause-short : goal.pass_text-requires-clause-short
-pass_text-requires-clause-short c = c.requires.short
 
 pub pass_text-requires-clause-room : goal.pass_text-requires-clause-room
 pass_text-requires-clause-room c = c.requires.room
@@ -45,14 +33,8 @@ pass_text-requires-clause-depth c = c.requires.depth
 pub pass_text-requires-clause-budget : goal.pass_text-requires-clause-budget
 pass_text-requires-clause-budget c = c.requires.budget
 
-pub pass_struct-requires-clause-table : goal.pass_struct-requires-clause-table
-pass_struct-requires-clause-table c = c.requires.table
-
 pub pass_struct-requires-clause-entry : goal.pass_struct-requires-clause-entry
 pass_struct-requires-clause-entry c = c.requires.entry
-
-pub pass_struct-requires-clause-short : goal.pass_struct-requires-clause-short
-pass_struct-requires-clause-short c = c.requires.short
 
 pub pass_struct-requires-clause-room : goal.pass_struct-requires-clause-room
 pass_struct-requires-clause-room c = c.requires.room

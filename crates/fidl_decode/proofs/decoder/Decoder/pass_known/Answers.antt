@@ -25,9 +25,6 @@ returns-then-from-clause-grows c = same_le _
 pub returns-then-from-2-clause-grows : goal.returns-then-from-2-clause-grows
 returns-then-from-2-clause-grows c = same_le _
 
-pub pass_over-requires-clause-short : goal.pass_over-requires-clause-short
-pass_over-requires-clause-short c = c.requires.short
-
 pub pass_over-requires-clause-frame : goal.pass_over-requires-clause-frame
 pass_over-requires-clause-frame c = c.requires.frame
 

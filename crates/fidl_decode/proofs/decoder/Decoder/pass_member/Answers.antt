@@ -10,21 +10,15 @@ no_some a e = cc
 
 pub unreachable-requires : goal.unreachable-requires
 unreachable-requires c =
-    let f = c.requires.table.each c.args.entry c.requires.entry in
+    let f = c.args.self.now.fine.each c.args.entry c.requires.entry in
     let none : kind_of (entry_at c.args.self.now.table.now c.args.entry).kind ≡ None = ap (λ (e : Entry). kind_of e.kind) (sym c.entry-e.ensures.value) ∙ sym c.from_number.ensures ∙ c.in_default.is in
     no_some f.0 (sym f.1.is ∙ none)
 
 pub entry-e-requires : goal.entry-e-requires
 entry-e-requires c = c.requires.entry
 
-pub pass_kind-requires-clause-table : goal.pass_kind-requires-clause-table
-pass_kind-requires-clause-table c = c.requires.table
-
 pub pass_kind-requires-clause-entry : goal.pass_kind-requires-clause-entry
 pass_kind-requires-clause-entry c = c.requires.entry
-
-pub pass_kind-requires-clause-short : goal.pass_kind-requires-clause-short
-pass_kind-requires-clause-short c = c.requires.short
 
 pub pass_kind-requires-clause-room : goal.pass_kind-requires-clause-room
 pass_kind-requires-clause-room c = c.requires.room

@@ -7,7 +7,7 @@ use Rattle.fidl_decode.proofs.Leaves.{left_over, turns_start}
 use Rattle.fidl_decode.proofs.decoder.Decoder.pass_over.Goals as goal
 
 pub is_good-requires : goal.is_good-requires
-is_good-requires c = omega (arith, c.requires.frame.room, c.requires.short)
+is_good-requires c = omega (arith, c.requires.frame.room, c.args.self.now.short)
 
 pub returns-then-not-is_good-clause-turns : goal.returns-then-not-is_good-clause-turns
 returns-then-not-is_good-clause-turns c =

@@ -44,9 +44,6 @@ returns-else-pass_next-clause-turns c =
     let count : l.steps + (c.loop-read.read - c.args.from) - c.args.state.now.steps ≡ s.steps + (c.loop-read.read - c.args.from) - c.args.state.now.steps = omega (arith, next, grows, pays) in
     subst (λ (u : At). Turns t m f old u (s.steps + (c.loop-read.read - c.args.from) - c.args.state.now.steps) x) (sym kept) (subst (λ n. Turns t m f old (at_of l) n x) count c.loop-read.invariant.turns)
 
-pub pass_next-requires-clause-table : goal.pass_next-requires-clause-table
-pass_next-requires-clause-table c = c.requires.table
-
 pub pass_next-requires-clause-body : goal.pass_next-requires-clause-body
 pass_next-requires-clause-body c = c.requires.body
 
@@ -55,6 +52,3 @@ pass_next-requires-clause-entry c = c.requires.entry
 
 pub pass_next-requires-clause-how : goal.pass_next-requires-clause-how
 pass_next-requires-clause-how c = c.requires.how
-
-pub pass_next-requires-clause-short : goal.pass_next-requires-clause-short
-pass_next-requires-clause-short c = c.requires.short

@@ -35,10 +35,10 @@ not_err (Err x) e p = absurd (no_false e)
 plainly : (t : List ℕ) (m : Message) (e d : Entry) (rows first count done : ℕ) (flag : Option ℕ) → e ≡ d → count ≡ 0 → flag ≡ None → Passes t m (Rows e.first e.count) rows first count done flag → Passes t m (Rows d.first d.count) rows first 0 done None
 plainly t m e d rows first count done flag is all none p = subst (λ (X : Type 0). X) (λ i. Passes t m (Rows (is i).first (is i).count) rows first (all i) done (none i)) p
 
-pub plain_rows-plain-requires-clause-within : goal.plain_rows-plain-requires-clause-within
-plain_rows-plain-requires-clause-within c =
+pub plain_rows-plain-requires : goal.plain_rows-plain-requires
+plain_rows-plain-requires c =
     let t = c.args.self.now.table.now in
-    subst (λ (d : Entry). d.first + d.count ≤ (header_of t).rows) (sym c.entry-e.ensures.value) (fine_as t c.requires.table c.args.entry Struct c.requires.entry c.requires.kind).content.0
+    record { within = subst (λ (d : Entry). d.first + d.count ≤ (header_of t).rows) (sym c.entry-e.ensures.value) (fine_as t c.args.self.now.fine c.args.entry Struct c.requires.entry c.requires.kind).content.0 }
 
 pub overflow_add-next : goal.overflow_add-next
 overflow_add-next c =
@@ -50,9 +50,9 @@ overflow_add-next c =
     let whole : c.next_multiple_of-whole.result ≡ next_multiple_of d.size 8 = c.next_multiple_of-whole.ensures.value ∙ ap (λ (d : Entry). next_multiple_of d.size 8) is in
     let plain = c.plain_rows-plain.result in
     let passes = plainly t m c.entry-e.result d plain.rows plain.first plain.count plain.done plain.flag is c.if-plain-ne0.false (no_flag plain.flag (sym c.is_some.ensures ∙ c.if-is_some.false)) c.plain_rows-plain.ensures.passes in
-    let within = rows_within t c.requires.table m (c.requires.short, c.requires.state.few) c.args.depth c.args.entry c.args.envelope old c.requires.entry c.requires.room (λ i. omega (arith, c.args.self.now.octets i)) c.requires.state c.requires.depth c.requires.kind
+    let within = rows_within t c.args.self.now.fine m (c.args.self.now.short, c.requires.state.few) c.args.depth c.args.entry c.args.envelope old c.requires.entry c.requires.room (λ i. omega (arith, c.args.self.now.octets i)) c.requires.state c.requires.depth c.requires.kind
     (omega (arith, c.requires.depth, c.if-depth-eq-MAX_DEPTH.false)) (omega (arith, c.if-whole-self.false, whole)) plain.rows plain.first plain.done passes in
-    record { fits = omega (arith, within, c.if-whole-self.false, c.next_multiple_of-whole.ensures.lower_bound, ap (λ (d : Entry). d.size) is, c.requires.short, c.requires.state.next) }
+    record { fits = omega (arith, within, c.if-whole-self.false, c.next_multiple_of-whole.ensures.lower_bound, ap (λ (d : Entry). d.size) is, c.args.self.now.short, c.requires.state.next) }
 
 pub zeros_at-requires-clause-order : goal.zeros_at-requires-clause-order
 zeros_at-requires-clause-order c =
@@ -64,7 +64,7 @@ zeros_at-requires-clause-order c =
     let whole : c.next_multiple_of-whole.result ≡ next_multiple_of d.size 8 = c.next_multiple_of-whole.ensures.value ∙ ap (λ (d : Entry). next_multiple_of d.size 8) is in
     let plain = c.plain_rows-plain.result in
     let passes = plainly t m c.entry-e.result d plain.rows plain.first plain.count plain.done plain.flag is c.if-plain-ne0.false (no_flag plain.flag (sym c.is_some.ensures ∙ c.if-is_some.false)) c.plain_rows-plain.ensures.passes in
-    let within = rows_within t c.requires.table m (c.requires.short, c.requires.state.few) c.args.depth c.args.entry c.args.envelope old c.requires.entry c.requires.room (λ i. omega (arith, c.args.self.now.octets i)) c.requires.state c.requires.depth c.requires.kind
+    let within = rows_within t c.args.self.now.fine m (c.args.self.now.short, c.requires.state.few) c.args.depth c.args.entry c.args.envelope old c.requires.entry c.requires.room (λ i. omega (arith, c.args.self.now.octets i)) c.requires.state c.requires.depth c.requires.kind
     (omega (arith, c.requires.depth, c.if-depth-eq-MAX_DEPTH.false)) (omega (arith, c.if-whole-self.false, whole)) plain.rows plain.first plain.done passes in
     omega (arith, within, c.next_multiple_of-whole.ensures.lower_bound, ap (λ (d : Entry). d.size) is)
 
@@ -81,7 +81,7 @@ returns-clause-passed c =
     let passes = plainly t m c.entry-e.result d plain.rows plain.first plain.count plain.done plain.flag is c.if-plain-ne0.false (no_flag plain.flag (sym c.is_some.ensures ∙ c.if-is_some.false)) c.plain_rows-plain.ensures.passes in
     let small = c.next_multiple_of-whole.result in
     let is_small = sym c.u64_at.ensures ∙ c.if-u64_at-whole.false in
-    let few : number_at w64 m.bytes c.args.envelope < 2 ^ 32 = omega (arith, is_small, c.if-whole-self.false, c.requires.short) in
+    let few : number_at w64 m.bytes c.args.envelope < 2 ^ 32 = omega (arith, is_small, c.if-whole-self.false, c.args.self.now.short) in
     let octets : (i : ℕ) → get_or m.bytes i 0 < 256 = λ i. omega (arith, c.args.self.now.octets i) in
     let z = not_err c.zeros_at.result (sym c.is_err.ensures.value ∙ c.if-is_err.false) c.zeros_at.ensures.ok in
     let z' = subst (λ n. Stands m.bytes (old.next + plain.done) (zeros (old.next + n - (old.next + plain.done)))) whole z in
@@ -90,7 +90,7 @@ returns-clause-passed c =
     let records = c.link.ensures.records ∙ c.record.ensures.records in
     let led : linked c.args.envelope d.size (opened c.args.envelope old) ≡ new
     = λ i. record { next = old.next + sym whole i; handle = old.handle; objects = sym objects i; records = sym records i } in
-    struct_passed t c.requires.table m (c.requires.short, c.requires.state.few) c.args.depth c.args.entry c.args.envelope old c.requires.entry c.requires.room (λ i. omega (arith, c.args.self.now.octets i)) c.requires.state c.requires.depth c.requires.kind
+    struct_passed t c.args.self.now.fine m (c.args.self.now.short, c.requires.state.few) c.args.depth c.args.entry c.args.envelope old c.requires.entry c.requires.room (λ i. omega (arith, c.args.self.now.octets i)) c.requires.state c.requires.depth c.requires.kind
     (omega (arith, c.requires.depth, c.if-depth-eq-MAX_DEPTH.false)) (omega (arith, c.if-whole-self.false, whole)) plain.rows plain.first plain.done passes
     (omega (arith, c.if-size-le4.false, ap (λ (d : Entry). d.size) is)) (flags_none m.bytes c.args.envelope c.requires.room octets few) (counted_small m.bytes c.args.envelope c.requires.room octets few ∙ is_small ∙ whole) (handles_none m.bytes c.args.envelope c.requires.room octets few) z' new led
 
@@ -126,9 +126,6 @@ returns-then-whole-self-clause-grows c = same_le _
 
 pub returns-then-whole-self-clause-pays : goal.returns-then-whole-self-clause-pays
 returns-then-whole-self-clause-pays c = same_le _
-
-pub plain_rows-plain-requires-clause-table : goal.plain_rows-plain-requires-clause-table
-plain_rows-plain-requires-clause-table c = c.requires.table
 
 pub returns-then-plain-ne0-clause-passed : goal.returns-then-plain-ne0-clause-passed
 returns-then-plain-ne0-clause-passed c so = absurd (no_true so)
@@ -167,31 +164,31 @@ pub overflow_sub-self : goal.overflow_sub-self
 overflow_sub-self c = c.requires.state.next
 
 pub overflow_add-next-2 : goal.overflow_add-next-2
-overflow_add-next-2 c = record { fits = small _ (length c.args.self.now.bytes.now) (ended c.args.state.now.next c.next_multiple_of-whole.result (length c.args.self.now.bytes.now) c.requires.state.next c.if-whole-self.false) c.requires.short }
+overflow_add-next-2 c = record { fits = small _ (length c.args.self.now.bytes.now) (ended c.args.state.now.next c.next_multiple_of-whole.result (length c.args.self.now.bytes.now) c.requires.state.next c.if-whole-self.false) c.args.self.now.short }
 
 pub zeros_at-requires-clause-room : goal.zeros_at-requires-clause-room
 zeros_at-requires-clause-room c = (ended c.args.state.now.next c.next_multiple_of-whole.result (length c.args.self.now.bytes.now) c.requires.state.next c.if-whole-self.false)
 
 pub overflow_add-state : goal.overflow_add-state
-overflow_add-state c = record { fits = counted_on c.args.state.now.steps c.next_multiple_of-whole.result (length c.args.self.now.bytes.now) c.requires.budget (size_in c.args.state.now.next c.next_multiple_of-whole.result (length c.args.self.now.bytes.now) (ended c.args.state.now.next c.next_multiple_of-whole.result (length c.args.self.now.bytes.now) c.requires.state.next c.if-whole-self.false)) c.requires.short }
+overflow_add-state c = record { fits = counted_on c.args.state.now.steps c.next_multiple_of-whole.result (length c.args.self.now.bytes.now) c.requires.budget (size_in c.args.state.now.next c.next_multiple_of-whole.result (length c.args.self.now.bytes.now) (ended c.args.state.now.next c.next_multiple_of-whole.result (length c.args.self.now.bytes.now) c.requires.state.next c.if-whole-self.false)) c.args.self.now.short }
 
 pub overflow_add-envelope : goal.overflow_add-envelope
-overflow_add-envelope c = record { fits = small _ (length c.args.self.now.bytes.now) (front c.args.envelope 4 4 (length c.args.self.now.bytes.now) c.requires.room) c.requires.short }
+overflow_add-envelope c = record { fits = small _ (length c.args.self.now.bytes.now) (front c.args.envelope 4 4 (length c.args.self.now.bytes.now) c.requires.room) c.args.self.now.short }
 
 pub record-requires-clause-place : goal.record-requires-clause-place
-record-requires-clause-place c = inside (c.args.envelope + 4) 3 (length c.args.self.now.bytes.now) (apart c.args.envelope 4 4 (length c.args.self.now.bytes.now) c.requires.room) c.requires.short
+record-requires-clause-place c = inside (c.args.envelope + 4) 3 (length c.args.self.now.bytes.now) (apart c.args.envelope 4 4 (length c.args.self.now.bytes.now) c.requires.room) c.args.self.now.short
 
 pub record-requires-clause-index : goal.record-requires-clause-index
 record-requires-clause-index c = few_32 c.args.state.now.handle _ c.requires.state.handle c.requires.state.few
 
 pub link-requires-clause-marker : goal.link-requires-clause-marker
-link-requires-clause-marker c = inside c.args.envelope 7 (length c.args.self.now.bytes.now) c.requires.room c.requires.short
+link-requires-clause-marker c = inside c.args.envelope 7 (length c.args.self.now.bytes.now) c.requires.room c.args.self.now.short
 
 pub link-requires-clause-object : goal.link-requires-clause-object
-link-requires-clause-object c = at_most c.args.state.now.next (length c.args.self.now.bytes.now) c.requires.state.next c.requires.short
+link-requires-clause-object c = at_most c.args.state.now.next (length c.args.self.now.bytes.now) c.requires.state.next c.args.self.now.short
 
 pub overflow_add-state-2 : goal.overflow_add-state-2
-overflow_add-state-2 c = record { fits = small _ (length c.args.self.now.bytes.now) (ended c.args.state.now.next c.next_multiple_of-whole.result (length c.args.self.now.bytes.now) c.requires.state.next c.if-whole-self.false) c.requires.short }
+overflow_add-state-2 c = record { fits = small _ (length c.args.self.now.bytes.now) (ended c.args.state.now.next c.next_multiple_of-whole.result (length c.args.self.now.bytes.now) c.requires.state.next c.if-whole-self.false) c.args.self.now.short }
 
 pub returns-clause-grows : goal.returns-clause-grows
 returns-clause-grows c = le_more _ _

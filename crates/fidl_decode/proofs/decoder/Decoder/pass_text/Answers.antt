@@ -31,12 +31,12 @@ returns-clause-passed c =
     let size = c.next_multiple_of-size.result in
     let small : (i : ℕ) → get_or bytes i 0 < 256 = λ i. omega (arith, c.args.self.now.octets i) in
     let value : size ≡ next_multiple_of n 8 = c.next_multiple_of-size.ensures.value in
-    let sixteen : 16 ≡ (entry_at t e).size = size_as t c.requires.table e String c.requires.entry c.requires.kind in
+    let sixteen : 16 ≡ (entry_at t e).size = size_as t c.args.self.now.fine e String c.requires.entry c.requires.kind in
     let wide : next_multiple_of (entry_at t e).size 8 ≡ 16 = ap (λ k. next_multiple_of k 8) (sym sixteen) in
     let within : from ≤ length bytes = c.requires.state.next in
     let counted : c.u64_at-counted.result ≡ 16 + size = omega (arith, c.if-counted-size.false) in
     let fits : from + 16 + size ≤ length bytes = omega (arith, c.if-counted-rest.false, counted, within) in
-    let few : number_at w64 bytes p < 2 ^ 32 = omega (arith, c.u64_at-counted.ensures, counted, fits, c.requires.short) in
+    let few : number_at w64 bytes p < 2 ^ 32 = omega (arith, c.u64_at-counted.ensures, counted, fits, c.args.self.now.short) in
     let bound : n ≤ (entry_at t e).bound = omega (arith, c.if-count-bound.false, ap (λ (d : Entry). d.bound) c.entry-bound.ensures.value) in
     let room : from + 16 + next_multiple_of n 8 ≤ length bytes = omega (arith, fits, value) in
     let gap : from + 16 + size - (from + 16 + n) ≡ next_multiple_of n 8 - n = omega (arith, value) in
@@ -46,7 +46,7 @@ returns-clause-passed c =
     let records = c.link-2.ensures.records ∙ c.link.ensures.records ∙ c.record.ensures.records in
     let new : At = record { next = from + 16 + size; handle = old.handle; objects = c.link-2.new.self.objects; records = c.link-2.new.self.records } in
     let led : linked (from + 8) n (linked p (entry_at t e).size (opened p old)) ≡ new = λ i. record { next = from + wide i + sym value i; handle = old.handle; objects = sym objects i; records = sym records i } in
-    text_passed t c.requires.table m (c.requires.short, c.requires.state.few) c.args.depth e p old c.requires.entry c.requires.room small c.requires.state c.requires.depth c.requires.kind
+    text_passed t c.args.self.now.fine m (c.args.self.now.short, c.requires.state.few) c.args.depth e p old c.requires.entry c.requires.room small c.requires.state c.requires.depth c.requires.kind
     (omega (arith, c.if-depth-ge-MAX_DEPTH.false)) n room (sym c.u64_at-count.ensures) bound (c.is_present.ensures.0 c.if-not-is_present.false)
     (λ k lt. c.are_ascii.ensures c.if-not-are_ascii.false k (omega (arith, lt, le, value))) (subst (λ k. Stands bytes (from + 16 + n) (zeros k)) gap (c.are_zeros.ensures c.if-not-are_zeros.false))
     (flags_none bytes p c.requires.room small few) (counted_small bytes p c.requires.room small few ∙ sym c.u64_at-counted.ensures ∙ omega (arith, counted, value)) (handles_none bytes p c.requires.room small few) new led
@@ -96,9 +96,6 @@ returns-then-counted-size-clause-pays c = same_le _
 pub are_ascii-requires-clause-eights : goal.are_ascii-requires-clause-eights
 are_ascii-requires-clause-eights c = omega arith
 
-pub are_ascii-requires-clause-short : goal.are_ascii-requires-clause-short
-are_ascii-requires-clause-short c = c.requires.short
-
 pub returns-then-not-are_ascii-clause-passed : goal.returns-then-not-are_ascii-clause-passed
 returns-then-not-are_ascii-clause-passed c so = absurd (no_true so)
 
@@ -127,7 +124,7 @@ pub u64_at-count-requires : goal.u64_at-count-requires
 u64_at-count-requires c = front c.args.state.now.next 8 8 (length c.args.self.now.bytes.now) (counted_front c.args.state.now.next c.u64_at-counted.result (length c.args.self.now.bytes.now) c.if-counted-lt16.false c.if-counted-rest.false)
 
 pub overflow_add-next : goal.overflow_add-next
-overflow_add-next c = record { fits = small _ (length c.args.self.now.bytes.now) (front c.args.state.now.next 8 8 (length c.args.self.now.bytes.now) (counted_front c.args.state.now.next c.u64_at-counted.result (length c.args.self.now.bytes.now) c.if-counted-lt16.false c.if-counted-rest.false)) c.requires.short }
+overflow_add-next c = record { fits = small _ (length c.args.self.now.bytes.now) (front c.args.state.now.next 8 8 (length c.args.self.now.bytes.now) (counted_front c.args.state.now.next c.u64_at-counted.result (length c.args.self.now.bytes.now) c.if-counted-lt16.false c.if-counted-rest.false)) c.args.self.now.short }
 
 pub is_present-requires : goal.is_present-requires
 is_present-requires c = record { room = apart c.args.state.now.next 8 8 (length c.args.self.now.bytes.now) (counted_front c.args.state.now.next c.u64_at-counted.result (length c.args.self.now.bytes.now) c.if-counted-lt16.false c.if-counted-rest.false) }
@@ -136,19 +133,19 @@ pub next_multiple_of-size-requires-clause-nonzero : goal.next_multiple_of-size-r
 next_multiple_of-size-requires-clause-nonzero c = some_8
 
 pub next_multiple_of-size-requires-clause-fits : goal.next_multiple_of-size-requires-clause-fits
-next_multiple_of-size-requires-clause-fits c = rounded_left c.u64_at-count.result c.args.state.now.next (length c.args.self.now.bytes.now) c.if-count-rest.false c.requires.short
+next_multiple_of-size-requires-clause-fits c = rounded_left c.u64_at-count.result c.args.state.now.next (length c.args.self.now.bytes.now) c.if-count-rest.false c.args.self.now.short
 
 pub overflow_add-from : goal.overflow_add-from
-overflow_add-from c = record { fits = small _ (length c.args.self.now.bytes.now) (counted_front c.args.state.now.next c.u64_at-counted.result (length c.args.self.now.bytes.now) c.if-counted-lt16.false c.if-counted-rest.false) c.requires.short }
+overflow_add-from c = record { fits = small _ (length c.args.self.now.bytes.now) (counted_front c.args.state.now.next c.u64_at-counted.result (length c.args.self.now.bytes.now) c.if-counted-lt16.false c.if-counted-rest.false) c.args.self.now.short }
 
 pub are_ascii-requires-clause-room : goal.are_ascii-requires-clause-room
 are_ascii-requires-clause-room c = (counted_whole c.args.state.now.next c.u64_at-counted.result c.next_multiple_of-size.result (length c.args.self.now.bytes.now) c.if-counted-rest.false c.if-counted-size.false)
 
 pub overflow_add-from-else-not-are_ascii : goal.overflow_add-from-else-not-are_ascii
-overflow_add-from-else-not-are_ascii c = record { fits = small _ (length c.args.self.now.bytes.now) (part_room (c.args.state.now.next + 16) c.u64_at-count.result c.next_multiple_of-size.result (length c.args.self.now.bytes.now) c.next_multiple_of-size.ensures.lower_bound (counted_whole c.args.state.now.next c.u64_at-counted.result c.next_multiple_of-size.result (length c.args.self.now.bytes.now) c.if-counted-rest.false c.if-counted-size.false)) c.requires.short }
+overflow_add-from-else-not-are_ascii c = record { fits = small _ (length c.args.self.now.bytes.now) (part_room (c.args.state.now.next + 16) c.u64_at-count.result c.next_multiple_of-size.result (length c.args.self.now.bytes.now) c.next_multiple_of-size.ensures.lower_bound (counted_whole c.args.state.now.next c.u64_at-counted.result c.next_multiple_of-size.result (length c.args.self.now.bytes.now) c.if-counted-rest.false c.if-counted-size.false)) c.args.self.now.short }
 
 pub overflow_add-from-else-not-are_ascii-2 : goal.overflow_add-from-else-not-are_ascii-2
-overflow_add-from-else-not-are_ascii-2 c = record { fits = small _ (length c.args.self.now.bytes.now) (counted_whole c.args.state.now.next c.u64_at-counted.result c.next_multiple_of-size.result (length c.args.self.now.bytes.now) c.if-counted-rest.false c.if-counted-size.false) c.requires.short }
+overflow_add-from-else-not-are_ascii-2 c = record { fits = small _ (length c.args.self.now.bytes.now) (counted_whole c.args.state.now.next c.u64_at-counted.result c.next_multiple_of-size.result (length c.args.self.now.bytes.now) c.if-counted-rest.false c.if-counted-size.false) c.args.self.now.short }
 
 pub are_zeros-requires-clause-order : goal.are_zeros-requires-clause-order
 are_zeros-requires-clause-order c = part_order (c.args.state.now.next + 16) c.u64_at-count.result c.next_multiple_of-size.result c.next_multiple_of-size.ensures.lower_bound
@@ -157,34 +154,34 @@ pub are_zeros-requires-clause-room : goal.are_zeros-requires-clause-room
 are_zeros-requires-clause-room c = (counted_whole c.args.state.now.next c.u64_at-counted.result c.next_multiple_of-size.result (length c.args.self.now.bytes.now) c.if-counted-rest.false c.if-counted-size.false)
 
 pub overflow_add-state : goal.overflow_add-state
-overflow_add-state c = record { fits = counted_on c.args.state.now.steps c.next_multiple_of-size.result (length c.args.self.now.bytes.now) c.requires.budget (size_in (c.args.state.now.next + 16) c.next_multiple_of-size.result (length c.args.self.now.bytes.now) (counted_whole c.args.state.now.next c.u64_at-counted.result c.next_multiple_of-size.result (length c.args.self.now.bytes.now) c.if-counted-rest.false c.if-counted-size.false)) c.requires.short }
+overflow_add-state c = record { fits = counted_on c.args.state.now.steps c.next_multiple_of-size.result (length c.args.self.now.bytes.now) c.requires.budget (size_in (c.args.state.now.next + 16) c.next_multiple_of-size.result (length c.args.self.now.bytes.now) (counted_whole c.args.state.now.next c.u64_at-counted.result c.next_multiple_of-size.result (length c.args.self.now.bytes.now) c.if-counted-rest.false c.if-counted-size.false)) c.args.self.now.short }
 
 pub overflow_add-envelope : goal.overflow_add-envelope
-overflow_add-envelope c = record { fits = small _ (length c.args.self.now.bytes.now) (front c.args.envelope 4 4 (length c.args.self.now.bytes.now) c.requires.room) c.requires.short }
+overflow_add-envelope c = record { fits = small _ (length c.args.self.now.bytes.now) (front c.args.envelope 4 4 (length c.args.self.now.bytes.now) c.requires.room) c.args.self.now.short }
 
 pub record-requires-clause-place : goal.record-requires-clause-place
-record-requires-clause-place c = inside (c.args.envelope + 4) 3 (length c.args.self.now.bytes.now) (apart c.args.envelope 4 4 (length c.args.self.now.bytes.now) c.requires.room) c.requires.short
+record-requires-clause-place c = inside (c.args.envelope + 4) 3 (length c.args.self.now.bytes.now) (apart c.args.envelope 4 4 (length c.args.self.now.bytes.now) c.requires.room) c.args.self.now.short
 
 pub record-requires-clause-index : goal.record-requires-clause-index
 record-requires-clause-index c = few_32 c.args.state.now.handle _ c.requires.state.handle c.requires.state.few
 
 pub link-requires-clause-marker : goal.link-requires-clause-marker
-link-requires-clause-marker c = inside c.args.envelope 7 (length c.args.self.now.bytes.now) c.requires.room c.requires.short
+link-requires-clause-marker c = inside c.args.envelope 7 (length c.args.self.now.bytes.now) c.requires.room c.args.self.now.short
 
 pub link-requires-clause-object : goal.link-requires-clause-object
-link-requires-clause-object c = at_most c.args.state.now.next (length c.args.self.now.bytes.now) c.requires.state.next c.requires.short
+link-requires-clause-object c = at_most c.args.state.now.next (length c.args.self.now.bytes.now) c.requires.state.next c.args.self.now.short
 
 pub overflow_add-next-2 : goal.overflow_add-next-2
-overflow_add-next-2 c = record { fits = small _ (length c.args.self.now.bytes.now) (front c.args.state.now.next 8 8 (length c.args.self.now.bytes.now) (counted_front c.args.state.now.next c.u64_at-counted.result (length c.args.self.now.bytes.now) c.if-counted-lt16.false c.if-counted-rest.false)) c.requires.short }
+overflow_add-next-2 c = record { fits = small _ (length c.args.self.now.bytes.now) (front c.args.state.now.next 8 8 (length c.args.self.now.bytes.now) (counted_front c.args.state.now.next c.u64_at-counted.result (length c.args.self.now.bytes.now) c.if-counted-lt16.false c.if-counted-rest.false)) c.args.self.now.short }
 
 pub link-requires-2-clause-marker : goal.link-requires-2-clause-marker
-link-requires-2-clause-marker c = inside (c.args.state.now.next + 8) 7 (length c.args.self.now.bytes.now) (apart c.args.state.now.next 8 8 (length c.args.self.now.bytes.now) (counted_front c.args.state.now.next c.u64_at-counted.result (length c.args.self.now.bytes.now) c.if-counted-lt16.false c.if-counted-rest.false)) c.requires.short
+link-requires-2-clause-marker c = inside (c.args.state.now.next + 8) 7 (length c.args.self.now.bytes.now) (apart c.args.state.now.next 8 8 (length c.args.self.now.bytes.now) (counted_front c.args.state.now.next c.u64_at-counted.result (length c.args.self.now.bytes.now) c.if-counted-lt16.false c.if-counted-rest.false)) c.args.self.now.short
 
 pub link-requires-2-clause-object : goal.link-requires-2-clause-object
-link-requires-2-clause-object c = at_most _ (length c.args.self.now.bytes.now) (counted_front c.args.state.now.next c.u64_at-counted.result (length c.args.self.now.bytes.now) c.if-counted-lt16.false c.if-counted-rest.false) c.requires.short
+link-requires-2-clause-object c = at_most _ (length c.args.self.now.bytes.now) (counted_front c.args.state.now.next c.u64_at-counted.result (length c.args.self.now.bytes.now) c.if-counted-lt16.false c.if-counted-rest.false) c.args.self.now.short
 
 pub overflow_add-state-2 : goal.overflow_add-state-2
-overflow_add-state-2 c = record { fits = small _ (length c.args.self.now.bytes.now) (counted_whole c.args.state.now.next c.u64_at-counted.result c.next_multiple_of-size.result (length c.args.self.now.bytes.now) c.if-counted-rest.false c.if-counted-size.false) c.requires.short }
+overflow_add-state-2 c = record { fits = small _ (length c.args.self.now.bytes.now) (counted_whole c.args.state.now.next c.u64_at-counted.result c.next_multiple_of-size.result (length c.args.self.now.bytes.now) c.if-counted-rest.false c.if-counted-size.false) c.args.self.now.short }
 
 pub returns-clause-grows : goal.returns-clause-grows
 returns-clause-grows c = le_more _ _

@@ -21,14 +21,14 @@ pub entry-content-requires : goal.entry-content-requires
 entry-content-requires c =
     let t = c.args.self.now.table.now in
     let is : kind_of (entry_at t c.row-row.result.entry).kind ≡ Some Box = ap (λ (e : Entry). kind_of e.kind) (sym c.entry-e.ensures.value) ∙ sym c.from_number.ensures ∙ c.in-Some-Box.is ∙ ap (λ (k : EntryKind). Some k) c.in-Some-Box.field-0-is in
-    subst (λ (e : Entry). e.first < (header_of t).entries) (sym c.entry-e.ensures.value) (box_inside t c.requires.table c.row-row.result.entry c.row-row.ensures.entry is)
+    subst (λ (e : Entry). e.first < (header_of t).entries) (sym c.entry-e.ensures.value) (box_inside t c.args.self.now.fine c.row-row.result.entry c.row-row.ensures.entry is)
 
-pub plain_rows-requires-in-Some-Box-clause-within : goal.plain_rows-requires-in-Some-Box-clause-within
-plain_rows-requires-in-Some-Box-clause-within c =
+pub plain_rows-requires-in-Some-Box : goal.plain_rows-requires-in-Some-Box
+plain_rows-requires-in-Some-Box c =
     let t = c.args.self.now.table.now in
     let is : kind_of (entry_at t c.row-row.result.entry).kind ≡ Some Box = ap (λ (e : Entry). kind_of e.kind) (sym c.entry-e.ensures.value) ∙ sym c.from_number.ensures ∙ c.in-Some-Box.is ∙ ap (λ (k : EntryKind). Some k) c.in-Some-Box.field-0-is in
-    let rows = subst (λ (e : Entry). (entry_at t e.first).first + (entry_at t e.first).count ≤ (header_of t).rows) (sym c.entry-e.ensures.value) (box_rows t c.requires.table c.row-row.result.entry c.row-row.ensures.entry is) in
-    subst (λ (e : Entry). e.first + e.count ≤ (header_of t).rows) (sym c.entry-content.ensures.value) rows
+    let rows = subst (λ (e : Entry). (entry_at t e.first).first + (entry_at t e.first).count ≤ (header_of t).rows) (sym c.entry-e.ensures.value) (box_rows t c.args.self.now.fine c.row-row.result.entry c.row-row.ensures.entry is) in
+    record { within = subst (λ (e : Entry). e.first + e.count ≤ (header_of t).rows) (sym c.entry-content.ensures.value) rows }
 
 pub returns-in-Some-Box : goal.returns-in-Some-Box
 returns-in-Some-Box c =
@@ -46,12 +46,3 @@ returns-in_default c =
     let r = c.plain_rows-in_default.result in
     let e = c.plain_rows-in_default.ensures in
     record { known = known_from t m c.args.first 0 r.rows r.first r.count r.done r.flag e.first e.count e.passes }
-
-pub plain_rows-requires-clause-table : goal.plain_rows-requires-clause-table
-plain_rows-requires-clause-table c = c.requires.table
-
-pub plain_rows-requires-in-Some-Box-clause-table : goal.plain_rows-requires-in-Some-Box-clause-table
-plain_rows-requires-in-Some-Box-clause-table c = c.requires.table
-
-pub plain_rows-requires-in_default-clause-table : goal.plain_rows-requires-in_default-clause-table
-plain_rows-requires-in_default-clause-table c = c.requires.table

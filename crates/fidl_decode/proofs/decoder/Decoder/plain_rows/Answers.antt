@@ -46,10 +46,10 @@ loop-i-preserved c =
           let g = going_on f (Rows c.loop-i.i (end - c.loop-i.i)) c.loop-i.done in
           let member : Row = record { offset = row.key; entry = row.entry } in
           let left = Rows (c.loop-i.i + 1) (end - (c.loop-i.i + 1)) in
-          let room = next_room t c.requires.table m f s s (c.loop-i.i - c.args.first) g here member left one in
+          let room = next_room t c.args.self.now.fine m f s s (c.loop-i.i - c.args.first) g here member left one in
           let seen : Visits t m f.depth row.entry (f.base + row.key) s s 0 None = visits f.base f.depth s ff.depth state (omega (arith, room.1, room.2)) good in
           let none : f.base + row.key - (f.base + c.loop-i.done) ≡ 0 = omega (arith, there) in
-          next_turns t c.requires.table m f s s (c.loop-i.i - c.args.first) g here member left one tt (omega (arith, c.requires.within, before)) tt s (row.key + c.entry.result.size) 0 (c.loop-i.i + 1 - c.args.first) (omega (arith, size)) (omega (arith, c.loop-i.auto.i)) (no_zeros m.bytes (f.base + c.loop-i.done) _ none) seen;
+          next_turns t c.args.self.now.fine m f s s (c.loop-i.i - c.args.first) g here member left one tt (omega (arith, c.requires.within, before)) tt s (row.key + c.entry.result.size) 0 (c.loop-i.i + 1 - c.args.first) (omega (arith, size)) (omega (arith, c.loop-i.auto.i)) (no_zeros m.bytes (f.base + c.loop-i.done) _ none) seen;
     }
 
 pub returns-clause-passes : goal.returns-clause-passes

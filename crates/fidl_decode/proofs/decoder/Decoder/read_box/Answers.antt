@@ -16,11 +16,11 @@ use Rattle.fidl_decode.proofs.decoder.Decoder.read_box.Goals as goal
 
 pub returns-then-is_absent-clause-ok : goal.returns-then-is_absent-clause-ok
 returns-then-is_absent-clause-ok c =
-    visits_absent_box c.args.self.now.table.now c.requires.table (message_of c.args.self.now.bytes.now c.args.self.now.handles.now) c.args.depth c.args.entry c.args.place (at_of c.args.state.now) c.requires.entry c.requires.kind c.requires.state c.requires.depth (c.args.state.now.steps - c.args.state.now.steps) (omega arith) (c.is_absent.ensures.0 c.if-is_absent.true)
+    visits_absent_box c.args.self.now.table.now c.args.self.now.fine (message_of c.args.self.now.bytes.now c.args.self.now.handles.now) c.args.depth c.args.entry c.args.place (at_of c.args.state.now) c.requires.entry c.requires.kind c.requires.state c.requires.depth (c.args.state.now.steps - c.args.state.now.steps) (omega arith) (c.is_absent.ensures.0 c.if-is_absent.true)
 
 pub entry-content-requires : goal.entry-content-requires
 entry-content-requires c =
-    let f = fine_as c.args.self.now.table.now c.requires.table c.args.entry Box c.requires.entry c.requires.kind in
+    let f = fine_as c.args.self.now.table.now c.args.self.now.fine c.args.entry Box c.requires.entry c.requires.kind in
     subst (λ (d : Entry). d.first < (header_of c.args.self.now.table.now).entries) (sym c.entry.ensures.value) f.content.0
 
 pub returns-then-size-self-clause-fault_is_true : goal.returns-then-size-self-clause-fault_is_true
@@ -41,7 +41,7 @@ returns-clause-ok c =
     let frame : ℕ → Entry → Frame = λ size d. record { left = Rows d.first d.count; base = old.next; done = 0; size = size; nest = d.nest; depth = c.args.depth + 1; inside = 0 } in
     let same : linked c.args.place inner.size old ≡ record { next = old.next + c.next_multiple_of-size.result; handle = old.handle; objects = c.link.new.self.objects; records = c.link.new.self.records }
     = λ i. record { next = old.next + sym value i; handle = old.handle; objects = sym c.link.ensures.objects i; records = sym c.link.ensures.records i } in
-    let opened = visits_box t c.requires.table m c.args.depth c.args.entry c.args.place old c.requires.entry c.requires.kind c.requires.state c.requires.depth (c.args.state.now.steps - c.args.state.now.steps) (omega arith) (c.is_present.ensures.0 c.if-not-is_present.false) (omega (arith, c.requires.depth, c.if-depth-eq-MAX_DEPTH.false)) (omega (arith, value, c.if-size-self.false)) in
+    let opened = visits_box t c.args.self.now.fine m c.args.depth c.args.entry c.args.place old c.requires.entry c.requires.kind c.requires.state c.requires.depth (c.args.state.now.steps - c.args.state.now.steps) (omega arith) (c.is_present.ensures.0 c.if-not-is_present.false) (omega (arith, c.requires.depth, c.if-depth-eq-MAX_DEPTH.false)) (omega (arith, value, c.if-size-self.false)) in
     subst (λ (d : Entry). Visits t m c.args.depth c.args.entry c.args.place old (at_of (record { next = old.next + c.next_multiple_of-size.result; handle = c.args.state.now.handle; steps = c.args.state.now.steps; links = c.link.new.self })) (c.args.state.now.steps - c.args.state.now.steps) (Some (frame c.next_multiple_of-size.result d))) (sym content)
     (subst (λ (n : ℕ). Visits t m c.args.depth c.args.entry c.args.place old (at_of (record { next = old.next + c.next_multiple_of-size.result; handle = c.args.state.now.handle; steps = c.args.state.now.steps; links = c.link.new.self })) (c.args.state.now.steps - c.args.state.now.steps) (Some (frame n inner))) (sym value)
     (subst (λ (s : At). Visits t m c.args.depth c.args.entry c.args.place old s (c.args.state.now.steps - c.args.state.now.steps) (Some (frame (next_multiple_of inner.size 8) inner))) same opened))
@@ -55,7 +55,7 @@ returns-clause-fine c around few =
     let content : c.entry-content.result ≡ inner = c.entry-content.ensures.value ∙ ap (λ (d : Entry). entry_at t d.first) c.entry.ensures.value in
     let value : c.next_multiple_of-size.result ≡ next_multiple_of inner.size 8 = c.next_multiple_of-size.ensures.value ∙ ap (λ (d : Entry). next_multiple_of d.size 8) content in
     let frame : ℕ → Entry → Frame = λ size d. record { left = Rows d.first d.count; base = old.next; done = 0; size = size; nest = d.nest; depth = c.args.depth + 1; inside = 0 } in
-    let opened = box_fine t c.requires.table m c.args.depth c.args.entry c.args.place old c.requires.entry c.requires.kind c.requires.state c.requires.depth (omega (arith, c.requires.depth, c.if-depth-eq-MAX_DEPTH.false)) (omega (arith, value, c.if-size-self.false)) around few in
+    let opened = box_fine t c.args.self.now.fine m c.args.depth c.args.entry c.args.place old c.requires.entry c.requires.kind c.requires.state c.requires.depth (omega (arith, c.requires.depth, c.if-depth-eq-MAX_DEPTH.false)) (omega (arith, value, c.if-size-self.false)) around few in
     subst (λ (d : Entry). VisitFine t m c.args.depth around c.args.entry (Some (frame c.next_multiple_of-size.result d))) (sym content)
     (subst (λ (n : ℕ). VisitFine t m c.args.depth around c.args.entry (Some (frame n inner))) (sym value) opened)
 
@@ -127,13 +127,13 @@ pub overflow_sub-self : goal.overflow_sub-self
 overflow_sub-self c = c.requires.state.next
 
 pub link-requires-clause-marker : goal.link-requires-clause-marker
-link-requires-clause-marker c = inside c.args.place 7 (length c.args.self.now.bytes.now) c.requires.room c.requires.short
+link-requires-clause-marker c = inside c.args.place 7 (length c.args.self.now.bytes.now) c.requires.room c.args.self.now.short
 
 pub link-requires-clause-object : goal.link-requires-clause-object
-link-requires-clause-object c = at_most c.args.state.now.next (length c.args.self.now.bytes.now) c.requires.state.next c.requires.short
+link-requires-clause-object c = at_most c.args.state.now.next (length c.args.self.now.bytes.now) c.requires.state.next c.args.self.now.short
 
 pub overflow_add-state : goal.overflow_add-state
-overflow_add-state c = record { fits = small _ (length c.args.self.now.bytes.now) (ended c.args.state.now.next c.next_multiple_of-size.result (length c.args.self.now.bytes.now) c.requires.state.next c.if-size-self.false) c.requires.short }
+overflow_add-state c = record { fits = small _ (length c.args.self.now.bytes.now) (ended c.args.state.now.next c.next_multiple_of-size.result (length c.args.self.now.bytes.now) c.requires.state.next c.if-size-self.false) c.args.self.now.short }
 
 pub overflow_add-result : goal.overflow_add-result
 overflow_add-result c = record { fits = deeper c.args.depth c.requires.depth }

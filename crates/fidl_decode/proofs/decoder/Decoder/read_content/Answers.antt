@@ -24,24 +24,26 @@ pub entry-e-requires : goal.entry-e-requires
 entry-e-requires c =
     let t = c.args.self.now.table.now in
     let m = message_of c.args.self.now.bytes.now c.args.self.now.handles.now in
-    leaf_known t c.requires.table m c.args.frame c.args.entry c.args.size c.args.count c.args.until c.requires.left c.if-count-ne1.false (at_of c.args.state.now) c.requires.frame c.requires.state
+    leaf_known t c.args.self.now.fine m c.args.frame c.args.entry c.args.size c.args.count c.args.until c.requires.left c.if-count-ne1.false (at_of c.args.state.now) c.requires.frame c.requires.state
 
 pub unreachable-requires : goal.unreachable-requires
 unreachable-requires c =
     let t = c.args.self.now.table.now in
     let m = message_of c.args.self.now.bytes.now c.args.self.now.handles.now in
-    let f = c.requires.table.each c.args.entry (leaf_known t c.requires.table m c.args.frame c.args.entry c.args.size c.args.count c.args.until c.requires.left c.if-count-ne1.false (at_of c.args.state.now) c.requires.frame c.requires.state) in
+    let f = c.args.self.now.fine.each c.args.entry (leaf_known t c.args.self.now.fine m c.args.frame c.args.entry c.args.size c.args.count c.args.until c.requires.left c.if-count-ne1.false (at_of c.args.state.now) c.requires.frame c.requires.state) in
     let none : kind_of (entry_at t c.args.entry).kind ≡ None = ap (λ (e : Entry). kind_of e.kind) (sym c.entry-e.ensures.value) ∙ sym c.from_number.ensures ∙ c.in_default.is in
     no_some f.0 (sym f.1.is ∙ none)
 
-pub is_flat-requires-clause-rows : goal.is_flat-requires-clause-rows
-is_flat-requires-clause-rows c =
+pub is_flat-requires : goal.is_flat-requires
+is_flat-requires c =
     let t = c.args.self.now.table.now in
     let m = message_of c.args.self.now.bytes.now c.args.self.now.handles.now in
-    λ struct.
-    let known = leaf_known t c.requires.table m c.args.frame c.args.entry c.args.size c.args.count c.args.until c.requires.left c.if-count-ne1.false (at_of c.args.state.now) c.requires.frame c.requires.state in
-    let is : kind_of (entry_at t c.args.entry).kind ≡ Some Struct = ap (λ (e : Entry). kind_of e.kind) (sym c.entry-e.ensures.value) ∙ sym c.from_number.ensures ∙ c.in-Some.is ∙ ap (λ (k : EntryKind). Some k) struct in
-    subst (λ (d : Entry). d.first + d.count ≤ (header_of t).rows) (sym c.entry-e.ensures.value) (fine_as t c.requires.table c.args.entry Struct known is).content.0
+    record {
+      rows = λ struct.
+          let known = leaf_known t c.args.self.now.fine m c.args.frame c.args.entry c.args.size c.args.count c.args.until c.requires.left c.if-count-ne1.false (at_of c.args.state.now) c.requires.frame c.requires.state in
+          let is : kind_of (entry_at t c.args.entry).kind ≡ Some Struct = ap (λ (e : Entry). kind_of e.kind) (sym c.entry-e.ensures.value) ∙ sym c.from_number.ensures ∙ c.in-Some.is ∙ ap (λ (k : EntryKind). Some k) struct in
+          subst (λ (d : Entry). d.first + d.count ≤ (header_of t).rows) (sym c.entry-e.ensures.value) (fine_as t c.args.self.now.fine c.args.entry Struct known is).content.0;
+    }
 
 pub read_whole-requires-clause-kind : goal.read_whole-requires-clause-kind
 read_whole-requires-clause-kind c =
@@ -73,9 +75,6 @@ returns-then-count-ne1-clause-err c = tt
 pub returns-then-count-ne1-clause-fault_is_true : goal.returns-then-count-ne1-clause-fault_is_true
 returns-then-count-ne1-clause-fault_is_true c = tt
 
-pub is_flat-requires-clause-table : goal.is_flat-requires-clause-table
-is_flat-requires-clause-table c = c.requires.table
-
 pub returns-then-not-is_flat-clause-ended : goal.returns-then-not-is_flat-clause-ended
 returns-then-not-is_flat-clause-ended c = tt
 
@@ -84,12 +83,6 @@ returns-then-not-is_flat-clause-err c = tt
 
 pub returns-then-not-is_flat-clause-fault_is_true : goal.returns-then-not-is_flat-clause-fault_is_true
 returns-then-not-is_flat-clause-fault_is_true c = tt
-
-pub read_whole-requires-clause-table : goal.read_whole-requires-clause-table
-read_whole-requires-clause-table c = c.requires.table
-
-pub read_whole-requires-clause-short : goal.read_whole-requires-clause-short
-read_whole-requires-clause-short c = c.requires.short
 
 pub read_whole-requires-clause-frame : goal.read_whole-requires-clause-frame
 read_whole-requires-clause-frame c = c.requires.frame

@@ -22,23 +22,23 @@ no_some a e = cc
 
 pub entry-e-requires : goal.entry-e-requires
 entry-e-requires c =
-    element_known c.args.self.now.table.now c.requires.table (message_of c.args.self.now.bytes.now c.args.self.now.handles.now) c.args.frame (at_of c.args.state.now) c.requires.frame c.requires.state c.args.entry c.args.size c.args.count c.requires.left c.if-count-eq0.false
+    element_known c.args.self.now.table.now c.args.self.now.fine (message_of c.args.self.now.bytes.now c.args.self.now.handles.now) c.args.frame (at_of c.args.state.now) c.requires.frame c.requires.state c.args.entry c.args.size c.args.count c.requires.left c.if-count-eq0.false
 
 pub unreachable-requires : goal.unreachable-requires
 unreachable-requires c =
-    let f = c.requires.table.each c.args.entry (element_known c.args.self.now.table.now c.requires.table (message_of c.args.self.now.bytes.now c.args.self.now.handles.now) c.args.frame (at_of c.args.state.now) c.requires.frame c.requires.state c.args.entry c.args.size c.args.count c.requires.left c.if-count-eq0.false) in
+    let f = c.args.self.now.fine.each c.args.entry (element_known c.args.self.now.table.now c.args.self.now.fine (message_of c.args.self.now.bytes.now c.args.self.now.handles.now) c.args.frame (at_of c.args.state.now) c.requires.frame c.requires.state c.args.entry c.args.size c.args.count c.requires.left c.if-count-eq0.false) in
     let none : kind_of (entry_at c.args.self.now.table.now c.args.entry).kind ≡ None = ap (λ (e : Entry). kind_of e.kind) (sym c.entry-e.ensures.value) ∙ sym c.from_number.ensures ∙ c.in_default.is in
     no_some f.0 (sym f.1.is ∙ none)
 
 pub read_each-requires-clause-entry : goal.read_each-requires-clause-entry
 read_each-requires-clause-entry c =
-    element_known c.args.self.now.table.now c.requires.table (message_of c.args.self.now.bytes.now c.args.self.now.handles.now) c.args.frame (at_of c.args.state.now) c.requires.frame c.requires.state c.args.entry c.args.size c.args.count c.requires.left c.if-count-eq0.false
+    element_known c.args.self.now.table.now c.args.self.now.fine (message_of c.args.self.now.bytes.now c.args.self.now.handles.now) c.args.frame (at_of c.args.state.now) c.requires.frame c.requires.state c.args.entry c.args.size c.args.count c.requires.left c.if-count-eq0.false
 
 pub overflow_add-from : goal.overflow_add-from
 overflow_add-from c =
     let free : is_free c.in-Some.kind (entry_at c.args.self.now.table.now c.args.entry) ≡ true = (let r = ap (λ (d : Entry). is_free c.in-Some.kind d) (sym c.entry-e.ensures.value) ∙ sym c.is_free.ensures in search (rules, r, c.if-not-is_free.false)) in
-    let any = free_turns c.args.self.now.table.now c.requires.table (message_of c.args.self.now.bytes.now c.args.self.now.handles.now) c.args.frame (at_of c.args.state.now) c.requires.frame c.requires.state c.args.entry c.args.size c.args.count c.requires.left c.in-Some.kind (ap (λ (e : Entry). kind_of e.kind) (sym c.entry-e.ensures.value) ∙ sym c.from_number.ensures ∙ c.in-Some.is) free (λ i. omega (arith, c.args.self.now.octets i)) in
-    let room = over_room c.args.self.now.table.now c.requires.table (message_of c.args.self.now.bytes.now c.args.self.now.handles.now) c.args.frame (at_of c.args.state.now) (at_of c.args.state.now) 0 (going_on c.args.frame (Elements c.args.entry c.args.size 0) (c.args.frame.done + c.args.size * c.args.count)) any in
+    let any = free_turns c.args.self.now.table.now c.args.self.now.fine (message_of c.args.self.now.bytes.now c.args.self.now.handles.now) c.args.frame (at_of c.args.state.now) c.requires.frame c.requires.state c.args.entry c.args.size c.args.count c.requires.left c.in-Some.kind (ap (λ (e : Entry). kind_of e.kind) (sym c.entry-e.ensures.value) ∙ sym c.from_number.ensures ∙ c.in-Some.is) free (λ i. omega (arith, c.args.self.now.octets i)) in
+    let room = over_room c.args.self.now.table.now c.args.self.now.fine (message_of c.args.self.now.bytes.now c.args.self.now.handles.now) c.args.frame (at_of c.args.state.now) (at_of c.args.state.now) 0 (going_on c.args.frame (Elements c.args.entry c.args.size 0) (c.args.frame.done + c.args.size * c.args.count)) any in
     let before = room.0 in
     let within = room.1 in
     let spend = room.2 in
@@ -47,8 +47,8 @@ overflow_add-from c =
 pub overflow_mul-from : goal.overflow_mul-from
 overflow_mul-from c =
     let free : is_free c.in-Some.kind (entry_at c.args.self.now.table.now c.args.entry) ≡ true = (let r = ap (λ (d : Entry). is_free c.in-Some.kind d) (sym c.entry-e.ensures.value) ∙ sym c.is_free.ensures in search (rules, r, c.if-not-is_free.false)) in
-    let any = free_turns c.args.self.now.table.now c.requires.table (message_of c.args.self.now.bytes.now c.args.self.now.handles.now) c.args.frame (at_of c.args.state.now) c.requires.frame c.requires.state c.args.entry c.args.size c.args.count c.requires.left c.in-Some.kind (ap (λ (e : Entry). kind_of e.kind) (sym c.entry-e.ensures.value) ∙ sym c.from_number.ensures ∙ c.in-Some.is) free (λ i. omega (arith, c.args.self.now.octets i)) in
-    let room = over_room c.args.self.now.table.now c.requires.table (message_of c.args.self.now.bytes.now c.args.self.now.handles.now) c.args.frame (at_of c.args.state.now) (at_of c.args.state.now) 0 (going_on c.args.frame (Elements c.args.entry c.args.size 0) (c.args.frame.done + c.args.size * c.args.count)) any in
+    let any = free_turns c.args.self.now.table.now c.args.self.now.fine (message_of c.args.self.now.bytes.now c.args.self.now.handles.now) c.args.frame (at_of c.args.state.now) c.requires.frame c.requires.state c.args.entry c.args.size c.args.count c.requires.left c.in-Some.kind (ap (λ (e : Entry). kind_of e.kind) (sym c.entry-e.ensures.value) ∙ sym c.from_number.ensures ∙ c.in-Some.is) free (λ i. omega (arith, c.args.self.now.octets i)) in
+    let room = over_room c.args.self.now.table.now c.args.self.now.fine (message_of c.args.self.now.bytes.now c.args.self.now.handles.now) c.args.frame (at_of c.args.state.now) (at_of c.args.state.now) 0 (going_on c.args.frame (Elements c.args.entry c.args.size 0) (c.args.frame.done + c.args.size * c.args.count)) any in
     let before = room.0 in
     let within = room.1 in
     let spend = room.2 in
@@ -57,8 +57,8 @@ overflow_mul-from c =
 pub overflow_add-from-2 : goal.overflow_add-from-2
 overflow_add-from-2 c =
     let free : is_free c.in-Some.kind (entry_at c.args.self.now.table.now c.args.entry) ≡ true = (let r = ap (λ (d : Entry). is_free c.in-Some.kind d) (sym c.entry-e.ensures.value) ∙ sym c.is_free.ensures in search (rules, r, c.if-not-is_free.false)) in
-    let any = free_turns c.args.self.now.table.now c.requires.table (message_of c.args.self.now.bytes.now c.args.self.now.handles.now) c.args.frame (at_of c.args.state.now) c.requires.frame c.requires.state c.args.entry c.args.size c.args.count c.requires.left c.in-Some.kind (ap (λ (e : Entry). kind_of e.kind) (sym c.entry-e.ensures.value) ∙ sym c.from_number.ensures ∙ c.in-Some.is) free (λ i. omega (arith, c.args.self.now.octets i)) in
-    let room = over_room c.args.self.now.table.now c.requires.table (message_of c.args.self.now.bytes.now c.args.self.now.handles.now) c.args.frame (at_of c.args.state.now) (at_of c.args.state.now) 0 (going_on c.args.frame (Elements c.args.entry c.args.size 0) (c.args.frame.done + c.args.size * c.args.count)) any in
+    let any = free_turns c.args.self.now.table.now c.args.self.now.fine (message_of c.args.self.now.bytes.now c.args.self.now.handles.now) c.args.frame (at_of c.args.state.now) c.requires.frame c.requires.state c.args.entry c.args.size c.args.count c.requires.left c.in-Some.kind (ap (λ (e : Entry). kind_of e.kind) (sym c.entry-e.ensures.value) ∙ sym c.from_number.ensures ∙ c.in-Some.is) free (λ i. omega (arith, c.args.self.now.octets i)) in
+    let room = over_room c.args.self.now.table.now c.args.self.now.fine (message_of c.args.self.now.bytes.now c.args.self.now.handles.now) c.args.frame (at_of c.args.state.now) (at_of c.args.state.now) 0 (going_on c.args.frame (Elements c.args.entry c.args.size 0) (c.args.frame.done + c.args.size * c.args.count)) any in
     let before = room.0 in
     let within = room.1 in
     let spend = room.2 in
@@ -67,8 +67,8 @@ overflow_add-from-2 c =
 pub overflow_sub-state : goal.overflow_sub-state
 overflow_sub-state c =
     let free : is_free c.in-Some.kind (entry_at c.args.self.now.table.now c.args.entry) ≡ true = (let r = ap (λ (d : Entry). is_free c.in-Some.kind d) (sym c.entry-e.ensures.value) ∙ sym c.is_free.ensures in search (rules, r, c.if-not-is_free.false)) in
-    let any = free_turns c.args.self.now.table.now c.requires.table (message_of c.args.self.now.bytes.now c.args.self.now.handles.now) c.args.frame (at_of c.args.state.now) c.requires.frame c.requires.state c.args.entry c.args.size c.args.count c.requires.left c.in-Some.kind (ap (λ (e : Entry). kind_of e.kind) (sym c.entry-e.ensures.value) ∙ sym c.from_number.ensures ∙ c.in-Some.is) free (λ i. omega (arith, c.args.self.now.octets i)) in
-    let room = over_room c.args.self.now.table.now c.requires.table (message_of c.args.self.now.bytes.now c.args.self.now.handles.now) c.args.frame (at_of c.args.state.now) (at_of c.args.state.now) 0 (going_on c.args.frame (Elements c.args.entry c.args.size 0) (c.args.frame.done + c.args.size * c.args.count)) any in
+    let any = free_turns c.args.self.now.table.now c.args.self.now.fine (message_of c.args.self.now.bytes.now c.args.self.now.handles.now) c.args.frame (at_of c.args.state.now) c.requires.frame c.requires.state c.args.entry c.args.size c.args.count c.requires.left c.in-Some.kind (ap (λ (e : Entry). kind_of e.kind) (sym c.entry-e.ensures.value) ∙ sym c.from_number.ensures ∙ c.in-Some.is) free (λ i. omega (arith, c.args.self.now.octets i)) in
+    let room = over_room c.args.self.now.table.now c.args.self.now.fine (message_of c.args.self.now.bytes.now c.args.self.now.handles.now) c.args.frame (at_of c.args.state.now) (at_of c.args.state.now) 0 (going_on c.args.frame (Elements c.args.entry c.args.size 0) (c.args.frame.done + c.args.size * c.args.count)) any in
     let before = room.0 in
     let within = room.1 in
     let spend = room.2 in
@@ -77,8 +77,8 @@ overflow_sub-state c =
 pub zeros_at-requires-clause-order : goal.zeros_at-requires-clause-order
 zeros_at-requires-clause-order c =
     let free : is_free c.in-Some.kind (entry_at c.args.self.now.table.now c.args.entry) ≡ true = (let r = ap (λ (d : Entry). is_free c.in-Some.kind d) (sym c.entry-e.ensures.value) ∙ sym c.is_free.ensures in search (rules, r, c.if-not-is_free.false)) in
-    let any = free_turns c.args.self.now.table.now c.requires.table (message_of c.args.self.now.bytes.now c.args.self.now.handles.now) c.args.frame (at_of c.args.state.now) c.requires.frame c.requires.state c.args.entry c.args.size c.args.count c.requires.left c.in-Some.kind (ap (λ (e : Entry). kind_of e.kind) (sym c.entry-e.ensures.value) ∙ sym c.from_number.ensures ∙ c.in-Some.is) free (λ i. omega (arith, c.args.self.now.octets i)) in
-    let room = over_room c.args.self.now.table.now c.requires.table (message_of c.args.self.now.bytes.now c.args.self.now.handles.now) c.args.frame (at_of c.args.state.now) (at_of c.args.state.now) 0 (going_on c.args.frame (Elements c.args.entry c.args.size 0) (c.args.frame.done + c.args.size * c.args.count)) any in
+    let any = free_turns c.args.self.now.table.now c.args.self.now.fine (message_of c.args.self.now.bytes.now c.args.self.now.handles.now) c.args.frame (at_of c.args.state.now) c.requires.frame c.requires.state c.args.entry c.args.size c.args.count c.requires.left c.in-Some.kind (ap (λ (e : Entry). kind_of e.kind) (sym c.entry-e.ensures.value) ∙ sym c.from_number.ensures ∙ c.in-Some.is) free (λ i. omega (arith, c.args.self.now.octets i)) in
+    let room = over_room c.args.self.now.table.now c.args.self.now.fine (message_of c.args.self.now.bytes.now c.args.self.now.handles.now) c.args.frame (at_of c.args.state.now) (at_of c.args.state.now) 0 (going_on c.args.frame (Elements c.args.entry c.args.size 0) (c.args.frame.done + c.args.size * c.args.count)) any in
     let before = room.0 in
     let within = room.1 in
     let spend = room.2 in
@@ -87,15 +87,15 @@ zeros_at-requires-clause-order c =
 pub returns-in_err-zeros_at-clause-err : goal.returns-in_err-zeros_at-clause-err
 returns-in_err-zeros_at-clause-err c =
     let free : is_free c.in-Some.kind (entry_at c.args.self.now.table.now c.args.entry) ≡ true = (let r = ap (λ (d : Entry). is_free c.in-Some.kind d) (sym c.entry-e.ensures.value) ∙ sym c.is_free.ensures in search (rules, r, c.if-not-is_free.false)) in
-    let any = free_turns c.args.self.now.table.now c.requires.table (message_of c.args.self.now.bytes.now c.args.self.now.handles.now) c.args.frame (at_of c.args.state.now) c.requires.frame c.requires.state c.args.entry c.args.size c.args.count c.requires.left c.in-Some.kind (ap (λ (e : Entry). kind_of e.kind) (sym c.entry-e.ensures.value) ∙ sym c.from_number.ensures ∙ c.in-Some.is) free (λ i. omega (arith, c.args.self.now.octets i)) in
+    let any = free_turns c.args.self.now.table.now c.args.self.now.fine (message_of c.args.self.now.bytes.now c.args.self.now.handles.now) c.args.frame (at_of c.args.state.now) c.requires.frame c.requires.state c.args.entry c.args.size c.args.count c.requires.left c.in-Some.kind (ap (λ (e : Entry). kind_of e.kind) (sym c.entry-e.ensures.value) ∙ sym c.from_number.ensures ∙ c.in-Some.is) free (λ i. omega (arith, c.args.self.now.octets i)) in
     let there : c.args.frame.base + c.args.frame.done + c.args.size * c.args.count ≡ c.args.frame.base + (c.args.frame.done + c.args.size * c.args.count) = omega arith in
-    on_err _ ((to : At) → Reads c.args.self.now.table.now (message_of c.args.self.now.bytes.now c.args.self.now.handles.now) c.args.frame (at_of c.args.state.now) to → ⊥) (over_refused c.args.self.now.table.now c.requires.table (message_of c.args.self.now.bytes.now c.args.self.now.handles.now) c.args.frame (at_of c.args.state.now) (at_of c.args.state.now) 0 (going_on c.args.frame (Elements c.args.entry c.args.size 0) (c.args.frame.done + c.args.size * c.args.count)) any refl tt (λ z. c.in_err-zeros_at.ensures.err (subst (λ k. Stands c.args.self.now.bytes.now k (zeros (c.args.frame.base + c.args.frame.size - k))) (sym there) z)))
+    on_err _ ((to : At) → Reads c.args.self.now.table.now (message_of c.args.self.now.bytes.now c.args.self.now.handles.now) c.args.frame (at_of c.args.state.now) to → ⊥) (over_refused c.args.self.now.table.now c.args.self.now.fine (message_of c.args.self.now.bytes.now c.args.self.now.handles.now) c.args.frame (at_of c.args.state.now) (at_of c.args.state.now) 0 (going_on c.args.frame (Elements c.args.entry c.args.size 0) (c.args.frame.done + c.args.size * c.args.count)) any refl tt (λ z. c.in_err-zeros_at.ensures.err (subst (λ k. Stands c.args.self.now.bytes.now k (zeros (c.args.frame.base + c.args.frame.size - k))) (sym there) z)))
 
 pub returns-in_err-zeros_at-clause-cost : goal.returns-in_err-zeros_at-clause-cost
 returns-in_err-zeros_at-clause-cost c =
     let free : is_free c.in-Some.kind (entry_at c.args.self.now.table.now c.args.entry) ≡ true = (let r = ap (λ (d : Entry). is_free c.in-Some.kind d) (sym c.entry-e.ensures.value) ∙ sym c.is_free.ensures in search (rules, r, c.if-not-is_free.false)) in
-    let any = free_turns c.args.self.now.table.now c.requires.table (message_of c.args.self.now.bytes.now c.args.self.now.handles.now) c.args.frame (at_of c.args.state.now) c.requires.frame c.requires.state c.args.entry c.args.size c.args.count c.requires.left c.in-Some.kind (ap (λ (e : Entry). kind_of e.kind) (sym c.entry-e.ensures.value) ∙ sym c.from_number.ensures ∙ c.in-Some.is) free (λ i. omega (arith, c.args.self.now.octets i)) in
-    let room = over_room c.args.self.now.table.now c.requires.table (message_of c.args.self.now.bytes.now c.args.self.now.handles.now) c.args.frame (at_of c.args.state.now) (at_of c.args.state.now) 0 (going_on c.args.frame (Elements c.args.entry c.args.size 0) (c.args.frame.done + c.args.size * c.args.count)) any in
+    let any = free_turns c.args.self.now.table.now c.args.self.now.fine (message_of c.args.self.now.bytes.now c.args.self.now.handles.now) c.args.frame (at_of c.args.state.now) c.requires.frame c.requires.state c.args.entry c.args.size c.args.count c.requires.left c.in-Some.kind (ap (λ (e : Entry). kind_of e.kind) (sym c.entry-e.ensures.value) ∙ sym c.from_number.ensures ∙ c.in-Some.is) free (λ i. omega (arith, c.args.self.now.octets i)) in
+    let room = over_room c.args.self.now.table.now c.args.self.now.fine (message_of c.args.self.now.bytes.now c.args.self.now.handles.now) c.args.frame (at_of c.args.state.now) (at_of c.args.state.now) 0 (going_on c.args.frame (Elements c.args.entry c.args.size 0) (c.args.frame.done + c.args.size * c.args.count)) any in
     let before = room.0 in
     let within = room.1 in
     let spend = room.2 in
@@ -105,25 +105,25 @@ returns-in_err-zeros_at-clause-cost c =
 pub returns-clause-ok : goal.returns-clause-ok
 returns-clause-ok c =
     let free : is_free c.in-Some.kind (entry_at c.args.self.now.table.now c.args.entry) ≡ true = (let r = ap (λ (d : Entry). is_free c.in-Some.kind d) (sym c.entry-e.ensures.value) ∙ sym c.is_free.ensures in search (rules, r, c.if-not-is_free.false)) in
-    let any = free_turns c.args.self.now.table.now c.requires.table (message_of c.args.self.now.bytes.now c.args.self.now.handles.now) c.args.frame (at_of c.args.state.now) c.requires.frame c.requires.state c.args.entry c.args.size c.args.count c.requires.left c.in-Some.kind (ap (λ (e : Entry). kind_of e.kind) (sym c.entry-e.ensures.value) ∙ sym c.from_number.ensures ∙ c.in-Some.is) free (λ i. omega (arith, c.args.self.now.octets i)) in
+    let any = free_turns c.args.self.now.table.now c.args.self.now.fine (message_of c.args.self.now.bytes.now c.args.self.now.handles.now) c.args.frame (at_of c.args.state.now) c.requires.frame c.requires.state c.args.entry c.args.size c.args.count c.requires.left c.in-Some.kind (ap (λ (e : Entry). kind_of e.kind) (sym c.entry-e.ensures.value) ∙ sym c.from_number.ensures ∙ c.in-Some.is) free (λ i. omega (arith, c.args.self.now.octets i)) in
     let there : c.args.frame.base + c.args.frame.done + c.args.size * c.args.count ≡ c.args.frame.base + (c.args.frame.done + c.args.size * c.args.count) = omega arith in
-    over_turns c.args.self.now.table.now c.requires.table (message_of c.args.self.now.bytes.now c.args.self.now.handles.now) c.args.frame (at_of c.args.state.now) (at_of c.args.state.now) 0 (going_on c.args.frame (Elements c.args.entry c.args.size 0) (c.args.frame.done + c.args.size * c.args.count)) any refl tt _ (omega (arith, there)) (subst (λ k. Stands c.args.self.now.bytes.now k (zeros (c.args.frame.base + c.args.frame.size - k))) there c.in_ok-zeros_at.ensures.ok)
+    over_turns c.args.self.now.table.now c.args.self.now.fine (message_of c.args.self.now.bytes.now c.args.self.now.handles.now) c.args.frame (at_of c.args.state.now) (at_of c.args.state.now) 0 (going_on c.args.frame (Elements c.args.entry c.args.size 0) (c.args.frame.done + c.args.size * c.args.count)) any refl tt _ (omega (arith, there)) (subst (λ k. Stands c.args.self.now.bytes.now k (zeros (c.args.frame.base + c.args.frame.size - k))) there c.in_ok-zeros_at.ensures.ok)
 
 pub returns-in_err-zeros_at-clause-fault_is_true : goal.returns-in_err-zeros_at-clause-fault_is_true
 returns-in_err-zeros_at-clause-fault_is_true c =
     let free : is_free c.in-Some.kind (entry_at c.args.self.now.table.now c.args.entry) ≡ true = (let r = ap (λ (d : Entry). is_free c.in-Some.kind d) (sym c.entry-e.ensures.value) ∙ sym c.is_free.ensures in search (rules, r, c.if-not-is_free.false)) in
-    let any = free_turns c.args.self.now.table.now c.requires.table (message_of c.args.self.now.bytes.now c.args.self.now.handles.now) c.args.frame (at_of c.args.state.now) c.requires.frame c.requires.state c.args.entry c.args.size c.args.count c.requires.left c.in-Some.kind (ap (λ (e : Entry). kind_of e.kind) (sym c.entry-e.ensures.value) ∙ sym c.from_number.ensures ∙ c.in-Some.is) free (λ i. omega (arith, c.args.self.now.octets i)) in
+    let any = free_turns c.args.self.now.table.now c.args.self.now.fine (message_of c.args.self.now.bytes.now c.args.self.now.handles.now) c.args.frame (at_of c.args.state.now) c.requires.frame c.requires.state c.args.entry c.args.size c.args.count c.requires.left c.in-Some.kind (ap (λ (e : Entry). kind_of e.kind) (sym c.entry-e.ensures.value) ∙ sym c.from_number.ensures ∙ c.in-Some.is) free (λ i. omega (arith, c.args.self.now.octets i)) in
     let there : c.args.frame.base + c.args.frame.done + c.args.size * c.args.count ≡ c.args.frame.base + (c.args.frame.done + c.args.size * c.args.count) = omega arith in
     passed_on c.from_residual-in_err-zeros_at.result c.in_err-zeros_at.field-0.0 _ c.from_residual-in_err-zeros_at.ensures.1
-    (over_breaks c.args.self.now.table.now c.requires.table (message_of c.args.self.now.bytes.now c.args.self.now.handles.now) c.args.frame (at_of c.args.state.now) (at_of c.args.state.now) 0 (going_on c.args.frame (Elements c.args.entry c.args.size 0) (c.args.frame.done + c.args.size * c.args.count)) any refl tt c.in_err-zeros_at.field-0.0 (subst (λ k. IsPadding c.args.self.now.bytes.now k (c.args.frame.base + c.args.frame.size) c.in_err-zeros_at.field-0.0) there c.in_err-zeros_at.ensures.fault_is_true))
+    (over_breaks c.args.self.now.table.now c.args.self.now.fine (message_of c.args.self.now.bytes.now c.args.self.now.handles.now) c.args.frame (at_of c.args.state.now) (at_of c.args.state.now) 0 (going_on c.args.frame (Elements c.args.entry c.args.size 0) (c.args.frame.done + c.args.size * c.args.count)) any refl tt c.in_err-zeros_at.field-0.0 (subst (λ k. IsPadding c.args.self.now.bytes.now k (c.args.frame.base + c.args.frame.size) c.in_err-zeros_at.field-0.0) there c.in_err-zeros_at.ensures.fault_is_true))
 
 pub returns-in_err-read_each : goal.returns-in_err-read_each
 returns-in_err-read_each c = record {
-  ok = search rules;
-  grows = search rules;
-  ended = search rules;
-  cost = search (rules, c.in_err-read_each.ensures.cost);
-  err = search (rules, c.in_err-read_each.ensures.err);
+  ok = no_ok c.from_residual.result c.in_err-read_each.field-0.0 _ c.from_residual.ensures.1;
+  grows = no_ok c.from_residual.result c.in_err-read_each.field-0.0 _ c.from_residual.ensures.1;
+  ended = no_ok c.from_residual.result c.in_err-read_each.field-0.0 _ c.from_residual.ensures.1;
+  cost = c.in_err-read_each.ensures.cost;
+  err = on_err _ _ c.in_err-read_each.ensures.err;
   fault_is_true = passed_on c.from_residual.result c.in_err-read_each.field-0.0 _ c.from_residual.ensures.1 c.in_err-read_each.ensures.fault_is_true;
 }
 
@@ -144,12 +144,6 @@ returns-then-not-is_leaf-clause-err c = tt
 
 pub returns-then-not-is_leaf-clause-fault_is_true : goal.returns-then-not-is_leaf-clause-fault_is_true
 returns-then-not-is_leaf-clause-fault_is_true c = tt
-
-pub read_each-requires-clause-table : goal.read_each-requires-clause-table
-read_each-requires-clause-table c = c.requires.table
-
-pub read_each-requires-clause-short : goal.read_each-requires-clause-short
-read_each-requires-clause-short c = c.requires.short
 
 pub read_each-requires-clause-frame : goal.read_each-requires-clause-frame
 read_each-requires-clause-frame c = c.requires.frame

@@ -147,14 +147,8 @@ returns-clause-cost c =
     let still = x.steps in
     omega (arith, work, still, c.read_whole.ensures.cost)
 
-pub enter_member-requires-clause-table : goal.enter_member-requires-clause-table
-enter_member-requires-clause-table c = c.requires.table
-
 pub enter_member-requires-clause-entry : goal.enter_member-requires-clause-entry
 enter_member-requires-clause-entry c = c.requires.entry
-
-pub enter_member-requires-clause-short : goal.enter_member-requires-clause-short
-enter_member-requires-clause-short c = c.requires.short
 
 pub enter_member-requires-clause-room : goal.enter_member-requires-clause-room
 enter_member-requires-clause-room c = c.requires.room
@@ -176,12 +170,6 @@ returns-in_err-frame-clause-fault_is_true c = passed_on c.from_residual.result c
 
 pub returns-in_err-frame-clause-grows : goal.returns-in_err-frame-clause-grows
 returns-in_err-frame-clause-grows c = no_ok c.from_residual.result c.in_err-frame.field-0.0 _ c.from_residual.ensures.1
-
-pub read_whole-requires-clause-table : goal.read_whole-requires-clause-table
-read_whole-requires-clause-table c = c.requires.table
-
-pub read_whole-requires-clause-short : goal.read_whole-requires-clause-short
-read_whole-requires-clause-short c = c.requires.short
 
 pub read_whole-requires-clause-kind : goal.read_whole-requires-clause-kind
 read_whole-requires-clause-kind c = c.requires.kind

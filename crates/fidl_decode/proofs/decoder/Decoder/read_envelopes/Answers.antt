@@ -184,7 +184,7 @@ returns-clause-ok c =
     let begun = c.loop-many.invariant.steps in
     let none : c.loop-many.many ≡ 0 = omega (arith, c.loop-many-test.false) in
     let g = behind_envelopes f c.args.entry c.loop-many.passed c.loop-many.many c.loop-many.done in
-    let over = envelopes_over t c.requires.table m (c.requires.short, c.requires.state.few) g c.args.entry c.loop-many.passed c.loop-many.many now c.loop-many.invariant.turns.rest_fine.0 c.loop-many.invariant.turns.state none 1 refl in
+    let over = envelopes_over t c.args.self.now.fine m (c.args.self.now.short, c.requires.state.few) g c.args.entry c.loop-many.passed c.loop-many.many now c.loop-many.invariant.turns.rest_fine.0 c.loop-many.invariant.turns.state none 1 refl in
     let run = turns_then t m f old now a g c.loop-many.invariant.turns now 1 (c.loop-many.state.steps + 1 - c.args.state.now.steps) (left_over None) (omega (arith, begun)) over in
     run
 
@@ -199,16 +199,10 @@ returns-clause-cost c =
     let begun = c.loop-many.invariant.steps in
     let none : c.loop-many.many ≡ 0 = omega (arith, c.loop-many-test.false) in
     let g = behind_envelopes f c.args.entry c.loop-many.passed c.loop-many.many c.loop-many.done in
-    let over = envelopes_over t c.requires.table m (c.requires.short, c.requires.state.few) g c.args.entry c.loop-many.passed c.loop-many.many now c.loop-many.invariant.turns.rest_fine.0 c.loop-many.invariant.turns.state none 1 refl in
+    let over = envelopes_over t c.args.self.now.fine m (c.args.self.now.short, c.requires.state.few) g c.args.entry c.loop-many.passed c.loop-many.many now c.loop-many.invariant.turns.rest_fine.0 c.loop-many.invariant.turns.state none 1 refl in
     let run = turns_then t m f old now a g c.loop-many.invariant.turns now 1 (c.loop-many.state.steps + 1 - c.args.state.now.steps) (left_over None) (omega (arith, begun)) over in
     let whole = run.less in
     omega (arith, begun, whole)
-
-pub take_envelope-requires-clause-table : goal.take_envelope-requires-clause-table
-take_envelope-requires-clause-table c = c.requires.table
-
-pub take_envelope-requires-clause-short : goal.take_envelope-requires-clause-short
-take_envelope-requires-clause-short c = c.requires.short
 
 pub returns-in_err-below-clause-ok : goal.returns-in_err-below-clause-ok
 returns-in_err-below-clause-ok c = no_ok c.from_residual.result c.in_err-below.field-0.0 _ c.from_residual.ensures.1

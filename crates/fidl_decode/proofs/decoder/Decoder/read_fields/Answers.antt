@@ -33,7 +33,7 @@ loop-many-init c =
 
 pub unreachable-requires : goal.unreachable-requires
 unreachable-requires c =
-    let f = c.requires.table.each c.row-row.result.entry c.row-row.ensures.entry in
+    let f = c.args.self.now.fine.each c.row-row.result.entry c.row-row.ensures.entry in
     let none : kind_of (entry_at c.args.self.now.table.now c.row-row.result.entry).kind ≡ None = ap (λ (e : Entry). kind_of e.kind) (sym c.entry-e.ensures.value) ∙ sym c.from_number.ensures ∙ c.in_default.is in
     no_some f.0 (sym f.1.is ∙ none)
 
@@ -190,20 +190,8 @@ returns-clause-fault_is_true c =
     let so_far = subst (λ (x : Frame). Turns t m f old now a (left_over (Some x))) (sym same) over in
     IfErr-weaker c.end_rows.result _ _ (λ fault b. turns_break t m f old now a rest so_far fault b) c.end_rows.ensures.fault_is_true
 
-pub read_row-requires-clause-table : goal.read_row-requires-clause-table
-read_row-requires-clause-table c = c.requires.table
-
-pub read_row-requires-clause-short : goal.read_row-requires-clause-short
-read_row-requires-clause-short c = c.requires.short
-
 pub returns-in_err-read_row-clause-ok : goal.returns-in_err-read_row-clause-ok
 returns-in_err-read_row-clause-ok c = no_ok c.from_residual.result c.in_err-read_row.field-0.0 _ c.from_residual.ensures.1
-
-pub end_rows-requires-clause-table : goal.end_rows-requires-clause-table
-end_rows-requires-clause-table c = c.requires.table
-
-pub end_rows-requires-clause-short : goal.end_rows-requires-clause-short
-end_rows-requires-clause-short c = c.requires.short
 
 pub rows-rows-requires : goal.rows-rows-requires
 rows-rows-requires c = tt

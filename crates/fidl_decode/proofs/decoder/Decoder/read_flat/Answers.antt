@@ -23,7 +23,7 @@ returns-then-is_leaf-clause-cost c =
     let t = c.args.self.now.table.now in
     let m = message_of c.args.self.now.bytes.now c.args.self.now.handles.now in
     let old = at_of c.args.state.now in
-    omega (arith, c.read_leaf.ensures.probes, leaf_cost t c.requires.table c.args.self.now.bytes.now c.args.state.now.next c.args.entry c.requires.entry)
+    omega (arith, c.read_leaf.ensures.probes, leaf_cost t c.args.self.now.fine c.args.self.now.bytes.now c.args.state.now.next c.args.entry c.requires.entry)
 
 pub read_fields-requires-clause-frame : goal.read_fields-requires-clause-frame
 read_fields-requires-clause-frame c =
@@ -34,7 +34,7 @@ read_fields-requires-clause-frame c =
     let flat : (c.args.kind ≡ Struct) × AreLeaves t d.first d.count = elim c.requires.flat [ inl leaf ↦ absurd (no_true (sym c.if-is_leaf.false ∙ c.is_leaf.ensures ∙ leaf)) | inr s ↦ s ] in
     let is : kind_of d.kind ≡ Some Struct = c.requires.kind ∙ ap (λ (k : EntryKind). Some k) flat.0 in
     subst (λ (d : Entry). FrameFine t m.bytes (struct_frame d c.args.place c.args.depth 0)) (sym c.entry-e.ensures.value)
-    (struct_fine t c.requires.table m c.args.depth c.args.entry c.args.place old c.requires.entry c.requires.state c.requires.depth 0 is c.requires.room (inl refl)).0
+    (struct_fine t c.args.self.now.fine m c.args.depth c.args.entry c.args.place old c.requires.entry c.requires.state c.requires.depth 0 is c.requires.room (inl refl)).0
 
 pub read_fields-requires-clause-leaves : goal.read_fields-requires-clause-leaves
 read_fields-requires-clause-leaves c =
@@ -64,7 +64,7 @@ returns-clause-ok c =
     let is : kind_of d.kind ≡ Some Struct = c.requires.kind ∙ ap (λ (k : EntryKind). Some k) flat.0 in
     let frame : Entry → Frame = λ d. struct_frame d c.args.place c.args.depth 0 in
     let visit = subst (λ (d : Entry). Visits t m c.args.depth c.args.entry c.args.place old old 0 (Some (frame d))) (sym c.entry-e.ensures.value)
-    (visits_struct t c.requires.table m c.args.depth c.args.entry c.args.place old c.requires.entry c.requires.state c.requires.depth 0 0 refl is c.requires.room) in
+    (visits_struct t c.args.self.now.fine m c.args.depth c.args.entry c.args.place old c.requires.entry c.requires.state c.requires.depth 0 0 refl is c.requires.room) in
     let rises = c.read_fields.ensures.rises in
     on_ok_from c.read_fields.result (λ turns. visits_over t m c.args.depth c.args.entry c.args.place old old 0 (frame c.entry-e.result) visit (at_of c.read_fields.new.state) (c.read_fields.new.state.steps - c.args.state.now.steps) (c.read_fields.new.state.steps - c.args.state.now.steps) (omega arith) turns) c.read_fields.ensures.ok
 
@@ -78,7 +78,7 @@ returns-clause-err c =
     let is : kind_of d.kind ≡ Some Struct = c.requires.kind ∙ ap (λ (k : EntryKind). Some k) flat.0 in
     let frame : Entry → Frame = λ d. struct_frame d c.args.place c.args.depth 0 in
     let visit = subst (λ (d : Entry). Visits t m c.args.depth c.args.entry c.args.place old old 0 (Some (frame d))) (sym c.entry-e.ensures.value)
-    (visits_struct t c.requires.table m c.args.depth c.args.entry c.args.place old c.requires.entry c.requires.state c.requires.depth 0 0 refl is c.requires.room) in
+    (visits_struct t c.args.self.now.fine m c.args.depth c.args.entry c.args.place old c.requires.entry c.requires.state c.requires.depth 0 0 refl is c.requires.room) in
     on_err_weaker c.read_fields.result (λ bad. visits_refused t m c.args.depth c.args.entry c.args.place old old 0 (frame c.entry-e.result) visit bad) c.read_fields.ensures.err
 
 pub returns-clause-fault_is_true : goal.returns-clause-fault_is_true
@@ -91,7 +91,7 @@ returns-clause-fault_is_true c =
     let is : kind_of d.kind ≡ Some Struct = c.requires.kind ∙ ap (λ (k : EntryKind). Some k) flat.0 in
     let frame : Entry → Frame = λ d. struct_frame d c.args.place c.args.depth 0 in
     let visit = subst (λ (d : Entry). Visits t m c.args.depth c.args.entry c.args.place old old 0 (Some (frame d))) (sym c.entry-e.ensures.value)
-    (visits_struct t c.requires.table m c.args.depth c.args.entry c.args.place old c.requires.entry c.requires.state c.requires.depth 0 0 refl is c.requires.room) in
+    (visits_struct t c.args.self.now.fine m c.args.depth c.args.entry c.args.place old c.requires.entry c.requires.state c.requires.depth 0 0 refl is c.requires.room) in
     IfErr-weaker c.read_fields.result _ _ (λ fault b. visit.breaks fault b) c.read_fields.ensures.fault_is_true
 
 pub returns-clause-cost : goal.returns-clause-cost
@@ -102,17 +102,11 @@ returns-clause-cost c =
     let work = ap (λ (d : Entry). value_work c.args.self.now.bytes.now c.args.state.now.next d) c.entry-e.ensures.value in
     omega (arith, c.read_fields.ensures.cost, work, work_none c.entry-e.result.nest c.entry-e.result.size)
 
-pub read_leaf-requires-clause-table : goal.read_leaf-requires-clause-table
-read_leaf-requires-clause-table c = c.requires.table
-
 pub read_leaf-requires-clause-entry : goal.read_leaf-requires-clause-entry
 read_leaf-requires-clause-entry c = c.requires.entry
 
 pub read_leaf-requires-clause-kind : goal.read_leaf-requires-clause-kind
 read_leaf-requires-clause-kind c = c.requires.kind
-
-pub read_leaf-requires-clause-short : goal.read_leaf-requires-clause-short
-read_leaf-requires-clause-short c = c.requires.short
 
 pub read_leaf-requires-clause-room : goal.read_leaf-requires-clause-room
 read_leaf-requires-clause-room c = c.requires.room
@@ -125,12 +119,6 @@ read_leaf-requires-clause-depth c = c.requires.depth
 
 pub entry-e-requires : goal.entry-e-requires
 entry-e-requires c = c.requires.entry
-
-pub read_fields-requires-clause-table : goal.read_fields-requires-clause-table
-read_fields-requires-clause-table c = c.requires.table
-
-pub read_fields-requires-clause-short : goal.read_fields-requires-clause-short
-read_fields-requires-clause-short c = c.requires.short
 
 pub read_fields-requires-clause-state : goal.read_fields-requires-clause-state
 read_fields-requires-clause-state c = c.requires.state

@@ -38,18 +38,20 @@ unreachable-requires c =
     let t = c.args.self.now.table.now in
     let m = message_of c.args.self.now.bytes.now c.args.self.now.handles.now in
     let old = at_of c.args.state.now in
-    let f = c.requires.table.each c.args.entry c.requires.entry in
+    let f = c.args.self.now.fine.each c.args.entry c.requires.entry in
     let none : kind_of (entry_at t c.args.entry).kind ≡ None = ap (λ (e : Entry). kind_of e.kind) (sym c.entry-e.ensures.value) ∙ sym c.from_number.ensures ∙ c.in_default.is in
     no_some f.0 (sym f.1.is ∙ none)
 
-pub is_flat-requires-clause-rows : goal.is_flat-requires-clause-rows
-is_flat-requires-clause-rows c =
+pub is_flat-requires : goal.is_flat-requires
+is_flat-requires c =
     let t = c.args.self.now.table.now in
     let m = message_of c.args.self.now.bytes.now c.args.self.now.handles.now in
     let old = at_of c.args.state.now in
-    λ struct.
-    let is : kind_of (entry_at t c.args.entry).kind ≡ Some Struct = ap (λ (e : Entry). kind_of e.kind) (sym c.entry-e.ensures.value) ∙ sym c.from_number.ensures ∙ c.in-Some.is ∙ ap (λ (k : EntryKind). Some k) struct in
-    subst (λ (d : Entry). d.first + d.count ≤ (header_of t).rows) (sym c.entry-e.ensures.value) (fine_as t c.requires.table c.args.entry Struct c.requires.entry is).content.0
+    record {
+      rows = λ struct.
+          let is : kind_of (entry_at t c.args.entry).kind ≡ Some Struct = ap (λ (e : Entry). kind_of e.kind) (sym c.entry-e.ensures.value) ∙ sym c.from_number.ensures ∙ c.in-Some.is ∙ ap (λ (k : EntryKind). Some k) struct in
+          subst (λ (d : Entry). d.first + d.count ≤ (header_of t).rows) (sym c.entry-e.ensures.value) (fine_as t c.args.self.now.fine c.args.entry Struct c.requires.entry is).content.0;
+    }
 
 pub read_enclosed-requires-clause-kind : goal.read_enclosed-requires-clause-kind
 read_enclosed-requires-clause-kind c =
@@ -226,14 +228,8 @@ pub returns-then-pass_member-clause-ok : goal.returns-then-pass_member-clause-ok
 returns-then-pass_member-clause-ok c =
     c.pass_member.ensures.passed c.if-pass_member.true
 
-pub pass_member-requires-clause-table : goal.pass_member-requires-clause-table
-pass_member-requires-clause-table c = c.requires.table
-
 pub pass_member-requires-clause-entry : goal.pass_member-requires-clause-entry
 pass_member-requires-clause-entry c = c.requires.entry
-
-pub pass_member-requires-clause-short : goal.pass_member-requires-clause-short
-pass_member-requires-clause-short c = c.requires.short
 
 pub pass_member-requires-clause-room : goal.pass_member-requires-clause-room
 pass_member-requires-clause-room c = c.requires.room
@@ -253,17 +249,8 @@ returns-then-pass_member-clause-fault_is_true c = tt
 pub entry-e-requires : goal.entry-e-requires
 entry-e-requires c = c.requires.entry
 
-pub is_flat-requires-clause-table : goal.is_flat-requires-clause-table
-is_flat-requires-clause-table c = c.requires.table
-
-pub read_enclosed-requires-clause-table : goal.read_enclosed-requires-clause-table
-read_enclosed-requires-clause-table c = c.requires.table
-
 pub read_enclosed-requires-clause-entry : goal.read_enclosed-requires-clause-entry
 read_enclosed-requires-clause-entry c = c.requires.entry
-
-pub read_enclosed-requires-clause-short : goal.read_enclosed-requires-clause-short
-read_enclosed-requires-clause-short c = c.requires.short
 
 pub read_enclosed-requires-clause-room : goal.read_enclosed-requires-clause-room
 read_enclosed-requires-clause-room c = c.requires.room
@@ -286,14 +273,8 @@ returns-then-is_flat-clause-err c = tt
 pub returns-then-is_flat-clause-fault_is_true : goal.returns-then-is_flat-clause-fault_is_true
 returns-then-is_flat-clause-fault_is_true c = tt
 
-pub enter_member-requires-clause-table : goal.enter_member-requires-clause-table
-enter_member-requires-clause-table c = c.requires.table
-
 pub enter_member-requires-clause-entry : goal.enter_member-requires-clause-entry
 enter_member-requires-clause-entry c = c.requires.entry
-
-pub enter_member-requires-clause-short : goal.enter_member-requires-clause-short
-enter_member-requires-clause-short c = c.requires.short
 
 pub enter_member-requires-clause-room : goal.enter_member-requires-clause-room
 enter_member-requires-clause-room c = c.requires.room

@@ -1,11 +1,14 @@
-use Rattle.std.proofs.Common.{◌≡◌, ◌+◌, ◌-◌, ◌≤◌, ap, subst, ◌∙◌, arith}
+use Rattle.std.proofs.Common.{◌≡◌, refl, ◌+◌, ◌-◌, ◌≤◌, ap, subst, ◌∙◌, arith}
 use Rattle.fidl_table_format.specs.declared.record.Entry.{Entry}
 use Rattle.fidl_table_format.specs.Section.{header_of}
 use Rattle.fidl_decode.specs.declared.frame.Left.{Left}
 use Rattle.fidl_decode.specs.declared.frame.Left.TheVariants.{Rows}
 use Rattle.fidl_decode.specs.State.{At}
-use Rattle.fidl_decode.specs.Machine.{LeftFine, Reads, at_of}
+use Rattle.fidl_decode.specs.Machine.{LeftFine, Reads, Turns, at_of}
 use Rattle.fidl_decode.specs.Faults.{message_of}
+use Rattle.std.specs.Prelude.{Some}
+use Rattle.fidl_decode.proofs.Unchanged.{if_none}
+use Rattle.fidl_decode.proofs.Leaves.{left_over, turns_start}
 use Rattle.fidl_decode.proofs.Turning.{on_err, passed_on}
 use Rattle.fidl_decode.proofs.Last.{last_room, last_inside, last_gap_refused, last_gap_breaks, last_refused, last_breaks, last_turns}
 use Rattle.fidl_decode.proofs.decoder.Decoder.read_last.Goals as goal
@@ -20,23 +23,23 @@ overflow_add-read c =
     let t = c.args.self.now.table.now in
     let m = message_of c.args.self.now.bytes.now c.args.self.now.handles.now in
     let last : c.args.frame.left ≡ Rows c.args.first 1 = c.requires.left ∙ ap (λ n. Rows c.args.first n) c.if-count-ne1.false in
-    let room = last_room t c.requires.table m c.args.frame c.args.first c.row-row.result last c.row-row.ensures.value (at_of c.args.state.now) c.requires.frame c.requires.state in
-    record { fits = omega (arith, room.0, room.1, room.2, c.requires.short) }
+    let room = last_room t c.args.self.now.fine m c.args.frame c.args.first c.row-row.result last c.row-row.ensures.value (at_of c.args.state.now) c.requires.frame c.requires.state in
+    record { fits = omega (arith, room.0, room.1, room.2, c.args.self.now.short) }
 
 pub overflow_add-place : goal.overflow_add-place
 overflow_add-place c =
     let t = c.args.self.now.table.now in
     let m = message_of c.args.self.now.bytes.now c.args.self.now.handles.now in
     let last : c.args.frame.left ≡ Rows c.args.first 1 = c.requires.left ∙ ap (λ n. Rows c.args.first n) c.if-count-ne1.false in
-    let room = last_room t c.requires.table m c.args.frame c.args.first c.row-row.result last c.row-row.ensures.value (at_of c.args.state.now) c.requires.frame c.requires.state in
-    record { fits = omega (arith, room.1, room.2, c.requires.short) }
+    let room = last_room t c.args.self.now.fine m c.args.frame c.args.first c.row-row.result last c.row-row.ensures.value (at_of c.args.state.now) c.requires.frame c.requires.state in
+    record { fits = omega (arith, room.1, room.2, c.args.self.now.short) }
 
 pub overflow_sub-state : goal.overflow_sub-state
 overflow_sub-state c =
     let t = c.args.self.now.table.now in
     let m = message_of c.args.self.now.bytes.now c.args.self.now.handles.now in
     let last : c.args.frame.left ≡ Rows c.args.first 1 = c.requires.left ∙ ap (λ n. Rows c.args.first n) c.if-count-ne1.false in
-    let room = last_room t c.requires.table m c.args.frame c.args.first c.row-row.result last c.row-row.ensures.value (at_of c.args.state.now) c.requires.frame c.requires.state in
+    let room = last_room t c.args.self.now.fine m c.args.frame c.args.first c.row-row.result last c.row-row.ensures.value (at_of c.args.state.now) c.requires.frame c.requires.state in
     omega (arith, room.0)
 
 pub overflow_add-state : goal.overflow_add-state
@@ -44,23 +47,23 @@ overflow_add-state c =
     let t = c.args.self.now.table.now in
     let m = message_of c.args.self.now.bytes.now c.args.self.now.handles.now in
     let last : c.args.frame.left ≡ Rows c.args.first 1 = c.requires.left ∙ ap (λ n. Rows c.args.first n) c.if-count-ne1.false in
-    let room = last_room t c.requires.table m c.args.frame c.args.first c.row-row.result last c.row-row.ensures.value (at_of c.args.state.now) c.requires.frame c.requires.state in
-    record { fits = omega (arith, room.1, room.2, c.requires.short) }
+    let room = last_room t c.args.self.now.fine m c.args.frame c.args.first c.row-row.result last c.row-row.ensures.value (at_of c.args.state.now) c.requires.frame c.requires.state in
+    record { fits = omega (arith, room.1, room.2, c.args.self.now.short) }
 
 pub overflow_add-state-2 : goal.overflow_add-state-2
 overflow_add-state-2 c =
     let t = c.args.self.now.table.now in
     let m = message_of c.args.self.now.bytes.now c.args.self.now.handles.now in
     let last : c.args.frame.left ≡ Rows c.args.first 1 = c.requires.left ∙ ap (λ n. Rows c.args.first n) c.if-count-ne1.false in
-    let room = last_room t c.requires.table m c.args.frame c.args.first c.row-row.result last c.row-row.ensures.value (at_of c.args.state.now) c.requires.frame c.requires.state in
-    record { fits = omega (arith, room.1, room.2, c.requires.short, c.requires.budget) }
+    let room = last_room t c.args.self.now.fine m c.args.frame c.args.first c.row-row.result last c.row-row.ensures.value (at_of c.args.state.now) c.requires.frame c.requires.state in
+    record { fits = omega (arith, room.1, room.2, c.args.self.now.short, c.requires.budget) }
 
 pub zeros_at-requires-clause-order : goal.zeros_at-requires-clause-order
 zeros_at-requires-clause-order c =
     let t = c.args.self.now.table.now in
     let m = message_of c.args.self.now.bytes.now c.args.self.now.handles.now in
     let last : c.args.frame.left ≡ Rows c.args.first 1 = c.requires.left ∙ ap (λ n. Rows c.args.first n) c.if-count-ne1.false in
-    let room = last_room t c.requires.table m c.args.frame c.args.first c.row-row.result last c.row-row.ensures.value (at_of c.args.state.now) c.requires.frame c.requires.state in
+    let room = last_room t c.args.self.now.fine m c.args.frame c.args.first c.row-row.result last c.row-row.ensures.value (at_of c.args.state.now) c.requires.frame c.requires.state in
     omega (arith, room.0)
 
 pub zeros_at-requires-clause-room : goal.zeros_at-requires-clause-room
@@ -68,7 +71,7 @@ zeros_at-requires-clause-room c =
     let t = c.args.self.now.table.now in
     let m = message_of c.args.self.now.bytes.now c.args.self.now.handles.now in
     let last : c.args.frame.left ≡ Rows c.args.first 1 = c.requires.left ∙ ap (λ n. Rows c.args.first n) c.if-count-ne1.false in
-    let room = last_room t c.requires.table m c.args.frame c.args.first c.row-row.result last c.row-row.ensures.value (at_of c.args.state.now) c.requires.frame c.requires.state in
+    let room = last_room t c.args.self.now.fine m c.args.frame c.args.first c.row-row.result last c.row-row.ensures.value (at_of c.args.state.now) c.requires.frame c.requires.state in
     omega (arith, room.1, room.2)
 
 pub returns-in_err-zeros_at-clause-cost : goal.returns-in_err-zeros_at-clause-cost
@@ -76,7 +79,7 @@ returns-in_err-zeros_at-clause-cost c =
     let t = c.args.self.now.table.now in
     let m = message_of c.args.self.now.bytes.now c.args.self.now.handles.now in
     let last : c.args.frame.left ≡ Rows c.args.first 1 = c.requires.left ∙ ap (λ n. Rows c.args.first n) c.if-count-ne1.false in
-    let room = last_room t c.requires.table m c.args.frame c.args.first c.row-row.result last c.row-row.ensures.value (at_of c.args.state.now) c.requires.frame c.requires.state in
+    let room = last_room t c.args.self.now.fine m c.args.frame c.args.first c.row-row.result last c.row-row.ensures.value (at_of c.args.state.now) c.requires.frame c.requires.state in
     omega (arith, room.3, room.0)
 
 pub returns-in_err-zeros_at-clause-err : goal.returns-in_err-zeros_at-clause-err
@@ -84,21 +87,21 @@ returns-in_err-zeros_at-clause-err c =
     let t = c.args.self.now.table.now in
     let m = message_of c.args.self.now.bytes.now c.args.self.now.handles.now in
     let last : c.args.frame.left ≡ Rows c.args.first 1 = c.requires.left ∙ ap (λ n. Rows c.args.first n) c.if-count-ne1.false in
-    on_err _ ((to : At) → Reads t m c.args.frame (at_of c.args.state.now) to → ⊥) (last_gap_refused t c.requires.table m c.args.frame c.args.first c.row-row.result last c.row-row.ensures.value (at_of c.args.state.now) c.requires.frame c.requires.state c.in_err-zeros_at.ensures.err)
+    on_err _ ((to : At) → Reads t m c.args.frame (at_of c.args.state.now) to → ⊥) (last_gap_refused t c.args.self.now.fine m c.args.frame c.args.first c.row-row.result last c.row-row.ensures.value (at_of c.args.state.now) c.requires.frame c.requires.state c.in_err-zeros_at.ensures.err)
 
 pub returns-in_err-zeros_at-clause-fault_is_true : goal.returns-in_err-zeros_at-clause-fault_is_true
 returns-in_err-zeros_at-clause-fault_is_true c =
     let t = c.args.self.now.table.now in
     let m = message_of c.args.self.now.bytes.now c.args.self.now.handles.now in
     let last : c.args.frame.left ≡ Rows c.args.first 1 = c.requires.left ∙ ap (λ n. Rows c.args.first n) c.if-count-ne1.false in
-    passed_on c.from_residual.result c.in_err-zeros_at.field-0.0 _ c.from_residual.ensures.1 (last_gap_breaks t c.requires.table m c.args.frame c.args.first c.row-row.result last c.row-row.ensures.value (at_of c.args.state.now) c.requires.frame c.requires.state c.in_err-zeros_at.field-0.0 c.in_err-zeros_at.ensures.fault_is_true)
+    passed_on c.from_residual.result c.in_err-zeros_at.field-0.0 _ c.from_residual.ensures.1 (last_gap_breaks t c.args.self.now.fine m c.args.frame c.args.first c.row-row.result last c.row-row.ensures.value (at_of c.args.state.now) c.requires.frame c.requires.state c.in_err-zeros_at.field-0.0 c.in_err-zeros_at.ensures.fault_is_true)
 
 pub visit-requires-clause-room : goal.visit-requires-clause-room
 visit-requires-clause-room c =
     let t = c.args.self.now.table.now in
     let m = message_of c.args.self.now.bytes.now c.args.self.now.handles.now in
     let last : c.args.frame.left ≡ Rows c.args.first 1 = c.requires.left ∙ ap (λ n. Rows c.args.first n) c.if-count-ne1.false in
-    let room = last_room t c.requires.table m c.args.frame c.args.first c.row-row.result last c.row-row.ensures.value (at_of c.args.state.now) c.requires.frame c.requires.state in
+    let room = last_room t c.args.self.now.fine m c.args.frame c.args.first c.row-row.result last c.row-row.ensures.value (at_of c.args.state.now) c.requires.frame c.requires.state in
     omega (arith, room.1, room.2)
 
 pub visit-requires-clause-inside : goal.visit-requires-clause-inside
@@ -106,22 +109,22 @@ visit-requires-clause-inside c =
     let t = c.args.self.now.table.now in
     let m = message_of c.args.self.now.bytes.now c.args.self.now.handles.now in
     let last : c.args.frame.left ≡ Rows c.args.first 1 = c.requires.left ∙ ap (λ n. Rows c.args.first n) c.if-count-ne1.false in
-    last_inside t c.requires.table m c.args.frame c.args.first c.row-row.result last c.row-row.ensures.value (at_of c.args.state.now) c.requires.frame c.requires.state
+    last_inside t c.args.self.now.fine m c.args.frame c.args.first c.row-row.result last c.row-row.ensures.value (at_of c.args.state.now) c.requires.frame c.requires.state
 
 pub visit-requires-clause-budget : goal.visit-requires-clause-budget
 visit-requires-clause-budget c =
     let t = c.args.self.now.table.now in
     let m = message_of c.args.self.now.bytes.now c.args.self.now.handles.now in
     let last : c.args.frame.left ≡ Rows c.args.first 1 = c.requires.left ∙ ap (λ n. Rows c.args.first n) c.if-count-ne1.false in
-    let room = last_room t c.requires.table m c.args.frame c.args.first c.row-row.result last c.row-row.ensures.value (at_of c.args.state.now) c.requires.frame c.requires.state in
-    omega (arith, room.1, room.2, c.requires.short, c.requires.budget)
+    let room = last_room t c.args.self.now.fine m c.args.frame c.args.first c.row-row.result last c.row-row.ensures.value (at_of c.args.state.now) c.requires.frame c.requires.state in
+    omega (arith, room.1, room.2, c.args.self.now.short, c.requires.budget)
 
 pub returns-in_err-below-clause-cost : goal.returns-in_err-below-clause-cost
 returns-in_err-below-clause-cost c =
     let t = c.args.self.now.table.now in
     let m = message_of c.args.self.now.bytes.now c.args.self.now.handles.now in
     let last : c.args.frame.left ≡ Rows c.args.first 1 = c.requires.left ∙ ap (λ n. Rows c.args.first n) c.if-count-ne1.false in
-    let room = last_room t c.requires.table m c.args.frame c.args.first c.row-row.result last c.row-row.ensures.value (at_of c.args.state.now) c.requires.frame c.requires.state in
+    let room = last_room t c.args.self.now.fine m c.args.frame c.args.first c.row-row.result last c.row-row.ensures.value (at_of c.args.state.now) c.requires.frame c.requires.state in
     let probed = c.in_err-below.ensures.probes in
     omega (arith, probed, room.3, room.0)
 
@@ -130,14 +133,14 @@ returns-in_err-below-clause-err c =
     let t = c.args.self.now.table.now in
     let m = message_of c.args.self.now.bytes.now c.args.self.now.handles.now in
     let last : c.args.frame.left ≡ Rows c.args.first 1 = c.requires.left ∙ ap (λ n. Rows c.args.first n) c.if-count-ne1.false in
-    on_err _ ((to : At) → Reads t m c.args.frame (at_of c.args.state.now) to → ⊥) (last_refused t c.requires.table m c.args.frame c.args.first c.row-row.result last c.row-row.ensures.value (at_of c.args.state.now) c.requires.frame c.requires.state c.in_err-below.ensures.err)
+    on_err _ ((to : At) → Reads t m c.args.frame (at_of c.args.state.now) to → ⊥) (last_refused t c.args.self.now.fine m c.args.frame c.args.first c.row-row.result last c.row-row.ensures.value (at_of c.args.state.now) c.requires.frame c.requires.state c.in_err-below.ensures.err)
 
 pub returns-in_err-below-clause-fault_is_true : goal.returns-in_err-below-clause-fault_is_true
 returns-in_err-below-clause-fault_is_true c =
     let t = c.args.self.now.table.now in
     let m = message_of c.args.self.now.bytes.now c.args.self.now.handles.now in
     let last : c.args.frame.left ≡ Rows c.args.first 1 = c.requires.left ∙ ap (λ n. Rows c.args.first n) c.if-count-ne1.false in
-    passed_on c.from_residual-in_err-below.result c.in_err-below.field-0.0 _ c.from_residual-in_err-below.ensures.1 (last_breaks t c.requires.table m c.args.frame c.args.first c.row-row.result last c.row-row.ensures.value (at_of c.args.state.now) c.requires.frame c.requires.state c.in_err-below.field-0.0 c.in_ok-zeros_at.ensures.ok c.in_err-below.ensures.fault_is_true)
+    passed_on c.from_residual-in_err-below.result c.in_err-below.field-0.0 _ c.from_residual-in_err-below.ensures.1 (last_breaks t c.args.self.now.fine m c.args.frame c.args.first c.row-row.result last c.row-row.ensures.value (at_of c.args.state.now) c.requires.frame c.requires.state c.in_err-below.field-0.0 c.in_ok-zeros_at.ensures.ok c.in_err-below.ensures.fault_is_true)
 
 pub returns-clause-ok : goal.returns-clause-ok
 returns-clause-ok c =
@@ -146,7 +149,7 @@ returns-clause-ok c =
     let last : c.args.frame.left ≡ Rows c.args.first 1 = c.requires.left ∙ ap (λ n. Rows c.args.first n) c.if-count-ne1.false in
     let grows = c.in_ok-below.ensures.grows in
     let size = ap (λ (d : Entry). d.size) c.entry-e.ensures.value in
-    last_turns t c.requires.table m c.args.frame c.args.first c.row-row.result last c.row-row.ensures.value (at_of c.args.state.now) c.requires.frame c.requires.state (at_of c.visit.new.state) (c.visit.new.state.steps - (c.args.state.now.steps + (c.args.frame.base + c.row-row.result.key - (c.args.frame.base + c.args.frame.done) + 1))) (c.visit.new.state.steps - c.args.state.now.steps) (omega (arith, size, c.if-done-frame.false)) (omega (arith, grows)) c.in_ok-zeros_at.ensures.ok c.in_ok-below.below c.in_ok-below.ensures.ok c.in_ok-below.ensures.fine
+    last_turns t c.args.self.now.fine m c.args.frame c.args.first c.row-row.result last c.row-row.ensures.value (at_of c.args.state.now) c.requires.frame c.requires.state (at_of c.visit.new.state) (c.visit.new.state.steps - (c.args.state.now.steps + (c.args.frame.base + c.row-row.result.key - (c.args.frame.base + c.args.frame.done) + 1))) (c.visit.new.state.steps - c.args.state.now.steps) (omega (arith, size, c.if-done-frame.false)) (omega (arith, grows)) c.in_ok-zeros_at.ensures.ok c.in_ok-below.below c.in_ok-below.ensures.ok c.in_ok-below.ensures.fine
 
 pub returns-clause-grows : goal.returns-clause-grows
 returns-clause-grows c =
@@ -161,6 +164,18 @@ returns-clause-cost c =
     let t = c.args.self.now.table.now in
     let m = message_of c.args.self.now.bytes.now c.args.self.now.handles.now in
     let last : c.args.frame.left ≡ Rows c.args.first 1 = c.requires.left ∙ ap (λ n. Rows c.args.first n) c.if-count-ne1.false in
-    let room = last_room t c.requires.table m c.args.frame c.args.first c.row-row.result last c.row-row.ensures.value (at_of c.args.state.now) c.requires.frame c.requires.state in
+    let room = last_room t c.args.self.now.fine m c.args.frame c.args.first c.row-row.result last c.row-row.ensures.value (at_of c.args.state.now) c.requires.frame c.requires.state in
     let probed = c.in_ok-below.ensures.probes in
     omega (arith, probed, room.3, room.0)
+
+pub returns-then-done-frame-clause-ok : goal.returns-then-done-frame-clause-ok
+returns-then-done-frame-clause-ok c =
+    let t = c.args.self.now.table.now in
+    let m = message_of c.args.self.now.bytes.now c.args.self.now.handles.now in
+    let none : 0 ≡ c.args.state.now.steps - c.args.state.now.steps = omega arith in
+    subst (λ n. Turns t m c.args.frame (at_of c.args.state.now) (at_of c.args.state.now) n (left_over (Some c.args.frame))) none (turns_start t m c.args.frame (at_of c.args.state.now) c.requires.frame c.requires.state c.args.frame refl)
+
+pub returns-clause-ended : goal.returns-clause-ended
+returns-clause-ended c =
+    let grows = c.in_ok-below.ensures.grows in
+    if_none c.in_ok-below.below _ (omega (arith, grows))

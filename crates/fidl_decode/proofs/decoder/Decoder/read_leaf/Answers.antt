@@ -28,77 +28,77 @@ use Rattle.fidl_decode.proofs.decoder.Decoder.read_leaf.Goals as goal
 
 pub bounds-self-place : goal.bounds-self-place
 bounds-self-place c =
-    let pos = positive c.args.self.now.table.now c.requires.table c.args.entry c.requires.entry in
-    let size = size_is c.args.self.now.table.now c.requires.table c.args.entry c.requires.entry in
+    let pos = positive c.args.self.now.table.now c.args.self.now.fine c.args.entry c.requires.entry in
+    let size = size_is c.args.self.now.table.now c.args.self.now.fine c.args.entry c.requires.entry in
     omega (arith, c.requires.room, pos, size)
 
 pub returns-then-self-place-gt1-clause-err : goal.returns-then-self-place-gt1-clause-err
 returns-then-self-place-gt1-clause-err c =
     let is : kind_of (entry_at c.args.self.now.table.now c.args.entry).kind ≡ Some Boolean = c.requires.kind ∙ ap (λ (k : EntryKind). Some k) c.in-Bool.is in
-    refused_bool c.args.self.now.table.now c.requires.table (message_of c.args.self.now.bytes.now c.args.self.now.handles.now) c.args.depth c.args.entry c.args.place (at_of c.args.state.now) c.requires.entry c.requires.state c.requires.depth is c.if-self-place-gt1.true
+    refused_bool c.args.self.now.table.now c.args.self.now.fine (message_of c.args.self.now.bytes.now c.args.self.now.handles.now) c.args.depth c.args.entry c.args.place (at_of c.args.state.now) c.requires.entry c.requires.state c.requires.depth is c.if-self-place-gt1.true
 
 pub returns-then-self-place-gt1-clause-fault_is_true : goal.returns-then-self-place-gt1-clause-fault_is_true
 returns-then-self-place-gt1-clause-fault_is_true c =
     let is : kind_of (entry_at c.args.self.now.table.now c.args.entry).kind ≡ Some Boolean = c.requires.kind ∙ ap (λ (k : EntryKind). Some k) c.in-Bool.is in
-    bool_breaks c.args.self.now.table.now c.requires.table (message_of c.args.self.now.bytes.now c.args.self.now.handles.now) c.args.depth c.args.entry c.args.place (at_of c.args.state.now) c.requires.entry c.requires.state c.requires.depth is c.if-self-place-gt1.true
+    bool_breaks c.args.self.now.table.now c.args.self.now.fine (message_of c.args.self.now.bytes.now c.args.self.now.handles.now) c.args.depth c.args.entry c.args.place (at_of c.args.state.now) c.requires.entry c.requires.state c.requires.depth is c.if-self-place-gt1.true
 
 pub returns-else-self-place-gt1-clause-ok : goal.returns-else-self-place-gt1-clause-ok
 returns-else-self-place-gt1-clause-ok c =
     let is : kind_of (entry_at c.args.self.now.table.now c.args.entry).kind ≡ Some Boolean = c.requires.kind ∙ ap (λ (k : EntryKind). Some k) c.in-Bool.is in
-    let pos = positive c.args.self.now.table.now c.requires.table c.args.entry c.requires.entry in
-    let size = size_is c.args.self.now.table.now c.requires.table c.args.entry c.requires.entry in
-    visits_bool c.args.self.now.table.now c.requires.table (message_of c.args.self.now.bytes.now c.args.self.now.handles.now) c.args.depth c.args.entry c.args.place (at_of c.args.state.now) c.requires.entry c.requires.state c.requires.depth _ (omega arith) is (omega (arith, c.requires.room, pos, size)) c.if-self-place-gt1.false
+    let pos = positive c.args.self.now.table.now c.args.self.now.fine c.args.entry c.requires.entry in
+    let size = size_is c.args.self.now.table.now c.args.self.now.fine c.args.entry c.requires.entry in
+    visits_bool c.args.self.now.table.now c.args.self.now.fine (message_of c.args.self.now.bytes.now c.args.self.now.handles.now) c.args.depth c.args.entry c.args.place (at_of c.args.state.now) c.requires.entry c.requires.state c.requires.depth _ (omega arith) is (omega (arith, c.requires.room, pos, size)) c.if-self-place-gt1.false
 
 pub returns-in_default-clause-ok : goal.returns-in_default-clause-ok
 returns-in_default-clause-ok c =
-    let free = free_else c.args.self.now.table.now c.requires.table (message_of c.args.self.now.bytes.now c.args.self.now.handles.now) c.args.depth c.args.entry c.args.place (at_of c.args.state.now) c.requires.entry c.requires.state c.requires.depth c.args.kind c.requires.leaf c.in_default.not-Bool c.in_default.not-Bits c.in_default.not-Enum c.in_default.not-Handle c.in_default.not-String in
-    visits_free c.args.self.now.table.now c.requires.table (message_of c.args.self.now.bytes.now c.args.self.now.handles.now) c.args.depth c.args.entry c.args.place (at_of c.args.state.now) c.requires.entry c.requires.state c.requires.depth c.args.kind c.requires.kind free _ (omega arith) c.requires.room (λ i. omega (arith, c.args.self.now.octets i))
+    let free = free_else c.args.self.now.table.now c.args.self.now.fine (message_of c.args.self.now.bytes.now c.args.self.now.handles.now) c.args.depth c.args.entry c.args.place (at_of c.args.state.now) c.requires.entry c.requires.state c.requires.depth c.args.kind c.requires.leaf c.in_default.not-Bool c.in_default.not-Bits c.in_default.not-Enum c.in_default.not-Handle c.in_default.not-String in
+    visits_free c.args.self.now.table.now c.args.self.now.fine (message_of c.args.self.now.bytes.now c.args.self.now.handles.now) c.args.depth c.args.entry c.args.place (at_of c.args.state.now) c.requires.entry c.requires.state c.requires.depth c.args.kind c.requires.kind free _ (omega arith) c.requires.room (λ i. omega (arith, c.args.self.now.octets i))
 
 pub returns-in-Bits-clause-ok : goal.returns-in-Bits-clause-ok
 returns-in-Bits-clause-ok c =
     let is : kind_of (entry_at c.args.self.now.table.now c.args.entry).kind ≡ Some Bits = c.requires.kind ∙ ap (λ (k : EntryKind). Some k) c.in-Bits.is in
     let own : c.entry.result ≡ entry_at c.args.self.now.table.now c.args.entry = c.entry.ensures.value in
-    on_ok_from c.read_bits.result (λ p. (visits_bits c.args.self.now.table.now c.requires.table (message_of c.args.self.now.bytes.now c.args.self.now.handles.now) c.args.depth c.args.entry c.args.place (at_of c.args.state.now) c.requires.entry c.requires.state c.requires.depth is (c.args.state.now.steps - c.args.state.now.steps) (omega (arith)) c.requires.room (λ i. omega (arith, c.args.self.now.octets i)) (subst (λ (d : Entry). IfSome (mask_of d) (λ mask. InMask mask (number_standing (underlying d) c.args.self.now.bytes.now c.args.place))) own p))) c.read_bits.ensures.ok
+    on_ok_from c.read_bits.result (λ p. (visits_bits c.args.self.now.table.now c.args.self.now.fine (message_of c.args.self.now.bytes.now c.args.self.now.handles.now) c.args.depth c.args.entry c.args.place (at_of c.args.state.now) c.requires.entry c.requires.state c.requires.depth is (c.args.state.now.steps - c.args.state.now.steps) (omega (arith)) c.requires.room (λ i. omega (arith, c.args.self.now.octets i)) (subst (λ (d : Entry). IfSome (mask_of d) (λ mask. InMask mask (number_standing (underlying d) c.args.self.now.bytes.now c.args.place))) own p))) c.read_bits.ensures.ok
 
 pub returns-in-Bits-clause-err : goal.returns-in-Bits-clause-err
 returns-in-Bits-clause-err c =
     let is : kind_of (entry_at c.args.self.now.table.now c.args.entry).kind ≡ Some Bits = c.requires.kind ∙ ap (λ (k : EntryKind). Some k) c.in-Bits.is in
     let own : c.entry.result ≡ entry_at c.args.self.now.table.now c.args.entry = c.entry.ensures.value in
-    on_err_weaker c.read_bits.result (λ bad. refused_bits c.args.self.now.table.now c.requires.table (message_of c.args.self.now.bytes.now c.args.self.now.handles.now) c.args.depth c.args.entry c.args.place (at_of c.args.state.now) c.requires.entry c.requires.state c.requires.depth is (subst (λ (d : Entry). IfSome (mask_of d) (λ mask. InMask mask (number_standing (underlying d) c.args.self.now.bytes.now c.args.place)) → ⊥) own bad)) c.read_bits.ensures.err
+    on_err_weaker c.read_bits.result (λ bad. refused_bits c.args.self.now.table.now c.args.self.now.fine (message_of c.args.self.now.bytes.now c.args.self.now.handles.now) c.args.depth c.args.entry c.args.place (at_of c.args.state.now) c.requires.entry c.requires.state c.requires.depth is (subst (λ (d : Entry). IfSome (mask_of d) (λ mask. InMask mask (number_standing (underlying d) c.args.self.now.bytes.now c.args.place)) → ⊥) own bad)) c.read_bits.ensures.err
 
 pub returns-in-Bits-clause-fault_is_true : goal.returns-in-Bits-clause-fault_is_true
 returns-in-Bits-clause-fault_is_true c =
     let is : kind_of (entry_at c.args.self.now.table.now c.args.entry).kind ≡ Some Bits = c.requires.kind ∙ ap (λ (k : EntryKind). Some k) c.in-Bits.is in
     let own : c.entry.result ≡ entry_at c.args.self.now.table.now c.args.entry = c.entry.ensures.value in
-    IfErr-weaker c.read_bits.result _ _ (λ fault b. bits_break c.args.self.now.table.now c.requires.table (message_of c.args.self.now.bytes.now c.args.self.now.handles.now) c.args.depth c.args.entry c.args.place (at_of c.args.state.now) c.requires.entry c.requires.state c.requires.depth is fault (subst (λ (d : Entry). BreaksField (message_of c.args.self.now.bytes.now c.args.self.now.handles.now) (ty.bits (underlying d) (mask_of d)) c.args.place fault) own b)) c.read_bits.ensures.fault_is_true
+    IfErr-weaker c.read_bits.result _ _ (λ fault b. bits_break c.args.self.now.table.now c.args.self.now.fine (message_of c.args.self.now.bytes.now c.args.self.now.handles.now) c.args.depth c.args.entry c.args.place (at_of c.args.state.now) c.requires.entry c.requires.state c.requires.depth is fault (subst (λ (d : Entry). BreaksField (message_of c.args.self.now.bytes.now c.args.self.now.handles.now) (ty.bits (underlying d) (mask_of d)) c.args.place fault) own b)) c.read_bits.ensures.fault_is_true
 
 pub returns-in-Enum-clause-ok : goal.returns-in-Enum-clause-ok
 returns-in-Enum-clause-ok c =
     let is : kind_of (entry_at c.args.self.now.table.now c.args.entry).kind ≡ Some Enum = c.requires.kind ∙ ap (λ (k : EntryKind). Some k) c.in-Enum.is in
     let own : c.entry-in-Enum.result ≡ entry_at c.args.self.now.table.now c.args.entry = c.entry-in-Enum.ensures.value in
-    on_ok_from c.read_enum.result (λ p. subst (λ (s : At). Visits c.args.self.now.table.now (message_of c.args.self.now.bytes.now c.args.self.now.handles.now) c.args.depth c.args.entry c.args.place (at_of c.args.state.now) s (c.read_enum.new.state.steps - c.args.state.now.steps) None) (sym c.read_enum.ensures.same) (visits_enum c.args.self.now.table.now c.requires.table (message_of c.args.self.now.bytes.now c.args.self.now.handles.now) c.args.depth c.args.entry c.args.place (at_of c.args.state.now) c.requires.entry c.requires.state c.requires.depth is (c.read_enum.new.state.steps - c.args.state.now.steps) (omega (arith, c.read_enum.ensures.probes)) c.requires.room (λ i. omega (arith, c.args.self.now.octets i)) (subst (λ (d : Entry). IfSome (strict_values c.args.self.now.table.now (header_of c.args.self.now.table.now) d) (λ values. Contains values (number_standing (underlying d) c.args.self.now.bytes.now c.args.place))) own p))) c.read_enum.ensures.ok
+    on_ok_from c.read_enum.result (λ p. subst (λ (s : At). Visits c.args.self.now.table.now (message_of c.args.self.now.bytes.now c.args.self.now.handles.now) c.args.depth c.args.entry c.args.place (at_of c.args.state.now) s (c.read_enum.new.state.steps - c.args.state.now.steps) None) (sym c.read_enum.ensures.same) (visits_enum c.args.self.now.table.now c.args.self.now.fine (message_of c.args.self.now.bytes.now c.args.self.now.handles.now) c.args.depth c.args.entry c.args.place (at_of c.args.state.now) c.requires.entry c.requires.state c.requires.depth is (c.read_enum.new.state.steps - c.args.state.now.steps) (omega (arith, c.read_enum.ensures.probes)) c.requires.room (λ i. omega (arith, c.args.self.now.octets i)) (subst (λ (d : Entry). IfSome (strict_values c.args.self.now.table.now (header_of c.args.self.now.table.now) d) (λ values. Contains values (number_standing (underlying d) c.args.self.now.bytes.now c.args.place))) own p))) c.read_enum.ensures.ok
 
 pub returns-in-Enum-clause-err : goal.returns-in-Enum-clause-err
 returns-in-Enum-clause-err c =
     let is : kind_of (entry_at c.args.self.now.table.now c.args.entry).kind ≡ Some Enum = c.requires.kind ∙ ap (λ (k : EntryKind). Some k) c.in-Enum.is in
     let own : c.entry-in-Enum.result ≡ entry_at c.args.self.now.table.now c.args.entry = c.entry-in-Enum.ensures.value in
-    on_err_weaker c.read_enum.result (λ bad. refused_enum c.args.self.now.table.now c.requires.table (message_of c.args.self.now.bytes.now c.args.self.now.handles.now) c.args.depth c.args.entry c.args.place (at_of c.args.state.now) c.requires.entry c.requires.state c.requires.depth is (subst (λ (d : Entry). IfSome (strict_values c.args.self.now.table.now (header_of c.args.self.now.table.now) d) (λ values. Contains values (number_standing (underlying d) c.args.self.now.bytes.now c.args.place)) → ⊥) own bad)) c.read_enum.ensures.err
+    on_err_weaker c.read_enum.result (λ bad. refused_enum c.args.self.now.table.now c.args.self.now.fine (message_of c.args.self.now.bytes.now c.args.self.now.handles.now) c.args.depth c.args.entry c.args.place (at_of c.args.state.now) c.requires.entry c.requires.state c.requires.depth is (subst (λ (d : Entry). IfSome (strict_values c.args.self.now.table.now (header_of c.args.self.now.table.now) d) (λ values. Contains values (number_standing (underlying d) c.args.self.now.bytes.now c.args.place)) → ⊥) own bad)) c.read_enum.ensures.err
 
 pub returns-in-Enum-clause-fault_is_true : goal.returns-in-Enum-clause-fault_is_true
 returns-in-Enum-clause-fault_is_true c =
     let is : kind_of (entry_at c.args.self.now.table.now c.args.entry).kind ≡ Some Enum = c.requires.kind ∙ ap (λ (k : EntryKind). Some k) c.in-Enum.is in
     let own : c.entry-in-Enum.result ≡ entry_at c.args.self.now.table.now c.args.entry = c.entry-in-Enum.ensures.value in
-    IfErr-weaker c.read_enum.result _ _ (λ fault b. enum_breaks c.args.self.now.table.now c.requires.table (message_of c.args.self.now.bytes.now c.args.self.now.handles.now) c.args.depth c.args.entry c.args.place (at_of c.args.state.now) c.requires.entry c.requires.state c.requires.depth is fault (subst (λ (d : Entry). BreaksField (message_of c.args.self.now.bytes.now c.args.self.now.handles.now) (ty.enum (underlying d) (strict_values c.args.self.now.table.now (header_of c.args.self.now.table.now) d)) c.args.place fault) own b)) c.read_enum.ensures.fault_is_true
+    IfErr-weaker c.read_enum.result _ _ (λ fault b. enum_breaks c.args.self.now.table.now c.args.self.now.fine (message_of c.args.self.now.bytes.now c.args.self.now.handles.now) c.args.depth c.args.entry c.args.place (at_of c.args.state.now) c.requires.entry c.requires.state c.requires.depth is fault (subst (λ (d : Entry). BreaksField (message_of c.args.self.now.bytes.now c.args.self.now.handles.now) (ty.enum (underlying d) (strict_values c.args.self.now.table.now (header_of c.args.self.now.table.now) d)) c.args.place fault) own b)) c.read_enum.ensures.fault_is_true
 
 pub read_enum-requires-clause-values : goal.read_enum-requires-clause-values
 read_enum-requires-clause-values c =
     let is : kind_of (entry_at c.args.self.now.table.now c.args.entry).kind ≡ Some Enum = c.requires.kind ∙ ap (λ (k : EntryKind). Some k) c.in-Enum.is in
-    subst (λ (d : Entry). EnumFine c.args.self.now.table.now d) (sym c.entry-in-Enum.ensures.value) (fine_as c.args.self.now.table.now c.requires.table c.args.entry Enum c.requires.entry is).content
+    subst (λ (d : Entry). EnumFine c.args.self.now.table.now d) (sym c.entry-in-Enum.ensures.value) (fine_as c.args.self.now.table.now c.args.self.now.fine c.args.entry Enum c.requires.entry is).content
 
 pub read_handle-requires-clause-room : goal.read_handle-requires-clause-room
 read_handle-requires-clause-room c =
     let is : kind_of (entry_at c.args.self.now.table.now c.args.entry).kind ≡ Some Handle = c.requires.kind ∙ ap (λ (k : EntryKind). Some k) c.in-Handle.is in
-    let size : 4 ≡ (entry_at c.args.self.now.table.now c.args.entry).size = size_as c.args.self.now.table.now c.requires.table c.args.entry Handle c.requires.entry is in
+    let size : 4 ≡ (entry_at c.args.self.now.table.now c.args.entry).size = size_as c.args.self.now.table.now c.args.self.now.fine c.args.entry Handle c.requires.entry is in
     omega (arith, c.requires.room, size)
 
 pub returns-in-Handle-clause-ok : goal.returns-in-Handle-clause-ok
@@ -106,7 +106,7 @@ returns-in-Handle-clause-ok c =
     let is : kind_of (entry_at c.args.self.now.table.now c.args.entry).kind ≡ Some Handle = c.requires.kind ∙ ap (λ (k : EntryKind). Some k) c.in-Handle.is in
     let own : c.entry-in-Handle.result ≡ entry_at c.args.self.now.table.now c.args.entry = c.entry-in-Handle.ensures.value in
     on_ok_two c.read_handle.result
-    (λ leads there. visits_leaf c.args.self.now.table.now c.requires.table (message_of c.args.self.now.bytes.now c.args.self.now.handles.now) c.args.depth c.args.entry c.args.place (at_of c.args.state.now) c.requires.entry c.requires.state c.requires.depth Handle is (at_of c.read_handle.new.state) (c.read_handle.new.state.steps - c.args.state.now.steps) (omega (arith, c.read_handle.ensures.next, c.read_handle.ensures.steps)) there
+    (λ leads there. visits_leaf c.args.self.now.table.now c.args.self.now.fine (message_of c.args.self.now.bytes.now c.args.self.now.handles.now) c.args.depth c.args.entry c.args.place (at_of c.args.state.now) c.requires.entry c.requires.state c.requires.depth Handle is (at_of c.read_handle.new.state) (c.read_handle.new.state.steps - c.args.state.now.steps) (omega (arith, c.read_handle.ensures.next, c.read_handle.ensures.steps)) there
     (subst (λ (d : Entry). Leads (declarations_of c.args.self.now.table.now) (message_of c.args.self.now.bytes.now c.args.self.now.handles.now) c.args.depth (ty.handle (is_optional d) d.subtype d.rights) c.args.place (at_of c.args.state.now) (at_of c.read_handle.new.state)) own leads))
     c.read_handle.ensures.ok
     c.read_handle.ensures.state
@@ -115,18 +115,18 @@ pub returns-in-Handle-clause-err : goal.returns-in-Handle-clause-err
 returns-in-Handle-clause-err c =
     let is : kind_of (entry_at c.args.self.now.table.now c.args.entry).kind ≡ Some Handle = c.requires.kind ∙ ap (λ (k : EntryKind). Some k) c.in-Handle.is in
     let own : c.entry-in-Handle.result ≡ entry_at c.args.self.now.table.now c.args.entry = c.entry-in-Handle.ensures.value in
-    on_err_weaker c.read_handle.result (λ bad. refused_leaf c.args.self.now.table.now c.requires.table (message_of c.args.self.now.bytes.now c.args.self.now.handles.now) c.args.depth c.args.entry c.args.place (at_of c.args.state.now) c.requires.entry c.requires.state c.requires.depth Handle is (subst (λ (d : Entry). (to : At) → Item (declarations_of c.args.self.now.table.now) (message_of c.args.self.now.bytes.now c.args.self.now.handles.now) c.args.depth (ty.handle (is_optional d) d.subtype d.rights) c.args.place (at_of c.args.state.now) to → ⊥) own bad)) c.read_handle.ensures.err
+    on_err_weaker c.read_handle.result (λ bad. refused_leaf c.args.self.now.table.now c.args.self.now.fine (message_of c.args.self.now.bytes.now c.args.self.now.handles.now) c.args.depth c.args.entry c.args.place (at_of c.args.state.now) c.requires.entry c.requires.state c.requires.depth Handle is (subst (λ (d : Entry). (to : At) → Item (declarations_of c.args.self.now.table.now) (message_of c.args.self.now.bytes.now c.args.self.now.handles.now) c.args.depth (ty.handle (is_optional d) d.subtype d.rights) c.args.place (at_of c.args.state.now) to → ⊥) own bad)) c.read_handle.ensures.err
 
 pub returns-in-Handle-clause-fault_is_true : goal.returns-in-Handle-clause-fault_is_true
 returns-in-Handle-clause-fault_is_true c =
     let is : kind_of (entry_at c.args.self.now.table.now c.args.entry).kind ≡ Some Handle = c.requires.kind ∙ ap (λ (k : EntryKind). Some k) c.in-Handle.is in
     let own : c.entry-in-Handle.result ≡ entry_at c.args.self.now.table.now c.args.entry = c.entry-in-Handle.ensures.value in
-    IfErr-weaker c.read_handle.result _ _ (λ fault b. leaf_breaks c.args.self.now.table.now c.requires.table (message_of c.args.self.now.bytes.now c.args.self.now.handles.now) c.args.depth c.args.entry c.args.place (at_of c.args.state.now) c.requires.entry c.requires.state c.requires.depth Handle is fault (subst (λ (d : Entry). BreaksHandle (message_of c.args.self.now.bytes.now c.args.self.now.handles.now) (is_optional d) d.subtype d.rights c.args.place c.args.state.now.handle fault) own b)) c.read_handle.ensures.fault_is_true
+    IfErr-weaker c.read_handle.result _ _ (λ fault b. leaf_breaks c.args.self.now.table.now c.args.self.now.fine (message_of c.args.self.now.bytes.now c.args.self.now.handles.now) c.args.depth c.args.entry c.args.place (at_of c.args.state.now) c.requires.entry c.requires.state c.requires.depth Handle is fault (subst (λ (d : Entry). BreaksHandle (message_of c.args.self.now.bytes.now c.args.self.now.handles.now) (is_optional d) d.subtype d.rights c.args.place c.args.state.now.handle fault) own b)) c.read_handle.ensures.fault_is_true
 
 pub read_text-requires-clause-room : goal.read_text-requires-clause-room
 read_text-requires-clause-room c =
     let is : kind_of (entry_at c.args.self.now.table.now c.args.entry).kind ≡ Some String = c.requires.kind ∙ ap (λ (k : EntryKind). Some k) c.in-String.is in
-    let size : 16 ≡ (entry_at c.args.self.now.table.now c.args.entry).size = size_as c.args.self.now.table.now c.requires.table c.args.entry String c.requires.entry is in
+    let size : 16 ≡ (entry_at c.args.self.now.table.now c.args.entry).size = size_as c.args.self.now.table.now c.args.self.now.fine c.args.entry String c.requires.entry is in
     omega (arith, c.requires.room, size)
 
 pub returns-in-String-clause-ok : goal.returns-in-String-clause-ok
@@ -134,7 +134,7 @@ returns-in-String-clause-ok c =
     let is : kind_of (entry_at c.args.self.now.table.now c.args.entry).kind ≡ Some String = c.requires.kind ∙ ap (λ (k : EntryKind). Some k) c.in-String.is in
     let own : c.entry-in-String.result ≡ entry_at c.args.self.now.table.now c.args.entry = c.entry-in-String.ensures.value in
     on_ok_three c.read_text.result
-    (λ leads there spent. visits_leaf c.args.self.now.table.now c.requires.table (message_of c.args.self.now.bytes.now c.args.self.now.handles.now) c.args.depth c.args.entry c.args.place (at_of c.args.state.now) c.requires.entry c.requires.state c.requires.depth String is (at_of c.read_text.new.state) (c.read_text.new.state.steps - c.args.state.now.steps) (text_cost (length c.args.self.now.bytes.now) c.args.state.now.next c.read_text.new.state.next c.args.state.now.steps c.read_text.new.state.steps spent there.next c.read_text.ensures.grows) there
+    (λ leads there spent. visits_leaf c.args.self.now.table.now c.args.self.now.fine (message_of c.args.self.now.bytes.now c.args.self.now.handles.now) c.args.depth c.args.entry c.args.place (at_of c.args.state.now) c.requires.entry c.requires.state c.requires.depth String is (at_of c.read_text.new.state) (c.read_text.new.state.steps - c.args.state.now.steps) (text_cost (length c.args.self.now.bytes.now) c.args.state.now.next c.read_text.new.state.next c.args.state.now.steps c.read_text.new.state.steps spent there.next c.read_text.ensures.grows) there
     (subst (λ (d : Entry). Leads (declarations_of c.args.self.now.table.now) (message_of c.args.self.now.bytes.now c.args.self.now.handles.now) c.args.depth (ty.string (is_optional d) d.bound) c.args.place (at_of c.args.state.now) (at_of c.read_text.new.state)) own leads))
     c.read_text.ensures.ok
     c.read_text.ensures.state
@@ -144,9 +144,9 @@ pub returns-in-String-clause-err : goal.returns-in-String-clause-err
 returns-in-String-clause-err c =
     let is : kind_of (entry_at c.args.self.now.table.now c.args.entry).kind ≡ Some String = c.requires.kind ∙ ap (λ (k : EntryKind). Some k) c.in-String.is in
     let own : c.entry-in-String.result ≡ entry_at c.args.self.now.table.now c.args.entry = c.entry-in-String.ensures.value in
-    let short = c.requires.short in
+    let short = c.args.self.now.short in
     refused_by c.read_text.result _ _
-    (λ fault b. refused_leaf c.args.self.now.table.now c.requires.table (message_of c.args.self.now.bytes.now c.args.self.now.handles.now) c.args.depth c.args.entry c.args.place (at_of c.args.state.now) c.requires.entry c.requires.state c.requires.depth String is (λ to x. text_excluded (declarations_of c.args.self.now.table.now) (message_of c.args.self.now.bytes.now c.args.self.now.handles.now) (omega (arith, short)) c.args.depth (is_optional (entry_at c.args.self.now.table.now c.args.entry)) (entry_at c.args.self.now.table.now c.args.entry).bound c.args.place (at_of c.args.state.now) to fault
+    (λ fault b. refused_leaf c.args.self.now.table.now c.args.self.now.fine (message_of c.args.self.now.bytes.now c.args.self.now.handles.now) c.args.depth c.args.entry c.args.place (at_of c.args.state.now) c.requires.entry c.requires.state c.requires.depth String is (λ to x. text_excluded (declarations_of c.args.self.now.table.now) (message_of c.args.self.now.bytes.now c.args.self.now.handles.now) (omega (arith, short)) c.args.depth (is_optional (entry_at c.args.self.now.table.now c.args.entry)) (entry_at c.args.self.now.table.now c.args.entry).bound c.args.place (at_of c.args.state.now) to fault
     (subst (λ (d : Entry). BreaksText (message_of c.args.self.now.bytes.now c.args.self.now.handles.now) c.args.depth (is_optional d) d.bound c.args.place c.args.state.now.next fault) own b) x))
     c.read_text.ensures.fault_is_true
 
@@ -154,23 +154,23 @@ pub returns-in-String-clause-fault_is_true : goal.returns-in-String-clause-fault
 returns-in-String-clause-fault_is_true c =
     let is : kind_of (entry_at c.args.self.now.table.now c.args.entry).kind ≡ Some String = c.requires.kind ∙ ap (λ (k : EntryKind). Some k) c.in-String.is in
     let own : c.entry-in-String.result ≡ entry_at c.args.self.now.table.now c.args.entry = c.entry-in-String.ensures.value in
-    IfErr-weaker c.read_text.result _ _ (λ fault b. leaf_breaks c.args.self.now.table.now c.requires.table (message_of c.args.self.now.bytes.now c.args.self.now.handles.now) c.args.depth c.args.entry c.args.place (at_of c.args.state.now) c.requires.entry c.requires.state c.requires.depth String is fault (subst (λ (d : Entry). BreaksText (message_of c.args.self.now.bytes.now c.args.self.now.handles.now) c.args.depth (is_optional d) d.bound c.args.place c.args.state.now.next fault) own b)) c.read_text.ensures.fault_is_true
+    IfErr-weaker c.read_text.result _ _ (λ fault b. leaf_breaks c.args.self.now.table.now c.args.self.now.fine (message_of c.args.self.now.bytes.now c.args.self.now.handles.now) c.args.depth c.args.entry c.args.place (at_of c.args.state.now) c.requires.entry c.requires.state c.requires.depth String is fault (subst (λ (d : Entry). BreaksText (message_of c.args.self.now.bytes.now c.args.self.now.handles.now) c.args.depth (is_optional d) d.bound c.args.place c.args.state.now.next fault) own b)) c.read_text.ensures.fault_is_true
 
 pub read_bits-requires-clause-kind : goal.read_bits-requires-clause-kind
 read_bits-requires-clause-kind c =
     let is : kind_of (entry_at c.args.self.now.table.now c.args.entry).kind ≡ Some Bits = c.requires.kind ∙ ap (λ (k : EntryKind). Some k) c.in-Bits.is in
-    subst (λ (d : Entry). IsTrue (subtype_is is_unsigned d)) (sym c.entry.ensures.value) (fine_as c.args.self.now.table.now c.requires.table c.args.entry Bits c.requires.entry is).content
+    subst (λ (d : Entry). IsTrue (subtype_is is_unsigned d)) (sym c.entry.ensures.value) (fine_as c.args.self.now.table.now c.args.self.now.fine c.args.entry Bits c.requires.entry is).content
 
 pub read_bits-requires-clause-room : goal.read_bits-requires-clause-room
 read_bits-requires-clause-room c =
     let is : kind_of (entry_at c.args.self.now.table.now c.args.entry).kind ≡ Some Bits = c.requires.kind ∙ ap (λ (k : EntryKind). Some k) c.in-Bits.is in
-    let size : byte_len (width (underlying (entry_at c.args.self.now.table.now c.args.entry))) ≡ (entry_at c.args.self.now.table.now c.args.entry).size = size_as c.args.self.now.table.now c.requires.table c.args.entry Bits c.requires.entry is in
+    let size : byte_len (width (underlying (entry_at c.args.self.now.table.now c.args.entry))) ≡ (entry_at c.args.self.now.table.now c.args.entry).size = size_as c.args.self.now.table.now c.args.self.now.fine c.args.entry Bits c.requires.entry is in
     subst (λ (d : Entry). c.args.place + byte_len (width (underlying d)) ≤ length c.args.self.now.bytes.now) (sym c.entry.ensures.value) (omega (arith, c.requires.room, size))
 
 pub read_enum-requires-clause-room : goal.read_enum-requires-clause-room
 read_enum-requires-clause-room c =
     let is : kind_of (entry_at c.args.self.now.table.now c.args.entry).kind ≡ Some Enum = c.requires.kind ∙ ap (λ (k : EntryKind). Some k) c.in-Enum.is in
-    let size : byte_len (width (underlying (entry_at c.args.self.now.table.now c.args.entry))) ≡ (entry_at c.args.self.now.table.now c.args.entry).size = size_as c.args.self.now.table.now c.requires.table c.args.entry Enum c.requires.entry is in
+    let size : byte_len (width (underlying (entry_at c.args.self.now.table.now c.args.entry))) ≡ (entry_at c.args.self.now.table.now c.args.entry).size = size_as c.args.self.now.table.now c.args.self.now.fine c.args.entry Enum c.requires.entry is in
     subst (λ (d : Entry). c.args.place + byte_len (width (underlying d)) ≤ length c.args.self.now.bytes.now) (sym c.entry-in-Enum.ensures.value) (omega (arith, c.requires.room, size))
 
 pub returns-then-self-place-gt1-clause-ok : goal.returns-then-self-place-gt1-clause-ok
@@ -191,9 +191,6 @@ read_enum-requires-clause-budget c = c.requires.budget
 pub entry-requires-in-Handle : goal.entry-requires-in-Handle
 entry-requires-in-Handle c = c.requires.entry
 
-pub read_handle-requires-clause-short : goal.read_handle-requires-clause-short
-read_handle-requires-clause-short c = c.requires.short
-
 pub read_handle-requires-clause-depth : goal.read_handle-requires-clause-depth
 read_handle-requires-clause-depth c = c.requires.depth
 
@@ -202,9 +199,6 @@ read_handle-requires-clause-state c = c.requires.state
 
 pub entry-requires-in-String : goal.entry-requires-in-String
 entry-requires-in-String c = c.requires.entry
-
-pub read_text-requires-clause-short : goal.read_text-requires-clause-short
-read_text-requires-clause-short c = c.requires.short
 
 pub read_text-requires-clause-depth : goal.read_text-requires-clause-depth
 read_text-requires-clause-depth c = c.requires.depth

@@ -2,12 +2,6 @@ use Rattle.fidl_decode.proofs.Unchanged.{same_le}
 use Rattle.fidl_decode.proofs.Fitting.{le_more}
 use Rattle.fidl_decode.proofs.decoder.Decoder.read_leaves.Goals as goal
 
-pub read_boxed-requires-clause-table : goal.read_boxed-requires-clause-table
-read_boxed-requires-clause-table c = c.requires.table
-
-pub read_boxed-requires-clause-short : goal.read_boxed-requires-clause-short
-read_boxed-requires-clause-short c = c.requires.short
-
 pub read_boxed-requires-clause-frame : goal.read_boxed-requires-clause-frame
 read_boxed-requires-clause-frame c = c.requires.frame
 
@@ -17,12 +11,6 @@ read_boxed-requires-clause-state c = c.requires.state
 pub read_boxed-requires-clause-budget : goal.read_boxed-requires-clause-budget
 read_boxed-requires-clause-budget c = c.requires.budget
 
-pub read_elements-requires-clause-table : goal.read_elements-requires-clause-table
-read_elements-requires-clause-table c = c.requires.table
-
-pub read_elements-requires-clause-short : goal.read_elements-requires-clause-short
-read_elements-requires-clause-short c = c.requires.short
-
 pub read_elements-requires-clause-frame : goal.read_elements-requires-clause-frame
 read_elements-requires-clause-frame c = c.requires.frame
 
@@ -31,12 +19,6 @@ read_elements-requires-clause-state c = c.requires.state
 
 pub read_elements-requires-clause-budget : goal.read_elements-requires-clause-budget
 read_elements-requires-clause-budget c = c.requires.budget
-
-pub read_content-requires-clause-table : goal.read_content-requires-clause-table
-read_content-requires-clause-table c = c.requires.table
-
-pub read_content-requires-clause-short : goal.read_content-requires-clause-short
-read_content-requires-clause-short c = c.requires.short
 
 pub read_content-requires-clause-frame : goal.read_content-requires-clause-frame
 read_content-requires-clause-frame c = c.requires.frame

@@ -63,12 +63,6 @@ returns-clause-fault_is_true c =
     let old = at_of c.args.state.now in
     subst (λ (r : Option raw.Row). IfErr c.read_known.result (BreaksMember (declarations_of t) m c.args.depth (member_term r) c.args.envelope old)) (sym c.in-Some.is) c.read_known.ensures.fault_is_true
 
-pub skip_member-requires-clause-table : goal.skip_member-requires-clause-table
-skip_member-requires-clause-table c = c.requires.table
-
-pub skip_member-requires-clause-short : goal.skip_member-requires-clause-short
-skip_member-requires-clause-short c = c.requires.short
-
 pub skip_member-requires-clause-room : goal.skip_member-requires-clause-room
 skip_member-requires-clause-room c = c.requires.room
 
@@ -92,12 +86,6 @@ returns-in_default-clause-err c = tt
 
 pub returns-in_default-clause-fault_is_true : goal.returns-in_default-clause-fault_is_true
 returns-in_default-clause-fault_is_true c = tt
-
-pub read_known-requires-clause-table : goal.read_known-requires-clause-table
-read_known-requires-clause-table c = c.requires.table
-
-pub read_known-requires-clause-short : goal.read_known-requires-clause-short
-read_known-requires-clause-short c = c.requires.short
 
 pub read_known-requires-clause-room : goal.read_known-requires-clause-room
 read_known-requires-clause-room c = c.requires.room

@@ -20,7 +20,7 @@ no_some a e = cc
 
 pub unreachable-requires : goal.unreachable-requires
 unreachable-requires c =
-    let f = c.requires.table.each c.row-row.result.entry c.row-row.ensures.entry in
+    let f = c.args.self.now.fine.each c.row-row.result.entry c.row-row.ensures.entry in
     let none : kind_of (entry_at c.args.self.now.table.now c.row-row.result.entry).kind ≡ None = ap (λ (e : Entry). kind_of e.kind) (sym c.entry-e.ensures.value) ∙ sym c.from_number.ensures ∙ c.in_default-from_number.is in
     no_some f.0 (sym f.1.is ∙ none)
 
@@ -425,12 +425,6 @@ row-row-requires c = first_in c.loop-many.next c.loop-many.many _ c.loop-many.in
 pub entry-e-requires : goal.entry-e-requires
 entry-e-requires c = c.row-row.ensures.entry
 
-pub read_row-requires-clause-table : goal.read_row-requires-clause-table
-read_row-requires-clause-table c = c.requires.table
-
-pub read_row-requires-clause-short : goal.read_row-requires-clause-short
-read_row-requires-clause-short c = c.requires.short
-
 pub read_row-requires-clause-left : goal.read_row-requires-clause-left
 read_row-requires-clause-left c = ap (λ (x : Frame). x.left) c.rows_from-rest.ensures
 
@@ -449,11 +443,8 @@ read_row-requires-clause-state c = c.loop-many.invariant.turns.state
 pub read_row-requires-clause-budget : goal.read_row-requires-clause-budget
 read_row-requires-clause-budget c = subst (λ (x : Frame). c.loop-many.state.steps + turn_work c.args.self.now.bytes.now c.loop-many.state.next x < 2 ^ 40) (sym c.rows_from-rest.ensures) (budget_on _ _ _ c.args.state.now.steps c.loop-many.state.steps (2 ^ 40) c.loop-many.invariant.steps c.loop-many.invariant.turns.less c.requires.budget)
 
-pub ends_in_box-requires-clause-table : goal.ends_in_box-requires-clause-table
-ends_in_box-requires-clause-table c = c.requires.table
-
-pub ends_in_box-requires-clause-within : goal.ends_in_box-requires-clause-within
-ends_in_box-requires-clause-within c = c.loop-many.invariant.turns.rest_fine.0.left
+pub ends_in_box-requires : goal.ends_in_box-requires
+ends_in_box-requires c = record { within = c.loop-many.invariant.turns.rest_fine.0.left }
 
 pub returns-then-not-ends_in_box-clause-ok : goal.returns-then-not-ends_in_box-clause-ok
 returns-then-not-ends_in_box-clause-ok c = subst (λ (x : Frame). Turns c.args.self.now.table.now (message_of c.args.self.now.bytes.now c.args.self.now.handles.now) c.args.frame (at_of c.args.state.now) (at_of c.loop-many.state) (c.loop-many.state.steps - c.args.state.now.steps) (left_over (Some x))) (sym c.rows_from-rest.ensures) c.loop-many.invariant.turns
@@ -473,29 +464,14 @@ returns-then-not-ends_in_box-clause-err c = tt
 pub returns-then-not-ends_in_box-clause-fault_is_true : goal.returns-then-not-ends_in_box-clause-fault_is_true
 returns-then-not-ends_in_box-clause-fault_is_true c = tt
 
-pub enter_box-requires-clause-table : goal.enter_box-requires-clause-table
-enter_box-requires-clause-table c = c.requires.table
-
-pub enter_box-requires-clause-short : goal.enter_box-requires-clause-short
-enter_box-requires-clause-short c = c.requires.short
-
 pub enter_box-requires-clause-state : goal.enter_box-requires-clause-state
 enter_box-requires-clause-state c = c.loop-many.invariant.turns.state
 
 pub enter_box-requires-clause-budget : goal.enter_box-requires-clause-budget
 enter_box-requires-clause-budget c = subst (λ (x : Frame). c.loop-many.state.steps + turn_work c.args.self.now.bytes.now c.loop-many.state.next x < 2 ^ 40) (sym c.rows_from-rest.ensures) (budget_on _ _ _ c.args.state.now.steps c.loop-many.state.steps (2 ^ 40) c.loop-many.invariant.steps c.loop-many.invariant.turns.less c.requires.budget)
 
-pub pass_known-content-requires-clause-short : goal.pass_known-content-requires-clause-short
-pass_known-content-requires-clause-short c = c.requires.short
-
 pub pass_known-content-requires-clause-known : goal.pass_known-content-requires-clause-known
 pass_known-content-requires-clause-known c = c.requires.known
-
-pub end_rows-requires-clause-table : goal.end_rows-requires-clause-table
-end_rows-requires-clause-table c = c.requires.table
-
-pub end_rows-requires-clause-short : goal.end_rows-requires-clause-short
-end_rows-requires-clause-short c = c.requires.short
 
 pub end_rows-requires-clause-plain : goal.end_rows-requires-clause-plain
 end_rows-requires-clause-plain c = subst (λ (x : Frame). IsPlain x.left) (sym c.rows_from.ensures) tt

@@ -23,69 +23,69 @@ pub overflow_add-front : goal.overflow_add-front
 overflow_add-front c =
     let t = c.args.self.now.table.now in
     let m = message_of c.args.self.now.bytes.now c.args.self.now.handles.now in
-    let room = front_room t c.requires.table m c.args.frame c.args.first c.args.count c.row-row.result c.requires.left c.requires.some c.row-row.ensures.value (at_of c.args.state.now) c.requires.frame c.requires.state in
-    record { fits = omega (arith, room.0, room.1, room.2, c.requires.short) }
+    let room = front_room t c.args.self.now.fine m c.args.frame c.args.first c.args.count c.row-row.result c.requires.left c.requires.some c.row-row.ensures.value (at_of c.args.state.now) c.requires.frame c.requires.state in
+    record { fits = omega (arith, room.0, room.1, room.2, c.args.self.now.short) }
 
 pub overflow_add-place : goal.overflow_add-place
 overflow_add-place c =
     let t = c.args.self.now.table.now in
     let m = message_of c.args.self.now.bytes.now c.args.self.now.handles.now in
-    let room = front_room t c.requires.table m c.args.frame c.args.first c.args.count c.row-row.result c.requires.left c.requires.some c.row-row.ensures.value (at_of c.args.state.now) c.requires.frame c.requires.state in
-    record { fits = omega (arith, room.1, room.2, c.requires.short) }
+    let room = front_room t c.args.self.now.fine m c.args.frame c.args.first c.args.count c.row-row.result c.requires.left c.requires.some c.row-row.ensures.value (at_of c.args.state.now) c.requires.frame c.requires.state in
+    record { fits = omega (arith, room.1, room.2, c.args.self.now.short) }
 
 pub overflow_sub-state : goal.overflow_sub-state
 overflow_sub-state c =
     let t = c.args.self.now.table.now in
     let m = message_of c.args.self.now.bytes.now c.args.self.now.handles.now in
-    let room = front_room t c.requires.table m c.args.frame c.args.first c.args.count c.row-row.result c.requires.left c.requires.some c.row-row.ensures.value (at_of c.args.state.now) c.requires.frame c.requires.state in
+    let room = front_room t c.args.self.now.fine m c.args.frame c.args.first c.args.count c.row-row.result c.requires.left c.requires.some c.row-row.ensures.value (at_of c.args.state.now) c.requires.frame c.requires.state in
     omega (arith, room.0)
 
 pub overflow_add-state : goal.overflow_add-state
 overflow_add-state c =
     let t = c.args.self.now.table.now in
     let m = message_of c.args.self.now.bytes.now c.args.self.now.handles.now in
-    let room = front_room t c.requires.table m c.args.frame c.args.first c.args.count c.row-row.result c.requires.left c.requires.some c.row-row.ensures.value (at_of c.args.state.now) c.requires.frame c.requires.state in
-    record { fits = omega (arith, room.1, room.2, c.requires.short) }
+    let room = front_room t c.args.self.now.fine m c.args.frame c.args.first c.args.count c.row-row.result c.requires.left c.requires.some c.row-row.ensures.value (at_of c.args.state.now) c.requires.frame c.requires.state in
+    record { fits = omega (arith, room.1, room.2, c.args.self.now.short) }
 
 pub overflow_add-state-2 : goal.overflow_add-state-2
 overflow_add-state-2 c =
     let t = c.args.self.now.table.now in
     let m = message_of c.args.self.now.bytes.now c.args.self.now.handles.now in
-    let room = front_room t c.requires.table m c.args.frame c.args.first c.args.count c.row-row.result c.requires.left c.requires.some c.row-row.ensures.value (at_of c.args.state.now) c.requires.frame c.requires.state in
-    record { fits = omega (arith, room.1, room.2, c.requires.short, c.requires.budget) }
+    let room = front_room t c.args.self.now.fine m c.args.frame c.args.first c.args.count c.row-row.result c.requires.left c.requires.some c.row-row.ensures.value (at_of c.args.state.now) c.requires.frame c.requires.state in
+    record { fits = omega (arith, room.1, room.2, c.args.self.now.short, c.requires.budget) }
 
 pub zeros_at-requires-clause-order : goal.zeros_at-requires-clause-order
 zeros_at-requires-clause-order c =
     let t = c.args.self.now.table.now in
     let m = message_of c.args.self.now.bytes.now c.args.self.now.handles.now in
-    let room = front_room t c.requires.table m c.args.frame c.args.first c.args.count c.row-row.result c.requires.left c.requires.some c.row-row.ensures.value (at_of c.args.state.now) c.requires.frame c.requires.state in
+    let room = front_room t c.args.self.now.fine m c.args.frame c.args.first c.args.count c.row-row.result c.requires.left c.requires.some c.row-row.ensures.value (at_of c.args.state.now) c.requires.frame c.requires.state in
     omega (arith, room.0)
 
 pub zeros_at-requires-clause-room : goal.zeros_at-requires-clause-room
 zeros_at-requires-clause-room c =
     let t = c.args.self.now.table.now in
     let m = message_of c.args.self.now.bytes.now c.args.self.now.handles.now in
-    let room = front_room t c.requires.table m c.args.frame c.args.first c.args.count c.row-row.result c.requires.left c.requires.some c.row-row.ensures.value (at_of c.args.state.now) c.requires.frame c.requires.state in
+    let room = front_room t c.args.self.now.fine m c.args.frame c.args.first c.args.count c.row-row.result c.requires.left c.requires.some c.row-row.ensures.value (at_of c.args.state.now) c.requires.frame c.requires.state in
     omega (arith, room.1, room.2)
 
 pub returns-in_err-zeros_at-clause-cost : goal.returns-in_err-zeros_at-clause-cost
 returns-in_err-zeros_at-clause-cost c =
     let t = c.args.self.now.table.now in
     let m = message_of c.args.self.now.bytes.now c.args.self.now.handles.now in
-    let room = front_room t c.requires.table m c.args.frame c.args.first c.args.count c.row-row.result c.requires.left c.requires.some c.row-row.ensures.value (at_of c.args.state.now) c.requires.frame c.requires.state in
+    let room = front_room t c.args.self.now.fine m c.args.frame c.args.first c.args.count c.row-row.result c.requires.left c.requires.some c.row-row.ensures.value (at_of c.args.state.now) c.requires.frame c.requires.state in
     omega (arith, room.3, room.0)
 
 pub returns-in_err-zeros_at-clause-err : goal.returns-in_err-zeros_at-clause-err
 returns-in_err-zeros_at-clause-err c =
     let t = c.args.self.now.table.now in
     let m = message_of c.args.self.now.bytes.now c.args.self.now.handles.now in
-    on_err _ ((to : At) → Reads t m c.args.frame (at_of c.args.state.now) to → ⊥) (front_gap_refused t c.requires.table m c.args.frame c.args.first c.args.count c.row-row.result c.requires.left c.requires.some c.row-row.ensures.value (at_of c.args.state.now) c.requires.frame c.requires.state c.in_err-zeros_at.ensures.err)
+    on_err _ ((to : At) → Reads t m c.args.frame (at_of c.args.state.now) to → ⊥) (front_gap_refused t c.args.self.now.fine m c.args.frame c.args.first c.args.count c.row-row.result c.requires.left c.requires.some c.row-row.ensures.value (at_of c.args.state.now) c.requires.frame c.requires.state c.in_err-zeros_at.ensures.err)
 
 pub returns-in_err-zeros_at-clause-fault_is_true : goal.returns-in_err-zeros_at-clause-fault_is_true
 returns-in_err-zeros_at-clause-fault_is_true c =
     let t = c.args.self.now.table.now in
     let m = message_of c.args.self.now.bytes.now c.args.self.now.handles.now in
-    passed_on c.from_residual.result c.in_err-zeros_at.field-0.0 _ c.from_residual.ensures.1 (front_gap_breaks t c.requires.table m c.args.frame c.args.first c.args.count c.row-row.result c.requires.left c.requires.some c.row-row.ensures.value (at_of c.args.state.now) c.requires.frame c.requires.state c.in_err-zeros_at.field-0.0 c.in_err-zeros_at.ensures.fault_is_true)
+    passed_on c.from_residual.result c.in_err-zeros_at.field-0.0 _ c.from_residual.ensures.1 (front_gap_breaks t c.args.self.now.fine m c.args.frame c.args.first c.args.count c.row-row.result c.requires.left c.requires.some c.row-row.ensures.value (at_of c.args.state.now) c.requires.frame c.requires.state c.in_err-zeros_at.field-0.0 c.in_err-zeros_at.ensures.fault_is_true)
 
 pub read_leaf-requires-clause-kind : goal.read_leaf-requires-clause-kind
 read_leaf-requires-clause-kind c =
@@ -98,51 +98,45 @@ pub read_leaf-requires-clause-room : goal.read_leaf-requires-clause-room
 read_leaf-requires-clause-room c =
     let t = c.args.self.now.table.now in
     let m = message_of c.args.self.now.bytes.now c.args.self.now.handles.now in
-    let room = front_room t c.requires.table m c.args.frame c.args.first c.args.count c.row-row.result c.requires.left c.requires.some c.row-row.ensures.value (at_of c.args.state.now) c.requires.frame c.requires.state in
+    let room = front_room t c.args.self.now.fine m c.args.frame c.args.first c.args.count c.row-row.result c.requires.left c.requires.some c.row-row.ensures.value (at_of c.args.state.now) c.requires.frame c.requires.state in
     omega (arith, room.1, room.2)
 
 pub returns-in_err-read_leaf-clause-cost : goal.returns-in_err-read_leaf-clause-cost
 returns-in_err-read_leaf-clause-cost c =
     let t = c.args.self.now.table.now in
     let m = message_of c.args.self.now.bytes.now c.args.self.now.handles.now in
-    let room = front_room t c.requires.table m c.args.frame c.args.first c.args.count c.row-row.result c.requires.left c.requires.some c.row-row.ensures.value (at_of c.args.state.now) c.requires.frame c.requires.state in
+    let room = front_room t c.args.self.now.fine m c.args.frame c.args.first c.args.count c.row-row.result c.requires.left c.requires.some c.row-row.ensures.value (at_of c.args.state.now) c.requires.frame c.requires.state in
     omega (arith, room.3, room.0, c.in_err-read_leaf.ensures.probes)
 
 pub returns-in_err-read_leaf-clause-err : goal.returns-in_err-read_leaf-clause-err
 returns-in_err-read_leaf-clause-err c =
     let t = c.args.self.now.table.now in
     let m = message_of c.args.self.now.bytes.now c.args.self.now.handles.now in
-    on_err _ ((to : At) → Reads t m c.args.frame (at_of c.args.state.now) to → ⊥) (front_refused t c.requires.table m c.args.frame c.args.first c.args.count c.row-row.result c.requires.left c.requires.some c.row-row.ensures.value (at_of c.args.state.now) c.requires.frame c.requires.state c.in_err-read_leaf.ensures.err)
+    on_err _ ((to : At) → Reads t m c.args.frame (at_of c.args.state.now) to → ⊥) (front_refused t c.args.self.now.fine m c.args.frame c.args.first c.args.count c.row-row.result c.requires.left c.requires.some c.row-row.ensures.value (at_of c.args.state.now) c.requires.frame c.requires.state c.in_err-read_leaf.ensures.err)
 
 pub returns-in_err-read_leaf-clause-fault_is_true : goal.returns-in_err-read_leaf-clause-fault_is_true
 returns-in_err-read_leaf-clause-fault_is_true c =
     let t = c.args.self.now.table.now in
     let m = message_of c.args.self.now.bytes.now c.args.self.now.handles.now in
-    passed_on c.from_residual-in_err-read_leaf.result c.in_err-read_leaf.field-0.0 _ c.from_residual-in_err-read_leaf.ensures.1 (front_breaks t c.requires.table m c.args.frame c.args.first c.args.count c.row-row.result c.requires.left c.requires.some c.row-row.ensures.value (at_of c.args.state.now) c.requires.frame c.requires.state c.in_err-read_leaf.field-0.0 c.in_ok-zeros_at.ensures.ok c.in_err-read_leaf.ensures.fault_is_true)
+    passed_on c.from_residual-in_err-read_leaf.result c.in_err-read_leaf.field-0.0 _ c.from_residual-in_err-read_leaf.ensures.1 (front_breaks t c.args.self.now.fine m c.args.frame c.args.first c.args.count c.row-row.result c.requires.left c.requires.some c.row-row.ensures.value (at_of c.args.state.now) c.requires.frame c.requires.state c.in_err-read_leaf.field-0.0 c.in_ok-zeros_at.ensures.ok c.in_err-read_leaf.ensures.fault_is_true)
 
 pub returns-clause-ok : goal.returns-clause-ok
 returns-clause-ok c =
     let t = c.args.self.now.table.now in
     let m = message_of c.args.self.now.bytes.now c.args.self.now.handles.now in
     let grows = c.in_ok-read_leaf.ensures.grows in
-    let two = front_turns t c.requires.table m c.args.frame c.args.first c.args.count c.row-row.result c.requires.left c.requires.some c.row-row.ensures.value (at_of c.args.state.now) c.requires.frame c.requires.state (at_of c.read_leaf.new.state) (c.read_leaf.new.state.steps - (c.args.state.now.steps + (c.args.frame.base + c.row-row.result.key - (c.args.frame.base + c.args.frame.done) + 1))) (c.read_leaf.new.state.steps - c.args.state.now.steps) (omega (arith, grows)) c.in_ok-zeros_at.ensures.ok c.in_ok-read_leaf.ensures.ok in
+    let two = front_turns t c.args.self.now.fine m c.args.frame c.args.first c.args.count c.row-row.result c.requires.left c.requires.some c.row-row.ensures.value (at_of c.args.state.now) c.requires.frame c.requires.state (at_of c.read_leaf.new.state) (c.read_leaf.new.state.steps - (c.args.state.now.steps + (c.args.frame.base + c.row-row.result.key - (c.args.frame.base + c.args.frame.done) + 1))) (c.read_leaf.new.state.steps - c.args.state.now.steps) (omega (arith, grows)) c.in_ok-zeros_at.ensures.ok c.in_ok-read_leaf.ensures.ok in
     subst (λ (w : raw.Row). Turns t m c.args.frame (at_of c.args.state.now) (at_of c.read_leaf.new.state) (c.read_leaf.new.state.steps - c.args.state.now.steps) (left_over (Some (going_on c.args.frame (Rows (c.args.first + 1) (c.args.count - 1)) (w.key + (entry_at t w.entry).size))))) c.row-row.ensures.value two
 
 pub returns-clause-cost : goal.returns-clause-cost
 returns-clause-cost c =
     let t = c.args.self.now.table.now in
     let m = message_of c.args.self.now.bytes.now c.args.self.now.handles.now in
-    let room = front_room t c.requires.table m c.args.frame c.args.first c.args.count c.row-row.result c.requires.left c.requires.some c.row-row.ensures.value (at_of c.args.state.now) c.requires.frame c.requires.state in
+    let room = front_room t c.args.self.now.fine m c.args.frame c.args.first c.args.count c.row-row.result c.requires.left c.requires.some c.row-row.ensures.value (at_of c.args.state.now) c.requires.frame c.requires.state in
     omega (arith, room.3, room.0, c.in_ok-read_leaf.ensures.probes)
-
-pub read_leaf-requires-clause-table : goal.read_leaf-requires-clause-table
-read_leaf-requires-clause-table c = c.requires.table
 
 pub read_leaf-requires-clause-leaf : goal.read_leaf-requires-clause-leaf
 read_leaf-requires-clause-leaf c = c.requires.leaf
-
-pub read_leaf-requires-clause-short : goal.read_leaf-requires-clause-short
-read_leaf-requires-clause-short c = c.requires.short
 
 pub read_leaf-requires-clause-state : goal.read_leaf-requires-clause-state
 read_leaf-requires-clause-state c = c.requires.state

@@ -1,4 +1,4 @@
-use Rattle.std.proofs.Common.{refl, rules, ◌≡◌, ℕ, ◌+◌, ◌-◌, ◌≤◌, sym, ap, subst, ◌∙◌, arith, inl, inr}
+use Rattle.std.proofs.Common.{refl, ◌≡◌, ℕ, ◌+◌, ◌-◌, ◌≤◌, sym, ap, subst, ◌∙◌, arith, inl, inr}
 use Rattle.std.specs.Prelude.{Option, Some}
 use Rattle.fidl_table_format.specs.declared.record.Entry.{Entry}
 use Rattle.fidl_decode.specs.declared.frame.Frame.{Frame}
@@ -18,38 +18,38 @@ pub overflow_add-place : goal.overflow_add-place
 overflow_add-place c =
     let is = c.loop-i.invariant.turns.rest_fine.0.left in
     let one = elements_next c.args.self.now.table.now c.args.entry c.args.size c.loop-i.i c.args.count c.loop-i.done is c.loop-i-test.true in
-    let room = next_room c.args.self.now.table.now c.requires.table (message_of c.args.self.now.bytes.now c.args.self.now.handles.now) c.args.frame (at_of c.args.state.now) (at_of c.loop-i.state) (c.loop-i.state.steps - c.args.state.now.steps) (going_on c.args.frame (Elements c.args.entry c.args.size (c.args.count - c.loop-i.i)) c.loop-i.done) c.loop-i.invariant.turns (let x : Row = record { offset = c.loop-i.done; entry = c.args.entry } in x) (Elements c.args.entry c.args.size (c.args.count - (c.loop-i.i + 1))) one in
+    let room = next_room c.args.self.now.table.now c.args.self.now.fine (message_of c.args.self.now.bytes.now c.args.self.now.handles.now) c.args.frame (at_of c.args.state.now) (at_of c.loop-i.state) (c.loop-i.state.steps - c.args.state.now.steps) (going_on c.args.frame (Elements c.args.entry c.args.size (c.args.count - c.loop-i.i)) c.loop-i.done) c.loop-i.invariant.turns (let x : Row = record { offset = c.loop-i.done; entry = c.args.entry } in x) (Elements c.args.entry c.args.size (c.args.count - (c.loop-i.i + 1))) one in
     let before = room.0 in
     let fits = room.1 in
     let within = room.2 in
     record { fits = omega (arith, before, fits, within) }
 
-pub plain_rows-plain-requires-clause-within : goal.plain_rows-plain-requires-clause-within
-plain_rows-plain-requires-clause-within c =
+pub plain_rows-plain-requires : goal.plain_rows-plain-requires
+plain_rows-plain-requires c =
     let t = c.args.self.now.table.now in
-    let within = (fine_as t c.requires.table c.args.entry Struct c.requires.entry c.requires.kind).content.0 in
-    subst (λ (d : Entry). d.first + d.count ≤ (header_of t).rows) (sym c.entry-e.ensures.value) within
+    let within = (fine_as t c.args.self.now.fine c.args.entry Struct c.requires.entry c.requires.kind).content.0 in
+    record { within = subst (λ (d : Entry). d.first + d.count ≤ (header_of t).rows) (sym c.entry-e.ensures.value) within }
 
-pub plain_below-known-requires-clause-within : goal.plain_below-known-requires-clause-within
-plain_below-known-requires-clause-within c =
+pub plain_below-known-requires : goal.plain_below-known-requires
+plain_below-known-requires c =
     let t = c.args.self.now.table.now in
-    let within = (fine_as t c.requires.table c.args.entry Struct c.requires.entry c.requires.kind).content.0 in
-    subst (λ (d : Entry). d.first + d.count ≤ (header_of t).rows) (sym c.entry-e.ensures.value) within
+    let within = (fine_as t c.args.self.now.fine c.args.entry Struct c.requires.entry c.requires.kind).content.0 in
+    record { within = subst (λ (d : Entry). d.first + d.count ≤ (header_of t).rows) (sym c.entry-e.ensures.value) within }
 
 pub read_behind-requires-clause-frame : goal.read_behind-requires-clause-frame
 read_behind-requires-clause-frame c =
     let is = c.loop-i.invariant.turns.rest_fine.0.left in
     let one = elements_next c.args.self.now.table.now c.args.entry c.args.size c.loop-i.i c.args.count c.loop-i.done is c.loop-i-test.true in
-    let room = next_room c.args.self.now.table.now c.requires.table (message_of c.args.self.now.bytes.now c.args.self.now.handles.now) c.args.frame (at_of c.args.state.now) (at_of c.loop-i.state) (c.loop-i.state.steps - c.args.state.now.steps) (going_on c.args.frame (Elements c.args.entry c.args.size (c.args.count - c.loop-i.i)) c.loop-i.done) c.loop-i.invariant.turns (let x : Row = record { offset = c.loop-i.done; entry = c.args.entry } in x) (Elements c.args.entry c.args.size (c.args.count - (c.loop-i.i + 1))) one in
+    let room = next_room c.args.self.now.table.now c.args.self.now.fine (message_of c.args.self.now.bytes.now c.args.self.now.handles.now) c.args.frame (at_of c.args.state.now) (at_of c.loop-i.state) (c.loop-i.state.steps - c.args.state.now.steps) (going_on c.args.frame (Elements c.args.entry c.args.size (c.args.count - c.loop-i.i)) c.loop-i.done) c.loop-i.invariant.turns (let x : Row = record { offset = c.loop-i.done; entry = c.args.entry } in x) (Elements c.args.entry c.args.size (c.args.count - (c.loop-i.i + 1))) one in
     let before = room.0 in
     let fits = room.1 in
     let within = room.2 in
-    let own = next_size c.args.self.now.table.now c.requires.table (message_of c.args.self.now.bytes.now c.args.self.now.handles.now) c.args.frame (at_of c.args.state.now) (at_of c.loop-i.state) (c.loop-i.state.steps - c.args.state.now.steps) (going_on c.args.frame (Elements c.args.entry c.args.size (c.args.count - c.loop-i.i)) c.loop-i.done) c.loop-i.invariant.turns (let x : Row = record { offset = c.loop-i.done; entry = c.args.entry } in x) (Elements c.args.entry c.args.size (c.args.count - (c.loop-i.i + 1))) one in
+    let own = next_size c.args.self.now.table.now c.args.self.now.fine (message_of c.args.self.now.bytes.now c.args.self.now.handles.now) c.args.frame (at_of c.args.state.now) (at_of c.loop-i.state) (c.loop-i.state.steps - c.args.state.now.steps) (going_on c.args.frame (Elements c.args.entry c.args.size (c.args.count - c.loop-i.i)) c.loop-i.done) c.loop-i.invariant.turns (let x : Row = record { offset = c.loop-i.done; entry = c.args.entry } in x) (Elements c.args.entry c.args.size (c.args.count - (c.loop-i.i + 1))) one in
     let so_far = c.loop-i.invariant.steps in
     let none : (c.args.frame.base + c.loop-i.done) - (c.args.frame.base + c.loop-i.done) ≡ 0 = omega arith in
-    let seen : Visits c.args.self.now.table.now (message_of c.args.self.now.bytes.now c.args.self.now.handles.now) c.args.frame.depth c.args.entry (c.args.frame.base + c.loop-i.done) (at_of c.loop-i.state) (at_of c.loop-i.state) 0 (Some (struct_frame c.entry-e.result (c.args.frame.base + c.loop-i.done) c.args.frame.depth c.args.frame.inside)) = subst (λ (d : Entry). Visits c.args.self.now.table.now (message_of c.args.self.now.bytes.now c.args.self.now.handles.now) c.args.frame.depth c.args.entry (c.args.frame.base + c.loop-i.done) (at_of c.loop-i.state) (at_of c.loop-i.state) 0 (Some (struct_frame d (c.args.frame.base + c.loop-i.done) c.args.frame.depth c.args.frame.inside))) (sym c.entry-e.ensures.value) (visits_struct c.args.self.now.table.now c.requires.table (message_of c.args.self.now.bytes.now c.args.self.now.handles.now) c.args.frame.depth c.args.entry (c.args.frame.base + c.loop-i.done) (at_of c.loop-i.state) c.requires.entry c.loop-i.invariant.turns.state c.requires.frame.depth c.args.frame.inside 0 refl c.requires.kind (omega (arith, before, fits, within))) in
-    let seen_fine = subst (λ (d : Entry). VisitFine c.args.self.now.table.now (message_of c.args.self.now.bytes.now c.args.self.now.handles.now) c.args.frame.depth c.args.frame.inside c.args.entry (Some (struct_frame d (c.args.frame.base + c.loop-i.done) c.args.frame.depth c.args.frame.inside))) (sym c.entry-e.ensures.value) (struct_fine c.args.self.now.table.now c.requires.table (message_of c.args.self.now.bytes.now c.args.self.now.handles.now) c.args.frame.depth c.args.entry (c.args.frame.base + c.loop-i.done) (at_of c.loop-i.state) c.requires.entry c.loop-i.invariant.turns.state c.requires.frame.depth c.args.frame.inside c.requires.kind (omega (arith, before, fits, within)) (elim c.requires.frame.inside [ inl out ↦ inl out | inr own ↦ (let four = own.1 in inr (own.0, omega (arith, four, fits))) ])) in
-    let taken : Turns c.args.self.now.table.now (message_of c.args.self.now.bytes.now c.args.self.now.handles.now) c.args.frame (at_of c.args.state.now) (at_of c.loop-i.state) (c.loop-i.state.steps + 1 - c.args.state.now.steps) (record { below = Some (struct_frame c.entry-e.result (c.args.frame.base + c.loop-i.done) c.args.frame.depth c.args.frame.inside); rest = Some (going_on (going_on c.args.frame (Elements c.args.entry c.args.size (c.args.count - c.loop-i.i)) c.loop-i.done) (Elements c.args.entry c.args.size (c.args.count - (c.loop-i.i + 1))) (c.loop-i.done + c.args.size)) }) = next_takes c.args.self.now.table.now c.requires.table (message_of c.args.self.now.bytes.now c.args.self.now.handles.now) c.args.frame (at_of c.args.state.now) (at_of c.loop-i.state) (c.loop-i.state.steps - c.args.state.now.steps) (going_on c.args.frame (Elements c.args.entry c.args.size (c.args.count - c.loop-i.i)) c.loop-i.done) c.loop-i.invariant.turns (let x : Row = record { offset = c.loop-i.done; entry = c.args.entry } in x) (Elements c.args.entry c.args.size (c.args.count - (c.loop-i.i + 1))) one tt is tt (Some (struct_frame c.entry-e.result (c.args.frame.base + c.loop-i.done) c.args.frame.depth c.args.frame.inside)) (at_of c.loop-i.state) (c.loop-i.done + c.args.size) 0 (c.loop-i.state.steps + 1 - c.args.state.now.steps) (omega (arith, own, is)) (omega (arith, so_far)) (no_zeros c.args.self.now.bytes.now (c.args.frame.base + c.loop-i.done) _ none) seen seen_fine in
+    let seen : Visits c.args.self.now.table.now (message_of c.args.self.now.bytes.now c.args.self.now.handles.now) c.args.frame.depth c.args.entry (c.args.frame.base + c.loop-i.done) (at_of c.loop-i.state) (at_of c.loop-i.state) 0 (Some (struct_frame c.entry-e.result (c.args.frame.base + c.loop-i.done) c.args.frame.depth c.args.frame.inside)) = subst (λ (d : Entry). Visits c.args.self.now.table.now (message_of c.args.self.now.bytes.now c.args.self.now.handles.now) c.args.frame.depth c.args.entry (c.args.frame.base + c.loop-i.done) (at_of c.loop-i.state) (at_of c.loop-i.state) 0 (Some (struct_frame d (c.args.frame.base + c.loop-i.done) c.args.frame.depth c.args.frame.inside))) (sym c.entry-e.ensures.value) (visits_struct c.args.self.now.table.now c.args.self.now.fine (message_of c.args.self.now.bytes.now c.args.self.now.handles.now) c.args.frame.depth c.args.entry (c.args.frame.base + c.loop-i.done) (at_of c.loop-i.state) c.requires.entry c.loop-i.invariant.turns.state c.requires.frame.depth c.args.frame.inside 0 refl c.requires.kind (omega (arith, before, fits, within))) in
+    let seen_fine = subst (λ (d : Entry). VisitFine c.args.self.now.table.now (message_of c.args.self.now.bytes.now c.args.self.now.handles.now) c.args.frame.depth c.args.frame.inside c.args.entry (Some (struct_frame d (c.args.frame.base + c.loop-i.done) c.args.frame.depth c.args.frame.inside))) (sym c.entry-e.ensures.value) (struct_fine c.args.self.now.table.now c.args.self.now.fine (message_of c.args.self.now.bytes.now c.args.self.now.handles.now) c.args.frame.depth c.args.entry (c.args.frame.base + c.loop-i.done) (at_of c.loop-i.state) c.requires.entry c.loop-i.invariant.turns.state c.requires.frame.depth c.args.frame.inside c.requires.kind (omega (arith, before, fits, within)) (elim c.requires.frame.inside [ inl out ↦ inl out | inr own ↦ (let four = own.1 in inr (own.0, omega (arith, four, fits))) ])) in
+    let taken : Turns c.args.self.now.table.now (message_of c.args.self.now.bytes.now c.args.self.now.handles.now) c.args.frame (at_of c.args.state.now) (at_of c.loop-i.state) (c.loop-i.state.steps + 1 - c.args.state.now.steps) (record { below = Some (struct_frame c.entry-e.result (c.args.frame.base + c.loop-i.done) c.args.frame.depth c.args.frame.inside); rest = Some (going_on (going_on c.args.frame (Elements c.args.entry c.args.size (c.args.count - c.loop-i.i)) c.loop-i.done) (Elements c.args.entry c.args.size (c.args.count - (c.loop-i.i + 1))) (c.loop-i.done + c.args.size)) }) = next_takes c.args.self.now.table.now c.args.self.now.fine (message_of c.args.self.now.bytes.now c.args.self.now.handles.now) c.args.frame (at_of c.args.state.now) (at_of c.loop-i.state) (c.loop-i.state.steps - c.args.state.now.steps) (going_on c.args.frame (Elements c.args.entry c.args.size (c.args.count - c.loop-i.i)) c.loop-i.done) c.loop-i.invariant.turns (let x : Row = record { offset = c.loop-i.done; entry = c.args.entry } in x) (Elements c.args.entry c.args.size (c.args.count - (c.loop-i.i + 1))) one tt is tt (Some (struct_frame c.entry-e.result (c.args.frame.base + c.loop-i.done) c.args.frame.depth c.args.frame.inside)) (at_of c.loop-i.state) (c.loop-i.done + c.args.size) 0 (c.loop-i.state.steps + 1 - c.args.state.now.steps) (omega (arith, own, is)) (omega (arith, so_far)) (no_zeros c.args.self.now.bytes.now (c.args.frame.base + c.loop-i.done) _ none) seen seen_fine in
     let less = taken.less in
     taken.below_fine.0
 
@@ -57,16 +57,16 @@ pub read_behind-requires-clause-state : goal.read_behind-requires-clause-state
 read_behind-requires-clause-state c =
     let is = c.loop-i.invariant.turns.rest_fine.0.left in
     let one = elements_next c.args.self.now.table.now c.args.entry c.args.size c.loop-i.i c.args.count c.loop-i.done is c.loop-i-test.true in
-    let room = next_room c.args.self.now.table.now c.requires.table (message_of c.args.self.now.bytes.now c.args.self.now.handles.now) c.args.frame (at_of c.args.state.now) (at_of c.loop-i.state) (c.loop-i.state.steps - c.args.state.now.steps) (going_on c.args.frame (Elements c.args.entry c.args.size (c.args.count - c.loop-i.i)) c.loop-i.done) c.loop-i.invariant.turns (let x : Row = record { offset = c.loop-i.done; entry = c.args.entry } in x) (Elements c.args.entry c.args.size (c.args.count - (c.loop-i.i + 1))) one in
+    let room = next_room c.args.self.now.table.now c.args.self.now.fine (message_of c.args.self.now.bytes.now c.args.self.now.handles.now) c.args.frame (at_of c.args.state.now) (at_of c.loop-i.state) (c.loop-i.state.steps - c.args.state.now.steps) (going_on c.args.frame (Elements c.args.entry c.args.size (c.args.count - c.loop-i.i)) c.loop-i.done) c.loop-i.invariant.turns (let x : Row = record { offset = c.loop-i.done; entry = c.args.entry } in x) (Elements c.args.entry c.args.size (c.args.count - (c.loop-i.i + 1))) one in
     let before = room.0 in
     let fits = room.1 in
     let within = room.2 in
-    let own = next_size c.args.self.now.table.now c.requires.table (message_of c.args.self.now.bytes.now c.args.self.now.handles.now) c.args.frame (at_of c.args.state.now) (at_of c.loop-i.state) (c.loop-i.state.steps - c.args.state.now.steps) (going_on c.args.frame (Elements c.args.entry c.args.size (c.args.count - c.loop-i.i)) c.loop-i.done) c.loop-i.invariant.turns (let x : Row = record { offset = c.loop-i.done; entry = c.args.entry } in x) (Elements c.args.entry c.args.size (c.args.count - (c.loop-i.i + 1))) one in
+    let own = next_size c.args.self.now.table.now c.args.self.now.fine (message_of c.args.self.now.bytes.now c.args.self.now.handles.now) c.args.frame (at_of c.args.state.now) (at_of c.loop-i.state) (c.loop-i.state.steps - c.args.state.now.steps) (going_on c.args.frame (Elements c.args.entry c.args.size (c.args.count - c.loop-i.i)) c.loop-i.done) c.loop-i.invariant.turns (let x : Row = record { offset = c.loop-i.done; entry = c.args.entry } in x) (Elements c.args.entry c.args.size (c.args.count - (c.loop-i.i + 1))) one in
     let so_far = c.loop-i.invariant.steps in
     let none : (c.args.frame.base + c.loop-i.done) - (c.args.frame.base + c.loop-i.done) ≡ 0 = omega arith in
-    let seen : Visits c.args.self.now.table.now (message_of c.args.self.now.bytes.now c.args.self.now.handles.now) c.args.frame.depth c.args.entry (c.args.frame.base + c.loop-i.done) (at_of c.loop-i.state) (at_of c.loop-i.state) 0 (Some (struct_frame c.entry-e.result (c.args.frame.base + c.loop-i.done) c.args.frame.depth c.args.frame.inside)) = subst (λ (d : Entry). Visits c.args.self.now.table.now (message_of c.args.self.now.bytes.now c.args.self.now.handles.now) c.args.frame.depth c.args.entry (c.args.frame.base + c.loop-i.done) (at_of c.loop-i.state) (at_of c.loop-i.state) 0 (Some (struct_frame d (c.args.frame.base + c.loop-i.done) c.args.frame.depth c.args.frame.inside))) (sym c.entry-e.ensures.value) (visits_struct c.args.self.now.table.now c.requires.table (message_of c.args.self.now.bytes.now c.args.self.now.handles.now) c.args.frame.depth c.args.entry (c.args.frame.base + c.loop-i.done) (at_of c.loop-i.state) c.requires.entry c.loop-i.invariant.turns.state c.requires.frame.depth c.args.frame.inside 0 refl c.requires.kind (omega (arith, before, fits, within))) in
-    let seen_fine = subst (λ (d : Entry). VisitFine c.args.self.now.table.now (message_of c.args.self.now.bytes.now c.args.self.now.handles.now) c.args.frame.depth c.args.frame.inside c.args.entry (Some (struct_frame d (c.args.frame.base + c.loop-i.done) c.args.frame.depth c.args.frame.inside))) (sym c.entry-e.ensures.value) (struct_fine c.args.self.now.table.now c.requires.table (message_of c.args.self.now.bytes.now c.args.self.now.handles.now) c.args.frame.depth c.args.entry (c.args.frame.base + c.loop-i.done) (at_of c.loop-i.state) c.requires.entry c.loop-i.invariant.turns.state c.requires.frame.depth c.args.frame.inside c.requires.kind (omega (arith, before, fits, within)) (elim c.requires.frame.inside [ inl out ↦ inl out | inr own ↦ (let four = own.1 in inr (own.0, omega (arith, four, fits))) ])) in
-    let taken : Turns c.args.self.now.table.now (message_of c.args.self.now.bytes.now c.args.self.now.handles.now) c.args.frame (at_of c.args.state.now) (at_of c.loop-i.state) (c.loop-i.state.steps + 1 - c.args.state.now.steps) (record { below = Some (struct_frame c.entry-e.result (c.args.frame.base + c.loop-i.done) c.args.frame.depth c.args.frame.inside); rest = Some (going_on (going_on c.args.frame (Elements c.args.entry c.args.size (c.args.count - c.loop-i.i)) c.loop-i.done) (Elements c.args.entry c.args.size (c.args.count - (c.loop-i.i + 1))) (c.loop-i.done + c.args.size)) }) = next_takes c.args.self.now.table.now c.requires.table (message_of c.args.self.now.bytes.now c.args.self.now.handles.now) c.args.frame (at_of c.args.state.now) (at_of c.loop-i.state) (c.loop-i.state.steps - c.args.state.now.steps) (going_on c.args.frame (Elements c.args.entry c.args.size (c.args.count - c.loop-i.i)) c.loop-i.done) c.loop-i.invariant.turns (let x : Row = record { offset = c.loop-i.done; entry = c.args.entry } in x) (Elements c.args.entry c.args.size (c.args.count - (c.loop-i.i + 1))) one tt is tt (Some (struct_frame c.entry-e.result (c.args.frame.base + c.loop-i.done) c.args.frame.depth c.args.frame.inside)) (at_of c.loop-i.state) (c.loop-i.done + c.args.size) 0 (c.loop-i.state.steps + 1 - c.args.state.now.steps) (omega (arith, own, is)) (omega (arith, so_far)) (no_zeros c.args.self.now.bytes.now (c.args.frame.base + c.loop-i.done) _ none) seen seen_fine in
+    let seen : Visits c.args.self.now.table.now (message_of c.args.self.now.bytes.now c.args.self.now.handles.now) c.args.frame.depth c.args.entry (c.args.frame.base + c.loop-i.done) (at_of c.loop-i.state) (at_of c.loop-i.state) 0 (Some (struct_frame c.entry-e.result (c.args.frame.base + c.loop-i.done) c.args.frame.depth c.args.frame.inside)) = subst (λ (d : Entry). Visits c.args.self.now.table.now (message_of c.args.self.now.bytes.now c.args.self.now.handles.now) c.args.frame.depth c.args.entry (c.args.frame.base + c.loop-i.done) (at_of c.loop-i.state) (at_of c.loop-i.state) 0 (Some (struct_frame d (c.args.frame.base + c.loop-i.done) c.args.frame.depth c.args.frame.inside))) (sym c.entry-e.ensures.value) (visits_struct c.args.self.now.table.now c.args.self.now.fine (message_of c.args.self.now.bytes.now c.args.self.now.handles.now) c.args.frame.depth c.args.entry (c.args.frame.base + c.loop-i.done) (at_of c.loop-i.state) c.requires.entry c.loop-i.invariant.turns.state c.requires.frame.depth c.args.frame.inside 0 refl c.requires.kind (omega (arith, before, fits, within))) in
+    let seen_fine = subst (λ (d : Entry). VisitFine c.args.self.now.table.now (message_of c.args.self.now.bytes.now c.args.self.now.handles.now) c.args.frame.depth c.args.frame.inside c.args.entry (Some (struct_frame d (c.args.frame.base + c.loop-i.done) c.args.frame.depth c.args.frame.inside))) (sym c.entry-e.ensures.value) (struct_fine c.args.self.now.table.now c.args.self.now.fine (message_of c.args.self.now.bytes.now c.args.self.now.handles.now) c.args.frame.depth c.args.entry (c.args.frame.base + c.loop-i.done) (at_of c.loop-i.state) c.requires.entry c.loop-i.invariant.turns.state c.requires.frame.depth c.args.frame.inside c.requires.kind (omega (arith, before, fits, within)) (elim c.requires.frame.inside [ inl out ↦ inl out | inr own ↦ (let four = own.1 in inr (own.0, omega (arith, four, fits))) ])) in
+    let taken : Turns c.args.self.now.table.now (message_of c.args.self.now.bytes.now c.args.self.now.handles.now) c.args.frame (at_of c.args.state.now) (at_of c.loop-i.state) (c.loop-i.state.steps + 1 - c.args.state.now.steps) (record { below = Some (struct_frame c.entry-e.result (c.args.frame.base + c.loop-i.done) c.args.frame.depth c.args.frame.inside); rest = Some (going_on (going_on c.args.frame (Elements c.args.entry c.args.size (c.args.count - c.loop-i.i)) c.loop-i.done) (Elements c.args.entry c.args.size (c.args.count - (c.loop-i.i + 1))) (c.loop-i.done + c.args.size)) }) = next_takes c.args.self.now.table.now c.args.self.now.fine (message_of c.args.self.now.bytes.now c.args.self.now.handles.now) c.args.frame (at_of c.args.state.now) (at_of c.loop-i.state) (c.loop-i.state.steps - c.args.state.now.steps) (going_on c.args.frame (Elements c.args.entry c.args.size (c.args.count - c.loop-i.i)) c.loop-i.done) c.loop-i.invariant.turns (let x : Row = record { offset = c.loop-i.done; entry = c.args.entry } in x) (Elements c.args.entry c.args.size (c.args.count - (c.loop-i.i + 1))) one tt is tt (Some (struct_frame c.entry-e.result (c.args.frame.base + c.loop-i.done) c.args.frame.depth c.args.frame.inside)) (at_of c.loop-i.state) (c.loop-i.done + c.args.size) 0 (c.loop-i.state.steps + 1 - c.args.state.now.steps) (omega (arith, own, is)) (omega (arith, so_far)) (no_zeros c.args.self.now.bytes.now (c.args.frame.base + c.loop-i.done) _ none) seen seen_fine in
     let less = taken.less in
     taken.state
 
@@ -74,16 +74,16 @@ pub read_behind-requires-clause-budget : goal.read_behind-requires-clause-budget
 read_behind-requires-clause-budget c =
     let is = c.loop-i.invariant.turns.rest_fine.0.left in
     let one = elements_next c.args.self.now.table.now c.args.entry c.args.size c.loop-i.i c.args.count c.loop-i.done is c.loop-i-test.true in
-    let room = next_room c.args.self.now.table.now c.requires.table (message_of c.args.self.now.bytes.now c.args.self.now.handles.now) c.args.frame (at_of c.args.state.now) (at_of c.loop-i.state) (c.loop-i.state.steps - c.args.state.now.steps) (going_on c.args.frame (Elements c.args.entry c.args.size (c.args.count - c.loop-i.i)) c.loop-i.done) c.loop-i.invariant.turns (let x : Row = record { offset = c.loop-i.done; entry = c.args.entry } in x) (Elements c.args.entry c.args.size (c.args.count - (c.loop-i.i + 1))) one in
+    let room = next_room c.args.self.now.table.now c.args.self.now.fine (message_of c.args.self.now.bytes.now c.args.self.now.handles.now) c.args.frame (at_of c.args.state.now) (at_of c.loop-i.state) (c.loop-i.state.steps - c.args.state.now.steps) (going_on c.args.frame (Elements c.args.entry c.args.size (c.args.count - c.loop-i.i)) c.loop-i.done) c.loop-i.invariant.turns (let x : Row = record { offset = c.loop-i.done; entry = c.args.entry } in x) (Elements c.args.entry c.args.size (c.args.count - (c.loop-i.i + 1))) one in
     let before = room.0 in
     let fits = room.1 in
     let within = room.2 in
-    let own = next_size c.args.self.now.table.now c.requires.table (message_of c.args.self.now.bytes.now c.args.self.now.handles.now) c.args.frame (at_of c.args.state.now) (at_of c.loop-i.state) (c.loop-i.state.steps - c.args.state.now.steps) (going_on c.args.frame (Elements c.args.entry c.args.size (c.args.count - c.loop-i.i)) c.loop-i.done) c.loop-i.invariant.turns (let x : Row = record { offset = c.loop-i.done; entry = c.args.entry } in x) (Elements c.args.entry c.args.size (c.args.count - (c.loop-i.i + 1))) one in
+    let own = next_size c.args.self.now.table.now c.args.self.now.fine (message_of c.args.self.now.bytes.now c.args.self.now.handles.now) c.args.frame (at_of c.args.state.now) (at_of c.loop-i.state) (c.loop-i.state.steps - c.args.state.now.steps) (going_on c.args.frame (Elements c.args.entry c.args.size (c.args.count - c.loop-i.i)) c.loop-i.done) c.loop-i.invariant.turns (let x : Row = record { offset = c.loop-i.done; entry = c.args.entry } in x) (Elements c.args.entry c.args.size (c.args.count - (c.loop-i.i + 1))) one in
     let so_far = c.loop-i.invariant.steps in
     let none : (c.args.frame.base + c.loop-i.done) - (c.args.frame.base + c.loop-i.done) ≡ 0 = omega arith in
-    let seen : Visits c.args.self.now.table.now (message_of c.args.self.now.bytes.now c.args.self.now.handles.now) c.args.frame.depth c.args.entry (c.args.frame.base + c.loop-i.done) (at_of c.loop-i.state) (at_of c.loop-i.state) 0 (Some (struct_frame c.entry-e.result (c.args.frame.base + c.loop-i.done) c.args.frame.depth c.args.frame.inside)) = subst (λ (d : Entry). Visits c.args.self.now.table.now (message_of c.args.self.now.bytes.now c.args.self.now.handles.now) c.args.frame.depth c.args.entry (c.args.frame.base + c.loop-i.done) (at_of c.loop-i.state) (at_of c.loop-i.state) 0 (Some (struct_frame d (c.args.frame.base + c.loop-i.done) c.args.frame.depth c.args.frame.inside))) (sym c.entry-e.ensures.value) (visits_struct c.args.self.now.table.now c.requires.table (message_of c.args.self.now.bytes.now c.args.self.now.handles.now) c.args.frame.depth c.args.entry (c.args.frame.base + c.loop-i.done) (at_of c.loop-i.state) c.requires.entry c.loop-i.invariant.turns.state c.requires.frame.depth c.args.frame.inside 0 refl c.requires.kind (omega (arith, before, fits, within))) in
-    let seen_fine = subst (λ (d : Entry). VisitFine c.args.self.now.table.now (message_of c.args.self.now.bytes.now c.args.self.now.handles.now) c.args.frame.depth c.args.frame.inside c.args.entry (Some (struct_frame d (c.args.frame.base + c.loop-i.done) c.args.frame.depth c.args.frame.inside))) (sym c.entry-e.ensures.value) (struct_fine c.args.self.now.table.now c.requires.table (message_of c.args.self.now.bytes.now c.args.self.now.handles.now) c.args.frame.depth c.args.entry (c.args.frame.base + c.loop-i.done) (at_of c.loop-i.state) c.requires.entry c.loop-i.invariant.turns.state c.requires.frame.depth c.args.frame.inside c.requires.kind (omega (arith, before, fits, within)) (elim c.requires.frame.inside [ inl out ↦ inl out | inr own ↦ (let four = own.1 in inr (own.0, omega (arith, four, fits))) ])) in
-    let taken : Turns c.args.self.now.table.now (message_of c.args.self.now.bytes.now c.args.self.now.handles.now) c.args.frame (at_of c.args.state.now) (at_of c.loop-i.state) (c.loop-i.state.steps + 1 - c.args.state.now.steps) (record { below = Some (struct_frame c.entry-e.result (c.args.frame.base + c.loop-i.done) c.args.frame.depth c.args.frame.inside); rest = Some (going_on (going_on c.args.frame (Elements c.args.entry c.args.size (c.args.count - c.loop-i.i)) c.loop-i.done) (Elements c.args.entry c.args.size (c.args.count - (c.loop-i.i + 1))) (c.loop-i.done + c.args.size)) }) = next_takes c.args.self.now.table.now c.requires.table (message_of c.args.self.now.bytes.now c.args.self.now.handles.now) c.args.frame (at_of c.args.state.now) (at_of c.loop-i.state) (c.loop-i.state.steps - c.args.state.now.steps) (going_on c.args.frame (Elements c.args.entry c.args.size (c.args.count - c.loop-i.i)) c.loop-i.done) c.loop-i.invariant.turns (let x : Row = record { offset = c.loop-i.done; entry = c.args.entry } in x) (Elements c.args.entry c.args.size (c.args.count - (c.loop-i.i + 1))) one tt is tt (Some (struct_frame c.entry-e.result (c.args.frame.base + c.loop-i.done) c.args.frame.depth c.args.frame.inside)) (at_of c.loop-i.state) (c.loop-i.done + c.args.size) 0 (c.loop-i.state.steps + 1 - c.args.state.now.steps) (omega (arith, own, is)) (omega (arith, so_far)) (no_zeros c.args.self.now.bytes.now (c.args.frame.base + c.loop-i.done) _ none) seen seen_fine in
+    let seen : Visits c.args.self.now.table.now (message_of c.args.self.now.bytes.now c.args.self.now.handles.now) c.args.frame.depth c.args.entry (c.args.frame.base + c.loop-i.done) (at_of c.loop-i.state) (at_of c.loop-i.state) 0 (Some (struct_frame c.entry-e.result (c.args.frame.base + c.loop-i.done) c.args.frame.depth c.args.frame.inside)) = subst (λ (d : Entry). Visits c.args.self.now.table.now (message_of c.args.self.now.bytes.now c.args.self.now.handles.now) c.args.frame.depth c.args.entry (c.args.frame.base + c.loop-i.done) (at_of c.loop-i.state) (at_of c.loop-i.state) 0 (Some (struct_frame d (c.args.frame.base + c.loop-i.done) c.args.frame.depth c.args.frame.inside))) (sym c.entry-e.ensures.value) (visits_struct c.args.self.now.table.now c.args.self.now.fine (message_of c.args.self.now.bytes.now c.args.self.now.handles.now) c.args.frame.depth c.args.entry (c.args.frame.base + c.loop-i.done) (at_of c.loop-i.state) c.requires.entry c.loop-i.invariant.turns.state c.requires.frame.depth c.args.frame.inside 0 refl c.requires.kind (omega (arith, before, fits, within))) in
+    let seen_fine = subst (λ (d : Entry). VisitFine c.args.self.now.table.now (message_of c.args.self.now.bytes.now c.args.self.now.handles.now) c.args.frame.depth c.args.frame.inside c.args.entry (Some (struct_frame d (c.args.frame.base + c.loop-i.done) c.args.frame.depth c.args.frame.inside))) (sym c.entry-e.ensures.value) (struct_fine c.args.self.now.table.now c.args.self.now.fine (message_of c.args.self.now.bytes.now c.args.self.now.handles.now) c.args.frame.depth c.args.entry (c.args.frame.base + c.loop-i.done) (at_of c.loop-i.state) c.requires.entry c.loop-i.invariant.turns.state c.requires.frame.depth c.args.frame.inside c.requires.kind (omega (arith, before, fits, within)) (elim c.requires.frame.inside [ inl out ↦ inl out | inr own ↦ (let four = own.1 in inr (own.0, omega (arith, four, fits))) ])) in
+    let taken : Turns c.args.self.now.table.now (message_of c.args.self.now.bytes.now c.args.self.now.handles.now) c.args.frame (at_of c.args.state.now) (at_of c.loop-i.state) (c.loop-i.state.steps + 1 - c.args.state.now.steps) (record { below = Some (struct_frame c.entry-e.result (c.args.frame.base + c.loop-i.done) c.args.frame.depth c.args.frame.inside); rest = Some (going_on (going_on c.args.frame (Elements c.args.entry c.args.size (c.args.count - c.loop-i.i)) c.loop-i.done) (Elements c.args.entry c.args.size (c.args.count - (c.loop-i.i + 1))) (c.loop-i.done + c.args.size)) }) = next_takes c.args.self.now.table.now c.args.self.now.fine (message_of c.args.self.now.bytes.now c.args.self.now.handles.now) c.args.frame (at_of c.args.state.now) (at_of c.loop-i.state) (c.loop-i.state.steps - c.args.state.now.steps) (going_on c.args.frame (Elements c.args.entry c.args.size (c.args.count - c.loop-i.i)) c.loop-i.done) c.loop-i.invariant.turns (let x : Row = record { offset = c.loop-i.done; entry = c.args.entry } in x) (Elements c.args.entry c.args.size (c.args.count - (c.loop-i.i + 1))) one tt is tt (Some (struct_frame c.entry-e.result (c.args.frame.base + c.loop-i.done) c.args.frame.depth c.args.frame.inside)) (at_of c.loop-i.state) (c.loop-i.done + c.args.size) 0 (c.loop-i.state.steps + 1 - c.args.state.now.steps) (omega (arith, own, is)) (omega (arith, so_far)) (no_zeros c.args.self.now.bytes.now (c.args.frame.base + c.loop-i.done) _ none) seen seen_fine in
     let less = taken.less in
     omega (arith, less, so_far, c.requires.budget)
 
@@ -91,16 +91,16 @@ pub returns-in_err-found-clause-cost : goal.returns-in_err-found-clause-cost
 returns-in_err-found-clause-cost c =
     let is = c.loop-i.invariant.turns.rest_fine.0.left in
     let one = elements_next c.args.self.now.table.now c.args.entry c.args.size c.loop-i.i c.args.count c.loop-i.done is c.loop-i-test.true in
-    let room = next_room c.args.self.now.table.now c.requires.table (message_of c.args.self.now.bytes.now c.args.self.now.handles.now) c.args.frame (at_of c.args.state.now) (at_of c.loop-i.state) (c.loop-i.state.steps - c.args.state.now.steps) (going_on c.args.frame (Elements c.args.entry c.args.size (c.args.count - c.loop-i.i)) c.loop-i.done) c.loop-i.invariant.turns (let x : Row = record { offset = c.loop-i.done; entry = c.args.entry } in x) (Elements c.args.entry c.args.size (c.args.count - (c.loop-i.i + 1))) one in
+    let room = next_room c.args.self.now.table.now c.args.self.now.fine (message_of c.args.self.now.bytes.now c.args.self.now.handles.now) c.args.frame (at_of c.args.state.now) (at_of c.loop-i.state) (c.loop-i.state.steps - c.args.state.now.steps) (going_on c.args.frame (Elements c.args.entry c.args.size (c.args.count - c.loop-i.i)) c.loop-i.done) c.loop-i.invariant.turns (let x : Row = record { offset = c.loop-i.done; entry = c.args.entry } in x) (Elements c.args.entry c.args.size (c.args.count - (c.loop-i.i + 1))) one in
     let before = room.0 in
     let fits = room.1 in
     let within = room.2 in
-    let own = next_size c.args.self.now.table.now c.requires.table (message_of c.args.self.now.bytes.now c.args.self.now.handles.now) c.args.frame (at_of c.args.state.now) (at_of c.loop-i.state) (c.loop-i.state.steps - c.args.state.now.steps) (going_on c.args.frame (Elements c.args.entry c.args.size (c.args.count - c.loop-i.i)) c.loop-i.done) c.loop-i.invariant.turns (let x : Row = record { offset = c.loop-i.done; entry = c.args.entry } in x) (Elements c.args.entry c.args.size (c.args.count - (c.loop-i.i + 1))) one in
+    let own = next_size c.args.self.now.table.now c.args.self.now.fine (message_of c.args.self.now.bytes.now c.args.self.now.handles.now) c.args.frame (at_of c.args.state.now) (at_of c.loop-i.state) (c.loop-i.state.steps - c.args.state.now.steps) (going_on c.args.frame (Elements c.args.entry c.args.size (c.args.count - c.loop-i.i)) c.loop-i.done) c.loop-i.invariant.turns (let x : Row = record { offset = c.loop-i.done; entry = c.args.entry } in x) (Elements c.args.entry c.args.size (c.args.count - (c.loop-i.i + 1))) one in
     let so_far = c.loop-i.invariant.steps in
     let none : (c.args.frame.base + c.loop-i.done) - (c.args.frame.base + c.loop-i.done) ≡ 0 = omega arith in
-    let seen : Visits c.args.self.now.table.now (message_of c.args.self.now.bytes.now c.args.self.now.handles.now) c.args.frame.depth c.args.entry (c.args.frame.base + c.loop-i.done) (at_of c.loop-i.state) (at_of c.loop-i.state) 0 (Some (struct_frame c.entry-e.result (c.args.frame.base + c.loop-i.done) c.args.frame.depth c.args.frame.inside)) = subst (λ (d : Entry). Visits c.args.self.now.table.now (message_of c.args.self.now.bytes.now c.args.self.now.handles.now) c.args.frame.depth c.args.entry (c.args.frame.base + c.loop-i.done) (at_of c.loop-i.state) (at_of c.loop-i.state) 0 (Some (struct_frame d (c.args.frame.base + c.loop-i.done) c.args.frame.depth c.args.frame.inside))) (sym c.entry-e.ensures.value) (visits_struct c.args.self.now.table.now c.requires.table (message_of c.args.self.now.bytes.now c.args.self.now.handles.now) c.args.frame.depth c.args.entry (c.args.frame.base + c.loop-i.done) (at_of c.loop-i.state) c.requires.entry c.loop-i.invariant.turns.state c.requires.frame.depth c.args.frame.inside 0 refl c.requires.kind (omega (arith, before, fits, within))) in
-    let seen_fine = subst (λ (d : Entry). VisitFine c.args.self.now.table.now (message_of c.args.self.now.bytes.now c.args.self.now.handles.now) c.args.frame.depth c.args.frame.inside c.args.entry (Some (struct_frame d (c.args.frame.base + c.loop-i.done) c.args.frame.depth c.args.frame.inside))) (sym c.entry-e.ensures.value) (struct_fine c.args.self.now.table.now c.requires.table (message_of c.args.self.now.bytes.now c.args.self.now.handles.now) c.args.frame.depth c.args.entry (c.args.frame.base + c.loop-i.done) (at_of c.loop-i.state) c.requires.entry c.loop-i.invariant.turns.state c.requires.frame.depth c.args.frame.inside c.requires.kind (omega (arith, before, fits, within)) (elim c.requires.frame.inside [ inl out ↦ inl out | inr own ↦ (let four = own.1 in inr (own.0, omega (arith, four, fits))) ])) in
-    let taken : Turns c.args.self.now.table.now (message_of c.args.self.now.bytes.now c.args.self.now.handles.now) c.args.frame (at_of c.args.state.now) (at_of c.loop-i.state) (c.loop-i.state.steps + 1 - c.args.state.now.steps) (record { below = Some (struct_frame c.entry-e.result (c.args.frame.base + c.loop-i.done) c.args.frame.depth c.args.frame.inside); rest = Some (going_on (going_on c.args.frame (Elements c.args.entry c.args.size (c.args.count - c.loop-i.i)) c.loop-i.done) (Elements c.args.entry c.args.size (c.args.count - (c.loop-i.i + 1))) (c.loop-i.done + c.args.size)) }) = next_takes c.args.self.now.table.now c.requires.table (message_of c.args.self.now.bytes.now c.args.self.now.handles.now) c.args.frame (at_of c.args.state.now) (at_of c.loop-i.state) (c.loop-i.state.steps - c.args.state.now.steps) (going_on c.args.frame (Elements c.args.entry c.args.size (c.args.count - c.loop-i.i)) c.loop-i.done) c.loop-i.invariant.turns (let x : Row = record { offset = c.loop-i.done; entry = c.args.entry } in x) (Elements c.args.entry c.args.size (c.args.count - (c.loop-i.i + 1))) one tt is tt (Some (struct_frame c.entry-e.result (c.args.frame.base + c.loop-i.done) c.args.frame.depth c.args.frame.inside)) (at_of c.loop-i.state) (c.loop-i.done + c.args.size) 0 (c.loop-i.state.steps + 1 - c.args.state.now.steps) (omega (arith, own, is)) (omega (arith, so_far)) (no_zeros c.args.self.now.bytes.now (c.args.frame.base + c.loop-i.done) _ none) seen seen_fine in
+    let seen : Visits c.args.self.now.table.now (message_of c.args.self.now.bytes.now c.args.self.now.handles.now) c.args.frame.depth c.args.entry (c.args.frame.base + c.loop-i.done) (at_of c.loop-i.state) (at_of c.loop-i.state) 0 (Some (struct_frame c.entry-e.result (c.args.frame.base + c.loop-i.done) c.args.frame.depth c.args.frame.inside)) = subst (λ (d : Entry). Visits c.args.self.now.table.now (message_of c.args.self.now.bytes.now c.args.self.now.handles.now) c.args.frame.depth c.args.entry (c.args.frame.base + c.loop-i.done) (at_of c.loop-i.state) (at_of c.loop-i.state) 0 (Some (struct_frame d (c.args.frame.base + c.loop-i.done) c.args.frame.depth c.args.frame.inside))) (sym c.entry-e.ensures.value) (visits_struct c.args.self.now.table.now c.args.self.now.fine (message_of c.args.self.now.bytes.now c.args.self.now.handles.now) c.args.frame.depth c.args.entry (c.args.frame.base + c.loop-i.done) (at_of c.loop-i.state) c.requires.entry c.loop-i.invariant.turns.state c.requires.frame.depth c.args.frame.inside 0 refl c.requires.kind (omega (arith, before, fits, within))) in
+    let seen_fine = subst (λ (d : Entry). VisitFine c.args.self.now.table.now (message_of c.args.self.now.bytes.now c.args.self.now.handles.now) c.args.frame.depth c.args.frame.inside c.args.entry (Some (struct_frame d (c.args.frame.base + c.loop-i.done) c.args.frame.depth c.args.frame.inside))) (sym c.entry-e.ensures.value) (struct_fine c.args.self.now.table.now c.args.self.now.fine (message_of c.args.self.now.bytes.now c.args.self.now.handles.now) c.args.frame.depth c.args.entry (c.args.frame.base + c.loop-i.done) (at_of c.loop-i.state) c.requires.entry c.loop-i.invariant.turns.state c.requires.frame.depth c.args.frame.inside c.requires.kind (omega (arith, before, fits, within)) (elim c.requires.frame.inside [ inl out ↦ inl out | inr own ↦ (let four = own.1 in inr (own.0, omega (arith, four, fits))) ])) in
+    let taken : Turns c.args.self.now.table.now (message_of c.args.self.now.bytes.now c.args.self.now.handles.now) c.args.frame (at_of c.args.state.now) (at_of c.loop-i.state) (c.loop-i.state.steps + 1 - c.args.state.now.steps) (record { below = Some (struct_frame c.entry-e.result (c.args.frame.base + c.loop-i.done) c.args.frame.depth c.args.frame.inside); rest = Some (going_on (going_on c.args.frame (Elements c.args.entry c.args.size (c.args.count - c.loop-i.i)) c.loop-i.done) (Elements c.args.entry c.args.size (c.args.count - (c.loop-i.i + 1))) (c.loop-i.done + c.args.size)) }) = next_takes c.args.self.now.table.now c.args.self.now.fine (message_of c.args.self.now.bytes.now c.args.self.now.handles.now) c.args.frame (at_of c.args.state.now) (at_of c.loop-i.state) (c.loop-i.state.steps - c.args.state.now.steps) (going_on c.args.frame (Elements c.args.entry c.args.size (c.args.count - c.loop-i.i)) c.loop-i.done) c.loop-i.invariant.turns (let x : Row = record { offset = c.loop-i.done; entry = c.args.entry } in x) (Elements c.args.entry c.args.size (c.args.count - (c.loop-i.i + 1))) one tt is tt (Some (struct_frame c.entry-e.result (c.args.frame.base + c.loop-i.done) c.args.frame.depth c.args.frame.inside)) (at_of c.loop-i.state) (c.loop-i.done + c.args.size) 0 (c.loop-i.state.steps + 1 - c.args.state.now.steps) (omega (arith, own, is)) (omega (arith, so_far)) (no_zeros c.args.self.now.bytes.now (c.args.frame.base + c.loop-i.done) _ none) seen seen_fine in
     let less = taken.less in
     omega (arith, less, so_far, c.in_err-found.ensures.cost)
 
@@ -108,16 +108,16 @@ pub returns-in_err-found-clause-err : goal.returns-in_err-found-clause-err
 returns-in_err-found-clause-err c =
     let is = c.loop-i.invariant.turns.rest_fine.0.left in
     let one = elements_next c.args.self.now.table.now c.args.entry c.args.size c.loop-i.i c.args.count c.loop-i.done is c.loop-i-test.true in
-    let room = next_room c.args.self.now.table.now c.requires.table (message_of c.args.self.now.bytes.now c.args.self.now.handles.now) c.args.frame (at_of c.args.state.now) (at_of c.loop-i.state) (c.loop-i.state.steps - c.args.state.now.steps) (going_on c.args.frame (Elements c.args.entry c.args.size (c.args.count - c.loop-i.i)) c.loop-i.done) c.loop-i.invariant.turns (let x : Row = record { offset = c.loop-i.done; entry = c.args.entry } in x) (Elements c.args.entry c.args.size (c.args.count - (c.loop-i.i + 1))) one in
+    let room = next_room c.args.self.now.table.now c.args.self.now.fine (message_of c.args.self.now.bytes.now c.args.self.now.handles.now) c.args.frame (at_of c.args.state.now) (at_of c.loop-i.state) (c.loop-i.state.steps - c.args.state.now.steps) (going_on c.args.frame (Elements c.args.entry c.args.size (c.args.count - c.loop-i.i)) c.loop-i.done) c.loop-i.invariant.turns (let x : Row = record { offset = c.loop-i.done; entry = c.args.entry } in x) (Elements c.args.entry c.args.size (c.args.count - (c.loop-i.i + 1))) one in
     let before = room.0 in
     let fits = room.1 in
     let within = room.2 in
-    let own = next_size c.args.self.now.table.now c.requires.table (message_of c.args.self.now.bytes.now c.args.self.now.handles.now) c.args.frame (at_of c.args.state.now) (at_of c.loop-i.state) (c.loop-i.state.steps - c.args.state.now.steps) (going_on c.args.frame (Elements c.args.entry c.args.size (c.args.count - c.loop-i.i)) c.loop-i.done) c.loop-i.invariant.turns (let x : Row = record { offset = c.loop-i.done; entry = c.args.entry } in x) (Elements c.args.entry c.args.size (c.args.count - (c.loop-i.i + 1))) one in
+    let own = next_size c.args.self.now.table.now c.args.self.now.fine (message_of c.args.self.now.bytes.now c.args.self.now.handles.now) c.args.frame (at_of c.args.state.now) (at_of c.loop-i.state) (c.loop-i.state.steps - c.args.state.now.steps) (going_on c.args.frame (Elements c.args.entry c.args.size (c.args.count - c.loop-i.i)) c.loop-i.done) c.loop-i.invariant.turns (let x : Row = record { offset = c.loop-i.done; entry = c.args.entry } in x) (Elements c.args.entry c.args.size (c.args.count - (c.loop-i.i + 1))) one in
     let so_far = c.loop-i.invariant.steps in
     let none : (c.args.frame.base + c.loop-i.done) - (c.args.frame.base + c.loop-i.done) ≡ 0 = omega arith in
-    let seen : Visits c.args.self.now.table.now (message_of c.args.self.now.bytes.now c.args.self.now.handles.now) c.args.frame.depth c.args.entry (c.args.frame.base + c.loop-i.done) (at_of c.loop-i.state) (at_of c.loop-i.state) 0 (Some (struct_frame c.entry-e.result (c.args.frame.base + c.loop-i.done) c.args.frame.depth c.args.frame.inside)) = subst (λ (d : Entry). Visits c.args.self.now.table.now (message_of c.args.self.now.bytes.now c.args.self.now.handles.now) c.args.frame.depth c.args.entry (c.args.frame.base + c.loop-i.done) (at_of c.loop-i.state) (at_of c.loop-i.state) 0 (Some (struct_frame d (c.args.frame.base + c.loop-i.done) c.args.frame.depth c.args.frame.inside))) (sym c.entry-e.ensures.value) (visits_struct c.args.self.now.table.now c.requires.table (message_of c.args.self.now.bytes.now c.args.self.now.handles.now) c.args.frame.depth c.args.entry (c.args.frame.base + c.loop-i.done) (at_of c.loop-i.state) c.requires.entry c.loop-i.invariant.turns.state c.requires.frame.depth c.args.frame.inside 0 refl c.requires.kind (omega (arith, before, fits, within))) in
-    let seen_fine = subst (λ (d : Entry). VisitFine c.args.self.now.table.now (message_of c.args.self.now.bytes.now c.args.self.now.handles.now) c.args.frame.depth c.args.frame.inside c.args.entry (Some (struct_frame d (c.args.frame.base + c.loop-i.done) c.args.frame.depth c.args.frame.inside))) (sym c.entry-e.ensures.value) (struct_fine c.args.self.now.table.now c.requires.table (message_of c.args.self.now.bytes.now c.args.self.now.handles.now) c.args.frame.depth c.args.entry (c.args.frame.base + c.loop-i.done) (at_of c.loop-i.state) c.requires.entry c.loop-i.invariant.turns.state c.requires.frame.depth c.args.frame.inside c.requires.kind (omega (arith, before, fits, within)) (elim c.requires.frame.inside [ inl out ↦ inl out | inr own ↦ (let four = own.1 in inr (own.0, omega (arith, four, fits))) ])) in
-    let taken : Turns c.args.self.now.table.now (message_of c.args.self.now.bytes.now c.args.self.now.handles.now) c.args.frame (at_of c.args.state.now) (at_of c.loop-i.state) (c.loop-i.state.steps + 1 - c.args.state.now.steps) (record { below = Some (struct_frame c.entry-e.result (c.args.frame.base + c.loop-i.done) c.args.frame.depth c.args.frame.inside); rest = Some (going_on (going_on c.args.frame (Elements c.args.entry c.args.size (c.args.count - c.loop-i.i)) c.loop-i.done) (Elements c.args.entry c.args.size (c.args.count - (c.loop-i.i + 1))) (c.loop-i.done + c.args.size)) }) = next_takes c.args.self.now.table.now c.requires.table (message_of c.args.self.now.bytes.now c.args.self.now.handles.now) c.args.frame (at_of c.args.state.now) (at_of c.loop-i.state) (c.loop-i.state.steps - c.args.state.now.steps) (going_on c.args.frame (Elements c.args.entry c.args.size (c.args.count - c.loop-i.i)) c.loop-i.done) c.loop-i.invariant.turns (let x : Row = record { offset = c.loop-i.done; entry = c.args.entry } in x) (Elements c.args.entry c.args.size (c.args.count - (c.loop-i.i + 1))) one tt is tt (Some (struct_frame c.entry-e.result (c.args.frame.base + c.loop-i.done) c.args.frame.depth c.args.frame.inside)) (at_of c.loop-i.state) (c.loop-i.done + c.args.size) 0 (c.loop-i.state.steps + 1 - c.args.state.now.steps) (omega (arith, own, is)) (omega (arith, so_far)) (no_zeros c.args.self.now.bytes.now (c.args.frame.base + c.loop-i.done) _ none) seen seen_fine in
+    let seen : Visits c.args.self.now.table.now (message_of c.args.self.now.bytes.now c.args.self.now.handles.now) c.args.frame.depth c.args.entry (c.args.frame.base + c.loop-i.done) (at_of c.loop-i.state) (at_of c.loop-i.state) 0 (Some (struct_frame c.entry-e.result (c.args.frame.base + c.loop-i.done) c.args.frame.depth c.args.frame.inside)) = subst (λ (d : Entry). Visits c.args.self.now.table.now (message_of c.args.self.now.bytes.now c.args.self.now.handles.now) c.args.frame.depth c.args.entry (c.args.frame.base + c.loop-i.done) (at_of c.loop-i.state) (at_of c.loop-i.state) 0 (Some (struct_frame d (c.args.frame.base + c.loop-i.done) c.args.frame.depth c.args.frame.inside))) (sym c.entry-e.ensures.value) (visits_struct c.args.self.now.table.now c.args.self.now.fine (message_of c.args.self.now.bytes.now c.args.self.now.handles.now) c.args.frame.depth c.args.entry (c.args.frame.base + c.loop-i.done) (at_of c.loop-i.state) c.requires.entry c.loop-i.invariant.turns.state c.requires.frame.depth c.args.frame.inside 0 refl c.requires.kind (omega (arith, before, fits, within))) in
+    let seen_fine = subst (λ (d : Entry). VisitFine c.args.self.now.table.now (message_of c.args.self.now.bytes.now c.args.self.now.handles.now) c.args.frame.depth c.args.frame.inside c.args.entry (Some (struct_frame d (c.args.frame.base + c.loop-i.done) c.args.frame.depth c.args.frame.inside))) (sym c.entry-e.ensures.value) (struct_fine c.args.self.now.table.now c.args.self.now.fine (message_of c.args.self.now.bytes.now c.args.self.now.handles.now) c.args.frame.depth c.args.entry (c.args.frame.base + c.loop-i.done) (at_of c.loop-i.state) c.requires.entry c.loop-i.invariant.turns.state c.requires.frame.depth c.args.frame.inside c.requires.kind (omega (arith, before, fits, within)) (elim c.requires.frame.inside [ inl out ↦ inl out | inr own ↦ (let four = own.1 in inr (own.0, omega (arith, four, fits))) ])) in
+    let taken : Turns c.args.self.now.table.now (message_of c.args.self.now.bytes.now c.args.self.now.handles.now) c.args.frame (at_of c.args.state.now) (at_of c.loop-i.state) (c.loop-i.state.steps + 1 - c.args.state.now.steps) (record { below = Some (struct_frame c.entry-e.result (c.args.frame.base + c.loop-i.done) c.args.frame.depth c.args.frame.inside); rest = Some (going_on (going_on c.args.frame (Elements c.args.entry c.args.size (c.args.count - c.loop-i.i)) c.loop-i.done) (Elements c.args.entry c.args.size (c.args.count - (c.loop-i.i + 1))) (c.loop-i.done + c.args.size)) }) = next_takes c.args.self.now.table.now c.args.self.now.fine (message_of c.args.self.now.bytes.now c.args.self.now.handles.now) c.args.frame (at_of c.args.state.now) (at_of c.loop-i.state) (c.loop-i.state.steps - c.args.state.now.steps) (going_on c.args.frame (Elements c.args.entry c.args.size (c.args.count - c.loop-i.i)) c.loop-i.done) c.loop-i.invariant.turns (let x : Row = record { offset = c.loop-i.done; entry = c.args.entry } in x) (Elements c.args.entry c.args.size (c.args.count - (c.loop-i.i + 1))) one tt is tt (Some (struct_frame c.entry-e.result (c.args.frame.base + c.loop-i.done) c.args.frame.depth c.args.frame.inside)) (at_of c.loop-i.state) (c.loop-i.done + c.args.size) 0 (c.loop-i.state.steps + 1 - c.args.state.now.steps) (omega (arith, own, is)) (omega (arith, so_far)) (no_zeros c.args.self.now.bytes.now (c.args.frame.base + c.loop-i.done) _ none) seen seen_fine in
     let less = taken.less in
     on_err _ ((to : At) → Reads c.args.self.now.table.now (message_of c.args.self.now.bytes.now c.args.self.now.handles.now) c.args.frame (at_of c.args.state.now) to → ⊥) (below_refused c.args.self.now.table.now (message_of c.args.self.now.bytes.now c.args.self.now.handles.now) c.args.frame (at_of c.args.state.now) (at_of c.loop-i.state) (c.loop-i.state.steps + 1 - c.args.state.now.steps) (struct_frame c.entry-e.result (c.args.frame.base + c.loop-i.done) c.args.frame.depth c.args.frame.inside) (going_on (going_on c.args.frame (Elements c.args.entry c.args.size (c.args.count - c.loop-i.i)) c.loop-i.done) (Elements c.args.entry c.args.size (c.args.count - (c.loop-i.i + 1))) (c.loop-i.done + c.args.size)) taken c.in_err-found.ensures.err)
 
@@ -125,27 +125,27 @@ pub overflow_add-done : goal.overflow_add-done
 overflow_add-done c =
     let is = c.loop-i.invariant.turns.rest_fine.0.left in
     let one = elements_next c.args.self.now.table.now c.args.entry c.args.size c.loop-i.i c.args.count c.loop-i.done is c.loop-i-test.true in
-    let room = next_room c.args.self.now.table.now c.requires.table (message_of c.args.self.now.bytes.now c.args.self.now.handles.now) c.args.frame (at_of c.args.state.now) (at_of c.loop-i.state) (c.loop-i.state.steps - c.args.state.now.steps) (going_on c.args.frame (Elements c.args.entry c.args.size (c.args.count - c.loop-i.i)) c.loop-i.done) c.loop-i.invariant.turns (let x : Row = record { offset = c.loop-i.done; entry = c.args.entry } in x) (Elements c.args.entry c.args.size (c.args.count - (c.loop-i.i + 1))) one in
+    let room = next_room c.args.self.now.table.now c.args.self.now.fine (message_of c.args.self.now.bytes.now c.args.self.now.handles.now) c.args.frame (at_of c.args.state.now) (at_of c.loop-i.state) (c.loop-i.state.steps - c.args.state.now.steps) (going_on c.args.frame (Elements c.args.entry c.args.size (c.args.count - c.loop-i.i)) c.loop-i.done) c.loop-i.invariant.turns (let x : Row = record { offset = c.loop-i.done; entry = c.args.entry } in x) (Elements c.args.entry c.args.size (c.args.count - (c.loop-i.i + 1))) one in
     let before = room.0 in
     let fits = room.1 in
     let within = room.2 in
-    let own = next_size c.args.self.now.table.now c.requires.table (message_of c.args.self.now.bytes.now c.args.self.now.handles.now) c.args.frame (at_of c.args.state.now) (at_of c.loop-i.state) (c.loop-i.state.steps - c.args.state.now.steps) (going_on c.args.frame (Elements c.args.entry c.args.size (c.args.count - c.loop-i.i)) c.loop-i.done) c.loop-i.invariant.turns (let x : Row = record { offset = c.loop-i.done; entry = c.args.entry } in x) (Elements c.args.entry c.args.size (c.args.count - (c.loop-i.i + 1))) one in
+    let own = next_size c.args.self.now.table.now c.args.self.now.fine (message_of c.args.self.now.bytes.now c.args.self.now.handles.now) c.args.frame (at_of c.args.state.now) (at_of c.loop-i.state) (c.loop-i.state.steps - c.args.state.now.steps) (going_on c.args.frame (Elements c.args.entry c.args.size (c.args.count - c.loop-i.i)) c.loop-i.done) c.loop-i.invariant.turns (let x : Row = record { offset = c.loop-i.done; entry = c.args.entry } in x) (Elements c.args.entry c.args.size (c.args.count - (c.loop-i.i + 1))) one in
     record { fits = omega (arith, before, fits, within, own, is) }
 
 pub returns-in-Some-clause-ok : goal.returns-in-Some-clause-ok
 returns-in-Some-clause-ok c =
     let is = c.loop-i.invariant.turns.rest_fine.0.left in
     let one = elements_next c.args.self.now.table.now c.args.entry c.args.size c.loop-i.i c.args.count c.loop-i.done is c.loop-i-test.true in
-    let room = next_room c.args.self.now.table.now c.requires.table (message_of c.args.self.now.bytes.now c.args.self.now.handles.now) c.args.frame (at_of c.args.state.now) (at_of c.loop-i.state) (c.loop-i.state.steps - c.args.state.now.steps) (going_on c.args.frame (Elements c.args.entry c.args.size (c.args.count - c.loop-i.i)) c.loop-i.done) c.loop-i.invariant.turns (let x : Row = record { offset = c.loop-i.done; entry = c.args.entry } in x) (Elements c.args.entry c.args.size (c.args.count - (c.loop-i.i + 1))) one in
+    let room = next_room c.args.self.now.table.now c.args.self.now.fine (message_of c.args.self.now.bytes.now c.args.self.now.handles.now) c.args.frame (at_of c.args.state.now) (at_of c.loop-i.state) (c.loop-i.state.steps - c.args.state.now.steps) (going_on c.args.frame (Elements c.args.entry c.args.size (c.args.count - c.loop-i.i)) c.loop-i.done) c.loop-i.invariant.turns (let x : Row = record { offset = c.loop-i.done; entry = c.args.entry } in x) (Elements c.args.entry c.args.size (c.args.count - (c.loop-i.i + 1))) one in
     let before = room.0 in
     let fits = room.1 in
     let within = room.2 in
-    let own = next_size c.args.self.now.table.now c.requires.table (message_of c.args.self.now.bytes.now c.args.self.now.handles.now) c.args.frame (at_of c.args.state.now) (at_of c.loop-i.state) (c.loop-i.state.steps - c.args.state.now.steps) (going_on c.args.frame (Elements c.args.entry c.args.size (c.args.count - c.loop-i.i)) c.loop-i.done) c.loop-i.invariant.turns (let x : Row = record { offset = c.loop-i.done; entry = c.args.entry } in x) (Elements c.args.entry c.args.size (c.args.count - (c.loop-i.i + 1))) one in
+    let own = next_size c.args.self.now.table.now c.args.self.now.fine (message_of c.args.self.now.bytes.now c.args.self.now.handles.now) c.args.frame (at_of c.args.state.now) (at_of c.loop-i.state) (c.loop-i.state.steps - c.args.state.now.steps) (going_on c.args.frame (Elements c.args.entry c.args.size (c.args.count - c.loop-i.i)) c.loop-i.done) c.loop-i.invariant.turns (let x : Row = record { offset = c.loop-i.done; entry = c.args.entry } in x) (Elements c.args.entry c.args.size (c.args.count - (c.loop-i.i + 1))) one in
     let so_far = c.loop-i.invariant.steps in
     let none : (c.args.frame.base + c.loop-i.done) - (c.args.frame.base + c.loop-i.done) ≡ 0 = omega arith in
-    let seen : Visits c.args.self.now.table.now (message_of c.args.self.now.bytes.now c.args.self.now.handles.now) c.args.frame.depth c.args.entry (c.args.frame.base + c.loop-i.done) (at_of c.loop-i.state) (at_of c.loop-i.state) 0 (Some (struct_frame c.entry-e.result (c.args.frame.base + c.loop-i.done) c.args.frame.depth c.args.frame.inside)) = subst (λ (d : Entry). Visits c.args.self.now.table.now (message_of c.args.self.now.bytes.now c.args.self.now.handles.now) c.args.frame.depth c.args.entry (c.args.frame.base + c.loop-i.done) (at_of c.loop-i.state) (at_of c.loop-i.state) 0 (Some (struct_frame d (c.args.frame.base + c.loop-i.done) c.args.frame.depth c.args.frame.inside))) (sym c.entry-e.ensures.value) (visits_struct c.args.self.now.table.now c.requires.table (message_of c.args.self.now.bytes.now c.args.self.now.handles.now) c.args.frame.depth c.args.entry (c.args.frame.base + c.loop-i.done) (at_of c.loop-i.state) c.requires.entry c.loop-i.invariant.turns.state c.requires.frame.depth c.args.frame.inside 0 refl c.requires.kind (omega (arith, before, fits, within))) in
-    let seen_fine = subst (λ (d : Entry). VisitFine c.args.self.now.table.now (message_of c.args.self.now.bytes.now c.args.self.now.handles.now) c.args.frame.depth c.args.frame.inside c.args.entry (Some (struct_frame d (c.args.frame.base + c.loop-i.done) c.args.frame.depth c.args.frame.inside))) (sym c.entry-e.ensures.value) (struct_fine c.args.self.now.table.now c.requires.table (message_of c.args.self.now.bytes.now c.args.self.now.handles.now) c.args.frame.depth c.args.entry (c.args.frame.base + c.loop-i.done) (at_of c.loop-i.state) c.requires.entry c.loop-i.invariant.turns.state c.requires.frame.depth c.args.frame.inside c.requires.kind (omega (arith, before, fits, within)) (elim c.requires.frame.inside [ inl out ↦ inl out | inr own ↦ (let four = own.1 in inr (own.0, omega (arith, four, fits))) ])) in
-    let taken : Turns c.args.self.now.table.now (message_of c.args.self.now.bytes.now c.args.self.now.handles.now) c.args.frame (at_of c.args.state.now) (at_of c.loop-i.state) (c.loop-i.state.steps + 1 - c.args.state.now.steps) (record { below = Some (struct_frame c.entry-e.result (c.args.frame.base + c.loop-i.done) c.args.frame.depth c.args.frame.inside); rest = Some (going_on (going_on c.args.frame (Elements c.args.entry c.args.size (c.args.count - c.loop-i.i)) c.loop-i.done) (Elements c.args.entry c.args.size (c.args.count - (c.loop-i.i + 1))) (c.loop-i.done + c.args.size)) }) = next_takes c.args.self.now.table.now c.requires.table (message_of c.args.self.now.bytes.now c.args.self.now.handles.now) c.args.frame (at_of c.args.state.now) (at_of c.loop-i.state) (c.loop-i.state.steps - c.args.state.now.steps) (going_on c.args.frame (Elements c.args.entry c.args.size (c.args.count - c.loop-i.i)) c.loop-i.done) c.loop-i.invariant.turns (let x : Row = record { offset = c.loop-i.done; entry = c.args.entry } in x) (Elements c.args.entry c.args.size (c.args.count - (c.loop-i.i + 1))) one tt is tt (Some (struct_frame c.entry-e.result (c.args.frame.base + c.loop-i.done) c.args.frame.depth c.args.frame.inside)) (at_of c.loop-i.state) (c.loop-i.done + c.args.size) 0 (c.loop-i.state.steps + 1 - c.args.state.now.steps) (omega (arith, own, is)) (omega (arith, so_far)) (no_zeros c.args.self.now.bytes.now (c.args.frame.base + c.loop-i.done) _ none) seen seen_fine in
+    let seen : Visits c.args.self.now.table.now (message_of c.args.self.now.bytes.now c.args.self.now.handles.now) c.args.frame.depth c.args.entry (c.args.frame.base + c.loop-i.done) (at_of c.loop-i.state) (at_of c.loop-i.state) 0 (Some (struct_frame c.entry-e.result (c.args.frame.base + c.loop-i.done) c.args.frame.depth c.args.frame.inside)) = subst (λ (d : Entry). Visits c.args.self.now.table.now (message_of c.args.self.now.bytes.now c.args.self.now.handles.now) c.args.frame.depth c.args.entry (c.args.frame.base + c.loop-i.done) (at_of c.loop-i.state) (at_of c.loop-i.state) 0 (Some (struct_frame d (c.args.frame.base + c.loop-i.done) c.args.frame.depth c.args.frame.inside))) (sym c.entry-e.ensures.value) (visits_struct c.args.self.now.table.now c.args.self.now.fine (message_of c.args.self.now.bytes.now c.args.self.now.handles.now) c.args.frame.depth c.args.entry (c.args.frame.base + c.loop-i.done) (at_of c.loop-i.state) c.requires.entry c.loop-i.invariant.turns.state c.requires.frame.depth c.args.frame.inside 0 refl c.requires.kind (omega (arith, before, fits, within))) in
+    let seen_fine = subst (λ (d : Entry). VisitFine c.args.self.now.table.now (message_of c.args.self.now.bytes.now c.args.self.now.handles.now) c.args.frame.depth c.args.frame.inside c.args.entry (Some (struct_frame d (c.args.frame.base + c.loop-i.done) c.args.frame.depth c.args.frame.inside))) (sym c.entry-e.ensures.value) (struct_fine c.args.self.now.table.now c.args.self.now.fine (message_of c.args.self.now.bytes.now c.args.self.now.handles.now) c.args.frame.depth c.args.entry (c.args.frame.base + c.loop-i.done) (at_of c.loop-i.state) c.requires.entry c.loop-i.invariant.turns.state c.requires.frame.depth c.args.frame.inside c.requires.kind (omega (arith, before, fits, within)) (elim c.requires.frame.inside [ inl out ↦ inl out | inr own ↦ (let four = own.1 in inr (own.0, omega (arith, four, fits))) ])) in
+    let taken : Turns c.args.self.now.table.now (message_of c.args.self.now.bytes.now c.args.self.now.handles.now) c.args.frame (at_of c.args.state.now) (at_of c.loop-i.state) (c.loop-i.state.steps + 1 - c.args.state.now.steps) (record { below = Some (struct_frame c.entry-e.result (c.args.frame.base + c.loop-i.done) c.args.frame.depth c.args.frame.inside); rest = Some (going_on (going_on c.args.frame (Elements c.args.entry c.args.size (c.args.count - c.loop-i.i)) c.loop-i.done) (Elements c.args.entry c.args.size (c.args.count - (c.loop-i.i + 1))) (c.loop-i.done + c.args.size)) }) = next_takes c.args.self.now.table.now c.args.self.now.fine (message_of c.args.self.now.bytes.now c.args.self.now.handles.now) c.args.frame (at_of c.args.state.now) (at_of c.loop-i.state) (c.loop-i.state.steps - c.args.state.now.steps) (going_on c.args.frame (Elements c.args.entry c.args.size (c.args.count - c.loop-i.i)) c.loop-i.done) c.loop-i.invariant.turns (let x : Row = record { offset = c.loop-i.done; entry = c.args.entry } in x) (Elements c.args.entry c.args.size (c.args.count - (c.loop-i.i + 1))) one tt is tt (Some (struct_frame c.entry-e.result (c.args.frame.base + c.loop-i.done) c.args.frame.depth c.args.frame.inside)) (at_of c.loop-i.state) (c.loop-i.done + c.args.size) 0 (c.loop-i.state.steps + 1 - c.args.state.now.steps) (omega (arith, own, is)) (omega (arith, so_far)) (no_zeros c.args.self.now.bytes.now (c.args.frame.base + c.loop-i.done) _ none) seen seen_fine in
     let less = taken.less in
     let on = c.in_ok-found.ensures.grows in
     let read = subst (λ (o : Option Frame). Turns c.args.self.now.table.now (message_of c.args.self.now.bytes.now c.args.self.now.handles.now) (struct_frame c.entry-e.result (c.args.frame.base + c.loop-i.done) c.args.frame.depth c.args.frame.inside) (at_of c.loop-i.state) (at_of c.read_behind.new.state) (c.read_behind.new.state.steps - (c.loop-i.state.steps + 1)) (left_over o)) c.in-Some.is c.in_ok-found.ensures.ok in
@@ -155,16 +155,16 @@ pub loop-i-preserved : goal.loop-i-preserved
 loop-i-preserved c =
     let is = c.loop-i.invariant.turns.rest_fine.0.left in
     let one = elements_next c.args.self.now.table.now c.args.entry c.args.size c.loop-i.i c.args.count c.loop-i.done is c.loop-i-test.true in
-    let room = next_room c.args.self.now.table.now c.requires.table (message_of c.args.self.now.bytes.now c.args.self.now.handles.now) c.args.frame (at_of c.args.state.now) (at_of c.loop-i.state) (c.loop-i.state.steps - c.args.state.now.steps) (going_on c.args.frame (Elements c.args.entry c.args.size (c.args.count - c.loop-i.i)) c.loop-i.done) c.loop-i.invariant.turns (let x : Row = record { offset = c.loop-i.done; entry = c.args.entry } in x) (Elements c.args.entry c.args.size (c.args.count - (c.loop-i.i + 1))) one in
+    let room = next_room c.args.self.now.table.now c.args.self.now.fine (message_of c.args.self.now.bytes.now c.args.self.now.handles.now) c.args.frame (at_of c.args.state.now) (at_of c.loop-i.state) (c.loop-i.state.steps - c.args.state.now.steps) (going_on c.args.frame (Elements c.args.entry c.args.size (c.args.count - c.loop-i.i)) c.loop-i.done) c.loop-i.invariant.turns (let x : Row = record { offset = c.loop-i.done; entry = c.args.entry } in x) (Elements c.args.entry c.args.size (c.args.count - (c.loop-i.i + 1))) one in
     let before = room.0 in
     let fits = room.1 in
     let within = room.2 in
-    let own = next_size c.args.self.now.table.now c.requires.table (message_of c.args.self.now.bytes.now c.args.self.now.handles.now) c.args.frame (at_of c.args.state.now) (at_of c.loop-i.state) (c.loop-i.state.steps - c.args.state.now.steps) (going_on c.args.frame (Elements c.args.entry c.args.size (c.args.count - c.loop-i.i)) c.loop-i.done) c.loop-i.invariant.turns (let x : Row = record { offset = c.loop-i.done; entry = c.args.entry } in x) (Elements c.args.entry c.args.size (c.args.count - (c.loop-i.i + 1))) one in
+    let own = next_size c.args.self.now.table.now c.args.self.now.fine (message_of c.args.self.now.bytes.now c.args.self.now.handles.now) c.args.frame (at_of c.args.state.now) (at_of c.loop-i.state) (c.loop-i.state.steps - c.args.state.now.steps) (going_on c.args.frame (Elements c.args.entry c.args.size (c.args.count - c.loop-i.i)) c.loop-i.done) c.loop-i.invariant.turns (let x : Row = record { offset = c.loop-i.done; entry = c.args.entry } in x) (Elements c.args.entry c.args.size (c.args.count - (c.loop-i.i + 1))) one in
     let so_far = c.loop-i.invariant.steps in
     let none : (c.args.frame.base + c.loop-i.done) - (c.args.frame.base + c.loop-i.done) ≡ 0 = omega arith in
-    let seen : Visits c.args.self.now.table.now (message_of c.args.self.now.bytes.now c.args.self.now.handles.now) c.args.frame.depth c.args.entry (c.args.frame.base + c.loop-i.done) (at_of c.loop-i.state) (at_of c.loop-i.state) 0 (Some (struct_frame c.entry-e.result (c.args.frame.base + c.loop-i.done) c.args.frame.depth c.args.frame.inside)) = subst (λ (d : Entry). Visits c.args.self.now.table.now (message_of c.args.self.now.bytes.now c.args.self.now.handles.now) c.args.frame.depth c.args.entry (c.args.frame.base + c.loop-i.done) (at_of c.loop-i.state) (at_of c.loop-i.state) 0 (Some (struct_frame d (c.args.frame.base + c.loop-i.done) c.args.frame.depth c.args.frame.inside))) (sym c.entry-e.ensures.value) (visits_struct c.args.self.now.table.now c.requires.table (message_of c.args.self.now.bytes.now c.args.self.now.handles.now) c.args.frame.depth c.args.entry (c.args.frame.base + c.loop-i.done) (at_of c.loop-i.state) c.requires.entry c.loop-i.invariant.turns.state c.requires.frame.depth c.args.frame.inside 0 refl c.requires.kind (omega (arith, before, fits, within))) in
-    let seen_fine = subst (λ (d : Entry). VisitFine c.args.self.now.table.now (message_of c.args.self.now.bytes.now c.args.self.now.handles.now) c.args.frame.depth c.args.frame.inside c.args.entry (Some (struct_frame d (c.args.frame.base + c.loop-i.done) c.args.frame.depth c.args.frame.inside))) (sym c.entry-e.ensures.value) (struct_fine c.args.self.now.table.now c.requires.table (message_of c.args.self.now.bytes.now c.args.self.now.handles.now) c.args.frame.depth c.args.entry (c.args.frame.base + c.loop-i.done) (at_of c.loop-i.state) c.requires.entry c.loop-i.invariant.turns.state c.requires.frame.depth c.args.frame.inside c.requires.kind (omega (arith, before, fits, within)) (elim c.requires.frame.inside [ inl out ↦ inl out | inr own ↦ (let four = own.1 in inr (own.0, omega (arith, four, fits))) ])) in
-    let taken : Turns c.args.self.now.table.now (message_of c.args.self.now.bytes.now c.args.self.now.handles.now) c.args.frame (at_of c.args.state.now) (at_of c.loop-i.state) (c.loop-i.state.steps + 1 - c.args.state.now.steps) (record { below = Some (struct_frame c.entry-e.result (c.args.frame.base + c.loop-i.done) c.args.frame.depth c.args.frame.inside); rest = Some (going_on (going_on c.args.frame (Elements c.args.entry c.args.size (c.args.count - c.loop-i.i)) c.loop-i.done) (Elements c.args.entry c.args.size (c.args.count - (c.loop-i.i + 1))) (c.loop-i.done + c.args.size)) }) = next_takes c.args.self.now.table.now c.requires.table (message_of c.args.self.now.bytes.now c.args.self.now.handles.now) c.args.frame (at_of c.args.state.now) (at_of c.loop-i.state) (c.loop-i.state.steps - c.args.state.now.steps) (going_on c.args.frame (Elements c.args.entry c.args.size (c.args.count - c.loop-i.i)) c.loop-i.done) c.loop-i.invariant.turns (let x : Row = record { offset = c.loop-i.done; entry = c.args.entry } in x) (Elements c.args.entry c.args.size (c.args.count - (c.loop-i.i + 1))) one tt is tt (Some (struct_frame c.entry-e.result (c.args.frame.base + c.loop-i.done) c.args.frame.depth c.args.frame.inside)) (at_of c.loop-i.state) (c.loop-i.done + c.args.size) 0 (c.loop-i.state.steps + 1 - c.args.state.now.steps) (omega (arith, own, is)) (omega (arith, so_far)) (no_zeros c.args.self.now.bytes.now (c.args.frame.base + c.loop-i.done) _ none) seen seen_fine in
+    let seen : Visits c.args.self.now.table.now (message_of c.args.self.now.bytes.now c.args.self.now.handles.now) c.args.frame.depth c.args.entry (c.args.frame.base + c.loop-i.done) (at_of c.loop-i.state) (at_of c.loop-i.state) 0 (Some (struct_frame c.entry-e.result (c.args.frame.base + c.loop-i.done) c.args.frame.depth c.args.frame.inside)) = subst (λ (d : Entry). Visits c.args.self.now.table.now (message_of c.args.self.now.bytes.now c.args.self.now.handles.now) c.args.frame.depth c.args.entry (c.args.frame.base + c.loop-i.done) (at_of c.loop-i.state) (at_of c.loop-i.state) 0 (Some (struct_frame d (c.args.frame.base + c.loop-i.done) c.args.frame.depth c.args.frame.inside))) (sym c.entry-e.ensures.value) (visits_struct c.args.self.now.table.now c.args.self.now.fine (message_of c.args.self.now.bytes.now c.args.self.now.handles.now) c.args.frame.depth c.args.entry (c.args.frame.base + c.loop-i.done) (at_of c.loop-i.state) c.requires.entry c.loop-i.invariant.turns.state c.requires.frame.depth c.args.frame.inside 0 refl c.requires.kind (omega (arith, before, fits, within))) in
+    let seen_fine = subst (λ (d : Entry). VisitFine c.args.self.now.table.now (message_of c.args.self.now.bytes.now c.args.self.now.handles.now) c.args.frame.depth c.args.frame.inside c.args.entry (Some (struct_frame d (c.args.frame.base + c.loop-i.done) c.args.frame.depth c.args.frame.inside))) (sym c.entry-e.ensures.value) (struct_fine c.args.self.now.table.now c.args.self.now.fine (message_of c.args.self.now.bytes.now c.args.self.now.handles.now) c.args.frame.depth c.args.entry (c.args.frame.base + c.loop-i.done) (at_of c.loop-i.state) c.requires.entry c.loop-i.invariant.turns.state c.requires.frame.depth c.args.frame.inside c.requires.kind (omega (arith, before, fits, within)) (elim c.requires.frame.inside [ inl out ↦ inl out | inr own ↦ (let four = own.1 in inr (own.0, omega (arith, four, fits))) ])) in
+    let taken : Turns c.args.self.now.table.now (message_of c.args.self.now.bytes.now c.args.self.now.handles.now) c.args.frame (at_of c.args.state.now) (at_of c.loop-i.state) (c.loop-i.state.steps + 1 - c.args.state.now.steps) (record { below = Some (struct_frame c.entry-e.result (c.args.frame.base + c.loop-i.done) c.args.frame.depth c.args.frame.inside); rest = Some (going_on (going_on c.args.frame (Elements c.args.entry c.args.size (c.args.count - c.loop-i.i)) c.loop-i.done) (Elements c.args.entry c.args.size (c.args.count - (c.loop-i.i + 1))) (c.loop-i.done + c.args.size)) }) = next_takes c.args.self.now.table.now c.args.self.now.fine (message_of c.args.self.now.bytes.now c.args.self.now.handles.now) c.args.frame (at_of c.args.state.now) (at_of c.loop-i.state) (c.loop-i.state.steps - c.args.state.now.steps) (going_on c.args.frame (Elements c.args.entry c.args.size (c.args.count - c.loop-i.i)) c.loop-i.done) c.loop-i.invariant.turns (let x : Row = record { offset = c.loop-i.done; entry = c.args.entry } in x) (Elements c.args.entry c.args.size (c.args.count - (c.loop-i.i + 1))) one tt is tt (Some (struct_frame c.entry-e.result (c.args.frame.base + c.loop-i.done) c.args.frame.depth c.args.frame.inside)) (at_of c.loop-i.state) (c.loop-i.done + c.args.size) 0 (c.loop-i.state.steps + 1 - c.args.state.now.steps) (omega (arith, own, is)) (omega (arith, so_far)) (no_zeros c.args.self.now.bytes.now (c.args.frame.base + c.loop-i.done) _ none) seen seen_fine in
     let less = taken.less in
     let on = c.in_ok-found.ensures.grows in
     let read = subst (λ (o : Option Frame). Turns c.args.self.now.table.now (message_of c.args.self.now.bytes.now c.args.self.now.handles.now) (struct_frame c.entry-e.result (c.args.frame.base + c.loop-i.done) c.args.frame.depth c.args.frame.inside) (at_of c.loop-i.state) (at_of c.read_behind.new.state) (c.read_behind.new.state.steps - (c.loop-i.state.steps + 1)) (left_over o)) c.in_default.is c.in_ok-found.ensures.ok in
@@ -172,21 +172,21 @@ loop-i-preserved c =
 
 pub overflow_add-behind : goal.overflow_add-behind
 overflow_add-behind c =
-    let room = over_room c.args.self.now.table.now c.requires.table (message_of c.args.self.now.bytes.now c.args.self.now.handles.now) c.args.frame (at_of c.args.state.now) (at_of c.loop-i.state) (c.loop-i.state.steps - c.args.state.now.steps) (going_on c.args.frame (Elements c.args.entry c.args.size (c.args.count - c.loop-i.i)) c.loop-i.done) c.loop-i.invariant.turns in
+    let room = over_room c.args.self.now.table.now c.args.self.now.fine (message_of c.args.self.now.bytes.now c.args.self.now.handles.now) c.args.frame (at_of c.args.state.now) (at_of c.loop-i.state) (c.loop-i.state.steps - c.args.state.now.steps) (going_on c.args.frame (Elements c.args.entry c.args.size (c.args.count - c.loop-i.i)) c.loop-i.done) c.loop-i.invariant.turns in
     let before = room.0 in
     let within = room.1 in
     record { fits = omega (arith, before, within) }
 
 pub overflow_sub-state : goal.overflow_sub-state
 overflow_sub-state c =
-    let room = over_room c.args.self.now.table.now c.requires.table (message_of c.args.self.now.bytes.now c.args.self.now.handles.now) c.args.frame (at_of c.args.state.now) (at_of c.loop-i.state) (c.loop-i.state.steps - c.args.state.now.steps) (going_on c.args.frame (Elements c.args.entry c.args.size (c.args.count - c.loop-i.i)) c.loop-i.done) c.loop-i.invariant.turns in
+    let room = over_room c.args.self.now.table.now c.args.self.now.fine (message_of c.args.self.now.bytes.now c.args.self.now.handles.now) c.args.frame (at_of c.args.state.now) (at_of c.loop-i.state) (c.loop-i.state.steps - c.args.state.now.steps) (going_on c.args.frame (Elements c.args.entry c.args.size (c.args.count - c.loop-i.i)) c.loop-i.done) c.loop-i.invariant.turns in
     let before = room.0 in
     let within = room.1 in
     omega (arith, before, within)
 
 pub zeros_at-requires-clause-order : goal.zeros_at-requires-clause-order
 zeros_at-requires-clause-order c =
-    let room = over_room c.args.self.now.table.now c.requires.table (message_of c.args.self.now.bytes.now c.args.self.now.handles.now) c.args.frame (at_of c.args.state.now) (at_of c.loop-i.state) (c.loop-i.state.steps - c.args.state.now.steps) (going_on c.args.frame (Elements c.args.entry c.args.size (c.args.count - c.loop-i.i)) c.loop-i.done) c.loop-i.invariant.turns in
+    let room = over_room c.args.self.now.table.now c.args.self.now.fine (message_of c.args.self.now.bytes.now c.args.self.now.handles.now) c.args.frame (at_of c.args.state.now) (at_of c.loop-i.state) (c.loop-i.state.steps - c.args.state.now.steps) (going_on c.args.frame (Elements c.args.entry c.args.size (c.args.count - c.loop-i.i)) c.loop-i.done) c.loop-i.invariant.turns in
     let before = room.0 in
     let within = room.1 in
     omega (arith, before, within)
@@ -194,28 +194,28 @@ zeros_at-requires-clause-order c =
 pub returns-in_err-zeros_at-clause-err : goal.returns-in_err-zeros_at-clause-err
 returns-in_err-zeros_at-clause-err c =
     let over = elements_over c.args.self.now.table.now c.args.entry c.args.size c.loop-i.i c.args.count c.loop-i.done (omega (arith, c.loop-i-test.false)) in
-    on_err _ ((to : At) → Reads c.args.self.now.table.now (message_of c.args.self.now.bytes.now c.args.self.now.handles.now) c.args.frame (at_of c.args.state.now) to → ⊥) (over_refused c.args.self.now.table.now c.requires.table (message_of c.args.self.now.bytes.now c.args.self.now.handles.now) c.args.frame (at_of c.args.state.now) (at_of c.loop-i.state) (c.loop-i.state.steps - c.args.state.now.steps) (going_on c.args.frame (Elements c.args.entry c.args.size (c.args.count - c.loop-i.i)) c.loop-i.done) c.loop-i.invariant.turns over tt c.in_err-zeros_at.ensures.err)
+    on_err _ ((to : At) → Reads c.args.self.now.table.now (message_of c.args.self.now.bytes.now c.args.self.now.handles.now) c.args.frame (at_of c.args.state.now) to → ⊥) (over_refused c.args.self.now.table.now c.args.self.now.fine (message_of c.args.self.now.bytes.now c.args.self.now.handles.now) c.args.frame (at_of c.args.state.now) (at_of c.loop-i.state) (c.loop-i.state.steps - c.args.state.now.steps) (going_on c.args.frame (Elements c.args.entry c.args.size (c.args.count - c.loop-i.i)) c.loop-i.done) c.loop-i.invariant.turns over tt c.in_err-zeros_at.ensures.err)
 
 pub returns-clause-ok : goal.returns-clause-ok
 returns-clause-ok c =
     let over = elements_over c.args.self.now.table.now c.args.entry c.args.size c.loop-i.i c.args.count c.loop-i.done (omega (arith, c.loop-i-test.false)) in
     let so_far = c.loop-i.invariant.steps in
-    over_turns c.args.self.now.table.now c.requires.table (message_of c.args.self.now.bytes.now c.args.self.now.handles.now) c.args.frame (at_of c.args.state.now) (at_of c.loop-i.state) (c.loop-i.state.steps - c.args.state.now.steps) (going_on c.args.frame (Elements c.args.entry c.args.size (c.args.count - c.loop-i.i)) c.loop-i.done) c.loop-i.invariant.turns over tt _ (omega (arith, so_far)) c.in_ok-zeros_at.ensures.ok
+    over_turns c.args.self.now.table.now c.args.self.now.fine (message_of c.args.self.now.bytes.now c.args.self.now.handles.now) c.args.frame (at_of c.args.state.now) (at_of c.loop-i.state) (c.loop-i.state.steps - c.args.state.now.steps) (going_on c.args.frame (Elements c.args.entry c.args.size (c.args.count - c.loop-i.i)) c.loop-i.done) c.loop-i.invariant.turns over tt _ (omega (arith, so_far)) c.in_ok-zeros_at.ensures.ok
 
 pub returns-in-Some-clause-cost : goal.returns-in-Some-clause-cost
 returns-in-Some-clause-cost c =
     let is = c.loop-i.invariant.turns.rest_fine.0.left in
     let one = elements_next c.args.self.now.table.now c.args.entry c.args.size c.loop-i.i c.args.count c.loop-i.done is c.loop-i-test.true in
-    let room = next_room c.args.self.now.table.now c.requires.table (message_of c.args.self.now.bytes.now c.args.self.now.handles.now) c.args.frame (at_of c.args.state.now) (at_of c.loop-i.state) (c.loop-i.state.steps - c.args.state.now.steps) (going_on c.args.frame (Elements c.args.entry c.args.size (c.args.count - c.loop-i.i)) c.loop-i.done) c.loop-i.invariant.turns (let x : Row = record { offset = c.loop-i.done; entry = c.args.entry } in x) (Elements c.args.entry c.args.size (c.args.count - (c.loop-i.i + 1))) one in
+    let room = next_room c.args.self.now.table.now c.args.self.now.fine (message_of c.args.self.now.bytes.now c.args.self.now.handles.now) c.args.frame (at_of c.args.state.now) (at_of c.loop-i.state) (c.loop-i.state.steps - c.args.state.now.steps) (going_on c.args.frame (Elements c.args.entry c.args.size (c.args.count - c.loop-i.i)) c.loop-i.done) c.loop-i.invariant.turns (let x : Row = record { offset = c.loop-i.done; entry = c.args.entry } in x) (Elements c.args.entry c.args.size (c.args.count - (c.loop-i.i + 1))) one in
     let before = room.0 in
     let fits = room.1 in
     let within = room.2 in
-    let own = next_size c.args.self.now.table.now c.requires.table (message_of c.args.self.now.bytes.now c.args.self.now.handles.now) c.args.frame (at_of c.args.state.now) (at_of c.loop-i.state) (c.loop-i.state.steps - c.args.state.now.steps) (going_on c.args.frame (Elements c.args.entry c.args.size (c.args.count - c.loop-i.i)) c.loop-i.done) c.loop-i.invariant.turns (let x : Row = record { offset = c.loop-i.done; entry = c.args.entry } in x) (Elements c.args.entry c.args.size (c.args.count - (c.loop-i.i + 1))) one in
+    let own = next_size c.args.self.now.table.now c.args.self.now.fine (message_of c.args.self.now.bytes.now c.args.self.now.handles.now) c.args.frame (at_of c.args.state.now) (at_of c.loop-i.state) (c.loop-i.state.steps - c.args.state.now.steps) (going_on c.args.frame (Elements c.args.entry c.args.size (c.args.count - c.loop-i.i)) c.loop-i.done) c.loop-i.invariant.turns (let x : Row = record { offset = c.loop-i.done; entry = c.args.entry } in x) (Elements c.args.entry c.args.size (c.args.count - (c.loop-i.i + 1))) one in
     let so_far = c.loop-i.invariant.steps in
     let none : (c.args.frame.base + c.loop-i.done) - (c.args.frame.base + c.loop-i.done) ≡ 0 = omega arith in
-    let seen : Visits c.args.self.now.table.now (message_of c.args.self.now.bytes.now c.args.self.now.handles.now) c.args.frame.depth c.args.entry (c.args.frame.base + c.loop-i.done) (at_of c.loop-i.state) (at_of c.loop-i.state) 0 (Some (struct_frame c.entry-e.result (c.args.frame.base + c.loop-i.done) c.args.frame.depth c.args.frame.inside)) = subst (λ (d : Entry). Visits c.args.self.now.table.now (message_of c.args.self.now.bytes.now c.args.self.now.handles.now) c.args.frame.depth c.args.entry (c.args.frame.base + c.loop-i.done) (at_of c.loop-i.state) (at_of c.loop-i.state) 0 (Some (struct_frame d (c.args.frame.base + c.loop-i.done) c.args.frame.depth c.args.frame.inside))) (sym c.entry-e.ensures.value) (visits_struct c.args.self.now.table.now c.requires.table (message_of c.args.self.now.bytes.now c.args.self.now.handles.now) c.args.frame.depth c.args.entry (c.args.frame.base + c.loop-i.done) (at_of c.loop-i.state) c.requires.entry c.loop-i.invariant.turns.state c.requires.frame.depth c.args.frame.inside 0 refl c.requires.kind (omega (arith, before, fits, within))) in
-    let seen_fine = subst (λ (d : Entry). VisitFine c.args.self.now.table.now (message_of c.args.self.now.bytes.now c.args.self.now.handles.now) c.args.frame.depth c.args.frame.inside c.args.entry (Some (struct_frame d (c.args.frame.base + c.loop-i.done) c.args.frame.depth c.args.frame.inside))) (sym c.entry-e.ensures.value) (struct_fine c.args.self.now.table.now c.requires.table (message_of c.args.self.now.bytes.now c.args.self.now.handles.now) c.args.frame.depth c.args.entry (c.args.frame.base + c.loop-i.done) (at_of c.loop-i.state) c.requires.entry c.loop-i.invariant.turns.state c.requires.frame.depth c.args.frame.inside c.requires.kind (omega (arith, before, fits, within)) (elim c.requires.frame.inside [ inl out ↦ inl out | inr own ↦ (let four = own.1 in inr (own.0, omega (arith, four, fits))) ])) in
-    let taken : Turns c.args.self.now.table.now (message_of c.args.self.now.bytes.now c.args.self.now.handles.now) c.args.frame (at_of c.args.state.now) (at_of c.loop-i.state) (c.loop-i.state.steps + 1 - c.args.state.now.steps) (record { below = Some (struct_frame c.entry-e.result (c.args.frame.base + c.loop-i.done) c.args.frame.depth c.args.frame.inside); rest = Some (going_on (going_on c.args.frame (Elements c.args.entry c.args.size (c.args.count - c.loop-i.i)) c.loop-i.done) (Elements c.args.entry c.args.size (c.args.count - (c.loop-i.i + 1))) (c.loop-i.done + c.args.size)) }) = next_takes c.args.self.now.table.now c.requires.table (message_of c.args.self.now.bytes.now c.args.self.now.handles.now) c.args.frame (at_of c.args.state.now) (at_of c.loop-i.state) (c.loop-i.state.steps - c.args.state.now.steps) (going_on c.args.frame (Elements c.args.entry c.args.size (c.args.count - c.loop-i.i)) c.loop-i.done) c.loop-i.invariant.turns (let x : Row = record { offset = c.loop-i.done; entry = c.args.entry } in x) (Elements c.args.entry c.args.size (c.args.count - (c.loop-i.i + 1))) one tt is tt (Some (struct_frame c.entry-e.result (c.args.frame.base + c.loop-i.done) c.args.frame.depth c.args.frame.inside)) (at_of c.loop-i.state) (c.loop-i.done + c.args.size) 0 (c.loop-i.state.steps + 1 - c.args.state.now.steps) (omega (arith, own, is)) (omega (arith, so_far)) (no_zeros c.args.self.now.bytes.now (c.args.frame.base + c.loop-i.done) _ none) seen seen_fine in
+    let seen : Visits c.args.self.now.table.now (message_of c.args.self.now.bytes.now c.args.self.now.handles.now) c.args.frame.depth c.args.entry (c.args.frame.base + c.loop-i.done) (at_of c.loop-i.state) (at_of c.loop-i.state) 0 (Some (struct_frame c.entry-e.result (c.args.frame.base + c.loop-i.done) c.args.frame.depth c.args.frame.inside)) = subst (λ (d : Entry). Visits c.args.self.now.table.now (message_of c.args.self.now.bytes.now c.args.self.now.handles.now) c.args.frame.depth c.args.entry (c.args.frame.base + c.loop-i.done) (at_of c.loop-i.state) (at_of c.loop-i.state) 0 (Some (struct_frame d (c.args.frame.base + c.loop-i.done) c.args.frame.depth c.args.frame.inside))) (sym c.entry-e.ensures.value) (visits_struct c.args.self.now.table.now c.args.self.now.fine (message_of c.args.self.now.bytes.now c.args.self.now.handles.now) c.args.frame.depth c.args.entry (c.args.frame.base + c.loop-i.done) (at_of c.loop-i.state) c.requires.entry c.loop-i.invariant.turns.state c.requires.frame.depth c.args.frame.inside 0 refl c.requires.kind (omega (arith, before, fits, within))) in
+    let seen_fine = subst (λ (d : Entry). VisitFine c.args.self.now.table.now (message_of c.args.self.now.bytes.now c.args.self.now.handles.now) c.args.frame.depth c.args.frame.inside c.args.entry (Some (struct_frame d (c.args.frame.base + c.loop-i.done) c.args.frame.depth c.args.frame.inside))) (sym c.entry-e.ensures.value) (struct_fine c.args.self.now.table.now c.args.self.now.fine (message_of c.args.self.now.bytes.now c.args.self.now.handles.now) c.args.frame.depth c.args.entry (c.args.frame.base + c.loop-i.done) (at_of c.loop-i.state) c.requires.entry c.loop-i.invariant.turns.state c.requires.frame.depth c.args.frame.inside c.requires.kind (omega (arith, before, fits, within)) (elim c.requires.frame.inside [ inl out ↦ inl out | inr own ↦ (let four = own.1 in inr (own.0, omega (arith, four, fits))) ])) in
+    let taken : Turns c.args.self.now.table.now (message_of c.args.self.now.bytes.now c.args.self.now.handles.now) c.args.frame (at_of c.args.state.now) (at_of c.loop-i.state) (c.loop-i.state.steps + 1 - c.args.state.now.steps) (record { below = Some (struct_frame c.entry-e.result (c.args.frame.base + c.loop-i.done) c.args.frame.depth c.args.frame.inside); rest = Some (going_on (going_on c.args.frame (Elements c.args.entry c.args.size (c.args.count - c.loop-i.i)) c.loop-i.done) (Elements c.args.entry c.args.size (c.args.count - (c.loop-i.i + 1))) (c.loop-i.done + c.args.size)) }) = next_takes c.args.self.now.table.now c.args.self.now.fine (message_of c.args.self.now.bytes.now c.args.self.now.handles.now) c.args.frame (at_of c.args.state.now) (at_of c.loop-i.state) (c.loop-i.state.steps - c.args.state.now.steps) (going_on c.args.frame (Elements c.args.entry c.args.size (c.args.count - c.loop-i.i)) c.loop-i.done) c.loop-i.invariant.turns (let x : Row = record { offset = c.loop-i.done; entry = c.args.entry } in x) (Elements c.args.entry c.args.size (c.args.count - (c.loop-i.i + 1))) one tt is tt (Some (struct_frame c.entry-e.result (c.args.frame.base + c.loop-i.done) c.args.frame.depth c.args.frame.inside)) (at_of c.loop-i.state) (c.loop-i.done + c.args.size) 0 (c.loop-i.state.steps + 1 - c.args.state.now.steps) (omega (arith, own, is)) (omega (arith, so_far)) (no_zeros c.args.self.now.bytes.now (c.args.frame.base + c.loop-i.done) _ none) seen seen_fine in
     let less = taken.less in
     omega (arith, less, so_far, c.in_ok-found.ensures.cost)
 
@@ -229,16 +229,16 @@ pub returns-in_err-found-clause-fault_is_true : goal.returns-in_err-found-clause
 returns-in_err-found-clause-fault_is_true c =
     let is = c.loop-i.invariant.turns.rest_fine.0.left in
     let one = elements_next c.args.self.now.table.now c.args.entry c.args.size c.loop-i.i c.args.count c.loop-i.done is c.loop-i-test.true in
-    let room = next_room c.args.self.now.table.now c.requires.table (message_of c.args.self.now.bytes.now c.args.self.now.handles.now) c.args.frame (at_of c.args.state.now) (at_of c.loop-i.state) (c.loop-i.state.steps - c.args.state.now.steps) (going_on c.args.frame (Elements c.args.entry c.args.size (c.args.count - c.loop-i.i)) c.loop-i.done) c.loop-i.invariant.turns (let x : Row = record { offset = c.loop-i.done; entry = c.args.entry } in x) (Elements c.args.entry c.args.size (c.args.count - (c.loop-i.i + 1))) one in
+    let room = next_room c.args.self.now.table.now c.args.self.now.fine (message_of c.args.self.now.bytes.now c.args.self.now.handles.now) c.args.frame (at_of c.args.state.now) (at_of c.loop-i.state) (c.loop-i.state.steps - c.args.state.now.steps) (going_on c.args.frame (Elements c.args.entry c.args.size (c.args.count - c.loop-i.i)) c.loop-i.done) c.loop-i.invariant.turns (let x : Row = record { offset = c.loop-i.done; entry = c.args.entry } in x) (Elements c.args.entry c.args.size (c.args.count - (c.loop-i.i + 1))) one in
     let before = room.0 in
     let fits = room.1 in
     let within = room.2 in
-    let own = next_size c.args.self.now.table.now c.requires.table (message_of c.args.self.now.bytes.now c.args.self.now.handles.now) c.args.frame (at_of c.args.state.now) (at_of c.loop-i.state) (c.loop-i.state.steps - c.args.state.now.steps) (going_on c.args.frame (Elements c.args.entry c.args.size (c.args.count - c.loop-i.i)) c.loop-i.done) c.loop-i.invariant.turns (let x : Row = record { offset = c.loop-i.done; entry = c.args.entry } in x) (Elements c.args.entry c.args.size (c.args.count - (c.loop-i.i + 1))) one in
+    let own = next_size c.args.self.now.table.now c.args.self.now.fine (message_of c.args.self.now.bytes.now c.args.self.now.handles.now) c.args.frame (at_of c.args.state.now) (at_of c.loop-i.state) (c.loop-i.state.steps - c.args.state.now.steps) (going_on c.args.frame (Elements c.args.entry c.args.size (c.args.count - c.loop-i.i)) c.loop-i.done) c.loop-i.invariant.turns (let x : Row = record { offset = c.loop-i.done; entry = c.args.entry } in x) (Elements c.args.entry c.args.size (c.args.count - (c.loop-i.i + 1))) one in
     let so_far = c.loop-i.invariant.steps in
     let none : (c.args.frame.base + c.loop-i.done) - (c.args.frame.base + c.loop-i.done) ≡ 0 = omega arith in
-    let seen : Visits c.args.self.now.table.now (message_of c.args.self.now.bytes.now c.args.self.now.handles.now) c.args.frame.depth c.args.entry (c.args.frame.base + c.loop-i.done) (at_of c.loop-i.state) (at_of c.loop-i.state) 0 (Some (struct_frame c.entry-e.result (c.args.frame.base + c.loop-i.done) c.args.frame.depth c.args.frame.inside)) = subst (λ (d : Entry). Visits c.args.self.now.table.now (message_of c.args.self.now.bytes.now c.args.self.now.handles.now) c.args.frame.depth c.args.entry (c.args.frame.base + c.loop-i.done) (at_of c.loop-i.state) (at_of c.loop-i.state) 0 (Some (struct_frame d (c.args.frame.base + c.loop-i.done) c.args.frame.depth c.args.frame.inside))) (sym c.entry-e.ensures.value) (visits_struct c.args.self.now.table.now c.requires.table (message_of c.args.self.now.bytes.now c.args.self.now.handles.now) c.args.frame.depth c.args.entry (c.args.frame.base + c.loop-i.done) (at_of c.loop-i.state) c.requires.entry c.loop-i.invariant.turns.state c.requires.frame.depth c.args.frame.inside 0 refl c.requires.kind (omega (arith, before, fits, within))) in
-    let seen_fine = subst (λ (d : Entry). VisitFine c.args.self.now.table.now (message_of c.args.self.now.bytes.now c.args.self.now.handles.now) c.args.frame.depth c.args.frame.inside c.args.entry (Some (struct_frame d (c.args.frame.base + c.loop-i.done) c.args.frame.depth c.args.frame.inside))) (sym c.entry-e.ensures.value) (struct_fine c.args.self.now.table.now c.requires.table (message_of c.args.self.now.bytes.now c.args.self.now.handles.now) c.args.frame.depth c.args.entry (c.args.frame.base + c.loop-i.done) (at_of c.loop-i.state) c.requires.entry c.loop-i.invariant.turns.state c.requires.frame.depth c.args.frame.inside c.requires.kind (omega (arith, before, fits, within)) (elim c.requires.frame.inside [ inl out ↦ inl out | inr own ↦ (let four = own.1 in inr (own.0, omega (arith, four, fits))) ])) in
-    let taken : Turns c.args.self.now.table.now (message_of c.args.self.now.bytes.now c.args.self.now.handles.now) c.args.frame (at_of c.args.state.now) (at_of c.loop-i.state) (c.loop-i.state.steps + 1 - c.args.state.now.steps) (record { below = Some (struct_frame c.entry-e.result (c.args.frame.base + c.loop-i.done) c.args.frame.depth c.args.frame.inside); rest = Some (going_on (going_on c.args.frame (Elements c.args.entry c.args.size (c.args.count - c.loop-i.i)) c.loop-i.done) (Elements c.args.entry c.args.size (c.args.count - (c.loop-i.i + 1))) (c.loop-i.done + c.args.size)) }) = next_takes c.args.self.now.table.now c.requires.table (message_of c.args.self.now.bytes.now c.args.self.now.handles.now) c.args.frame (at_of c.args.state.now) (at_of c.loop-i.state) (c.loop-i.state.steps - c.args.state.now.steps) (going_on c.args.frame (Elements c.args.entry c.args.size (c.args.count - c.loop-i.i)) c.loop-i.done) c.loop-i.invariant.turns (let x : Row = record { offset = c.loop-i.done; entry = c.args.entry } in x) (Elements c.args.entry c.args.size (c.args.count - (c.loop-i.i + 1))) one tt is tt (Some (struct_frame c.entry-e.result (c.args.frame.base + c.loop-i.done) c.args.frame.depth c.args.frame.inside)) (at_of c.loop-i.state) (c.loop-i.done + c.args.size) 0 (c.loop-i.state.steps + 1 - c.args.state.now.steps) (omega (arith, own, is)) (omega (arith, so_far)) (no_zeros c.args.self.now.bytes.now (c.args.frame.base + c.loop-i.done) _ none) seen seen_fine in
+    let seen : Visits c.args.self.now.table.now (message_of c.args.self.now.bytes.now c.args.self.now.handles.now) c.args.frame.depth c.args.entry (c.args.frame.base + c.loop-i.done) (at_of c.loop-i.state) (at_of c.loop-i.state) 0 (Some (struct_frame c.entry-e.result (c.args.frame.base + c.loop-i.done) c.args.frame.depth c.args.frame.inside)) = subst (λ (d : Entry). Visits c.args.self.now.table.now (message_of c.args.self.now.bytes.now c.args.self.now.handles.now) c.args.frame.depth c.args.entry (c.args.frame.base + c.loop-i.done) (at_of c.loop-i.state) (at_of c.loop-i.state) 0 (Some (struct_frame d (c.args.frame.base + c.loop-i.done) c.args.frame.depth c.args.frame.inside))) (sym c.entry-e.ensures.value) (visits_struct c.args.self.now.table.now c.args.self.now.fine (message_of c.args.self.now.bytes.now c.args.self.now.handles.now) c.args.frame.depth c.args.entry (c.args.frame.base + c.loop-i.done) (at_of c.loop-i.state) c.requires.entry c.loop-i.invariant.turns.state c.requires.frame.depth c.args.frame.inside 0 refl c.requires.kind (omega (arith, before, fits, within))) in
+    let seen_fine = subst (λ (d : Entry). VisitFine c.args.self.now.table.now (message_of c.args.self.now.bytes.now c.args.self.now.handles.now) c.args.frame.depth c.args.frame.inside c.args.entry (Some (struct_frame d (c.args.frame.base + c.loop-i.done) c.args.frame.depth c.args.frame.inside))) (sym c.entry-e.ensures.value) (struct_fine c.args.self.now.table.now c.args.self.now.fine (message_of c.args.self.now.bytes.now c.args.self.now.handles.now) c.args.frame.depth c.args.entry (c.args.frame.base + c.loop-i.done) (at_of c.loop-i.state) c.requires.entry c.loop-i.invariant.turns.state c.requires.frame.depth c.args.frame.inside c.requires.kind (omega (arith, before, fits, within)) (elim c.requires.frame.inside [ inl out ↦ inl out | inr own ↦ (let four = own.1 in inr (own.0, omega (arith, four, fits))) ])) in
+    let taken : Turns c.args.self.now.table.now (message_of c.args.self.now.bytes.now c.args.self.now.handles.now) c.args.frame (at_of c.args.state.now) (at_of c.loop-i.state) (c.loop-i.state.steps + 1 - c.args.state.now.steps) (record { below = Some (struct_frame c.entry-e.result (c.args.frame.base + c.loop-i.done) c.args.frame.depth c.args.frame.inside); rest = Some (going_on (going_on c.args.frame (Elements c.args.entry c.args.size (c.args.count - c.loop-i.i)) c.loop-i.done) (Elements c.args.entry c.args.size (c.args.count - (c.loop-i.i + 1))) (c.loop-i.done + c.args.size)) }) = next_takes c.args.self.now.table.now c.args.self.now.fine (message_of c.args.self.now.bytes.now c.args.self.now.handles.now) c.args.frame (at_of c.args.state.now) (at_of c.loop-i.state) (c.loop-i.state.steps - c.args.state.now.steps) (going_on c.args.frame (Elements c.args.entry c.args.size (c.args.count - c.loop-i.i)) c.loop-i.done) c.loop-i.invariant.turns (let x : Row = record { offset = c.loop-i.done; entry = c.args.entry } in x) (Elements c.args.entry c.args.size (c.args.count - (c.loop-i.i + 1))) one tt is tt (Some (struct_frame c.entry-e.result (c.args.frame.base + c.loop-i.done) c.args.frame.depth c.args.frame.inside)) (at_of c.loop-i.state) (c.loop-i.done + c.args.size) 0 (c.loop-i.state.steps + 1 - c.args.state.now.steps) (omega (arith, own, is)) (omega (arith, so_far)) (no_zeros c.args.self.now.bytes.now (c.args.frame.base + c.loop-i.done) _ none) seen seen_fine in
     let less = taken.less in
     passed_on c.from_residual.result c.in_err-found.field-0.0 _ c.from_residual.ensures.1
     (below_breaks c.args.self.now.table.now (message_of c.args.self.now.bytes.now c.args.self.now.handles.now) c.args.frame (at_of c.args.state.now) (at_of c.loop-i.state) (c.loop-i.state.steps + 1 - c.args.state.now.steps) (struct_frame c.entry-e.result (c.args.frame.base + c.loop-i.done) c.args.frame.depth c.args.frame.inside) (going_on (going_on c.args.frame (Elements c.args.entry c.args.size (c.args.count - c.loop-i.i)) c.loop-i.done) (Elements c.args.entry c.args.size (c.args.count - (c.loop-i.i + 1))) (c.loop-i.done + c.args.size)) taken _ c.in_err-found.ensures.fault_is_true)
@@ -246,4 +246,4 @@ returns-in_err-found-clause-fault_is_true c =
 pub returns-in_err-zeros_at-clause-fault_is_true : goal.returns-in_err-zeros_at-clause-fault_is_true
 returns-in_err-zeros_at-clause-fault_is_true c =
     let over = elements_over c.args.self.now.table.now c.args.entry c.args.size c.loop-i.i c.args.count c.loop-i.done (omega (arith, c.loop-i-test.false)) in
-    let h = (over_breaks c.args.self.now.table.now c.requires.table (message_of c.args.self.now.bytes.now c.args.self.now.handles.now) c.args.frame (at_of c.args.state.now) (at_of c.loop-i.state) (c.loop-i.state.steps - c.args.state.now.steps) (going_on c.args.frame (Elements c.args.entry c.args.size (c.args.count - c.loop-i.i)) c.loop-i.done) c.loop-i.invariant.turns over tt _ c.in_err-zeros_at.ensures.fault_is_true) in search (rules, h)
+    passed_on c.from_residual-in_err-zeros_at.result c.in_err-zeros_at.field-0.0 _ c.from_residual-in_err-zeros_at.ensures.1 (over_breaks c.args.self.now.table.now c.args.self.now.fine (message_of c.args.self.now.bytes.now c.args.self.now.handles.now) c.args.frame (at_of c.args.state.now) (at_of c.loop-i.state) (c.loop-i.state.steps - c.args.state.now.steps) (going_on c.args.frame (Elements c.args.entry c.args.size (c.args.count - c.loop-i.i)) c.loop-i.done) c.loop-i.invariant.turns over tt _ c.in_err-zeros_at.ensures.fault_is_true)

@@ -47,17 +47,11 @@ returns-clause-fine c =
     let run = turns_then t m (rest_of body 0) (at_of mid) (at_of now) (now.steps - mid.steps) (rest_of body c.pass_front-read.result) c.pass_front-read.ensures.turns (at_of new) (new.steps - now.steps) (new.steps - mid.steps) (left_over c.left_of.result) (omega (arith, grows, more)) c.left_of.ensures.turns in
     fine_from t m.bytes (height (rest_of body 0)) _ c.left_of.result fine.1 run.rest_fine
 
-pub open_table-requires-clause-table : goal.open_table-requires-clause-table
-open_table-requires-clause-table c = c.requires.table
-
 pub open_table-requires-clause-entry : goal.open_table-requires-clause-entry
 open_table-requires-clause-entry c = c.requires.entry
 
 pub open_table-requires-clause-kind : goal.open_table-requires-clause-kind
 open_table-requires-clause-kind c = c.requires.kind
-
-pub open_table-requires-clause-short : goal.open_table-requires-clause-short
-open_table-requires-clause-short c = c.requires.short
 
 pub open_table-requires-clause-room : goal.open_table-requires-clause-room
 open_table-requires-clause-room c = c.requires.room
@@ -71,32 +65,17 @@ open_table-requires-clause-depth c = c.requires.depth
 pub overflow_add-depth : goal.overflow_add-depth
 overflow_add-depth c = record { fits = omega arith }
 
-pub body_of-body-requires-clause-table : goal.body_of-body-requires-clause-table
-body_of-body-requires-clause-table c = c.requires.table
-
 pub body_of-body-requires-clause-entry : goal.body_of-body-requires-clause-entry
 body_of-body-requires-clause-entry c = c.requires.entry
 
 pub body_of-body-requires-clause-kind : goal.body_of-body-requires-clause-kind
 body_of-body-requires-clause-kind c = c.requires.kind
 
-pub pass_front-read-requires-clause-table : goal.pass_front-read-requires-clause-table
-pass_front-read-requires-clause-table c = c.requires.table
-
-pub pass_front-read-requires-clause-short : goal.pass_front-read-requires-clause-short
-pass_front-read-requires-clause-short c = c.requires.short
-
 pub pass_front-read-requires-clause-budget : goal.pass_front-read-requires-clause-budget
 pass_front-read-requires-clause-budget c = omega arith
 
-pub left_of-requires-clause-table : goal.left_of-requires-clause-table
-left_of-requires-clause-table c = c.requires.table
-
 pub left_of-requires-clause-order : goal.left_of-requires-clause-order
 left_of-requires-clause-order c = omega arith
-
-pub left_of-requires-clause-short : goal.left_of-requires-clause-short
-left_of-requires-clause-short c = c.requires.short
 
 pub left_of-requires-clause-state : goal.left_of-requires-clause-state
 left_of-requires-clause-state c = omega arith

@@ -15,12 +15,12 @@ use Rattle.fidl_decode.proofs.decoder.Decoder.read_text.Goals as goal
 
 pub returns-then-not-is_present-clause-ok : goal.returns-then-not-is_present-clause-ok
 returns-then-not-is_present-clause-ok c =
-    let short = c.requires.short in
+    let short = c.args.self.now.short in
     absent_leads (declarations_of c.args.self.now.table.now) (message_of c.args.self.now.bytes.now c.args.self.now.handles.now) (omega (arith, short)) c.args.depth (is_optional c.args.entry.now) c.args.entry.now.bound c.args.place (at_of c.args.state.now) c.requires.depth (sym c.is_optional.ensures ∙ c.if-not-is_optional.false) (c.is_absent.ensures.0 c.if-not-is_absent.false) (omega (arith, c.requires.room)) (λ i. omega (arith, c.args.self.now.octets i)) (sym c.u64_at-count.ensures ∙ c.if-count-ne0.false)
 
 pub returns-clause-ok : goal.returns-clause-ok
 returns-clause-ok c =
-    let short = c.requires.short in
+    let short = c.args.self.now.short in
     let n = c.u64_at-count.result in
     let from = c.args.state.now.next in
     let value : c.next_multiple_of-size.result ≡ next_multiple_of n 8 = c.next_multiple_of-size.ensures.value in
@@ -243,13 +243,13 @@ pub u64_at-count-requires : goal.u64_at-count-requires
 u64_at-count-requires c = front c.args.place 8 8 (length c.args.self.now.bytes.now) c.requires.room
 
 pub overflow_add-place : goal.overflow_add-place
-overflow_add-place c = record { fits = small _ (length c.args.self.now.bytes.now) (front c.args.place 8 8 (length c.args.self.now.bytes.now) c.requires.room) c.requires.short }
+overflow_add-place c = record { fits = small _ (length c.args.self.now.bytes.now) (front c.args.place 8 8 (length c.args.self.now.bytes.now) c.requires.room) c.args.self.now.short }
 
 pub overflow_add-place-then-not-is_present : goal.overflow_add-place-then-not-is_present
-overflow_add-place-then-not-is_present c = record { fits = small _ (length c.args.self.now.bytes.now) (front c.args.place 8 8 (length c.args.self.now.bytes.now) c.requires.room) c.requires.short }
+overflow_add-place-then-not-is_present c = record { fits = small _ (length c.args.self.now.bytes.now) (front c.args.place 8 8 (length c.args.self.now.bytes.now) c.requires.room) c.args.self.now.short }
 
 pub overflow_add-result : goal.overflow_add-result
-overflow_add-result c = record { fits = small _ (length c.args.self.now.bytes.now) (front c.args.place 8 8 (length c.args.self.now.bytes.now) c.requires.room) c.requires.short }
+overflow_add-result c = record { fits = small _ (length c.args.self.now.bytes.now) (front c.args.place 8 8 (length c.args.self.now.bytes.now) c.requires.room) c.args.self.now.short }
 
 pub overflow_sub-rest : goal.overflow_sub-rest
 overflow_sub-rest c = c.requires.state.next
@@ -264,16 +264,16 @@ pub next_multiple_of-size-requires-clause-nonzero : goal.next_multiple_of-size-r
 next_multiple_of-size-requires-clause-nonzero c = some_8
 
 pub next_multiple_of-size-requires-clause-fits : goal.next_multiple_of-size-requires-clause-fits
-next_multiple_of-size-requires-clause-fits c = rounded_left c.u64_at-count.result c.args.state.now.next (length c.args.self.now.bytes.now) c.if-count-rest.false c.requires.short
+next_multiple_of-size-requires-clause-fits c = rounded_left c.u64_at-count.result c.args.state.now.next (length c.args.self.now.bytes.now) c.if-count-rest.false c.args.self.now.short
 
 pub overflow_add-from-3 : goal.overflow_add-from-3
-overflow_add-from-3 c = record { fits = small _ (length c.args.self.now.bytes.now) ((ended c.args.state.now.next c.next_multiple_of-size.result (length c.args.self.now.bytes.now) c.requires.state.next c.if-size-rest.false)) c.requires.short }
+overflow_add-from-3 c = record { fits = small _ (length c.args.self.now.bytes.now) ((ended c.args.state.now.next c.next_multiple_of-size.result (length c.args.self.now.bytes.now) c.requires.state.next c.if-size-rest.false)) c.args.self.now.short }
 
 pub overflow_add-place-2 : goal.overflow_add-place-2
-overflow_add-place-2 c = record { fits = small _ (length c.args.self.now.bytes.now) (front c.args.place 8 8 (length c.args.self.now.bytes.now) c.requires.room) c.requires.short }
+overflow_add-place-2 c = record { fits = small _ (length c.args.self.now.bytes.now) (front c.args.place 8 8 (length c.args.self.now.bytes.now) c.requires.room) c.args.self.now.short }
 
 pub overflow_add-state-2 : goal.overflow_add-state-2
-overflow_add-state-2 c = record { fits = small _ (length c.args.self.now.bytes.now) ((ended c.args.state.now.next c.next_multiple_of-size.result (length c.args.self.now.bytes.now) c.requires.state.next c.if-size-rest.false)) c.requires.short }
+overflow_add-state-2 c = record { fits = small _ (length c.args.self.now.bytes.now) ((ended c.args.state.now.next c.next_multiple_of-size.result (length c.args.self.now.bytes.now) c.requires.state.next c.if-size-rest.false)) c.args.self.now.short }
 
 pub zeros_at-requires-clause-order : goal.zeros_at-requires-clause-order
 zeros_at-requires-clause-order c = part_order c.args.state.now.next c.u64_at-count.result c.next_multiple_of-size.result c.next_multiple_of-size.ensures.lower_bound
@@ -282,7 +282,7 @@ pub zeros_at-requires-clause-room : goal.zeros_at-requires-clause-room
 zeros_at-requires-clause-room c = (ended c.args.state.now.next c.next_multiple_of-size.result (length c.args.self.now.bytes.now) c.requires.state.next c.if-size-rest.false)
 
 pub link-requires-clause-marker : goal.link-requires-clause-marker
-link-requires-clause-marker c = inside (c.args.place + 8) 7 (length c.args.self.now.bytes.now) (apart c.args.place 8 8 (length c.args.self.now.bytes.now) c.requires.room) c.requires.short
+link-requires-clause-marker c = inside (c.args.place + 8) 7 (length c.args.self.now.bytes.now) (apart c.args.place 8 8 (length c.args.self.now.bytes.now) c.requires.room) c.args.self.now.short
 
 pub link-requires-clause-object : goal.link-requires-clause-object
-link-requires-clause-object c = at_most c.args.state.now.next (length c.args.self.now.bytes.now) c.requires.state.next c.requires.short
+link-requires-clause-object c = at_most c.args.state.now.next (length c.args.self.now.bytes.now) c.requires.state.next c.args.self.now.short

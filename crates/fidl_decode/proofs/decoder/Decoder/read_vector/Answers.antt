@@ -19,24 +19,24 @@ use Rattle.fidl_decode.proofs.decoder.Decoder.read_vector.Goals as goal
 pub returns-in-Absent-clause-ok : goal.returns-in-Absent-clause-ok
 returns-in-Absent-clause-ok c =
     let own = ap is_optional c.entry-e.ensures.value in
-    visits_absent_vector c.args.self.now.table.now c.requires.table (message_of c.args.self.now.bytes.now c.args.self.now.handles.now) c.args.depth c.args.entry c.args.place (at_of c.args.state.now) c.requires.entry c.requires.kind c.requires.state c.requires.depth (c.args.state.now.steps - c.args.state.now.steps) (omega arith)
+    visits_absent_vector c.args.self.now.table.now c.args.self.now.fine (message_of c.args.self.now.bytes.now c.args.self.now.handles.now) c.args.depth c.args.entry c.args.place (at_of c.args.state.now) c.requires.entry c.requires.kind c.requires.state c.requires.depth (c.args.state.now.steps - c.args.state.now.steps) (omega arith)
     (sym own ∙ sym c.is_optional.ensures ∙ c.if-not-is_optional.false) c.in-Absent.ensures (omega (arith, c.requires.room)) (λ i. omega (arith, c.args.self.now.octets i)) (sym c.u64_at-count.ensures ∙ c.if-count-ne0.false)
 
 pub entry-element-requires : goal.entry-element-requires
 entry-element-requires c =
-    let f = fine_as c.args.self.now.table.now c.requires.table c.args.entry Vector c.requires.entry c.requires.kind in
+    let f = fine_as c.args.self.now.table.now c.args.self.now.fine c.args.entry Vector c.requires.entry c.requires.kind in
     subst (λ (d : Entry). d.first < (header_of c.args.self.now.table.now).entries) (sym c.entry-e.ensures.value) f.content.0
 
 pub returns-then-count-rest-clause-fault_is_true : goal.returns-then-count-rest-clause-fault_is_true
 returns-then-count-rest-clause-fault_is_true c =
-    let many = count_fits c.args.self.now.table.now c.requires.table (message_of c.args.self.now.bytes.now c.args.self.now.handles.now) c.args.depth c.args.entry c.args.place (at_of c.args.state.now) c.requires.entry c.requires.kind in
+    let many = count_fits c.args.self.now.table.now c.args.self.now.fine (message_of c.args.self.now.bytes.now c.args.self.now.handles.now) c.args.depth c.args.entry c.args.place (at_of c.args.state.now) c.requires.entry c.requires.kind in
     (refl, inr (c.in-Present.ensures, omega (arith, many, c.u64_at-count.ensures, c.if-count-rest.true)))
 
 pub overflow_add-result-2 : goal.overflow_add-result-2
 overflow_add-result-2 c =
     let t = c.args.self.now.table.now in
-    let f = fine_as t c.requires.table c.args.entry Vector c.requires.entry c.requires.kind in
-    let small = (c.requires.table.each (entry_at t c.args.entry).first f.content.0).1.nest in
+    let f = fine_as t c.args.self.now.fine c.args.entry Vector c.requires.entry c.requires.kind in
+    let small = (c.args.self.now.fine.each (entry_at t c.args.entry).first f.content.0).1.nest in
     let nest : c.entry-element.result.nest ≡ (entry_at t (entry_at t c.args.entry).first).nest = ap (λ (d : Entry). d.nest) c.entry-element.ensures.value ∙ ap (λ (d : Entry). (entry_at t d.first).nest) c.entry-e.ensures.value in
     record { fits = omega (arith, small, nest) }
 
@@ -58,7 +58,7 @@ returns-clause-ok c =
     = λ i. frame (sym holder i) (sym element i) (sym number i) (sym value i) in
     let same : linked (c.args.place + 8) (inner.size * n) old ≡ record { next = old.next + c.next_multiple_of-size.result; handle = old.handle; objects = c.link.new.self.objects; records = c.link.new.self.records }
     = λ i. record { next = old.next + sym value i; handle = old.handle; objects = sym c.link.ensures.objects i; records = sym c.link.ensures.records i } in
-    let opened = visits_vector t c.requires.table m c.args.depth c.args.entry c.args.place old c.requires.entry c.requires.kind c.requires.state c.requires.depth (c.args.state.now.steps - c.args.state.now.steps) (omega arith) c.in-Present.ensures (omega (arith, c.requires.depth, c.if-depth-eq-MAX_DEPTH.false)) (omega (arith, number, bound, c.if-count-e.false))
+    let opened = visits_vector t c.args.self.now.fine m c.args.depth c.args.entry c.args.place old c.requires.entry c.requires.kind c.requires.state c.requires.depth (c.args.state.now.steps - c.args.state.now.steps) (omega arith) c.in-Present.ensures (omega (arith, c.requires.depth, c.if-depth-eq-MAX_DEPTH.false)) (omega (arith, number, bound, c.if-count-e.false))
     (omega (arith, value, c.if-size-rest.false)) (omega (arith, c.requires.room)) (λ i. omega (arith, c.args.self.now.octets i)) in
     subst (λ (s : At). Visits t m c.args.depth c.args.entry c.args.place old s (c.args.state.now.steps - c.args.state.now.steps) (frame c.entry-e.result c.entry-element.result c.u64_at-count.result c.next_multiple_of-size.result)) same
     (subst (λ (o : Option Frame). Visits t m c.args.depth c.args.entry c.args.place old (linked (c.args.place + 8) (inner.size * n) old) (c.args.state.now.steps - c.args.state.now.steps) o) found opened)
@@ -78,7 +78,7 @@ returns-clause-fine c around few =
     let frame : Entry → Entry → (k size : ℕ) → Option Frame = λ h e k size. Some (record { left = Elements h.first e.size k; base = old.next; done = 0; size = size; nest = e.nest + 1; depth = c.args.depth + 1; inside = 0 }) in
     let found : frame d inner n (next_multiple_of (inner.size * n) 8) ≡ frame c.entry-e.result c.entry-element.result c.u64_at-count.result c.next_multiple_of-size.result
     = λ i. frame (sym holder i) (sym element i) (sym number i) (sym value i) in
-    let opened = vector_fine t c.requires.table m c.args.depth c.args.entry c.args.place old c.requires.entry c.requires.kind c.requires.state c.requires.depth (omega (arith, c.requires.depth, c.if-depth-eq-MAX_DEPTH.false)) (omega (arith, value, c.if-size-rest.false)) around few in
+    let opened = vector_fine t c.args.self.now.fine m c.args.depth c.args.entry c.args.place old c.requires.entry c.requires.kind c.requires.state c.requires.depth (omega (arith, c.requires.depth, c.if-depth-eq-MAX_DEPTH.false)) (omega (arith, value, c.if-size-rest.false)) around few in
     subst (λ (o : Option Frame). VisitFine t m c.args.depth around c.args.entry o) found opened
 
 pub returns-in-Neither-clause-ok : goal.returns-in-Neither-clause-ok
@@ -209,13 +209,13 @@ pub u64_at-count-requires : goal.u64_at-count-requires
 u64_at-count-requires c = front c.args.place 8 8 (length c.args.self.now.bytes.now) c.requires.room
 
 pub overflow_add-place : goal.overflow_add-place
-overflow_add-place c = record { fits = small _ (length c.args.self.now.bytes.now) (front c.args.place 8 8 (length c.args.self.now.bytes.now) c.requires.room) c.requires.short }
+overflow_add-place c = record { fits = small _ (length c.args.self.now.bytes.now) (front c.args.place 8 8 (length c.args.self.now.bytes.now) c.requires.room) c.args.self.now.short }
 
 pub presence-requires : goal.presence-requires
 presence-requires c = record { room = apart c.args.place 8 8 (length c.args.self.now.bytes.now) c.requires.room }
 
 pub overflow_add-result : goal.overflow_add-result
-overflow_add-result c = record { fits = small _ (length c.args.self.now.bytes.now) (front c.args.place 8 8 (length c.args.self.now.bytes.now) c.requires.room) c.requires.short }
+overflow_add-result c = record { fits = small _ (length c.args.self.now.bytes.now) (front c.args.place 8 8 (length c.args.self.now.bytes.now) c.requires.room) c.args.self.now.short }
 
 pub is_optional-requires : goal.is_optional-requires
 is_optional-requires c = tt
@@ -227,16 +227,16 @@ pub next_multiple_of-size-requires-clause-nonzero : goal.next_multiple_of-size-r
 next_multiple_of-size-requires-clause-nonzero c = some_8
 
 pub overflow_add-place-2 : goal.overflow_add-place-2
-overflow_add-place-2 c = record { fits = small _ (length c.args.self.now.bytes.now) (front c.args.place 8 8 (length c.args.self.now.bytes.now) c.requires.room) c.requires.short }
+overflow_add-place-2 c = record { fits = small _ (length c.args.self.now.bytes.now) (front c.args.place 8 8 (length c.args.self.now.bytes.now) c.requires.room) c.args.self.now.short }
 
 pub link-requires-clause-marker : goal.link-requires-clause-marker
-link-requires-clause-marker c = inside (c.args.place + 8) 7 (length c.args.self.now.bytes.now) (apart c.args.place 8 8 (length c.args.self.now.bytes.now) c.requires.room) c.requires.short
+link-requires-clause-marker c = inside (c.args.place + 8) 7 (length c.args.self.now.bytes.now) (apart c.args.place 8 8 (length c.args.self.now.bytes.now) c.requires.room) c.args.self.now.short
 
 pub link-requires-clause-object : goal.link-requires-clause-object
-link-requires-clause-object c = at_most c.args.state.now.next (length c.args.self.now.bytes.now) c.requires.state.next c.requires.short
+link-requires-clause-object c = at_most c.args.state.now.next (length c.args.self.now.bytes.now) c.requires.state.next c.args.self.now.short
 
 pub overflow_add-state : goal.overflow_add-state
-overflow_add-state c = record { fits = small _ (length c.args.self.now.bytes.now) (ended c.args.state.now.next c.next_multiple_of-size.result (length c.args.self.now.bytes.now) c.requires.state.next c.if-size-rest.false) c.requires.short }
+overflow_add-state c = record { fits = small _ (length c.args.self.now.bytes.now) (ended c.args.state.now.next c.next_multiple_of-size.result (length c.args.self.now.bytes.now) c.requires.state.next c.if-size-rest.false) c.args.self.now.short }
 
 pub overflow_add-result-3 : goal.overflow_add-result-3
 overflow_add-result-3 c = record { fits = deeper c.args.depth c.requires.depth }

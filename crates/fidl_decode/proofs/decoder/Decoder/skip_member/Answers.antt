@@ -18,7 +18,7 @@ returns-then-handles-self c =
     let m = message_of c.args.self.now.bytes.now c.args.self.now.handles.now in
     let ds = declarations_of c.args.self.now.table.now in
     let old = at_of c.args.state.now in
-    let r = unknown_refuse ds c.requires.table.laid_out m (c.requires.short, c.requires.state.few) c.args.depth c.args.envelope old (HandleMissing c.args.envelope) (refl, omega (arith, c.if-handles-self.true, c.handle_count_at-handles.ensures)) in
+    let r = unknown_refuse ds c.args.self.now.fine.laid_out m (c.args.self.now.short, c.requires.state.few) c.args.depth c.args.envelope old (HandleMissing c.args.envelope) (refl, omega (arith, c.if-handles-self.true, c.handle_count_at-handles.ensures)) in
     record { ok = tt; state = c.requires.state; fault_is_true = r.0; err = r.1; steps = refl; grows = omega arith }
 
 pub returns-then-flags-eq1 : goal.returns-then-flags-eq1
@@ -32,7 +32,7 @@ returns-then-flags-eq1 c =
     = λ i. record { next = old.next; handle = old.handle + sym many i; objects = sym c.record.ensures.objects i; records = sym c.record.ensures.records i } in
     let some : handles_below m.bytes c.args.envelope ≤ length m.handles - old.handle = omega (arith, c.if-handles-self.false, many) in
     let are : AreHandles m.handles old.handle (handles_below m.bytes c.args.envelope) = subst (λ k. AreHandles m.handles old.handle k) many c.are_handles.ensures in
-    let x = skips_inside ds c.requires.table.laid_out m (c.requires.short, c.requires.state.few) c.args.depth c.args.envelope old c.requires.room (λ i. omega (arith, c.args.self.now.octets i)) are some (sym c.flags_at-flags.ensures ∙ c.if-flags-eq1.true) c.requires.depth in
+    let x = skips_inside ds c.args.self.now.fine.laid_out m (c.args.self.now.short, c.requires.state.few) c.args.depth c.args.envelope old c.requires.room (λ i. omega (arith, c.args.self.now.octets i)) are some (sym c.flags_at-flags.ensures ∙ c.if-flags-eq1.true) c.requires.depth in
     let inner = c.requires.state.handle in
     let ok : (to : At) → Contained ds m c.args.depth None c.args.envelope old to ↔ (new ≡ to) = subst (λ (s : At). (to : At) → Contained ds m c.args.depth None c.args.envelope old to ↔ (s ≡ to)) led x in
     record { ok = ok; state = record { next = c.requires.state.next; handle = omega (arith, inner, c.if-handles-self.false); few = c.requires.state.few }; fault_is_true = tt; err = tt; steps = refl; grows = omega arith }
@@ -42,9 +42,9 @@ returns-then-flags-ne0 c =
     let m = message_of c.args.self.now.bytes.now c.args.self.now.handles.now in
     let ds = declarations_of c.args.self.now.table.now in
     let old = at_of c.args.state.now in
-    let r = unknown_refuse ds c.requires.table.laid_out m (c.requires.short, c.requires.state.few) c.args.depth c.args.envelope old (BadEnvelope c.args.envelope) (
+    let r = unknown_refuse ds c.args.self.now.fine.laid_out m (c.args.self.now.short, c.requires.state.few) c.args.depth c.args.envelope old (BadEnvelope c.args.envelope) (
       refl,
-      not_held ds c.requires.table.laid_out m (c.requires.short, c.requires.state.few) c.args.depth c.args.envelope old (λ f. c.if-flags-eq1.false (c.flags_at-flags.ensures ∙ f)) (λ f u. elim c.then-flags-ne0.branch [
+      not_held ds c.args.self.now.fine.laid_out m (c.args.self.now.short, c.requires.state.few) c.args.depth c.args.envelope old (λ f. c.if-flags-eq1.false (c.flags_at-flags.ensures ∙ f)) (λ f u. elim c.then-flags-ne0.branch [
         | then-flags-ne0-via-then-flags-ne0 w ↦ w.if-flags-ne0.true (c.flags_at-flags.ensures ∙ f)
         | then-flags-ne0-via-else-flags-ne0+then-counted-eq0 w ↦ omega (arith, w.if-counted-eq0.true, c.byte_count_at-counted.ensures, u.0)
         | then-flags-ne0-via-else-flags-ne0+else-counted-eq0+then-counted-ne0 w ↦ omega (arith, w.if-counted-ne0.true, c.byte_count_at-counted.ensures, u.1)
@@ -57,7 +57,7 @@ returns-then-depth-eq-MAX_DEPTH c =
     let m = message_of c.args.self.now.bytes.now c.args.self.now.handles.now in
     let ds = declarations_of c.args.self.now.table.now in
     let old = at_of c.args.state.now in
-    let r = unknown_refuse ds c.requires.table.laid_out m (c.requires.short, c.requires.state.few) c.args.depth c.args.envelope old (TooDeep c.args.envelope) (refl, sym c.flags_at-flags.ensures ∙ c.if-flags-ne0.false, omega (arith, c.if-depth-eq-MAX_DEPTH.true)) in
+    let r = unknown_refuse ds c.args.self.now.fine.laid_out m (c.args.self.now.short, c.requires.state.few) c.args.depth c.args.envelope old (TooDeep c.args.envelope) (refl, sym c.flags_at-flags.ensures ∙ c.if-flags-ne0.false, omega (arith, c.if-depth-eq-MAX_DEPTH.true)) in
     record { ok = tt; state = c.requires.state; fault_is_true = r.0; err = r.1; steps = refl; grows = omega arith }
 
 pub returns-then-counted-self : goal.returns-then-counted-self
@@ -65,7 +65,7 @@ returns-then-counted-self c =
     let m = message_of c.args.self.now.bytes.now c.args.self.now.handles.now in
     let ds = declarations_of c.args.self.now.table.now in
     let old = at_of c.args.state.now in
-    let r = unknown_refuse ds c.requires.table.laid_out m (c.requires.short, c.requires.state.few) c.args.depth c.args.envelope old (Truncated old.next) (refl, sym c.flags_at-flags.ensures ∙ c.if-flags-ne0.false, omega (arith, c.if-counted-self.true, c.byte_count_at-counted.ensures)) in
+    let r = unknown_refuse ds c.args.self.now.fine.laid_out m (c.args.self.now.short, c.requires.state.few) c.args.depth c.args.envelope old (Truncated old.next) (refl, sym c.flags_at-flags.ensures ∙ c.if-flags-ne0.false, omega (arith, c.if-counted-self.true, c.byte_count_at-counted.ensures)) in
     record { ok = tt; state = c.requires.state; fault_is_true = r.0; err = r.1; steps = refl; grows = omega arith }
 
 pub returns-then-handles-self-2 : goal.returns-then-handles-self-2
@@ -73,7 +73,7 @@ returns-then-handles-self-2 c =
     let m = message_of c.args.self.now.bytes.now c.args.self.now.handles.now in
     let ds = declarations_of c.args.self.now.table.now in
     let old = at_of c.args.state.now in
-    let r = unknown_refuse ds c.requires.table.laid_out m (c.requires.short, c.requires.state.few) c.args.depth c.args.envelope old (HandleMissing c.args.envelope) (refl, omega (arith, c.if-handles-self-2.true, c.handle_count_at-handles.ensures)) in
+    let r = unknown_refuse ds c.args.self.now.fine.laid_out m (c.args.self.now.short, c.requires.state.few) c.args.depth c.args.envelope old (HandleMissing c.args.envelope) (refl, omega (arith, c.if-handles-self-2.true, c.handle_count_at-handles.ensures)) in
     record { ok = tt; state = c.requires.state; fault_is_true = r.0; err = r.1; steps = refl; grows = omega arith }
 
 pub returns : goal.returns
@@ -93,7 +93,7 @@ returns c =
     let some : handles_below m.bytes c.args.envelope ≤ length m.handles - old.handle = omega (arith, c.if-handles-self-2.false, many) in
     let fits : bytes_below m.bytes c.args.envelope ≤ length m.bytes - old.next = omega (arith, c.if-counted-self.false, much) in
     let are : AreHandles m.handles old.handle (handles_below m.bytes c.args.envelope) = subst (λ k. AreHandles m.handles old.handle k) many c.are_handles-2.ensures in
-    let x = skips_below ds c.requires.table.laid_out m (c.requires.short, c.requires.state.few) c.args.depth c.args.envelope old c.requires.room (λ i. omega (arith, c.args.self.now.octets i)) are some (sym c.flags_at-flags.ensures ∙ c.if-flags-ne0.false) whole (omega (arith, c.requires.depth, c.if-depth-eq-MAX_DEPTH.false)) fits in
+    let x = skips_below ds c.args.self.now.fine.laid_out m (c.args.self.now.short, c.requires.state.few) c.args.depth c.args.envelope old c.requires.room (λ i. omega (arith, c.args.self.now.octets i)) are some (sym c.flags_at-flags.ensures ∙ c.if-flags-ne0.false) whole (omega (arith, c.requires.depth, c.if-depth-eq-MAX_DEPTH.false)) fits in
     let inner = c.requires.state.handle in
     let bytes = c.requires.state.next in
     let ok : (to : At) → Contained ds m c.args.depth None c.args.envelope old to ↔ (new ≡ to) = subst (λ (s : At). (to : At) → Contained ds m c.args.depth None c.args.envelope old to ↔ (s ≡ to)) led x in

@@ -19,7 +19,7 @@ overflow_add-at c =
     let m = message_of c.args.self.now.bytes.now c.args.self.now.handles.now in
     let same = same_frame c.args.frame (Content c.args.entry c.args.size c.args.count c.args.until) c.requires.left in
     let own = subst (λ (f : Frame). FrameFine t m.bytes f) same c.requires.frame in
-    let room = content_end_room t c.requires.table m c.args.frame c.args.entry c.args.size c.args.count c.args.until (at_of c.args.state.now) own c.requires.state in record { fits = omega (arith, room.0, room.1, c.requires.short) }
+    let room = content_end_room t c.args.self.now.fine m c.args.frame c.args.entry c.args.size c.args.count c.args.until (at_of c.args.state.now) own c.requires.state in record { fits = omega (arith, room.0, room.1, c.args.self.now.short) }
 
 pub overflow_add-stop : goal.overflow_add-stop
 overflow_add-stop c =
@@ -27,7 +27,7 @@ overflow_add-stop c =
     let m = message_of c.args.self.now.bytes.now c.args.self.now.handles.now in
     let same = same_frame c.args.frame (Content c.args.entry c.args.size c.args.count c.args.until) c.requires.left in
     let own = subst (λ (f : Frame). FrameFine t m.bytes f) same c.requires.frame in
-    let room = content_end_room t c.requires.table m c.args.frame c.args.entry c.args.size c.args.count c.args.until (at_of c.args.state.now) own c.requires.state in record { fits = omega (arith, room.1, c.requires.short) }
+    let room = content_end_room t c.args.self.now.fine m c.args.frame c.args.entry c.args.size c.args.count c.args.until (at_of c.args.state.now) own c.requires.state in record { fits = omega (arith, room.1, c.args.self.now.short) }
 
 pub overflow_sub-state : goal.overflow_sub-state
 overflow_sub-state c =
@@ -35,7 +35,7 @@ overflow_sub-state c =
     let m = message_of c.args.self.now.bytes.now c.args.self.now.handles.now in
     let same = same_frame c.args.frame (Content c.args.entry c.args.size c.args.count c.args.until) c.requires.left in
     let own = subst (λ (f : Frame). FrameFine t m.bytes f) same c.requires.frame in
-    let room = content_end_room t c.requires.table m c.args.frame c.args.entry c.args.size c.args.count c.args.until (at_of c.args.state.now) own c.requires.state in omega (arith, room.0)
+    let room = content_end_room t c.args.self.now.fine m c.args.frame c.args.entry c.args.size c.args.count c.args.until (at_of c.args.state.now) own c.requires.state in omega (arith, room.0)
 
 pub overflow_add-state : goal.overflow_add-state
 overflow_add-state c =
@@ -43,7 +43,7 @@ overflow_add-state c =
     let m = message_of c.args.self.now.bytes.now c.args.self.now.handles.now in
     let same = same_frame c.args.frame (Content c.args.entry c.args.size c.args.count c.args.until) c.requires.left in
     let own = subst (λ (f : Frame). FrameFine t m.bytes f) same c.requires.frame in
-    let room = content_end_room t c.requires.table m c.args.frame c.args.entry c.args.size c.args.count c.args.until (at_of c.args.state.now) own c.requires.state in record { fits = omega (arith, room.1, c.requires.short) }
+    let room = content_end_room t c.args.self.now.fine m c.args.frame c.args.entry c.args.size c.args.count c.args.until (at_of c.args.state.now) own c.requires.state in record { fits = omega (arith, room.1, c.args.self.now.short) }
 
 pub overflow_add-state-then-count-eq0 : goal.overflow_add-state-then-count-eq0
 overflow_add-state-then-count-eq0 c =
@@ -51,7 +51,7 @@ overflow_add-state-then-count-eq0 c =
     let m = message_of c.args.self.now.bytes.now c.args.self.now.handles.now in
     let same = same_frame c.args.frame (Content c.args.entry c.args.size c.args.count c.args.until) c.requires.left in
     let own = subst (λ (f : Frame). FrameFine t m.bytes f) same c.requires.frame in
-    let room = content_end_room t c.requires.table m c.args.frame c.args.entry c.args.size c.args.count c.args.until (at_of c.args.state.now) own c.requires.state in record { fits = omega (arith, room.1, c.requires.short, c.requires.steps) }
+    let room = content_end_room t c.args.self.now.fine m c.args.frame c.args.entry c.args.size c.args.count c.args.until (at_of c.args.state.now) own c.requires.state in record { fits = omega (arith, room.1, c.args.self.now.short, c.requires.steps) }
 
 pub zeros_at-requires-clause-order : goal.zeros_at-requires-clause-order
 zeros_at-requires-clause-order c =
@@ -59,7 +59,7 @@ zeros_at-requires-clause-order c =
     let m = message_of c.args.self.now.bytes.now c.args.self.now.handles.now in
     let same = same_frame c.args.frame (Content c.args.entry c.args.size c.args.count c.args.until) c.requires.left in
     let own = subst (λ (f : Frame). FrameFine t m.bytes f) same c.requires.frame in
-    let room = content_end_room t c.requires.table m c.args.frame c.args.entry c.args.size c.args.count c.args.until (at_of c.args.state.now) own c.requires.state in omega (arith, room.0)
+    let room = content_end_room t c.args.self.now.fine m c.args.frame c.args.entry c.args.size c.args.count c.args.until (at_of c.args.state.now) own c.requires.state in omega (arith, room.0)
 
 pub zeros_at-requires-clause-room : goal.zeros_at-requires-clause-room
 zeros_at-requires-clause-room c =
@@ -67,7 +67,7 @@ zeros_at-requires-clause-room c =
     let m = message_of c.args.self.now.bytes.now c.args.self.now.handles.now in
     let same = same_frame c.args.frame (Content c.args.entry c.args.size c.args.count c.args.until) c.requires.left in
     let own = subst (λ (f : Frame). FrameFine t m.bytes f) same c.requires.frame in
-    let room = content_end_room t c.requires.table m c.args.frame c.args.entry c.args.size c.args.count c.args.until (at_of c.args.state.now) own c.requires.state in room.1
+    let room = content_end_room t c.args.self.now.fine m c.args.frame c.args.entry c.args.size c.args.count c.args.until (at_of c.args.state.now) own c.requires.state in room.1
 
 pub returns-in_err-zeros_at-clause-cost : goal.returns-in_err-zeros_at-clause-cost
 returns-in_err-zeros_at-clause-cost c =
@@ -75,7 +75,7 @@ returns-in_err-zeros_at-clause-cost c =
     let m = message_of c.args.self.now.bytes.now c.args.self.now.handles.now in
     let same = same_frame c.args.frame (Content c.args.entry c.args.size c.args.count c.args.until) c.requires.left in
     let own = subst (λ (f : Frame). FrameFine t m.bytes f) same c.requires.frame in
-    let room = content_end_room t c.requires.table m c.args.frame c.args.entry c.args.size c.args.count c.args.until (at_of c.args.state.now) own c.requires.state in omega (arith, room.2)
+    let room = content_end_room t c.args.self.now.fine m c.args.frame c.args.entry c.args.size c.args.count c.args.until (at_of c.args.state.now) own c.requires.state in omega (arith, room.2)
 
 pub returns-in_err-zeros_at-clause-err : goal.returns-in_err-zeros_at-clause-err
 returns-in_err-zeros_at-clause-err c =
@@ -83,7 +83,7 @@ returns-in_err-zeros_at-clause-err c =
     let m = message_of c.args.self.now.bytes.now c.args.self.now.handles.now in
     let same = same_frame c.args.frame (Content c.args.entry c.args.size c.args.count c.args.until) c.requires.left in
     let own = subst (λ (f : Frame). FrameFine t m.bytes f) same c.requires.frame in
-    on_err _ ((to : At) → Reads t m c.args.frame (at_of c.args.state.now) to → ⊥) (subst (λ (f : Frame). (to : At) → Reads t m f (at_of c.args.state.now) to → ⊥) (sym same) (content_end_refused t c.requires.table m c.args.frame c.args.entry c.args.size c.args.count c.args.until (at_of c.args.state.now) own c.requires.state c.if-count-eq0.true c.in_err-zeros_at.ensures.err))
+    on_err _ ((to : At) → Reads t m c.args.frame (at_of c.args.state.now) to → ⊥) (subst (λ (f : Frame). (to : At) → Reads t m f (at_of c.args.state.now) to → ⊥) (sym same) (content_end_refused t c.args.self.now.fine m c.args.frame c.args.entry c.args.size c.args.count c.args.until (at_of c.args.state.now) own c.requires.state c.if-count-eq0.true c.in_err-zeros_at.ensures.err))
 
 pub returns-in_err-zeros_at-clause-fault_is_true : goal.returns-in_err-zeros_at-clause-fault_is_true
 returns-in_err-zeros_at-clause-fault_is_true c =
@@ -91,7 +91,7 @@ returns-in_err-zeros_at-clause-fault_is_true c =
     let m = message_of c.args.self.now.bytes.now c.args.self.now.handles.now in
     let same = same_frame c.args.frame (Content c.args.entry c.args.size c.args.count c.args.until) c.requires.left in
     let own = subst (λ (f : Frame). FrameFine t m.bytes f) same c.requires.frame in
-    passed_on c.from_residual.result c.in_err-zeros_at.field-0.0 _ c.from_residual.ensures.1 (subst (λ (f : Frame). BreaksFrame t m f (at_of c.args.state.now) c.in_err-zeros_at.field-0.0) (sym same) (content_end_breaks t c.requires.table m c.args.frame c.args.entry c.args.size c.args.count c.args.until (at_of c.args.state.now) own c.requires.state c.if-count-eq0.true c.in_err-zeros_at.field-0.0 c.in_err-zeros_at.ensures.fault_is_true))
+    passed_on c.from_residual.result c.in_err-zeros_at.field-0.0 _ c.from_residual.ensures.1 (subst (λ (f : Frame). BreaksFrame t m f (at_of c.args.state.now) c.in_err-zeros_at.field-0.0) (sym same) (content_end_breaks t c.args.self.now.fine m c.args.frame c.args.entry c.args.size c.args.count c.args.until (at_of c.args.state.now) own c.requires.state c.if-count-eq0.true c.in_err-zeros_at.field-0.0 c.in_err-zeros_at.ensures.fault_is_true))
 
 pub returns-then-state-until-clause-cost : goal.returns-then-state-until-clause-cost
 returns-then-state-until-clause-cost c =
@@ -99,7 +99,7 @@ returns-then-state-until-clause-cost c =
     let m = message_of c.args.self.now.bytes.now c.args.self.now.handles.now in
     let same = same_frame c.args.frame (Content c.args.entry c.args.size c.args.count c.args.until) c.requires.left in
     let own = subst (λ (f : Frame). FrameFine t m.bytes f) same c.requires.frame in
-    let room = content_end_room t c.requires.table m c.args.frame c.args.entry c.args.size c.args.count c.args.until (at_of c.args.state.now) own c.requires.state in omega (arith, room.2)
+    let room = content_end_room t c.args.self.now.fine m c.args.frame c.args.entry c.args.size c.args.count c.args.until (at_of c.args.state.now) own c.requires.state in omega (arith, room.2)
 
 pub returns-then-state-until-clause-err : goal.returns-then-state-until-clause-err
 returns-then-state-until-clause-err c =
@@ -111,7 +111,7 @@ returns-then-state-until-clause-err c =
       | then-state-until-via-then-state-until w ↦ (λ u. w.if-state-until.true u.0)
       | then-state-until-via-else-state-until+then-state-until-2 w ↦ (λ u. w.if-state-until-2.true u.1)
     ] in
-    subst (λ (f : Frame). (to : At) → Reads t m f (at_of c.args.state.now) to → ⊥) (sym same) (content_elsewhere t c.requires.table m c.args.frame c.args.entry c.args.size c.args.count c.args.until (at_of c.args.state.now) own c.requires.state c.if-count-eq0.true c.in_ok-zeros_at.ensures.ok other)
+    subst (λ (f : Frame). (to : At) → Reads t m f (at_of c.args.state.now) to → ⊥) (sym same) (content_elsewhere t c.args.self.now.fine m c.args.frame c.args.entry c.args.size c.args.count c.args.until (at_of c.args.state.now) own c.requires.state c.if-count-eq0.true c.in_ok-zeros_at.ensures.ok other)
 
 pub returns-then-state-until-clause-fault_is_true : goal.returns-then-state-until-clause-fault_is_true
 returns-then-state-until-clause-fault_is_true c =
@@ -123,7 +123,7 @@ returns-then-state-until-clause-fault_is_true c =
       | then-state-until-via-then-state-until w ↦ (λ u. w.if-state-until.true u.0)
       | then-state-until-via-else-state-until+then-state-until-2 w ↦ (λ u. w.if-state-until-2.true u.1)
     ] in
-    subst (λ (f : Frame). BreaksFrame t m f (at_of c.args.state.now) (WrongCounts c.args.until.envelope)) (sym same) (content_miscounted t c.requires.table m c.args.frame c.args.entry c.args.size c.args.count c.args.until (at_of c.args.state.now) own c.requires.state c.if-count-eq0.true c.in_ok-zeros_at.ensures.ok other)
+    subst (λ (f : Frame). BreaksFrame t m f (at_of c.args.state.now) (WrongCounts c.args.until.envelope)) (sym same) (content_miscounted t c.args.self.now.fine m c.args.frame c.args.entry c.args.size c.args.count c.args.until (at_of c.args.state.now) own c.requires.state c.if-count-eq0.true c.in_ok-zeros_at.ensures.ok other)
 
 pub returns-then-count-eq0-clause-ok : goal.returns-then-count-eq0-clause-ok
 returns-then-count-eq0-clause-ok c =
@@ -131,7 +131,7 @@ returns-then-count-eq0-clause-ok c =
     let m = message_of c.args.self.now.bytes.now c.args.self.now.handles.now in
     let same = same_frame c.args.frame (Content c.args.entry c.args.size c.args.count c.args.until) c.requires.left in
     let own = subst (λ (f : Frame). FrameFine t m.bytes f) same c.requires.frame in
-    subst (λ (f : Frame). Turns t m f (at_of c.args.state.now) (at_of c.args.state.now) (c.args.state.now.steps + (c.args.frame.base + c.args.frame.size - (c.args.frame.base + c.args.frame.done) + 1) - c.args.state.now.steps) (record { below = None; rest = None })) (sym same) (content_over t c.requires.table m c.args.frame c.args.entry c.args.size c.args.count c.args.until (at_of c.args.state.now) own c.requires.state c.if-count-eq0.true c.in_ok-zeros_at.ensures.ok (c.if-state-until.false, c.if-state-until-2.false) _ (omega arith))
+    subst (λ (f : Frame). Turns t m f (at_of c.args.state.now) (at_of c.args.state.now) (c.args.state.now.steps + (c.args.frame.base + c.args.frame.size - (c.args.frame.base + c.args.frame.done) + 1) - c.args.state.now.steps) (record { below = None; rest = None })) (sym same) (content_over t c.args.self.now.fine m c.args.frame c.args.entry c.args.size c.args.count c.args.until (at_of c.args.state.now) own c.requires.state c.if-count-eq0.true c.in_ok-zeros_at.ensures.ok (c.if-state-until.false, c.if-state-until-2.false) _ (omega arith))
 
 pub returns-then-count-eq0-clause-cost : goal.returns-then-count-eq0-clause-cost
 returns-then-count-eq0-clause-cost c =
@@ -139,7 +139,7 @@ returns-then-count-eq0-clause-cost c =
     let m = message_of c.args.self.now.bytes.now c.args.self.now.handles.now in
     let same = same_frame c.args.frame (Content c.args.entry c.args.size c.args.count c.args.until) c.requires.left in
     let own = subst (λ (f : Frame). FrameFine t m.bytes f) same c.requires.frame in
-    let room = content_end_room t c.requires.table m c.args.frame c.args.entry c.args.size c.args.count c.args.until (at_of c.args.state.now) own c.requires.state in omega (arith, room.2)
+    let room = content_end_room t c.args.self.now.fine m c.args.frame c.args.entry c.args.size c.args.count c.args.until (at_of c.args.state.now) own c.requires.state in omega (arith, room.2)
 
 pub visit-requires-clause-entry : goal.visit-requires-clause-entry
 visit-requires-clause-entry c =
@@ -147,7 +147,7 @@ visit-requires-clause-entry c =
     let m = message_of c.args.self.now.bytes.now c.args.self.now.handles.now in
     let same = same_frame c.args.frame (Content c.args.entry c.args.size c.args.count c.args.until) c.requires.left in
     let own = subst (λ (f : Frame). FrameFine t m.bytes f) same c.requires.frame in
-    content_known t c.requires.table m c.args.frame c.args.entry c.args.size c.args.count c.args.until (at_of c.args.state.now) own c.requires.state (omega (arith, c.if-count-eq0.false))
+    content_known t c.args.self.now.fine m c.args.frame c.args.entry c.args.size c.args.count c.args.until (at_of c.args.state.now) own c.requires.state (omega (arith, c.if-count-eq0.false))
 
 pub visit-requires-clause-room : goal.visit-requires-clause-room
 visit-requires-clause-room c =
@@ -155,7 +155,7 @@ visit-requires-clause-room c =
     let m = message_of c.args.self.now.bytes.now c.args.self.now.handles.now in
     let same = same_frame c.args.frame (Content c.args.entry c.args.size c.args.count c.args.until) c.requires.left in
     let own = subst (λ (f : Frame). FrameFine t m.bytes f) same c.requires.frame in
-    let fits = content_room t c.requires.table m c.args.frame c.args.entry c.args.size c.args.count c.args.until (at_of c.args.state.now) own c.requires.state (omega (arith, c.if-count-eq0.false)) in omega (arith, fits.0, fits.1)
+    let fits = content_room t c.args.self.now.fine m c.args.frame c.args.entry c.args.size c.args.count c.args.until (at_of c.args.state.now) own c.requires.state (omega (arith, c.if-count-eq0.false)) in omega (arith, fits.0, fits.1)
 
 pub visit-requires-clause-inside : goal.visit-requires-clause-inside
 visit-requires-clause-inside c =
@@ -163,7 +163,7 @@ visit-requires-clause-inside c =
     let m = message_of c.args.self.now.bytes.now c.args.self.now.handles.now in
     let same = same_frame c.args.frame (Content c.args.entry c.args.size c.args.count c.args.until) c.requires.left in
     let own = subst (λ (f : Frame). FrameFine t m.bytes f) same c.requires.frame in
-    content_inside t c.requires.table m c.args.frame c.args.entry c.args.size c.args.count c.args.until (at_of c.args.state.now) own c.requires.state (omega (arith, c.if-count-eq0.false))
+    content_inside t c.args.self.now.fine m c.args.frame c.args.entry c.args.size c.args.count c.args.until (at_of c.args.state.now) own c.requires.state (omega (arith, c.if-count-eq0.false))
 
 pub returns-in_err-below-clause-cost : goal.returns-in_err-below-clause-cost
 returns-in_err-below-clause-cost c =
@@ -171,7 +171,7 @@ returns-in_err-below-clause-cost c =
     let m = message_of c.args.self.now.bytes.now c.args.self.now.handles.now in
     let same = same_frame c.args.frame (Content c.args.entry c.args.size c.args.count c.args.until) c.requires.left in
     let own = subst (λ (f : Frame). FrameFine t m.bytes f) same c.requires.frame in
-    let fits = content_room t c.requires.table m c.args.frame c.args.entry c.args.size c.args.count c.args.until (at_of c.args.state.now) own c.requires.state (omega (arith, c.if-count-eq0.false)) in let probed = c.in_err-below.ensures.probes in let work = fits.2 in omega (arith, probed, work)
+    let fits = content_room t c.args.self.now.fine m c.args.frame c.args.entry c.args.size c.args.count c.args.until (at_of c.args.state.now) own c.requires.state (omega (arith, c.if-count-eq0.false)) in let probed = c.in_err-below.ensures.probes in let work = fits.2 in omega (arith, probed, work)
 
 pub returns-in_err-below-clause-err : goal.returns-in_err-below-clause-err
 returns-in_err-below-clause-err c =
@@ -179,7 +179,7 @@ returns-in_err-below-clause-err c =
     let m = message_of c.args.self.now.bytes.now c.args.self.now.handles.now in
     let same = same_frame c.args.frame (Content c.args.entry c.args.size c.args.count c.args.until) c.requires.left in
     let own = subst (λ (f : Frame). FrameFine t m.bytes f) same c.requires.frame in
-    on_err _ ((to : At) → Reads t m c.args.frame (at_of c.args.state.now) to → ⊥) (subst (λ (f : Frame). (to : At) → Reads t m f (at_of c.args.state.now) to → ⊥) (sym same) (content_refused t c.requires.table m c.args.frame c.args.entry c.args.size c.args.count c.args.until (at_of c.args.state.now) own c.requires.state (omega (arith, c.if-count-eq0.false)) c.in_err-below.ensures.err))
+    on_err _ ((to : At) → Reads t m c.args.frame (at_of c.args.state.now) to → ⊥) (subst (λ (f : Frame). (to : At) → Reads t m f (at_of c.args.state.now) to → ⊥) (sym same) (content_refused t c.args.self.now.fine m c.args.frame c.args.entry c.args.size c.args.count c.args.until (at_of c.args.state.now) own c.requires.state (omega (arith, c.if-count-eq0.false)) c.in_err-below.ensures.err))
 
 pub returns-in_err-below-clause-fault_is_true : goal.returns-in_err-below-clause-fault_is_true
 returns-in_err-below-clause-fault_is_true c =
@@ -187,7 +187,7 @@ returns-in_err-below-clause-fault_is_true c =
     let m = message_of c.args.self.now.bytes.now c.args.self.now.handles.now in
     let same = same_frame c.args.frame (Content c.args.entry c.args.size c.args.count c.args.until) c.requires.left in
     let own = subst (λ (f : Frame). FrameFine t m.bytes f) same c.requires.frame in
-    passed_on c.from_residual-in_err-below.result c.in_err-below.field-0.0 _ c.from_residual-in_err-below.ensures.1 (subst (λ (f : Frame). BreaksFrame t m f (at_of c.args.state.now) c.in_err-below.field-0.0) (sym same) (content_breaks t c.requires.table m c.args.frame c.args.entry c.args.size c.args.count c.args.until (at_of c.args.state.now) own c.requires.state (omega (arith, c.if-count-eq0.false)) c.in_err-below.field-0.0 c.in_err-below.ensures.fault_is_true))
+    passed_on c.from_residual-in_err-below.result c.in_err-below.field-0.0 _ c.from_residual-in_err-below.ensures.1 (subst (λ (f : Frame). BreaksFrame t m f (at_of c.args.state.now) c.in_err-below.field-0.0) (sym same) (content_breaks t c.args.self.now.fine m c.args.frame c.args.entry c.args.size c.args.count c.args.until (at_of c.args.state.now) own c.requires.state (omega (arith, c.if-count-eq0.false)) c.in_err-below.field-0.0 c.in_err-below.ensures.fault_is_true))
 
 pub overflow_add-rest : goal.overflow_add-rest
 overflow_add-rest c =
@@ -195,7 +195,7 @@ overflow_add-rest c =
     let m = message_of c.args.self.now.bytes.now c.args.self.now.handles.now in
     let same = same_frame c.args.frame (Content c.args.entry c.args.size c.args.count c.args.until) c.requires.left in
     let own = subst (λ (f : Frame). FrameFine t m.bytes f) same c.requires.frame in
-    let fits = content_room t c.requires.table m c.args.frame c.args.entry c.args.size c.args.count c.args.until (at_of c.args.state.now) own c.requires.state (omega (arith, c.if-count-eq0.false)) in let size = content_size t c.requires.table m c.args.frame c.args.entry c.args.size c.args.count c.args.until (at_of c.args.state.now) own c.requires.state (omega (arith, c.if-count-eq0.false)) in record { fits = omega (arith, fits.0, fits.1, size, c.requires.short) }
+    let fits = content_room t c.args.self.now.fine m c.args.frame c.args.entry c.args.size c.args.count c.args.until (at_of c.args.state.now) own c.requires.state (omega (arith, c.if-count-eq0.false)) in let size = content_size t c.args.self.now.fine m c.args.frame c.args.entry c.args.size c.args.count c.args.until (at_of c.args.state.now) own c.requires.state (omega (arith, c.if-count-eq0.false)) in record { fits = omega (arith, fits.0, fits.1, size, c.args.self.now.short) }
 
 pub returns-clause-ok : goal.returns-clause-ok
 returns-clause-ok c =
@@ -203,7 +203,7 @@ returns-clause-ok c =
     let m = message_of c.args.self.now.bytes.now c.args.self.now.handles.now in
     let same = same_frame c.args.frame (Content c.args.entry c.args.size c.args.count c.args.until) c.requires.left in
     let own = subst (λ (f : Frame). FrameFine t m.bytes f) same c.requires.frame in
-    let grows = c.in_ok-below.ensures.grows in subst (λ (f : Frame). Turns t m f (at_of c.args.state.now) (at_of c.visit.new.state) (c.visit.new.state.steps - c.args.state.now.steps) (record { below = c.in_ok-below.below; rest = Some (going_on c.args.frame (Content c.args.entry c.args.size (c.args.count - 1) c.args.until) (c.args.frame.done + c.args.size)) })) (sym same) (content_turns t c.requires.table m c.args.frame c.args.entry c.args.size c.args.count c.args.until (at_of c.args.state.now) own c.requires.state (omega (arith, c.if-count-eq0.false)) c.in_ok-below.below (at_of c.visit.new.state) (c.visit.new.state.steps - (c.args.state.now.steps + 1)) (c.visit.new.state.steps - c.args.state.now.steps) (omega (arith, grows)) c.in_ok-below.ensures.ok c.in_ok-below.ensures.fine)
+    let grows = c.in_ok-below.ensures.grows in subst (λ (f : Frame). Turns t m f (at_of c.args.state.now) (at_of c.visit.new.state) (c.visit.new.state.steps - c.args.state.now.steps) (record { below = c.in_ok-below.below; rest = Some (going_on c.args.frame (Content c.args.entry c.args.size (c.args.count - 1) c.args.until) (c.args.frame.done + c.args.size)) })) (sym same) (content_turns t c.args.self.now.fine m c.args.frame c.args.entry c.args.size c.args.count c.args.until (at_of c.args.state.now) own c.requires.state (omega (arith, c.if-count-eq0.false)) c.in_ok-below.below (at_of c.visit.new.state) (c.visit.new.state.steps - (c.args.state.now.steps + 1)) (c.visit.new.state.steps - c.args.state.now.steps) (omega (arith, grows)) c.in_ok-below.ensures.ok c.in_ok-below.ensures.fine)
 
 pub returns-clause-cost : goal.returns-clause-cost
 returns-clause-cost c =
@@ -211,7 +211,7 @@ returns-clause-cost c =
     let m = message_of c.args.self.now.bytes.now c.args.self.now.handles.now in
     let same = same_frame c.args.frame (Content c.args.entry c.args.size c.args.count c.args.until) c.requires.left in
     let own = subst (λ (f : Frame). FrameFine t m.bytes f) same c.requires.frame in
-    let fits = content_room t c.requires.table m c.args.frame c.args.entry c.args.size c.args.count c.args.until (at_of c.args.state.now) own c.requires.state (omega (arith, c.if-count-eq0.false)) in let probed = c.in_ok-below.ensures.probes in let work = fits.2 in omega (arith, probed, work)
+    let fits = content_room t c.args.self.now.fine m c.args.frame c.args.entry c.args.size c.args.count c.args.until (at_of c.args.state.now) own c.requires.state (omega (arith, c.if-count-eq0.false)) in let probed = c.in_ok-below.ensures.probes in let work = fits.2 in omega (arith, probed, work)
 
 pub returns-in_err-zeros_at-clause-ok : goal.returns-in_err-zeros_at-clause-ok
 returns-in_err-zeros_at-clause-ok c = no_ok c.from_residual.result c.in_err-zeros_at.field-0.0 _ c.from_residual.ensures.1
@@ -224,12 +224,6 @@ returns-then-count-eq0-clause-err c = tt
 
 pub returns-then-count-eq0-clause-fault_is_true : goal.returns-then-count-eq0-clause-fault_is_true
 returns-then-count-eq0-clause-fault_is_true c = tt
-
-pub visit-requires-clause-table : goal.visit-requires-clause-table
-visit-requires-clause-table c = c.requires.table
-
-pub visit-requires-clause-short : goal.visit-requires-clause-short
-visit-requires-clause-short c = c.requires.short
 
 pub visit-requires-clause-state : goal.visit-requires-clause-state
 visit-requires-clause-state c = c.requires.state

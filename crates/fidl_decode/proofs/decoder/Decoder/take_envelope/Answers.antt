@@ -28,7 +28,7 @@ returns-then-is_absent-clause-ok c =
     let some = c.requires.some in
     let z : Stands c.args.self.now.bytes.now (c.args.frame.base + c.args.frame.done) (zeros 8) = c.is_absent.ensures.0 c.if-is_absent.true in
     subst (λ (f : Frame). Turns t m f (at_of c.args.state.now) (at_of c.args.state.now) (c.args.state.now.steps + 1 - c.args.state.now.steps) (record { below = None; rest = Some (going_on c.args.frame (Envelopes c.args.entry (c.args.read + 1) (c.args.count - 1)) (c.args.frame.done + 8)) })) (sym same)
-    (envelope_absent t c.requires.table m (c.requires.short, c.requires.state.few) c.args.frame c.args.entry c.args.read c.args.count (at_of c.args.state.now) (subst (λ (f : Frame). FrameFine t m.bytes f) same c.requires.frame) c.requires.state (c.args.read + 1) (c.args.count - 1) (add-one c.args.read) (omega (arith, some)) some z (c.args.state.now.steps + 1 - c.args.state.now.steps) (omega arith))
+    (envelope_absent t c.args.self.now.fine m (c.args.self.now.short, c.requires.state.few) c.args.frame c.args.entry c.args.read c.args.count (at_of c.args.state.now) (subst (λ (f : Frame). FrameFine t m.bytes f) same c.requires.frame) c.requires.state (c.args.read + 1) (c.args.count - 1) (add-one c.args.read) (omega (arith, some)) some z (c.args.state.now.steps + 1 - c.args.state.now.steps) (omega arith))
 
 pub read_member-requires-clause-budget : goal.read_member-requires-clause-budget
 read_member-requires-clause-budget c =
@@ -39,7 +39,7 @@ read_member-requires-clause-budget c =
     let same = same_frame f (Envelopes c.args.entry c.args.read c.args.count) c.requires.left in
     let gf = subst (λ (f : Frame). FrameFine t m.bytes f) same c.requires.frame in
     let some = c.requires.some in
-    let room = envelope_room t c.requires.table m (c.requires.short, c.requires.state.few) f c.args.entry c.args.read c.args.count old gf c.requires.state (c.args.read + 1) (c.args.count - 1) (add-one c.args.read) (omega (arith, some)) some in
+    let room = envelope_room t c.args.self.now.fine m (c.args.self.now.short, c.requires.state.few) f c.args.entry c.args.read c.args.count old gf c.requires.state (c.args.read + 1) (c.args.count - 1) (add-one c.args.read) (omega (arith, some)) some in
     let few = c.row_of-member.ensures.few in
     let grows = c.row_of-member.ensures.grows in
     omega (arith, room, few, c.requires.budget)
@@ -53,7 +53,7 @@ returns-clause-ok c =
     let same = same_frame f (Envelopes c.args.entry c.args.read c.args.count) c.requires.left in
     let gf = subst (λ (f : Frame). FrameFine t m.bytes f) same c.requires.frame in
     let some = c.requires.some in
-    let room = envelope_room t c.requires.table m (c.requires.short, c.requires.state.few) f c.args.entry c.args.read c.args.count old gf c.requires.state (c.args.read + 1) (c.args.count - 1) (add-one c.args.read) (omega (arith, some)) some in
+    let room = envelope_room t c.args.self.now.fine m (c.args.self.now.short, c.requires.state.few) f c.args.entry c.args.read c.args.count old gf c.requires.state (c.args.read + 1) (c.args.count - 1) (add-one c.args.read) (omega (arith, some)) some in
     let few = c.row_of-member.ensures.few in
     let grows = c.row_of-member.ensures.grows in
     let place = f.base + f.done in
@@ -64,7 +64,7 @@ returns-clause-ok c =
     let all = c.read_member.new.state.steps - c.args.state.now.steps in
     if_ok_two c.read_member.result (Opens t m f.depth (member_term c.row_of-member.result) place old new) (PaysEnvelope m.bytes old.next new.next spent) (λ below. Turns t m f old new all (record { below = below; rest = Some (going_on f (Envelopes c.args.entry (c.args.read + 1) (c.args.count - 1)) (f.done + 8)) }))
     (λ below o pays. subst (λ (g : Frame). Turns t m g old new all (record { below = below; rest = Some (going_on f (Envelopes c.args.entry (c.args.read + 1) (c.args.count - 1)) (f.done + 8)) })) (sym same)
-    (envelope_opened t c.requires.table m (c.requires.short, c.requires.state.few) f c.args.entry c.args.read c.args.count old gf c.requires.state (c.args.read + 1) (c.args.count - 1) (add-one c.args.read) (omega (arith, some)) some there below new spent all (omega (arith, few, grows)) pays (subst (λ (o : Option Term). Opens t m f.depth o place old new below) (sym is) o)))
+    (envelope_opened t c.args.self.now.fine m (c.args.self.now.short, c.requires.state.few) f c.args.entry c.args.read c.args.count old gf c.requires.state (c.args.read + 1) (c.args.count - 1) (add-one c.args.read) (omega (arith, some)) some there below new spent all (omega (arith, few, grows)) pays (subst (λ (o : Option Term). Opens t m f.depth o place old new below) (sym is) o)))
     c.read_member.ensures.ok c.read_member.ensures.pays
 
 pub returns-clause-rises : goal.returns-clause-rises
@@ -76,7 +76,7 @@ returns-clause-rises c =
     let same = same_frame f (Envelopes c.args.entry c.args.read c.args.count) c.requires.left in
     let gf = subst (λ (f : Frame). FrameFine t m.bytes f) same c.requires.frame in
     let some = c.requires.some in
-    let room = envelope_room t c.requires.table m (c.requires.short, c.requires.state.few) f c.args.entry c.args.read c.args.count old gf c.requires.state (c.args.read + 1) (c.args.count - 1) (add-one c.args.read) (omega (arith, some)) some in
+    let room = envelope_room t c.args.self.now.fine m (c.args.self.now.short, c.requires.state.few) f c.args.entry c.args.read c.args.count old gf c.requires.state (c.args.read + 1) (c.args.count - 1) (add-one c.args.read) (omega (arith, some)) some in
     let few = c.row_of-member.ensures.few in
     let grows = c.row_of-member.ensures.grows in
     on_ok_from c.read_member.result (λ more. omega (arith, grows, more)) c.read_member.ensures.grows
@@ -90,7 +90,7 @@ returns-clause-cost c =
     let same = same_frame f (Envelopes c.args.entry c.args.read c.args.count) c.requires.left in
     let gf = subst (λ (f : Frame). FrameFine t m.bytes f) same c.requires.frame in
     let some = c.requires.some in
-    let room = envelope_room t c.requires.table m (c.requires.short, c.requires.state.few) f c.args.entry c.args.read c.args.count old gf c.requires.state (c.args.read + 1) (c.args.count - 1) (add-one c.args.read) (omega (arith, some)) some in
+    let room = envelope_room t c.args.self.now.fine m (c.args.self.now.short, c.requires.state.few) f c.args.entry c.args.read c.args.count old gf c.requires.state (c.args.read + 1) (c.args.count - 1) (add-one c.args.read) (omega (arith, some)) some in
     let few = c.row_of-member.ensures.few in
     let grows = c.row_of-member.ensures.grows in
     omega (arith, room, few, c.read_member.ensures.cost)
@@ -104,7 +104,7 @@ returns-clause-err c =
     let same = same_frame f (Envelopes c.args.entry c.args.read c.args.count) c.requires.left in
     let gf = subst (λ (f : Frame). FrameFine t m.bytes f) same c.requires.frame in
     let some = c.requires.some in
-    let room = envelope_room t c.requires.table m (c.requires.short, c.requires.state.few) f c.args.entry c.args.read c.args.count old gf c.requires.state (c.args.read + 1) (c.args.count - 1) (add-one c.args.read) (omega (arith, some)) some in
+    let room = envelope_room t c.args.self.now.fine m (c.args.self.now.short, c.requires.state.few) f c.args.entry c.args.read c.args.count old gf c.requires.state (c.args.read + 1) (c.args.count - 1) (add-one c.args.read) (omega (arith, some)) some in
     let few = c.row_of-member.ensures.few in
     let grows = c.row_of-member.ensures.grows in
     let place = f.base + f.done in
@@ -115,7 +115,7 @@ returns-clause-err c =
     let all = c.read_member.new.state.steps - c.args.state.now.steps in
     on_err_weaker c.read_member.result
     (λ bad. subst (λ (g : Frame). (to : At) → Reads t m g old to → ⊥) (sym same)
-    (envelope_refused t c.requires.table m (c.requires.short, c.requires.state.few) f c.args.entry c.args.read c.args.count old gf c.requires.state (c.args.read + 1) (c.args.count - 1) (add-one c.args.read) (omega (arith, some)) some there (subst (λ (o : Option Term). (to : At) → Contained (declarations_of t) m f.depth o place old to → ⊥) (sym is) bad)))
+    (envelope_refused t c.args.self.now.fine m (c.args.self.now.short, c.requires.state.few) f c.args.entry c.args.read c.args.count old gf c.requires.state (c.args.read + 1) (c.args.count - 1) (add-one c.args.read) (omega (arith, some)) some there (subst (λ (o : Option Term). (to : At) → Contained (declarations_of t) m f.depth o place old to → ⊥) (sym is) bad)))
     c.read_member.ensures.err
 
 pub returns-clause-fault_is_true : goal.returns-clause-fault_is_true
@@ -127,7 +127,7 @@ returns-clause-fault_is_true c =
     let same = same_frame f (Envelopes c.args.entry c.args.read c.args.count) c.requires.left in
     let gf = subst (λ (f : Frame). FrameFine t m.bytes f) same c.requires.frame in
     let some = c.requires.some in
-    let room = envelope_room t c.requires.table m (c.requires.short, c.requires.state.few) f c.args.entry c.args.read c.args.count old gf c.requires.state (c.args.read + 1) (c.args.count - 1) (add-one c.args.read) (omega (arith, some)) some in
+    let room = envelope_room t c.args.self.now.fine m (c.args.self.now.short, c.requires.state.few) f c.args.entry c.args.read c.args.count old gf c.requires.state (c.args.read + 1) (c.args.count - 1) (add-one c.args.read) (omega (arith, some)) some in
     let few = c.row_of-member.ensures.few in
     let grows = c.row_of-member.ensures.grows in
     let place = f.base + f.done in
@@ -138,7 +138,7 @@ returns-clause-fault_is_true c =
     let all = c.read_member.new.state.steps - c.args.state.now.steps in
     IfErr-weaker c.read_member.result _ _
     (λ fault b. subst (λ (g : Frame). BreaksFrame t m g old fault) (sym same)
-    (envelope_breaks t c.requires.table m (c.requires.short, c.requires.state.few) f c.args.entry c.args.read c.args.count old gf c.requires.state (c.args.read + 1) (c.args.count - 1) (add-one c.args.read) (omega (arith, some)) some there fault (subst (λ (o : Option Term). BreaksMember (declarations_of t) m f.depth o place old fault) (sym is) b)))
+    (envelope_breaks t c.args.self.now.fine m (c.args.self.now.short, c.requires.state.few) f c.args.entry c.args.read c.args.count old gf c.requires.state (c.args.read + 1) (c.args.count - 1) (add-one c.args.read) (omega (arith, some)) some there fault (subst (λ (o : Option Term). BreaksMember (declarations_of t) m f.depth o place old fault) (sym is) b)))
     c.read_member.ensures.fault_is_true
 
 pub returns-then-is_absent-clause-err : goal.returns-then-is_absent-clause-err
@@ -149,12 +149,6 @@ returns-then-is_absent-clause-fault_is_true c = tt
 
 pub row_of-member-requires-clause-parts : goal.row_of-member-requires-clause-parts
 row_of-member-requires-clause-parts c = c.requires.parts
-
-pub read_member-requires-clause-table : goal.read_member-requires-clause-table
-read_member-requires-clause-table c = c.requires.table
-
-pub read_member-requires-clause-short : goal.read_member-requires-clause-short
-read_member-requires-clause-short c = c.requires.short
 
 pub read_member-requires-clause-state : goal.read_member-requires-clause-state
 read_member-requires-clause-state c = c.requires.state

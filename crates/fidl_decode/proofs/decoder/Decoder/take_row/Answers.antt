@@ -15,7 +15,7 @@ use Rattle.fidl_decode.proofs.decoder.Decoder.take_row.Goals as goal
 
 pub overflow_add-at : goal.overflow_add-at
 overflow_add-at c =
-    let d = done_fits c.args.self.now.table.now c.requires.table (message_of c.args.self.now.bytes.now c.args.self.now.handles.now) c.args.frame (at_of c.args.state.now) c.requires.frame c.requires.state in
+    let d = done_fits c.args.self.now.table.now c.args.self.now.fine (message_of c.args.self.now.bytes.now c.args.self.now.handles.now) c.args.frame (at_of c.args.state.now) c.requires.frame c.requires.state in
     let room = c.requires.frame.room in
     record { fits = omega arith }
 
@@ -23,148 +23,148 @@ pub returns-in_default-clause-ok : goal.returns-in_default-clause-ok
 returns-in_default-clause-ok c =
     let over = c.in_default.ensures.none in
     let spent : (c.args.frame.base + c.args.frame.size - (c.args.frame.base + c.args.frame.done) + 1) ≡ c.args.state.now.steps + (c.args.frame.base + c.args.frame.size - (c.args.frame.base + c.args.frame.done) + 1) - c.args.state.now.steps = omega arith in
-    subst (λ (n : ℕ). Turns c.args.self.now.table.now (message_of c.args.self.now.bytes.now c.args.self.now.handles.now) c.args.frame (at_of c.args.state.now) (at_of c.args.state.now) n (record { below = None; rest = None })) spent (turns_end c.args.self.now.table.now c.requires.table (message_of c.args.self.now.bytes.now c.args.self.now.handles.now) c.args.frame (at_of c.args.state.now) c.requires.frame c.requires.state over c.requires.plain c.in_ok-zeros_at.ensures.ok)
+    subst (λ (n : ℕ). Turns c.args.self.now.table.now (message_of c.args.self.now.bytes.now c.args.self.now.handles.now) c.args.frame (at_of c.args.state.now) (at_of c.args.state.now) n (record { below = None; rest = None })) spent (turns_end c.args.self.now.table.now c.args.self.now.fine (message_of c.args.self.now.bytes.now c.args.self.now.handles.now) c.args.frame (at_of c.args.state.now) c.requires.frame c.requires.state over c.requires.plain c.in_ok-zeros_at.ensures.ok)
 
 pub overflow_add-place : goal.overflow_add-place
 overflow_add-place c =
-    let r = row_room c.args.self.now.table.now c.requires.table (message_of c.args.self.now.bytes.now c.args.self.now.handles.now) c.args.frame (at_of c.args.state.now) c.requires.frame c.requires.state (let x : Row = record { offset = c.in-Some.member.offset; entry = c.in-Some.member.entry } in x) c.in-Some.member.left c.in-Some.ensures.some in
-    let f = row_fine c.args.self.now.table.now c.requires.table (message_of c.args.self.now.bytes.now c.args.self.now.handles.now) c.args.frame (at_of c.args.state.now) c.requires.frame c.requires.state (let x : Row = record { offset = c.in-Some.member.offset; entry = c.in-Some.member.entry } in x) c.in-Some.member.left c.in-Some.ensures.some in
-    let d = done_fits c.args.self.now.table.now c.requires.table (message_of c.args.self.now.bytes.now c.args.self.now.handles.now) c.args.frame (at_of c.args.state.now) c.requires.frame c.requires.state in
+    let r = row_room c.args.self.now.table.now c.args.self.now.fine (message_of c.args.self.now.bytes.now c.args.self.now.handles.now) c.args.frame (at_of c.args.state.now) c.requires.frame c.requires.state (let x : Row = record { offset = c.in-Some.member.offset; entry = c.in-Some.member.entry } in x) c.in-Some.member.left c.in-Some.ensures.some in
+    let f = row_fine c.args.self.now.table.now c.args.self.now.fine (message_of c.args.self.now.bytes.now c.args.self.now.handles.now) c.args.frame (at_of c.args.state.now) c.requires.frame c.requires.state (let x : Row = record { offset = c.in-Some.member.offset; entry = c.in-Some.member.entry } in x) c.in-Some.member.left c.in-Some.ensures.some in
+    let d = done_fits c.args.self.now.table.now c.args.self.now.fine (message_of c.args.self.now.bytes.now c.args.self.now.handles.now) c.args.frame (at_of c.args.state.now) c.requires.frame c.requires.state in
     let room = c.requires.frame.room in
     record { fits = omega arith }
 
 pub overflow_add-state-2 : goal.overflow_add-state-2
 overflow_add-state-2 c =
-    let r = row_room c.args.self.now.table.now c.requires.table (message_of c.args.self.now.bytes.now c.args.self.now.handles.now) c.args.frame (at_of c.args.state.now) c.requires.frame c.requires.state (let x : Row = record { offset = c.in-Some.member.offset; entry = c.in-Some.member.entry } in x) c.in-Some.member.left c.in-Some.ensures.some in
-    let f = row_fine c.args.self.now.table.now c.requires.table (message_of c.args.self.now.bytes.now c.args.self.now.handles.now) c.args.frame (at_of c.args.state.now) c.requires.frame c.requires.state (let x : Row = record { offset = c.in-Some.member.offset; entry = c.in-Some.member.entry } in x) c.in-Some.member.left c.in-Some.ensures.some in
-    let d = done_fits c.args.self.now.table.now c.requires.table (message_of c.args.self.now.bytes.now c.args.self.now.handles.now) c.args.frame (at_of c.args.state.now) c.requires.frame c.requires.state in
+    let r = row_room c.args.self.now.table.now c.args.self.now.fine (message_of c.args.self.now.bytes.now c.args.self.now.handles.now) c.args.frame (at_of c.args.state.now) c.requires.frame c.requires.state (let x : Row = record { offset = c.in-Some.member.offset; entry = c.in-Some.member.entry } in x) c.in-Some.member.left c.in-Some.ensures.some in
+    let f = row_fine c.args.self.now.table.now c.args.self.now.fine (message_of c.args.self.now.bytes.now c.args.self.now.handles.now) c.args.frame (at_of c.args.state.now) c.requires.frame c.requires.state (let x : Row = record { offset = c.in-Some.member.offset; entry = c.in-Some.member.entry } in x) c.in-Some.member.left c.in-Some.ensures.some in
+    let d = done_fits c.args.self.now.table.now c.args.self.now.fine (message_of c.args.self.now.bytes.now c.args.self.now.handles.now) c.args.frame (at_of c.args.state.now) c.requires.frame c.requires.state in
     let room = c.requires.frame.room in
     record { fits = omega (arith, f.1) }
 
 pub overflow_add-state-3 : goal.overflow_add-state-3
 overflow_add-state-3 c =
-    let r = row_room c.args.self.now.table.now c.requires.table (message_of c.args.self.now.bytes.now c.args.self.now.handles.now) c.args.frame (at_of c.args.state.now) c.requires.frame c.requires.state (let x : Row = record { offset = c.in-Some.member.offset; entry = c.in-Some.member.entry } in x) c.in-Some.member.left c.in-Some.ensures.some in
-    let f = row_fine c.args.self.now.table.now c.requires.table (message_of c.args.self.now.bytes.now c.args.self.now.handles.now) c.args.frame (at_of c.args.state.now) c.requires.frame c.requires.state (let x : Row = record { offset = c.in-Some.member.offset; entry = c.in-Some.member.entry } in x) c.in-Some.member.left c.in-Some.ensures.some in
-    let d = done_fits c.args.self.now.table.now c.requires.table (message_of c.args.self.now.bytes.now c.args.self.now.handles.now) c.args.frame (at_of c.args.state.now) c.requires.frame c.requires.state in
+    let r = row_room c.args.self.now.table.now c.args.self.now.fine (message_of c.args.self.now.bytes.now c.args.self.now.handles.now) c.args.frame (at_of c.args.state.now) c.requires.frame c.requires.state (let x : Row = record { offset = c.in-Some.member.offset; entry = c.in-Some.member.entry } in x) c.in-Some.member.left c.in-Some.ensures.some in
+    let f = row_fine c.args.self.now.table.now c.args.self.now.fine (message_of c.args.self.now.bytes.now c.args.self.now.handles.now) c.args.frame (at_of c.args.state.now) c.requires.frame c.requires.state (let x : Row = record { offset = c.in-Some.member.offset; entry = c.in-Some.member.entry } in x) c.in-Some.member.left c.in-Some.ensures.some in
+    let d = done_fits c.args.self.now.table.now c.args.self.now.fine (message_of c.args.self.now.bytes.now c.args.self.now.handles.now) c.args.frame (at_of c.args.state.now) c.requires.frame c.requires.state in
     let room = c.requires.frame.room in
-    let g = gap c.args.self.now.table.now c.requires.table (message_of c.args.self.now.bytes.now c.args.self.now.handles.now) c.args.frame (at_of c.args.state.now) c.requires.frame c.requires.state (let x : Row = record { offset = c.in-Some.member.offset; entry = c.in-Some.member.entry } in x) c.in-Some.member.left c.in-Some.ensures.some in
+    let g = gap c.args.self.now.table.now c.args.self.now.fine (message_of c.args.self.now.bytes.now c.args.self.now.handles.now) c.args.frame (at_of c.args.state.now) c.requires.frame c.requires.state (let x : Row = record { offset = c.in-Some.member.offset; entry = c.in-Some.member.entry } in x) c.in-Some.member.left c.in-Some.ensures.some in
     let b = c.requires.steps in
     record { fits = omega (arith, f.1) }
 
 pub zeros_at-requires-2-clause-room : goal.zeros_at-requires-2-clause-room
 zeros_at-requires-2-clause-room c =
-    let r = row_room c.args.self.now.table.now c.requires.table (message_of c.args.self.now.bytes.now c.args.self.now.handles.now) c.args.frame (at_of c.args.state.now) c.requires.frame c.requires.state (let x : Row = record { offset = c.in-Some.member.offset; entry = c.in-Some.member.entry } in x) c.in-Some.member.left c.in-Some.ensures.some in
-    let f = row_fine c.args.self.now.table.now c.requires.table (message_of c.args.self.now.bytes.now c.args.self.now.handles.now) c.args.frame (at_of c.args.state.now) c.requires.frame c.requires.state (let x : Row = record { offset = c.in-Some.member.offset; entry = c.in-Some.member.entry } in x) c.in-Some.member.left c.in-Some.ensures.some in
-    let d = done_fits c.args.self.now.table.now c.requires.table (message_of c.args.self.now.bytes.now c.args.self.now.handles.now) c.args.frame (at_of c.args.state.now) c.requires.frame c.requires.state in
+    let r = row_room c.args.self.now.table.now c.args.self.now.fine (message_of c.args.self.now.bytes.now c.args.self.now.handles.now) c.args.frame (at_of c.args.state.now) c.requires.frame c.requires.state (let x : Row = record { offset = c.in-Some.member.offset; entry = c.in-Some.member.entry } in x) c.in-Some.member.left c.in-Some.ensures.some in
+    let f = row_fine c.args.self.now.table.now c.args.self.now.fine (message_of c.args.self.now.bytes.now c.args.self.now.handles.now) c.args.frame (at_of c.args.state.now) c.requires.frame c.requires.state (let x : Row = record { offset = c.in-Some.member.offset; entry = c.in-Some.member.entry } in x) c.in-Some.member.left c.in-Some.ensures.some in
+    let d = done_fits c.args.self.now.table.now c.args.self.now.fine (message_of c.args.self.now.bytes.now c.args.self.now.handles.now) c.args.frame (at_of c.args.state.now) c.requires.frame c.requires.state in
     let room = c.requires.frame.room in
     omega arith
 
 pub returns-in_err-zeros_at-2-clause-cost : goal.returns-in_err-zeros_at-2-clause-cost
 returns-in_err-zeros_at-2-clause-cost c =
-    let r = row_room c.args.self.now.table.now c.requires.table (message_of c.args.self.now.bytes.now c.args.self.now.handles.now) c.args.frame (at_of c.args.state.now) c.requires.frame c.requires.state (let x : Row = record { offset = c.in-Some.member.offset; entry = c.in-Some.member.entry } in x) c.in-Some.member.left c.in-Some.ensures.some in
-    let f = row_fine c.args.self.now.table.now c.requires.table (message_of c.args.self.now.bytes.now c.args.self.now.handles.now) c.args.frame (at_of c.args.state.now) c.requires.frame c.requires.state (let x : Row = record { offset = c.in-Some.member.offset; entry = c.in-Some.member.entry } in x) c.in-Some.member.left c.in-Some.ensures.some in
-    let d = done_fits c.args.self.now.table.now c.requires.table (message_of c.args.self.now.bytes.now c.args.self.now.handles.now) c.args.frame (at_of c.args.state.now) c.requires.frame c.requires.state in
+    let r = row_room c.args.self.now.table.now c.args.self.now.fine (message_of c.args.self.now.bytes.now c.args.self.now.handles.now) c.args.frame (at_of c.args.state.now) c.requires.frame c.requires.state (let x : Row = record { offset = c.in-Some.member.offset; entry = c.in-Some.member.entry } in x) c.in-Some.member.left c.in-Some.ensures.some in
+    let f = row_fine c.args.self.now.table.now c.args.self.now.fine (message_of c.args.self.now.bytes.now c.args.self.now.handles.now) c.args.frame (at_of c.args.state.now) c.requires.frame c.requires.state (let x : Row = record { offset = c.in-Some.member.offset; entry = c.in-Some.member.entry } in x) c.in-Some.member.left c.in-Some.ensures.some in
+    let d = done_fits c.args.self.now.table.now c.args.self.now.fine (message_of c.args.self.now.bytes.now c.args.self.now.handles.now) c.args.frame (at_of c.args.state.now) c.requires.frame c.requires.state in
     let room = c.requires.frame.room in
-    let g = gap c.args.self.now.table.now c.requires.table (message_of c.args.self.now.bytes.now c.args.self.now.handles.now) c.args.frame (at_of c.args.state.now) c.requires.frame c.requires.state (let x : Row = record { offset = c.in-Some.member.offset; entry = c.in-Some.member.entry } in x) c.in-Some.member.left c.in-Some.ensures.some in
+    let g = gap c.args.self.now.table.now c.args.self.now.fine (message_of c.args.self.now.bytes.now c.args.self.now.handles.now) c.args.frame (at_of c.args.state.now) c.requires.frame c.requires.state (let x : Row = record { offset = c.in-Some.member.offset; entry = c.in-Some.member.entry } in x) c.in-Some.member.left c.in-Some.ensures.some in
     let w = spends c.args.frame.nest (c.in-Some.member.offset - c.args.frame.done) (c.args.frame.size - c.args.frame.done) (omega arith) in
     omega arith
 
 pub returns-in_err-zeros_at-2-clause-err : goal.returns-in_err-zeros_at-2-clause-err
 returns-in_err-zeros_at-2-clause-err c =
-    on_err _ ((to : At) → Reads c.args.self.now.table.now (message_of c.args.self.now.bytes.now c.args.self.now.handles.now) c.args.frame (at_of c.args.state.now) to → ⊥) (λ to. gap_refused c.args.self.now.table.now c.requires.table (message_of c.args.self.now.bytes.now c.args.self.now.handles.now) c.args.frame (at_of c.args.state.now) c.requires.frame c.requires.state (let x : Row = record { offset = c.in-Some.member.offset; entry = c.in-Some.member.entry } in x) c.in-Some.member.left c.in-Some.ensures.some c.requires.plain to c.in_err-zeros_at-2.ensures.err)
+    on_err _ ((to : At) → Reads c.args.self.now.table.now (message_of c.args.self.now.bytes.now c.args.self.now.handles.now) c.args.frame (at_of c.args.state.now) to → ⊥) (λ to. gap_refused c.args.self.now.table.now c.args.self.now.fine (message_of c.args.self.now.bytes.now c.args.self.now.handles.now) c.args.frame (at_of c.args.state.now) c.requires.frame c.requires.state (let x : Row = record { offset = c.in-Some.member.offset; entry = c.in-Some.member.entry } in x) c.in-Some.member.left c.in-Some.ensures.some c.requires.plain to c.in_err-zeros_at-2.ensures.err)
 
 pub returns-in_err-zeros_at-clause-err : goal.returns-in_err-zeros_at-clause-err
 returns-in_err-zeros_at-clause-err c =
-    on_err _ ((to : At) → Reads c.args.self.now.table.now (message_of c.args.self.now.bytes.now c.args.self.now.handles.now) c.args.frame (at_of c.args.state.now) to → ⊥) (λ to. end_refused c.args.self.now.table.now c.requires.table (message_of c.args.self.now.bytes.now c.args.self.now.handles.now) c.args.frame (at_of c.args.state.now) c.requires.frame c.requires.state c.in_default.ensures.none c.requires.plain to c.in_err-zeros_at.ensures.err)
+    on_err _ ((to : At) → Reads c.args.self.now.table.now (message_of c.args.self.now.bytes.now c.args.self.now.handles.now) c.args.frame (at_of c.args.state.now) to → ⊥) (λ to. end_refused c.args.self.now.table.now c.args.self.now.fine (message_of c.args.self.now.bytes.now c.args.self.now.handles.now) c.args.frame (at_of c.args.state.now) c.requires.frame c.requires.state c.in_default.ensures.none c.requires.plain to c.in_err-zeros_at.ensures.err)
 
 pub visit-requires-clause-room : goal.visit-requires-clause-room
 visit-requires-clause-room c =
-    let r = row_room c.args.self.now.table.now c.requires.table (message_of c.args.self.now.bytes.now c.args.self.now.handles.now) c.args.frame (at_of c.args.state.now) c.requires.frame c.requires.state (let x : Row = record { offset = c.in-Some.member.offset; entry = c.in-Some.member.entry } in x) c.in-Some.member.left c.in-Some.ensures.some in
-    let f = row_fine c.args.self.now.table.now c.requires.table (message_of c.args.self.now.bytes.now c.args.self.now.handles.now) c.args.frame (at_of c.args.state.now) c.requires.frame c.requires.state (let x : Row = record { offset = c.in-Some.member.offset; entry = c.in-Some.member.entry } in x) c.in-Some.member.left c.in-Some.ensures.some in
-    let d = done_fits c.args.self.now.table.now c.requires.table (message_of c.args.self.now.bytes.now c.args.self.now.handles.now) c.args.frame (at_of c.args.state.now) c.requires.frame c.requires.state in
+    let r = row_room c.args.self.now.table.now c.args.self.now.fine (message_of c.args.self.now.bytes.now c.args.self.now.handles.now) c.args.frame (at_of c.args.state.now) c.requires.frame c.requires.state (let x : Row = record { offset = c.in-Some.member.offset; entry = c.in-Some.member.entry } in x) c.in-Some.member.left c.in-Some.ensures.some in
+    let f = row_fine c.args.self.now.table.now c.args.self.now.fine (message_of c.args.self.now.bytes.now c.args.self.now.handles.now) c.args.frame (at_of c.args.state.now) c.requires.frame c.requires.state (let x : Row = record { offset = c.in-Some.member.offset; entry = c.in-Some.member.entry } in x) c.in-Some.member.left c.in-Some.ensures.some in
+    let d = done_fits c.args.self.now.table.now c.args.self.now.fine (message_of c.args.self.now.bytes.now c.args.self.now.handles.now) c.args.frame (at_of c.args.state.now) c.requires.frame c.requires.state in
     let room = c.requires.frame.room in
-    let s = size_is c.args.self.now.table.now c.requires.table c.in-Some.member.entry f.0 in
+    let s = size_is c.args.self.now.table.now c.args.self.now.fine c.in-Some.member.entry f.0 in
     omega (arith, s)
 
 pub visit-requires-clause-entry : goal.visit-requires-clause-entry
 visit-requires-clause-entry c =
-    let r = row_room c.args.self.now.table.now c.requires.table (message_of c.args.self.now.bytes.now c.args.self.now.handles.now) c.args.frame (at_of c.args.state.now) c.requires.frame c.requires.state (let x : Row = record { offset = c.in-Some.member.offset; entry = c.in-Some.member.entry } in x) c.in-Some.member.left c.in-Some.ensures.some in
-    let f = row_fine c.args.self.now.table.now c.requires.table (message_of c.args.self.now.bytes.now c.args.self.now.handles.now) c.args.frame (at_of c.args.state.now) c.requires.frame c.requires.state (let x : Row = record { offset = c.in-Some.member.offset; entry = c.in-Some.member.entry } in x) c.in-Some.member.left c.in-Some.ensures.some in
-    let d = done_fits c.args.self.now.table.now c.requires.table (message_of c.args.self.now.bytes.now c.args.self.now.handles.now) c.args.frame (at_of c.args.state.now) c.requires.frame c.requires.state in
+    let r = row_room c.args.self.now.table.now c.args.self.now.fine (message_of c.args.self.now.bytes.now c.args.self.now.handles.now) c.args.frame (at_of c.args.state.now) c.requires.frame c.requires.state (let x : Row = record { offset = c.in-Some.member.offset; entry = c.in-Some.member.entry } in x) c.in-Some.member.left c.in-Some.ensures.some in
+    let f = row_fine c.args.self.now.table.now c.args.self.now.fine (message_of c.args.self.now.bytes.now c.args.self.now.handles.now) c.args.frame (at_of c.args.state.now) c.requires.frame c.requires.state (let x : Row = record { offset = c.in-Some.member.offset; entry = c.in-Some.member.entry } in x) c.in-Some.member.left c.in-Some.ensures.some in
+    let d = done_fits c.args.self.now.table.now c.args.self.now.fine (message_of c.args.self.now.bytes.now c.args.self.now.handles.now) c.args.frame (at_of c.args.state.now) c.requires.frame c.requires.state in
     let room = c.requires.frame.room in
     f.0
 
 pub returns-in_err-below-clause-cost : goal.returns-in_err-below-clause-cost
 returns-in_err-below-clause-cost c =
-    let r = row_room c.args.self.now.table.now c.requires.table (message_of c.args.self.now.bytes.now c.args.self.now.handles.now) c.args.frame (at_of c.args.state.now) c.requires.frame c.requires.state (let x : Row = record { offset = c.in-Some.member.offset; entry = c.in-Some.member.entry } in x) c.in-Some.member.left c.in-Some.ensures.some in
-    let f = row_fine c.args.self.now.table.now c.requires.table (message_of c.args.self.now.bytes.now c.args.self.now.handles.now) c.args.frame (at_of c.args.state.now) c.requires.frame c.requires.state (let x : Row = record { offset = c.in-Some.member.offset; entry = c.in-Some.member.entry } in x) c.in-Some.member.left c.in-Some.ensures.some in
-    let d = done_fits c.args.self.now.table.now c.requires.table (message_of c.args.self.now.bytes.now c.args.self.now.handles.now) c.args.frame (at_of c.args.state.now) c.requires.frame c.requires.state in
+    let r = row_room c.args.self.now.table.now c.args.self.now.fine (message_of c.args.self.now.bytes.now c.args.self.now.handles.now) c.args.frame (at_of c.args.state.now) c.requires.frame c.requires.state (let x : Row = record { offset = c.in-Some.member.offset; entry = c.in-Some.member.entry } in x) c.in-Some.member.left c.in-Some.ensures.some in
+    let f = row_fine c.args.self.now.table.now c.args.self.now.fine (message_of c.args.self.now.bytes.now c.args.self.now.handles.now) c.args.frame (at_of c.args.state.now) c.requires.frame c.requires.state (let x : Row = record { offset = c.in-Some.member.offset; entry = c.in-Some.member.entry } in x) c.in-Some.member.left c.in-Some.ensures.some in
+    let d = done_fits c.args.self.now.table.now c.args.self.now.fine (message_of c.args.self.now.bytes.now c.args.self.now.handles.now) c.args.frame (at_of c.args.state.now) c.requires.frame c.requires.state in
     let room = c.requires.frame.room in
-    let g = gap c.args.self.now.table.now c.requires.table (message_of c.args.self.now.bytes.now c.args.self.now.handles.now) c.args.frame (at_of c.args.state.now) c.requires.frame c.requires.state (let x : Row = record { offset = c.in-Some.member.offset; entry = c.in-Some.member.entry } in x) c.in-Some.member.left c.in-Some.ensures.some in
-    let pos = positive c.args.self.now.table.now c.requires.table c.in-Some.member.entry f.0 in
+    let g = gap c.args.self.now.table.now c.args.self.now.fine (message_of c.args.self.now.bytes.now c.args.self.now.handles.now) c.args.frame (at_of c.args.state.now) c.requires.frame c.requires.state (let x : Row = record { offset = c.in-Some.member.offset; entry = c.in-Some.member.entry } in x) c.in-Some.member.left c.in-Some.ensures.some in
+    let pos = positive c.args.self.now.table.now c.args.self.now.fine c.in-Some.member.entry f.0 in
     let w = spends_more c.args.frame.nest (c.in-Some.member.offset - c.args.frame.done) (c.args.frame.size - c.args.frame.done) (omega (arith, pos, r, f.1)) in
     omega (arith, c.visit.ensures.probes, w, g)
 
 pub returns-in_err-below-clause-err : goal.returns-in_err-below-clause-err
 returns-in_err-below-clause-err c =
-    on_err _ ((to : At) → Reads c.args.self.now.table.now (message_of c.args.self.now.bytes.now c.args.self.now.handles.now) c.args.frame (at_of c.args.state.now) to → ⊥) (λ to. visit_refused c.args.self.now.table.now c.requires.table (message_of c.args.self.now.bytes.now c.args.self.now.handles.now) c.args.frame (at_of c.args.state.now) c.requires.frame c.requires.state (let x : Row = record { offset = c.in-Some.member.offset; entry = c.in-Some.member.entry } in x) c.in-Some.member.left c.in-Some.ensures.some c.requires.plain to c.in_err-below.ensures.err)
+    on_err _ ((to : At) → Reads c.args.self.now.table.now (message_of c.args.self.now.bytes.now c.args.self.now.handles.now) c.args.frame (at_of c.args.state.now) to → ⊥) (λ to. visit_refused c.args.self.now.table.now c.args.self.now.fine (message_of c.args.self.now.bytes.now c.args.self.now.handles.now) c.args.frame (at_of c.args.state.now) c.requires.frame c.requires.state (let x : Row = record { offset = c.in-Some.member.offset; entry = c.in-Some.member.entry } in x) c.in-Some.member.left c.in-Some.ensures.some c.requires.plain to c.in_err-below.ensures.err)
 
 pub overflow_add-done : goal.overflow_add-done
 overflow_add-done c =
-    let r = row_room c.args.self.now.table.now c.requires.table (message_of c.args.self.now.bytes.now c.args.self.now.handles.now) c.args.frame (at_of c.args.state.now) c.requires.frame c.requires.state (let x : Row = record { offset = c.in-Some.member.offset; entry = c.in-Some.member.entry } in x) c.in-Some.member.left c.in-Some.ensures.some in
-    let f = row_fine c.args.self.now.table.now c.requires.table (message_of c.args.self.now.bytes.now c.args.self.now.handles.now) c.args.frame (at_of c.args.state.now) c.requires.frame c.requires.state (let x : Row = record { offset = c.in-Some.member.offset; entry = c.in-Some.member.entry } in x) c.in-Some.member.left c.in-Some.ensures.some in
-    let d = done_fits c.args.self.now.table.now c.requires.table (message_of c.args.self.now.bytes.now c.args.self.now.handles.now) c.args.frame (at_of c.args.state.now) c.requires.frame c.requires.state in
+    let r = row_room c.args.self.now.table.now c.args.self.now.fine (message_of c.args.self.now.bytes.now c.args.self.now.handles.now) c.args.frame (at_of c.args.state.now) c.requires.frame c.requires.state (let x : Row = record { offset = c.in-Some.member.offset; entry = c.in-Some.member.entry } in x) c.in-Some.member.left c.in-Some.ensures.some in
+    let f = row_fine c.args.self.now.table.now c.args.self.now.fine (message_of c.args.self.now.bytes.now c.args.self.now.handles.now) c.args.frame (at_of c.args.state.now) c.requires.frame c.requires.state (let x : Row = record { offset = c.in-Some.member.offset; entry = c.in-Some.member.entry } in x) c.in-Some.member.left c.in-Some.ensures.some in
+    let d = done_fits c.args.self.now.table.now c.args.self.now.fine (message_of c.args.self.now.bytes.now c.args.self.now.handles.now) c.args.frame (at_of c.args.state.now) c.requires.frame c.requires.state in
     let room = c.requires.frame.room in
-    let s = size_is c.args.self.now.table.now c.requires.table c.in-Some.member.entry f.0 in
+    let s = size_is c.args.self.now.table.now c.args.self.now.fine c.in-Some.member.entry f.0 in
     let e = ap (λ (d : Entry). d.size) c.entry.ensures.value in
     record { fits = omega (arith, s, e) }
 
 pub returns-clause-ok : goal.returns-clause-ok
 returns-clause-ok c =
-    let f = row_fine c.args.self.now.table.now c.requires.table (message_of c.args.self.now.bytes.now c.args.self.now.handles.now) c.args.frame (at_of c.args.state.now) c.requires.frame c.requires.state (let x : Row = record { offset = c.in-Some.member.offset; entry = c.in-Some.member.entry } in x) c.in-Some.member.left c.in-Some.ensures.some in
-    let s = size_is c.args.self.now.table.now c.requires.table c.in-Some.member.entry f.0 in
+    let f = row_fine c.args.self.now.table.now c.args.self.now.fine (message_of c.args.self.now.bytes.now c.args.self.now.handles.now) c.args.frame (at_of c.args.state.now) c.requires.frame c.requires.state (let x : Row = record { offset = c.in-Some.member.offset; entry = c.in-Some.member.entry } in x) c.in-Some.member.left c.in-Some.ensures.some in
+    let s = size_is c.args.self.now.table.now c.args.self.now.fine c.in-Some.member.entry f.0 in
     let size : c.entry.result.size ≡ size_of (declarations_of c.args.self.now.table.now) (ty.named c.in-Some.member.entry) = ap (λ (d : Entry). d.size) c.entry.ensures.value ∙ sym s in
     let before = c.args.state.now.steps + (c.args.frame.base + c.in-Some.member.offset - (c.args.frame.base + c.args.frame.done) + 1) in
     let spent : (c.args.frame.base + c.in-Some.member.offset - (c.args.frame.base + c.args.frame.done) + 1) + (c.visit.new.state.steps - before) ≡ c.visit.new.state.steps - c.args.state.now.steps = omega (arith, c.visit.ensures.grows) in
     subst (λ (n : ℕ). Turns c.args.self.now.table.now (message_of c.args.self.now.bytes.now c.args.self.now.handles.now) c.args.frame (at_of c.args.state.now) (at_of c.visit.new.state) n (record { below = c.in_ok-below.below; rest = Some (record { left = c.in-Some.member.left; base = c.args.frame.base; done = c.in-Some.member.offset + c.entry.result.size; size = c.args.frame.size; nest = c.args.frame.nest; depth = c.args.frame.depth; inside = c.args.frame.inside }) })) spent
-    (turns_more c.args.self.now.table.now c.requires.table (message_of c.args.self.now.bytes.now c.args.self.now.handles.now) c.args.frame (at_of c.args.state.now) c.requires.frame c.requires.state (let x : Row = record { offset = c.in-Some.member.offset; entry = c.in-Some.member.entry } in x) c.in-Some.member.left c.in-Some.ensures.some c.requires.plain (positive c.args.self.now.table.now c.requires.table c.in-Some.member.entry f.0) c.in-Some.ensures.left c.in-Some.ensures.plain c.in_ok-below.below _ _ (c.visit.new.state.steps - before) (ap (λ n. c.in-Some.member.offset + n) size) c.in_ok-zeros_at-2.ensures.ok c.in_ok-below.ensures.ok c.in_ok-below.ensures.fine)
+    (turns_more c.args.self.now.table.now c.args.self.now.fine (message_of c.args.self.now.bytes.now c.args.self.now.handles.now) c.args.frame (at_of c.args.state.now) c.requires.frame c.requires.state (let x : Row = record { offset = c.in-Some.member.offset; entry = c.in-Some.member.entry } in x) c.in-Some.member.left c.in-Some.ensures.some c.requires.plain (positive c.args.self.now.table.now c.args.self.now.fine c.in-Some.member.entry f.0) c.in-Some.ensures.left c.in-Some.ensures.plain c.in_ok-below.below _ _ (c.visit.new.state.steps - before) (ap (λ n. c.in-Some.member.offset + n) size) c.in_ok-zeros_at-2.ensures.ok c.in_ok-below.ensures.ok c.in_ok-below.ensures.fine)
 
 pub returns-clause-cost : goal.returns-clause-cost
 returns-clause-cost c =
-    let r = row_room c.args.self.now.table.now c.requires.table (message_of c.args.self.now.bytes.now c.args.self.now.handles.now) c.args.frame (at_of c.args.state.now) c.requires.frame c.requires.state (let x : Row = record { offset = c.in-Some.member.offset; entry = c.in-Some.member.entry } in x) c.in-Some.member.left c.in-Some.ensures.some in
-    let f = row_fine c.args.self.now.table.now c.requires.table (message_of c.args.self.now.bytes.now c.args.self.now.handles.now) c.args.frame (at_of c.args.state.now) c.requires.frame c.requires.state (let x : Row = record { offset = c.in-Some.member.offset; entry = c.in-Some.member.entry } in x) c.in-Some.member.left c.in-Some.ensures.some in
-    let d = done_fits c.args.self.now.table.now c.requires.table (message_of c.args.self.now.bytes.now c.args.self.now.handles.now) c.args.frame (at_of c.args.state.now) c.requires.frame c.requires.state in
+    let r = row_room c.args.self.now.table.now c.args.self.now.fine (message_of c.args.self.now.bytes.now c.args.self.now.handles.now) c.args.frame (at_of c.args.state.now) c.requires.frame c.requires.state (let x : Row = record { offset = c.in-Some.member.offset; entry = c.in-Some.member.entry } in x) c.in-Some.member.left c.in-Some.ensures.some in
+    let f = row_fine c.args.self.now.table.now c.args.self.now.fine (message_of c.args.self.now.bytes.now c.args.self.now.handles.now) c.args.frame (at_of c.args.state.now) c.requires.frame c.requires.state (let x : Row = record { offset = c.in-Some.member.offset; entry = c.in-Some.member.entry } in x) c.in-Some.member.left c.in-Some.ensures.some in
+    let d = done_fits c.args.self.now.table.now c.args.self.now.fine (message_of c.args.self.now.bytes.now c.args.self.now.handles.now) c.args.frame (at_of c.args.state.now) c.requires.frame c.requires.state in
     let room = c.requires.frame.room in
-    let g = gap c.args.self.now.table.now c.requires.table (message_of c.args.self.now.bytes.now c.args.self.now.handles.now) c.args.frame (at_of c.args.state.now) c.requires.frame c.requires.state (let x : Row = record { offset = c.in-Some.member.offset; entry = c.in-Some.member.entry } in x) c.in-Some.member.left c.in-Some.ensures.some in
-    let pos = positive c.args.self.now.table.now c.requires.table c.in-Some.member.entry f.0 in
+    let g = gap c.args.self.now.table.now c.args.self.now.fine (message_of c.args.self.now.bytes.now c.args.self.now.handles.now) c.args.frame (at_of c.args.state.now) c.requires.frame c.requires.state (let x : Row = record { offset = c.in-Some.member.offset; entry = c.in-Some.member.entry } in x) c.in-Some.member.left c.in-Some.ensures.some in
+    let pos = positive c.args.self.now.table.now c.args.self.now.fine c.in-Some.member.entry f.0 in
     let w = spends_more c.args.frame.nest (c.in-Some.member.offset - c.args.frame.done) (c.args.frame.size - c.args.frame.done) (omega (arith, pos, r, f.1)) in
     omega (arith, c.visit.ensures.probes, w, g)
 
 pub returns-in_err-zeros_at-2-clause-fault_is_true : goal.returns-in_err-zeros_at-2-clause-fault_is_true
 returns-in_err-zeros_at-2-clause-fault_is_true c =
-    let h = (gap_breaks c.args.self.now.table.now c.requires.table (message_of c.args.self.now.bytes.now c.args.self.now.handles.now) c.args.frame (at_of c.args.state.now) c.requires.frame c.requires.state (let x : Row = record { offset = c.in-Some.member.offset; entry = c.in-Some.member.entry } in x) c.in-Some.member.left c.in-Some.ensures.some c.requires.plain _ c.in_err-zeros_at-2.ensures.fault_is_true) in search (rules, h)
+    let h = (gap_breaks c.args.self.now.table.now c.args.self.now.fine (message_of c.args.self.now.bytes.now c.args.self.now.handles.now) c.args.frame (at_of c.args.state.now) c.requires.frame c.requires.state (let x : Row = record { offset = c.in-Some.member.offset; entry = c.in-Some.member.entry } in x) c.in-Some.member.left c.in-Some.ensures.some c.requires.plain _ c.in_err-zeros_at-2.ensures.fault_is_true) in search (rules, h)
 
 pub returns-in_err-zeros_at-clause-fault_is_true : goal.returns-in_err-zeros_at-clause-fault_is_true
 returns-in_err-zeros_at-clause-fault_is_true c =
-    let h = (end_breaks c.args.self.now.table.now c.requires.table (message_of c.args.self.now.bytes.now c.args.self.now.handles.now) c.args.frame (at_of c.args.state.now) c.requires.frame c.requires.state c.in_default.ensures.none c.requires.plain _ c.in_err-zeros_at.ensures.fault_is_true) in search (rules, h)
+    let h = (end_breaks c.args.self.now.table.now c.args.self.now.fine (message_of c.args.self.now.bytes.now c.args.self.now.handles.now) c.args.frame (at_of c.args.state.now) c.requires.frame c.requires.state c.in_default.ensures.none c.requires.plain _ c.in_err-zeros_at.ensures.fault_is_true) in search (rules, h)
 
 pub returns-in_err-below-clause-fault_is_true : goal.returns-in_err-below-clause-fault_is_true
 returns-in_err-below-clause-fault_is_true c =
-    let h = (visit_breaks c.args.self.now.table.now c.requires.table (message_of c.args.self.now.bytes.now c.args.self.now.handles.now) c.args.frame (at_of c.args.state.now) c.requires.frame c.requires.state (let x : Row = record { offset = c.in-Some.member.offset; entry = c.in-Some.member.entry } in x) c.in-Some.member.left c.in-Some.ensures.some c.requires.plain _ c.in_ok-zeros_at-2.ensures.ok c.in_err-below.ensures.fault_is_true) in search (rules, h)
+    let h = (visit_breaks c.args.self.now.table.now c.args.self.now.fine (message_of c.args.self.now.bytes.now c.args.self.now.handles.now) c.args.frame (at_of c.args.state.now) c.requires.frame c.requires.state (let x : Row = record { offset = c.in-Some.member.offset; entry = c.in-Some.member.entry } in x) c.in-Some.member.left c.in-Some.ensures.some c.requires.plain _ c.in_ok-zeros_at-2.ensures.ok c.in_err-below.ensures.fault_is_true) in search (rules, h)
 
 pub visit-requires-clause-budget : goal.visit-requires-clause-budget
 visit-requires-clause-budget c =
-    let r = row_room c.args.self.now.table.now c.requires.table (message_of c.args.self.now.bytes.now c.args.self.now.handles.now) c.args.frame (at_of c.args.state.now) c.requires.frame c.requires.state (let x : Row = record { offset = c.in-Some.member.offset; entry = c.in-Some.member.entry } in x) c.in-Some.member.left c.in-Some.ensures.some in
+    let r = row_room c.args.self.now.table.now c.args.self.now.fine (message_of c.args.self.now.bytes.now c.args.self.now.handles.now) c.args.frame (at_of c.args.state.now) c.requires.frame c.requires.state (let x : Row = record { offset = c.in-Some.member.offset; entry = c.in-Some.member.entry } in x) c.in-Some.member.left c.in-Some.ensures.some in
     let room = c.requires.frame.room in
-    omega (arith, r, room, c.requires.short, c.requires.steps)
+    omega (arith, r, room, c.args.self.now.short, c.requires.steps)
 
 pub visit-requires-clause-inside : goal.visit-requires-clause-inside
 visit-requires-clause-inside c =
-    let f = row_fine c.args.self.now.table.now c.requires.table (message_of c.args.self.now.bytes.now c.args.self.now.handles.now) c.args.frame (at_of c.args.state.now) c.requires.frame c.requires.state (let x : Row = record { offset = c.in-Some.member.offset; entry = c.in-Some.member.entry } in x) c.in-Some.member.left c.in-Some.ensures.some in
-    row_inside c.args.self.now.table.now c.requires.table (message_of c.args.self.now.bytes.now c.args.self.now.handles.now) c.args.frame (at_of c.args.state.now) c.requires.frame c.requires.state (let x : Row = record { offset = c.in-Some.member.offset; entry = c.in-Some.member.entry } in x) c.in-Some.member.left c.in-Some.ensures.some _ (size_is c.args.self.now.table.now c.requires.table c.in-Some.member.entry f.0)
+    let f = row_fine c.args.self.now.table.now c.args.self.now.fine (message_of c.args.self.now.bytes.now c.args.self.now.handles.now) c.args.frame (at_of c.args.state.now) c.requires.frame c.requires.state (let x : Row = record { offset = c.in-Some.member.offset; entry = c.in-Some.member.entry } in x) c.in-Some.member.left c.in-Some.ensures.some in
+    row_inside c.args.self.now.table.now c.args.self.now.fine (message_of c.args.self.now.bytes.now c.args.self.now.handles.now) c.args.frame (at_of c.args.state.now) c.requires.frame c.requires.state (let x : Row = record { offset = c.in-Some.member.offset; entry = c.in-Some.member.entry } in x) c.in-Some.member.left c.in-Some.ensures.some _ (size_is c.args.self.now.table.now c.args.self.now.fine c.in-Some.member.entry f.0)
 
 pub next_member-requires-clause-table : goal.next_member-requires-clause-table
-next_member-requires-clause-table c = c.requires.table
+next_member-requires-clause-table c = c.args.self.now.fine
 
 pub next_member-requires-clause-plain : goal.next_member-requires-clause-plain
 next_member-requires-clause-plain c = c.requires.plain
@@ -180,12 +180,6 @@ returns-in_default-clause-fault_is_true c = tt
 
 pub returns-in_err-zeros_at-2-clause-ok : goal.returns-in_err-zeros_at-2-clause-ok
 returns-in_err-zeros_at-2-clause-ok c = no_ok c.from_residual-in_err-zeros_at-2.result c.in_err-zeros_at-2.field-0.0 _ c.from_residual-in_err-zeros_at-2.ensures.1
-
-pub visit-requires-clause-table : goal.visit-requires-clause-table
-visit-requires-clause-table c = c.requires.table
-
-pub visit-requires-clause-short : goal.visit-requires-clause-short
-visit-requires-clause-short c = c.requires.short
 
 pub visit-requires-clause-state : goal.visit-requires-clause-state
 visit-requires-clause-state c = c.requires.state

@@ -262,7 +262,7 @@ loop-now-preserved-then-is_over c =
     let both = subst (λ (x : Turn). Turns c.args.self.now.table.now (message_of c.args.self.now.bytes.now c.args.self.now.handles.now) c.args.frame (at_of c.args.state.now) (at_of c.take_member.new.state) (c.take_member.new.state.steps - c.args.state.now.steps) x) turn read in
     let less_both = both.less in
     let over = c.is_over.ensures.0 c.if-is_over.true in
-    record { turns = turns_tail c.args.self.now.table.now c.requires.table (message_of c.args.self.now.bytes.now c.args.self.now.handles.now) c.args.frame c.in-Some-below.below c.in-Some-rest.after (at_of c.args.state.now) (at_of c.take_member.new.state) (c.take_member.new.state.steps - c.args.state.now.steps) both over; steps = omega (arith, so_far, grows, rises) }
+    record { turns = turns_tail c.args.self.now.table.now c.args.self.now.fine (message_of c.args.self.now.bytes.now c.args.self.now.handles.now) c.args.frame c.in-Some-below.below c.in-Some-rest.after (at_of c.args.state.now) (at_of c.take_member.new.state) (c.take_member.new.state.steps - c.args.state.now.steps) both over; steps = omega (arith, so_far, grows, rises) }
 
 pub loop-now-preserved : goal.loop-now-preserved
 loop-now-preserved c =

@@ -23,7 +23,7 @@ no_some a e = cc
 
 pub unreachable-requires : goal.unreachable-requires
 unreachable-requires c =
-    let f = c.requires.table.each c.args.entry c.requires.entry in
+    let f = c.args.self.now.fine.each c.args.entry c.requires.entry in
     let none : kind_of (entry_at c.args.self.now.table.now c.args.entry).kind ≡ None = ap (λ (e : Entry). kind_of e.kind) (sym c.entry-e.ensures.value) ∙ sym c.from_number.ensures ∙ c.in_default.is in
     no_some f.0 (sym f.1.is ∙ none)
 
@@ -31,18 +31,18 @@ pub returns-in-Struct-clause-ok : goal.returns-in-Struct-clause-ok
 returns-in-Struct-clause-ok c =
     let is : kind_of (entry_at c.args.self.now.table.now c.args.entry).kind ≡ Some Struct = ap (λ (e : Entry). kind_of e.kind) (sym c.entry-e.ensures.value) ∙ sym c.from_number.ensures ∙ c.in-Some.is ∙ ap (λ (k : EntryKind). Some k) c.in-Struct.is in
     subst (λ (d : Entry). Visits c.args.self.now.table.now (message_of c.args.self.now.bytes.now c.args.self.now.handles.now) c.args.depth c.args.entry c.args.place (at_of c.args.state.now) (at_of c.args.state.now) (c.args.state.now.steps - c.args.state.now.steps) (Some (struct_frame d c.args.place c.args.depth c.args.inside))) (sym c.entry-e.ensures.value)
-    (visits_struct c.args.self.now.table.now c.requires.table (message_of c.args.self.now.bytes.now c.args.self.now.handles.now) c.args.depth c.args.entry c.args.place (at_of c.args.state.now) c.requires.entry c.requires.state c.requires.depth c.args.inside (c.args.state.now.steps - c.args.state.now.steps) (omega arith) is c.requires.room)
+    (visits_struct c.args.self.now.table.now c.args.self.now.fine (message_of c.args.self.now.bytes.now c.args.self.now.handles.now) c.args.depth c.args.entry c.args.place (at_of c.args.state.now) c.requires.entry c.requires.state c.requires.depth c.args.inside (c.args.state.now.steps - c.args.state.now.steps) (omega arith) is c.requires.room)
 
 pub returns-in-Struct-clause-fine : goal.returns-in-Struct-clause-fine
 returns-in-Struct-clause-fine c =
     let is : kind_of (entry_at c.args.self.now.table.now c.args.entry).kind ≡ Some Struct = ap (λ (e : Entry). kind_of e.kind) (sym c.entry-e.ensures.value) ∙ sym c.from_number.ensures ∙ c.in-Some.is ∙ ap (λ (k : EntryKind). Some k) c.in-Struct.is in
     subst (λ (d : Entry). VisitFine c.args.self.now.table.now (message_of c.args.self.now.bytes.now c.args.self.now.handles.now) c.args.depth c.args.inside c.args.entry (Some (struct_frame d c.args.place c.args.depth c.args.inside))) (sym c.entry-e.ensures.value)
-    (struct_fine c.args.self.now.table.now c.requires.table (message_of c.args.self.now.bytes.now c.args.self.now.handles.now) c.args.depth c.args.entry c.args.place (at_of c.args.state.now) c.requires.entry c.requires.state c.requires.depth c.args.inside is c.requires.room c.requires.inside)
+    (struct_fine c.args.self.now.table.now c.args.self.now.fine (message_of c.args.self.now.bytes.now c.args.self.now.handles.now) c.args.depth c.args.entry c.args.place (at_of c.args.state.now) c.requires.entry c.requires.state c.requires.depth c.args.inside is c.requires.room c.requires.inside)
 
 pub entry-size-requires : goal.entry-size-requires
 entry-size-requires c =
     let is : kind_of (entry_at c.args.self.now.table.now c.args.entry).kind ≡ Some Array = ap (λ (e : Entry). kind_of e.kind) (sym c.entry-e.ensures.value) ∙ sym c.from_number.ensures ∙ c.in-Some.is ∙ ap (λ (k : EntryKind). Some k) c.in-Array.is in
-    let f = fine_as c.args.self.now.table.now c.requires.table c.args.entry Array c.requires.entry is in
+    let f = fine_as c.args.self.now.table.now c.args.self.now.fine c.args.entry Array c.requires.entry is in
     subst (λ (d : Entry). d.first < (header_of c.args.self.now.table.now).entries) (sym c.entry-e.ensures.value) f.content.0
 
 pub returns-in-Array-clause-ok : goal.returns-in-Array-clause-ok
@@ -50,14 +50,14 @@ returns-in-Array-clause-ok c =
     let is : kind_of (entry_at c.args.self.now.table.now c.args.entry).kind ≡ Some Array = ap (λ (e : Entry). kind_of e.kind) (sym c.entry-e.ensures.value) ∙ sym c.from_number.ensures ∙ c.in-Some.is ∙ ap (λ (k : EntryKind). Some k) c.in-Array.is in
     let element : c.entry-size.result.size ≡ (entry_at c.args.self.now.table.now (entry_at c.args.self.now.table.now c.args.entry).first).size = ap (λ (d : Entry). d.size) c.entry-size.ensures.value ∙ ap (λ (d : Entry). (entry_at c.args.self.now.table.now d.first).size) c.entry-e.ensures.value in
     subst (λ (d : Entry). Visits c.args.self.now.table.now (message_of c.args.self.now.bytes.now c.args.self.now.handles.now) c.args.depth c.args.entry c.args.place (at_of c.args.state.now) (at_of c.args.state.now) (c.args.state.now.steps - c.args.state.now.steps) (Some (array_frame d c.entry-size.result.size c.args.place c.args.depth c.args.inside))) (sym c.entry-e.ensures.value)
-    (visits_array c.args.self.now.table.now c.requires.table (message_of c.args.self.now.bytes.now c.args.self.now.handles.now) c.args.depth c.args.entry c.args.place (at_of c.args.state.now) c.requires.entry c.requires.state c.requires.depth c.args.inside c.entry-size.result.size (c.args.state.now.steps - c.args.state.now.steps) (omega arith) is element c.requires.room)
+    (visits_array c.args.self.now.table.now c.args.self.now.fine (message_of c.args.self.now.bytes.now c.args.self.now.handles.now) c.args.depth c.args.entry c.args.place (at_of c.args.state.now) c.requires.entry c.requires.state c.requires.depth c.args.inside c.entry-size.result.size (c.args.state.now.steps - c.args.state.now.steps) (omega arith) is element c.requires.room)
 
 pub returns-in-Array-clause-fine : goal.returns-in-Array-clause-fine
 returns-in-Array-clause-fine c =
     let is : kind_of (entry_at c.args.self.now.table.now c.args.entry).kind ≡ Some Array = ap (λ (e : Entry). kind_of e.kind) (sym c.entry-e.ensures.value) ∙ sym c.from_number.ensures ∙ c.in-Some.is ∙ ap (λ (k : EntryKind). Some k) c.in-Array.is in
     let element : c.entry-size.result.size ≡ (entry_at c.args.self.now.table.now (entry_at c.args.self.now.table.now c.args.entry).first).size = ap (λ (d : Entry). d.size) c.entry-size.ensures.value ∙ ap (λ (d : Entry). (entry_at c.args.self.now.table.now d.first).size) c.entry-e.ensures.value in
     subst (λ (d : Entry). VisitFine c.args.self.now.table.now (message_of c.args.self.now.bytes.now c.args.self.now.handles.now) c.args.depth c.args.inside c.args.entry (Some (array_frame d c.entry-size.result.size c.args.place c.args.depth c.args.inside))) (sym c.entry-e.ensures.value)
-    (array_fine c.args.self.now.table.now c.requires.table (message_of c.args.self.now.bytes.now c.args.self.now.handles.now) c.args.depth c.args.entry c.args.place (at_of c.args.state.now) c.requires.entry c.requires.state c.requires.depth c.args.inside c.entry-size.result.size is element c.requires.room c.requires.inside)
+    (array_fine c.args.self.now.table.now c.args.self.now.fine (message_of c.args.self.now.bytes.now c.args.self.now.handles.now) c.args.depth c.args.entry c.args.place (at_of c.args.state.now) c.requires.entry c.requires.state c.requires.depth c.args.inside c.entry-size.result.size is element c.requires.room c.requires.inside)
 
 pub returns-in_err-read_leaf-in_default-kind-clause-fault_is_true : goal.returns-in_err-read_leaf-in_default-kind-clause-fault_is_true
 returns-in_err-read_leaf-in_default-kind-clause-fault_is_true c =
@@ -69,18 +69,18 @@ read_box-requires-clause-kind c = ap (λ (e : Entry). kind_of e.kind) (sym c.ent
 pub read_box-requires-clause-room : goal.read_box-requires-clause-room
 read_box-requires-clause-room c =
     let is : kind_of (entry_at c.args.self.now.table.now c.args.entry).kind ≡ Some Box = ap (λ (e : Entry). kind_of e.kind) (sym c.entry-e.ensures.value) ∙ sym c.from_number.ensures ∙ c.in-Some.is ∙ ap (λ (k : EntryKind). Some k) c.in-Box.is in
-    let size : 8 ≡ (entry_at c.args.self.now.table.now c.args.entry).size = size_as c.args.self.now.table.now c.requires.table c.args.entry Box c.requires.entry is in
+    let size : 8 ≡ (entry_at c.args.self.now.table.now c.args.entry).size = size_as c.args.self.now.table.now c.args.self.now.fine c.args.entry Box c.requires.entry is in
     omega (arith, c.requires.room, size)
 
 pub returns-in-Box-clause-err : goal.returns-in-Box-clause-err
 returns-in-Box-clause-err c =
     let is : kind_of (entry_at c.args.self.now.table.now c.args.entry).kind ≡ Some Box = ap (λ (e : Entry). kind_of e.kind) (sym c.entry-e.ensures.value) ∙ sym c.from_number.ensures ∙ c.in-Some.is ∙ ap (λ (k : EntryKind). Some k) c.in-Box.is in
-    refused_by c.read_box.result _ _ (λ fault b. box_refused c.args.self.now.table.now c.requires.table (message_of c.args.self.now.bytes.now c.args.self.now.handles.now) c.args.depth c.args.entry c.args.place (at_of c.args.state.now) c.requires.entry is c.requires.state c.requires.depth fault b) c.read_box.ensures.fault_is_true
+    refused_by c.read_box.result _ _ (λ fault b. box_refused c.args.self.now.table.now c.args.self.now.fine (message_of c.args.self.now.bytes.now c.args.self.now.handles.now) c.args.depth c.args.entry c.args.place (at_of c.args.state.now) c.requires.entry is c.requires.state c.requires.depth fault b) c.read_box.ensures.fault_is_true
 
 pub returns-in-Box-clause-fault_is_true : goal.returns-in-Box-clause-fault_is_true
 returns-in-Box-clause-fault_is_true c =
     let is : kind_of (entry_at c.args.self.now.table.now c.args.entry).kind ≡ Some Box = ap (λ (e : Entry). kind_of e.kind) (sym c.entry-e.ensures.value) ∙ sym c.from_number.ensures ∙ c.in-Some.is ∙ ap (λ (k : EntryKind). Some k) c.in-Box.is in
-    IfErr-weaker c.read_box.result _ _ (λ fault b. box_breaks c.args.self.now.table.now c.requires.table (message_of c.args.self.now.bytes.now c.args.self.now.handles.now) c.args.depth c.args.entry c.args.place (at_of c.args.state.now) c.requires.entry is c.requires.state c.requires.depth fault b) c.read_box.ensures.fault_is_true
+    IfErr-weaker c.read_box.result _ _ (λ fault b. box_breaks c.args.self.now.table.now c.args.self.now.fine (message_of c.args.self.now.bytes.now c.args.self.now.handles.now) c.args.depth c.args.entry c.args.place (at_of c.args.state.now) c.requires.entry is c.requires.state c.requires.depth fault b) c.read_box.ensures.fault_is_true
 
 pub read_vector-requires-clause-kind : goal.read_vector-requires-clause-kind
 read_vector-requires-clause-kind c = ap (λ (e : Entry). kind_of e.kind) (sym c.entry-e.ensures.value) ∙ sym c.from_number.ensures ∙ c.in-Some.is ∙ ap (λ (k : EntryKind). Some k) c.in-Vector.is
@@ -88,39 +88,39 @@ read_vector-requires-clause-kind c = ap (λ (e : Entry). kind_of e.kind) (sym c.
 pub read_vector-requires-clause-room : goal.read_vector-requires-clause-room
 read_vector-requires-clause-room c =
     let is : kind_of (entry_at c.args.self.now.table.now c.args.entry).kind ≡ Some Vector = ap (λ (e : Entry). kind_of e.kind) (sym c.entry-e.ensures.value) ∙ sym c.from_number.ensures ∙ c.in-Some.is ∙ ap (λ (k : EntryKind). Some k) c.in-Vector.is in
-    let size : 16 ≡ (entry_at c.args.self.now.table.now c.args.entry).size = size_as c.args.self.now.table.now c.requires.table c.args.entry Vector c.requires.entry is in
+    let size : 16 ≡ (entry_at c.args.self.now.table.now c.args.entry).size = size_as c.args.self.now.table.now c.args.self.now.fine c.args.entry Vector c.requires.entry is in
     omega (arith, c.requires.room, size)
 
 pub returns-in-Vector-clause-err : goal.returns-in-Vector-clause-err
 returns-in-Vector-clause-err c =
     let is : kind_of (entry_at c.args.self.now.table.now c.args.entry).kind ≡ Some Vector = ap (λ (e : Entry). kind_of e.kind) (sym c.entry-e.ensures.value) ∙ sym c.from_number.ensures ∙ c.in-Some.is ∙ ap (λ (k : EntryKind). Some k) c.in-Vector.is in
-    refused_by c.read_vector.result _ _ (λ fault b. vector_refused c.args.self.now.table.now c.requires.table (message_of c.args.self.now.bytes.now c.args.self.now.handles.now) c.args.depth c.args.entry c.args.place (at_of c.args.state.now) c.requires.entry is c.requires.state c.requires.depth fault b) c.read_vector.ensures.fault_is_true
+    refused_by c.read_vector.result _ _ (λ fault b. vector_refused c.args.self.now.table.now c.args.self.now.fine (message_of c.args.self.now.bytes.now c.args.self.now.handles.now) c.args.depth c.args.entry c.args.place (at_of c.args.state.now) c.requires.entry is c.requires.state c.requires.depth fault b) c.read_vector.ensures.fault_is_true
 
 pub returns-in-Vector-clause-fault_is_true : goal.returns-in-Vector-clause-fault_is_true
 returns-in-Vector-clause-fault_is_true c =
     let is : kind_of (entry_at c.args.self.now.table.now c.args.entry).kind ≡ Some Vector = ap (λ (e : Entry). kind_of e.kind) (sym c.entry-e.ensures.value) ∙ sym c.from_number.ensures ∙ c.in-Some.is ∙ ap (λ (k : EntryKind). Some k) c.in-Vector.is in
-    IfErr-weaker c.read_vector.result _ _ (λ fault b. vector_breaks c.args.self.now.table.now c.requires.table (message_of c.args.self.now.bytes.now c.args.self.now.handles.now) c.args.depth c.args.entry c.args.place (at_of c.args.state.now) c.requires.entry is c.requires.state c.requires.depth fault b) c.read_vector.ensures.fault_is_true
+    IfErr-weaker c.read_vector.result _ _ (λ fault b. vector_breaks c.args.self.now.table.now c.args.self.now.fine (message_of c.args.self.now.bytes.now c.args.self.now.handles.now) c.args.depth c.args.entry c.args.place (at_of c.args.state.now) c.requires.entry is c.requires.state c.requires.depth fault b) c.read_vector.ensures.fault_is_true
 
 pub returns-in-Table-clause-err : goal.returns-in-Table-clause-err
 returns-in-Table-clause-err c =
     let is : kind_of (entry_at c.args.self.now.table.now c.args.entry).kind ≡ Some Table = ap (λ (e : Entry). kind_of e.kind) (sym c.entry-e.ensures.value) ∙ sym c.from_number.ensures ∙ c.in-Some.is ∙ ap (λ (k : EntryKind). Some k) c.in-Table.is in
-    refused_by c.read_table.result _ _ (λ fault b. refused_leaf c.args.self.now.table.now c.requires.table (message_of c.args.self.now.bytes.now c.args.self.now.handles.now) c.args.depth c.args.entry c.args.place (at_of c.args.state.now) c.requires.entry c.requires.state c.requires.depth Table is
-    (λ to x. table_excluded (declarations_of c.args.self.now.table.now) c.requires.table.laid_out (message_of c.args.self.now.bytes.now c.args.self.now.handles.now) c.args.depth (rows_from c.args.self.now.table.now (header_of c.args.self.now.table.now) (entry_at c.args.self.now.table.now c.args.entry).first (entry_at c.args.self.now.table.now c.args.entry).count) c.args.place (at_of c.args.state.now) to fault b x)) c.read_table.ensures.fault_is_true
+    refused_by c.read_table.result _ _ (λ fault b. refused_leaf c.args.self.now.table.now c.args.self.now.fine (message_of c.args.self.now.bytes.now c.args.self.now.handles.now) c.args.depth c.args.entry c.args.place (at_of c.args.state.now) c.requires.entry c.requires.state c.requires.depth Table is
+    (λ to x. table_excluded (declarations_of c.args.self.now.table.now) c.args.self.now.fine.laid_out (message_of c.args.self.now.bytes.now c.args.self.now.handles.now) c.args.depth (rows_from c.args.self.now.table.now (header_of c.args.self.now.table.now) (entry_at c.args.self.now.table.now c.args.entry).first (entry_at c.args.self.now.table.now c.args.entry).count) c.args.place (at_of c.args.state.now) to fault b x)) c.read_table.ensures.fault_is_true
 
 pub returns-in-Table-clause-fault_is_true : goal.returns-in-Table-clause-fault_is_true
 returns-in-Table-clause-fault_is_true c =
     let is : kind_of (entry_at c.args.self.now.table.now c.args.entry).kind ≡ Some Table = ap (λ (e : Entry). kind_of e.kind) (sym c.entry-e.ensures.value) ∙ sym c.from_number.ensures ∙ c.in-Some.is ∙ ap (λ (k : EntryKind). Some k) c.in-Table.is in
-    IfErr-weaker c.read_table.result _ _ (λ fault b. leaf_breaks c.args.self.now.table.now c.requires.table (message_of c.args.self.now.bytes.now c.args.self.now.handles.now) c.args.depth c.args.entry c.args.place (at_of c.args.state.now) c.requires.entry c.requires.state c.requires.depth Table is fault b) c.read_table.ensures.fault_is_true
+    IfErr-weaker c.read_table.result _ _ (λ fault b. leaf_breaks c.args.self.now.table.now c.args.self.now.fine (message_of c.args.self.now.bytes.now c.args.self.now.handles.now) c.args.depth c.args.entry c.args.place (at_of c.args.state.now) c.requires.entry c.requires.state c.requires.depth Table is fault b) c.read_table.ensures.fault_is_true
 
 pub read_leaf-requires-clause-leaf : goal.read_leaf-requires-clause-leaf
 read_leaf-requires-clause-leaf c =
     let is : kind_of (entry_at c.args.self.now.table.now c.args.entry).kind ≡ Some c.in-Some.kind = ap (λ (e : Entry). kind_of e.kind) (sym c.entry-e.ensures.value) ∙ sym c.from_number.ensures ∙ c.in-Some.is in
-    leaf_else c.args.self.now.table.now c.requires.table (message_of c.args.self.now.bytes.now c.args.self.now.handles.now) c.args.depth c.args.entry c.args.place (at_of c.args.state.now) c.requires.entry c.requires.state c.requires.depth c.in-Some.kind is c.in_default-kind.not-Struct c.in_default-kind.not-Array c.in_default-kind.not-Box c.in_default-kind.not-Vector c.in_default-kind.not-Table c.in_default-kind.not-Union
+    leaf_else c.args.self.now.table.now c.args.self.now.fine (message_of c.args.self.now.bytes.now c.args.self.now.handles.now) c.args.depth c.args.entry c.args.place (at_of c.args.state.now) c.requires.entry c.requires.state c.requires.depth c.in-Some.kind is c.in_default-kind.not-Struct c.in_default-kind.not-Array c.in_default-kind.not-Box c.in_default-kind.not-Vector c.in_default-kind.not-Table c.in_default-kind.not-Union
 
 pub returns-in-Union-clause-fine : goal.returns-in-Union-clause-fine
 returns-in-Union-clause-fine c =
     let is : kind_of (entry_at c.args.self.now.table.now c.args.entry).kind ≡ Some Union = ap (λ (e : Entry). kind_of e.kind) (sym c.entry-e.ensures.value) ∙ sym c.from_number.ensures ∙ c.in-Some.is ∙ ap (λ (k : EntryKind). Some k) c.in-Union.is in
-    let size : 16 ≡ (entry_at c.args.self.now.table.now c.args.entry).size = size_as c.args.self.now.table.now c.requires.table c.args.entry Union c.requires.entry is in
+    let size : 16 ≡ (entry_at c.args.self.now.table.now c.args.entry).size = size_as c.args.self.now.table.now c.args.self.now.fine c.args.entry Union c.requires.entry is in
     let outside : 0 ≡ c.args.inside = search (arith, c.requires.inside, size) in
     subst (λ i. IfOk c.read_union.result (VisitFine c.args.self.now.table.now (message_of c.args.self.now.bytes.now c.args.self.now.handles.now) c.args.depth i c.args.entry)) outside c.read_union.ensures.fine
 
@@ -139,14 +139,8 @@ overflow_cast-size c = record { fits = omega arith }
 pub overflow_cast-result-in-Array : goal.overflow_cast-result-in-Array
 overflow_cast-result-in-Array c = record { fits = omega arith }
 
-pub read_box-requires-clause-table : goal.read_box-requires-clause-table
-read_box-requires-clause-table c = c.requires.table
-
 pub read_box-requires-clause-entry : goal.read_box-requires-clause-entry
 read_box-requires-clause-entry c = c.requires.entry
-
-pub read_box-requires-clause-short : goal.read_box-requires-clause-short
-read_box-requires-clause-short c = c.requires.short
 
 pub read_box-requires-clause-state : goal.read_box-requires-clause-state
 read_box-requires-clause-state c = c.requires.state
@@ -154,14 +148,8 @@ read_box-requires-clause-state c = c.requires.state
 pub read_box-requires-clause-depth : goal.read_box-requires-clause-depth
 read_box-requires-clause-depth c = c.requires.depth
 
-pub read_vector-requires-clause-table : goal.read_vector-requires-clause-table
-read_vector-requires-clause-table c = c.requires.table
-
 pub read_vector-requires-clause-entry : goal.read_vector-requires-clause-entry
 read_vector-requires-clause-entry c = c.requires.entry
-
-pub read_vector-requires-clause-short : goal.read_vector-requires-clause-short
-read_vector-requires-clause-short c = c.requires.short
 
 pub read_vector-requires-clause-state : goal.read_vector-requires-clause-state
 read_vector-requires-clause-state c = c.requires.state
@@ -169,14 +157,8 @@ read_vector-requires-clause-state c = c.requires.state
 pub read_vector-requires-clause-depth : goal.read_vector-requires-clause-depth
 read_vector-requires-clause-depth c = c.requires.depth
 
-pub read_table-requires-clause-table : goal.read_table-requires-clause-table
-read_table-requires-clause-table c = c.requires.table
-
 pub read_table-requires-clause-entry : goal.read_table-requires-clause-entry
 read_table-requires-clause-entry c = c.requires.entry
-
-pub read_table-requires-clause-short : goal.read_table-requires-clause-short
-read_table-requires-clause-short c = c.requires.short
 
 pub read_table-requires-clause-state : goal.read_table-requires-clause-state
 read_table-requires-clause-state c = c.requires.state
@@ -187,14 +169,8 @@ read_table-requires-clause-depth c = c.requires.depth
 pub read_table-requires-clause-budget : goal.read_table-requires-clause-budget
 read_table-requires-clause-budget c = c.requires.budget
 
-pub read_union-requires-clause-table : goal.read_union-requires-clause-table
-read_union-requires-clause-table c = c.requires.table
-
 pub read_union-requires-clause-entry : goal.read_union-requires-clause-entry
 read_union-requires-clause-entry c = c.requires.entry
-
-pub read_union-requires-clause-short : goal.read_union-requires-clause-short
-read_union-requires-clause-short c = c.requires.short
 
 pub read_union-requires-clause-state : goal.read_union-requires-clause-state
 read_union-requires-clause-state c = c.requires.state
@@ -205,14 +181,8 @@ read_union-requires-clause-depth c = c.requires.depth
 pub read_union-requires-clause-budget : goal.read_union-requires-clause-budget
 read_union-requires-clause-budget c = c.requires.budget
 
-pub read_leaf-requires-clause-table : goal.read_leaf-requires-clause-table
-read_leaf-requires-clause-table c = c.requires.table
-
 pub read_leaf-requires-clause-entry : goal.read_leaf-requires-clause-entry
 read_leaf-requires-clause-entry c = c.requires.entry
-
-pub read_leaf-requires-clause-short : goal.read_leaf-requires-clause-short
-read_leaf-requires-clause-short c = c.requires.short
 
 pub read_leaf-requires-clause-room : goal.read_leaf-requires-clause-room
 read_leaf-requires-clause-room c = c.requires.room
@@ -269,10 +239,10 @@ pub read_leaf-requires-clause-kind : goal.read_leaf-requires-clause-kind
 read_leaf-requires-clause-kind c = ap (λ (e : Entry). kind_of e.kind) (sym c.entry-e.ensures.value) ∙ sym c.from_number.ensures ∙ c.in-Some.is
 
 pub read_table-requires-clause-room : goal.read_table-requires-clause-room
-read_table-requires-clause-room c = subst (λ n. c.args.place + n ≤ (length c.args.self.now.bytes.now)) (sym (size_as c.args.self.now.table.now c.requires.table c.args.entry Table c.requires.entry (ap (λ (e : Entry). kind_of e.kind) (sym c.entry-e.ensures.value) ∙ sym c.from_number.ensures ∙ c.in-Some.is ∙ ap (λ (k : EntryKind). Some k) c.in-Table.is))) c.requires.room
+read_table-requires-clause-room c = subst (λ n. c.args.place + n ≤ (length c.args.self.now.bytes.now)) (sym (size_as c.args.self.now.table.now c.args.self.now.fine c.args.entry Table c.requires.entry (ap (λ (e : Entry). kind_of e.kind) (sym c.entry-e.ensures.value) ∙ sym c.from_number.ensures ∙ c.in-Some.is ∙ ap (λ (k : EntryKind). Some k) c.in-Table.is))) c.requires.room
 
 pub read_union-requires-clause-room : goal.read_union-requires-clause-room
-read_union-requires-clause-room c = subst (λ n. c.args.place + n ≤ (length c.args.self.now.bytes.now)) (sym (size_as c.args.self.now.table.now c.requires.table c.args.entry Union c.requires.entry (ap (λ (e : Entry). kind_of e.kind) (sym c.entry-e.ensures.value) ∙ sym c.from_number.ensures ∙ c.in-Some.is ∙ ap (λ (k : EntryKind). Some k) c.in-Union.is))) c.requires.room
+read_union-requires-clause-room c = subst (λ n. c.args.place + n ≤ (length c.args.self.now.bytes.now)) (sym (size_as c.args.self.now.table.now c.args.self.now.fine c.args.entry Union c.requires.entry (ap (λ (e : Entry). kind_of e.kind) (sym c.entry-e.ensures.value) ∙ sym c.from_number.ensures ∙ c.in-Some.is ∙ ap (λ (k : EntryKind). Some k) c.in-Union.is))) c.requires.room
 
 pub returns-in-Struct-clause-probes : goal.returns-in-Struct-clause-probes
 returns-in-Struct-clause-probes c = le_more_two _ _ _
