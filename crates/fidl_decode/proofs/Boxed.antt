@@ -243,10 +243,6 @@ module _ (t : List ℕ) (fine : IsFine t) (m : Message) (held e place : ℕ) (fr
         subst (λ s. VisitFine t m held around e (Some (object_frame (Rows inner.first inner.count) s inner.nest held from))) content_size
         (object_fine t fine m held e place from lt state size inner.nest (Rows inner.first inner.count) (f.content.0) tt (omega (arith, some)) (omega (arith, small)) shallow room' box_rise around few)
 
-    pub box_refused : (fault : DecodeFault) → BreaksBox m held inner.size place from.next fault → (to : At) → Item ds m held (resolve ds.terms (ty.named e)) place from to → ⊥
-    box_refused fault b to x =
-        box_excluded ds fine.laid_out m held u place from to fault (subst (λ n. BreaksBox m held n place from.next fault) (sym rule_size) b) (subst (λ (w : Term). Item ds m held w place from to) own x)
-
     pub box_breaks : (fault : DecodeFault) → BreaksBox m held inner.size place from.next fault → Breaks ds m held (resolve ds.terms (ty.named e)) place from fault
     box_breaks fault b =
         subst (λ (w : Term). Breaks ds m held w place from fault) (sym own) (broken.in_field (ty.box u) place from fault (subst (λ n. BreaksBox m held n place from.next fault) (sym rule_size) b))

@@ -1,5 +1,5 @@
 -- Handles: which values of a handle type stand at a place.
-use Rattle.std.proofs.Common.{◌≡◌, ℕ, ◌≤◌, List, length, replicate, refl, sym, subst, ◌∙◌, arith, inl, inr}
+use Rattle.std.proofs.Common.{◌≡◌, ℕ, ◌≤◌, List, replicate, refl, sym, subst, arith, inl, inr}
 use Rattle.std.specs.Prelude.{Bool, ◌⊎◌, Some, None, IsTrue, slice_get}
 use Rattle.fidl_limits.specs.declared.limits.TheConstants.{MAX_DEPTH}
 use Rattle.fidl_wire.specs.declared.handle.HandleInfo.{HandleInfo}
@@ -9,7 +9,6 @@ use Rattle.fidl_wire.specs.Figure.{Declarations}
 use Rattle.fidl_wire.specs.Typed.{IsTyped, IsHandle, IsAllowed}
 use Rattle.fidl_wire.specs.Encoding.{zeros, encoding_of}
 use Rattle.fidl_wire.specs.Standing.{Stands}
-use Rattle.std.proofs.lemmas.Option.{slice_get_past}
 use Rattle.fidl_decode.specs.State.{Message, At, taken, after, StandsAt, Item}
 use Rattle.fidl_decode.specs.Machine.{Leads}
 
@@ -52,17 +51,3 @@ module _ (ds : Declarations) (m : Message) (held : ℕ) (optional : Bool) (subty
     (λ x. elim (handle_item to x) [ inl y ↦ absurd (no_both m.bytes place y.0 ones) | inr y ↦ y.1.3 ]),
     (λ same. subst (λ (s : At). Item ds m held (ty.handle optional subtype rights) place from s) same (item_handle deep ones h is small allowed)),
   )
-
-  -- no record is left
-  pub missing_refused : Stands m.bytes place (replicate 4 255) → length m.handles ≤ from.handle → (to : At) → Item ds m held (ty.handle optional subtype rights) place from to → ⊥
-  missing_refused ones over to x = elim (handle_item to x) [
-    | inl y ↦ no_both m.bytes place y.0 ones
-    | inr y ↦ none_some y.1.0 (sym (slice_get_past m.handles from.handle over) ∙ y.1.1)
-  ]
-
-  -- the next record is not allowed
-  pub wrong_refused : Stands m.bytes place (replicate 4 255) → (h : HandleInfo) → slice_get m.handles from.handle ≡ Some h → (IsAllowed subtype rights h → ⊥) → (to : At) → Item ds m held (ty.handle optional subtype rights) place from to → ⊥
-  wrong_refused ones h is bad to x = elim (handle_item to x) [
-    | inl y ↦ no_both m.bytes place y.0 ones
-    | inr y ↦ bad (subst (λ (i : HandleInfo). IsAllowed subtype rights i) (some_same y.1.0 h (sym y.1.1 ∙ is)) y.1.2)
-  ]

@@ -27,7 +27,7 @@ use Rattle.fidl_decode.specs.Envelopes.{Contained}
 use Rattle.fidl_decode.specs.Breaks.{Breaks, BreaksUnion, BreaksMember, ordinal_at}
 use Rattle.fidl_decode.specs.Breaks as broken
 use Rattle.fidl_decode.specs.Machine.{StateFine, Visits, VisitFine, Opens, FineIf, member_term, level, most_nest, inline_work, byte_work, probes, frame_work_if}
-use Rattle.fidl_decode.proofs.Broken.{union_absent, absent_union, union_chosen, union_excluded, union_right}
+use Rattle.fidl_decode.proofs.Broken.{union_absent, absent_union, union_chosen, union_right}
 use Rattle.fidl_decode.proofs.Rows.{joined_stands, past_inline}
 use Rattle.fidl_decode.proofs.Scalars.{standing}
 use Rattle.fidl_decode.proofs.Stated.{stated}
@@ -108,10 +108,6 @@ module _ (t : List ℕ) (fine : IsFine t) (m : Message) (held e place : ℕ) (fr
   from_union : (to : At) → Item ds m held (ty.union (is_optional d) (is_strict d) rows) place from to → Item ds m held term place from to
   from_union to x = subst (λ (u : Term). Item ds m held u place from to) (sym union_is) x
 
-  -- a union that breaks a rule by itself
-  pub union_refused : (fault : DecodeFault) → BreaksUnion m (is_optional d) (is_strict d) rows place fault → (to : At) → Item ds m held term place from to → ⊥
-  union_refused fault b to x = union_excluded ds m held (is_optional d) (is_strict d) rows place from to fault b (to_union to x)
-
   pub union_breaks : (fault : DecodeFault) → BreaksUnion m (is_optional d) (is_strict d) rows place fault → Breaks ds m held term place from fault
   union_breaks fault b = subst (λ (u : Term). Breaks ds m held u place from fault) (sym union_is) (broken.in_field (ty.union (is_optional d) (is_strict d) rows) place from fault b)
 
@@ -149,10 +145,6 @@ module _ (t : List ℕ) (fine : IsFine t) (m : Message) (held e place : ℕ) (fr
           state = o.state;
           less = subst (λ (f : Figure). byte_work * (length m.bytes - new.next) + frame_work_if found + spent ≤ byte_work * (length m.bytes - from.next) + inline_work f.nest * f.size + 1) (sym union_figure) (omega (arith, less, few));
         }
-
-  -- no member, no union
-  pub member_refused : (own_ordinal ≢ 0) → ((to : At) → Contained ds m held (find rows own_ordinal) (place + 8) from to → ⊥) → (to : At) → Item ds m held term place from to → ⊥
-  member_refused some bad to x = bad to (union_chosen ds m held (is_optional d) (is_strict d) rows place from to some (to_union to x)).contained
 
   -- and its frame is fine
   pub union_fine : (found : Option Frame) → FineIf t m.bytes (level held 1 most_nest) found → VisitFine t m held 0 e found

@@ -15,12 +15,12 @@ use Rattle.fidl_decode.specs.declared.frame.Until.{Until}
 use Rattle.fidl_decode.specs.declared.frame.Left.TheVariants.{Elements, Content}
 use Rattle.fidl_decode.specs.Invariants.{IsFine}
 use Rattle.fidl_decode.specs.Rows.{Row, element_rows}
-use Rattle.fidl_decode.specs.State.{Message, At, Item}
+use Rattle.fidl_decode.specs.State.{Message, At}
 use Rattle.fidl_decode.specs.Breaks.{IsPadding, Breaks}
-use Rattle.fidl_decode.specs.Machine.{rows_left, Reads, BreaksFrame, IsUntil, IsInside, StateFine, FrameFine, Visits, VisitFine, Turns, inline_work, frame_work, probes}
+use Rattle.fidl_decode.specs.Machine.{rows_left, BreaksFrame, IsUntil, IsInside, StateFine, FrameFine, Visits, VisitFine, Turns, inline_work, frame_work, probes}
 use Rattle.fidl_decode.proofs.Stated.{element_rows-more}
 use Rattle.fidl_decode.proofs.Visiting.{size_is, nest_is, positive}
-use Rattle.fidl_decode.proofs.Turning.{work_falls, done_fits, spends, spends_more, turns_end, end_refused, end_breaks, row_fine, row_room, row_inside, visit_refused, visit_breaks, turns_more}
+use Rattle.fidl_decode.proofs.Turning.{work_falls, done_fits, spends, spends_more, turns_end, end_breaks, row_fine, row_room, row_inside, visit_breaks, turns_more}
 use Rattle.fidl_decode.proofs.Leaves.{going_on, no_zeros}
 
 module _ (t : List ℕ) (fine : IsFine t) (m : Message) (f : Frame) (e size count : ℕ) (u : Until) (old : At) (ff : FrameFine t m.bytes (going_on f (Content e size count u) f.done)) (state : StateFine m old) where
@@ -64,14 +64,8 @@ module _ (t : List ℕ) (fine : IsFine t) (m : Message) (f : Frame) (e size coun
         less = (let less = ended.less in omega (arith, less, is));
       }
 
-      pub content_elsewhere : (IsUntil u old → ⊥) → (to : At) → Reads t m g old to → ⊥
-      content_elsewhere other to x = let y = (ended.same to).0 x.0 in other (subst (λ (k : At). IsUntil u k) (sym (y.1 ∙ y.2)) x.1)
-
       pub content_miscounted : (IsUntil u old → ⊥) → BreaksFrame t m g old (WrongCounts u.envelope)
       content_miscounted other = inr (old, (ended.same old).1 (old, refl, refl), other, refl)
-
-    pub content_end_refused : (Stands m.bytes (f.base + f.done) (zeros (f.base + f.size - (f.base + f.done))) → ⊥) → (to : At) → Reads t m g old to → ⊥
-    content_end_refused bad to x = end_refused t fine m s old sf state over tt to bad x.0
 
     pub content_end_breaks : (fault : DecodeFault) → IsPadding m.bytes (f.base + f.done) (f.base + f.size) fault → BreaksFrame t m g old fault
     content_end_breaks fault p = inl (end_breaks t fine m s old sf state over tt fault p)
@@ -114,9 +108,6 @@ module _ (t : List ℕ) (fine : IsFine t) (m : Message) (f : Frame) (e size coun
 
     none_between : Stands m.bytes (f.base + f.done) (zeros (f.base + f.done - (f.base + f.done)))
     none_between = no_zeros m.bytes (f.base + f.done) (f.base + f.done - (f.base + f.done)) (omega arith)
-
-    pub content_refused : ((to : At) → Item ds m f.depth (resolve ds.terms (ty.named e)) (f.base + f.done) old to → ⊥) → (to : At) → Reads t m g old to → ⊥
-    content_refused bad to x = visit_refused t fine m s old sf state r (Elements e size (count - 1)) one tt to bad x.0
 
     pub content_breaks : (fault : DecodeFault) → Breaks ds m f.depth (resolve ds.terms (ty.named e)) (f.base + f.done) old fault → BreaksFrame t m g old fault
     content_breaks fault b = inl (visit_breaks t fine m s old sf state r (Elements e size (count - 1)) one tt fault none_between b)

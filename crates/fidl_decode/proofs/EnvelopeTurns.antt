@@ -1,7 +1,7 @@
 -- Turns on the envelopes of a table: the next is zeros, or holds a member.
 use Rattle.std.proofs.Common.{◌≡◌, ℕ, suc, ◌+◌, ◌-◌, ◌*◌, ◌<◌, ◌≤◌, List, refl, sym, ap, subst, ◌∙◌, arith, inl, inr}
 use Rattle.std.specs.Prelude.{Option, Some, None, IfSome, IfNone}
-use Rattle.fidl_wire.specs.Term.{Term, Rows, find}
+use Rattle.fidl_wire.specs.Term.{Rows, find}
 use Rattle.fidl_wire.specs.Term as ty
 use Rattle.fidl_wire.specs.Figure.{Declarations}
 use Rattle.fidl_wire.specs.Encoding.{zeros}
@@ -150,12 +150,6 @@ module _ (t : List ℕ) (fine : IsFine t) (m : Message) (within : IsWithin m.byt
         rest_fine = (rest_fine, omega arith);
         less = omega (arith, own, few, pays.0, pays.1, pays.2);
       }
-
-      pub envelope_refused : ((to : At) → Contained ds m f.depth (find rows (suc read)) place old to → ⊥) → (to : At) → Reads t m g old to → ⊥
-      envelope_refused bad to x = elim (slots_step ds fine.laid_out m f.depth rows (read + count) f.base read old to (omega (arith, more)) x) [
-        | inl y ↦ no_zeros_there y.0
-        | inr b ↦ bad b.mid (subst (λ p. Contained ds m f.depth (find rows (suc read)) p old b.mid) own_place b.contained)
-      ]
 
       pub envelope_breaks : (fault : DecodeFault) → BreaksMember ds m f.depth (find rows (suc read)) place old fault → BreaksFrame t m g old fault
       envelope_breaks fault b = next_broken ds m f.depth rows (read + count) f.base read old fault (omega (arith, more))

@@ -15,11 +15,11 @@ use Rattle.fidl_decode.specs.declared.frame.Left.{Left}
 use Rattle.fidl_decode.specs.declared.frame.Left.TheVariants.{Rows}
 use Rattle.fidl_decode.specs.Invariants.{IsFine}
 use Rattle.fidl_decode.specs.Rows.{Row, table_rows}
-use Rattle.fidl_decode.specs.State.{Message, At, Item}
+use Rattle.fidl_decode.specs.State.{Message, At}
 use Rattle.fidl_decode.specs.Breaks.{IsPadding, Breaks}
-use Rattle.fidl_decode.specs.Machine.{rows_left, Reads, BreaksFrame, StateFine, FrameFine, Visits, Turns, frame_work, probes}
+use Rattle.fidl_decode.specs.Machine.{rows_left, BreaksFrame, StateFine, FrameFine, Visits, Turns, frame_work, probes}
 use Rattle.fidl_decode.proofs.Stated.{table_rows-more}
-use Rattle.fidl_decode.proofs.Leaves.{going_on, same_frame, left_over, turns_start, next_room, next_gap_refused, next_gap_breaks, next_leaf_refused, next_leaf_breaks, next_turns}
+use Rattle.fidl_decode.proofs.Leaves.{going_on, same_frame, left_over, turns_start, next_room, next_gap_breaks, next_leaf_breaks, next_turns}
 
 module _ (t : List ℕ) (fine : IsFine t) (m : Message) (f : Frame) (first count : ℕ) (w : raw.Row) (rows : f.left ≡ Rows first count) (some : 0 < count) (is : w ≡ row_at t (header_of t) first) (old : At) (ff : FrameFine t m.bytes f) (state : StateFine m old) where
   abbrev ds : Declarations
@@ -45,14 +45,8 @@ module _ (t : List ℕ) (fine : IsFine t) (m : Message) (f : Frame) (first count
   pub front_room : (f.done ≤ w.key) × (w.key + (entry_at t w.entry).size ≤ f.size) × (f.base + f.size ≤ length m.bytes) × (w.key - f.done + 1 + probes ≤ frame_work f)
   front_room = next_room t fine m f old old 0 g start r left one
 
-  pub front_gap_refused : (Stands m.bytes (f.base + f.done) (zeros (f.base + w.key - (f.base + f.done))) → ⊥) → (to : At) → Reads t m f old to → ⊥
-  front_gap_refused bad = next_gap_refused t fine m f old old 0 g start r left one tt bad
-
   pub front_gap_breaks : (fault : DecodeFault) → IsPadding m.bytes (f.base + f.done) (f.base + w.key) fault → BreaksFrame t m f old fault
   front_gap_breaks fault p = next_gap_breaks t fine m f old old 0 g start r left one tt fault p
-
-  pub front_refused : ((to : At) → Item ds m f.depth (resolve ds.terms (ty.named w.entry)) (f.base + w.key) old to → ⊥) → (to : At) → Reads t m f old to → ⊥
-  front_refused bad = next_leaf_refused t fine m f old old 0 g start r left one tt bad
 
   pub front_breaks : (fault : DecodeFault) → Stands m.bytes (f.base + f.done) (zeros (f.base + w.key - (f.base + f.done))) → Breaks ds m f.depth (resolve ds.terms (ty.named w.entry)) (f.base + w.key) old fault → BreaksFrame t m f old fault
   front_breaks fault z b = next_leaf_breaks t fine m f old old 0 g start r left one tt fault z b

@@ -3,7 +3,7 @@ use Rattle.std.proofs.Common.{◌≡◌, ℕ, zero, suc, ◌+◌, ◌*◌, ◌<�
 use Rattle.std.specs.Prelude.{codes}
 use Rattle.std.proofs.Math.ListN.{length-replicate}
 use Rattle.fidl_wire.specs.Value.{bool}
-use Rattle.fidl_wire.specs.Term.{Term, no_fields, field, uint8, uint32, resolve}
+use Rattle.fidl_wire.specs.Term.{Term, no_fields, field, uint8, uint32}
 use Rattle.fidl_wire.specs.Term as ty
 use Rattle.fidl_wire.specs.Figure.{Declarations, figure, size_of, no_declarations}
 use Rattle.fidl_wire.specs.Encoding.{zeros, present}

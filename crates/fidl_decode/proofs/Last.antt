@@ -1,5 +1,5 @@
 -- The last member of a struct, behind which nothing is left: what it leads to takes the struct's place.
-use Rattle.std.proofs.Common.{◌≡◌, ℕ, ◌+◌, ◌-◌, ◌<◌, ◌≤◌, List, [], ◌∷◌, length, refl, sym, ap, arith}
+use Rattle.std.proofs.Common.{◌≡◌, ℕ, ◌+◌, ◌-◌, ◌≤◌, List, [], ◌∷◌, length, refl, sym, ap, arith}
 use Rattle.std.specs.Prelude.{Option, Some, None}
 use Rattle.fidl_wire.specs.Term.{resolve}
 use Rattle.fidl_wire.specs.Term as ty
@@ -15,11 +15,11 @@ use Rattle.fidl_decode.specs.declared.frame.Left.{Left}
 use Rattle.fidl_decode.specs.declared.frame.Left.TheVariants.{Rows}
 use Rattle.fidl_decode.specs.Invariants.{IsFine}
 use Rattle.fidl_decode.specs.Rows.{Row}
-use Rattle.fidl_decode.specs.State.{Message, At, Item}
+use Rattle.fidl_decode.specs.State.{Message, At}
 use Rattle.fidl_decode.specs.Breaks.{IsPadding, Breaks}
-use Rattle.fidl_decode.specs.Machine.{rows_left, Reads, BreaksFrame, IsInside, StateFine, FrameFine, Visits, VisitFine, Turns, frame_work, probes}
+use Rattle.fidl_decode.specs.Machine.{rows_left, BreaksFrame, IsInside, StateFine, FrameFine, Visits, VisitFine, Turns, frame_work, probes}
 use Rattle.fidl_decode.proofs.Turning.{row_inside}
-use Rattle.fidl_decode.proofs.Leaves.{going_on, same_frame, left_over, no_zeros, turns_start, next_known, next_size, next_room, next_gap_refused, next_gap_breaks, next_leaf_refused, next_leaf_breaks, next_takes, over_turns}
+use Rattle.fidl_decode.proofs.Leaves.{going_on, same_frame, left_over, no_zeros, turns_start, next_size, next_room, next_gap_breaks, next_leaf_breaks, next_takes, over_turns}
 use Rattle.fidl_decode.proofs.Tail.{turns_tail}
 
 module _ (t : List ℕ) (fine : IsFine t) (m : Message) (f : Frame) (first : ℕ) (w : raw.Row) (last : f.left ≡ Rows first 1) (is : w ≡ row_at t (header_of t) first) (old : At) (ff : FrameFine t m.bytes f) (state : StateFine m old) where
@@ -41,12 +41,6 @@ module _ (t : List ℕ) (fine : IsFine t) (m : Message) (f : Frame) (first : ℕ
   one : rows_left t f.done (Rows first 1) ≡ r ∷ rows_left t (r.offset + size_of ds (ty.named r.entry)) left
   one = ap (λ (w : raw.Row). (let x : Row = record { offset = w.key; entry = w.entry } in x) ∷ []) (sym is)
 
-  pub last_row : first < (header_of t).rows
-  last_row = let left = start.rest_fine.0.left in omega (arith, left)
-
-  pub last_known : w.entry < (header_of t).entries
-  last_known = next_known t fine m f old old 0 g start r left one
-
   -- it lies behind what is read, within the frame and the message, and there is work for it
   pub last_room : (f.done ≤ w.key) × (w.key + (entry_at t w.entry).size ≤ f.size) × (f.base + f.size ≤ length m.bytes) × (w.key - f.done + 1 + probes ≤ frame_work f)
   last_room = next_room t fine m f old old 0 g start r left one
@@ -54,14 +48,8 @@ module _ (t : List ℕ) (fine : IsFine t) (m : Message) (f : Frame) (first : ℕ
   pub last_inside : IsInside f.inside (entry_at t w.entry).size
   last_inside = row_inside t fine m g old start.rest_fine.0 state r left one (entry_at t w.entry).size (next_size t fine m f old old 0 g start r left one)
 
-  pub last_gap_refused : (Stands m.bytes (f.base + f.done) (zeros (f.base + w.key - (f.base + f.done))) → ⊥) → (to : At) → Reads t m f old to → ⊥
-  last_gap_refused bad = next_gap_refused t fine m f old old 0 g start r left one tt bad
-
   pub last_gap_breaks : (fault : DecodeFault) → IsPadding m.bytes (f.base + f.done) (f.base + w.key) fault → BreaksFrame t m f old fault
   last_gap_breaks fault p = next_gap_breaks t fine m f old old 0 g start r left one tt fault p
-
-  pub last_refused : ((to : At) → Item ds m f.depth (resolve ds.terms (ty.named w.entry)) (f.base + w.key) old to → ⊥) → (to : At) → Reads t m f old to → ⊥
-  last_refused bad = next_leaf_refused t fine m f old old 0 g start r left one tt bad
 
   pub last_breaks : (fault : DecodeFault) → Stands m.bytes (f.base + f.done) (zeros (f.base + w.key - (f.base + f.done))) → Breaks ds m f.depth (resolve ds.terms (ty.named w.entry)) (f.base + w.key) old fault → BreaksFrame t m f old fault
   last_breaks fault z b = next_leaf_breaks t fine m f old old 0 g start r left one tt fault z b

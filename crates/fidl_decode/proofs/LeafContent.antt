@@ -14,11 +14,11 @@ use Rattle.fidl_decode.specs.declared.frame.Frame.{Frame}
 use Rattle.fidl_decode.specs.declared.frame.Until.{Until}
 use Rattle.fidl_decode.specs.declared.frame.Left.TheVariants.{Content}
 use Rattle.fidl_decode.specs.Invariants.{IsFine}
-use Rattle.fidl_decode.specs.State.{Message, At, Item}
+use Rattle.fidl_decode.specs.State.{Message, At}
 use Rattle.fidl_decode.specs.Breaks.{IsPadding, Breaks}
-use Rattle.fidl_decode.specs.Machine.{Reads, BreaksFrame, IsUntil, StateFine, FrameFine, Visits, Turns, inline_work, frame_work, byte_work, probes}
-use Rattle.fidl_decode.proofs.ContentTurns.{content_end_room, content_over, content_elsewhere, content_miscounted, content_end_refused, content_end_breaks, content_known, content_size, content_room, content_pays, content_refused, content_breaks, content_turns}
-use Rattle.fidl_decode.proofs.Leaves.{going_on, same_frame, left_over, turns_then, turns_refused, turns_break}
+use Rattle.fidl_decode.specs.Machine.{BreaksFrame, IsUntil, StateFine, FrameFine, Visits, Turns, inline_work, frame_work, byte_work, probes}
+use Rattle.fidl_decode.proofs.ContentTurns.{content_end_room, content_over, content_miscounted, content_end_breaks, content_known, content_size, content_room, content_pays, content_breaks, content_turns}
+use Rattle.fidl_decode.proofs.Leaves.{going_on, same_frame, left_over, turns_then, turns_break}
 
 module _ (t : List ℕ) (fine : IsFine t) (m : Message) (f : Frame) (e size count : ℕ) (u : Until) (is : f.left ≡ Content e size count u) (one : count ≡ 1) (old : At) (ff : FrameFine t m.bytes f) (state : StateFine m old) where
   abbrev ds : Declarations
@@ -50,9 +50,6 @@ module _ (t : List ℕ) (fine : IsFine t) (m : Message) (f : Frame) (e size coun
   pub leaf_pays : inline_work (entry_at t e).nest * (entry_at t e).size + 1 + 1 ≤ frame_work f
   leaf_pays = content_pays t fine m f e size count u old gf state some
 
-  pub leaf_refused : ((to : At) → Item ds m f.depth (resolve ds.terms (ty.named e)) (f.base + f.done) old to → ⊥) → (to : At) → Reads t m f old to → ⊥
-  leaf_refused bad = subst (λ (f : Frame). (to : At) → Reads t m f old to → ⊥) (sym same) (content_refused t fine m f e size count u old gf state some bad)
-
   pub leaf_breaks : (fault : DecodeFault) → Breaks ds m f.depth (resolve ds.terms (ty.named e)) (f.base + f.done) old fault → BreaksFrame t m f old fault
   leaf_breaks fault b = subst (λ (f : Frame). BreaksFrame t m f old fault) (sym same) (content_breaks t fine m f e size count u old gf state some fault b)
 
@@ -76,14 +73,8 @@ module _ (t : List ℕ) (fine : IsFine t) (m : Message) (f : Frame) (e size coun
     pub leaf_over : Stands m.bytes (f.base + (f.done + size)) (zeros (f.base + f.size - (f.base + (f.done + size)))) → IsUntil u new → (n : ℕ) → n ≡ 1 + spent + (f.base + f.size - (f.base + (f.done + size)) + 1) → Turns t m f old new n (left_over None)
     leaf_over z own n is = turns_then t m f old new (1 + spent) h read new (f.base + f.size - (f.base + (f.done + size)) + 1) n (left_over None) (omega (arith, is)) (content_over t fine m h e size (count - 1) u new read.rest_fine.0 read.state none z own _ refl)
 
-    pub leaf_elsewhere : Stands m.bytes (f.base + (f.done + size)) (zeros (f.base + f.size - (f.base + (f.done + size)))) → (IsUntil u new → ⊥) → (to : At) → Reads t m f old to → ⊥
-    leaf_elsewhere z other = turns_refused t m f old new (1 + spent) h read (content_elsewhere t fine m h e size (count - 1) u new read.rest_fine.0 read.state none z other)
-
     pub leaf_miscounted : Stands m.bytes (f.base + (f.done + size)) (zeros (f.base + f.size - (f.base + (f.done + size)))) → (IsUntil u new → ⊥) → BreaksFrame t m f old (WrongCounts u.envelope)
     leaf_miscounted z other = turns_break t m f old new (1 + spent) h read (WrongCounts u.envelope) (content_miscounted t fine m h e size (count - 1) u new read.rest_fine.0 read.state none z other)
-
-    pub leaf_end_refused : (Stands m.bytes (f.base + (f.done + size)) (zeros (f.base + f.size - (f.base + (f.done + size)))) → ⊥) → (to : At) → Reads t m f old to → ⊥
-    leaf_end_refused bad = turns_refused t m f old new (1 + spent) h read (content_end_refused t fine m h e size (count - 1) u new read.rest_fine.0 read.state none bad)
 
     pub leaf_end_breaks : (fault : DecodeFault) → IsPadding m.bytes (f.base + (f.done + size)) (f.base + f.size) fault → BreaksFrame t m f old fault
     leaf_end_breaks fault p = turns_break t m f old new (1 + spent) h read fault (content_end_breaks t fine m h e size (count - 1) u new read.rest_fine.0 read.state none fault p)

@@ -17,13 +17,13 @@ use Rattle.fidl_decode.specs.declared.frame.Left.{Left}
 use Rattle.fidl_decode.specs.declared.frame.Left.TheVariants.{Rows, Elements}
 use Rattle.fidl_decode.specs.declared.frame.Turn.{Turn}
 use Rattle.fidl_decode.specs.Rows.{Row, table_rows, element_rows}
-use Rattle.fidl_decode.specs.State.{Message, At, Item}
+use Rattle.fidl_decode.specs.State.{Message, At}
 use Rattle.fidl_decode.specs.declared.fault.DecodeFault.{DecodeFault}
 use Rattle.fidl_decode.specs.Breaks.{IsPadding, Breaks}
 use Rattle.fidl_decode.specs.Machine.{rows_left, Reads, ReadsIf, BreaksFrame, LeftFine, IsPlain, VisitFine, height, FrameFine, frame_work, probes, StateFine, Visits, Turns}
 use Rattle.fidl_decode.proofs.Stated.{table_rows-more, element_rows-more}
 use Rattle.fidl_decode.proofs.Visiting.{size_is, positive, visits_free}
-use Rattle.fidl_decode.proofs.Turning.{fine_from, done_fits, spends, spends_more, end_refused, turns_end, row_fine, row_room, gap_refused, visit_refused, turns_more, end_breaks, gap_breaks, visit_breaks}
+use Rattle.fidl_decode.proofs.Turning.{fine_from, done_fits, spends, spends_more, turns_end, row_fine, row_room, turns_more, end_breaks, gap_breaks, visit_breaks}
 
 -- a frame with other members left, so many of its bytes read
 abbrev pub going_on : Frame → Left → (done : ℕ) → Frame
@@ -64,9 +64,6 @@ module _ (t : List ℕ) (m : Message) (f : Frame) (old : At) where
         less = omega (arith, one.less, two.less);
       }
 
-      pub turns_refused : ((to : At) → Reads t m g mid to → ⊥) → (to : At) → Reads t m f old to → ⊥
-      turns_refused bad to r = let p = (one.same to).0 r in bad to (subst (λ (s : At). Reads t m g s to) (sym p.1) p.2)
-
       pub turns_break : (fault : DecodeFault) → BreaksFrame t m g mid fault → BreaksFrame t m f old fault
       turns_break fault b = one.breaks fault (inr (mid, refl, b))
 
@@ -94,9 +91,6 @@ module _ (t : List ℕ) (m : Message) (f : Frame) (old : At) where
       pub turns_over : (new : At) (b n : ℕ) → n ≤ a + b → Turns t m g mid new b (left_over None) → Turns t m f old new n (left_over (Some h))
       turns_over new b n le two = turns_below new b n None le two
 
-      pub below_refused : ((to : At) → Reads t m g mid to → ⊥) → (to : At) → Reads t m f old to → ⊥
-      below_refused bad to r = let p = (one.same to).0 r in bad p.0 p.1
-
       pub below_breaks : (fault : DecodeFault) → BreaksFrame t m g mid fault → BreaksFrame t m f old fault
       below_breaks fault b = one.breaks fault (inl b)
 
@@ -111,9 +105,6 @@ module _ (t : List ℕ) (fine : IsFine t) (m : Message) (f : Frame) (old now : A
   module _ (over : rows_left t g.done g.left ≡ []) (plain : IsPlain g.left) where
     pub over_turns : (n : ℕ) → n ≤ a + (g.base + g.size - (g.base + g.done) + 1) → Stands m.bytes (g.base + g.done) (zeros (g.base + g.size - (g.base + g.done))) → Turns t m f old now n (left_over None)
     over_turns n le z = turns_then t m f old now a g turns now (g.base + g.size - (g.base + g.done) + 1) n (left_over None) le (turns_end t fine m g now gf turns.state over plain z)
-
-    pub over_refused : (Stands m.bytes (g.base + g.done) (zeros (g.base + g.size - (g.base + g.done))) → ⊥) → (to : At) → Reads t m f old to → ⊥
-    over_refused bad = turns_refused t m f old now a g turns (λ to. end_refused t fine m g now gf turns.state over plain to bad)
 
     pub over_breaks : (fault : DecodeFault) → IsPadding m.bytes (g.base + g.done) (g.base + g.size) fault → BreaksFrame t m f old fault
     over_breaks fault p = turns_break t m f old now a g turns fault (end_breaks t fine m g now gf turns.state over plain fault p)
@@ -140,12 +131,6 @@ module _ (t : List ℕ) (fine : IsFine t) (m : Message) (f : Frame) (old now : A
         (known.1, omega (arith, size), gf.room, spends_more g.nest (r.offset - g.done) (g.size - g.done) (omega (arith, fits, known.1, pos)))
 
     module _ (plain : IsPlain g.left) where
-      pub next_gap_refused : (Stands m.bytes (g.base + g.done) (zeros (g.base + r.offset - (g.base + g.done))) → ⊥) → (to : At) → Reads t m f old to → ⊥
-      next_gap_refused bad = turns_refused t m f old now a g turns (λ to. gap_refused t fine m g now gf turns.state r left one plain to bad)
-
-      pub next_leaf_refused : ((to : At) → Item ds m g.depth (resolve ds.terms (ty.named r.entry)) (g.base + r.offset) now to → ⊥) → (to : At) → Reads t m f old to → ⊥
-      next_leaf_refused bad = turns_refused t m f old now a g turns (λ to. visit_refused t fine m g now gf turns.state r left one plain to bad)
-
       pub next_gap_breaks : (fault : DecodeFault) → IsPadding m.bytes (g.base + g.done) (g.base + r.offset) fault → BreaksFrame t m f old fault
       next_gap_breaks fault p = turns_break t m f old now a g turns fault (gap_breaks t fine m g now gf turns.state r left one plain fault p)
 
@@ -172,9 +157,6 @@ rows_next t first end done d w is lt =
     table_rows-more t first (end - first) (λ none. absurd (omega (arith, none)))
     ∙ ap (λ n. (let x : Row = record { offset = (row_at t (header_of t) first).key; entry = (row_at t (header_of t) first).entry } in x) ∷ table_rows t (header_of t) (first + 1) n) fewer
     ∙ ap (λ (r : raw.Row). (let x : Row = record { offset = r.key; entry = r.entry } in x) ∷ table_rows t (header_of t) (first + 1) (end - (first + 1))) (sym is)
-
-pub rows_over : (t : List ℕ) (first end done : ℕ) → end ≤ first → rows_left t done (Rows first (end - first)) ≡ []
-rows_over t first end done le = let none : end - first ≡ 0 = omega arith in ap (λ n. table_rows t (header_of t) first n) none
 
 -- the next of an array's elements
 pub elements_next : (t : List ℕ) (e size k count done : ℕ) → size_of (declarations_of t) (ty.named e) ≡ size → k < count → rows_left t done (Elements e size (count - k)) ≡ (let x : Row = record { offset = done; entry = e } in x) ∷ rows_left t (done + size_of (declarations_of t) (ty.named e)) (Elements e size (count - (k + 1)))

@@ -297,11 +297,6 @@ module _ (t : List ℕ) (fine : IsFine t) (m : Message) (held e place : ℕ) (fr
         subst (λ s. VisitFine t m held around e (Some (object_frame (Elements d.first s n) (s * n) (inner.nest + 1) held from))) element_size
         (object_fine t fine m held e place from lt state (size * n) (inner.nest + 1) (Elements d.first size n) refl tt (omega arith) (omega (arith, small_nest)) shallow room' vector_rise around few)
 
-    pub vector_refused : (fault : DecodeFault) → BreaksCounted m held (is_optional d) d.bound (inner.size * n) place from.next fault → (to : At) → Item ds m held (resolve ds.terms (ty.named e)) place from to → ⊥
-    vector_refused fault b to x =
-        vector_excluded ds fine.laid_out m held (is_optional d) d.bound few (ty.named d.first) place from to fault (subst (λ s. BreaksCounted m held (is_optional d) d.bound (s * n) place from.next fault) (sym element_size) b)
-        (subst (λ (w : Term). Item ds m held w place from to) own x)
-
     pub vector_breaks : (fault : DecodeFault) → BreaksCounted m held (is_optional d) d.bound (inner.size * n) place from.next fault → Breaks ds m held (resolve ds.terms (ty.named e)) place from fault
     vector_breaks fault b = subst (λ (w : Term). Breaks ds m held w place from fault) (sym own)
         (broken.in_field vector place from fault (subst (λ s. BreaksCounted m held (is_optional d) d.bound (s * n) place from.next fault) (sym element_size) b))

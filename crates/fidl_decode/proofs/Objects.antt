@@ -8,7 +8,7 @@ use Rattle.std.proofs.lemmas.List.{replicate-append-replicate}
 use Rattle.fidl_wire.specs.declared.handle.HandleInfo.{HandleInfo}
 use Rattle.fidl_limits.specs.declared.limits.TheConstants.{MAX_DEPTH}
 use Rattle.fidl_wire.specs.Value.{Values, none, value}
-use Rattle.fidl_wire.specs.Term.{Term, resolve}
+use Rattle.fidl_wire.specs.Term.{resolve}
 use Rattle.fidl_wire.specs.Term as ty
 use Rattle.fidl_wire.specs.Figure.{Declarations, IsLaidOut, size_of}
 use Rattle.fidl_wire.specs.Encoding.{Encoding, zeros, present, pad8, object, encoding_of}

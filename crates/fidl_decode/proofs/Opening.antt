@@ -53,9 +53,6 @@ module _ (t : List ℕ) (m : Message) (held : ℕ) (member : Option Term) (envel
   pub opens_pays : (new : At) (spent : ℕ) (found : Option Frame) → Turns t m f mid new spent (left_over found) → PaysEnvelope m.bytes old.next new.next spent found
   opens_pays new spent found turns = omega (arith, o.less, turns.less)
 
-  pub opens_refused : ((to : At) → Reads t m f mid to → ⊥) → (to : At) → Contained (declarations_of t) m held member envelope old to → ⊥
-  opens_refused bad to x = bad to ((o.same to).0 x)
-
   -- there is work for what is left
   pub opens_work : byte_work * (length m.bytes - mid.next) + frame_work f ≤ byte_work * (length m.bytes - old.next) + envelope_work
   opens_work = o.less

@@ -1,5 +1,5 @@
 -- Tables in a message: the visit of a table, whose envelopes are the next object.
-use Rattle.std.proofs.Common.{◌≡◌, ℕ, ◌+◌, ◌-◌, ◌*◌, ◌^◌, ◌<◌, ◌≤◌, List, length, get_or, Some, refl, sym, ap, subst, ◌∙◌, arith, inl}
+use Rattle.std.proofs.Common.{◌≡◌, ℕ, ◌+◌, ◌-◌, ◌*◌, ◌^◌, ◌<◌, ◌≤◌, List, length, get_or, Some, sym, ap, subst, ◌∙◌, arith}
 use Rattle.std.specs.Prelude.{Option}
 use Rattle.std.specs.Option.{option_map_or}
 use Rattle.std.specs.Int.{next_multiple_of, w64, to_le_bytes}
@@ -20,9 +20,9 @@ use Rattle.fidl_decode.specs.declared.frame.Frame.{Frame}
 use Rattle.fidl_decode.specs.declared.frame.Left.TheVariants.{Envelopes}
 use Rattle.fidl_decode.specs.Invariants.{IsFine}
 use Rattle.fidl_decode.specs.State.{Message, At, linked, Item, Slots}
-use Rattle.fidl_decode.specs.Breaks.{BreaksRule, Breaks, BreaksCounted, BreaksEnvelopes, count_at}
+use Rattle.fidl_decode.specs.Breaks.{Breaks, BreaksEnvelopes, count_at}
 use Rattle.fidl_decode.specs.Breaks as broken
-use Rattle.fidl_decode.specs.Machine.{StateFine, Visits, VisitFine, most_nest, inline_work, byte_work}
+use Rattle.fidl_decode.specs.Machine.{StateFine, Visits, most_nest, inline_work, byte_work}
 use Rattle.fidl_decode.proofs.After.{length-table, length-pad8}
 use Rattle.fidl_decode.proofs.Scalars.{standing}
 use Rattle.fidl_decode.proofs.Rows.{stands_at}
@@ -101,20 +101,3 @@ module _ (t : List ℕ) (fine : IsFine t) (m : Message) (held e place : ℕ) (fr
         state = record { next = omega (arith, within, room, whole); handle = state.handle; few = state.few };
         less = omega (arith, none, table_work (8 * count), within, room, whole);
       }
-
-  -- and their frame is fine
-  pub table_fine : held < MAX_DEPTH → 8 * count ≤ length m.bytes - from.next → (around : ℕ) → around ≤ 1 → VisitFine t m held around e (Some (table_frame e count held from))
-  table_fine shallow room around few =
-      let within = state.next in (
-        record {
-          left = (lt, is);
-          slots = (omega arith, omega arith, refl, refl);
-          room = omega (arith, within, room);
-          some = omega arith;
-          nest = omega arith;
-          depth = omega (arith, shallow);
-          inside = inl refl;
-          rise = omega arith;
-        },
-        omega (arith, few),
-      )

@@ -3,7 +3,7 @@ use Rattle.std.proofs.Common.{◌≡◌, ℕ, ◌+◌, ◌-◌, ◌*◌, ◌<◌
 use Rattle.std.specs.Prelude.{◌↔◌, Option, Some, None, IfNone, Result, Ok, Err, OnErr, OnOk, IfOk, IfErr}
 use Rattle.std.specs.Result.{IsErrAnd}
 use Rattle.std.proofs.Math.Nat.{mul-le-mul_left, mul-le-mul_right}
-use Rattle.fidl_wire.specs.Term.{Term, resolve, width, Kind, int8}
+use Rattle.fidl_wire.specs.Term.{resolve}
 use Rattle.fidl_wire.specs.Term as ty
 use Rattle.fidl_wire.specs.Figure.{Declarations, figure_of, size_of}
 use Rattle.fidl_wire.specs.Encoding.{zeros}
@@ -40,11 +40,6 @@ if_ok_two (Err e) P Q R f p q = tt
 pub none_weaker : {T : Type 0} (o : Option T) (P Q : Type 0) → (P → Q) → IfNone o P → IfNone o Q
 none_weaker None P Q f h = f h
 none_weaker (Some x) P Q f h = tt
-
--- what each error excludes
-pub refused_by : {T E : Type 0} (r : Result T E) (P : E → Type 0) (Q : Type 0) → ((e : E) → P e → Q) → IfErr r P → OnErr r Q
-refused_by (Ok x) P Q f h = tt
-refused_by (Err e) P Q f h = f e h
 
 pub on_ok_two : {T E P Q R : Type 0} (r : Result T E) → (P → Q → R) → OnOk r P → OnOk r Q → OnOk r R
 on_ok_two (Ok x) f p q = f p q
@@ -110,9 +105,6 @@ module _ (t : List ℕ) (fine : IsFine t) (m : Message) (f : Frame) (old : At) (
     at_end : (to : At) → Reads t m f old to → (old ≡ to) × Stands m.bytes (f.base + f.done) (zeros (f.size - f.done))
     at_end to x = (members_end ds fine.laid_out m f.depth f.size f.base f.done old to ff.depth).0 (subst (λ (rs : List Row). Members ds m f.depth f.size f.base f.done rs old to) over ((plain_reads t m f f.left plain old to).0 x))
 
-    pub end_refused : (to : At) → (Stands m.bytes (f.base + f.done) (zeros (f.base + f.size - (f.base + f.done))) → ⊥) → Reads t m f old to → ⊥
-    end_refused to bad x = bad (subst (λ n. Stands m.bytes (f.base + f.done) (zeros n)) (sym zeros_left) (at_end to x).1)
-
     pub end_breaks : (fault : DecodeFault) → IsPadding m.bytes (f.base + f.done) (f.base + f.size) fault → BreaksFrame t m f old fault
     end_breaks fault p = (plain_breaks t m f f.left plain old fault).1 (subst (λ (rs : List Row). BreaksParts ds m f.depth f.size f.base f.done (row_parts rs) old fault) (sym over) (broken.in_end f.size f.base f.done old fault p))
 
@@ -151,12 +143,6 @@ module _ (t : List ℕ) (fine : IsFine t) (m : Message) (f : Frame) (old : At) (
     module _ (plain : IsPlain f.left) where
       apart : (to : At) → Reads t m f old to → Stands m.bytes (f.base + f.done) (zeros (r.offset - f.done)) × ((mid : At) × Item ds m f.depth (resolve ds.terms (ty.named r.entry)) (f.base + r.offset) old mid × Members ds m f.depth f.size f.base (r.offset + size_of ds (ty.named r.entry)) rest mid to)
       apart to x = members_more ds fine.laid_out m f.depth (header_of t).entries f.nest f.size f.base f.done r rest old to row_fine (subst (λ (rs : List Row). Members ds m f.depth f.size f.base f.done rs old to) one ((plain_reads t m f f.left plain old to).0 x))
-
-      pub gap_refused : (to : At) → (Stands m.bytes (f.base + f.done) (zeros (f.base + r.offset - (f.base + f.done))) → ⊥) → Reads t m f old to → ⊥
-      gap_refused to bad x = bad (subst (λ n. Stands m.bytes (f.base + f.done) (zeros n)) (sym gap) (apart to x).0)
-
-      pub visit_refused : (to : At) → ((mid : At) → Item ds m f.depth (resolve ds.terms (ty.named r.entry)) (f.base + r.offset) old mid → ⊥) → Reads t m f old to → ⊥
-      visit_refused to bad x = let a = (apart to x).1 in bad a.0 a.1
 
       -- the frame breaks a rule where the parts that are left do
       parts_break : (fault : DecodeFault) → BreaksParts ds m f.depth f.size f.base f.done (row_parts (r ∷ rest)) old fault → BreaksFrame t m f old fault

@@ -1,7 +1,7 @@
 -- Worked refusals of numbers that are no value of a strict enum, and of bits that are no member.
 use Rattle.std.proofs.Common.{◌≡◌, ℕ, zero, suc, ℤ, pos, List, [], ◌∷◌, ◌<◌, refl, arith, inl, inr}
 use Rattle.std.specs.Prelude.{Option, Some, None, codes, Contains, slice_index_or}
-use Rattle.fidl_wire.specs.Term.{Term, Kind, no_fields, field, uint32}
+use Rattle.fidl_wire.specs.Term.{Term, no_fields, field, uint32}
 use Rattle.fidl_wire.specs.Term as ty
 use Rattle.fidl_wire.specs.Figure.{no_declarations}
 use Rattle.fidl_wire.specs.Encoding.{zeros}

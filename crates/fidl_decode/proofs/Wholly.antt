@@ -2,14 +2,11 @@
 use Rattle.std.proofs.Common.{◌≡◌, ℕ, ◌+◌, ◌-◌, ◌<◌, ◌≤◌, List, length, refl, sym, subst, arith}
 use Rattle.std.specs.Prelude.{Some, None}
 use Rattle.std.proofs.Math.Nat.{mul-le-mul_left}
-use Rattle.fidl_wire.specs.Term.{resolve}
-use Rattle.fidl_wire.specs.Term as ty
 use Rattle.fidl_table_format.specs.Section.{header_of, entry_at}
-use Rattle.fidl_table_format.specs.Terms.{declarations_of}
 use Rattle.fidl_decode.specs.declared.frame.Frame.{Frame}
 use Rattle.fidl_decode.specs.Invariants.{IsFine}
-use Rattle.fidl_decode.specs.State.{Message, At, Item}
-use Rattle.fidl_decode.specs.Machine.{Reads, Visits, Turns, inline_work, value_work, probes}
+use Rattle.fidl_decode.specs.State.{Message, At}
+use Rattle.fidl_decode.specs.Machine.{Visits, Turns, inline_work, value_work, probes}
 use Rattle.fidl_decode.proofs.Visiting.{size_is, positive}
 use Rattle.fidl_decode.proofs.Leaves.{left_over}
 
@@ -34,6 +31,3 @@ module _ (t : List ℕ) (m : Message) (held e place : ℕ) (old mid : At) (a : �
     state = turns.state;
     less = omega (arith, le, v.less, turns.less);
   }
-
-  pub visits_refused : ((to : At) → Reads t m g mid to → ⊥) → (to : At) → Item (declarations_of t) m held (resolve (declarations_of t).terms (ty.named e)) place old to → ⊥
-  visits_refused bad to x = bad to ((v.same to).0 x)

@@ -1,15 +1,13 @@
 //! The envelopes that a table's value begins with, which are read where they stand: absent ones, and
 //! those of numbers, bools, texts and structs of numbers.
 ghost use Rattle.std.specs.Prelude.{◌≡◌, ◌+◌, ◌-◌, ◌*◌, ◌^◌, ◌<◌, ◌≤◌, IsTrue, IsFalse, Some};
-ghost use Rattle.std.specs.Prelude.{None, length};
-ghost use Rattle.fidl_limits.specs.declared.limits.TheConstants.{MAX_MESSAGE_BYTES};
+ghost use Rattle.std.specs.Prelude.{None};
 ghost use Rattle.fidl_table_format.specs.declared.kind.EntryKind.TheVariants as kinds;
 ghost use Rattle.fidl_wire.specs.Term as ty;
 ghost use Rattle.fidl_wire.specs.Term.{find};
 ghost use Rattle.fidl_table_format.specs.Kind.{kind_of};
 ghost use Rattle.fidl_table_format.specs.Section.{header_of, entry_at, row_at};
 ghost use Rattle.fidl_table_format.specs.Terms.{members_of};
-ghost use Rattle.fidl_decode.specs.Invariants.{IsFine};
 ghost use Rattle.fidl_decode.specs.Faults.{message_of};
 ghost use Rattle.fidl_decode.specs.Body.{BodyFine, IsPassing, rest_of};
 ghost use Rattle.fidl_decode.specs.Machine.{StateFine, FrameFine, Turns, at_of};

@@ -1,14 +1,12 @@
 //! The content of envelopes, and the members that are left of any frame.
-ghost use Rattle.std.specs.Prelude.{◌≡◌, ◌+◌, ◌-◌, ◌^◌, ◌<◌, ◌≤◌, OnOk, OnErr, IfOk, IfErr, IfNone};
-ghost use Rattle.std.specs.Prelude.{Some, None, length};
-ghost use Rattle.fidl_limits.specs.declared.limits.TheConstants.{MAX_MESSAGE_BYTES};
+ghost use Rattle.std.specs.Prelude.{◌≡◌, ◌+◌, ◌-◌, ◌^◌, ◌<◌, ◌≤◌, OnOk, IfOk, IfErr, IfNone};
+ghost use Rattle.std.specs.Prelude.{Some, None};
 ghost use Rattle.fidl_table_format.specs.Kind.{kind_of};
 ghost use Rattle.fidl_table_format.specs.Section.{entry_at};
-ghost use Rattle.fidl_decode.specs.Invariants.{IsFine, IsFlat};
+ghost use Rattle.fidl_decode.specs.Invariants.{IsFlat};
 ghost use Rattle.fidl_decode.specs.Faults.{message_of};
-ghost use Rattle.fidl_decode.specs.State.{At};
 ghost use Rattle.fidl_decode.specs.declared.frame.Left.TheVariants as left;
-ghost use Rattle.fidl_decode.specs.Machine.{StateFine, FrameFine, Turns, Reads, BreaksFrame};
+ghost use Rattle.fidl_decode.specs.Machine.{StateFine, FrameFine, Turns, BreaksFrame};
 ghost use Rattle.fidl_decode.specs.Machine.{turn_work, at_of};
 
 use crate::decoder::{Decoder, zeros_at};
@@ -40,10 +38,6 @@ impl<'t, 'm> Decoder<'t, 'm> {
         ensures rises { state.old.steps < state.new.steps }
         ensures cost { state.new.steps ≤ state.old.steps
             + turn_work self.now.bytes.now state.old.next frame }
-        ensures err { OnErr result
-            ((to : At)
-            → Reads self.now.table.now (message_of self.now.bytes.now self.now.handles.now) frame
-            (at_of state.old) to → ⊥) }
         ensures fault_is_true { IfErr result
             (BreaksFrame self.now.table.now (message_of self.now.bytes.now self.now.handles.now)
             frame (at_of state.old)) }
@@ -111,10 +105,6 @@ impl<'t, 'm> Decoder<'t, 'm> {
         ensures rises { OnOk result (state.old.steps < state.new.steps) }
         ensures cost { state.new.steps
             ≤ state.old.steps + turn_work self.now.bytes.now state.old.next frame }
-        ensures err { OnErr result
-            ((to : At)
-            → Reads self.now.table.now (message_of self.now.bytes.now self.now.handles.now) frame
-            (at_of state.old) to → ⊥) }
         ensures fault_is_true { IfErr result
             (BreaksFrame self.now.table.now (message_of self.now.bytes.now self.now.handles.now)
             frame (at_of state.old)) }
@@ -159,10 +149,6 @@ impl<'t, 'm> Decoder<'t, 'm> {
         ensures ended { IfOk result (λ rest. IfNone rest (state.old.steps < state.new.steps)) }
         ensures cost { state.new.steps
             ≤ state.old.steps + turn_work self.now.bytes.now state.old.next frame }
-        ensures err { OnErr result
-            ((to : At)
-            → Reads self.now.table.now (message_of self.now.bytes.now self.now.handles.now) frame
-            (at_of state.old) to → ⊥) }
         ensures fault_is_true { IfErr result
             (BreaksFrame self.now.table.now (message_of self.now.bytes.now self.now.handles.now)
             frame (at_of state.old)) }
@@ -195,10 +181,6 @@ impl<'t, 'm> Decoder<'t, 'm> {
         ensures rises { OnOk result (state.old.steps < state.new.steps) }
         ensures cost { state.new.steps ≤ state.old.steps
             + turn_work self.now.bytes.now state.old.next frame }
-        ensures err { OnErr result
-            ((to : At)
-            → Reads self.now.table.now (message_of self.now.bytes.now self.now.handles.now) frame
-            (at_of state.old) to → ⊥) }
         ensures fault_is_true { IfErr result
             (BreaksFrame self.now.table.now (message_of self.now.bytes.now self.now.handles.now)
             frame (at_of state.old)) }

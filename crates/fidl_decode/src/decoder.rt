@@ -1,5 +1,5 @@
 //! The decoder: one field, and one member of a frame.
-ghost use Rattle.std.specs.Prelude.{◌≡◌, ◌≢◌, ℕ, ◌+◌, ◌-◌, ◌^◌, ◌<◌, ◌≤◌, ◌∷◌, [], OnOk, OnErr};
+ghost use Rattle.std.specs.Prelude.{◌≡◌, ℕ, ◌+◌, ◌-◌, ◌^◌, ◌<◌, ◌≤◌, ◌∷◌, [], OnOk};
 ghost use Rattle.std.specs.Prelude.{IfOk, IfErr, IfSome, IfNone, Some, None, length, slice_index};
 ghost use Rattle.fidl_limits.specs.declared.limits.TheConstants.{MAX_DEPTH, MAX_MESSAGE_BYTES};
 ghost use Rattle.fidl_wire.specs.Term as ty;
@@ -7,16 +7,13 @@ ghost use Rattle.fidl_wire.specs.Term.{resolve};
 ghost use Rattle.fidl_wire.specs.Figure.{size_of};
 ghost use Rattle.fidl_wire.specs.Standing.{Stands};
 ghost use Rattle.fidl_wire.specs.Encoding.{zeros};
-ghost use Rattle.fidl_table_format.specs.declared.kind.EntryKind.TheVariants as kinds;
-ghost use Rattle.fidl_table_format.specs.Kind.{kind_of};
 ghost use Rattle.fidl_table_format.specs.Section.{header_of, entry_at};
 ghost use Rattle.fidl_table_format.specs.Terms.{declarations_of};
 ghost use Rattle.fidl_decode.specs.Invariants.{IsFine};
 ghost use Rattle.fidl_decode.specs.Fine.{fine_prop};
 ghost use Rattle.fidl_decode.specs.Faults.{message_of};
 ghost use Rattle.fidl_decode.specs.Breaks.{IsPadding, Breaks};
-ghost use Rattle.fidl_decode.specs.State.{At, Item};
-ghost use Rattle.fidl_decode.specs.Machine.{rows_left, LeftFine, Reads, StateFine, FrameFine};
+ghost use Rattle.fidl_decode.specs.Machine.{rows_left, LeftFine, StateFine, FrameFine};
 ghost use Rattle.fidl_decode.specs.Machine.{IsInside, IsPlain, VisitFine};
 ghost use Rattle.fidl_decode.specs.Machine.{BreaksFrame, Visits, Turns, turn_work, at_of, probes};
 
@@ -31,7 +28,6 @@ pub(crate) fn zeros_at(bytes: &[u8], from: usize, to: usize) -> Result<(), Decod
     requires order { from ≤ to }
     requires room { to ≤ length bytes.now }
     ensures ok { OnOk result (Stands bytes.now from (zeros (to - from))) }
-    ensures err { OnErr result (Stands bytes.now from (zeros (to - from)) → ⊥) }
     ensures fault_is_true { IfErr result (IsPadding bytes.now from to) }
 {
     for i in from..to {
@@ -126,12 +122,6 @@ impl<'t, 'm> Decoder<'t, 'm> {
             (state.new.steps - state.old.steps) found) }
         ensures fine { IfOk result (VisitFine self.now.table.now
             (message_of self.now.bytes.now self.now.handles.now) depth inside entry) }
-        ensures err { OnErr result
-            ((to : At)
-            → Item (declarations_of self.now.table.now)
-            (message_of self.now.bytes.now self.now.handles.now) depth
-            (resolve (declarations_of self.now.table.now).terms (ty.named entry)) place
-            (at_of state.old) to → ⊥) }
         ensures fault_is_true { IfErr result
             (Breaks (declarations_of self.now.table.now)
             (message_of self.now.bytes.now self.now.handles.now) depth
@@ -203,10 +193,6 @@ impl<'t, 'm> Decoder<'t, 'm> {
         ensures rises { state.old.steps < state.new.steps }
         ensures cost { state.new.steps ≤ state.old.steps
             + turn_work self.now.bytes.now state.old.next frame }
-        ensures err { OnErr result
-            ((to : At)
-            → Reads self.now.table.now (message_of self.now.bytes.now self.now.handles.now) frame
-            (at_of state.old) to → ⊥) }
         ensures fault_is_true { IfErr result
             (BreaksFrame self.now.table.now (message_of self.now.bytes.now self.now.handles.now)
             frame (at_of state.old)) }

@@ -1,7 +1,7 @@
 //! Envelopes: the three numbers of one, and the member that it holds, in it or as the next object.
 ghost use Rattle.std.specs.Prelude.{◌≡◌, ◌⊎◌, ◌+◌, ◌-◌, ◌*◌, ◌<◌, ◌≤◌, ◌↔◌, IfOk, IfErr, OnOk};
-ghost use Rattle.std.specs.Prelude.{ℕ, OnErr, Some, None, length, slice_get};
-ghost use Rattle.fidl_limits.specs.declared.limits.TheConstants.{MAX_DEPTH, MAX_MESSAGE_BYTES};
+ghost use Rattle.std.specs.Prelude.{ℕ, Some, None, length, slice_get};
+ghost use Rattle.fidl_limits.specs.declared.limits.TheConstants.{MAX_DEPTH};
 ghost use Rattle.fidl_wire.specs.declared.handle.HandleInfo.{HandleInfo};
 ghost use Rattle.fidl_wire.specs.Typed.{IsHandle};
 ghost use Rattle.fidl_wire.specs.Term as ty;
@@ -10,7 +10,6 @@ ghost use Rattle.fidl_table_format.specs.Terms.{declarations_of};
 ghost use Rattle.fidl_decode.specs.declared.fault.DecodeFault.{DecodeFault};
 ghost use Rattle.fidl_decode.specs.declared.frame.Left.TheVariants as left;
 ghost use Rattle.fidl_decode.specs.declared.frame.Until.{Until};
-ghost use Rattle.fidl_decode.specs.Invariants.{IsFine};
 ghost use Rattle.fidl_decode.specs.Faults.{message_of};
 ghost use Rattle.fidl_decode.specs.Envelopes.{Contained};
 ghost use Rattle.fidl_decode.specs.Breaks.{BreaksMember};
@@ -116,10 +115,6 @@ impl<'t, 'm> Decoder<'t, 'm> {
         ensures fault_is_true { IfErr result (BreaksMember (declarations_of self.now.table.now)
             (message_of self.now.bytes.now self.now.handles.now) depth (Some (ty.named entry))
             envelope (at_of state.old)) }
-        ensures err { OnErr result ((to : At)
-            → Contained (declarations_of self.now.table.now)
-            (message_of self.now.bytes.now self.now.handles.now) depth (Some (ty.named entry))
-            envelope (at_of state.old) to → ⊥) }
         ensures steps { state.new.steps ≡ state.old.steps }
         ensures grows { state.old.next ≤ state.new.next }
         ensures work { IfOk result (λ frame.
@@ -188,10 +183,6 @@ impl<'t, 'm> Decoder<'t, 'm> {
         ensures fault_is_true { IfErr result (BreaksMember (declarations_of self.now.table.now)
             (message_of self.now.bytes.now self.now.handles.now) depth None envelope
             (at_of state.old)) }
-        ensures err { OnErr result ((to : At)
-            → Contained (declarations_of self.now.table.now)
-            (message_of self.now.bytes.now self.now.handles.now) depth None envelope
-            (at_of state.old) to → ⊥) }
         ensures steps { state.new.steps ≡ state.old.steps }
         ensures grows { state.old.next ≤ state.new.next }
     {

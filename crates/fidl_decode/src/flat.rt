@@ -1,19 +1,18 @@
 //! Values that are read whole where they stand: leaves, and structs whose members are leaves.
-ghost use Rattle.std.specs.Prelude.{◌≡◌, ◌+◌, ◌-◌, ◌*◌, ◌^◌, ◌<◌, ◌≤◌, OnOk, OnErr, IfErr, IsTrue};
+ghost use Rattle.std.specs.Prelude.{◌≡◌, ◌+◌, ◌-◌, ◌^◌, ◌<◌, ◌≤◌, OnOk, IfErr, IsTrue};
 ghost use Rattle.std.specs.Prelude.{Some, None, length};
-ghost use Rattle.fidl_limits.specs.declared.limits.TheConstants.{MAX_DEPTH, MAX_MESSAGE_BYTES};
+ghost use Rattle.fidl_limits.specs.declared.limits.TheConstants.{MAX_DEPTH};
 ghost use Rattle.fidl_wire.specs.Term as ty;
 ghost use Rattle.fidl_wire.specs.Term.{resolve};
 ghost use Rattle.fidl_table_format.specs.declared.kind.EntryKind.TheVariants as kinds;
 ghost use Rattle.fidl_table_format.specs.Kind.{kind_of};
 ghost use Rattle.fidl_table_format.specs.Section.{header_of, entry_at};
 ghost use Rattle.fidl_table_format.specs.Terms.{declarations_of};
-ghost use Rattle.fidl_decode.specs.Invariants.{IsFine, AreLeaves, IsFlat};
+ghost use Rattle.fidl_decode.specs.Invariants.{AreLeaves, IsFlat};
 ghost use Rattle.fidl_decode.specs.Faults.{message_of};
 ghost use Rattle.fidl_decode.specs.Breaks.{Breaks};
-ghost use Rattle.fidl_decode.specs.State.{At, Item};
 ghost use Rattle.fidl_decode.specs.declared.frame.Left.TheVariants as left;
-ghost use Rattle.fidl_decode.specs.Machine.{Reads, StateFine, FrameFine, BreaksFrame, Visits};
+ghost use Rattle.fidl_decode.specs.Machine.{StateFine, FrameFine, BreaksFrame, Visits};
 ghost use Rattle.fidl_decode.specs.Machine.{Turns, turn_work, value_work, at_of};
 
 use crate::decoder::Decoder;
@@ -84,10 +83,6 @@ impl<'t, 'm> Decoder<'t, 'm> {
         ensures rises { state.old.steps < state.new.steps }
         ensures cost { state.new.steps
             ≤ state.old.steps + turn_work self.now.bytes.now state.old.next frame }
-        ensures err { OnErr result
-            ((to : At)
-            → Reads self.now.table.now (message_of self.now.bytes.now self.now.handles.now) frame
-            (at_of state.old) to → ⊥) }
         ensures fault_is_true { IfErr result
             (BreaksFrame self.now.table.now (message_of self.now.bytes.now self.now.handles.now)
             frame (at_of state.old)) }
@@ -136,12 +131,6 @@ impl<'t, 'm> Decoder<'t, 'm> {
             (Visits self.now.table.now (message_of self.now.bytes.now self.now.handles.now) depth
             entry place (at_of state.old) (at_of state.new) (state.new.steps - state.old.steps)
             None) }
-        ensures err { OnErr result
-            ((to : At)
-            → Item (declarations_of self.now.table.now)
-            (message_of self.now.bytes.now self.now.handles.now) depth
-            (resolve (declarations_of self.now.table.now).terms (ty.named entry)) place
-            (at_of state.old) to → ⊥) }
         ensures fault_is_true { IfErr result
             (Breaks (declarations_of self.now.table.now)
             (message_of self.now.bytes.now self.now.handles.now) depth

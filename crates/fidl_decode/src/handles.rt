@@ -1,13 +1,12 @@
 //! Handles: a marker of four bytes, and the next of the records that came.
-ghost use Rattle.std.specs.Prelude.{◌≡◌, ◌+◌, ◌^◌, ◌<◌, ◌≤◌, ◌↔◌, OnOk, OnErr, IfErr, IsTrue};
+ghost use Rattle.std.specs.Prelude.{◌≡◌, ◌+◌, ◌<◌, ◌≤◌, ◌↔◌, OnOk, IfErr, IsTrue};
 ghost use Rattle.std.specs.Prelude.{length};
-ghost use Rattle.fidl_limits.specs.declared.limits.TheConstants.{MAX_DEPTH, MAX_MESSAGE_BYTES};
+ghost use Rattle.fidl_limits.specs.declared.limits.TheConstants.{MAX_DEPTH};
 ghost use Rattle.fidl_wire.specs.Term as ty;
 ghost use Rattle.fidl_wire.specs.Typed.{IsHandle, IsAllowed};
 ghost use Rattle.fidl_table_format.specs.Terms.{declarations_of, is_optional};
 ghost use Rattle.fidl_decode.specs.Faults.{message_of};
 ghost use Rattle.fidl_decode.specs.Breaks.{BreaksHandle};
-ghost use Rattle.fidl_decode.specs.State.{At, Item};
 ghost use Rattle.fidl_decode.specs.Machine.{StateFine, Leads, at_of};
 
 use crate::decoder::Decoder;
@@ -50,10 +49,6 @@ impl<'t, 'm> Decoder<'t, 'm> {
             (message_of self.now.bytes.now self.now.handles.now) depth
             (ty.handle (is_optional entry.now) entry.now.subtype entry.now.rights) place
             (at_of state.old) (at_of state.new)) }
-        ensures err { OnErr result ((to : At) → Item (declarations_of self.now.table.now)
-            (message_of self.now.bytes.now self.now.handles.now) depth
-            (ty.handle (is_optional entry.now) entry.now.subtype entry.now.rights) place
-            (at_of state.old) to → ⊥) }
         ensures fault_is_true { IfErr result (BreaksHandle
             (message_of self.now.bytes.now self.now.handles.now)
             (is_optional entry.now) entry.now.subtype entry.now.rights place state.old.handle) }

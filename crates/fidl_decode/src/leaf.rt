@@ -1,8 +1,8 @@
 //! Leaves: values that hold no other.
-ghost use Rattle.std.specs.Prelude.{◌≡◌, ℕ, ◌+◌, ◌-◌, ◌^◌, ◌<◌, ◌≤◌, OnOk, OnErr, IfErr, IfSome};
+ghost use Rattle.std.specs.Prelude.{◌≡◌, ◌+◌, ◌-◌, ◌^◌, ◌<◌, ◌≤◌, OnOk, IfErr, IfSome};
 ghost use Rattle.std.specs.Prelude.{IsTrue, Contains, true, Some, None, length};
 ghost use Rattle.std.specs.Int.{byte_len};
-ghost use Rattle.fidl_limits.specs.declared.limits.TheConstants.{MAX_DEPTH, MAX_MESSAGE_BYTES};
+ghost use Rattle.fidl_limits.specs.declared.limits.TheConstants.{MAX_DEPTH};
 ghost use Rattle.fidl_wire.specs.Term as ty;
 ghost use Rattle.fidl_wire.specs.Term.{resolve, width};
 ghost use Rattle.fidl_wire.specs.Typed.{InMask};
@@ -10,12 +10,11 @@ ghost use Rattle.fidl_table_format.specs.Kind.{kind_of};
 ghost use Rattle.fidl_table_format.specs.Number.{number_standing};
 ghost use Rattle.fidl_table_format.specs.Section.{header_of, entry_at};
 ghost use Rattle.fidl_table_format.specs.Entry.{subtype_is};
-ghost use Rattle.fidl_table_format.specs.Uses.{is_number, is_unsigned};
+ghost use Rattle.fidl_table_format.specs.Uses.{is_unsigned};
 ghost use Rattle.fidl_table_format.specs.Terms.{underlying, mask_of, strict_values, declarations_of};
-ghost use Rattle.fidl_decode.specs.Invariants.{IsFine, EnumFine, is_leaf, is_free};
+ghost use Rattle.fidl_decode.specs.Invariants.{EnumFine, is_leaf, is_free};
 ghost use Rattle.fidl_decode.specs.Faults.{message_of};
 ghost use Rattle.fidl_decode.specs.Breaks.{BreaksField, Breaks};
-ghost use Rattle.fidl_decode.specs.State.{At, Item};
 ghost use Rattle.fidl_decode.specs.Machine.{StateFine, Visits, at_of, probes};
 
 use crate::decoder::Decoder;
@@ -66,8 +65,6 @@ impl<'t, 'm> Decoder<'t, 'm> {
             ≤ length self.now.bytes.now }
         ensures ok { OnOk result (IfSome (mask_of entry.now)
             (λ mask. InMask mask (number_standing (underlying entry.now) self.now.bytes.now place))) }
-        ensures err { OnErr result (IfSome (mask_of entry.now)
-            (λ mask. InMask mask (number_standing (underlying entry.now) self.now.bytes.now place)) → ⊥) }
         ensures fault_is_true { IfErr result
             (BreaksField (message_of self.now.bytes.now self.now.handles.now)
             (ty.bits (underlying entry.now) (mask_of entry.now)) place) }
@@ -91,9 +88,6 @@ impl<'t, 'm> Decoder<'t, 'm> {
         ensures ok { OnOk result
             (IfSome (strict_values self.now.table.now (header_of self.now.table.now) entry.now)
             (λ values. Contains values (number_standing (underlying entry.now) self.now.bytes.now place))) }
-        ensures err { OnErr result
-            (IfSome (strict_values self.now.table.now (header_of self.now.table.now) entry.now)
-            (λ values. Contains values (number_standing (underlying entry.now) self.now.bytes.now place)) → ⊥) }
         ensures fault_is_true { IfErr result
             (BreaksField (message_of self.now.bytes.now self.now.handles.now)
             (ty.enum (underlying entry.now) (strict_values self.now.table.now (header_of self.now.table.now) entry.now)) place) }
@@ -134,12 +128,6 @@ impl<'t, 'm> Decoder<'t, 'm> {
             (Visits self.now.table.now (message_of self.now.bytes.now self.now.handles.now) depth
             entry place (at_of state.old) (at_of state.new) (state.new.steps - state.old.steps)
             None) }
-        ensures err { OnErr result
-            ((to : At)
-            → Item (declarations_of self.now.table.now)
-            (message_of self.now.bytes.now self.now.handles.now) depth
-            (resolve (declarations_of self.now.table.now).terms (ty.named entry)) place
-            (at_of state.old) to → ⊥) }
         ensures fault_is_true { IfErr result
             (Breaks (declarations_of self.now.table.now)
             (message_of self.now.bytes.now self.now.handles.now) depth

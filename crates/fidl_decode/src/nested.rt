@@ -1,15 +1,13 @@
 //! Structs whose last member is a box: the struct in it takes the place of the one that holds it.
-ghost use Rattle.std.specs.Prelude.{◌≡◌, ◌+◌, ◌-◌, ◌^◌, ◌<◌, ◌≤◌, OnOk, OnErr, IfOk, IfErr};
-ghost use Rattle.std.specs.Prelude.{IfNone, IsTrue, Some, None, true, [], length};
-ghost use Rattle.fidl_limits.specs.declared.limits.TheConstants.{MAX_MESSAGE_BYTES};
+ghost use Rattle.std.specs.Prelude.{◌≡◌, ◌+◌, ◌-◌, ◌^◌, ◌<◌, ◌≤◌, OnOk, IfOk, IfErr};
+ghost use Rattle.std.specs.Prelude.{IfNone, IsTrue, Some, None, true, []};
 ghost use Rattle.fidl_table_format.specs.declared.kind.EntryKind.TheVariants as kinds;
 ghost use Rattle.fidl_table_format.specs.Kind.{kind_of};
 ghost use Rattle.fidl_table_format.specs.Section.{header_of, entry_at, row_at};
-ghost use Rattle.fidl_decode.specs.Invariants.{IsFine, is_leaf};
+ghost use Rattle.fidl_decode.specs.Invariants.{is_leaf};
 ghost use Rattle.fidl_decode.specs.Faults.{message_of};
-ghost use Rattle.fidl_decode.specs.State.{At};
 ghost use Rattle.fidl_decode.specs.declared.frame.Left.TheVariants as left;
-ghost use Rattle.fidl_decode.specs.Machine.{Reads, StateFine, FrameFine, BreaksFrame, Turns};
+ghost use Rattle.fidl_decode.specs.Machine.{StateFine, FrameFine, BreaksFrame, Turns};
 ghost use Rattle.fidl_decode.specs.Machine.{IsPlain, IsKnown, rows_left, behind_rows};
 ghost use Rattle.fidl_decode.specs.Machine.{turn_work, at_of};
 
@@ -67,10 +65,6 @@ impl<'t, 'm> Decoder<'t, 'm> {
         ensures rises { state.old.steps < state.new.steps }
         ensures cost { state.new.steps
             ≤ state.old.steps + turn_work self.now.bytes.now state.old.next frame }
-        ensures err { OnErr result
-            ((to : At)
-            → Reads self.now.table.now (message_of self.now.bytes.now self.now.handles.now) frame
-            (at_of state.old) to → ⊥) }
         ensures fault_is_true { IfErr result
             (BreaksFrame self.now.table.now (message_of self.now.bytes.now self.now.handles.now)
             frame (at_of state.old)) }
@@ -115,10 +109,6 @@ impl<'t, 'm> Decoder<'t, 'm> {
         ensures rises { state.old.steps < state.new.steps }
         ensures cost { state.new.steps
             ≤ state.old.steps + turn_work self.now.bytes.now state.old.next frame }
-        ensures err { OnErr result
-            ((to : At)
-            → Reads self.now.table.now (message_of self.now.bytes.now self.now.handles.now) frame
-            (at_of state.old) to → ⊥) }
         ensures fault_is_true { IfErr result
             (BreaksFrame self.now.table.now (message_of self.now.bytes.now self.now.handles.now)
             frame (at_of state.old)) }
@@ -149,10 +139,6 @@ impl<'t, 'm> Decoder<'t, 'm> {
         ensures rises { state.old.steps < state.new.steps }
         ensures cost { state.new.steps
             ≤ state.old.steps + turn_work self.now.bytes.now state.old.next frame }
-        ensures err { OnErr result
-            ((to : At)
-            → Reads self.now.table.now (message_of self.now.bytes.now self.now.handles.now) frame
-            (at_of state.old) to → ⊥) }
         ensures fault_is_true { IfErr result
             (BreaksFrame self.now.table.now (message_of self.now.bytes.now self.now.handles.now)
             frame (at_of state.old)) }
@@ -188,10 +174,6 @@ impl<'t, 'm> Decoder<'t, 'm> {
         ensures ended { IfOk result (λ rest. IfNone rest (state.old.steps < state.new.steps)) }
         ensures cost { state.new.steps
             ≤ state.old.steps + turn_work self.now.bytes.now state.old.next frame }
-        ensures err { OnErr result
-            ((to : At)
-            → Reads self.now.table.now (message_of self.now.bytes.now self.now.handles.now) frame
-            (at_of state.old) to → ⊥) }
         ensures fault_is_true { IfErr result
             (BreaksFrame self.now.table.now (message_of self.now.bytes.now self.now.handles.now)
             frame (at_of state.old)) }
@@ -262,10 +244,6 @@ impl<'t, 'm> Decoder<'t, 'm> {
         ensures ended { IfOk result (λ rest. IfNone rest (state.old.steps < state.new.steps)) }
         ensures cost { state.new.steps
             ≤ state.old.steps + turn_work self.now.bytes.now state.old.next frame }
-        ensures err { OnErr result
-            ((to : At)
-            → Reads self.now.table.now (message_of self.now.bytes.now self.now.handles.now) frame
-            (at_of state.old) to → ⊥) }
         ensures fault_is_true { IfErr result
             (BreaksFrame self.now.table.now (message_of self.now.bytes.now self.now.handles.now)
             frame (at_of state.old)) }

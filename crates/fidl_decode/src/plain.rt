@@ -1,17 +1,17 @@
 //! Numbers and bools that stand behind one another in a struct, without a gap: they need no more
 //! than a look at their rows, and at the byte of a bool.
-ghost use Rattle.std.specs.Prelude.{◌≡◌, ◌+◌, ◌-◌, ◌^◌, ◌<◌, ◌≤◌, OnOk, OnErr, IfOk, IfErr, IfNone};
+ghost use Rattle.std.specs.Prelude.{◌≡◌, ◌+◌, ◌-◌, ◌^◌, ◌<◌, ◌≤◌, OnOk, IfOk, IfErr, IfNone};
 ghost use Rattle.std.specs.Prelude.{ℕ, IfSome, IsTrue, Some, None, true, length};
 ghost use Rattle.fidl_limits.specs.declared.limits.TheConstants.{MAX_DEPTH, MAX_MESSAGE_BYTES};
 ghost use Rattle.fidl_table_format.specs.declared.kind.EntryKind.{EntryKind};
 ghost use Rattle.fidl_table_format.specs.Kind.{kind_of};
 ghost use Rattle.fidl_table_format.specs.Section.{header_of, entry_at};
-ghost use Rattle.fidl_decode.specs.Invariants.{IsFine, is_free};
+ghost use Rattle.fidl_decode.specs.Invariants.{is_free};
 ghost use Rattle.fidl_decode.specs.Faults.{message_of};
 ghost use Rattle.fidl_decode.specs.declared.frame.Left.TheVariants as left;
 ghost use Rattle.fidl_decode.specs.declared.plain.TheConstants.{MOST_ROWS};
 ghost use Rattle.fidl_decode.specs.State.{At};
-ghost use Rattle.fidl_decode.specs.Machine.{StateFine, FrameFine, Visits, Turns, Reads, BreaksFrame};
+ghost use Rattle.fidl_decode.specs.Machine.{StateFine, FrameFine, Visits, Turns, BreaksFrame};
 ghost use Rattle.fidl_decode.specs.Machine.{IsGood, Passes, IsKnown, turn_work, at_of};
 
 use crate::decoder::Decoder;
@@ -283,10 +283,6 @@ impl<'t, 'm> Decoder<'t, 'm> {
         ensures ended { IfOk result (λ rest. IfNone rest (state.old.steps < state.new.steps)) }
         ensures cost { state.new.steps
             ≤ state.old.steps + turn_work self.now.bytes.now state.old.next frame }
-        ensures err { OnErr result
-            ((to : At)
-            → Reads self.now.table.now (message_of self.now.bytes.now self.now.handles.now) frame
-            (at_of state.old) to → ⊥) }
         ensures fault_is_true { IfErr result
             (BreaksFrame self.now.table.now (message_of self.now.bytes.now self.now.handles.now)
             frame (at_of state.old)) }

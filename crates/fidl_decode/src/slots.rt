@@ -1,7 +1,7 @@
 //! The envelopes of a table, and their members, which are read in place.
-ghost use Rattle.std.specs.Prelude.{◌≡◌, ◌+◌, ◌-◌, ◌*◌, ◌^◌, ◌<◌, ◌≤◌, OnOk, OnErr, IfOk, IfErr};
+ghost use Rattle.std.specs.Prelude.{◌≡◌, ◌+◌, ◌-◌, ◌*◌, ◌^◌, ◌<◌, ◌≤◌, OnOk, IfOk, IfErr};
 ghost use Rattle.std.specs.Prelude.{IfSome, IfNone, IsTrue, Some, None, length};
-ghost use Rattle.fidl_limits.specs.declared.limits.TheConstants.{MAX_DEPTH, MAX_MESSAGE_BYTES};
+ghost use Rattle.fidl_limits.specs.declared.limits.TheConstants.{MAX_DEPTH};
 ghost use Rattle.fidl_wire.specs.Term as ty;
 ghost use Rattle.fidl_wire.specs.Term.{find};
 ghost use Rattle.fidl_table_format.specs.Kind.{kind_of};
@@ -9,13 +9,11 @@ ghost use Rattle.fidl_table_format.specs.Section.{header_of, entry_at};
 ghost use Rattle.fidl_table_format.specs.Terms.{declarations_of, members_of};
 ghost use Rattle.fidl_table_format.specs.Uses.{uses_ordinals};
 ghost use Rattle.fidl_table_format.specs.Entry.{kind_is};
-ghost use Rattle.fidl_decode.specs.Envelopes.{Contained};
 ghost use Rattle.fidl_decode.specs.Breaks.{BreaksMember};
-ghost use Rattle.fidl_decode.specs.Invariants.{IsFine, IsFlat};
+ghost use Rattle.fidl_decode.specs.Invariants.{IsFlat};
 ghost use Rattle.fidl_decode.specs.Faults.{message_of};
-ghost use Rattle.fidl_decode.specs.State.{At};
 ghost use Rattle.fidl_decode.specs.declared.frame.Left.TheVariants as left;
-ghost use Rattle.fidl_decode.specs.Machine.{StateFine, FrameFine, Turns, Reads, BreaksFrame};
+ghost use Rattle.fidl_decode.specs.Machine.{StateFine, FrameFine, Turns, BreaksFrame};
 ghost use Rattle.fidl_decode.specs.Machine.{Opens, PaysEnvelope, member_term, behind_envelopes};
 ghost use Rattle.fidl_decode.specs.Machine.{byte_work, envelope_work, turn_work, at_of};
 
@@ -65,9 +63,6 @@ impl<'t, 'm> Decoder<'t, 'm> {
             envelope (at_of state.old) (at_of state.new) None) }
         ensures pays { OnOk result (PaysEnvelope self.now.bytes.now state.old.next state.new.next
             (state.new.steps - state.old.steps) None) }
-        ensures err { OnErr result ((to : At) → Contained (declarations_of self.now.table.now)
-            (message_of self.now.bytes.now self.now.handles.now) depth (Some (ty.named entry))
-            envelope (at_of state.old) to → ⊥) }
         ensures fault_is_true { IfErr result (BreaksMember (declarations_of self.now.table.now)
             (message_of self.now.bytes.now self.now.handles.now) depth (Some (ty.named entry))
             envelope (at_of state.old)) }
@@ -104,9 +99,6 @@ impl<'t, 'm> Decoder<'t, 'm> {
             envelope (at_of state.old) (at_of state.new)) }
         ensures pays { IfOk result (PaysEnvelope self.now.bytes.now state.old.next state.new.next
             (state.new.steps - state.old.steps)) }
-        ensures err { OnErr result ((to : At) → Contained (declarations_of self.now.table.now)
-            (message_of self.now.bytes.now self.now.handles.now) depth (Some (ty.named entry))
-            envelope (at_of state.old) to → ⊥) }
         ensures fault_is_true { IfErr result (BreaksMember (declarations_of self.now.table.now)
             (message_of self.now.bytes.now self.now.handles.now) depth (Some (ty.named entry))
             envelope (at_of state.old)) }
@@ -152,9 +144,6 @@ impl<'t, 'm> Decoder<'t, 'm> {
             (at_of state.old) (at_of state.new)) }
         ensures pays { IfOk result (PaysEnvelope self.now.bytes.now state.old.next state.new.next
             (state.new.steps - state.old.steps)) }
-        ensures err { OnErr result ((to : At) → Contained (declarations_of self.now.table.now)
-            (message_of self.now.bytes.now self.now.handles.now) depth (member_term member) envelope
-            (at_of state.old) to → ⊥) }
         ensures fault_is_true { IfErr result (BreaksMember (declarations_of self.now.table.now)
             (message_of self.now.bytes.now self.now.handles.now) depth (member_term member) envelope
             (at_of state.old)) }
@@ -227,10 +216,6 @@ impl<'t, 'm> Decoder<'t, 'm> {
         ensures rises { OnOk result (state.old.steps < state.new.steps) }
         ensures cost { state.new.steps ≤ state.old.steps
             + turn_work self.now.bytes.now state.old.next frame }
-        ensures err { OnErr result
-            ((to : At)
-            → Reads self.now.table.now (message_of self.now.bytes.now self.now.handles.now) frame
-            (at_of state.old) to → ⊥) }
         ensures fault_is_true { IfErr result
             (BreaksFrame self.now.table.now (message_of self.now.bytes.now self.now.handles.now)
             frame (at_of state.old)) }
@@ -267,10 +252,6 @@ impl<'t, 'm> Decoder<'t, 'm> {
         ensures rises { OnOk result (state.old.steps < state.new.steps) }
         ensures cost { state.new.steps
             ≤ state.old.steps + turn_work self.now.bytes.now state.old.next frame }
-        ensures err { OnErr result
-            ((to : At)
-            → Reads self.now.table.now (message_of self.now.bytes.now self.now.handles.now) frame
-            (at_of state.old) to → ⊥) }
         ensures fault_is_true { IfErr result
             (BreaksFrame self.now.table.now (message_of self.now.bytes.now self.now.handles.now)
             frame (at_of state.old)) }

@@ -1,11 +1,10 @@
 //! Tables: a count and a marker, and the envelopes, which are the next object.
 ghost use Rattle.std.specs.Prelude.{◌≡◌, ℕ, ◌+◌, ◌-◌, ◌*◌, ◌^◌, ◌<◌, ◌≤◌, OnOk, IfOk, IfErr};
 ghost use Rattle.std.specs.Prelude.{Some, length};
-ghost use Rattle.fidl_limits.specs.declared.limits.TheConstants.{MAX_DEPTH, MAX_MESSAGE_BYTES};
+ghost use Rattle.fidl_limits.specs.declared.limits.TheConstants.{MAX_DEPTH};
 ghost use Rattle.fidl_table_format.specs.declared.kind.EntryKind.TheVariants as kinds;
 ghost use Rattle.fidl_table_format.specs.Kind.{kind_of};
 ghost use Rattle.fidl_table_format.specs.Section.{header_of, entry_at};
-ghost use Rattle.fidl_decode.specs.Invariants.{IsFine};
 ghost use Rattle.fidl_decode.specs.Faults.{message_of};
 ghost use Rattle.fidl_decode.specs.Breaks.{BreaksTable};
 ghost use Rattle.fidl_decode.specs.Body.{envelopes_of};

@@ -1,16 +1,13 @@
 //! A turn of the decoder: it reads members of a frame in place, up to one that leads to more than
 //! it reads there.
-ghost use Rattle.std.specs.Prelude.{◌≡◌, ◌+◌, ◌-◌, ◌^◌, ◌<◌, ◌≤◌, ◌↔◌, OnOk, OnErr, IfOk, IfErr, Some};
-ghost use Rattle.std.specs.Prelude.{None, IsTrue, length};
-ghost use Rattle.fidl_limits.specs.declared.limits.TheConstants.{MAX_MESSAGE_BYTES};
+ghost use Rattle.std.specs.Prelude.{◌≡◌, ◌+◌, ◌-◌, ◌^◌, ◌<◌, ◌≤◌, ◌↔◌, OnOk, IfOk, IfErr, Some};
+ghost use Rattle.std.specs.Prelude.{None, IsTrue};
 ghost use Rattle.fidl_table_format.specs.declared.kind.EntryKind.TheVariants as kinds;
 ghost use Rattle.fidl_table_format.specs.Kind.{kind_of};
 ghost use Rattle.fidl_table_format.specs.Section.{header_of, entry_at};
-ghost use Rattle.fidl_decode.specs.Invariants.{IsFine};
 ghost use Rattle.fidl_decode.specs.Faults.{message_of};
-ghost use Rattle.fidl_decode.specs.State.{At};
 ghost use Rattle.fidl_decode.specs.declared.frame.Left.TheVariants as left;
-ghost use Rattle.fidl_decode.specs.Machine.{Reads, StateFine, FrameFine, BreaksFrame, Turns};
+ghost use Rattle.fidl_decode.specs.Machine.{StateFine, FrameFine, BreaksFrame, Turns};
 ghost use Rattle.fidl_decode.specs.Machine.{turn_work, at_of};
 ghost use Rattle.fidl_decode.specs.Over.{IsOver};
 
@@ -55,10 +52,6 @@ impl<'t, 'm> Decoder<'t, 'm> {
         ensures rises { OnOk result (state.old.steps < state.new.steps) }
         ensures cost { state.new.steps
             ≤ state.old.steps + turn_work self.now.bytes.now state.old.next frame }
-        ensures err { OnErr result
-            ((to : At)
-            → Reads self.now.table.now (message_of self.now.bytes.now self.now.handles.now) frame
-            (at_of state.old) to → ⊥) }
         ensures fault_is_true { IfErr result
             (BreaksFrame self.now.table.now (message_of self.now.bytes.now self.now.handles.now)
             frame (at_of state.old)) }
@@ -136,10 +129,6 @@ impl<'t, 'm> Decoder<'t, 'm> {
         ensures rises { OnOk result (state.old.steps < state.new.steps) }
         ensures cost { state.new.steps
             ≤ state.old.steps + turn_work self.now.bytes.now state.old.next frame }
-        ensures err { OnErr result
-            ((to : At)
-            → Reads self.now.table.now (message_of self.now.bytes.now self.now.handles.now) frame
-            (at_of state.old) to → ⊥) }
         ensures fault_is_true { IfErr result
             (BreaksFrame self.now.table.now (message_of self.now.bytes.now self.now.handles.now)
             frame (at_of state.old)) }
@@ -167,10 +156,6 @@ impl<'t, 'm> Decoder<'t, 'm> {
         ensures rises { OnOk result (state.old.steps < state.new.steps) }
         ensures cost { state.new.steps
             ≤ state.old.steps + turn_work self.now.bytes.now state.old.next frame }
-        ensures err { OnErr result
-            ((to : At)
-            → Reads self.now.table.now (message_of self.now.bytes.now self.now.handles.now) frame
-            (at_of state.old) to → ⊥) }
         ensures fault_is_true { IfErr result
             (BreaksFrame self.now.table.now (message_of self.now.bytes.now self.now.handles.now)
             frame (at_of state.old)) }

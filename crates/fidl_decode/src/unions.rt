@@ -1,19 +1,16 @@
 //! Unions: an ordinal and an envelope; and envelopes, whose members are known by their ordinals or
 //! skipped.
-ghost use Rattle.std.specs.Prelude.{◌≡◌, ℕ, ◌+◌, ◌-◌, ◌*◌, ◌^◌, ◌<◌, ◌≤◌, OnErr, IfOk, IfErr, IfSome};
+ghost use Rattle.std.specs.Prelude.{◌≡◌, ◌+◌, ◌-◌, ◌^◌, ◌<◌, ◌≤◌, IfOk, IfErr, IfSome};
 ghost use Rattle.std.specs.Prelude.{Some, length};
-ghost use Rattle.fidl_limits.specs.declared.limits.TheConstants.{MAX_DEPTH, MAX_MESSAGE_BYTES};
+ghost use Rattle.fidl_limits.specs.declared.limits.TheConstants.{MAX_DEPTH};
 ghost use Rattle.fidl_wire.specs.Term as ty;
 ghost use Rattle.fidl_wire.specs.Term.{resolve};
 ghost use Rattle.fidl_table_format.specs.declared.kind.EntryKind.TheVariants as kinds;
 ghost use Rattle.fidl_table_format.specs.Kind.{kind_of};
 ghost use Rattle.fidl_table_format.specs.Section.{header_of, entry_at};
 ghost use Rattle.fidl_table_format.specs.Terms.{declarations_of};
-ghost use Rattle.fidl_decode.specs.Invariants.{IsFine};
 ghost use Rattle.fidl_decode.specs.Faults.{message_of};
-ghost use Rattle.fidl_decode.specs.Envelopes.{Contained};
 ghost use Rattle.fidl_decode.specs.Breaks.{Breaks, BreaksMember};
-ghost use Rattle.fidl_decode.specs.State.{At, Item};
 ghost use Rattle.fidl_decode.specs.Machine.{StateFine, Visits, VisitFine, Opens, member_term, at_of};
 ghost use Rattle.fidl_decode.specs.Machine.{probes};
 
@@ -43,9 +40,6 @@ impl<'t, 'm> Decoder<'t, 'm> {
         ensures ok { IfOk result (Opens self.now.table.now
             (message_of self.now.bytes.now self.now.handles.now) depth (member_term member) envelope
             (at_of state.old) (at_of state.new)) }
-        ensures err { OnErr result ((to : At) → Contained (declarations_of self.now.table.now)
-            (message_of self.now.bytes.now self.now.handles.now) depth (member_term member) envelope
-            (at_of state.old) to → ⊥) }
         ensures fault_is_true { IfErr result (BreaksMember (declarations_of self.now.table.now)
             (message_of self.now.bytes.now self.now.handles.now) depth (member_term member) envelope
             (at_of state.old)) }
@@ -79,10 +73,6 @@ impl<'t, 'm> Decoder<'t, 'm> {
             (at_of state.old) (at_of state.new) (state.new.steps - state.old.steps) found) }
         ensures fine { IfOk result (VisitFine self.now.table.now
             (message_of self.now.bytes.now self.now.handles.now) depth 0 entry) }
-        ensures err { OnErr result ((to : At) → Item (declarations_of self.now.table.now)
-            (message_of self.now.bytes.now self.now.handles.now) depth
-            (resolve (declarations_of self.now.table.now).terms (ty.named entry)) place
-            (at_of state.old) to → ⊥) }
         ensures fault_is_true { IfErr result (Breaks (declarations_of self.now.table.now)
             (message_of self.now.bytes.now self.now.handles.now) depth
             (resolve (declarations_of self.now.table.now).terms (ty.named entry)) place

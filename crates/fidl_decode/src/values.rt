@@ -1,5 +1,5 @@
 //! The values of strict enums.
-ghost use Rattle.std.specs.Prelude.{◌≡◌, ℕ, suc, ◌+◌, ◌^◌, ◌<◌, ◌≤◌, ◌<ℤ◌, ◌↔◌, IsTrue, Some};
+ghost use Rattle.std.specs.Prelude.{◌+◌, ◌^◌, ◌<◌, ◌≤◌, ◌↔◌, IsTrue};
 ghost use Rattle.std.specs.Prelude.{Contains};
 ghost use Rattle.fidl_table_format.specs.Section.{header_of};
 ghost use Rattle.fidl_table_format.specs.Terms.{underlying, value_number, values_from};

@@ -1,12 +1,10 @@
 use Rattle.std.proofs.Common.{rules, refl, false, true, ◌≡◌, ◌+◌, ◌++◌, ◌<◌, List, length, sym, ap, ◌∙◌, subst, arith}
 use Rattle.std.specs.Option.{option_to_list}
 use Rattle.fidl_decode.specs.declared.frame.Frame.{Frame}
-use Rattle.fidl_decode.specs.State.{At}
 use Rattle.fidl_decode.specs.declared.fault.DecodeFault.{DecodeFault}
-use Rattle.fidl_decode.specs.Machine.{IsWhole, at_of, BreaksFrame, BreaksStack, IsStopped, Finishes, StackFine, height, work}
+use Rattle.fidl_decode.specs.Machine.{at_of, BreaksFrame, BreaksStack, IsStopped, Finishes, StackFine, height, work}
 use Rattle.fidl_decode.specs.Faults.{message_of}
-use Rattle.fidl_decode.proofs.Turning.{on_err}
-use Rattle.fidl_decode.proofs.Running.{read_all, stack_work_top, fine_top, room_if, length_if, turn_same, turn_fine, turn_less, finishes_top, top_breaks, turn_breaks}
+use Rattle.fidl_decode.proofs.Running.{read_all, stack_work_top, fine_top, room_if, length_if, turn_same, turn_fine, turn_less, top_breaks, turn_breaks}
 use Rattle.fidl_decode.proofs.Refusing.{broken_stopped}
 use Rattle.fidl_decode.proofs.run.run.Goals as goal
 
@@ -17,13 +15,6 @@ pub take_turn-requires-clause-frame : goal.take_turn-requires-clause-frame
 take_turn-requires-clause-frame c =
     let top = fine_top c.args.decoder.now.table.now (message_of c.args.decoder.now.bytes.now c.args.decoder.now.handles.now) 0 c.pop.new.self.items c.in-Some.frame (subst (λ (l : List Frame). StackFine c.args.decoder.now.table.now c.args.decoder.now.bytes.now 0 l) c.in-Some.ensures.items c.loop-frame.invariant.fine) in
     top.1
-
-pub returns-in_err-turn-clause-err : goal.returns-in_err-turn-clause-err
-returns-in_err-turn-clause-err c =
-    on_err _ ((to : At) → IsWhole (message_of c.args.decoder.now.bytes.now c.args.decoder.now.handles.now) to → Finishes c.args.decoder.now.table.now (message_of c.args.decoder.now.bytes.now c.args.decoder.now.handles.now) c.args.stack.now.items (at_of c.args.state.now) to → ⊥)
-    (λ to is h. let now = subst (λ (l : List Frame). Finishes c.args.decoder.now.table.now (message_of c.args.decoder.now.bytes.now c.args.decoder.now.handles.now) l (at_of c.loop-frame.state) to) c.in-Some.ensures.items ((c.loop-frame.invariant.same to).0 h) in
-    let top = finishes_top c.args.decoder.now.table.now (message_of c.args.decoder.now.bytes.now c.args.decoder.now.handles.now) c.pop.new.self.items c.in-Some.frame (at_of c.loop-frame.state) to now in
-    c.in_err-turn.ensures.err top.0 top.1)
 
 pub push_if-requires : goal.push_if-requires
 push_if-requires c =

@@ -1,9 +1,9 @@
 use Rattle.std.proofs.Common.{refl, arith}
 use Rattle.fidl_decode.specs.Machine.{at_of}
 use Rattle.fidl_decode.specs.Faults.{message_of}
-use Rattle.std.proofs.lemmas.Result.{on_err_weaker, IfErr-weaker}
+use Rattle.std.proofs.lemmas.Result.{IfErr-weaker}
 use Rattle.fidl_decode.proofs.Turning.{on_ok_from}
-use Rattle.fidl_decode.proofs.Leaves.{turns_start, over_room, over_turns, over_refused, over_breaks}
+use Rattle.fidl_decode.proofs.Leaves.{turns_start, over_room, over_turns, over_breaks}
 use Rattle.fidl_decode.proofs.decoder.Decoder.end_rows.Goals as goal
 
 pub overflow_add-over : goal.overflow_add-over
@@ -84,15 +84,6 @@ returns-clause-ok c =
     let old = at_of c.args.state.now in
     let start = turns_start t m f old c.requires.frame c.requires.state f refl in
     on_ok_from c.zeros_at.result (λ z. over_turns t c.args.self.now.fine m f old old 0 f start c.requires.over c.requires.plain _ (omega arith) z) c.zeros_at.ensures.ok
-
-pub returns-clause-err : goal.returns-clause-err
-returns-clause-err c =
-    let t = c.args.self.now.table.now in
-    let m = message_of c.args.self.now.bytes.now c.args.self.now.handles.now in
-    let f = c.args.frame in
-    let old = at_of c.args.state.now in
-    let start = turns_start t m f old c.requires.frame c.requires.state f refl in
-    on_err_weaker c.zeros_at.result (λ bad. over_refused t c.args.self.now.fine m f old old 0 f start c.requires.over c.requires.plain bad) c.zeros_at.ensures.err
 
 pub returns-clause-fault_is_true : goal.returns-clause-fault_is_true
 returns-clause-fault_is_true c =

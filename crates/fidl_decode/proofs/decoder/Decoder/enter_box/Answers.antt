@@ -6,13 +6,12 @@ use Rattle.fidl_table_format.specs.declared.kind.EntryKind.TheVariants.{Box}
 use Rattle.fidl_table_format.specs.Kind.{kind_of}
 use Rattle.fidl_table_format.specs.Section.{header_of, entry_at}
 use Rattle.fidl_decode.specs.declared.frame.Left.{Left}
-use Rattle.fidl_decode.specs.State.{At}
-use Rattle.fidl_decode.specs.Machine.{LeftFine, Reads, at_of}
+use Rattle.fidl_decode.specs.Machine.{LeftFine, at_of}
 use Rattle.fidl_decode.specs.Faults.{message_of}
-use Rattle.fidl_decode.proofs.Boxed.{box_refused, box_breaks}
+use Rattle.fidl_decode.proofs.Boxed.{box_breaks}
 use Rattle.fidl_decode.proofs.Visiting.{size_as}
-use Rattle.fidl_decode.proofs.Turning.{on_err, passed_on}
-use Rattle.fidl_decode.proofs.Last.{last_room, last_gap_refused, last_gap_breaks, last_refused, last_breaks, last_turns}
+use Rattle.fidl_decode.proofs.Turning.{passed_on}
+use Rattle.fidl_decode.proofs.Last.{last_room, last_gap_breaks, last_breaks, last_turns}
 use Rattle.fidl_decode.proofs.decoder.Decoder.enter_box.Goals as goal
 
 pub row-row-requires : goal.row-row-requires
@@ -84,13 +83,6 @@ returns-in_err-zeros_at-clause-cost c =
     let room = last_room t c.args.self.now.fine m c.args.frame c.args.first c.row-row.result last c.row-row.ensures.value (at_of c.args.state.now) c.requires.frame c.requires.state in
     omega (arith, room.3, room.0)
 
-pub returns-in_err-zeros_at-clause-err : goal.returns-in_err-zeros_at-clause-err
-returns-in_err-zeros_at-clause-err c =
-    let t = c.args.self.now.table.now in
-    let m = message_of c.args.self.now.bytes.now c.args.self.now.handles.now in
-    let last = c.requires.left in
-    on_err _ ((to : At) → Reads t m c.args.frame (at_of c.args.state.now) to → ⊥) (last_gap_refused t c.args.self.now.fine m c.args.frame c.args.first c.row-row.result last c.row-row.ensures.value (at_of c.args.state.now) c.requires.frame c.requires.state c.in_err-zeros_at.ensures.err)
-
 pub returns-in_err-zeros_at-clause-fault_is_true : goal.returns-in_err-zeros_at-clause-fault_is_true
 returns-in_err-zeros_at-clause-fault_is_true c =
     let t = c.args.self.now.table.now in
@@ -116,14 +108,6 @@ returns-in_err-below-clause-cost c =
     let room = last_room t c.args.self.now.fine m c.args.frame c.args.first c.row-row.result last c.row-row.ensures.value (at_of c.args.state.now) c.requires.frame c.requires.state in
     let still = c.in_err-below.ensures.steps in
     omega (arith, still, room.3, room.0)
-
-pub returns-in_err-below-clause-err : goal.returns-in_err-below-clause-err
-returns-in_err-below-clause-err c =
-    let t = c.args.self.now.table.now in
-    let m = message_of c.args.self.now.bytes.now c.args.self.now.handles.now in
-    let last = c.requires.left in
-    let is : kind_of (entry_at t c.row-row.result.entry).kind ≡ Some Box = ap (λ (w : raw.Row). kind_of (entry_at t w.entry).kind) c.row-row.ensures.value ∙ c.requires.kind in
-    on_err _ ((to : At) → Reads t m c.args.frame (at_of c.args.state.now) to → ⊥) (last_refused t c.args.self.now.fine m c.args.frame c.args.first c.row-row.result last c.row-row.ensures.value (at_of c.args.state.now) c.requires.frame c.requires.state (box_refused t c.args.self.now.fine m c.args.frame.depth c.row-row.result.entry (c.args.frame.base + c.row-row.result.key) (at_of c.args.state.now) c.row-row.ensures.entry is c.requires.state c.requires.frame.depth c.in_err-below.field-0.0 c.in_err-below.ensures.fault_is_true))
 
 pub returns-in_err-below-clause-fault_is_true : goal.returns-in_err-below-clause-fault_is_true
 returns-in_err-below-clause-fault_is_true c =
@@ -166,9 +150,6 @@ read_box-requires-clause-state c = c.requires.state
 
 pub returns-in_err-below-clause-ok : goal.returns-in_err-below-clause-ok
 returns-in_err-below-clause-ok c = no_ok c.from_residual-in_err-below.result c.in_err-below.field-0.0 _ c.from_residual-in_err-below.ensures.1
-
-pub returns-clause-err : goal.returns-clause-err
-returns-clause-err c = tt
 
 pub returns-clause-fault_is_true : goal.returns-clause-fault_is_true
 returns-clause-fault_is_true c = tt

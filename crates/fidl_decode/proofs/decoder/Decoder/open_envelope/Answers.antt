@@ -2,29 +2,15 @@ use Rattle.fidl_decode.proofs.Unchanged.{no_ok}
 use Rattle.std.proofs.Common.{sym, subst}
 use Rattle.std.specs.Prelude.{Option, Some, None}
 use Rattle.fidl_table_format.specs.declared.record.Row as raw
-use Rattle.fidl_table_format.specs.Terms.{declarations_of}
-use Rattle.fidl_decode.specs.State.{At}
-use Rattle.fidl_decode.specs.Envelopes.{Contained}
 use Rattle.fidl_decode.specs.Machine.{Opens, member_term, at_of}
 use Rattle.fidl_decode.specs.Faults.{message_of}
-use Rattle.fidl_decode.proofs.Turning.{on_err}
 use Rattle.fidl_decode.proofs.Opening.{opens_known, opens_unknown}
 use Rattle.fidl_decode.proofs.decoder.Decoder.open_envelope.Goals as goal
-
-pub returns-in_err-skip_member-clause-err : goal.returns-in_err-skip_member-clause-err
-returns-in_err-skip_member-clause-err c =
-    on_err _ ((to : At) → Contained (declarations_of c.args.self.now.table.now) (message_of c.args.self.now.bytes.now c.args.self.now.handles.now) c.args.depth (member_term c.args.member) c.args.envelope (at_of c.args.state.now) to → ⊥)
-    (subst (λ (o : Option raw.Row). (to : At) → Contained (declarations_of c.args.self.now.table.now) (message_of c.args.self.now.bytes.now c.args.self.now.handles.now) c.args.depth (member_term o) c.args.envelope (at_of c.args.state.now) to → ⊥) (sym c.in_default.is) c.in_err-skip_member.ensures.err)
 
 pub returns-in_default-clause-ok : goal.returns-in_default-clause-ok
 returns-in_default-clause-ok c =
     subst (λ (o : Option raw.Row). Opens c.args.self.now.table.now (message_of c.args.self.now.bytes.now c.args.self.now.handles.now) c.args.depth (member_term o) c.args.envelope (at_of c.args.state.now) (at_of c.skip_member.new.state) None) (sym c.in_default.is)
     (opens_unknown c.args.self.now.table.now (message_of c.args.self.now.bytes.now c.args.self.now.handles.now) c.args.depth c.args.envelope (at_of c.args.state.now) (at_of c.skip_member.new.state) c.in_ok-skip_member.ensures.state c.in_ok-skip_member.ensures.grows c.in_ok-skip_member.ensures.ok)
-
-pub returns-in_err-frame-clause-err : goal.returns-in_err-frame-clause-err
-returns-in_err-frame-clause-err c =
-    on_err _ ((to : At) → Contained (declarations_of c.args.self.now.table.now) (message_of c.args.self.now.bytes.now c.args.self.now.handles.now) c.args.depth (member_term c.args.member) c.args.envelope (at_of c.args.state.now) to → ⊥)
-    (subst (λ (o : Option raw.Row). (to : At) → Contained (declarations_of c.args.self.now.table.now) (message_of c.args.self.now.bytes.now c.args.self.now.handles.now) c.args.depth (member_term o) c.args.envelope (at_of c.args.state.now) to → ⊥) (sym c.in-Some.is) c.in_err-frame.ensures.err)
 
 pub returns-clause-ok : goal.returns-clause-ok
 returns-clause-ok c =
@@ -47,9 +33,6 @@ returns-in_err-skip_member-clause-ok c = no_ok c.from_residual.result c.in_err-s
 pub returns-in_err-skip_member-clause-steps : goal.returns-in_err-skip_member-clause-steps
 returns-in_err-skip_member-clause-steps c = c.in_err-skip_member.ensures.steps
 
-pub returns-in_default-clause-err : goal.returns-in_default-clause-err
-returns-in_default-clause-err c = tt
-
 pub returns-in_default-clause-fault_is_true : goal.returns-in_default-clause-fault_is_true
 returns-in_default-clause-fault_is_true c = tt
 
@@ -67,9 +50,6 @@ returns-in_err-frame-clause-ok c = no_ok c.from_residual-in_err-frame.result c.i
 
 pub returns-in_err-frame-clause-steps : goal.returns-in_err-frame-clause-steps
 returns-in_err-frame-clause-steps c = c.in_err-frame.ensures.steps
-
-pub returns-clause-err : goal.returns-clause-err
-returns-clause-err c = tt
 
 pub returns-clause-fault_is_true : goal.returns-clause-fault_is_true
 returns-clause-fault_is_true c = tt

@@ -1,10 +1,10 @@
 use Rattle.std.proofs.Common.{◌-◌, arith}
 use Rattle.std.specs.Prelude.{Some, IfNone, ◌<◌}
-use Rattle.std.proofs.lemmas.Result.{IfOk-weaker, IfErr-weaker, on_ok_weaker, on_err_weaker}
+use Rattle.std.proofs.lemmas.Result.{IfOk-weaker, IfErr-weaker, on_ok_weaker}
 use Rattle.fidl_decode.specs.Machine.{BreaksFrame, Turns, at_of}
 use Rattle.fidl_decode.specs.Faults.{message_of}
 use Rattle.fidl_decode.proofs.Turning.{none_weaker}
-use Rattle.fidl_decode.proofs.Leaves.{left_over, turns_then, turns_refused, turns_break}
+use Rattle.fidl_decode.proofs.Leaves.{left_over, turns_then, turns_break}
 use Rattle.fidl_decode.proofs.decoder.Decoder.read_behind.Goals as goal
 
 pub read_struct-requires-clause-frame : goal.read_struct-requires-clause-frame
@@ -40,6 +40,5 @@ returns c =
       grows = on_ok_weaker c.read_struct.result (λ h. omega (arith, h, grows)) c.read_struct.ensures.grows;
       ended = IfOk-weaker c.read_struct.result _ (λ o. IfNone o (c.args.state.now.steps < c.read_struct.new.state.steps)) (λ o h. none_weaker o _ _ (λ lt. omega (arith, lt, grows)) h) c.read_struct.ensures.ended;
       cost = omega (arith, less, grows, c.read_struct.ensures.cost);
-      err = on_err_weaker c.read_struct.result (λ bad. turns_refused t m f old mid first g one bad) c.read_struct.ensures.err;
       fault_is_true = IfErr-weaker c.read_struct.result _ (BreaksFrame t m f old) (λ fault b. turns_break t m f old mid first g one fault b) c.read_struct.ensures.fault_is_true;
     }

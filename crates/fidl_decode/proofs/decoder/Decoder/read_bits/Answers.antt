@@ -1,16 +1,10 @@
 use Rattle.fidl_decode.proofs.decoder.Decoder.read_bits.Goals as goal
 
-pub returns-then-not-is_strict-clause-err : goal.returns-then-not-is_strict-clause-err
-returns-then-not-is_strict-clause-err c = tt
-
 pub returns-then-not-is_strict-clause-fault_is_true : goal.returns-then-not-is_strict-clause-fault_is_true
 returns-then-not-is_strict-clause-fault_is_true c = tt
 
 pub returns-then-number-entry-clause-ok : goal.returns-then-number-entry-clause-ok
 returns-then-number-entry-clause-ok c = tt
-
-pub returns-clause-err : goal.returns-clause-err
-returns-clause-err c = tt
 
 pub returns-clause-fault_is_true : goal.returns-clause-fault_is_true
 returns-clause-fault_is_true c = tt

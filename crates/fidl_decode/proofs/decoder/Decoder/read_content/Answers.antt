@@ -9,10 +9,9 @@ use Rattle.fidl_table_format.specs.declared.kind.EntryKind.TheVariants.{Struct}
 use Rattle.fidl_table_format.specs.Section.{header_of, entry_at}
 use Rattle.fidl_decode.specs.Invariants.{IsFlat}
 use Rattle.fidl_decode.specs.declared.frame.Left.TheVariants.{Content}
-use Rattle.fidl_decode.specs.State.{At}
-use Rattle.fidl_decode.specs.Machine.{Reads, at_of}
+use Rattle.fidl_decode.specs.Machine.{at_of}
 use Rattle.fidl_decode.specs.Faults.{message_of}
-use Rattle.fidl_decode.proofs.Turning.{on_err, passed_on}
+use Rattle.fidl_decode.proofs.Turning.{passed_on}
 use Rattle.fidl_decode.proofs.Visiting.{fine_as}
 use Rattle.fidl_decode.proofs.LeafContent.{leaf_known}
 use Rattle.fidl_decode.proofs.decoder.Decoder.read_content.Goals as goal
@@ -60,26 +59,14 @@ pub read_whole-requires-clause-left : goal.read_whole-requires-clause-left
 read_whole-requires-clause-left c =
     c.requires.left ∙ ap (λ n. Content c.args.entry c.args.size n c.args.until) c.if-count-ne1.false
 
-pub returns-in_err-read_whole-clause-err : goal.returns-in_err-read_whole-clause-err
-returns-in_err-read_whole-clause-err c =
-    let t = c.args.self.now.table.now in
-    let m = message_of c.args.self.now.bytes.now c.args.self.now.handles.now in
-    on_err _ ((to : At) → Reads t m c.args.frame (at_of c.args.state.now) to → ⊥) c.in_err-read_whole.ensures.err
-
 pub returns-then-count-ne1-clause-ended : goal.returns-then-count-ne1-clause-ended
 returns-then-count-ne1-clause-ended c = tt
-
-pub returns-then-count-ne1-clause-err : goal.returns-then-count-ne1-clause-err
-returns-then-count-ne1-clause-err c = tt
 
 pub returns-then-count-ne1-clause-fault_is_true : goal.returns-then-count-ne1-clause-fault_is_true
 returns-then-count-ne1-clause-fault_is_true c = tt
 
 pub returns-then-not-is_flat-clause-ended : goal.returns-then-not-is_flat-clause-ended
 returns-then-not-is_flat-clause-ended c = tt
-
-pub returns-then-not-is_flat-clause-err : goal.returns-then-not-is_flat-clause-err
-returns-then-not-is_flat-clause-err c = tt
 
 pub returns-then-not-is_flat-clause-fault_is_true : goal.returns-then-not-is_flat-clause-fault_is_true
 returns-then-not-is_flat-clause-fault_is_true c = tt
@@ -107,9 +94,6 @@ returns-in_err-read_whole-clause-cost c = c.in_err-read_whole.ensures.cost
 
 pub returns-in_err-read_whole-clause-fault_is_true : goal.returns-in_err-read_whole-clause-fault_is_true
 returns-in_err-read_whole-clause-fault_is_true c = passed_on c.from_residual.result c.in_err-read_whole.field-0.0 _ c.from_residual.ensures.1 c.in_err-read_whole.ensures.fault_is_true
-
-pub returns-clause-err : goal.returns-clause-err
-returns-clause-err c = tt
 
 pub returns-clause-fault_is_true : goal.returns-clause-fault_is_true
 returns-clause-fault_is_true c = tt

@@ -9,12 +9,11 @@ use Rattle.fidl_table_format.specs.declared.record.Entry.{Entry}
 use Rattle.fidl_table_format.specs.Kind.{kind_of}
 use Rattle.fidl_table_format.specs.Section.{entry_at}
 use Rattle.fidl_decode.specs.declared.frame.Left.TheVariants.{Elements}
-use Rattle.fidl_decode.specs.State.{At}
-use Rattle.fidl_decode.specs.Machine.{Reads, at_of}
+use Rattle.fidl_decode.specs.Machine.{at_of}
 use Rattle.fidl_decode.specs.Faults.{message_of}
 use Rattle.fidl_decode.specs.Breaks.{IsPadding}
-use Rattle.fidl_decode.proofs.Turning.{passed_on, on_err}
-use Rattle.fidl_decode.proofs.Leaves.{going_on, element_known, free_turns, over_room, over_turns, over_refused, over_breaks}
+use Rattle.fidl_decode.proofs.Turning.{passed_on}
+use Rattle.fidl_decode.proofs.Leaves.{going_on, element_known, free_turns, over_room, over_turns, over_breaks}
 use Rattle.fidl_decode.proofs.decoder.Decoder.read_elements.Goals as goal
 
 no_some : {A : Type 0} (a : A) → Some a ≡ None → ⊥
@@ -84,13 +83,6 @@ zeros_at-requires-clause-order c =
     let spend = room.2 in
     omega (arith, before, within)
 
-pub returns-in_err-zeros_at-clause-err : goal.returns-in_err-zeros_at-clause-err
-returns-in_err-zeros_at-clause-err c =
-    let free : is_free c.in-Some.kind (entry_at c.args.self.now.table.now c.args.entry) ≡ true = (let r = ap (λ (d : Entry). is_free c.in-Some.kind d) (sym c.entry-e.ensures.value) ∙ sym c.is_free.ensures in search (rules, r, c.if-not-is_free.false)) in
-    let any = free_turns c.args.self.now.table.now c.args.self.now.fine (message_of c.args.self.now.bytes.now c.args.self.now.handles.now) c.args.frame (at_of c.args.state.now) c.requires.frame c.requires.state c.args.entry c.args.size c.args.count c.requires.left c.in-Some.kind (ap (λ (e : Entry). kind_of e.kind) (sym c.entry-e.ensures.value) ∙ sym c.from_number.ensures ∙ c.in-Some.is) free (λ i. omega (arith, c.args.self.now.octets i)) in
-    let there : c.args.frame.base + c.args.frame.done + c.args.size * c.args.count ≡ c.args.frame.base + (c.args.frame.done + c.args.size * c.args.count) = omega arith in
-    on_err _ ((to : At) → Reads c.args.self.now.table.now (message_of c.args.self.now.bytes.now c.args.self.now.handles.now) c.args.frame (at_of c.args.state.now) to → ⊥) (over_refused c.args.self.now.table.now c.args.self.now.fine (message_of c.args.self.now.bytes.now c.args.self.now.handles.now) c.args.frame (at_of c.args.state.now) (at_of c.args.state.now) 0 (going_on c.args.frame (Elements c.args.entry c.args.size 0) (c.args.frame.done + c.args.size * c.args.count)) any refl tt (λ z. c.in_err-zeros_at.ensures.err (subst (λ k. Stands c.args.self.now.bytes.now k (zeros (c.args.frame.base + c.args.frame.size - k))) (sym there) z)))
-
 pub returns-in_err-zeros_at-clause-cost : goal.returns-in_err-zeros_at-clause-cost
 returns-in_err-zeros_at-clause-cost c =
     let free : is_free c.in-Some.kind (entry_at c.args.self.now.table.now c.args.entry) ≡ true = (let r = ap (λ (d : Entry). is_free c.in-Some.kind d) (sym c.entry-e.ensures.value) ∙ sym c.is_free.ensures in search (rules, r, c.if-not-is_free.false)) in
@@ -123,24 +115,17 @@ returns-in_err-read_each c = record {
   grows = no_ok c.from_residual.result c.in_err-read_each.field-0.0 _ c.from_residual.ensures.1;
   ended = no_ok c.from_residual.result c.in_err-read_each.field-0.0 _ c.from_residual.ensures.1;
   cost = c.in_err-read_each.ensures.cost;
-  err = on_err _ _ c.in_err-read_each.ensures.err;
   fault_is_true = passed_on c.from_residual.result c.in_err-read_each.field-0.0 _ c.from_residual.ensures.1 c.in_err-read_each.ensures.fault_is_true;
 }
 
 pub returns-then-count-eq0-clause-ended : goal.returns-then-count-eq0-clause-ended
 returns-then-count-eq0-clause-ended c = tt
 
-pub returns-then-count-eq0-clause-err : goal.returns-then-count-eq0-clause-err
-returns-then-count-eq0-clause-err c = tt
-
 pub returns-then-count-eq0-clause-fault_is_true : goal.returns-then-count-eq0-clause-fault_is_true
 returns-then-count-eq0-clause-fault_is_true c = tt
 
 pub returns-then-not-is_leaf-clause-ended : goal.returns-then-not-is_leaf-clause-ended
 returns-then-not-is_leaf-clause-ended c = tt
-
-pub returns-then-not-is_leaf-clause-err : goal.returns-then-not-is_leaf-clause-err
-returns-then-not-is_leaf-clause-err c = tt
 
 pub returns-then-not-is_leaf-clause-fault_is_true : goal.returns-then-not-is_leaf-clause-fault_is_true
 returns-then-not-is_leaf-clause-fault_is_true c = tt
@@ -157,9 +142,6 @@ read_each-requires-clause-state c = c.requires.state
 pub read_each-requires-clause-budget : goal.read_each-requires-clause-budget
 read_each-requires-clause-budget c = c.requires.budget
 
-pub returns-then-not-is_free-clause-err : goal.returns-then-not-is_free-clause-err
-returns-then-not-is_free-clause-err c = tt
-
 pub returns-then-not-is_free-clause-fault_is_true : goal.returns-then-not-is_free-clause-fault_is_true
 returns-then-not-is_free-clause-fault_is_true c = tt
 
@@ -171,9 +153,6 @@ returns-in_err-zeros_at-clause-grows c = no_ok c.from_residual-in_err-zeros_at.r
 
 pub returns-in_err-zeros_at-clause-ended : goal.returns-in_err-zeros_at-clause-ended
 returns-in_err-zeros_at-clause-ended c = no_ok c.from_residual-in_err-zeros_at.result c.in_err-zeros_at.field-0.0 _ c.from_residual-in_err-zeros_at.ensures.1
-
-pub returns-clause-err : goal.returns-clause-err
-returns-clause-err c = tt
 
 pub returns-clause-fault_is_true : goal.returns-clause-fault_is_true
 returns-clause-fault_is_true c = tt

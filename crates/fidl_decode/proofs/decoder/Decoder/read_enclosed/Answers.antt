@@ -1,29 +1,19 @@
 use Rattle.fidl_decode.proofs.Unchanged.{no_ok}
 use Rattle.std.proofs.Common.{◌≡◌, ℕ, ◌-◌, arith}
 use Rattle.std.specs.Prelude.{Some, None}
-use Rattle.std.proofs.lemmas.Result.{on_err_weaker, IfErr-weaker}
+use Rattle.std.proofs.lemmas.Result.{IfErr-weaker}
 use Rattle.fidl_wire.specs.Term as ty
-use Rattle.fidl_table_format.specs.Terms.{declarations_of}
 use Rattle.fidl_decode.specs.declared.frame.Left.{Left}
 use Rattle.fidl_decode.specs.declared.frame.Left.TheVariants.{Content}
 use Rattle.fidl_decode.specs.declared.frame.Until.{Until}
-use Rattle.fidl_decode.specs.State.{At}
-use Rattle.fidl_decode.specs.Envelopes.{Contained}
 use Rattle.fidl_decode.specs.Machine.{at_of}
 use Rattle.fidl_decode.specs.Faults.{message_of}
-use Rattle.fidl_decode.proofs.Turning.{on_err, on_ok_from, passed_on}
-use Rattle.fidl_decode.proofs.Opening.{opens_known, opens_on, opens_pays, opens_refused, opens_work}
+use Rattle.fidl_decode.proofs.Turning.{on_ok_from, passed_on}
+use Rattle.fidl_decode.proofs.Opening.{opens_known, opens_on, opens_pays, opens_work}
 use Rattle.fidl_decode.proofs.decoder.Decoder.read_enclosed.Goals as goal
 
 same_content : (l : Left) (e s n e' s' n' : ℕ) (u u' : Until) → l ≡ Content e s n u → l ≡ Content e' s' n' u' → l ≡ Content e' s n' u
 same_content l e s n e' s' n' u u' x y = cc
-
-pub returns-in_err-frame-clause-err : goal.returns-in_err-frame-clause-err
-returns-in_err-frame-clause-err c =
-    let t = c.args.self.now.table.now in
-    let m = message_of c.args.self.now.bytes.now c.args.self.now.handles.now in
-    let old = at_of c.args.state.now in
-    on_err _ ((to : At) → Contained (declarations_of t) m c.args.depth (Some (ty.named c.args.entry)) c.args.envelope old to → ⊥) c.in_err-frame.ensures.err
 
 pub unreachable-requires : goal.unreachable-requires
 unreachable-requires c =
@@ -94,19 +84,6 @@ returns-clause-pays c =
     let spent = c.read_whole.new.state.steps - c.args.state.now.steps in
     let same : c.read_whole.new.state.steps - c.enter_member.new.state.steps ≡ spent = omega (arith, still) in
     on_ok_from c.read_whole.result (λ turns. let own = opens_pays t m c.args.depth (Some (ty.named c.args.entry)) c.args.envelope old mid frame o new (c.read_whole.new.state.steps - c.enter_member.new.state.steps) None turns in omega (arith, own, same)) c.read_whole.ensures.ok
-
-pub returns-clause-err : goal.returns-clause-err
-returns-clause-err c =
-    let t = c.args.self.now.table.now in
-    let m = message_of c.args.self.now.bytes.now c.args.self.now.handles.now in
-    let old = at_of c.args.state.now in
-    let mid = at_of c.enter_member.new.state in
-    let frame = c.in_ok-frame.frame in
-    let x = c.in_ok-frame.ensures in
-    let o = opens_known t m c.args.depth c.args.envelope old mid x.state c.args.entry frame x.grows x.ok x.breaks x.fine x.deeper x.work in
-    let work = opens_work t m c.args.depth (Some (ty.named c.args.entry)) c.args.envelope old mid frame o in
-    let still = x.steps in
-    on_err_weaker c.read_whole.result (λ bad. opens_refused t m c.args.depth (Some (ty.named c.args.entry)) c.args.envelope old mid frame o bad) c.read_whole.ensures.err
 
 pub returns-clause-fault_is_true : goal.returns-clause-fault_is_true
 returns-clause-fault_is_true c =

@@ -17,9 +17,6 @@ returns-then-not-has_value-clause-fault_is_true c =
     let is : strict_values t (header_of t) d ≡ Some (values_from t (header_of t) (underlying d) d.first d.count) = ap (λ (b : Bool). if b then Some (values_from t (header_of t) (underlying d) d.first d.count) else None) strict in
     subst (λ (o : Option (List ℤ)). BreaksField (message_of c.args.self.now.bytes.now c.args.self.now.handles.now) (ty.enum (underlying d) o) c.args.place (UnknownValue c.args.place)) (sym is) (refl, λ y. search (rules, y, c.has_value.ensures.value, c.if-not-has_value.true, c.number_bits-number.ensures))
 
-pub returns-then-not-is_strict-clause-err : goal.returns-then-not-is_strict-clause-err
-returns-then-not-is_strict-clause-err c = tt
-
 pub returns-then-not-is_strict-clause-fault_is_true : goal.returns-then-not-is_strict-clause-fault_is_true
 returns-then-not-is_strict-clause-fault_is_true c = tt
 
@@ -34,9 +31,6 @@ has_value-requires-clause-budget c = c.requires.budget
 
 pub returns-then-not-has_value-clause-ok : goal.returns-then-not-has_value-clause-ok
 returns-then-not-has_value-clause-ok c = tt
-
-pub returns-clause-err : goal.returns-clause-err
-returns-clause-err c = tt
 
 pub returns-clause-fault_is_true : goal.returns-clause-fault_is_true
 returns-clause-fault_is_true c = tt

@@ -3,12 +3,11 @@ use Rattle.std.proofs.Common.{◌≡◌, ◌+◌, ◌-◌, refl, sym, ap, subst,
 use Rattle.std.specs.Prelude.{Option, Some, None}
 use Rattle.fidl_decode.specs.declared.frame.Frame.{Frame}
 use Rattle.fidl_decode.specs.declared.frame.Left.TheVariants.{Envelopes}
-use Rattle.fidl_decode.specs.State.{At}
-use Rattle.fidl_decode.specs.Machine.{Reads, Turns, behind_envelopes, at_of}
+use Rattle.fidl_decode.specs.Machine.{Turns, behind_envelopes, at_of}
 use Rattle.fidl_decode.specs.Faults.{message_of}
-use Rattle.fidl_decode.proofs.Turning.{on_err, passed_on}
+use Rattle.fidl_decode.proofs.Turning.{passed_on}
 use Rattle.fidl_decode.proofs.EnvelopeTurns.{envelopes_over}
-use Rattle.fidl_decode.proofs.Leaves.{left_over, same_frame, turns_start, turns_then, turns_refused, turns_break}
+use Rattle.fidl_decode.proofs.Leaves.{left_over, same_frame, turns_start, turns_then, turns_break}
 use Rattle.fidl_decode.proofs.decoder.Decoder.read_envelopes.Goals as goal
 
 pub loop-many-init : goal.loop-many-init
@@ -80,21 +79,6 @@ returns-in_err-below-clause-cost c =
     let so_far = subst (λ (x : Frame). Turns t m f old now a (left_over (Some x))) (sym same) c.loop-many.invariant.turns in
     let less = so_far.less in
     omega (arith, less, begun, c.in_err-below.ensures.cost)
-
-pub returns-in_err-below-clause-err : goal.returns-in_err-below-clause-err
-returns-in_err-below-clause-err c =
-    let t = c.args.self.now.table.now in
-    let m = message_of c.args.self.now.bytes.now c.args.self.now.handles.now in
-    let f = c.args.frame in
-    let old = at_of c.args.state.now in
-    let now = at_of c.loop-many.state in
-    let a = c.loop-many.state.steps - c.args.state.now.steps in
-    let begun = c.loop-many.invariant.steps in
-    let rest = c.envelopes_from-now.result in
-    let same = c.envelopes_from-now.ensures in
-    let so_far = subst (λ (x : Frame). Turns t m f old now a (left_over (Some x))) (sym same) c.loop-many.invariant.turns in
-    let less = so_far.less in
-    on_err _ ((to : At) → Reads t m f old to → ⊥) (turns_refused t m f old now a rest so_far c.in_err-below.ensures.err)
 
 pub returns-in_err-below-clause-fault_is_true : goal.returns-in_err-below-clause-fault_is_true
 returns-in_err-below-clause-fault_is_true c =
@@ -210,14 +194,8 @@ returns-in_err-below-clause-ok c = no_ok c.from_residual.result c.in_err-below.f
 pub returns-in_err-below-clause-rises : goal.returns-in_err-below-clause-rises
 returns-in_err-below-clause-rises c = no_ok c.from_residual.result c.in_err-below.field-0.0 _ c.from_residual.ensures.1
 
-pub returns-in-Some-clause-err : goal.returns-in-Some-clause-err
-returns-in-Some-clause-err c = tt
-
 pub returns-in-Some-clause-fault_is_true : goal.returns-in-Some-clause-fault_is_true
 returns-in-Some-clause-fault_is_true c = tt
-
-pub returns-clause-err : goal.returns-clause-err
-returns-clause-err c = tt
 
 pub returns-clause-fault_is_true : goal.returns-clause-fault_is_true
 returns-clause-fault_is_true c = tt

@@ -2,7 +2,7 @@ use Rattle.fidl_decode.proofs.Fitting.{budget_on, cost_on, rises_on, first_in, s
 use Rattle.fidl_decode.proofs.Unchanged.{no_ok}
 use Rattle.std.proofs.Common.{◌≡◌, ◌+◌, ◌-◌, sym, ap, subst, ◌∙◌, arith, ◌≤◌, ◌<◌, ◌^◌}
 use Rattle.std.specs.Prelude.{Some, None}
-use Rattle.std.proofs.lemmas.Result.{on_err_weaker, IfErr-weaker}
+use Rattle.std.proofs.lemmas.Result.{IfErr-weaker}
 use Rattle.fidl_table_format.specs.declared.record.Row as raw
 use Rattle.fidl_table_format.specs.declared.record.Entry.{Entry}
 use Rattle.fidl_table_format.specs.declared.kind.EntryKind.{EntryKind}
@@ -11,12 +11,11 @@ use Rattle.fidl_table_format.specs.Section.{header_of, entry_at, row_at}
 use Rattle.fidl_decode.specs.Invariants.{is_leaf}
 use Rattle.fidl_decode.specs.declared.frame.Frame.{Frame}
 use Rattle.fidl_decode.specs.declared.frame.Left.TheVariants.{Rows}
-use Rattle.fidl_decode.specs.State.{At}
-use Rattle.fidl_decode.specs.Machine.{Reads, Turns, at_of, turn_work, IsPlain}
+use Rattle.fidl_decode.specs.Machine.{Turns, at_of, turn_work, IsPlain}
 use Rattle.fidl_decode.specs.Faults.{message_of}
-use Rattle.fidl_decode.proofs.Turning.{on_err, on_ok_from, passed_on}
+use Rattle.fidl_decode.proofs.Turning.{on_ok_from, passed_on}
 use Rattle.fidl_decode.proofs.Visiting.{same_some}
-use Rattle.fidl_decode.proofs.Leaves.{going_on, same_frame, left_over, turns_start, turns_then, turns_refused, turns_break}
+use Rattle.fidl_decode.proofs.Leaves.{going_on, same_frame, left_over, turns_start, turns_then, turns_break}
 use Rattle.fidl_decode.proofs.decoder.Decoder.read_fields.Goals as goal
 
 no_some : {A : Type 0} (a : A) → Some a ≡ None → ⊥
@@ -66,20 +65,6 @@ read_row-requires-clause-leaf c =
     let leaf = c.loop-many.invariant.leaves c.loop-many.next (omega arith) (omega (arith, c.loop-many-test.true)) in
     let is : kind_of (entry_at t (row_at t (header_of t) c.loop-many.next).entry).kind ≡ Some c.in-Some.kind = ap (λ (w : raw.Row). kind_of (entry_at t w.entry).kind) (sym c.row-row.ensures.value) ∙ ap (λ (e : Entry). kind_of e.kind) (sym c.entry-e.ensures.value) ∙ sym c.from_number.ensures ∙ c.in-Some.is in
     ap (λ (k : EntryKind). is_leaf k) (same_some c.in-Some.kind leaf.0 (sym is ∙ leaf.1)) ∙ leaf.2
-
-pub returns-in_err-read_row-clause-err : goal.returns-in_err-read_row-clause-err
-returns-in_err-read_row-clause-err c =
-    let t = c.args.self.now.table.now in
-    let m = message_of c.args.self.now.bytes.now c.args.self.now.handles.now in
-    let f = c.args.frame in
-    let old = at_of c.args.state.now in
-    let now = at_of c.loop-many.state in
-    let a = c.loop-many.state.steps - c.args.state.now.steps in
-    let begun = c.loop-many.invariant.steps in
-    let rest = c.rows_from-rest.result in
-    let same = c.rows_from-rest.ensures in
-    let so_far = subst (λ (x : Frame). Turns t m f old now a (left_over (Some x))) (sym same) c.loop-many.invariant.turns in
-    on_err _ ((to : At) → Reads t m f old to → ⊥) (turns_refused t m f old now a rest so_far c.in_err-read_row.ensures.err)
 
 pub returns-in_err-read_row-clause-fault_is_true : goal.returns-in_err-read_row-clause-fault_is_true
 returns-in_err-read_row-clause-fault_is_true c =
@@ -157,22 +142,6 @@ returns-clause-ok c =
     let all = c.end_rows.new.state.steps - c.args.state.now.steps in
     let rises = c.end_rows.ensures.rises in
     on_ok_from c.end_rows.result (λ two. turns_then t m f old now a rest so_far new spent all (left_over None) (omega (arith, begun, rises)) two) c.end_rows.ensures.ok
-
-pub returns-clause-err : goal.returns-clause-err
-returns-clause-err c =
-    let t = c.args.self.now.table.now in
-    let m = message_of c.args.self.now.bytes.now c.args.self.now.handles.now in
-    let f = c.args.frame in
-    let old = at_of c.args.state.now in
-    let now = at_of c.loop-many.state in
-    let a = c.loop-many.state.steps - c.args.state.now.steps in
-    let begun = c.loop-many.invariant.steps in
-    let rest = c.rows_from.result in
-    let same = c.rows_from.ensures in
-    let none : c.loop-many.many ≡ 0 = omega (arith, c.loop-many-test.false) in
-    let over = subst (λ n. Turns t m f old now a (left_over (Some (going_on c.args.frame (Rows c.loop-many.next n) c.loop-many.done)))) none c.loop-many.invariant.turns in
-    let so_far = subst (λ (x : Frame). Turns t m f old now a (left_over (Some x))) (sym same) over in
-    on_err_weaker c.end_rows.result (λ bad. turns_refused t m f old now a rest so_far bad) c.end_rows.ensures.err
 
 pub returns-clause-fault_is_true : goal.returns-clause-fault_is_true
 returns-clause-fault_is_true c =

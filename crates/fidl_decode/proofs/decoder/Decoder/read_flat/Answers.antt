@@ -1,6 +1,6 @@
 use Rattle.std.proofs.Common.{◌≡◌, ◌-◌, false, true, refl, sym, ap, subst, ◌∙◌, arith, inl, inr}
 use Rattle.std.specs.Prelude.{Some}
-use Rattle.std.proofs.lemmas.Result.{on_err_weaker, IfErr-weaker}
+use Rattle.std.proofs.lemmas.Result.{IfErr-weaker}
 use Rattle.fidl_table_format.specs.declared.record.Entry.{Entry}
 use Rattle.fidl_table_format.specs.declared.kind.EntryKind.{EntryKind}
 use Rattle.fidl_table_format.specs.declared.kind.EntryKind.TheVariants.{Struct}
@@ -12,7 +12,7 @@ use Rattle.fidl_decode.specs.Machine.{FrameFine, Visits, value_work, at_of}
 use Rattle.fidl_decode.specs.Faults.{message_of}
 use Rattle.fidl_decode.proofs.Turning.{on_ok_from}
 use Rattle.fidl_decode.proofs.Visiting.{work_none, struct_frame, visits_struct, struct_fine}
-use Rattle.fidl_decode.proofs.Wholly.{leaf_cost, visits_over, visits_refused}
+use Rattle.fidl_decode.proofs.Wholly.{leaf_cost, visits_over}
 use Rattle.fidl_decode.proofs.decoder.Decoder.read_flat.Goals as goal
 
 no_true : false ≡ true → ⊥
@@ -67,19 +67,6 @@ returns-clause-ok c =
     (visits_struct t c.args.self.now.fine m c.args.depth c.args.entry c.args.place old c.requires.entry c.requires.state c.requires.depth 0 0 refl is c.requires.room) in
     let rises = c.read_fields.ensures.rises in
     on_ok_from c.read_fields.result (λ turns. visits_over t m c.args.depth c.args.entry c.args.place old old 0 (frame c.entry-e.result) visit (at_of c.read_fields.new.state) (c.read_fields.new.state.steps - c.args.state.now.steps) (c.read_fields.new.state.steps - c.args.state.now.steps) (omega arith) turns) c.read_fields.ensures.ok
-
-pub returns-clause-err : goal.returns-clause-err
-returns-clause-err c =
-    let t = c.args.self.now.table.now in
-    let m = message_of c.args.self.now.bytes.now c.args.self.now.handles.now in
-    let old = at_of c.args.state.now in
-    let d = entry_at t c.args.entry in
-    let flat : (c.args.kind ≡ Struct) × AreLeaves t d.first d.count = elim c.requires.flat [ inl leaf ↦ absurd (no_true (sym c.if-is_leaf.false ∙ c.is_leaf.ensures ∙ leaf)) | inr s ↦ s ] in
-    let is : kind_of d.kind ≡ Some Struct = c.requires.kind ∙ ap (λ (k : EntryKind). Some k) flat.0 in
-    let frame : Entry → Frame = λ d. struct_frame d c.args.place c.args.depth 0 in
-    let visit = subst (λ (d : Entry). Visits t m c.args.depth c.args.entry c.args.place old old 0 (Some (frame d))) (sym c.entry-e.ensures.value)
-    (visits_struct t c.args.self.now.fine m c.args.depth c.args.entry c.args.place old c.requires.entry c.requires.state c.requires.depth 0 0 refl is c.requires.room) in
-    on_err_weaker c.read_fields.result (λ bad. visits_refused t m c.args.depth c.args.entry c.args.place old old 0 (frame c.entry-e.result) visit bad) c.read_fields.ensures.err
 
 pub returns-clause-fault_is_true : goal.returns-clause-fault_is_true
 returns-clause-fault_is_true c =

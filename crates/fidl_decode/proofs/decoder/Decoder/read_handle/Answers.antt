@@ -6,20 +6,11 @@ use Rattle.fidl_table_format.specs.Terms.{declarations_of, is_optional}
 use Rattle.fidl_decode.specs.Faults.{message_of}
 use Rattle.fidl_decode.specs.State.{At, taken}
 use Rattle.fidl_decode.specs.Machine.{Leads, at_of}
-use Rattle.fidl_decode.proofs.Carried.{absent_leads, handle_leads, missing_refused, wrong_refused}
+use Rattle.fidl_decode.proofs.Carried.{absent_leads, handle_leads}
 use Rattle.fidl_decode.proofs.decoder.Decoder.read_handle.Goals as goal
 
 abbrev nobody : HandleInfo
 nobody = record { id = 0; object_type = 0; rights = 0 }
-
-pub returns-then-state-self-clause-err : goal.returns-then-state-self-clause-err
-returns-then-state-self-clause-err c = missing_refused (declarations_of c.args.self.now.table.now) (message_of c.args.self.now.bytes.now c.args.self.now.handles.now) c.args.depth (is_optional c.args.entry.now) c.args.entry.now.subtype c.args.entry.now.rights c.args.place (at_of c.args.state.now) c.in-Present.ensures (omega (arith, c.if-state-self.true))
-
-pub returns-then-not-is_allowed-clause-err : goal.returns-then-not-is_allowed-clause-err
-returns-then-not-is_allowed-clause-err c =
-    let within : c.args.state.now.handle < length c.args.self.now.handles.now = (let h = c.requires.state.handle in omega (arith, h, c.if-state-self.false)) in
-    let bad = c.if-not-is_allowed.true in
-    wrong_refused (declarations_of c.args.self.now.table.now) (message_of c.args.self.now.bytes.now c.args.self.now.handles.now) c.args.depth (is_optional c.args.entry.now) c.args.entry.now.subtype c.args.entry.now.rights c.args.place (at_of c.args.state.now) c.in-Present.ensures (get_or c.args.self.now.handles.now c.args.state.now.handle nobody) (slice_get-get_or c.args.self.now.handles.now c.args.state.now.handle nobody within) (λ ok. let k = c.is_allowed.ensures.allowed.1 ok in cc)
 
 pub returns-then-not-is_allowed-clause-fault_is_true : goal.returns-then-not-is_allowed-clause-fault_is_true
 returns-then-not-is_allowed-clause-fault_is_true c =
@@ -78,9 +69,6 @@ returns-then-not-is_allowed-clause-next c = refl
 pub returns-then-not-is_allowed-clause-steps : goal.returns-then-not-is_allowed-clause-steps
 returns-then-not-is_allowed-clause-steps c = refl
 
-pub returns-else-not-is_optional-clause-err : goal.returns-else-not-is_optional-clause-err
-returns-else-not-is_optional-clause-err c = tt
-
 pub returns-else-not-is_optional-clause-fault_is_true : goal.returns-else-not-is_optional-clause-fault_is_true
 returns-else-not-is_optional-clause-fault_is_true c = tt
 
@@ -101,9 +89,6 @@ returns-in-Neither-clause-next c = refl
 
 pub returns-in-Neither-clause-steps : goal.returns-in-Neither-clause-steps
 returns-in-Neither-clause-steps c = refl
-
-pub returns-else-not-is_allowed-clause-err : goal.returns-else-not-is_allowed-clause-err
-returns-else-not-is_allowed-clause-err c = tt
 
 pub returns-else-not-is_allowed-clause-fault_is_true : goal.returns-else-not-is_allowed-clause-fault_is_true
 returns-else-not-is_allowed-clause-fault_is_true c = tt

@@ -10,11 +10,10 @@ use Rattle.fidl_table_format.specs.Section.{header_of, entry_at}
 use Rattle.fidl_table_format.specs.Terms.{declarations_of}
 use Rattle.fidl_decode.specs.Invariants.{IsFlat}
 use Rattle.fidl_decode.specs.State.{At}
-use Rattle.fidl_decode.specs.Envelopes.{Contained}
 use Rattle.fidl_decode.specs.Breaks.{BreaksMember}
 use Rattle.fidl_decode.specs.Machine.{StateFine, Opens, at_of}
 use Rattle.fidl_decode.specs.Faults.{message_of}
-use Rattle.fidl_decode.proofs.Turning.{on_err, passed_on}
+use Rattle.fidl_decode.proofs.Turning.{passed_on}
 use Rattle.fidl_decode.proofs.Visiting.{fine_as}
 use Rattle.fidl_decode.proofs.Opening.{opens_known}
 use Rattle.fidl_decode.proofs.decoder.Decoder.read_known.Goals as goal
@@ -86,17 +85,6 @@ read_enclosed-requires-clause-budget c =
     let next : c.pass_member.new.state.next ≡ c.args.state.now.next = ap (λ (s : At). s.next) kept in
     let still : c.pass_member.new.state.steps ≡ c.args.state.now.steps = omega (arith, next, c.pass_member.ensures.grows, c.pass_member.ensures.pays) in
     omega (arith, next, still, c.requires.budget)
-
-pub returns-in_err-read_enclosed-clause-err : goal.returns-in_err-read_enclosed-clause-err
-returns-in_err-read_enclosed-clause-err c =
-    let t = c.args.self.now.table.now in
-    let m = message_of c.args.self.now.bytes.now c.args.self.now.handles.now in
-    let old = at_of c.args.state.now in
-    let kept : at_of c.pass_member.new.state ≡ old = c.pass_member.ensures.kept c.if-pass_member.false in
-    let next : c.pass_member.new.state.next ≡ c.args.state.now.next = ap (λ (s : At). s.next) kept in
-    let still : c.pass_member.new.state.steps ≡ c.args.state.now.steps = omega (arith, next, c.pass_member.ensures.grows, c.pass_member.ensures.pays) in
-    on_err _ ((to : At) → Contained (declarations_of t) m c.args.depth (Some (ty.named c.args.entry)) c.args.envelope old to → ⊥)
-    (subst (λ (s : At). (to : At) → Contained (declarations_of t) m c.args.depth (Some (ty.named c.args.entry)) c.args.envelope s to → ⊥) kept c.in_err-read_enclosed.ensures.err)
 
 pub returns-in_err-read_enclosed-clause-fault_is_true : goal.returns-in_err-read_enclosed-clause-fault_is_true
 returns-in_err-read_enclosed-clause-fault_is_true c =
@@ -171,17 +159,6 @@ enter_member-requires-clause-state c =
     let still : c.pass_member.new.state.steps ≡ c.args.state.now.steps = omega (arith, next, c.pass_member.ensures.grows, c.pass_member.ensures.pays) in
     subst (λ (s : At). StateFine m s) (sym kept) c.requires.state
 
-pub returns-in_err-frame-clause-err : goal.returns-in_err-frame-clause-err
-returns-in_err-frame-clause-err c =
-    let t = c.args.self.now.table.now in
-    let m = message_of c.args.self.now.bytes.now c.args.self.now.handles.now in
-    let old = at_of c.args.state.now in
-    let kept : at_of c.pass_member.new.state ≡ old = c.pass_member.ensures.kept c.if-pass_member.false in
-    let next : c.pass_member.new.state.next ≡ c.args.state.now.next = ap (λ (s : At). s.next) kept in
-    let still : c.pass_member.new.state.steps ≡ c.args.state.now.steps = omega (arith, next, c.pass_member.ensures.grows, c.pass_member.ensures.pays) in
-    on_err _ ((to : At) → Contained (declarations_of t) m c.args.depth (Some (ty.named c.args.entry)) c.args.envelope old to → ⊥)
-    (subst (λ (s : At). (to : At) → Contained (declarations_of t) m c.args.depth (Some (ty.named c.args.entry)) c.args.envelope s to → ⊥) kept c.in_err-frame.ensures.err)
-
 pub returns-in_err-frame-clause-fault_is_true : goal.returns-in_err-frame-clause-fault_is_true
 returns-in_err-frame-clause-fault_is_true c =
     let t = c.args.self.now.table.now in
@@ -240,9 +217,6 @@ pass_member-requires-clause-state c = c.requires.state
 pub pass_member-requires-clause-depth : goal.pass_member-requires-clause-depth
 pass_member-requires-clause-depth c = c.requires.depth
 
-pub returns-then-pass_member-clause-err : goal.returns-then-pass_member-clause-err
-returns-then-pass_member-clause-err c = tt
-
 pub returns-then-pass_member-clause-fault_is_true : goal.returns-then-pass_member-clause-fault_is_true
 returns-then-pass_member-clause-fault_is_true c = tt
 
@@ -267,9 +241,6 @@ returns-in_err-read_enclosed-clause-pays c = no_ok c.from_residual.result c.in_e
 pub returns-in_err-read_enclosed-clause-grows : goal.returns-in_err-read_enclosed-clause-grows
 returns-in_err-read_enclosed-clause-grows c = no_ok c.from_residual.result c.in_err-read_enclosed.field-0.0 _ c.from_residual.ensures.1
 
-pub returns-then-is_flat-clause-err : goal.returns-then-is_flat-clause-err
-returns-then-is_flat-clause-err c = tt
-
 pub returns-then-is_flat-clause-fault_is_true : goal.returns-then-is_flat-clause-fault_is_true
 returns-then-is_flat-clause-fault_is_true c = tt
 
@@ -290,9 +261,6 @@ returns-in_err-frame-clause-pays c = no_ok c.from_residual-in_err-frame.result c
 
 pub returns-in_err-frame-clause-grows : goal.returns-in_err-frame-clause-grows
 returns-in_err-frame-clause-grows c = no_ok c.from_residual-in_err-frame.result c.in_err-frame.field-0.0 _ c.from_residual-in_err-frame.ensures.1
-
-pub returns-clause-err : goal.returns-clause-err
-returns-clause-err c = tt
 
 pub returns-clause-fault_is_true : goal.returns-clause-fault_is_true
 returns-clause-fault_is_true c = tt

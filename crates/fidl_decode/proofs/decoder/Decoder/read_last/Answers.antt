@@ -3,14 +3,13 @@ use Rattle.fidl_table_format.specs.declared.record.Entry.{Entry}
 use Rattle.fidl_table_format.specs.Section.{header_of}
 use Rattle.fidl_decode.specs.declared.frame.Left.{Left}
 use Rattle.fidl_decode.specs.declared.frame.Left.TheVariants.{Rows}
-use Rattle.fidl_decode.specs.State.{At}
-use Rattle.fidl_decode.specs.Machine.{LeftFine, Reads, Turns, at_of}
+use Rattle.fidl_decode.specs.Machine.{LeftFine, Turns, at_of}
 use Rattle.fidl_decode.specs.Faults.{message_of}
 use Rattle.std.specs.Prelude.{Some}
 use Rattle.fidl_decode.proofs.Unchanged.{if_none}
 use Rattle.fidl_decode.proofs.Leaves.{left_over, turns_start}
-use Rattle.fidl_decode.proofs.Turning.{on_err, passed_on}
-use Rattle.fidl_decode.proofs.Last.{last_room, last_inside, last_gap_refused, last_gap_breaks, last_refused, last_breaks, last_turns}
+use Rattle.fidl_decode.proofs.Turning.{passed_on}
+use Rattle.fidl_decode.proofs.Last.{last_room, last_inside, last_gap_breaks, last_breaks, last_turns}
 use Rattle.fidl_decode.proofs.decoder.Decoder.read_last.Goals as goal
 
 pub row-row-requires : goal.row-row-requires
@@ -82,13 +81,6 @@ returns-in_err-zeros_at-clause-cost c =
     let room = last_room t c.args.self.now.fine m c.args.frame c.args.first c.row-row.result last c.row-row.ensures.value (at_of c.args.state.now) c.requires.frame c.requires.state in
     omega (arith, room.3, room.0)
 
-pub returns-in_err-zeros_at-clause-err : goal.returns-in_err-zeros_at-clause-err
-returns-in_err-zeros_at-clause-err c =
-    let t = c.args.self.now.table.now in
-    let m = message_of c.args.self.now.bytes.now c.args.self.now.handles.now in
-    let last : c.args.frame.left ≡ Rows c.args.first 1 = c.requires.left ∙ ap (λ n. Rows c.args.first n) c.if-count-ne1.false in
-    on_err _ ((to : At) → Reads t m c.args.frame (at_of c.args.state.now) to → ⊥) (last_gap_refused t c.args.self.now.fine m c.args.frame c.args.first c.row-row.result last c.row-row.ensures.value (at_of c.args.state.now) c.requires.frame c.requires.state c.in_err-zeros_at.ensures.err)
-
 pub returns-in_err-zeros_at-clause-fault_is_true : goal.returns-in_err-zeros_at-clause-fault_is_true
 returns-in_err-zeros_at-clause-fault_is_true c =
     let t = c.args.self.now.table.now in
@@ -127,13 +119,6 @@ returns-in_err-below-clause-cost c =
     let room = last_room t c.args.self.now.fine m c.args.frame c.args.first c.row-row.result last c.row-row.ensures.value (at_of c.args.state.now) c.requires.frame c.requires.state in
     let probed = c.in_err-below.ensures.probes in
     omega (arith, probed, room.3, room.0)
-
-pub returns-in_err-below-clause-err : goal.returns-in_err-below-clause-err
-returns-in_err-below-clause-err c =
-    let t = c.args.self.now.table.now in
-    let m = message_of c.args.self.now.bytes.now c.args.self.now.handles.now in
-    let last : c.args.frame.left ≡ Rows c.args.first 1 = c.requires.left ∙ ap (λ n. Rows c.args.first n) c.if-count-ne1.false in
-    on_err _ ((to : At) → Reads t m c.args.frame (at_of c.args.state.now) to → ⊥) (last_refused t c.args.self.now.fine m c.args.frame c.args.first c.row-row.result last c.row-row.ensures.value (at_of c.args.state.now) c.requires.frame c.requires.state c.in_err-below.ensures.err)
 
 pub returns-in_err-below-clause-fault_is_true : goal.returns-in_err-below-clause-fault_is_true
 returns-in_err-below-clause-fault_is_true c =

@@ -15,15 +15,14 @@ use Rattle.fidl_table_format.specs.Terms.{underlying, mask_of, strict_values, de
 use Rattle.fidl_table_format.specs.declared.record.Entry.{Entry}
 use Rattle.fidl_decode.specs.Invariants.{EnumFine}
 use Rattle.fidl_decode.specs.Breaks.{BreaksField, BreaksHandle, BreaksText}
-use Rattle.fidl_decode.specs.State.{At, Item}
-use Rattle.fidl_decode.proofs.Turning.{on_ok_from, on_ok_two, on_ok_three, refused_by}
-use Rattle.fidl_decode.proofs.Written.{text_excluded}
-use Rattle.std.proofs.lemmas.Result.{on_err_weaker, IfErr-weaker}
+use Rattle.fidl_decode.specs.State.{At}
+use Rattle.fidl_decode.proofs.Turning.{on_ok_from, on_ok_two, on_ok_three}
+use Rattle.std.proofs.lemmas.Result.{IfErr-weaker}
 use Rattle.fidl_table_format.specs.declared.kind.EntryKind.{EntryKind}
 use Rattle.fidl_table_format.specs.declared.kind.EntryKind.TheVariants.{Bool as Boolean, Bits, Enum, Handle, String}
 use Rattle.fidl_table_format.specs.Kind.{kind_of}
 use Rattle.fidl_table_format.specs.Section.{header_of, entry_at}
-use Rattle.fidl_decode.proofs.Visiting.{size_is, size_as, visits_leaf, text_cost, refused_leaf, leaf_breaks, fine_as, positive, refused_bool, bool_breaks, visits_bool, free_else, visits_free, visits_bits, refused_bits, bits_break, visits_enum, refused_enum, enum_breaks}
+use Rattle.fidl_decode.proofs.Visiting.{size_is, size_as, visits_leaf, text_cost, leaf_breaks, fine_as, positive, bool_breaks, visits_bool, free_else, visits_free, visits_bits, bits_break, visits_enum, enum_breaks}
 use Rattle.fidl_decode.proofs.decoder.Decoder.read_leaf.Goals as goal
 
 pub bounds-self-place : goal.bounds-self-place
@@ -31,11 +30,6 @@ bounds-self-place c =
     let pos = positive c.args.self.now.table.now c.args.self.now.fine c.args.entry c.requires.entry in
     let size = size_is c.args.self.now.table.now c.args.self.now.fine c.args.entry c.requires.entry in
     omega (arith, c.requires.room, pos, size)
-
-pub returns-then-self-place-gt1-clause-err : goal.returns-then-self-place-gt1-clause-err
-returns-then-self-place-gt1-clause-err c =
-    let is : kind_of (entry_at c.args.self.now.table.now c.args.entry).kind ≡ Some Boolean = c.requires.kind ∙ ap (λ (k : EntryKind). Some k) c.in-Bool.is in
-    refused_bool c.args.self.now.table.now c.args.self.now.fine (message_of c.args.self.now.bytes.now c.args.self.now.handles.now) c.args.depth c.args.entry c.args.place (at_of c.args.state.now) c.requires.entry c.requires.state c.requires.depth is c.if-self-place-gt1.true
 
 pub returns-then-self-place-gt1-clause-fault_is_true : goal.returns-then-self-place-gt1-clause-fault_is_true
 returns-then-self-place-gt1-clause-fault_is_true c =
@@ -60,12 +54,6 @@ returns-in-Bits-clause-ok c =
     let own : c.entry.result ≡ entry_at c.args.self.now.table.now c.args.entry = c.entry.ensures.value in
     on_ok_from c.read_bits.result (λ p. (visits_bits c.args.self.now.table.now c.args.self.now.fine (message_of c.args.self.now.bytes.now c.args.self.now.handles.now) c.args.depth c.args.entry c.args.place (at_of c.args.state.now) c.requires.entry c.requires.state c.requires.depth is (c.args.state.now.steps - c.args.state.now.steps) (omega (arith)) c.requires.room (λ i. omega (arith, c.args.self.now.octets i)) (subst (λ (d : Entry). IfSome (mask_of d) (λ mask. InMask mask (number_standing (underlying d) c.args.self.now.bytes.now c.args.place))) own p))) c.read_bits.ensures.ok
 
-pub returns-in-Bits-clause-err : goal.returns-in-Bits-clause-err
-returns-in-Bits-clause-err c =
-    let is : kind_of (entry_at c.args.self.now.table.now c.args.entry).kind ≡ Some Bits = c.requires.kind ∙ ap (λ (k : EntryKind). Some k) c.in-Bits.is in
-    let own : c.entry.result ≡ entry_at c.args.self.now.table.now c.args.entry = c.entry.ensures.value in
-    on_err_weaker c.read_bits.result (λ bad. refused_bits c.args.self.now.table.now c.args.self.now.fine (message_of c.args.self.now.bytes.now c.args.self.now.handles.now) c.args.depth c.args.entry c.args.place (at_of c.args.state.now) c.requires.entry c.requires.state c.requires.depth is (subst (λ (d : Entry). IfSome (mask_of d) (λ mask. InMask mask (number_standing (underlying d) c.args.self.now.bytes.now c.args.place)) → ⊥) own bad)) c.read_bits.ensures.err
-
 pub returns-in-Bits-clause-fault_is_true : goal.returns-in-Bits-clause-fault_is_true
 returns-in-Bits-clause-fault_is_true c =
     let is : kind_of (entry_at c.args.self.now.table.now c.args.entry).kind ≡ Some Bits = c.requires.kind ∙ ap (λ (k : EntryKind). Some k) c.in-Bits.is in
@@ -77,12 +65,6 @@ returns-in-Enum-clause-ok c =
     let is : kind_of (entry_at c.args.self.now.table.now c.args.entry).kind ≡ Some Enum = c.requires.kind ∙ ap (λ (k : EntryKind). Some k) c.in-Enum.is in
     let own : c.entry-in-Enum.result ≡ entry_at c.args.self.now.table.now c.args.entry = c.entry-in-Enum.ensures.value in
     on_ok_from c.read_enum.result (λ p. subst (λ (s : At). Visits c.args.self.now.table.now (message_of c.args.self.now.bytes.now c.args.self.now.handles.now) c.args.depth c.args.entry c.args.place (at_of c.args.state.now) s (c.read_enum.new.state.steps - c.args.state.now.steps) None) (sym c.read_enum.ensures.same) (visits_enum c.args.self.now.table.now c.args.self.now.fine (message_of c.args.self.now.bytes.now c.args.self.now.handles.now) c.args.depth c.args.entry c.args.place (at_of c.args.state.now) c.requires.entry c.requires.state c.requires.depth is (c.read_enum.new.state.steps - c.args.state.now.steps) (omega (arith, c.read_enum.ensures.probes)) c.requires.room (λ i. omega (arith, c.args.self.now.octets i)) (subst (λ (d : Entry). IfSome (strict_values c.args.self.now.table.now (header_of c.args.self.now.table.now) d) (λ values. Contains values (number_standing (underlying d) c.args.self.now.bytes.now c.args.place))) own p))) c.read_enum.ensures.ok
-
-pub returns-in-Enum-clause-err : goal.returns-in-Enum-clause-err
-returns-in-Enum-clause-err c =
-    let is : kind_of (entry_at c.args.self.now.table.now c.args.entry).kind ≡ Some Enum = c.requires.kind ∙ ap (λ (k : EntryKind). Some k) c.in-Enum.is in
-    let own : c.entry-in-Enum.result ≡ entry_at c.args.self.now.table.now c.args.entry = c.entry-in-Enum.ensures.value in
-    on_err_weaker c.read_enum.result (λ bad. refused_enum c.args.self.now.table.now c.args.self.now.fine (message_of c.args.self.now.bytes.now c.args.self.now.handles.now) c.args.depth c.args.entry c.args.place (at_of c.args.state.now) c.requires.entry c.requires.state c.requires.depth is (subst (λ (d : Entry). IfSome (strict_values c.args.self.now.table.now (header_of c.args.self.now.table.now) d) (λ values. Contains values (number_standing (underlying d) c.args.self.now.bytes.now c.args.place)) → ⊥) own bad)) c.read_enum.ensures.err
 
 pub returns-in-Enum-clause-fault_is_true : goal.returns-in-Enum-clause-fault_is_true
 returns-in-Enum-clause-fault_is_true c =
@@ -111,12 +93,6 @@ returns-in-Handle-clause-ok c =
     c.read_handle.ensures.ok
     c.read_handle.ensures.state
 
-pub returns-in-Handle-clause-err : goal.returns-in-Handle-clause-err
-returns-in-Handle-clause-err c =
-    let is : kind_of (entry_at c.args.self.now.table.now c.args.entry).kind ≡ Some Handle = c.requires.kind ∙ ap (λ (k : EntryKind). Some k) c.in-Handle.is in
-    let own : c.entry-in-Handle.result ≡ entry_at c.args.self.now.table.now c.args.entry = c.entry-in-Handle.ensures.value in
-    on_err_weaker c.read_handle.result (λ bad. refused_leaf c.args.self.now.table.now c.args.self.now.fine (message_of c.args.self.now.bytes.now c.args.self.now.handles.now) c.args.depth c.args.entry c.args.place (at_of c.args.state.now) c.requires.entry c.requires.state c.requires.depth Handle is (subst (λ (d : Entry). (to : At) → Item (declarations_of c.args.self.now.table.now) (message_of c.args.self.now.bytes.now c.args.self.now.handles.now) c.args.depth (ty.handle (is_optional d) d.subtype d.rights) c.args.place (at_of c.args.state.now) to → ⊥) own bad)) c.read_handle.ensures.err
-
 pub returns-in-Handle-clause-fault_is_true : goal.returns-in-Handle-clause-fault_is_true
 returns-in-Handle-clause-fault_is_true c =
     let is : kind_of (entry_at c.args.self.now.table.now c.args.entry).kind ≡ Some Handle = c.requires.kind ∙ ap (λ (k : EntryKind). Some k) c.in-Handle.is in
@@ -139,16 +115,6 @@ returns-in-String-clause-ok c =
     c.read_text.ensures.ok
     c.read_text.ensures.state
     c.read_text.ensures.spent
-
-pub returns-in-String-clause-err : goal.returns-in-String-clause-err
-returns-in-String-clause-err c =
-    let is : kind_of (entry_at c.args.self.now.table.now c.args.entry).kind ≡ Some String = c.requires.kind ∙ ap (λ (k : EntryKind). Some k) c.in-String.is in
-    let own : c.entry-in-String.result ≡ entry_at c.args.self.now.table.now c.args.entry = c.entry-in-String.ensures.value in
-    let short = c.args.self.now.short in
-    refused_by c.read_text.result _ _
-    (λ fault b. refused_leaf c.args.self.now.table.now c.args.self.now.fine (message_of c.args.self.now.bytes.now c.args.self.now.handles.now) c.args.depth c.args.entry c.args.place (at_of c.args.state.now) c.requires.entry c.requires.state c.requires.depth String is (λ to x. text_excluded (declarations_of c.args.self.now.table.now) (message_of c.args.self.now.bytes.now c.args.self.now.handles.now) (omega (arith, short)) c.args.depth (is_optional (entry_at c.args.self.now.table.now c.args.entry)) (entry_at c.args.self.now.table.now c.args.entry).bound c.args.place (at_of c.args.state.now) to fault
-    (subst (λ (d : Entry). BreaksText (message_of c.args.self.now.bytes.now c.args.self.now.handles.now) c.args.depth (is_optional d) d.bound c.args.place c.args.state.now.next fault) own b) x))
-    c.read_text.ensures.fault_is_true
 
 pub returns-in-String-clause-fault_is_true : goal.returns-in-String-clause-fault_is_true
 returns-in-String-clause-fault_is_true c =
@@ -209,9 +175,6 @@ read_text-requires-clause-state c = c.requires.state
 pub read_text-requires-clause-budget : goal.read_text-requires-clause-budget
 read_text-requires-clause-budget c = c.requires.budget
 
-pub returns-else-self-place-gt1-clause-err : goal.returns-else-self-place-gt1-clause-err
-returns-else-self-place-gt1-clause-err c = tt
-
 pub returns-else-self-place-gt1-clause-fault_is_true : goal.returns-else-self-place-gt1-clause-fault_is_true
 returns-else-self-place-gt1-clause-fault_is_true c = tt
 
@@ -223,9 +186,6 @@ returns-in-Bits-clause-grows c = same_le _
 
 pub returns-in-String-clause-grows : goal.returns-in-String-clause-grows
 returns-in-String-clause-grows c = c.read_text.ensures.grows
-
-pub returns-in_default-clause-err : goal.returns-in_default-clause-err
-returns-in_default-clause-err c = tt
 
 pub returns-in_default-clause-fault_is_true : goal.returns-in_default-clause-fault_is_true
 returns-in_default-clause-fault_is_true c = tt

@@ -32,9 +32,6 @@ read_content-requires-clause-budget c = c.requires.budget
 pub returns-in-Envelopes-clause-ended : goal.returns-in-Envelopes-clause-ended
 returns-in-Envelopes-clause-ended c = tt
 
-pub returns-in-Envelopes-clause-err : goal.returns-in-Envelopes-clause-err
-returns-in-Envelopes-clause-err c = tt
-
 pub returns-in-Envelopes-clause-fault_is_true : goal.returns-in-Envelopes-clause-fault_is_true
 returns-in-Envelopes-clause-fault_is_true c = tt
 
@@ -49,9 +46,6 @@ returns-in-Rows-clause-ended c = c.read_boxed.ensures.ended
 
 pub returns-in-Rows-clause-cost : goal.returns-in-Rows-clause-cost
 returns-in-Rows-clause-cost c = c.read_boxed.ensures.cost
-
-pub returns-in-Rows-clause-err : goal.returns-in-Rows-clause-err
-returns-in-Rows-clause-err c = c.read_boxed.ensures.err
 
 pub returns-in-Rows-clause-fault_is_true : goal.returns-in-Rows-clause-fault_is_true
 returns-in-Rows-clause-fault_is_true c = c.read_boxed.ensures.fault_is_true
@@ -68,9 +62,6 @@ returns-in-Elements-clause-ended c = c.read_elements.ensures.ended
 pub returns-in-Elements-clause-cost : goal.returns-in-Elements-clause-cost
 returns-in-Elements-clause-cost c = c.read_elements.ensures.cost
 
-pub returns-in-Elements-clause-err : goal.returns-in-Elements-clause-err
-returns-in-Elements-clause-err c = c.read_elements.ensures.err
-
 pub returns-in-Elements-clause-fault_is_true : goal.returns-in-Elements-clause-fault_is_true
 returns-in-Elements-clause-fault_is_true c = c.read_elements.ensures.fault_is_true
 
@@ -85,9 +76,6 @@ returns-in-Content-clause-ended c = c.read_content.ensures.ended
 
 pub returns-in-Content-clause-cost : goal.returns-in-Content-clause-cost
 returns-in-Content-clause-cost c = c.read_content.ensures.cost
-
-pub returns-in-Content-clause-err : goal.returns-in-Content-clause-err
-returns-in-Content-clause-err c = c.read_content.ensures.err
 
 pub returns-in-Content-clause-fault_is_true : goal.returns-in-Content-clause-fault_is_true
 returns-in-Content-clause-fault_is_true c = c.read_content.ensures.fault_is_true

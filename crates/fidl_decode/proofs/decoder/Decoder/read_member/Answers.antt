@@ -1,24 +1,13 @@
 use Rattle.fidl_decode.proofs.Unchanged.{no_ok}
 use Rattle.std.proofs.Common.{sym, subst, arith}
-use Rattle.std.specs.Prelude.{Option, None, OnErr, IfErr, IfOk}
+use Rattle.std.specs.Prelude.{Option, None, IfErr, IfOk}
 use Rattle.fidl_table_format.specs.declared.record.Row as raw
 use Rattle.fidl_table_format.specs.Terms.{declarations_of}
 use Rattle.fidl_decode.specs.Faults.{message_of}
-use Rattle.fidl_decode.specs.State.{At}
-use Rattle.fidl_decode.specs.Envelopes.{Contained}
 use Rattle.fidl_decode.specs.Breaks.{BreaksMember}
 use Rattle.fidl_decode.specs.Machine.{Opens, member_term, at_of}
-use Rattle.fidl_decode.proofs.Turning.{on_err}
 use Rattle.fidl_decode.proofs.Opening.{opens_unknown}
 use Rattle.fidl_decode.proofs.decoder.Decoder.read_member.Goals as goal
-
-pub returns-in_err-skip_member-clause-err : goal.returns-in_err-skip_member-clause-err
-returns-in_err-skip_member-clause-err c =
-    let t = c.args.self.now.table.now in
-    let m = message_of c.args.self.now.bytes.now c.args.self.now.handles.now in
-    let old = at_of c.args.state.now in
-    on_err _ ((to : At) → Contained (declarations_of t) m c.args.depth (member_term c.args.member) c.args.envelope old to → ⊥)
-    (subst (λ (o : Option raw.Row). (to : At) → Contained (declarations_of t) m c.args.depth (member_term o) c.args.envelope old to → ⊥) (sym c.in_default.is) c.in_err-skip_member.ensures.err)
 
 pub returns-in_default-clause-ok : goal.returns-in_default-clause-ok
 returns-in_default-clause-ok c =
@@ -49,13 +38,6 @@ returns-clause-ok c =
     let old = at_of c.args.state.now in
     subst (λ (r : Option raw.Row). IfOk c.read_known.result (Opens t m c.args.depth (member_term r) c.args.envelope old (at_of c.read_known.new.state))) (sym c.in-Some.is) c.read_known.ensures.ok
 
-pub returns-clause-err : goal.returns-clause-err
-returns-clause-err c =
-    let t = c.args.self.now.table.now in
-    let m = message_of c.args.self.now.bytes.now c.args.self.now.handles.now in
-    let old = at_of c.args.state.now in
-    subst (λ (r : Option raw.Row). OnErr c.read_known.result ((to : At) → Contained (declarations_of t) m c.args.depth (member_term r) c.args.envelope old to → ⊥)) (sym c.in-Some.is) c.read_known.ensures.err
-
 pub returns-clause-fault_is_true : goal.returns-clause-fault_is_true
 returns-clause-fault_is_true c =
     let t = c.args.self.now.table.now in
@@ -80,9 +62,6 @@ returns-in_err-skip_member-clause-pays c = no_ok c.from_residual.result c.in_err
 
 pub returns-in_err-skip_member-clause-grows : goal.returns-in_err-skip_member-clause-grows
 returns-in_err-skip_member-clause-grows c = no_ok c.from_residual.result c.in_err-skip_member.field-0.0 _ c.from_residual.ensures.1
-
-pub returns-in_default-clause-err : goal.returns-in_default-clause-err
-returns-in_default-clause-err c = tt
 
 pub returns-in_default-clause-fault_is_true : goal.returns-in_default-clause-fault_is_true
 returns-in_default-clause-fault_is_true c = tt

@@ -8,11 +8,10 @@ use Rattle.fidl_table_format.specs.Kind.{kind_of}
 use Rattle.fidl_table_format.specs.Section.{header_of, entry_at, row_at}
 use Rattle.fidl_decode.specs.declared.frame.Frame.{Frame}
 use Rattle.fidl_decode.specs.declared.frame.Left.TheVariants.{Rows}
-use Rattle.fidl_decode.specs.State.{At}
-use Rattle.fidl_decode.specs.Machine.{Reads, Turns, at_of, turn_work, IsPlain, rows_left}
+use Rattle.fidl_decode.specs.Machine.{Turns, at_of, turn_work, IsPlain, rows_left}
 use Rattle.fidl_decode.specs.Faults.{message_of}
-use Rattle.fidl_decode.proofs.Turning.{on_err, passed_on}
-use Rattle.fidl_decode.proofs.Leaves.{going_on, same_frame, left_over, turns_then, turns_refused, turns_break}
+use Rattle.fidl_decode.proofs.Turning.{passed_on}
+use Rattle.fidl_decode.proofs.Leaves.{going_on, same_frame, left_over, turns_then, turns_break}
 use Rattle.fidl_decode.proofs.decoder.Decoder.read_nested.Goals as goal
 
 no_some : {A : Type 0} (a : A) → Some a ≡ None → ⊥
@@ -38,21 +37,6 @@ read_row-requires-clause-frame c =
     let so_far = subst (λ (x : Frame). Turns t m f old now a (left_over (Some x))) (sym same) c.loop-many.invariant.turns in
     let less = so_far.less in
     so_far.rest_fine.0
-
-pub returns-in_err-read_row-clause-err : goal.returns-in_err-read_row-clause-err
-returns-in_err-read_row-clause-err c =
-    let t = c.args.self.now.table.now in
-    let m = message_of c.args.self.now.bytes.now c.args.self.now.handles.now in
-    let f = c.args.frame in
-    let old = at_of c.args.state.now in
-    let now = at_of c.loop-many.state in
-    let a = c.loop-many.state.steps - c.args.state.now.steps in
-    let begun = c.loop-many.invariant.steps in
-    let rest = c.rows_from-rest.result in
-    let same = c.rows_from-rest.ensures in
-    let so_far = subst (λ (x : Frame). Turns t m f old now a (left_over (Some x))) (sym same) c.loop-many.invariant.turns in
-    let less = so_far.less in
-    on_err _ ((to : At) → Reads t m f old to → ⊥) (turns_refused t m f old now a rest so_far c.in_err-read_row.ensures.err)
 
 pub returns-in_err-read_row-clause-fault_is_true : goal.returns-in_err-read_row-clause-fault_is_true
 returns-in_err-read_row-clause-fault_is_true c =
@@ -144,21 +128,6 @@ enter_box-requires-clause-whole c =
     let less = so_far.less in
     let box = c.ends_in_box.ensures c.if-not-ends_in_box.false in
     box.2 ∙ ap (λ (x : Frame). x.size) (sym same)
-
-pub returns-in_err-below-clause-err : goal.returns-in_err-below-clause-err
-returns-in_err-below-clause-err c =
-    let t = c.args.self.now.table.now in
-    let m = message_of c.args.self.now.bytes.now c.args.self.now.handles.now in
-    let f = c.args.frame in
-    let old = at_of c.args.state.now in
-    let now = at_of c.loop-many.state in
-    let a = c.loop-many.state.steps - c.args.state.now.steps in
-    let begun = c.loop-many.invariant.steps in
-    let rest = c.rows_from-rest.result in
-    let same = c.rows_from-rest.ensures in
-    let so_far = subst (λ (x : Frame). Turns t m f old now a (left_over (Some x))) (sym same) c.loop-many.invariant.turns in
-    let less = so_far.less in
-    on_err _ ((to : At) → Reads t m f old to → ⊥) (turns_refused t m f old now a rest so_far c.in_err-below.ensures.err)
 
 pub returns-in_err-below-clause-fault_is_true : goal.returns-in_err-below-clause-fault_is_true
 returns-in_err-below-clause-fault_is_true c =
@@ -284,7 +253,7 @@ returns-in_default-left c =
     let whole = c.pass_known-content.new.state.steps - c.args.state.now.steps in
     let all_read = turns_then t m f old new all c.in-Some-2.below run on (c.pass_known-content.new.state.steps - c.enter_box.new.state.steps) whole (left_over (Some content)) (omega (arith, begun, rises, passed)) c.pass_known-content.ensures.turns in
     let less_read = all_read.less in
-    record { ok = all_read; grows = omega (arith, begun, rises, passed); ended = tt; cost = omega (arith, begun, rises, passed, less_read); err = tt; fault_is_true = tt }
+    record { ok = all_read; grows = omega (arith, begun, rises, passed); ended = tt; cost = omega (arith, begun, rises, passed, less_read); fault_is_true = tt }
 
 pub loop-many-smaller : goal.loop-many-smaller
 loop-many-smaller c =
@@ -354,22 +323,6 @@ end_rows-requires-clause-frame c =
     let so_far = subst (λ (x : Frame). Turns t m f old now a (left_over (Some x))) (sym same) over in
     let less = so_far.less in
     so_far.rest_fine.0
-
-pub returns-in_err-end_rows-clause-err : goal.returns-in_err-end_rows-clause-err
-returns-in_err-end_rows-clause-err c =
-    let t = c.args.self.now.table.now in
-    let m = message_of c.args.self.now.bytes.now c.args.self.now.handles.now in
-    let f = c.args.frame in
-    let old = at_of c.args.state.now in
-    let now = at_of c.loop-many.state in
-    let a = c.loop-many.state.steps - c.args.state.now.steps in
-    let begun = c.loop-many.invariant.steps in
-    let rest = c.rows_from.result in
-    let same = c.rows_from.ensures in
-    let none : c.loop-many.many ≡ 0 = omega (arith, c.loop-many-test.false) in
-    let over = subst (λ n. Turns t m f old now a (left_over (Some (going_on c.loop-many.holder (Rows c.loop-many.next n) c.loop-many.done)))) none c.loop-many.invariant.turns in
-    let so_far = subst (λ (x : Frame). Turns t m f old now a (left_over (Some x))) (sym same) over in
-    on_err _ ((to : At) → Reads t m f old to → ⊥) (turns_refused t m f old now a rest so_far c.in_err-end_rows.ensures.err)
 
 pub returns-in_err-end_rows-clause-fault_is_true : goal.returns-in_err-end_rows-clause-fault_is_true
 returns-in_err-end_rows-clause-fault_is_true c =
@@ -458,9 +411,6 @@ returns-then-not-ends_in_box-clause-ended c = tt
 pub returns-then-not-ends_in_box-clause-cost : goal.returns-then-not-ends_in_box-clause-cost
 returns-then-not-ends_in_box-clause-cost c = cost_now _ _ _ c.args.state.now.steps c.loop-many.state.steps c.loop-many.invariant.steps c.loop-many.invariant.turns.less
 
-pub returns-then-not-ends_in_box-clause-err : goal.returns-then-not-ends_in_box-clause-err
-returns-then-not-ends_in_box-clause-err c = tt
-
 pub returns-then-not-ends_in_box-clause-fault_is_true : goal.returns-then-not-ends_in_box-clause-fault_is_true
 returns-then-not-ends_in_box-clause-fault_is_true c = tt
 
@@ -494,9 +444,6 @@ returns-in_default-2-clause-ended c = rises_on _ _ _ c.loop-many.invariant.steps
 pub returns-in_default-2-clause-cost : goal.returns-in_default-2-clause-cost
 returns-in_default-2-clause-cost c = cost_on _ _ _ c.args.state.now.steps c.loop-many.state.steps c.enter_box.new.state.steps c.loop-many.invariant.steps c.loop-many.invariant.turns.less (subst (λ (x : Frame). c.enter_box.new.state.steps ≤ c.loop-many.state.steps + turn_work c.args.self.now.bytes.now c.loop-many.state.next x) c.rows_from-rest.ensures c.in_ok-below.ensures.cost)
 
-pub returns-in_default-2-clause-err : goal.returns-in_default-2-clause-err
-returns-in_default-2-clause-err c = tt
-
 pub returns-in_default-2-clause-fault_is_true : goal.returns-in_default-2-clause-fault_is_true
 returns-in_default-2-clause-fault_is_true c = tt
 
@@ -508,9 +455,6 @@ returns-clause-ended c = rises_on _ _ _ c.loop-many.invariant.steps c.in_ok-end_
 
 pub returns-clause-cost : goal.returns-clause-cost
 returns-clause-cost c = cost_on _ _ _ c.args.state.now.steps c.loop-many.state.steps c.end_rows.new.state.steps c.loop-many.invariant.steps c.loop-many.invariant.turns.less (subst (λ (x : Frame). c.end_rows.new.state.steps ≤ c.loop-many.state.steps + turn_work c.args.self.now.bytes.now c.loop-many.state.next x) c.rows_from.ensures c.in_ok-end_rows.ensures.cost)
-
-pub returns-clause-err : goal.returns-clause-err
-returns-clause-err c = tt
 
 pub returns-clause-fault_is_true : goal.returns-clause-fault_is_true
 returns-clause-fault_is_true c = tt

@@ -6,12 +6,11 @@ use Rattle.fidl_table_format.specs.Kind.{kind_of}
 use Rattle.fidl_table_format.specs.Section.{header_of, entry_at}
 use Rattle.fidl_decode.specs.declared.frame.Left.{Left}
 use Rattle.fidl_decode.specs.declared.frame.Left.TheVariants.{Rows}
-use Rattle.fidl_decode.specs.State.{At}
-use Rattle.fidl_decode.specs.Machine.{LeftFine, Reads, Turns, at_of}
+use Rattle.fidl_decode.specs.Machine.{LeftFine, Turns, at_of}
 use Rattle.fidl_decode.specs.Faults.{message_of}
-use Rattle.fidl_decode.proofs.Turning.{on_err, passed_on}
+use Rattle.fidl_decode.proofs.Turning.{passed_on}
 use Rattle.fidl_decode.proofs.Leaves.{going_on, left_over}
-use Rattle.fidl_decode.proofs.Front.{front_room, front_gap_refused, front_gap_breaks, front_refused, front_breaks, front_turns}
+use Rattle.fidl_decode.proofs.Front.{front_room, front_gap_breaks, front_breaks, front_turns}
 use Rattle.fidl_decode.proofs.decoder.Decoder.read_row.Goals as goal
 
 pub row-row-requires : goal.row-row-requires
@@ -75,12 +74,6 @@ returns-in_err-zeros_at-clause-cost c =
     let room = front_room t c.args.self.now.fine m c.args.frame c.args.first c.args.count c.row-row.result c.requires.left c.requires.some c.row-row.ensures.value (at_of c.args.state.now) c.requires.frame c.requires.state in
     omega (arith, room.3, room.0)
 
-pub returns-in_err-zeros_at-clause-err : goal.returns-in_err-zeros_at-clause-err
-returns-in_err-zeros_at-clause-err c =
-    let t = c.args.self.now.table.now in
-    let m = message_of c.args.self.now.bytes.now c.args.self.now.handles.now in
-    on_err _ ((to : At) → Reads t m c.args.frame (at_of c.args.state.now) to → ⊥) (front_gap_refused t c.args.self.now.fine m c.args.frame c.args.first c.args.count c.row-row.result c.requires.left c.requires.some c.row-row.ensures.value (at_of c.args.state.now) c.requires.frame c.requires.state c.in_err-zeros_at.ensures.err)
-
 pub returns-in_err-zeros_at-clause-fault_is_true : goal.returns-in_err-zeros_at-clause-fault_is_true
 returns-in_err-zeros_at-clause-fault_is_true c =
     let t = c.args.self.now.table.now in
@@ -108,12 +101,6 @@ returns-in_err-read_leaf-clause-cost c =
     let room = front_room t c.args.self.now.fine m c.args.frame c.args.first c.args.count c.row-row.result c.requires.left c.requires.some c.row-row.ensures.value (at_of c.args.state.now) c.requires.frame c.requires.state in
     omega (arith, room.3, room.0, c.in_err-read_leaf.ensures.probes)
 
-pub returns-in_err-read_leaf-clause-err : goal.returns-in_err-read_leaf-clause-err
-returns-in_err-read_leaf-clause-err c =
-    let t = c.args.self.now.table.now in
-    let m = message_of c.args.self.now.bytes.now c.args.self.now.handles.now in
-    on_err _ ((to : At) → Reads t m c.args.frame (at_of c.args.state.now) to → ⊥) (front_refused t c.args.self.now.fine m c.args.frame c.args.first c.args.count c.row-row.result c.requires.left c.requires.some c.row-row.ensures.value (at_of c.args.state.now) c.requires.frame c.requires.state c.in_err-read_leaf.ensures.err)
-
 pub returns-in_err-read_leaf-clause-fault_is_true : goal.returns-in_err-read_leaf-clause-fault_is_true
 returns-in_err-read_leaf-clause-fault_is_true c =
     let t = c.args.self.now.table.now in
@@ -140,9 +127,6 @@ read_leaf-requires-clause-leaf c = c.requires.leaf
 
 pub read_leaf-requires-clause-state : goal.read_leaf-requires-clause-state
 read_leaf-requires-clause-state c = c.requires.state
-
-pub returns-clause-err : goal.returns-clause-err
-returns-clause-err c = tt
 
 pub returns-clause-fault_is_true : goal.returns-clause-fault_is_true
 returns-clause-fault_is_true c = tt

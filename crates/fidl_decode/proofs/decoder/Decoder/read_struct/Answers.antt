@@ -1,11 +1,10 @@
 use Rattle.std.proofs.Common.{◌-◌, subst, arith}
 use Rattle.std.specs.Prelude.{Option, Some, None, IfNone, ◌<◌}
 use Rattle.fidl_decode.specs.declared.frame.Frame.{Frame}
-use Rattle.fidl_decode.specs.State.{At}
-use Rattle.fidl_decode.specs.Machine.{Reads, Turns, at_of}
+use Rattle.fidl_decode.specs.Machine.{Turns, at_of}
 use Rattle.fidl_decode.specs.Faults.{message_of}
-use Rattle.fidl_decode.proofs.Turning.{passed_on, on_err, none_weaker}
-use Rattle.fidl_decode.proofs.Leaves.{left_over, turns_then, turns_refused, turns_break}
+use Rattle.fidl_decode.proofs.Turning.{passed_on, none_weaker}
+use Rattle.fidl_decode.proofs.Leaves.{left_over, turns_then, turns_break}
 use Rattle.fidl_decode.proofs.decoder.Decoder.read_struct.Goals as goal
 
 pub returns-in_default-clause-ok : goal.returns-in_default-clause-ok
@@ -27,7 +26,7 @@ returns-in_default-left c =
     let m = message_of c.args.self.now.bytes.now c.args.self.now.handles.now in
     let one : Turns t m c.args.frame (at_of c.args.state.now) (at_of c.read_nested.new.state) (c.read_nested.new.state.steps - c.args.state.now.steps) (left_over (Some c.in-Some.now)) = subst (λ (o : Option Frame). Turns t m c.args.frame (at_of c.args.state.now) (at_of c.read_nested.new.state) (c.read_nested.new.state.steps - c.args.state.now.steps) (left_over o)) c.in-Some.is c.in_ok-now.ensures.ok in
     let rows_on = c.in_ok-now.ensures.grows in
-    record { ok = one; grows = rows_on; ended = tt; cost = c.in_ok-now.ensures.cost; err = tt; fault_is_true = tt }
+    record { ok = one; grows = rows_on; ended = tt; cost = c.in_ok-now.ensures.cost; fault_is_true = tt }
 
 pub returns-then-left-ne1-clause-ok : goal.returns-then-left-ne1-clause-ok
 returns-then-left-ne1-clause-ok c =
@@ -67,13 +66,6 @@ returns-in_err-below-clause-cost c =
     let less_one = one.less in
     let rows_on = c.in_ok-now.ensures.grows in
     omega (arith, less_one, rows_on, c.in_err-below.ensures.cost)
-
-pub returns-in_err-below-clause-err : goal.returns-in_err-below-clause-err
-returns-in_err-below-clause-err c =
-    let t = c.args.self.now.table.now in
-    let m = message_of c.args.self.now.bytes.now c.args.self.now.handles.now in
-    let one : Turns t m c.args.frame (at_of c.args.state.now) (at_of c.read_nested.new.state) (c.read_nested.new.state.steps - c.args.state.now.steps) (left_over (Some c.in-Some.now)) = subst (λ (o : Option Frame). Turns t m c.args.frame (at_of c.args.state.now) (at_of c.read_nested.new.state) (c.read_nested.new.state.steps - c.args.state.now.steps) (left_over o)) c.in-Some.is c.in_ok-now.ensures.ok in
-    on_err _ ((to : At) → Reads t m c.args.frame (at_of c.args.state.now) to → ⊥) (turns_refused t m c.args.frame (at_of c.args.state.now) (at_of c.read_nested.new.state) (c.read_nested.new.state.steps - c.args.state.now.steps) c.in-Some.now one c.in_err-below.ensures.err)
 
 pub returns-in_err-below-clause-fault_is_true : goal.returns-in_err-below-clause-fault_is_true
 returns-in_err-below-clause-fault_is_true c =
@@ -165,18 +157,6 @@ returns-in_err-inner-clause-cost c =
     let held : Turns t m c.args.frame (at_of c.args.state.now) (at_of c.read_last.new.state) (c.read_last.new.state.steps - c.args.state.now.steps) (left_over (Some c.in-Some-2.below)) = turns_then t m c.args.frame (at_of c.args.state.now) (at_of c.read_nested.new.state) (c.read_nested.new.state.steps - c.args.state.now.steps) c.in-Some.now one (at_of c.read_last.new.state) (c.read_last.new.state.steps - c.read_nested.new.state.steps) (c.read_last.new.state.steps - c.args.state.now.steps) (left_over (Some c.in-Some-2.below)) (omega (arith, rows_on, last_on)) two in
     let less_held = held.less in
     omega (arith, less_held, rows_on, last_on, c.in_err-inner.ensures.cost)
-
-pub returns-in_err-inner-clause-err : goal.returns-in_err-inner-clause-err
-returns-in_err-inner-clause-err c =
-    let t = c.args.self.now.table.now in
-    let m = message_of c.args.self.now.bytes.now c.args.self.now.handles.now in
-    let one : Turns t m c.args.frame (at_of c.args.state.now) (at_of c.read_nested.new.state) (c.read_nested.new.state.steps - c.args.state.now.steps) (left_over (Some c.in-Some.now)) = subst (λ (o : Option Frame). Turns t m c.args.frame (at_of c.args.state.now) (at_of c.read_nested.new.state) (c.read_nested.new.state.steps - c.args.state.now.steps) (left_over o)) c.in-Some.is c.in_ok-now.ensures.ok in
-    let rows_on = c.in_ok-now.ensures.grows in
-    let last_on = c.in_ok-below.ensures.grows in
-    let two : Turns t m c.in-Some.now (at_of c.read_nested.new.state) (at_of c.read_last.new.state) (c.read_last.new.state.steps - c.read_nested.new.state.steps) (left_over (Some c.in-Some-2.below)) = subst (λ (o : Option Frame). Turns t m c.in-Some.now (at_of c.read_nested.new.state) (at_of c.read_last.new.state) (c.read_last.new.state.steps - c.read_nested.new.state.steps) (left_over o)) c.in-Some-2.is c.in_ok-below.ensures.ok in
-    let held : Turns t m c.args.frame (at_of c.args.state.now) (at_of c.read_last.new.state) (c.read_last.new.state.steps - c.args.state.now.steps) (left_over (Some c.in-Some-2.below)) = turns_then t m c.args.frame (at_of c.args.state.now) (at_of c.read_nested.new.state) (c.read_nested.new.state.steps - c.args.state.now.steps) c.in-Some.now one (at_of c.read_last.new.state) (c.read_last.new.state.steps - c.read_nested.new.state.steps) (c.read_last.new.state.steps - c.args.state.now.steps) (left_over (Some c.in-Some-2.below)) (omega (arith, rows_on, last_on)) two in
-    let less_held = held.less in
-    on_err _ ((to : At) → Reads t m c.args.frame (at_of c.args.state.now) to → ⊥) (turns_refused t m c.args.frame (at_of c.args.state.now) (at_of c.read_last.new.state) (c.read_last.new.state.steps - c.args.state.now.steps) c.in-Some-2.below held c.in_err-inner.ensures.err)
 
 pub returns-in_err-inner-clause-fault_is_true : goal.returns-in_err-inner-clause-fault_is_true
 returns-in_err-inner-clause-fault_is_true c =

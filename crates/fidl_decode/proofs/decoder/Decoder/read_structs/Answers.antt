@@ -4,14 +4,13 @@ use Rattle.fidl_table_format.specs.declared.record.Entry.{Entry}
 use Rattle.fidl_decode.specs.declared.frame.Frame.{Frame}
 use Rattle.fidl_decode.specs.declared.frame.Left.TheVariants.{Elements}
 use Rattle.fidl_decode.specs.Rows.{Row}
-use Rattle.fidl_decode.specs.State.{At}
-use Rattle.fidl_decode.specs.Machine.{Reads, Visits, VisitFine, Turns, at_of}
+use Rattle.fidl_decode.specs.Machine.{Visits, VisitFine, Turns, at_of}
 use Rattle.fidl_decode.specs.Faults.{message_of}
 use Rattle.fidl_table_format.specs.Section.{header_of}
 use Rattle.fidl_table_format.specs.declared.kind.EntryKind.TheVariants.{Struct}
 use Rattle.fidl_decode.proofs.Visiting.{fine_as, struct_frame, visits_struct, struct_fine}
-use Rattle.fidl_decode.proofs.Turning.{passed_on, on_err}
-use Rattle.fidl_decode.proofs.Leaves.{going_on, left_over, same_frame, turns_start, next_size, next_room, next_takes, turns_below, turns_over, below_refused, below_breaks, over_room, over_turns, over_refused, over_breaks, elements_next, elements_over, no_zeros}
+use Rattle.fidl_decode.proofs.Turning.{passed_on}
+use Rattle.fidl_decode.proofs.Leaves.{going_on, left_over, same_frame, turns_start, next_size, next_room, next_takes, turns_below, turns_over, below_breaks, over_room, over_turns, over_breaks, elements_next, elements_over, no_zeros}
 use Rattle.fidl_decode.proofs.decoder.Decoder.read_structs.Goals as goal
 
 pub overflow_add-place : goal.overflow_add-place
@@ -104,23 +103,6 @@ returns-in_err-found-clause-cost c =
     let less = taken.less in
     omega (arith, less, so_far, c.in_err-found.ensures.cost)
 
-pub returns-in_err-found-clause-err : goal.returns-in_err-found-clause-err
-returns-in_err-found-clause-err c =
-    let is = c.loop-i.invariant.turns.rest_fine.0.left in
-    let one = elements_next c.args.self.now.table.now c.args.entry c.args.size c.loop-i.i c.args.count c.loop-i.done is c.loop-i-test.true in
-    let room = next_room c.args.self.now.table.now c.args.self.now.fine (message_of c.args.self.now.bytes.now c.args.self.now.handles.now) c.args.frame (at_of c.args.state.now) (at_of c.loop-i.state) (c.loop-i.state.steps - c.args.state.now.steps) (going_on c.args.frame (Elements c.args.entry c.args.size (c.args.count - c.loop-i.i)) c.loop-i.done) c.loop-i.invariant.turns (let x : Row = record { offset = c.loop-i.done; entry = c.args.entry } in x) (Elements c.args.entry c.args.size (c.args.count - (c.loop-i.i + 1))) one in
-    let before = room.0 in
-    let fits = room.1 in
-    let within = room.2 in
-    let own = next_size c.args.self.now.table.now c.args.self.now.fine (message_of c.args.self.now.bytes.now c.args.self.now.handles.now) c.args.frame (at_of c.args.state.now) (at_of c.loop-i.state) (c.loop-i.state.steps - c.args.state.now.steps) (going_on c.args.frame (Elements c.args.entry c.args.size (c.args.count - c.loop-i.i)) c.loop-i.done) c.loop-i.invariant.turns (let x : Row = record { offset = c.loop-i.done; entry = c.args.entry } in x) (Elements c.args.entry c.args.size (c.args.count - (c.loop-i.i + 1))) one in
-    let so_far = c.loop-i.invariant.steps in
-    let none : (c.args.frame.base + c.loop-i.done) - (c.args.frame.base + c.loop-i.done) ≡ 0 = omega arith in
-    let seen : Visits c.args.self.now.table.now (message_of c.args.self.now.bytes.now c.args.self.now.handles.now) c.args.frame.depth c.args.entry (c.args.frame.base + c.loop-i.done) (at_of c.loop-i.state) (at_of c.loop-i.state) 0 (Some (struct_frame c.entry-e.result (c.args.frame.base + c.loop-i.done) c.args.frame.depth c.args.frame.inside)) = subst (λ (d : Entry). Visits c.args.self.now.table.now (message_of c.args.self.now.bytes.now c.args.self.now.handles.now) c.args.frame.depth c.args.entry (c.args.frame.base + c.loop-i.done) (at_of c.loop-i.state) (at_of c.loop-i.state) 0 (Some (struct_frame d (c.args.frame.base + c.loop-i.done) c.args.frame.depth c.args.frame.inside))) (sym c.entry-e.ensures.value) (visits_struct c.args.self.now.table.now c.args.self.now.fine (message_of c.args.self.now.bytes.now c.args.self.now.handles.now) c.args.frame.depth c.args.entry (c.args.frame.base + c.loop-i.done) (at_of c.loop-i.state) c.requires.entry c.loop-i.invariant.turns.state c.requires.frame.depth c.args.frame.inside 0 refl c.requires.kind (omega (arith, before, fits, within))) in
-    let seen_fine = subst (λ (d : Entry). VisitFine c.args.self.now.table.now (message_of c.args.self.now.bytes.now c.args.self.now.handles.now) c.args.frame.depth c.args.frame.inside c.args.entry (Some (struct_frame d (c.args.frame.base + c.loop-i.done) c.args.frame.depth c.args.frame.inside))) (sym c.entry-e.ensures.value) (struct_fine c.args.self.now.table.now c.args.self.now.fine (message_of c.args.self.now.bytes.now c.args.self.now.handles.now) c.args.frame.depth c.args.entry (c.args.frame.base + c.loop-i.done) (at_of c.loop-i.state) c.requires.entry c.loop-i.invariant.turns.state c.requires.frame.depth c.args.frame.inside c.requires.kind (omega (arith, before, fits, within)) (elim c.requires.frame.inside [ inl out ↦ inl out | inr own ↦ (let four = own.1 in inr (own.0, omega (arith, four, fits))) ])) in
-    let taken : Turns c.args.self.now.table.now (message_of c.args.self.now.bytes.now c.args.self.now.handles.now) c.args.frame (at_of c.args.state.now) (at_of c.loop-i.state) (c.loop-i.state.steps + 1 - c.args.state.now.steps) (record { below = Some (struct_frame c.entry-e.result (c.args.frame.base + c.loop-i.done) c.args.frame.depth c.args.frame.inside); rest = Some (going_on (going_on c.args.frame (Elements c.args.entry c.args.size (c.args.count - c.loop-i.i)) c.loop-i.done) (Elements c.args.entry c.args.size (c.args.count - (c.loop-i.i + 1))) (c.loop-i.done + c.args.size)) }) = next_takes c.args.self.now.table.now c.args.self.now.fine (message_of c.args.self.now.bytes.now c.args.self.now.handles.now) c.args.frame (at_of c.args.state.now) (at_of c.loop-i.state) (c.loop-i.state.steps - c.args.state.now.steps) (going_on c.args.frame (Elements c.args.entry c.args.size (c.args.count - c.loop-i.i)) c.loop-i.done) c.loop-i.invariant.turns (let x : Row = record { offset = c.loop-i.done; entry = c.args.entry } in x) (Elements c.args.entry c.args.size (c.args.count - (c.loop-i.i + 1))) one tt is tt (Some (struct_frame c.entry-e.result (c.args.frame.base + c.loop-i.done) c.args.frame.depth c.args.frame.inside)) (at_of c.loop-i.state) (c.loop-i.done + c.args.size) 0 (c.loop-i.state.steps + 1 - c.args.state.now.steps) (omega (arith, own, is)) (omega (arith, so_far)) (no_zeros c.args.self.now.bytes.now (c.args.frame.base + c.loop-i.done) _ none) seen seen_fine in
-    let less = taken.less in
-    on_err _ ((to : At) → Reads c.args.self.now.table.now (message_of c.args.self.now.bytes.now c.args.self.now.handles.now) c.args.frame (at_of c.args.state.now) to → ⊥) (below_refused c.args.self.now.table.now (message_of c.args.self.now.bytes.now c.args.self.now.handles.now) c.args.frame (at_of c.args.state.now) (at_of c.loop-i.state) (c.loop-i.state.steps + 1 - c.args.state.now.steps) (struct_frame c.entry-e.result (c.args.frame.base + c.loop-i.done) c.args.frame.depth c.args.frame.inside) (going_on (going_on c.args.frame (Elements c.args.entry c.args.size (c.args.count - c.loop-i.i)) c.loop-i.done) (Elements c.args.entry c.args.size (c.args.count - (c.loop-i.i + 1))) (c.loop-i.done + c.args.size)) taken c.in_err-found.ensures.err)
-
 pub overflow_add-done : goal.overflow_add-done
 overflow_add-done c =
     let is = c.loop-i.invariant.turns.rest_fine.0.left in
@@ -190,11 +172,6 @@ zeros_at-requires-clause-order c =
     let before = room.0 in
     let within = room.1 in
     omega (arith, before, within)
-
-pub returns-in_err-zeros_at-clause-err : goal.returns-in_err-zeros_at-clause-err
-returns-in_err-zeros_at-clause-err c =
-    let over = elements_over c.args.self.now.table.now c.args.entry c.args.size c.loop-i.i c.args.count c.loop-i.done (omega (arith, c.loop-i-test.false)) in
-    on_err _ ((to : At) → Reads c.args.self.now.table.now (message_of c.args.self.now.bytes.now c.args.self.now.handles.now) c.args.frame (at_of c.args.state.now) to → ⊥) (over_refused c.args.self.now.table.now c.args.self.now.fine (message_of c.args.self.now.bytes.now c.args.self.now.handles.now) c.args.frame (at_of c.args.state.now) (at_of c.loop-i.state) (c.loop-i.state.steps - c.args.state.now.steps) (going_on c.args.frame (Elements c.args.entry c.args.size (c.args.count - c.loop-i.i)) c.loop-i.done) c.loop-i.invariant.turns over tt c.in_err-zeros_at.ensures.err)
 
 pub returns-clause-ok : goal.returns-clause-ok
 returns-clause-ok c =

@@ -1,37 +1,25 @@
 use Rattle.fidl_decode.proofs.Unchanged.{same_le}
 use Rattle.std.proofs.Common.{true, false, ◌≡◌, ◌≢◌, ◌+◌, ◌-◌, refl, sym, ap, subst, ◌∙◌, arith}
 use Rattle.std.specs.Prelude.{Option, None, not, IsFalse}
-use Rattle.std.proofs.lemmas.Result.{IfOk-weaker, IfErr-weaker, on_err_weaker}
+use Rattle.std.proofs.lemmas.Result.{IfOk-weaker, IfErr-weaker}
 use Rattle.fidl_wire.specs.Term.{Term, find}
 use Rattle.fidl_table_format.specs.Section.{entry_at}
 use Rattle.fidl_table_format.specs.Terms.{declarations_of, members_of, is_optional, is_strict}
 use Rattle.fidl_decode.specs.declared.fault.DecodeFault.TheVariants.{BadEnvelope, AbsentRequired, UnknownOrdinal}
 use Rattle.fidl_decode.specs.Faults.{message_of}
-use Rattle.fidl_decode.specs.State.{At}
-use Rattle.fidl_decode.specs.Envelopes.{Contained}
 use Rattle.fidl_decode.specs.Breaks.{BreaksUnion, BreaksMember, ordinal_at}
 use Rattle.fidl_decode.specs.Machine.{Opens, member_term, at_of}
-use Rattle.fidl_decode.proofs.Chosen.{member_is, no_member, one_member, union_refused, union_breaks, visits_absent_union, visits_union, member_breaks, member_refused, union_fine}
+use Rattle.fidl_decode.proofs.Chosen.{member_is, no_member, one_member, union_breaks, visits_absent_union, visits_union, member_breaks, union_fine}
 use Rattle.fidl_decode.proofs.decoder.Decoder.read_union.Goals.{else-is_none-via-then-is_none+else-is_strict, else-is_none-via-else-is_none}
 use Rattle.fidl_decode.proofs.decoder.Decoder.read_union.Goals as goal
 
 no_true : false ≡ true → ⊥
 no_true e = cc
 
-pub returns-then-not-is_absent-clause-err : goal.returns-then-not-is_absent-clause-err
-returns-then-not-is_absent-clause-err c =
-    let b : BreaksUnion (message_of c.args.self.now.bytes.now c.args.self.now.handles.now) (is_optional (entry_at c.args.self.now.table.now c.args.entry)) (is_strict (entry_at c.args.self.now.table.now c.args.entry)) (members_of c.args.self.now.table.now c.args.entry) c.args.place (BadEnvelope (c.args.place + 8)) = (refl, sym c.u64_at-ordinal.ensures ∙ c.if-ordinal-eq0.true, λ z. no_true (sym c.if-not-is_absent.true ∙ c.is_absent.ensures.1 z)) in
-    union_refused c.args.self.now.table.now c.args.self.now.fine (message_of c.args.self.now.bytes.now c.args.self.now.handles.now) c.args.depth c.args.entry c.args.place (at_of c.args.state.now) c.requires.entry c.requires.kind (BadEnvelope (c.args.place + 8)) b
-
 pub returns-then-not-is_absent-clause-fault_is_true : goal.returns-then-not-is_absent-clause-fault_is_true
 returns-then-not-is_absent-clause-fault_is_true c =
     let b : BreaksUnion (message_of c.args.self.now.bytes.now c.args.self.now.handles.now) (is_optional (entry_at c.args.self.now.table.now c.args.entry)) (is_strict (entry_at c.args.self.now.table.now c.args.entry)) (members_of c.args.self.now.table.now c.args.entry) c.args.place (BadEnvelope (c.args.place + 8)) = (refl, sym c.u64_at-ordinal.ensures ∙ c.if-ordinal-eq0.true, λ z. no_true (sym c.if-not-is_absent.true ∙ c.is_absent.ensures.1 z)) in
     union_breaks c.args.self.now.table.now c.args.self.now.fine (message_of c.args.self.now.bytes.now c.args.self.now.handles.now) c.args.depth c.args.entry c.args.place (at_of c.args.state.now) c.requires.entry c.requires.kind (BadEnvelope (c.args.place + 8)) b
-
-pub returns-then-not-is_optional-clause-err : goal.returns-then-not-is_optional-clause-err
-returns-then-not-is_optional-clause-err c =
-    let b : BreaksUnion (message_of c.args.self.now.bytes.now c.args.self.now.handles.now) (is_optional (entry_at c.args.self.now.table.now c.args.entry)) (is_strict (entry_at c.args.self.now.table.now c.args.entry)) (members_of c.args.self.now.table.now c.args.entry) c.args.place (AbsentRequired c.args.place) = (refl, sym (ap is_optional c.entry-e.ensures.value) ∙ sym c.is_optional.ensures ∙ c.if-not-is_optional.true, sym c.u64_at-ordinal.ensures ∙ c.if-ordinal-eq0.true, (c.is_absent.ensures.0 c.if-not-is_absent.false)) in
-    union_refused c.args.self.now.table.now c.args.self.now.fine (message_of c.args.self.now.bytes.now c.args.self.now.handles.now) c.args.depth c.args.entry c.args.place (at_of c.args.state.now) c.requires.entry c.requires.kind (AbsentRequired c.args.place) b
 
 pub returns-then-not-is_optional-clause-fault_is_true : goal.returns-then-not-is_optional-clause-fault_is_true
 returns-then-not-is_optional-clause-fault_is_true c =
@@ -41,15 +29,6 @@ returns-then-not-is_optional-clause-fault_is_true c =
 pub returns-then-ordinal-eq0-clause-ok : goal.returns-then-ordinal-eq0-clause-ok
 returns-then-ordinal-eq0-clause-ok c =
     visits_absent_union c.args.self.now.table.now c.args.self.now.fine (message_of c.args.self.now.bytes.now c.args.self.now.handles.now) c.args.depth c.args.entry c.args.place (at_of c.args.state.now) c.requires.entry c.requires.kind c.requires.state c.requires.depth (c.args.state.now.steps - c.args.state.now.steps) (omega arith) (sym (ap is_optional c.entry-e.ensures.value) ∙ sym c.is_optional.ensures ∙ c.if-not-is_optional.false) (c.is_absent.ensures.0 c.if-not-is_absent.false) (omega (arith, c.requires.room)) (λ i. omega (arith, c.args.self.now.octets i)) (sym c.u64_at-ordinal.ensures ∙ c.if-ordinal-eq0.true)
-
-pub returns-then-is_strict-clause-err : goal.returns-then-is_strict-clause-err
-returns-then-is_strict-clause-err c =
-    let number : c.u64_at-ordinal.result ≡ ordinal_at c.args.self.now.bytes.now c.args.place = c.u64_at-ordinal.ensures in
-    let some : (ordinal_at c.args.self.now.bytes.now c.args.place) ≢ 0 = (λ none. omega (arith, c.if-ordinal-eq0.false, number, none)) in
-    let same : find (members_of c.args.self.now.table.now c.args.entry) c.u64_at-ordinal.result ≡ find (members_of c.args.self.now.table.now c.args.entry) (ordinal_at c.args.self.now.bytes.now c.args.place) = ap (λ k. find (members_of c.args.self.now.table.now c.args.entry) k) number in
-    let none = no_member c.member-member.result (find (members_of c.args.self.now.table.now c.args.entry) c.u64_at-ordinal.result) c.member-member.ensures.none (c.is_none.ensures ∙ ap not c.if-is_none.true) in
-    let b : BreaksUnion (message_of c.args.self.now.bytes.now c.args.self.now.handles.now) (is_optional (entry_at c.args.self.now.table.now c.args.entry)) (is_strict (entry_at c.args.self.now.table.now c.args.entry)) (members_of c.args.self.now.table.now c.args.entry) c.args.place (UnknownOrdinal c.args.place) = (refl, sym (ap is_strict c.entry-e.ensures.value) ∙ sym c.is_strict.ensures ∙ c.if-is_strict.true, some, sym same ∙ none) in
-    union_refused c.args.self.now.table.now c.args.self.now.fine (message_of c.args.self.now.bytes.now c.args.self.now.handles.now) c.args.depth c.args.entry c.args.place (at_of c.args.state.now) c.requires.entry c.requires.kind (UnknownOrdinal c.args.place) b
 
 pub returns-then-is_strict-clause-fault_is_true : goal.returns-then-is_strict-clause-fault_is_true
 returns-then-is_strict-clause-fault_is_true c =
@@ -79,14 +58,6 @@ returns-clause-ok c =
 pub returns-clause-fine : goal.returns-clause-fine
 returns-clause-fine c =
     IfOk-weaker c.open_envelope.result _ _ (λ found o. union_fine c.args.self.now.table.now c.args.self.now.fine (message_of c.args.self.now.bytes.now c.args.self.now.handles.now) c.args.depth c.args.entry c.args.place (at_of c.args.state.now) c.requires.entry c.requires.kind found o.fine) c.open_envelope.ensures.ok
-
-pub returns-clause-err : goal.returns-clause-err
-returns-clause-err c =
-    let number : c.u64_at-ordinal.result ≡ ordinal_at c.args.self.now.bytes.now c.args.place = c.u64_at-ordinal.ensures in
-    let some : (ordinal_at c.args.self.now.bytes.now c.args.place) ≢ 0 = (λ none. omega (arith, c.if-ordinal-eq0.false, number, none)) in
-    let same : find (members_of c.args.self.now.table.now c.args.entry) c.u64_at-ordinal.result ≡ find (members_of c.args.self.now.table.now c.args.entry) (ordinal_at c.args.self.now.bytes.now c.args.place) = ap (λ k. find (members_of c.args.self.now.table.now c.args.entry) k) number in
-    let tie : member_term c.member-member.result ≡ find (members_of c.args.self.now.table.now c.args.entry) (ordinal_at c.args.self.now.bytes.now c.args.place) = sym (member_is c.member-member.result (find (members_of c.args.self.now.table.now c.args.entry) c.u64_at-ordinal.result) c.member-member.ensures.none c.member-member.ensures.some) ∙ same in
-    on_err_weaker c.open_envelope.result (λ bad. member_refused c.args.self.now.table.now c.args.self.now.fine (message_of c.args.self.now.bytes.now c.args.self.now.handles.now) c.args.depth c.args.entry c.args.place (at_of c.args.state.now) c.requires.entry c.requires.kind some (subst (λ (u : Option Term). (to : At) → Contained (declarations_of c.args.self.now.table.now) (message_of c.args.self.now.bytes.now c.args.self.now.handles.now) c.args.depth u (c.args.place + 8) (at_of c.args.state.now) to → ⊥) tie bad)) c.open_envelope.ensures.err
 
 pub returns-clause-fault_is_true : goal.returns-clause-fault_is_true
 returns-clause-fault_is_true c =
@@ -123,9 +94,6 @@ returns-then-not-is_optional-clause-grows c = same_le _
 
 pub returns-then-ordinal-eq0-clause-fine : goal.returns-then-ordinal-eq0-clause-fine
 returns-then-ordinal-eq0-clause-fine c = tt
-
-pub returns-then-ordinal-eq0-clause-err : goal.returns-then-ordinal-eq0-clause-err
-returns-then-ordinal-eq0-clause-err c = tt
 
 pub returns-then-ordinal-eq0-clause-fault_is_true : goal.returns-then-ordinal-eq0-clause-fault_is_true
 returns-then-ordinal-eq0-clause-fault_is_true c = tt

@@ -1,10 +1,9 @@
 use Rattle.fidl_decode.proofs.Unchanged.{no_ok}
 use Rattle.std.proofs.Common.{◌+◌, ◌-◌, refl, arith}
-use Rattle.fidl_decode.specs.State.{At}
-use Rattle.fidl_decode.specs.Machine.{Reads, IsUntil, at_of}
+use Rattle.fidl_decode.specs.Machine.{IsUntil, at_of}
 use Rattle.fidl_decode.specs.Faults.{message_of}
-use Rattle.fidl_decode.proofs.Turning.{on_err, passed_on}
-use Rattle.fidl_decode.proofs.LeafContent.{leaf_known, leaf_size, leaf_room, leaf_pays, leaf_refused, leaf_breaks, end_room, end_less, leaf_over, leaf_elsewhere, leaf_miscounted, leaf_end_refused, leaf_end_breaks}
+use Rattle.fidl_decode.proofs.Turning.{passed_on}
+use Rattle.fidl_decode.proofs.LeafContent.{leaf_known, leaf_size, leaf_room, leaf_pays, leaf_breaks, end_room, end_less, leaf_over, leaf_miscounted, leaf_end_breaks}
 use Rattle.fidl_decode.proofs.decoder.Decoder.read_whole.Goals.{then-state-until-via-then-state-until, then-state-until-via-else-state-until+then-state-until-2}
 use Rattle.fidl_decode.proofs.decoder.Decoder.read_whole.Goals as goal
 
@@ -42,12 +41,6 @@ returns-in_err-read_flat-clause-cost c =
     let pays = leaf_pays t c.args.self.now.fine m c.args.frame c.args.entry c.args.size 1 c.args.until c.requires.left refl (at_of c.args.state.now) c.requires.frame c.requires.state in
     let cost = c.in_err-read_flat.ensures.cost in
     omega (arith, cost, pays)
-
-pub returns-in_err-read_flat-clause-err : goal.returns-in_err-read_flat-clause-err
-returns-in_err-read_flat-clause-err c =
-    let t = c.args.self.now.table.now in
-    let m = message_of c.args.self.now.bytes.now c.args.self.now.handles.now in
-    on_err _ ((to : At) → Reads t m c.args.frame (at_of c.args.state.now) to → ⊥) (leaf_refused t c.args.self.now.fine m c.args.frame c.args.entry c.args.size 1 c.args.until c.requires.left refl (at_of c.args.state.now) c.requires.frame c.requires.state c.in_err-read_flat.ensures.err)
 
 pub returns-in_err-read_flat-clause-fault_is_true : goal.returns-in_err-read_flat-clause-fault_is_true
 returns-in_err-read_flat-clause-fault_is_true c =
@@ -125,12 +118,6 @@ returns-in_err-zeros_at-clause-cost c =
     let grows = c.in_ok-read_flat.ensures.grows in
     omega (arith, less, end.1, end.0, grows)
 
-pub returns-in_err-zeros_at-clause-err : goal.returns-in_err-zeros_at-clause-err
-returns-in_err-zeros_at-clause-err c =
-    let t = c.args.self.now.table.now in
-    let m = message_of c.args.self.now.bytes.now c.args.self.now.handles.now in
-    on_err _ ((to : At) → Reads t m c.args.frame (at_of c.args.state.now) to → ⊥) (leaf_end_refused t c.args.self.now.fine m c.args.frame c.args.entry c.args.size 1 c.args.until c.requires.left refl (at_of c.args.state.now) c.requires.frame c.requires.state (at_of c.read_flat.new.state) (c.read_flat.new.state.steps - (c.args.state.now.steps + 1)) c.in_ok-read_flat.ensures.ok c.in_err-zeros_at.ensures.err)
-
 pub returns-in_err-zeros_at-clause-fault_is_true : goal.returns-in_err-zeros_at-clause-fault_is_true
 returns-in_err-zeros_at-clause-fault_is_true c =
     let t = c.args.self.now.table.now in
@@ -145,16 +132,6 @@ returns-then-state-until-clause-cost c =
     let less = end_less t c.args.self.now.fine m c.args.frame c.args.entry c.args.size 1 c.args.until c.requires.left refl (at_of c.args.state.now) c.requires.frame c.requires.state (at_of c.read_flat.new.state) (c.read_flat.new.state.steps - (c.args.state.now.steps + 1)) c.in_ok-read_flat.ensures.ok in
     let grows = c.in_ok-read_flat.ensures.grows in
     omega (arith, less, end.1, end.0, grows)
-
-pub returns-then-state-until-clause-err : goal.returns-then-state-until-clause-err
-returns-then-state-until-clause-err c =
-    let t = c.args.self.now.table.now in
-    let m = message_of c.args.self.now.bytes.now c.args.self.now.handles.now in
-    let other : IsUntil c.args.until (at_of c.read_flat.new.state) → ⊥ = elim c.then-state-until.branch [
-      | then-state-until-via-then-state-until w ↦ (λ u. w.if-state-until.true u.0)
-      | then-state-until-via-else-state-until+then-state-until-2 w ↦ (λ u. w.if-state-until-2.true u.1)
-    ] in
-    leaf_elsewhere t c.args.self.now.fine m c.args.frame c.args.entry c.args.size 1 c.args.until c.requires.left refl (at_of c.args.state.now) c.requires.frame c.requires.state (at_of c.read_flat.new.state) (c.read_flat.new.state.steps - (c.args.state.now.steps + 1)) c.in_ok-read_flat.ensures.ok c.in_ok-zeros_at.ensures.ok other
 
 pub returns-then-state-until-clause-fault_is_true : goal.returns-then-state-until-clause-fault_is_true
 returns-then-state-until-clause-fault_is_true c =
@@ -215,9 +192,6 @@ returns-then-state-until-clause-ok c = tt
 
 pub returns-then-state-until-clause-rises : goal.returns-then-state-until-clause-rises
 returns-then-state-until-clause-rises c = tt
-
-pub returns-clause-err : goal.returns-clause-err
-returns-clause-err c = tt
 
 pub returns-clause-fault_is_true : goal.returns-clause-fault_is_true
 returns-clause-fault_is_true c = tt

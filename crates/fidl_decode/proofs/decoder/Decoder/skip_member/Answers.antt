@@ -19,7 +19,7 @@ returns-then-handles-self c =
     let ds = declarations_of c.args.self.now.table.now in
     let old = at_of c.args.state.now in
     let r = unknown_refuse ds c.args.self.now.fine.laid_out m (c.args.self.now.short, c.requires.state.few) c.args.depth c.args.envelope old (HandleMissing c.args.envelope) (refl, omega (arith, c.if-handles-self.true, c.handle_count_at-handles.ensures)) in
-    record { ok = tt; state = c.requires.state; fault_is_true = r.0; err = r.1; steps = refl; grows = omega arith }
+    record { ok = tt; state = c.requires.state; fault_is_true = r.0; steps = refl; grows = omega arith }
 
 pub returns-then-flags-eq1 : goal.returns-then-flags-eq1
 returns-then-flags-eq1 c =
@@ -35,7 +35,7 @@ returns-then-flags-eq1 c =
     let x = skips_inside ds c.args.self.now.fine.laid_out m (c.args.self.now.short, c.requires.state.few) c.args.depth c.args.envelope old c.requires.room (λ i. omega (arith, c.args.self.now.octets i)) are some (sym c.flags_at-flags.ensures ∙ c.if-flags-eq1.true) c.requires.depth in
     let inner = c.requires.state.handle in
     let ok : (to : At) → Contained ds m c.args.depth None c.args.envelope old to ↔ (new ≡ to) = subst (λ (s : At). (to : At) → Contained ds m c.args.depth None c.args.envelope old to ↔ (s ≡ to)) led x in
-    record { ok = ok; state = record { next = c.requires.state.next; handle = omega (arith, inner, c.if-handles-self.false); few = c.requires.state.few }; fault_is_true = tt; err = tt; steps = refl; grows = omega arith }
+    record { ok = ok; state = record { next = c.requires.state.next; handle = omega (arith, inner, c.if-handles-self.false); few = c.requires.state.few }; fault_is_true = tt; steps = refl; grows = omega arith }
 
 pub returns-then-flags-ne0 : goal.returns-then-flags-ne0
 returns-then-flags-ne0 c =
@@ -50,7 +50,7 @@ returns-then-flags-ne0 c =
         | then-flags-ne0-via-else-flags-ne0+else-counted-eq0+then-counted-ne0 w ↦ omega (arith, w.if-counted-ne0.true, c.byte_count_at-counted.ensures, u.1)
       ]),
     ) in
-    record { ok = tt; state = c.requires.state; fault_is_true = r.0; err = r.1; steps = refl; grows = omega arith }
+    record { ok = tt; state = c.requires.state; fault_is_true = r.0; steps = refl; grows = omega arith }
 
 pub returns-then-depth-eq-MAX_DEPTH : goal.returns-then-depth-eq-MAX_DEPTH
 returns-then-depth-eq-MAX_DEPTH c =
@@ -58,7 +58,7 @@ returns-then-depth-eq-MAX_DEPTH c =
     let ds = declarations_of c.args.self.now.table.now in
     let old = at_of c.args.state.now in
     let r = unknown_refuse ds c.args.self.now.fine.laid_out m (c.args.self.now.short, c.requires.state.few) c.args.depth c.args.envelope old (TooDeep c.args.envelope) (refl, sym c.flags_at-flags.ensures ∙ c.if-flags-ne0.false, omega (arith, c.if-depth-eq-MAX_DEPTH.true)) in
-    record { ok = tt; state = c.requires.state; fault_is_true = r.0; err = r.1; steps = refl; grows = omega arith }
+    record { ok = tt; state = c.requires.state; fault_is_true = r.0; steps = refl; grows = omega arith }
 
 pub returns-then-counted-self : goal.returns-then-counted-self
 returns-then-counted-self c =
@@ -66,7 +66,7 @@ returns-then-counted-self c =
     let ds = declarations_of c.args.self.now.table.now in
     let old = at_of c.args.state.now in
     let r = unknown_refuse ds c.args.self.now.fine.laid_out m (c.args.self.now.short, c.requires.state.few) c.args.depth c.args.envelope old (Truncated old.next) (refl, sym c.flags_at-flags.ensures ∙ c.if-flags-ne0.false, omega (arith, c.if-counted-self.true, c.byte_count_at-counted.ensures)) in
-    record { ok = tt; state = c.requires.state; fault_is_true = r.0; err = r.1; steps = refl; grows = omega arith }
+    record { ok = tt; state = c.requires.state; fault_is_true = r.0; steps = refl; grows = omega arith }
 
 pub returns-then-handles-self-2 : goal.returns-then-handles-self-2
 returns-then-handles-self-2 c =
@@ -74,7 +74,7 @@ returns-then-handles-self-2 c =
     let ds = declarations_of c.args.self.now.table.now in
     let old = at_of c.args.state.now in
     let r = unknown_refuse ds c.args.self.now.fine.laid_out m (c.args.self.now.short, c.requires.state.few) c.args.depth c.args.envelope old (HandleMissing c.args.envelope) (refl, omega (arith, c.if-handles-self-2.true, c.handle_count_at-handles.ensures)) in
-    record { ok = tt; state = c.requires.state; fault_is_true = r.0; err = r.1; steps = refl; grows = omega arith }
+    record { ok = tt; state = c.requires.state; fault_is_true = r.0; steps = refl; grows = omega arith }
 
 pub returns : goal.returns
 returns c =
@@ -97,4 +97,4 @@ returns c =
     let inner = c.requires.state.handle in
     let bytes = c.requires.state.next in
     let ok : (to : At) → Contained ds m c.args.depth None c.args.envelope old to ↔ (new ≡ to) = subst (λ (s : At). (to : At) → Contained ds m c.args.depth None c.args.envelope old to ↔ (s ≡ to)) led x in
-    record { ok = ok; state = record { next = omega (arith, bytes, c.if-counted-self.false); handle = omega (arith, inner, c.if-handles-self-2.false); few = c.requires.state.few }; fault_is_true = tt; err = tt; steps = refl; grows = omega arith }
+    record { ok = ok; state = record { next = omega (arith, bytes, c.if-counted-self.false); handle = omega (arith, inner, c.if-handles-self-2.false); few = c.requires.state.few }; fault_is_true = tt; steps = refl; grows = omega arith }

@@ -4,12 +4,11 @@ use Rattle.std.specs.Prelude.{Some, None}
 use Rattle.fidl_decode.specs.declared.fault.DecodeFault.TheVariants.{WrongCounts}
 use Rattle.fidl_decode.specs.declared.frame.Frame.{Frame}
 use Rattle.fidl_decode.specs.declared.frame.Left.TheVariants.{Content}
-use Rattle.fidl_decode.specs.State.{At}
-use Rattle.fidl_decode.specs.Machine.{Turns, Reads, BreaksFrame, FrameFine, IsUntil, at_of}
+use Rattle.fidl_decode.specs.Machine.{Turns, BreaksFrame, FrameFine, IsUntil, at_of}
 use Rattle.fidl_decode.specs.Faults.{message_of}
 use Rattle.fidl_decode.proofs.Leaves.{going_on, same_frame}
-use Rattle.fidl_decode.proofs.Turning.{on_err, passed_on}
-use Rattle.fidl_decode.proofs.ContentTurns.{content_end_room, content_over, content_elsewhere, content_miscounted, content_end_refused, content_end_breaks, content_known, content_size, content_room, content_inside, content_refused, content_breaks, content_turns}
+use Rattle.fidl_decode.proofs.Turning.{passed_on}
+use Rattle.fidl_decode.proofs.ContentTurns.{content_end_room, content_over, content_miscounted, content_end_breaks, content_known, content_size, content_room, content_inside, content_breaks, content_turns}
 use Rattle.fidl_decode.proofs.decoder.Decoder.take_content.Goals.{then-state-until-via-then-state-until, then-state-until-via-else-state-until+then-state-until-2}
 use Rattle.fidl_decode.proofs.decoder.Decoder.take_content.Goals as goal
 
@@ -77,14 +76,6 @@ returns-in_err-zeros_at-clause-cost c =
     let own = subst (λ (f : Frame). FrameFine t m.bytes f) same c.requires.frame in
     let room = content_end_room t c.args.self.now.fine m c.args.frame c.args.entry c.args.size c.args.count c.args.until (at_of c.args.state.now) own c.requires.state in omega (arith, room.2)
 
-pub returns-in_err-zeros_at-clause-err : goal.returns-in_err-zeros_at-clause-err
-returns-in_err-zeros_at-clause-err c =
-    let t = c.args.self.now.table.now in
-    let m = message_of c.args.self.now.bytes.now c.args.self.now.handles.now in
-    let same = same_frame c.args.frame (Content c.args.entry c.args.size c.args.count c.args.until) c.requires.left in
-    let own = subst (λ (f : Frame). FrameFine t m.bytes f) same c.requires.frame in
-    on_err _ ((to : At) → Reads t m c.args.frame (at_of c.args.state.now) to → ⊥) (subst (λ (f : Frame). (to : At) → Reads t m f (at_of c.args.state.now) to → ⊥) (sym same) (content_end_refused t c.args.self.now.fine m c.args.frame c.args.entry c.args.size c.args.count c.args.until (at_of c.args.state.now) own c.requires.state c.if-count-eq0.true c.in_err-zeros_at.ensures.err))
-
 pub returns-in_err-zeros_at-clause-fault_is_true : goal.returns-in_err-zeros_at-clause-fault_is_true
 returns-in_err-zeros_at-clause-fault_is_true c =
     let t = c.args.self.now.table.now in
@@ -100,18 +91,6 @@ returns-then-state-until-clause-cost c =
     let same = same_frame c.args.frame (Content c.args.entry c.args.size c.args.count c.args.until) c.requires.left in
     let own = subst (λ (f : Frame). FrameFine t m.bytes f) same c.requires.frame in
     let room = content_end_room t c.args.self.now.fine m c.args.frame c.args.entry c.args.size c.args.count c.args.until (at_of c.args.state.now) own c.requires.state in omega (arith, room.2)
-
-pub returns-then-state-until-clause-err : goal.returns-then-state-until-clause-err
-returns-then-state-until-clause-err c =
-    let t = c.args.self.now.table.now in
-    let m = message_of c.args.self.now.bytes.now c.args.self.now.handles.now in
-    let same = same_frame c.args.frame (Content c.args.entry c.args.size c.args.count c.args.until) c.requires.left in
-    let own = subst (λ (f : Frame). FrameFine t m.bytes f) same c.requires.frame in
-    let other : IsUntil c.args.until (at_of c.args.state.now) → ⊥ = elim c.then-state-until.branch [
-      | then-state-until-via-then-state-until w ↦ (λ u. w.if-state-until.true u.0)
-      | then-state-until-via-else-state-until+then-state-until-2 w ↦ (λ u. w.if-state-until-2.true u.1)
-    ] in
-    subst (λ (f : Frame). (to : At) → Reads t m f (at_of c.args.state.now) to → ⊥) (sym same) (content_elsewhere t c.args.self.now.fine m c.args.frame c.args.entry c.args.size c.args.count c.args.until (at_of c.args.state.now) own c.requires.state c.if-count-eq0.true c.in_ok-zeros_at.ensures.ok other)
 
 pub returns-then-state-until-clause-fault_is_true : goal.returns-then-state-until-clause-fault_is_true
 returns-then-state-until-clause-fault_is_true c =
@@ -173,14 +152,6 @@ returns-in_err-below-clause-cost c =
     let own = subst (λ (f : Frame). FrameFine t m.bytes f) same c.requires.frame in
     let fits = content_room t c.args.self.now.fine m c.args.frame c.args.entry c.args.size c.args.count c.args.until (at_of c.args.state.now) own c.requires.state (omega (arith, c.if-count-eq0.false)) in let probed = c.in_err-below.ensures.probes in let work = fits.2 in omega (arith, probed, work)
 
-pub returns-in_err-below-clause-err : goal.returns-in_err-below-clause-err
-returns-in_err-below-clause-err c =
-    let t = c.args.self.now.table.now in
-    let m = message_of c.args.self.now.bytes.now c.args.self.now.handles.now in
-    let same = same_frame c.args.frame (Content c.args.entry c.args.size c.args.count c.args.until) c.requires.left in
-    let own = subst (λ (f : Frame). FrameFine t m.bytes f) same c.requires.frame in
-    on_err _ ((to : At) → Reads t m c.args.frame (at_of c.args.state.now) to → ⊥) (subst (λ (f : Frame). (to : At) → Reads t m f (at_of c.args.state.now) to → ⊥) (sym same) (content_refused t c.args.self.now.fine m c.args.frame c.args.entry c.args.size c.args.count c.args.until (at_of c.args.state.now) own c.requires.state (omega (arith, c.if-count-eq0.false)) c.in_err-below.ensures.err))
-
 pub returns-in_err-below-clause-fault_is_true : goal.returns-in_err-below-clause-fault_is_true
 returns-in_err-below-clause-fault_is_true c =
     let t = c.args.self.now.table.now in
@@ -219,9 +190,6 @@ returns-in_err-zeros_at-clause-ok c = no_ok c.from_residual.result c.in_err-zero
 pub returns-then-state-until-clause-ok : goal.returns-then-state-until-clause-ok
 returns-then-state-until-clause-ok c = tt
 
-pub returns-then-count-eq0-clause-err : goal.returns-then-count-eq0-clause-err
-returns-then-count-eq0-clause-err c = tt
-
 pub returns-then-count-eq0-clause-fault_is_true : goal.returns-then-count-eq0-clause-fault_is_true
 returns-then-count-eq0-clause-fault_is_true c = tt
 
@@ -230,9 +198,6 @@ visit-requires-clause-state c = c.requires.state
 
 pub returns-in_err-below-clause-ok : goal.returns-in_err-below-clause-ok
 returns-in_err-below-clause-ok c = no_ok c.from_residual-in_err-below.result c.in_err-below.field-0.0 _ c.from_residual-in_err-below.ensures.1
-
-pub returns-clause-err : goal.returns-clause-err
-returns-clause-err c = tt
 
 pub returns-clause-fault_is_true : goal.returns-clause-fault_is_true
 returns-clause-fault_is_true c = tt

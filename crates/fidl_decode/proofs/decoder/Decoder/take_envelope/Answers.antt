@@ -6,15 +6,13 @@ use Rattle.fidl_wire.specs.Standing.{Stands}
 use Rattle.fidl_table_format.specs.Terms.{declarations_of, members_of}
 use Rattle.fidl_decode.specs.declared.frame.Frame.{Frame}
 use Rattle.fidl_decode.specs.declared.frame.Left.TheVariants.{Envelopes}
-use Rattle.fidl_decode.specs.State.{At}
-use Rattle.fidl_decode.specs.Envelopes.{Contained}
 use Rattle.fidl_decode.specs.Breaks.{BreaksMember}
-use Rattle.fidl_decode.specs.Machine.{Turns, Opens, PaysEnvelope, Reads, BreaksFrame, FrameFine, member_term, at_of}
+use Rattle.fidl_decode.specs.Machine.{Turns, Opens, PaysEnvelope, BreaksFrame, FrameFine, member_term, at_of}
 use Rattle.fidl_decode.specs.Faults.{message_of}
-use Rattle.std.proofs.lemmas.Result.{on_err_weaker, IfErr-weaker}
+use Rattle.std.proofs.lemmas.Result.{IfErr-weaker}
 use Rattle.fidl_decode.proofs.Leaves.{going_on, same_frame}
 use Rattle.fidl_decode.proofs.Turning.{if_ok_two, on_ok_from}
-use Rattle.fidl_decode.proofs.EnvelopeTurns.{member_found, envelope_room, envelope_absent, envelope_opened, envelope_refused, envelope_breaks}
+use Rattle.fidl_decode.proofs.EnvelopeTurns.{member_found, envelope_room, envelope_absent, envelope_opened, envelope_breaks}
 use Rattle.fidl_decode.proofs.decoder.Decoder.take_envelope.Goals as goal
 
 no_true : false ≡ true → ⊥
@@ -95,29 +93,6 @@ returns-clause-cost c =
     let grows = c.row_of-member.ensures.grows in
     omega (arith, room, few, c.read_member.ensures.cost)
 
-pub returns-clause-err : goal.returns-clause-err
-returns-clause-err c =
-    let t = c.args.self.now.table.now in
-    let m = message_of c.args.self.now.bytes.now c.args.self.now.handles.now in
-    let f = c.args.frame in
-    let old = at_of c.args.state.now in
-    let same = same_frame f (Envelopes c.args.entry c.args.read c.args.count) c.requires.left in
-    let gf = subst (λ (f : Frame). FrameFine t m.bytes f) same c.requires.frame in
-    let some = c.requires.some in
-    let room = envelope_room t c.args.self.now.fine m (c.args.self.now.short, c.requires.state.few) f c.args.entry c.args.read c.args.count old gf c.requires.state (c.args.read + 1) (c.args.count - 1) (add-one c.args.read) (omega (arith, some)) some in
-    let few = c.row_of-member.ensures.few in
-    let grows = c.row_of-member.ensures.grows in
-    let place = f.base + f.done in
-    let there : Stands m.bytes place (zeros 8) → ⊥ = λ z. no_true (sym c.if-is_absent.false ∙ c.is_absent.ensures.1 z) in
-    let is = ap (λ n. find (members_of t c.args.entry) n) (sym (add-one c.args.read)) ∙ member_found (members_of t c.args.entry) (c.args.read + 1) c.row_of-member.result c.row_of-member.ensures.none c.row_of-member.ensures.some in
-    let new = at_of c.read_member.new.state in
-    let spent = c.read_member.new.state.steps - c.row_of-member.new.probes in
-    let all = c.read_member.new.state.steps - c.args.state.now.steps in
-    on_err_weaker c.read_member.result
-    (λ bad. subst (λ (g : Frame). (to : At) → Reads t m g old to → ⊥) (sym same)
-    (envelope_refused t c.args.self.now.fine m (c.args.self.now.short, c.requires.state.few) f c.args.entry c.args.read c.args.count old gf c.requires.state (c.args.read + 1) (c.args.count - 1) (add-one c.args.read) (omega (arith, some)) some there (subst (λ (o : Option Term). (to : At) → Contained (declarations_of t) m f.depth o place old to → ⊥) (sym is) bad)))
-    c.read_member.ensures.err
-
 pub returns-clause-fault_is_true : goal.returns-clause-fault_is_true
 returns-clause-fault_is_true c =
     let t = c.args.self.now.table.now in
@@ -140,9 +115,6 @@ returns-clause-fault_is_true c =
     (λ fault b. subst (λ (g : Frame). BreaksFrame t m g old fault) (sym same)
     (envelope_breaks t c.args.self.now.fine m (c.args.self.now.short, c.requires.state.few) f c.args.entry c.args.read c.args.count old gf c.requires.state (c.args.read + 1) (c.args.count - 1) (add-one c.args.read) (omega (arith, some)) some there fault (subst (λ (o : Option Term). BreaksMember (declarations_of t) m f.depth o place old fault) (sym is) b)))
     c.read_member.ensures.fault_is_true
-
-pub returns-then-is_absent-clause-err : goal.returns-then-is_absent-clause-err
-returns-then-is_absent-clause-err c = tt
 
 pub returns-then-is_absent-clause-fault_is_true : goal.returns-then-is_absent-clause-fault_is_true
 returns-then-is_absent-clause-fault_is_true c = tt

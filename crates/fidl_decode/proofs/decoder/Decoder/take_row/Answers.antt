@@ -6,11 +6,10 @@ use Rattle.fidl_wire.specs.Figure.{size_of}
 use Rattle.fidl_table_format.specs.declared.record.Entry.{Entry}
 use Rattle.fidl_table_format.specs.Terms.{declarations_of}
 use Rattle.fidl_decode.specs.Rows.{Row}
-use Rattle.fidl_decode.specs.State.{At}
-use Rattle.fidl_decode.specs.Machine.{Turns, Reads, at_of}
+use Rattle.fidl_decode.specs.Machine.{Turns, at_of}
 use Rattle.fidl_decode.specs.Faults.{message_of}
 use Rattle.fidl_decode.proofs.Visiting.{size_is, positive}
-use Rattle.fidl_decode.proofs.Turning.{done_fits, gap, spends, spends_more, on_err, end_refused, end_breaks, turns_end, row_fine, row_room, gap_refused, gap_breaks, visit_refused, visit_breaks, row_inside, turns_more}
+use Rattle.fidl_decode.proofs.Turning.{done_fits, gap, spends, spends_more, end_breaks, turns_end, row_fine, row_room, gap_breaks, visit_breaks, row_inside, turns_more}
 use Rattle.fidl_decode.proofs.decoder.Decoder.take_row.Goals as goal
 
 pub overflow_add-at : goal.overflow_add-at
@@ -69,14 +68,6 @@ returns-in_err-zeros_at-2-clause-cost c =
     let w = spends c.args.frame.nest (c.in-Some.member.offset - c.args.frame.done) (c.args.frame.size - c.args.frame.done) (omega arith) in
     omega arith
 
-pub returns-in_err-zeros_at-2-clause-err : goal.returns-in_err-zeros_at-2-clause-err
-returns-in_err-zeros_at-2-clause-err c =
-    on_err _ ((to : At) → Reads c.args.self.now.table.now (message_of c.args.self.now.bytes.now c.args.self.now.handles.now) c.args.frame (at_of c.args.state.now) to → ⊥) (λ to. gap_refused c.args.self.now.table.now c.args.self.now.fine (message_of c.args.self.now.bytes.now c.args.self.now.handles.now) c.args.frame (at_of c.args.state.now) c.requires.frame c.requires.state (let x : Row = record { offset = c.in-Some.member.offset; entry = c.in-Some.member.entry } in x) c.in-Some.member.left c.in-Some.ensures.some c.requires.plain to c.in_err-zeros_at-2.ensures.err)
-
-pub returns-in_err-zeros_at-clause-err : goal.returns-in_err-zeros_at-clause-err
-returns-in_err-zeros_at-clause-err c =
-    on_err _ ((to : At) → Reads c.args.self.now.table.now (message_of c.args.self.now.bytes.now c.args.self.now.handles.now) c.args.frame (at_of c.args.state.now) to → ⊥) (λ to. end_refused c.args.self.now.table.now c.args.self.now.fine (message_of c.args.self.now.bytes.now c.args.self.now.handles.now) c.args.frame (at_of c.args.state.now) c.requires.frame c.requires.state c.in_default.ensures.none c.requires.plain to c.in_err-zeros_at.ensures.err)
-
 pub visit-requires-clause-room : goal.visit-requires-clause-room
 visit-requires-clause-room c =
     let r = row_room c.args.self.now.table.now c.args.self.now.fine (message_of c.args.self.now.bytes.now c.args.self.now.handles.now) c.args.frame (at_of c.args.state.now) c.requires.frame c.requires.state (let x : Row = record { offset = c.in-Some.member.offset; entry = c.in-Some.member.entry } in x) c.in-Some.member.left c.in-Some.ensures.some in
@@ -104,10 +95,6 @@ returns-in_err-below-clause-cost c =
     let pos = positive c.args.self.now.table.now c.args.self.now.fine c.in-Some.member.entry f.0 in
     let w = spends_more c.args.frame.nest (c.in-Some.member.offset - c.args.frame.done) (c.args.frame.size - c.args.frame.done) (omega (arith, pos, r, f.1)) in
     omega (arith, c.visit.ensures.probes, w, g)
-
-pub returns-in_err-below-clause-err : goal.returns-in_err-below-clause-err
-returns-in_err-below-clause-err c =
-    on_err _ ((to : At) → Reads c.args.self.now.table.now (message_of c.args.self.now.bytes.now c.args.self.now.handles.now) c.args.frame (at_of c.args.state.now) to → ⊥) (λ to. visit_refused c.args.self.now.table.now c.args.self.now.fine (message_of c.args.self.now.bytes.now c.args.self.now.handles.now) c.args.frame (at_of c.args.state.now) c.requires.frame c.requires.state (let x : Row = record { offset = c.in-Some.member.offset; entry = c.in-Some.member.entry } in x) c.in-Some.member.left c.in-Some.ensures.some c.requires.plain to c.in_err-below.ensures.err)
 
 pub overflow_add-done : goal.overflow_add-done
 overflow_add-done c =
@@ -172,9 +159,6 @@ next_member-requires-clause-plain c = c.requires.plain
 pub returns-in_err-zeros_at-clause-ok : goal.returns-in_err-zeros_at-clause-ok
 returns-in_err-zeros_at-clause-ok c = no_ok c.from_residual.result c.in_err-zeros_at.field-0.0 _ c.from_residual.ensures.1
 
-pub returns-in_default-clause-err : goal.returns-in_default-clause-err
-returns-in_default-clause-err c = tt
-
 pub returns-in_default-clause-fault_is_true : goal.returns-in_default-clause-fault_is_true
 returns-in_default-clause-fault_is_true c = tt
 
@@ -186,9 +170,6 @@ visit-requires-clause-state c = c.requires.state
 
 pub returns-in_err-below-clause-ok : goal.returns-in_err-below-clause-ok
 returns-in_err-below-clause-ok c = no_ok c.from_residual-in_err-below.result c.in_err-below.field-0.0 _ c.from_residual-in_err-below.ensures.1
-
-pub returns-clause-err : goal.returns-clause-err
-returns-clause-err c = tt
 
 pub returns-clause-fault_is_true : goal.returns-clause-fault_is_true
 returns-clause-fault_is_true c = tt

@@ -8,14 +8,12 @@ use Rattle.fidl_table_format.specs.declared.kind.EntryKind.{EntryKind}
 use Rattle.fidl_table_format.specs.declared.kind.EntryKind.TheVariants.{Vector, Array, Box, Struct, Table, Union}
 use Rattle.fidl_table_format.specs.Kind.{kind_of}
 use Rattle.fidl_table_format.specs.Section.{header_of, entry_at}
-use Rattle.fidl_table_format.specs.Terms.{declarations_of, rows_from}
 use Rattle.fidl_decode.specs.Machine.{at_of, Visits, VisitFine}
 use Rattle.fidl_decode.specs.Faults.{message_of}
-use Rattle.fidl_decode.proofs.Visiting.{fine_as, size_as, leaf_else, leaf_breaks, refused_leaf, visits_struct, visits_array, struct_fine, array_fine, struct_frame, array_frame}
-use Rattle.fidl_decode.proofs.Broken.{table_excluded}
-use Rattle.fidl_decode.proofs.Boxed.{box_refused, box_breaks}
-use Rattle.fidl_decode.proofs.Listed.{vector_refused, vector_breaks}
-use Rattle.fidl_decode.proofs.Turning.{passed_on, refused_by, on_err}
+use Rattle.fidl_decode.proofs.Visiting.{fine_as, size_as, leaf_else, leaf_breaks, visits_struct, visits_array, struct_fine, array_fine, struct_frame, array_frame}
+use Rattle.fidl_decode.proofs.Boxed.{box_breaks}
+use Rattle.fidl_decode.proofs.Listed.{vector_breaks}
+use Rattle.fidl_decode.proofs.Turning.{passed_on}
 use Rattle.fidl_decode.proofs.decoder.Decoder.visit.Goals as goal
 
 no_some : {A : Type 0} (a : A) → Some a ≡ None → ⊥
@@ -72,11 +70,6 @@ read_box-requires-clause-room c =
     let size : 8 ≡ (entry_at c.args.self.now.table.now c.args.entry).size = size_as c.args.self.now.table.now c.args.self.now.fine c.args.entry Box c.requires.entry is in
     omega (arith, c.requires.room, size)
 
-pub returns-in-Box-clause-err : goal.returns-in-Box-clause-err
-returns-in-Box-clause-err c =
-    let is : kind_of (entry_at c.args.self.now.table.now c.args.entry).kind ≡ Some Box = ap (λ (e : Entry). kind_of e.kind) (sym c.entry-e.ensures.value) ∙ sym c.from_number.ensures ∙ c.in-Some.is ∙ ap (λ (k : EntryKind). Some k) c.in-Box.is in
-    refused_by c.read_box.result _ _ (λ fault b. box_refused c.args.self.now.table.now c.args.self.now.fine (message_of c.args.self.now.bytes.now c.args.self.now.handles.now) c.args.depth c.args.entry c.args.place (at_of c.args.state.now) c.requires.entry is c.requires.state c.requires.depth fault b) c.read_box.ensures.fault_is_true
-
 pub returns-in-Box-clause-fault_is_true : goal.returns-in-Box-clause-fault_is_true
 returns-in-Box-clause-fault_is_true c =
     let is : kind_of (entry_at c.args.self.now.table.now c.args.entry).kind ≡ Some Box = ap (λ (e : Entry). kind_of e.kind) (sym c.entry-e.ensures.value) ∙ sym c.from_number.ensures ∙ c.in-Some.is ∙ ap (λ (k : EntryKind). Some k) c.in-Box.is in
@@ -91,21 +84,10 @@ read_vector-requires-clause-room c =
     let size : 16 ≡ (entry_at c.args.self.now.table.now c.args.entry).size = size_as c.args.self.now.table.now c.args.self.now.fine c.args.entry Vector c.requires.entry is in
     omega (arith, c.requires.room, size)
 
-pub returns-in-Vector-clause-err : goal.returns-in-Vector-clause-err
-returns-in-Vector-clause-err c =
-    let is : kind_of (entry_at c.args.self.now.table.now c.args.entry).kind ≡ Some Vector = ap (λ (e : Entry). kind_of e.kind) (sym c.entry-e.ensures.value) ∙ sym c.from_number.ensures ∙ c.in-Some.is ∙ ap (λ (k : EntryKind). Some k) c.in-Vector.is in
-    refused_by c.read_vector.result _ _ (λ fault b. vector_refused c.args.self.now.table.now c.args.self.now.fine (message_of c.args.self.now.bytes.now c.args.self.now.handles.now) c.args.depth c.args.entry c.args.place (at_of c.args.state.now) c.requires.entry is c.requires.state c.requires.depth fault b) c.read_vector.ensures.fault_is_true
-
 pub returns-in-Vector-clause-fault_is_true : goal.returns-in-Vector-clause-fault_is_true
 returns-in-Vector-clause-fault_is_true c =
     let is : kind_of (entry_at c.args.self.now.table.now c.args.entry).kind ≡ Some Vector = ap (λ (e : Entry). kind_of e.kind) (sym c.entry-e.ensures.value) ∙ sym c.from_number.ensures ∙ c.in-Some.is ∙ ap (λ (k : EntryKind). Some k) c.in-Vector.is in
     IfErr-weaker c.read_vector.result _ _ (λ fault b. vector_breaks c.args.self.now.table.now c.args.self.now.fine (message_of c.args.self.now.bytes.now c.args.self.now.handles.now) c.args.depth c.args.entry c.args.place (at_of c.args.state.now) c.requires.entry is c.requires.state c.requires.depth fault b) c.read_vector.ensures.fault_is_true
-
-pub returns-in-Table-clause-err : goal.returns-in-Table-clause-err
-returns-in-Table-clause-err c =
-    let is : kind_of (entry_at c.args.self.now.table.now c.args.entry).kind ≡ Some Table = ap (λ (e : Entry). kind_of e.kind) (sym c.entry-e.ensures.value) ∙ sym c.from_number.ensures ∙ c.in-Some.is ∙ ap (λ (k : EntryKind). Some k) c.in-Table.is in
-    refused_by c.read_table.result _ _ (λ fault b. refused_leaf c.args.self.now.table.now c.args.self.now.fine (message_of c.args.self.now.bytes.now c.args.self.now.handles.now) c.args.depth c.args.entry c.args.place (at_of c.args.state.now) c.requires.entry c.requires.state c.requires.depth Table is
-    (λ to x. table_excluded (declarations_of c.args.self.now.table.now) c.args.self.now.fine.laid_out (message_of c.args.self.now.bytes.now c.args.self.now.handles.now) c.args.depth (rows_from c.args.self.now.table.now (header_of c.args.self.now.table.now) (entry_at c.args.self.now.table.now c.args.entry).first (entry_at c.args.self.now.table.now c.args.entry).count) c.args.place (at_of c.args.state.now) to fault b x)) c.read_table.ensures.fault_is_true
 
 pub returns-in-Table-clause-fault_is_true : goal.returns-in-Table-clause-fault_is_true
 returns-in-Table-clause-fault_is_true c =
@@ -196,17 +178,11 @@ read_leaf-requires-clause-depth c = c.requires.depth
 pub read_leaf-requires-clause-budget : goal.read_leaf-requires-clause-budget
 read_leaf-requires-clause-budget c = c.requires.budget
 
-pub returns-in-Struct-clause-err : goal.returns-in-Struct-clause-err
-returns-in-Struct-clause-err c = tt
-
 pub returns-in-Struct-clause-fault_is_true : goal.returns-in-Struct-clause-fault_is_true
 returns-in-Struct-clause-fault_is_true c = tt
 
 pub returns-in-Struct-clause-grows : goal.returns-in-Struct-clause-grows
 returns-in-Struct-clause-grows c = same_le _
-
-pub returns-in-Array-clause-err : goal.returns-in-Array-clause-err
-returns-in-Array-clause-err c = tt
 
 pub returns-in-Array-clause-fault_is_true : goal.returns-in-Array-clause-fault_is_true
 returns-in-Array-clause-fault_is_true c = tt
@@ -219,9 +195,6 @@ returns-in_err-read_leaf-in_default-kind-clause-ok c = no_ok c.from_residual.res
 
 pub returns-in_err-read_leaf-in_default-kind-clause-fine : goal.returns-in_err-read_leaf-in_default-kind-clause-fine
 returns-in_err-read_leaf-in_default-kind-clause-fine c = no_ok c.from_residual.result c.in_err-read_leaf-in_default-kind.field-0.0 _ c.from_residual.ensures.1
-
-pub returns-in_err-read_leaf-in_default-kind-clause-err : goal.returns-in_err-read_leaf-in_default-kind-clause-err
-returns-in_err-read_leaf-in_default-kind-clause-err c = on_err _ _ c.in_err-read_leaf-in_default-kind.ensures.err
 
 pub returns-in_err-read_leaf-in_default-kind-clause-grows : goal.returns-in_err-read_leaf-in_default-kind-clause-grows
 returns-in_err-read_leaf-in_default-kind-clause-grows c = c.in_err-read_leaf-in_default-kind.ensures.grows
@@ -288,9 +261,6 @@ returns-in-Table-clause-probes c = one_probe _ _ _ c.read_table.ensures.cost
 
 pub returns-in-Union-clause-ok : goal.returns-in-Union-clause-ok
 returns-in-Union-clause-ok c = c.read_union.ensures.ok
-
-pub returns-in-Union-clause-err : goal.returns-in-Union-clause-err
-returns-in-Union-clause-err c = c.read_union.ensures.err
 
 pub returns-in-Union-clause-fault_is_true : goal.returns-in-Union-clause-fault_is_true
 returns-in-Union-clause-fault_is_true c = c.read_union.ensures.fault_is_true
