@@ -1,6 +1,7 @@
 -- Places and sizes of a message are small numbers. Said of variables alone, so that nothing else is looked at.
 use Rattle.std.proofs.Common.{◌≡◌, ℕ, suc, ◌+◌, ◌-◌, ◌^◌, ◌<◌, ◌≤◌, arith, inl, inr}
 use Rattle.std.specs.Int.{next_multiple_of}
+use Rattle.fidl_decode.specs.Steps.{Spends}
 use Rattle.fidl_decode.specs.Machine.{IsInside}
 use Rattle.fidl_limits.specs.declared.limits.TheConstants.{MAX_DEPTH, MAX_MESSAGE_BYTES, MAX_MESSAGE_HANDLES}
 
@@ -112,6 +113,15 @@ le_more_two a k l = omega arith
 
 pub one_probe : (a b k : ℕ) → b ≤ a + 1 + k → b ≤ a + 16 + k
 one_probe a b k h = omega arith
+
+pub no_steps : (a k : ℕ) → Spends a a 0 k
+no_steps a k = record { least = omega arith; most = omega arith }
+
+pub same_steps : (a b k : ℕ) → b ≡ a → Spends a b 0 k
+same_steps a b k e = record { least = omega arith; most = omega arith }
+
+pub few_steps : (a b n k l : ℕ) → a ≤ b → b ≤ a + n + k → n ≤ l → Spends a b 0 (l + k)
+few_steps a b n k l p q le = record { least = omega arith; most = omega arith }
 
 pub lt_le : (a b : ℕ) → a < b → a ≤ b
 lt_le a b h = omega arith

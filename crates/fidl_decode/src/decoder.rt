@@ -15,6 +15,7 @@ ghost use Rattle.fidl_decode.specs.Faults.{message_of};
 ghost use Rattle.fidl_decode.specs.Breaks.{IsPadding, Breaks};
 ghost use Rattle.fidl_decode.specs.Machine.{rows_left, LeftFine, StateFine, FrameFine};
 ghost use Rattle.fidl_decode.specs.Machine.{IsInside, IsPlain, VisitFine};
+ghost use Rattle.fidl_decode.specs.Steps.{Spends};
 ghost use Rattle.fidl_decode.specs.Machine.{BreaksFrame, Visits, Turns, turn_work, at_of, probes};
 
 use crate::fault::DecodeFault;
@@ -127,9 +128,8 @@ impl<'t, 'm> Decoder<'t, 'm> {
             (message_of self.now.bytes.now self.now.handles.now) depth
             (resolve (declarations_of self.now.table.now).terms (ty.named entry)) place
             (at_of state.old)) }
-        ensures grows { state.old.steps ≤ state.new.steps }
-        ensures probes { state.new.steps ≤ state.old.steps + probes
-            + (length self.now.bytes.now - state.old.next) }
+        ensures spends { Spends state.old.steps state.new.steps 0
+            (probes + (length self.now.bytes.now - state.old.next)) }
     {
         let e = self.table.entry(entry);
         let Some(kind) = EntryKind::from_number(e.kind) else {
@@ -190,9 +190,8 @@ impl<'t, 'm> Decoder<'t, 'm> {
         ensures ok { IfOk result
             (λ turn. Turns self.now.table.now (message_of self.now.bytes.now self.now.handles.now)
             frame (at_of state.old) (at_of state.new) (state.new.steps - state.old.steps) turn) }
-        ensures rises { state.old.steps < state.new.steps }
-        ensures cost { state.new.steps ≤ state.old.steps
-            + turn_work self.now.bytes.now state.old.next frame }
+        ensures spends { Spends state.old.steps state.new.steps 1
+            (turn_work self.now.bytes.now state.old.next frame) }
         ensures fault_is_true { IfErr result
             (BreaksFrame self.now.table.now (message_of self.now.bytes.now self.now.handles.now)
             frame (at_of state.old)) }

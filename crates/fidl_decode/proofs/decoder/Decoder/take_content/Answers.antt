@@ -150,7 +150,7 @@ returns-in_err-below-clause-cost c =
     let m = message_of c.args.self.now.bytes.now c.args.self.now.handles.now in
     let same = same_frame c.args.frame (Content c.args.entry c.args.size c.args.count c.args.until) c.requires.left in
     let own = subst (λ (f : Frame). FrameFine t m.bytes f) same c.requires.frame in
-    let fits = content_room t c.args.self.now.fine m c.args.frame c.args.entry c.args.size c.args.count c.args.until (at_of c.args.state.now) own c.requires.state (omega (arith, c.if-count-eq0.false)) in let probed = c.in_err-below.ensures.probes in let work = fits.2 in omega (arith, probed, work)
+    let fits = content_room t c.args.self.now.fine m c.args.frame c.args.entry c.args.size c.args.count c.args.until (at_of c.args.state.now) own c.requires.state (omega (arith, c.if-count-eq0.false)) in let probed = c.in_err-below.ensures.spends.most in let work = fits.2 in omega (arith, probed, work)
 
 pub returns-in_err-below-clause-fault_is_true : goal.returns-in_err-below-clause-fault_is_true
 returns-in_err-below-clause-fault_is_true c =
@@ -174,7 +174,7 @@ returns-clause-ok c =
     let m = message_of c.args.self.now.bytes.now c.args.self.now.handles.now in
     let same = same_frame c.args.frame (Content c.args.entry c.args.size c.args.count c.args.until) c.requires.left in
     let own = subst (λ (f : Frame). FrameFine t m.bytes f) same c.requires.frame in
-    let grows = c.in_ok-below.ensures.grows in subst (λ (f : Frame). Turns t m f (at_of c.args.state.now) (at_of c.visit.new.state) (c.visit.new.state.steps - c.args.state.now.steps) (record { below = c.in_ok-below.below; rest = Some (going_on c.args.frame (Content c.args.entry c.args.size (c.args.count - 1) c.args.until) (c.args.frame.done + c.args.size)) })) (sym same) (content_turns t c.args.self.now.fine m c.args.frame c.args.entry c.args.size c.args.count c.args.until (at_of c.args.state.now) own c.requires.state (omega (arith, c.if-count-eq0.false)) c.in_ok-below.below (at_of c.visit.new.state) (c.visit.new.state.steps - (c.args.state.now.steps + 1)) (c.visit.new.state.steps - c.args.state.now.steps) (omega (arith, grows)) c.in_ok-below.ensures.ok c.in_ok-below.ensures.fine)
+    let grows = c.in_ok-below.ensures.spends.least in subst (λ (f : Frame). Turns t m f (at_of c.args.state.now) (at_of c.visit.new.state) (c.visit.new.state.steps - c.args.state.now.steps) (record { below = c.in_ok-below.below; rest = Some (going_on c.args.frame (Content c.args.entry c.args.size (c.args.count - 1) c.args.until) (c.args.frame.done + c.args.size)) })) (sym same) (content_turns t c.args.self.now.fine m c.args.frame c.args.entry c.args.size c.args.count c.args.until (at_of c.args.state.now) own c.requires.state (omega (arith, c.if-count-eq0.false)) c.in_ok-below.below (at_of c.visit.new.state) (c.visit.new.state.steps - (c.args.state.now.steps + 1)) (c.visit.new.state.steps - c.args.state.now.steps) (omega (arith, grows)) c.in_ok-below.ensures.ok c.in_ok-below.ensures.fine)
 
 pub returns-clause-cost : goal.returns-clause-cost
 returns-clause-cost c =
@@ -182,7 +182,7 @@ returns-clause-cost c =
     let m = message_of c.args.self.now.bytes.now c.args.self.now.handles.now in
     let same = same_frame c.args.frame (Content c.args.entry c.args.size c.args.count c.args.until) c.requires.left in
     let own = subst (λ (f : Frame). FrameFine t m.bytes f) same c.requires.frame in
-    let fits = content_room t c.args.self.now.fine m c.args.frame c.args.entry c.args.size c.args.count c.args.until (at_of c.args.state.now) own c.requires.state (omega (arith, c.if-count-eq0.false)) in let probed = c.in_ok-below.ensures.probes in let work = fits.2 in omega (arith, probed, work)
+    let fits = content_room t c.args.self.now.fine m c.args.frame c.args.entry c.args.size c.args.count c.args.until (at_of c.args.state.now) own c.requires.state (omega (arith, c.if-count-eq0.false)) in let probed = c.in_ok-below.ensures.spends.most in let work = fits.2 in omega (arith, probed, work)
 
 pub returns-in_err-zeros_at-clause-ok : goal.returns-in_err-zeros_at-clause-ok
 returns-in_err-zeros_at-clause-ok c = no_ok c.from_residual.result c.in_err-zeros_at.field-0.0 _ c.from_residual.ensures.1

@@ -58,15 +58,15 @@ zeros_at-requires-2-clause-room c =
     let room = c.requires.frame.room in
     omega arith
 
-pub returns-in_err-zeros_at-2-clause-cost : goal.returns-in_err-zeros_at-2-clause-cost
-returns-in_err-zeros_at-2-clause-cost c =
+pub returns-in_err-zeros_at-2-clause-spends : goal.returns-in_err-zeros_at-2-clause-spends
+returns-in_err-zeros_at-2-clause-spends c =
     let r = row_room c.args.self.now.table.now c.args.self.now.fine (message_of c.args.self.now.bytes.now c.args.self.now.handles.now) c.args.frame (at_of c.args.state.now) c.requires.frame c.requires.state (let x : Row = record { offset = c.in-Some.member.offset; entry = c.in-Some.member.entry } in x) c.in-Some.member.left c.in-Some.ensures.some in
     let f = row_fine c.args.self.now.table.now c.args.self.now.fine (message_of c.args.self.now.bytes.now c.args.self.now.handles.now) c.args.frame (at_of c.args.state.now) c.requires.frame c.requires.state (let x : Row = record { offset = c.in-Some.member.offset; entry = c.in-Some.member.entry } in x) c.in-Some.member.left c.in-Some.ensures.some in
     let d = done_fits c.args.self.now.table.now c.args.self.now.fine (message_of c.args.self.now.bytes.now c.args.self.now.handles.now) c.args.frame (at_of c.args.state.now) c.requires.frame c.requires.state in
     let room = c.requires.frame.room in
     let g = gap c.args.self.now.table.now c.args.self.now.fine (message_of c.args.self.now.bytes.now c.args.self.now.handles.now) c.args.frame (at_of c.args.state.now) c.requires.frame c.requires.state (let x : Row = record { offset = c.in-Some.member.offset; entry = c.in-Some.member.entry } in x) c.in-Some.member.left c.in-Some.ensures.some in
     let w = spends c.args.frame.nest (c.in-Some.member.offset - c.args.frame.done) (c.args.frame.size - c.args.frame.done) (omega arith) in
-    omega arith
+    record { least = omega arith; most = omega arith }
 
 pub visit-requires-clause-room : goal.visit-requires-clause-room
 visit-requires-clause-room c =
@@ -85,8 +85,8 @@ visit-requires-clause-entry c =
     let room = c.requires.frame.room in
     f.0
 
-pub returns-in_err-below-clause-cost : goal.returns-in_err-below-clause-cost
-returns-in_err-below-clause-cost c =
+pub returns-in_err-below-clause-spends : goal.returns-in_err-below-clause-spends
+returns-in_err-below-clause-spends c =
     let r = row_room c.args.self.now.table.now c.args.self.now.fine (message_of c.args.self.now.bytes.now c.args.self.now.handles.now) c.args.frame (at_of c.args.state.now) c.requires.frame c.requires.state (let x : Row = record { offset = c.in-Some.member.offset; entry = c.in-Some.member.entry } in x) c.in-Some.member.left c.in-Some.ensures.some in
     let f = row_fine c.args.self.now.table.now c.args.self.now.fine (message_of c.args.self.now.bytes.now c.args.self.now.handles.now) c.args.frame (at_of c.args.state.now) c.requires.frame c.requires.state (let x : Row = record { offset = c.in-Some.member.offset; entry = c.in-Some.member.entry } in x) c.in-Some.member.left c.in-Some.ensures.some in
     let d = done_fits c.args.self.now.table.now c.args.self.now.fine (message_of c.args.self.now.bytes.now c.args.self.now.handles.now) c.args.frame (at_of c.args.state.now) c.requires.frame c.requires.state in
@@ -94,7 +94,7 @@ returns-in_err-below-clause-cost c =
     let g = gap c.args.self.now.table.now c.args.self.now.fine (message_of c.args.self.now.bytes.now c.args.self.now.handles.now) c.args.frame (at_of c.args.state.now) c.requires.frame c.requires.state (let x : Row = record { offset = c.in-Some.member.offset; entry = c.in-Some.member.entry } in x) c.in-Some.member.left c.in-Some.ensures.some in
     let pos = positive c.args.self.now.table.now c.args.self.now.fine c.in-Some.member.entry f.0 in
     let w = spends_more c.args.frame.nest (c.in-Some.member.offset - c.args.frame.done) (c.args.frame.size - c.args.frame.done) (omega (arith, pos, r, f.1)) in
-    omega (arith, c.visit.ensures.probes, w, g)
+    record { least = omega (arith, c.visit.ensures.spends.least); most = omega (arith, c.visit.ensures.spends.most, w, g) }
 
 pub overflow_add-done : goal.overflow_add-done
 overflow_add-done c =
@@ -112,12 +112,12 @@ returns-clause-ok c =
     let s = size_is c.args.self.now.table.now c.args.self.now.fine c.in-Some.member.entry f.0 in
     let size : c.entry.result.size ≡ size_of (declarations_of c.args.self.now.table.now) (ty.named c.in-Some.member.entry) = ap (λ (d : Entry). d.size) c.entry.ensures.value ∙ sym s in
     let before = c.args.state.now.steps + (c.args.frame.base + c.in-Some.member.offset - (c.args.frame.base + c.args.frame.done) + 1) in
-    let spent : (c.args.frame.base + c.in-Some.member.offset - (c.args.frame.base + c.args.frame.done) + 1) + (c.visit.new.state.steps - before) ≡ c.visit.new.state.steps - c.args.state.now.steps = omega (arith, c.visit.ensures.grows) in
+    let spent : (c.args.frame.base + c.in-Some.member.offset - (c.args.frame.base + c.args.frame.done) + 1) + (c.visit.new.state.steps - before) ≡ c.visit.new.state.steps - c.args.state.now.steps = omega (arith, c.visit.ensures.spends.least) in
     subst (λ (n : ℕ). Turns c.args.self.now.table.now (message_of c.args.self.now.bytes.now c.args.self.now.handles.now) c.args.frame (at_of c.args.state.now) (at_of c.visit.new.state) n (record { below = c.in_ok-below.below; rest = Some (record { left = c.in-Some.member.left; base = c.args.frame.base; done = c.in-Some.member.offset + c.entry.result.size; size = c.args.frame.size; nest = c.args.frame.nest; depth = c.args.frame.depth; inside = c.args.frame.inside }) })) spent
     (turns_more c.args.self.now.table.now c.args.self.now.fine (message_of c.args.self.now.bytes.now c.args.self.now.handles.now) c.args.frame (at_of c.args.state.now) c.requires.frame c.requires.state (let x : Row = record { offset = c.in-Some.member.offset; entry = c.in-Some.member.entry } in x) c.in-Some.member.left c.in-Some.ensures.some c.requires.plain (positive c.args.self.now.table.now c.args.self.now.fine c.in-Some.member.entry f.0) c.in-Some.ensures.left c.in-Some.ensures.plain c.in_ok-below.below _ _ (c.visit.new.state.steps - before) (ap (λ n. c.in-Some.member.offset + n) size) c.in_ok-zeros_at-2.ensures.ok c.in_ok-below.ensures.ok c.in_ok-below.ensures.fine)
 
-pub returns-clause-cost : goal.returns-clause-cost
-returns-clause-cost c =
+pub returns-clause-spends : goal.returns-clause-spends
+returns-clause-spends c =
     let r = row_room c.args.self.now.table.now c.args.self.now.fine (message_of c.args.self.now.bytes.now c.args.self.now.handles.now) c.args.frame (at_of c.args.state.now) c.requires.frame c.requires.state (let x : Row = record { offset = c.in-Some.member.offset; entry = c.in-Some.member.entry } in x) c.in-Some.member.left c.in-Some.ensures.some in
     let f = row_fine c.args.self.now.table.now c.args.self.now.fine (message_of c.args.self.now.bytes.now c.args.self.now.handles.now) c.args.frame (at_of c.args.state.now) c.requires.frame c.requires.state (let x : Row = record { offset = c.in-Some.member.offset; entry = c.in-Some.member.entry } in x) c.in-Some.member.left c.in-Some.ensures.some in
     let d = done_fits c.args.self.now.table.now c.args.self.now.fine (message_of c.args.self.now.bytes.now c.args.self.now.handles.now) c.args.frame (at_of c.args.state.now) c.requires.frame c.requires.state in
@@ -125,7 +125,7 @@ returns-clause-cost c =
     let g = gap c.args.self.now.table.now c.args.self.now.fine (message_of c.args.self.now.bytes.now c.args.self.now.handles.now) c.args.frame (at_of c.args.state.now) c.requires.frame c.requires.state (let x : Row = record { offset = c.in-Some.member.offset; entry = c.in-Some.member.entry } in x) c.in-Some.member.left c.in-Some.ensures.some in
     let pos = positive c.args.self.now.table.now c.args.self.now.fine c.in-Some.member.entry f.0 in
     let w = spends_more c.args.frame.nest (c.in-Some.member.offset - c.args.frame.done) (c.args.frame.size - c.args.frame.done) (omega (arith, pos, r, f.1)) in
-    omega (arith, c.visit.ensures.probes, w, g)
+    record { least = omega (arith, c.visit.ensures.spends.least); most = omega (arith, c.visit.ensures.spends.most, w, g) }
 
 pub returns-in_err-zeros_at-2-clause-fault_is_true : goal.returns-in_err-zeros_at-2-clause-fault_is_true
 returns-in_err-zeros_at-2-clause-fault_is_true c =

@@ -1,4 +1,4 @@
-use Rattle.fidl_decode.proofs.Fitting.{eq_le, eq_more, le_more_two, one_probe, le_one}
+use Rattle.fidl_decode.proofs.Fitting.{no_steps, same_steps, few_steps, eq_le, eq_more, le_more_two, one_probe, le_one}
 use Rattle.fidl_decode.proofs.Unchanged.{same_le, no_ok}
 use Rattle.std.proofs.Common.{◌-◌, arith, ◌≡◌, ◌<◌, sym, ap, subst, ◌∙◌, length, ◌+◌, ◌≤◌}
 use Rattle.std.specs.Prelude.{Some, None, IfOk}
@@ -181,14 +181,14 @@ read_leaf-requires-clause-budget c = c.requires.budget
 pub returns-in-Struct-clause-fault_is_true : goal.returns-in-Struct-clause-fault_is_true
 returns-in-Struct-clause-fault_is_true c = tt
 
-pub returns-in-Struct-clause-grows : goal.returns-in-Struct-clause-grows
-returns-in-Struct-clause-grows c = same_le _
+pub returns-in-Struct-clause-spends : goal.returns-in-Struct-clause-spends
+returns-in-Struct-clause-spends c = no_steps _ _
 
 pub returns-in-Array-clause-fault_is_true : goal.returns-in-Array-clause-fault_is_true
 returns-in-Array-clause-fault_is_true c = tt
 
-pub returns-in-Array-clause-grows : goal.returns-in-Array-clause-grows
-returns-in-Array-clause-grows c = same_le _
+pub returns-in-Array-clause-spends : goal.returns-in-Array-clause-spends
+returns-in-Array-clause-spends c = no_steps _ _
 
 pub returns-in_err-read_leaf-in_default-kind-clause-ok : goal.returns-in_err-read_leaf-in_default-kind-clause-ok
 returns-in_err-read_leaf-in_default-kind-clause-ok c = no_ok c.from_residual.result c.in_err-read_leaf-in_default-kind.field-0.0 _ c.from_residual.ensures.1
@@ -196,11 +196,8 @@ returns-in_err-read_leaf-in_default-kind-clause-ok c = no_ok c.from_residual.res
 pub returns-in_err-read_leaf-in_default-kind-clause-fine : goal.returns-in_err-read_leaf-in_default-kind-clause-fine
 returns-in_err-read_leaf-in_default-kind-clause-fine c = no_ok c.from_residual.result c.in_err-read_leaf-in_default-kind.field-0.0 _ c.from_residual.ensures.1
 
-pub returns-in_err-read_leaf-in_default-kind-clause-grows : goal.returns-in_err-read_leaf-in_default-kind-clause-grows
-returns-in_err-read_leaf-in_default-kind-clause-grows c = c.in_err-read_leaf-in_default-kind.ensures.grows
-
-pub returns-in_err-read_leaf-in_default-kind-clause-probes : goal.returns-in_err-read_leaf-in_default-kind-clause-probes
-returns-in_err-read_leaf-in_default-kind-clause-probes c = c.in_err-read_leaf-in_default-kind.ensures.probes
+pub returns-in_err-read_leaf-in_default-kind-clause-spends : goal.returns-in_err-read_leaf-in_default-kind-clause-spends
+returns-in_err-read_leaf-in_default-kind-clause-spends c = few_steps _ _ _ _ _ c.in_err-read_leaf-in_default-kind.ensures.grows c.in_err-read_leaf-in_default-kind.ensures.probes (same_le _)
 
 pub read_table-requires-clause-kind : goal.read_table-requires-clause-kind
 read_table-requires-clause-kind c = ap (λ (e : Entry). kind_of e.kind) (sym c.entry-e.ensures.value) ∙ sym c.from_number.ensures ∙ c.in-Some.is ∙ ap (λ (k : EntryKind). Some k) c.in-Table.is
@@ -217,23 +214,14 @@ read_table-requires-clause-room c = subst (λ n. c.args.place + n ≤ (length c.
 pub read_union-requires-clause-room : goal.read_union-requires-clause-room
 read_union-requires-clause-room c = subst (λ n. c.args.place + n ≤ (length c.args.self.now.bytes.now)) (sym (size_as c.args.self.now.table.now c.args.self.now.fine c.args.entry Union c.requires.entry (ap (λ (e : Entry). kind_of e.kind) (sym c.entry-e.ensures.value) ∙ sym c.from_number.ensures ∙ c.in-Some.is ∙ ap (λ (k : EntryKind). Some k) c.in-Union.is))) c.requires.room
 
-pub returns-in-Struct-clause-probes : goal.returns-in-Struct-clause-probes
-returns-in-Struct-clause-probes c = le_more_two _ _ _
-
-pub returns-in-Array-clause-probes : goal.returns-in-Array-clause-probes
-returns-in-Array-clause-probes c = le_more_two _ _ _
-
 pub returns-in-Box-clause-ok : goal.returns-in-Box-clause-ok
 returns-in-Box-clause-ok c = c.read_box.ensures.ok
 
 pub returns-in-Box-clause-fine : goal.returns-in-Box-clause-fine
 returns-in-Box-clause-fine c = c.read_box.ensures.fine c.args.inside (le_one c.args.inside _ c.requires.inside)
 
-pub returns-in-Box-clause-grows : goal.returns-in-Box-clause-grows
-returns-in-Box-clause-grows c = eq_le _ _ c.read_box.ensures.steps
-
-pub returns-in-Box-clause-probes : goal.returns-in-Box-clause-probes
-returns-in-Box-clause-probes c = eq_more _ _ _ _ c.read_box.ensures.steps
+pub returns-in-Box-clause-spends : goal.returns-in-Box-clause-spends
+returns-in-Box-clause-spends c = same_steps _ _ _ c.read_box.ensures.steps
 
 pub returns-in-Vector-clause-ok : goal.returns-in-Vector-clause-ok
 returns-in-Vector-clause-ok c = c.read_vector.ensures.ok
@@ -241,11 +229,8 @@ returns-in-Vector-clause-ok c = c.read_vector.ensures.ok
 pub returns-in-Vector-clause-fine : goal.returns-in-Vector-clause-fine
 returns-in-Vector-clause-fine c = c.read_vector.ensures.fine c.args.inside (le_one c.args.inside _ c.requires.inside)
 
-pub returns-in-Vector-clause-grows : goal.returns-in-Vector-clause-grows
-returns-in-Vector-clause-grows c = eq_le _ _ c.read_vector.ensures.steps
-
-pub returns-in-Vector-clause-probes : goal.returns-in-Vector-clause-probes
-returns-in-Vector-clause-probes c = eq_more _ _ _ _ c.read_vector.ensures.steps
+pub returns-in-Vector-clause-spends : goal.returns-in-Vector-clause-spends
+returns-in-Vector-clause-spends c = same_steps _ _ _ c.read_vector.ensures.steps
 
 pub returns-in-Table-clause-ok : goal.returns-in-Table-clause-ok
 returns-in-Table-clause-ok c = c.read_table.ensures.ok
@@ -253,11 +238,8 @@ returns-in-Table-clause-ok c = c.read_table.ensures.ok
 pub returns-in-Table-clause-fine : goal.returns-in-Table-clause-fine
 returns-in-Table-clause-fine c = c.read_table.ensures.fine c.args.inside (le_one c.args.inside _ c.requires.inside)
 
-pub returns-in-Table-clause-grows : goal.returns-in-Table-clause-grows
-returns-in-Table-clause-grows c = c.read_table.ensures.grows
-
-pub returns-in-Table-clause-probes : goal.returns-in-Table-clause-probes
-returns-in-Table-clause-probes c = one_probe _ _ _ c.read_table.ensures.cost
+pub returns-in-Table-clause-spends : goal.returns-in-Table-clause-spends
+returns-in-Table-clause-spends c = few_steps _ _ 1 _ _ c.read_table.ensures.grows c.read_table.ensures.cost (omega arith)
 
 pub returns-in-Union-clause-ok : goal.returns-in-Union-clause-ok
 returns-in-Union-clause-ok c = c.read_union.ensures.ok
@@ -265,5 +247,5 @@ returns-in-Union-clause-ok c = c.read_union.ensures.ok
 pub returns-in-Union-clause-fault_is_true : goal.returns-in-Union-clause-fault_is_true
 returns-in-Union-clause-fault_is_true c = c.read_union.ensures.fault_is_true
 
-pub returns-in-Union-clause-grows : goal.returns-in-Union-clause-grows
-returns-in-Union-clause-grows c = c.read_union.ensures.grows
+pub returns-in-Union-clause-spends : goal.returns-in-Union-clause-spends
+returns-in-Union-clause-spends c = record { least = omega (arith, c.read_union.ensures.grows); most = omega (arith, c.read_union.ensures.probes) }
