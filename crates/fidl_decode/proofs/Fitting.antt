@@ -105,14 +105,18 @@ some_left count some = omega arith
 pub eq_le : (a b : ℕ) → b ≡ a → a ≤ b
 eq_le a b e = omega arith
 
-pub eq_more : (a b k l : ℕ) → b ≡ a → b ≤ a + k + l
-eq_more a b k l e = omega arith
+-- a call that counts no fewer steps, or one more at least, and so many at most
+pub spends_any : (a b k : ℕ) → a ≤ b → b ≤ a + k → Spends a b 0 k
+spends_any a b k p q = record { least = omega arith; most = q }
 
-pub le_more_two : (a k l : ℕ) → a ≤ a + k + l
-le_more_two a k l = omega arith
+pub spends_some : (a b k : ℕ) → a < b → b ≤ a + k → Spends a b 1 k
+spends_some a b k p q = record { least = omega arith; most = q }
 
-pub one_probe : (a b k : ℕ) → b ≤ a + 1 + k → b ≤ a + 16 + k
-one_probe a b k h = omega arith
+pub not_fewer : (a b k : ℕ) → Spends a b 0 k → a ≤ b
+not_fewer a b k s = let h = s.least in omega arith
+
+pub one_more : (a b k : ℕ) → Spends a b 1 k → a < b
+one_more a b k s = let h = s.least in omega arith
 
 pub no_steps : (a k : ℕ) → Spends a a 0 k
 no_steps a k = record { least = omega arith; most = omega arith }
@@ -120,8 +124,8 @@ no_steps a k = record { least = omega arith; most = omega arith }
 pub same_steps : (a b k : ℕ) → b ≡ a → Spends a b 0 k
 same_steps a b k e = record { least = omega arith; most = omega arith }
 
-pub few_steps : (a b n k l : ℕ) → a ≤ b → b ≤ a + n + k → n ≤ l → Spends a b 0 (l + k)
-few_steps a b n k l p q le = record { least = omega arith; most = omega arith }
+pub more_steps : (a b k l : ℕ) → Spends a b 0 k → k ≤ l → Spends a b 0 l
+more_steps a b k l s le = let most = s.most in record { least = s.least; most = omega arith }
 
 pub lt_le : (a b : ℕ) → a < b → a ≤ b
 lt_le a b h = omega arith
@@ -144,6 +148,3 @@ smaller_on x f w now new less rises = omega arith
 
 pub next_fits : (first count rows known limit : ℕ) → first + count ≤ rows → known ≡ rows → known < limit → (count ≡ 0 → ⊥) → first + 1 < limit
 next_fits first count rows known limit h is fits some = omega arith
-
-pub grows_thrice : (a b c d : ℕ) → b ≡ a → b ≤ c → c ≤ d → a ≤ d
-grows_thrice a b c d e p q = omega arith

@@ -10,6 +10,7 @@ ghost use Rattle.fidl_table_format.specs.Section.{header_of, entry_at, row_at};
 ghost use Rattle.fidl_table_format.specs.Terms.{members_of};
 ghost use Rattle.fidl_decode.specs.Faults.{message_of};
 ghost use Rattle.fidl_decode.specs.Body.{BodyFine, IsPassing, rest_of};
+ghost use Rattle.fidl_decode.specs.Steps.{Spends};
 ghost use Rattle.fidl_decode.specs.Machine.{StateFine, FrameFine, Turns, at_of};
 
 use crate::decoder::Decoder;
@@ -327,8 +328,7 @@ impl<'t, 'm> Decoder<'t, 'm> {
             (at_of state.old) (at_of state.new) (state.new.steps - state.old.steps)
             (record { below = None; rest = result }) }
         ensures next { state.new.next ≡ state.old.next }
-        ensures grows { state.old.steps ≤ state.new.steps }
-        ensures steps { state.new.steps ≤ state.old.steps + 1 }
+        ensures spends { Spends state.old.steps state.new.steps 0 1 }
     {
         if read == body.count {
             state.steps += 1;

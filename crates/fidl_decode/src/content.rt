@@ -6,6 +6,7 @@ ghost use Rattle.fidl_table_format.specs.Section.{entry_at};
 ghost use Rattle.fidl_decode.specs.Invariants.{IsFlat};
 ghost use Rattle.fidl_decode.specs.Faults.{message_of};
 ghost use Rattle.fidl_decode.specs.declared.frame.Left.TheVariants as left;
+ghost use Rattle.fidl_decode.specs.Steps.{Spends};
 ghost use Rattle.fidl_decode.specs.Machine.{StateFine, FrameFine, Turns, BreaksFrame};
 ghost use Rattle.fidl_decode.specs.Machine.{turn_work, at_of};
 
@@ -35,9 +36,8 @@ impl<'t, 'm> Decoder<'t, 'm> {
         ensures ok { IfOk result
             (λ turn. Turns self.now.table.now (message_of self.now.bytes.now self.now.handles.now)
             frame (at_of state.old) (at_of state.new) (state.new.steps - state.old.steps) turn) }
-        ensures rises { state.old.steps < state.new.steps }
-        ensures cost { state.new.steps ≤ state.old.steps
-            + turn_work self.now.bytes.now state.old.next frame }
+        ensures spends { Spends state.old.steps state.new.steps 1
+            (turn_work self.now.bytes.now state.old.next frame) }
         ensures fault_is_true { IfErr result
             (BreaksFrame self.now.table.now (message_of self.now.bytes.now self.now.handles.now)
             frame (at_of state.old)) }

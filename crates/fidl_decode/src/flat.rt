@@ -12,6 +12,7 @@ ghost use Rattle.fidl_decode.specs.Invariants.{AreLeaves, IsFlat};
 ghost use Rattle.fidl_decode.specs.Faults.{message_of};
 ghost use Rattle.fidl_decode.specs.Breaks.{Breaks};
 ghost use Rattle.fidl_decode.specs.declared.frame.Left.TheVariants as left;
+ghost use Rattle.fidl_decode.specs.Steps.{Spends};
 ghost use Rattle.fidl_decode.specs.Machine.{StateFine, FrameFine, BreaksFrame, Visits};
 ghost use Rattle.fidl_decode.specs.Machine.{Turns, turn_work, value_work, at_of};
 
@@ -80,9 +81,8 @@ impl<'t, 'm> Decoder<'t, 'm> {
             (Turns self.now.table.now (message_of self.now.bytes.now self.now.handles.now) frame
             (at_of state.old) (at_of state.new) (state.new.steps - state.old.steps)
             (record { below = None; rest = None })) }
-        ensures rises { state.old.steps < state.new.steps }
-        ensures cost { state.new.steps
-            ≤ state.old.steps + turn_work self.now.bytes.now state.old.next frame }
+        ensures spends { Spends state.old.steps state.new.steps 1
+            (turn_work self.now.bytes.now state.old.next frame) }
         ensures fault_is_true { IfErr result
             (BreaksFrame self.now.table.now (message_of self.now.bytes.now self.now.handles.now)
             frame (at_of state.old)) }
@@ -136,9 +136,9 @@ impl<'t, 'm> Decoder<'t, 'm> {
             (message_of self.now.bytes.now self.now.handles.now) depth
             (resolve (declarations_of self.now.table.now).terms (ty.named entry)) place
             (at_of state.old)) }
-        ensures grows { state.old.steps ≤ state.new.steps }
-        ensures cost { state.new.steps ≤ state.old.steps
-            + value_work self.now.bytes.now state.old.next (entry_at self.now.table.now entry) }
+        ensures spends { Spends state.old.steps state.new.steps 0
+            (value_work self.now.bytes.now state.old.next
+            (entry_at self.now.table.now entry)) }
     {
         if is_leaf(kind) {
             return self.read_leaf(entry, kind, place, depth, state);

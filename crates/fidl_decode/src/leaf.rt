@@ -15,6 +15,7 @@ ghost use Rattle.fidl_table_format.specs.Terms.{underlying, mask_of, strict_valu
 ghost use Rattle.fidl_decode.specs.Invariants.{EnumFine, is_leaf, is_free};
 ghost use Rattle.fidl_decode.specs.Faults.{message_of};
 ghost use Rattle.fidl_decode.specs.Breaks.{BreaksField, Breaks};
+ghost use Rattle.fidl_decode.specs.Steps.{Spends};
 ghost use Rattle.fidl_decode.specs.Machine.{StateFine, Visits, at_of, probes};
 
 use crate::decoder::Decoder;
@@ -92,8 +93,7 @@ impl<'t, 'm> Decoder<'t, 'm> {
             (BreaksField (message_of self.now.bytes.now self.now.handles.now)
             (ty.enum (underlying entry.now) (strict_values self.now.table.now (header_of self.now.table.now) entry.now)) place) }
         ensures same { at_of state.new ≡ at_of state.old }
-        ensures grows { state.old.steps ≤ state.new.steps }
-        ensures probes { state.new.steps ≤ state.old.steps + probes }
+        ensures spends { Spends state.old.steps state.new.steps 0 probes }
     {
         if !entry.is_strict() {
             return Ok(());
@@ -133,9 +133,8 @@ impl<'t, 'm> Decoder<'t, 'm> {
             (message_of self.now.bytes.now self.now.handles.now) depth
             (resolve (declarations_of self.now.table.now).terms (ty.named entry)) place
             (at_of state.old)) }
-        ensures grows { state.old.steps ≤ state.new.steps }
-        ensures probes { state.new.steps ≤ state.old.steps + probes
-            + (length self.now.bytes.now - state.old.next) }
+        ensures spends { Spends state.old.steps state.new.steps 0
+            (probes + (length self.now.bytes.now - state.old.next)) }
     {
         match kind {
             EntryKind::Bool => {

@@ -7,6 +7,7 @@ ghost use Rattle.fidl_table_format.specs.Section.{header_of, entry_at, row_at};
 ghost use Rattle.fidl_decode.specs.Invariants.{is_leaf};
 ghost use Rattle.fidl_decode.specs.Faults.{message_of};
 ghost use Rattle.fidl_decode.specs.declared.frame.Left.TheVariants as left;
+ghost use Rattle.fidl_decode.specs.Steps.{Spends};
 ghost use Rattle.fidl_decode.specs.Machine.{StateFine, FrameFine, BreaksFrame, Turns};
 ghost use Rattle.fidl_decode.specs.Machine.{IsPlain, IsKnown, rows_left, behind_rows};
 ghost use Rattle.fidl_decode.specs.Machine.{turn_work, at_of};
@@ -62,9 +63,8 @@ impl<'t, 'm> Decoder<'t, 'm> {
             (λ rest. Turns self.now.table.now (message_of self.now.bytes.now self.now.handles.now)
             frame (at_of state.old) (at_of state.new) (state.new.steps - state.old.steps)
             (record { below = None; rest = rest })) }
-        ensures rises { state.old.steps < state.new.steps }
-        ensures cost { state.new.steps
-            ≤ state.old.steps + turn_work self.now.bytes.now state.old.next frame }
+        ensures spends { Spends state.old.steps state.new.steps 1
+            (turn_work self.now.bytes.now state.old.next frame) }
         ensures fault_is_true { IfErr result
             (BreaksFrame self.now.table.now (message_of self.now.bytes.now self.now.handles.now)
             frame (at_of state.old)) }
@@ -106,9 +106,8 @@ impl<'t, 'm> Decoder<'t, 'm> {
               below = None;
               rest = Some (behind_rows frame (first + 1) (count - 1) done);
             })) }
-        ensures rises { state.old.steps < state.new.steps }
-        ensures cost { state.new.steps
-            ≤ state.old.steps + turn_work self.now.bytes.now state.old.next frame }
+        ensures spends { Spends state.old.steps state.new.steps 1
+            (turn_work self.now.bytes.now state.old.next frame) }
         ensures fault_is_true { IfErr result
             (BreaksFrame self.now.table.now (message_of self.now.bytes.now self.now.handles.now)
             frame (at_of state.old)) }
@@ -136,9 +135,8 @@ impl<'t, 'm> Decoder<'t, 'm> {
             (Turns self.now.table.now (message_of self.now.bytes.now self.now.handles.now) frame
             (at_of state.old) (at_of state.new) (state.new.steps - state.old.steps)
             (record { below = None; rest = None })) }
-        ensures rises { state.old.steps < state.new.steps }
-        ensures cost { state.new.steps
-            ≤ state.old.steps + turn_work self.now.bytes.now state.old.next frame }
+        ensures spends { Spends state.old.steps state.new.steps 1
+            (turn_work self.now.bytes.now state.old.next frame) }
         ensures fault_is_true { IfErr result
             (BreaksFrame self.now.table.now (message_of self.now.bytes.now self.now.handles.now)
             frame (at_of state.old)) }

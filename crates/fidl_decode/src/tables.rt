@@ -8,6 +8,7 @@ ghost use Rattle.fidl_table_format.specs.Section.{header_of, entry_at};
 ghost use Rattle.fidl_decode.specs.Faults.{message_of};
 ghost use Rattle.fidl_decode.specs.Breaks.{BreaksTable};
 ghost use Rattle.fidl_decode.specs.Body.{envelopes_of};
+ghost use Rattle.fidl_decode.specs.Steps.{Spends};
 ghost use Rattle.fidl_decode.specs.Machine.{StateFine, Visits, VisitFine, at_of};
 
 use crate::decoder::Decoder;
@@ -93,9 +94,8 @@ impl<'t, 'm> Decoder<'t, 'm> {
             (message_of self.now.bytes.now self.now.handles.now) depth inside entry) }
         ensures fault_is_true { IfErr result (BreaksTable
             (message_of self.now.bytes.now self.now.handles.now) depth place state.old.next) }
-        ensures grows { state.old.steps ≤ state.new.steps }
-        ensures cost { state.new.steps
-            ≤ state.old.steps + 1 + (length self.now.bytes.now - state.old.next) }
+        ensures spends { Spends state.old.steps state.new.steps 0
+            (1 + (length self.now.bytes.now - state.old.next)) }
     {
         let from = state.next;
         let count = self.open_table(entry, place, depth, state)?;

@@ -6,6 +6,7 @@ ghost use Rattle.fidl_wire.specs.Term as ty;
 ghost use Rattle.fidl_table_format.specs.Terms.{declarations_of, is_optional};
 ghost use Rattle.fidl_decode.specs.Faults.{message_of};
 ghost use Rattle.fidl_decode.specs.Breaks.{BreaksText};
+ghost use Rattle.fidl_decode.specs.Steps.{Spends};
 ghost use Rattle.fidl_decode.specs.Machine.{StateFine, Leads, at_of};
 
 use crate::decoder::{Decoder, zeros_at};
@@ -76,9 +77,8 @@ impl<'t, 'm> Decoder<'t, 'm> {
             (StateFine (message_of self.now.bytes.now self.now.handles.now) (at_of state.new)) }
         ensures spent { OnOk result
             (state.new.steps + state.old.next ≡ state.old.steps + state.new.next) }
-        ensures grows { state.old.steps ≤ state.new.steps }
-        ensures cost { state.new.steps ≤ state.old.steps
-            + (length self.now.bytes.now - state.old.next) }
+        ensures spends { Spends state.old.steps state.new.steps 0
+            (length self.now.bytes.now - state.old.next) }
     {
         let count = u64_at(self.bytes, place);
         if !self.is_present(place + 8) {

@@ -11,6 +11,7 @@ ghost use Rattle.fidl_table_format.specs.Section.{header_of, entry_at};
 ghost use Rattle.fidl_table_format.specs.Terms.{declarations_of};
 ghost use Rattle.fidl_decode.specs.Faults.{message_of};
 ghost use Rattle.fidl_decode.specs.Breaks.{Breaks, BreaksMember};
+ghost use Rattle.fidl_decode.specs.Steps.{Spends};
 ghost use Rattle.fidl_decode.specs.Machine.{StateFine, Visits, VisitFine, Opens, member_term, at_of};
 ghost use Rattle.fidl_decode.specs.Machine.{probes};
 
@@ -77,8 +78,7 @@ impl<'t, 'm> Decoder<'t, 'm> {
             (message_of self.now.bytes.now self.now.handles.now) depth
             (resolve (declarations_of self.now.table.now).terms (ty.named entry)) place
             (at_of state.old)) }
-        ensures grows { state.old.steps ≤ state.new.steps }
-        ensures probes { state.new.steps ≤ state.old.steps + probes }
+        ensures spends { Spends state.old.steps state.new.steps 0 probes }
     {
         let e = self.table.entry(entry);
         let ordinal = u64_at(self.bytes, place);

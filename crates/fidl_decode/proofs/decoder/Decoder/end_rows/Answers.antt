@@ -1,3 +1,4 @@
+use Rattle.fidl_decode.proofs.Fitting.{spends_some}
 use Rattle.std.proofs.Common.{refl, arith}
 use Rattle.fidl_decode.specs.Machine.{at_of}
 use Rattle.fidl_decode.specs.Faults.{message_of}
@@ -94,12 +95,12 @@ returns-clause-fault_is_true c =
     let start = turns_start t m f old c.requires.frame c.requires.state f refl in
     IfErr-weaker c.zeros_at.result _ _ (λ fault bad. over_breaks t c.args.self.now.fine m f old old 0 f start c.requires.over c.requires.plain fault bad) c.zeros_at.ensures.fault_is_true
 
-pub returns-clause-cost : goal.returns-clause-cost
-returns-clause-cost c =
+pub returns-clause-spends : goal.returns-clause-spends
+returns-clause-spends c =
     let t = c.args.self.now.table.now in
     let m = message_of c.args.self.now.bytes.now c.args.self.now.handles.now in
     let f = c.args.frame in
     let old = at_of c.args.state.now in
     let start = turns_start t m f old c.requires.frame c.requires.state f refl in
     let room = over_room t c.args.self.now.fine m f old old 0 f start in
-    omega (arith, room.0, room.2)
+    spends_some _ _ _ (omega arith) (omega (arith, room.0, room.2))

@@ -1,3 +1,4 @@
+use Rattle.fidl_decode.proofs.Fitting.{spends_some}
 use Rattle.fidl_decode.proofs.Unchanged.{no_ok}
 use Rattle.std.proofs.Common.{◌≡◌, ◌+◌, ◌-◌, ◌≤◌, ap, subst, ◌∙◌, arith, inl, inr}
 use Rattle.std.specs.Prelude.{Some}
@@ -75,13 +76,13 @@ zeros_at-requires-clause-room c =
     let room = last_room t c.args.self.now.fine m c.args.frame c.args.first c.row-row.result last c.row-row.ensures.value (at_of c.args.state.now) c.requires.frame c.requires.state in
     omega (arith, room.1, room.2)
 
-pub returns-in_err-zeros_at-clause-cost : goal.returns-in_err-zeros_at-clause-cost
-returns-in_err-zeros_at-clause-cost c =
+pub returns-in_err-zeros_at-clause-spends : goal.returns-in_err-zeros_at-clause-spends
+returns-in_err-zeros_at-clause-spends c =
     let t = c.args.self.now.table.now in
     let m = message_of c.args.self.now.bytes.now c.args.self.now.handles.now in
     let last = c.requires.left in
     let room = last_room t c.args.self.now.fine m c.args.frame c.args.first c.row-row.result last c.row-row.ensures.value (at_of c.args.state.now) c.requires.frame c.requires.state in
-    omega (arith, room.3, room.0)
+    spends_some _ _ _ (omega arith) (omega (arith, room.3, room.0))
 
 pub returns-in_err-zeros_at-clause-fault_is_true : goal.returns-in_err-zeros_at-clause-fault_is_true
 returns-in_err-zeros_at-clause-fault_is_true c =
@@ -100,14 +101,14 @@ read_box-requires-clause-room c =
     let size : 8 ≡ (entry_at t c.row-row.result.entry).size = size_as t c.args.self.now.fine c.row-row.result.entry Box c.row-row.ensures.entry is in
     omega (arith, room.1, room.2, size)
 
-pub returns-in_err-below-clause-cost : goal.returns-in_err-below-clause-cost
-returns-in_err-below-clause-cost c =
+pub returns-in_err-below-clause-spends : goal.returns-in_err-below-clause-spends
+returns-in_err-below-clause-spends c =
     let t = c.args.self.now.table.now in
     let m = message_of c.args.self.now.bytes.now c.args.self.now.handles.now in
     let last = c.requires.left in
     let room = last_room t c.args.self.now.fine m c.args.frame c.args.first c.row-row.result last c.row-row.ensures.value (at_of c.args.state.now) c.requires.frame c.requires.state in
     let still = c.in_err-below.ensures.steps in
-    omega (arith, still, room.3, room.0)
+    spends_some _ _ _ (omega arith) (omega (arith, still, room.3, room.0))
 
 pub returns-in_err-below-clause-fault_is_true : goal.returns-in_err-below-clause-fault_is_true
 returns-in_err-below-clause-fault_is_true c =
@@ -127,14 +128,14 @@ returns-clause-ok c =
     let few : c.args.frame.inside ≤ 1 = elim c.requires.frame.inside [ inl out ↦ omega (arith, out) | inr own ↦ (let one = own.0 in omega (arith, one)) ] in
     last_turns t c.args.self.now.fine m c.args.frame c.args.first c.row-row.result last c.row-row.ensures.value (at_of c.args.state.now) c.requires.frame c.requires.state (at_of c.read_box.new.state) (c.read_box.new.state.steps - (c.args.state.now.steps + (c.args.frame.base + c.row-row.result.key - (c.args.frame.base + c.args.frame.done) + 1))) (c.read_box.new.state.steps - c.args.state.now.steps) whole (omega (arith, still)) c.in_ok-zeros_at.ensures.ok c.in_ok-below.below c.in_ok-below.ensures.ok (c.in_ok-below.ensures.fine c.args.frame.inside few)
 
-pub returns-clause-cost : goal.returns-clause-cost
-returns-clause-cost c =
+pub returns-clause-spends : goal.returns-clause-spends
+returns-clause-spends c =
     let t = c.args.self.now.table.now in
     let m = message_of c.args.self.now.bytes.now c.args.self.now.handles.now in
     let last = c.requires.left in
     let room = last_room t c.args.self.now.fine m c.args.frame c.args.first c.row-row.result last c.row-row.ensures.value (at_of c.args.state.now) c.requires.frame c.requires.state in
     let still = c.in_ok-below.ensures.steps in
-    omega (arith, still, room.3, room.0)
+    spends_some _ _ _ (omega arith) (omega (arith, still, room.3, room.0))
 
 pub read_box-requires-clause-kind : goal.read_box-requires-clause-kind
 read_box-requires-clause-kind c =

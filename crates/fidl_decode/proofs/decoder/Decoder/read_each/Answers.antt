@@ -1,3 +1,4 @@
+use Rattle.fidl_decode.proofs.Fitting.{not_fewer}
 use Rattle.fidl_decode.proofs.Unchanged.{no_ok}
 use Rattle.std.proofs.Common.{◌≡◌, ◌+◌, ◌-◌, arith}
 use Rattle.fidl_decode.specs.declared.frame.Left.TheVariants.{Elements}
@@ -47,7 +48,7 @@ loop-i-preserved c =
     let own = next_size c.args.self.now.table.now c.args.self.now.fine (message_of c.args.self.now.bytes.now c.args.self.now.handles.now) c.args.frame (at_of c.args.state.now) (at_of c.loop-i.state) (c.loop-i.state.steps - c.args.state.now.steps) (going_on c.args.frame (Elements c.args.entry c.args.size (c.args.count - c.loop-i.i)) c.loop-i.done) c.loop-i.invariant.turns (let x : Row = record { offset = c.loop-i.done; entry = c.args.entry } in x) (Elements c.args.entry c.args.size (c.args.count - (c.loop-i.i + 1))) one in
     let none : c.args.frame.base + c.loop-i.done - (c.args.frame.base + c.loop-i.done) ≡ 0 = omega arith in
     let so_far = c.loop-i.invariant.steps in
-    record { turns = next_turns c.args.self.now.table.now c.args.self.now.fine (message_of c.args.self.now.bytes.now c.args.self.now.handles.now) c.args.frame (at_of c.args.state.now) (at_of c.loop-i.state) (c.loop-i.state.steps - c.args.state.now.steps) (going_on c.args.frame (Elements c.args.entry c.args.size (c.args.count - c.loop-i.i)) c.loop-i.done) c.loop-i.invariant.turns (let x : Row = record { offset = c.loop-i.done; entry = c.args.entry } in x) (Elements c.args.entry c.args.size (c.args.count - (c.loop-i.i + 1))) one tt is tt (at_of c.read_leaf.new.state) (c.loop-i.done + c.args.size) _ (c.read_leaf.new.state.steps - c.args.state.now.steps) (omega (arith, own, is)) (omega (arith, c.in_ok-read_leaf.ensures.grows, so_far)) (no_zeros c.args.self.now.bytes.now (c.args.frame.base + c.loop-i.done) _ none) c.in_ok-read_leaf.ensures.ok; steps = omega (arith, c.in_ok-read_leaf.ensures.grows, so_far) }
+    record { turns = next_turns c.args.self.now.table.now c.args.self.now.fine (message_of c.args.self.now.bytes.now c.args.self.now.handles.now) c.args.frame (at_of c.args.state.now) (at_of c.loop-i.state) (c.loop-i.state.steps - c.args.state.now.steps) (going_on c.args.frame (Elements c.args.entry c.args.size (c.args.count - c.loop-i.i)) c.loop-i.done) c.loop-i.invariant.turns (let x : Row = record { offset = c.loop-i.done; entry = c.args.entry } in x) (Elements c.args.entry c.args.size (c.args.count - (c.loop-i.i + 1))) one tt is tt (at_of c.read_leaf.new.state) (c.loop-i.done + c.args.size) _ (c.read_leaf.new.state.steps - c.args.state.now.steps) (omega (arith, own, is)) (omega (arith, (not_fewer _ _ _ c.in_ok-read_leaf.ensures.spends), so_far)) (no_zeros c.args.self.now.bytes.now (c.args.frame.base + c.loop-i.done) _ none) c.in_ok-read_leaf.ensures.ok; steps = omega (arith, (not_fewer _ _ _ c.in_ok-read_leaf.ensures.spends), so_far) }
 
 pub overflow_add-at : goal.overflow_add-at
 overflow_add-at c =
@@ -95,7 +96,7 @@ returns-in_err-read_leaf-clause-cost c =
     let spend = room.3 in
     let less = c.loop-i.invariant.turns.less in
     let so_far = c.loop-i.invariant.steps in
-    omega (arith, spend, less, so_far, c.in_err-read_leaf.ensures.probes)
+    omega (arith, spend, less, so_far, c.in_err-read_leaf.ensures.spends.most)
 
 pub read_leaf-requires-clause-entry : goal.read_leaf-requires-clause-entry
 read_leaf-requires-clause-entry c = c.requires.entry

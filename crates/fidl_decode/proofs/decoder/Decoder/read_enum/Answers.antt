@@ -1,3 +1,5 @@
+use Rattle.fidl_decode.proofs.Fitting.{spends_any}
+use Rattle.std.proofs.Common.{arith}
 use Rattle.fidl_decode.proofs.Unchanged.{same_le}
 use Rattle.std.proofs.Common.{rules, ◌≡◌, ap, sym, subst, refl}
 use Rattle.std.specs.Prelude.{Option, Some, None, true, Bool, ℤ, List, if◌then◌else◌}
@@ -20,8 +22,8 @@ returns-then-not-has_value-clause-fault_is_true c =
 pub returns-then-not-is_strict-clause-fault_is_true : goal.returns-then-not-is_strict-clause-fault_is_true
 returns-then-not-is_strict-clause-fault_is_true c = tt
 
-pub returns-then-not-is_strict-clause-grows : goal.returns-then-not-is_strict-clause-grows
-returns-then-not-is_strict-clause-grows c = same_le _
+pub returns-then-not-is_strict-clause-spends : goal.returns-then-not-is_strict-clause-spends
+returns-then-not-is_strict-clause-spends c = spends_any _ _ _ (same_le _) (omega arith)
 
 pub has_value-requires-clause-values : goal.has_value-requires-clause-values
 has_value-requires-clause-values c = c.requires.values

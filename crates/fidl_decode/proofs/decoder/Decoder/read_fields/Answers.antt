@@ -1,4 +1,4 @@
-use Rattle.fidl_decode.proofs.Fitting.{budget_on, cost_on, rises_on, first_in, some_left, next_fits}
+use Rattle.fidl_decode.proofs.Fitting.{budget_on, cost_on, rises_on, first_in, some_left, next_fits, spends_some, one_more}
 use Rattle.fidl_decode.proofs.Unchanged.{no_ok}
 use Rattle.std.proofs.Common.{◌≡◌, ◌+◌, ◌-◌, sym, ap, subst, ◌∙◌, arith, ◌≤◌, ◌<◌, ◌^◌}
 use Rattle.std.specs.Prelude.{Some, None}
@@ -99,7 +99,7 @@ loop-many-preserved c =
     let size : (row_at t (header_of t) c.loop-many.next).key + (entry_at t (row_at t (header_of t) c.loop-many.next).entry).size ≡ c.row-row.result.key + c.entry-e.result.size = ap (λ (w : raw.Row). w.key + (entry_at t w.entry).size) (sym c.row-row.ensures.value) ∙ ap (λ (e : Entry). c.row-row.result.key + e.size) (sym c.entry-e.ensures.value) in
     let one = subst (λ (x : Frame). Turns t m x now new spent (left_over (Some (going_on x rows ((row_at t (header_of t) c.loop-many.next).key + (entry_at t (row_at t (header_of t) c.loop-many.next).entry).size))))) same c.in_ok-read_row.ensures.ok in
     let two = subst (λ d. Turns t m g now new spent (left_over (Some (going_on c.args.frame rows d)))) size one in
-    let rises = c.in_ok-read_row.ensures.rises in
+    let rises = (one_more _ _ _ c.in_ok-read_row.ensures.spends) in
     let done = c.row-row.result.key + c.entry-e.result.size in
     record {
       turns = turns_then t m f old now a g c.loop-many.invariant.turns new spent (c.read_row.new.state.steps - c.args.state.now.steps) (left_over (Some (going_on c.args.frame rows done))) (omega (arith, begun, rises)) two;
@@ -140,7 +140,7 @@ returns-clause-ok c =
     let new = at_of c.end_rows.new.state in
     let spent = c.end_rows.new.state.steps - c.loop-many.state.steps in
     let all = c.end_rows.new.state.steps - c.args.state.now.steps in
-    let rises = c.end_rows.ensures.rises in
+    let rises = (one_more _ _ _ c.end_rows.ensures.spends) in
     on_ok_from c.end_rows.result (λ two. turns_then t m f old now a rest so_far new spent all (left_over None) (omega (arith, begun, rises)) two) c.end_rows.ensures.ok
 
 pub returns-clause-fault_is_true : goal.returns-clause-fault_is_true
@@ -192,11 +192,8 @@ read_row-requires-clause-state c = c.loop-many.invariant.turns.state
 pub read_row-requires-clause-budget : goal.read_row-requires-clause-budget
 read_row-requires-clause-budget c = subst (λ (x : Frame). c.loop-many.state.steps + turn_work c.args.self.now.bytes.now c.loop-many.state.next x < 2 ^ 40) (sym c.rows_from-rest.ensures) (budget_on _ _ _ c.args.state.now.steps c.loop-many.state.steps (2 ^ 40) c.loop-many.invariant.steps c.loop-many.invariant.turns.less c.requires.budget)
 
-pub returns-in_err-read_row-clause-rises : goal.returns-in_err-read_row-clause-rises
-returns-in_err-read_row-clause-rises c = rises_on _ _ _ c.loop-many.invariant.steps c.in_err-read_row.ensures.rises
-
-pub returns-in_err-read_row-clause-cost : goal.returns-in_err-read_row-clause-cost
-returns-in_err-read_row-clause-cost c = cost_on _ _ _ c.args.state.now.steps c.loop-many.state.steps c.read_row.new.state.steps c.loop-many.invariant.steps c.loop-many.invariant.turns.less (subst (λ (x : Frame). c.read_row.new.state.steps ≤ c.loop-many.state.steps + turn_work c.args.self.now.bytes.now c.loop-many.state.next x) c.rows_from-rest.ensures c.in_err-read_row.ensures.cost)
+pub returns-in_err-read_row-clause-spends : goal.returns-in_err-read_row-clause-spends
+returns-in_err-read_row-clause-spends c = spends_some _ _ _ (rises_on _ _ _ c.loop-many.invariant.steps (one_more _ _ _ c.in_err-read_row.ensures.spends)) (cost_on _ _ _ c.args.state.now.steps c.loop-many.state.steps c.read_row.new.state.steps c.loop-many.invariant.steps c.loop-many.invariant.turns.less (subst (λ (x : Frame). c.read_row.new.state.steps ≤ c.loop-many.state.steps + turn_work c.args.self.now.bytes.now c.loop-many.state.next x) c.rows_from-rest.ensures c.in_err-read_row.ensures.spends.most))
 
 pub overflow_sub-many : goal.overflow_sub-many
 overflow_sub-many c = some_left c.loop-many.many c.loop-many-test.true
@@ -210,11 +207,8 @@ end_rows-requires-clause-plain c = subst (λ (x : Frame). IsPlain x.left) (sym c
 pub end_rows-requires-clause-state : goal.end_rows-requires-clause-state
 end_rows-requires-clause-state c = c.loop-many.invariant.turns.state
 
-pub returns-clause-rises : goal.returns-clause-rises
-returns-clause-rises c = rises_on _ _ _ c.loop-many.invariant.steps c.end_rows.ensures.rises
+pub returns-clause-spends : goal.returns-clause-spends
+returns-clause-spends c = spends_some _ _ _ (rises_on _ _ _ c.loop-many.invariant.steps (one_more _ _ _ c.end_rows.ensures.spends)) (cost_on _ _ _ c.args.state.now.steps c.loop-many.state.steps c.end_rows.new.state.steps c.loop-many.invariant.steps c.loop-many.invariant.turns.less (subst (λ (x : Frame). c.end_rows.new.state.steps ≤ c.loop-many.state.steps + turn_work c.args.self.now.bytes.now c.loop-many.state.next x) c.rows_from.ensures c.end_rows.ensures.spends.most))
 
 pub end_rows-requires-clause-budget : goal.end_rows-requires-clause-budget
 end_rows-requires-clause-budget c = subst (λ (x : Frame). c.loop-many.state.steps + turn_work c.args.self.now.bytes.now c.loop-many.state.next x < 2 ^ 40) (sym c.rows_from.ensures) (budget_on _ _ _ c.args.state.now.steps c.loop-many.state.steps (2 ^ 40) c.loop-many.invariant.steps c.loop-many.invariant.turns.less c.requires.budget)
-
-pub returns-clause-cost : goal.returns-clause-cost
-returns-clause-cost c = cost_on _ _ _ c.args.state.now.steps c.loop-many.state.steps c.end_rows.new.state.steps c.loop-many.invariant.steps c.loop-many.invariant.turns.less (subst (λ (x : Frame). c.end_rows.new.state.steps ≤ c.loop-many.state.steps + turn_work c.args.self.now.bytes.now c.loop-many.state.next x) c.rows_from.ensures c.end_rows.ensures.cost)

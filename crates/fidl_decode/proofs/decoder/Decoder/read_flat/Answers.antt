@@ -1,3 +1,4 @@
+use Rattle.fidl_decode.proofs.Fitting.{spends_any, not_fewer, one_more}
 use Rattle.std.proofs.Common.{◌≡◌, ◌-◌, false, true, refl, sym, ap, subst, ◌∙◌, arith, inl, inr}
 use Rattle.std.specs.Prelude.{Some}
 use Rattle.std.proofs.lemmas.Result.{IfErr-weaker}
@@ -18,12 +19,12 @@ use Rattle.fidl_decode.proofs.decoder.Decoder.read_flat.Goals as goal
 no_true : false ≡ true → ⊥
 no_true e = cc
 
-pub returns-then-is_leaf-clause-cost : goal.returns-then-is_leaf-clause-cost
-returns-then-is_leaf-clause-cost c =
+pub returns-then-is_leaf-clause-spends : goal.returns-then-is_leaf-clause-spends
+returns-then-is_leaf-clause-spends c =
     let t = c.args.self.now.table.now in
     let m = message_of c.args.self.now.bytes.now c.args.self.now.handles.now in
     let old = at_of c.args.state.now in
-    omega (arith, c.read_leaf.ensures.probes, leaf_cost t c.args.self.now.fine c.args.self.now.bytes.now c.args.state.now.next c.args.entry c.requires.entry)
+    spends_any _ _ _ (omega (arith, (not_fewer _ _ _ c.read_leaf.ensures.spends))) (omega (arith, c.read_leaf.ensures.spends.most, leaf_cost t c.args.self.now.fine c.args.self.now.bytes.now c.args.state.now.next c.args.entry c.requires.entry))
 
 pub read_fields-requires-clause-frame : goal.read_fields-requires-clause-frame
 read_fields-requires-clause-frame c =
@@ -65,7 +66,7 @@ returns-clause-ok c =
     let frame : Entry → Frame = λ d. struct_frame d c.args.place c.args.depth 0 in
     let visit = subst (λ (d : Entry). Visits t m c.args.depth c.args.entry c.args.place old old 0 (Some (frame d))) (sym c.entry-e.ensures.value)
     (visits_struct t c.args.self.now.fine m c.args.depth c.args.entry c.args.place old c.requires.entry c.requires.state c.requires.depth 0 0 refl is c.requires.room) in
-    let rises = c.read_fields.ensures.rises in
+    let rises = (one_more _ _ _ c.read_fields.ensures.spends) in
     on_ok_from c.read_fields.result (λ turns. visits_over t m c.args.depth c.args.entry c.args.place old old 0 (frame c.entry-e.result) visit (at_of c.read_fields.new.state) (c.read_fields.new.state.steps - c.args.state.now.steps) (c.read_fields.new.state.steps - c.args.state.now.steps) (omega arith) turns) c.read_fields.ensures.ok
 
 pub returns-clause-fault_is_true : goal.returns-clause-fault_is_true
@@ -81,13 +82,13 @@ returns-clause-fault_is_true c =
     (visits_struct t c.args.self.now.fine m c.args.depth c.args.entry c.args.place old c.requires.entry c.requires.state c.requires.depth 0 0 refl is c.requires.room) in
     IfErr-weaker c.read_fields.result _ _ (λ fault b. visit.breaks fault b) c.read_fields.ensures.fault_is_true
 
-pub returns-clause-cost : goal.returns-clause-cost
-returns-clause-cost c =
+pub returns-clause-spends : goal.returns-clause-spends
+returns-clause-spends c =
     let t = c.args.self.now.table.now in
     let m = message_of c.args.self.now.bytes.now c.args.self.now.handles.now in
     let old = at_of c.args.state.now in
     let work = ap (λ (d : Entry). value_work c.args.self.now.bytes.now c.args.state.now.next d) c.entry-e.ensures.value in
-    omega (arith, c.read_fields.ensures.cost, work, work_none c.entry-e.result.nest c.entry-e.result.size)
+    spends_any _ _ _ (omega (arith, (one_more _ _ _ c.read_fields.ensures.spends))) (omega (arith, c.read_fields.ensures.spends.most, work, work_none c.entry-e.result.nest c.entry-e.result.size))
 
 pub read_leaf-requires-clause-entry : goal.read_leaf-requires-clause-entry
 read_leaf-requires-clause-entry c = c.requires.entry

@@ -1,3 +1,4 @@
+use Rattle.fidl_decode.proofs.Fitting.{not_fewer}
 use Rattle.std.proofs.Common.{◌≡◌, refl, ◌+◌, ◌-◌, ◌≤◌, ap, subst, ◌∙◌, arith}
 use Rattle.fidl_table_format.specs.declared.record.Entry.{Entry}
 use Rattle.fidl_table_format.specs.Section.{header_of}
@@ -132,7 +133,7 @@ returns-clause-ok c =
     let t = c.args.self.now.table.now in
     let m = message_of c.args.self.now.bytes.now c.args.self.now.handles.now in
     let last : c.args.frame.left ≡ Rows c.args.first 1 = c.requires.left ∙ ap (λ n. Rows c.args.first n) c.if-count-ne1.false in
-    let grows = c.in_ok-below.ensures.spends.least in
+    let grows = (not_fewer _ _ _ c.in_ok-below.ensures.spends) in
     let size = ap (λ (d : Entry). d.size) c.entry-e.ensures.value in
     last_turns t c.args.self.now.fine m c.args.frame c.args.first c.row-row.result last c.row-row.ensures.value (at_of c.args.state.now) c.requires.frame c.requires.state (at_of c.visit.new.state) (c.visit.new.state.steps - (c.args.state.now.steps + (c.args.frame.base + c.row-row.result.key - (c.args.frame.base + c.args.frame.done) + 1))) (c.visit.new.state.steps - c.args.state.now.steps) (omega (arith, size, c.if-done-frame.false)) (omega (arith, grows)) c.in_ok-zeros_at.ensures.ok c.in_ok-below.below c.in_ok-below.ensures.ok c.in_ok-below.ensures.fine
 
@@ -141,7 +142,7 @@ returns-clause-grows c =
     let t = c.args.self.now.table.now in
     let m = message_of c.args.self.now.bytes.now c.args.self.now.handles.now in
     let last : c.args.frame.left ≡ Rows c.args.first 1 = c.requires.left ∙ ap (λ n. Rows c.args.first n) c.if-count-ne1.false in
-    let grows = c.in_ok-below.ensures.spends.least in
+    let grows = (not_fewer _ _ _ c.in_ok-below.ensures.spends) in
     omega (arith, grows)
 
 pub returns-clause-cost : goal.returns-clause-cost
@@ -162,5 +163,5 @@ returns-then-done-frame-clause-ok c =
 
 pub returns-clause-ended : goal.returns-clause-ended
 returns-clause-ended c =
-    let grows = c.in_ok-below.ensures.spends.least in
+    let grows = (not_fewer _ _ _ c.in_ok-below.ensures.spends) in
     if_none c.in_ok-below.below _ (omega (arith, grows))

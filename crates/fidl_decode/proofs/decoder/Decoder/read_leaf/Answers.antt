@@ -1,3 +1,4 @@
+use Rattle.fidl_decode.proofs.Fitting.{more_steps, spends_any, not_fewer}
 use Rattle.fidl_decode.proofs.Unchanged.{same_le}
 use Rattle.std.proofs.Common.{arith, ◌≡◌, sym, ap, subst, ◌∙◌}
 use Rattle.fidl_decode.specs.Machine.{at_of, Visits, Leads}
@@ -64,7 +65,7 @@ pub returns-in-Enum-clause-ok : goal.returns-in-Enum-clause-ok
 returns-in-Enum-clause-ok c =
     let is : kind_of (entry_at c.args.self.now.table.now c.args.entry).kind ≡ Some Enum = c.requires.kind ∙ ap (λ (k : EntryKind). Some k) c.in-Enum.is in
     let own : c.entry-in-Enum.result ≡ entry_at c.args.self.now.table.now c.args.entry = c.entry-in-Enum.ensures.value in
-    on_ok_from c.read_enum.result (λ p. subst (λ (s : At). Visits c.args.self.now.table.now (message_of c.args.self.now.bytes.now c.args.self.now.handles.now) c.args.depth c.args.entry c.args.place (at_of c.args.state.now) s (c.read_enum.new.state.steps - c.args.state.now.steps) None) (sym c.read_enum.ensures.same) (visits_enum c.args.self.now.table.now c.args.self.now.fine (message_of c.args.self.now.bytes.now c.args.self.now.handles.now) c.args.depth c.args.entry c.args.place (at_of c.args.state.now) c.requires.entry c.requires.state c.requires.depth is (c.read_enum.new.state.steps - c.args.state.now.steps) (omega (arith, c.read_enum.ensures.probes)) c.requires.room (λ i. omega (arith, c.args.self.now.octets i)) (subst (λ (d : Entry). IfSome (strict_values c.args.self.now.table.now (header_of c.args.self.now.table.now) d) (λ values. Contains values (number_standing (underlying d) c.args.self.now.bytes.now c.args.place))) own p))) c.read_enum.ensures.ok
+    on_ok_from c.read_enum.result (λ p. subst (λ (s : At). Visits c.args.self.now.table.now (message_of c.args.self.now.bytes.now c.args.self.now.handles.now) c.args.depth c.args.entry c.args.place (at_of c.args.state.now) s (c.read_enum.new.state.steps - c.args.state.now.steps) None) (sym c.read_enum.ensures.same) (visits_enum c.args.self.now.table.now c.args.self.now.fine (message_of c.args.self.now.bytes.now c.args.self.now.handles.now) c.args.depth c.args.entry c.args.place (at_of c.args.state.now) c.requires.entry c.requires.state c.requires.depth is (c.read_enum.new.state.steps - c.args.state.now.steps) (omega (arith, c.read_enum.ensures.spends.most)) c.requires.room (λ i. omega (arith, c.args.self.now.octets i)) (subst (λ (d : Entry). IfSome (strict_values c.args.self.now.table.now (header_of c.args.self.now.table.now) d) (λ values. Contains values (number_standing (underlying d) c.args.self.now.bytes.now c.args.place))) own p))) c.read_enum.ensures.ok
 
 pub returns-in-Enum-clause-fault_is_true : goal.returns-in-Enum-clause-fault_is_true
 returns-in-Enum-clause-fault_is_true c =
@@ -110,7 +111,7 @@ returns-in-String-clause-ok c =
     let is : kind_of (entry_at c.args.self.now.table.now c.args.entry).kind ≡ Some String = c.requires.kind ∙ ap (λ (k : EntryKind). Some k) c.in-String.is in
     let own : c.entry-in-String.result ≡ entry_at c.args.self.now.table.now c.args.entry = c.entry-in-String.ensures.value in
     on_ok_three c.read_text.result
-    (λ leads there spent. visits_leaf c.args.self.now.table.now c.args.self.now.fine (message_of c.args.self.now.bytes.now c.args.self.now.handles.now) c.args.depth c.args.entry c.args.place (at_of c.args.state.now) c.requires.entry c.requires.state c.requires.depth String is (at_of c.read_text.new.state) (c.read_text.new.state.steps - c.args.state.now.steps) (text_cost (length c.args.self.now.bytes.now) c.args.state.now.next c.read_text.new.state.next c.args.state.now.steps c.read_text.new.state.steps spent there.next c.read_text.ensures.grows) there
+    (λ leads there spent. visits_leaf c.args.self.now.table.now c.args.self.now.fine (message_of c.args.self.now.bytes.now c.args.self.now.handles.now) c.args.depth c.args.entry c.args.place (at_of c.args.state.now) c.requires.entry c.requires.state c.requires.depth String is (at_of c.read_text.new.state) (c.read_text.new.state.steps - c.args.state.now.steps) (text_cost (length c.args.self.now.bytes.now) c.args.state.now.next c.read_text.new.state.next c.args.state.now.steps c.read_text.new.state.steps spent there.next (not_fewer _ _ _ c.read_text.ensures.spends)) there
     (subst (λ (d : Entry). Leads (declarations_of c.args.self.now.table.now) (message_of c.args.self.now.bytes.now c.args.self.now.handles.now) c.args.depth (ty.string (is_optional d) d.bound) c.args.place (at_of c.args.state.now) (at_of c.read_text.new.state)) own leads))
     c.read_text.ensures.ok
     c.read_text.ensures.state
@@ -142,8 +143,8 @@ read_enum-requires-clause-room c =
 pub returns-then-self-place-gt1-clause-ok : goal.returns-then-self-place-gt1-clause-ok
 returns-then-self-place-gt1-clause-ok c = tt
 
-pub returns-then-self-place-gt1-clause-grows : goal.returns-then-self-place-gt1-clause-grows
-returns-then-self-place-gt1-clause-grows c = same_le _
+pub returns-then-self-place-gt1-clause-spends : goal.returns-then-self-place-gt1-clause-spends
+returns-then-self-place-gt1-clause-spends c = spends_any _ _ _ (same_le _) (omega arith)
 
 pub entry-requires : goal.entry-requires
 entry-requires c = c.requires.entry
@@ -178,17 +179,20 @@ read_text-requires-clause-budget c = c.requires.budget
 pub returns-else-self-place-gt1-clause-fault_is_true : goal.returns-else-self-place-gt1-clause-fault_is_true
 returns-else-self-place-gt1-clause-fault_is_true c = tt
 
-pub returns-else-self-place-gt1-clause-grows : goal.returns-else-self-place-gt1-clause-grows
-returns-else-self-place-gt1-clause-grows c = same_le _
+pub returns-else-self-place-gt1-clause-spends : goal.returns-else-self-place-gt1-clause-spends
+returns-else-self-place-gt1-clause-spends c = spends_any _ _ _ (same_le _) (omega arith)
 
-pub returns-in-Bits-clause-grows : goal.returns-in-Bits-clause-grows
-returns-in-Bits-clause-grows c = same_le _
+pub returns-in-Bits-clause-spends : goal.returns-in-Bits-clause-spends
+returns-in-Bits-clause-spends c = spends_any _ _ _ (same_le _) (omega arith)
 
-pub returns-in-String-clause-grows : goal.returns-in-String-clause-grows
-returns-in-String-clause-grows c = c.read_text.ensures.grows
+pub returns-in-String-clause-spends : goal.returns-in-String-clause-spends
+returns-in-String-clause-spends c = more_steps _ _ _ _ c.read_text.ensures.spends (omega arith)
 
 pub returns-in_default-clause-fault_is_true : goal.returns-in_default-clause-fault_is_true
 returns-in_default-clause-fault_is_true c = tt
 
-pub returns-in_default-clause-grows : goal.returns-in_default-clause-grows
-returns-in_default-clause-grows c = same_le _
+pub returns-in_default-clause-spends : goal.returns-in_default-clause-spends
+returns-in_default-clause-spends c = spends_any _ _ _ (same_le _) (omega arith)
+
+pub returns-in-Enum-clause-spends : goal.returns-in-Enum-clause-spends
+returns-in-Enum-clause-spends c = more_steps _ _ _ _ c.read_enum.ensures.spends (omega arith)

@@ -1,5 +1,5 @@
 use Rattle.fidl_decode.proofs.Unchanged.{no_ok}
-use Rattle.fidl_decode.proofs.Fitting.{budget_on, cost_on, cost_now, grows_on, rises_on, first_in, some_left, smaller_on, next_fits}
+use Rattle.fidl_decode.proofs.Fitting.{budget_on, cost_on, cost_now, grows_on, rises_on, first_in, some_left, smaller_on, next_fits, one_more}
 use Rattle.std.proofs.Common.{◌≡◌, ◌+◌, ◌-◌, sym, ap, subst, ◌∙◌, arith, refl, ◌≤◌, ◌<◌, ◌^◌, []}
 use Rattle.std.specs.Prelude.{Option, Some, None}
 use Rattle.fidl_table_format.specs.declared.record.Row as raw
@@ -73,7 +73,7 @@ loop-many-preserved-then-is_leaf c =
     let size : (row_at t (header_of t) c.loop-many.next).key + (entry_at t (row_at t (header_of t) c.loop-many.next).entry).size ≡ c.row-row.result.key + c.entry-e.result.size = ap (λ (w : raw.Row). w.key + (entry_at t w.entry).size) (sym c.row-row.ensures.value) ∙ ap (λ (e : Entry). c.row-row.result.key + e.size) (sym c.entry-e.ensures.value) in
     let one = subst (λ (x : Frame). Turns t m x now new spent (left_over (Some (going_on x rows ((row_at t (header_of t) c.loop-many.next).key + (entry_at t (row_at t (header_of t) c.loop-many.next).entry).size))))) same c.in_ok-read_row.ensures.ok in
     let two = subst (λ d. Turns t m g now new spent (left_over (Some (going_on c.loop-many.holder rows d)))) size one in
-    let rises = c.in_ok-read_row.ensures.rises in
+    let rises = (one_more _ _ _ c.in_ok-read_row.ensures.spends) in
     let done = c.row-row.result.key + c.entry-e.result.size in
     record { turns = turns_then t m f old now a g c.loop-many.invariant.turns new spent (c.read_row.new.state.steps - c.args.state.now.steps) (left_over (Some (going_on c.loop-many.holder rows done))) (omega (arith, begun, rises)) two; steps = omega (arith, begun, rises) }
 
@@ -160,7 +160,7 @@ returns-in_default-2-clause-ok c =
     let new = at_of c.enter_box.new.state in
     let spent = c.enter_box.new.state.steps - c.loop-many.state.steps in
     let all = c.enter_box.new.state.steps - c.args.state.now.steps in
-    let rises = c.in_ok-below.ensures.rises in
+    let rises = (one_more _ _ _ c.in_ok-below.ensures.spends) in
     let two = subst (λ (o : Option Frame). Turns t m rest now new spent (left_over o)) c.in_default-2.is c.in_ok-below.ensures.ok in
     turns_then t m f old now a rest so_far new spent all (left_over None) (omega (arith, begun, rises)) two
 
@@ -180,7 +180,7 @@ pass_known-content-requires-clause-frame c =
     let new = at_of c.enter_box.new.state in
     let spent = c.enter_box.new.state.steps - c.loop-many.state.steps in
     let all = c.enter_box.new.state.steps - c.args.state.now.steps in
-    let rises = c.in_ok-below.ensures.rises in
+    let rises = (one_more _ _ _ c.in_ok-below.ensures.spends) in
     let two = subst (λ (o : Option Frame). Turns t m rest now new spent (left_over o)) c.in-Some-2.is c.in_ok-below.ensures.ok in
     let run = turns_then t m f old now a rest so_far new spent all (left_over (Some c.in-Some-2.below)) (omega (arith, begun, rises)) two in
     run.rest_fine.0
@@ -201,7 +201,7 @@ pass_known-content-requires-clause-state c =
     let new = at_of c.enter_box.new.state in
     let spent = c.enter_box.new.state.steps - c.loop-many.state.steps in
     let all = c.enter_box.new.state.steps - c.args.state.now.steps in
-    let rises = c.in_ok-below.ensures.rises in
+    let rises = (one_more _ _ _ c.in_ok-below.ensures.spends) in
     let two = subst (λ (o : Option Frame). Turns t m rest now new spent (left_over o)) c.in-Some-2.is c.in_ok-below.ensures.ok in
     let run = turns_then t m f old now a rest so_far new spent all (left_over (Some c.in-Some-2.below)) (omega (arith, begun, rises)) two in
     run.state
@@ -222,7 +222,7 @@ pass_known-content-requires-clause-budget c =
     let new = at_of c.enter_box.new.state in
     let spent = c.enter_box.new.state.steps - c.loop-many.state.steps in
     let all = c.enter_box.new.state.steps - c.args.state.now.steps in
-    let rises = c.in_ok-below.ensures.rises in
+    let rises = (one_more _ _ _ c.in_ok-below.ensures.spends) in
     let two = subst (λ (o : Option Frame). Turns t m rest now new spent (left_over o)) c.in-Some-2.is c.in_ok-below.ensures.ok in
     let run = turns_then t m f old now a rest so_far new spent all (left_over (Some c.in-Some-2.below)) (omega (arith, begun, rises)) two in
     let less_run = run.less in
@@ -244,7 +244,7 @@ returns-in_default-left c =
     let new = at_of c.enter_box.new.state in
     let spent = c.enter_box.new.state.steps - c.loop-many.state.steps in
     let all = c.enter_box.new.state.steps - c.args.state.now.steps in
-    let rises = c.in_ok-below.ensures.rises in
+    let rises = (one_more _ _ _ c.in_ok-below.ensures.spends) in
     let two = subst (λ (o : Option Frame). Turns t m rest now new spent (left_over o)) c.in-Some-2.is c.in_ok-below.ensures.ok in
     let run = turns_then t m f old now a rest so_far new spent all (left_over (Some c.in-Some-2.below)) (omega (arith, begun, rises)) two in
     let content = c.pass_known-content.result in
@@ -271,7 +271,7 @@ loop-many-smaller c =
     let new = at_of c.enter_box.new.state in
     let spent = c.enter_box.new.state.steps - c.loop-many.state.steps in
     let all = c.enter_box.new.state.steps - c.args.state.now.steps in
-    let rises = c.in_ok-below.ensures.rises in
+    let rises = (one_more _ _ _ c.in_ok-below.ensures.spends) in
     let two = subst (λ (o : Option Frame). Turns t m rest now new spent (left_over o)) c.in-Some-2.is c.in_ok-below.ensures.ok in
     let run = turns_then t m f old now a rest so_far new spent all (left_over (Some c.in-Some-2.below)) (omega (arith, begun, rises)) two in
     let passed = c.pass_known-content.ensures.grows in
@@ -296,7 +296,7 @@ loop-many-preserved c =
     let new = at_of c.enter_box.new.state in
     let spent = c.enter_box.new.state.steps - c.loop-many.state.steps in
     let all = c.enter_box.new.state.steps - c.args.state.now.steps in
-    let rises = c.in_ok-below.ensures.rises in
+    let rises = (one_more _ _ _ c.in_ok-below.ensures.spends) in
     let two = subst (λ (o : Option Frame). Turns t m rest now new spent (left_over o)) c.in-Some-2.is c.in_ok-below.ensures.ok in
     let run = turns_then t m f old now a rest so_far new spent all (left_over (Some c.in-Some-2.below)) (omega (arith, begun, rises)) two in
     let content = c.pass_known-content.result in
@@ -357,7 +357,7 @@ returns-clause-ok c =
     let new = at_of c.end_rows.new.state in
     let spent = c.end_rows.new.state.steps - c.loop-many.state.steps in
     let all = c.end_rows.new.state.steps - c.args.state.now.steps in
-    let rises = c.in_ok-end_rows.ensures.rises in
+    let rises = (one_more _ _ _ c.in_ok-end_rows.ensures.spends) in
     turns_then t m f old now a rest so_far new spent all (left_over None) (omega (arith, begun, rises)) c.in_ok-end_rows.ensures.ok
 
 pub rows-rows-requires : goal.rows-rows-requires
@@ -436,25 +436,25 @@ pub end_rows-requires-clause-budget : goal.end_rows-requires-clause-budget
 end_rows-requires-clause-budget c = subst (λ (x : Frame). c.loop-many.state.steps + turn_work c.args.self.now.bytes.now c.loop-many.state.next x < 2 ^ 40) (sym c.rows_from.ensures) (budget_on _ _ _ c.args.state.now.steps c.loop-many.state.steps (2 ^ 40) c.loop-many.invariant.steps c.loop-many.invariant.turns.less c.requires.budget)
 
 pub returns-in_default-2-clause-grows : goal.returns-in_default-2-clause-grows
-returns-in_default-2-clause-grows c = grows_on _ _ _ c.loop-many.invariant.steps c.in_ok-below.ensures.rises
+returns-in_default-2-clause-grows c = grows_on _ _ _ c.loop-many.invariant.steps (one_more _ _ _ c.in_ok-below.ensures.spends)
 
 pub returns-in_default-2-clause-ended : goal.returns-in_default-2-clause-ended
-returns-in_default-2-clause-ended c = rises_on _ _ _ c.loop-many.invariant.steps c.in_ok-below.ensures.rises
+returns-in_default-2-clause-ended c = rises_on _ _ _ c.loop-many.invariant.steps (one_more _ _ _ c.in_ok-below.ensures.spends)
 
 pub returns-in_default-2-clause-cost : goal.returns-in_default-2-clause-cost
-returns-in_default-2-clause-cost c = cost_on _ _ _ c.args.state.now.steps c.loop-many.state.steps c.enter_box.new.state.steps c.loop-many.invariant.steps c.loop-many.invariant.turns.less (subst (λ (x : Frame). c.enter_box.new.state.steps ≤ c.loop-many.state.steps + turn_work c.args.self.now.bytes.now c.loop-many.state.next x) c.rows_from-rest.ensures c.in_ok-below.ensures.cost)
+returns-in_default-2-clause-cost c = cost_on _ _ _ c.args.state.now.steps c.loop-many.state.steps c.enter_box.new.state.steps c.loop-many.invariant.steps c.loop-many.invariant.turns.less (subst (λ (x : Frame). c.enter_box.new.state.steps ≤ c.loop-many.state.steps + turn_work c.args.self.now.bytes.now c.loop-many.state.next x) c.rows_from-rest.ensures c.in_ok-below.ensures.spends.most)
 
 pub returns-in_default-2-clause-fault_is_true : goal.returns-in_default-2-clause-fault_is_true
 returns-in_default-2-clause-fault_is_true c = tt
 
 pub returns-clause-grows : goal.returns-clause-grows
-returns-clause-grows c = grows_on _ _ _ c.loop-many.invariant.steps c.in_ok-end_rows.ensures.rises
+returns-clause-grows c = grows_on _ _ _ c.loop-many.invariant.steps (one_more _ _ _ c.in_ok-end_rows.ensures.spends)
 
 pub returns-clause-ended : goal.returns-clause-ended
-returns-clause-ended c = rises_on _ _ _ c.loop-many.invariant.steps c.in_ok-end_rows.ensures.rises
+returns-clause-ended c = rises_on _ _ _ c.loop-many.invariant.steps (one_more _ _ _ c.in_ok-end_rows.ensures.spends)
 
 pub returns-clause-cost : goal.returns-clause-cost
-returns-clause-cost c = cost_on _ _ _ c.args.state.now.steps c.loop-many.state.steps c.end_rows.new.state.steps c.loop-many.invariant.steps c.loop-many.invariant.turns.less (subst (λ (x : Frame). c.end_rows.new.state.steps ≤ c.loop-many.state.steps + turn_work c.args.self.now.bytes.now c.loop-many.state.next x) c.rows_from.ensures c.in_ok-end_rows.ensures.cost)
+returns-clause-cost c = cost_on _ _ _ c.args.state.now.steps c.loop-many.state.steps c.end_rows.new.state.steps c.loop-many.invariant.steps c.loop-many.invariant.turns.less (subst (λ (x : Frame). c.end_rows.new.state.steps ≤ c.loop-many.state.steps + turn_work c.args.self.now.bytes.now c.loop-many.state.next x) c.rows_from.ensures c.in_ok-end_rows.ensures.spends.most)
 
 pub returns-clause-fault_is_true : goal.returns-clause-fault_is_true
 returns-clause-fault_is_true c = tt
@@ -469,7 +469,7 @@ pub returns-in_err-read_row-clause-ended : goal.returns-in_err-read_row-clause-e
 returns-in_err-read_row-clause-ended c = no_ok c.from_residual.result c.in_err-read_row.field-0.0 _ c.from_residual.ensures.1
 
 pub returns-in_err-read_row-clause-cost : goal.returns-in_err-read_row-clause-cost
-returns-in_err-read_row-clause-cost c = cost_on _ _ _ c.args.state.now.steps c.loop-many.state.steps c.read_row.new.state.steps c.loop-many.invariant.steps c.loop-many.invariant.turns.less (subst (λ (x : Frame). c.read_row.new.state.steps ≤ c.loop-many.state.steps + turn_work c.args.self.now.bytes.now c.loop-many.state.next x) c.rows_from-rest.ensures c.in_err-read_row.ensures.cost)
+returns-in_err-read_row-clause-cost c = cost_on _ _ _ c.args.state.now.steps c.loop-many.state.steps c.read_row.new.state.steps c.loop-many.invariant.steps c.loop-many.invariant.turns.less (subst (λ (x : Frame). c.read_row.new.state.steps ≤ c.loop-many.state.steps + turn_work c.args.self.now.bytes.now c.loop-many.state.next x) c.rows_from-rest.ensures c.in_err-read_row.ensures.spends.most)
 
 pub returns-in_err-below-clause-ok : goal.returns-in_err-below-clause-ok
 returns-in_err-below-clause-ok c = no_ok c.from_residual-in_err-below.result c.in_err-below.field-0.0 _ c.from_residual-in_err-below.ensures.1
@@ -481,7 +481,7 @@ pub returns-in_err-below-clause-ended : goal.returns-in_err-below-clause-ended
 returns-in_err-below-clause-ended c = no_ok c.from_residual-in_err-below.result c.in_err-below.field-0.0 _ c.from_residual-in_err-below.ensures.1
 
 pub returns-in_err-below-clause-cost : goal.returns-in_err-below-clause-cost
-returns-in_err-below-clause-cost c = cost_on _ _ _ c.args.state.now.steps c.loop-many.state.steps c.enter_box.new.state.steps c.loop-many.invariant.steps c.loop-many.invariant.turns.less (subst (λ (x : Frame). c.enter_box.new.state.steps ≤ c.loop-many.state.steps + turn_work c.args.self.now.bytes.now c.loop-many.state.next x) c.rows_from-rest.ensures c.in_err-below.ensures.cost)
+returns-in_err-below-clause-cost c = cost_on _ _ _ c.args.state.now.steps c.loop-many.state.steps c.enter_box.new.state.steps c.loop-many.invariant.steps c.loop-many.invariant.turns.less (subst (λ (x : Frame). c.enter_box.new.state.steps ≤ c.loop-many.state.steps + turn_work c.args.self.now.bytes.now c.loop-many.state.next x) c.rows_from-rest.ensures c.in_err-below.ensures.spends.most)
 
 pub returns-in_err-end_rows-clause-ok : goal.returns-in_err-end_rows-clause-ok
 returns-in_err-end_rows-clause-ok c = no_ok c.from_residual-in_err-end_rows.result c.in_err-end_rows.field-0.0 _ c.from_residual-in_err-end_rows.ensures.1
@@ -493,7 +493,7 @@ pub returns-in_err-end_rows-clause-ended : goal.returns-in_err-end_rows-clause-e
 returns-in_err-end_rows-clause-ended c = no_ok c.from_residual-in_err-end_rows.result c.in_err-end_rows.field-0.0 _ c.from_residual-in_err-end_rows.ensures.1
 
 pub returns-in_err-end_rows-clause-cost : goal.returns-in_err-end_rows-clause-cost
-returns-in_err-end_rows-clause-cost c = cost_on _ _ _ c.args.state.now.steps c.loop-many.state.steps c.end_rows.new.state.steps c.loop-many.invariant.steps c.loop-many.invariant.turns.less (subst (λ (x : Frame). c.end_rows.new.state.steps ≤ c.loop-many.state.steps + turn_work c.args.self.now.bytes.now c.loop-many.state.next x) c.rows_from.ensures c.in_err-end_rows.ensures.cost)
+returns-in_err-end_rows-clause-cost c = cost_on _ _ _ c.args.state.now.steps c.loop-many.state.steps c.end_rows.new.state.steps c.loop-many.invariant.steps c.loop-many.invariant.turns.less (subst (λ (x : Frame). c.end_rows.new.state.steps ≤ c.loop-many.state.steps + turn_work c.args.self.now.bytes.now c.loop-many.state.next x) c.rows_from.ensures c.in_err-end_rows.ensures.spends.most)
 
 pub overflow_sub-many : goal.overflow_sub-many
 overflow_sub-many c = some_left c.loop-many.many c.loop-many-test.true
@@ -521,5 +521,5 @@ loop-many-smaller-then-is_leaf c =
     let size : (row_at t (header_of t) c.loop-many.next).key + (entry_at t (row_at t (header_of t) c.loop-many.next).entry).size ≡ c.row-row.result.key + c.entry-e.result.size = ap (λ (w : raw.Row). w.key + (entry_at t w.entry).size) (sym c.row-row.ensures.value) ∙ ap (λ (e : Entry). c.row-row.result.key + e.size) (sym c.entry-e.ensures.value) in
     let one = subst (λ (x : Frame). Turns t m x now new spent (left_over (Some (going_on x rows ((row_at t (header_of t) c.loop-many.next).key + (entry_at t (row_at t (header_of t) c.loop-many.next).entry).size))))) same c.in_ok-read_row.ensures.ok in
     let two = subst (λ d. Turns t m g now new spent (left_over (Some (going_on c.loop-many.holder rows d)))) size one in
-    let rises = c.in_ok-read_row.ensures.rises in
+    let rises = (one_more _ _ _ c.in_ok-read_row.ensures.spends) in
     smaller_on _ _ _ c.loop-many.state.steps c.read_row.new.state.steps two.less rises

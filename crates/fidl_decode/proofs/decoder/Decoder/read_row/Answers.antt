@@ -1,3 +1,4 @@
+use Rattle.fidl_decode.proofs.Fitting.{spends_some, not_fewer}
 use Rattle.fidl_decode.proofs.Unchanged.{no_ok}
 use Rattle.std.proofs.Common.{◌≡◌, ◌+◌, ◌-◌, ◌≤◌, ap, subst, ◌∙◌, arith}
 use Rattle.std.specs.Prelude.{Some}
@@ -67,12 +68,12 @@ zeros_at-requires-clause-room c =
     let room = front_room t c.args.self.now.fine m c.args.frame c.args.first c.args.count c.row-row.result c.requires.left c.requires.some c.row-row.ensures.value (at_of c.args.state.now) c.requires.frame c.requires.state in
     omega (arith, room.1, room.2)
 
-pub returns-in_err-zeros_at-clause-cost : goal.returns-in_err-zeros_at-clause-cost
-returns-in_err-zeros_at-clause-cost c =
+pub returns-in_err-zeros_at-clause-spends : goal.returns-in_err-zeros_at-clause-spends
+returns-in_err-zeros_at-clause-spends c =
     let t = c.args.self.now.table.now in
     let m = message_of c.args.self.now.bytes.now c.args.self.now.handles.now in
     let room = front_room t c.args.self.now.fine m c.args.frame c.args.first c.args.count c.row-row.result c.requires.left c.requires.some c.row-row.ensures.value (at_of c.args.state.now) c.requires.frame c.requires.state in
-    omega (arith, room.3, room.0)
+    spends_some _ _ _ (omega arith) (omega (arith, room.3, room.0))
 
 pub returns-in_err-zeros_at-clause-fault_is_true : goal.returns-in_err-zeros_at-clause-fault_is_true
 returns-in_err-zeros_at-clause-fault_is_true c =
@@ -94,12 +95,12 @@ read_leaf-requires-clause-room c =
     let room = front_room t c.args.self.now.fine m c.args.frame c.args.first c.args.count c.row-row.result c.requires.left c.requires.some c.row-row.ensures.value (at_of c.args.state.now) c.requires.frame c.requires.state in
     omega (arith, room.1, room.2)
 
-pub returns-in_err-read_leaf-clause-cost : goal.returns-in_err-read_leaf-clause-cost
-returns-in_err-read_leaf-clause-cost c =
+pub returns-in_err-read_leaf-clause-spends : goal.returns-in_err-read_leaf-clause-spends
+returns-in_err-read_leaf-clause-spends c =
     let t = c.args.self.now.table.now in
     let m = message_of c.args.self.now.bytes.now c.args.self.now.handles.now in
     let room = front_room t c.args.self.now.fine m c.args.frame c.args.first c.args.count c.row-row.result c.requires.left c.requires.some c.row-row.ensures.value (at_of c.args.state.now) c.requires.frame c.requires.state in
-    omega (arith, room.3, room.0, c.in_err-read_leaf.ensures.probes)
+    spends_some _ _ _ (omega (arith, (not_fewer _ _ _ c.in_err-read_leaf.ensures.spends))) (omega (arith, room.3, room.0, c.in_err-read_leaf.ensures.spends.most))
 
 pub returns-in_err-read_leaf-clause-fault_is_true : goal.returns-in_err-read_leaf-clause-fault_is_true
 returns-in_err-read_leaf-clause-fault_is_true c =
@@ -111,16 +112,16 @@ pub returns-clause-ok : goal.returns-clause-ok
 returns-clause-ok c =
     let t = c.args.self.now.table.now in
     let m = message_of c.args.self.now.bytes.now c.args.self.now.handles.now in
-    let grows = c.in_ok-read_leaf.ensures.grows in
+    let grows = (not_fewer _ _ _ c.in_ok-read_leaf.ensures.spends) in
     let two = front_turns t c.args.self.now.fine m c.args.frame c.args.first c.args.count c.row-row.result c.requires.left c.requires.some c.row-row.ensures.value (at_of c.args.state.now) c.requires.frame c.requires.state (at_of c.read_leaf.new.state) (c.read_leaf.new.state.steps - (c.args.state.now.steps + (c.args.frame.base + c.row-row.result.key - (c.args.frame.base + c.args.frame.done) + 1))) (c.read_leaf.new.state.steps - c.args.state.now.steps) (omega (arith, grows)) c.in_ok-zeros_at.ensures.ok c.in_ok-read_leaf.ensures.ok in
     subst (λ (w : raw.Row). Turns t m c.args.frame (at_of c.args.state.now) (at_of c.read_leaf.new.state) (c.read_leaf.new.state.steps - c.args.state.now.steps) (left_over (Some (going_on c.args.frame (Rows (c.args.first + 1) (c.args.count - 1)) (w.key + (entry_at t w.entry).size))))) c.row-row.ensures.value two
 
-pub returns-clause-cost : goal.returns-clause-cost
-returns-clause-cost c =
+pub returns-clause-spends : goal.returns-clause-spends
+returns-clause-spends c =
     let t = c.args.self.now.table.now in
     let m = message_of c.args.self.now.bytes.now c.args.self.now.handles.now in
     let room = front_room t c.args.self.now.fine m c.args.frame c.args.first c.args.count c.row-row.result c.requires.left c.requires.some c.row-row.ensures.value (at_of c.args.state.now) c.requires.frame c.requires.state in
-    omega (arith, room.3, room.0, c.in_ok-read_leaf.ensures.probes)
+    spends_some _ _ _ (omega (arith, (not_fewer _ _ _ c.in_ok-read_leaf.ensures.spends))) (omega (arith, room.3, room.0, c.in_ok-read_leaf.ensures.spends.most))
 
 pub read_leaf-requires-clause-leaf : goal.read_leaf-requires-clause-leaf
 read_leaf-requires-clause-leaf c = c.requires.leaf

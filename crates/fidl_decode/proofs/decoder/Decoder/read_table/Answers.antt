@@ -1,4 +1,4 @@
-use Rattle.fidl_decode.proofs.Fitting.{le_more, eq_le, eq_more, grows_thrice}
+use Rattle.fidl_decode.proofs.Fitting.{le_more, eq_le, spends_any, not_fewer}
 use Rattle.fidl_decode.proofs.Unchanged.{no_ok}
 use Rattle.std.proofs.Common.{◌+◌, ◌-◌, subst, arith}
 use Rattle.std.specs.Prelude.{Some}
@@ -25,7 +25,7 @@ returns-clause-ok c =
     let v = subst (λ (g : Frame). Visits t m c.args.depth c.args.entry c.args.place (at_of old) (at_of mid) 0 (Some g)) start c.in_ok-count.ensures.ok in
     let still = c.open_table.ensures.steps in
     let grows = c.pass_front-read.ensures.grows in
-    let more = c.left_of.ensures.grows in
+    let more = (not_fewer _ _ _ c.left_of.ensures.spends) in
     let run = turns_then t m (rest_of body 0) (at_of mid) (at_of now) (now.steps - mid.steps) (rest_of body c.pass_front-read.result) c.pass_front-read.ensures.turns (at_of new) (new.steps - now.steps) (new.steps - mid.steps) (left_over c.left_of.result) (omega (arith, grows, more)) c.left_of.ensures.turns in
     visits_on t m c.args.depth c.args.entry c.args.place (at_of old) (at_of mid) 0 (rest_of body 0) v (at_of new) (new.steps - mid.steps) (new.steps - old.steps) c.left_of.result (omega (arith, still)) run
 
@@ -43,7 +43,7 @@ returns-clause-fine c =
     let start = body_start body c.args.entry old.next c.in_ok-count.count (c.args.depth + 1) is.entry is.base is.count is.depth in
     let fine = subst (λ (g : Frame). VisitFine t m c.args.depth inside c.args.entry (Some g)) start (c.in_ok-count.ensures.fine inside small) in
     let grows = c.pass_front-read.ensures.grows in
-    let more = c.left_of.ensures.grows in
+    let more = (not_fewer _ _ _ c.left_of.ensures.spends) in
     let run = turns_then t m (rest_of body 0) (at_of mid) (at_of now) (now.steps - mid.steps) (rest_of body c.pass_front-read.result) c.pass_front-read.ensures.turns (at_of new) (new.steps - now.steps) (new.steps - mid.steps) (left_over c.left_of.result) (omega (arith, grows, more)) c.left_of.ensures.turns in
     fine_from t m.bytes (height (rest_of body 0)) _ c.left_of.result fine.1 run.rest_fine
 
@@ -95,11 +95,8 @@ returns-in_err-count-clause-fine c b0 b1 = no_ok c.from_residual.result c.in_err
 pub returns-in_err-count-clause-fault_is_true : goal.returns-in_err-count-clause-fault_is_true
 returns-in_err-count-clause-fault_is_true c = passed_on c.from_residual.result c.in_err-count.field-0.0 _ c.from_residual.ensures.1 c.in_err-count.ensures.fault_is_true
 
-pub returns-in_err-count-clause-grows : goal.returns-in_err-count-clause-grows
-returns-in_err-count-clause-grows c = eq_le _ _ c.open_table.ensures.steps
-
-pub returns-in_err-count-clause-cost : goal.returns-in_err-count-clause-cost
-returns-in_err-count-clause-cost c = eq_more _ _ _ _ c.open_table.ensures.steps
+pub returns-in_err-count-clause-spends : goal.returns-in_err-count-clause-spends
+returns-in_err-count-clause-spends c = spends_any _ _ _ (eq_le _ _ c.open_table.ensures.steps) (omega (arith, c.open_table.ensures.steps))
 
 pub pass_front-read-requires-clause-body : goal.pass_front-read-requires-clause-body
 pass_front-read-requires-clause-body c = c.body_of-body.ensures.fine
@@ -115,6 +112,3 @@ pass_front-read-requires-clause-state c = c.in_ok-count.ensures.ok.state
 
 pub left_of-requires-clause-frame : goal.left_of-requires-clause-frame
 left_of-requires-clause-frame c = c.pass_front-read.ensures.turns.rest_fine.0
-
-pub returns-clause-grows : goal.returns-clause-grows
-returns-clause-grows c = grows_thrice _ _ _ _ c.open_table.ensures.steps c.pass_front-read.ensures.grows c.left_of.ensures.grows

@@ -1,4 +1,4 @@
-use Rattle.fidl_decode.proofs.Fitting.{front, apart, inside, at_most, small, ended, some_8, rounded_left, part_order, le_more, eq_le, spent_text}
+use Rattle.fidl_decode.proofs.Fitting.{front, apart, inside, at_most, small, ended, some_8, rounded_left, part_order, le_more, eq_le, spent_text, spends_any}
 use Rattle.fidl_decode.proofs.Unchanged.{same_le, no_ok, clash}
 use Rattle.std.proofs.Common.{◌≡◌, ◌+◌, ◌-◌, sym, subst, ◌∙◌, arith, refl, ap, inl, inr, length, ◌<◌}
 use Rattle.std.specs.Int.{next_multiple_of}
@@ -41,8 +41,8 @@ returns-then-not-is_absent-clause-state c = tt
 pub returns-then-not-is_absent-clause-spent : goal.returns-then-not-is_absent-clause-spent
 returns-then-not-is_absent-clause-spent c = tt
 
-pub returns-then-not-is_absent-clause-grows : goal.returns-then-not-is_absent-clause-grows
-returns-then-not-is_absent-clause-grows c = same_le _
+pub returns-then-not-is_absent-clause-spends : goal.returns-then-not-is_absent-clause-spends
+returns-then-not-is_absent-clause-spends c = spends_any _ _ _ (same_le _) (le_more _ _)
 
 pub returns-then-count-ne0-clause-ok : goal.returns-then-count-ne0-clause-ok
 returns-then-count-ne0-clause-ok c = tt
@@ -53,8 +53,8 @@ returns-then-count-ne0-clause-state c = tt
 pub returns-then-count-ne0-clause-spent : goal.returns-then-count-ne0-clause-spent
 returns-then-count-ne0-clause-spent c = tt
 
-pub returns-then-count-ne0-clause-grows : goal.returns-then-count-ne0-clause-grows
-returns-then-count-ne0-clause-grows c = same_le _
+pub returns-then-count-ne0-clause-spends : goal.returns-then-count-ne0-clause-spends
+returns-then-count-ne0-clause-spends c = spends_any _ _ _ (same_le _) (le_more _ _)
 
 pub is_optional-requires : goal.is_optional-requires
 is_optional-requires c = omega arith
@@ -68,8 +68,8 @@ returns-then-not-is_optional-clause-state c = tt
 pub returns-then-not-is_optional-clause-spent : goal.returns-then-not-is_optional-clause-spent
 returns-then-not-is_optional-clause-spent c = tt
 
-pub returns-then-not-is_optional-clause-grows : goal.returns-then-not-is_optional-clause-grows
-returns-then-not-is_optional-clause-grows c = same_le _
+pub returns-then-not-is_optional-clause-spends : goal.returns-then-not-is_optional-clause-spends
+returns-then-not-is_optional-clause-spends c = spends_any _ _ _ (same_le _) (le_more _ _)
 
 pub returns-then-not-is_present-clause-fault_is_true : goal.returns-then-not-is_present-clause-fault_is_true
 returns-then-not-is_present-clause-fault_is_true c = tt
@@ -77,8 +77,8 @@ returns-then-not-is_present-clause-fault_is_true c = tt
 pub returns-then-not-is_present-clause-spent : goal.returns-then-not-is_present-clause-spent
 returns-then-not-is_present-clause-spent c = refl
 
-pub returns-then-not-is_present-clause-grows : goal.returns-then-not-is_present-clause-grows
-returns-then-not-is_present-clause-grows c = same_le _
+pub returns-then-not-is_present-clause-spends : goal.returns-then-not-is_present-clause-spends
+returns-then-not-is_present-clause-spends c = spends_any _ _ _ (same_le _) (le_more _ _)
 
 pub returns-then-count-rest-clause-ok : goal.returns-then-count-rest-clause-ok
 returns-then-count-rest-clause-ok c = tt
@@ -89,8 +89,8 @@ returns-then-count-rest-clause-state c = tt
 pub returns-then-count-rest-clause-spent : goal.returns-then-count-rest-clause-spent
 returns-then-count-rest-clause-spent c = tt
 
-pub returns-then-count-rest-clause-grows : goal.returns-then-count-rest-clause-grows
-returns-then-count-rest-clause-grows c = same_le _
+pub returns-then-count-rest-clause-spends : goal.returns-then-count-rest-clause-spends
+returns-then-count-rest-clause-spends c = spends_any _ _ _ (same_le _) (le_more _ _)
 
 pub returns-then-count-entry-clause-ok : goal.returns-then-count-entry-clause-ok
 returns-then-count-entry-clause-ok c = tt
@@ -101,8 +101,8 @@ returns-then-count-entry-clause-state c = tt
 pub returns-then-count-entry-clause-spent : goal.returns-then-count-entry-clause-spent
 returns-then-count-entry-clause-spent c = tt
 
-pub returns-then-count-entry-clause-grows : goal.returns-then-count-entry-clause-grows
-returns-then-count-entry-clause-grows c = same_le _
+pub returns-then-count-entry-clause-spends : goal.returns-then-count-entry-clause-spends
+returns-then-count-entry-clause-spends c = spends_any _ _ _ (same_le _) (le_more _ _)
 
 pub returns-then-depth-eq-MAX_DEPTH-clause-ok : goal.returns-then-depth-eq-MAX_DEPTH-clause-ok
 returns-then-depth-eq-MAX_DEPTH-clause-ok c = tt
@@ -113,8 +113,8 @@ returns-then-depth-eq-MAX_DEPTH-clause-state c = tt
 pub returns-then-depth-eq-MAX_DEPTH-clause-spent : goal.returns-then-depth-eq-MAX_DEPTH-clause-spent
 returns-then-depth-eq-MAX_DEPTH-clause-spent c = tt
 
-pub returns-then-depth-eq-MAX_DEPTH-clause-grows : goal.returns-then-depth-eq-MAX_DEPTH-clause-grows
-returns-then-depth-eq-MAX_DEPTH-clause-grows c = same_le _
+pub returns-then-depth-eq-MAX_DEPTH-clause-spends : goal.returns-then-depth-eq-MAX_DEPTH-clause-spends
+returns-then-depth-eq-MAX_DEPTH-clause-spends c = spends_any _ _ _ (same_le _) (le_more _ _)
 
 pub returns-then-size-rest-clause-ok : goal.returns-then-size-rest-clause-ok
 returns-then-size-rest-clause-ok c = tt
@@ -125,8 +125,8 @@ returns-then-size-rest-clause-state c = tt
 pub returns-then-size-rest-clause-spent : goal.returns-then-size-rest-clause-spent
 returns-then-size-rest-clause-spent c = tt
 
-pub returns-then-size-rest-clause-grows : goal.returns-then-size-rest-clause-grows
-returns-then-size-rest-clause-grows c = same_le _
+pub returns-then-size-rest-clause-spends : goal.returns-then-size-rest-clause-spends
+returns-then-size-rest-clause-spends c = spends_any _ _ _ (same_le _) (le_more _ _)
 
 pub overflow_add-state : goal.overflow_add-state
 overflow_add-state c = record { fits = omega arith }
@@ -194,50 +194,17 @@ returns-then-depth-eq-MAX_DEPTH-clause-fault_is_true c = (refl, c.is_present.ens
 pub returns-then-size-rest-clause-fault_is_true : goal.returns-then-size-rest-clause-fault_is_true
 returns-then-size-rest-clause-fault_is_true c = (refl, c.is_present.ensures.0 c.if-not-is_present.false, subst (λ n. length c.args.self.now.bytes.now - c.args.state.now.next < n) (c.next_multiple_of-size.ensures.value ∙ ap (λ k. next_multiple_of k 8) c.u64_at-count.ensures) c.if-size-rest.true)
 
-pub returns-then-not-is_text-clause-grows : goal.returns-then-not-is_text-clause-grows
-returns-then-not-is_text-clause-grows c = le_more _ _
+pub returns-then-not-is_text-clause-spends : goal.returns-then-not-is_text-clause-spends
+returns-then-not-is_text-clause-spends c = spends_any _ _ _ (le_more _ _) (part_order _ _ _ c.if-size-rest.false)
 
-pub returns-then-not-is_text-clause-cost : goal.returns-then-not-is_text-clause-cost
-returns-then-not-is_text-clause-cost c = part_order _ _ _ c.if-size-rest.false
-
-pub returns-in_err-zeros_at-clause-grows : goal.returns-in_err-zeros_at-clause-grows
-returns-in_err-zeros_at-clause-grows c = le_more _ _
-
-pub returns-in_err-zeros_at-clause-cost : goal.returns-in_err-zeros_at-clause-cost
-returns-in_err-zeros_at-clause-cost c = part_order _ _ _ c.if-size-rest.false
+pub returns-in_err-zeros_at-clause-spends : goal.returns-in_err-zeros_at-clause-spends
+returns-in_err-zeros_at-clause-spends c = spends_any _ _ _ (le_more _ _) (part_order _ _ _ c.if-size-rest.false)
 
 pub returns-clause-spent : goal.returns-clause-spent
 returns-clause-spent c = spent_text _ _ _
 
-pub returns-clause-grows : goal.returns-clause-grows
-returns-clause-grows c = le_more _ _
-
-pub returns-clause-cost : goal.returns-clause-cost
-returns-clause-cost c = part_order _ _ _ c.if-size-rest.false
-
-pub returns-then-not-is_absent-clause-cost : goal.returns-then-not-is_absent-clause-cost
-returns-then-not-is_absent-clause-cost c = le_more _ _
-
-pub returns-then-count-ne0-clause-cost : goal.returns-then-count-ne0-clause-cost
-returns-then-count-ne0-clause-cost c = le_more _ _
-
-pub returns-then-not-is_optional-clause-cost : goal.returns-then-not-is_optional-clause-cost
-returns-then-not-is_optional-clause-cost c = le_more _ _
-
-pub returns-then-not-is_present-clause-cost : goal.returns-then-not-is_present-clause-cost
-returns-then-not-is_present-clause-cost c = le_more _ _
-
-pub returns-then-count-rest-clause-cost : goal.returns-then-count-rest-clause-cost
-returns-then-count-rest-clause-cost c = le_more _ _
-
-pub returns-then-count-entry-clause-cost : goal.returns-then-count-entry-clause-cost
-returns-then-count-entry-clause-cost c = le_more _ _
-
-pub returns-then-depth-eq-MAX_DEPTH-clause-cost : goal.returns-then-depth-eq-MAX_DEPTH-clause-cost
-returns-then-depth-eq-MAX_DEPTH-clause-cost c = le_more _ _
-
-pub returns-then-size-rest-clause-cost : goal.returns-then-size-rest-clause-cost
-returns-then-size-rest-clause-cost c = le_more _ _
+pub returns-clause-spends : goal.returns-clause-spends
+returns-clause-spends c = spends_any _ _ _ (le_more _ _) (part_order _ _ _ c.if-size-rest.false)
 
 pub u64_at-count-requires : goal.u64_at-count-requires
 u64_at-count-requires c = front c.args.place 8 8 (length c.args.self.now.bytes.now) c.requires.room

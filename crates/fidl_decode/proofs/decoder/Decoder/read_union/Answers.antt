@@ -1,3 +1,4 @@
+use Rattle.fidl_decode.proofs.Fitting.{spends_any}
 use Rattle.fidl_decode.proofs.Unchanged.{same_le}
 use Rattle.std.proofs.Common.{true, false, ◌≡◌, ◌≢◌, ◌+◌, ◌-◌, refl, sym, ap, subst, ◌∙◌, arith}
 use Rattle.std.specs.Prelude.{Option, None, not, IsFalse}
@@ -80,8 +81,8 @@ returns-then-not-is_absent-clause-ok c = tt
 pub returns-then-not-is_absent-clause-fine : goal.returns-then-not-is_absent-clause-fine
 returns-then-not-is_absent-clause-fine c = tt
 
-pub returns-then-not-is_absent-clause-grows : goal.returns-then-not-is_absent-clause-grows
-returns-then-not-is_absent-clause-grows c = same_le _
+pub returns-then-not-is_absent-clause-spends : goal.returns-then-not-is_absent-clause-spends
+returns-then-not-is_absent-clause-spends c = spends_any _ _ _ (same_le _) (omega arith)
 
 pub returns-then-not-is_optional-clause-ok : goal.returns-then-not-is_optional-clause-ok
 returns-then-not-is_optional-clause-ok c = tt
@@ -89,8 +90,8 @@ returns-then-not-is_optional-clause-ok c = tt
 pub returns-then-not-is_optional-clause-fine : goal.returns-then-not-is_optional-clause-fine
 returns-then-not-is_optional-clause-fine c = tt
 
-pub returns-then-not-is_optional-clause-grows : goal.returns-then-not-is_optional-clause-grows
-returns-then-not-is_optional-clause-grows c = same_le _
+pub returns-then-not-is_optional-clause-spends : goal.returns-then-not-is_optional-clause-spends
+returns-then-not-is_optional-clause-spends c = spends_any _ _ _ (same_le _) (omega arith)
 
 pub returns-then-ordinal-eq0-clause-fine : goal.returns-then-ordinal-eq0-clause-fine
 returns-then-ordinal-eq0-clause-fine c = tt
@@ -98,8 +99,8 @@ returns-then-ordinal-eq0-clause-fine c = tt
 pub returns-then-ordinal-eq0-clause-fault_is_true : goal.returns-then-ordinal-eq0-clause-fault_is_true
 returns-then-ordinal-eq0-clause-fault_is_true c = tt
 
-pub returns-then-ordinal-eq0-clause-grows : goal.returns-then-ordinal-eq0-clause-grows
-returns-then-ordinal-eq0-clause-grows c = same_le _
+pub returns-then-ordinal-eq0-clause-spends : goal.returns-then-ordinal-eq0-clause-spends
+returns-then-ordinal-eq0-clause-spends c = spends_any _ _ _ (same_le _) (omega arith)
 
 pub member-member-requires-clause-entry : goal.member-member-requires-clause-entry
 member-member-requires-clause-entry c = c.requires.entry

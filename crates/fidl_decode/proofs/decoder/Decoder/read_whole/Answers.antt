@@ -1,3 +1,4 @@
+use Rattle.fidl_decode.proofs.Fitting.{not_fewer}
 use Rattle.fidl_decode.proofs.Unchanged.{no_ok}
 use Rattle.std.proofs.Common.{◌+◌, ◌-◌, refl, arith}
 use Rattle.fidl_decode.specs.Machine.{IsUntil, at_of}
@@ -39,7 +40,7 @@ returns-in_err-read_flat-clause-cost c =
     let t = c.args.self.now.table.now in
     let m = message_of c.args.self.now.bytes.now c.args.self.now.handles.now in
     let pays = leaf_pays t c.args.self.now.fine m c.args.frame c.args.entry c.args.size 1 c.args.until c.requires.left refl (at_of c.args.state.now) c.requires.frame c.requires.state in
-    let cost = c.in_err-read_flat.ensures.cost in
+    let cost = c.in_err-read_flat.ensures.spends.most in
     omega (arith, cost, pays)
 
 pub returns-in_err-read_flat-clause-fault_is_true : goal.returns-in_err-read_flat-clause-fault_is_true
@@ -92,7 +93,7 @@ overflow_add-state-3 c =
     let room = leaf_room t c.args.self.now.fine m c.args.frame c.args.entry c.args.size 1 c.args.until c.requires.left refl (at_of c.args.state.now) c.requires.frame c.requires.state in
     let end = end_room t c.args.self.now.fine m c.args.frame c.args.entry c.args.size 1 c.args.until c.requires.left refl (at_of c.args.state.now) c.requires.frame c.requires.state (at_of c.read_flat.new.state) (c.read_flat.new.state.steps - (c.args.state.now.steps + 1)) c.in_ok-read_flat.ensures.ok in
     let less = end_less t c.args.self.now.fine m c.args.frame c.args.entry c.args.size 1 c.args.until c.requires.left refl (at_of c.args.state.now) c.requires.frame c.requires.state (at_of c.read_flat.new.state) (c.read_flat.new.state.steps - (c.args.state.now.steps + 1)) c.in_ok-read_flat.ensures.ok in
-    let grows = c.in_ok-read_flat.ensures.grows in
+    let grows = (not_fewer _ _ _ c.in_ok-read_flat.ensures.spends) in
     record { fits = omega (arith, room.1, c.args.self.now.short, c.requires.budget, less, end.1, grows) }
 
 pub zeros_at-requires-clause-order : goal.zeros_at-requires-clause-order
@@ -115,7 +116,7 @@ returns-in_err-zeros_at-clause-cost c =
     let m = message_of c.args.self.now.bytes.now c.args.self.now.handles.now in
     let end = end_room t c.args.self.now.fine m c.args.frame c.args.entry c.args.size 1 c.args.until c.requires.left refl (at_of c.args.state.now) c.requires.frame c.requires.state (at_of c.read_flat.new.state) (c.read_flat.new.state.steps - (c.args.state.now.steps + 1)) c.in_ok-read_flat.ensures.ok in
     let less = end_less t c.args.self.now.fine m c.args.frame c.args.entry c.args.size 1 c.args.until c.requires.left refl (at_of c.args.state.now) c.requires.frame c.requires.state (at_of c.read_flat.new.state) (c.read_flat.new.state.steps - (c.args.state.now.steps + 1)) c.in_ok-read_flat.ensures.ok in
-    let grows = c.in_ok-read_flat.ensures.grows in
+    let grows = (not_fewer _ _ _ c.in_ok-read_flat.ensures.spends) in
     omega (arith, less, end.1, end.0, grows)
 
 pub returns-in_err-zeros_at-clause-fault_is_true : goal.returns-in_err-zeros_at-clause-fault_is_true
@@ -130,7 +131,7 @@ returns-then-state-until-clause-cost c =
     let m = message_of c.args.self.now.bytes.now c.args.self.now.handles.now in
     let end = end_room t c.args.self.now.fine m c.args.frame c.args.entry c.args.size 1 c.args.until c.requires.left refl (at_of c.args.state.now) c.requires.frame c.requires.state (at_of c.read_flat.new.state) (c.read_flat.new.state.steps - (c.args.state.now.steps + 1)) c.in_ok-read_flat.ensures.ok in
     let less = end_less t c.args.self.now.fine m c.args.frame c.args.entry c.args.size 1 c.args.until c.requires.left refl (at_of c.args.state.now) c.requires.frame c.requires.state (at_of c.read_flat.new.state) (c.read_flat.new.state.steps - (c.args.state.now.steps + 1)) c.in_ok-read_flat.ensures.ok in
-    let grows = c.in_ok-read_flat.ensures.grows in
+    let grows = (not_fewer _ _ _ c.in_ok-read_flat.ensures.spends) in
     omega (arith, less, end.1, end.0, grows)
 
 pub returns-then-state-until-clause-fault_is_true : goal.returns-then-state-until-clause-fault_is_true
@@ -147,14 +148,14 @@ pub returns-clause-ok : goal.returns-clause-ok
 returns-clause-ok c =
     let t = c.args.self.now.table.now in
     let m = message_of c.args.self.now.bytes.now c.args.self.now.handles.now in
-    let grows = c.in_ok-read_flat.ensures.grows in
+    let grows = (not_fewer _ _ _ c.in_ok-read_flat.ensures.spends) in
     leaf_over t c.args.self.now.fine m c.args.frame c.args.entry c.args.size 1 c.args.until c.requires.left refl (at_of c.args.state.now) c.requires.frame c.requires.state (at_of c.read_flat.new.state) (c.read_flat.new.state.steps - (c.args.state.now.steps + 1)) c.in_ok-read_flat.ensures.ok c.in_ok-zeros_at.ensures.ok (c.if-state-until.false, c.if-state-until-2.false) _ (omega (arith, grows))
 
 pub returns-clause-rises : goal.returns-clause-rises
 returns-clause-rises c =
     let t = c.args.self.now.table.now in
     let m = message_of c.args.self.now.bytes.now c.args.self.now.handles.now in
-    let grows = c.in_ok-read_flat.ensures.grows in
+    let grows = (not_fewer _ _ _ c.in_ok-read_flat.ensures.spends) in
     omega (arith, grows)
 
 pub returns-clause-cost : goal.returns-clause-cost
@@ -163,7 +164,7 @@ returns-clause-cost c =
     let m = message_of c.args.self.now.bytes.now c.args.self.now.handles.now in
     let end = end_room t c.args.self.now.fine m c.args.frame c.args.entry c.args.size 1 c.args.until c.requires.left refl (at_of c.args.state.now) c.requires.frame c.requires.state (at_of c.read_flat.new.state) (c.read_flat.new.state.steps - (c.args.state.now.steps + 1)) c.in_ok-read_flat.ensures.ok in
     let less = end_less t c.args.self.now.fine m c.args.frame c.args.entry c.args.size 1 c.args.until c.requires.left refl (at_of c.args.state.now) c.requires.frame c.requires.state (at_of c.read_flat.new.state) (c.read_flat.new.state.steps - (c.args.state.now.steps + 1)) c.in_ok-read_flat.ensures.ok in
-    let grows = c.in_ok-read_flat.ensures.grows in
+    let grows = (not_fewer _ _ _ c.in_ok-read_flat.ensures.spends) in
     omega (arith, less, end.1, end.0, grows)
 
 pub read_flat-requires-clause-kind : goal.read_flat-requires-clause-kind

@@ -1,3 +1,4 @@
+use Rattle.fidl_decode.proofs.Fitting.{spends_some, not_fewer}
 use Rattle.fidl_decode.proofs.Unchanged.{no_ok}
 use Rattle.std.proofs.Common.{◌+◌, ◌-◌, sym, subst, arith}
 use Rattle.std.specs.Prelude.{Some, None}
@@ -68,13 +69,13 @@ zeros_at-requires-clause-room c =
     let own = subst (λ (f : Frame). FrameFine t m.bytes f) same c.requires.frame in
     let room = content_end_room t c.args.self.now.fine m c.args.frame c.args.entry c.args.size c.args.count c.args.until (at_of c.args.state.now) own c.requires.state in room.1
 
-pub returns-in_err-zeros_at-clause-cost : goal.returns-in_err-zeros_at-clause-cost
-returns-in_err-zeros_at-clause-cost c =
+pub returns-in_err-zeros_at-clause-spends : goal.returns-in_err-zeros_at-clause-spends
+returns-in_err-zeros_at-clause-spends c =
     let t = c.args.self.now.table.now in
     let m = message_of c.args.self.now.bytes.now c.args.self.now.handles.now in
     let same = same_frame c.args.frame (Content c.args.entry c.args.size c.args.count c.args.until) c.requires.left in
     let own = subst (λ (f : Frame). FrameFine t m.bytes f) same c.requires.frame in
-    let room = content_end_room t c.args.self.now.fine m c.args.frame c.args.entry c.args.size c.args.count c.args.until (at_of c.args.state.now) own c.requires.state in omega (arith, room.2)
+    spends_some _ _ _ (omega arith) (let room = content_end_room t c.args.self.now.fine m c.args.frame c.args.entry c.args.size c.args.count c.args.until (at_of c.args.state.now) own c.requires.state in omega (arith, room.2))
 
 pub returns-in_err-zeros_at-clause-fault_is_true : goal.returns-in_err-zeros_at-clause-fault_is_true
 returns-in_err-zeros_at-clause-fault_is_true c =
@@ -84,13 +85,13 @@ returns-in_err-zeros_at-clause-fault_is_true c =
     let own = subst (λ (f : Frame). FrameFine t m.bytes f) same c.requires.frame in
     passed_on c.from_residual.result c.in_err-zeros_at.field-0.0 _ c.from_residual.ensures.1 (subst (λ (f : Frame). BreaksFrame t m f (at_of c.args.state.now) c.in_err-zeros_at.field-0.0) (sym same) (content_end_breaks t c.args.self.now.fine m c.args.frame c.args.entry c.args.size c.args.count c.args.until (at_of c.args.state.now) own c.requires.state c.if-count-eq0.true c.in_err-zeros_at.field-0.0 c.in_err-zeros_at.ensures.fault_is_true))
 
-pub returns-then-state-until-clause-cost : goal.returns-then-state-until-clause-cost
-returns-then-state-until-clause-cost c =
+pub returns-then-state-until-clause-spends : goal.returns-then-state-until-clause-spends
+returns-then-state-until-clause-spends c =
     let t = c.args.self.now.table.now in
     let m = message_of c.args.self.now.bytes.now c.args.self.now.handles.now in
     let same = same_frame c.args.frame (Content c.args.entry c.args.size c.args.count c.args.until) c.requires.left in
     let own = subst (λ (f : Frame). FrameFine t m.bytes f) same c.requires.frame in
-    let room = content_end_room t c.args.self.now.fine m c.args.frame c.args.entry c.args.size c.args.count c.args.until (at_of c.args.state.now) own c.requires.state in omega (arith, room.2)
+    spends_some _ _ _ (omega arith) (let room = content_end_room t c.args.self.now.fine m c.args.frame c.args.entry c.args.size c.args.count c.args.until (at_of c.args.state.now) own c.requires.state in omega (arith, room.2))
 
 pub returns-then-state-until-clause-fault_is_true : goal.returns-then-state-until-clause-fault_is_true
 returns-then-state-until-clause-fault_is_true c =
@@ -112,13 +113,13 @@ returns-then-count-eq0-clause-ok c =
     let own = subst (λ (f : Frame). FrameFine t m.bytes f) same c.requires.frame in
     subst (λ (f : Frame). Turns t m f (at_of c.args.state.now) (at_of c.args.state.now) (c.args.state.now.steps + (c.args.frame.base + c.args.frame.size - (c.args.frame.base + c.args.frame.done) + 1) - c.args.state.now.steps) (record { below = None; rest = None })) (sym same) (content_over t c.args.self.now.fine m c.args.frame c.args.entry c.args.size c.args.count c.args.until (at_of c.args.state.now) own c.requires.state c.if-count-eq0.true c.in_ok-zeros_at.ensures.ok (c.if-state-until.false, c.if-state-until-2.false) _ (omega arith))
 
-pub returns-then-count-eq0-clause-cost : goal.returns-then-count-eq0-clause-cost
-returns-then-count-eq0-clause-cost c =
+pub returns-then-count-eq0-clause-spends : goal.returns-then-count-eq0-clause-spends
+returns-then-count-eq0-clause-spends c =
     let t = c.args.self.now.table.now in
     let m = message_of c.args.self.now.bytes.now c.args.self.now.handles.now in
     let same = same_frame c.args.frame (Content c.args.entry c.args.size c.args.count c.args.until) c.requires.left in
     let own = subst (λ (f : Frame). FrameFine t m.bytes f) same c.requires.frame in
-    let room = content_end_room t c.args.self.now.fine m c.args.frame c.args.entry c.args.size c.args.count c.args.until (at_of c.args.state.now) own c.requires.state in omega (arith, room.2)
+    spends_some _ _ _ (omega arith) (let room = content_end_room t c.args.self.now.fine m c.args.frame c.args.entry c.args.size c.args.count c.args.until (at_of c.args.state.now) own c.requires.state in omega (arith, room.2))
 
 pub visit-requires-clause-entry : goal.visit-requires-clause-entry
 visit-requires-clause-entry c =
@@ -144,13 +145,13 @@ visit-requires-clause-inside c =
     let own = subst (λ (f : Frame). FrameFine t m.bytes f) same c.requires.frame in
     content_inside t c.args.self.now.fine m c.args.frame c.args.entry c.args.size c.args.count c.args.until (at_of c.args.state.now) own c.requires.state (omega (arith, c.if-count-eq0.false))
 
-pub returns-in_err-below-clause-cost : goal.returns-in_err-below-clause-cost
-returns-in_err-below-clause-cost c =
+pub returns-in_err-below-clause-spends : goal.returns-in_err-below-clause-spends
+returns-in_err-below-clause-spends c =
     let t = c.args.self.now.table.now in
     let m = message_of c.args.self.now.bytes.now c.args.self.now.handles.now in
     let same = same_frame c.args.frame (Content c.args.entry c.args.size c.args.count c.args.until) c.requires.left in
     let own = subst (λ (f : Frame). FrameFine t m.bytes f) same c.requires.frame in
-    let fits = content_room t c.args.self.now.fine m c.args.frame c.args.entry c.args.size c.args.count c.args.until (at_of c.args.state.now) own c.requires.state (omega (arith, c.if-count-eq0.false)) in let probed = c.in_err-below.ensures.spends.most in let work = fits.2 in omega (arith, probed, work)
+    spends_some _ _ _ (omega (arith, (not_fewer _ _ _ c.in_err-below.ensures.spends))) (let fits = content_room t c.args.self.now.fine m c.args.frame c.args.entry c.args.size c.args.count c.args.until (at_of c.args.state.now) own c.requires.state (omega (arith, c.if-count-eq0.false)) in let probed = c.in_err-below.ensures.spends.most in let work = fits.2 in omega (arith, probed, work))
 
 pub returns-in_err-below-clause-fault_is_true : goal.returns-in_err-below-clause-fault_is_true
 returns-in_err-below-clause-fault_is_true c =
@@ -174,15 +175,15 @@ returns-clause-ok c =
     let m = message_of c.args.self.now.bytes.now c.args.self.now.handles.now in
     let same = same_frame c.args.frame (Content c.args.entry c.args.size c.args.count c.args.until) c.requires.left in
     let own = subst (λ (f : Frame). FrameFine t m.bytes f) same c.requires.frame in
-    let grows = c.in_ok-below.ensures.spends.least in subst (λ (f : Frame). Turns t m f (at_of c.args.state.now) (at_of c.visit.new.state) (c.visit.new.state.steps - c.args.state.now.steps) (record { below = c.in_ok-below.below; rest = Some (going_on c.args.frame (Content c.args.entry c.args.size (c.args.count - 1) c.args.until) (c.args.frame.done + c.args.size)) })) (sym same) (content_turns t c.args.self.now.fine m c.args.frame c.args.entry c.args.size c.args.count c.args.until (at_of c.args.state.now) own c.requires.state (omega (arith, c.if-count-eq0.false)) c.in_ok-below.below (at_of c.visit.new.state) (c.visit.new.state.steps - (c.args.state.now.steps + 1)) (c.visit.new.state.steps - c.args.state.now.steps) (omega (arith, grows)) c.in_ok-below.ensures.ok c.in_ok-below.ensures.fine)
+    let grows = (not_fewer _ _ _ c.in_ok-below.ensures.spends) in subst (λ (f : Frame). Turns t m f (at_of c.args.state.now) (at_of c.visit.new.state) (c.visit.new.state.steps - c.args.state.now.steps) (record { below = c.in_ok-below.below; rest = Some (going_on c.args.frame (Content c.args.entry c.args.size (c.args.count - 1) c.args.until) (c.args.frame.done + c.args.size)) })) (sym same) (content_turns t c.args.self.now.fine m c.args.frame c.args.entry c.args.size c.args.count c.args.until (at_of c.args.state.now) own c.requires.state (omega (arith, c.if-count-eq0.false)) c.in_ok-below.below (at_of c.visit.new.state) (c.visit.new.state.steps - (c.args.state.now.steps + 1)) (c.visit.new.state.steps - c.args.state.now.steps) (omega (arith, grows)) c.in_ok-below.ensures.ok c.in_ok-below.ensures.fine)
 
-pub returns-clause-cost : goal.returns-clause-cost
-returns-clause-cost c =
+pub returns-clause-spends : goal.returns-clause-spends
+returns-clause-spends c =
     let t = c.args.self.now.table.now in
     let m = message_of c.args.self.now.bytes.now c.args.self.now.handles.now in
     let same = same_frame c.args.frame (Content c.args.entry c.args.size c.args.count c.args.until) c.requires.left in
     let own = subst (λ (f : Frame). FrameFine t m.bytes f) same c.requires.frame in
-    let fits = content_room t c.args.self.now.fine m c.args.frame c.args.entry c.args.size c.args.count c.args.until (at_of c.args.state.now) own c.requires.state (omega (arith, c.if-count-eq0.false)) in let probed = c.in_ok-below.ensures.spends.most in let work = fits.2 in omega (arith, probed, work)
+    spends_some _ _ _ (omega (arith, (not_fewer _ _ _ c.in_ok-below.ensures.spends))) (let fits = content_room t c.args.self.now.fine m c.args.frame c.args.entry c.args.size c.args.count c.args.until (at_of c.args.state.now) own c.requires.state (omega (arith, c.if-count-eq0.false)) in let probed = c.in_ok-below.ensures.spends.most in let work = fits.2 in omega (arith, probed, work))
 
 pub returns-in_err-zeros_at-clause-ok : goal.returns-in_err-zeros_at-clause-ok
 returns-in_err-zeros_at-clause-ok c = no_ok c.from_residual.result c.in_err-zeros_at.field-0.0 _ c.from_residual.ensures.1

@@ -1,5 +1,5 @@
-use Rattle.fidl_decode.proofs.Fitting.{no_steps, same_steps, few_steps, eq_le, eq_more, le_more_two, one_probe, le_one}
-use Rattle.fidl_decode.proofs.Unchanged.{same_le, no_ok}
+use Rattle.fidl_decode.proofs.Fitting.{no_steps, same_steps, more_steps, le_one}
+use Rattle.fidl_decode.proofs.Unchanged.{no_ok}
 use Rattle.std.proofs.Common.{◌-◌, arith, ◌≡◌, ◌<◌, sym, ap, subst, ◌∙◌, length, ◌+◌, ◌≤◌}
 use Rattle.std.specs.Prelude.{Some, None, IfOk}
 use Rattle.std.proofs.lemmas.Result.{IfErr-weaker}
@@ -197,7 +197,7 @@ pub returns-in_err-read_leaf-in_default-kind-clause-fine : goal.returns-in_err-r
 returns-in_err-read_leaf-in_default-kind-clause-fine c = no_ok c.from_residual.result c.in_err-read_leaf-in_default-kind.field-0.0 _ c.from_residual.ensures.1
 
 pub returns-in_err-read_leaf-in_default-kind-clause-spends : goal.returns-in_err-read_leaf-in_default-kind-clause-spends
-returns-in_err-read_leaf-in_default-kind-clause-spends c = few_steps _ _ _ _ _ c.in_err-read_leaf-in_default-kind.ensures.grows c.in_err-read_leaf-in_default-kind.ensures.probes (same_le _)
+returns-in_err-read_leaf-in_default-kind-clause-spends c = c.in_err-read_leaf-in_default-kind.ensures.spends
 
 pub read_table-requires-clause-kind : goal.read_table-requires-clause-kind
 read_table-requires-clause-kind c = ap (λ (e : Entry). kind_of e.kind) (sym c.entry-e.ensures.value) ∙ sym c.from_number.ensures ∙ c.in-Some.is ∙ ap (λ (k : EntryKind). Some k) c.in-Table.is
@@ -239,7 +239,7 @@ pub returns-in-Table-clause-fine : goal.returns-in-Table-clause-fine
 returns-in-Table-clause-fine c = c.read_table.ensures.fine c.args.inside (le_one c.args.inside _ c.requires.inside)
 
 pub returns-in-Table-clause-spends : goal.returns-in-Table-clause-spends
-returns-in-Table-clause-spends c = few_steps _ _ 1 _ _ c.read_table.ensures.grows c.read_table.ensures.cost (omega arith)
+returns-in-Table-clause-spends c = more_steps _ _ _ _ c.read_table.ensures.spends (omega arith)
 
 pub returns-in-Union-clause-ok : goal.returns-in-Union-clause-ok
 returns-in-Union-clause-ok c = c.read_union.ensures.ok
@@ -248,4 +248,4 @@ pub returns-in-Union-clause-fault_is_true : goal.returns-in-Union-clause-fault_i
 returns-in-Union-clause-fault_is_true c = c.read_union.ensures.fault_is_true
 
 pub returns-in-Union-clause-spends : goal.returns-in-Union-clause-spends
-returns-in-Union-clause-spends c = record { least = omega (arith, c.read_union.ensures.grows); most = omega (arith, c.read_union.ensures.probes) }
+returns-in-Union-clause-spends c = more_steps _ _ _ _ c.read_union.ensures.spends (omega arith)
