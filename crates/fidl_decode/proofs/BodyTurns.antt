@@ -17,11 +17,11 @@ use Rattle.fidl_table_format.specs.Terms.{declarations_of, members_of, term_as}
 use Rattle.fidl_wire.specs.Figure.{size_of}
 use Rattle.fidl_decode.specs.declared.body.TableBody.{TableBody}
 use Rattle.fidl_decode.specs.declared.frame.Frame.{Frame}
-use Rattle.fidl_decode.specs.declared.frame.Left.TheVariants.{Envelopes}
+use Rattle.fidl_decode.specs.declared.frame.Remaining.TheVariants.{Envelopes}
 use Rattle.fidl_decode.specs.declared.frame.Turn.{Turn}
 use Rattle.fidl_decode.specs.Invariants.{IsFine, is_free}
 use Rattle.fidl_decode.specs.Faults.{IsWithin}
-use Rattle.fidl_decode.specs.State.{Message, At}
+use Rattle.fidl_decode.specs.State.{Message, Position}
 use Rattle.fidl_decode.specs.Body.{BodyFine, IsFreeOf, rest_of, envelopes_of}
 use Rattle.fidl_decode.specs.Machine.{ReadsIf, StateFine, FrameFine, Turns, Visits, Opens, most_nest}
 use Rattle.fidl_decode.proofs.EnvelopeTurns.{envelope_absent, envelope_opened}
@@ -29,13 +29,13 @@ use Rattle.fidl_decode.proofs.Enclosed.{contained_some}
 use Rattle.fidl_decode.proofs.Leaves.{left_over}
 use Rattle.fidl_decode.proofs.Visiting.{size_as}
 
-module _ (t : List ℕ) (fine : IsFine t) (m : Message) (within : IsWithin m.bytes m.handles) (b : TableBody) (read : ℕ) (old : At) (ff : FrameFine t m.bytes (rest_of b read)) (state : StateFine m old) (more : read < b.count) where
+module _ (t : List ℕ) (fine : IsFine t) (m : Message) (within : IsWithin m.bytes m.handles) (b : TableBody) (read : ℕ) (old : Position) (ff : FrameFine t m.bytes (rest_of b read)) (state : StateFine m old) (more : read < b.count) where
   abbrev place : ℕ
   place = b.base + 8 * read
 
   -- the frame behind the next envelope, so many of its bytes read
   abbrev behind : (done : ℕ) → Turn
-  behind done = record { below = None; rest = Some (record { left = Envelopes b.entry (read + 1) (b.count - (read + 1)); base = b.base; done = done; size = 8 * b.count; nest = most_nest; depth = b.depth; inside = 0 }) }
+  behind done = record { below = None; rest = Some (record { left = Envelopes b.entry (read + 1) (b.count - (read + 1)); base = b.base; done = done; size = 8 * b.count; nest = most_nest; depth = b.depth; in_envelope = 0 }) }
 
   eight : 8 * read + 8 ≡ 8 * (read + 1)
   eight = omega arith
@@ -44,7 +44,7 @@ module _ (t : List ℕ) (fine : IsFine t) (m : Message) (within : IsWithin m.byt
   next_absent z n is = subst (λ d. Turns t m (rest_of b read) old old n (behind d)) eight
       (envelope_absent t fine m within (rest_of b read) b.entry read (b.count - read) old ff state (read + 1) (b.count - (read + 1)) (add-one read) (omega (arith, more)) (omega (arith, more)) z n is)
 
-  pub next_passed : (e : ℕ) → find (members_of t b.entry) (suc read) ≡ Some (ty.named e) → (new : At) (spent n : ℕ) → n ≤ 17 + spent → spent + old.next ≤ new.next → Opens t m b.depth (Some (ty.named e)) place old new None
+  pub next_passed : (e : ℕ) → find (members_of t b.entry) (suc read) ≡ Some (ty.named e) → (new : Position) (spent n : ℕ) → n ≤ 17 + spent → spent + old.next ≤ new.next → Opens t m b.depth (Some (ty.named e)) place old new None
       → Turns t m (rest_of b read) old new n (record { below = None; rest = Some (rest_of b (read + 1)) })
   next_passed e is new spent n few pays o =
       let own : Opens t m b.depth (find (members_of t b.entry) (suc read)) place old new None = subst (λ (o : Option Term). Opens t m b.depth o place old new None) (sym is) o in
@@ -67,13 +67,13 @@ body_found t b bf read more row here key =
 pub body_start : (b : TableBody) → (entry base count depth : ℕ) → b.entry ≡ entry → b.base ≡ base → b.count ≡ count → b.depth ≡ depth → envelopes_of entry base count depth ≡ rest_of b 0
 body_start b entry base count depth e p n d =
     let left : count ≡ b.count - 0 = omega (arith, n) in
-    λ i. record { left = Envelopes (sym e i) 0 (left i); base = sym p i; done = 0; size = 8 * sym n i; nest = most_nest; depth = sym d i; inside = 0 }
+    λ i. record { left = Envelopes (sym e i) 0 (left i); base = sym p i; done = 0; size = 8 * sym n i; nest = most_nest; depth = sym d i; in_envelope = 0 }
 
 -- what a visit leaves is read on
-pub visits_on : (t : List ℕ) (m : Message) (held e place : ℕ) (old mid : At) (a : ℕ) (g : Frame) → Visits t m held e place old mid a (Some g) → (new : At) (b n : ℕ) (o : Option Frame) → n ≤ a + b → Turns t m g mid new b (left_over o) → Visits t m held e place old new n o
+pub visits_on : (t : List ℕ) (m : Message) (held e place : ℕ) (old mid : Position) (a : ℕ) (g : Frame) → Visits t m held e place old mid a (Some g) → (new : Position) (b n : ℕ) (o : Option Frame) → n ≤ a + b → Turns t m g mid new b (left_over o) → Visits t m held e place old new n o
 visits_on t m held e place old mid a g v new b n o le turns = record {
   same = λ to. (
-    (λ x. let p = (turns.same to).0 ((v.same to).0 x) in subst (λ (s : At). ReadsIf t m o s to) (sym p.1) p.2),
+    (λ x. let p = (turns.same to).0 ((v.same to).0 x) in subst (λ (s : Position). ReadsIf t m o s to) (sym p.1) p.2),
     (λ y. (v.same to).1 ((turns.same to).1 (new, refl, y))),
   );
   breaks = λ fault b. v.breaks fault (turns.breaks fault (inr (new, refl, b)));

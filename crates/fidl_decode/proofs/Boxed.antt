@@ -21,9 +21,9 @@ use Rattle.fidl_table_format.specs.Terms.{declarations_of, fields_from}
 use Rattle.fidl_decode.specs.Invariants.{Keys, IsFine}
 use Rattle.fidl_decode.specs.declared.fault.DecodeFault.{DecodeFault}
 use Rattle.fidl_decode.specs.declared.fault.DecodeFault.TheVariants.{BadMarker, TooDeep, Truncated}
-use Rattle.fidl_decode.specs.declared.frame.Left.TheVariants.{Rows}
+use Rattle.fidl_decode.specs.declared.frame.Remaining.TheVariants.{Rows}
 use Rattle.fidl_decode.specs.Rows.{Row, table_rows, RowsRise}
-use Rattle.fidl_decode.specs.State.{Message, At, linked, after, after_fields, StandsAt, Item}
+use Rattle.fidl_decode.specs.State.{Message, Position, linked, after, after_fields, StandsAt, ValueAt}
 use Rattle.fidl_decode.specs.Breaks.{Part, Object, object_of, member_parts, BreaksBox, BreaksRule, Breaks, BreaksParts}
 use Rattle.fidl_decode.specs.Breaks as broken
 use Rattle.fidl_decode.specs.Machine.{row_parts, StateFine, Visits, VisitFine}
@@ -35,9 +35,9 @@ use Rattle.fidl_decode.proofs.Objects.{padded_size, zeros_or_ones, stands_within
 some_object : (a b : Object) → Some a ≡ Some b → a ≡ b
 some_object a b e = cc
 
-module _ (ds : Declarations) (laid : IsLaidOut ds) (m : Message) (held : ℕ) (u : Term) (place : ℕ) (from : At) where
+module _ (ds : Declarations) (laid : IsLaidOut ds) (m : Message) (held : ℕ) (u : Term) (place : ℕ) (from : Position) where
   -- a present box of a type that is a struct
-  pub record Boxed (w : Term) (to : At) : Type 0 where
+  pub record Boxed (w : Term) (to : Position) : Type 0 where
     pub values : Values
     pub struct : IsStruct w
     pub typed : EachTyped ds (fields_of w) values
@@ -47,7 +47,7 @@ module _ (ds : Declarations) (laid : IsLaidOut ds) (m : Message) (held : ℕ) (u
     pub carried : Carries m.handles from.handle (members ds (size_of ds (ty.struct (fields_of w))) 0 (fields_of w) values).handles
     pub end : to ≡ after_fields ds (fields_of w) 0 values from.next (linked place (length (members ds (size_of ds (ty.struct (fields_of w))) 0 (fields_of w) values).inline) from)
 
-  pub box_values : (to : At) → Item ds m held (ty.box u) place from to → (Stands m.bytes place (zeros 8) × (from ≡ to)) ⊎ Boxed (resolve ds.terms u) to
+  pub box_values : (to : Position) → ValueAt ds m held (ty.box u) place from to → (Stands m.bytes place (zeros 8) × (from ≡ to)) ⊎ Boxed (resolve ds.terms u) to
   box_values to x = only x.value x.typed x.shallow x.stands x.end
     where
       only : (v : Value) → IsTyped ds (ty.box u) v → depth_of ds (ty.box u) v + held ≤ MAX_DEPTH → StandsAt m (encoding_of ds (ty.box u) v) place from → to ≡ after ds (ty.box u) v place from
@@ -56,7 +56,7 @@ module _ (ds : Declarations) (laid : IsLaidOut ds) (m : Message) (held : ℕ) (u
       only (fields vs) h d s e = inr (record { values = vs; struct = h.0; typed = h.1; shallow = omega (arith, d); ones = s.inline; out = s.out; carried = s.carried; end = e })
       only _ h d s e = absurd h
 
-  pub values_box : (to : At) → Boxed (resolve ds.terms u) to → Item ds m held (ty.box u) place from to
+  pub values_box : (to : Position) → Boxed (resolve ds.terms u) to → ValueAt ds m held (ty.box u) place from to
   values_box to b = record {
     value = fields b.values;
     typed = (b.struct, b.typed);
@@ -65,11 +65,11 @@ module _ (ds : Declarations) (laid : IsLaidOut ds) (m : Message) (held : ℕ) (u
     end = b.end;
   }
 
-  pub absent_box : Stands m.bytes place (zeros 8) → held ≤ MAX_DEPTH → Item ds m held (ty.box u) place from from
+  pub absent_box : Stands m.bytes place (zeros 8) → held ≤ MAX_DEPTH → ValueAt ds m held (ty.box u) place from from
   absent_box z deep = record { value = absent; typed = tt; shallow = omega arith; stands = record { inline = z; out = tt; carried = tt }; end = refl }
 
   -- the content of a present box fits the message
-  boxed_room : (w : Term) (to : At) → Boxed w to → padded_size (size_of ds (ty.struct (fields_of w))) ≤ length m.bytes - from.next
+  boxed_room : (w : Term) (to : Position) → Boxed w to → padded_size (size_of ds (ty.struct (fields_of w))) ≤ length m.bytes - from.next
   boxed_room w to b =
       let fs = fields_of w in
       let size = size_of ds (ty.struct fs) in
@@ -78,7 +78,7 @@ module _ (ds : Declarations) (laid : IsLaidOut ds) (m : Message) (held : ℕ) (u
       let wide : length (pad8 e.inline) ≡ padded_size size = length-pad8 e.inline ∙ ap padded_size (omega (arith, long)) in
       omega (arith, stands_within m.bytes from.next (pad8 e.inline) (stands_front m.bytes from.next (pad8 e.inline) e.out b.out), wide)
 
-  pub box_excluded : (to : At) (fault : DecodeFault) → BreaksBox m held (size_of ds (ty.struct (fields_of (resolve ds.terms u)))) place from.next fault → Item ds m held (ty.box u) place from to → ⊥
+  pub box_excluded : (to : Position) (fault : DecodeFault) → BreaksBox m held (size_of ds (ty.struct (fields_of (resolve ds.terms u)))) place from.next fault → ValueAt ds m held (ty.box u) place from to → ⊥
   box_excluded to (BadMarker at) b x = elim (box_values to x) [ inl y ↦ b.1 y.0 | inr y ↦ b.2 y.ones ]
   box_excluded to (TooDeep at) b x = elim (box_values to x) [
     | inl y ↦ zeros_or_ones m.bytes place y.0 b.1
@@ -100,7 +100,7 @@ module _ (ds : Declarations) (laid : IsLaidOut ds) (m : Message) (held : ℕ) (u
 
 -- ---- in a table
 
-module _ (t : List ℕ) (fine : IsFine t) (m : Message) (held e place : ℕ) (from : At) (lt : e < (header_of t).entries) (is : kind_of (entry_at t e).kind ≡ Some Box) where
+module _ (t : List ℕ) (fine : IsFine t) (m : Message) (held e place : ℕ) (from : Position) (lt : e < (header_of t).entries) (is : kind_of (entry_at t e).kind ≡ Some Box) where
   abbrev ds : Declarations
   ds = declarations_of t
 
@@ -146,7 +146,7 @@ module _ (t : List ℕ) (fine : IsFine t) (m : Message) (held e place : ℕ) (fr
       let nest : (figure_of ds.figures (ty.struct fs)).nest ≡ inner.nest = ap (λ (f : Figure). f.nest) (figure_is t fine c Struct inside struct_is) in
       table_rise t inner.first inner.count inner.nest size 0 keys (end_of-le ds fs) (omega (arith, nest))
 
-  boxed_opens : (to : At) → Boxed ds fine.laid_out m held u place from (ty.struct fs) to → Opened ds m held place size rs from to
+  boxed_opens : (to : Position) → Boxed ds fine.laid_out m held u place from (ty.struct fs) to → Opened ds m held place size rs from to
   boxed_opens to b =
       let vs = b.values in
       let typed = typed_rows t inner.first inner.count vs b.typed in
@@ -168,7 +168,7 @@ module _ (t : List ℕ) (fine : IsFine t) (m : Message) (held e place : ℕ) (fr
         };
       }
 
-  opened_boxes : (to : At) → Opened ds m held place size rs from to → Boxed ds fine.laid_out m held u place from (ty.struct fs) to
+  opened_boxes : (to : Position) → Opened ds m held place size rs from to → Boxed ds fine.laid_out m held u place from (ty.struct fs) to
   opened_boxes to o =
       let y = o.members in
       let vs = y.values in
@@ -187,13 +187,13 @@ module _ (t : List ℕ) (fine : IsFine t) (m : Message) (held e place : ℕ) (fr
       }
 
   -- a present box: its content is the next object
-  pub box_item : (to : At) → Item ds m held (ty.box u) place from to → Stands m.bytes place present → Opened ds m held place size rs from to
+  pub box_item : (to : Position) → ValueAt ds m held (ty.box u) place from to → Stands m.bytes place present → Opened ds m held place size rs from to
   box_item to x ones = elim (box_values ds fine.laid_out m held u place from to x) [
     | inl y ↦ absurd (zeros_or_ones m.bytes place y.0 ones)
     | inr y ↦ boxed_opens to (subst (λ (w : Term). Boxed ds fine.laid_out m held u place from w to) content_is y)
   ]
 
-  item_box : (to : At) → Opened ds m held place size rs from to → Item ds m held (ty.box u) place from to
+  item_box : (to : Position) → Opened ds m held place size rs from to → ValueAt ds m held (ty.box u) place from to
   item_box to o = values_box ds fine.laid_out m held u place from to (subst (λ (w : Term). Boxed ds fine.laid_out m held u place from w to) (sym content_is) (opened_boxes to o))
 
   pub box_object : (o : Object) → object_of ds m.bytes (ty.box u) place ≡ Some o → o ≡ record { marker = place; size = size; parts = row_parts rs }
@@ -212,8 +212,8 @@ module _ (t : List ℕ) (fine : IsFine t) (m : Message) (held e place : ℕ) (fr
   module _ (state : StateFine m from) (deep : held ≤ MAX_DEPTH) where
     pub visits_absent_box : (spent : ℕ) → spent ≡ 0 → Stands m.bytes place (zeros 8) → Visits t m held e place from from spent None
     visits_absent_box spent nothing z = visits_absent t fine m held e place from lt state spent nothing (λ to. (
-      (λ x. elim (box_values ds fine.laid_out m held u place from to (subst (λ (w : Term). Item ds m held w place from to) own x)) [ inl y ↦ y.1 | inr y ↦ absurd (zeros_or_ones m.bytes place z y.ones) ]),
-      (λ same. subst (λ (w : Term). Item ds m held w place from to) (sym own) (subst (λ (s : At). Item ds m held (ty.box u) place from s) same (absent_box ds fine.laid_out m held u place from z deep))),
+      (λ x. elim (box_values ds fine.laid_out m held u place from to (subst (λ (w : Term). ValueAt ds m held w place from to) own x)) [ inl y ↦ y.1 | inr y ↦ absurd (zeros_or_ones m.bytes place z y.ones) ]),
+      (λ same. subst (λ (w : Term). ValueAt ds m held w place from to) (sym own) (subst (λ (s : Position). ValueAt ds m held (ty.box u) place from s) same (absent_box ds fine.laid_out m held u place from z deep))),
     ))
 
     pub visits_box : (spent : ℕ) → spent ≡ 0 → Stands m.bytes place present → held < MAX_DEPTH → padded_size inner.size ≤ length m.bytes - from.next
@@ -225,8 +225,8 @@ module _ (t : List ℕ) (fine : IsFine t) (m : Message) (held e place : ℕ) (fr
         subst (λ s. Visits t m held e place from (linked place s from) spent (Some (object_frame (Rows inner.first inner.count) s inner.nest held from))) content_size
         (visits_object t fine m held e place from lt state place size inner.nest (Rows inner.first inner.count) spent nothing tt (omega (arith, small)) shallow room'
         (λ to. (
-          (λ x. (box_item to (subst (λ (w : Term). Item ds m held w place from to) own x) ones).members),
-          (λ y. subst (λ (w : Term). Item ds m held w place from to) (sym own) (item_box to (record { ones = ones; shallow = omega (arith, shallow); room = room'; members = y }))),
+          (λ x. (box_item to (subst (λ (w : Term). ValueAt ds m held w place from to) own x) ones).members),
+          (λ y. subst (λ (w : Term). ValueAt ds m held w place from to) (sym own) (item_box to (record { ones = ones; shallow = omega (arith, shallow); room = room'; members = y }))),
         ))
         (λ fault b. subst (λ (w : Term). Breaks ds m held w place from fault) (sym own)
         (broken.in_object (ty.box u) place from fault (let x : Object = record { marker = place; size = size_of ds (ty.struct (fields_of (resolve ds.terms u))); parts = member_parts ds 0 (fields_of (resolve ds.terms u)) } in x) refl ones

@@ -16,7 +16,7 @@ use Rattle.fidl_wire.proofs.Sizes.{le-next_multiple_of}
 use Rattle.fidl_wire.proofs.Stand.{stands_front, stands_back}
 use Rattle.fidl_decode.specs.declared.fault.DecodeFault.{DecodeFault}
 use Rattle.fidl_decode.specs.declared.fault.DecodeFault.TheVariants.{BadMarker, AbsentRequired, BadCount, OverBound, TooDeep, Truncated, BadEnvelope, UnknownOrdinal}
-use Rattle.fidl_decode.specs.State.{Message, At, linked, envelope_place, after, StandsAt, Item, Slots}
+use Rattle.fidl_decode.specs.State.{Message, Position, linked, envelope_place, after, StandsAt, ValueAt, Slots}
 use Rattle.fidl_decode.specs.Envelopes.{Contained, CanHold, IsRightEnvelope}
 use Rattle.fidl_decode.specs.Breaks.{count_at, ordinal_at, BreaksTable, BreaksUnion, IsRight, BreaksEnvelopes, BreaksMember, at_member, behind_none, behind_member}
 use Rattle.fidl_decode.proofs.Numbers.{number_64}
@@ -46,18 +46,18 @@ flexible_if ds strict None (known v) h none = absurd h
 
 -- ---- unions
 
-module _ (ds : Declarations) (m : Message) (held : ℕ) (optional strict : Bool) (rows : Rows) (place : ℕ) (from : At) where
+module _ (ds : Declarations) (m : Message) (held : ℕ) (optional strict : Bool) (rows : Rows) (place : ℕ) (from : Position) where
   -- nothing is there
-  abbrev pub Absent : At → Type 0
+  abbrev pub Absent : Position → Type 0
   Absent to = Stands m.bytes place (zeros 16) × IsTrue optional × (from ≡ to)
 
   -- the member of an ordinal is in or behind the envelope
-  pub record Chosen (to : At) : Type 0 where
+  pub record Chosen (to : Position) : Type 0 where
     pub some : 0 < ordinal_at m.bytes place
     pub flexible : find rows (ordinal_at m.bytes place) ≡ None → IsFalse strict
     pub contained : Contained ds m held (find rows (ordinal_at m.bytes place)) (place + 8) from to
 
-  pub union_values : (to : At) → Item ds m held (ty.union optional strict rows) place from to → Absent to ⊎ Chosen to
+  pub union_values : (to : Position) → ValueAt ds m held (ty.union optional strict rows) place from to → Absent to ⊎ Chosen to
   union_values to x = only x.value x.typed x.shallow x.stands x.end
     where
       u : Term
@@ -71,7 +71,7 @@ module _ (ds : Declarations) (m : Message) (held : ℕ) (optional strict : Bool)
           let b = enveloped ds (find rows ordinal) y in
           let two = stands_joined m a b place from s in
           let is : ordinal ≡ ordinal_at m.bytes place = sym (number_64 m.bytes place ordinal h.1 two.0.inline) in
-          let there : StandsAt m b (place + 8) from = subst (λ (q : At). StandsAt m b (place + 8) q) (past_inline (to_le_bytes w64 ordinal) from) two.1 in
+          let there : StandsAt m b (place + 8) from = subst (λ (q : Position). StandsAt m b (place + 8) q) (past_inline (to_le_bytes w64 ordinal) from) two.1 in
           let own : Contained ds m held (find rows ordinal) (place + 8) from to = record { content = y; typed = flexible_too ds strict (find rows ordinal) y h.2; shallow = d; stands = there; end = e } in
           inr (record {
             some = omega (arith, h.0, is);
@@ -84,17 +84,17 @@ module _ (ds : Declarations) (m : Message) (held : ℕ) (optional strict : Bool)
   no_ordinal z = number_64 m.bytes place 0 (omega arith) (stands_front m.bytes place (zeros 8) (zeros 8) z)
 
   -- without an ordinal it is absent
-  pub union_absent : (to : At) → ordinal_at m.bytes place ≡ 0 → Item ds m held (ty.union optional strict rows) place from to → Absent to
+  pub union_absent : (to : Position) → ordinal_at m.bytes place ≡ 0 → ValueAt ds m held (ty.union optional strict rows) place from to → Absent to
   union_absent to none x = elim (union_values to x) [ inl y ↦ y | inr c ↦ absurd (omega (arith, c.some, none)) ]
 
-  pub absent_union : IsTrue optional → Stands m.bytes place (zeros 16) → held ≤ MAX_DEPTH → Item ds m held (ty.union optional strict rows) place from from
+  pub absent_union : IsTrue optional → Stands m.bytes place (zeros 16) → held ≤ MAX_DEPTH → ValueAt ds m held (ty.union optional strict rows) place from from
   absent_union may z deep = record { value = absent; typed = may; shallow = omega arith; stands = record { inline = z; out = tt; carried = tt }; end = refl }
 
   -- with one it is the member in its envelope
-  pub union_chosen : (to : At) → (ordinal_at m.bytes place ≢ 0) → Item ds m held (ty.union optional strict rows) place from to → Chosen to
+  pub union_chosen : (to : Position) → (ordinal_at m.bytes place ≢ 0) → ValueAt ds m held (ty.union optional strict rows) place from to → Chosen to
   union_chosen to some x = elim (union_values to x) [ inl y ↦ absurd (some (no_ordinal y.0)) | inr c ↦ c ]
 
-  pub union_excluded : (to : At) (fault : DecodeFault) → BreaksUnion m optional strict rows place fault → Item ds m held (ty.union optional strict rows) place from to → ⊥
+  pub union_excluded : (to : Position) (fault : DecodeFault) → BreaksUnion m optional strict rows place fault → ValueAt ds m held (ty.union optional strict rows) place from to → ⊥
   union_excluded to (AbsentRequired at) b x = clash (sym (union_absent to b.2 x).1 ∙ b.1)
   union_excluded to (BadEnvelope at) b x = b.2 (stands_back m.bytes place (zeros 8) (zeros 8) (union_absent to b.1 x).0)
   union_excluded to (UnknownOrdinal at) b x = clash (sym b.1 ∙ (union_chosen to b.2 x).flexible b.3)
@@ -109,16 +109,16 @@ module _ (ds : Declarations) (m : Message) (held : ℕ) (optional strict : Bool)
 
 -- ---- tables
 
-module _ (ds : Declarations) (laid : IsLaidOut ds) (m : Message) (held : ℕ) (rows : Rows) (place : ℕ) (from : At) where
+module _ (ds : Declarations) (laid : IsLaidOut ds) (m : Message) (held : ℕ) (rows : Rows) (place : ℕ) (from : Position) where
   -- a table: its envelopes are the next object
-  pub record Tabled (to : At) : Type 0 where
+  pub record Tabled (to : Position) : Type 0 where
     pub ones : Stands m.bytes (place + 8) present
     pub counts : count_at m.bytes place < 2 ^ 64
     pub shallow : held < MAX_DEPTH
     pub room : next_multiple_of (8 * count_at m.bytes place) 8 ≤ length m.bytes - from.next
     pub slots : Slots ds m (held + 1) rows 0 (count_at m.bytes place) from.next (linked (place + 8) (8 * count_at m.bytes place) from) to
 
-  pub table_value : (to : At) → Item ds m held (ty.table rows) place from to → Tabled to
+  pub table_value : (to : Position) → ValueAt ds m held (ty.table rows) place from to → Tabled to
   table_value to x = only x.value x.typed x.shallow x.stands x.end
     where
       only : (v : Value) → IsTyped ds (ty.table rows) v → depth_of ds (ty.table rows) v + held ≤ MAX_DEPTH → StandsAt m (encoding_of ds (ty.table rows) v) place from → to ≡ after ds (ty.table rows) v place from → Tabled to
@@ -150,7 +150,7 @@ module _ (ds : Declarations) (laid : IsLaidOut ds) (m : Message) (held : ℕ) (r
       only absent h d s e = absurd h
       only _ h d s e = absurd h
 
-  pub table_excluded : (to : At) (fault : DecodeFault) → BreaksTable m held place from.next fault → Item ds m held (ty.table rows) place from to → ⊥
+  pub table_excluded : (to : Position) (fault : DecodeFault) → BreaksTable m held place from.next fault → ValueAt ds m held (ty.table rows) place from to → ⊥
   table_excluded to (BadMarker at) b x = b.2 (table_value to x).ones
   table_excluded to (AbsentRequired at) b x = not_both m.bytes (place + 8) b.2 (table_value to x).ones
   table_excluded to (BadCount at) b x = elim b.1 [
@@ -178,7 +178,7 @@ module _ (ds : Declarations) (laid : IsLaidOut ds) (m : Message) (held : ℕ) (r
 -- ---- envelopes
 
 -- an envelope that can hold its known member, which is not too deep and fits out of line, breaks no rule by its numbers
-pub envelope_right : (ds : Declarations) (m : Message) (held : ℕ) (t : Term) (envelope : ℕ) (from : At) → CanHold ds m.bytes (Some t) envelope → held < MAX_DEPTH → next_multiple_of (size_of ds t) 8 ≤ length m.bytes - from.next
+pub envelope_right : (ds : Declarations) (m : Message) (held : ℕ) (t : Term) (envelope : ℕ) (from : Position) → CanHold ds m.bytes (Some t) envelope → held < MAX_DEPTH → next_multiple_of (size_of ds t) 8 ≤ length m.bytes - from.next
     → IsRightEnvelope ds m held (Some t) envelope from
 envelope_right ds m held t envelope from can shallow room (BadEnvelope at) b = b.1 can
 envelope_right ds m held t envelope from can shallow room (TooDeep at) b = omega (arith, b.2, shallow)
@@ -190,15 +190,15 @@ envelope_right ds m held t envelope from can shallow room other b = absurd b
 module _ (ds : Declarations) (m : Message) (held : ℕ) (rows : Rows) (n base : ℕ) where
   -- the envelope behind so many is zeros, and the rest breaks the rule; or it is not, and its member does; or a member is in
   -- it, and the rest breaks the rule behind that
-  abbrev pub BreaksNext : (read : ℕ) → At → DecodeFault → Type 0
+  abbrev pub BreaksNext : (read : ℕ) → Position → DecodeFault → Type 0
   BreaksNext read from fault = (Stands m.bytes (base + 8 * read) (zeros 8) × BreaksEnvelopes ds m held rows (suc (suc read)) n base from fault)
       ⊎ (((¬ (Stands m.bytes (base + 8 * read) (zeros 8))) × BreaksMember ds m held (find rows (suc read)) (base + 8 * read) from fault)
-      ⊎ ((mid : At) × Contained ds m held (find rows (suc read)) (base + 8 * read) from mid × BreaksEnvelopes ds m held rows (suc (suc read)) n base mid fault))
+      ⊎ ((mid : Position) × Contained ds m held (find rows (suc read)) (base + 8 * read) from mid × BreaksEnvelopes ds m held rows (suc (suc read)) n base mid fault))
 
   same_place : (read : ℕ) → envelope_place base (suc read) ≡ base + 8 * read
   same_place read = omega arith
 
-  pub broken_next : (read : ℕ) (from : At) (fault : DecodeFault) → BreaksEnvelopes ds m held rows (suc read) n base from fault → (suc read ≤ n) × BreaksNext read from fault
+  pub broken_next : (read : ℕ) (from : Position) (fault : DecodeFault) → BreaksEnvelopes ds m held rows (suc read) n base from fault → (suc read ≤ n) × BreaksNext read from fault
   broken_next read from fault (at_member rows' ordinal' n' base' from' fault' le some b) =
       let e = same_place read in (
         le,
@@ -208,7 +208,7 @@ module _ (ds : Declarations) (m : Message) (held : ℕ) (rows : Rows) (n base : 
   broken_next read from fault (behind_member rows' ordinal' n' base' from' mid fault' le c b) =
       (le, inr (inr (mid, subst (λ p. Contained ds m held (find rows (suc read)) p from mid) (same_place read) c, b)))
 
-  pub next_broken : (read : ℕ) (from : At) (fault : DecodeFault) → suc read ≤ n → BreaksNext read from fault → BreaksEnvelopes ds m held rows (suc read) n base from fault
+  pub next_broken : (read : ℕ) (from : Position) (fault : DecodeFault) → suc read ≤ n → BreaksNext read from fault → BreaksEnvelopes ds m held rows (suc read) n base from fault
   next_broken read from fault le b = elim b [
     | inl z ↦ behind_none rows (suc read) n base from fault le (subst (λ p. Stands m.bytes p (zeros 8)) (sym (same_place read)) z.0) z.1
     | inr c ↦ elim c [
@@ -218,7 +218,7 @@ module _ (ds : Declarations) (m : Message) (held : ℕ) (rows : Rows) (n base : 
   ]
 
   -- no envelope is left
-  pub none_broken : (ordinal : ℕ) (from : At) (fault : DecodeFault) → n < ordinal → BreaksEnvelopes ds m held rows ordinal n base from fault → ⊥
+  pub none_broken : (ordinal : ℕ) (from : Position) (fault : DecodeFault) → n < ordinal → BreaksEnvelopes ds m held rows ordinal n base from fault → ⊥
   none_broken ordinal from fault lt (at_member rows' ordinal' n' base' from' fault' le some b) = omega (arith, lt, le)
   none_broken ordinal from fault lt (behind_none rows' ordinal' n' base' from' fault' le z b) = omega (arith, lt, le)
   none_broken ordinal from fault lt (behind_member rows' ordinal' n' base' from' mid fault' le c b) = omega (arith, lt, le)

@@ -9,7 +9,7 @@ use Rattle.fidl_wire.specs.Figure.{Declarations}
 use Rattle.fidl_wire.specs.Typed.{IsTyped, IsHandle, IsAllowed}
 use Rattle.fidl_wire.specs.Encoding.{zeros, encoding_of}
 use Rattle.fidl_wire.specs.Standing.{Stands}
-use Rattle.fidl_decode.specs.State.{Message, At, taken, after, StandsAt, Item}
+use Rattle.fidl_decode.specs.State.{Message, Position, taken, after, StandsAt, ValueAt}
 use Rattle.fidl_decode.specs.Machine.{Leads}
 
 pub none_some : (a : HandleInfo) → None ≡ Some a → ⊥
@@ -22,9 +22,9 @@ some_same a b e = cc
 pub no_both : (m : List ℕ) (p : ℕ) → Stands m p (zeros 4) → Stands m p (replicate 4 255) → ⊥
 no_both m p h k = let a = h.1 in let b = k.1 in omega (arith, a, b)
 
-module _ (ds : Declarations) (m : Message) (held : ℕ) (optional : Bool) (subtype rights place : ℕ) (from : At) where
+module _ (ds : Declarations) (m : Message) (held : ℕ) (optional : Bool) (subtype rights place : ℕ) (from : Position) where
   -- an absent handle leads nowhere, a present one has the next record, which is allowed
-  pub handle_item : (to : At) → Item ds m held (ty.handle optional subtype rights) place from to
+  pub handle_item : (to : Position) → ValueAt ds m held (ty.handle optional subtype rights) place from to
       → (Stands m.bytes place (zeros 4) × IsTrue optional × (from ≡ to)) ⊎ (Stands m.bytes place (replicate 4 255) × ((h : HandleInfo) × (slice_get m.handles from.handle ≡ Some h) × IsAllowed subtype rights h × (taken place from ≡ to)))
   handle_item to x = only x.value x.typed x.stands x.end
     where
@@ -34,20 +34,20 @@ module _ (ds : Declarations) (m : Message) (held : ℕ) (optional : Bool) (subty
       only (handle i) h s e = inr (s.inline, (i, s.carried.0, h.1, sym e))
       only _ h s e = absurd h
 
-  pub item_absent : held ≤ MAX_DEPTH → IsTrue optional → Stands m.bytes place (zeros 4) → Item ds m held (ty.handle optional subtype rights) place from from
+  pub item_absent : held ≤ MAX_DEPTH → IsTrue optional → Stands m.bytes place (zeros 4) → ValueAt ds m held (ty.handle optional subtype rights) place from from
   item_absent deep may z = record { value = absent; typed = may; shallow = omega arith; stands = record { inline = z; out = tt; carried = tt }; end = refl }
 
-  pub item_handle : held ≤ MAX_DEPTH → Stands m.bytes place (replicate 4 255) → (h : HandleInfo) → slice_get m.handles from.handle ≡ Some h → IsHandle h → IsAllowed subtype rights h → Item ds m held (ty.handle optional subtype rights) place from (taken place from)
+  pub item_handle : held ≤ MAX_DEPTH → Stands m.bytes place (replicate 4 255) → (h : HandleInfo) → slice_get m.handles from.handle ≡ Some h → IsHandle h → IsAllowed subtype rights h → ValueAt ds m held (ty.handle optional subtype rights) place from (taken place from)
   item_handle deep ones h is small allowed = record { value = handle h; typed = (small, allowed); shallow = omega arith; stands = record { inline = ones; out = tt; carried = (is, tt) }; end = refl }
 
   pub absent_leads : held ≤ MAX_DEPTH → IsTrue optional → Stands m.bytes place (zeros 4) → Leads ds m held (ty.handle optional subtype rights) place from from
   absent_leads deep may z to = (
     (λ x. elim (handle_item to x) [ inl y ↦ y.2 | inr y ↦ absurd (no_both m.bytes place z y.0) ]),
-    (λ same. subst (λ (s : At). Item ds m held (ty.handle optional subtype rights) place from s) same (item_absent deep may z)),
+    (λ same. subst (λ (s : Position). ValueAt ds m held (ty.handle optional subtype rights) place from s) same (item_absent deep may z)),
   )
 
   pub handle_leads : held ≤ MAX_DEPTH → Stands m.bytes place (replicate 4 255) → (h : HandleInfo) → slice_get m.handles from.handle ≡ Some h → IsHandle h → IsAllowed subtype rights h → Leads ds m held (ty.handle optional subtype rights) place from (taken place from)
   handle_leads deep ones h is small allowed to = (
     (λ x. elim (handle_item to x) [ inl y ↦ absurd (no_both m.bytes place y.0 ones) | inr y ↦ y.1.3 ]),
-    (λ same. subst (λ (s : At). Item ds m held (ty.handle optional subtype rights) place from s) same (item_handle deep ones h is small allowed)),
+    (λ same. subst (λ (s : Position). ValueAt ds m held (ty.handle optional subtype rights) place from s) same (item_handle deep ones h is small allowed)),
   )

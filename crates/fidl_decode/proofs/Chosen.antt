@@ -22,7 +22,7 @@ use Rattle.fidl_table_format.specs.Terms.{declarations_of, members_of, term_as, 
 use Rattle.fidl_decode.specs.declared.fault.DecodeFault.{DecodeFault}
 use Rattle.fidl_decode.specs.declared.frame.Frame.{Frame}
 use Rattle.fidl_decode.specs.Invariants.{IsFine}
-use Rattle.fidl_decode.specs.State.{Message, At, StandsAt, Item}
+use Rattle.fidl_decode.specs.State.{Message, Position, StandsAt, ValueAt}
 use Rattle.fidl_decode.specs.Envelopes.{Contained}
 use Rattle.fidl_decode.specs.Breaks.{Breaks, BreaksUnion, BreaksMember, ordinal_at}
 use Rattle.fidl_decode.specs.Breaks as broken
@@ -59,12 +59,12 @@ strict_too ds strict (Some t) (known v) may h = h
 strict_too ds strict None (unknown inline bytes handles) may h = (may refl, h.1, h.2, h.3)
 strict_too ds strict _ _ may h = absurd h
 
-module _ (ds : Declarations) (m : Message) (held : ℕ) (optional strict : Bool) (rows : Rows) (place : ℕ) (from : At) (here : place + 8 ≤ length m.bytes) (small : (i : ℕ) → get_or m.bytes i 0 < 256) where
+module _ (ds : Declarations) (m : Message) (held : ℕ) (optional strict : Bool) (rows : Rows) (place : ℕ) (from : Position) (here : place + 8 ≤ length m.bytes) (small : (i : ℕ) → get_or m.bytes i 0 < 256) where
   abbrev ordinal : ℕ
   ordinal = ordinal_at m.bytes place
 
   -- a union stands where its member does, behind the ordinal
-  chosen_union : (to : At) → (ordinal ≢ 0) → (find rows ordinal ≡ None → IsFalse strict) → Contained ds m held (find rows ordinal) (place + 8) from to → Item ds m held (ty.union optional strict rows) place from to
+  chosen_union : (to : Position) → (ordinal ≢ 0) → (find rows ordinal ≡ None → IsFalse strict) → Contained ds m held (find rows ordinal) (place + 8) from to → ValueAt ds m held (ty.union optional strict rows) place from to
   chosen_union to some may x =
       let number = standing uint64 m.bytes place here small in
       let few = number.0 in
@@ -74,11 +74,11 @@ module _ (ds : Declarations) (m : Message) (held : ℕ) (optional strict : Bool)
         value = union ordinal x.content;
         typed = (omega (arith, some), omega (arith, few), strict_too ds strict (find rows ordinal) x.content may x.typed);
         shallow = x.shallow;
-        stands = joined_stands m (inline_only front) b place from (record { inline = number.1; out = tt; carried = tt }) (subst (λ (s : At). StandsAt m b (place + 8) s) (sym (past_inline front from)) x.stands);
+        stands = joined_stands m (inline_only front) b place from (record { inline = number.1; out = tt; carried = tt }) (subst (λ (s : Position). StandsAt m b (place + 8) s) (sym (past_inline front from)) x.stands);
         end = x.end;
       }
 
-module _ (t : List ℕ) (fine : IsFine t) (m : Message) (held e place : ℕ) (from : At) (lt : e < (header_of t).entries) (is : kind_of (entry_at t e).kind ≡ Some Union) where
+module _ (t : List ℕ) (fine : IsFine t) (m : Message) (held e place : ℕ) (from : Position) (lt : e < (header_of t).entries) (is : kind_of (entry_at t e).kind ≡ Some Union) where
   abbrev ds : Declarations
   ds = declarations_of t
 
@@ -102,11 +102,11 @@ module _ (t : List ℕ) (fine : IsFine t) (m : Message) (held e place : ℕ) (fr
   union_figure : figure_of ds.figures (ty.named e) ≡ figure 16 8 0
   union_figure = stated t e lt ∙ sym (figure_is t fine e Union lt is)
 
-  to_union : (to : At) → Item ds m held term place from to → Item ds m held (ty.union (is_optional d) (is_strict d) rows) place from to
-  to_union to x = subst (λ (u : Term). Item ds m held u place from to) union_is x
+  to_union : (to : Position) → ValueAt ds m held term place from to → ValueAt ds m held (ty.union (is_optional d) (is_strict d) rows) place from to
+  to_union to x = subst (λ (u : Term). ValueAt ds m held u place from to) union_is x
 
-  from_union : (to : At) → Item ds m held (ty.union (is_optional d) (is_strict d) rows) place from to → Item ds m held term place from to
-  from_union to x = subst (λ (u : Term). Item ds m held u place from to) (sym union_is) x
+  from_union : (to : Position) → ValueAt ds m held (ty.union (is_optional d) (is_strict d) rows) place from to → ValueAt ds m held term place from to
+  from_union to x = subst (λ (u : Term). ValueAt ds m held u place from to) (sym union_is) x
 
   pub union_breaks : (fault : DecodeFault) → BreaksUnion m (is_optional d) (is_strict d) rows place fault → Breaks ds m held term place from fault
   union_breaks fault b = subst (λ (u : Term). Breaks ds m held u place from fault) (sym union_is) (broken.in_field (ty.union (is_optional d) (is_strict d) rows) place from fault b)
@@ -118,7 +118,7 @@ module _ (t : List ℕ) (fine : IsFine t) (m : Message) (held e place : ℕ) (fr
       record {
         same = λ to. (
           (λ x. (union_absent ds m held (is_optional d) (is_strict d) rows place from to none (to_union to x)).2),
-          (λ same. subst (λ (s : At). Item ds m held term place from s) same (from_union from (absent_union ds m held (is_optional d) (is_strict d) rows place from may all deep))),
+          (λ same. subst (λ (s : Position). ValueAt ds m held term place from s) same (from_union from (absent_union ds m held (is_optional d) (is_strict d) rows place from may all deep))),
         );
         breaks = λ fault b. absurd b;
         state = state;
@@ -133,7 +133,7 @@ module _ (t : List ℕ) (fine : IsFine t) (m : Message) (held e place : ℕ) (fr
         (broken.in_union (is_optional d) (is_strict d) rows place from fault some (union_right ds m held (is_optional d) (is_strict d) rows place from some (λ strict none. clash (sym strict ∙ may none))) b)
 
     -- one whose member is in the envelope, which is opened
-    pub visits_union : (new : At) (spent : ℕ) (found : Option Frame) → spent ≤ probes → place + 8 ≤ length m.bytes → ((i : ℕ) → get_or m.bytes i 0 < 256) → Opens t m held (find rows own_ordinal) (place + 8) from new found → Visits t m held e place from new spent found
+    pub visits_union : (new : Position) (spent : ℕ) (found : Option Frame) → spent ≤ probes → place + 8 ≤ length m.bytes → ((i : ℕ) → get_or m.bytes i 0 < 256) → Opens t m held (find rows own_ordinal) (place + 8) from new found → Visits t m held e place from new spent found
     visits_union new spent found few here small o =
         let less = o.less in
         record {

@@ -12,10 +12,10 @@ use Rattle.fidl_decode.specs.declared.fault.DecodeFault.{DecodeFault}
 use Rattle.fidl_decode.specs.declared.fault.DecodeFault.TheVariants.{WrongCounts}
 use Rattle.fidl_decode.specs.declared.frame.Frame.{Frame}
 use Rattle.fidl_decode.specs.declared.frame.Until.{Until}
-use Rattle.fidl_decode.specs.declared.frame.Left.TheVariants.{Elements, Content}
+use Rattle.fidl_decode.specs.declared.frame.Remaining.TheVariants.{Elements, Content}
 use Rattle.fidl_decode.specs.Invariants.{IsFine}
 use Rattle.fidl_decode.specs.Rows.{Row, element_rows}
-use Rattle.fidl_decode.specs.State.{Message, At}
+use Rattle.fidl_decode.specs.State.{Message, Position}
 use Rattle.fidl_decode.specs.Breaks.{IsPadding, Breaks}
 use Rattle.fidl_decode.specs.Machine.{rows_left, BreaksFrame, IsUntil, IsInside, StateFine, FrameFine, Visits, VisitFine, Turns, inline_work, frame_work, probes}
 use Rattle.fidl_decode.proofs.Stated.{element_rows-more}
@@ -23,7 +23,7 @@ use Rattle.fidl_decode.proofs.Visiting.{size_is, nest_is, positive}
 use Rattle.fidl_decode.proofs.Turning.{work_falls, done_fits, spends, spends_more, turns_end, end_breaks, row_fine, row_room, row_inside, visit_breaks, turns_more}
 use Rattle.fidl_decode.proofs.Leaves.{going_on, no_zeros}
 
-module _ (t : List ℕ) (fine : IsFine t) (m : Message) (f : Frame) (e size count : ℕ) (u : Until) (old : At) (ff : FrameFine t m.bytes (going_on f (Content e size count u) f.done)) (state : StateFine m old) where
+module _ (t : List ℕ) (fine : IsFine t) (m : Message) (f : Frame) (e size count : ℕ) (u : Until) (old : Position) (ff : FrameFine t m.bytes (going_on f (Content e size count u) f.done)) (state : StateFine m old) where
   abbrev ds : Declarations
   ds = declarations_of t
 
@@ -35,7 +35,7 @@ module _ (t : List ℕ) (fine : IsFine t) (m : Message) (f : Frame) (e size coun
   s = going_on f (Elements e size count) f.done
 
   sf : FrameFine t m.bytes s
-  sf = record { left = ff.left; slots = tt; room = ff.room; some = ff.some; nest = ff.nest; depth = ff.depth; inside = ff.inside; rise = ff.rise }
+  sf = record { left = ff.left; slots = tt; room = ff.room; some = ff.some; nest = ff.nest; depth = ff.depth; in_envelope = ff.in_envelope; rise = ff.rise }
 
   -- the bytes that are left lie within the message, and there is work for them
   pub content_end_room : (f.done ≤ f.size) × (f.base + f.size ≤ length m.bytes) × (f.size - f.done + 1 ≤ frame_work g)
@@ -55,7 +55,7 @@ module _ (t : List ℕ) (fine : IsFine t) (m : Message) (f : Frame) (e size coun
       content_over own n is = record {
         same = λ to. (
           (λ x. (ended.same to).0 x.0),
-          (λ y. ((ended.same to).1 y, subst (λ (k : At). IsUntil u k) (y.1 ∙ y.2) own)),
+          (λ y. ((ended.same to).1 y, subst (λ (k : Position). IsUntil u k) (y.1 ∙ y.2) own)),
         );
         breaks = λ fault b. elim b [ inl x ↦ absurd x | inr y ↦ absurd y.2 ];
         state = state;
@@ -103,7 +103,7 @@ module _ (t : List ℕ) (fine : IsFine t) (m : Message) (f : Frame) (e size coun
         let pos = positive t fine e content_known in
         omega (arith, work_falls f.nest (entry_at t e).nest (entry_at t e).size 0 (f.size - f.done) 0 (omega (arith, less, nest)) (omega (arith, pos, own)) (omega (arith, fits, own)))
 
-    pub content_inside : IsInside f.inside (entry_at t e).size
+    pub content_inside : IsInside f.in_envelope (entry_at t e).size
     content_inside = row_inside t fine m s old sf state r (Elements e size (count - 1)) one (entry_at t e).size (size_is t fine e content_known)
 
     none_between : Stands m.bytes (f.base + f.done) (zeros (f.base + f.done - (f.base + f.done)))
@@ -112,7 +112,7 @@ module _ (t : List ℕ) (fine : IsFine t) (m : Message) (f : Frame) (e size coun
     pub content_breaks : (fault : DecodeFault) → Breaks ds m f.depth (resolve ds.terms (ty.named e)) (f.base + f.done) old fault → BreaksFrame t m g old fault
     content_breaks fault b = inl (visit_breaks t fine m s old sf state r (Elements e size (count - 1)) one tt fault none_between b)
 
-    pub content_turns : (below : Option Frame) (new : At) (spent n : ℕ) → n ≡ 1 + spent → Visits t m f.depth e (f.base + f.done) old new spent below → VisitFine t m f.depth f.inside e below
+    pub content_turns : (below : Option Frame) (new : Position) (spent n : ℕ) → n ≡ 1 + spent → Visits t m f.depth e (f.base + f.done) old new spent below → VisitFine t m f.depth f.in_envelope e below
         → Turns t m g old new n (record { below = below; rest = Some (going_on f (Content e size (count - 1) u) (f.done + size)) })
     content_turns below new spent n is v vf =
         let one_more = turns_more t fine m s old sf state r (Elements e size (count - 1)) one tt (positive t fine e content_known) ff.left tt below new (f.done + size) spent (ap (λ k. f.done + k) (sym ff.left)) none_between v vf in
@@ -131,6 +131,6 @@ module _ (t : List ℕ) (fine : IsFine t) (m : Message) (f : Frame) (e size coun
           ];
           state = one_more.state;
           below_fine = one_more.below_fine;
-          rest_fine = (record { left = rest.left; slots = tt; room = rest.room; some = rest.some; nest = rest.nest; depth = rest.depth; inside = rest.inside; rise = rest.rise }, one_more.rest_fine.1);
+          rest_fine = (record { left = rest.left; slots = tt; room = rest.room; some = rest.some; nest = rest.nest; depth = rest.depth; in_envelope = rest.in_envelope; rise = rest.rise }, one_more.rest_fine.1);
           less = (let less = one_more.less in omega (arith, less, is));
         }

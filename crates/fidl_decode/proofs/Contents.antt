@@ -15,7 +15,7 @@ use Rattle.fidl_wire.proofs.Stand.{stands_to, stands_front, stands_back, stands_
 use Rattle.fidl_wire.proofs.Unique.{no_out}
 use Rattle.fidl_decode.specs.Rows.{Row, element_rows, RowsRise}
 use Rattle.fidl_decode.specs.Faults.{IsWithin}
-use Rattle.fidl_decode.specs.State.{Message, At, opened, linked, member_at, begun, after, after_member, StandsAt, Item, Members}
+use Rattle.fidl_decode.specs.State.{Message, Position, opened, linked, member_at, begun, after, after_member, StandsAt, ValueAt, Members}
 use Rattle.fidl_decode.specs.Envelopes.{Contained}
 use Rattle.fidl_wire.specs.Envelope.{bytes_below, handles_below, flags_at}
 use Rattle.fidl_decode.proofs.After.{length-pad8, length-object, after_past}
@@ -40,27 +40,27 @@ module _ (ds : Declarations) (laid : IsLaidOut ds) (m : Message) (e held wide ba
   only_rises = (omega arith, omega arith, omega arith, omega (arith, fits))
 
   -- the value stands there, and zeros behind it
-  pub members_only : (from to : At) → Members ds m held wide base 0 (element_rows e size 1 0) from to → Item ds m held u base from to × Stands m.bytes (base + size) (zeros (wide - size))
+  pub members_only : (from to : Position) → Members ds m held wide base 0 (element_rows e size 1 0) from to → ValueAt ds m held u base from to × Stands m.bytes (base + size) (zeros (wide - size))
   members_only from to x =
       let p = members_more ds laid m held (suc e) (suc (figure_of ds.figures (ty.named e)).nest) wide base 0 only [] from to only_rises x in
       let q = (members_end ds laid m held wide base (0 + size) p.1.0 to deep).0 p.1.2 in
       let here : base + 0 ≡ base = omega arith in
       let flat : 0 + size ≡ size = omega arith in (
-        subst (λ (s : At). Item ds m held u base from s) q.0 (subst (λ (b : ℕ). Item ds m held u b from p.1.0) here p.1.1),
+        subst (λ (s : Position). ValueAt ds m held u base from s) q.0 (subst (λ (b : ℕ). ValueAt ds m held u b from p.1.0) here p.1.1),
         subst (λ (k : ℕ). Stands m.bytes (base + k) (zeros (wide - k))) flat q.1,
       )
 
-  pub only_members : (from to : At) → Item ds m held u base from to → Stands m.bytes (base + size) (zeros (wide - size)) → Members ds m held wide base 0 (element_rows e size 1 0) from to
+  pub only_members : (from to : Position) → ValueAt ds m held u base from to → Stands m.bytes (base + size) (zeros (wide - size)) → Members ds m held wide base 0 (element_rows e size 1 0) from to
   only_members from to x z =
       let here : base ≡ base + 0 = omega arith in
       let flat : size ≡ 0 + size = omega arith in
       more_members ds laid m held (suc e) (suc (figure_of ds.figures (ty.named e)).nest) wide base 0 only [] from to to only_rises tt
-      (subst (λ (b : ℕ). Item ds m held u b from to) here x)
+      (subst (λ (b : ℕ). ValueAt ds m held u b from to) here x)
       ((members_end ds laid m held wide base (0 + size) to to deep).1 (refl, subst (λ (k : ℕ). Stands m.bytes (base + k) (zeros (wide - k))) flat z))
 
 -- ---- a known member
 
-module _ (ds : Declarations) (laid : IsLaidOut ds) (m : Message) (within : IsWithin m.bytes m.handles) (held : ℕ) (t : Term) (p : ℕ) (from to : At) where
+module _ (ds : Declarations) (laid : IsLaidOut ds) (m : Message) (within : IsWithin m.bytes m.handles) (held : ℕ) (t : Term) (p : ℕ) (from to : Position) where
   abbrev term : Term
   term = resolve ds.terms t
 
@@ -69,14 +69,14 @@ module _ (ds : Declarations) (laid : IsLaidOut ds) (m : Message) (within : IsWit
 
   -- one of at most four bytes stands in its envelope, which counts its handles
   pub record Inside : Type 0 where
-    pub item : Item ds m held term p (opened p from) to
+    pub item : ValueAt ds m held term p (opened p from) to
     pub behind : Stands m.bytes (p + wide) (zeros (4 - wide))
     pub next : to.next ≡ from.next
     pub handle : to.handle ≡ from.handle + handles_below m.bytes p
 
   -- one of more is the next object of its envelope, which counts its bytes and its handles
   pub record Below : Type 0 where
-    pub item : Item ds m (held + 1) term from.next (linked p wide (opened p from)) to
+    pub item : ValueAt ds m (held + 1) term from.next (linked p wide (opened p from)) to
     pub behind : Stands m.bytes (from.next + wide) (zeros (next_multiple_of wide 8 - wide))
     pub next : to.next ≡ from.next + bytes_below m.bytes p
     pub handle : to.handle ≡ from.handle + handles_below m.bytes p
@@ -85,23 +85,23 @@ module _ (ds : Declarations) (laid : IsLaidOut ds) (m : Message) (within : IsWit
   same_size = size_of-resolve ds laid t
 
   -- a value of at most four bytes has nothing out of line, and leads past its handles
-  pub inside_led : wide ≤ 4 → (x : Item ds m held term p (opened p from) to) → (to.next ≡ from.next) × (to.handle ≡ from.handle + length (encoding_of ds term x.value).handles)
+  pub inside_led : wide ≤ 4 → (x : ValueAt ds m held term p (opened p from) to) → (to.next ≡ from.next) × (to.handle ≡ from.handle + length (encoding_of ds term x.value).handles)
   inside_led le x =
       let none = ap length (no_out ds laid term x.value x.typed (subst (λ k. k ≤ 4) (sym same_size) le)) in
       let led = after_past ds laid term x.value p (opened p from) x.typed in
-      let n : to.next ≡ (after ds term x.value p (opened p from)).next = ap (λ (k : At). k.next) x.end in
-      let h : to.handle ≡ (after ds term x.value p (opened p from)).handle = ap (λ (k : At). k.handle) x.end in
+      let n : to.next ≡ (after ds term x.value p (opened p from)).next = ap (λ (k : Position). k.next) x.end in
+      let h : to.handle ≡ (after ds term x.value p (opened p from)).handle = ap (λ (k : Position). k.handle) x.end in
       (omega (arith, n, led.0, none), omega (arith, h, led.1))
 
-  pub below_led : (x : Item ds m (held + 1) term from.next (linked p wide (opened p from)) to)
+  pub below_led : (x : ValueAt ds m (held + 1) term from.next (linked p wide (opened p from)) to)
       → (to.next ≡ from.next + length (object (encoding_of ds term x.value))) × (to.handle ≡ from.handle + length (encoding_of ds term x.value).handles)
   below_led x =
       let a = encoding_of ds term x.value in
       let mid = linked p wide (opened p from) in
       let long = length-inline ds laid term x.value x.typed ∙ same_size in
       let led = after_past ds laid term x.value from.next mid x.typed in
-      let n : to.next ≡ (after ds term x.value from.next mid).next = ap (λ (k : At). k.next) x.end in
-      let h : to.handle ≡ (after ds term x.value from.next mid).handle = ap (λ (k : At). k.handle) x.end in
+      let n : to.next ≡ (after ds term x.value from.next mid).next = ap (λ (k : Position). k.next) x.end in
+      let h : to.handle ≡ (after ds term x.value from.next mid).handle = ap (λ (k : Position). k.handle) x.end in
       (omega (arith, n, led.0, length-object a, ap (λ k. next_multiple_of k 8) long), omega (arith, h, led.1))
 
   pub contained_inside : wide ≤ 4 → Contained ds m held (Some t) p from to → Inside
@@ -119,7 +119,7 @@ module _ (ds : Declarations) (laid : IsLaidOut ds) (m : Message) (within : IsWit
           let last = stands_to m.bytes (p + length (padded 4 a.inline)) (p + 4) (envelope_end 1 a.handles) (omega (arith, whole)) (stands_back m.bytes p (padded 4 a.inline) (envelope_end 1 a.handles) s.inline) in
           let many = (end_numbers m within p 1 from.handle a.handles (omega arith) s.carried last).1 in
           let none = no_out ds laid term v h (subst (λ k. k ≤ 4) (sym same_size) le) in
-          let x : Item ds m held term p (opened p from) to = record {
+          let x : ValueAt ds m held term p (opened p from) to = record {
             value = v;
             typed = h;
             shallow = omega (arith, d, no_depth ds laid term v h (subst (λ k. k ≤ 4) (sym same_size) le));
@@ -153,7 +153,7 @@ module _ (ds : Declarations) (laid : IsLaidOut ds) (m : Message) (within : IsWit
           let last = stands_back m.bytes p (to_le_bytes w32 (length (object a))) (envelope_end 0 a.handles) s.inline in
           let many = (end_numbers m within p 0 from.handle a.handles (omega arith) s.carried last).1 in
           let counted = first_number m within p from.next (object a) s.out first in
-          let x : Item ds m (held + 1) term from.next (linked p wide (opened p from)) to = record {
+          let x : ValueAt ds m (held + 1) term from.next (linked p wide (opened p from)) to = record {
             value = v;
             typed = h;
             shallow = omega (arith, d);

@@ -7,28 +7,28 @@ use Rattle.fidl_wire.specs.Standing.{Stands, Carries}
 use Rattle.fidl_wire.proofs.Sizes.{le-next_multiple_of, le_of_test}
 use Rattle.fidl_wire.proofs.Stand.{stands_to, stands_front, stands_back}
 use Rattle.fidl_decode.specs.Links.{Linked}
-use Rattle.fidl_decode.specs.State.{Message, At, member_at, begun, StandsAt}
+use Rattle.fidl_decode.specs.State.{Message, Position, member_at, begun, StandsAt}
 use Rattle.fidl_decode.specs.Placed.{enclosed_at, first_record_at}
 use Rattle.fidl_decode.proofs.After.{length-pad8}
 use Rattle.fidl_decode.proofs.Keeping.{Apart, Keeps}
 
 -- links agree with a state on the cells of the places from a up to b
-pub record Covers (l : Linked) (r : At) (a b : ℕ) : Type 0 where
+pub record Covers (l : Linked) (r : Position) (a b : ℕ) : Type 0 where
   pub objects : (k : ℕ) → a ≤ k → k + 8 ≤ b → get_or l.objects (k / 8) 0 ≡ get_or r.objects (k / 8) 0
   pub records : (k : ℕ) → a ≤ k → k + 4 ≤ b → get_or l.records (k / 4) 0 ≡ get_or r.records (k / 4) 0
 
-pub covers_within : (l : Linked) (r : At) (a b c d : ℕ) → a ≤ c → d ≤ b → Covers l r a b → Covers l r c d
+pub covers_within : (l : Linked) (r : Position) (a b c d : ℕ) → a ≤ c → d ≤ b → Covers l r a b → Covers l r c d
 covers_within l r a b c d le lt h = record { objects = λ k x y. h.objects k (omega arith) (omega arith); records = λ k x y. h.records k (omega arith) (omega arith) }
 
 -- also with an earlier state, where nothing is linked there in between
-pub covers_before : (l : Linked) (mid r : At) (a b c d e f : ℕ) → ((k n : ℕ) → a ≤ k → k + n ≤ b → Apart k n c d × Apart k n e f) → Keeps c d e f mid r → Covers l r a b → Covers l mid a b
+pub covers_before : (l : Linked) (mid r : Position) (a b c d e f : ℕ) → ((k n : ℕ) → a ≤ k → k + n ≤ b → Apart k n c d × Apart k n e f) → Keeps c d e f mid r → Covers l r a b → Covers l mid a b
 covers_before l mid r a b c d e f out g h = record {
   objects = λ k x y. h.objects k x y ∙ g.objects k (out k 8 x y).0 (out k 8 x y).1;
   records = λ k x y. h.records k x y ∙ g.records k (out k 4 x y).0 (out k 4 x y).1;
 }
 
 -- the bytes from a place up to an end lie before the objects that a run from s to r reads, which have cells, and links agree with r on both
-pub record Fits (l : Linked) (place to : ℕ) (s r : At) : Type 0 where
+pub record Fits (l : Linked) (place to : ℕ) (s r : Position) : Type 0 where
   pub before : to ≤ s.next
   pub objects : r.next ≤ 8 * length s.objects
   pub records : r.next ≤ 4 * length s.records
@@ -37,7 +37,7 @@ pub record Fits (l : Linked) (place to : ℕ) (s r : At) : Type 0 where
 
 module _ (m : Message) where
   -- the object out of line of an encoding
-  pub object_stands : (e : Encoding) (n : ℕ) (s mid : At) → n ≡ length e.inline → mid.next ≡ s.next + next_multiple_of n 8 → mid.handle ≡ s.handle
+  pub object_stands : (e : Encoding) (n : ℕ) (s mid : Position) → n ≡ length e.inline → mid.next ≡ s.next + next_multiple_of n 8 → mid.handle ≡ s.handle
       → Stands m.bytes s.next (pad8 e.inline ++ e.out) → Carries m.handles s.handle e.handles → StandsAt m e s.next mid
   object_stands e n s mid len next hand o c =
       let front = stands_front m.bytes s.next (pad8 e.inline) e.out o in
@@ -49,7 +49,7 @@ module _ (m : Message) where
       }
 
   -- what an envelope holds or points to stands where its member begins
-  pub envelope_stands : (size place : ℕ) (a : Encoding) (s : At) → length a.inline ≡ size → (size ≤ 4 → a.out ≡ []) → StandsAt m (envelope size a) place s → StandsAt m a (member_at (nat_le size 4) place s) (begun (nat_le size 4) place size s)
+  pub envelope_stands : (size place : ℕ) (a : Encoding) (s : Position) → length a.inline ≡ size → (size ≤ 4 → a.out ≡ []) → StandsAt m (envelope size a) place s → StandsAt m a (member_at (nat_le size 4) place s) (begun (nat_le size 4) place size s)
   envelope_stands size place a s long no_more = go (nat_le size 4) refl
     where
       go : (b : Bool) → nat_le size 4 ≡ b → StandsAt m (cond b (inline_envelope (padded 4 a.inline) a.handles) (out_envelope (object a) a.handles)) place s → StandsAt m a (member_at b place s) (begun b place size s)
@@ -62,7 +62,7 @@ module _ (m : Message) where
 
 module _ (l : Linked) where
   -- the links lead from an envelope to its member, on whose bytes they agree too
-  pub member_fits : (size place : ℕ) (s r : At) → Keeps (member_at (nat_le size 4) place s) (member_at (nat_le size 4) place s + size) (begun (nat_le size 4) place size s).next r.next (begun (nat_le size 4) place size s) r
+  pub member_fits : (size place : ℕ) (s r : Position) → Keeps (member_at (nat_le size 4) place s) (member_at (nat_le size 4) place s + size) (begun (nat_le size 4) place size s).next r.next (begun (nat_le size 4) place size s) r
       → Fits l place (place + 8) s r → Fits l (member_at (nat_le size 4) place s) (member_at (nat_le size 4) place s + size) (begun (nat_le size 4) place size s) r × (enclosed_at l (nat_le size 4) place ≡ member_at (nat_le size 4) place s)
   member_fits size place s r = go (nat_le size 4) refl
     where
@@ -105,7 +105,7 @@ module _ (l : Linked) where
           )
 
   -- the links lead from an envelope to its first record
-  pub first_is : (place : ℕ) (s r : At) → s.next ≤ r.next → r.records ≡ slice_set s.records ((place + 4) / 4) s.handle → Fits l place (place + 8) s r → first_record_at l place ≡ s.handle
+  pub first_is : (place : ℕ) (s r : Position) → s.next ≤ r.next → r.records ≡ slice_set s.records ((place + 4) / 4) s.handle → Fits l place (place + 8) s r → first_record_at l place ≡ s.handle
   first_is place s r grows same fit =
       let before = fit.before in
       let room_records = fit.records in

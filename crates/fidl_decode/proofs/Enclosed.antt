@@ -16,7 +16,7 @@ use Rattle.fidl_wire.specs.Standing.{Stands}
 use Rattle.fidl_wire.proofs.Sizes.{size_of-resolve, length-inline, length-enveloped, length-padded, le_of_test, le-next_multiple_of, end_of-le}
 use Rattle.fidl_wire.proofs.Stand.{stands_to, stands_front, stands_back, stands_both}
 use Rattle.fidl_wire.proofs.Unique.{no_out}
-use Rattle.fidl_decode.specs.State.{Message, At, passed, opened, member_at, begun, envelope_place, after, after_member, after_envelopes, StandsAt, Item, Slots}
+use Rattle.fidl_decode.specs.State.{Message, Position, passed, opened, member_at, begun, envelope_place, after, after_member, after_envelopes, StandsAt, ValueAt, Slots}
 use Rattle.fidl_decode.specs.Envelopes.{Contained, depth_within}
 use Rattle.fidl_wire.specs.Envelope.{bytes_below, handles_below, flags_at}
 use Rattle.fidl_decode.specs.Faults.{IsWithin}
@@ -86,7 +86,7 @@ large_out n h = go (nat_le n 4) refl
     go true e = absurd (omega (arith, le_of_test n e, h))
     go false e = refl
 
-module _ (ds : Declarations) (laid : IsLaidOut ds) (m : Message) (within : IsWithin m.bytes m.handles) (held : ℕ) (t : Term) (p : ℕ) (from : At) where
+module _ (ds : Declarations) (laid : IsLaidOut ds) (m : Message) (within : IsWithin m.bytes m.handles) (held : ℕ) (t : Term) (p : ℕ) (from : Position) where
   abbrev size : ℕ
   size = size_of ds t
 
@@ -94,14 +94,14 @@ module _ (ds : Declarations) (laid : IsLaidOut ds) (m : Message) (within : IsWit
   u = resolve ds.terms t
 
   -- a known member, where it stands, with zeros behind it; its envelope counts what lies below it
-  pub record Enclosed (inline : Bool) (to : At) : Type 0 where
-    pub item : Item ds m (depth_within inline held) u (member_at inline p from) (begun inline p size from) to
+  pub record Enclosed (inline : Bool) (to : Position) : Type 0 where
+    pub item : ValueAt ds m (depth_within inline held) u (member_at inline p from) (begun inline p size from) to
     pub padding : Stands m.bytes (member_at inline p from + size) (zeros (wide inline size - size))
     pub fits : size ≤ wide inline size
     pub handles : handles_below m.bytes p ≡ to.handle - from.handle
     pub bytes : inline ≡ false → bytes_below m.bytes p ≡ to.next - from.next
 
-  pub known_content : (inline : Bool) → nat_le size 4 ≡ inline → (to : At) → Contained ds m held (Some t) p from to → Enclosed inline to
+  pub known_content : (inline : Bool) → nat_le size 4 ≡ inline → (to : Position) → Contained ds m held (Some t) p from to → Enclosed inline to
   known_content inline is to x = only x.content x.typed x.shallow x.stands x.end
     where
       go : (b : Bool) → nat_le size 4 ≡ b → (v : Value) → IsTyped ds u v → cond b 0 (suc (depth_of ds u v)) + held ≤ MAX_DEPTH
@@ -116,7 +116,7 @@ module _ (ds : Declarations) (laid : IsLaidOut ds) (m : Message) (within : IsWit
           let first = stands_front m.bytes p (padded 4 a.inline) (envelope_end 1 a.handles) s.inline in
           let numbers = inline_numbers m within p from (padded 4 a.inline) a.handles (length-padded 4 a.inline (omega (arith, long, small))) s in
           let led = after_past ds laid u v p (begun true p size from) h in
-          let hand : to.handle ≡ from.handle + length a.handles = ap (λ (k : At). k.handle) end ∙ led.1 in
+          let hand : to.handle ≡ from.handle + length a.handles = ap (λ (k : Position). k.handle) end ∙ led.1 in
           record {
             item = record {
               value = v;
@@ -140,8 +140,8 @@ module _ (ds : Declarations) (laid : IsLaidOut ds) (m : Message) (within : IsWit
           let first = stands_front m.bytes from.next (pad8 a.inline) a.out s.out in
           let numbers = out_numbers m within p from (object a) a.handles s in
           let led = after_past ds laid u v from.next (begun false p size from) h in
-          let hand : to.handle ≡ from.handle + length a.handles = ap (λ (k : At). k.handle) end ∙ led.1 in
-          let next : to.next ≡ from.next + next_multiple_of size 8 + length a.out = ap (λ (k : At). k.next) end ∙ led.0 in
+          let hand : to.handle ≡ from.handle + length a.handles = ap (λ (k : Position). k.handle) end ∙ led.1 in
+          let next : to.next ≡ from.next + next_multiple_of size 8 + length a.out = ap (λ (k : Position). k.next) end ∙ led.0 in
           let padding = ap (λ k. next_multiple_of k 8) long in
           let behind : from.next + length (pad8 a.inline) ≡ from.next + next_multiple_of size 8 = ap (λ n. from.next + n) (length-pad8 a.inline ∙ ap (λ k. next_multiple_of k 8) long) in
           record {
@@ -172,9 +172,9 @@ module _ (ds : Declarations) (laid : IsLaidOut ds) (m : Message) (within : IsWit
 some_none : (t : Term) → Some t ≡ None → ⊥
 some_none t e = cc
 
-module _ (ds : Declarations) (laid : IsLaidOut ds) (m : Message) (within : IsWithin m.bytes m.handles) (held : ℕ) (t : Option Term) (p : ℕ) (from : At) where
+module _ (ds : Declarations) (laid : IsLaidOut ds) (m : Message) (within : IsWithin m.bytes m.handles) (held : ℕ) (t : Option Term) (p : ℕ) (from : Position) where
   -- it is not zeros
-  pub contained_some : (to : At) → Contained ds m held t p from to → Stands m.bytes p (zeros 8) → ⊥
+  pub contained_some : (to : Position) → Contained ds m held t p from to → Stands m.bytes p (zeros 8) → ⊥
   contained_some to x z =
       let flags : flags_at m.bytes p ≡ 0 = number_16 m.bytes (p + 6) 0 (omega arith) (stands_back m.bytes p (zeros 6) (zeros 2) z) in
       let none : bytes_below m.bytes p ≡ 0 = number_32 m.bytes p 0 (omega arith) (stands_front m.bytes p (zeros 4) (zeros 4) z) in
@@ -184,7 +184,7 @@ module _ (ds : Declarations) (laid : IsLaidOut ds) (m : Message) (within : IsWit
       ]
 
   -- where an unknown one leads
-  pub unknown_led : (to : At) → t ≡ None → Contained ds m held t p from to → ((flags_at m.bytes p ≡ 1) × (to ≡ passed (handles_below m.bytes p) (opened p from)))
+  pub unknown_led : (to : Position) → t ≡ None → Contained ds m held t p from to → ((flags_at m.bytes p ≡ 1) × (to ≡ passed (handles_below m.bytes p) (opened p from)))
       ⊎ ((flags_at m.bytes p ≡ 0) × (to ≡ passed (handles_below m.bytes p) (begun false p (bytes_below m.bytes p) from)))
   unknown_led to is x = only t is x.content x.typed x.stands x.end
     where
@@ -206,16 +206,16 @@ split_zeros n k e = let same : 8 * n ≡ 8 + 8 * k = omega (arith, e) in ap zero
 
 module _ (ds : Declarations) (laid : IsLaidOut ds) (m : Message) (held : ℕ) (rows : Rows) (n base : ℕ) where
   -- a member is in an envelope, and others behind it
-  pub record Behind (read : ℕ) (from to : At) : Type 0 where
-    pub mid : At
+  pub record Behind (read : ℕ) (from to : Position) : Type 0 where
+    pub mid : Position
     pub contained : Contained ds m held (find rows (suc read)) (envelope_place base (suc read)) from mid
     pub slots : Slots ds m held rows (suc read) n base mid to
 
-  abbrev pub Step : (read : ℕ) (from to : At) → Type 0
+  abbrev pub Step : (read : ℕ) (from to : Position) → Type 0
   Step read from to = (Stands m.bytes (envelope_place base (suc read)) (zeros 8) × Slots ds m held rows (suc read) n base from to) ⊎ Behind read from to
 
   -- the next envelope is zeros, or has a member
-  pub slots_step : (read : ℕ) (from to : At) → read < n → Slots ds m held rows read n base from to → Step read from to
+  pub slots_step : (read : ℕ) (from to : Position) → read < n → Slots ds m held rows read n base from to → Step read from to
   slots_step read from to lt x = go x.members x.typed x.shallow x.stands x.end
     where
       here : base + 8 * read ≡ envelope_place base (suc read)
@@ -299,7 +299,7 @@ module _ (ds : Declarations) (laid : IsLaidOut ds) (m : Message) (held : ℕ) (r
       ]
 
   -- what stands behind zeros, or behind a member, are the members from there on
-  pub step_slots : (read : ℕ) (from to : At) → read < n → Step read from to → Slots ds m held rows read n base from to
+  pub step_slots : (read : ℕ) (from to : Position) → read < n → Step read from to → Slots ds m held rows read n base from to
   step_slots read from to lt step = elim step [ inl z ↦ behind_zeros z.0 z.1.members z.1.typed z.1.shallow z.1.stands z.1.end | inr b ↦ behind_member b ]
     where
       here : envelope_place base (suc read) ≡ base + 8 * read
@@ -356,25 +356,25 @@ module _ (ds : Declarations) (laid : IsLaidOut ds) (m : Message) (held : ℕ) (r
           let more = b.slots.shallow in
           let front = stands_at m a (envelope_place base (suc read)) (base + 8 * read) from here b.contained.stands in
           let moved = stands_at m c (base + 8 * suc read) (base + 8 * read + length a.inline) b.mid (omega (arith, long)) b.slots.stands in
-          let back = stands_alike m c (base + 8 * read + length a.inline) (after_member ds o y (envelope_place base (suc read)) from) (past a from) led (subst (λ (q : At). StandsAt m c (base + 8 * read + length a.inline) q) b.contained.end moved) in
+          let back = stands_alike m c (base + 8 * read + length a.inline) (after_member ds o y (envelope_place base (suc read)) from) (past a from) led (subst (λ (q : Position). StandsAt m c (base + 8 * read + length a.inline) q) b.contained.end moved) in
           let both = joined_stands m a c (base + 8 * read) from front back in
           record {
             members = member (suc read) y ms;
             typed = (omega arith, omega (arith, lt), b.contained.typed, b.slots.typed);
             shallow = omega (arith, deep, more);
             stands = record { inline = subst (λ k. Stands m.bytes (base + 8 * read) (zeros k ++ (joined a c).inline)) none both.inline; out = both.out; carried = both.carried };
-            end = b.slots.end ∙ ap (λ (q : At). after_envelopes ds rows ms base q) b.contained.end;
+            end = b.slots.end ∙ ap (λ (q : Position). after_envelopes ds rows ms base q) b.contained.end;
           }
 
   -- no envelope is left: nothing stands there
-  pub slots_end : (from to : At) → Slots ds m held rows n n base from to → from ≡ to
+  pub slots_end : (from to : Position) → Slots ds m held rows n n base from to → from ≡ to
   slots_end from to x = go x.members x.typed x.end
     where
       go : (ms : Members) → RiseTyped ds rows n n ms → to ≡ after_envelopes ds rows ms base from → from ≡ to
       go empty h e = sym e
       go (member ordinal y ms) h e = absurd (omega (arith, h.0, h.1))
 
-  pub end_slots : (from : At) → held ≤ MAX_DEPTH → Slots ds m held rows n n base from from
+  pub end_slots : (from : Position) → held ≤ MAX_DEPTH → Slots ds m held rows n n base from from
   end_slots from deep =
       let none : 0 ≡ 8 * (suc n - suc n) = omega arith in
       record {

@@ -18,8 +18,8 @@ use Rattle.fidl_decode.specs.Faults.{IsWithin}
 use Rattle.fidl_decode.specs.declared.fault.DecodeFault.{DecodeFault}
 use Rattle.fidl_decode.specs.declared.fault.DecodeFault.TheVariants.{BadEnvelope, TooDeep, Truncated}
 use Rattle.fidl_decode.specs.declared.frame.Frame.{Frame}
-use Rattle.fidl_decode.specs.declared.frame.Left.TheVariants.{Content}
-use Rattle.fidl_decode.specs.State.{Message, At, opened, linked, member_at, begun, Item}
+use Rattle.fidl_decode.specs.declared.frame.Remaining.TheVariants.{Content}
+use Rattle.fidl_decode.specs.State.{Message, Position, opened, linked, member_at, begun, ValueAt}
 use Rattle.fidl_decode.specs.Envelopes.{Contained, CanHold, BreaksEnvelope, depth_within, Miscounts}
 use Rattle.fidl_wire.specs.Envelope.{bytes_below, handles_below, flags_at}
 use Rattle.fidl_decode.specs.Breaks.{BreaksMember}
@@ -31,7 +31,7 @@ use Rattle.fidl_decode.proofs.Counts.{at_most_four, not_at_most_four}
 use Rattle.fidl_decode.proofs.Contents.{members_only, only_members, inside_led, below_led, contained_inside, contained_below, inside_contained, below_contained}
 
 -- the frame of a member in its envelope, of this size and nest
-abbrev pub inside_frame : (m : Message) (e size nest held p : ℕ) → At → Frame
+abbrev pub inside_frame : (m : Message) (e size nest held p : ℕ) → Position → Frame
 inside_frame m e size nest held p from = record {
   left = Content e size 1 (record { envelope = p; next = from.next; handle = from.handle + handles_below m.bytes p });
   base = p;
@@ -39,11 +39,11 @@ inside_frame m e size nest held p from = record {
   size = 4;
   nest = nest + 1;
   depth = held;
-  inside = 1;
+  in_envelope = 1;
 }
 
 -- the frame of a member that is the next object
-abbrev pub below_frame : (m : Message) (e size nest held p : ℕ) → At → Frame
+abbrev pub below_frame : (m : Message) (e size nest held p : ℕ) → Position → Frame
 below_frame m e size nest held p from = record {
   left = Content e size 1 (record { envelope = p; next = from.next + bytes_below m.bytes p; handle = from.handle + handles_below m.bytes p });
   base = from.next;
@@ -51,19 +51,19 @@ below_frame m e size nest held p from = record {
   size = next_multiple_of size 8;
   nest = nest + 1;
   depth = held + 1;
-  inside = 0;
+  in_envelope = 0;
 }
 
 -- the content of the envelope is left to read, as this frame
-pub record Enters (t : List ℕ) (m : Message) (held e p : ℕ) (old new : At) (frame : Frame) : Type 0 where
-  pub same : (to : At) → Contained (declarations_of t) m held (Some (ty.named e)) p old to ↔ Reads t m frame new to
+pub record Enters (t : List ℕ) (m : Message) (held e p : ℕ) (old new : Position) (frame : Frame) : Type 0 where
+  pub same : (to : Position) → Contained (declarations_of t) m held (Some (ty.named e)) p old to ↔ Reads t m frame new to
   pub breaks : (fault : DecodeFault) → BreaksFrame t m frame new fault → BreaksMember (declarations_of t) m held (Some (ty.named e)) p old fault
   pub fine : FrameFine t m.bytes frame
   pub deeper : level held 1 most_nest ≤ height frame
   pub state : StateFine m new
   pub work : ((new.next ≡ old.next) × (frame_work frame ≤ inline_work most_nest * 4 + 1)) ⊎ (frame_work frame ≤ inline_work most_nest * (new.next - old.next) + 1)
 
-module _ (t : List ℕ) (fine : IsFine t) (m : Message) (within : IsWithin m.bytes m.handles) (held e p : ℕ) (from : At) (lt : e < (header_of t).entries) (room : p + 8 ≤ length m.bytes) (small : (i : ℕ) → get_or m.bytes i 0 < 256) (state : StateFine m from) (deep : held ≤ MAX_DEPTH) where
+module _ (t : List ℕ) (fine : IsFine t) (m : Message) (within : IsWithin m.bytes m.handles) (held e p : ℕ) (from : Position) (lt : e < (header_of t).entries) (room : p + 8 ≤ length m.bytes) (small : (i : ℕ) → get_or m.bytes i 0 < 256) (state : StateFine m from) (deep : held ≤ MAX_DEPTH) where
   abbrev ds : Declarations
   ds = declarations_of t
 
@@ -86,21 +86,21 @@ module _ (t : List ℕ) (fine : IsFine t) (m : Message) (within : IsWithin m.byt
   few = let n = (fine.each e lt).1.nest in omega (arith, n)
 
   -- an end that is not the one counted
-  inside_miscounts : size ≤ 4 → (to : At) → Item ds m held (resolve ds.terms u) p (opened p from) to → (((to.next ≡ from.next) × (to.handle ≡ from.handle + handles_below m.bytes p)) → ⊥) → Miscounts ds m held u p from
+  inside_miscounts : size ≤ 4 → (to : Position) → ValueAt ds m held (resolve ds.terms u) p (opened p from) to → (((to.next ≡ from.next) × (to.handle ≡ from.handle + handles_below m.bytes p)) → ⊥) → Miscounts ds m held u p from
   inside_miscounts le to x wrong =
       let led = inside_led ds fine.laid_out m within held u p from to le x in
       let n = led.0 in
       let h = led.1 in
-      subst (λ (b : Bool). (to : At) × Item ds m (depth_within b held) (resolve ds.terms u) (member_at b p from) (begun b p size from) to
+      subst (λ (b : Bool). (to : Position) × ValueAt ds m (depth_within b held) (resolve ds.terms u) (member_at b p from) (begun b p size from) to
       × ((handles_below m.bytes p ≢ to.handle - from.handle) ⊎ ((b ≡ false) × (bytes_below m.bytes p ≢ to.next - from.next)))) (sym (at_most_four size le))
       (to, x, inl (λ k. wrong (n, omega (arith, h, k))))
 
-  below_miscounts : 4 < size → (to : At) → Item ds m (held + 1) (resolve ds.terms u) from.next (linked p size (opened p from)) to → (((to.next ≡ from.next + bytes_below m.bytes p) × (to.handle ≡ from.handle + handles_below m.bytes p)) → ⊥) → Miscounts ds m held u p from
+  below_miscounts : 4 < size → (to : Position) → ValueAt ds m (held + 1) (resolve ds.terms u) from.next (linked p size (opened p from)) to → (((to.next ≡ from.next + bytes_below m.bytes p) × (to.handle ≡ from.handle + handles_below m.bytes p)) → ⊥) → Miscounts ds m held u p from
   below_miscounts over to x wrong =
       let led = below_led ds fine.laid_out m within held u p from to x in
       let n = led.0 in
       let h = led.1 in
-      subst (λ (b : Bool). (to : At) × Item ds m (depth_within b held) (resolve ds.terms u) (member_at b p from) (begun b p size from) to
+      subst (λ (b : Bool). (to : Position) × ValueAt ds m (depth_within b held) (resolve ds.terms u) (member_at b p from) (begun b p size from) to
       × ((handles_below m.bytes p ≢ to.handle - from.handle) ⊎ ((b ≡ false) × (bytes_below m.bytes p ≢ to.next - from.next)))) (sym (not_at_most_four size over)) (
         to,
         x,
@@ -129,7 +129,7 @@ module _ (t : List ℕ) (fine : IsFine t) (m : Message) (within : IsWithin m.byt
       some = omega arith;
       nest = few;
       depth = deep;
-      inside = inr (refl, omega arith);
+      in_envelope = inr (refl, omega arith);
       rise = (lt, omega arith, omega (arith, nest_is), omega (arith, le));
     };
     deeper = omega (arith, few);
@@ -176,7 +176,7 @@ module _ (t : List ℕ) (fine : IsFine t) (m : Message) (within : IsWithin m.byt
             some = omega arith;
             nest = few;
             depth = deeper;
-            inside = inl refl;
+            in_envelope = inl refl;
             rise = (lt, omega arith, omega (arith, nest_is), omega (arith, le));
           };
           deeper = omega (arith, few);
@@ -195,30 +195,30 @@ module _ (t : List ℕ) (fine : IsFine t) (m : Message) (within : IsWithin m.byt
       (own_below (omega (arith, over, size_is)) flags whole shallow (omega (arith, fits, up)))
 
   -- the same, of what stands for the entry, the numbers and the state
-  pub enters_inside_as : (c : Entry) (k : ℕ) (new : At) → c ≡ d → k ≡ handles_below m.bytes p → opened p from ≡ new → c.size ≤ 4 → flags_at m.bytes p ≡ 1
-      → Enters t m held e p from new (record { left = Content e c.size 1 (record { envelope = p; next = from.next; handle = from.handle + k }); base = p; done = 0; size = 4; nest = c.nest + 1; depth = held; inside = 1 })
+  pub enters_inside_as : (c : Entry) (k : ℕ) (new : Position) → c ≡ d → k ≡ handles_below m.bytes p → opened p from ≡ new → c.size ≤ 4 → flags_at m.bytes p ≡ 1
+      → Enters t m held e p from new (record { left = Content e c.size 1 (record { envelope = p; next = from.next; handle = from.handle + k }); base = p; done = 0; size = 4; nest = c.nest + 1; depth = held; in_envelope = 1 })
   enters_inside_as c k new is many led le flags =
-      let frame : Entry → ℕ → Frame = λ c k. record { left = Content e c.size 1 (record { envelope = p; next = from.next; handle = from.handle + k }); base = p; done = 0; size = 4; nest = c.nest + 1; depth = held; inside = 1 } in
+      let frame : Entry → ℕ → Frame = λ c k. record { left = Content e c.size 1 (record { envelope = p; next = from.next; handle = from.handle + k }); base = p; done = 0; size = 4; nest = c.nest + 1; depth = held; in_envelope = 1 } in
       let same : frame d (handles_below m.bytes p) ≡ frame c k = λ i. frame (sym is i) (sym many i) in
       let small_size = ap (λ (c : Entry). c.size) is in
-      subst (λ (s : At). Enters t m held e p from s (frame c k)) led
+      subst (λ (s : Position). Enters t m held e p from s (frame c k)) led
       (subst (λ (f : Frame). Enters t m held e p from (opened p from) f) same (enters_inside (omega (arith, le, small_size)) flags))
 
-  pub enters_below_as : (c : Entry) (n k whole : ℕ) (new : At) → c ≡ d → n ≡ bytes_below m.bytes p → k ≡ handles_below m.bytes p → whole ≡ next_multiple_of c.size 8 → linked p d.size (opened p from) ≡ new
+  pub enters_below_as : (c : Entry) (n k whole : ℕ) (new : Position) → c ≡ d → n ≡ bytes_below m.bytes p → k ≡ handles_below m.bytes p → whole ≡ next_multiple_of c.size 8 → linked p d.size (opened p from) ≡ new
       → 4 < c.size → flags_at m.bytes p ≡ 0 → IsUnknownLength false n → held < MAX_DEPTH → whole ≤ length m.bytes - from.next
-      → Enters t m held e p from new (record { left = Content e c.size 1 (record { envelope = p; next = from.next + n; handle = from.handle + k }); base = from.next; done = 0; size = whole; nest = c.nest + 1; depth = held + 1; inside = 0 })
+      → Enters t m held e p from new (record { left = Content e c.size 1 (record { envelope = p; next = from.next + n; handle = from.handle + k }); base = from.next; done = 0; size = whole; nest = c.nest + 1; depth = held + 1; in_envelope = 0 })
   enters_below_as c n k whole new is much many wide led over flags counted shallow fits =
-      let frame : Entry → (n k whole : ℕ) → Frame = λ c n k whole. record { left = Content e c.size 1 (record { envelope = p; next = from.next + n; handle = from.handle + k }); base = from.next; done = 0; size = whole; nest = c.nest + 1; depth = held + 1; inside = 0 } in
+      let frame : Entry → (n k whole : ℕ) → Frame = λ c n k whole. record { left = Content e c.size 1 (record { envelope = p; next = from.next + n; handle = from.handle + k }); base = from.next; done = 0; size = whole; nest = c.nest + 1; depth = held + 1; in_envelope = 0 } in
       let wide_is : whole ≡ next_multiple_of d.size 8 = wide ∙ ap (λ (c : Entry). next_multiple_of c.size 8) is in
       let same : frame d (bytes_below m.bytes p) (handles_below m.bytes p) (next_multiple_of d.size 8) ≡ frame c n k whole = λ i. frame (sym is i) (sym much i) (sym many i) (sym wide_is i) in
       let large_size = ap (λ (c : Entry). c.size) is in
-      subst (λ (s : At). Enters t m held e p from s (frame c n k whole)) led
+      subst (λ (s : Position). Enters t m held e p from s (frame c n k whole)) led
       (subst (λ (f : Frame). Enters t m held e p from (linked p d.size (opened p from)) f) same
       (enters_below (omega (arith, over, large_size)) flags (subst (λ n. IsUnknownLength false n) much counted) shallow (omega (arith, fits, wide_is))))
 
   -- the numbers are refused
   pub numbers_refuse : (fault : DecodeFault) → BreaksEnvelope ds m held (Some u) p from.next from.handle fault
-      → BreaksMember ds m held (Some u) p from fault × ((to : At) → Contained ds m held (Some u) p from to → ⊥)
+      → BreaksMember ds m held (Some u) p from fault × ((to : Position) → Contained ds m held (Some u) p from to → ⊥)
   numbers_refuse fault b = (broken.by_numbers (Some u) p from fault b, λ to. envelope_excluded ds fine.laid_out m within held p from (Some u) to fault b)
 
   pub not_inside : d.size ≤ 4 → (flags_at m.bytes p ≡ 1 → ⊥) → CanHold ds m.bytes (Some u) p → ⊥

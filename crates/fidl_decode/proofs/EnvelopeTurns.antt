@@ -10,10 +10,10 @@ use Rattle.fidl_table_format.specs.declared.record.Row as raw
 use Rattle.fidl_table_format.specs.Terms.{declarations_of, members_of}
 use Rattle.fidl_decode.specs.declared.fault.DecodeFault.{DecodeFault}
 use Rattle.fidl_decode.specs.declared.frame.Frame.{Frame}
-use Rattle.fidl_decode.specs.declared.frame.Left.TheVariants.{Envelopes}
+use Rattle.fidl_decode.specs.declared.frame.Remaining.TheVariants.{Envelopes}
 use Rattle.fidl_decode.specs.Invariants.{IsFine}
 use Rattle.fidl_decode.specs.Faults.{IsWithin}
-use Rattle.fidl_decode.specs.State.{Message, At, envelope_place, Slots}
+use Rattle.fidl_decode.specs.State.{Message, Position, envelope_place, Slots}
 use Rattle.fidl_decode.specs.Envelopes.{Contained}
 use Rattle.fidl_decode.specs.Breaks.{BreaksMember, BreaksEnvelopes}
 use Rattle.fidl_decode.specs.Machine.{Reads, BreaksFrame, StateFine, FrameFine, Turns, Opens, PaysEnvelope, member_term, most_nest, inline_work, frame_work, envelope_work, height}
@@ -27,7 +27,7 @@ pub member_found : (rows : Rows) (ordinal : ℕ) (o : Option raw.Row) → IfNone
 member_found rows ordinal None none some = none
 member_found rows ordinal (Some row) none some = some
 
-module _ (t : List ℕ) (fine : IsFine t) (m : Message) (within : IsWithin m.bytes m.handles) (f : Frame) (e read count : ℕ) (old : At) (ff : FrameFine t m.bytes (going_on f (Envelopes e read count) f.done)) (state : StateFine m old) where
+module _ (t : List ℕ) (fine : IsFine t) (m : Message) (within : IsWithin m.bytes m.handles) (f : Frame) (e read count : ℕ) (old : Position) (ff : FrameFine t m.bytes (going_on f (Envelopes e read count) f.done)) (state : StateFine m old) where
   abbrev ds : Declarations
   ds = declarations_of t
 
@@ -51,7 +51,7 @@ module _ (t : List ℕ) (fine : IsFine t) (m : Message) (within : IsWithin m.byt
       record {
         same = λ to. (
           (λ x. (old, refl, slots_end ds fine.laid_out m f.depth rows read f.base old to (subst (λ k. Slots ds m f.depth rows read k f.base old to) all x))),
-          (λ y. subst (λ k. Slots ds m f.depth rows read k f.base old to) (sym all) (subst (λ (s : At). Slots ds m f.depth rows read read f.base old s) (y.1 ∙ y.2) (end_slots ds fine.laid_out m f.depth rows read f.base old ff.depth))),
+          (λ y. subst (λ k. Slots ds m f.depth rows read k f.base old to) (sym all) (subst (λ (s : Position). Slots ds m f.depth rows read read f.base old s) (y.1 ∙ y.2) (end_slots ds fine.laid_out m f.depth rows read f.base old ff.depth))),
         );
         breaks = λ fault b. elim b [ inl x ↦ absurd x | inr y ↦ absurd y.2 ];
         state = state;
@@ -66,13 +66,13 @@ module _ (t : List ℕ) (fine : IsFine t) (m : Message) (within : IsWithin m.byt
     abbrev rest : Frame
     rest = going_on f (Envelopes e r c) (f.done + 8)
 
-    to_rest : (from to : At) → Slots ds m f.depth rows (suc read) (read + count) f.base from to → Reads t m rest from to
+    to_rest : (from to : Position) → Slots ds m f.depth rows (suc read) (read + count) f.base from to → Reads t m rest from to
     to_rest from to x = subst (λ k. Slots ds m f.depth rows r k f.base from to) (sym fewer) (subst (λ k. Slots ds m f.depth rows k (read + count) f.base from to) (sym next) x)
 
-    from_rest : (from to : At) → Reads t m rest from to → Slots ds m f.depth rows (suc read) (read + count) f.base from to
+    from_rest : (from to : Position) → Reads t m rest from to → Slots ds m f.depth rows (suc read) (read + count) f.base from to
     from_rest from to x = subst (λ k. Slots ds m f.depth rows k (read + count) f.base from to) next (subst (λ k. Slots ds m f.depth rows r k f.base from to) fewer x)
 
-    rest_breaks : (from : At) (fault : DecodeFault) → BreaksFrame t m rest from fault → BreaksEnvelopes ds m f.depth rows (suc (suc read)) (read + count) f.base from fault
+    rest_breaks : (from : Position) (fault : DecodeFault) → BreaksFrame t m rest from fault → BreaksEnvelopes ds m f.depth rows (suc (suc read)) (read + count) f.base from fault
     rest_breaks from fault b = subst (λ k. BreaksEnvelopes ds m f.depth rows (suc k) (read + count) f.base from fault) next (subst (λ k. BreaksEnvelopes ds m f.depth rows (suc r) k f.base from fault) fewer b)
 
     at_place : (P : ℕ → Type 0) → P place → P (f.base + 8 * read)
@@ -89,7 +89,7 @@ module _ (t : List ℕ) (fine : IsFine t) (m : Message) (within : IsWithin m.byt
           some = ff.some;
           nest = ff.nest;
           depth = ff.depth;
-          inside = ff.inside;
+          in_envelope = ff.in_envelope;
           rise = omega (arith, done, size, more);
         }
 
@@ -114,12 +114,12 @@ module _ (t : List ℕ) (fine : IsFine t) (m : Message) (within : IsWithin m.byt
               | inl y ↦ (old, refl, to_rest old to y.1)
               | inr b ↦ absurd (contained_some ds fine.laid_out m within f.depth (find rows (suc read)) (envelope_place f.base (suc read)) old b.mid b.contained z')
             ]),
-            (λ y. step_slots ds fine.laid_out m f.depth rows (read + count) f.base read old to (omega (arith, more)) (inl (z', from_rest old to (subst (λ (s : At). Reads t m rest s to) (sym y.1) y.2)))),
+            (λ y. step_slots ds fine.laid_out m f.depth rows (read + count) f.base read old to (omega (arith, more)) (inl (z', from_rest old to (subst (λ (s : Position). Reads t m rest s to) (sym y.1) y.2)))),
           );
           breaks = λ fault b. elim b [
             | inl x ↦ absurd x
             | inr y ↦ next_broken ds m f.depth rows (read + count) f.base read old fault (omega (arith, more))
-                (inl (at_place (λ p. Stands m.bytes p (zeros 8)) z, subst (λ (s : At). BreaksEnvelopes ds m f.depth rows (suc (suc read)) (read + count) f.base s fault) (sym y.1) (rest_breaks y.0 fault y.2)))
+                (inl (at_place (λ p. Stands m.bytes p (zeros 8)) z, subst (λ (s : Position). BreaksEnvelopes ds m f.depth rows (suc (suc read)) (read + count) f.base s fault) (sym y.1) (rest_breaks y.0 fault y.2)))
           ];
           state = state;
           below_fine = tt;
@@ -131,7 +131,7 @@ module _ (t : List ℕ) (fine : IsFine t) (m : Message) (within : IsWithin m.byt
       no_zeros_there : Stands m.bytes (envelope_place f.base (suc read)) (zeros 8) → ⊥
       no_zeros_there z = some (subst (λ p. Stands m.bytes p (zeros 8)) own_place z)
 
-      pub envelope_opened : (found : Option Frame) (new : At) (spent n : ℕ) → n ≤ 17 + spent → PaysEnvelope m.bytes old.next new.next spent found → Opens t m f.depth (find rows (suc read)) place old new found → Turns t m g old new n (record { below = found; rest = Some rest })
+      pub envelope_opened : (found : Option Frame) (new : Position) (spent n : ℕ) → n ≤ 17 + spent → PaysEnvelope m.bytes old.next new.next spent found → Opens t m f.depth (find rows (suc read)) place old new found → Turns t m g old new n (record { below = found; rest = Some rest })
       envelope_opened found new spent n few own o = record {
         same = λ to. (
           (λ x. elim (slots_step ds fine.laid_out m f.depth rows (read + count) f.base read old to (omega (arith, more)) x) [

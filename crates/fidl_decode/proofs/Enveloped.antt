@@ -17,7 +17,7 @@ use Rattle.fidl_wire.proofs.Stand.{stands_to, stands_front, stands_back}
 use Rattle.fidl_wire.proofs.Whole.{whole-message}
 use Rattle.fidl_decode.specs.declared.fault.DecodeFault.{DecodeFault}
 use Rattle.fidl_decode.specs.declared.fault.DecodeFault.TheVariants.{BadEnvelope, TooDeep, Truncated, HandleMissing}
-use Rattle.fidl_decode.specs.State.{Message, At, StandsAt}
+use Rattle.fidl_decode.specs.State.{Message, Position, StandsAt}
 use Rattle.fidl_decode.specs.Faults.{IsWithin}
 use Rattle.fidl_decode.specs.Envelopes.{Contained, CanBeInline, CanBeOut, first_object, BreaksEnvelope}
 use Rattle.fidl_wire.specs.Envelope.{bytes_below, handles_below, flags_at}
@@ -36,7 +36,7 @@ handles_room hs p (x ∷ a) h = let lt = slice_get_within hs p x h.0 in let more
 pub more_than_four : (n : ℕ) → nat_le n 4 ≡ false → 4 < n
 more_than_four n h = search (rules, h)
 
-module _ (ds : Declarations) (laid : IsLaidOut ds) (m : Message) (within : IsWithin m.bytes m.handles) (held : ℕ) (t : Option Term) (p : ℕ) (from : At) where
+module _ (ds : Declarations) (laid : IsLaidOut ds) (m : Message) (within : IsWithin m.bytes m.handles) (held : ℕ) (t : Option Term) (p : ℕ) (from : Position) where
   -- the numbers of an envelope that holds its member
   abbrev pub HoldsInline : Type 0
   HoldsInline = (flags_at m.bytes p ≡ 1) × CanBeInline ds t
@@ -48,7 +48,7 @@ module _ (ds : Declarations) (laid : IsLaidOut ds) (m : Message) (within : IsWit
   abbrev pub Holds : Type 0
   Holds = (HoldsInline ⊎ HoldsOut) × (handles_below m.bytes p ≤ length m.handles - from.handle)
 
-pub inline_numbers : (m : Message) → IsWithin m.bytes m.handles → (p : ℕ) (from : At) (bytes : List ℕ) (handles : List HandleInfo) → length bytes ≡ 4 → StandsAt m (inline_envelope bytes handles) p from
+pub inline_numbers : (m : Message) → IsWithin m.bytes m.handles → (p : ℕ) (from : Position) (bytes : List ℕ) (handles : List HandleInfo) → length bytes ≡ 4 → StandsAt m (inline_envelope bytes handles) p from
     → (flags_at m.bytes p ≡ 1) × (handles_below m.bytes p ≤ length m.handles - from.handle) × (handles_below m.bytes p ≡ length handles)
 inline_numbers m within p from bytes handles four st =
     let limit = within.1 in
@@ -58,7 +58,7 @@ inline_numbers m within p from bytes handles four st =
     let last = stands_to m.bytes (p + 4 + 2) (p + 6) (to_le_bytes w16 1) (omega arith) (stands_back m.bytes (p + 4) (to_le_bytes w16 (length handles)) (to_le_bytes w16 1) end) in
     (number_16 m.bytes (p + 6) 1 (omega arith) last, omega (arith, count, room), count)
 
-pub out_numbers : (m : Message) → IsWithin m.bytes m.handles → (p : ℕ) (from : At) (bytes : List ℕ) (handles : List HandleInfo) → StandsAt m (out_envelope bytes handles) p from
+pub out_numbers : (m : Message) → IsWithin m.bytes m.handles → (p : ℕ) (from : Position) (bytes : List ℕ) (handles : List HandleInfo) → StandsAt m (out_envelope bytes handles) p from
     → (flags_at m.bytes p ≡ 0) × (bytes_below m.bytes p ≡ length bytes) × (handles_below m.bytes p ≤ length m.handles - from.handle) × (handles_below m.bytes p ≡ length handles)
 out_numbers m within p from bytes handles st =
     let short = within.0 in
@@ -71,7 +71,7 @@ out_numbers m within p from bytes handles st =
     let last = stands_to m.bytes (p + 4 + 2) (p + 6) (to_le_bytes w16 0) (omega arith) (stands_back m.bytes (p + 4) (to_le_bytes w16 (length handles)) (to_le_bytes w16 0) end) in
     (number_16 m.bytes (p + 6) 0 (omega arith) last, number_32 m.bytes p (length bytes) (omega arith) first, omega (arith, count, room), count)
 
-module _ (ds : Declarations) (laid : IsLaidOut ds) (m : Message) (within : IsWithin m.bytes m.handles) (held p : ℕ) (from : At) where
+module _ (ds : Declarations) (laid : IsLaidOut ds) (m : Message) (within : IsWithin m.bytes m.handles) (held p : ℕ) (from : Position) where
   pub holds : (t : Option Term) (x : Member) → IsTypedMember ds false t x → member_depth ds t x + held ≤ MAX_DEPTH → StandsAt m (enveloped ds t x) p from → Holds ds laid m within held t p from
   holds (Some t) (known v) h deep st = go (nat_le (size_of ds t) 4) refl deep st
     where
@@ -107,7 +107,7 @@ module _ (ds : Declarations) (laid : IsLaidOut ds) (m : Message) (within : IsWit
       (inr (n.0, subst (λ k. IsUnknownLength false k) (sym same) h.2, tt, omega (arith, fits, same), omega (arith, deep)), n.2)
   holds _ _ h deep st = absurd h
 
-  pub envelope_excluded : (t : Option Term) (to : At) (fault : DecodeFault) → BreaksEnvelope ds m held t p from.next from.handle fault → Contained ds m held t p from to → ⊥
+  pub envelope_excluded : (t : Option Term) (to : Position) (fault : DecodeFault) → BreaksEnvelope ds m held t p from.next from.handle fault → Contained ds m held t p from to → ⊥
   envelope_excluded t to (BadEnvelope at) b x = elim (holds t x.content x.typed x.shallow x.stands).0 [ inl i ↦ b.1 (inl i) | inr o ↦ b.1 (inr (o.0, o.1, o.2)) ]
   envelope_excluded t to (TooDeep at) b x = let flags = b.1 in let deep = b.2 in elim (holds t x.content x.typed x.shallow x.stands).0 [ inl i ↦ omega (arith, flags, i.0) | inr o ↦ omega (arith, deep, o.4) ]
   envelope_excluded t to (Truncated at) b x = let flags = b.1 in let less = b.2 in elim (holds t x.content x.typed x.shallow x.stands).0 [ inl i ↦ omega (arith, flags, i.0) | inr o ↦ omega (arith, less, o.3) ]

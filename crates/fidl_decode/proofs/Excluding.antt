@@ -24,7 +24,7 @@ use Rattle.fidl_decode.specs.Invariants.{EntryFine, IsFine}
 use Rattle.fidl_decode.specs.declared.fault.DecodeFault.{DecodeFault}
 use Rattle.fidl_decode.specs.declared.fault.DecodeFault.TheVariants.{TooLong, TooManyHandles, Truncated, Padding, BadBool, UnknownValue, UnknownBits, BadMarker, AbsentRequired, BadCount, OverBound, NotUtf8, BadEnvelope, WrongCounts, UnknownOrdinal, TooDeep, HandleMissing, WrongHandle, BytesLeft, HandlesLeft}
 use Rattle.fidl_decode.specs.Rows.{Row, table_rows, element_rows, RowsRise}
-use Rattle.fidl_decode.specs.State.{Message, At, opened, linked, envelope_place, Item, Members, Slots}
+use Rattle.fidl_decode.specs.State.{Message, Position, opened, linked, envelope_place, ValueAt, Members, Slots}
 use Rattle.fidl_decode.specs.Envelopes.{Contained}
 use Rattle.fidl_decode.specs.Breaks.{Part, parts_of, Object, object_of, count_at, ordinal_at, IsPadding, BreaksField, BreaksHandle, BreaksRule, Breaks, BreaksParts, BreaksEnvelopes, BreaksMember}
 use Rattle.fidl_decode.specs.Breaks.{in_field, in_parts, in_object, in_table, in_union, at_member, behind_none, behind_member, by_numbers, in_envelope, out_of_line, by_counts, in_gap, in_next, in_later, in_end}
@@ -49,7 +49,7 @@ use Rattle.fidl_decode.proofs.Scalars.{bool_item, numeric_item, numeric_enum, nu
 
 -- ---- gaps and fields
 
-field_excluded : (ds : Declarations) (m : Message) (held : ℕ) (t : Term) (place : ℕ) (from to : At) (fault : DecodeFault) → BreaksField m t place fault → Item ds m held t place from to → ⊥
+field_excluded : (ds : Declarations) (m : Message) (held : ℕ) (t : Term) (place : ℕ) (from to : Position) (fault : DecodeFault) → BreaksField m t place fault → ValueAt ds m held t place from to → ⊥
 field_excluded ds m held ty.bool place from to (BadBool at) b x =
     let over : 1 < get_or m.bytes place 0 = subst (λ n. 1 < get_or m.bytes n 0) b.0 b.1 in
     let le = (bool_item ds m held place from to x).1 in
@@ -68,7 +68,7 @@ unknown e = cc
 none_some : (a : HandleInfo) → None ≡ Some a → ⊥
 none_some a e = cc
 
-handle_excluded : (ds : Declarations) (m : Message) (held : ℕ) (optional : Bool) (subtype rights place : ℕ) (from to : At) (fault : DecodeFault) → BreaksHandle m optional subtype rights place from.handle fault → Item ds m held (ty.handle optional subtype rights) place from to → ⊥
+handle_excluded : (ds : Declarations) (m : Message) (held : ℕ) (optional : Bool) (subtype rights place : ℕ) (from to : Position) (fault : DecodeFault) → BreaksHandle m optional subtype rights place from.handle fault → ValueAt ds m held (ty.handle optional subtype rights) place from to → ⊥
 handle_excluded ds m held optional subtype rights place from to (BadMarker at) b x = elim (handle_item ds m held optional subtype rights place from to x) [
   | inl y ↦ b.1 (subst (λ p. Stands m.bytes p (zeros 4)) (sym b.0) y.0)
   | inr y ↦ b.2 (subst (λ p. Stands m.bytes p (replicate 4 255)) (sym b.0) y.0)
@@ -87,7 +87,7 @@ handle_excluded ds m held optional subtype rights place from to (WrongHandle at)
 ]
 handle_excluded ds m held optional subtype rights place from to fault b x = absurd b
 
-rule_excluded : (ds : Declarations) → IsLaidOut ds → (m : Message) → length m.bytes < 2 ^ 32 → (held : ℕ) (t : Term) → IsBounded t → (place : ℕ) (from to : At) (fault : DecodeFault) → BreaksRule ds m held t place from.next from.handle fault → Item ds m held t place from to → ⊥
+rule_excluded : (ds : Declarations) → IsLaidOut ds → (m : Message) → length m.bytes < 2 ^ 32 → (held : ℕ) (t : Term) → IsBounded t → (place : ℕ) (from to : Position) (fault : DecodeFault) → BreaksRule ds m held t place from.next from.handle fault → ValueAt ds m held t place from to → ⊥
 rule_excluded ds laid m short held (ty.string optional bound) few place from to fault b x = text_excluded ds m short held optional bound place from to fault b x
 rule_excluded ds laid m short held (ty.vector optional bound u) few place from to fault b x = vector_excluded ds laid m held optional bound few.0 u place from to fault b x
 rule_excluded ds laid m short held (ty.box u) few place from to fault b x = box_excluded ds laid m held u place from to fault b x
@@ -128,10 +128,10 @@ module _ (t : List ℕ) (fine : IsFine t) (sound : IsSound (declarations_of t)) 
   fig e = figure_of ds.figures (ty.named e)
 
   -- the rows of an object with parts, and its members
-  abbrev Rowed : (held place size : ℕ) (ps : List Part) (from to : At) → Type 0
+  abbrev Rowed : (held place size : ℕ) (ps : List Part) (from to : Position) → Type 0
   Rowed held place size ps from to = (nest : ℕ) × (rs : List Row) × (ps ≡ row_parts rs) × RowsRise ds h.entries nest size 0 rs × Members ds m held size place 0 rs from to
 
-  rowed : (e : ℕ) (lt : e < h.entries) (held place : ℕ) (from to : At) (ps : List Part) (k : EntryKind) → EntryFine t (entry_at t e) k → parts_of ds (term e) ≡ Some ps → Item ds m held (term e) place from to → Rowed held place (size_of ds (term e)) ps from to
+  rowed : (e : ℕ) (lt : e < h.entries) (held place : ℕ) (from to : Position) (ps : List Part) (k : EntryKind) → EntryFine t (entry_at t e) k → parts_of ds (term e) ≡ Some ps → ValueAt ds m held (term e) place from to → Rowed held place (size_of ds (term e)) ps from to
   rowed e lt held place from to ps k f has x = go k f
     where
       of_field : (u : Term) → term e ≡ u → parts_of ds u ≡ None → Rowed held place (size_of ds (term e)) ps from to
@@ -151,7 +151,7 @@ module _ (t : List ℕ) (fine : IsFine t) (sound : IsSound (declarations_of t)) 
             table_rows t h d.first d.count,
             parts,
             table_rise t d.first d.count d.nest (size_of ds (ty.struct fs)) 0 key (end_of-le ds fs) (omega (arith, nest)),
-            struct_item t m held place d.first d.count from to key (subst (λ (u : Term). Item ds m held u place from to) u x),
+            struct_item t m held place d.first d.count from to key (subst (λ (u : Term). ValueAt ds m held u place from to) u x),
           )
       go Array f =
           let d = entry_at t e in
@@ -166,15 +166,15 @@ module _ (t : List ℕ) (fine : IsFine t) (sound : IsSound (declarations_of t)) 
             rs,
             parts,
             subst (λ k. RowsRise ds h.entries d.nest k 0 rs) flat (elements_rise ds d.first h.entries d.nest d.count 0 f.content.0 (omega (arith, nest))),
-            array_item ds d.first m held place d.count from to (subst (λ (u : Term). Item ds m held u place from to) u x),
+            array_item ds d.first m held place d.count from to (subst (λ (u : Term). ValueAt ds m held u place from to) u x),
           )
       go k f = of_field (term_as k t h (entry_at t e)) (term_is t fine e k lt f.is) refl
 
   -- the rows of an object out of line, and its members
-  abbrev Below : (held : ℕ) (o : Object) (from to : At) → Type 0
+  abbrev Below : (held : ℕ) (o : Object) (from to : Position) → Type 0
   Below held o from to = (nest : ℕ) × (rs : List Row) × (o.parts ≡ row_parts rs) × RowsRise ds h.entries nest (padded_size o.size) 0 rs × Members ds m (held + 1) (padded_size o.size) from.next 0 rs (linked o.marker o.size from) to
 
-  below : (e : ℕ) (lt : e < h.entries) (held place : ℕ) (from to : At) (o : Object) (k : EntryKind) → EntryFine t (entry_at t e) k → object_of ds m.bytes (term e) place ≡ Some o → Stands m.bytes o.marker present → Item ds m held (term e) place from to → Below held o from to
+  below : (e : ℕ) (lt : e < h.entries) (held place : ℕ) (from to : Position) (o : Object) (k : EntryKind) → EntryFine t (entry_at t e) k → object_of ds m.bytes (term e) place ≡ Some o → Stands m.bytes o.marker present → ValueAt ds m held (term e) place from to → Below held o from to
   below e lt held place from to o k f has ones x = go k f
     where
       of_field : (u : Term) → term e ≡ u → object_of ds m.bytes u place ≡ None → Below held o from to
@@ -186,7 +186,7 @@ module _ (t : List ℕ) (fine : IsFine t) (sound : IsSound (declarations_of t)) 
           let inner = entry_at t (entry_at t e).first in
           let same = box_object t fine m held e place from lt f.is o (ap (λ (u : Term). object_of ds m.bytes u place) (sym u) ∙ has) in
           let marked : Stands m.bytes place present = subst (λ (o : Object). Stands m.bytes o.marker present) same ones in
-          let opened = box_item t fine m held e place from lt f.is to (subst (λ (u : Term). Item ds m held u place from to) u x) marked in
+          let opened = box_item t fine m held e place from lt f.is to (subst (λ (u : Term). ValueAt ds m held u place from to) u x) marked in
           let rise = box_rise t fine m held e place from lt f.is in
           let size = size_of ds (ty.struct (fields_from t h inner.first inner.count)) in
           let rs = table_rows t h inner.first inner.count in
@@ -197,7 +197,7 @@ module _ (t : List ℕ) (fine : IsFine t) (sound : IsSound (declarations_of t)) 
           let u = term_is t fine e Vector lt f.is in
           let same = vector_object t fine m held e place from lt f.is o (ap (λ (u : Term). object_of ds m.bytes u place) (sym u) ∙ has) in
           let marked : Stands m.bytes (place + 8) present = subst (λ (o : Object). Stands m.bytes o.marker present) same ones in
-          let opened = vector_item t fine m held e place from lt f.is to (subst (λ (u : Term). Item ds m held u place from to) u x) marked in
+          let opened = vector_item t fine m held e place from lt f.is to (subst (λ (u : Term). ValueAt ds m held u place from to) u x) marked in
           let rise = vector_rise t fine m held e place from lt f.is in
           let n = count_at m.bytes place in
           let size = size_of ds (ty.named d.first) * n in
@@ -211,23 +211,23 @@ module _ (t : List ℕ) (fine : IsFine t) (sound : IsSound (declarations_of t)) 
   part_of r = record { offset = r.offset; term = ty.named r.entry }
 
   mutual
-    pub item_excluded : (held e place : ℕ) (from to : At) (fault : DecodeFault) (u : Term) → e < h.entries → u ≡ term e → Breaks ds m held u place from fault → Item ds m held u place from to → ⊥
+    pub item_excluded : (held e place : ℕ) (from to : Position) (fault : DecodeFault) (u : Term) → e < h.entries → u ≡ term e → Breaks ds m held u place from fault → ValueAt ds m held u place from to → ⊥
     item_excluded held e place from to fault u lt is (in_field u' place' from' fault' b) x =
         let few = bounded-resolve ds.terms (ty.named e) sound.bounded tt in
         rule_excluded ds fine.laid_out m (short_message m within) held u (subst IsBounded (sym is) few) place from to fault b x
     item_excluded held e place from to fault u lt is (in_parts u' place' from' fault' ps has b) x =
-        let r = rowed e lt held place from to ps (fine.each e lt).0 (fine.each e lt).1 (ap (λ (u : Term). parts_of ds u) (sym is) ∙ has) (subst (λ (u : Term). Item ds m held u place from to) is x) in
+        let r = rowed e lt held place from to ps (fine.each e lt).0 (fine.each e lt).1 (ap (λ (u : Term). parts_of ds u) (sym is) ∙ has) (subst (λ (u : Term). ValueAt ds m held u place from to) is x) in
         let size : size_of ds (term e) ≡ size_of ds u = ap (λ (u : Term). size_of ds u) (sym is) in
         parts_excluded held (size_of ds u) place 0 ps r.0 r.1 from to fault r.2 (subst (λ n. RowsRise ds h.entries r.0 n 0 r.1) size r.3) b (subst (λ n. Members ds m held n place 0 r.1 from to) size r.4)
     item_excluded held e place from to fault u lt is (in_object u' place' from' fault' o has ones right b) x =
-        let r = below e lt held place from to o (fine.each e lt).0 (fine.each e lt).1 (ap (λ (u : Term). object_of ds m.bytes u place) (sym is) ∙ has) ones (subst (λ (u : Term). Item ds m held u place from to) is x) in
+        let r = below e lt held place from to o (fine.each e lt).0 (fine.each e lt).1 (ap (λ (u : Term). object_of ds m.bytes u place) (sym is) ∙ has) ones (subst (λ (u : Term). ValueAt ds m held u place from to) is x) in
         parts_excluded (held + 1) (padded_size o.size) from.next 0 o.parts r.0 r.1 (linked o.marker o.size from) to fault r.2 r.3 b r.4
     item_excluded held e place from to fault u lt is (in_table rows place' from' fault' ones right b) x =
         envelopes_excluded (held + 1) rows (named_rows t fine e u lt is) 0 (count_at m.bytes place) from.next (linked (place + 8) (8 * count_at m.bytes place) from) to 1 fault refl b (table_value ds fine.laid_out m held rows place from to x).slots
     item_excluded held e place from to fault u lt is (in_union optional strict rows place' from' fault' some right b) x =
         member_excluded held (find rows (ordinal_at m.bytes place)) (named_rows t fine e u lt is (ordinal_at m.bytes place)) (place + 8) from to fault b (union_chosen ds m held optional strict rows place from to some x).contained
 
-    envelopes_excluded : (held : ℕ) (rows : Rows) (named : (ordinal : ℕ) → NamedIf (find rows ordinal)) (read n base : ℕ) (from to : At) (ordinal : ℕ) (fault : DecodeFault) → suc read ≡ ordinal → BreaksEnvelopes ds m held rows ordinal n base from fault
+    envelopes_excluded : (held : ℕ) (rows : Rows) (named : (ordinal : ℕ) → NamedIf (find rows ordinal)) (read n base : ℕ) (from to : Position) (ordinal : ℕ) (fault : DecodeFault) → suc read ≡ ordinal → BreaksEnvelopes ds m held rows ordinal n base from fault
         → Slots ds m held rows read n base from to → ⊥
     envelopes_excluded held rows named read n base from to ordinal fault same (at_member rows' ordinal' n' base' from' fault' le some b) y =
         let some' = subst (λ o. Stands m.bytes (envelope_place base o) (zeros 8) → ⊥) (sym same) some in
@@ -246,10 +246,10 @@ module _ (t : List ℕ) (fine : IsFine t) (sound : IsSound (declarations_of t)) 
           | inl s ↦ contained_some ds fine.laid_out m within held (find rows (suc read)) (envelope_place base (suc read)) from mid own s.0
           | inr d ↦
               let one = contained_unique ds sound m within held held (find rows (suc read)) (bounded_if (find rows (suc read)) (named (suc read))) (envelope_place base (suc read)) from d.mid mid d.contained own in
-              envelopes_excluded held rows named (suc read) n base mid to (suc ordinal) fault (ap suc same) b (subst (λ (s : At). Slots ds m held rows (suc read) n base s to) one d.slots)
+              envelopes_excluded held rows named (suc read) n base mid to (suc ordinal) fault (ap suc same) b (subst (λ (s : Position). Slots ds m held rows (suc read) n base s to) one d.slots)
         ]
 
-    member_excluded : (held : ℕ) (o : Option Term) → NamedIf o → (p : ℕ) (from to : At) (fault : DecodeFault) → BreaksMember ds m held o p from fault → Contained ds m held o p from to → ⊥
+    member_excluded : (held : ℕ) (o : Option Term) → NamedIf o → (p : ℕ) (from to : Position) (fault : DecodeFault) → BreaksMember ds m held o p from fault → Contained ds m held o p from to → ⊥
     member_excluded held o named p from to fault (by_numbers o' p' from' fault' b) x = envelope_excluded ds fine.laid_out m within held p from o to fault b x
     member_excluded held o named p from to fault (in_envelope v p' from' fault' can le b) x =
         let e = named.0 in
@@ -262,7 +262,7 @@ module _ (t : List ℕ) (fine : IsFine t) (sound : IsSound (declarations_of t)) 
         (ap (λ (v : Term). (let q : Part = record { offset = 0; term = v } in q) ∷ []) named.1) y.0 b y.1
     member_excluded held o named p from to fault (by_counts v p' from' wrong) x = miscounts_excluded ds sound m within held v (bounded_if (Some v) named) p from to wrong x
 
-    parts_excluded : (held size base done : ℕ) (ps : List Part) (nest : ℕ) (rs : List Row) (from to : At) (fault : DecodeFault) → ps ≡ row_parts rs → RowsRise ds h.entries nest size done rs → BreaksParts ds m held size base done ps from fault → Members ds m held size base done rs from to → ⊥
+    parts_excluded : (held size base done : ℕ) (ps : List Part) (nest : ℕ) (rs : List Row) (from to : Position) (fault : DecodeFault) → ps ≡ row_parts rs → RowsRise ds h.entries nest size done rs → BreaksParts ds m held size base done ps from fault → Members ds m held size base done rs from to → ⊥
     parts_excluded held size base done ps nest (r ∷ rs) from to fault e rise (in_gap size' base' done' p qs from' fault' b) y =
         let a = members_more ds fine.laid_out m held h.entries nest size base done r rs from to rise y in
         let q = heads p (part_of r) qs (row_parts rs) e in
@@ -272,15 +272,15 @@ module _ (t : List ℕ) (fine : IsFine t) (sound : IsSound (declarations_of t)) 
         let a = members_more ds fine.laid_out m held h.entries nest size base done r rs from to rise y in
         let q = heads p (part_of r) qs (row_parts rs) e in
         item_excluded held r.entry (base + p.offset) from a.1.0 fault (resolve ds.terms p.term) rise.0 (ap (λ (p : Part). resolve ds.terms p.term) q) b
-        (subst (λ (p : Part). Item ds m held (resolve ds.terms p.term) (base + p.offset) from a.1.0) (sym q) a.1.1)
+        (subst (λ (p : Part). ValueAt ds m held (resolve ds.terms p.term) (base + p.offset) from a.1.0) (sym q) a.1.1)
     parts_excluded held size base done ps nest (r ∷ rs) from to fault e rise (in_later size' base' done' p qs from' mid fault' z i b) y =
         let a = members_more ds fine.laid_out m held h.entries nest size base done r rs from to rise y in
         let q = heads p (part_of r) qs (row_parts rs) e in
-        let i' = subst (λ (p : Part). Item ds m held (resolve ds.terms p.term) (base + p.offset) from mid) q i in
+        let i' = subst (λ (p : Part). ValueAt ds m held (resolve ds.terms p.term) (base + p.offset) from mid) q i in
         let same : a.1.0 ≡ mid = item_unique ds sound m (short_message m within) (few_handles m within) held held (term r.entry) (bounded-resolve ds.terms (ty.named r.entry) sound.bounded tt) (base + r.offset) from a.1.0 mid a.1.1 i' in
         let done' : r.offset + size_of ds (ty.named r.entry) ≡ p.offset + size_of ds p.term = ap (λ (p : Part). p.offset + size_of ds p.term) (sym q) in
         parts_excluded held size base (p.offset + size_of ds p.term) qs nest rs mid to fault (tails p (part_of r) qs (row_parts rs) e) (subst (λ n. RowsRise ds h.entries nest size n rs) done' rise.3) b
-        (subst (λ (s : At). Members ds m held size base (p.offset + size_of ds p.term) rs s to) same (subst (λ n. Members ds m held size base n rs a.1.0 to) done' a.1.2))
+        (subst (λ (s : Position). Members ds m held size base (p.offset + size_of ds p.term) rs s to) same (subst (λ n. Members ds m held size base n rs a.1.0 to) done' a.1.2))
     parts_excluded held size base done ps nest [] from to fault e rise (in_end size' base' done' from' fault' b) y =
         let deep = y.shallow in
         let z = ((members_end ds fine.laid_out m held size base done from to (omega (arith, deep))).0 y).1 in
@@ -308,8 +308,8 @@ carries_wider hs n p (x ∷ a) h =
     let old : get_or hs p x ≡ x = sym (get_or-take n hs p x (omega (arith, cut, within))) ∙ is in
     (slice_get-get_or hs p x (omega (arith, cut, within)) ∙ ap (λ y. Some y) old, carries_wider hs n (p + 1) a h.1)
 
-item_wider : (types : Declarations) (m m' : Message) (held : ℕ) (t : Term) (place : ℕ) (from to : At) → ((p : ℕ) (a : List ℕ) → Stands m.bytes p a → Stands m'.bytes p a) → ((p : ℕ) (a : List HandleInfo) → Carries m.handles p a → Carries m'.handles p a)
-    → Item types m held t place from to → Item types m' held t place from to
+item_wider : (types : Declarations) (m m' : Message) (held : ℕ) (t : Term) (place : ℕ) (from to : Position) → ((p : ℕ) (a : List ℕ) → Stands m.bytes p a → Stands m'.bytes p a) → ((p : ℕ) (a : List HandleInfo) → Carries m.handles p a → Carries m'.handles p a)
+    → ValueAt types m held t place from to → ValueAt types m' held t place from to
 item_wider types m m' held t place from to f g x = record {
   value = x.value;
   typed = x.typed;
@@ -336,7 +336,7 @@ module _ (t : List ℕ) (fine : IsFine t) (sound : IsSound (declarations_of t)) 
       let b = (message_item t fine whole e lt [] [] y).2 in
       let bounded = bounded-resolve (declarations_of t).terms (ty.named e) sound.bounded tt in
       let same = item_unique (declarations_of t) sound whole (short_message whole within) (few_handles whole within) 0 0 (resolve (declarations_of t).terms (ty.named e)) bounded 0 (start_of (entry_at t e).size) a.0 b.0 (item_wider (declarations_of t) part whole 0 (resolve (declarations_of t).terms (ty.named e)) 0 (start_of (entry_at t e).size) a.0 f g a.2) b.2 in
-      (sym a.1.bytes ∙ ap (λ (s : At). s.next) same ∙ b.1.bytes, sym a.1.handles ∙ ap (λ (s : At). s.handle) same ∙ b.1.handles)
+      (sym a.1.bytes ∙ ap (λ (s : Position). s.next) same ∙ b.1.bytes, sym a.1.handles ∙ ap (λ (s : Position). s.handle) same ∙ b.1.handles)
 
   part_excluded : (fault : DecodeFault) → BreaksMessage (declarations_of t) (ty.named e) whole fault → ⊥
   part_excluded fault b =

@@ -19,8 +19,8 @@ use Rattle.fidl_decode.specs.Invariants.{IsFine, is_free}
 use Rattle.fidl_decode.specs.Faults.{IsWithin}
 use Rattle.fidl_decode.specs.declared.frame.Frame.{Frame}
 use Rattle.fidl_decode.specs.declared.frame.Until.{Until}
-use Rattle.fidl_decode.specs.declared.frame.Left.TheVariants.{Rows, Content}
-use Rattle.fidl_decode.specs.State.{Message, At, opened, linked}
+use Rattle.fidl_decode.specs.declared.frame.Remaining.TheVariants.{Rows, Content}
+use Rattle.fidl_decode.specs.State.{Message, Position, opened, linked}
 use Rattle.fidl_wire.specs.Envelope.{bytes_below, handles_below, flags_at}
 use Rattle.fidl_decode.specs.Machine.{IsUntil, StateFine, Visits, Turns, Passes, Opens, behind_rows}
 use Rattle.fidl_decode.proofs.Visiting.{size_as, struct_frame, struct_fine, visits_free, visits_bool, visits_struct}
@@ -35,19 +35,19 @@ use Rattle.fidl_decode.proofs.Entered.{Enters, inside_frame, below_frame, enters
 zeros_within : (m : List ℕ) (p n q k : ℕ) → Stands m p (zeros n) → p ≤ q → q + k ≤ p + n → q + k ≤ length m → Stands m q (zeros k)
 zeros_within m p n q k z le fits room = copies_stand m 0 k q room (λ i a b. copies_are m 0 n p z i (omega (arith, le, a)) (omega (arith, fits, b)))
 
-module _ (t : List ℕ) (fine : IsFine t) (m : Message) (within : IsWithin m.bytes m.handles) (held e p : ℕ) (old : At) (lt : e < (header_of t).entries) (room : p + 8 ≤ length m.bytes) (small : (i : ℕ) → get_or m.bytes i 0 < 256) (state : StateFine m old) (deep : held ≤ MAX_DEPTH) where
+module _ (t : List ℕ) (fine : IsFine t) (m : Message) (within : IsWithin m.bytes m.handles) (held e p : ℕ) (old : Position) (lt : e < (header_of t).entries) (room : p + 8 ≤ length m.bytes) (small : (i : ℕ) → get_or m.bytes i 0 < 256) (state : StateFine m old) (deep : held ≤ MAX_DEPTH) where
   abbrev d : Entry
   d = entry_at t e
 
   -- the content of the envelope is over, where its value moves nothing and it ends as the envelope counts
-  over : (mid : At) (f : Frame) (size : ℕ) (u : Until) → f.left ≡ Content e size 1 u → old.next ≤ mid.next → Enters t m held e p old mid f → Visits t m f.depth e (f.base + f.done) mid mid 0 None
+  over : (mid : Position) (f : Frame) (size : ℕ) (u : Until) → f.left ≡ Content e size 1 u → old.next ≤ mid.next → Enters t m held e p old mid f → Visits t m f.depth e (f.base + f.done) mid mid 0 None
       → Stands m.bytes (f.base + (f.done + size)) (zeros (f.base + f.size - (f.base + (f.done + size)))) → IsUntil u mid → Opens t m held (Some (ty.named e)) p old mid None
   over mid f size u is grows x v z own =
       let o = opens_known t m held p old mid x.state e f grows x.same x.breaks x.fine x.deeper x.work in
       opens_on t m held (Some (ty.named e)) p old mid f o mid _ None (leaf_over t fine m f e size 1 u is refl mid x.fine x.state mid 0 v z own _ refl)
 
   -- a bool in the envelope
-  pub bool_passed : kind_of d.kind ≡ Some Boolean → flags_at m.bytes p ≡ 1 → handles_below m.bytes p ≡ 0 → bytes_below m.bytes p ≤ 1 → (new : At) → opened p old ≡ new → Opens t m held (Some (ty.named e)) p old new None
+  pub bool_passed : kind_of d.kind ≡ Some Boolean → flags_at m.bytes p ≡ 1 → handles_below m.bytes p ≡ 0 → bytes_below m.bytes p ≤ 1 → (new : Position) → opened p old ≡ new → Opens t m held (Some (ty.named e)) p old new None
   bool_passed is flags none le new led =
       let one : 1 ≡ d.size = size_as t fine e Boolean lt is in
       let x = enters_inside t fine m within held e p old lt room small state deep (omega (arith, one)) flags in
@@ -57,7 +57,7 @@ module _ (t : List ℕ) (fine : IsFine t) (m : Message) (within : IsWithin m.byt
       let v = subst (λ q. Visits t m held e q (opened p old) (opened p old) 0 None) here (visits_bool t fine m held e p (opened p old) lt x.state deep 0 (omega arith) is (omega (arith, room)) (omega (arith, b, le))) in
       let z : Stands m.bytes (p + (0 + 1)) (zeros (p + 4 - (p + (0 + 1)))) = (let three : 3 ≡ p + 4 - (p + (0 + 1)) = omega arith in subst (λ n. Stands m.bytes (p + 1) (zeros n)) three byte.1) in
       let z' = subst (λ n. Stands m.bytes (p + (0 + n)) (zeros (p + 4 - (p + (0 + n))))) one z in
-      subst (λ (s : At). Opens t m held (Some (ty.named e)) p old s None) led
+      subst (λ (s : Position). Opens t m held (Some (ty.named e)) p old s None) led
       (over (opened p old) (inside_frame m e d.size d.nest held p old) d.size (record { envelope = p; next = old.next; handle = old.handle + handles_below m.bytes p }) refl (omega arith) x v z' (refl, omega (arith, none)))
 
   -- a struct as the next object, all of whose rows are passed over, and whose bytes behind them are zeros
@@ -71,14 +71,14 @@ module _ (t : List ℕ) (fine : IsFine t) (m : Message) (within : IsWithin m.byt
     place_fits : old.next + d.size ≤ length m.bytes
     place_fits = let inner = state.next in omega (arith, inner, fits, more)
 
-    passed : (s : At) → StateFine m s → Turns t m f s s rows (left_over (Some (behind_rows f first 0 done)))
+    passed : (s : Position) → StateFine m s → Turns t m f s s rows (left_over (Some (behind_rows f first 0 done)))
     passed s there = passes f s (struct_fine t fine m (held + 1) e old.next s lt there (omega (arith, shallow)) 0 is place_fits (inl refl)).0 refl refl there tt
 
     pub rows_within : done ≤ d.size
     rows_within = (over_room t fine m f old old rows (behind_rows f first 0 done) (passed old state)).0
 
     pub struct_passed : 4 < d.size → flags_at m.bytes p ≡ 0 → bytes_below m.bytes p ≡ next_multiple_of d.size 8 → handles_below m.bytes p ≡ 0 → Stands m.bytes (old.next + done) (zeros (old.next + next_multiple_of d.size 8 - (old.next + done)))
-        → (new : At) → linked p d.size (opened p old) ≡ new → Opens t m held (Some (ty.named e)) p old new None
+        → (new : Position) → linked p d.size (opened p old) ≡ new → Opens t m held (Some (ty.named e)) p old new None
     struct_passed big flags counted none z new led =
         let some : 0 < next_multiple_of d.size 8 = omega (arith, big, more) in
         let eights : next_multiple_of d.size 8 % 8 ≡ 0 = omega arith in
@@ -94,21 +94,21 @@ module _ (t : List ℕ) (fine : IsFine t) (m : Message) (within : IsWithin m.byt
         let start = visits_struct t fine m (held + 1) e old.next mid lt x.state (omega (arith, shallow)) 0 0 refl is place_fits in
         let here : old.next ≡ old.next + 0 = omega arith in
         let v = subst (λ q. Visits t m (held + 1) e q mid mid 0 None) here (visits_over t m (held + 1) e old.next mid mid 0 f start mid 0 0 (omega arith) turns) in
-        subst (λ (s : At). Opens t m held (Some (ty.named e)) p old s None) led
+        subst (λ (s : Position). Opens t m held (Some (ty.named e)) p old s None) led
         (over mid (below_frame m e d.size d.nest held p old) d.size (record { envelope = p; next = old.next + bytes_below m.bytes p; handle = old.handle + handles_below m.bytes p }) refl (omega arith) x v back (omega (arith, counted), omega (arith, none)))
 
   module _ (free : (k : EntryKind) × (kind_of (entry_at t e).kind ≡ Some k) × (is_free k (entry_at t e) ≡ true)) where
     -- of one that stands in its envelope
-    pub inside_passed : d.size ≡ 4 → flags_at m.bytes p ≡ 1 → handles_below m.bytes p ≡ 0 → (new : At) → opened p old ≡ new → Opens t m held (Some (ty.named e)) p old new None
+    pub inside_passed : d.size ≡ 4 → flags_at m.bytes p ≡ 1 → handles_below m.bytes p ≡ 0 → (new : Position) → opened p old ≡ new → Opens t m held (Some (ty.named e)) p old new None
     inside_passed four flags none new led =
         let x = enters_inside t fine m within held e p old lt room small state deep (omega (arith, four)) flags in
         let v = visits_free t fine m held e (p + 0) (opened p old) lt x.state deep free.0 free.1 free.2 0 (omega arith) (omega (arith, four, room)) small in
         let z = no_zeros m.bytes (p + (0 + d.size)) (p + 4 - (p + (0 + d.size))) (omega (arith, four)) in
-        subst (λ (s : At). Opens t m held (Some (ty.named e)) p old s None) led
+        subst (λ (s : Position). Opens t m held (Some (ty.named e)) p old s None) led
         (over (opened p old) (inside_frame m e d.size d.nest held p old) d.size (record { envelope = p; next = old.next; handle = old.handle + handles_below m.bytes p }) refl (omega arith) x v z (refl, omega (arith, none)))
 
     -- of one that is the next object
-    pub below_passed : d.size ≡ 8 → flags_at m.bytes p ≡ 0 → bytes_below m.bytes p ≡ 8 → handles_below m.bytes p ≡ 0 → held < MAX_DEPTH → 8 ≤ length m.bytes - old.next → (new : At) → linked p d.size (opened p old) ≡ new → Opens t m held (Some (ty.named e)) p old new None
+    pub below_passed : d.size ≡ 8 → flags_at m.bytes p ≡ 0 → bytes_below m.bytes p ≡ 8 → handles_below m.bytes p ≡ 0 → held < MAX_DEPTH → 8 ≤ length m.bytes - old.next → (new : Position) → linked p d.size (opened p old) ≡ new → Opens t m held (Some (ty.named e)) p old new None
     below_passed eight flags counted none shallow fits new led =
         let up : next_multiple_of d.size 8 ≡ 8 = ap (λ k. next_multiple_of k 8) eight in
         let much : IsUnknownLength false (bytes_below m.bytes p) = subst (λ n. IsUnknownLength false n) (sym counted) (omega arith, refl) in
@@ -116,5 +116,5 @@ module _ (t : List ℕ) (fine : IsFine t) (m : Message) (within : IsWithin m.byt
         let inner = state.next in
         let v = visits_free t fine m (held + 1) e (old.next + 0) (linked p d.size (opened p old)) lt x.state (omega (arith, shallow)) free.0 free.1 free.2 0 (omega arith) (omega (arith, eight, fits, inner)) small in
         let z = no_zeros m.bytes (old.next + (0 + d.size)) (old.next + next_multiple_of d.size 8 - (old.next + (0 + d.size))) (omega (arith, up, eight)) in
-        subst (λ (s : At). Opens t m held (Some (ty.named e)) p old s None) led
+        subst (λ (s : Position). Opens t m held (Some (ty.named e)) p old s None) led
         (over (linked p d.size (opened p old)) (below_frame m e d.size d.nest held p old) d.size (record { envelope = p; next = old.next + bytes_below m.bytes p; handle = old.handle + handles_below m.bytes p }) refl (omega arith) x v z (omega (arith, up, counted), omega (arith, none)))

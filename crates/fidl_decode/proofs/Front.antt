@@ -11,17 +11,17 @@ use Rattle.fidl_table_format.specs.Section.{header_of, entry_at, row_at}
 use Rattle.fidl_table_format.specs.Terms.{declarations_of}
 use Rattle.fidl_decode.specs.declared.fault.DecodeFault.{DecodeFault}
 use Rattle.fidl_decode.specs.declared.frame.Frame.{Frame}
-use Rattle.fidl_decode.specs.declared.frame.Left.{Left}
-use Rattle.fidl_decode.specs.declared.frame.Left.TheVariants.{Rows}
+use Rattle.fidl_decode.specs.declared.frame.Remaining.{Remaining}
+use Rattle.fidl_decode.specs.declared.frame.Remaining.TheVariants.{Rows}
 use Rattle.fidl_decode.specs.Invariants.{IsFine}
 use Rattle.fidl_decode.specs.Rows.{Row, table_rows}
-use Rattle.fidl_decode.specs.State.{Message, At}
+use Rattle.fidl_decode.specs.State.{Message, Position}
 use Rattle.fidl_decode.specs.Breaks.{IsPadding, Breaks}
 use Rattle.fidl_decode.specs.Machine.{rows_left, BreaksFrame, StateFine, FrameFine, Visits, Turns, frame_work, probes}
 use Rattle.fidl_decode.proofs.Stated.{table_rows-more}
 use Rattle.fidl_decode.proofs.Leaves.{going_on, same_frame, left_over, turns_start, next_room, next_gap_breaks, next_leaf_breaks, next_turns}
 
-module _ (t : List ℕ) (fine : IsFine t) (m : Message) (f : Frame) (first count : ℕ) (w : raw.Row) (rows : f.left ≡ Rows first count) (some : 0 < count) (is : w ≡ row_at t (header_of t) first) (old : At) (ff : FrameFine t m.bytes f) (state : StateFine m old) where
+module _ (t : List ℕ) (fine : IsFine t) (m : Message) (f : Frame) (first count : ℕ) (w : raw.Row) (rows : f.left ≡ Rows first count) (some : 0 < count) (is : w ≡ row_at t (header_of t) first) (old : Position) (ff : FrameFine t m.bytes f) (state : StateFine m old) where
   abbrev ds : Declarations
   ds = declarations_of t
 
@@ -34,7 +34,7 @@ module _ (t : List ℕ) (fine : IsFine t) (m : Message) (f : Frame) (first count
   abbrev r : Row
   r = record { offset = w.key; entry = w.entry }
 
-  abbrev left : Left
+  abbrev left : Remaining
   left = Rows (first + 1) (count - 1)
 
   one : rows_left t f.done (Rows first count) ≡ r ∷ rows_left t (r.offset + size_of ds (ty.named r.entry)) left
@@ -51,7 +51,7 @@ module _ (t : List ℕ) (fine : IsFine t) (m : Message) (f : Frame) (first count
   pub front_breaks : (fault : DecodeFault) → Stands m.bytes (f.base + f.done) (zeros (f.base + w.key - (f.base + f.done))) → Breaks ds m f.depth (resolve ds.terms (ty.named w.entry)) (f.base + w.key) old fault → BreaksFrame t m f old fault
   front_breaks fault z b = next_leaf_breaks t fine m f old old 0 g start r left one tt fault z b
 
-  pub front_turns : (new : At) (spent n : ℕ) → n ≤ f.base + w.key - (f.base + f.done) + 1 + spent → Stands m.bytes (f.base + f.done) (zeros (f.base + w.key - (f.base + f.done))) → Visits t m f.depth w.entry (f.base + w.key) old new spent None
+  pub front_turns : (new : Position) (spent n : ℕ) → n ≤ f.base + w.key - (f.base + f.done) + 1 + spent → Stands m.bytes (f.base + f.done) (zeros (f.base + w.key - (f.base + f.done))) → Visits t m f.depth w.entry (f.base + w.key) old new spent None
       → Turns t m f old new n (left_over (Some (going_on f left (w.key + (entry_at t w.entry).size))))
   front_turns new spent n le z v =
       let room = start.rest_fine.0.left in

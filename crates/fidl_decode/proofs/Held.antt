@@ -11,7 +11,7 @@ use Rattle.fidl_wire.specs.Standing.{Stands}
 use Rattle.fidl_wire.proofs.Stand.{copies_stand}
 use Rattle.fidl_decode.specs.declared.fault.DecodeFault.{DecodeFault}
 use Rattle.fidl_decode.specs.declared.fault.DecodeFault.TheVariants.{Padding, BadBool, BadCount, OverBound, TooDeep, Truncated}
-use Rattle.fidl_decode.specs.State.{Message, At, linked, Item}
+use Rattle.fidl_decode.specs.State.{Message, Position, linked, ValueAt}
 use Rattle.fidl_decode.specs.Breaks.{Part, Object, element_parts, IsPadding, BreaksField, Breaks, BreaksParts, in_field, in_parts, in_object, in_next, in_later, in_end}
 use Rattle.fidl_decode.specs.Faults.{IsTold, BreaksMessage, message_of, start_of}
 use Rattle.fidl_decode.proofs.Inverted.{of_field, of_object, of_pointed, of_parts, of_end}
@@ -53,7 +53,7 @@ numbered = ty.struct (field (codes "v") (ty.number uint32) no_fields)
 abbrev truthful : Term
 truthful = ty.struct (field (codes "v") ty.bool no_fields)
 
-abbrev behind_box : (size : ℕ) → At
+abbrev behind_box : (size : ℕ) → Position
 behind_box size = linked 0 size (start_of 8)
 
 ones_at : (rest : List ℕ) → Stands (replicate 8 255 ++ rest) 0 present
@@ -117,7 +117,7 @@ pub box_behind : IsTold no_declarations (boxing truthful) unpadded [] (Padding 1
 box_behind =
     let m = message_of unpadded [] in
     let right = box_right no_declarations refl m 0 truthful 0 (start_of 8) (ones_at (1 ∷ 0 ∷ 3 ∷ zeros 5)) (omega arith) (omega arith) in
-    let there : Item no_declarations m 1 ty.bool 8 (behind_box 1) (behind_box 1) = record { value = bool true; typed = tt; shallow = omega arith; stands = record { inline = (omega arith, refl, tt); out = tt; carried = tt }; end = refl } in (
+    let there : ValueAt no_declarations m 1 ty.bool 8 (behind_box 1) (behind_box 1) = record { value = bool true; typed = tt; shallow = omega arith; stands = record { inline = (omega arith, refl, tt); out = tt; carried = tt }; end = refl } in (
       (omega arith, omega arith),
       box_broken truthful unpadded (Padding 10) (in_object (ty.box truthful) 0 (start_of 8) (Padding 10) bool_object refl (ones_at (1 ∷ 0 ∷ 3 ∷ zeros 5)) right
           (in_later 8 8 0 (part 0 ty.bool) [] (behind_box 1) (behind_box 1) (Padding 10) tt there
@@ -144,7 +144,7 @@ ones_in : (place : ℕ) → place + 8 ≤ 264 → Stands chain.bytes place prese
 ones_in place le = copies_stand chain.bytes 255 8 place (omega (arith, le, length-replicate {A = ℕ} 264 255)) (λ k from to. all_ones 264 k (omega (arith, to, le)))
 
 -- the box at this depth, with so many more behind it
-too_deep : (more held : ℕ) (from : At) → held + more ≡ 32 → from.next ≡ 8 * held + 8 → Breaks links chain held link (8 * held) from (TooDeep 256)
+too_deep : (more held : ℕ) (from : Position) → held + more ≡ 32 → from.next ≡ 8 * held + 8 → Breaks links chain held link (8 * held) from (TooDeep 256)
 too_deep zero held from is next =
     let last : 8 * held ≡ 256 = omega (arith, is) in
     in_parts link (8 * held) from (TooDeep 256) (part 0 (ty.box (ty.named 0)) ∷ []) refl
@@ -210,14 +210,14 @@ pub vector_over : IsTold no_declarations (listing 2 (ty.number uint8)) (counting
 vector_over = ((omega arith, omega arith), vector_broken 2 (ty.number uint8) (counting 3 three) (OverBound 0) (in_field (ty.vector false 2 (ty.number uint8)) 0 (start_of 16) (OverBound 0) (refl, ones_behind 3 three, omega arith)))
 
 -- of the elements of a vector that is right by itself, this one
-abbrev held_at : (size : ℕ) → At
+abbrev held_at : (size : ℕ) → Position
 held_at size = linked 8 size (start_of 16)
 
 abbrev three_numbers : Object
 three_numbers = record { marker = 8; size = 3; parts = part 0 (ty.number uint8) ∷ part 1 (ty.number uint8) ∷ part 2 (ty.number uint8) ∷ [] }
 
 -- an object of numbers breaks a rule only in its padding
-numbers_hold : (m : Message) (kind : ty.Kind) (each size base n done : ℕ) (from : At) (fault : DecodeFault) → ((a b : ℕ) → IsPadding m.bytes a b fault → ⊥)
+numbers_hold : (m : Message) (kind : ty.Kind) (each size base n done : ℕ) (from : Position) (fault : DecodeFault) → ((a b : ℕ) → IsPadding m.bytes a b fault → ⊥)
     → BreaksParts no_declarations m 1 size base done (element_parts no_declarations (ty.number kind) n each) from fault → ⊥
 numbers_hold m kind each size base zero done from fault no_gap b = no_gap _ _ (of_end no_declarations m 1 size base done from fault b)
 numbers_hold m kind each size base (suc n) done from fault no_gap b =
@@ -265,7 +265,7 @@ pub second_element : IsTold no_declarations (listing 9 ty.bool) bools [] (BadBoo
 second_element =
     let m = message_of bools [] in
     let right = vector_right no_declarations refl m 0 false 9 (omega arith) ty.bool 0 (start_of 16) (ones_behind 2 (1 ∷ 2 ∷ zeros 6)) (omega arith) (omega arith) (omega arith) in
-    let there : Item no_declarations m 1 ty.bool 16 (held_at 2) (held_at 2) = record { value = bool true; typed = tt; shallow = omega arith; stands = record { inline = (omega arith, refl, tt); out = tt; carried = tt }; end = refl } in (
+    let there : ValueAt no_declarations m 1 ty.bool 16 (held_at 2) (held_at 2) = record { value = bool true; typed = tt; shallow = omega arith; stands = record { inline = (omega arith, refl, tt); out = tt; carried = tt }; end = refl } in (
       (omega arith, omega arith),
       vector_broken 9 ty.bool bools (BadBool 17) (in_object (ty.vector false 9 ty.bool) 0 (start_of 16) (BadBool 17) two_bools refl (ones_behind 2 (1 ∷ 2 ∷ zeros 6)) right
           (in_later 8 16 0 (part 0 ty.bool) (part 1 ty.bool ∷ []) (held_at 2) (held_at 2) (BadBool 17) tt there

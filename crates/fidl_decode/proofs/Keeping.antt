@@ -8,24 +8,24 @@ use Rattle.fidl_wire.specs.Figure.{Declarations, figure_of, end_of, size_of, IsL
 use Rattle.fidl_wire.specs.Typed.{IsTyped, AllTyped, EachTyped, IsTypedMember, RiseTyped}
 use Rattle.fidl_wire.specs.Encoding.{elements, members}
 use Rattle.fidl_wire.proofs.Sizes.{size_of-resolve, length-elements, length-members, end_of-le, le-next_multiple_of, le_of_test}
-use Rattle.fidl_decode.specs.State.{At, taken, passed, opened, linked, member_at, begun, envelope_place, after, after_elements, after_fields, after_member, after_envelopes}
+use Rattle.fidl_decode.specs.State.{Position, taken, passed, opened, linked, member_at, begun, envelope_place, after, after_elements, after_fields, after_member, after_envelopes}
 
 -- n bytes at k don't meet the bytes from a up to b
 abbrev pub Apart : (k n a b : ℕ) → Type 0
 Apart k n a b = k < b → a < k + n → ⊥
 
 -- from one state to another the cells stay of all places outside two ranges
-pub record Keeps (a b c d : ℕ) (s r : At) : Type 0 where
+pub record Keeps (a b c d : ℕ) (s r : Position) : Type 0 where
   pub objects : (k : ℕ) → Apart k 8 a b → Apart k 8 c d → get_or r.objects (k / 8) 0 ≡ get_or s.objects (k / 8) 0
   pub records : (k : ℕ) → Apart k 4 a b → Apart k 4 c d → get_or r.records (k / 4) 0 ≡ get_or s.records (k / 4) 0
   pub as_many : length r.objects ≡ length s.objects
   pub as_many_records : length r.records ≡ length s.records
   pub grows : s.next ≤ r.next
 
-keeps_all : (a b c d : ℕ) (s : At) → Keeps a b c d s s
+keeps_all : (a b c d : ℕ) (s : Position) → Keeps a b c d s s
 keeps_all a b c d s = record { objects = λ k x y. refl; records = λ k x y. refl; as_many = refl; as_many_records = refl; grows = omega arith }
 
-keeps_both : (a b c d : ℕ) (s mid r : At) → Keeps a b c d s mid → Keeps a b c d mid r → Keeps a b c d s r
+keeps_both : (a b c d : ℕ) (s mid r : Position) → Keeps a b c d s mid → Keeps a b c d mid r → Keeps a b c d s r
 keeps_both a b c d s mid r h g = record {
   objects = λ k x y. g.objects k x y ∙ h.objects k x y;
   records = λ k x y. g.records k x y ∙ h.records k x y;
@@ -34,7 +34,7 @@ keeps_both a b c d s mid r h g = record {
   grows = (let one = h.grows in let two = g.grows in omega arith);
 }
 
-keeps_wider : (a b c d e f g i : ℕ) (s r : At) → ((k n : ℕ) → Apart k n e f → Apart k n g i → Apart k n a b × Apart k n c d) → Keeps a b c d s r → Keeps e f g i s r
+keeps_wider : (a b c d e f g i : ℕ) (s r : Position) → ((k n : ℕ) → Apart k n e f → Apart k n g i → Apart k n a b × Apart k n c d) → Keeps a b c d s r → Keeps e f g i s r
 keeps_wider a b c d e f g i s r out h = record {
   objects = λ k x y. h.objects k (out k 8 x y).0 (out k 8 x y).1;
   records = λ k x y. h.records k (out k 4 x y).0 (out k 4 x y).1;
@@ -43,7 +43,7 @@ keeps_wider a b c d e f g i s r out h = record {
   grows = h.grows;
 }
 
-keeps_linked : (a b c d marker n : ℕ) (s : At) → a ≤ marker → marker + 8 ≤ b → Keeps a b c d s (linked marker n s)
+keeps_linked : (a b c d marker n : ℕ) (s : Position) → a ≤ marker → marker + 8 ≤ b → Keeps a b c d s (linked marker n s)
 keeps_linked a b c d marker n s le room = record {
   objects = λ k x y. get_or-set_other s.objects (marker / 8) (k / 8) s.next 0 (other k x);
   records = λ k x y. refl;
@@ -55,7 +55,7 @@ keeps_linked a b c d marker n s le room = record {
     other : (k : ℕ) → Apart k 8 a b → k / 8 ≢ marker / 8
     other k x e = x (omega arith) (omega arith)
 
-keeps_taken : (place c d : ℕ) (s : At) → Keeps place (place + 4) c d s (taken place s)
+keeps_taken : (place c d : ℕ) (s : Position) → Keeps place (place + 4) c d s (taken place s)
 keeps_taken place c d s = record {
   objects = λ k x y. refl;
   records = λ k x y. get_or-set_other s.records (place / 4) (k / 4) s.handle 0 (other k x);
@@ -68,7 +68,7 @@ keeps_taken place c d s = record {
     other k x e = x (omega arith) (omega arith)
 
 -- the cell of an envelope's second half is no other's
-keeps_opened : (place c d : ℕ) (s : At) → Keeps place (place + 8) c d s (opened place s)
+keeps_opened : (place c d : ℕ) (s : Position) → Keeps place (place + 8) c d s (opened place s)
 keeps_opened place c d s = record {
   objects = λ k x y. refl;
   records = λ k x y. get_or-set_other s.records ((place + 4) / 4) (k / 4) s.handle 0 (other k x);
@@ -80,15 +80,15 @@ keeps_opened place c d s = record {
     other : (k : ℕ) → Apart k 4 place (place + 8) → k / 4 ≢ (place + 4) / 4
     other k x e = x (omega arith) (omega arith)
 
-keeps_begun : (inline : Bool) (place size c d : ℕ) (s : At) → Keeps place (place + 8) c d s (begun inline place size s)
+keeps_begun : (inline : Bool) (place size c d : ℕ) (s : Position) → Keeps place (place + 8) c d s (begun inline place size s)
 keeps_begun true place size c d s = keeps_opened place c d s
 keeps_begun false place size c d s = keeps_both _ _ _ _ s (opened place s) (begun false place size s) (keeps_opened place c d s) (keeps_linked place (place + 8) c d place size (opened place s) (omega arith) (omega arith))
 
-keeps_passed : (a b c d n : ℕ) (s r : At) → Keeps a b c d s r → Keeps a b c d s (passed n r)
+keeps_passed : (a b c d n : ℕ) (s r : Position) → Keeps a b c d s r → Keeps a b c d s (passed n r)
 keeps_passed a b c d n s r h = record { objects = h.objects; records = h.records; as_many = h.as_many; as_many_records = h.as_many_records; grows = h.grows }
 
 -- a member of this size, in its envelope or as the next object, keeps what lies outside of both
-keeps_member_at : (size place : ℕ) (s r : At) → Keeps (member_at (nat_le size 4) place s) (member_at (nat_le size 4) place s + size) (begun (nat_le size 4) place size s).next r.next (begun (nat_le size 4) place size s) r
+keeps_member_at : (size place : ℕ) (s r : Position) → Keeps (member_at (nat_le size 4) place s) (member_at (nat_le size 4) place s + size) (begun (nat_le size 4) place size s).next r.next (begun (nat_le size 4) place size s) r
     → Keeps place (place + 8) s.next r.next s r
 keeps_member_at size place s r = go (nat_le size 4) refl
   where
@@ -117,7 +117,7 @@ ends_behind ds (field name t fs) from =
 module _ (ds : Declarations) (laid : IsLaidOut ds) where
   mutual
     -- a value at a place links nothing outside its bytes inline and those behind it
-    pub keeps : (t : Term) (v : Value) (place : ℕ) (s : At) → IsTyped ds t v → Keeps place (place + size_of ds t) s.next (after ds t v place s).next s (after ds t v place s)
+    pub keeps : (t : Term) (v : Value) (place : ℕ) (s : Position) → IsTyped ds t v → Keeps place (place + size_of ds t) s.next (after ds t v place s).next s (after ds t v place s)
     keeps t absent place s h = keeps_all _ _ _ _ s
     keeps t (bool b) place s h = keeps_all _ _ _ _ s
     keeps t (number z) place s h = keeps_all _ _ _ _ s
@@ -173,7 +173,7 @@ module _ (ds : Declarations) (laid : IsLaidOut ds) where
         keeps_wider (place + 8) (place + 8 + 8) s.next r.next place (place + 16) s.next r.next s r (λ k i x y. ((λ p q. x (omega arith) (omega arith)), y)) (keeps_member strict (find rows ordinal) x (place + 8) s h.2)
     keeps _ _ place s h = absurd h
 
-    pub keeps_elements : (u : Term) (size : ℕ) → size ≡ size_of ds u → (vs : Values) (place : ℕ) (s : At) → AllTyped ds u vs → Keeps place (place + size * count vs) s.next (after_elements ds u size vs place s).next s (after_elements ds u size vs place s)
+    pub keeps_elements : (u : Term) (size : ℕ) → size ≡ size_of ds u → (vs : Values) (place : ℕ) (s : Position) → AllTyped ds u vs → Keeps place (place + size * count vs) s.next (after_elements ds u size vs place s).next s (after_elements ds u size vs place s)
     keeps_elements u size same none place s h = keeps_all _ _ _ _ s
     keeps_elements u size same (value v vs) place s h =
         let mid = after ds u v place s in
@@ -187,7 +187,7 @@ module _ (ds : Declarations) (laid : IsLaidOut ds) where
         (keeps_wider place (place + size_of ds u) s.next mid.next place (place + size * count (value v vs)) s.next r.next s mid (λ k i x y. ((λ p q. x (omega arith) (omega arith)), (λ p q. y (omega arith) (omega arith)))) one)
         (keeps_wider (place + size) (place + size + size * count vs) mid.next r.next place (place + size * count (value v vs)) s.next r.next mid r (λ k i x y. ((λ p q. x (omega arith) (omega arith)), (λ p q. y (omega arith) (omega arith)))) two)
 
-    pub keeps_fields : (fs : Fields) (size from base : ℕ) (vs : Values) (s : At) → end_of ds.figures from fs ≤ size → EachTyped ds fs vs → Keeps (base + from) (base + size) s.next (after_fields ds fs from vs base s).next s (after_fields ds fs from vs base s)
+    pub keeps_fields : (fs : Fields) (size from base : ℕ) (vs : Values) (s : Position) → end_of ds.figures from fs ≤ size → EachTyped ds fs vs → Keeps (base + from) (base + size) s.next (after_fields ds fs from vs base s).next s (after_fields ds fs from vs base s)
     keeps_fields no_fields size from base none s le h = keeps_all _ _ _ _ s
     keeps_fields (field name t fs) size from base (value v vs) s le h =
         let f = figure_of ds.figures t in
@@ -208,7 +208,7 @@ module _ (ds : Declarations) (laid : IsLaidOut ds) where
     keeps_fields _ size from base _ s le h = absurd h
 
     -- an envelope at a place
-    pub keeps_member : (strict : Bool) (o : Option Term) (x : Member) (place : ℕ) (s : At) → IsTypedMember ds strict o x → Keeps place (place + 8) s.next (after_member ds o x place s).next s (after_member ds o x place s)
+    pub keeps_member : (strict : Bool) (o : Option Term) (x : Member) (place : ℕ) (s : Position) → IsTypedMember ds strict o x → Keeps place (place + 8) s.next (after_member ds o x place s).next s (after_member ds o x place s)
     keeps_member strict (Some t) (known v) place s h =
         let u = resolve ds.terms t in
         let size = size_of ds t in
@@ -221,7 +221,7 @@ module _ (ds : Declarations) (laid : IsLaidOut ds) where
     keeps_member strict _ _ place s h = absurd h
 
     -- the envelopes behind `last`
-    pub keeps_envelopes : (rows : Rows) (last n base : ℕ) (ms : Members) (s : At) → RiseTyped ds rows last n ms → Keeps (base + 8 * last) (base + 8 * n) s.next (after_envelopes ds rows ms base s).next s (after_envelopes ds rows ms base s)
+    pub keeps_envelopes : (rows : Rows) (last n base : ℕ) (ms : Members) (s : Position) → RiseTyped ds rows last n ms → Keeps (base + 8 * last) (base + 8 * n) s.next (after_envelopes ds rows ms base s).next s (after_envelopes ds rows ms base s)
     keeps_envelopes rows last n base empty s h = keeps_all _ _ _ _ s
     keeps_envelopes rows last n base (member ordinal x ms) s h =
         let at = envelope_place base ordinal in

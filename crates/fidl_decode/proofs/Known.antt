@@ -4,8 +4,8 @@ use Rattle.std.specs.Prelude.{Option, Some}
 use Rattle.fidl_table_format.specs.declared.kind.EntryKind.TheVariants.{Box, Struct}
 use Rattle.fidl_table_format.specs.Kind.{kind_of}
 use Rattle.fidl_table_format.specs.Section.{header_of, entry_at}
-use Rattle.fidl_decode.specs.declared.frame.Left.{Left}
-use Rattle.fidl_decode.specs.declared.frame.Left.TheVariants.{Rows}
+use Rattle.fidl_decode.specs.declared.frame.Remaining.{Remaining}
+use Rattle.fidl_decode.specs.declared.frame.Remaining.TheVariants.{Rows}
 use Rattle.fidl_decode.specs.Invariants.{IsFine}
 use Rattle.fidl_decode.specs.State.{Message}
 use Rattle.fidl_decode.specs.Machine.{Passes, IsKnown}
@@ -17,7 +17,7 @@ same_rows a n rows first count is whole =
     ap (λ k. Rows k n) begin ∙ ap (λ k. Rows (first - rows) k) (sym whole)
 
 pub known_from : (t : List ℕ) (m : Message) (a n rows first count done : ℕ) (flag : Option ℕ) → first ≡ a + rows → rows + count ≡ n → Passes t m (Rows a n) rows first count done flag → IsKnown t m rows first count done flag
-known_from t m a n rows first count done flag is whole passes = subst (λ (l : Left). Passes t m l rows first count done flag) (same_rows a n rows first count is whole) passes
+known_from t m a n rows first count done flag is whole passes = subst (λ (l : Remaining). Passes t m l rows first count done flag) (same_rows a n rows first count is whole) passes
 
 module _ (t : List ℕ) (fine : IsFine t) (e : ℕ) (lt : e < (header_of t).entries) (is : kind_of (entry_at t e).kind ≡ Some Box) where
   pub box_inside : (entry_at t e).first < (header_of t).entries

@@ -12,15 +12,15 @@ use Rattle.fidl_decode.specs.declared.fault.DecodeFault.{DecodeFault}
 use Rattle.fidl_decode.specs.declared.fault.DecodeFault.TheVariants.{WrongCounts}
 use Rattle.fidl_decode.specs.declared.frame.Frame.{Frame}
 use Rattle.fidl_decode.specs.declared.frame.Until.{Until}
-use Rattle.fidl_decode.specs.declared.frame.Left.TheVariants.{Content}
+use Rattle.fidl_decode.specs.declared.frame.Remaining.TheVariants.{Content}
 use Rattle.fidl_decode.specs.Invariants.{IsFine}
-use Rattle.fidl_decode.specs.State.{Message, At}
+use Rattle.fidl_decode.specs.State.{Message, Position}
 use Rattle.fidl_decode.specs.Breaks.{IsPadding, Breaks}
 use Rattle.fidl_decode.specs.Machine.{BreaksFrame, IsUntil, StateFine, FrameFine, Visits, Turns, inline_work, frame_work, byte_work, probes}
 use Rattle.fidl_decode.proofs.ContentTurns.{content_end_room, content_over, content_miscounted, content_end_breaks, content_known, content_size, content_room, content_pays, content_breaks, content_turns}
 use Rattle.fidl_decode.proofs.Leaves.{going_on, same_frame, left_over, turns_then, turns_break}
 
-module _ (t : List ℕ) (fine : IsFine t) (m : Message) (f : Frame) (e size count : ℕ) (u : Until) (is : f.left ≡ Content e size count u) (one : count ≡ 1) (old : At) (ff : FrameFine t m.bytes f) (state : StateFine m old) where
+module _ (t : List ℕ) (fine : IsFine t) (m : Message) (f : Frame) (e size count : ℕ) (u : Until) (is : f.left ≡ Content e size count u) (one : count ≡ 1) (old : Position) (ff : FrameFine t m.bytes f) (state : StateFine m old) where
   abbrev ds : Declarations
   ds = declarations_of t
 
@@ -54,7 +54,7 @@ module _ (t : List ℕ) (fine : IsFine t) (m : Message) (f : Frame) (e size coun
   leaf_breaks fault b = subst (λ (f : Frame). BreaksFrame t m f old fault) (sym same) (content_breaks t fine m f e size count u old gf state some fault b)
 
   -- the value is read
-  module _ (new : At) (spent : ℕ) (v : Visits t m f.depth e (f.base + f.done) old new spent None) where
+  module _ (new : Position) (spent : ℕ) (v : Visits t m f.depth e (f.base + f.done) old new spent None) where
     abbrev h : Frame
     h = going_on f (Content e size (count - 1) u) (f.done + size)
 

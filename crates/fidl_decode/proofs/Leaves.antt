@@ -13,11 +13,11 @@ use Rattle.fidl_table_format.specs.Section.{header_of, entry_at, row_at}
 use Rattle.fidl_table_format.specs.Terms.{declarations_of}
 use Rattle.fidl_decode.specs.Invariants.{IsFine, is_free}
 use Rattle.fidl_decode.specs.declared.frame.Frame.{Frame}
-use Rattle.fidl_decode.specs.declared.frame.Left.{Left}
-use Rattle.fidl_decode.specs.declared.frame.Left.TheVariants.{Rows, Elements}
+use Rattle.fidl_decode.specs.declared.frame.Remaining.{Remaining}
+use Rattle.fidl_decode.specs.declared.frame.Remaining.TheVariants.{Rows, Elements}
 use Rattle.fidl_decode.specs.declared.frame.Turn.{Turn}
 use Rattle.fidl_decode.specs.Rows.{Row, table_rows, element_rows}
-use Rattle.fidl_decode.specs.State.{Message, At}
+use Rattle.fidl_decode.specs.State.{Message, Position}
 use Rattle.fidl_decode.specs.declared.fault.DecodeFault.{DecodeFault}
 use Rattle.fidl_decode.specs.Breaks.{IsPadding, Breaks}
 use Rattle.fidl_decode.specs.Machine.{rows_left, Reads, ReadsIf, BreaksFrame, LeftFine, IsPlain, VisitFine, height, FrameFine, frame_work, probes, StateFine, Visits, Turns}
@@ -26,35 +26,35 @@ use Rattle.fidl_decode.proofs.Visiting.{size_is, positive, visits_free}
 use Rattle.fidl_decode.proofs.Turning.{fine_from, done_fits, spends, spends_more, turns_end, row_fine, row_room, turns_more, end_breaks, gap_breaks, visit_breaks}
 
 -- a frame with other members left, so many of its bytes read
-abbrev pub going_on : Frame → Left → (done : ℕ) → Frame
-going_on f left done = record { left = left; base = f.base; done = done; size = f.size; nest = f.nest; depth = f.depth; inside = f.inside }
+abbrev pub going_on : Frame → Remaining → (done : ℕ) → Frame
+going_on f left done = record { left = left; base = f.base; done = done; size = f.size; nest = f.nest; depth = f.depth; in_envelope = f.in_envelope }
 
-pub same_frame : (f : Frame) (left : Left) → f.left ≡ left → f ≡ going_on f left f.done
-same_frame f left is = λ i. record { left = is i; base = f.base; done = f.done; size = f.size; nest = f.nest; depth = f.depth; inside = f.inside }
+pub same_frame : (f : Frame) (left : Remaining) → f.left ≡ left → f ≡ going_on f left f.done
+same_frame f left is = λ i. record { left = is i; base = f.base; done = f.done; size = f.size; nest = f.nest; depth = f.depth; in_envelope = f.in_envelope }
 
 -- only a frame is left
 abbrev pub left_over : Option Frame → Turn
 left_over o = record { below = None; rest = o }
 
-module _ (t : List ℕ) (m : Message) (f : Frame) (old : At) where
+module _ (t : List ℕ) (m : Message) (f : Frame) (old : Position) where
   -- before anything is read
   pub turns_start : FrameFine t m.bytes f → StateFine m old → (g : Frame) → f ≡ g → Turns t m f old old 0 (left_over (Some g))
   turns_start ff state g is = subst (λ (g : Frame). Turns t m f old old 0 (left_over (Some g))) is (record {
-    same = λ to. ((λ x. (old, refl, x)), (λ y. subst (λ (s : At). Reads t m f s to) (sym y.1) y.2));
-    breaks = λ fault b. elim b [ inl x ↦ absurd x | inr y ↦ subst (λ (s : At). BreaksFrame t m f s fault) (sym y.1) y.2 ];
+    same = λ to. ((λ x. (old, refl, x)), (λ y. subst (λ (s : Position). Reads t m f s to) (sym y.1) y.2));
+    breaks = λ fault b. elim b [ inl x ↦ absurd x | inr y ↦ subst (λ (s : Position). BreaksFrame t m f s fault) (sym y.1) y.2 ];
     state = state;
     below_fine = tt;
     rest_fine = (ff, omega arith);
     less = omega arith;
   })
 
-  module _ (mid : At) (a : ℕ) (g : Frame) where
+  module _ (mid : Position) (a : ℕ) (g : Frame) where
     module _ (one : Turns t m f old mid a (left_over (Some g))) where
       -- what is left is read on
-      pub turns_then : (new : At) (b n : ℕ) (x : Turn) → n ≤ a + b → Turns t m g mid new b x → Turns t m f old new n x
+      pub turns_then : (new : Position) (b n : ℕ) (x : Turn) → n ≤ a + b → Turns t m g mid new b x → Turns t m f old new n x
       turns_then new b n x le two = record {
         same = λ to. (
-          (λ r. let p = (one.same to).0 r in (two.same to).0 (subst (λ (s : At). Reads t m g s to) (sym p.1) p.2)),
+          (λ r. let p = (one.same to).0 r in (two.same to).0 (subst (λ (s : Position). Reads t m g s to) (sym p.1) p.2)),
           (λ y. (one.same to).1 (mid, refl, (two.same to).1 y)),
         );
         breaks = λ fault b. one.breaks fault (inr (mid, refl, two.breaks fault b));
@@ -69,12 +69,12 @@ module _ (t : List ℕ) (m : Message) (f : Frame) (old : At) where
 
     -- what is below is read up to what is left of it
     module _ (h : Frame) (one : Turns t m f old mid a (record { below = Some g; rest = Some h })) where
-      pub turns_below : (new : At) (b n : ℕ) (o : Option Frame) → n ≤ a + b → Turns t m g mid new b (left_over o) → Turns t m f old new n (record { below = o; rest = Some h })
+      pub turns_below : (new : Position) (b n : ℕ) (o : Option Frame) → n ≤ a + b → Turns t m g mid new b (left_over o) → Turns t m f old new n (record { below = o; rest = Some h })
       turns_below new b n o le two = record {
         same = λ to. (
           (λ r. let p = (one.same to).0 r in
               let q = (two.same p.0).0 p.1 in
-              (p.0, subst (λ (s : At). ReadsIf t m o s p.0) (sym q.1) q.2, p.2)),
+              (p.0, subst (λ (s : Position). ReadsIf t m o s p.0) (sym q.1) q.2, p.2)),
           (λ y. (one.same to).1 (y.0, (two.same y.0).1 (new, refl, y.1), y.2)),
         );
         breaks = λ fault b. elim b [
@@ -88,13 +88,13 @@ module _ (t : List ℕ) (m : Message) (f : Frame) (old : At) where
       }
 
       -- to its end
-      pub turns_over : (new : At) (b n : ℕ) → n ≤ a + b → Turns t m g mid new b (left_over None) → Turns t m f old new n (left_over (Some h))
+      pub turns_over : (new : Position) (b n : ℕ) → n ≤ a + b → Turns t m g mid new b (left_over None) → Turns t m f old new n (left_over (Some h))
       turns_over new b n le two = turns_below new b n None le two
 
       pub below_breaks : (fault : DecodeFault) → BreaksFrame t m g mid fault → BreaksFrame t m f old fault
       below_breaks fault b = one.breaks fault (inl b)
 
-module _ (t : List ℕ) (fine : IsFine t) (m : Message) (f : Frame) (old now : At) (a : ℕ) (g : Frame) (turns : Turns t m f old now a (left_over (Some g))) where
+module _ (t : List ℕ) (fine : IsFine t) (m : Message) (f : Frame) (old now : Position) (a : ℕ) (g : Frame) (turns : Turns t m f old now a (left_over (Some g))) where
   abbrev ds : Declarations
   ds = declarations_of t
 
@@ -114,7 +114,7 @@ module _ (t : List ℕ) (fine : IsFine t) (m : Message) (f : Frame) (old now : A
   over_room = let d = done_fits t fine m g now gf turns.state in (d, gf.room, spends g.nest (g.size - g.done) (g.size - g.done) (omega arith))
 
   -- a member is next
-  module _ (r : Row) (left : Left) (one : rows_left t g.done g.left ≡ r ∷ rows_left t (r.offset + size_of ds (ty.named r.entry)) left) where
+  module _ (r : Row) (left : Remaining) (one : rows_left t g.done g.left ≡ r ∷ rows_left t (r.offset + size_of ds (ty.named r.entry)) left) where
     pub next_known : r.entry < (header_of t).entries
     next_known = (row_fine t fine m g now gf turns.state r left one).0
 
@@ -138,14 +138,14 @@ module _ (t : List ℕ) (fine : IsFine t) (m : Message) (f : Frame) (old now : A
       next_leaf_breaks fault z b = turns_break t m f old now a g turns fault (visit_breaks t fine m g now gf turns.state r left one plain fault z b)
 
       -- it is a leaf, or leads to what is below
-      pub next_takes : LeftFine t left → IsPlain left → (below : Option Frame) (new : At) (done spent n : ℕ) → done ≡ r.offset + (entry_at t r.entry).size → n ≤ a + (g.base + r.offset - (g.base + g.done) + 1 + spent)
-          → Stands m.bytes (g.base + g.done) (zeros (g.base + r.offset - (g.base + g.done))) → Visits t m g.depth r.entry (g.base + r.offset) now new spent below → VisitFine t m g.depth g.inside r.entry below
+      pub next_takes : LeftFine t left → IsPlain left → (below : Option Frame) (new : Position) (done spent n : ℕ) → done ≡ r.offset + (entry_at t r.entry).size → n ≤ a + (g.base + r.offset - (g.base + g.done) + 1 + spent)
+          → Stands m.bytes (g.base + g.done) (zeros (g.base + r.offset - (g.base + g.done))) → Visits t m g.depth r.entry (g.base + r.offset) now new spent below → VisitFine t m g.depth g.in_envelope r.entry below
           → Turns t m f old new n (record { below = below; rest = Some (going_on g left done) })
       next_takes left_fine left_plain below new done spent n is le z v vf =
           turns_then t m f old now a g turns new (g.base + r.offset - (g.base + g.done) + 1 + spent) n (record { below = below; rest = Some (going_on g left done) }) le
           (turns_more t fine m g now gf turns.state r left one plain (positive t fine r.entry next_known) left_fine left_plain below new done spent (omega (arith, is, next_size)) z v vf)
 
-      pub next_turns : LeftFine t left → IsPlain left → (new : At) (done spent n : ℕ) → done ≡ r.offset + (entry_at t r.entry).size → n ≤ a + (g.base + r.offset - (g.base + g.done) + 1 + spent)
+      pub next_turns : LeftFine t left → IsPlain left → (new : Position) (done spent n : ℕ) → done ≡ r.offset + (entry_at t r.entry).size → n ≤ a + (g.base + r.offset - (g.base + g.done) + 1 + spent)
           → Stands m.bytes (g.base + g.done) (zeros (g.base + r.offset - (g.base + g.done))) → Visits t m g.depth r.entry (g.base + r.offset) now new spent None
           → Turns t m f old new n (left_over (Some (going_on g left done)))
       next_turns left_fine left_plain new done spent n is le z v = next_takes left_fine left_plain None new done spent n is le z v tt
@@ -173,7 +173,7 @@ pub no_zeros : (m : List ℕ) (p k : ℕ) → k ≡ 0 → Stands m p (zeros k)
 no_zeros m p k is = subst (λ n. Stands m p (zeros n)) (sym is) tt
 
 -- elements that any bytes are need no look
-module _ (t : List ℕ) (fine : IsFine t) (m : Message) (e size : ℕ) (f : Frame) (at : At) where
+module _ (t : List ℕ) (fine : IsFine t) (m : Message) (e size : ℕ) (f : Frame) (at : Position) where
   abbrev at_element : (n done : ℕ) → Frame
   at_element n done = going_on f (Elements e size n) done
 
@@ -200,7 +200,7 @@ module _ (t : List ℕ) (fine : IsFine t) (m : Message) (e size : ℕ) (f : Fram
       subst (λ d. Turns t m g at at 0 (left_over (Some (at_element 0 d)))) same (turns_then t m g at at 0 (at_element n (done + size)) step at 0 0 (left_over (Some (at_element 0 (done + size + size * n)))) (omega arith) on)
 
 -- an array's frame, from its start
-module _ (t : List ℕ) (fine : IsFine t) (m : Message) (f : Frame) (old : At) (ff : FrameFine t m.bytes f) (state : StateFine m old) (e size count : ℕ) (is : f.left ≡ Elements e size count) where
+module _ (t : List ℕ) (fine : IsFine t) (m : Message) (f : Frame) (old : Position) (ff : FrameFine t m.bytes f) (state : StateFine m old) (e size count : ℕ) (is : f.left ≡ Elements e size count) where
   start : Turns t m f old old 0 (left_over (Some (going_on f (Elements e size count) f.done)))
   start = turns_start t m f old ff state (going_on f (Elements e size count) f.done) (same_frame f (Elements e size count) is)
 

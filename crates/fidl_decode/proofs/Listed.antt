@@ -23,9 +23,9 @@ use Rattle.fidl_table_format.specs.Terms.{declarations_of, is_optional}
 use Rattle.fidl_decode.specs.Invariants.{IsFine}
 use Rattle.fidl_decode.specs.declared.fault.DecodeFault.{DecodeFault}
 use Rattle.fidl_decode.specs.declared.fault.DecodeFault.TheVariants.{BadMarker, AbsentRequired, BadCount, OverBound, TooDeep, Truncated}
-use Rattle.fidl_decode.specs.declared.frame.Left.TheVariants.{Elements}
+use Rattle.fidl_decode.specs.declared.frame.Remaining.TheVariants.{Elements}
 use Rattle.fidl_decode.specs.Rows.{Row, element_rows, enc_rows, RowsRise}
-use Rattle.fidl_decode.specs.State.{Message, At, linked, after, after_elements, StandsAt, Item}
+use Rattle.fidl_decode.specs.State.{Message, Position, linked, after, after_elements, StandsAt, ValueAt}
 use Rattle.fidl_decode.specs.Breaks.{Part, Object, object_of, count_at, element_parts, BreaksCounted, BreaksRule, Breaks, BreaksParts}
 use Rattle.fidl_decode.specs.Breaks as broken
 use Rattle.fidl_decode.specs.Machine.{row_parts, StateFine, Visits, VisitFine}
@@ -42,12 +42,12 @@ clash e = cc
 some_object : (a b : Object) → Some a ≡ Some b → a ≡ b
 some_object a b e = cc
 
-module _ (ds : Declarations) (laid : IsLaidOut ds) (m : Message) (held : ℕ) (optional : Bool) (bound : ℕ) (few : bound < 2 ^ 32) (u : Term) (place : ℕ) (from : At) where
+module _ (ds : Declarations) (laid : IsLaidOut ds) (m : Message) (held : ℕ) (optional : Bool) (bound : ℕ) (few : bound < 2 ^ 32) (u : Term) (place : ℕ) (from : Position) where
   abbrev term : Term
   term = resolve ds.terms u
 
   -- a present vector
-  pub record Listed (to : At) : Type 0 where
+  pub record Listed (to : Position) : Type 0 where
     pub values : Values
     pub typed : AllTyped ds term values
     pub bounded : count values ≤ bound
@@ -58,10 +58,10 @@ module _ (ds : Declarations) (laid : IsLaidOut ds) (m : Message) (held : ℕ) (o
     pub carried : Carries m.handles from.handle (elements ds term values).handles
     pub end : to ≡ after_elements ds term (size_of ds u) values from.next (linked (place + 8) (length (elements ds term values).inline) from)
 
-  abbrev Absent : At → Type 0
+  abbrev Absent : Position → Type 0
   Absent to = Stands m.bytes place (zeros 16) × IsTrue optional × (from ≡ to)
 
-  pub vector_values : (to : At) → Item ds m held (ty.vector optional bound u) place from to → Absent to ⊎ Listed to
+  pub vector_values : (to : Position) → ValueAt ds m held (ty.vector optional bound u) place from to → Absent to ⊎ Listed to
   vector_values to x = only x.value x.typed x.shallow x.stands x.end
     where
       only : (v : Value) → IsTyped ds (ty.vector optional bound u) v → depth_of ds (ty.vector optional bound u) v + held ≤ MAX_DEPTH → StandsAt m (encoding_of ds (ty.vector optional bound u) v) place from → to ≡ after ds (ty.vector optional bound u) v place from
@@ -80,7 +80,7 @@ module _ (ds : Declarations) (laid : IsLaidOut ds) (m : Message) (held : ℕ) (o
       })
       only _ h d s e = absurd h
 
-  pub values_vector : (to : At) → Listed to → Item ds m held (ty.vector optional bound u) place from to
+  pub values_vector : (to : Position) → Listed to → ValueAt ds m held (ty.vector optional bound u) place from to
   values_vector to l = record {
     value = list l.values;
     typed = (l.bounded, l.typed);
@@ -89,7 +89,7 @@ module _ (ds : Declarations) (laid : IsLaidOut ds) (m : Message) (held : ℕ) (o
     end = l.end;
   }
 
-  pub absent_vector : IsTrue optional → Stands m.bytes place (zeros 16) → held ≤ MAX_DEPTH → Item ds m held (ty.vector optional bound u) place from from
+  pub absent_vector : IsTrue optional → Stands m.bytes place (zeros 16) → held ≤ MAX_DEPTH → ValueAt ds m held (ty.vector optional bound u) place from from
   absent_vector may z deep = record { value = absent; typed = may; shallow = omega arith; stands = record { inline = z; out = tt; carried = tt }; end = refl }
 
   pub absent_back : Stands m.bytes place (zeros 16) → Stands m.bytes (place + 8) (zeros 8)
@@ -98,18 +98,18 @@ module _ (ds : Declarations) (laid : IsLaidOut ds) (m : Message) (held : ℕ) (o
   no_count : Stands m.bytes place (zeros 16) → count_at m.bytes place ≡ 0
   no_count z = number_64 m.bytes place 0 (omega arith) (stands_front m.bytes place (zeros 8) (zeros 8) z)
 
-  pub count_is : (to : At) (l : Listed to) → count_at m.bytes place ≡ count l.values
+  pub count_is : (to : Position) (l : Listed to) → count_at m.bytes place ≡ count l.values
   count_is to l = let le = l.bounded in number_64 m.bytes place (count l.values) (omega (arith, le, few)) l.number
 
   -- the elements of a present vector fit the message
-  listed_room : (to : At) → Listed to → padded_size (size_of ds u * count_at m.bytes place) ≤ length m.bytes - from.next
+  listed_room : (to : Position) → Listed to → padded_size (size_of ds u * count_at m.bytes place) ≤ length m.bytes - from.next
   listed_room to l =
       let e = elements ds term l.values in
       let long : length e.inline ≡ size_of ds u * count_at m.bytes place = length-elements ds laid term l.values l.typed ∙ ap (λ k. k * count l.values) (size_of-resolve ds laid u) ∙ ap (λ n. size_of ds u * n) (sym (count_is to l)) in
       let wide : length (pad8 e.inline) ≡ padded_size (size_of ds u * count_at m.bytes place) = length-pad8 e.inline ∙ ap padded_size long in
       omega (arith, stands_within m.bytes from.next (pad8 e.inline) (stands_front m.bytes from.next (pad8 e.inline) e.out l.out), wide)
 
-  module _ (to : At) (x : Item ds m held (ty.vector optional bound u) place from to) where
+  module _ (to : Position) (x : ValueAt ds m held (ty.vector optional bound u) place from to) where
     -- what is present has elements
     present_list : Stands m.bytes (place + 8) present → Listed to
     present_list ones = elim (vector_values to x) [ inl y ↦ absurd (zeros_or_ones m.bytes (place + 8) (absent_back y.0) ones) | inr l ↦ l ]
@@ -126,7 +126,7 @@ module _ (ds : Declarations) (laid : IsLaidOut ds) (m : Message) (held : ℕ) (o
     excluded (Truncated at) b = omega (arith, b.2, listed_room to (present_list b.1))
     excluded fault b = absurd b
 
-  pub vector_excluded : (to : At) (fault : DecodeFault) → BreaksCounted m held optional bound (size_of ds u * count_at m.bytes place) place from.next fault → Item ds m held (ty.vector optional bound u) place from to → ⊥
+  pub vector_excluded : (to : Position) (fault : DecodeFault) → BreaksCounted m held optional bound (size_of ds u * count_at m.bytes place) place from.next fault → ValueAt ds m held (ty.vector optional bound u) place from to → ⊥
   vector_excluded to fault b x = excluded to x fault b
 
   -- a present vector within its bound that is not too deep, and whose elements fit, breaks no rule by itself
@@ -145,7 +145,7 @@ module _ (ds : Declarations) (laid : IsLaidOut ds) (m : Message) (held : ℕ) (o
 
 -- ---- in a table
 
-module _ (t : List ℕ) (fine : IsFine t) (m : Message) (held e place : ℕ) (from : At) (lt : e < (header_of t).entries) (is : kind_of (entry_at t e).kind ≡ Some Vector) where
+module _ (t : List ℕ) (fine : IsFine t) (m : Message) (held e place : ℕ) (from : Position) (lt : e < (header_of t).entries) (is : kind_of (entry_at t e).kind ≡ Some Vector) where
   abbrev ds : Declarations
   ds = declarations_of t
 
@@ -191,7 +191,7 @@ module _ (t : List ℕ) (fine : IsFine t) (m : Message) (held e place : ℕ) (fr
       let flat : 0 + size * n ≡ size * n = omega arith in
       subst (λ k. RowsRise ds h.entries (inner.nest + 1) k 0 rs) flat (elements_rise ds d.first h.entries (inner.nest + 1) n 0 inside (omega (arith, nest_is t fine d.first inside)))
 
-  abbrev List_of : At → Type 0
+  abbrev List_of : Position → Type 0
   List_of to = Listed ds fine.laid_out m held (is_optional d) d.bound few (ty.named d.first) place from to
 
   same_rows : (vs : Values) → count vs ≡ n → elements ds (resolve ds.terms (ty.named d.first)) vs ≡ enc_rows ds (size * n) 0 rs vs
@@ -199,7 +199,7 @@ module _ (t : List ℕ) (fine : IsFine t) (m : Message) (held e place : ℕ) (fr
       let flat : 0 + size * n ≡ size * n = omega arith in
       enc_rows-elements ds d.first n 0 vs c ∙ ap (λ k. enc_rows ds k 0 rs vs) flat
 
-  listed_opens : (to : At) → List_of to → Opened ds m held (place + 8) (size * n) rs from to
+  listed_opens : (to : Position) → List_of to → Opened ds m held (place + 8) (size * n) rs from to
   listed_opens to l =
       let vs = l.values in
       let c : count vs ≡ n = sym (count_is ds fine.laid_out m held (is_optional d) d.bound few (ty.named d.first) place from to l) in
@@ -225,7 +225,7 @@ module _ (t : List ℕ) (fine : IsFine t) (m : Message) (held e place : ℕ) (fr
         };
       }
 
-  opened_lists : (to : At) → n ≤ d.bound → place + 8 ≤ length m.bytes → ((i : ℕ) → get_or m.bytes i 0 < 256) → Opened ds m held (place + 8) (size * n) rs from to → List_of to
+  opened_lists : (to : Position) → n ≤ d.bound → place + 8 ≤ length m.bytes → ((i : ℕ) → get_or m.bytes i 0 < 256) → Opened ds m held (place + 8) (size * n) rs from to → List_of to
   opened_lists to le room small o =
       let y = o.members in
       let vs = y.values in
@@ -250,7 +250,7 @@ module _ (t : List ℕ) (fine : IsFine t) (m : Message) (held e place : ℕ) (fr
       }
 
   -- a present vector: its elements are the next object
-  pub vector_item : (to : At) → Item ds m held vector place from to → Stands m.bytes (place + 8) present → Opened ds m held (place + 8) (size * n) rs from to
+  pub vector_item : (to : Position) → ValueAt ds m held vector place from to → Stands m.bytes (place + 8) present → Opened ds m held (place + 8) (size * n) rs from to
   vector_item to x ones = listed_opens to (present_list ds fine.laid_out m held (is_optional d) d.bound few (ty.named d.first) place from to x ones)
 
   pub vector_object : (o : Object) → object_of ds m.bytes vector place ≡ Some o → o ≡ record { marker = place + 8; size = size * n; parts = row_parts rs }
@@ -263,11 +263,11 @@ module _ (t : List ℕ) (fine : IsFine t) (m : Message) (held e place : ℕ) (fr
   module _ (state : StateFine m from) (deep : held ≤ MAX_DEPTH) where
     pub visits_absent_vector : (spent : ℕ) → spent ≡ 0 → IsTrue (is_optional d) → Stands m.bytes (place + 8) (zeros 8) → place + 8 ≤ length m.bytes → ((i : ℕ) → get_or m.bytes i 0 < 256) → n ≡ 0 → Visits t m held e place from from spent None
     visits_absent_vector spent nothing may z room small none = visits_absent t fine m held e place from lt state spent nothing (λ to. (
-      (λ x. elim (vector_values ds fine.laid_out m held (is_optional d) d.bound few (ty.named d.first) place from to (subst (λ (w : Term). Item ds m held w place from to) own x)) [
+      (λ x. elim (vector_values ds fine.laid_out m held (is_optional d) d.bound few (ty.named d.first) place from to (subst (λ (w : Term). ValueAt ds m held w place from to) own x)) [
         | inl y ↦ y.2
         | inr l ↦ absurd (zeros_or_ones m.bytes (place + 8) z l.ones)
       ]),
-      (λ same. subst (λ (w : Term). Item ds m held w place from to) (sym own) (subst (λ (s : At). Item ds m held vector place from s) same
+      (λ same. subst (λ (w : Term). ValueAt ds m held w place from to) (sym own) (subst (λ (s : Position). ValueAt ds m held vector place from s) same
           (absent_vector ds fine.laid_out m held (is_optional d) d.bound few (ty.named d.first) place from may (stands_both m.bytes place (zeros 8) (zeros 8) (subst (λ k. Stands m.bytes place (to_le_bytes w64 k)) none (standing uint64 m.bytes place room small).1) z) deep))),
     ))
 
@@ -280,8 +280,8 @@ module _ (t : List ℕ) (fine : IsFine t) (m : Message) (held e place : ℕ) (fr
         subst (λ s. Visits t m held e place from (linked (place + 8) (s * n) from) spent (Some (object_frame (Elements d.first s n) (s * n) (inner.nest + 1) held from))) element_size
         (visits_object t fine m held e place from lt state (place + 8) (size * n) (inner.nest + 1) (Elements d.first size n) spent nothing tt (omega (arith, small_nest)) shallow room'
         (λ to. (
-          (λ x. (vector_item to (subst (λ (w : Term). Item ds m held w place from to) own x) ones).members),
-          (λ y. subst (λ (w : Term). Item ds m held w place from to) (sym own)
+          (λ x. (vector_item to (subst (λ (w : Term). ValueAt ds m held w place from to) own x) ones).members),
+          (λ y. subst (λ (w : Term). ValueAt ds m held w place from to) (sym own)
               (values_vector ds fine.laid_out m held (is_optional d) d.bound few (ty.named d.first) place from to (opened_lists to le here small (record { ones = ones; shallow = shallow; room = room'; members = y })))),
         ))
         (λ fault b. subst (λ (w : Term). Breaks ds m held w place from fault) (sym own)

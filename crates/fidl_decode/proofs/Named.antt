@@ -16,7 +16,7 @@ use Rattle.fidl_table_format.specs.Section.{header_of, entry_at, row_at}
 use Rattle.fidl_table_format.specs.Terms.{term_as, term_of, declarations_of, below, rows_from}
 use Rattle.fidl_decode.specs.Invariants.{IsFine}
 use Rattle.fidl_decode.specs.Rows.{Row, RowsRise}
-use Rattle.fidl_decode.specs.State.{Message, At, member_at, begun, Item, Members}
+use Rattle.fidl_decode.specs.State.{Message, Position, member_at, begun, ValueAt, Members}
 use Rattle.fidl_decode.specs.Envelopes.{Contained, depth_within}
 use Rattle.fidl_decode.specs.Faults.{IsWithin}
 use Rattle.fidl_decode.proofs.Rows.{members_end, more_members}
@@ -73,7 +73,7 @@ module _ (t : List ℕ) (fine : IsFine t) where
     ds = declarations_of t
 
     -- what has a value has an entry
-    pub has_entry : (held e place : ℕ) (from to : At) → Item ds m held (resolve ds.terms (ty.named e)) place from to → e < (header_of t).entries
+    pub has_entry : (held e place : ℕ) (from to : Position) → ValueAt ds m held (resolve ds.terms (ty.named e)) place from to → e < (header_of t).entries
     has_entry held e place from to x = elim (cases_lt e (header_of t).entries) [
       | inl lt ↦ lt
       | inr le ↦ absurd (no_values ds x.value (subst (λ (u : Term). IsTyped ds u x.value) (no_entry le) x.typed))
@@ -83,12 +83,12 @@ module _ (t : List ℕ) (fine : IsFine t) where
         no_entry le = get_or-eq_default ds.terms nothing (omega (arith, le, length-map-below (λ i. term_of t (header_of t) (entry_at t i)) (below (header_of t).entries), length-below (header_of t).entries))
 
     -- one value of an entry stands where the member of an envelope does, with zeros behind it
-    abbrev pub Rowed : (held e p : ℕ) (from to : At) (inline : Bool) → Term → Type 0
+    abbrev pub Rowed : (held e p : ℕ) (from to : Position) (inline : Bool) → Term → Type 0
     Rowed held e p from to inline v = RowsRise ds (header_of t).entries (suc (figure_of ds.figures (ty.named e)).nest) (wide inline (size_of ds v)) 0 (entry_row e)
         × Members ds m (depth_within inline held) (wide inline (size_of ds v)) (member_at inline p from) 0 (entry_row e) (begun inline p (size_of ds v) from) to
 
     -- the content of an envelope is a row
-    pub content_rows : (within : IsWithin m.bytes m.handles) (held : ℕ) (v : Term) (e : ℕ) → v ≡ ty.named e → (p : ℕ) (from to : At) (inline : Bool) → nat_le (size_of ds v) 4 ≡ inline → Contained ds m held (Some v) p from to
+    pub content_rows : (within : IsWithin m.bytes m.handles) (held : ℕ) (v : Term) (e : ℕ) → v ≡ ty.named e → (p : ℕ) (from to : Position) (inline : Bool) → nat_le (size_of ds v) 4 ≡ inline → Contained ds m held (Some v) p from to
         → Rowed held e p from to inline v
     content_rows within held v e is p from to inline small x =
         subst (λ (v : Term). Rowed held e p from to inline v) (sym is) (rows (subst (λ (v : Term). Enclosed ds fine.laid_out m within held v p from inline to) is (known_content ds fine.laid_out m within held v p from inline small to x)))
@@ -109,5 +109,5 @@ module _ (t : List ℕ) (fine : IsFine t) where
             (refl, subst (λ k. Stands m.bytes (base + k) (zeros (wide inline size - k))) none_more y.padding) in (
               rise,
               more_members ds fine.laid_out m (depth_within inline held) (header_of t).entries (suc (figure_of ds.figures (ty.named e)).nest) (wide inline size) base 0 (record { offset = 0; entry = e }) [] (begun inline p size from) to to rise tt
-                  (subst (λ q. Item ds m (depth_within inline held) (resolve ds.terms (ty.named e)) q (begun inline p size from) to) here y.item) end,
+                  (subst (λ q. ValueAt ds m (depth_within inline held) (resolve ds.terms (ty.named e)) q (begun inline p size from) to) here y.item) end,
             )

@@ -20,9 +20,9 @@ use Rattle.fidl_table_format.specs.Terms.{declarations_of}
 use Rattle.fidl_decode.specs.Invariants.{IsFine}
 use Rattle.fidl_decode.specs.declared.fault.DecodeFault.{DecodeFault}
 use Rattle.fidl_decode.specs.declared.frame.Frame.{Frame}
-use Rattle.fidl_decode.specs.declared.frame.Left.{Left}
+use Rattle.fidl_decode.specs.declared.frame.Remaining.{Remaining}
 use Rattle.fidl_decode.specs.Rows.{Row, TypedRows, enc_rows, RowsRise}
-use Rattle.fidl_decode.specs.State.{Message, At, linked, StandsAt, Item, Members}
+use Rattle.fidl_decode.specs.State.{Message, Position, linked, StandsAt, ValueAt, Members}
 use Rattle.fidl_decode.specs.Breaks.{Breaks, BreaksParts}
 use Rattle.fidl_decode.specs.Machine.{rows_left, row_parts, IsPlain, LeftFine, StateFine, Visits, VisitFine, most_nest, inline_work, byte_work}
 use Rattle.fidl_decode.proofs.After.{length-pad8}
@@ -43,7 +43,7 @@ stands_within m p [] h = omega arith
 stands_within m p (x ∷ a) h = let lt = h.0 in omega (arith, lt, stands_within m (p + 1) a h.2)
 
 -- the next object has these rows; its marker says that it is there
-pub record Opened (ds : Declarations) (m : Message) (held marker size : ℕ) (rs : List Row) (from to : At) : Type 0 where
+pub record Opened (ds : Declarations) (m : Message) (held marker size : ℕ) (rs : List Row) (from to : Position) : Type 0 where
   pub ones : Stands m.bytes marker present
   pub shallow : held < MAX_DEPTH
   pub room : padded_size size ≤ length m.bytes - from.next
@@ -118,7 +118,7 @@ module _ (ds : Declarations) (laid : IsLaidOut ds) where
     length-wide : length (pad8 own.inline) ≡ padded_size size
     length-wide = length-pad8 own.inline ∙ ap padded_size inline_is
 
-    module _ (m : Message) (marker : ℕ) (from : At) where
+    module _ (m : Message) (marker : ℕ) (from : Position) where
       pub object_room : Stands m.bytes from.next (object own) → padded_size size ≤ length m.bytes - from.next
       object_room h = omega (arith, stands_within m.bytes from.next (pad8 own.inline) (stands_front m.bytes from.next (pad8 own.inline) own.out h), length-wide)
 
@@ -146,8 +146,8 @@ module _ (ds : Declarations) (laid : IsLaidOut ds) where
 -- ---- visits of what points to an object
 
 -- the frame of the next object, of this size
-abbrev pub object_frame : Left → (size nest held : ℕ) → At → Frame
-object_frame left size nest held from = record { left = left; base = from.next; done = 0; size = padded_size size; nest = nest; depth = held + 1; inside = 0 }
+abbrev pub object_frame : Remaining → (size nest held : ℕ) → Position → Frame
+object_frame left size nest held from = record { left = left; base = from.next; done = 0; size = padded_size size; nest = nest; depth = held + 1; in_envelope = 0 }
 
 -- the bytes of an object pay for its frame
 object_work : (n w nest : ℕ) → nest ≤ most_nest → inline_work nest * (w - 0) + 1 ≤ byte_work * w + 1
@@ -156,17 +156,17 @@ object_work n w nest le = let more : inline_work nest ≤ byte_work = omega (ari
 split_work : (n next w : ℕ) → w ≤ n - next → byte_work * (n - (next + w)) + byte_work * w ≡ byte_work * (n - next)
 split_work n next w le = omega (arith, le)
 
-module _ (t : List ℕ) (fine : IsFine t) (m : Message) (held e place : ℕ) (from : At) (lt : e < (header_of t).entries) (state : StateFine m from) where
+module _ (t : List ℕ) (fine : IsFine t) (m : Message) (held e place : ℕ) (from : Position) (lt : e < (header_of t).entries) (state : StateFine m from) where
   abbrev ds : Declarations
   ds = declarations_of t
 
   -- nothing is there
-  pub visits_absent : (spent : ℕ) → spent ≡ 0 → ((to : At) → Item ds m held (resolve ds.terms (ty.named e)) place from to ↔ (from ≡ to)) → Visits t m held e place from from spent None
+  pub visits_absent : (spent : ℕ) → spent ≡ 0 → ((to : Position) → ValueAt ds m held (resolve ds.terms (ty.named e)) place from to ↔ (from ≡ to)) → Visits t m held e place from from spent None
   visits_absent spent nothing same = record { same = same; breaks = λ fault b. absurd b; state = state; less = omega (arith, nothing) }
 
   -- the object is left to read
-  pub visits_object : (marker size nest : ℕ) (left : Left) (spent : ℕ) → spent ≡ 0 → IsPlain left → nest ≤ most_nest → held < MAX_DEPTH → padded_size size ≤ length m.bytes - from.next
-      → ((to : At) → Item ds m held (resolve ds.terms (ty.named e)) place from to ↔ Members ds m (held + 1) (padded_size size) from.next 0 (rows_left t 0 left) (linked marker size from) to)
+  pub visits_object : (marker size nest : ℕ) (left : Remaining) (spent : ℕ) → spent ≡ 0 → IsPlain left → nest ≤ most_nest → held < MAX_DEPTH → padded_size size ≤ length m.bytes - from.next
+      → ((to : Position) → ValueAt ds m held (resolve ds.terms (ty.named e)) place from to ↔ Members ds m (held + 1) (padded_size size) from.next 0 (rows_left t 0 left) (linked marker size from) to)
       → ((fault : DecodeFault) → BreaksParts ds m (held + 1) (padded_size size) from.next 0 (row_parts (rows_left t 0 left)) (linked marker size from) fault → Breaks ds m held (resolve ds.terms (ty.named e)) place from fault)
       → Visits t m held e place from (linked marker size from) spent (Some (object_frame left size nest held from))
   visits_object marker size nest left spent nothing plain deep shallow room same breaks =
@@ -182,7 +182,7 @@ module _ (t : List ℕ) (fine : IsFine t) (m : Message) (held e place : ℕ) (fr
       }
 
   -- and its frame is fine, wherever what points to it lies
-  pub object_fine : (size nest : ℕ) (left : Left) → LeftFine t left → IsPlain left → 0 < nest → nest ≤ most_nest → held < MAX_DEPTH → padded_size size ≤ length m.bytes - from.next → RowsRise ds (header_of t).entries nest size 0 (rows_left t 0 left)
+  pub object_fine : (size nest : ℕ) (left : Remaining) → LeftFine t left → IsPlain left → 0 < nest → nest ≤ most_nest → held < MAX_DEPTH → padded_size size ≤ length m.bytes - from.next → RowsRise ds (header_of t).entries nest size 0 (rows_left t 0 left)
       → (inside : ℕ) → inside ≤ 1 → VisitFine t m held inside e (Some (object_frame left size nest held from))
   object_fine size nest left left_fine plain some deep shallow room rise inside few =
       let within = state.next in (
@@ -193,7 +193,7 @@ module _ (t : List ℕ) (fine : IsFine t) (m : Message) (held e place : ℕ) (fr
           some = some;
           nest = deep;
           depth = omega (arith, shallow);
-          inside = inl refl;
+          in_envelope = inl refl;
           rise = rows_wider ds fine.laid_out (header_of t).entries nest size (padded_size size) 0 (rows_left t 0 left) (le-next_multiple_of size 8) rise;
         },
         omega (arith, few, deep),

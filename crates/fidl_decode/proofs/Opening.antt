@@ -6,17 +6,17 @@ use Rattle.fidl_wire.specs.Term as ty
 use Rattle.fidl_table_format.specs.Terms.{declarations_of}
 use Rattle.fidl_decode.specs.declared.fault.DecodeFault.{DecodeFault}
 use Rattle.fidl_decode.specs.declared.frame.Frame.{Frame}
-use Rattle.fidl_decode.specs.State.{Message, At}
+use Rattle.fidl_decode.specs.State.{Message, Position}
 use Rattle.fidl_decode.specs.Envelopes.{Contained}
 use Rattle.fidl_decode.specs.Breaks.{BreaksMember}
 use Rattle.fidl_decode.specs.Machine.{Reads, ReadsIf, BreaksFrame, FrameFine, StateFine, Turns, Opens, PaysEnvelope, level, height, most_nest, inline_work, frame_work, byte_work, envelope_work}
 use Rattle.fidl_decode.proofs.Turning.{fine_from}
 use Rattle.fidl_decode.proofs.Leaves.{left_over}
 
-module _ (t : List ℕ) (m : Message) (held envelope : ℕ) (old new : At) (state : StateFine m new) where
+module _ (t : List ℕ) (m : Message) (held envelope : ℕ) (old new : Position) (state : StateFine m new) where
   -- a known member is left to read
   pub opens_known : (e : ℕ) (f : Frame) → old.next ≤ new.next
-      → ((to : At) → Contained (declarations_of t) m held (Some (ty.named e)) envelope old to ↔ Reads t m f new to)
+      → ((to : Position) → Contained (declarations_of t) m held (Some (ty.named e)) envelope old to ↔ Reads t m f new to)
       → ((fault : DecodeFault) → BreaksFrame t m f new fault → BreaksMember (declarations_of t) m held (Some (ty.named e)) envelope old fault)
       → FrameFine t m.bytes f → level held 1 most_nest ≤ height f
       → ((new.next ≡ old.next) × (frame_work f ≤ inline_work most_nest * 4 + 1)) ⊎ (frame_work f ≤ inline_work most_nest * (new.next - old.next) + 1)
@@ -33,15 +33,15 @@ module _ (t : List ℕ) (m : Message) (held envelope : ℕ) (old new : At) (stat
   }
 
   -- an unknown member is skipped
-  pub opens_unknown : old.next ≤ new.next → ((to : At) → Contained (declarations_of t) m held None envelope old to ↔ (new ≡ to)) → Opens t m held None envelope old new None
+  pub opens_unknown : old.next ≤ new.next → ((to : Position) → Contained (declarations_of t) m held None envelope old to ↔ (new ≡ to)) → Opens t m held None envelope old new None
   opens_unknown grows same = record { same = same; breaks = λ fault b. absurd b; state = state; fine = tt; less = omega (arith, grows) }
 
-module _ (t : List ℕ) (m : Message) (held : ℕ) (member : Option Term) (envelope : ℕ) (old mid : At) (f : Frame) (o : Opens t m held member envelope old mid (Some f)) where
+module _ (t : List ℕ) (m : Message) (held : ℕ) (member : Option Term) (envelope : ℕ) (old mid : Position) (f : Frame) (o : Opens t m held member envelope old mid (Some f)) where
   -- what is left of a member is read on
-  pub opens_on : (new : At) (spent : ℕ) (found : Option Frame) → Turns t m f mid new spent (left_over found) → Opens t m held member envelope old new found
+  pub opens_on : (new : Position) (spent : ℕ) (found : Option Frame) → Turns t m f mid new spent (left_over found) → Opens t m held member envelope old new found
   opens_on new spent found turns = record {
     same = λ to. (
-      (λ x. let p = (turns.same to).0 ((o.same to).0 x) in subst (λ (s : At). ReadsIf t m found s to) (sym p.1) p.2),
+      (λ x. let p = (turns.same to).0 ((o.same to).0 x) in subst (λ (s : Position). ReadsIf t m found s to) (sym p.1) p.2),
       (λ y. (o.same to).1 ((turns.same to).1 (new, refl, y))),
     );
     breaks = λ fault b. o.breaks fault (turns.breaks fault (inr (new, refl, b)));
@@ -50,7 +50,7 @@ module _ (t : List ℕ) (m : Message) (held : ℕ) (member : Option Term) (envel
     less = omega (arith, o.less, turns.less);
   }
 
-  pub opens_pays : (new : At) (spent : ℕ) (found : Option Frame) → Turns t m f mid new spent (left_over found) → PaysEnvelope m.bytes old.next new.next spent found
+  pub opens_pays : (new : Position) (spent : ℕ) (found : Option Frame) → Turns t m f mid new spent (left_over found) → PaysEnvelope m.bytes old.next new.next spent found
   opens_pays new spent found turns = omega (arith, o.less, turns.less)
 
   -- there is work for what is left

@@ -15,7 +15,7 @@ use Rattle.fidl_wire.proofs.Sizes.{size_of-resolve, length-inline, length-elemen
 use Rattle.fidl_wire.proofs.Unique.{no_out}
 use Rattle.fidl_wire.proofs.Stand.{stands_front}
 use Rattle.fidl_decode.specs.Links.{Linked}
-use Rattle.fidl_decode.specs.State.{Message, At, linked, member_at, begun, envelope_place, after, after_elements, after_fields, after_member, after_envelopes, StandsAt, Item}
+use Rattle.fidl_decode.specs.State.{Message, Position, linked, member_at, begun, envelope_place, after, after_elements, after_fields, after_member, after_envelopes, StandsAt, ValueAt}
 use Rattle.fidl_table_format.specs.Section.{header_of, entry_at}
 use Rattle.fidl_table_format.specs.Terms.{declarations_of}
 use Rattle.fidl_decode.specs.Invariants.{IsFine}
@@ -30,7 +30,7 @@ use Rattle.fidl_decode.proofs.Keeping.{Keeps, ends_behind, keeps, keeps_elements
 
 module _ (ds : Declarations) (laid : IsLaidOut ds) (m : Message) (l : Linked) where
   mutual
-    placed : (t : Term) (v : Value) (place : ℕ) (s : At) → IsTyped ds t v → StandsAt m (encoding_of ds t v) place s → Fits l place (place + size_of ds t) s (after ds t v place s) → Placed ds m l t place v
+    placed : (t : Term) (v : Value) (place : ℕ) (s : Position) → IsTyped ds t v → StandsAt m (encoding_of ds t v) place s → Fits l place (place + size_of ds t) s (after ds t v place s) → Placed ds m l t place v
     placed t absent place s h st fit = st.inline
     placed t (bool b) place s h st fit = st.inline
     placed t (number z) place s h st fit = st.inline
@@ -139,7 +139,7 @@ module _ (ds : Declarations) (laid : IsLaidOut ds) (m : Message) (l : Linked) wh
         let r = after_member ds (find rows ordinal) x (place + 8) s in
         let before = fit.before in
         let own = (stands_joined m (inline_only (to_le_bytes w64 ordinal)) (enveloped ds (find rows ordinal) x) place s st).1 in
-        let own' = subst (λ (q : At). StandsAt m (enveloped ds (find rows ordinal) x) (place + 8) q) (past_inline (to_le_bytes w64 ordinal) s) own in (
+        let own' = subst (λ (q : Position). StandsAt m (enveloped ds (find rows ordinal) x) (place + 8) q) (past_inline (to_le_bytes w64 ordinal) s) own in (
           st.inline,
           placed_member strict (find rows ordinal) x (place + 8) s h.2 own' (record {
             before = omega arith;
@@ -151,7 +151,7 @@ module _ (ds : Declarations) (laid : IsLaidOut ds) (m : Message) (l : Linked) wh
         )
     placed _ _ place s h st fit = absurd h
 
-    placed_elements : (u : Term) (size : ℕ) → size ≡ size_of ds u → (vs : Values) (place : ℕ) (s : At) → AllTyped ds u vs → StandsAt m (elements ds u vs) place s
+    placed_elements : (u : Term) (size : ℕ) → size ≡ size_of ds u → (vs : Values) (place : ℕ) (s : Position) → AllTyped ds u vs → StandsAt m (elements ds u vs) place s
         → Fits l place (place + size * count vs) s (after_elements ds u size vs place s) → ArePlaced ds m l u size place vs
     placed_elements u size same none place s h st fit = tt
     placed_elements u size same (value v vs) place s h st fit =
@@ -191,7 +191,7 @@ module _ (ds : Declarations) (laid : IsLaidOut ds) (m : Message) (l : Linked) wh
           }),
         )
 
-    placed_fields : (fs : Fields) (size from base : ℕ) (vs : Values) (s : At) → end_of ds.figures from fs ≤ size → EachTyped ds fs vs → StandsAt m (members ds size from fs vs) (base + from) s
+    placed_fields : (fs : Fields) (size from base : ℕ) (vs : Values) (s : Position) → end_of ds.figures from fs ≤ size → EachTyped ds fs vs → StandsAt m (members ds size from fs vs) (base + from) s
         → Fits l (base + from) (base + size) s (after_fields ds fs from vs base s) → AreFieldsPlaced ds m l fs from base vs
     placed_fields no_fields size from base none s le h st fit = tt
     placed_fields (field name t fs) size from base (value v vs) s le h st fit =
@@ -217,7 +217,7 @@ module _ (ds : Declarations) (laid : IsLaidOut ds) (m : Message) (l : Linked) wh
         let a = encoding_of ds u v in
         let b = members ds size (at + f.size) fs vs in
         let wide : length a.inline ≡ size_of ds u = length-inline ds laid u v h.0 in
-        let behind = subst (λ (q : At). StandsAt m (joined a b) (base + from + length g.inline) q) (past_inline (zeros (at - from)) s) (stands_joined m g (joined a b) (base + from) s st).1 in
+        let behind = subst (λ (q : Position). StandsAt m (joined a b) (base + from + length g.inline) q) (past_inline (zeros (at - from)) s) (stands_joined m g (joined a b) (base + from) s st).1 in
         let parts = stands_joined m a b (base + at) s (stands_at m (joined a b) (base + from + length g.inline) (base + at) s (omega arith) behind) in
         let led = after_past ds laid u v (base + at) s h.0 in
         let rest = stands_alike m b (base + (at + f.size)) (past a s) mid (sym led.0, sym led.1) (stands_at m b (base + at + length a.inline) (base + (at + f.size)) (past a s) (omega arith) parts.1) in (
@@ -240,7 +240,7 @@ module _ (ds : Declarations) (laid : IsLaidOut ds) (m : Message) (l : Linked) wh
         )
     placed_fields _ size from base _ s le h st fit = absurd h
 
-    placed_member : (strict : Bool) (o : Option Term) (x : Member) (place : ℕ) (s : At) → IsTypedMember ds strict o x → StandsAt m (enveloped ds o x) place s → Fits l place (place + 8) s (after_member ds o x place s) → IsMemberPlaced ds m l o place x
+    placed_member : (strict : Bool) (o : Option Term) (x : Member) (place : ℕ) (s : Position) → IsTypedMember ds strict o x → StandsAt m (enveloped ds o x) place s → Fits l place (place + 8) s (after_member ds o x place s) → IsMemberPlaced ds m l o place x
     placed_member strict (Some t) (known v) place s h st fit =
         let u = resolve ds.terms t in
         let size = size_of ds t in
@@ -268,7 +268,7 @@ module _ (ds : Declarations) (laid : IsLaidOut ds) (m : Message) (l : Linked) wh
         (subst (λ p. Stands m.bytes p bytes) (sym link) st.out, subst (λ k. Carries m.handles k handles) (sym first) st.carried)
     placed_member strict _ _ place s h st fit = absurd h
 
-    placed_envelopes : (rows : Rows) (last n base : ℕ) (ms : Members) (s : At) → RiseTyped ds rows last n ms → StandsAt m (envelopes ds rows (suc last) n ms) (base + 8 * last) s
+    placed_envelopes : (rows : Rows) (last n base : ℕ) (ms : Members) (s : Position) → RiseTyped ds rows last n ms → StandsAt m (envelopes ds rows (suc last) n ms) (base + 8 * last) s
         → Fits l (base + 8 * last) (base + 8 * n) s (after_envelopes ds rows ms base s) → AreMembersPlaced ds m l rows base ms
     placed_envelopes rows last n base empty s h st fit = tt
     placed_envelopes rows last n base (member ordinal x ms) s h st fit =
@@ -292,7 +292,7 @@ module _ (ds : Declarations) (laid : IsLaidOut ds) (m : Message) (l : Linked) wh
         let a = enveloped ds o x in
         let b = envelopes ds rows (suc ordinal) n ms in
         let wide : length a.inline ≡ 8 = length-enveloped ds laid false o x h.2 in
-        let behind = subst (λ (q : At). StandsAt m (joined a b) (base + 8 * last + length g.inline) q) (past_inline (zeros (8 * (ordinal - suc last))) s) (stands_joined m g (joined a b) (base + 8 * last) s st).1 in
+        let behind = subst (λ (q : Position). StandsAt m (joined a b) (base + 8 * last + length g.inline) q) (past_inline (zeros (8 * (ordinal - suc last))) s) (stands_joined m g (joined a b) (base + 8 * last) s st).1 in
         let parts = stands_joined m a b at s (stands_at m (joined a b) (base + 8 * last + length g.inline) at s (omega arith) behind) in
         let led = member_past ds laid false o x at s h.2 in
         let rest = stands_alike m b (base + 8 * ordinal) (past a s) mid (sym led.0, sym led.1) (stands_at m b (at + length a.inline) (base + 8 * ordinal) (past a s) (omega arith) parts.1) in (
@@ -323,16 +323,16 @@ module _ (t : List ℕ) (fine : IsFine t) (m : Message) (e : ℕ) (lt : e < (hea
 
   -- a message's value is found through the links that reading it leaves
   pub item_stands : length objects ≡ MAX_MESSAGE_BYTES / 8 → length records ≡ MAX_MESSAGE_BYTES / 4 → length m.bytes ≤ MAX_MESSAGE_BYTES → length m.handles ≤ MAX_MESSAGE_HANDLES
-      → Stands m.bytes (entry_at t e).size (zeros (next_multiple_of (entry_at t e).size 8 - (entry_at t e).size)) → (to : At) → IsWhole m to
-      → Item ds m 0 term 0 (begins objects records (entry_at t e).size) to → StandsIn ds (ty.named e) m.bytes m.handles (links_of to)
+      → Stands m.bytes (entry_at t e).size (zeros (next_multiple_of (entry_at t e).size 8 - (entry_at t e).size)) → (to : Position) → IsWhole m to
+      → ValueAt ds m 0 term 0 (begins objects records (entry_at t e).size) to → StandsIn ds (ty.named e) m.bytes m.handles (links_of to)
   item_stands cells cells_of_handles short few z to is x =
       let from = begins objects records (entry_at t e).size in
       let r = after ds term x.value 0 from in
       let size : size_of ds term ≡ (entry_at t e).size = size_of-resolve ds fine.laid_out (ty.named e) ∙ size_is t fine e lt in
       let up = le-next_multiple_of (entry_at t e).size 8 in
-      let ends : r.next ≡ to.next = ap (λ (s : At). s.next) (sym x.end) in
+      let ends : r.next ≡ to.next = ap (λ (s : Position). s.next) (sym x.end) in
       let whole = is.bytes in
-      let agree : (a b : ℕ) → Covers (links_of to) r a b = λ a b. record { objects = λ k p q. ap (λ (s : At). get_or s.objects (k / 8) 0) x.end; records = λ k p q. ap (λ (s : At). get_or s.records (k / 4) 0) x.end } in (
+      let agree : (a b : ℕ) → Covers (links_of to) r a b = λ a b. record { objects = λ k p q. ap (λ (s : Position). get_or s.objects (k / 8) 0) x.end; records = λ k p q. ap (λ (s : Position). get_or s.records (k / 4) 0) x.end } in (
         x.value,
         item_encodes t fine m e lt objects records short few z to is x,
         placed ds fine.laid_out m (links_of to) term x.value 0 from x.typed x.stands (record {

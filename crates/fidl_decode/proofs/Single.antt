@@ -10,7 +10,7 @@ use Rattle.fidl_wire.specs.Encoding.{encoding_of}
 use Rattle.fidl_wire.specs.Standing.{Stands, Carries}
 use Rattle.fidl_wire.proofs.Sizes.{length-inline}
 use Rattle.fidl_wire.proofs.Unique.{only, bounded-resolve}
-use Rattle.fidl_decode.specs.State.{Message, At, member_at, begun, after, Item}
+use Rattle.fidl_decode.specs.State.{Message, Position, member_at, begun, after, ValueAt}
 use Rattle.fidl_decode.specs.Envelopes.{Contained, Miscounts, depth_within}
 use Rattle.fidl_decode.specs.Faults.{IsWithin}
 use Rattle.fidl_decode.proofs.Enclosed.{known_content, unknown_led}
@@ -50,8 +50,8 @@ front_of_handles hs p (x ∷ a) h =
 
 -- ---- one value of a type stands at a place, and leads to one state
 
-pub item_unique : (ds : Declarations) → IsSound ds → (m : Message) → length m.bytes < 2 ^ 32 → length m.handles < 2 ^ 16 → (held held' : ℕ) (t : Term) → IsBounded t → (place : ℕ) (from to to' : At)
-    → Item ds m held t place from to → Item ds m held' t place from to' → to ≡ to'
+pub item_unique : (ds : Declarations) → IsSound ds → (m : Message) → length m.bytes < 2 ^ 32 → length m.handles < 2 ^ 16 → (held held' : ℕ) (t : Term) → IsBounded t → (place : ℕ) (from to to' : Position)
+    → ValueAt ds m held t place from to → ValueAt ds m held' t place from to' → to ≡ to'
 item_unique ds sound m short few held held' t g place from to to' x y =
     let a = encoding_of ds t x.value in
     let b = encoding_of ds t y.value in
@@ -80,7 +80,7 @@ IsBoundedIf None = Unit {0}
 IsBoundedIf (Some t) = IsBounded t
 
 module _ (ds : Declarations) (sound : IsSound ds) (m : Message) (within : IsWithin m.bytes m.handles) where
-  pub contained_unique : (held held' : ℕ) (t : Option Term) → IsBoundedIf t → (p : ℕ) (from to to' : At) → Contained ds m held t p from to → Contained ds m held' t p from to' → to ≡ to'
+  pub contained_unique : (held held' : ℕ) (t : Option Term) → IsBoundedIf t → (p : ℕ) (from to to' : Position) → Contained ds m held t p from to → Contained ds m held' t p from to' → to ≡ to'
   contained_unique held held' (Some t) g p from to to' x y =
       let inline = nat_le (size_of ds t) 4 in
       let a = known_content ds sound.laid_out m within held t p from inline refl to x in
@@ -100,13 +100,13 @@ module _ (ds : Declarations) (sound : IsSound ds) (m : Message) (within : IsWith
       ]
 
   -- a member whose envelope counts what it does not have is not in that
-  pub miscounts_excluded : (held : ℕ) (t : Term) → IsBounded t → (p : ℕ) (from to : At) → Miscounts ds m held t p from → Contained ds m held (Some t) p from to → ⊥
+  pub miscounts_excluded : (held : ℕ) (t : Term) → IsBounded t → (p : ℕ) (from to : Position) → Miscounts ds m held t p from → Contained ds m held (Some t) p from to → ⊥
   miscounts_excluded held t g p from to wrong x =
       let inline = nat_le (size_of ds t) 4 in
       let a = known_content ds sound.laid_out m within held t p from inline refl to x in
       let same = item_unique ds sound m (short_message m within) (few_handles m within) (depth_within inline held) (depth_within inline held) (resolve ds.terms t) (bounded-resolve ds.terms t sound.bounded g)
       (member_at inline p from) (begun inline p (size_of ds t) from) to wrong.0 a.item wrong.1 in
       elim wrong.2 [
-        | inl h ↦ h (a.handles ∙ ap (λ (s : At). s.handle - from.handle) same)
-        | inr b ↦ b.1 (a.bytes b.0 ∙ ap (λ (s : At). s.next - from.next) same)
+        | inl h ↦ h (a.handles ∙ ap (λ (s : Position). s.handle - from.handle) same)
+        | inr b ↦ b.1 (a.bytes b.0 ∙ ap (λ (s : Position). s.next - from.next) same)
       ]

@@ -14,7 +14,7 @@ use Rattle.fidl_wire.specs.Encoding.{out_envelope, inline_envelope, envelope_end
 use Rattle.fidl_wire.specs.Standing.{Carries}
 use Rattle.fidl_wire.proofs.Stand.{stands_to, stands_front, stands_back, stands_both}
 use Rattle.fidl_decode.specs.Faults.{IsWithin}
-use Rattle.fidl_decode.specs.State.{Message, At, opened, linked, passed, after_member, StandsAt}
+use Rattle.fidl_decode.specs.State.{Message, Position, opened, linked, passed, after_member, StandsAt}
 use Rattle.fidl_decode.specs.declared.fault.DecodeFault.{DecodeFault}
 use Rattle.fidl_decode.specs.Envelopes.{Contained, CanHold, BreaksEnvelope}
 use Rattle.fidl_wire.specs.Envelope.{bytes_below, handles_below, flags_at}
@@ -72,7 +72,7 @@ are_bytes m small p (suc n) = (small p, are_bytes m small (p + 1) n)
 two_flags : (n : ℕ) → n ≡ 0 → n ≡ 1 → ⊥
 two_flags n a b = omega (arith, a, b)
 
-module _ (ds : Declarations) (laid : IsLaidOut ds) (m : Message) (within : IsWithin m.bytes m.handles) (held p : ℕ) (from : At) where
+module _ (ds : Declarations) (laid : IsLaidOut ds) (m : Message) (within : IsWithin m.bytes m.handles) (held p : ℕ) (from : Position) where
   abbrev n : ℕ
   n = bytes_below m.bytes p
 
@@ -91,19 +91,19 @@ module _ (ds : Declarations) (laid : IsLaidOut ds) (m : Message) (within : IsWit
       let e = end_numbers m within p 0 from.handle handles (omega arith) s.carried (stands_back m.bytes p (to_le_bytes w32 (length bytes)) (envelope_end 0 handles) s.inline) in
       (e.0, e.1, first_number m within p from.next bytes s.out (stands_front m.bytes p (to_le_bytes w32 (length bytes)) (envelope_end 0 handles) s.inline))
 
-  inside_only : flags_at m.bytes p ≡ 1 → (to : At) (c : Member) → IsTypedMember ds false None c → StandsAt m (enveloped ds None c) p from → to ≡ after_member ds None c p from → passed k (opened p from) ≡ to
+  inside_only : flags_at m.bytes p ≡ 1 → (to : Position) (c : Member) → IsTypedMember ds false None c → StandsAt m (enveloped ds None c) p from → to ≡ after_member ds None c p from → passed k (opened p from) ≡ to
   inside_only flags to (unknown true bytes handles) h s e = ap (λ j. passed j (opened p from)) (inside_numbers bytes handles h.2 s).1 ∙ sym e
   inside_only flags to (unknown false bytes handles) h s e = absurd (two_flags (flags_at m.bytes p) (below_numbers bytes handles s).0 flags)
   inside_only flags to _ h s e = absurd h
 
-  below_only : flags_at m.bytes p ≡ 0 → (to : At) (c : Member) → IsTypedMember ds false None c → StandsAt m (enveloped ds None c) p from → to ≡ after_member ds None c p from → passed k (linked p n (opened p from)) ≡ to
+  below_only : flags_at m.bytes p ≡ 0 → (to : Position) (c : Member) → IsTypedMember ds false None c → StandsAt m (enveloped ds None c) p from → to ≡ after_member ds None c p from → passed k (linked p n (opened p from)) ≡ to
   below_only flags to (unknown false bytes handles) h s e = let both = below_numbers bytes handles s in let a = both.1 in let b = both.2 in (λ i. passed (a i) (linked p (b i) (opened p from))) ∙ sym e
   below_only flags to (unknown true bytes handles) h s e = absurd (two_flags (flags_at m.bytes p) flags (inside_numbers bytes handles h.2 s).0)
   below_only flags to _ h s e = absurd h
 
   -- the numbers are refused
   pub unknown_refuse : (fault : DecodeFault) → BreaksEnvelope ds m held None p from.next from.handle fault
-      → BreaksMember ds m held None p from fault × ((to : At) → Contained ds m held None p from to → ⊥)
+      → BreaksMember ds m held None p from fault × ((to : Position) → Contained ds m held None p from to → ⊥)
   unknown_refuse fault b = (broken.by_numbers None p from fault b, λ to. envelope_excluded ds laid m within held p from None to fault b)
 
   pub not_held : (flags_at m.bytes p ≡ 1 → ⊥) → (flags_at m.bytes p ≡ 0 → IsUnknownLength false (bytes_below m.bytes p) → ⊥) → CanHold ds m.bytes None p → ⊥
@@ -111,7 +111,7 @@ module _ (ds : Declarations) (laid : IsLaidOut ds) (m : Message) (within : IsWit
 
   module _ (room : p + 8 ≤ length m.bytes) (small : (i : ℕ) → get_or m.bytes i 0 < 256) (are : AreHandles m.handles from.handle k) (some : k ≤ length m.handles - from.handle) where
     -- one in its envelope leads past its handles
-    pub skips_inside : flags_at m.bytes p ≡ 1 → held ≤ MAX_DEPTH → (to : At) → Contained ds m held None p from to ↔ (passed k (opened p from) ≡ to)
+    pub skips_inside : flags_at m.bytes p ≡ 1 → held ≤ MAX_DEPTH → (to : Position) → Contained ds m held None p from to ↔ (passed k (opened p from) ≡ to)
     skips_inside flags deep to = (
       (λ x. inside_only flags to x.content x.typed x.stands x.end),
       (λ e. let r = records_at m.handles from.handle k some are in
@@ -133,7 +133,7 @@ module _ (ds : Declarations) (laid : IsLaidOut ds) (m : Message) (within : IsWit
     )
 
     -- one behind its envelope leads past its bytes and its handles
-    pub skips_below : flags_at m.bytes p ≡ 0 → IsUnknownLength false n → held < MAX_DEPTH → n ≤ length m.bytes - from.next → (to : At) → Contained ds m held None p from to ↔ (passed k (linked p n (opened p from)) ≡ to)
+    pub skips_below : flags_at m.bytes p ≡ 0 → IsUnknownLength false n → held < MAX_DEPTH → n ≤ length m.bytes - from.next → (to : Position) → Contained ds m held None p from to ↔ (passed k (linked p n (opened p from)) ≡ to)
     skips_below flags whole shallow fits to = (
       (λ x. below_only flags to x.content x.typed x.stands x.end),
       (λ e. let r = records_at m.handles from.handle k some are in

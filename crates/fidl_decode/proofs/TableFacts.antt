@@ -10,7 +10,7 @@ use Rattle.fidl_wire.specs.Encoding.{zeros, present}
 use Rattle.fidl_wire.specs.Standing.{Stands}
 use Rattle.fidl_decode.specs.declared.fault.DecodeFault.{DecodeFault}
 use Rattle.fidl_decode.specs.declared.fault.DecodeFault.TheVariants.{AbsentRequired, BadMarker, BadCount, BadEnvelope, WrongCounts, HandleMissing, BadBool}
-use Rattle.fidl_decode.specs.State.{At, opened, linked, Item}
+use Rattle.fidl_decode.specs.State.{Position, opened, linked, ValueAt}
 use Rattle.fidl_decode.specs.Envelopes.{CanHold, Contained}
 use Rattle.fidl_decode.specs.Breaks.{Part, element_parts, count_at, IsPadding, BreaksTable, IsRight, BreaksEnvelopes, in_field, in_parts, in_table, at_member, behind_none, behind_member, by_numbers, in_envelope, out_of_line, in_next, in_later}
 use Rattle.fidl_decode.specs.Faults.{IsWithin, IsTold, BreaksMessage, message_of, start_of}
@@ -30,7 +30,7 @@ no_zeros : (n : ℕ) (bytes : List ℕ) → Stands (with_envelopes n bytes) 8 (z
 no_zeros n bytes z = let e : 255 ≡ 0 = z.1 in omega (arith, e)
 
 -- the state at the envelopes of a table
-abbrev inside : (n : ℕ) → At
+abbrev inside : (n : ℕ) → Position
 inside n = linked 8 (8 * n) (start_of 16)
 
 module _ (rows : Rows) (bytes : List ℕ) (handles : List HandleInfo) (fault : DecodeFault) where
@@ -273,7 +273,7 @@ two_out_of_line =
     let right = table_right no_declarations refl m 0 bools_row 0 (start_of 16) (ones 1 eight) (omega arith) (omega arith) (omega arith) in
     let can : CanHold no_declarations m.bytes (Some bools) 16 = inr (refl, (omega arith, refl), omega arith) in
     let s = linked 16 8 (opened 16 (inside 1)) in
-    let there : Item no_declarations m 2 ty.bool 24 s s = record { value = bool true; typed = tt; shallow = omega arith; stands = record { inline = (omega arith, refl, tt); out = tt; carried = tt }; end = refl } in
+    let there : ValueAt no_declarations m 2 ty.bool 24 s s = record { value = bool true; typed = tt; shallow = omega arith; stands = record { inline = (omega arith, refl, tt); out = tt; carried = tt }; end = refl } in
     let fault = BadBool 25 in (
       (omega arith, omega arith),
       envelopes_broken bools_row m.bytes [] fault (ones 1 eight) right

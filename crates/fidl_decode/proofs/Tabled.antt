@@ -17,9 +17,9 @@ use Rattle.fidl_table_format.specs.Kind.{kind_of}
 use Rattle.fidl_table_format.specs.Section.{header_of, entry_at}
 use Rattle.fidl_table_format.specs.Terms.{declarations_of, members_of, term_as, rows_from}
 use Rattle.fidl_decode.specs.declared.frame.Frame.{Frame}
-use Rattle.fidl_decode.specs.declared.frame.Left.TheVariants.{Envelopes}
+use Rattle.fidl_decode.specs.declared.frame.Remaining.TheVariants.{Envelopes}
 use Rattle.fidl_decode.specs.Invariants.{IsFine}
-use Rattle.fidl_decode.specs.State.{Message, At, linked, Item, Slots}
+use Rattle.fidl_decode.specs.State.{Message, Position, linked, ValueAt, Slots}
 use Rattle.fidl_decode.specs.Breaks.{Breaks, BreaksEnvelopes, count_at}
 use Rattle.fidl_decode.specs.Breaks as broken
 use Rattle.fidl_decode.specs.Machine.{StateFine, Visits, most_nest, inline_work, byte_work}
@@ -33,11 +33,11 @@ pub whole_eights : (n : ℕ) → next_multiple_of (8 * n) 8 ≡ 8 * n
 whole_eights n = omega arith
 
 -- a table stands where its envelopes do, behind its count and its marker
-module _ (ds : Declarations) (laid : IsLaidOut ds) (m : Message) (held : ℕ) (rows : Rows) (place : ℕ) (from : At) where
+module _ (ds : Declarations) (laid : IsLaidOut ds) (m : Message) (held : ℕ) (rows : Rows) (place : ℕ) (from : Position) where
   abbrev n : ℕ
   n = count_at m.bytes place
 
-  pub item_table : (to : At) → place + 8 ≤ length m.bytes → ((i : ℕ) → get_or m.bytes i 0 < 256) → n < 2 ^ 64 → Stands m.bytes (place + 8) present → Slots ds m (held + 1) rows 0 n from.next (linked (place + 8) (8 * n) from) to → Item ds m held (ty.table rows) place from to
+  pub item_table : (to : Position) → place + 8 ≤ length m.bytes → ((i : ℕ) → get_or m.bytes i 0 < 256) → n < 2 ^ 64 → Stands m.bytes (place + 8) present → Slots ds m (held + 1) rows 0 n from.next (linked (place + 8) (8 * n) from) to → ValueAt ds m held (ty.table rows) place from to
   item_table to here small few ones y =
       let a = envelopes ds rows 1 n y.members in
       let own = linked (place + 8) (8 * n) from in
@@ -62,13 +62,13 @@ module _ (ds : Declarations) (laid : IsLaidOut ds) (m : Message) (held : ℕ) (r
       }
 
 -- the frame of a table's envelopes
-abbrev pub table_frame : (entry n held : ℕ) → At → Frame
-table_frame entry n held from = record { left = Envelopes entry 0 n; base = from.next; done = 0; size = 8 * n; nest = most_nest; depth = held + 1; inside = 0 }
+abbrev pub table_frame : (entry n held : ℕ) → Position → Frame
+table_frame entry n held from = record { left = Envelopes entry 0 n; base = from.next; done = 0; size = 8 * n; nest = most_nest; depth = held + 1; in_envelope = 0 }
 
 table_work : (w : ℕ) → inline_work most_nest * (w - 0) + 1 ≤ byte_work * w + 1
 table_work w = omega arith
 
-module _ (t : List ℕ) (fine : IsFine t) (m : Message) (held e place : ℕ) (from : At) (lt : e < (header_of t).entries) (is : kind_of (entry_at t e).kind ≡ Some Table) (state : StateFine m from) where
+module _ (t : List ℕ) (fine : IsFine t) (m : Message) (held e place : ℕ) (from : Position) (lt : e < (header_of t).entries) (is : kind_of (entry_at t e).kind ≡ Some Table) (state : StateFine m from) where
   abbrev ds : Declarations
   ds = declarations_of t
 
@@ -93,8 +93,8 @@ module _ (t : List ℕ) (fine : IsFine t) (m : Message) (held e place : ℕ) (fr
       let all : 0 + count ≡ count = omega arith in
       record {
         same = λ to. (
-          (λ x. subst (λ k. Slots ds m (held + 1) rows 0 k from.next own to) (sym all) (table_value ds fine.laid_out m held rows place from to (subst (λ (u : Term). Item ds m held u place from to) table_is x)).slots),
-          (λ y. subst (λ (u : Term). Item ds m held u place from to) (sym table_is) (item_table ds fine.laid_out m held rows place from to here small few ones (subst (λ k. Slots ds m (held + 1) rows 0 k from.next own to) all y))),
+          (λ x. subst (λ k. Slots ds m (held + 1) rows 0 k from.next own to) (sym all) (table_value ds fine.laid_out m held rows place from to (subst (λ (u : Term). ValueAt ds m held u place from to) table_is x)).slots),
+          (λ y. subst (λ (u : Term). ValueAt ds m held u place from to) (sym table_is) (item_table ds fine.laid_out m held rows place from to here small few ones (subst (λ k. Slots ds m (held + 1) rows 0 k from.next own to) all y))),
         );
         breaks = λ fault b. subst (λ (u : Term). Breaks ds m held u place from fault) (sym table_is)
             (broken.in_table rows place from fault ones (table_right ds fine.laid_out m held rows place from ones shallow few (omega (arith, room, whole))) (subst (λ k. BreaksEnvelopes ds m (held + 1) rows 1 k from.next own fault) all b));

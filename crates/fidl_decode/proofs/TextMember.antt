@@ -19,7 +19,7 @@ use Rattle.fidl_table_format.specs.Terms.{declarations_of, is_optional}
 use Rattle.fidl_decode.specs.Invariants.{IsFine}
 use Rattle.fidl_decode.specs.Faults.{IsWithin}
 use Rattle.fidl_decode.specs.Breaks.{count_at}
-use Rattle.fidl_decode.specs.State.{Message, At, opened, linked}
+use Rattle.fidl_decode.specs.State.{Message, Position, opened, linked}
 use Rattle.fidl_wire.specs.Envelope.{bytes_below, handles_below, flags_at}
 use Rattle.fidl_decode.specs.Machine.{StateFine, Opens, Visits, Leads}
 use Rattle.fidl_decode.proofs.Visiting.{size_as, visits_leaf}
@@ -40,12 +40,12 @@ ascii_text m from n room low =
     let read : (k : ℕ) → k < n → get_or text k 0 ≡ get_or m (from + k) 0 = λ k lt. get_or-take (from + n - from) (drop from m) k 0 (omega arith) ∙ get_or-drop from m k 0 in
     IsUtf8-from_ascii text (IsAscii-from_reads text n (omega (arith, long)) (λ k lt. omega (arith, read k lt, low k lt)))
 
-module _ (t : List ℕ) (fine : IsFine t) (m : Message) (within : IsWithin m.bytes m.handles) (held e p : ℕ) (old : At) (lt : e < (header_of t).entries) (room : p + 8 ≤ length m.bytes) (small : (i : ℕ) → get_or m.bytes i 0 < 256) (state : StateFine m old) (deep : held ≤ MAX_DEPTH)
+module _ (t : List ℕ) (fine : IsFine t) (m : Message) (within : IsWithin m.bytes m.handles) (held e p : ℕ) (old : Position) (lt : e < (header_of t).entries) (room : p + 8 ≤ length m.bytes) (small : (i : ℕ) → get_or m.bytes i 0 < 256) (state : StateFine m old) (deep : held ≤ MAX_DEPTH)
     (kind : kind_of (entry_at t e).kind ≡ Some String) where
   abbrev d : Entry
   d = entry_at t e
 
-  abbrev mid : At
+  abbrev mid : Position
   mid = linked p d.size (opened p old)
 
   sixteen : 16 ≡ d.size
@@ -57,7 +57,7 @@ module _ (t : List ℕ) (fine : IsFine t) (m : Message) (within : IsWithin m.byt
   -- the text is the object behind its count and marker
   module _ (shallow : suc (held + 1) ≤ MAX_DEPTH) (n : ℕ) (fits : old.next + 16 + next_multiple_of n 8 ≤ length m.bytes) (count : count_at m.bytes old.next ≡ n) (bound : n ≤ d.bound) (ones : Stands m.bytes (old.next + 8) present)
       (low : (k : ℕ) → k < n → get_or m.bytes (old.next + 16 + k) 0 < 128) (z : Stands m.bytes (old.next + 16 + n) (zeros (next_multiple_of n 8 - n))) where
-    abbrev new : At
+    abbrev new : Position
     new = linked (old.next + 8) n mid
 
     behind : old.next + 16 ≡ mid.next
@@ -79,13 +79,13 @@ module _ (t : List ℕ) (fine : IsFine t) (m : Message) (within : IsWithin m.byt
         subst (λ q. Visits t m (held + 1) e q mid new 0 None) here
         (visits_leaf t fine m (held + 1) e old.next mid lt entered (omega (arith, shallow)) String kind new 0 (omega arith) there leads)
 
-    pub text_passed : flags_at m.bytes p ≡ 0 → bytes_below m.bytes p ≡ 16 + next_multiple_of n 8 → handles_below m.bytes p ≡ 0 → (to : At) → new ≡ to → Opens t m held (Some (ty.named e)) p old to None
+    pub text_passed : flags_at m.bytes p ≡ 0 → bytes_below m.bytes p ≡ 16 + next_multiple_of n 8 → handles_below m.bytes p ≡ 0 → (to : Position) → new ≡ to → Opens t m held (Some (ty.named e)) p old to None
     text_passed flags counted none to led =
         let eights : next_multiple_of n 8 % 8 ≡ 0 = omega arith in
         let much : IsUnknownLength false (bytes_below m.bytes p) = subst (λ n. IsUnknownLength false n) (sym counted) (omega arith, omega (arith, eights)) in
         let x = enters_below t fine m within held e p old lt room small state deep (omega (arith, sixteen)) flags much (omega (arith, shallow)) (omega (arith, up, fits)) in
         let o = opens_known t m held p old mid x.state e (below_frame m e d.size d.nest held p old) (omega arith) x.same x.breaks x.fine x.deeper x.work in
         let none_behind = no_zeros m.bytes (old.next + (0 + d.size)) (old.next + next_multiple_of d.size 8 - (old.next + (0 + d.size))) (omega (arith, up, sixteen)) in
-        subst (λ (s : At). Opens t m held (Some (ty.named e)) p old s None) led
+        subst (λ (s : Position). Opens t m held (Some (ty.named e)) p old s None) led
         (opens_on t m held (Some (ty.named e)) p old mid (below_frame m e d.size d.nest held p old) o new _ None
         (leaf_over t fine m (below_frame m e d.size d.nest held p old) e d.size 1 (record { envelope = p; next = old.next + bytes_below m.bytes p; handle = old.handle + handles_below m.bytes p }) refl refl mid x.fine x.state new 0 (visited x.state) none_behind (omega (arith, up, counted), omega (arith, none)) _ refl))

@@ -12,10 +12,10 @@ use Rattle.fidl_table_format.specs.Section.{header_of}
 use Rattle.fidl_table_format.specs.Terms.{declarations_of}
 use Rattle.fidl_decode.specs.Invariants.{IsFine}
 use Rattle.fidl_decode.specs.declared.frame.Frame.{Frame}
-use Rattle.fidl_decode.specs.declared.frame.Left.{Left}
-use Rattle.fidl_decode.specs.declared.frame.Left.TheVariants.{Rows, Elements, Envelopes, Content}
+use Rattle.fidl_decode.specs.declared.frame.Remaining.{Remaining}
+use Rattle.fidl_decode.specs.declared.frame.Remaining.TheVariants.{Rows, Elements, Envelopes, Content}
 use Rattle.fidl_decode.specs.Rows.{Row, RowsRise}
-use Rattle.fidl_decode.specs.State.{Message, At, Item, Members}
+use Rattle.fidl_decode.specs.State.{Message, Position, ValueAt, Members}
 use Rattle.fidl_decode.specs.declared.fault.DecodeFault.{DecodeFault}
 use Rattle.fidl_decode.specs.Breaks.{IsPadding, Breaks, BreaksParts}
 use Rattle.fidl_decode.specs.Breaks as broken
@@ -73,25 +73,25 @@ fine_from t m h k (Some f) le x = (x.0, omega (arith, x.1))
 
 -- ---- what is left are rows alone
 
-pub plain_reads : (t : List ℕ) (m : Message) (f : Frame) (left : Left) → IsPlain left → (from to : At) → ReadsLeft t m f left from to ↔ ReadsRows t m f (rows_left t f.done left) from to
+pub plain_reads : (t : List ℕ) (m : Message) (f : Frame) (left : Remaining) → IsPlain left → (from to : Position) → ReadsLeft t m f left from to ↔ ReadsRows t m f (rows_left t f.done left) from to
 plain_reads t m f (Rows first count) plain from to = ((λ x. x), (λ x. x))
 plain_reads t m f (Elements entry size count) plain from to = ((λ x. x), (λ x. x))
 plain_reads t m f (Envelopes entry read count) plain from to = absurd plain
 plain_reads t m f (Content entry size count until) plain from to = absurd plain
 
-pub plain_breaks : (t : List ℕ) (m : Message) (f : Frame) (left : Left) → IsPlain left → (from : At) (fault : DecodeFault) → BreaksLeft t m f left from fault ↔ BreaksRows t m f (rows_left t f.done left) from fault
+pub plain_breaks : (t : List ℕ) (m : Message) (f : Frame) (left : Remaining) → IsPlain left → (from : Position) (fault : DecodeFault) → BreaksLeft t m f left from fault ↔ BreaksRows t m f (rows_left t f.done left) from fault
 plain_breaks t m f (Rows first count) plain from fault = ((λ x. x), (λ x. x))
 plain_breaks t m f (Elements entry size count) plain from fault = ((λ x. x), (λ x. x))
 plain_breaks t m f (Envelopes entry read count) plain from fault = absurd plain
 plain_breaks t m f (Content entry size count until) plain from fault = absurd plain
 
-pub plain_fits : (f : Frame) (left : Left) → IsPlain left → EnvelopesFit f left
+pub plain_fits : (f : Frame) (left : Remaining) → IsPlain left → EnvelopesFit f left
 plain_fits f (Rows first count) plain = tt
 plain_fits f (Elements entry size count) plain = tt
 plain_fits f (Envelopes entry read count) plain = absurd plain
 plain_fits f (Content entry size count until) plain = absurd plain
 
-module _ (t : List ℕ) (fine : IsFine t) (m : Message) (f : Frame) (old : At) (ff : FrameFine t m.bytes f) (state : StateFine m old) where
+module _ (t : List ℕ) (fine : IsFine t) (m : Message) (f : Frame) (old : Position) (ff : FrameFine t m.bytes f) (state : StateFine m old) where
   abbrev ds : Declarations
   ds = declarations_of t
 
@@ -102,7 +102,7 @@ module _ (t : List ℕ) (fine : IsFine t) (m : Message) (f : Frame) (old : At) (
   zeros_left = let h = done_fits in omega arith
 
   module _ (over : rows_left t f.done f.left ≡ []) (plain : IsPlain f.left) where
-    at_end : (to : At) → Reads t m f old to → (old ≡ to) × Stands m.bytes (f.base + f.done) (zeros (f.size - f.done))
+    at_end : (to : Position) → Reads t m f old to → (old ≡ to) × Stands m.bytes (f.base + f.done) (zeros (f.size - f.done))
     at_end to x = (members_end ds fine.laid_out m f.depth f.size f.base f.done old to ff.depth).0 (subst (λ (rs : List Row). Members ds m f.depth f.size f.base f.done rs old to) over ((plain_reads t m f f.left plain old to).0 x))
 
     pub end_breaks : (fault : DecodeFault) → IsPadding m.bytes (f.base + f.done) (f.base + f.size) fault → BreaksFrame t m f old fault
@@ -123,7 +123,7 @@ module _ (t : List ℕ) (fine : IsFine t) (m : Message) (f : Frame) (old : At) (
           less = omega (arith, zeros_left, spends f.nest (f.size - f.done) (f.size - f.done) (omega arith));
         }
 
-  module _ (r : Row) (left : Left) (one : rows_left t f.done f.left ≡ r ∷ rows_left t (r.offset + size_of ds (ty.named r.entry)) left) where
+  module _ (r : Row) (left : Remaining) (one : rows_left t f.done f.left ≡ r ∷ rows_left t (r.offset + size_of ds (ty.named r.entry)) left) where
     abbrev rest : List Row
     rest = rows_left t (r.offset + size_of ds (ty.named r.entry)) left
 
@@ -134,14 +134,14 @@ module _ (t : List ℕ) (fine : IsFine t) (m : Message) (f : Frame) (old : At) (
     row_room = rows_fit ds (header_of t).entries f.nest f.size (r.offset + size_of ds (ty.named r.entry)) rest row_fine.3
 
     -- it lies in the four bytes of an envelope where its frame does
-    pub row_inside : (size : ℕ) → size_of ds (ty.named r.entry) ≡ size → IsInside f.inside size
-    row_inside size is = elim ff.inside [ inl out ↦ inl out | inr own ↦ (let four = own.1 in inr (own.0, omega (arith, four, row_room, is))) ]
+    pub row_inside : (size : ℕ) → size_of ds (ty.named r.entry) ≡ size → IsInside f.in_envelope size
+    row_inside size is = elim ff.in_envelope [ inl out ↦ inl out | inr own ↦ (let four = own.1 in inr (own.0, omega (arith, four, row_room, is))) ]
 
     pub gap : f.base + r.offset - (f.base + f.done) ≡ r.offset - f.done
     gap = let h = row_fine.1 in omega arith
 
     module _ (plain : IsPlain f.left) where
-      apart : (to : At) → Reads t m f old to → Stands m.bytes (f.base + f.done) (zeros (r.offset - f.done)) × ((mid : At) × Item ds m f.depth (resolve ds.terms (ty.named r.entry)) (f.base + r.offset) old mid × Members ds m f.depth f.size f.base (r.offset + size_of ds (ty.named r.entry)) rest mid to)
+      apart : (to : Position) → Reads t m f old to → Stands m.bytes (f.base + f.done) (zeros (r.offset - f.done)) × ((mid : Position) × ValueAt ds m f.depth (resolve ds.terms (ty.named r.entry)) (f.base + r.offset) old mid × Members ds m f.depth f.size f.base (r.offset + size_of ds (ty.named r.entry)) rest mid to)
       apart to x = members_more ds fine.laid_out m f.depth (header_of t).entries f.nest f.size f.base f.done r rest old to row_fine (subst (λ (rs : List Row). Members ds m f.depth f.size f.base f.done rs old to) one ((plain_reads t m f f.left plain old to).0 x))
 
       -- the frame breaks a rule where the parts that are left do
@@ -154,20 +154,20 @@ module _ (t : List ℕ) (fine : IsFine t) (m : Message) (f : Frame) (old : At) (
       pub visit_breaks : (fault : DecodeFault) → Stands m.bytes (f.base + f.done) (zeros (f.base + r.offset - (f.base + f.done))) → Breaks ds m f.depth (resolve ds.terms (ty.named r.entry)) (f.base + r.offset) old fault → BreaksFrame t m f old fault
       visit_breaks fault z b = parts_break fault (broken.in_next f.size f.base f.done _ _ old fault (subst (λ n. Stands m.bytes (f.base + f.done) (zeros n)) gap z) b)
 
-      pub rest_breaks : (fault : DecodeFault) (mid : At) → Stands m.bytes (f.base + f.done) (zeros (f.base + r.offset - (f.base + f.done))) → Item ds m f.depth (resolve ds.terms (ty.named r.entry)) (f.base + r.offset) old mid
+      pub rest_breaks : (fault : DecodeFault) (mid : Position) → Stands m.bytes (f.base + f.done) (zeros (f.base + r.offset - (f.base + f.done))) → ValueAt ds m f.depth (resolve ds.terms (ty.named r.entry)) (f.base + r.offset) old mid
           → BreaksParts ds m f.depth f.size f.base (r.offset + size_of ds (ty.named r.entry)) (row_parts rest) mid fault → BreaksFrame t m f old fault
       rest_breaks fault mid z i b = parts_break fault (broken.in_later f.size f.base f.done _ _ old mid fault (subst (λ n. Stands m.bytes (f.base + f.done) (zeros n)) gap z) i b)
 
-      pub turns_more : 0 < size_of ds (ty.named r.entry) → LeftFine t left → IsPlain left → (below : Option Frame) (new : At) (done spent : ℕ) → done ≡ r.offset + size_of ds (ty.named r.entry) → Stands m.bytes (f.base + f.done) (zeros (f.base + r.offset - (f.base + f.done))) → Visits t m f.depth r.entry (f.base + r.offset) old new spent below → VisitFine t m f.depth f.inside r.entry below
-          → Turns t m f old new (f.base + r.offset - (f.base + f.done) + 1 + spent) (record { below = below; rest = Some (record { left = left; base = f.base; done = done; size = f.size; nest = f.nest; depth = f.depth; inside = f.inside }) })
+      pub turns_more : 0 < size_of ds (ty.named r.entry) → LeftFine t left → IsPlain left → (below : Option Frame) (new : Position) (done spent : ℕ) → done ≡ r.offset + size_of ds (ty.named r.entry) → Stands m.bytes (f.base + f.done) (zeros (f.base + r.offset - (f.base + f.done))) → Visits t m f.depth r.entry (f.base + r.offset) old new spent below → VisitFine t m f.depth f.in_envelope r.entry below
+          → Turns t m f old new (f.base + r.offset - (f.base + f.done) + 1 + spent) (record { below = below; rest = Some (record { left = left; base = f.base; done = done; size = f.size; nest = f.nest; depth = f.depth; in_envelope = f.in_envelope }) })
       turns_more pos left_fine left_plain below new done spent done-is z v vf =
           let s = size_of ds (ty.named r.entry) in
           let n = (figure_of ds.figures (ty.named r.entry)).nest in
           let d = r.offset + s in
-          let rest_frame : Frame = record { left = left; base = f.base; done = d; size = f.size; nest = f.nest; depth = f.depth; inside = f.inside } in
+          let rest_frame : Frame = record { left = left; base = f.base; done = d; size = f.size; nest = f.nest; depth = f.depth; in_envelope = f.in_envelope } in
           let z' = subst (λ k. Stands m.bytes (f.base + f.done) (zeros k)) gap z in
           let falls = work_falls f.nest n s (r.offset - f.done) (f.size - f.done) (f.size - d) row_fine.2 pos (omega (arith, row_room, row_fine.1)) in
-          let main : Turns t m f old new (f.base + r.offset - (f.base + f.done) + 1 + spent) (record { below = below; rest = Some (record { left = left; base = f.base; done = d; size = f.size; nest = f.nest; depth = f.depth; inside = f.inside }) }) = record {
+          let main : Turns t m f old new (f.base + r.offset - (f.base + f.done) + 1 + spent) (record { below = below; rest = Some (record { left = left; base = f.base; done = d; size = f.size; nest = f.nest; depth = f.depth; in_envelope = f.in_envelope }) }) = record {
             same = λ to. (
               (λ x. let a = (apart to x).1 in (a.0, (v.same a.0).0 a.1, (plain_reads t m rest_frame left left_plain a.0 to).1 a.2)),
               (λ y. (plain_reads t m f f.left plain old to).1 (subst (λ (rs : List Row). Members ds m f.depth f.size f.base f.done rs old to) (sym one) (more_members ds fine.laid_out m f.depth (header_of t).entries f.nest f.size f.base f.done r rest old y.0 to row_fine z' ((v.same y.0).1 y.1) ((plain_reads t m rest_frame left left_plain y.0 to).0 y.2)))),
@@ -177,8 +177,8 @@ module _ (t : List ℕ) (fine : IsFine t) (m : Message) (f : Frame) (old : At) (
               | inr y ↦ rest_breaks fault y.0 z ((v.same y.0).1 y.1) ((plain_breaks t m rest_frame left left_plain y.0 fault).0 y.2)
             ];
             state = v.state;
-            below_fine = fine_from t m.bytes (level f.depth f.inside n) (height f + 1) below (omega (arith, row_fine.2, ff.nest)) vf;
-            rest_fine = (record { left = left_fine; slots = plain_fits rest_frame left left_plain; room = ff.room; some = ff.some; nest = ff.nest; depth = ff.depth; inside = ff.inside; rise = row_fine.3 }, omega arith);
+            below_fine = fine_from t m.bytes (level f.depth f.in_envelope n) (height f + 1) below (omega (arith, row_fine.2, ff.nest)) vf;
+            rest_fine = (record { left = left_fine; slots = plain_fits rest_frame left left_plain; room = ff.room; some = ff.some; nest = ff.nest; depth = ff.depth; in_envelope = ff.in_envelope; rise = row_fine.3 }, omega arith);
             less = omega (arith, v.less, falls, gap);
           } in
-          subst (λ k. Turns t m f old new (f.base + r.offset - (f.base + f.done) + 1 + spent) (record { below = below; rest = Some (record { left = left; base = f.base; done = k; size = f.size; nest = f.nest; depth = f.depth; inside = f.inside }) })) (sym done-is) main
+          subst (λ k. Turns t m f old new (f.base + r.offset - (f.base + f.done) + 1 + spent) (record { below = below; rest = Some (record { left = left; base = f.base; done = k; size = f.size; nest = f.nest; depth = f.depth; in_envelope = f.in_envelope }) })) (sym done-is) main

@@ -11,7 +11,7 @@ use Rattle.fidl_wire.specs.Encoding.{zeros}
 use Rattle.fidl_wire.specs.Standing.{Stands}
 use Rattle.fidl_decode.specs.declared.fault.DecodeFault.{DecodeFault}
 use Rattle.fidl_decode.specs.declared.fault.DecodeFault.TheVariants.{Padding, AbsentRequired, BadEnvelope, WrongCounts, UnknownOrdinal, Truncated, HandleMissing}
-use Rattle.fidl_decode.specs.State.{Message, At, opened, linked, after, Item}
+use Rattle.fidl_decode.specs.State.{Message, Position, opened, linked, after, ValueAt}
 use Rattle.fidl_decode.specs.Envelopes.{CanHold, BreaksEnvelope, Miscounts}
 use Rattle.fidl_decode.specs.Breaks.{Part, ordinal_at, IsPadding, BreaksUnion, BreaksMember, BreaksParts, in_field, in_union, by_numbers, in_envelope, by_counts, in_later, in_end}
 use Rattle.fidl_decode.specs.Faults.{IsTold, BreaksMessage, message_of, start_of}
@@ -43,7 +43,7 @@ module _ (optional strict : Bool) (rows : Rows) (bytes : List ℕ) (handles : Li
   only_union none h = elim h [ inl p ↦ absurd (none p) | inr b ↦ of_union no_declarations (message_of bytes handles) 0 optional strict rows 0 (start_of 16) fault b ]
 
 -- a number breaks a rule only in the padding behind it
-number_holds : (m : Message) (kind : ty.Kind) (held size base : ℕ) (from : At) (fault : DecodeFault) → ((a b : ℕ) → IsPadding m.bytes a b fault → ⊥) → BreaksParts no_declarations m held size base 0 (part (ty.number kind) ∷ []) from fault → ⊥
+number_holds : (m : Message) (kind : ty.Kind) (held size base : ℕ) (from : Position) (fault : DecodeFault) → ((a b : ℕ) → IsPadding m.bytes a b fault → ⊥) → BreaksParts no_declarations m held size base 0 (part (ty.number kind) ∷ []) from fault → ⊥
 number_holds m kind held size base from fault no_gap b = elim (of_parts no_declarations m held size base 0 (part (ty.number kind)) [] from fault b) [
   | inl p ↦ no_gap _ _ p
   | inr d ↦ elim d [
@@ -53,7 +53,7 @@ number_holds m kind held size base from fault no_gap b = elim (of_parts no_decla
 ]
 
 -- a number in an envelope breaks one by its envelope's numbers, or by what that counts
-pub number_breaks : (m : Message) (kind : ty.Kind) (held envelope : ℕ) (from : At) (fault : DecodeFault) → ((a b : ℕ) → IsPadding m.bytes a b fault → ⊥) → BreaksMember no_declarations m held (Some (ty.number kind)) envelope from fault
+pub number_breaks : (m : Message) (kind : ty.Kind) (held envelope : ℕ) (from : Position) (fault : DecodeFault) → ((a b : ℕ) → IsPadding m.bytes a b fault → ⊥) → BreaksMember no_declarations m held (Some (ty.number kind)) envelope from fault
     → BreaksEnvelope no_declarations m held (Some (ty.number kind)) envelope from.next from.handle fault ⊎ ((fault ≡ WrongCounts envelope) × Miscounts no_declarations m held (ty.number kind) envelope from)
 number_breaks m kind held envelope from fault no_gap b = elim (of_known no_declarations m held (ty.number kind) envelope from fault b) [
   | inl x ↦ inl x
@@ -67,7 +67,7 @@ number_breaks m kind held envelope from fault no_gap b = elim (of_known no_decla
 ]
 
 -- a number leads nowhere
-number_end : (m : Message) (kind : ty.Kind) (held place : ℕ) (from to : At) → Item no_declarations m held (ty.number kind) place from to → to ≡ from
+number_end : (m : Message) (kind : ty.Kind) (held place : ℕ) (from to : Position) → ValueAt no_declarations m held (ty.number kind) place from to → to ≡ from
 number_end m kind held place from to x = only x.value x.typed x.end
   where
     only : (v : Value) → IsTyped no_declarations (ty.number kind) v → to ≡ after no_declarations (ty.number kind) v place from → to ≡ from
@@ -157,7 +157,7 @@ inline_right h = elim (only_union false false (only_row uint32) (with_seven 1 0)
 
 -- ---- counts
 
-number_there : (handles : ℕ) → Item no_declarations (message_of (with_seven 1 handles) []) 0 (ty.number uint32) 8 (opened 8 (start_of 16)) (opened 8 (start_of 16))
+number_there : (handles : ℕ) → ValueAt no_declarations (message_of (with_seven 1 handles) []) 0 (ty.number uint32) 8 (opened 8 (start_of 16)) (opened 8 (start_of 16))
 number_there handles =
     record { value = number (pos 7); typed = omega arith; shallow = omega arith; stands = record { inline = (omega arith, refl, (omega arith, refl, (omega arith, refl, (omega arith, refl, tt)))); out = tt; carried = tt }; end = refl }
 
@@ -175,7 +175,7 @@ no_handle_counted h =
       | inr c ↦ elim (number_breaks m uint32 0 8 (start_of 16) (WrongCounts 8) (λ a b x. x) c.1) [
         | inl e ↦ e
         | inr w ↦ elim w.1.2 [
-          | inl d ↦ d (ap (λ (s : At). s.handle - 0) (sym (number_end m uint32 0 8 (opened 8 (start_of 16)) w.1.0 w.1.1)))
+          | inl d ↦ d (ap (λ (s : Position). s.handle - 0) (sym (number_end m uint32 0 8 (opened 8 (start_of 16)) w.1.0 w.1.1)))
           | inr d ↦ clash d.0
         ]
       ]
@@ -184,10 +184,10 @@ no_handle_counted h =
 abbrev with_bytes : (count : ℕ) → List ℕ
 with_bytes n = 1 ∷ zeros 7 ++ n ∷ zeros 7 ++ 7 ∷ zeros 15
 
-abbrev behind : At
+abbrev behind : Position
 behind = linked 8 8 (opened 8 (start_of 16))
 
-seven_there : (n : ℕ) → Item no_declarations (message_of (with_bytes n) []) 1 (ty.number uint64) 16 behind behind
+seven_there : (n : ℕ) → ValueAt no_declarations (message_of (with_bytes n) []) 1 (ty.number uint64) 16 behind behind
 seven_there n = record {
   value = number (pos 7);
   typed = omega arith;
@@ -214,8 +214,8 @@ eight_counted h =
       | inr c ↦ elim (number_breaks m uint64 0 8 (start_of 16) (WrongCounts 8) (λ a b x. x) c.1) [
         | inl e ↦ e
         | inr w ↦ elim w.1.2 [
-          | inl d ↦ d (ap (λ (s : At). s.handle - 0) (sym (number_end m uint64 1 16 behind w.1.0 w.1.1)))
-          | inr d ↦ d.1 (ap (λ (s : At). s.next - 16) (sym (number_end m uint64 1 16 behind w.1.0 w.1.1)))
+          | inl d ↦ d (ap (λ (s : Position). s.handle - 0) (sym (number_end m uint64 1 16 behind w.1.0 w.1.1)))
+          | inr d ↦ d.1 (ap (λ (s : Position). s.next - 16) (sym (number_end m uint64 1 16 behind w.1.0 w.1.1)))
         ]
       ]
     ]
@@ -260,7 +260,7 @@ unknown_whole h = elim h.1 [
 abbrev five : List ℕ
 five = 1 ∷ zeros 7 ++ 5 ∷ 0 ∷ 3 ∷ 3 ∷ 0 ∷ 0 ∷ 1 ∷ 0 ∷ []
 
-five_there : Item no_declarations (message_of five []) 0 (ty.number uint8) 8 (opened 8 (start_of 16)) (opened 8 (start_of 16))
+five_there : ValueAt no_declarations (message_of five []) 0 (ty.number uint8) 8 (opened 8 (start_of 16)) (opened 8 (start_of 16))
 five_there = record { value = number (pos 5); typed = omega arith; shallow = omega arith; stands = record { inline = (omega arith, refl, tt); out = tt; carried = tt }; end = refl }
 
 pub first_padding : IsTold no_declarations (ty.union false false (only_row uint8)) five [] (Padding 10)

@@ -5,7 +5,7 @@ use Rattle.std.proofs.Math.Nat.{mul-le-mul_left}
 use Rattle.fidl_table_format.specs.Section.{header_of, entry_at}
 use Rattle.fidl_decode.specs.declared.frame.Frame.{Frame}
 use Rattle.fidl_decode.specs.Invariants.{IsFine}
-use Rattle.fidl_decode.specs.State.{Message, At}
+use Rattle.fidl_decode.specs.State.{Message, Position}
 use Rattle.fidl_decode.specs.Machine.{Visits, Turns, inline_work, value_work, probes}
 use Rattle.fidl_decode.proofs.Visiting.{size_is, positive}
 use Rattle.fidl_decode.proofs.Leaves.{left_over}
@@ -19,12 +19,12 @@ leaf_cost t fine m next e lt =
     let many : probes ≤ inline_work (entry_at t e).nest = omega arith in
     omega (arith, many, mul-le-mul_left (inline_work (entry_at t e).nest) some)
 
-module _ (t : List ℕ) (m : Message) (held e place : ℕ) (old mid : At) (a : ℕ) (g : Frame) (v : Visits t m held e place old mid a (Some g)) where
+module _ (t : List ℕ) (m : Message) (held e place : ℕ) (old mid : Position) (a : ℕ) (g : Frame) (v : Visits t m held e place old mid a (Some g)) where
   -- what a visit leaves is read to its end
-  pub visits_over : (new : At) (b n : ℕ) → n ≤ a + b → Turns t m g mid new b (left_over None) → Visits t m held e place old new n None
+  pub visits_over : (new : Position) (b n : ℕ) → n ≤ a + b → Turns t m g mid new b (left_over None) → Visits t m held e place old new n None
   visits_over new b n le turns = record {
     same = λ to. (
-      (λ x. let p = (turns.same to).0 ((v.same to).0 x) in subst (λ (s : At). s ≡ to) (sym p.1) p.2),
+      (λ x. let p = (turns.same to).0 ((v.same to).0 x) in subst (λ (s : Position). s ≡ to) (sym p.1) p.2),
       (λ y. (v.same to).1 ((turns.same to).1 (new, refl, y))),
     );
     breaks = λ fault b. absurd b;

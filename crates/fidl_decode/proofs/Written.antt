@@ -15,7 +15,7 @@ use Rattle.fidl_wire.proofs.Sizes.{le-next_multiple_of}
 use Rattle.fidl_wire.proofs.Stand.{stands_front, stands_back, stands_both, copies_are}
 use Rattle.fidl_decode.specs.declared.fault.DecodeFault.{DecodeFault}
 use Rattle.fidl_decode.specs.declared.fault.DecodeFault.TheVariants.{Padding, BadMarker, AbsentRequired, BadCount, OverBound, NotUtf8, TooDeep, Truncated}
-use Rattle.fidl_decode.specs.State.{Message, At, linked, after, StandsAt, Item}
+use Rattle.fidl_decode.specs.State.{Message, Position, linked, after, StandsAt, ValueAt}
 use Rattle.fidl_decode.specs.Breaks.{IsPadding, count_at, BreaksCounted, BreaksText}
 use Rattle.fidl_decode.specs.Machine.{Leads}
 use Rattle.fidl_decode.proofs.After.{length-pad8}
@@ -39,7 +39,7 @@ clash : true ≡ false → ⊥
 clash e = cc
 
 -- this text is the next object of a string at a place
-pub record TextAt (m : Message) (held bound place : ℕ) (from to : At) (bytes : List ℕ) : Type 0 where
+pub record TextAt (m : Message) (held bound place : ℕ) (from to : Position) (bytes : List ℕ) : Type 0 where
   pub utf8 : IsUtf8 bytes
   pub short : length bytes ≤ bound
   pub shallow : suc held ≤ MAX_DEPTH
@@ -48,8 +48,8 @@ pub record TextAt (m : Message) (held bound place : ℕ) (from to : At) (bytes :
   pub stands : Stands m.bytes from.next (pad8 bytes)
   pub end : linked (place + 8) (length bytes) from ≡ to
 
-module _ (ds : Declarations) (m : Message) (fits : length m.bytes < 2 ^ 32) (held : ℕ) (optional : Bool) (bound place : ℕ) (from : At) where
-  pub text_item : (to : At) → Item ds m held (ty.string optional bound) place from to → (Stands m.bytes place (zeros 16) × IsTrue optional × (from ≡ to)) ⊎ ((bytes : List ℕ) × TextAt m held bound place from to bytes)
+module _ (ds : Declarations) (m : Message) (fits : length m.bytes < 2 ^ 32) (held : ℕ) (optional : Bool) (bound place : ℕ) (from : Position) where
+  pub text_item : (to : Position) → ValueAt ds m held (ty.string optional bound) place from to → (Stands m.bytes place (zeros 16) × IsTrue optional × (from ≡ to)) ⊎ ((bytes : List ℕ) × TextAt m held bound place from to bytes)
   text_item to x = only x.value x.typed x.shallow x.stands x.end
     where
       only : (v : Value) → IsTyped ds (ty.string optional bound) v → depth_of ds (ty.string optional bound) v + held ≤ MAX_DEPTH → StandsAt m (encoding_of ds (ty.string optional bound) v) place from → to ≡ after ds (ty.string optional bound) v place from
@@ -78,7 +78,7 @@ module _ (ds : Declarations) (m : Message) (fits : length m.bytes < 2 ^ 32) (hel
   no_count : Stands m.bytes place (zeros 8) → count_at m.bytes place ≡ 0
   no_count z = number_64 m.bytes place 0 (omega arith) z
 
-  module _ (to : At) (bytes : List ℕ) (t : TextAt m held bound place from to bytes) where
+  module _ (to : Position) (bytes : List ℕ) (t : TextAt m held bound place from to bytes) where
     fitting : next_multiple_of (length bytes) 8 ≤ length m.bytes - from.next
     fitting = elim (within m.bytes from.next (pad8 bytes) t.stands) [
       | inl le ↦ omega (arith, le, length-pad8 bytes)
@@ -107,7 +107,7 @@ module _ (ds : Declarations) (m : Message) (fits : length m.bytes < 2 ^ 32) (hel
     pub absent_leads : IsTrue optional → Stands m.bytes (place + 8) (zeros 8) → place + 8 ≤ length m.bytes → ((i : ℕ) → get_or m.bytes i 0 < 256) → count_at m.bytes place ≡ 0 → Leads ds m held (ty.string optional bound) place from from
     absent_leads may z room small none to = (
       (λ x. elim (text_item to x) [ inl y ↦ y.2 | inr y ↦ absurd (no_both m.bytes (place + 8) z y.1.marker) ]),
-      (λ same. subst (λ (s : At). Item ds m held (ty.string optional bound) place from s) same (record {
+      (λ same. subst (λ (s : Position). ValueAt ds m held (ty.string optional bound) place from s) same (record {
         value = absent;
         typed = may;
         shallow = omega arith;
@@ -116,7 +116,7 @@ module _ (ds : Declarations) (m : Message) (fits : length m.bytes < 2 ^ 32) (hel
       })),
     )
 
-  item_text : (bytes : List ℕ) → TextAt m held bound place from (linked (place + 8) (length bytes) from) bytes → Item ds m held (ty.string optional bound) place from (linked (place + 8) (length bytes) from)
+  item_text : (bytes : List ℕ) → TextAt m held bound place from (linked (place + 8) (length bytes) from) bytes → ValueAt ds m held (ty.string optional bound) place from (linked (place + 8) (length bytes) from)
   item_text bytes t = record {
     value = text bytes;
     typed = (t.utf8, t.short);
@@ -136,7 +136,7 @@ module _ (ds : Declarations) (m : Message) (fits : length m.bytes < 2 ^ 32) (hel
       | inl y ↦ absurd (no_both m.bytes (place + 8) (absent_back y.0) ones)
       | inr y ↦ ap (λ k. linked (place + 8) k from) (sym is) ∙ end_is to y.0 y.1
     ]),
-    (λ same. subst (λ (s : At). Item ds m held (ty.string optional bound) place from s) (ap (λ k. linked (place + 8) k from) long ∙ same) (item_text bytes there)),
+    (λ same. subst (λ (s : Position). ValueAt ds m held (ty.string optional bound) place from s) (ap (λ k. linked (place + 8) k from) long ∙ same) (item_text bytes there)),
   )
     where
       bytes : List ℕ
@@ -165,7 +165,7 @@ module _ (ds : Declarations) (m : Message) (fits : length m.bytes < 2 ^ 32) (hel
 
   -- ---- refusals
 
-  module _ (to : At) (x : Item ds m held (ty.string optional bound) place from to) where
+  module _ (to : Position) (x : ValueAt ds m held (ty.string optional bound) place from to) where
     -- what is present is a text
     present_text : Stands m.bytes (place + 8) present → (bytes : List ℕ) × TextAt m held bound place from to bytes
     present_text ones = elim (text_item to x) [ inl y ↦ absurd (no_both m.bytes (place + 8) (absent_back y.0) ones) | inr y ↦ y ]
@@ -194,5 +194,5 @@ module _ (ds : Declarations) (m : Message) (fits : length m.bytes < 2 ^ 32) (hel
         padding_excluded m.bytes (from.next + n) (from.next + next_multiple_of n 8) (next_multiple_of n 8 - n) (Padding at) (omega arith) z b.1
     excluded fault b = counted_excluded fault b
 
-  pub text_excluded : (to : At) (fault : DecodeFault) → BreaksText m held optional bound place from.next fault → Item ds m held (ty.string optional bound) place from to → ⊥
+  pub text_excluded : (to : Position) (fault : DecodeFault) → BreaksText m held optional bound place from.next fault → ValueAt ds m held (ty.string optional bound) place from to → ⊥
   text_excluded to fault b x = excluded to x fault b

@@ -6,7 +6,7 @@ use Rattle.fidl_table_format.specs.Kind.{kind_of}
 use Rattle.fidl_table_format.specs.Section.{header_of, entry_at}
 use Rattle.fidl_table_format.specs.WellFormed.{WellFormed}
 use Rattle.fidl_decode.specs.declared.frame.Frame.{Frame}
-use Rattle.fidl_decode.specs.declared.frame.Left.TheVariants.{Envelopes}
+use Rattle.fidl_decode.specs.declared.frame.Remaining.TheVariants.{Envelopes}
 use Rattle.fidl_decode.specs.declared.body.TableBody.{TableBody}
 use Rattle.fidl_decode.specs.declared.body.Passing.{Passing}
 use Rattle.fidl_decode.specs.declared.body.Passing.TheVariants.{Inside, Below}
@@ -35,7 +35,7 @@ rest_of b read =
       size = 8 * b.count;
       nest = most_nest;
       depth = b.depth;
-      inside = 0;
+      in_envelope = 0;
     }
 
 -- the frame of so many envelopes of a value of an entry, of which none is read
@@ -48,7 +48,7 @@ envelopes_of entry base count depth =
       size = 8 * count;
       nest = most_nest;
       depth = depth;
-      inside = 0;
+      in_envelope = 0;
     }
 
 -- any bytes are a value of the entry, and are so many

@@ -23,7 +23,7 @@ use Rattle.fidl_decode.specs.declared.fault.DecodeFault.TheVariants.{OverBound, 
 use Rattle.fidl_decode.specs.declared.fault.DecodeFault.TheVariants.{Truncated, HandleMissing}
 use Rattle.fidl_decode.specs.declared.fault.DecodeFault.TheVariants.{BadEnvelope, WrongCounts}
 use Rattle.fidl_decode.specs.declared.fault.DecodeFault.TheVariants.{UnknownOrdinal, WrongHandle}
-use Rattle.fidl_decode.specs.State.{Message, At, opened, linked, envelope_place, Item}
+use Rattle.fidl_decode.specs.State.{Message, Position, opened, linked, envelope_place, ValueAt}
 use Rattle.fidl_decode.specs.Envelopes.{Contained, CanHold, BreaksEnvelope, IsRightEnvelope}
 use Rattle.fidl_decode.specs.Envelopes.{Miscounts}
 
@@ -187,36 +187,37 @@ BreaksRule ds m held (ty.union optional strict rows) place next k fault =
 BreaksRule ds m held t place next k fault = BreaksField m t place fault
 
 -- a value at a place breaks no rule by itself
-abbrev pub IsRight : Declarations → Message → (held : ℕ) → Term → (place : ℕ) → At → Type 0
+abbrev pub IsRight : Declarations → Message → (held : ℕ) → Term → (place : ℕ) → Position → Type 0
 IsRight ds m held t place from = (other : DecodeFault)
     → ¬ (BreaksRule ds m held t place from.next from.handle other)
 
 mutual
   -- an object of the type, which is no name, at a place, whose objects out of line begin at a
   -- state: a value of it breaks its own rule, or a gap has a byte that is not zero
-  pub data Breaks (ds : Declarations) (m : Message) : (held : ℕ) → Term → (place : ℕ) → At
+  pub data Breaks (ds : Declarations) (m : Message) : (held : ℕ) → Term → (place : ℕ) → Position
       → DecodeFault → Type 0 where
-    in_field : {held : ℕ} (t : Term) (place : ℕ) (from : At) (fault : DecodeFault)
+    in_field : {held : ℕ} (t : Term) (place : ℕ) (from : Position) (fault : DecodeFault)
         → BreaksRule ds m held t place from.next from.handle fault
         → Breaks ds m held t place from fault
-    in_parts : {held : ℕ} (t : Term) (place : ℕ) (from : At) (fault : DecodeFault) (ps : List Part)
-        → parts_of ds t ≡ Some ps → BreaksParts ds m held (size_of ds t) place 0 ps from fault
+    in_parts : {held : ℕ} (t : Term) (place : ℕ) (from : Position) (fault : DecodeFault)
+        (ps : List Part) → parts_of ds t ≡ Some ps
+        → BreaksParts ds m held (size_of ds t) place 0 ps from fault
         → Breaks ds m held t place from fault
     -- what a box or vector that is right by itself holds: the parts of its object, padded to a
     -- multiple of 8, which is the next one
-    in_object : {held : ℕ} (t : Term) (place : ℕ) (from : At) (fault : DecodeFault) (o : Object)
-        → object_of ds m.bytes t place ≡ Some o → Stands m.bytes o.marker present
+    in_object : {held : ℕ} (t : Term) (place : ℕ) (from : Position) (fault : DecodeFault)
+        (o : Object) → object_of ds m.bytes t place ≡ Some o → Stands m.bytes o.marker present
         → IsRight ds m held t place from
         → BreaksParts ds m (held + 1) (next_multiple_of o.size 8) from.next 0 o.parts
         (linked o.marker o.size from) fault → Breaks ds m held t place from fault
     -- the envelopes of a table that is right by itself, which are the next object
-    in_table : {held : ℕ} (rows : Rows) (place : ℕ) (from : At) (fault : DecodeFault)
+    in_table : {held : ℕ} (rows : Rows) (place : ℕ) (from : Position) (fault : DecodeFault)
         → Stands m.bytes (place + 8) present → IsRight ds m held (ty.table rows) place from
         → BreaksEnvelopes ds m (held + 1) rows 1 (count_at m.bytes place) from.next
         (linked (place + 8) (8 * count_at m.bytes place) from) fault
         → Breaks ds m held (ty.table rows) place from fault
     -- the member of a union that is right by itself
-    in_union : {held : ℕ} (optional strict : Bool) (rows : Rows) (place : ℕ) (from : At)
+    in_union : {held : ℕ} (optional strict : Bool) (rows : Rows) (place : ℕ) (from : Position)
         (fault : DecodeFault) → ordinal_at m.bytes place ≢ 0
         → IsRight ds m held (ty.union optional strict rows) place from
         → BreaksMember ds m held (find rows (ordinal_at m.bytes place)) (place + 8) from fault
@@ -225,18 +226,19 @@ mutual
   -- the same of the envelopes of a table, from an ordinal up to the count, which stand from a base
   -- on
   pub data BreaksEnvelopes (ds : Declarations) (m : Message) : (held : ℕ) → Rows
-      → (ordinal n base : ℕ) → At → DecodeFault → Type 0 where
+      → (ordinal n base : ℕ) → Position → DecodeFault → Type 0 where
     -- the next one has a member that is not right
-    at_member : {held : ℕ} (rows : Rows) (ordinal n base : ℕ) (from : At) (fault : DecodeFault)
-        → ordinal ≤ n → ¬ (Stands m.bytes (envelope_place base ordinal) (zeros 8))
+    at_member : {held : ℕ} (rows : Rows) (ordinal n base : ℕ) (from : Position)
+        (fault : DecodeFault) → ordinal ≤ n
+        → ¬ (Stands m.bytes (envelope_place base ordinal) (zeros 8))
         → BreaksMember ds m held (find rows ordinal) (envelope_place base ordinal) from fault
         → BreaksEnvelopes ds m held rows ordinal n base from fault
     -- a later one, where the next is zeros, or a member stands in it
-    behind_none : {held : ℕ} (rows : Rows) (ordinal n base : ℕ) (from : At) (fault : DecodeFault)
-        → ordinal ≤ n → Stands m.bytes (envelope_place base ordinal) (zeros 8)
+    behind_none : {held : ℕ} (rows : Rows) (ordinal n base : ℕ) (from : Position)
+        (fault : DecodeFault) → ordinal ≤ n → Stands m.bytes (envelope_place base ordinal) (zeros 8)
         → BreaksEnvelopes ds m held rows (suc ordinal) n base from fault
         → BreaksEnvelopes ds m held rows ordinal n base from fault
-    behind_member : {held : ℕ} (rows : Rows) (ordinal n base : ℕ) (from mid : At)
+    behind_member : {held : ℕ} (rows : Rows) (ordinal n base : ℕ) (from mid : Position)
         (fault : DecodeFault) → ordinal ≤ n
         → Contained ds m held (find rows ordinal) (envelope_place base ordinal) from mid
         → BreaksEnvelopes ds m held rows (suc ordinal) n base mid fault
@@ -244,17 +246,17 @@ mutual
 
   -- the same of the member of an envelope at a place
   pub data BreaksMember (ds : Declarations) (m : Message) : (held : ℕ) → Option Term
-      → (envelope : ℕ) → At → DecodeFault → Type 0 where
-    by_numbers : {held : ℕ} (t : Option Term) (envelope : ℕ) (from : At) (fault : DecodeFault)
+      → (envelope : ℕ) → Position → DecodeFault → Type 0 where
+    by_numbers : {held : ℕ} (t : Option Term) (envelope : ℕ) (from : Position) (fault : DecodeFault)
         → BreaksEnvelope ds m held t envelope from.next from.handle fault
         → BreaksMember ds m held t envelope from fault
     -- in a known one, which stands in the four bytes of its envelope, padded with zeros
-    in_envelope : {held : ℕ} (t : Term) (envelope : ℕ) (from : At) (fault : DecodeFault)
+    in_envelope : {held : ℕ} (t : Term) (envelope : ℕ) (from : Position) (fault : DecodeFault)
         → CanHold ds m.bytes (Some t) envelope → size_of ds t ≤ 4
         → BreaksParts ds m held 4 envelope 0 (record { offset = 0; term = t } ∷ [])
         (opened envelope from) fault → BreaksMember ds m held (Some t) envelope from fault
     -- in a known one out of line, which is the next object, padded to a multiple of 8
-    out_of_line : {held : ℕ} (t : Term) (envelope : ℕ) (from : At) (fault : DecodeFault)
+    out_of_line : {held : ℕ} (t : Term) (envelope : ℕ) (from : Position) (fault : DecodeFault)
         → CanHold ds m.bytes (Some t) envelope → 4 < size_of ds t
         → IsRightEnvelope ds m held (Some t) envelope from
         → BreaksParts ds m (held + 1) (next_multiple_of (size_of ds t) 8) from.next 0
@@ -262,29 +264,29 @@ mutual
         (linked envelope (size_of ds t) (opened envelope from)) fault
         → BreaksMember ds m held (Some t) envelope from fault
     -- a known one stands, and its envelope counts other bytes or handles
-    by_counts : {held : ℕ} (t : Term) (envelope : ℕ) (from : At)
+    by_counts : {held : ℕ} (t : Term) (envelope : ℕ) (from : Position)
         → Miscounts ds m held t envelope from
         → BreaksMember ds m held (Some t) envelope from (WrongCounts envelope)
 
   -- the same of the parts of an object of this size at a base, where `done` bytes of it are right
   pub data BreaksParts (ds : Declarations) (m : Message) : (held size base done : ℕ) → List Part
-      → At → DecodeFault → Type 0 where
+      → Position → DecodeFault → Type 0 where
     -- the gap before the next part
-    in_gap : {held : ℕ} (size base done : ℕ) (p : Part) (ps : List Part) (from : At)
+    in_gap : {held : ℕ} (size base done : ℕ) (p : Part) (ps : List Part) (from : Position)
         (fault : DecodeFault) → IsPadding m.bytes (base + done) (base + p.offset) fault
         → BreaksParts ds m held size base done (p ∷ ps) from fault
     -- the next part, behind zeros
-    in_next : {held : ℕ} (size base done : ℕ) (p : Part) (ps : List Part) (from : At)
+    in_next : {held : ℕ} (size base done : ℕ) (p : Part) (ps : List Part) (from : Position)
         (fault : DecodeFault) → Stands m.bytes (base + done) (zeros (p.offset - done))
         → Breaks ds m held (resolve ds.terms p.term) (base + p.offset) from fault
         → BreaksParts ds m held size base done (p ∷ ps) from fault
     -- a later one, where a value stands as the next part
-    in_later : {held : ℕ} (size base done : ℕ) (p : Part) (ps : List Part) (from mid : At)
+    in_later : {held : ℕ} (size base done : ℕ) (p : Part) (ps : List Part) (from mid : Position)
         (fault : DecodeFault) → Stands m.bytes (base + done) (zeros (p.offset - done))
-        → Item ds m held (resolve ds.terms p.term) (base + p.offset) from mid
+        → ValueAt ds m held (resolve ds.terms p.term) (base + p.offset) from mid
         → BreaksParts ds m held size base (p.offset + size_of ds p.term) ps mid fault
         → BreaksParts ds m held size base done (p ∷ ps) from fault
     -- the gap at the object's end
-    in_end : {held : ℕ} (size base done : ℕ) (from : At) (fault : DecodeFault)
+    in_end : {held : ℕ} (size base done : ℕ) (from : Position) (fault : DecodeFault)
         → IsPadding m.bytes (base + done) (base + size) fault
         → BreaksParts ds m held size base done [] from fault

@@ -15,12 +15,13 @@ use Rattle.fidl_decode.specs.declared.fault.DecodeFault.{DecodeFault}
 use Rattle.fidl_decode.specs.declared.fault.DecodeFault.TheVariants.{BadEnvelope}
 use Rattle.fidl_decode.specs.declared.fault.DecodeFault.TheVariants.{TooDeep, Truncated}
 use Rattle.fidl_decode.specs.declared.fault.DecodeFault.TheVariants.{HandleMissing}
-use Rattle.fidl_decode.specs.State.{Message, At, StandsAt, Item, member_at, begun, after_member}
+use Rattle.fidl_decode.specs.State.{Message, Position, StandsAt, ValueAt, member_at, begun}
+use Rattle.fidl_decode.specs.State.{after_member}
 
 -- a member stands in or behind the envelope at a place, below this depth, and leads from one state
 -- to another; known where there is a type
 pub record Contained (ds : Declarations) (m : Message) (held : ℕ) (t : Option Term) (envelope : ℕ)
-    (from to : At) : Type 0 where
+    (from to : Position) : Type 0 where
   pub content : Member
   pub typed : IsTypedMember ds false t content
   pub shallow : member_depth ds t content + held ≤ MAX_DEPTH
@@ -66,7 +67,7 @@ BreaksEnvelope ds m held t envelope next k fault = ⊥
 
 -- the envelope breaks no rule by its numbers
 abbrev pub IsRightEnvelope : Declarations → Message → (held : ℕ) → Option Term → (envelope : ℕ)
-    → At → Type 0
+    → Position → Type 0
 IsRightEnvelope ds m held t envelope from = (other : DecodeFault)
     → ¬ (BreaksEnvelope ds m held t envelope from.next from.handle other)
 
@@ -76,9 +77,10 @@ depth_within true held = held
 depth_within false held = held + 1
 
 -- a known member leads to a state, and its envelope counts other bytes or handles than lie between
-abbrev pub Miscounts : Declarations → Message → (held : ℕ) → Term → (envelope : ℕ) → At → Type 0
+abbrev pub Miscounts : Declarations → Message → (held : ℕ) → Term → (envelope : ℕ) → Position
+    → Type 0
 Miscounts ds m held t envelope from = let inline = nat_le (size_of ds t) 4 in
-    (to : At) × Item ds m (depth_within inline held) (resolve ds.terms t)
+    (to : Position) × ValueAt ds m (depth_within inline held) (resolve ds.terms t)
     (member_at inline envelope from) (begun inline envelope (size_of ds t) from) to
     × ((handles_below m.bytes envelope ≢ to.handle - from.handle)
     ⊎ ((inline ≡ false) × (bytes_below m.bytes envelope ≢ to.next - from.next)))

@@ -15,8 +15,9 @@ use Rattle.fidl_decode.specs.declared.fault.DecodeFault.{DecodeFault}
 use Rattle.fidl_decode.specs.declared.fault.DecodeFault.TheVariants.{BytesLeft, HandlesLeft}
 use Rattle.fidl_decode.specs.declared.fault.DecodeFault.TheVariants.{WrongCounts}
 use Rattle.fidl_decode.specs.declared.frame.Frame.{Frame}
-use Rattle.fidl_decode.specs.declared.frame.Left.{Left}
-use Rattle.fidl_decode.specs.declared.frame.Left.TheVariants.{Rows, Elements, Envelopes, Content}
+use Rattle.fidl_decode.specs.declared.frame.Remaining.{Remaining}
+use Rattle.fidl_decode.specs.declared.frame.Remaining.TheVariants.{Rows, Elements, Envelopes}
+use Rattle.fidl_decode.specs.declared.frame.Remaining.TheVariants.{Content}
 use Rattle.fidl_decode.specs.declared.frame.Until.{Until}
 use Rattle.fidl_decode.specs.declared.frame.Turn.{Turn}
 use Rattle.fidl_decode.specs.declared.frame.State.{State}
@@ -24,25 +25,25 @@ use Rattle.fidl_decode.specs.Rows.{Row, table_rows, element_rows, RowsRise}
 use Rattle.fidl_decode.specs.Breaks.{Part, Breaks, BreaksParts, BreaksEnvelopes}
 use Rattle.fidl_decode.specs.Breaks.{BreaksMember}
 use Rattle.fidl_decode.specs.Envelopes.{Contained}
-use Rattle.fidl_decode.specs.State.{Message, At, Item, Members, Slots}
+use Rattle.fidl_decode.specs.State.{Message, Position, ValueAt, Members, Slots}
 
 -- the rows that a frame has left; envelopes are no rows
-abbrev pub rows_left : List ℕ → (done : ℕ) → Left → List Row
+abbrev pub rows_left : List ℕ → (done : ℕ) → Remaining → List Row
 rows_left t done (Rows first count) = table_rows t (header_of t) first count
 rows_left t done (Elements entry size count) = element_rows entry size count done
 rows_left t done (Content entry size count until) = element_rows entry size count done
 rows_left t done (Envelopes entry read count) = []
 
 -- the rows of a frame, behind what is read of it
-abbrev pub ReadsRows : List ℕ → Message → Frame → List Row → At → At → Type 0
+abbrev pub ReadsRows : List ℕ → Message → Frame → List Row → Position → Position → Type 0
 ReadsRows t m f rs from to = Members (declarations_of t) m f.depth f.size f.base f.done rs from to
 
 -- a state at the end of an envelope's content is the one that the envelope counts up to
-abbrev pub IsUntil : Until → At → Type 0
+abbrev pub IsUntil : Until → Position → Type 0
 IsUntil until to = (to.next ≡ until.next) × (to.handle ≡ until.handle)
 
 -- what a frame still has to read, where this is left of it
-abbrev pub ReadsLeft : List ℕ → Message → Frame → Left → At → At → Type 0
+abbrev pub ReadsLeft : List ℕ → Message → Frame → Remaining → Position → Position → Type 0
 ReadsLeft t m f (Rows first count) from to =
     ReadsRows t m f (rows_left t f.done (Rows first count)) from to
 ReadsLeft t m f (Elements entry size count) from to =
@@ -53,25 +54,25 @@ ReadsLeft t m f (Content entry size count until) from to =
     ReadsRows t m f (element_rows entry size count f.done) from to × IsUntil until to
 
 -- what is left are rows alone
-abbrev pub IsPlain : Left → Type 0
+abbrev pub IsPlain : Remaining → Type 0
 IsPlain (Rows first count) = Unit {0}
 IsPlain (Elements entry size count) = Unit {0}
 IsPlain (Envelopes entry read count) = ⊥
 IsPlain (Content entry size count until) = ⊥
 
 -- what a frame still has to read
-abbrev pub Reads : List ℕ → Message → Frame → At → At → Type 0
+abbrev pub Reads : List ℕ → Message → Frame → Position → Position → Type 0
 Reads t m f from to = ReadsLeft t m f f.left from to
 
 -- the same where there may be none
-abbrev pub ReadsIf : List ℕ → Message → Option Frame → At → At → Type 0
+abbrev pub ReadsIf : List ℕ → Message → Option Frame → Position → Position → Type 0
 ReadsIf t m None from to = from ≡ to
 ReadsIf t m (Some f) from to = Reads t m f from to
 
 -- what a stack of frames still has to read, the last frame first
-abbrev pub Finishes : List ℕ → Message → List Frame → At → At → Type 0
+abbrev pub Finishes : List ℕ → Message → List Frame → Position → Position → Type 0
 Finishes t m [] from to = from ≡ to
-Finishes t m (f ∷ fs) from to = (mid : At) × Finishes t m fs from mid × Reads t m f mid to
+Finishes t m (f ∷ fs) from to = (mid : Position) × Finishes t m fs from mid × Reads t m f mid to
 
 -- rows as parts of an object
 abbrev pub row_parts : List Row → List Part
@@ -79,13 +80,13 @@ row_parts [] = []
 row_parts (r ∷ rs) = record { offset = r.offset; term = ty.named r.entry } ∷ row_parts rs
 
 -- rows of a frame break a rule
-abbrev pub BreaksRows : List ℕ → Message → Frame → List Row → At → DecodeFault → Type 0
+abbrev pub BreaksRows : List ℕ → Message → Frame → List Row → Position → DecodeFault → Type 0
 BreaksRows t m f rs from fault =
     BreaksParts (declarations_of t) m f.depth f.size f.base f.done (row_parts rs) from fault
 
 -- what a frame still has to read breaks a rule, where this is left of it: content also by an end
 -- that its envelope does not count up to
-abbrev pub BreaksLeft : List ℕ → Message → Frame → Left → At → DecodeFault → Type 0
+abbrev pub BreaksLeft : List ℕ → Message → Frame → Remaining → Position → DecodeFault → Type 0
 BreaksLeft t m f (Rows first count) from fault =
     BreaksRows t m f (rows_left t f.done (Rows first count)) from fault
 BreaksLeft t m f (Elements entry size count) from fault =
@@ -95,28 +96,28 @@ BreaksLeft t m f (Envelopes entry read count) from fault =
     f.base from fault
 BreaksLeft t m f (Content entry size count until) from fault =
     BreaksRows t m f (element_rows entry size count f.done) from fault
-    ⊎ ((to : At) × ReadsRows t m f (element_rows entry size count f.done) from to
+    ⊎ ((to : Position) × ReadsRows t m f (element_rows entry size count f.done) from to
     × (¬ IsUntil until to) × (fault ≡ WrongCounts until.envelope))
 
 -- what a frame still has to read breaks a rule
-abbrev pub BreaksFrame : List ℕ → Message → Frame → At → DecodeFault → Type 0
+abbrev pub BreaksFrame : List ℕ → Message → Frame → Position → DecodeFault → Type 0
 BreaksFrame t m f from fault = BreaksLeft t m f f.left from fault
 
 -- the same where there may be none
-abbrev pub BreaksIf : List ℕ → Message → Option Frame → At → DecodeFault → Type 0
+abbrev pub BreaksIf : List ℕ → Message → Option Frame → Position → DecodeFault → Type 0
 BreaksIf t m None from fault = ⊥
 BreaksIf t m (Some f) from fault = BreaksFrame t m f from fault
 
 -- what is left after a turn breaks a rule: what is below, or, behind that, the rest
-abbrev pub BreaksAfter : List ℕ → Message → Turn → At → DecodeFault → Type 0
+abbrev pub BreaksAfter : List ℕ → Message → Turn → Position → DecodeFault → Type 0
 BreaksAfter t m x from fault = BreaksIf t m x.below from fault
-    ⊎ ((mid : At) × ReadsIf t m x.below from mid × BreaksIf t m x.rest mid fault)
+    ⊎ ((mid : Position) × ReadsIf t m x.below from mid × BreaksIf t m x.rest mid fault)
 
 -- what a stack of frames still has to read breaks a rule
-abbrev pub BreaksStack : List ℕ → Message → List Frame → At → DecodeFault → Type 0
+abbrev pub BreaksStack : List ℕ → Message → List Frame → Position → DecodeFault → Type 0
 BreaksStack t m [] from fault = ⊥
 BreaksStack t m (f ∷ fs) from fault = BreaksStack t m fs from fault
-    ⊎ ((mid : At) × Finishes t m fs from mid × BreaksFrame t m f mid fault)
+    ⊎ ((mid : Position) × Finishes t m fs from mid × BreaksFrame t m f mid fault)
 
 -- the greatest nest of a frame: that of a vector, and of an envelope's content, is one more than
 -- what it holds has
@@ -124,16 +125,16 @@ abbrev pub most_nest : ℕ
 most_nest = MAX_NEST + 1
 
 -- how deep something lies, by depth, by whether it is in the four bytes of an envelope, and by nest
-abbrev pub level : (depth inside nest : ℕ) → ℕ
-level depth inside nest = (2 * depth + inside) * most_nest + (most_nest - nest)
+abbrev pub level : (depth in_envelope nest : ℕ) → ℕ
+level depth in_envelope nest = (2 * depth + in_envelope) * most_nest + (most_nest - nest)
 
 -- how deep a frame lies
 abbrev pub height : Frame → ℕ
-height f = level f.depth f.inside f.nest
+height f = level f.depth f.in_envelope f.nest
 
 -- a struct's rows that are left lie in the table; elements have their size; envelopes are those of a
 -- table
-abbrev pub LeftFine : List ℕ → Left → Type 0
+abbrev pub LeftFine : List ℕ → Remaining → Type 0
 LeftFine t (Rows first count) = first + count ≤ (header_of t).rows
 LeftFine t (Elements entry size count) =
     (figure_of (declarations_of t).figures (ty.named entry)).size ≡ size
@@ -143,14 +144,14 @@ LeftFine t (Envelopes entry read count) = (entry < (header_of t).entries)
     × (kind_of (entry_at t entry).kind ≡ Some Table)
 
 -- envelopes have eight bytes each
-abbrev pub EnvelopesFit : Frame → Left → Type 0
+abbrev pub EnvelopesFit : Frame → Remaining → Type 0
 EnvelopesFit f (Envelopes entry read count) = (f.done ≡ 8 * read) × (f.size ≡ 8 * (read + count))
-    × (f.nest ≡ most_nest) × (f.inside ≡ 0)
+    × (f.nest ≡ most_nest) × (f.in_envelope ≡ 0)
 EnvelopesFit f left = Unit {0}
 
 -- a frame lies in the four bytes of an envelope, or outside of such
-abbrev pub IsInside : (inside size : ℕ) → Type 0
-IsInside inside size = (inside ≡ 0) ⊎ ((inside ≡ 1) × (size ≤ 4))
+abbrev pub IsInside : (in_envelope size : ℕ) → Type 0
+IsInside in_envelope size = (in_envelope ≡ 0) ⊎ ((in_envelope ≡ 1) × (size ≤ 4))
 
 pub record FrameFine (t : List ℕ) (m : List ℕ) (f : Frame) : Type 0 where
   pub left : LeftFine t f.left
@@ -159,7 +160,7 @@ pub record FrameFine (t : List ℕ) (m : List ℕ) (f : Frame) : Type 0 where
   pub some : 0 < f.nest
   pub nest : f.nest ≤ most_nest
   pub depth : f.depth ≤ MAX_DEPTH
-  pub inside : IsInside f.inside f.size
+  pub in_envelope : IsInside f.in_envelope f.size
   pub rise : RowsRise (declarations_of t) (header_of t).entries f.nest f.size f.done
       (rows_left t f.done f.left)
 
@@ -216,22 +217,23 @@ abbrev pub value_work : List ℕ → (next : ℕ) → Entry → ℕ
 value_work m next d = byte_work * (length m - next) + (inline_work d.nest * d.size + 1)
 
 -- the state stands within the message, which has not too many handles
-pub record StateFine (m : Message) (s : At) : Type 0 where
+pub record StateFine (m : Message) (s : Position) : Type 0 where
   pub next : s.next ≤ length m.bytes
   pub handle : s.handle ≤ length m.handles
   pub few : length m.handles ≤ MAX_MESSAGE_HANDLES
 
 -- a value of a leaf stands at a place exactly where it leads to this state
-abbrev pub Leads : Declarations → Message → (held : ℕ) → Term → (place : ℕ) → At → At → Type 0
-Leads ds m held t place old new = (to : At) → Item ds m held t place old to ↔ (new ≡ to)
+abbrev pub Leads : Declarations → Message → (held : ℕ) → Term → (place : ℕ) → Position → Position
+    → Type 0
+Leads ds m held t place old new = (to : Position) → ValueAt ds m held t place old to ↔ (new ≡ to)
 
 -- a visit of an entry at a place, in so many steps, gives what of it is left to read, if any, and
 -- the state then
-pub record Visits (t : List ℕ) (m : Message) (held e place : ℕ) (old new : At) (spent : ℕ)
+pub record Visits (t : List ℕ) (m : Message) (held e place : ℕ) (old new : Position) (spent : ℕ)
     (found : Option Frame) : Type 0 where
-  pub same : (to : At)
-      → Item (declarations_of t) m held (resolve (declarations_of t).terms (ty.named e)) place old
-      to ↔ ReadsIf t m found new to
+  pub same : (to : Position)
+      → ValueAt (declarations_of t) m held (resolve (declarations_of t).terms (ty.named e)) place
+      old to ↔ ReadsIf t m found new to
   pub breaks : (fault : DecodeFault) → BreaksIf t m found new fault
       → Breaks (declarations_of t) m held (resolve (declarations_of t).terms (ty.named e)) place old
       fault
@@ -241,10 +243,10 @@ pub record Visits (t : List ℕ) (m : Message) (held e place : ℕ) (old new : A
       ≤ byte_work * (length m.bytes - old.next) + inline_work f.nest * f.size + 1
 
 -- what a visit of an entry leaves to read is fine, and lies no less deep than the entry
-abbrev pub VisitFine : List ℕ → Message → (held inside e : ℕ) → Option Frame → Type 0
-VisitFine t m held inside e found =
-    FineIf t m.bytes (level held inside (figure_of (declarations_of t).figures (ty.named e)).nest)
-    found
+abbrev pub VisitFine : List ℕ → Message → (held in_envelope e : ℕ) → Option Frame → Type 0
+VisitFine t m held in_envelope e found =
+    FineIf t m.bytes
+    (level held in_envelope (figure_of (declarations_of t).figures (ty.named e)).nest) found
 
 -- the type of a member that has this row, if any
 abbrev pub member_term : Option raw.Row → Option Term
@@ -253,8 +255,8 @@ member_term (Some row) = Some (ty.named row.entry)
 
 -- an envelope at a place is opened: what of its member is left to read, if any, and the state then
 pub record Opens (t : List ℕ) (m : Message) (held : ℕ) (member : Option Term) (envelope : ℕ)
-    (old new : At) (found : Option Frame) : Type 0 where
-  pub same : (to : At) → Contained (declarations_of t) m held member envelope old to
+    (old new : Position) (found : Option Frame) : Type 0 where
+  pub same : (to : Position) → Contained (declarations_of t) m held member envelope old to
       ↔ ReadsIf t m found new to
   pub breaks : (fault : DecodeFault) → BreaksIf t m found new fault
       → BreaksMember (declarations_of t) m held member envelope old fault
@@ -271,10 +273,10 @@ PaysEnvelope m next after spent found =
     ≤ byte_work * (length m - next) + envelope_work
 
 -- a turn on a frame: what is left of it, what is to be read before that, and the state then
-pub record Turns (t : List ℕ) (m : Message) (f : Frame) (old new : At) (spent : ℕ) (x : Turn) : Type
-    0 where
-  pub same : (to : At) → Reads t m f old to
-      ↔ ((mid : At) × ReadsIf t m x.below new mid × ReadsIf t m x.rest mid to)
+pub record Turns (t : List ℕ) (m : Message) (f : Frame) (old new : Position) (spent : ℕ)
+    (x : Turn) : Type 0 where
+  pub same : (to : Position) → Reads t m f old to
+      ↔ ((mid : Position) × ReadsIf t m x.below new mid × ReadsIf t m x.rest mid to)
   pub breaks : (fault : DecodeFault) → BreaksAfter t m x new fault → BreaksFrame t m f old fault
   pub state : StateFine m new
   pub below_fine : FineIf t m.bytes (height f + 1) x.below
@@ -292,7 +294,7 @@ behind_rows f first count done =
       size = f.size;
       nest = f.nest;
       depth = f.depth;
-      inside = f.inside;
+      in_envelope = f.in_envelope;
     }
 
 -- a frame with so many envelopes left of a value of an entry, behind those that are read, and so
@@ -306,7 +308,7 @@ behind_envelopes f entry read count done =
       size = f.size;
       nest = f.nest;
       depth = f.depth;
-      inside = f.inside;
+      in_envelope = f.in_envelope;
     }
 
 -- the bool so far behind a struct's start, if there is one, is 0 or 1
@@ -317,11 +319,11 @@ IsGood m base (Some k) = slice_index m (base + k) ≤ 1
 -- wherever a struct with these rows stands, and this bool of it, if any, is 0 or 1, so many of its
 -- rows are a turn that reads so many of its bytes and nothing out of line, and leaves the rows from
 -- the first on
-abbrev pub Passes : List ℕ → Message → Left → (rows first count done : ℕ) → (flag : Option ℕ) → Type
-    0
+abbrev pub Passes : List ℕ → Message → Remaining → (rows first count done : ℕ)
+    → (flag : Option ℕ) → Type 0
 Passes t m left rows first count done flag =
-    (f : Frame) → (s : At) → FrameFine t m.bytes f → f.left ≡ left → f.done ≡ 0 → StateFine m s
-    → IsGood m.bytes f.base flag
+    (f : Frame) → (s : Position) → FrameFine t m.bytes f → f.left ≡ left → f.done ≡ 0
+    → StateFine m s → IsGood m.bytes f.base flag
     → Turns t m f s s rows (record { below = None; rest = Some (behind_rows f first count done) })
 
 -- the same of the rows of a struct that end where these do
@@ -330,22 +332,22 @@ IsKnown t m rows first count done flag =
     Passes t m (Rows (first - rows) (rows + count)) rows first count done flag
 
 -- the whole message is read
-pub record IsWhole (m : Message) (s : At) : Type 0 where
+pub record IsWhole (m : Message) (s : Position) : Type 0 where
   pub bytes : s.next ≡ length m.bytes
   pub handles : s.handle ≡ length m.handles
 
 -- why a stack of frames is not read to the message's end: it breaks a rule, or the frames end
 -- before bytes or handles do
-abbrev pub IsStopped : List ℕ → Message → List Frame → At → DecodeFault → Type 0
+abbrev pub IsStopped : List ℕ → Message → List Frame → Position → DecodeFault → Type 0
 IsStopped t m fs from (BytesLeft at) = (at < length m.bytes)
-    × ((to : At) × Finishes t m fs from to × StateFine m to × (to.next ≡ at))
+    × ((to : Position) × Finishes t m fs from to × StateFine m to × (to.next ≡ at))
 IsStopped t m fs from (HandlesLeft at) = (at ≡ length m.bytes)
-    × ((to : At) × Finishes t m fs from to × (to.next ≡ length m.bytes)
+    × ((to : Position) × Finishes t m fs from to × (to.next ≡ length m.bytes)
     × (to.handle < length m.handles))
 IsStopped t m fs from fault = BreaksStack t m fs from fault
 
 -- how far a state has read, and what it has linked
-abbrev pub at_of : State → At
+abbrev pub at_of : State → Position
 at_of s =
     record {
       next = s.next;

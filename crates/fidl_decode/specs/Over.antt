@@ -1,11 +1,12 @@
 -- Frames of which nothing is left to read.
 use Rattle.std.specs.Prelude.{◌≡◌}
 use Rattle.fidl_decode.specs.declared.frame.Frame.{Frame}
-use Rattle.fidl_decode.specs.declared.frame.Left.{Left}
-use Rattle.fidl_decode.specs.declared.frame.Left.TheVariants.{Rows, Elements, Envelopes, Content}
+use Rattle.fidl_decode.specs.declared.frame.Remaining.{Remaining}
+use Rattle.fidl_decode.specs.declared.frame.Remaining.TheVariants.{Rows, Elements, Envelopes}
+use Rattle.fidl_decode.specs.declared.frame.Remaining.TheVariants.{Content}
 
 -- there are rows alone, and none is left
-abbrev pub NoRows : Left → Type 0
+abbrev pub NoRows : Remaining → Type 0
 NoRows (Rows first count) = count ≡ 0
 NoRows (Elements entry size count) = count ≡ 0
 NoRows (Envelopes entry read count) = ⊥

@@ -14,7 +14,7 @@ use Rattle.fidl_wire.specs.Encoding.{encoding_of, element_of, content_of, term_o
 use Rattle.fidl_wire.specs.Standing.{Stands, Carries}
 use Rattle.fidl_wire.specs.Message.{Encodes}
 use Rattle.fidl_decode.specs.Links.{Linked}
-use Rattle.fidl_decode.specs.State.{Message, At, element_size, envelope_place}
+use Rattle.fidl_decode.specs.State.{Message, Position, element_size, envelope_place}
 use Rattle.fidl_decode.specs.Faults.{message_of}
 
 -- where the object of the marker or envelope at a place begins
@@ -107,7 +107,7 @@ abbrev mutual
       × AreMembersPlaced ds m l rows base ms
 
 -- the links of a state
-abbrev pub links_of : At → Linked
+abbrev pub links_of : Position → Linked
 links_of s = record { objects = s.objects; records = s.records }
 
 -- some value of the term has this message, and stands in it from 0 on, with all below it where the

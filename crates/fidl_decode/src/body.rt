@@ -14,7 +14,7 @@ ghost use Rattle.fidl_decode.specs.Steps.{Spends};
 ghost use Rattle.fidl_decode.specs.Machine.{StateFine, FrameFine, Turns, at_of};
 
 use crate::decoder::Decoder;
-use crate::frame::{Frame, Left, State};
+use crate::frame::{Frame, Remaining, State};
 use fidl_table_format::{EntryKind, Header, Row, read_entry, read_header, read_row};
 use fidl_wire::MAX_NEST;
 
@@ -335,7 +335,7 @@ impl<'t, 'm> Decoder<'t, 'm> {
             return None;
         }
         Some(Frame {
-            left: Left::Envelopes {
+            left: Remaining::Envelopes {
                 entry: body.entry,
                 read,
                 count: body.count - read,
@@ -345,7 +345,7 @@ impl<'t, 'm> Decoder<'t, 'm> {
             size: 8 * body.count as usize,
             nest: MAX_NEST as u8 + 1,
             depth: body.depth,
-            inside: 0,
+            in_envelope: 0,
         })
     }
 }

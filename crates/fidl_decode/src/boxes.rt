@@ -10,7 +10,7 @@ ghost use Rattle.fidl_decode.specs.Machine.{StateFine, Visits, VisitFine, at_of}
 
 use crate::decoder::Decoder;
 use crate::fault::DecodeFault;
-use crate::frame::{Frame, Left, State};
+use crate::frame::{Frame, Remaining, State};
 use fidl_wire::MAX_DEPTH;
 
 impl<'t, 'm> Decoder<'t, 'm> {
@@ -32,8 +32,9 @@ impl<'t, 'm> Decoder<'t, 'm> {
         ensures ok { IfOk result (λ found. Visits self.now.table.now
             (message_of self.now.bytes.now self.now.handles.now) depth entry place
             (at_of state.old) (at_of state.new) (state.new.steps - state.old.steps) found) }
-        ensures fine { (inside : ℕ) → inside ≤ 1 → IfOk result (VisitFine self.now.table.now
-            (message_of self.now.bytes.now self.now.handles.now) depth inside entry) }
+        ensures fine { (in_envelope : ℕ) → in_envelope ≤ 1
+            → IfOk result (VisitFine self.now.table.now
+            (message_of self.now.bytes.now self.now.handles.now) depth in_envelope entry) }
         ensures fault_is_true { let t = self.now.table.now in
             let content = entry_at t (entry_at t entry).first in
             IfErr result (BreaksBox (message_of self.now.bytes.now self.now.handles.now) depth content.size
@@ -57,7 +58,7 @@ impl<'t, 'm> Decoder<'t, 'm> {
         }
         state.links.link(place, from);
         state.next = from + size;
-        let left = Left::Rows {
+        let left = Remaining::Rows {
             first: content.first,
             count: content.count,
         };
@@ -68,7 +69,7 @@ impl<'t, 'm> Decoder<'t, 'm> {
             size,
             nest: content.nest,
             depth: depth + 1,
-            inside: 0,
+            in_envelope: 0,
         }))
     }
 }

@@ -5,14 +5,14 @@ ghost use Rattle.fidl_table_format.specs.Kind.{kind_of};
 ghost use Rattle.fidl_table_format.specs.Section.{entry_at};
 ghost use Rattle.fidl_decode.specs.Invariants.{IsFlat};
 ghost use Rattle.fidl_decode.specs.Faults.{message_of};
-ghost use Rattle.fidl_decode.specs.declared.frame.Left.TheVariants as left;
+ghost use Rattle.fidl_decode.specs.declared.frame.Remaining.TheVariants as left;
 ghost use Rattle.fidl_decode.specs.Steps.{Spends};
 ghost use Rattle.fidl_decode.specs.Machine.{StateFine, FrameFine, Turns, BreaksFrame};
 ghost use Rattle.fidl_decode.specs.Machine.{turn_work, at_of};
 
 use crate::decoder::{Decoder, zeros_at};
 use crate::fault::DecodeFault;
-use crate::frame::{Frame, Left, State, Turn, Until};
+use crate::frame::{Frame, Remaining, State, Turn, Until};
 use fidl_table_format::EntryKind;
 
 impl<'t, 'm> Decoder<'t, 'm> {
@@ -56,8 +56,8 @@ impl<'t, 'm> Decoder<'t, 'm> {
             });
         }
         state.steps += 1;
-        let below = self.visit(entry, at, frame.depth, frame.inside, state)?;
-        let left = Left::Content {
+        let below = self.visit(entry, at, frame.depth, frame.in_envelope, state)?;
+        let left = Remaining::Content {
             entry,
             size,
             count: count - 1,
@@ -70,7 +70,7 @@ impl<'t, 'm> Decoder<'t, 'm> {
             size: frame.size,
             nest: frame.nest,
             depth: frame.depth,
-            inside: frame.inside,
+            in_envelope: frame.in_envelope,
         };
         Ok(Turn {
             below,
@@ -186,17 +186,17 @@ impl<'t, 'm> Decoder<'t, 'm> {
             frame (at_of state.old)) }
     {
         match frame.left {
-            Left::Envelopes { entry, read, count } => {
+            Remaining::Envelopes { entry, read, count } => {
                 self.read_envelopes(frame, entry, read, count, state)
             }
-            Left::Content {
+            Remaining::Content {
                 entry,
                 size,
                 count,
                 until,
             } => self.take_content(frame, entry, size, count, until, state),
-            Left::Rows { .. } => self.take_row(frame, state),
-            Left::Elements { entry, size, count } => {
+            Remaining::Rows { .. } => self.take_row(frame, state),
+            Remaining::Elements { entry, size, count } => {
                 self.take_elements(frame, entry, size, count, state)
             }
         }

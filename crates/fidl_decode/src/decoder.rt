@@ -19,7 +19,7 @@ ghost use Rattle.fidl_decode.specs.Steps.{Spends};
 ghost use Rattle.fidl_decode.specs.Machine.{BreaksFrame, Visits, Turns, turn_work, at_of, probes};
 
 use crate::fault::DecodeFault;
-use crate::frame::{Frame, Left, Member, State, Turn};
+use crate::frame::{Frame, Member, Remaining, State, Turn};
 use fidl_table_format::EntryKind;
 use fidl_verify::Table;
 use fidl_wire::HandleInfo;
@@ -40,7 +40,7 @@ pub(crate) fn zeros_at(bytes: &[u8], from: usize, to: usize) -> Result<(), Decod
 }
 
 /// The next member of those that are left, and those after it.
-fn next_member(table: &Table, left: Left, done: usize) -> Option<Member>
+fn next_member(table: &Table, left: Remaining, done: usize) -> Option<Member>
     requires table { IsFine table.now }
     requires left { LeftFine table.now left }
     requires plain { IsPlain left }
@@ -53,7 +53,7 @@ fn next_member(table: &Table, left: Left, done: usize) -> Option<Member>
     ensures plain { IfSome result (λ m. IsPlain m.left) }
 {
     match left {
-        Left::Rows { first, count } => {
+        Remaining::Rows { first, count } => {
             if count == 0 {
                 return None;
             }
@@ -63,31 +63,31 @@ fn next_member(table: &Table, left: Left, done: usize) -> Option<Member>
             Some(Member {
                 offset: row.key as usize,
                 entry: row.entry,
-                left: Left::Rows {
+                left: Remaining::Rows {
                     first: first + 1,
                     count: count - 1,
                 },
             })
         }
-        Left::Elements { entry, size, count } => {
+        Remaining::Elements { entry, size, count } => {
             if count == 0 {
                 return None;
             }
             Some(Member {
                 offset: done,
                 entry,
-                left: Left::Elements {
+                left: Remaining::Elements {
                     entry,
                     size,
                     count: count - 1,
                 },
             })
         }
-        Left::Envelopes { .. } | Left::Content { .. } => unreachable!(),
+        Remaining::Envelopes { .. } | Remaining::Content { .. } => unreachable!(),
     }
 }
 
-/// What decoding reads and never changes: a verified table, and a message within the limit of bytes.
+/// What is read and never changes: a verified table, and a message within the limit of bytes.
 #[derive(Clone, Copy)]
 pub(crate) struct Decoder<'t, 'm> {
     pub table: &'t Table<'t>,
@@ -106,7 +106,7 @@ impl<'t, 'm> Decoder<'t, 'm> {
         entry: u32,
         place: usize,
         depth: u8,
-        inside: u8,
+        in_envelope: u8,
         state: &mut State,
     ) -> Result<Option<Frame>, DecodeFault>
         requires entry { entry < (header_of self.now.table.now).entries }
@@ -115,14 +115,14 @@ impl<'t, 'm> Decoder<'t, 'm> {
         requires state { StateFine (message_of self.now.bytes.now self.now.handles.now)
             (at_of state.old) }
         requires depth { depth ≤ MAX_DEPTH }
-        requires inside { IsInside inside (entry_at self.now.table.now entry).size }
+        requires in_envelope { IsInside in_envelope (entry_at self.now.table.now entry).size }
         requires budget { state.old.steps < 2 ^ 41 }
         ensures ok { IfOk result
             (λ found. Visits self.now.table.now (message_of self.now.bytes.now self.now.handles.now)
             depth entry place (at_of state.old) (at_of state.new)
             (state.new.steps - state.old.steps) found) }
         ensures fine { IfOk result (VisitFine self.now.table.now
-            (message_of self.now.bytes.now self.now.handles.now) depth inside entry) }
+            (message_of self.now.bytes.now self.now.handles.now) depth in_envelope entry) }
         ensures fault_is_true { IfErr result
             (Breaks (declarations_of self.now.table.now)
             (message_of self.now.bytes.now self.now.handles.now) depth
@@ -137,7 +137,7 @@ impl<'t, 'm> Decoder<'t, 'm> {
         };
         match kind {
             EntryKind::Struct => {
-                let left = Left::Rows {
+                let left = Remaining::Rows {
                     first: e.first,
                     count: e.count,
                 };
@@ -148,12 +148,12 @@ impl<'t, 'm> Decoder<'t, 'm> {
                     size: e.size as usize,
                     nest: e.nest,
                     depth,
-                    inside,
+                    in_envelope,
                 }))
             }
             EntryKind::Array => {
                 let size = self.table.entry(e.first).size as usize;
-                let left = Left::Elements {
+                let left = Remaining::Elements {
                     entry: e.first,
                     size,
                     count: e.count,
@@ -165,7 +165,7 @@ impl<'t, 'm> Decoder<'t, 'm> {
                     size: e.size as usize,
                     nest: e.nest,
                     depth,
-                    inside,
+                    in_envelope,
                 }))
             }
             EntryKind::Box => self.read_box(entry, place, depth, state),
@@ -209,7 +209,7 @@ impl<'t, 'm> Decoder<'t, 'm> {
         let place = frame.base + member.offset;
         state.steps += (place - at) as u64 + 1;
         zeros_at(self.bytes, at, place)?;
-        let below = self.visit(member.entry, place, frame.depth, frame.inside, state)?;
+        let below = self.visit(member.entry, place, frame.depth, frame.in_envelope, state)?;
         let done = member.offset + self.table.entry(member.entry).size as usize;
         let rest = Frame {
             left: member.left,
@@ -218,7 +218,7 @@ impl<'t, 'm> Decoder<'t, 'm> {
             size: frame.size,
             nest: frame.nest,
             depth: frame.depth,
-            inside: frame.inside,
+            in_envelope: frame.in_envelope,
         };
         Ok(Turn {
             below,

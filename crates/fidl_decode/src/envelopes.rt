@@ -8,18 +8,18 @@ ghost use Rattle.fidl_wire.specs.Term as ty;
 ghost use Rattle.fidl_table_format.specs.Section.{header_of, entry_at};
 ghost use Rattle.fidl_table_format.specs.Terms.{declarations_of};
 ghost use Rattle.fidl_decode.specs.declared.fault.DecodeFault.{DecodeFault};
-ghost use Rattle.fidl_decode.specs.declared.frame.Left.TheVariants as left;
+ghost use Rattle.fidl_decode.specs.declared.frame.Remaining.TheVariants as left;
 ghost use Rattle.fidl_decode.specs.declared.frame.Until.{Until};
 ghost use Rattle.fidl_decode.specs.Faults.{message_of};
 ghost use Rattle.fidl_decode.specs.Envelopes.{Contained};
 ghost use Rattle.fidl_decode.specs.Breaks.{BreaksMember};
-ghost use Rattle.fidl_decode.specs.State.{At};
+ghost use Rattle.fidl_decode.specs.State.{Position};
 ghost use Rattle.fidl_decode.specs.Machine.{Reads, BreaksFrame, FrameFine, StateFine, at_of};
 ghost use Rattle.fidl_decode.specs.Machine.{level, height, most_nest, inline_work, frame_work};
 
 use crate::decoder::Decoder;
 use crate::fault::DecodeFault;
-use crate::frame::{Frame, Left, State, Until};
+use crate::frame::{Frame, Remaining, State, Until};
 use fidl_table_format::Entry;
 use fidl_wire::{HandleInfo, MAX_DEPTH, byte_count_at, flags_at, handle_count_at};
 
@@ -31,7 +31,7 @@ fn content_frame(
     base: usize,
     size: usize,
     depth: u8,
-    inside: u8,
+    in_envelope: u8,
 ) -> Frame
     requires { content.now.nest < 255 }
     ensures { result ≡ record {
@@ -41,10 +41,10 @@ fn content_frame(
       size = size;
       nest = content.now.nest + 1;
       depth = depth;
-      inside = inside;
+      in_envelope = in_envelope;
     } }
 {
-    let left = Left::Content {
+    let left = Remaining::Content {
         entry,
         size: content.size as usize,
         count: 1,
@@ -57,7 +57,7 @@ fn content_frame(
         size,
         nest: content.nest + 1,
         depth,
-        inside,
+        in_envelope,
     }
 }
 
@@ -93,7 +93,7 @@ impl<'t, 'm> Decoder<'t, 'm> {
         requires state { StateFine (message_of self.now.bytes.now self.now.handles.now)
             (at_of state.old) }
         requires depth { depth ≤ MAX_DEPTH }
-        ensures ok { IfOk result (λ frame. (to : At)
+        ensures ok { IfOk result (λ frame. (to : Position)
             → Contained (declarations_of self.now.table.now)
             (message_of self.now.bytes.now self.now.handles.now) depth (Some (ty.named entry))
             envelope (at_of state.old) to
@@ -174,7 +174,7 @@ impl<'t, 'm> Decoder<'t, 'm> {
         requires state { StateFine (message_of self.now.bytes.now self.now.handles.now)
             (at_of state.old) }
         requires depth { depth ≤ MAX_DEPTH }
-        ensures ok { OnOk result ((to : At)
+        ensures ok { OnOk result ((to : Position)
             → Contained (declarations_of self.now.table.now)
             (message_of self.now.bytes.now self.now.handles.now) depth None envelope
             (at_of state.old) to ↔ (at_of state.new ≡ to)) }

@@ -6,13 +6,13 @@ ghost use Rattle.fidl_table_format.specs.Kind.{kind_of};
 ghost use Rattle.fidl_table_format.specs.Section.{header_of, entry_at};
 ghost use Rattle.fidl_decode.specs.Invariants.{is_leaf};
 ghost use Rattle.fidl_decode.specs.Faults.{message_of};
-ghost use Rattle.fidl_decode.specs.declared.frame.Left.TheVariants as left;
+ghost use Rattle.fidl_decode.specs.declared.frame.Remaining.TheVariants as left;
 ghost use Rattle.fidl_decode.specs.Machine.{StateFine, FrameFine, BreaksFrame, Turns};
 ghost use Rattle.fidl_decode.specs.Machine.{IsKnown, turn_work, at_of};
 
 use crate::decoder::{Decoder, zeros_at};
 use crate::fault::DecodeFault;
-use crate::frame::{Frame, Left, State};
+use crate::frame::{Frame, Remaining, State};
 use crate::leaf::{is_free, is_leaf};
 use crate::plain::Plain;
 use fidl_table_format::EntryKind;
@@ -58,7 +58,7 @@ impl<'t, 'm> Decoder<'t, 'm> {
         let place = frame.base + row.key as usize;
         state.steps += (place - read) as u64 + 1;
         zeros_at(self.bytes, read, place)?;
-        let below = self.visit(row.entry, place, frame.depth, frame.inside, state)?;
+        let below = self.visit(row.entry, place, frame.depth, frame.in_envelope, state)?;
         Ok(below)
     }
 
@@ -93,7 +93,7 @@ impl<'t, 'm> Decoder<'t, 'm> {
         let Some(now) = self.read_nested(frame, known, state)? else {
             return Ok(None);
         };
-        let Left::Rows {
+        let Remaining::Rows {
             first: next,
             count: left,
         } = now.left
@@ -228,17 +228,17 @@ impl<'t, 'm> Decoder<'t, 'm> {
             frame (at_of state.old)) }
     {
         match frame.left {
-            Left::Rows { .. } => self.read_boxed(frame, state),
-            Left::Elements { entry, size, count } => {
+            Remaining::Rows { .. } => self.read_boxed(frame, state),
+            Remaining::Elements { entry, size, count } => {
                 self.read_elements(frame, entry, size, count, state)
             }
-            Left::Content {
+            Remaining::Content {
                 entry,
                 size,
                 count,
                 until,
             } => self.read_content(frame, entry, size, count, until, state),
-            Left::Envelopes { .. } => Ok(Some(frame)),
+            Remaining::Envelopes { .. } => Ok(Some(frame)),
         }
     }
 }

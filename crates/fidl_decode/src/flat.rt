@@ -11,14 +11,14 @@ ghost use Rattle.fidl_table_format.specs.Terms.{declarations_of};
 ghost use Rattle.fidl_decode.specs.Invariants.{AreLeaves, IsFlat};
 ghost use Rattle.fidl_decode.specs.Faults.{message_of};
 ghost use Rattle.fidl_decode.specs.Breaks.{Breaks};
-ghost use Rattle.fidl_decode.specs.declared.frame.Left.TheVariants as left;
+ghost use Rattle.fidl_decode.specs.declared.frame.Remaining.TheVariants as left;
 ghost use Rattle.fidl_decode.specs.Steps.{Spends};
 ghost use Rattle.fidl_decode.specs.Machine.{StateFine, FrameFine, BreaksFrame, Visits};
 ghost use Rattle.fidl_decode.specs.Machine.{Turns, turn_work, value_work, at_of};
 
 use crate::decoder::Decoder;
 use crate::fault::DecodeFault;
-use crate::frame::{Frame, Left, State};
+use crate::frame::{Frame, Remaining, State};
 use crate::leaf::is_leaf;
 use crate::plain::{MOST_ROWS, rows_from};
 use fidl_table_format::{Entry, EntryKind};
@@ -145,7 +145,7 @@ impl<'t, 'm> Decoder<'t, 'm> {
         }
         let e = self.table.entry(entry);
         let frame = Frame {
-            left: Left::Rows {
+            left: Remaining::Rows {
                 first: e.first,
                 count: e.count,
             },
@@ -154,7 +154,7 @@ impl<'t, 'm> Decoder<'t, 'm> {
             size: e.size as usize,
             nest: e.nest,
             depth,
-            inside: 0,
+            in_envelope: 0,
         };
         self.read_fields(frame, e.first, e.count, state)
     }

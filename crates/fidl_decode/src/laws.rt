@@ -9,7 +9,7 @@ ghost use Rattle.fidl_table_format.specs.Section.{header_of};
 ghost use Rattle.fidl_table_format.specs.Terms.{declarations_of};
 ghost use Rattle.fidl_table_format.specs.WellFormed.{WellFormed};
 ghost use Rattle.fidl_decode.specs.declared.fault.DecodeFault.{DecodeFault};
-ghost use Rattle.fidl_decode.specs.State.{Message, At};
+ghost use Rattle.fidl_decode.specs.State.{Message, Position};
 ghost use Rattle.fidl_decode.specs.Envelopes.{Contained, BreaksEnvelope};
 ghost use Rattle.fidl_decode.specs.Faults.{IsTold, IsWithin};
 
@@ -24,7 +24,7 @@ pub fn refused_messages_encode_nothing()
 /// An envelope that breaks a rule by its numbers holds no member, and has none behind it.
 pub fn broken_envelopes_have_no_member()
     ensures { (ds : Declarations) → IsLaidOut ds → (m : Message) → IsWithin m.bytes m.handles
-        → (held : ℕ) (t : Option Term) (envelope : ℕ) (from to : At) (fault : DecodeFault)
+        → (held : ℕ) (t : Option Term) (envelope : ℕ) (from to : Position) (fault : DecodeFault)
         → BreaksEnvelope ds m held t envelope from.next from.handle fault
         → Contained ds m held t envelope from to → ⊥ }
 {}

@@ -6,7 +6,7 @@ ghost use Rattle.fidl_table_format.specs.Kind.{kind_of};
 ghost use Rattle.fidl_table_format.specs.Section.{header_of, entry_at, row_at};
 ghost use Rattle.fidl_decode.specs.Invariants.{is_leaf};
 ghost use Rattle.fidl_decode.specs.Faults.{message_of};
-ghost use Rattle.fidl_decode.specs.declared.frame.Left.TheVariants as left;
+ghost use Rattle.fidl_decode.specs.declared.frame.Remaining.TheVariants as left;
 ghost use Rattle.fidl_decode.specs.Steps.{Spends};
 ghost use Rattle.fidl_decode.specs.Machine.{StateFine, FrameFine, BreaksFrame, Turns};
 ghost use Rattle.fidl_decode.specs.Machine.{IsPlain, IsKnown, rows_left, behind_rows};
@@ -14,7 +14,7 @@ ghost use Rattle.fidl_decode.specs.Machine.{turn_work, at_of};
 
 use crate::decoder::{Decoder, zeros_at};
 use crate::fault::DecodeFault;
-use crate::frame::{Frame, Left, State};
+use crate::frame::{Frame, Remaining, State};
 use crate::leaf::is_leaf;
 use crate::plain::{Plain, rows_from};
 use fidl_table_format::EntryKind;
@@ -176,7 +176,7 @@ impl<'t, 'm> Decoder<'t, 'm> {
             (BreaksFrame self.now.table.now (message_of self.now.bytes.now self.now.handles.now)
             frame (at_of state.old)) }
     {
-        let Left::Rows { first, count } = frame.left else {
+        let Remaining::Rows { first, count } = frame.left else {
             return Ok(Some(frame));
         };
         // Read, so that the number of rows, and with it each row's, is known to have 32 bits.
@@ -206,7 +206,7 @@ impl<'t, 'm> Decoder<'t, 'm> {
                 return Ok(None);
             };
             let content = self.pass_known(below, known, state);
-            let Left::Rows {
+            let Remaining::Rows {
                 first: front,
                 count: behind,
             } = content.left
@@ -246,7 +246,7 @@ impl<'t, 'm> Decoder<'t, 'm> {
             (BreaksFrame self.now.table.now (message_of self.now.bytes.now self.now.handles.now)
             frame (at_of state.old)) }
     {
-        let Left::Rows { first, count } = frame.left else {
+        let Remaining::Rows { first, count } = frame.left else {
             return Ok(Some(frame));
         };
         let known = self.plain_below(first, count);

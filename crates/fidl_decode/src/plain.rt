@@ -8,15 +8,15 @@ ghost use Rattle.fidl_table_format.specs.Kind.{kind_of};
 ghost use Rattle.fidl_table_format.specs.Section.{header_of, entry_at};
 ghost use Rattle.fidl_decode.specs.Invariants.{is_free};
 ghost use Rattle.fidl_decode.specs.Faults.{message_of};
-ghost use Rattle.fidl_decode.specs.declared.frame.Left.TheVariants as left;
+ghost use Rattle.fidl_decode.specs.declared.frame.Remaining.TheVariants as left;
 ghost use Rattle.fidl_decode.specs.declared.plain.TheConstants.{MOST_ROWS};
-ghost use Rattle.fidl_decode.specs.State.{At};
+ghost use Rattle.fidl_decode.specs.State.{Position};
 ghost use Rattle.fidl_decode.specs.Machine.{StateFine, FrameFine, Visits, Turns, BreaksFrame};
 ghost use Rattle.fidl_decode.specs.Machine.{IsGood, Passes, IsKnown, turn_work, at_of};
 
 use crate::decoder::Decoder;
 use crate::fault::DecodeFault;
-use crate::frame::{Frame, Left, State};
+use crate::frame::{Frame, Remaining, State};
 use crate::leaf::is_free;
 use fidl_table_format::{EntryKind, Row};
 
@@ -55,17 +55,17 @@ pub(crate) fn rows_from(frame: Frame, first: u32, count: u32, done: usize) -> Fr
       size = frame.size;
       nest = frame.nest;
       depth = frame.depth;
-      inside = frame.inside;
+      in_envelope = frame.in_envelope;
     } }
 {
     Frame {
-        left: Left::Rows { first, count },
+        left: Remaining::Rows { first, count },
         base: frame.base,
         done,
         size: frame.size,
         nest: frame.nest,
         depth: frame.depth,
-        inside: frame.inside,
+        in_envelope: frame.in_envelope,
     }
 }
 
@@ -96,8 +96,8 @@ impl<'t, 'm> Decoder<'t, 'm> {
         ensures stands { IfSome result (λ next. row.now.key ≡ done) }
         ensures keeps { IfSome result (λ next. (base : ℕ) → IsGood self.now.bytes.now base next
             → IsGood self.now.bytes.now base flag) }
-        ensures visits { IfSome result (λ next. (base depth : ℕ) → (s : At) → depth ≤ MAX_DEPTH
-            → StateFine (message_of self.now.bytes.now self.now.handles.now) s
+        ensures visits { IfSome result (λ next. (base depth : ℕ) → (s : Position)
+            → depth ≤ MAX_DEPTH → StateFine (message_of self.now.bytes.now self.now.handles.now) s
             → base + row.now.key + (entry_at self.now.table.now row.now.entry).size
             ≤ length self.now.bytes.now → IsGood self.now.bytes.now base next
             → Visits self.now.table.now (message_of self.now.bytes.now self.now.handles.now) depth
@@ -238,7 +238,7 @@ impl<'t, 'm> Decoder<'t, 'm> {
             (record { below = None; rest = Some result }) }
         ensures grows { state.old.steps ≤ state.new.steps }
     {
-        let Left::Rows { first, count } = frame.left else {
+        let Remaining::Rows { first, count } = frame.left else {
             return frame;
         };
         if frame.done != 0 {

@@ -12,14 +12,14 @@ ghost use Rattle.fidl_table_format.specs.Entry.{kind_is};
 ghost use Rattle.fidl_decode.specs.Breaks.{BreaksMember};
 ghost use Rattle.fidl_decode.specs.Invariants.{IsFlat};
 ghost use Rattle.fidl_decode.specs.Faults.{message_of};
-ghost use Rattle.fidl_decode.specs.declared.frame.Left.TheVariants as left;
+ghost use Rattle.fidl_decode.specs.declared.frame.Remaining.TheVariants as left;
 ghost use Rattle.fidl_decode.specs.Machine.{StateFine, FrameFine, Turns, BreaksFrame};
 ghost use Rattle.fidl_decode.specs.Machine.{Opens, PaysEnvelope, member_term, behind_envelopes};
 ghost use Rattle.fidl_decode.specs.Machine.{byte_work, envelope_work, turn_work, at_of};
 
 use crate::decoder::Decoder;
 use crate::fault::DecodeFault;
-use crate::frame::{Frame, Left, State, Turn};
+use crate::frame::{Frame, Remaining, State, Turn};
 use fidl_table_format::{Entry, EntryKind, Row};
 
 /// A frame with so many envelopes left, behind those that are read, and so many of its bytes read.
@@ -28,13 +28,13 @@ fn envelopes_from(frame: Frame, entry: u32, read: u32, count: u32, done: usize) 
     ensures { result ≡ behind_envelopes frame entry read count done }
 {
     Frame {
-        left: Left::Envelopes { entry, read, count },
+        left: Remaining::Envelopes { entry, read, count },
         base: frame.base,
         done,
         size: frame.size,
         nest: frame.nest,
         depth: frame.depth,
-        inside: frame.inside,
+        in_envelope: frame.in_envelope,
     }
 }
 
@@ -71,7 +71,7 @@ impl<'t, 'm> Decoder<'t, 'm> {
             * (length self.now.bytes.now - state.old.next) + envelope_work }
     {
         let frame = self.enter_member(entry, envelope, depth, state)?;
-        let Left::Content { size, until, .. } = frame.left else {
+        let Remaining::Content { size, until, .. } = frame.left else {
             unreachable!()
         };
         self.read_whole(frame, entry, kind, size, until, state)

@@ -37,9 +37,9 @@ impl<'t, 'm> Decoder<'t, 'm> {
             (message_of self.now.bytes.now self.now.handles.now) depth entry place
             (at_of state.old) (at_of state.new) 0
             (Some (envelopes_of entry state.old.next count (depth + 1)))) }
-        ensures fine { (inside : ℕ) → inside ≤ 1 → IfOk result (λ count. VisitFine
-            self.now.table.now (message_of self.now.bytes.now self.now.handles.now) depth inside
-            entry (Some (envelopes_of entry state.old.next count (depth + 1)))) }
+        ensures fine { (in_envelope : ℕ) → in_envelope ≤ 1 → IfOk result (λ count. VisitFine
+            self.now.table.now (message_of self.now.bytes.now self.now.handles.now) depth
+            in_envelope entry (Some (envelopes_of entry state.old.next count (depth + 1)))) }
         ensures next { IfOk result (λ count. state.new.next ≡ state.old.next + 8 * count) }
         ensures shallow { OnOk result (depth < MAX_DEPTH) }
         ensures fault_is_true { IfErr result (BreaksTable
@@ -90,8 +90,9 @@ impl<'t, 'm> Decoder<'t, 'm> {
         ensures ok { IfOk result (λ found. Visits self.now.table.now
             (message_of self.now.bytes.now self.now.handles.now) depth entry place
             (at_of state.old) (at_of state.new) (state.new.steps - state.old.steps) found) }
-        ensures fine { (inside : ℕ) → inside ≤ 1 → IfOk result (VisitFine self.now.table.now
-            (message_of self.now.bytes.now self.now.handles.now) depth inside entry) }
+        ensures fine { (in_envelope : ℕ) → in_envelope ≤ 1
+            → IfOk result (VisitFine self.now.table.now
+            (message_of self.now.bytes.now self.now.handles.now) depth in_envelope entry) }
         ensures fault_is_true { IfErr result (BreaksTable
             (message_of self.now.bytes.now self.now.handles.now) depth place state.old.next) }
         ensures spends { Spends state.old.steps state.new.steps 0

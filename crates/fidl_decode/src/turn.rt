@@ -6,14 +6,14 @@ ghost use Rattle.fidl_table_format.specs.declared.kind.EntryKind.TheVariants as 
 ghost use Rattle.fidl_table_format.specs.Kind.{kind_of};
 ghost use Rattle.fidl_table_format.specs.Section.{header_of, entry_at};
 ghost use Rattle.fidl_decode.specs.Faults.{message_of};
-ghost use Rattle.fidl_decode.specs.declared.frame.Left.TheVariants as left;
+ghost use Rattle.fidl_decode.specs.declared.frame.Remaining.TheVariants as left;
 ghost use Rattle.fidl_decode.specs.Machine.{StateFine, FrameFine, BreaksFrame, Turns};
 ghost use Rattle.fidl_decode.specs.Machine.{turn_work, at_of};
 ghost use Rattle.fidl_decode.specs.Over.{IsOver};
 
 use crate::decoder::{Decoder, zeros_at};
 use crate::fault::DecodeFault;
-use crate::frame::{Frame, Left, State, Turn};
+use crate::frame::{Frame, Remaining, State, Turn};
 use fidl_table_format::EntryKind;
 
 /// Whether all of a frame is read, up to its end: nothing is left behind what is below.
@@ -21,9 +21,9 @@ fn is_over(frame: &Frame) -> bool
     ensures { IsTrue result ↔ IsOver frame.now }
 {
     match frame.left {
-        Left::Rows { count, .. } => count == 0 && frame.done == frame.size,
-        Left::Elements { count, .. } => count == 0 && frame.done == frame.size,
-        Left::Envelopes { .. } | Left::Content { .. } => false,
+        Remaining::Rows { count, .. } => count == 0 && frame.done == frame.size,
+        Remaining::Elements { count, .. } => count == 0 && frame.done == frame.size,
+        Remaining::Envelopes { .. } | Remaining::Content { .. } => false,
     }
 }
 
@@ -63,7 +63,7 @@ impl<'t, 'm> Decoder<'t, 'm> {
         for i in 0..count {
             let place = frame.base + done;
             let below = Frame {
-                left: Left::Rows {
+                left: Remaining::Rows {
                     first: e.first,
                     count: e.count,
                 },
@@ -72,7 +72,7 @@ impl<'t, 'm> Decoder<'t, 'm> {
                 size: e.size as usize,
                 nest: e.nest,
                 depth: frame.depth,
-                inside: frame.inside,
+                in_envelope: frame.in_envelope,
             };
             state.steps += 1;
             let found = self.read_behind(below, &plain, &known, state)?;
@@ -81,7 +81,7 @@ impl<'t, 'm> Decoder<'t, 'm> {
                 return Ok(Turn {
                     below: Some(inner),
                     rest: Some(Frame {
-                        left: Left::Elements {
+                        left: Remaining::Elements {
                             entry,
                             size,
                             count: count - (i + 1),
@@ -91,7 +91,7 @@ impl<'t, 'm> Decoder<'t, 'm> {
                         size: frame.size,
                         nest: frame.nest,
                         depth: frame.depth,
-                        inside: frame.inside,
+                        in_envelope: frame.in_envelope,
                     }),
                 });
             }

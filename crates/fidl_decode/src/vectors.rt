@@ -11,7 +11,7 @@ ghost use Rattle.fidl_decode.specs.Machine.{StateFine, Visits, VisitFine, at_of}
 
 use crate::decoder::Decoder;
 use crate::fault::DecodeFault;
-use crate::frame::{Frame, Left, State};
+use crate::frame::{Frame, Remaining, State};
 use crate::handles::is_optional;
 use fidl_wire::{MAX_DEPTH, Presence, u64_at};
 
@@ -34,8 +34,9 @@ impl<'t, 'm> Decoder<'t, 'm> {
         ensures ok { IfOk result (λ found. Visits self.now.table.now
             (message_of self.now.bytes.now self.now.handles.now) depth entry place
             (at_of state.old) (at_of state.new) (state.new.steps - state.old.steps) found) }
-        ensures fine { (inside : ℕ) → inside ≤ 1 → IfOk result (VisitFine self.now.table.now
-            (message_of self.now.bytes.now self.now.handles.now) depth inside entry) }
+        ensures fine { (in_envelope : ℕ) → in_envelope ≤ 1
+            → IfOk result (VisitFine self.now.table.now
+            (message_of self.now.bytes.now self.now.handles.now) depth in_envelope entry) }
         ensures fault_is_true { let t = self.now.table.now in
             let d = entry_at t entry in
             let size = (entry_at t d.first).size * count_at self.now.bytes.now place in
@@ -83,7 +84,7 @@ impl<'t, 'm> Decoder<'t, 'm> {
         }
         state.links.link(place + 8, from);
         state.next = from + size;
-        let left = Left::Elements {
+        let left = Remaining::Elements {
             entry: e.first,
             size: each,
             count: count as u32,
@@ -95,7 +96,7 @@ impl<'t, 'm> Decoder<'t, 'm> {
             size,
             nest: element.nest + 1,
             depth: depth + 1,
-            inside: 0,
+            in_envelope: 0,
         }))
     }
 }

@@ -6,7 +6,7 @@ use Rattle.fidl_table_format.specs.declared.record.Row as raw
 use Rattle.fidl_table_format.specs.declared.kind.EntryKind.TheVariants.{Box}
 use Rattle.fidl_table_format.specs.Kind.{kind_of}
 use Rattle.fidl_table_format.specs.Section.{header_of, entry_at}
-use Rattle.fidl_decode.specs.declared.frame.Left.{Left}
+use Rattle.fidl_decode.specs.declared.frame.Remaining.{Remaining}
 use Rattle.fidl_decode.specs.Machine.{LeftFine, at_of}
 use Rattle.fidl_decode.specs.Faults.{message_of}
 use Rattle.fidl_decode.proofs.Boxed.{box_breaks}
@@ -17,7 +17,7 @@ use Rattle.fidl_decode.proofs.decoder.Decoder.enter_box.Goals as goal
 
 pub row-row-requires : goal.row-row-requires
 row-row-requires c =
-    let left : c.args.first + 1 ≤ (header_of c.args.self.now.table.now).rows = subst (λ (l : Left). LeftFine c.args.self.now.table.now l) c.requires.left c.requires.frame.left in
+    let left : c.args.first + 1 ≤ (header_of c.args.self.now.table.now).rows = subst (λ (l : Remaining). LeftFine c.args.self.now.table.now l) c.requires.left c.requires.frame.left in
     omega (arith, left)
 
 pub overflow_add-read : goal.overflow_add-read
@@ -125,8 +125,8 @@ returns-clause-ok c =
     let last = c.requires.left in
     let still = c.in_ok-below.ensures.steps in
     let whole : c.row-row.result.key + (entry_at t c.row-row.result.entry).size ≡ c.args.frame.size = ap (λ (w : raw.Row). w.key + (entry_at t w.entry).size) c.row-row.ensures.value ∙ c.requires.whole in
-    let few : c.args.frame.inside ≤ 1 = elim c.requires.frame.inside [ inl out ↦ omega (arith, out) | inr own ↦ (let one = own.0 in omega (arith, one)) ] in
-    last_turns t c.args.self.now.fine m c.args.frame c.args.first c.row-row.result last c.row-row.ensures.value (at_of c.args.state.now) c.requires.frame c.requires.state (at_of c.read_box.new.state) (c.read_box.new.state.steps - (c.args.state.now.steps + (c.args.frame.base + c.row-row.result.key - (c.args.frame.base + c.args.frame.done) + 1))) (c.read_box.new.state.steps - c.args.state.now.steps) whole (omega (arith, still)) c.in_ok-zeros_at.ensures.ok c.in_ok-below.below c.in_ok-below.ensures.ok (c.in_ok-below.ensures.fine c.args.frame.inside few)
+    let few : c.args.frame.in_envelope ≤ 1 = elim c.requires.frame.in_envelope [ inl out ↦ omega (arith, out) | inr own ↦ (let one = own.0 in omega (arith, one)) ] in
+    last_turns t c.args.self.now.fine m c.args.frame c.args.first c.row-row.result last c.row-row.ensures.value (at_of c.args.state.now) c.requires.frame c.requires.state (at_of c.read_box.new.state) (c.read_box.new.state.steps - (c.args.state.now.steps + (c.args.frame.base + c.row-row.result.key - (c.args.frame.base + c.args.frame.done) + 1))) (c.read_box.new.state.steps - c.args.state.now.steps) whole (omega (arith, still)) c.in_ok-zeros_at.ensures.ok c.in_ok-below.below c.in_ok-below.ensures.ok (c.in_ok-below.ensures.fine c.args.frame.in_envelope few)
 
 pub returns-clause-spends : goal.returns-clause-spends
 returns-clause-spends c =

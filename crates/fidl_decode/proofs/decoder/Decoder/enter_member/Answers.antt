@@ -7,9 +7,9 @@ use Rattle.fidl_table_format.specs.Section.{entry_at}
 use Rattle.fidl_decode.specs.declared.fault.DecodeFault.TheVariants.{BadEnvelope, TooDeep, Truncated}
 use Rattle.fidl_decode.specs.declared.frame.Frame.{Frame}
 use Rattle.fidl_decode.specs.declared.frame.Until.{Until}
-use Rattle.fidl_decode.specs.declared.frame.Left.TheVariants.{Content}
+use Rattle.fidl_decode.specs.declared.frame.Remaining.TheVariants.{Content}
 use Rattle.fidl_decode.specs.Faults.{message_of}
-use Rattle.fidl_decode.specs.State.{At, opened, linked}
+use Rattle.fidl_decode.specs.State.{Position, opened, linked}
 use Rattle.fidl_decode.specs.Machine.{at_of}
 use Rattle.fidl_decode.proofs.Entered.{Enters, enters_inside_as, enters_below_as, numbers_refuse, not_inside, not_below, cut_off}
 use Rattle.fidl_decode.proofs.decoder.Decoder.enter_member.Goals.{then-flags-ne0-via-then-flags-ne0, then-flags-ne0-via-else-flags-ne0+then-counted-eq0, then-flags-ne0-via-else-flags-ne0+else-counted-eq0+then-counted-ne0}
@@ -94,7 +94,7 @@ returns c =
     let size = ap (λ (d : Entry). d.size) c.entry-content.ensures.value in
     let whole : c.next_multiple_of-whole.result ≡ next_multiple_of c.entry-content.result.size 8 = c.next_multiple_of-whole.ensures.value in
     let wide : next_multiple_of (entry_at t c.args.entry).size 8 ≡ c.next_multiple_of-whole.result = sym (whole ∙ ap (λ k. next_multiple_of k 8) size) in
-    let new : At = record { next = old.next + c.next_multiple_of-whole.result; handle = old.handle; objects = c.link.new.self.objects; records = c.link.new.self.records } in
+    let new : Position = record { next = old.next + c.next_multiple_of-whole.result; handle = old.handle; objects = c.link.new.self.objects; records = c.link.new.self.records } in
     let objects = c.link.ensures.objects ∙ ap (λ (l : List ℕ). slice_set l (c.args.envelope / 8) old.next) c.record-2.ensures.objects in
     let records = c.link.ensures.records ∙ c.record-2.ensures.records in
     let led : linked c.args.envelope (entry_at t c.args.entry).size (opened c.args.envelope old) ≡ new

@@ -4,7 +4,7 @@ use Rattle.std.specs.Int.{next_multiple_of, w64}
 use Rattle.fidl_wire.specs.Field.{number_at}
 use Rattle.fidl_table_format.specs.Section.{entry_at}
 use Rattle.fidl_decode.specs.Faults.{message_of}
-use Rattle.fidl_decode.specs.State.{At, opened, linked}
+use Rattle.fidl_decode.specs.State.{Position, opened, linked}
 use Rattle.fidl_decode.specs.Machine.{at_of}
 use Rattle.fidl_decode.proofs.Words.{counted_small, handles_none, flags_none}
 use Rattle.fidl_decode.proofs.Freely.{below_passed}
@@ -17,7 +17,7 @@ returns-clause-passed c =
     let m = message_of c.args.self.now.bytes.now c.args.self.now.handles.now in
     let old = at_of c.args.state.now in
     let wide : next_multiple_of (entry_at t c.args.entry).size 8 ≡ 8 = ap (λ k. next_multiple_of k 8) c.requires.size in
-    let new : At = record { next = old.next + 8; handle = old.handle; objects = c.link.new.self.objects; records = c.link.new.self.records } in
+    let new : Position = record { next = old.next + 8; handle = old.handle; objects = c.link.new.self.objects; records = c.link.new.self.records } in
     let objects = c.link.ensures.objects ∙ ap (λ (l : List ℕ). slice_set l (c.args.envelope / 8) old.next) c.record.ensures.objects in
     let records = c.link.ensures.records ∙ c.record.ensures.records in
     let led : linked c.args.envelope (entry_at t c.args.entry).size (opened c.args.envelope old) ≡ new

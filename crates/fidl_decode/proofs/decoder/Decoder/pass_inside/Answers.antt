@@ -1,6 +1,6 @@
 use Rattle.std.proofs.Common.{◌≡◌, sym, ◌∙◌, arith}
 use Rattle.fidl_decode.specs.Faults.{message_of}
-use Rattle.fidl_decode.specs.State.{At, opened}
+use Rattle.fidl_decode.specs.State.{Position, opened}
 use Rattle.fidl_decode.specs.Machine.{at_of}
 use Rattle.fidl_decode.proofs.Words.{inside_numbers}
 use Rattle.fidl_decode.proofs.Freely.{inside_passed}
@@ -12,7 +12,7 @@ returns-clause-passed c =
     let t = c.args.self.now.table.now in
     let m = message_of c.args.self.now.bytes.now c.args.self.now.handles.now in
     let old = at_of c.args.state.now in
-    let new : At = record { next = old.next; handle = old.handle; objects = c.record.new.self.objects; records = c.record.new.self.records } in
+    let new : Position = record { next = old.next; handle = old.handle; objects = c.record.new.self.objects; records = c.record.new.self.records } in
     let led : opened c.args.envelope old ≡ new = λ i. record { next = old.next; handle = old.handle; objects = sym c.record.ensures.objects i; records = sym c.record.ensures.records i } in
     let numbers = inside_numbers c.args.self.now.bytes.now c.args.envelope c.requires.room (λ i. omega (arith, c.args.self.now.octets i)) (sym c.u32_at.ensures ∙ c.if-u32_at-ne-NO_HANDLES_INSIDE.false) in
     inside_passed t c.args.self.now.fine m (c.args.self.now.short, c.requires.state.few) c.args.depth c.args.entry c.args.envelope old c.requires.entry c.requires.room (λ i. omega (arith, c.args.self.now.octets i)) c.requires.state c.requires.depth c.requires.free c.requires.size numbers.1 numbers.0 new led

@@ -1,6 +1,6 @@
 use Rattle.fidl_decode.proofs.Unchanged.{same_le}
 use Rattle.std.proofs.Common.{◌≡◌, ◌+◌, sym, subst, ◌∙◌, arith}
-use Rattle.fidl_decode.specs.declared.frame.Left.{Left}
+use Rattle.fidl_decode.specs.declared.frame.Remaining.{Remaining}
 use Rattle.fidl_decode.specs.Machine.{Passes}
 use Rattle.fidl_decode.specs.Faults.{message_of}
 use Rattle.fidl_decode.proofs.Known.{same_rows}
@@ -14,7 +14,7 @@ pass_over-requires-clause-passes c =
     let is : known.first ≡ c.in-Rows.first + known.rows = omega (arith, c.from.ensures, c.from-2.ensures, c.from-3.ensures, c.if-from.false) in
     let whole : known.rows + known.count ≡ c.in-Rows.count = omega (arith, c.from-4.ensures, c.from-5.ensures, c.from-6.ensures, c.if-from-2.false) in
     let same = same_rows c.in-Rows.first c.in-Rows.count known.rows known.first known.count is whole in
-    subst (λ (l : Left). Passes t m l known.rows known.first known.count known.done known.flag) (sym (c.in-Rows.is ∙ same)) c.requires.known
+    subst (λ (l : Remaining). Passes t m l known.rows known.first known.count known.done known.flag) (sym (c.in-Rows.is ∙ same)) c.requires.known
 
 pub returns-then-frame-ne0-clause-grows : goal.returns-then-frame-ne0-clause-grows
 returns-then-frame-ne0-clause-grows c = same_le _

@@ -1,7 +1,7 @@
 use Rattle.std.proofs.Common.{◌≡◌, ◌+◌, ◌-◌, sym, ap, subst, arith}
 use Rattle.std.specs.Prelude.{Some}
 use Rattle.fidl_decode.specs.Faults.{message_of}
-use Rattle.fidl_decode.specs.State.{At}
+use Rattle.fidl_decode.specs.State.{Position}
 use Rattle.fidl_decode.specs.Body.{rest_of}
 use Rattle.fidl_decode.specs.Machine.{Turns, at_of}
 use Rattle.fidl_decode.proofs.Leaves.{left_over, turns_then}
@@ -38,11 +38,11 @@ returns-else-pass_next-clause-turns c =
     let l = c.loop-read.state in
     let s = c.pass_next.new.state in
     let kept = c.pass_next.ensures.kept c.if-pass_next.false in
-    let next : s.next ≡ l.next = ap (λ (s : At). s.next) kept in
+    let next : s.next ≡ l.next = ap (λ (s : Position). s.next) kept in
     let grows = c.pass_next.ensures.grows in
     let pays = c.pass_next.ensures.pays in
     let count : l.steps + (c.loop-read.read - c.args.from) - c.args.state.now.steps ≡ s.steps + (c.loop-read.read - c.args.from) - c.args.state.now.steps = omega (arith, next, grows, pays) in
-    subst (λ (u : At). Turns t m f old u (s.steps + (c.loop-read.read - c.args.from) - c.args.state.now.steps) x) (sym kept) (subst (λ n. Turns t m f old (at_of l) n x) count c.loop-read.invariant.turns)
+    subst (λ (u : Position). Turns t m f old u (s.steps + (c.loop-read.read - c.args.from) - c.args.state.now.steps) x) (sym kept) (subst (λ n. Turns t m f old (at_of l) n x) count c.loop-read.invariant.turns)
 
 pub pass_next-requires-clause-body : goal.pass_next-requires-clause-body
 pass_next-requires-clause-body c = c.requires.body

@@ -11,9 +11,9 @@ use Rattle.fidl_table_format.specs.declared.kind.EntryKind.TheVariants.{Struct}
 use Rattle.fidl_table_format.specs.declared.record.Entry.{Entry}
 use Rattle.fidl_wire.specs.Field.{number_at}
 use Rattle.fidl_table_format.specs.Section.{header_of, entry_at}
-use Rattle.fidl_decode.specs.declared.frame.Left.TheVariants.{Rows}
+use Rattle.fidl_decode.specs.declared.frame.Remaining.TheVariants.{Rows}
 use Rattle.fidl_decode.specs.Faults.{message_of}
-use Rattle.fidl_decode.specs.State.{Message, At, opened, linked}
+use Rattle.fidl_decode.specs.State.{Message, Position, opened, linked}
 use Rattle.fidl_decode.specs.Machine.{Passes, at_of}
 use Rattle.fidl_decode.proofs.Visiting.{fine_as}
 use Rattle.fidl_decode.proofs.Freely.{rows_within, struct_passed}
@@ -85,7 +85,7 @@ returns-clause-passed c =
     let octets : (i : ℕ) → get_or m.bytes i 0 < 256 = λ i. omega (arith, c.args.self.now.octets i) in
     let z = not_err c.zeros_at.result (sym c.is_err.ensures.value ∙ c.if-is_err.false) c.zeros_at.ensures.ok in
     let z' = subst (λ n. Stands m.bytes (old.next + plain.done) (zeros (old.next + n - (old.next + plain.done)))) whole z in
-    let new : At = record { next = old.next + small; handle = old.handle; objects = c.link.new.self.objects; records = c.link.new.self.records } in
+    let new : Position = record { next = old.next + small; handle = old.handle; objects = c.link.new.self.objects; records = c.link.new.self.records } in
     let objects = c.link.ensures.objects ∙ ap (λ (l : List ℕ). slice_set l (c.args.envelope / 8) old.next) c.record.ensures.objects in
     let records = c.link.ensures.records ∙ c.record.ensures.records in
     let led : linked c.args.envelope d.size (opened c.args.envelope old) ≡ new

@@ -10,7 +10,7 @@ use Rattle.fidl_table_format.specs.declared.record.Entry.{Entry}
 use Rattle.fidl_wire.specs.Field.{number_at}
 use Rattle.fidl_table_format.specs.Section.{entry_at}
 use Rattle.fidl_decode.specs.Faults.{message_of}
-use Rattle.fidl_decode.specs.State.{At, opened, linked}
+use Rattle.fidl_decode.specs.State.{Position, opened, linked}
 use Rattle.fidl_decode.specs.Machine.{at_of}
 use Rattle.fidl_decode.proofs.Visiting.{size_as}
 use Rattle.fidl_decode.proofs.Words.{counted_small, handles_none, flags_none}
@@ -44,7 +44,7 @@ returns-clause-passed c =
     let objects = c.link-2.ensures.objects ∙ ap (λ (l : List ℕ). slice_set l ((from + 8) / 8) (from + 16)) (c.link.ensures.objects ∙ ap (λ (l : List ℕ). slice_set l (p / 8) from) c.record.ensures.objects)
     ∙ ap (λ k. slice_set (slice_set old.objects (p / 8) from) ((from + 8) / 8) (from + k)) (sym wide) in
     let records = c.link-2.ensures.records ∙ c.link.ensures.records ∙ c.record.ensures.records in
-    let new : At = record { next = from + 16 + size; handle = old.handle; objects = c.link-2.new.self.objects; records = c.link-2.new.self.records } in
+    let new : Position = record { next = from + 16 + size; handle = old.handle; objects = c.link-2.new.self.objects; records = c.link-2.new.self.records } in
     let led : linked (from + 8) n (linked p (entry_at t e).size (opened p old)) ≡ new = λ i. record { next = from + wide i + sym value i; handle = old.handle; objects = sym objects i; records = sym records i } in
     text_passed t c.args.self.now.fine m (c.args.self.now.short, c.requires.state.few) c.args.depth e p old c.requires.entry c.requires.room small c.requires.state c.requires.depth c.requires.kind
     (omega (arith, c.if-depth-ge-MAX_DEPTH.false)) n room (sym c.u64_at-count.ensures) bound (c.is_present.ensures.0 c.if-not-is_present.false)

@@ -2,12 +2,12 @@ use Rattle.std.proofs.Common.{◌≡◌, ◌+◌, ◌-◌, ◌<◌, ◌≤◌, a
 use Rattle.std.specs.Prelude.{Option, Some, None, IfSome, length, ℕ}
 use Rattle.fidl_limits.specs.declared.limits.TheConstants.{MAX_DEPTH}
 use Rattle.fidl_table_format.specs.Section.{entry_at}
-use Rattle.fidl_decode.specs.State.{At}
+use Rattle.fidl_decode.specs.State.{Position}
 use Rattle.fidl_wire.specs.Term as ty
 use Rattle.fidl_wire.specs.Figure.{size_of}
 use Rattle.fidl_table_format.specs.declared.record.Entry.{Entry}
 use Rattle.fidl_table_format.specs.Terms.{declarations_of}
-use Rattle.fidl_decode.specs.declared.frame.Left.TheVariants.{Rows}
+use Rattle.fidl_decode.specs.declared.frame.Remaining.TheVariants.{Rows}
 use Rattle.fidl_decode.specs.Rows.{Row}
 use Rattle.fidl_decode.specs.Machine.{StateFine, IsGood, Visits, Turns}
 use Rattle.fidl_decode.specs.Faults.{message_of}
@@ -38,7 +38,7 @@ loop-i-preserved c =
     let one = rows_next t c.loop-i.i end c.loop-i.done (row.key + size_of (declarations_of t) (ty.named row.entry)) row c.row-row.ensures.value before in
     let there = subst (λ (o : Option (Option ℕ)). IfSome o (λ next. row.key ≡ c.loop-i.done)) c.in-Some.is c.next_flag.ensures.stands in
     let keeps = subst (λ (o : Option (Option ℕ)). IfSome o (λ next. (base : ℕ) → IsGood m.bytes base next → IsGood m.bytes base c.loop-i.flag)) c.in-Some.is c.next_flag.ensures.keeps in
-    let visits = subst (λ (o : Option (Option ℕ)). IfSome o (λ next. (base depth : ℕ) → (s : At) → depth ≤ MAX_DEPTH → StateFine m s → base + row.key + (entry_at t row.entry).size ≤ length m.bytes → IsGood m.bytes base next → Visits t m depth row.entry (base + row.key) s s 0 None)) c.in-Some.is c.next_flag.ensures.visits in
+    let visits = subst (λ (o : Option (Option ℕ)). IfSome o (λ next. (base depth : ℕ) → (s : Position) → depth ≤ MAX_DEPTH → StateFine m s → base + row.key + (entry_at t row.entry).size ≤ length m.bytes → IsGood m.bytes base next → Visits t m depth row.entry (base + row.key) s s 0 None)) c.in-Some.is c.next_flag.ensures.visits in
     let size = ap (λ (d : Entry). d.size) c.entry.ensures.value in
     record {
       passes = λ f s ff is start state good.

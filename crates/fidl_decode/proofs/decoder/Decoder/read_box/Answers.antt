@@ -5,10 +5,10 @@ use Rattle.std.specs.Int.{next_multiple_of}
 use Rattle.fidl_table_format.specs.declared.record.Entry.{Entry}
 use Rattle.fidl_table_format.specs.declared.kind.EntryKind.TheVariants.{Box}
 use Rattle.fidl_table_format.specs.Section.{header_of, entry_at}
-use Rattle.fidl_decode.specs.declared.frame.Left.TheVariants.{Rows}
+use Rattle.fidl_decode.specs.declared.frame.Remaining.TheVariants.{Rows}
 use Rattle.fidl_decode.specs.declared.frame.Frame.{Frame}
 use Rattle.fidl_decode.specs.Faults.{message_of}
-use Rattle.fidl_decode.specs.State.{At, linked}
+use Rattle.fidl_decode.specs.State.{Position, linked}
 use Rattle.fidl_decode.specs.Machine.{Visits, VisitFine, at_of}
 use Rattle.fidl_decode.proofs.Visiting.{fine_as}
 use Rattle.fidl_decode.proofs.Boxed.{visits_absent_box, visits_box, box_fine}
@@ -38,13 +38,13 @@ returns-clause-ok c =
     let inner = entry_at t (entry_at t c.args.entry).first in
     let content : c.entry-content.result ≡ inner = c.entry-content.ensures.value ∙ ap (λ (d : Entry). entry_at t d.first) c.entry.ensures.value in
     let value : c.next_multiple_of-size.result ≡ next_multiple_of inner.size 8 = c.next_multiple_of-size.ensures.value ∙ ap (λ (d : Entry). next_multiple_of d.size 8) content in
-    let frame : ℕ → Entry → Frame = λ size d. record { left = Rows d.first d.count; base = old.next; done = 0; size = size; nest = d.nest; depth = c.args.depth + 1; inside = 0 } in
+    let frame : ℕ → Entry → Frame = λ size d. record { left = Rows d.first d.count; base = old.next; done = 0; size = size; nest = d.nest; depth = c.args.depth + 1; in_envelope = 0 } in
     let same : linked c.args.place inner.size old ≡ record { next = old.next + c.next_multiple_of-size.result; handle = old.handle; objects = c.link.new.self.objects; records = c.link.new.self.records }
     = λ i. record { next = old.next + sym value i; handle = old.handle; objects = sym c.link.ensures.objects i; records = sym c.link.ensures.records i } in
     let opened = visits_box t c.args.self.now.fine m c.args.depth c.args.entry c.args.place old c.requires.entry c.requires.kind c.requires.state c.requires.depth (c.args.state.now.steps - c.args.state.now.steps) (omega arith) (c.is_present.ensures.0 c.if-not-is_present.false) (omega (arith, c.requires.depth, c.if-depth-eq-MAX_DEPTH.false)) (omega (arith, value, c.if-size-self.false)) in
     subst (λ (d : Entry). Visits t m c.args.depth c.args.entry c.args.place old (at_of (record { next = old.next + c.next_multiple_of-size.result; handle = c.args.state.now.handle; steps = c.args.state.now.steps; links = c.link.new.self })) (c.args.state.now.steps - c.args.state.now.steps) (Some (frame c.next_multiple_of-size.result d))) (sym content)
     (subst (λ (n : ℕ). Visits t m c.args.depth c.args.entry c.args.place old (at_of (record { next = old.next + c.next_multiple_of-size.result; handle = c.args.state.now.handle; steps = c.args.state.now.steps; links = c.link.new.self })) (c.args.state.now.steps - c.args.state.now.steps) (Some (frame n inner))) (sym value)
-    (subst (λ (s : At). Visits t m c.args.depth c.args.entry c.args.place old s (c.args.state.now.steps - c.args.state.now.steps) (Some (frame (next_multiple_of inner.size 8) inner))) same opened))
+    (subst (λ (s : Position). Visits t m c.args.depth c.args.entry c.args.place old s (c.args.state.now.steps - c.args.state.now.steps) (Some (frame (next_multiple_of inner.size 8) inner))) same opened))
 
 pub returns-clause-fine : goal.returns-clause-fine
 returns-clause-fine c around few =
@@ -54,7 +54,7 @@ returns-clause-fine c around few =
     let inner = entry_at t (entry_at t c.args.entry).first in
     let content : c.entry-content.result ≡ inner = c.entry-content.ensures.value ∙ ap (λ (d : Entry). entry_at t d.first) c.entry.ensures.value in
     let value : c.next_multiple_of-size.result ≡ next_multiple_of inner.size 8 = c.next_multiple_of-size.ensures.value ∙ ap (λ (d : Entry). next_multiple_of d.size 8) content in
-    let frame : ℕ → Entry → Frame = λ size d. record { left = Rows d.first d.count; base = old.next; done = 0; size = size; nest = d.nest; depth = c.args.depth + 1; inside = 0 } in
+    let frame : ℕ → Entry → Frame = λ size d. record { left = Rows d.first d.count; base = old.next; done = 0; size = size; nest = d.nest; depth = c.args.depth + 1; in_envelope = 0 } in
     let opened = box_fine t c.args.self.now.fine m c.args.depth c.args.entry c.args.place old c.requires.entry c.requires.kind c.requires.state c.requires.depth (omega (arith, c.requires.depth, c.if-depth-eq-MAX_DEPTH.false)) (omega (arith, value, c.if-size-self.false)) around few in
     subst (λ (d : Entry). VisitFine t m c.args.depth around c.args.entry (Some (frame c.next_multiple_of-size.result d))) (sym content)
     (subst (λ (n : ℕ). VisitFine t m c.args.depth around c.args.entry (Some (frame n inner))) (sym value) opened)

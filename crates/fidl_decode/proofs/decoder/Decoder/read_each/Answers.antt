@@ -1,7 +1,7 @@
 use Rattle.fidl_decode.proofs.Fitting.{not_fewer}
 use Rattle.fidl_decode.proofs.Unchanged.{no_ok}
 use Rattle.std.proofs.Common.{◌≡◌, ◌+◌, ◌-◌, arith}
-use Rattle.fidl_decode.specs.declared.frame.Left.TheVariants.{Elements}
+use Rattle.fidl_decode.specs.declared.frame.Remaining.TheVariants.{Elements}
 use Rattle.fidl_decode.specs.Rows.{Row}
 use Rattle.fidl_decode.specs.Machine.{at_of}
 use Rattle.fidl_decode.specs.Faults.{message_of}

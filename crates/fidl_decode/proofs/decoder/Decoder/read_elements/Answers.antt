@@ -8,7 +8,7 @@ use Rattle.fidl_wire.specs.Standing.{Stands}
 use Rattle.fidl_table_format.specs.declared.record.Entry.{Entry}
 use Rattle.fidl_table_format.specs.Kind.{kind_of}
 use Rattle.fidl_table_format.specs.Section.{entry_at}
-use Rattle.fidl_decode.specs.declared.frame.Left.TheVariants.{Elements}
+use Rattle.fidl_decode.specs.declared.frame.Remaining.TheVariants.{Elements}
 use Rattle.fidl_decode.specs.Machine.{at_of}
 use Rattle.fidl_decode.specs.Faults.{message_of}
 use Rattle.fidl_decode.specs.Breaks.{IsPadding}

@@ -4,7 +4,7 @@ use Rattle.fidl_wire.specs.declared.handle.HandleInfo.{HandleInfo}
 use Rattle.fidl_wire.specs.Term as ty
 use Rattle.fidl_table_format.specs.Terms.{declarations_of, is_optional}
 use Rattle.fidl_decode.specs.Faults.{message_of}
-use Rattle.fidl_decode.specs.State.{At, taken}
+use Rattle.fidl_decode.specs.State.{Position, taken}
 use Rattle.fidl_decode.specs.Machine.{Leads, at_of}
 use Rattle.fidl_decode.proofs.Carried.{absent_leads, handle_leads}
 use Rattle.fidl_decode.proofs.decoder.Decoder.read_handle.Goals as goal
@@ -27,7 +27,7 @@ returns-else-not-is_allowed-clause-ok c =
     let within : c.args.state.now.handle < length c.args.self.now.handles.now = (let h = c.requires.state.handle in omega (arith, h, c.if-state-self.false)) in
     let same : taken c.args.place (at_of c.args.state.now) ≡ record { next = c.args.state.now.next; handle = c.args.state.now.handle + 1; objects = c.record.new.self.objects; records = c.record.new.self.records }
     = λ i. record { next = c.args.state.now.next; handle = c.args.state.now.handle + 1; objects = sym c.record.ensures.objects i; records = sym c.record.ensures.records i } in
-    subst (λ (s : At). Leads (declarations_of c.args.self.now.table.now) (message_of c.args.self.now.bytes.now c.args.self.now.handles.now) c.args.depth (ty.handle (is_optional c.args.entry.now) c.args.entry.now.subtype c.args.entry.now.rights) c.args.place (at_of c.args.state.now) s) same
+    subst (λ (s : Position). Leads (declarations_of c.args.self.now.table.now) (message_of c.args.self.now.bytes.now c.args.self.now.handles.now) c.args.depth (ty.handle (is_optional c.args.entry.now) c.args.entry.now.subtype c.args.entry.now.rights) c.args.place (at_of c.args.state.now) s) same
     (handle_leads (declarations_of c.args.self.now.table.now) (message_of c.args.self.now.bytes.now c.args.self.now.handles.now) c.args.depth (is_optional c.args.entry.now) c.args.entry.now.subtype c.args.entry.now.rights c.args.place (at_of c.args.state.now) c.requires.depth c.in-Present.ensures (get_or c.args.self.now.handles.now c.args.state.now.handle nobody) (slice_get-get_or c.args.self.now.handles.now c.args.state.now.handle nobody within) c.is_allowed.ensures.handle (c.is_allowed.ensures.allowed.0 c.if-not-is_allowed.false))
 
 pub presence_at-requires-clause-room : goal.presence_at-requires-clause-room

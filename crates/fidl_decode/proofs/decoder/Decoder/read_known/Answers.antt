@@ -9,7 +9,7 @@ use Rattle.fidl_table_format.specs.Kind.{kind_of}
 use Rattle.fidl_table_format.specs.Section.{header_of, entry_at}
 use Rattle.fidl_table_format.specs.Terms.{declarations_of}
 use Rattle.fidl_decode.specs.Invariants.{IsFlat}
-use Rattle.fidl_decode.specs.State.{At}
+use Rattle.fidl_decode.specs.State.{Position}
 use Rattle.fidl_decode.specs.Breaks.{BreaksMember}
 use Rattle.fidl_decode.specs.Machine.{StateFine, Opens, at_of}
 use Rattle.fidl_decode.specs.Faults.{message_of}
@@ -72,9 +72,9 @@ read_enclosed-requires-clause-state c =
     let m = message_of c.args.self.now.bytes.now c.args.self.now.handles.now in
     let old = at_of c.args.state.now in
     let kept : at_of c.pass_member.new.state ≡ old = c.pass_member.ensures.kept c.if-pass_member.false in
-    let next : c.pass_member.new.state.next ≡ c.args.state.now.next = ap (λ (s : At). s.next) kept in
+    let next : c.pass_member.new.state.next ≡ c.args.state.now.next = ap (λ (s : Position). s.next) kept in
     let still : c.pass_member.new.state.steps ≡ c.args.state.now.steps = omega (arith, next, c.pass_member.ensures.grows, c.pass_member.ensures.pays) in
-    subst (λ (s : At). StateFine m s) (sym kept) c.requires.state
+    subst (λ (s : Position). StateFine m s) (sym kept) c.requires.state
 
 pub read_enclosed-requires-clause-budget : goal.read_enclosed-requires-clause-budget
 read_enclosed-requires-clause-budget c =
@@ -82,7 +82,7 @@ read_enclosed-requires-clause-budget c =
     let m = message_of c.args.self.now.bytes.now c.args.self.now.handles.now in
     let old = at_of c.args.state.now in
     let kept : at_of c.pass_member.new.state ≡ old = c.pass_member.ensures.kept c.if-pass_member.false in
-    let next : c.pass_member.new.state.next ≡ c.args.state.now.next = ap (λ (s : At). s.next) kept in
+    let next : c.pass_member.new.state.next ≡ c.args.state.now.next = ap (λ (s : Position). s.next) kept in
     let still : c.pass_member.new.state.steps ≡ c.args.state.now.steps = omega (arith, next, c.pass_member.ensures.grows, c.pass_member.ensures.pays) in
     omega (arith, next, still, c.requires.budget)
 
@@ -92,10 +92,10 @@ returns-in_err-read_enclosed-clause-fault_is_true c =
     let m = message_of c.args.self.now.bytes.now c.args.self.now.handles.now in
     let old = at_of c.args.state.now in
     let kept : at_of c.pass_member.new.state ≡ old = c.pass_member.ensures.kept c.if-pass_member.false in
-    let next : c.pass_member.new.state.next ≡ c.args.state.now.next = ap (λ (s : At). s.next) kept in
+    let next : c.pass_member.new.state.next ≡ c.args.state.now.next = ap (λ (s : Position). s.next) kept in
     let still : c.pass_member.new.state.steps ≡ c.args.state.now.steps = omega (arith, next, c.pass_member.ensures.grows, c.pass_member.ensures.pays) in
     passed_on c.from_residual.result c.in_err-read_enclosed.field-0.0 _ c.from_residual.ensures.1
-    (subst (λ (s : At). BreaksMember (declarations_of t) m c.args.depth (Some (ty.named c.args.entry)) c.args.envelope s c.in_err-read_enclosed.field-0.0) kept c.in_err-read_enclosed.ensures.fault_is_true)
+    (subst (λ (s : Position). BreaksMember (declarations_of t) m c.args.depth (Some (ty.named c.args.entry)) c.args.envelope s c.in_err-read_enclosed.field-0.0) kept c.in_err-read_enclosed.ensures.fault_is_true)
 
 pub returns-in_err-read_enclosed-clause-cost : goal.returns-in_err-read_enclosed-clause-cost
 returns-in_err-read_enclosed-clause-cost c =
@@ -103,7 +103,7 @@ returns-in_err-read_enclosed-clause-cost c =
     let m = message_of c.args.self.now.bytes.now c.args.self.now.handles.now in
     let old = at_of c.args.state.now in
     let kept : at_of c.pass_member.new.state ≡ old = c.pass_member.ensures.kept c.if-pass_member.false in
-    let next : c.pass_member.new.state.next ≡ c.args.state.now.next = ap (λ (s : At). s.next) kept in
+    let next : c.pass_member.new.state.next ≡ c.args.state.now.next = ap (λ (s : Position). s.next) kept in
     let still : c.pass_member.new.state.steps ≡ c.args.state.now.steps = omega (arith, next, c.pass_member.ensures.grows, c.pass_member.ensures.pays) in
     omega (arith, next, still, c.in_err-read_enclosed.ensures.cost)
 
@@ -113,9 +113,9 @@ returns-then-is_flat-clause-ok c =
     let m = message_of c.args.self.now.bytes.now c.args.self.now.handles.now in
     let old = at_of c.args.state.now in
     let kept : at_of c.pass_member.new.state ≡ old = c.pass_member.ensures.kept c.if-pass_member.false in
-    let next : c.pass_member.new.state.next ≡ c.args.state.now.next = ap (λ (s : At). s.next) kept in
+    let next : c.pass_member.new.state.next ≡ c.args.state.now.next = ap (λ (s : Position). s.next) kept in
     let still : c.pass_member.new.state.steps ≡ c.args.state.now.steps = omega (arith, next, c.pass_member.ensures.grows, c.pass_member.ensures.pays) in
-    subst (λ (s : At). Opens t m c.args.depth (Some (ty.named c.args.entry)) c.args.envelope s (at_of c.read_enclosed.new.state) None) kept c.in_ok-read_enclosed.ensures.ok
+    subst (λ (s : Position). Opens t m c.args.depth (Some (ty.named c.args.entry)) c.args.envelope s (at_of c.read_enclosed.new.state) None) kept c.in_ok-read_enclosed.ensures.ok
 
 pub returns-then-is_flat-clause-pays : goal.returns-then-is_flat-clause-pays
 returns-then-is_flat-clause-pays c =
@@ -123,7 +123,7 @@ returns-then-is_flat-clause-pays c =
     let m = message_of c.args.self.now.bytes.now c.args.self.now.handles.now in
     let old = at_of c.args.state.now in
     let kept : at_of c.pass_member.new.state ≡ old = c.pass_member.ensures.kept c.if-pass_member.false in
-    let next : c.pass_member.new.state.next ≡ c.args.state.now.next = ap (λ (s : At). s.next) kept in
+    let next : c.pass_member.new.state.next ≡ c.args.state.now.next = ap (λ (s : Position). s.next) kept in
     let still : c.pass_member.new.state.steps ≡ c.args.state.now.steps = omega (arith, next, c.pass_member.ensures.grows, c.pass_member.ensures.pays) in
     let own = c.in_ok-read_enclosed.ensures.pays in
     omega (arith, next, still, own)
@@ -134,7 +134,7 @@ returns-then-is_flat-clause-grows c =
     let m = message_of c.args.self.now.bytes.now c.args.self.now.handles.now in
     let old = at_of c.args.state.now in
     let kept : at_of c.pass_member.new.state ≡ old = c.pass_member.ensures.kept c.if-pass_member.false in
-    let next : c.pass_member.new.state.next ≡ c.args.state.now.next = ap (λ (s : At). s.next) kept in
+    let next : c.pass_member.new.state.next ≡ c.args.state.now.next = ap (λ (s : Position). s.next) kept in
     let still : c.pass_member.new.state.steps ≡ c.args.state.now.steps = omega (arith, next, c.pass_member.ensures.grows, c.pass_member.ensures.pays) in
     let grows = c.in_ok-read_enclosed.ensures.grows in
     omega (arith, grows, still)
@@ -145,7 +145,7 @@ returns-then-is_flat-clause-cost c =
     let m = message_of c.args.self.now.bytes.now c.args.self.now.handles.now in
     let old = at_of c.args.state.now in
     let kept : at_of c.pass_member.new.state ≡ old = c.pass_member.ensures.kept c.if-pass_member.false in
-    let next : c.pass_member.new.state.next ≡ c.args.state.now.next = ap (λ (s : At). s.next) kept in
+    let next : c.pass_member.new.state.next ≡ c.args.state.now.next = ap (λ (s : Position). s.next) kept in
     let still : c.pass_member.new.state.steps ≡ c.args.state.now.steps = omega (arith, next, c.pass_member.ensures.grows, c.pass_member.ensures.pays) in
     omega (arith, next, still, c.in_ok-read_enclosed.ensures.cost)
 
@@ -155,9 +155,9 @@ enter_member-requires-clause-state c =
     let m = message_of c.args.self.now.bytes.now c.args.self.now.handles.now in
     let old = at_of c.args.state.now in
     let kept : at_of c.pass_member.new.state ≡ old = c.pass_member.ensures.kept c.if-pass_member.false in
-    let next : c.pass_member.new.state.next ≡ c.args.state.now.next = ap (λ (s : At). s.next) kept in
+    let next : c.pass_member.new.state.next ≡ c.args.state.now.next = ap (λ (s : Position). s.next) kept in
     let still : c.pass_member.new.state.steps ≡ c.args.state.now.steps = omega (arith, next, c.pass_member.ensures.grows, c.pass_member.ensures.pays) in
-    subst (λ (s : At). StateFine m s) (sym kept) c.requires.state
+    subst (λ (s : Position). StateFine m s) (sym kept) c.requires.state
 
 pub returns-in_err-frame-clause-fault_is_true : goal.returns-in_err-frame-clause-fault_is_true
 returns-in_err-frame-clause-fault_is_true c =
@@ -165,10 +165,10 @@ returns-in_err-frame-clause-fault_is_true c =
     let m = message_of c.args.self.now.bytes.now c.args.self.now.handles.now in
     let old = at_of c.args.state.now in
     let kept : at_of c.pass_member.new.state ≡ old = c.pass_member.ensures.kept c.if-pass_member.false in
-    let next : c.pass_member.new.state.next ≡ c.args.state.now.next = ap (λ (s : At). s.next) kept in
+    let next : c.pass_member.new.state.next ≡ c.args.state.now.next = ap (λ (s : Position). s.next) kept in
     let still : c.pass_member.new.state.steps ≡ c.args.state.now.steps = omega (arith, next, c.pass_member.ensures.grows, c.pass_member.ensures.pays) in
     passed_on c.from_residual-in_err-frame.result c.in_err-frame.field-0.0 _ c.from_residual-in_err-frame.ensures.1
-    (subst (λ (s : At). BreaksMember (declarations_of t) m c.args.depth (Some (ty.named c.args.entry)) c.args.envelope s c.in_err-frame.field-0.0) kept c.in_err-frame.ensures.fault_is_true)
+    (subst (λ (s : Position). BreaksMember (declarations_of t) m c.args.depth (Some (ty.named c.args.entry)) c.args.envelope s c.in_err-frame.field-0.0) kept c.in_err-frame.ensures.fault_is_true)
 
 pub returns-clause-ok : goal.returns-clause-ok
 returns-clause-ok c =
@@ -176,14 +176,14 @@ returns-clause-ok c =
     let m = message_of c.args.self.now.bytes.now c.args.self.now.handles.now in
     let old = at_of c.args.state.now in
     let kept : at_of c.pass_member.new.state ≡ old = c.pass_member.ensures.kept c.if-pass_member.false in
-    let next : c.pass_member.new.state.next ≡ c.args.state.now.next = ap (λ (s : At). s.next) kept in
+    let next : c.pass_member.new.state.next ≡ c.args.state.now.next = ap (λ (s : Position). s.next) kept in
     let still : c.pass_member.new.state.steps ≡ c.args.state.now.steps = omega (arith, next, c.pass_member.ensures.grows, c.pass_member.ensures.pays) in
     let mid = at_of c.pass_member.new.state in
     let new = at_of c.enter_member.new.state in
     let x = c.in_ok-frame.ensures in
     let steps = x.steps in
     let o = opens_known t m c.args.depth c.args.envelope mid new x.state c.args.entry c.in_ok-frame.frame x.grows x.ok x.breaks x.fine x.deeper x.work in
-    subst (λ (s : At). Opens t m c.args.depth (Some (ty.named c.args.entry)) c.args.envelope s new (Some c.in_ok-frame.frame)) kept o
+    subst (λ (s : Position). Opens t m c.args.depth (Some (ty.named c.args.entry)) c.args.envelope s new (Some c.in_ok-frame.frame)) kept o
 
 pub returns-clause-pays : goal.returns-clause-pays
 returns-clause-pays c =
@@ -191,7 +191,7 @@ returns-clause-pays c =
     let m = message_of c.args.self.now.bytes.now c.args.self.now.handles.now in
     let old = at_of c.args.state.now in
     let kept : at_of c.pass_member.new.state ≡ old = c.pass_member.ensures.kept c.if-pass_member.false in
-    let next : c.pass_member.new.state.next ≡ c.args.state.now.next = ap (λ (s : At). s.next) kept in
+    let next : c.pass_member.new.state.next ≡ c.args.state.now.next = ap (λ (s : Position). s.next) kept in
     let still : c.pass_member.new.state.steps ≡ c.args.state.now.steps = omega (arith, next, c.pass_member.ensures.grows, c.pass_member.ensures.pays) in
     let mid = at_of c.pass_member.new.state in
     let new = at_of c.enter_member.new.state in

@@ -2,8 +2,8 @@ use Rattle.fidl_decode.proofs.Fitting.{not_fewer}
 use Rattle.std.proofs.Common.{◌≡◌, refl, ◌+◌, ◌-◌, ◌≤◌, ap, subst, ◌∙◌, arith}
 use Rattle.fidl_table_format.specs.declared.record.Entry.{Entry}
 use Rattle.fidl_table_format.specs.Section.{header_of}
-use Rattle.fidl_decode.specs.declared.frame.Left.{Left}
-use Rattle.fidl_decode.specs.declared.frame.Left.TheVariants.{Rows}
+use Rattle.fidl_decode.specs.declared.frame.Remaining.{Remaining}
+use Rattle.fidl_decode.specs.declared.frame.Remaining.TheVariants.{Rows}
 use Rattle.fidl_decode.specs.Machine.{LeftFine, Turns, at_of}
 use Rattle.fidl_decode.specs.Faults.{message_of}
 use Rattle.std.specs.Prelude.{Some}
@@ -15,7 +15,7 @@ use Rattle.fidl_decode.proofs.decoder.Decoder.read_last.Goals as goal
 
 pub row-row-requires : goal.row-row-requires
 row-row-requires c =
-    let left : c.args.first + c.args.count ≤ (header_of c.args.self.now.table.now).rows = subst (λ (l : Left). LeftFine c.args.self.now.table.now l) c.requires.left c.requires.frame.left in
+    let left : c.args.first + c.args.count ≤ (header_of c.args.self.now.table.now).rows = subst (λ (l : Remaining). LeftFine c.args.self.now.table.now l) c.requires.left c.requires.frame.left in
     omega (arith, left, c.if-count-ne1.false)
 
 pub overflow_add-read : goal.overflow_add-read
@@ -97,8 +97,8 @@ visit-requires-clause-room c =
     let room = last_room t c.args.self.now.fine m c.args.frame c.args.first c.row-row.result last c.row-row.ensures.value (at_of c.args.state.now) c.requires.frame c.requires.state in
     omega (arith, room.1, room.2)
 
-pub visit-requires-clause-inside : goal.visit-requires-clause-inside
-visit-requires-clause-inside c =
+pub visit-requires-clause-in_envelope : goal.visit-requires-clause-in_envelope
+visit-requires-clause-in_envelope c =
     let t = c.args.self.now.table.now in
     let m = message_of c.args.self.now.bytes.now c.args.self.now.handles.now in
     let last : c.args.frame.left ≡ Rows c.args.first 1 = c.requires.left ∙ ap (λ n. Rows c.args.first n) c.if-count-ne1.false in

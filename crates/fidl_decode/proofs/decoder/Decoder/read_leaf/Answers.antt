@@ -16,7 +16,7 @@ use Rattle.fidl_table_format.specs.Terms.{underlying, mask_of, strict_values, de
 use Rattle.fidl_table_format.specs.declared.record.Entry.{Entry}
 use Rattle.fidl_decode.specs.Invariants.{EnumFine}
 use Rattle.fidl_decode.specs.Breaks.{BreaksField, BreaksHandle, BreaksText}
-use Rattle.fidl_decode.specs.State.{At}
+use Rattle.fidl_decode.specs.State.{Position}
 use Rattle.fidl_decode.proofs.Turning.{on_ok_from, on_ok_two, on_ok_three}
 use Rattle.std.proofs.lemmas.Result.{IfErr-weaker}
 use Rattle.fidl_table_format.specs.declared.kind.EntryKind.{EntryKind}
@@ -65,7 +65,7 @@ pub returns-in-Enum-clause-ok : goal.returns-in-Enum-clause-ok
 returns-in-Enum-clause-ok c =
     let is : kind_of (entry_at c.args.self.now.table.now c.args.entry).kind ≡ Some Enum = c.requires.kind ∙ ap (λ (k : EntryKind). Some k) c.in-Enum.is in
     let own : c.entry-in-Enum.result ≡ entry_at c.args.self.now.table.now c.args.entry = c.entry-in-Enum.ensures.value in
-    on_ok_from c.read_enum.result (λ p. subst (λ (s : At). Visits c.args.self.now.table.now (message_of c.args.self.now.bytes.now c.args.self.now.handles.now) c.args.depth c.args.entry c.args.place (at_of c.args.state.now) s (c.read_enum.new.state.steps - c.args.state.now.steps) None) (sym c.read_enum.ensures.same) (visits_enum c.args.self.now.table.now c.args.self.now.fine (message_of c.args.self.now.bytes.now c.args.self.now.handles.now) c.args.depth c.args.entry c.args.place (at_of c.args.state.now) c.requires.entry c.requires.state c.requires.depth is (c.read_enum.new.state.steps - c.args.state.now.steps) (omega (arith, c.read_enum.ensures.spends.most)) c.requires.room (λ i. omega (arith, c.args.self.now.octets i)) (subst (λ (d : Entry). IfSome (strict_values c.args.self.now.table.now (header_of c.args.self.now.table.now) d) (λ values. Contains values (number_standing (underlying d) c.args.self.now.bytes.now c.args.place))) own p))) c.read_enum.ensures.ok
+    on_ok_from c.read_enum.result (λ p. subst (λ (s : Position). Visits c.args.self.now.table.now (message_of c.args.self.now.bytes.now c.args.self.now.handles.now) c.args.depth c.args.entry c.args.place (at_of c.args.state.now) s (c.read_enum.new.state.steps - c.args.state.now.steps) None) (sym c.read_enum.ensures.same) (visits_enum c.args.self.now.table.now c.args.self.now.fine (message_of c.args.self.now.bytes.now c.args.self.now.handles.now) c.args.depth c.args.entry c.args.place (at_of c.args.state.now) c.requires.entry c.requires.state c.requires.depth is (c.read_enum.new.state.steps - c.args.state.now.steps) (omega (arith, c.read_enum.ensures.spends.most)) c.requires.room (λ i. omega (arith, c.args.self.now.octets i)) (subst (λ (d : Entry). IfSome (strict_values c.args.self.now.table.now (header_of c.args.self.now.table.now) d) (λ values. Contains values (number_standing (underlying d) c.args.self.now.bytes.now c.args.place))) own p))) c.read_enum.ensures.ok
 
 pub returns-in-Enum-clause-fault_is_true : goal.returns-in-Enum-clause-fault_is_true
 returns-in-Enum-clause-fault_is_true c =

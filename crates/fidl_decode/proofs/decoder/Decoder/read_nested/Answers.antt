@@ -7,7 +7,7 @@ use Rattle.fidl_table_format.specs.declared.record.Entry.{Entry}
 use Rattle.fidl_table_format.specs.Kind.{kind_of}
 use Rattle.fidl_table_format.specs.Section.{header_of, entry_at, row_at}
 use Rattle.fidl_decode.specs.declared.frame.Frame.{Frame}
-use Rattle.fidl_decode.specs.declared.frame.Left.TheVariants.{Rows}
+use Rattle.fidl_decode.specs.declared.frame.Remaining.TheVariants.{Rows}
 use Rattle.fidl_decode.specs.Machine.{Turns, at_of, turn_work, IsPlain, rows_left}
 use Rattle.fidl_decode.specs.Faults.{message_of}
 use Rattle.fidl_decode.proofs.Turning.{passed_on}

@@ -5,8 +5,8 @@ use Rattle.std.specs.Prelude.{Some}
 use Rattle.fidl_table_format.specs.declared.record.Row as raw
 use Rattle.fidl_table_format.specs.Kind.{kind_of}
 use Rattle.fidl_table_format.specs.Section.{header_of, entry_at}
-use Rattle.fidl_decode.specs.declared.frame.Left.{Left}
-use Rattle.fidl_decode.specs.declared.frame.Left.TheVariants.{Rows}
+use Rattle.fidl_decode.specs.declared.frame.Remaining.{Remaining}
+use Rattle.fidl_decode.specs.declared.frame.Remaining.TheVariants.{Rows}
 use Rattle.fidl_decode.specs.Machine.{LeftFine, Turns, at_of}
 use Rattle.fidl_decode.specs.Faults.{message_of}
 use Rattle.fidl_decode.proofs.Turning.{passed_on}
@@ -16,7 +16,7 @@ use Rattle.fidl_decode.proofs.decoder.Decoder.read_row.Goals as goal
 
 pub row-row-requires : goal.row-row-requires
 row-row-requires c =
-    let left : c.args.first + c.args.count ≤ (header_of c.args.self.now.table.now).rows = subst (λ (l : Left). LeftFine c.args.self.now.table.now l) c.requires.left c.requires.frame.left in
+    let left : c.args.first + c.args.count ≤ (header_of c.args.self.now.table.now).rows = subst (λ (l : Remaining). LeftFine c.args.self.now.table.now l) c.requires.left c.requires.frame.left in
     omega (arith, left, c.requires.some)
 
 pub overflow_add-front : goal.overflow_add-front

@@ -8,7 +8,7 @@ use Rattle.fidl_wire.specs.Standing.{Stands}
 use Rattle.fidl_wire.proofs.Sizes.{le-next_multiple_of}
 use Rattle.fidl_table_format.specs.Terms.{declarations_of, is_optional}
 use Rattle.fidl_decode.specs.Faults.{message_of}
-use Rattle.fidl_decode.specs.State.{At, linked}
+use Rattle.fidl_decode.specs.State.{Position, linked}
 use Rattle.fidl_decode.specs.Machine.{Leads, at_of}
 use Rattle.fidl_decode.proofs.Written.{absent_leads, text_leads}
 use Rattle.fidl_decode.proofs.decoder.Decoder.read_text.Goals as goal
@@ -28,7 +28,7 @@ returns-clause-ok c =
     let gap : from + c.next_multiple_of-size.result - (from + n) ≡ next_multiple_of n 8 - n = omega (arith, value) in
     let same : linked (c.args.place + 8) n (at_of c.args.state.now) ≡ record { next = from + c.next_multiple_of-size.result; handle = c.args.state.now.handle; objects = c.link.new.self.objects; records = c.link.new.self.records }
     = λ i. record { next = from + sym value i; handle = c.args.state.now.handle; objects = sym c.link.ensures.objects i; records = sym c.link.ensures.records i } in
-    subst (λ (s : At). Leads (declarations_of c.args.self.now.table.now) (message_of c.args.self.now.bytes.now c.args.self.now.handles.now) c.args.depth (ty.string (is_optional c.args.entry.now) c.args.entry.now.bound) c.args.place (at_of c.args.state.now) s) same
+    subst (λ (s : Position). Leads (declarations_of c.args.self.now.table.now) (message_of c.args.self.now.bytes.now c.args.self.now.handles.now) c.args.depth (ty.string (is_optional c.args.entry.now) c.args.entry.now.bound) c.args.place (at_of c.args.state.now) s) same
     (text_leads (declarations_of c.args.self.now.table.now) (message_of c.args.self.now.bytes.now c.args.self.now.handles.now) (omega (arith, short)) c.args.depth (is_optional c.args.entry.now) c.args.entry.now.bound c.args.place (at_of c.args.state.now) (omega (arith, c.requires.depth, c.if-depth-eq-MAX_DEPTH.false)) (c.is_present.ensures.0 c.if-not-is_present.false) (omega (arith, c.requires.room)) (λ i. omega (arith, c.args.self.now.octets i)) n (sym c.u64_at-count.ensures) (omega (arith, c.if-count-entry.false)) (omega (arith, value, within, c.if-size-rest.false)) (le-next_multiple_of n 8)
     (c.is_text.ensures.0 c.if-not-is_text.false) (subst (λ k. Stands c.args.self.now.bytes.now (from + n) (zeros k)) gap c.in_ok-zeros_at.ensures.ok))
 

@@ -6,11 +6,11 @@ use Rattle.fidl_table_format.specs.declared.record.Entry.{Entry}
 use Rattle.fidl_table_format.specs.declared.kind.EntryKind.TheVariants.{Vector}
 use Rattle.fidl_table_format.specs.Section.{header_of, entry_at}
 use Rattle.fidl_table_format.specs.Terms.{is_optional}
-use Rattle.fidl_decode.specs.declared.frame.Left.TheVariants.{Elements}
+use Rattle.fidl_decode.specs.declared.frame.Remaining.TheVariants.{Elements}
 use Rattle.fidl_decode.specs.declared.frame.Frame.{Frame}
 use Rattle.fidl_decode.specs.Faults.{message_of}
 use Rattle.fidl_decode.specs.Breaks.{count_at}
-use Rattle.fidl_decode.specs.State.{At, linked}
+use Rattle.fidl_decode.specs.State.{Position, linked}
 use Rattle.fidl_decode.specs.Machine.{Visits, VisitFine, at_of}
 use Rattle.fidl_decode.proofs.Visiting.{fine_as}
 use Rattle.fidl_decode.proofs.Listed.{count_fits, visits_absent_vector, visits_vector, vector_fine}
@@ -53,14 +53,14 @@ returns-clause-ok c =
     let number : c.u64_at-count.result ≡ n = c.u64_at-count.ensures in
     let bound : c.entry-e.result.bound ≡ d.bound = ap (λ (d : Entry). d.bound) holder in
     let value : c.next_multiple_of-size.result ≡ next_multiple_of (inner.size * n) 8 = c.next_multiple_of-size.ensures.value ∙ (λ i. next_multiple_of ((element i).size * number i) 8) in
-    let frame : Entry → Entry → (k size : ℕ) → Option Frame = λ h e k size. Some (record { left = Elements h.first e.size k; base = old.next; done = 0; size = size; nest = e.nest + 1; depth = c.args.depth + 1; inside = 0 }) in
+    let frame : Entry → Entry → (k size : ℕ) → Option Frame = λ h e k size. Some (record { left = Elements h.first e.size k; base = old.next; done = 0; size = size; nest = e.nest + 1; depth = c.args.depth + 1; in_envelope = 0 }) in
     let found : frame d inner n (next_multiple_of (inner.size * n) 8) ≡ frame c.entry-e.result c.entry-element.result c.u64_at-count.result c.next_multiple_of-size.result
     = λ i. frame (sym holder i) (sym element i) (sym number i) (sym value i) in
     let same : linked (c.args.place + 8) (inner.size * n) old ≡ record { next = old.next + c.next_multiple_of-size.result; handle = old.handle; objects = c.link.new.self.objects; records = c.link.new.self.records }
     = λ i. record { next = old.next + sym value i; handle = old.handle; objects = sym c.link.ensures.objects i; records = sym c.link.ensures.records i } in
     let opened = visits_vector t c.args.self.now.fine m c.args.depth c.args.entry c.args.place old c.requires.entry c.requires.kind c.requires.state c.requires.depth (c.args.state.now.steps - c.args.state.now.steps) (omega arith) c.in-Present.ensures (omega (arith, c.requires.depth, c.if-depth-eq-MAX_DEPTH.false)) (omega (arith, number, bound, c.if-count-e.false))
     (omega (arith, value, c.if-size-rest.false)) (omega (arith, c.requires.room)) (λ i. omega (arith, c.args.self.now.octets i)) in
-    subst (λ (s : At). Visits t m c.args.depth c.args.entry c.args.place old s (c.args.state.now.steps - c.args.state.now.steps) (frame c.entry-e.result c.entry-element.result c.u64_at-count.result c.next_multiple_of-size.result)) same
+    subst (λ (s : Position). Visits t m c.args.depth c.args.entry c.args.place old s (c.args.state.now.steps - c.args.state.now.steps) (frame c.entry-e.result c.entry-element.result c.u64_at-count.result c.next_multiple_of-size.result)) same
     (subst (λ (o : Option Frame). Visits t m c.args.depth c.args.entry c.args.place old (linked (c.args.place + 8) (inner.size * n) old) (c.args.state.now.steps - c.args.state.now.steps) o) found opened)
 
 pub returns-clause-fine : goal.returns-clause-fine
@@ -75,7 +75,7 @@ returns-clause-fine c around few =
     let element : c.entry-element.result ≡ inner = c.entry-element.ensures.value ∙ ap (λ (d : Entry). entry_at t d.first) holder in
     let number : c.u64_at-count.result ≡ n = c.u64_at-count.ensures in
     let value : c.next_multiple_of-size.result ≡ next_multiple_of (inner.size * n) 8 = c.next_multiple_of-size.ensures.value ∙ (λ i. next_multiple_of ((element i).size * number i) 8) in
-    let frame : Entry → Entry → (k size : ℕ) → Option Frame = λ h e k size. Some (record { left = Elements h.first e.size k; base = old.next; done = 0; size = size; nest = e.nest + 1; depth = c.args.depth + 1; inside = 0 }) in
+    let frame : Entry → Entry → (k size : ℕ) → Option Frame = λ h e k size. Some (record { left = Elements h.first e.size k; base = old.next; done = 0; size = size; nest = e.nest + 1; depth = c.args.depth + 1; in_envelope = 0 }) in
     let found : frame d inner n (next_multiple_of (inner.size * n) 8) ≡ frame c.entry-e.result c.entry-element.result c.u64_at-count.result c.next_multiple_of-size.result
     = λ i. frame (sym holder i) (sym element i) (sym number i) (sym value i) in
     let opened = vector_fine t c.args.self.now.fine m c.args.depth c.args.entry c.args.place old c.requires.entry c.requires.kind c.requires.state c.requires.depth (omega (arith, c.requires.depth, c.if-depth-eq-MAX_DEPTH.false)) (omega (arith, value, c.if-size-rest.false)) around few in

@@ -7,7 +7,7 @@ use Rattle.fidl_decode.specs.declared.fault.DecodeFault.TheVariants.{BadEnvelope
 use Rattle.fidl_decode.specs.Faults.{message_of}
 use Rattle.fidl_decode.specs.Envelopes.{Contained}
 use Rattle.fidl_wire.specs.Envelope.{bytes_below, handles_below}
-use Rattle.fidl_decode.specs.State.{At, opened, linked, passed}
+use Rattle.fidl_decode.specs.State.{Position, opened, linked, passed}
 use Rattle.fidl_decode.specs.Machine.{at_of}
 use Rattle.fidl_decode.proofs.Skipped.{AreHandles, skips_inside, skips_below, unknown_refuse, not_held, whole_eights}
 use Rattle.fidl_decode.proofs.decoder.Decoder.skip_member.Goals.{then-flags-ne0-via-then-flags-ne0, then-flags-ne0-via-else-flags-ne0+then-counted-eq0, then-flags-ne0-via-else-flags-ne0+else-counted-eq0+then-counted-ne0}
@@ -26,7 +26,7 @@ returns-then-flags-eq1 c =
     let m = message_of c.args.self.now.bytes.now c.args.self.now.handles.now in
     let ds = declarations_of c.args.self.now.table.now in
     let old = at_of c.args.state.now in
-    let new : At = record { next = old.next; handle = old.handle + c.handle_count_at-handles.result; objects = c.record.new.self.objects; records = c.record.new.self.records } in
+    let new : Position = record { next = old.next; handle = old.handle + c.handle_count_at-handles.result; objects = c.record.new.self.objects; records = c.record.new.self.records } in
     let many : c.handle_count_at-handles.result ≡ handles_below m.bytes c.args.envelope = c.handle_count_at-handles.ensures in
     let led : passed (handles_below m.bytes c.args.envelope) (opened c.args.envelope old) ≡ new
     = λ i. record { next = old.next; handle = old.handle + sym many i; objects = sym c.record.ensures.objects i; records = sym c.record.ensures.records i } in
@@ -34,7 +34,7 @@ returns-then-flags-eq1 c =
     let are : AreHandles m.handles old.handle (handles_below m.bytes c.args.envelope) = subst (λ k. AreHandles m.handles old.handle k) many c.are_handles.ensures in
     let x = skips_inside ds c.args.self.now.fine.laid_out m (c.args.self.now.short, c.requires.state.few) c.args.depth c.args.envelope old c.requires.room (λ i. omega (arith, c.args.self.now.octets i)) are some (sym c.flags_at-flags.ensures ∙ c.if-flags-eq1.true) c.requires.depth in
     let inner = c.requires.state.handle in
-    let ok : (to : At) → Contained ds m c.args.depth None c.args.envelope old to ↔ (new ≡ to) = subst (λ (s : At). (to : At) → Contained ds m c.args.depth None c.args.envelope old to ↔ (s ≡ to)) led x in
+    let ok : (to : Position) → Contained ds m c.args.depth None c.args.envelope old to ↔ (new ≡ to) = subst (λ (s : Position). (to : Position) → Contained ds m c.args.depth None c.args.envelope old to ↔ (s ≡ to)) led x in
     record { ok = ok; state = record { next = c.requires.state.next; handle = omega (arith, inner, c.if-handles-self.false); few = c.requires.state.few }; fault_is_true = tt; steps = refl; grows = omega arith }
 
 pub returns-then-flags-ne0 : goal.returns-then-flags-ne0
@@ -81,7 +81,7 @@ returns c =
     let m = message_of c.args.self.now.bytes.now c.args.self.now.handles.now in
     let ds = declarations_of c.args.self.now.table.now in
     let old = at_of c.args.state.now in
-    let new : At = record { next = old.next + c.byte_count_at-counted.result; handle = old.handle + c.handle_count_at-handles.result; objects = c.link.new.self.objects; records = c.link.new.self.records } in
+    let new : Position = record { next = old.next + c.byte_count_at-counted.result; handle = old.handle + c.handle_count_at-handles.result; objects = c.link.new.self.objects; records = c.link.new.self.records } in
     let many : c.handle_count_at-handles.result ≡ handles_below m.bytes c.args.envelope = c.handle_count_at-handles.ensures in
     let much : c.byte_count_at-counted.result ≡ bytes_below m.bytes c.args.envelope = c.byte_count_at-counted.ensures in
     let whole : IsUnknownLength false (bytes_below m.bytes c.args.envelope) = (omega (arith, c.if-counted-eq0.false, much), omega (arith, c.if-counted-ne0.false, much)) in
@@ -96,5 +96,5 @@ returns c =
     let x = skips_below ds c.args.self.now.fine.laid_out m (c.args.self.now.short, c.requires.state.few) c.args.depth c.args.envelope old c.requires.room (λ i. omega (arith, c.args.self.now.octets i)) are some (sym c.flags_at-flags.ensures ∙ c.if-flags-ne0.false) whole (omega (arith, c.requires.depth, c.if-depth-eq-MAX_DEPTH.false)) fits in
     let inner = c.requires.state.handle in
     let bytes = c.requires.state.next in
-    let ok : (to : At) → Contained ds m c.args.depth None c.args.envelope old to ↔ (new ≡ to) = subst (λ (s : At). (to : At) → Contained ds m c.args.depth None c.args.envelope old to ↔ (s ≡ to)) led x in
+    let ok : (to : Position) → Contained ds m c.args.depth None c.args.envelope old to ↔ (new ≡ to) = subst (λ (s : Position). (to : Position) → Contained ds m c.args.depth None c.args.envelope old to ↔ (s ≡ to)) led x in
     record { ok = ok; state = record { next = omega (arith, bytes, c.if-counted-self.false); handle = omega (arith, inner, c.if-handles-self-2.false); few = c.requires.state.few }; fault_is_true = tt; steps = refl; grows = omega arith }

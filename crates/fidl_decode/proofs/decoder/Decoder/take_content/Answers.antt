@@ -4,7 +4,7 @@ use Rattle.std.proofs.Common.{◌+◌, ◌-◌, sym, subst, arith}
 use Rattle.std.specs.Prelude.{Some, None}
 use Rattle.fidl_decode.specs.declared.fault.DecodeFault.TheVariants.{WrongCounts}
 use Rattle.fidl_decode.specs.declared.frame.Frame.{Frame}
-use Rattle.fidl_decode.specs.declared.frame.Left.TheVariants.{Content}
+use Rattle.fidl_decode.specs.declared.frame.Remaining.TheVariants.{Content}
 use Rattle.fidl_decode.specs.Machine.{Turns, BreaksFrame, FrameFine, IsUntil, at_of}
 use Rattle.fidl_decode.specs.Faults.{message_of}
 use Rattle.fidl_decode.proofs.Leaves.{going_on, same_frame}
@@ -137,8 +137,8 @@ visit-requires-clause-room c =
     let own = subst (λ (f : Frame). FrameFine t m.bytes f) same c.requires.frame in
     let fits = content_room t c.args.self.now.fine m c.args.frame c.args.entry c.args.size c.args.count c.args.until (at_of c.args.state.now) own c.requires.state (omega (arith, c.if-count-eq0.false)) in omega (arith, fits.0, fits.1)
 
-pub visit-requires-clause-inside : goal.visit-requires-clause-inside
-visit-requires-clause-inside c =
+pub visit-requires-clause-in_envelope : goal.visit-requires-clause-in_envelope
+visit-requires-clause-in_envelope c =
     let t = c.args.self.now.table.now in
     let m = message_of c.args.self.now.bytes.now c.args.self.now.handles.now in
     let same = same_frame c.args.frame (Content c.args.entry c.args.size c.args.count c.args.until) c.requires.left in

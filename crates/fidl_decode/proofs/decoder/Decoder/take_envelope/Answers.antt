@@ -5,7 +5,7 @@ use Rattle.fidl_wire.specs.Encoding.{zeros}
 use Rattle.fidl_wire.specs.Standing.{Stands}
 use Rattle.fidl_table_format.specs.Terms.{declarations_of, members_of}
 use Rattle.fidl_decode.specs.declared.frame.Frame.{Frame}
-use Rattle.fidl_decode.specs.declared.frame.Left.TheVariants.{Envelopes}
+use Rattle.fidl_decode.specs.declared.frame.Remaining.TheVariants.{Envelopes}
 use Rattle.fidl_decode.specs.Breaks.{BreaksMember}
 use Rattle.fidl_decode.specs.Machine.{Turns, Opens, PaysEnvelope, BreaksFrame, FrameFine, member_term, at_of}
 use Rattle.fidl_decode.specs.Faults.{message_of}

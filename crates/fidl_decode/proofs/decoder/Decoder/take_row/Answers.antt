@@ -113,7 +113,7 @@ returns-clause-ok c =
     let size : c.entry.result.size ≡ size_of (declarations_of c.args.self.now.table.now) (ty.named c.in-Some.member.entry) = ap (λ (d : Entry). d.size) c.entry.ensures.value ∙ sym s in
     let before = c.args.state.now.steps + (c.args.frame.base + c.in-Some.member.offset - (c.args.frame.base + c.args.frame.done) + 1) in
     let spent : (c.args.frame.base + c.in-Some.member.offset - (c.args.frame.base + c.args.frame.done) + 1) + (c.visit.new.state.steps - before) ≡ c.visit.new.state.steps - c.args.state.now.steps = omega (arith, c.visit.ensures.spends.least) in
-    subst (λ (n : ℕ). Turns c.args.self.now.table.now (message_of c.args.self.now.bytes.now c.args.self.now.handles.now) c.args.frame (at_of c.args.state.now) (at_of c.visit.new.state) n (record { below = c.in_ok-below.below; rest = Some (record { left = c.in-Some.member.left; base = c.args.frame.base; done = c.in-Some.member.offset + c.entry.result.size; size = c.args.frame.size; nest = c.args.frame.nest; depth = c.args.frame.depth; inside = c.args.frame.inside }) })) spent
+    subst (λ (n : ℕ). Turns c.args.self.now.table.now (message_of c.args.self.now.bytes.now c.args.self.now.handles.now) c.args.frame (at_of c.args.state.now) (at_of c.visit.new.state) n (record { below = c.in_ok-below.below; rest = Some (record { left = c.in-Some.member.left; base = c.args.frame.base; done = c.in-Some.member.offset + c.entry.result.size; size = c.args.frame.size; nest = c.args.frame.nest; depth = c.args.frame.depth; in_envelope = c.args.frame.in_envelope }) })) spent
     (turns_more c.args.self.now.table.now c.args.self.now.fine (message_of c.args.self.now.bytes.now c.args.self.now.handles.now) c.args.frame (at_of c.args.state.now) c.requires.frame c.requires.state (let x : Row = record { offset = c.in-Some.member.offset; entry = c.in-Some.member.entry } in x) c.in-Some.member.left c.in-Some.ensures.some c.requires.plain (positive c.args.self.now.table.now c.args.self.now.fine c.in-Some.member.entry f.0) c.in-Some.ensures.left c.in-Some.ensures.plain c.in_ok-below.below _ _ (c.visit.new.state.steps - before) (ap (λ n. c.in-Some.member.offset + n) size) c.in_ok-zeros_at-2.ensures.ok c.in_ok-below.ensures.ok c.in_ok-below.ensures.fine)
 
 pub returns-clause-spends : goal.returns-clause-spends
@@ -145,8 +145,8 @@ visit-requires-clause-budget c =
     let room = c.requires.frame.room in
     omega (arith, r, room, c.args.self.now.short, c.requires.steps)
 
-pub visit-requires-clause-inside : goal.visit-requires-clause-inside
-visit-requires-clause-inside c =
+pub visit-requires-clause-in_envelope : goal.visit-requires-clause-in_envelope
+visit-requires-clause-in_envelope c =
     let f = row_fine c.args.self.now.table.now c.args.self.now.fine (message_of c.args.self.now.bytes.now c.args.self.now.handles.now) c.args.frame (at_of c.args.state.now) c.requires.frame c.requires.state (let x : Row = record { offset = c.in-Some.member.offset; entry = c.in-Some.member.entry } in x) c.in-Some.member.left c.in-Some.ensures.some in
     row_inside c.args.self.now.table.now c.args.self.now.fine (message_of c.args.self.now.bytes.now c.args.self.now.handles.now) c.args.frame (at_of c.args.state.now) c.requires.frame c.requires.state (let x : Row = record { offset = c.in-Some.member.offset; entry = c.in-Some.member.entry } in x) c.in-Some.member.left c.in-Some.ensures.some _ (size_is c.args.self.now.table.now c.args.self.now.fine c.in-Some.member.entry f.0)
 

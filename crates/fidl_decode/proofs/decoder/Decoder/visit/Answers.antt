@@ -28,14 +28,14 @@ unreachable-requires c =
 pub returns-in-Struct-clause-ok : goal.returns-in-Struct-clause-ok
 returns-in-Struct-clause-ok c =
     let is : kind_of (entry_at c.args.self.now.table.now c.args.entry).kind ≡ Some Struct = ap (λ (e : Entry). kind_of e.kind) (sym c.entry-e.ensures.value) ∙ sym c.from_number.ensures ∙ c.in-Some.is ∙ ap (λ (k : EntryKind). Some k) c.in-Struct.is in
-    subst (λ (d : Entry). Visits c.args.self.now.table.now (message_of c.args.self.now.bytes.now c.args.self.now.handles.now) c.args.depth c.args.entry c.args.place (at_of c.args.state.now) (at_of c.args.state.now) (c.args.state.now.steps - c.args.state.now.steps) (Some (struct_frame d c.args.place c.args.depth c.args.inside))) (sym c.entry-e.ensures.value)
-    (visits_struct c.args.self.now.table.now c.args.self.now.fine (message_of c.args.self.now.bytes.now c.args.self.now.handles.now) c.args.depth c.args.entry c.args.place (at_of c.args.state.now) c.requires.entry c.requires.state c.requires.depth c.args.inside (c.args.state.now.steps - c.args.state.now.steps) (omega arith) is c.requires.room)
+    subst (λ (d : Entry). Visits c.args.self.now.table.now (message_of c.args.self.now.bytes.now c.args.self.now.handles.now) c.args.depth c.args.entry c.args.place (at_of c.args.state.now) (at_of c.args.state.now) (c.args.state.now.steps - c.args.state.now.steps) (Some (struct_frame d c.args.place c.args.depth c.args.in_envelope))) (sym c.entry-e.ensures.value)
+    (visits_struct c.args.self.now.table.now c.args.self.now.fine (message_of c.args.self.now.bytes.now c.args.self.now.handles.now) c.args.depth c.args.entry c.args.place (at_of c.args.state.now) c.requires.entry c.requires.state c.requires.depth c.args.in_envelope (c.args.state.now.steps - c.args.state.now.steps) (omega arith) is c.requires.room)
 
 pub returns-in-Struct-clause-fine : goal.returns-in-Struct-clause-fine
 returns-in-Struct-clause-fine c =
     let is : kind_of (entry_at c.args.self.now.table.now c.args.entry).kind ≡ Some Struct = ap (λ (e : Entry). kind_of e.kind) (sym c.entry-e.ensures.value) ∙ sym c.from_number.ensures ∙ c.in-Some.is ∙ ap (λ (k : EntryKind). Some k) c.in-Struct.is in
-    subst (λ (d : Entry). VisitFine c.args.self.now.table.now (message_of c.args.self.now.bytes.now c.args.self.now.handles.now) c.args.depth c.args.inside c.args.entry (Some (struct_frame d c.args.place c.args.depth c.args.inside))) (sym c.entry-e.ensures.value)
-    (struct_fine c.args.self.now.table.now c.args.self.now.fine (message_of c.args.self.now.bytes.now c.args.self.now.handles.now) c.args.depth c.args.entry c.args.place (at_of c.args.state.now) c.requires.entry c.requires.state c.requires.depth c.args.inside is c.requires.room c.requires.inside)
+    subst (λ (d : Entry). VisitFine c.args.self.now.table.now (message_of c.args.self.now.bytes.now c.args.self.now.handles.now) c.args.depth c.args.in_envelope c.args.entry (Some (struct_frame d c.args.place c.args.depth c.args.in_envelope))) (sym c.entry-e.ensures.value)
+    (struct_fine c.args.self.now.table.now c.args.self.now.fine (message_of c.args.self.now.bytes.now c.args.self.now.handles.now) c.args.depth c.args.entry c.args.place (at_of c.args.state.now) c.requires.entry c.requires.state c.requires.depth c.args.in_envelope is c.requires.room c.requires.in_envelope)
 
 pub entry-size-requires : goal.entry-size-requires
 entry-size-requires c =
@@ -47,15 +47,15 @@ pub returns-in-Array-clause-ok : goal.returns-in-Array-clause-ok
 returns-in-Array-clause-ok c =
     let is : kind_of (entry_at c.args.self.now.table.now c.args.entry).kind ≡ Some Array = ap (λ (e : Entry). kind_of e.kind) (sym c.entry-e.ensures.value) ∙ sym c.from_number.ensures ∙ c.in-Some.is ∙ ap (λ (k : EntryKind). Some k) c.in-Array.is in
     let element : c.entry-size.result.size ≡ (entry_at c.args.self.now.table.now (entry_at c.args.self.now.table.now c.args.entry).first).size = ap (λ (d : Entry). d.size) c.entry-size.ensures.value ∙ ap (λ (d : Entry). (entry_at c.args.self.now.table.now d.first).size) c.entry-e.ensures.value in
-    subst (λ (d : Entry). Visits c.args.self.now.table.now (message_of c.args.self.now.bytes.now c.args.self.now.handles.now) c.args.depth c.args.entry c.args.place (at_of c.args.state.now) (at_of c.args.state.now) (c.args.state.now.steps - c.args.state.now.steps) (Some (array_frame d c.entry-size.result.size c.args.place c.args.depth c.args.inside))) (sym c.entry-e.ensures.value)
-    (visits_array c.args.self.now.table.now c.args.self.now.fine (message_of c.args.self.now.bytes.now c.args.self.now.handles.now) c.args.depth c.args.entry c.args.place (at_of c.args.state.now) c.requires.entry c.requires.state c.requires.depth c.args.inside c.entry-size.result.size (c.args.state.now.steps - c.args.state.now.steps) (omega arith) is element c.requires.room)
+    subst (λ (d : Entry). Visits c.args.self.now.table.now (message_of c.args.self.now.bytes.now c.args.self.now.handles.now) c.args.depth c.args.entry c.args.place (at_of c.args.state.now) (at_of c.args.state.now) (c.args.state.now.steps - c.args.state.now.steps) (Some (array_frame d c.entry-size.result.size c.args.place c.args.depth c.args.in_envelope))) (sym c.entry-e.ensures.value)
+    (visits_array c.args.self.now.table.now c.args.self.now.fine (message_of c.args.self.now.bytes.now c.args.self.now.handles.now) c.args.depth c.args.entry c.args.place (at_of c.args.state.now) c.requires.entry c.requires.state c.requires.depth c.args.in_envelope c.entry-size.result.size (c.args.state.now.steps - c.args.state.now.steps) (omega arith) is element c.requires.room)
 
 pub returns-in-Array-clause-fine : goal.returns-in-Array-clause-fine
 returns-in-Array-clause-fine c =
     let is : kind_of (entry_at c.args.self.now.table.now c.args.entry).kind ≡ Some Array = ap (λ (e : Entry). kind_of e.kind) (sym c.entry-e.ensures.value) ∙ sym c.from_number.ensures ∙ c.in-Some.is ∙ ap (λ (k : EntryKind). Some k) c.in-Array.is in
     let element : c.entry-size.result.size ≡ (entry_at c.args.self.now.table.now (entry_at c.args.self.now.table.now c.args.entry).first).size = ap (λ (d : Entry). d.size) c.entry-size.ensures.value ∙ ap (λ (d : Entry). (entry_at c.args.self.now.table.now d.first).size) c.entry-e.ensures.value in
-    subst (λ (d : Entry). VisitFine c.args.self.now.table.now (message_of c.args.self.now.bytes.now c.args.self.now.handles.now) c.args.depth c.args.inside c.args.entry (Some (array_frame d c.entry-size.result.size c.args.place c.args.depth c.args.inside))) (sym c.entry-e.ensures.value)
-    (array_fine c.args.self.now.table.now c.args.self.now.fine (message_of c.args.self.now.bytes.now c.args.self.now.handles.now) c.args.depth c.args.entry c.args.place (at_of c.args.state.now) c.requires.entry c.requires.state c.requires.depth c.args.inside c.entry-size.result.size is element c.requires.room c.requires.inside)
+    subst (λ (d : Entry). VisitFine c.args.self.now.table.now (message_of c.args.self.now.bytes.now c.args.self.now.handles.now) c.args.depth c.args.in_envelope c.args.entry (Some (array_frame d c.entry-size.result.size c.args.place c.args.depth c.args.in_envelope))) (sym c.entry-e.ensures.value)
+    (array_fine c.args.self.now.table.now c.args.self.now.fine (message_of c.args.self.now.bytes.now c.args.self.now.handles.now) c.args.depth c.args.entry c.args.place (at_of c.args.state.now) c.requires.entry c.requires.state c.requires.depth c.args.in_envelope c.entry-size.result.size is element c.requires.room c.requires.in_envelope)
 
 pub returns-in_err-read_leaf-in_default-kind-clause-fault_is_true : goal.returns-in_err-read_leaf-in_default-kind-clause-fault_is_true
 returns-in_err-read_leaf-in_default-kind-clause-fault_is_true c =
@@ -103,7 +103,7 @@ pub returns-in-Union-clause-fine : goal.returns-in-Union-clause-fine
 returns-in-Union-clause-fine c =
     let is : kind_of (entry_at c.args.self.now.table.now c.args.entry).kind ≡ Some Union = ap (λ (e : Entry). kind_of e.kind) (sym c.entry-e.ensures.value) ∙ sym c.from_number.ensures ∙ c.in-Some.is ∙ ap (λ (k : EntryKind). Some k) c.in-Union.is in
     let size : 16 ≡ (entry_at c.args.self.now.table.now c.args.entry).size = size_as c.args.self.now.table.now c.args.self.now.fine c.args.entry Union c.requires.entry is in
-    let outside : 0 ≡ c.args.inside = search (arith, c.requires.inside, size) in
+    let outside : 0 ≡ c.args.in_envelope = search (arith, c.requires.in_envelope, size) in
     subst (λ i. IfOk c.read_union.result (VisitFine c.args.self.now.table.now (message_of c.args.self.now.bytes.now c.args.self.now.handles.now) c.args.depth i c.args.entry)) outside c.read_union.ensures.fine
 
 pub entry-e-requires : goal.entry-e-requires
@@ -218,7 +218,7 @@ pub returns-in-Box-clause-ok : goal.returns-in-Box-clause-ok
 returns-in-Box-clause-ok c = c.read_box.ensures.ok
 
 pub returns-in-Box-clause-fine : goal.returns-in-Box-clause-fine
-returns-in-Box-clause-fine c = c.read_box.ensures.fine c.args.inside (le_one c.args.inside _ c.requires.inside)
+returns-in-Box-clause-fine c = c.read_box.ensures.fine c.args.in_envelope (le_one c.args.in_envelope _ c.requires.in_envelope)
 
 pub returns-in-Box-clause-spends : goal.returns-in-Box-clause-spends
 returns-in-Box-clause-spends c = same_steps _ _ _ c.read_box.ensures.steps
@@ -227,7 +227,7 @@ pub returns-in-Vector-clause-ok : goal.returns-in-Vector-clause-ok
 returns-in-Vector-clause-ok c = c.read_vector.ensures.ok
 
 pub returns-in-Vector-clause-fine : goal.returns-in-Vector-clause-fine
-returns-in-Vector-clause-fine c = c.read_vector.ensures.fine c.args.inside (le_one c.args.inside _ c.requires.inside)
+returns-in-Vector-clause-fine c = c.read_vector.ensures.fine c.args.in_envelope (le_one c.args.in_envelope _ c.requires.in_envelope)
 
 pub returns-in-Vector-clause-spends : goal.returns-in-Vector-clause-spends
 returns-in-Vector-clause-spends c = same_steps _ _ _ c.read_vector.ensures.steps
@@ -236,7 +236,7 @@ pub returns-in-Table-clause-ok : goal.returns-in-Table-clause-ok
 returns-in-Table-clause-ok c = c.read_table.ensures.ok
 
 pub returns-in-Table-clause-fine : goal.returns-in-Table-clause-fine
-returns-in-Table-clause-fine c = c.read_table.ensures.fine c.args.inside (le_one c.args.inside _ c.requires.inside)
+returns-in-Table-clause-fine c = c.read_table.ensures.fine c.args.in_envelope (le_one c.args.in_envelope _ c.requires.in_envelope)
 
 pub returns-in-Table-clause-spends : goal.returns-in-Table-clause-spends
 returns-in-Table-clause-spends c = more_steps _ _ _ _ c.read_table.ensures.spends (omega arith)
