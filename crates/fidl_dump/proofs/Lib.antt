@@ -1,0 +1,9 @@
+pub mod Digits
+pub mod Texts
+pub mod Printing
+pub mod Named
+pub mod Values
+pub mod Cutting
+pub mod Dumping
+pub mod One
+pub mod Refused

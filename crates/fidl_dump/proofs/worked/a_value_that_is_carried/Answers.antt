@@ -1,0 +1,25 @@
+use Rattle.std.proofs.Common.{rules, arith, refl, replicate}
+use Rattle.std.specs.Fmt.{digits}
+use Rattle.fidl_wire.specs.Value.{fields, none}
+use Rattle.fidl_header.specs.Header.{IsHeader}
+use Rattle.fidl_requests.specs.Frame.{message_length, handle_count, message_of, handle_of, handles_of}
+use Rattle.fidl_requests.specs.Samples.{a_frame}
+use Rattle.fidl_dump.specs.Methods.{NamesMethod}
+use Rattle.fidl_dump.specs.Lines.{Holds, valued}
+use Rattle.fidl_dump.specs.Samples.{one_value, value_protocol}
+use Rattle.fidl_dump.proofs.worked.a_value_that_is_carried.Goals as goal
+
+begins : IsHeader (message_of (a_frame 1 0 0 1 (replicate 8 0)))
+unfolding message_length message_of
+begins = record { long = omega arith; magic = refl; version = λ e. absurd (omega (arith, e)); whole = refl }
+
+first : NamesMethod value_protocol 1 0
+first = record { place = 0; at = record { within = omega arith; is = refl }; is = refl }
+
+held : Holds one_value 0 (a_frame 1 0 0 1 (replicate 8 0)) (fields none)
+unfolding message_length handle_count message_of handle_of handles_of
+held = search rules
+
+pub returns : goal.returns
+unfolding message_length message_of digits
+returns c = valued 0 0 (fields none) begins first refl held
