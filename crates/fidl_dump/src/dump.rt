@@ -40,7 +40,8 @@ fn whole_frame(bytes: &[u8]) -> Option<usize>
 /// `Frame` names the first frame without a line, by its number from 1. It is a whole one that is
 /// refused, or the bytes behind all whole ones. The lines of the frames before it are written, and
 /// nothing of it. `Write` comes where a write failed; a front of the lines is then written.
-/// Transaction ids and flexible bits are not judged. It takes no memory.
+/// Each line is handed on before the next frame is read. Transaction ids and flexible bits are not
+/// judged. It takes no memory.
 pub fn dump_frames<W: Write>(
     stream: &Stream<'_, '_>,
     bytes: &[u8],

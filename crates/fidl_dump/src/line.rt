@@ -49,6 +49,16 @@ fn write_named<W: Write>(header: &Header, name: &[u8], out: &mut Output<W>) -> R
     out.write_all(name)
 }
 
+/// Writes the end of a line, and hands on what is still held back.
+fn end_line<W: Write>(text: &[u8], out: &mut Output<W>) -> Result<(), Failed>
+    ensures text { Writes (W.contents out.old.writer) (W.contents out.new.writer) text.now result }
+    ensures kept { OnOk result (out.new.failure ≡ out.old.failure) }
+    ensures failed { OnErr result (IsSome out.new.failure) }
+{
+    out.write_all(text)?;
+    out.flush()
+}
+
 /// Writes the line of a message of an unknown ordinal.
 pub(crate) fn write_unknown<W: Write>(header: &Header, out: &mut Output<W>) -> Result<(), Failed>
     ensures text { Writes (W.contents out.old.writer) (W.contents out.new.writer)
@@ -57,7 +67,7 @@ pub(crate) fn write_unknown<W: Write>(header: &Header, out: &mut Output<W>) -> R
     ensures failed { OnErr result (IsSome out.new.failure) }
 {
     write_front(header, out)?;
-    out.write_all(b" unknown\n")
+    end_line(b" unknown\n", out)
 }
 
 /// Writes the line of a message that carries nothing.
@@ -72,7 +82,7 @@ pub(crate) fn write_bare<W: Write>(
     ensures failed { OnErr result (IsSome out.new.failure) }
 {
     write_named(header, name, out)?;
-    out.write_all(b"\n")
+    end_line(b"\n", out)
 }
 
 /// Writes the line of a message that carries a value.

@@ -17,5 +17,5 @@ pub returns-clause-text : goal.returns-clause-text
 returns-clause-text g c =
     let h = c.args.header.now in
     let n = c.args.name.now in
-    writes_as _ _ _ (bare_line h n) c.write_all.result (bare_is (decimal h.txid) (ordinal_word h.ordinal) n)
-    (writes_then _ _ _ (front_text h ++ codes " " ++ n) (codes "\n") c.write_all.result c.in_ok-write_named.ensures.text c.write_all.ensures.bytes)
+    writes_as _ _ _ (bare_line h n) c.end_line.result (bare_is (decimal h.txid) (ordinal_word h.ordinal) n)
+    (writes_then _ _ _ (front_text h ++ codes " " ++ n) (codes "\n") c.end_line.result c.in_ok-write_named.ensures.text c.end_line.ensures.text)

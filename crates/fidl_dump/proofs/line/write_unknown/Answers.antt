@@ -14,5 +14,5 @@ returns-in_err-write_front-clause-text g c =
 pub returns-clause-text : goal.returns-clause-text
 returns-clause-text g c =
     let h = c.args.header.now in
-    writes_as _ _ _ (unknown_line h) c.write_all.result (unknown_is (decimal h.txid) (ordinal_word h.ordinal))
-    (writes_then _ _ _ (front_text h) (codes " unknown\n") c.write_all.result c.in_ok-write_front.ensures.text c.write_all.ensures.bytes)
+    writes_as _ _ _ (unknown_line h) c.end_line.result (unknown_is (decimal h.txid) (ordinal_word h.ordinal))
+    (writes_then _ _ _ (front_text h) (codes " unknown\n") c.end_line.result c.in_ok-write_front.ensures.text c.end_line.ensures.text)
