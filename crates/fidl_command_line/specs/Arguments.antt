@@ -23,14 +23,17 @@ use Rattle.fidl_command_line.specs.declared.arguments.CompileArguments.{CompileA
 use Rattle.fidl_command_line.specs.declared.arguments.DecodeArguments.{DecodeArguments}
 use Rattle.fidl_command_line.specs.declared.arguments.EncodeArguments.{EncodeArguments}
 use Rattle.fidl_command_line.specs.declared.arguments.TableArguments.{TableArguments}
+use Rattle.fidl_command_line.specs.declared.streams.DumpArguments.{DumpArguments}
+use Rattle.fidl_command_line.specs.declared.streams.ServeArguments.{ServeArguments}
 use Rattle.fidl_command_line.specs.declared.arguments.Listing.{Listing}
 use Rattle.fidl_command_line.specs.declared.arguments.Listing.TheVariants.{Records, Roots, Protocols}
 use Rattle.fidl_command_line.specs.declared.arguments.Arguments.{Arguments}
 use Rattle.fidl_command_line.specs.declared.arguments.Arguments.TheVariants.{Compile, Decode, Table}
 use Rattle.fidl_command_line.specs.declared.arguments.Arguments.TheVariants.{Explain, Encode}
+use Rattle.fidl_command_line.specs.declared.arguments.Arguments.TheVariants.{Dump, Serve}
 use Rattle.fidl_wire.specs.declared.handle.HandleInfo.{HandleInfo}
 use Rattle.fidl_command_line.specs.CommandLine.{program, GivesCompile, GivesDecode, GivesTable}
-use Rattle.fidl_command_line.specs.CommandLine.{GivesExplain, GivesEncode}
+use Rattle.fidl_command_line.specs.CommandLine.{GivesExplain, GivesEncode, GivesDump, GivesServe}
 use Rattle.fidl_command_line.specs.Contents.{IsContent, IsMessage, IsNoMessage}
 use Rattle.fidl_command_line.specs.Handles.{IsDecimal, IsHandleText}
 use Rattle.fidl_command_line.specs.Complaints.{handle_line}
@@ -155,6 +158,30 @@ IsNoTable rows TwoLists = listing_given rows ≡ None
 IsNoTable rows Memory = ⊤
 IsNoTable rows _ = ⊥
 
+-- the values of the arguments are these arguments of `dump`
+pub record IsDump (rows : List Row) (given : DumpArguments) : Type 0 where
+  pub table : first_of (codes "TABLE") rows ≡ Some given.table.now
+  pub protocol : first_of (codes "PROTOCOL") rows ≡ Some given.protocol.now
+  pub file : first_of (codes "FILE") rows ≡ Some given.file.now
+  pub response : given.response ≡ is_given (codes "response") rows
+
+-- why the values of the arguments are no arguments of `dump`
+abbrev pub IsNoDump : List Row → Unread → Type 0
+IsNoDump rows Missing = (first_of (codes "TABLE") rows ≡ None)
+    ⊎ (first_of (codes "PROTOCOL") rows ≡ None) ⊎ (first_of (codes "FILE") rows ≡ None)
+IsNoDump rows _ = ⊥
+
+-- the values of the arguments are these arguments of `serve`
+pub record IsServe (rows : List Row) (given : ServeArguments) : Type 0 where
+  pub table : first_of (codes "TABLE") rows ≡ Some given.table.now
+  pub script : first_of (codes "SCRIPT") rows ≡ Some given.script.now
+
+-- why the values of the arguments are no arguments of `serve`
+abbrev pub IsNoServe : List Row → Unread → Type 0
+IsNoServe rows Missing =
+    (first_of (codes "TABLE") rows ≡ None) ⊎ (first_of (codes "SCRIPT") rows ≡ None)
+IsNoServe rows _ = ⊥
+
 -- one word is a fault's name, and two are a stage and a number
 abbrev pub IsAskedBy : (words : List (List ℕ)) → Faults → Type 0
 IsAskedBy words (faults.Named name) = words ≡ name.now ∷ []
@@ -188,6 +215,8 @@ IsGiven words (Compile given) = Enters (GivesCompile words) (λ rows. IsCompile 
 IsGiven words (Decode given) = Enters (GivesDecode words) (λ rows. IsDecode rows given)
 IsGiven words (Encode given) = Enters (GivesEncode words) (λ rows. IsEncode rows given)
 IsGiven words (Table given) = Enters (GivesTable words) (λ rows. IsTable rows given)
+IsGiven words (Dump given) = Enters (GivesDump words) (λ rows. IsDump rows given)
+IsGiven words (Serve given) = Enters (GivesServe words) (λ rows. IsServe rows given)
 IsGiven words (Explain asked) = Enters (GivesExplain words) (λ rows. IsExplain rows asked)
 
 -- the words name a command whose arguments have no such values
@@ -196,12 +225,15 @@ HasBadValues words unread = Enters (GivesCompile words) (λ rows. IsNoCompile ro
     ⊎ Enters (GivesDecode words) (λ rows. IsNoDecode rows unread)
     ⊎ Enters (GivesEncode words) (λ rows. IsNoEncode rows unread)
     ⊎ Enters (GivesTable words) (λ rows. IsNoTable rows unread)
+    ⊎ Enters (GivesDump words) (λ rows. IsNoDump rows unread)
+    ⊎ Enters (GivesServe words) (λ rows. IsNoServe rows unread)
     ⊎ Enters (GivesExplain words) (λ rows. IsNoExplain rows unread)
 
 -- the words name no command
 abbrev pub NamesNone : List Text → Type 0
 NamesNone words = (rows : List Row) → (GivesCompile words rows → ⊥) × (GivesDecode words rows → ⊥)
-    × (GivesEncode words rows → ⊥) × (GivesTable words rows → ⊥) × (GivesExplain words rows → ⊥)
+    × (GivesEncode words rows → ⊥) × (GivesTable words rows → ⊥) × (GivesDump words rows → ⊥)
+    × (GivesServe words rows → ⊥) × (GivesExplain words rows → ⊥)
 
 -- why the words give no arguments: they are no command line, or ask for help; or the arguments have
 -- no such values

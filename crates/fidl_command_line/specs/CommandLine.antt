@@ -73,6 +73,19 @@ table_command = record (new_shape (codes "table")) {
   rules = flag (codes "roots") ∷ flag (codes "protocols") ∷ positional (codes "TABLE") ∷ [];
 }
 
+-- `dump [--response] TABLE PROTOCOL FILE`
+abbrev pub dump_command : Shape
+dump_command = record (new_shape (codes "dump")) {
+  rules = flag (codes "response") ∷ positional (codes "TABLE") ∷ positional (codes "PROTOCOL")
+      ∷ positional (codes "FILE") ∷ [];
+}
+
+-- `serve TABLE SCRIPT`
+abbrev pub serve_command : Shape
+serve_command = record (new_shape (codes "serve")) {
+  rules = positional (codes "TABLE") ∷ positional (codes "SCRIPT") ∷ [];
+}
+
 -- `explain FAULT..`
 abbrev pub explain_command : Shape
 explain_command = record (new_shape (codes "explain")) { rules = fault_argument ∷ [] }
@@ -87,7 +100,8 @@ program = record {
         is_leaf =
             false;
       };
-  subs = compile_command ∷ decode_command ∷ encode_command ∷ table_command ∷ explain_command ∷ [];
+  subs = compile_command ∷ decode_command ∷ encode_command ∷ table_command ∷ dump_command
+      ∷ serve_command ∷ explain_command ∷ [];
 }
 
 -- this is a command of the program, with no commands of its own
@@ -110,6 +124,14 @@ GivesEncode words rows = subcommand_of program words ≡ Some (codes "encode", r
 -- the words name the command `table`, and give its argument this value
 abbrev pub GivesTable : List Text → List Row → Type 0
 GivesTable words rows = subcommand_of program words ≡ Some (codes "table", rows)
+
+-- the words name the command `dump`, and give its arguments these values
+abbrev pub GivesDump : List Text → List Row → Type 0
+GivesDump words rows = subcommand_of program words ≡ Some (codes "dump", rows)
+
+-- the words name the command `serve`, and give its arguments these values
+abbrev pub GivesServe : List Text → List Row → Type 0
+GivesServe words rows = subcommand_of program words ≡ Some (codes "serve", rows)
 
 -- the words name the command `explain`, and give its argument these values
 abbrev pub GivesExplain : List Text → List Row → Type 0

@@ -14,6 +14,7 @@ ghost use Rattle.fidl_command_line.specs.Arguments.{handle_texts, is_one_path, l
 use crate::command_line::command_line;
 use crate::content::{Content, Message, content_of, read_message};
 use crate::handle::{read_handle, read_number};
+use crate::streams::{DumpArguments, ServeArguments, read_dump, read_serve};
 use crate::unread::Unread;
 use clap::ArgMatches;
 use fidl_hints::Faults;
@@ -74,6 +75,8 @@ pub enum Arguments<'a> {
     Decode(DecodeArguments<'a>),
     Encode(EncodeArguments<'a>),
     Table(TableArguments<'a>),
+    Dump(DumpArguments<'a>),
+    Serve(ServeArguments<'a>),
     /// The faults to explain.
     Explain(Faults<'a>),
 }
@@ -109,14 +112,14 @@ fn read_handles(alloc: Global, texts: &[&str]) -> Result<Vec<HandleInfo>, Unread
 }
 
 /// The first value of an argument.
-fn value_of<'a>(matches: &ArgMatches<'a>, id: &str) -> Option<&'a str>
+pub(crate) fn value_of<'a>(matches: &ArgMatches<'a>, id: &str) -> Option<&'a str>
     ensures { option_map (λ s. s.now) result ≡ first_of id.now (rows_of (found_of matches.now)) }
 {
     matches.get_str(id)
 }
 
 /// Whether an option without a value was given.
-fn is_given(matches: &ArgMatches<'_>, id: &str) -> bool
+pub(crate) fn is_given(matches: &ArgMatches<'_>, id: &str) -> bool
     ensures { result ≡ is_given id.now (rows_of (found_of matches.now)) }
 {
     match value_of(matches, id) {
@@ -303,6 +306,12 @@ pub fn read_arguments<'a, S: AsStr>(alloc: Global, words: &'a [S]) -> Result<Arg
     }
     if let Some(matches) = matches.subcommand_matches("table") {
         return Ok(Arguments::Table(read_table(matches)?));
+    }
+    if let Some(matches) = matches.subcommand_matches("dump") {
+        return Ok(Arguments::Dump(read_dump(matches)?));
+    }
+    if let Some(matches) = matches.subcommand_matches("serve") {
+        return Ok(Arguments::Serve(read_serve(matches)?));
     }
     match matches.subcommand_matches("explain") {
         Some(matches) => Ok(Arguments::Explain(read_explain(matches)?)),

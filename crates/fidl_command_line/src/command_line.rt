@@ -79,6 +79,29 @@ Status:
   3  a file or a stream cannot be read or written
   4  memory ran out";
 
+const DUMP_HELP: &str = "\
+Examples:
+  fidl dump store.fct demo.store/Store requests.bin
+  fidl dump --response store.fct demo.store/Store replies.bin
+
+Status:
+  0  a line is printed for each frame
+  1  the table or a frame is refused
+  2  the command line is wrong, or the table has no such protocol
+  3  a file or a stream cannot be read or written
+  4  memory ran out";
+
+const SERVE_HELP: &str = "\
+Example:
+  fidl serve store.fct store.script <requests.bin >replies.bin
+
+Status:
+  0  all requests are answered
+  1  the table, the script or a request is refused
+  2  the command line is wrong
+  3  a file or a stream cannot be read or written
+  4  memory ran out";
+
 const EXPLAIN_HELP: &str = "\
 Examples:
   fidl explain types 9
@@ -223,6 +246,34 @@ fn table_command<'a>(alloc: Global) -> Result<Command<'a>, AllocError>
         .arg(required(alloc, "TABLE", "The file of the coding table"))
 }
 
+/// The command `dump`.
+fn dump_command<'a>(alloc: Global) -> Result<Command<'a>, AllocError>
+    ensures { IfOk result (IsCommandOf spec.dump_command) }
+{
+    Command::new(alloc, "dump")
+        .about("Prints a line for each frame of a stream of messages")
+        .after_help(DUMP_HELP)
+        .arg(flag(
+            alloc,
+            "response",
+            "Takes the frames for responses and events, not for requests",
+        ))?
+        .arg(required(alloc, "TABLE", "The file of the coding table"))?
+        .arg(required(alloc, "PROTOCOL", "The name of the protocol in the table"))?
+        .arg(required(alloc, "FILE", "The file of the frames"))
+}
+
+/// The command `serve`.
+fn serve_command<'a>(alloc: Global) -> Result<Command<'a>, AllocError>
+    ensures { IfOk result (IsCommandOf spec.serve_command) }
+{
+    Command::new(alloc, "serve")
+        .about("Answers the requests of the standard input by the replies of a script")
+        .after_help(SERVE_HELP)
+        .arg(required(alloc, "TABLE", "The file of the coding table"))?
+        .arg(required(alloc, "SCRIPT", "The file of the script"))
+}
+
 /// The command `explain`.
 fn explain_command<'a>(alloc: Global) -> Result<Command<'a>, AllocError>
     ensures { IfOk result (IsCommandOf spec.explain_command) }
@@ -247,5 +298,7 @@ pub(crate) fn command_line<'a>(alloc: Global) -> Result<Command<'a>, AllocError>
         .subcommand(decode_command(alloc)?)?
         .subcommand(encode_command(alloc)?)?
         .subcommand(table_command(alloc)?)?
+        .subcommand(dump_command(alloc)?)?
+        .subcommand(serve_command(alloc)?)?
         .subcommand(explain_command(alloc)?)
 }

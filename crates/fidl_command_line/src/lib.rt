@@ -8,6 +8,7 @@ mod arguments;
 mod command_line;
 mod content;
 mod handle;
+mod streams;
 mod unread;
 
 pub use crate::arguments::{
@@ -16,4 +17,5 @@ pub use crate::arguments::{
 };
 pub use crate::content::{Content, Message, Stored, content_of, message_bytes};
 pub use crate::handle::read_handle;
+pub use crate::streams::{DumpArguments, ServeArguments};
 pub use crate::unread::Unread;

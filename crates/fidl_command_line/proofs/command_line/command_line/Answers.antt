@@ -13,4 +13,6 @@ returns c =
     let two = joined _ _ _ _ _ c.in_ok-subcommand-2.ensures c.in_ok-decode_command.ensures one in
     let three = joined _ _ _ _ _ c.in_ok-subcommand-3.ensures c.in_ok-encode_command.ensures two in
     let four = joined _ _ _ _ _ c.in_ok-subcommand-4.ensures c.in_ok-table_command.ensures three in
-    if_ok _ _ c.subcommand-5.result (λ r h. joined _ _ _ _ _ h c.in_ok-explain_command.ensures four) c.subcommand-5.ensures
+    let five = joined _ _ _ _ _ c.in_ok-subcommand-5.ensures c.in_ok-dump_command.ensures four in
+    let six = joined _ _ _ _ _ c.in_ok-subcommand-6.ensures c.in_ok-serve_command.ensures five in
+    if_ok _ _ c.subcommand-7.result (λ r h. joined _ _ _ _ _ h c.in_ok-explain_command.ensures six) c.subcommand-7.ensures
