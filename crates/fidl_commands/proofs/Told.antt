@@ -90,9 +90,11 @@ verified_ends outcome.Asked e = absurd e
 verified_ends outcome.Refused e = tt
 verified_ends outcome.WrongLine e = absurd e
 verified_ends outcome.NoRoot e = absurd e
+verified_ends outcome.NoProtocol e = absurd e
 verified_ends outcome.NoFault e = absurd e
 verified_ends outcome.WrongText e = absurd e
 verified_ends outcome.NoFile e = absurd e
+verified_ends outcome.Unread e = absurd e
 verified_ends outcome.Unwritten e = tt
 verified_ends outcome.NoMemory e = absurd e
 
@@ -103,9 +105,11 @@ decoded_ends outcome.Asked e = absurd e
 decoded_ends outcome.Refused e = tt
 decoded_ends outcome.WrongLine e = absurd e
 decoded_ends outcome.NoRoot e = absurd e
+decoded_ends outcome.NoProtocol e = absurd e
 decoded_ends outcome.NoFault e = absurd e
 decoded_ends outcome.WrongText e = absurd e
 decoded_ends outcome.NoFile e = absurd e
+decoded_ends outcome.Unread e = absurd e
 decoded_ends outcome.Unwritten e = tt
 decoded_ends outcome.NoMemory e = tt
 

@@ -1,9 +1,6 @@
 -- What the command `decode` answers (docs/program.md, "decode").
-use Rattle.std.specs.Prelude.{⊤, ℕ, List, [], ◌++◌, codes, decimal, Option, Some, None, IfSome}
-use Rattle.std.specs.Fmt.{option_append, debug_str}
-use Rattle.std.specs.Io.KnownBytes.{Appends}
-use Rattle.fidl_hints.specs.Nearest.{IsNearest}
-use Rattle.fidl_commands.specs.Naming.{names_of}
+use Rattle.std.specs.Prelude.{⊤, ℕ, List, ◌++◌, codes, decimal, Option}
+use Rattle.fidl_commands.specs.Naming.{TellsUnnamed}
 use Rattle.fidl_commands.specs.declared.naming.Named.TheVariants.{Roots}
 use Rattle.fidl_wire.specs.declared.handle.HandleInfo.{HandleInfo}
 use Rattle.fidl_wire.specs.Value.{Value}
@@ -26,6 +23,7 @@ use Rattle.fidl_commands.specs.declared.outcome.Outcome.{Outcome}
 use Rattle.fidl_commands.specs.declared.outcome.Outcome.TheVariants.{Done, Asked, Refused}
 use Rattle.fidl_commands.specs.declared.outcome.Outcome.TheVariants.{WrongLine, NoFile, Unwritten}
 use Rattle.fidl_commands.specs.declared.outcome.Outcome.TheVariants.{NoMemory, NoFault, WrongText}
+use Rattle.fidl_commands.specs.declared.outcome.Outcome.TheVariants.{NoProtocol, Unread}
 
 -- the table is accepted, and its first root of this name has this entry
 pub record IsRootOf (table root : List ℕ) (entry : ℕ) : Type 0 where
@@ -62,27 +60,9 @@ message_line f =
     refusal_line (codes "decode") (message_faults.number_of f) (message_faults.name_of f)
     (message_faults.place_of f)
 
--- the end of a line, with a name that was perhaps meant
-abbrev pub suggestion : Option (List ℕ) → Option (List ℕ)
-suggestion None = Some (codes "\n")
-suggestion (Some name) =
-    option_append (Some (codes "; did you mean ")) (option_append (Some name) (Some (codes "?\n")))
-
--- the line for a root that the table of a file does not have; std tells what quoted names look like
--- where all is ASCII
-abbrev pub no_root_line : (file root : List ℕ) (near : Option (List ℕ)) → Option (List ℕ)
-no_root_line file root near =
-    option_append (Some (codes "error: ROOT: no root of "))
-    (option_append (debug_str file)
-    (option_append (Some (codes " has the name "))
-    (option_append (debug_str root) (suggestion near))))
-
--- the line for a root that this table does not have: where it names another root, that is the
--- nearest
+-- the line for a root that this table does not have is printed
 abbrev pub TellsNoRoot : (table file root : List ℕ) (old new : Option (List ℕ)) → Type 0
-TellsNoRoot table file root old new = (near : Option (List ℕ))
-    × IfSome near (IsNearest root (names_of Roots table))
-    × IfSome (no_root_line file root near) (Appends old new)
+TellsNoRoot = TellsUnnamed Roots
 
 -- the line where memory ran out
 abbrev pub no_memory_line : List ℕ
@@ -95,6 +75,8 @@ CanEndDecode WrongLine = ⊥
 CanEndDecode WrongText = ⊥
 CanEndDecode NoFault = ⊥
 CanEndDecode NoFile = ⊥
+CanEndDecode NoProtocol = ⊥
+CanEndDecode Unread = ⊥
 CanEndDecode _ = ⊤
 
 -- what can happen to it with its root found
@@ -110,6 +92,8 @@ abbrev pub CanEndRun : Outcome → Type 0
 CanEndRun Asked = ⊥
 CanEndRun WrongLine = ⊥
 CanEndRun NoFault = ⊥
+CanEndRun NoProtocol = ⊥
+CanEndRun Unread = ⊥
 CanEndRun _ = ⊤
 
 -- the line of the text that bytes and handles encode, as a value of the root's type

@@ -1,5 +1,9 @@
--- The names of a table's roots and protocols (docs/program.md, "table").
-use Rattle.std.specs.Prelude.{ℕ, zero, suc, List, [], ◌∷◌, ◌++◌, codes}
+-- The names of a table's roots and protocols, and the line for one that it does not have
+-- (docs/program.md, "table", "Statuses").
+use Rattle.std.specs.Prelude.{ℕ, zero, suc, List, [], ◌∷◌, ◌++◌, codes, Option, Some, None, IfSome}
+use Rattle.std.specs.Fmt.{option_append, debug_str}
+use Rattle.std.specs.Io.KnownBytes.{Appends}
+use Rattle.fidl_hints.specs.Nearest.{IsNearest}
 use Rattle.fidl_table_format.specs.declared.record.Header.{Header}
 use Rattle.fidl_table_format.specs.Section.{header_of, root_at, protocol_at, name_at}
 use Rattle.fidl_text.specs.Listing.{lines_from}
@@ -36,3 +40,37 @@ name_line named table index = name_of named table index ++ codes "\n"
 abbrev pub names_text : Named → (table : List ℕ) → List ℕ
 names_text named table =
     lines_from (name_line named table) 0 (count_of named (header_of table))
+
+-- the argument of a command that gives one of the names, and what has one
+abbrev pub argument_of : Named → List ℕ
+argument_of Roots = codes "ROOT"
+argument_of Protocols = codes "PROTOCOL"
+
+abbrev pub kind_of : Named → List ℕ
+kind_of Roots = codes "root"
+kind_of Protocols = codes "protocol"
+
+-- the end of a line, with a name that was perhaps meant
+abbrev pub suggestion : Option (List ℕ) → Option (List ℕ)
+suggestion None = Some (codes "\n")
+suggestion (Some name) =
+    option_append (Some (codes "; did you mean ")) (option_append (Some name) (Some (codes "?\n")))
+
+-- the line for a name that the table of a file does not have; std tells what quoted names look like
+-- where all is ASCII
+abbrev pub missing_line : Named → (file name : List ℕ) (near : Option (List ℕ)) → Option (List ℕ)
+missing_line named file name near =
+    option_append (Some (codes "error: "))
+    (option_append (Some (argument_of named))
+    (option_append (Some (codes ": no "))
+    (option_append (Some (kind_of named))
+    (option_append (Some (codes " of "))
+    (option_append (debug_str file)
+    (option_append (Some (codes " has the name "))
+    (option_append (debug_str name) (suggestion near))))))))
+
+-- that line is printed: where it names another root or protocol of the table, that is the nearest
+abbrev pub TellsUnnamed : Named → (table file name : List ℕ) (old new : Option (List ℕ)) → Type 0
+TellsUnnamed named table file name old new = (near : Option (List ℕ))
+    × IfSome near (IsNearest name (names_of named table))
+    × IfSome (missing_line named file name near) (Appends old new)

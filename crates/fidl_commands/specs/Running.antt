@@ -13,7 +13,8 @@ use Rattle.fidl_command_line.specs.declared.arguments.DecodeArguments.{DecodeArg
 use Rattle.fidl_command_line.specs.declared.arguments.EncodeArguments.{EncodeArguments}
 use Rattle.fidl_commands.specs.declared.outcome.Outcome.{Outcome}
 use Rattle.fidl_commands.specs.declared.outcome.Outcome.TheVariants.{Asked, WrongLine, NoRoot}
-use Rattle.fidl_commands.specs.declared.outcome.Outcome.TheVariants.{NoFault, WrongText}
+use Rattle.fidl_commands.specs.declared.outcome.Outcome.TheVariants.{NoFault, WrongText, NoProtocol}
+use Rattle.fidl_commands.specs.declared.outcome.Outcome.TheVariants.{Unread}
 
 -- the line of the text that this message encodes, by this table, as a value of the root of the
 -- arguments
@@ -80,6 +81,8 @@ CanEndTableRun WrongLine = ⊥
 CanEndTableRun NoRoot = ⊥
 CanEndTableRun NoFault = ⊥
 CanEndTableRun WrongText = ⊥
+CanEndTableRun NoProtocol = ⊥
+CanEndTableRun Unread = ⊥
 CanEndTableRun _ = ⊤
 
 -- what can happen to `encode` with its arguments read, and its files to be read
@@ -88,4 +91,6 @@ CanEndEncodeRun Asked = ⊥
 CanEndEncodeRun WrongLine = ⊥
 CanEndEncodeRun NoFault = ⊥
 CanEndEncodeRun WrongText = ⊥
+CanEndEncodeRun NoProtocol = ⊥
+CanEndEncodeRun Unread = ⊥
 CanEndEncodeRun _ = ⊤

@@ -13,9 +13,11 @@ status_of outcome.Asked = Done
 status_of outcome.Refused = Refused
 status_of outcome.WrongLine = Usage
 status_of outcome.NoRoot = Usage
+status_of outcome.NoProtocol = Usage
 status_of outcome.NoFault = Usage
 status_of outcome.WrongText = Usage
 status_of outcome.NoFile = FileFault
+status_of outcome.Unread = FileFault
 status_of outcome.Unwritten = FileFault
 status_of outcome.NoMemory = Memory
 

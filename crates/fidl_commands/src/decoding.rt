@@ -9,10 +9,10 @@ ghost use Rattle.fidl_commands.specs.Outputs.{AppendsOne, AppendsFrontOfOne, Rep
 ghost use Rattle.fidl_commands.specs.declared.outcome.Outcome.TheVariants as outcome;
 
 use crate::files::File;
-use crate::lines::{write_no_memory, write_no_output, write_no_root, write_refusal};
-use crate::naming::near_root;
+use crate::lines::{write_no_memory, write_no_output, write_refusal, write_unnamed};
+use crate::naming::{Named, near_name};
 use crate::outcome::Outcome;
-use crate::verified::verified;
+use crate::verifying::verified;
 use fidl_decode::Scratch;
 use fidl_text::{Failed, Output, write_message};
 use fidl_verify::Table;
@@ -118,8 +118,8 @@ pub fn decode<W: Write, E: Write>(
     match table.root(message.root.as_bytes()) {
         Some(entry) => decode_as(alloc, &table, entry, message, out, errors),
         None => {
-            let near = near_root(alloc, &table, message.root);
-            let written = write_no_root(errors, file.name, message.root, near);
+            let near = near_name(alloc, &table, Named::Roots, message.root);
+            let written = write_unnamed(errors, Named::Roots, file.name, message.root, near);
             Outcome::NoRoot.where_written(&written)
         }
     }

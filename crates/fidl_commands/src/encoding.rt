@@ -13,12 +13,12 @@ ghost use Rattle.fidl_commands.specs.declared.outcome.Outcome.TheVariants as out
 
 use crate::files::File;
 use crate::lines::{
-    write_no_memory, write_no_output, write_no_root, write_placeless_refusal, write_refusal,
-    write_text,
+    write_no_memory, write_no_output, write_placeless_refusal, write_refusal, write_text,
+    write_unnamed,
 };
-use crate::naming::near_root;
+use crate::naming::{Named, near_name};
 use crate::outcome::Outcome;
-use crate::verified::verified;
+use crate::verifying::verified;
 use fidl_encode::{EncodeFault, Message};
 use fidl_reading::{NotationFault, read_value};
 use fidl_text::{Failed, Output};
@@ -219,8 +219,8 @@ pub fn encode<W: Write, E: Write>(
     match table.root(text.root.as_bytes()) {
         Some(entry) => encode_as(alloc, &table, entry, text, out, errors),
         None => {
-            let near = near_root(alloc, &table, text.root);
-            let written = write_no_root(errors, file.name, text.root, near);
+            let near = near_name(alloc, &table, Named::Roots, text.root);
+            let written = write_unnamed(errors, Named::Roots, file.name, text.root, near);
             Outcome::NoRoot.where_written(&written)
         }
     }

@@ -1,11 +1,12 @@
 //! The files that commands read.
 ghost use Rattle.std.specs.Prelude.{◌≡◌, ◌≢◌, ℕ, List, Option, None, Bool, false, IfOk, IfErr};
-ghost use Rattle.std.specs.Prelude.{IfSome, OnOk, OnErr};
+ghost use Rattle.std.specs.Prelude.{IfSome, OnOk, OnErr, Some};
 ghost use Rattle.std.specs.IoError.{error_kind};
 ghost use Rattle.std.specs.declared.io.ErrorKind.TheVariants as error_kinds;
 ghost use Rattle.fidl_commands.specs.Files.{IsWritten};
 
-use std::alloc::Global;
+use fidl_streams::Source;
+use std::alloc::{AllocError, Global};
 use std::io;
 
 /// A file that was read: its name on the command line, and its bytes.
@@ -17,6 +18,9 @@ pub struct File<'f> {
 
 /// Where the program reads its files from, and writes them to.
 pub trait Files {
+    /// What a service reads the standard input by.
+    type Input: Source + Drop;
+
     // The bytes of the file of a name, where they are known.
     ghost bytes_of: { Self → List ℕ → Option (List ℕ) } = { λ _ _. None };
 
@@ -43,6 +47,11 @@ pub trait Files {
             (λ bytes. read.items ≡ bytes)) }
         ensures fault { IfErr result
             (λ e. error_kind e ≢ error_kinds.OutOfMemory → input self.now ≡ None) };
+
+    /// The standard input, for a service that reads it as it comes.
+    fn open_input(&self, alloc: Global) -> Result<Self::Input, AllocError>
+        ensures { IfOk result (λ reader. IfSome (input self.now)
+            (λ bytes. Self.Input.remaining reader ≡ Some bytes)) };
 
     /// Writes a file that has just these bytes.
     fn write(&mut self, name: &str, bytes: &[u8]) -> io::Result<()>

@@ -16,15 +16,19 @@ mod naming;
 mod outcome;
 mod running;
 mod telling;
-mod verified;
+mod verifying;
 pub mod worked;
 
 pub use crate::decoding::{TypedMessage, decode};
 pub use crate::encoding::{TypedText, encode};
 pub use crate::explaining::explain;
 pub use crate::files::{File, Files};
-pub use crate::lines::{write_no_memory, write_no_output};
+pub use crate::lines::{
+    write_no_memory, write_no_output, write_placeless_refusal, write_refusal, write_unnamed,
+};
 pub use crate::listing::table;
+pub use crate::naming::{Named, near_name};
 pub use crate::outcome::{Outcome, Status};
 pub use crate::running::{run_decode, run_encode, run_explain, run_table};
 pub use crate::telling::{tell, tell_no_file};
+pub use crate::verifying::verified;

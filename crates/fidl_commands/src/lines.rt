@@ -2,11 +2,12 @@
 ghost use Rattle.std.specs.Prelude.{◌≡◌, ◌++◌, codes, OnOk, OnErr, IfSome, IsSome, option_map};
 ghost use Rattle.std.specs.Io.KnownBytes.{Appends};
 ghost use Rattle.fidl_text.specs.Outputs.{Writes};
-ghost use Rattle.fidl_commands.specs.Decoding.{refusal_line, placeless_line, no_root_line};
-ghost use Rattle.fidl_commands.specs.Decoding.{no_memory_line};
+ghost use Rattle.fidl_commands.specs.Decoding.{refusal_line, placeless_line, no_memory_line};
+ghost use Rattle.fidl_commands.specs.Naming.{missing_line};
 ghost use Rattle.fidl_commands.specs.Explaining.{no_fault_line, no_name_line, no_number_line};
 ghost use Rattle.fidl_commands.specs.Files.{no_file_line};
 
+use crate::naming::Named;
 use fidl_hints::Faults;
 use fidl_text::{Failed, Output};
 use std::io::Write;
@@ -36,7 +37,7 @@ pub(crate) fn write_line<E: Write>(errors: &mut Output<E>, text: &str) -> Result
 }
 
 /// The line of a refusal: the stage that refuses, the fault's number and name, and its place.
-pub(crate) fn write_refusal<E: Write>(
+pub fn write_refusal<E: Write>(
     errors: &mut Output<E>,
     stage: &str,
     number: u32,
@@ -54,7 +55,7 @@ pub(crate) fn write_refusal<E: Write>(
 }
 
 /// The line of a refusal that has no place.
-pub(crate) fn write_placeless_refusal<E: Write>(
+pub fn write_placeless_refusal<E: Write>(
     errors: &mut Output<E>,
     stage: &str,
     number: u32,
@@ -70,45 +71,51 @@ pub(crate) fn write_placeless_refusal<E: Write>(
     errors.flush()
 }
 
-/// The words for a root that the table does not have, with a name that was perhaps meant.
-fn write_root_words<E: Write>(
+/// The words for a root or a protocol that the table of a file does not have, with a name that was
+/// perhaps meant.
+fn write_missing<E: Write>(
     errors: &mut Output<E>,
-    table: &str,
-    root: &str,
+    named: Named,
+    file: &str,
+    name: &str,
     near: Option<&str>,
 ) -> Result<(), Failed>
     ensures line { OnOk result (IfSome
-        (no_root_line table.now root.now (option_map (λ n. n.now) near.entry))
+        (missing_line named file.now name.now (option_map (λ n. n.now) near.entry))
         (Appends (E.contents errors.old.writer) (E.contents errors.new.writer))) }
     ensures kept { OnOk result (errors.new.failure ≡ errors.old.failure) }
     ensures failed { OnErr result (IsSome errors.new.failure) }
 {
+    let argument = named.argument();
+    let kind = named.kind();
     match near {
         Some(near) => writeln!(
             errors,
-            "error: ROOT: no root of {table:?} has the name {root:?}; did you mean {near}?"
+            "error: {argument}: no {kind} of {file:?} has the name {name:?}; did you mean {near}?"
         ),
         None => writeln!(
             errors,
-            "error: ROOT: no root of {table:?} has the name {root:?}"
+            "error: {argument}: no {kind} of {file:?} has the name {name:?}"
         ),
     }
 }
 
-/// The line for a root that the table does not have, with a name that was perhaps meant.
-pub(crate) fn write_no_root<E: Write>(
+/// The line for a root or a protocol that the table of a file does not have, with a name that was
+/// perhaps meant.
+pub fn write_unnamed<E: Write>(
     errors: &mut Output<E>,
-    table: &str,
-    root: &str,
+    named: Named,
+    file: &str,
+    name: &str,
     near: Option<&str>,
 ) -> Result<(), Failed>
     ensures line { OnOk result (IfSome
-        (no_root_line table.now root.now (option_map (λ n. n.now) near.entry))
+        (missing_line named file.now name.now (option_map (λ n. n.now) near.entry))
         (Appends (E.contents errors.old.writer) (E.contents errors.new.writer))) }
     ensures kept { OnOk result (errors.new.failure ≡ errors.old.failure) }
     ensures failed { OnErr result (IsSome errors.new.failure) }
 {
-    write_root_words(errors, table, root, near)?;
+    write_missing(errors, named, file, name, near)?;
     errors.flush()
 }
 

@@ -9,7 +9,7 @@ use crate::files::File;
 use crate::lines::write_no_output;
 use crate::naming::{Named, write_names};
 use crate::outcome::Outcome;
-use crate::verified::verified;
+use crate::verifying::verified;
 use fidl_command_line::Listing;
 use fidl_text::{Failed, Output, write_records};
 use fidl_verify::Table;

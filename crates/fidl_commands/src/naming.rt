@@ -5,6 +5,7 @@ ghost use Rattle.fidl_hints.specs.Nearest.{IsNearest};
 ghost use Rattle.fidl_table_format.specs.Section.{header_of};
 ghost use Rattle.fidl_text.specs.Outputs.{Writes};
 ghost use Rattle.fidl_commands.specs.Naming.{count_of, name_of, names_of, names_text};
+ghost use Rattle.fidl_commands.specs.Naming.{argument_of, kind_of};
 ghost use Rattle.fidl_commands.specs.declared.naming.Named.TheVariants as the_names;
 
 use fidl_hints::nearest;
@@ -17,7 +18,7 @@ use std::str;
 
 /// Of what the names are.
 #[derive(Clone, Copy, PartialEq, Eq, Debug, Drop)]
-pub(crate) enum Named {
+pub enum Named {
     Roots,
     Protocols,
 }
@@ -30,6 +31,26 @@ impl Named {
         match self {
             Named::Roots => header.roots,
             Named::Protocols => header.protocols,
+        }
+    }
+
+    /// The argument of a command that gives one of the names.
+    pub(crate) fn argument(self) -> &'static str
+        ensures { result.now ≡ argument_of self }
+    {
+        match self {
+            Named::Roots => "ROOT",
+            Named::Protocols => "PROTOCOL",
+        }
+    }
+
+    /// What has one of the names.
+    pub(crate) fn kind(self) -> &'static str
+        ensures { result.now ≡ kind_of self }
+    {
+        match self {
+            Named::Roots => "root",
+            Named::Protocols => "protocol",
         }
     }
 }
@@ -112,11 +133,11 @@ pub(crate) fn names_of<'t>(
     Ok(names)
 }
 
-/// The name of a root that is nearest to a word; None where none is near, or memory ran out.
-pub(crate) fn near_root<'t>(alloc: Global, table: &Table<'t>, word: &str) -> Option<&'t str>
-    ensures { IfSome result (λ name. IsNearest word.now (names_of the_names.Roots table.now) name.now) }
+/// The name that is nearest to a word; None where none is near, or memory ran out.
+pub fn near_name<'t>(alloc: Global, table: &Table<'t>, named: Named, word: &str) -> Option<&'t str>
+    ensures { IfSome result (λ name. IsNearest word.now (names_of named table.now) name.now) }
 {
-    let Ok(names) = names_of(alloc, table, Named::Roots) else {
+    let Ok(names) = names_of(alloc, table, named) else {
         return None;
     };
     match nearest(alloc, word.as_bytes(), &names) {

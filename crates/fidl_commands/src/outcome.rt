@@ -11,18 +11,22 @@ pub enum Outcome {
     Done,
     /// Help or the version was asked for, and printed.
     Asked,
-    /// A table or a message is refused.
+    /// A table, a message, a text or a stream is refused.
     Refused,
     /// The command line is wrong.
     WrongLine,
     /// The table has no root of the name.
     NoRoot,
+    /// The table has no protocol of the name.
+    NoProtocol,
     /// The guide has no fault of the name, or of the stage and the number.
     NoFault,
     /// What an argument names holds no text of the argument's kind.
     WrongText,
     /// A file cannot be read.
     NoFile,
+    /// The input of a service cannot be read.
+    Unread,
     /// A writer failed.
     Unwritten,
     /// Memory ran out.
@@ -39,10 +43,12 @@ impl Outcome {
         match self {
             Outcome::Done | Outcome::Asked => Status::Done,
             Outcome::Refused => Status::Refused,
-            Outcome::WrongLine | Outcome::NoRoot | Outcome::NoFault | Outcome::WrongText => {
-                Status::Usage
-            }
-            Outcome::NoFile | Outcome::Unwritten => Status::FileFault,
+            Outcome::WrongLine
+            | Outcome::NoRoot
+            | Outcome::NoProtocol
+            | Outcome::NoFault
+            | Outcome::WrongText => Status::Usage,
+            Outcome::NoFile | Outcome::Unread | Outcome::Unwritten => Status::FileFault,
             Outcome::NoMemory => Status::Memory,
         }
     }
@@ -63,9 +69,9 @@ impl Outcome {
 pub enum Status {
     /// The command did what it is for.
     Done,
-    /// A table or a message is refused.
+    /// A table, a message, a text or a stream is refused.
     Refused,
-    /// The command line is wrong, or names a root or a fault that there is not.
+    /// The command line is wrong, or names a root, a protocol or a fault that there is not.
     Usage,
     /// A file or a stream cannot be read or written.
     FileFault,

@@ -87,22 +87,22 @@ pub returns-in-Some-clause-errors : goal.returns-in-Some-clause-errors
 returns-in-Some-clause-errors g c q = c.encode_as.ensures.errors q ∙ ap (λ x. g.E.Write.contents x.writer) c.in-Ok.ensures.kept
 
 pub returns-in-None-clause-ends : goal.returns-in-None-clause-ends
-returns-in-None-clause-ends g c = told_either c.write_no_root-written.result outcome.NoRoot c.where_written.result CanEndDecode c.where_written.ensures tt tt
+returns-in-None-clause-ends g c = told_either c.write_unnamed-written.result outcome.NoRoot c.where_written.result CanEndDecode c.where_written.ensures tt tt
 
 pub returns-in-None-clause-done : goal.returns-in-None-clause-done
-returns-in-None-clause-done g c q = told_never c.write_no_root-written.result outcome.NoRoot outcome.Done c.where_written.result c.where_written.ensures q (λ n. cc) (λ n. cc)
+returns-in-None-clause-done g c q = told_never c.write_unnamed-written.result outcome.NoRoot outcome.Done c.where_written.result c.where_written.ensures q (λ n. cc) (λ n. cc)
 
 pub returns-in-None-clause-refused : goal.returns-in-None-clause-refused
-returns-in-None-clause-refused g c q = told_never c.write_no_root-written.result outcome.NoRoot outcome.Refused c.where_written.result c.where_written.ensures q (λ n. cc) (λ n. cc)
+returns-in-None-clause-refused g c q = told_never c.write_unnamed-written.result outcome.NoRoot outcome.Refused c.where_written.result c.where_written.ensures q (λ n. cc) (λ n. cc)
 
 pub returns-in-None-clause-memory : goal.returns-in-None-clause-memory
-returns-in-None-clause-memory g c q = told_never c.write_no_root-written.result outcome.NoRoot outcome.NoMemory c.where_written.result c.where_written.ensures q (λ n. cc) (λ n. cc)
+returns-in-None-clause-memory g c q = told_never c.write_unnamed-written.result outcome.NoRoot outcome.NoMemory c.where_written.result c.where_written.ensures q (λ n. cc) (λ n. cc)
 
 pub returns-in-None-clause-memory_line : goal.returns-in-None-clause-memory_line
-returns-in-None-clause-memory_line g c q = told_never c.write_no_root-written.result outcome.NoRoot outcome.NoMemory c.where_written.result c.where_written.ensures q (λ n. cc) (λ n. cc)
+returns-in-None-clause-memory_line g c q = told_never c.write_unnamed-written.result outcome.NoRoot outcome.NoMemory c.where_written.result c.where_written.ensures q (λ n. cc) (λ n. cc)
 
 pub returns-in-None-clause-errors : goal.returns-in-None-clause-errors
-returns-in-None-clause-errors g c q = told_never c.write_no_root-written.result outcome.NoRoot outcome.Done c.where_written.result c.where_written.ensures q (λ n. cc) (λ n. cc)
+returns-in-None-clause-errors g c q = told_never c.write_unnamed-written.result outcome.NoRoot outcome.Done c.where_written.result c.where_written.ensures q (λ n. cc) (λ n. cc)
 
 pub returns-in-None-clause-front : goal.returns-in-None-clause-front
 returns-in-None-clause-front g c q = inl refl
@@ -116,5 +116,5 @@ returns-in-None-clause-no_root g c q =
 
 pub returns-in-None-clause-unwritten : goal.returns-in-None-clause-unwritten
 returns-in-None-clause-unwritten g c o e =
-    let written = c.write_no_root-written.ensures in
-    told_failed c.write_no_root-written.result outcome.NoRoot c.where_written.result _ _ _ c.where_written.ensures (λ n. cc) written.kept written.failed o (ap (λ x. x.failure) c.in-Ok.ensures.kept ∙ e)
+    let written = c.write_unnamed-written.ensures in
+    told_failed c.write_unnamed-written.result outcome.NoRoot c.where_written.result _ _ _ c.where_written.ensures (λ n. cc) written.kept written.failed o (ap (λ x. x.failure) c.in-Ok.ensures.kept ∙ e)

@@ -15,9 +15,11 @@ encoding_ends outcome.Asked e = absurd e
 encoding_ends outcome.Refused e = tt
 encoding_ends outcome.WrongLine e = absurd e
 encoding_ends outcome.NoRoot e = absurd e
+encoding_ends outcome.NoProtocol e = absurd e
 encoding_ends outcome.NoFault e = absurd e
 encoding_ends outcome.WrongText e = absurd e
 encoding_ends outcome.NoFile e = absurd e
+encoding_ends outcome.Unread e = absurd e
 encoding_ends outcome.Unwritten e = tt
 encoding_ends outcome.NoMemory e = tt
 

@@ -14,9 +14,11 @@ table_ends outcome.Asked e = absurd e
 table_ends outcome.Refused e = tt
 table_ends outcome.WrongLine e = absurd e
 table_ends outcome.NoRoot e = absurd e
+table_ends outcome.NoProtocol e = absurd e
 table_ends outcome.NoFault e = absurd e
 table_ends outcome.WrongText e = absurd e
 table_ends outcome.NoFile e = absurd e
+table_ends outcome.Unread e = absurd e
 table_ends outcome.Unwritten e = tt
 table_ends outcome.NoMemory e = absurd e
 

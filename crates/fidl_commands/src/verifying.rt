@@ -12,10 +12,7 @@ use fidl_verify::{Table, verify};
 use std::io::Write;
 
 /// The table that these bytes are, where it is accepted; otherwise prints the line of the refusal.
-pub(crate) fn verified<'t, E: Write>(
-    bytes: &'t [u8],
-    errors: &mut Output<E>,
-) -> Result<Table<'t>, Outcome>
+pub fn verified<'t, E: Write>(bytes: &'t [u8], errors: &mut Output<E>) -> Result<Table<'t>, Outcome>
     ensures well_formed { OnOk result (WellFormed bytes.now) }
     ensures value { IfOk result (λ table. table ≡ bytes.now) }
     ensures kept { OnOk result (errors.new ≡ errors.old) }

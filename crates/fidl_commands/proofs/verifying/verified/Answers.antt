@@ -6,7 +6,7 @@ use Rattle.fidl_commands.specs.Decoding.{refusal_line, table_line}
 use Rattle.fidl_commands.specs.Listing.{of_fault}
 use Rattle.fidl_text.proofs.Written.{appends_as}
 use Rattle.fidl_commands.proofs.Told.{told_written}
-use Rattle.fidl_commands.proofs.verified.verified.Goals as goal
+use Rattle.fidl_commands.proofs.verifying.verified.Goals as goal
 
 pub returns-in-Err-clause-refused : goal.returns-in-Err-clause-refused
 returns-in-Err-clause-refused g c q =
