@@ -1,0 +1,3 @@
+mod Results
+mod Dumps
+mod Files
