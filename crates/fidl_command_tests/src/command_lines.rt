@@ -1,8 +1,9 @@
 //! Tests of `run`: command lines, each with its status and all that it prints.
 use crate::listings::POINT_LINES;
 use crate::tables::POINT;
+use fidl_streams::Counted;
 use fidl_tool::{Files, Output, run};
-use std::alloc::Global;
+use std::alloc::{AllocError, Global};
 use std::io;
 use std::test::Fail;
 
@@ -12,6 +13,8 @@ use std::test::Fail;
 struct Desk;
 
 impl Files for Desk {
+    type Input = Counted<&'static [u8]>;
+
     fn read(&self, alloc: Global, name: &str) -> io::Result<Vec<u8>> {
         if name == "point.fct" {
             Ok(Vec::from_slice(alloc, &POINT)?)
@@ -30,6 +33,10 @@ impl Files for Desk {
 
     fn read_input(&self, alloc: Global) -> io::Result<Vec<u8>> {
         Ok(Vec::from_slice(alloc, &[1, 0, 0, 0, 2, 0, 0, 0])?)
+    }
+
+    fn open_input(&self, _alloc: Global) -> Result<Counted<&'static [u8]>, AllocError> {
+        Ok(Counted::new(b"".as_slice()))
     }
 
     fn write(&mut self, _name: &str, _bytes: &[u8]) -> io::Result<()> {

@@ -1,6 +1,7 @@
 //! Tests of `run`: command lines of `compile`, with what they write.
+use fidl_streams::Counted;
 use fidl_tool::{Files, Output, run};
-use std::alloc::Global;
+use std::alloc::{AllocError, Global};
 use std::io;
 use std::process::Abort;
 use std::test::Fail;
@@ -22,6 +23,8 @@ struct Store {
 }
 
 impl Files for Store {
+    type Input = Counted<&'static [u8]>;
+
     fn read(&self, alloc: Global, name: &str) -> io::Result<Vec<u8>> {
         let Some(file) = self.files.iter().find(|file| file.name == name) else {
             return Err(io::Error::from(io::ErrorKind::NotFound));
@@ -31,6 +34,10 @@ impl Files for Store {
 
     fn read_input(&self, _alloc: Global) -> io::Result<Vec<u8>> {
         Err(io::Error::from(io::ErrorKind::NotFound))
+    }
+
+    fn open_input(&self, _alloc: Global) -> Result<Counted<&'static [u8]>, AllocError> {
+        Ok(Counted::new(b"".as_slice()))
     }
 
     fn write(&mut self, _name: &str, bytes: &[u8]) -> io::Result<()> {

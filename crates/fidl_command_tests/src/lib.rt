@@ -12,6 +12,8 @@ mod listings;
 #[cfg(test)]
 mod messages;
 #[cfg(test)]
+mod services;
+#[cfg(test)]
 mod tables;
 #[cfg(test)]
 mod writers;

@@ -9,13 +9,13 @@ use std::test::Fail;
 
 /// A writer that takes a number of writes, and then fails.
 #[derive(Drop)]
-struct Brief {
+pub(crate) struct Brief {
     held: Vec<u8>,
     left: u32,
 }
 
 impl Brief {
-    fn new(alloc: Global, left: u32) -> Brief {
+    pub(crate) fn new(alloc: Global, left: u32) -> Brief {
         Brief {
             held: Vec::new(alloc),
             left,

@@ -1,5 +1,5 @@
 -- What the program answers to its words and its files (docs/program.md, "Statuses").
-use Rattle.std.specs.Prelude.{◌≡◌, ◌⊎◌, ⊤, ℕ, List, Option, Some, Bool, false, IfSome, map}
+use Rattle.std.specs.Prelude.{◌≡◌, ◌⊎◌, ⊤, ℕ, List, Option, Some, Ok, Err, Bool, false, IfSome, map}
 use Rattle.std.specs.List.{AllZip}
 use Rattle.std.specs.Io.KnownBytes.{Appends}
 use Rattle.fidl_command_line.specs.Arguments.{IsGiven, IsUngiven}
@@ -7,6 +7,13 @@ use Rattle.fidl_text.specs.Outputs.{AppendsFront}
 use Rattle.fidl_commands.specs.Contents.{OfMessage, OfText, HasNoBytes}
 use Rattle.fidl_commands.specs.Encoding.{IsEncoded, IsEncodeRefusal}
 use Rattle.fidl_commands.specs.Listing.{IsListing, IsTableRefusal}
+use Rattle.fidl_requests.specs.declared.ended.Ended.TheVariants.{EndOfInput}
+use Rattle.fidl_serve.specs.declared.fault.ServeFault.TheVariants.{Read}
+use Rattle.fidl_stream_commands.specs.Serving.{fault_line}
+use Rattle.fidl_stream_commands.specs.Running.{OfServed, IsServedFrom, IsServeRefusalFrom}
+use Rattle.fidl_stream_commands.specs.Running.{IsBrokenOffFrom, LacksServed}
+use Rattle.fidl_stream_commands.specs.DumpRunning.{OfDumped, IsDumpedBy, IsDumpedInPartBy}
+use Rattle.fidl_stream_commands.specs.DumpRunning.{IsDumpRefusalBy, LacksDumped, LacksProtocolIn}
 use Rattle.fidl_table_format.specs.WellFormed.{WellFormed}
 use Rattle.fidl_compile.specs.Sources.{IsTableOf}
 use Rattle.fidl_tool.specs.Compiling.{Named, texts_of, summary_line, IsSourceRefusal}
@@ -16,10 +23,13 @@ use Rattle.fidl_commands.specs.Reasons.{outcome_of}
 use Rattle.fidl_commands.specs.Running.{IsMessageText, IsMessageRefusal, Known, OfTable, PrintsFront, IsExplained, PrintsExplainedFront, LacksTableOrMessage, LacksTableOrText, LacksRootIn, LacksFault}
 use Rattle.fidl_command_line.specs.declared.arguments.Arguments.{Arguments}
 use Rattle.fidl_command_line.specs.declared.arguments.Arguments.TheVariants.{Compile, Decode, Encode, Table, Explain}
+use Rattle.fidl_command_line.specs.declared.arguments.Arguments.TheVariants.{Dump, Serve}
 use Rattle.fidl_command_line.specs.declared.arguments.CompileArguments.{CompileArguments}
 use Rattle.fidl_commands.specs.declared.outcome.Outcome.{Outcome}
-use Rattle.fidl_commands.specs.declared.outcome.Outcome.TheVariants.{Asked, WrongLine, NoRoot}
-use Rattle.fidl_commands.specs.declared.outcome.Outcome.TheVariants.{NoFault, WrongText}
+use Rattle.fidl_commands.specs.declared.outcome.Outcome.TheVariants.{Asked, WrongLine, NoRoot, Done}
+use Rattle.fidl_commands.specs.declared.outcome.Outcome.TheVariants.{Refused, Unwritten}
+use Rattle.fidl_commands.specs.declared.outcome.Outcome.TheVariants.{NoFault, WrongText, NoProtocol}
+use Rattle.fidl_commands.specs.declared.outcome.Outcome.TheVariants as outcome
 use Rattle.fidl_tool.specs.declared.sources.Source.{Source}
 use Rattle.fidl_command_line.specs.declared.unread.Unread.{Unread}
 
@@ -83,6 +93,10 @@ IsDone known (Encode given) old new before after = OfTable known.bytes_of given.
     (λ text. AppendsOne (IsEncoded table given.root.now text) old new))
 IsDone known (Table given) old new before after = OfTable known.bytes_of given.file.now
     (λ table. AppendsOne (IsListing given.listing table) old new)
+IsDone known (Dump given) old new before after = OfDumped known.bytes_of given
+    (λ table input. IsDumpedBy given table input old new)
+IsDone known (Serve given) old new before after = OfServed known.bytes_of given
+    (λ table text. IsServedFrom known.input table text old new (Ok EndOfInput))
 IsDone known (Explain asked) old new before after = AppendsOne (IsExplained asked) old new
 
 -- what it prints and writes where its output fails
@@ -99,21 +113,46 @@ IsDoneInPart known (Encode given) old new before after = OfTable known.bytes_of 
     (λ text. PrintsFront (IsEncoded table given.root.now text) old new))
 IsDoneInPart known (Table given) old new before after = OfTable known.bytes_of given.file.now
     (λ table. PrintsFront (IsListing given.listing table) old new)
+IsDoneInPart known (Dump given) old new before after = OfDumped known.bytes_of given
+    (λ table input. IsDumpedInPartBy given table input old new)
+IsDoneInPart known (Serve given) old new before after = OfServed known.bytes_of given
+    (λ table text. IsBrokenOffFrom known.input table text old new)
 IsDoneInPart known (Explain asked) old new before after = PrintsExplainedFront asked old new
 
--- the line by which it refuses sources, a table or a message
-abbrev pub IsRefused : Known → Arguments → (old new : Option (List ℕ)) → Type 0
-IsRefused known (Compile given) old new = OfSources known.bytes_of (sources_of given)
+-- the line by which it refuses sources, a table, a message, a text, a script or a frame; where it is
+-- a script or a frame, what is printed before
+abbrev pub IsRefused : Known → Arguments → (old_out new_out old new : Option (List ℕ)) → Type 0
+IsRefused known (Compile given) old_out new_out old new =
+    OfSources known.bytes_of (sources_of given)
     (λ files. AppendsOne (IsSourceRefusal given.snippet files) old new)
-IsRefused known (Decode given) old new = OfTable known.bytes_of given.table.now
+IsRefused known (Decode given) old_out new_out old new = OfTable known.bytes_of given.table.now
     (λ table. OfMessage known.bytes_of known.input given.message
     (λ bytes. AppendsOne (IsMessageRefusal given table bytes) old new))
-IsRefused known (Encode given) old new = OfTable known.bytes_of given.table.now
+IsRefused known (Encode given) old_out new_out old new = OfTable known.bytes_of given.table.now
     (λ table. OfText known.bytes_of known.input given.text
     (λ text. AppendsOne (IsEncodeRefusal table given.root.now text) old new))
-IsRefused known (Table given) old new = OfTable known.bytes_of given.file.now
+IsRefused known (Table given) old_out new_out old new = OfTable known.bytes_of given.file.now
     (λ table. AppendsOne (IsTableRefusal table) old new)
-IsRefused known (Explain asked) old new = ⊥
+IsRefused known (Dump given) old_out new_out old new = OfDumped known.bytes_of given
+    (λ table input. AppendsOne (IsDumpRefusalBy given table input old_out new_out) old new)
+IsRefused known (Serve given) old_out new_out old new = OfServed known.bytes_of given
+    (λ table text. AppendsOne
+    (IsServeRefusalFrom known.input table text old_out new_out) old new)
+IsRefused known (Explain asked) old_out new_out old new = ⊥
+
+-- the input of a service was not read: what is printed, and the line for it
+abbrev pub IsUnread : Known → Arguments → (old_out new_out old new : Option (List ℕ)) → Type 0
+IsUnread known (Serve given) old_out new_out old new =
+    OfServed known.bytes_of given
+    (λ table text. IsServedFrom known.input table text old_out new_out (Err Read))
+    × Appends old new (fault_line Read)
+IsUnread known _ old_out new_out old new = ⊥
+
+-- the command prints nothing where it refuses what it is given
+abbrev pub IsQuiet : Arguments → Type 0
+IsQuiet (Dump given) = ⊥
+IsQuiet (Serve given) = ⊥
+IsQuiet _ = ⊤
 
 -- the sources have a table, which is not written: the line for the file to write is printed, and
 -- this is none that is known to be written
@@ -140,6 +179,8 @@ LacksGivenFile known can_write (Decode given) old new = LacksTableOrMessage know
 LacksGivenFile known can_write (Encode given) old new = LacksTableOrText known given old new
 LacksGivenFile known can_write (Table given) old new =
     IsMissing known.bytes_of given.file.now old new
+LacksGivenFile known can_write (Dump given) old new = LacksDumped known.bytes_of given old new
+LacksGivenFile known can_write (Serve given) old new = LacksServed known.bytes_of given old new
 LacksGivenFile known can_write (Explain asked) old new = ⊥
 
 -- the arguments name a root that their table does not have, and the line for it is printed
@@ -149,6 +190,11 @@ LacksGivenRoot known (Decode given) old new =
 LacksGivenRoot known (Encode given) old new =
     LacksRootIn known given.table.now given.root.now old new
 LacksGivenRoot known _ old new = ⊥
+
+-- the arguments name a protocol that their table does not have, and the line for it is printed
+abbrev pub LacksGivenProtocol : Known → Arguments → (old new : Option (List ℕ)) → Type 0
+LacksGivenProtocol known (Dump given) old new = LacksProtocolIn known.bytes_of given old new
+LacksGivenProtocol known _ old new = ⊥
 
 -- what the arguments name in place of a message holds none, and the line that says so is printed
 abbrev pub LacksGivenText : Known → Arguments → (old new : Option (List ℕ)) → Type 0
@@ -177,7 +223,18 @@ CanEndCompileRun WrongLine = ⊥
 CanEndCompileRun NoRoot = ⊥
 CanEndCompileRun NoFault = ⊥
 CanEndCompileRun WrongText = ⊥
+CanEndCompileRun NoProtocol = ⊥
+CanEndCompileRun outcome.Unread = ⊥
 CanEndCompileRun _ = ⊤
+
+-- nothing is printed on the output where this happens
+abbrev pub LeavesOutput : Outcome → Type 0
+LeavesOutput Done = ⊥
+LeavesOutput Asked = ⊥
+LeavesOutput Refused = ⊥
+LeavesOutput outcome.Unread = ⊥
+LeavesOutput Unwritten = ⊥
+LeavesOutput _ = ⊤
 
 -- what can happen to a command whose arguments are read
 abbrev pub CanEndArguments : Outcome → Type 0

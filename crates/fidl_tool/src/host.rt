@@ -6,9 +6,10 @@ ghost use Rattle.fidl_commands.specs.Status.{status_of, number_of};
 use crate::program::run;
 use fidl_command_line::Unread;
 use fidl_commands::{Files, Outcome, tell, write_no_memory};
+use fidl_streams::Counted;
 use fidl_text::Output;
-use std::alloc::Global;
-use std::io::{BufWriter, Read, Write};
+use std::alloc::{AllocError, Global};
+use std::io::{BufReader, BufWriter, Read, Stdin, Write};
 use std::process::{ExitCode, Termination};
 use std::{env, fs, io};
 
@@ -19,6 +20,8 @@ struct HostFiles<'r> {
 }
 
 impl Files for HostFiles<'_> {
+    type Input = Counted<BufReader<Stdin>>;
+
     fn read(&self, _alloc: Global, name: &str) -> io::Result<Vec<u8>> {
         fs::read(self.rt, name)
     }
@@ -27,6 +30,13 @@ impl Files for HostFiles<'_> {
         let mut bytes = Vec::new(alloc);
         self.rt.stdin().read_to_end(&mut bytes)?;
         Ok(bytes)
+    }
+
+    fn open_input(&self, alloc: Global) -> Result<Counted<BufReader<Stdin>>, AllocError> {
+        match BufReader::new(alloc, self.rt.stdin()) {
+            Ok(reader) => Ok(Counted::new(reader)),
+            Err(_) => Err(AllocError),
+        }
     }
 
     fn write(&mut self, name: &str, bytes: &[u8]) -> io::Result<()> {

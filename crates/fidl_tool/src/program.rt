@@ -8,12 +8,14 @@ ghost use Rattle.fidl_commands.specs.Outputs.{ReportsFailures};
 ghost use Rattle.fidl_commands.specs.Running.{known_of};
 ghost use Rattle.fidl_tool.specs.Running.{IsDone, IsDoneInPart, IsRefused, CanEndArguments};
 ghost use Rattle.fidl_tool.specs.Running.{LacksGivenFile, LacksGivenRoot, LacksGivenFault};
-ghost use Rattle.fidl_tool.specs.Running.{LacksGivenText, Gives, GivesNone};
+ghost use Rattle.fidl_tool.specs.Running.{LacksGivenText, LacksGivenProtocol, Gives, GivesNone};
+ghost use Rattle.fidl_tool.specs.Running.{IsUnread, IsQuiet, LeavesOutput};
 ghost use Rattle.fidl_commands.specs.declared.outcome.Outcome.TheVariants as outcome;
 
 use crate::sources::run_compile;
 use fidl_command_line::{Arguments, read_arguments};
 use fidl_commands::{Files, Outcome, run_decode, run_encode, run_explain, run_table, tell};
+use fidl_stream_commands::{run_dump, run_serve};
 use fidl_text::Output;
 use std::alloc::Global;
 use std::convert::AsStr;
@@ -34,9 +36,17 @@ fn run_arguments<F: Files, W: Write, E: Write>(
         (F.written files.old) (F.written files.new) }
     ensures refused { result ≡ outcome.Refused
         → IsRefused (known_of (F.bytes_of files.old) (F.input files.old)) arguments.now
+        (W.contents out.old.writer) (W.contents out.new.writer)
+        (E.contents errors.old.writer) (E.contents errors.new.writer) }
+    ensures unread { result ≡ outcome.Unread
+        → IsUnread (known_of (F.bytes_of files.old) (F.input files.old)) arguments.now
+        (W.contents out.old.writer) (W.contents out.new.writer)
         (E.contents errors.old.writer) (E.contents errors.new.writer) }
     ensures no_root { result ≡ outcome.NoRoot
         → LacksGivenRoot (known_of (F.bytes_of files.old) (F.input files.old)) arguments.now
+        (E.contents errors.old.writer) (E.contents errors.new.writer) }
+    ensures no_protocol { result ≡ outcome.NoProtocol
+        → LacksGivenProtocol (known_of (F.bytes_of files.old) (F.input files.old)) arguments.now
         (E.contents errors.old.writer) (E.contents errors.new.writer) }
     ensures no_fault { result ≡ outcome.NoFault → LacksGivenFault arguments.now
         (E.contents errors.old.writer) (E.contents errors.new.writer) }
@@ -59,7 +69,8 @@ fn run_arguments<F: Files, W: Write, E: Write>(
         ⊎ IsDoneInPart (known_of (F.bytes_of files.old) (F.input files.old)) arguments.now
         (W.contents out.old.writer) (W.contents out.new.writer)
         (F.written files.old) (F.written files.new) }
-    ensures out { result ≢ outcome.Done → result ≢ outcome.Unwritten
+    ensures out { LeavesOutput result → W.contents out.new.writer ≡ W.contents out.old.writer }
+    ensures quiet { result ≡ outcome.Refused → IsQuiet arguments.now
         → W.contents out.new.writer ≡ W.contents out.old.writer }
     ensures errors { result ≡ outcome.Done
         → E.contents errors.new.writer ≡ E.contents errors.old.writer }
@@ -69,6 +80,8 @@ fn run_arguments<F: Files, W: Write, E: Write>(
         Arguments::Decode(arguments) => run_decode(alloc, arguments, &*files, out, errors),
         Arguments::Encode(arguments) => run_encode(alloc, arguments, &*files, out, errors),
         Arguments::Table(arguments) => run_table(alloc, arguments, &*files, out, errors),
+        Arguments::Dump(arguments) => run_dump(alloc, arguments, &*files, out, errors),
+        Arguments::Serve(arguments) => run_serve(alloc, arguments, &*files, out, errors),
         Arguments::Explain(faults) => run_explain(alloc, faults, out, errors),
     }
 }
@@ -87,9 +100,17 @@ pub fn run<S: AsStr, F: Files, W: Write, E: Write>(
         (F.written files.old) (F.written files.new)) }
     ensures refused { result ≡ outcome.Refused → Gives (map S.text words.now)
         (λ given. IsRefused (known_of (F.bytes_of files.old) (F.input files.old)) given
+        (W.contents out.old.writer) (W.contents out.new.writer)
+        (E.contents errors.old.writer) (E.contents errors.new.writer)) }
+    ensures unread { result ≡ outcome.Unread → Gives (map S.text words.now)
+        (λ given. IsUnread (known_of (F.bytes_of files.old) (F.input files.old)) given
+        (W.contents out.old.writer) (W.contents out.new.writer)
         (E.contents errors.old.writer) (E.contents errors.new.writer)) }
     ensures no_root { result ≡ outcome.NoRoot → Gives (map S.text words.now)
         (λ given. LacksGivenRoot (known_of (F.bytes_of files.old) (F.input files.old)) given
+        (E.contents errors.old.writer) (E.contents errors.new.writer)) }
+    ensures no_protocol { result ≡ outcome.NoProtocol → Gives (map S.text words.now)
+        (λ given. LacksGivenProtocol (known_of (F.bytes_of files.old) (F.input files.old)) given
         (E.contents errors.old.writer) (E.contents errors.new.writer)) }
     ensures no_fault { result ≡ outcome.NoFault → Gives (map S.text words.now)
         (λ given. LacksGivenFault given
@@ -124,8 +145,9 @@ pub fn run<S: AsStr, F: Files, W: Write, E: Write>(
         ⊎ GivesNone (map S.text words.now) outcome.Asked
         (λ unread. AppendsFront (W.contents out.old.writer) (W.contents out.new.writer)
         (text_of unread)) }
-    ensures out { result ≢ outcome.Done → result ≢ outcome.Asked → result ≢ outcome.Unwritten
-        → W.contents out.new.writer ≡ W.contents out.old.writer }
+    ensures out { LeavesOutput result → W.contents out.new.writer ≡ W.contents out.old.writer }
+    ensures quiet { result ≡ outcome.Refused → Gives (map S.text words.now)
+        (λ given. IsQuiet given → W.contents out.new.writer ≡ W.contents out.old.writer) }
     ensures errors { result ≡ outcome.Done
         → E.contents errors.new.writer ≡ E.contents errors.old.writer }
 {

@@ -10,6 +10,7 @@ use Rattle.fidl_commands.specs.Decoding.{no_memory_line}
 use Rattle.fidl_commands.specs.Reasons.{outcome_of, line_of}
 use Rattle.fidl_commands.specs.declared.outcome.Outcome.{Outcome}
 use Rattle.fidl_commands.specs.declared.outcome.Outcome.TheVariants as outcome
+use Rattle.fidl_tool.specs.Running.{LeavesOutput}
 use Rattle.fidl_tool.proofs.program.run.Goals as goal
 
 written : (r other : Outcome) → r ≡ other → other ≢ outcome.Unwritten → r ≢ outcome.Unwritten
@@ -52,7 +53,7 @@ returns-in-Err-clause-front g c q = elim (asked_or_not c.in-Err.unread) [
 ]
 
 pub returns-in-Err-clause-out : goal.returns-in-Err-clause-out
-returns-in-Err-clause-out g c a b d = c.tell.ensures.quiet (λ e. b (c.tell.ensures.outcome d ∙ e))
+returns-in-Err-clause-out g c h = c.tell.ensures.quiet (λ e. subst LeavesOutput (c.tell.ensures.outcome (λ u. subst LeavesOutput u h) ∙ e) h)
 
 -- memory is told by its line alone
 memory_told : (u : Unread) → outcome_of u ≡ outcome.NoMemory → line_of u ≡ no_memory_line
