@@ -1,7 +1,7 @@
 #!/usr/bin/env python3
 """The runs of the program that the documents show: each has to print just what stands there.
 
-A run is a line `$ ./fidl ..` of an indented block, and what it prints is all lines of the block up to the next such line.
+A run is a line `$ ./fidl ..` or `$ python3 examples/..` of an indented block, and what it prints is all lines of the block up to the next such line.
 The runs of README.md come first, then those of docs/*.md by their names. All run in one folder, in which examples/ is a copy
 of the repository's and fidl is the program that the gate built. `2>&1`, `> FILE` and quotes mean what they do in a shell; a
 line `# status N` behind a run says which status it has to exit with, if not 0.
@@ -18,7 +18,7 @@ sys.dont_write_bytecode = True
 sys.path.insert(0, os.path.dirname(os.path.realpath(__file__)))
 import by_hand  # noqa: E402
 
-START = "    $ ./fidl "
+STARTS = ("    $ ./fidl ", "    $ python3 examples/")
 STATUS = re.compile(r"    # status (\d+)$")
 
 
@@ -35,7 +35,7 @@ def runs_of(document, text):
     found, now = [], None
     for number, line in enumerate(text.split("\n"), 1):
         status = STATUS.match(line)
-        if line.startswith(START):
+        if line.startswith(STARTS):
             now = Run(document, number, line.strip()[len("$ ") :])
             found.append(now)
         elif now and status:

@@ -1,22 +1,25 @@
 #!/usr/bin/env python3
-"""Changed sources, tables, messages and texts, given to the program.
+"""Changed sources, tables, messages, texts, scripts and streams, given to the program.
 
     .ci/fuzz.py [PROGRAM..]        by each of these programs in turn (else by the one that was built last)
 
 The changes come from a fixed seed, so each run tries the same inputs. Each answer has to come within a second of the processor, with a status of 0 or 1
 and the line that the status has: with 0 something on standard output and nothing on the errors, with 1 one line on the errors that names
-a stage, a number and a name. And where the program accepts an input, what it printed is given to it again:
+a stage, a number and a name; of a script and of a stream there may be output in both cases. And where the program accepts an input, what it
+printed is given to it again:
 
 - the table that `compile` wrote is accepted by `table`
 - each root of an accepted table decodes some messages, or refuses them
 - the text that `decode` printed is encoded to the very message, handles included
 - the message that `encode` printed is decoded to a text that encodes to the very message
+- what `serve` wrote is whole frames: `dump` prints a line for each, with a transaction id of a request, in their order
 """
 import concurrent.futures
 import glob
 import os
 import random
 import re
+import struct
 import subprocess
 import sys
 import tempfile
@@ -28,9 +31,9 @@ import by_hand  # noqa: E402
 
 # The greatest processor time of an answer, in seconds: a machine that is busy may stop any process for longer.
 SEED, INPUTS, SECONDS = 20261128, 20_000, 1
-SOURCE_STAGES, STAGES = "lex|parse|names|const|types|layout|protocol", "table|decode|encode|notation"
+SOURCE_STAGES, STAGES = "lex|parse|names|const|types|layout|protocol", "table|decode|encode|notation|header|script|serve|ended"
 SOURCE_LINE = re.compile(rf".+:\d+:\d+: ({SOURCE_STAGES}) \d+ [A-Z]\w*\n")
-OTHER_LINE = re.compile(rf"({STAGES}) \d+ [A-Z]\w*( at \d+)?\n")
+OTHER_LINE = re.compile(rf"(frame \d+: )?({STAGES}) \d+ [A-Z]\w*( at \d+)?\n")
 WORDS = b"library using as const alias type protocol service resource struct table union bits enum strict flexible box array vector string optional compose error client_end server_end open ajar closed ; : , . = | @ ( ) { } < > -> - 0 1 64 65535 4294967295 0x80 \"a\" MAX".split()
 MARKS = b"{ } [ ] ( ) , : \" \\ absent true false table union handle unknown in out 0 1 -1 255 4294967296 18446744073709551616 \\u{0} \\u{D800} a b x".split()
 # One library with each kind of type.
@@ -47,6 +50,37 @@ ZX = b"""library zx;
 type ObjType = enum : uint32 { VMO = 3; CHANNEL = 4; };
 resource_definition Handle : uint32 { properties { subtype ObjType; rights uint32; }; };
 """
+# A library with a protocol, a script for it, and the bodies and handles of calls.
+CALLS = b"""library p;
+using zx;
+type T = table { 1: a uint8; 2: s string; };
+open protocol P {
+    strict Get(struct { k uint8; }) -> (struct { v uint8; });
+    flexible F() -> ();
+    flexible One(resource struct { h zx.Handle; });
+    strict Tell(T) -> (resource struct { t T; h vector<zx.Handle>:4; }) error uint32;
+    strict -> OnEvent(struct { s string:8; });
+};
+"""
+SCRIPT = b"""# Replies.
+protocol p/P
+reply p/P.Get {v: 9}
+reply p/P.Get {v: 10}
+
+reply p/P.F union(response: {})
+reply p/P.Tell union(response: {t: table(2) {a: 1, s: "x"}, h: [handle(1, 3, 3)]})
+reply p/P.Tell union(err: 5)
+"""
+# The name of each method, its transaction id and flags, and its body and handles.
+SENT = (
+    ("p/P.Get", 1, 0x00, bytes([5]) + bytes(7), ()),
+    ("p/P.F", 2, 0x80, b"", ()),
+    ("p/P.One", 0, 0x80, b"\xff\xff\xff\xff" + bytes(4), ((7, 3, 3),)),
+    ("p/P.Tell", 3, 0x00, bytes([1]) + bytes(7) + b"\xff" * 8 + bytes([4, 0, 0, 0, 0, 0, 1, 0]), ()),
+    ("", 4, 0x80, bytes([1, 2, 3]), ()),
+    ("p/P.Get", 5, 0x00, bytes([6]) + bytes(7), ()),
+    ("p/P.Tell", 6, 0x00, bytes(8) + b"\xff" * 8, ()),
+)
 TEXTS = {
     "f/S": b'{a: 1, b: true, e: 2, g: 5, n: -9, s: "abc", o: absent, h: handle(7, 3, 3), v: [union(n: 3), union(s: "x")], r: [1, 2, 3], x: {i: -1, next: {i: 2, next: absent}}}',
     "f/T": b'table(7) {a: 1, s: "\\u{e9}\\n", 3: unknown in 01020304 [], v: [{i: 1, next: absent}], h: handle(1, 2, 3), 6: unknown out 0102030405060708 [handle(4, 5, 6)], u: union(t: [1, 2])}',
@@ -111,6 +145,28 @@ def changed(data, words, dice):
     return data
 
 
+FRAME, HEADER, HANDLE = struct.Struct("<II"), struct.Struct("<IHBBQ"), struct.Struct("<III")
+
+
+def frame(ordinal, txid, flags, body, handles):
+    """Returns the frame of a message (docs/service.md)."""
+    message = HEADER.pack(txid, 2, flags, 1, ordinal) + body
+    return FRAME.pack(len(message), len(handles)) + message + b"".join(HANDLE.pack(*it) for it in handles)
+
+
+def transactions(stream):
+    """Returns the transaction ids of the whole frames at the front of a stream."""
+    found, at = [], 0
+    while at + FRAME.size + 4 <= len(stream):
+        length, count = FRAME.unpack_from(stream, at)
+        end = at + FRAME.size + length + HANDLE.size * count
+        if end > len(stream) or length < HEADER.size:
+            break
+        found.append(struct.unpack_from("<I", stream, at + FRAME.size)[0])
+        at = end
+    return found
+
+
 # Runs a command that ends by a signal once it has used its processor time up.
 LIMITED = ["sh", "-c", f'ulimit -t {SECONDS}; exec "$@"', "sh"]
 
@@ -122,14 +178,15 @@ class Answer:
         ran = subprocess.run([*LIMITED, program, *words], input=data, capture_output=True, timeout=120)
         self.words, self.status, self.out, self.errors = words, ran.returncode, ran.stdout, ran.stderr
 
-    def what_fails(self, line):
-        """Returns what is wrong with the answer, or nothing: its line has to be one of these where it is refused."""
+    def what_fails(self, line, streams=False):
+        """Returns what is wrong with the answer, or nothing: its line has to be one of these where it is refused. A command over streams
+        may print nothing where it is done, and something where it is refused."""
         said = self.errors.decode("utf-8", "replace")
         if self.status not in (0, 1):
             return f"{self.words}: status {self.status}: {said[:100]}"
-        if self.status == 0 and (self.errors or not self.out):
+        if self.status == 0 and (self.errors or not (self.out or streams)):
             return f"{self.words}: done, with output {self.out[:40]} and errors {said[:100]}"
-        if self.status == 1 and (self.out or not line.fullmatch(said)):
+        if self.status == 1 and ((self.out and not streams) or not line.fullmatch(said)):
             return f"{self.words}: refused by {said[:200]!r}"
         return None
 
@@ -145,6 +202,9 @@ class Fuzzer:
         self.must("compile", "--out", self.table, self.zx, self.kinds)
         self.tables = [open(it, "rb").read() for it in (f"{root}/examples/point.fct", self.table)]
         self.messages = {it: self.must("encode", self.table, it, text.decode()) for it, text in TEXTS.items()}
+        self.calls, self.script = f"{folder}/p.fct", self.file("p.script", SCRIPT)
+        self.must("compile", "--out", self.calls, self.zx, self.file("p.fidl", CALLS))
+        self.frames = b"".join(frame(self.ordinals().get(name, 1), *call) for name, *call in SENT)
 
     def file(self, name, data):
         with open(f"{self.folder}/{name}", "wb") as it:
@@ -155,10 +215,15 @@ class Fuzzer:
         ran = subprocess.run([self.program, *words], capture_output=True, check=True)
         return ran.stdout
 
-    def ask(self, line, *words, data=b""):
+    def ordinals(self):
+        """Returns the ordinal of each method of the protocol, by its name."""
+        lines = [line.split() for line in self.must("table", self.calls).decode().splitlines()]
+        return {line[2]: int(line[1], 16) for line in lines if line[0] == "method"}
+
+    def ask(self, line, *words, data=b"", streams=False):
         """Returns the answer to a command line, and what is wrong with it, or nothing."""
         answer = Answer(self.program, [*words], data)
-        return answer, answer.what_fails(line)
+        return answer, answer.what_fails(line, streams)
 
     def source(self, number, dice):
         source, out = self.file(f"{number}.fidl", changed(dice.choice(self.sources), WORDS, dice)), f"{self.folder}/{number}.fct"
@@ -209,18 +274,43 @@ class Fuzzer:
         again, wrong = self.ask(OTHER_LINE, "encode", self.table, root, shown.out.decode().rstrip("\n"))
         return wrong or (again.out != answer.out and f"{root}: {text} is shown as {shown.out}, which is encoded otherwise")
 
+    def served(self, number, script, frames):
+        """Serves these frames by a script, and looks at what was written; returns what is wrong, or nothing."""
+        answer, wrong = self.ask(OTHER_LINE, "serve", self.calls, script, data=frames, streams=True)
+        if wrong or not answer.out:
+            return wrong
+        replies = self.file(f"{number}.replies", answer.out)
+        shown, wrong = self.ask(OTHER_LINE, "dump", "--response", self.calls, "p/P", replies)
+        if wrong or shown.status:
+            return wrong or f"{script}: {frames.hex()}: the replies are refused: {shown.errors}"
+        asked, answered = iter(transactions(frames)), [int(it.split()[0]) for it in shown.out.splitlines()]
+        in_order = all(it in asked for it in answered) and answered == transactions(answer.out)
+        return None if in_order else f"{script}: {frames.hex()} is answered by {answer.out.hex()}"
+
+    def spoken(self, number, dice):
+        """A changed script."""
+        return self.served(number, self.file(f"{number}.script", changed(SCRIPT, [*MARKS, b"reply", b"protocol", b"p/P.Get", b"\n", b"#"], dice)), self.frames)
+
+    def stream(self, number, dice):
+        """A changed stream, served and dumped."""
+        frames = changed(self.frames, None, dice)
+        file = self.file(f"{number}.frames", frames)
+        options = ["--response"] if dice.random() < 0.2 else []
+        _, wrong = self.ask(OTHER_LINE, "dump", *options, self.calls, "p/P", file, streams=True)
+        return wrong or self.served(number, self.script, frames)
+
     def input(self, number):
         """Tries the input of this number. Returns what is wrong, or nothing."""
         dice = random.Random(SEED + number)
-        kind = (self.source, self.coding_table, self.message, self.text)[number % 4]
+        kinds = (self.source, self.coding_table, self.message, self.text, self.stream, self.spoken)
+        kind = kinds[number % len(kinds)]
         try:
             return kind(number, dice)
         except subprocess.TimeoutExpired as error:
             return f"{error.cmd}: no answer in {error.timeout} seconds"
         finally:
-            for it in (f"{self.folder}/{number}.fidl", f"{self.folder}/{number}.fct"):
-                if os.path.exists(it):
-                    os.remove(it)
+            for it in glob.glob(f"{self.folder}/{number}.*"):
+                os.remove(it)
 
 
 def run(root, programs, inputs=INPUTS):

@@ -6,6 +6,9 @@
 Each command runs over the examples once for each allocation that it makes, with that one refused (.ci/refuse.c). It then has to end with
 status 4, the line of memory on standard error and nothing on standard output, or to answer as it does with ample memory; where it only
 leaves a suggestion out, that is the same answer. A `compile` that ends with status 4 writes no OUT, and leaves an old OUT as it was.
+
+The program `fidl_refused_memory`, built beside, makes each call of the library once and prints what it answered. It too runs once for
+each of its allocations: the call that it is refused to has to answer Memory, and all calls are then done.
 """
 import concurrent.futures
 import os
@@ -23,7 +26,11 @@ MEMORY = (4, b"", b"error: out of memory\n")
 OLD = b"an old table"
 STORE = [f"examples/store/{it}.fidl" for it in ("zx", "types", "store")]
 ENTRY = "0300000000000000ffffffffffffffff1800000000000000010000000000010008000000000000000500000000000000ffffffffffffffff612e7478740000002a00000000000000"
-# The words of each command; `OUT` stands for a file of its own, `TABLE` for the table of the store.
+REQUESTS = "examples/store/requests.bin"
+# The program that makes each call of the library once.
+CALLS = "fidl_refused_memory"
+# The words of each command; `OUT` stands for a file of its own, `TABLE` for the table of the store, and a last `<FILE` for the standard
+# input.
 COMMANDS = [
     ["compile", "--out", "OUT", *STORE],
     ["compile", "--snippet", "--out", "OUT", STORE[1]],
@@ -34,6 +41,9 @@ COMMANDS = [
     ["decode", "TABLE", "demo.store/Entri", ENTRY],
     ["encode", "TABLE", "demo.store/Entry", 'table(3) {name: "a.txt", kind: 1, size: 42}'],
     ["encode", "TABLE", "demo.store/Entry", "table(3) {name: 5}"],
+    ["dump", "TABLE", "demo.store/Store", REQUESTS],
+    ["dump", "TABLE", "demo.store/Stor", REQUESTS],
+    ["serve", "TABLE", "examples/store/store.script", f"<{REQUESTS}"],
     ["explain", "names", "2"],
     ["explain", "UnknownLibrari"],
     ["--help"],
@@ -60,8 +70,9 @@ class Shim:
                 it.write(OLD)
             given = [{"OUT": out, "TABLE": f"{self.folder}/store.fct"}.get(it, it) for it in words]
             environment = {**os.environ, "REFUSE": str(refused), "REFUSE_TO": count, "LD_PRELOAD": self.path}
-            how = {"cwd": root, "env": environment, "stdin": subprocess.DEVNULL, "capture_output": True, "timeout": 60}
-            ran = subprocess.run(given, **how)
+            source = given.pop()[1:] if given[-1].startswith("<") else os.devnull
+            with open(os.path.join(root, source), "rb") as data:
+                ran = subprocess.run(given, cwd=root, env=environment, stdin=data, capture_output=True, timeout=60)
             with open(out, "rb") as it:
                 written = it.read()
             return (ran.returncode, ran.stdout, ran.stderr), written, 0 if refused else self.number_in(count)
@@ -89,6 +100,48 @@ def check(shim, program, words, root):
     return count, wrong
 
 
+def refused_call(said, calls):
+    """Returns the place of the call that was refused, by what the program of the calls printed; None where none was refused, and -1 where
+    the answers are wrong. A call that is refused answers Memory, and then all are done; `add` is done at once after it."""
+    lines, wanted = said.decode("utf-8", "replace").splitlines(), [f"{it}: ok" for it in calls]
+    if lines == wanted:
+        return None
+    for place, call in enumerate(calls):
+        rest = wanted[place:] if call == "add" else wanted
+        if lines == [*wanted[:place], f"{call}: Memory", *rest]:
+            return place
+    return -1
+
+
+def check_calls(shim, program, root):
+    """Refuses each allocation of the program of the calls in turn. Returns how many were refused to each call, and what was answered wrongly."""
+    (status, said, errors), _, count = shim.answer([program], 0, root)
+    calls = [it.removesuffix(": ok") for it in said.decode().splitlines()]
+    if status or errors or refused_call(said, calls) is not None or not calls:
+        return {}, [f"{program}: {said[:200]} {errors[:80]}"]
+    refused, wrong = dict.fromkeys(calls, 0), []
+    with concurrent.futures.ThreadPoolExecutor(len(os.sched_getaffinity(0))) as pool:
+        for number, ((status, said, errors), _, _) in enumerate(pool.map(lambda it: shim.answer([program], it, root), range(1, count + 1)), 1):
+            place = refused_call(said, calls)
+            if status or errors or place == -1:
+                wrong.append(f"{CALLS}: allocation {number} of {count} refused: status {status}: {said[-80:]} {errors[:80]}")
+            elif place is not None:
+                refused[calls[place]] += 1
+    return refused, wrong
+
+
+def run_calls(root, program):
+    """Does so by the program of the calls that stands beside this program, where one does. Returns what was answered wrongly."""
+    made = os.path.basename(program).replace("fidl", CALLS, 1)
+    beside = f"{os.path.dirname(os.path.dirname(os.path.dirname(program)))}/{CALLS}/out/{made}"
+    if not os.path.isfile(beside):
+        return []
+    with tempfile.TemporaryDirectory(prefix="refused-") as folder:
+        refused, wrong = check_calls(Shim(folder), beside, root)
+    print(f"gate: allocations refused to each call: {', '.join(f'{call} {count}' for call, count in refused.items())}", flush=True)
+    return wrong + [f"{CALLS}: no allocation was refused to {call}" for call, count in refused.items() if not count and call not in ("decode",)]
+
+
 def run(root, programs, commands=COMMANDS):
     """Refuses each allocation of each command, by each program; prints what is answered wrongly, and returns whether nothing is."""
     wrong, refused = [], 0
@@ -102,6 +155,7 @@ def run(root, programs, commands=COMMANDS):
             for words in commands:
                 count, found = check(shim, program, words, root)
                 refused, wrong = refused + count, wrong + found
+        wrong += run_calls(root, program)
     print(f"gate: {refused} allocations of {len(commands)} commands refused in turn, by {len(programs)} builds of the program, {len(wrong)} wrong", flush=True)
     return by_hand.all_passed(wrong[:20])
 

@@ -570,6 +570,32 @@ echo made > out.fct; echo entries $#, roots 0, protocols 0, methods 0, bytes 40"
         ):
             self.assertEqual(refused_memory.is_right(got, (whole, b"new")), wanted, got)
 
+    def test_the_call_that_is_refused(self):
+        for said, wanted in (
+            (b"lex: ok\nadd: ok\nx: ok\n", None), (b"lex: Memory\nlex: ok\nadd: ok\nx: ok\n", 0), (b"lex: ok\nadd: Memory\nadd: ok\nx: ok\n", 1),
+            (b"lex: ok\nadd: Memory\nlex: ok\nadd: ok\nx: ok\n", -1), (b"lex: ok\nadd: ok\nx: Memory\nlex: ok\nadd: ok\nx: ok\n", 2), (b"lex: ok\n", -1),
+            (b"lex: Syntax\nlex: ok\nadd: ok\nx: ok\n", -1), (b"lex: ok\nadd: ok\nx: Memory\nx: ok\n", -1),
+        ):
+            self.assertEqual(refused_memory.refused_call(said, ["lex", "add", "x"]), wanted, said)
+
+    def test_calls_without_memory(self):
+        class Shim:
+            def __init__(self, *told):
+                self.told = told
+
+            def answer(self, words, refused, root):
+                return (0, b"".join(b"%s: %s\n" % it for it in self.told[refused]), b""), b"", 0 if refused else len(self.told) - 1
+
+        done = ((b"lex", b"ok"), (b"add", b"ok"))
+        lex, add, late = ((b"lex", b"Memory"), *done), (done[0], (b"add", b"Memory"), done[1]), (*done, (b"lex", b"Memory"))
+        for told, wanted, faults in (((done, lex, lex, done), {"lex": 2, "add": 0}, 0), ((done, lex, add), {"lex": 1, "add": 1}, 0), ((done, late), {"lex": 0, "add": 0}, 1), (((),), {}, 1)):
+            refused, wrong = refused_memory.check_calls(Shim(*told), "program", self.root)
+            self.assertEqual((refused, len(wrong)), (wanted, faults), told)
+
+    def test_transaction_ids_of_frames(self):
+        sent = [fuzz.frame(1, txid, 0, b"", ((1, 2, 3),) * count) for txid, count in ((7, 0), (9, 2))]
+        self.assertEqual([fuzz.transactions(b"".join(sent)[:it]) for it in (0, 24, 71, 72)], [[], [7], [7], [7, 9]])
+
     def test_each_allocation_is_refused(self):
         for store in refused_memory.STORE:
             self.write(store, "")
