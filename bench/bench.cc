@@ -9,6 +9,7 @@
 #include "flat.h"
 #include "line.h"
 #include "plain.h"
+#include "print.h"
 #include "proto.h"
 #include "values.h"
 
@@ -88,6 +89,18 @@ static void fidl_writing_lines(const Printer& printer, const char* shape, const 
 
 // ---------------------------------------------------------------- its peers
 
+// The same text, printed by hand from plain structs.
+template <class Plain>
+static void print_line(const Printer& printer, const char* shape, const Plain& value, const std::string& want) {
+  must(print::text(value, 2 * want.size()) == want, "another text is printed by hand");
+  std::vector<char> room(2 * want.size());
+  printer.line(shape, "plain", "print", want.size(), each([&] {
+                 print::Room made{room.data()};
+                 print::value(made, value);
+                 return uint64_t(made.end - room.data());
+               }));
+}
+
 template <class Shape>
 static void flat_lines(const Printer& printer, const char* shape, uint64_t want) {
   const typename Shape::Plain value = Shape::value();
@@ -138,6 +151,7 @@ int main(int count, char** words) {
   const FidlShape records{"bench/Records", fidl_table_format(), fidl_bench_read_records, plain::text(plain::records())};
   fidl_lines(printer, "records", records, sum_of_records());
   fidl_writing_lines(printer, "records", records);
+  print_line(printer, "records", plain::records(), records.text);
   flat_lines<flat::Records>(printer, "records", sum_of_records());
   capn_lines<capn::Records>(printer, "records", sum_of_records());
   proto_lines<proto::Records>(printer, "records", sum_of_records());
@@ -145,6 +159,7 @@ int main(int count, char** words) {
   const FidlShape chain{"bench/Node", fidl_chain(), fidl_bench_read_chain, plain::text(plain::chain())};
   fidl_lines(printer, "chain", chain, sum_of_chain());
   fidl_writing_lines(printer, "chain", chain);
+  print_line(printer, "chain", plain::chain(), chain.text);
   flat_lines<flat::Chain>(printer, "chain", sum_of_chain());
   capn_lines<capn::Chain>(printer, "chain", sum_of_chain());
   proto_lines<proto::Chain>(printer, "chain", sum_of_chain());
@@ -152,6 +167,7 @@ int main(int count, char** words) {
   const FidlShape wide{"bench/Wide", fidl_wide(), fidl_bench_read_wide, plain::text(plain::wide())};
   fidl_lines(printer, "wide", wide, sum_of_wide());
   fidl_writing_lines(printer, "wide", wide);
+  print_line(printer, "wide", plain::wide(), wide.text);
   flat_lines<flat::Wide>(printer, "wide", sum_of_wide());
   capn_lines<capn::Wide>(printer, "wide", sum_of_wide());
   proto_lines<proto::Wide>(printer, "wide", sum_of_wide());
