@@ -26,8 +26,8 @@ Example:
 
 Status:
   0  it is done
-  1  the sources, the table, the message or the text are refused
-  2  the command line is wrong, or names a root or a fault that there is not
+  1  the sources, the table, the message, the text, the script or a frame is refused
+  2  the command line is wrong, or names a root, a protocol or a fault that there is not
   3  a file or a stream cannot be read or written
   4  memory ran out";
 

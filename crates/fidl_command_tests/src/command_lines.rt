@@ -242,7 +242,7 @@ fn wrong_command_lines(rt: HostRuntime) -> Result<(), Fail> {
         dash,
     )?;
     let none = "error: 'fidl' requires a subcommand but one was not provided [subcommands: \
-        compile, decode, encode, table, explain, help]\n";
+        compile, decode, encode, table, dump, serve, explain, help]\n";
     expect(alloc, &["out/fidl"], 2, "", none)?;
     expect(alloc, &[], 2, "", none)
 }
@@ -257,12 +257,14 @@ fn help_and_version(rt: HostRuntime) -> Result<(), Fail> {
         decode   Prints the text of the value that a message encodes\n  \
         encode   Prints the message that encodes the value of a text\n  \
         table    Prints the records of a coding table\n  \
+        dump     Prints a line for each frame of a stream of messages\n  \
+        serve    Answers the requests of the standard input by the replies of a script\n  \
         explain  Says what a fault means, with an example\n  \
         help     Print this message or the help of the given subcommand(s)\n\nOptions:\n  \
         -h, --help     Print help\n  -V, --version  Print version\n\nExample:\n  \
         fidl compile --out store.fct zx.fidl types.fidl store.fidl\n\nStatus:\n  \
-        0  it is done\n  1  the sources, the table, the message or the text are refused\n  \
-        2  the command line is wrong, or names a root or a fault that there is not\n  \
+        0  it is done\n  1  the sources, the table, the message, the text, the script or a frame is refused\n  \
+        2  the command line is wrong, or names a root, a protocol or a fault that there is not\n  \
         3  a file or a stream cannot be read or written\n  4  memory ran out\n";
     expect(alloc, &["fidl", "--help"], 0, help, "")?;
     expect(alloc, &["fidl", "help"], 0, help, "")

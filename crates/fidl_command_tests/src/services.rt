@@ -100,7 +100,7 @@ struct Wanted {
     errors: &'static str,
 }
 
-const fn wanted(status: u8, out: &'static [u8], errors: &'static str) -> Wanted {
+const fn answer(status: u8, out: &'static [u8], errors: &'static str) -> Wanted {
     Wanted {
         status,
         out,
@@ -140,30 +140,30 @@ fn serves(
 #[test]
 fn services_answer_their_input(rt: HostRuntime) -> Result<(), Fail> {
     let alloc = rt.alloc();
-    serves(alloc, SCRIPT, &REQUEST, wanted(0, &REPLY, ""))?;
-    serves(alloc, SCRIPT, b"", wanted(0, b"", ""))?;
+    serves(alloc, SCRIPT, &REQUEST, answer(0, &REPLY, ""))?;
+    serves(alloc, SCRIPT, b"", answer(0, b"", ""))?;
     let line = "ended 2 StrictUnknown\n";
-    serves(alloc, SCRIPT, &STRICT, wanted(1, b"", line))?;
+    serves(alloc, SCRIPT, &STRICT, answer(1, b"", line))?;
     let line = "ended 4 BadFrame\n";
-    serves(alloc, SCRIPT, &[0x10, 0, 0, 0], wanted(1, b"", line))?;
+    serves(alloc, SCRIPT, &[0x10, 0, 0, 0], answer(1, b"", line))?;
     let over = [0x01, 0, 0x01, 0, 0, 0, 0, 0].as_slice();
-    serves(alloc, SCRIPT, over, wanted(1, b"", line))
+    serves(alloc, SCRIPT, over, answer(1, b"", line))
 }
 
 #[test]
 fn scripts_are_refused_by_their_lines(rt: HostRuntime) -> Result<(), Fail> {
     let alloc = rt.alloc();
     let line = "script 2 UnknownProtocol\n";
-    serves(alloc, "protocol s/Q", &REQUEST, wanted(1, b"", line))?;
+    serves(alloc, "protocol s/Q", &REQUEST, answer(1, b"", line))?;
     let line = "script 3 UnknownMethod at 2\n";
     serves(
         alloc,
         "protocol s/P\nreply s/P.M",
         b"",
-        wanted(1, b"", line),
+        answer(1, b"", line),
     )?;
     let line = "script 1 Syntax at 1\n";
-    serves(alloc, "", b"", wanted(1, b"", line))
+    serves(alloc, "", b"", answer(1, b"", line))
 }
 
 #[test]
@@ -172,13 +172,13 @@ fn files_and_streams_that_fail(rt: HostRuntime) -> Result<(), Fail> {
     let script = SCRIPT;
     let input = Input::Broken;
     let line = "serve 1 Read\n";
-    expect(alloc, &SERVE, Desk { script, input }, wanted(3, b"", line))?;
+    expect(alloc, &SERVE, Desk { script, input }, answer(3, b"", line))?;
     let words = ["fidl", "serve", "short.fct", "s.script"];
-    let line = "table 1 Truncated at 0\n";
-    expect(alloc, &words, Desk { script, input }, wanted(1, b"", line))?;
+    let line = "table 3 Truncated at 0\n";
+    expect(alloc, &words, Desk { script, input }, answer(1, b"", line))?;
     let words = ["fidl", "serve", "s.fct", "none"];
     let line = "error: \"none\": entity not found\n";
-    expect(alloc, &words, Desk { script, input }, wanted(3, b"", line))
+    expect(alloc, &words, Desk { script, input }, answer(3, b"", line))
 }
 
 #[test]
@@ -188,13 +188,13 @@ fn frames_are_printed_up_to_the_first_wrong_one(rt: HostRuntime) -> Result<(), F
     let input = Input::Broken;
     let out = b"7 6acf018fbf1678ba unknown\n".as_slice();
     let line = "frame 2: ended 4 BadFrame\n";
-    expect(alloc, &DUMP, Desk { script, input }, wanted(1, out, line))?;
+    expect(alloc, &DUMP, Desk { script, input }, answer(1, out, line))?;
     let words = ["fidl", "dump", "s.fct", "other", "frames"];
     let line = "error: PROTOCOL: no protocol of \"s.fct\" has the name \"other\"\n";
-    expect(alloc, &words, Desk { script, input }, wanted(2, b"", line))?;
+    expect(alloc, &words, Desk { script, input }, answer(2, b"", line))?;
     let words = ["fidl", "dump", "--response", "s.fct", "s/P", "none"];
     let line = "error: \"none\": entity not found\n";
-    expect(alloc, &words, Desk { script, input }, wanted(3, b"", line))
+    expect(alloc, &words, Desk { script, input }, answer(3, b"", line))
 }
 
 #[test]
@@ -207,10 +207,8 @@ fn replies_that_cannot_be_written(rt: HostRuntime) -> Result<(), Fail> {
     let mut out = Output::new(Brief::new(alloc, 0));
     let mut told = Output::new(Vec::new(alloc));
     let outcome = run(alloc, &SERVE, &mut desk, &mut out, &mut told);
+    let line = b"serve 2 Write\n".as_slice();
     assert_eq!(rt; outcome.status().number(), 3, "the status");
-    assert!(rt;
-        told.into_writer().as_slice() == b"serve 2 Write\n",
-        "the line"
-    );
+    assert!(rt; told.into_writer().as_slice() == line, "the line");
     Ok(())
 }
