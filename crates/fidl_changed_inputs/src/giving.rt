@@ -1,0 +1,163 @@
+//! The calls to which inputs are given.
+ghost use Rattle.std.specs.Prelude.{◌<◌};
+ghost use Rattle.fidl_table_format.specs.Section.{header_of};
+
+use crate::Stop;
+use crate::inputs::{HANDLES, MESSAGE, ROOT, SCRIPT};
+use fidl_compile::{CompileFault, compile};
+use fidl_decode::{Scratch, decode};
+use fidl_reading::{NotationFault, read_value};
+use fidl_requests::Ended;
+use fidl_script::{Script, ScriptFault};
+use fidl_serve::serve_within;
+use fidl_streams::Counted;
+use fidl_verify::{Table, verify};
+use fidl_wire::HandleInfo;
+use std::alloc::Global;
+
+/// What an input is.
+#[derive(Clone, Copy, PartialEq, Eq, Debug, Drop)]
+pub(crate) enum Kind {
+    Source,
+    Table,
+    Message,
+    Text,
+    Script,
+    Stream,
+}
+
+impl Kind {
+    /// The name of inputs of this kind.
+    pub(crate) fn name(self) -> &'static str {
+        match self {
+            Kind::Source => "sources",
+            Kind::Table => "tables",
+            Kind::Message => "messages",
+            Kind::Text => "texts",
+            Kind::Script => "scripts",
+            Kind::Stream => "streams",
+        }
+    }
+}
+
+/// What the calls need besides an input.
+#[derive(Drop)]
+pub(crate) struct Desk<'d, 't> {
+    pub(crate) alloc: Global,
+    pub(crate) table: &'d Table<'t>,
+    pub(crate) scratch: Scratch,
+}
+
+/// How many reads a short stream needs at most.
+const READS: u64 = 1_000;
+
+/// Compiles a source.
+fn give_source(alloc: Global, source: &[u8]) -> Result<bool, Stop> {
+    match compile(alloc, &[source]) {
+        Ok(_table) => Ok(true),
+        Err(CompileFault::Memory) => Err(Stop),
+        Err(_) => Ok(false),
+    }
+}
+
+/// Decodes a message by an entry of a table.
+fn decode_by(
+    table: &Table<'_>,
+    entry: u32,
+    bytes: &[u8],
+    handles: &[HandleInfo],
+    scratch: &mut Scratch,
+) -> bool
+    requires { entry < (header_of table.now).entries }
+{
+    decode(table, entry, bytes, handles, scratch).is_ok()
+}
+
+/// Decodes three messages by each entry of a table, and says how many are accepted.
+fn decode_all(table: &Table<'_>, scratch: &mut Scratch) -> u64 {
+    let mut accepted = 0u64;
+    for entry in 0..table.entries() {
+        let nothing = decode_by(table, entry, &[], &[], scratch);
+        let zeros = decode_by(table, entry, &[0; 8], &[], scratch);
+        let worked = decode_by(table, entry, MESSAGE, &HANDLES, scratch);
+        if nothing || zeros || worked {
+            accepted = accepted.saturating_add(1);
+        }
+    }
+    accepted
+}
+
+/// Verifies a table; one that is accepted decodes messages.
+fn give_table(scratch: &mut Scratch, bytes: &[u8]) -> bool {
+    match verify(bytes) {
+        Ok(table) => {
+            let _accepted = decode_all(&table, scratch);
+            true
+        }
+        Err(_) => false,
+    }
+}
+
+/// Decodes a message.
+fn give_message(desk: &mut Desk<'_, '_>, bytes: &[u8]) -> Result<bool, Stop> {
+    match desk.table.root(ROOT) {
+        Some(entry) => {
+            let scratch = &mut desk.scratch;
+            Ok(decode_by(desk.table, entry, bytes, &HANDLES, scratch))
+        }
+        None => Err(Stop),
+    }
+}
+
+/// Reads the value of a text.
+fn give_text(desk: &Desk<'_, '_>, text: &[u8]) -> Result<bool, Stop> {
+    let Some(entry) = desk.table.root(ROOT) else {
+        return Err(Stop);
+    };
+    match read_value(desk.alloc, desk.table, entry, text) {
+        Ok(_value) => Ok(true),
+        Err(NotationFault::Memory) => Err(Stop),
+        Err(_) => Ok(false),
+    }
+}
+
+/// Reads a script.
+fn give_script(desk: &Desk<'_, '_>, text: &[u8]) -> Result<bool, Stop> {
+    match Script::read(desk.alloc, desk.table, text) {
+        Ok(_script) => Ok(true),
+        Err(ScriptFault::Memory) => Err(Stop),
+        Err(_) => Ok(false),
+    }
+}
+
+/// Serves a stream.
+fn give_stream(desk: &Desk<'_, '_>, stream: &[u8]) -> Result<bool, Stop> {
+    let Ok(script) = Script::read(desk.alloc, desk.table, SCRIPT) else {
+        return Err(Stop);
+    };
+    let mut reader = Counted::new(stream);
+    let mut writer = Counted::new(Vec::new(desk.alloc));
+    match serve_within(
+        desk.alloc,
+        desk.table,
+        &script,
+        &mut reader,
+        &mut writer,
+        READS,
+    ) {
+        Ok(ended) => Ok(ended == Ended::EndOfInput),
+        Err(_) => Err(Stop),
+    }
+}
+
+/// Gives an input to the calls for its kind, and says whether it is accepted.
+pub(crate) fn give(desk: &mut Desk<'_, '_>, kind: Kind, input: &[u8]) -> Result<bool, Stop> {
+    match kind {
+        Kind::Source => give_source(desk.alloc, input),
+        Kind::Table => Ok(give_table(&mut desk.scratch, input)),
+        Kind::Message => give_message(desk, input),
+        Kind::Text => give_text(desk, input),
+        Kind::Script => give_script(desk, input),
+        Kind::Stream => give_stream(desk, input),
+    }
+}

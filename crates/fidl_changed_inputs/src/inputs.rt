@@ -1,0 +1,83 @@
+//! The inputs, before they are cut or changed.
+
+use crate::Stop;
+use fidl_compile::compile;
+use fidl_header::Header;
+use fidl_verify::Table;
+use fidl_wire::HandleInfo;
+use std::alloc::Global;
+
+/// A library with a table, and a protocol of two methods.
+pub(crate) const SOURCE: &[u8] = b"library s;\n\
+    type T = table { 1: a uint8; 2: b string; };\n\
+    open protocol P { strict Get(struct {k uint8;}) -> (struct {v uint8;}); flexible F() -> (); };";
+
+/// The type of the message and of the text.
+pub(crate) const ROOT: &[u8] = b"s/T";
+
+/// A message of the type, whose member of ordinal 5 is unknown and has a handle.
+pub(crate) const MESSAGE: &[u8] = &[
+    0x05, 0, 0, 0, 0, 0, 0, 0, 0xff, 0xff, 0xff, 0xff, 0xff, 0xff, 0xff, 0xff, 0, 0, 0, 0, 0, 0, 0,
+    0, 0, 0, 0, 0, 0, 0, 0, 0, 0, 0, 0, 0, 0, 0, 0, 0, 0, 0, 0, 0, 0, 0, 0, 0, 0x08, 0, 0, 0, 0x01,
+    0, 0, 0, 0x11, 0x22, 0x33, 0x44, 0x55, 0x66, 0x77, 0x88,
+];
+
+/// The handles of that message.
+pub(crate) const HANDLES: [HandleInfo; 1] = [HandleInfo {
+    id: 9,
+    object_type: 3,
+    rights: 1,
+}];
+
+/// A text of a value of the type.
+pub(crate) const TEXT: &[u8] =
+    b"table(5) {a: 5, b: \"x\\u{e9}\", 5: unknown out 1122334455667788 [handle(9, 3, 1)]}";
+
+/// A script for the protocol.
+pub(crate) const SCRIPT: &[u8] =
+    b"protocol s/P\nreply s/P.Get {v: 9}\nreply s/P.F union(response: {})\n";
+
+/// The table of the library.
+pub(crate) fn table_of(alloc: Global) -> Result<Vec<u8>, Stop> {
+    match compile(alloc, &[SOURCE]) {
+        Ok(table) => Ok(table),
+        Err(_) => Err(Stop),
+    }
+}
+
+/// Puts the frame of a call of a method behind a stream.
+fn put_call(
+    stream: &mut Vec<u8>,
+    table: &Table<'_>,
+    name: &[u8],
+    txid: u32,
+    body: &[u8],
+) -> Result<(), Stop> {
+    let Some(protocol) = table.protocol(b"s/P") else {
+        return Err(Stop);
+    };
+    let Some(method) = protocol.method_named(name) else {
+        return Err(Stop);
+    };
+    let header = Header {
+        txid,
+        flexible: !method.strict(),
+        ordinal: method.ordinal(),
+    };
+    let length = if body.is_empty() { 16u32 } else { 24u32 };
+    let parts: [&[u8]; 4] = [&length.to_le_bytes(), &[0; 4], &header.write(), body];
+    for part in parts {
+        if stream.extend_from_slice(part).is_err() {
+            return Err(Stop);
+        }
+    }
+    Ok(())
+}
+
+/// A call of each method, as a stream of frames.
+pub(crate) fn stream_of(alloc: Global, table: &Table<'_>) -> Result<Vec<u8>, Stop> {
+    let mut stream = Vec::new(alloc);
+    put_call(&mut stream, table, b"s/P.Get", 1, &[5, 0, 0, 0, 0, 0, 0, 0])?;
+    put_call(&mut stream, table, b"s/P.F", 2, &[])?;
+    Ok(stream)
+}

@@ -1,0 +1,74 @@
+//! Gives cut and changed inputs to the calls of the library, and prints which kinds are done
+//! (docs/checking.md, "The gate").
+//!
+//! A source, a coding table, a message, a text, a script and a stream are cut at each length, and
+//! all but the source get each of their bytes changed to each value. Each call has to return; what
+//! it answers is told by its contract. A cut table has to be Truncated at 0.
+#![tactic(auto)]
+
+mod changing;
+mod giving;
+mod inputs;
+
+use crate::changing::{try_changes, try_cuts};
+use crate::giving::{Desk, Kind};
+use crate::inputs::{MESSAGE, SCRIPT, SOURCE, TEXT, stream_of, table_of};
+use fidl_decode::Scratch;
+use fidl_text::Output;
+use fidl_verify::verify;
+use std::alloc::Global;
+use std::io::Write;
+
+/// A call that did not answer as it has to, or lacked memory; or the output has failed.
+#[derive(Clone, Copy, Debug, Drop)]
+pub(crate) struct Stop;
+
+/// Prints that the inputs of a kind were given.
+fn done<W: Write>(out: &mut Output<W>, kind: &str) -> Result<(), Stop> {
+    match writeln!(out, "{kind}: done") {
+        Ok(()) => Ok(()),
+        Err(_) => Err(Stop),
+    }
+}
+
+/// Gives an input cut at each length, and then with each byte changed.
+fn try_input<W: Write>(
+    desk: &mut Desk<'_, '_>,
+    kind: Kind,
+    input: &[u8],
+    out: &mut Output<W>,
+) -> Result<(), Stop> {
+    try_cuts(desk, kind, input)?;
+    try_changes(desk, kind, input)?;
+    done(out, kind.name())
+}
+
+/// Gives all inputs.
+fn try_all<W: Write>(alloc: Global, out: &mut Output<W>) -> Result<(), Stop> {
+    let bytes = table_of(alloc)?;
+    let (Ok(table), Ok(scratch)) = (verify(&bytes), Scratch::new(alloc)) else {
+        return Err(Stop);
+    };
+    let stream = stream_of(alloc, &table)?;
+    let mut desk = Desk {
+        alloc,
+        table: &table,
+        scratch,
+    };
+    try_cuts(&mut desk, Kind::Source, SOURCE)?;
+    done(out, Kind::Source.name())?;
+    try_input(&mut desk, Kind::Table, &bytes, out)?;
+    try_input(&mut desk, Kind::Message, MESSAGE, out)?;
+    try_input(&mut desk, Kind::Text, TEXT, out)?;
+    try_input(&mut desk, Kind::Script, SCRIPT, out)?;
+    try_input(&mut desk, Kind::Stream, &stream, out)
+}
+
+fn main(rt: HostRuntime) {
+    let mut out = Output::new(rt.stdout());
+    if try_all(rt.alloc(), &mut out).is_err() {
+        match writeln!(out, "failed") {
+            Ok(()) | Err(_) => {}
+        }
+    }
+}
