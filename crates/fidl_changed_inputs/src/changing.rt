@@ -7,7 +7,7 @@ use crate::giving::{Desk, Kind, give};
 pub(crate) fn try_cuts(desk: &mut Desk<'_, '_>, kind: Kind, input: &[u8]) -> Result<(), Stop> {
     for length in 0..=input.len() {
         let accepted = give(desk, kind, &input[..length])?;
-        if kind == Kind::Table && accepted != (length == input.len()) {
+        if kind.is_whole() && accepted != (length == input.len()) {
             return Err(Stop);
         }
     }

@@ -3,7 +3,7 @@ ghost use Rattle.std.specs.Prelude.{◌<◌};
 ghost use Rattle.fidl_table_format.specs.Section.{header_of};
 
 use crate::Stop;
-use crate::inputs::{HANDLES, MESSAGE, ROOT, SCRIPT};
+use crate::inputs::{HANDLES, MESSAGE, ROOT, SCRIPT, Worked};
 use fidl_compile::{CompileFault, compile};
 use fidl_decode::{Scratch, decode};
 use fidl_reading::{NotationFault, read_value};
@@ -27,6 +27,11 @@ pub(crate) enum Kind {
 }
 
 impl Kind {
+    /// Whether an input of this kind is accepted as it is, and no front of it is.
+    pub(crate) fn is_whole(self) -> bool {
+        matches!(self, Kind::Table | Kind::Message)
+    }
+
     /// The name of inputs of this kind.
     pub(crate) fn name(self) -> &'static str {
         match self {
@@ -46,6 +51,8 @@ pub(crate) struct Desk<'d, 't> {
     pub(crate) alloc: Global,
     pub(crate) table: &'d Table<'t>,
     pub(crate) scratch: Scratch,
+    /// Of which type messages are, and which handles they have.
+    pub(crate) worked: Worked,
 }
 
 /// How many reads a short stream needs at most.
@@ -100,10 +107,11 @@ fn give_table(scratch: &mut Scratch, bytes: &[u8]) -> bool {
 
 /// Decodes a message.
 fn give_message(desk: &mut Desk<'_, '_>, bytes: &[u8]) -> Result<bool, Stop> {
-    match desk.table.root(ROOT) {
+    let worked = desk.worked;
+    match desk.table.root(worked.root) {
         Some(entry) => {
             let scratch = &mut desk.scratch;
-            Ok(decode_by(desk.table, entry, bytes, &HANDLES, scratch))
+            Ok(decode_by(desk.table, entry, bytes, worked.handles, scratch))
         }
         None => Err(Stop),
     }

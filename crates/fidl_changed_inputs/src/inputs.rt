@@ -7,15 +7,20 @@ use fidl_verify::Table;
 use fidl_wire::HandleInfo;
 use std::alloc::Global;
 
-/// A library with a table, and a protocol of two methods.
+/// A library with a type of each shape of message, and a protocol of two methods.
 pub(crate) const SOURCE: &[u8] = b"library s;\n\
     type T = table { 1: a uint8; 2: b string; };\n\
+    type Padded = struct { a uint8; b uint32; };\n\
+    type Text = struct { value string:optional; };\n\
+    type Chosen = struct { u strict union { 1: n uint32; 2: s string:8; }; };\n\
+    type Node = struct { next box<Node>; };\n\
+    type Listed = struct { v vector<strict enum : uint16 { A = 1; B = 2; }>:4; };\n\
     open protocol P { strict Get(struct {k uint8;}) -> (struct {v uint8;}); flexible F() -> (); };";
 
-/// The type of the message and of the text.
+/// The type of the text, and of the message that the entries of tables decode.
 pub(crate) const ROOT: &[u8] = b"s/T";
 
-/// A message of the type, whose member of ordinal 5 is unknown and has a handle.
+/// A message of that type, whose member of ordinal 5 is unknown and has a handle.
 pub(crate) const MESSAGE: &[u8] = &[
     0x05, 0, 0, 0, 0, 0, 0, 0, 0xff, 0xff, 0xff, 0xff, 0xff, 0xff, 0xff, 0xff, 0, 0, 0, 0, 0, 0, 0,
     0, 0, 0, 0, 0, 0, 0, 0, 0, 0, 0, 0, 0, 0, 0, 0, 0, 0, 0, 0, 0, 0, 0, 0, 0, 0x08, 0, 0, 0, 0x01,
@@ -28,6 +33,57 @@ pub(crate) const HANDLES: [HandleInfo; 1] = [HandleInfo {
     object_type: 3,
     rights: 1,
 }];
+
+/// A message of a type of the library.
+#[derive(Clone, Copy, Drop)]
+pub(crate) struct Worked {
+    pub(crate) root: &'static [u8],
+    pub(crate) bytes: &'static [u8],
+    pub(crate) handles: &'static [HandleInfo],
+}
+
+/// A message of each shape: an unknown member, padding, a text, a union, boxes, and a list.
+pub(crate) const MESSAGES: [Worked; 6] = [
+    Worked {
+        root: ROOT,
+        bytes: MESSAGE,
+        handles: &HANDLES,
+    },
+    Worked {
+        root: b"s/Padded",
+        bytes: &[1, 0, 0, 0, 2, 0, 0, 0],
+        handles: &[],
+    },
+    Worked {
+        root: b"s/Text",
+        bytes: &[
+            2, 0, 0, 0, 0, 0, 0, 0, 0xff, 0xff, 0xff, 0xff, 0xff, 0xff, 0xff, 0xff, 0x68, 0x69, 0,
+            0, 0, 0, 0, 0,
+        ],
+        handles: &[],
+    },
+    Worked {
+        root: b"s/Chosen",
+        bytes: &[1, 0, 0, 0, 0, 0, 0, 0, 7, 0, 0, 0, 0, 0, 1, 0],
+        handles: &[],
+    },
+    Worked {
+        root: b"s/Node",
+        bytes: &[
+            0xff, 0xff, 0xff, 0xff, 0xff, 0xff, 0xff, 0xff, 0xff, 0xff, 0xff, 0xff, 0xff, 0xff,
+            0xff, 0xff, 0, 0, 0, 0, 0, 0, 0, 0,
+        ],
+        handles: &[],
+    },
+    Worked {
+        root: b"s/Listed",
+        bytes: &[
+            2, 0, 0, 0, 0, 0, 0, 0, 0xff, 0xff, 0xff, 0xff, 0xff, 0xff, 0xff, 0xff, 1, 0, 2, 0, 0,
+            0, 0, 0,
+        ],
+        handles: &[],
+    },
+];
 
 /// A text of a value of the type.
 pub(crate) const TEXT: &[u8] =

@@ -3,7 +3,7 @@
 //!
 //! A source, a coding table, a message, a text, a script and a stream are cut at each length, and
 //! all but the source get each of their bytes changed to each value. Each call has to return; what
-//! it answers is told by its contract. A cut table has to be Truncated at 0.
+//! it answers is told by its contract. A cut table or message is refused.
 #![tactic(auto)]
 
 mod changing;
@@ -12,7 +12,7 @@ mod inputs;
 
 use crate::changing::{try_changes, try_cuts};
 use crate::giving::{Desk, Kind};
-use crate::inputs::{MESSAGE, SCRIPT, SOURCE, TEXT, stream_of, table_of};
+use crate::inputs::{MESSAGES, SCRIPT, SOURCE, TEXT, stream_of, table_of};
 use fidl_decode::Scratch;
 use fidl_text::Output;
 use fidl_verify::verify;
@@ -43,6 +43,16 @@ fn try_input<W: Write>(
     done(out, kind.name())
 }
 
+/// Gives each message cut at each length, and with each byte changed.
+fn try_messages(desk: &mut Desk<'_, '_>) -> Result<(), Stop> {
+    for worked in &MESSAGES {
+        desk.worked = *worked;
+        try_cuts(desk, Kind::Message, worked.bytes)?;
+        try_changes(desk, Kind::Message, worked.bytes)?;
+    }
+    Ok(())
+}
+
 /// Gives all inputs.
 fn try_all<W: Write>(alloc: Global, out: &mut Output<W>) -> Result<(), Stop> {
     let bytes = table_of(alloc)?;
@@ -54,11 +64,13 @@ fn try_all<W: Write>(alloc: Global, out: &mut Output<W>) -> Result<(), Stop> {
         alloc,
         table: &table,
         scratch,
+        worked: MESSAGES[0],
     };
     try_cuts(&mut desk, Kind::Source, SOURCE)?;
     done(out, Kind::Source.name())?;
     try_input(&mut desk, Kind::Table, &bytes, out)?;
-    try_input(&mut desk, Kind::Message, MESSAGE, out)?;
+    try_messages(&mut desk)?;
+    done(out, Kind::Message.name())?;
     try_input(&mut desk, Kind::Text, TEXT, out)?;
     try_input(&mut desk, Kind::Script, SCRIPT, out)?;
     try_input(&mut desk, Kind::Stream, &stream, out)
