@@ -13,10 +13,13 @@ namespace print {
 struct Room {
   char* end;
 
+  void bytes(const char* from, size_t count) {
+    memcpy(end, from, count);
+    end += count;
+  }
   template <size_t N>
   void put(const char (&words)[N]) {
-    memcpy(end, words, N - 1);
-    end += N - 1;
+    bytes(words, N - 1);
   }
   template <class Number>
   void number(Number it) {
@@ -24,8 +27,7 @@ struct Room {
   }
   void text(const std::string& it) {
     put("\"");
-    memcpy(end, it.data(), it.size());
-    end += it.size();
+    bytes(it.data(), it.size());
     put("\"");
   }
   void truth(bool it) {

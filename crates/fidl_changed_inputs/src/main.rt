@@ -2,8 +2,8 @@
 //! (docs/checking.md, "The gate").
 //!
 //! A source, a coding table, a message, a text, a script and a stream are cut at each length, and
-//! all but the source get each of their bytes changed to each value. Each call has to return; what
-//! it answers is told by its contract. A cut table or message is refused.
+//! all but the source get each of their bytes changed to each value. Each call has to return.
+//! Its contract says what it answers. A cut table or message has to be refused.
 #![tactic(auto)]
 
 mod changing;

@@ -1,4 +1,4 @@
--- Why a frame has no line (README.md, "Refusals").
+-- Why a frame has no line (docs/program.md, "dump").
 use Rattle.std.specs.Prelude.{◌≡◌, ◌≢◌, ℕ, ◌+◌, List, [], ◌∷◌, ◌++◌, length, codes}
 use Rattle.std.specs.Prelude.{Option, Some, None}
 use Rattle.fidl_wire.specs.Term as ty

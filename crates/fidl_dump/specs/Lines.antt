@@ -1,4 +1,4 @@
--- The line of a frame (README.md, "Lines").
+-- The line of a frame (docs/program.md, "dump").
 use Rattle.std.specs.Prelude.{◌≡◌, ℕ, List, [], ◌∷◌, ◌++◌, drop, codes, decimal}
 use Rattle.fidl_wire.specs.Term as ty
 use Rattle.fidl_wire.specs.Value.{Value}
@@ -15,7 +15,7 @@ use Rattle.fidl_text.specs.Words.{ordinal_word, words_line}
 use Rattle.fidl_dump.specs.declared.direction.Direction.{Direction}
 use Rattle.fidl_dump.specs.Methods.{NamesMethod, carried_of, IsUnknown, full_name_of}
 
--- what stands behind the header of a frame's message
+-- the bytes after the header of a frame's message
 abbrev pub body_of : (frame : List ℕ) → List ℕ
 body_of frame = drop 16 (message_of frame)
 

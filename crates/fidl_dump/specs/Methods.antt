@@ -1,4 +1,4 @@
--- Which method of a protocol an ordinal names, and what its messages carry (README.md, "Lines").
+-- Which method of a protocol an ordinal names, and what its messages carry (docs/program.md, "dump").
 use Rattle.std.specs.Prelude.{◌≡◌, ℕ, ◌⊎◌, List}
 use Rattle.fidl_table_format.specs.declared.record.MethodRecord.{MethodRecord}
 use Rattle.fidl_table_format.specs.Section.{header_of}

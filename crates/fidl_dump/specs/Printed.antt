@@ -1,4 +1,4 @@
--- What a dump has written (README.md, "Lines").
+-- What a dump has written (docs/program.md, "dump").
 use Rattle.std.specs.Prelude.{◌≡◌, ℕ, List, take, Option, None, IsSome, Result}
 use Rattle.std.specs.Prelude.{Ok, Err}
 use Rattle.std.specs.Io.KnownBytes.{Appends}

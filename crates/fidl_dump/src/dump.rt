@@ -34,7 +34,7 @@ fn whole_frame(bytes: &[u8]) -> Option<usize>
     Some(end)
 }
 
-/// Prints the frames of a recorded stream, a line a frame (README.md, "Lines").
+/// Prints the frames of a recorded stream, a line a frame (docs/program.md, "dump").
 ///
 /// `Ok` comes where the bytes are whole frames, and each has a line; all lines are then written.
 /// `Frame` names the first frame without a line, by its number from 1. It is a whole one that is

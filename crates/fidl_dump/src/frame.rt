@@ -47,7 +47,7 @@ const NO_HANDLE: HandleInfo = HandleInfo {
     rights: 0,
 };
 
-/// What stands behind the header of a frame's message.
+/// The bytes after the header of a frame's message.
 fn body_of<'f>(frame: &Frame<'f>) -> &'f [u8]
     requires { IsHeader (message_of frame.now) }
     ensures { result.now ≡ body_of frame.now }

@@ -62,7 +62,7 @@ pub fn a_message_without_a_header()
         (fault.Header header.BadMagic) }
 {}
 
-/// The text of the value that a message carries stands behind the method's name.
+/// The text of the value that a message carries follows the method's name.
 pub fn a_value_that_is_carried()
     ensures { IsLine value_protocol Requests (a_frame 1 0 0 1 (replicate 8 0))
         (codes "0 0000000000000001 p {}\n") }
@@ -97,7 +97,7 @@ pub fn the_second_frame_is_bad()
         → ¬ (IsFaultAt p d (an_unknown_frame ++ four_bytes) 1 fault.BadFrame) }
 {}
 
-/// How refusals are told.
+/// The stage, number, name and place of refusals.
 pub fn words_of_refusals()
     ensures header { stage_of (fault.Header header.BadMagic) ≡ codes "header" }
     ensures decode { stage_of (fault.Body (decode.Padding 2)) ≡ codes "decode" }

@@ -1,7 +1,7 @@
 //! Makes each call of the library that takes memory once, in a fixed order, and prints what each
 //! answered (docs/promises.md, "Memory").
 //!
-//! A call that is refused is told with the name of its fault, and then all calls are made again. So
+//! Of a refused call the name of its fault is printed, and then all calls are made again. So
 //! where one allocation of the process is refused, the output shows which call it stopped, and that
 //! the same call then succeeds.
 #![tactic(auto)]

@@ -1,6 +1,7 @@
 //! The command `dump`.
 ghost use Rattle.std.specs.Prelude.{◌≡◌, ◌≢◌, ◌⊎◌, ℕ, None, IsSome, OnOk, OnErr};
 ghost use Rattle.std.specs.Io.KnownBytes.{Appends};
+ghost use Rattle.fidl_table_format.specs.WellFormed.{WellFormed};
 ghost use Rattle.fidl_frames.specs.Frames.{frames_of, between};
 ghost use Rattle.fidl_dump.specs.declared.fault.FrameFault.{FrameFault};
 ghost use Rattle.fidl_dump.specs.Printed.{PrintsLines, PrintsFront, first_frames};
@@ -117,6 +118,7 @@ pub fn dump<W: Write, E: Write>(
     ensures no_protocol_line { result ≡ outcome.NoProtocol
         → TellsNoProtocol file.now.bytes.now file.now.name.now recorded.now.protocol.now
         (E.contents errors.old.writer) (E.contents errors.new.writer) }
+    ensures accepted { result ≡ outcome.NoMemory → WellFormed file.now.bytes.now }
     ensures memory_line { result ≡ outcome.NoMemory
         → Appends (E.contents errors.old.writer) (E.contents errors.new.writer) no_memory_line }
     ensures unwritten { ReportsFailures result out.old.failure out.new.failure

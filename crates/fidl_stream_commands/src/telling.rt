@@ -1,4 +1,4 @@
-//! What is told of a script that is refused, and of a service that has ended.
+//! The reports of a refused script, and of a service that has ended.
 ghost use Rattle.std.specs.Prelude.{◌≡◌, ◌≢◌, ◌↔◌, ◌⊎◌, None, Ok, IsOk, IsSome, IsTrue};
 ghost use Rattle.std.specs.Prelude.{OnOk, OnErr};
 ghost use Rattle.std.specs.Io.KnownBytes.{Appends};
