@@ -1,6 +1,7 @@
 //! Tables and unions, and the envelopes of their members.
-ghost use Rattle.std.specs.Prelude.{None, ◌↔◌, ◌≡◌, ◌≤◌, ◌<◌, ◌+◌, ◌*◌, ◌^◌, Bool, List, ℕ, OnOk, IfErr, IfSome, IsTrue, Some, false, length, map};
+ghost use Rattle.std.specs.Prelude.{None, IfNone, ◌↔◌, ◌≡◌, ◌≤◌, ◌<◌, ◌+◌, ◌*◌, ◌^◌, Bool, List, ℕ, OnOk, IfErr, IfSome, IsTrue, Some, false, length, map};
 ghost use Rattle.fidl_wire.specs.Term as ty;
+ghost use Rattle.fidl_wire.specs.Term.{find};
 ghost use Rattle.fidl_wire.specs.Value.{values_of, members_of, unknown, known};
 ghost use Rattle.fidl_wire.specs.Figure.{Declarations};
 ghost use Rattle.fidl_wire.specs.Views.{value_view, member_view, entry_view};
@@ -8,7 +9,8 @@ ghost use Rattle.fidl_table_format.specs.declared.kind.EntryKind.TheVariants as 
 ghost use Rattle.fidl_table_format.specs.Section.{header_of, entry_at};
 ghost use Rattle.fidl_table_format.specs.Terms as terms;
 ghost use Rattle.fidl_table_format.specs.Terms.{declarations_of, is_optional};
-ghost use Rattle.fidl_table_format.specs.Entry.{IsOf};
+ghost use Rattle.fidl_table_format.specs.Entry.{IsOf, kind_is};
+ghost use Rattle.fidl_table_format.specs.Uses.{uses_ordinals};
 ghost use Rattle.fidl_table_format.specs.WellFormed.{WellFormed};
 ghost use Rattle.fidl_encode.specs.Writing.{IsWithin, written};
 ghost use Rattle.fidl_encode.specs.Parts.{value_part, elements_part, entry_part, struct_part, type_at};
@@ -21,12 +23,13 @@ use crate::shape::{as_table, as_union, check_absent};
 use crate::target::Target;
 use crate::unknown::write_unknown;
 use crate::value::write_value;
-use fidl_table_format::Row;
+use fidl_table_format::{Entry, Row};
 use fidl_verify::Table;
 use fidl_wire::{MAX_MESSAGE_BYTES, Member, Value};
 
 /// Writes the envelope of a known member that stands in it.
 #[cycle(write)]
+#[inline(always)]
 fn write_inline(
     table: &Table<'_>,
     entry: u32,
@@ -54,6 +57,7 @@ fn write_inline(
 
 /// Writes a known member out of line, and the envelope that counts its bytes.
 #[cycle(write)]
+#[inline(always)]
 fn write_outside(
     table: &Table<'_>,
     entry: u32,
@@ -128,6 +132,31 @@ fn write_member(
     }
 }
 
+/// The row of an ordinal of a table, where there is one: the first look is at the place that it has
+/// where all ordinals below it are members.
+#[inline(always)]
+fn row_of(table: &Table<'_>, index: u32, parts: &Entry, ordinal: u64) -> Option<Row>
+    requires entry { index < (header_of table.now).entries }
+    requires kind { IsTrue (kind_is uses_ordinals (entry_at table.now index)) }
+    requires parts { parts.now ≡ entry_at table.now index }
+    requires some { 0 < ordinal }
+    ensures none { IfNone result (find (terms.members_of table.now index) ordinal ≡ None) }
+    ensures some { IfSome result (λ row. find (terms.members_of table.now index) ordinal
+        ≡ Some (ty.named row.entry)) }
+    ensures entry_below { IfSome result (λ row. row.entry < (header_of table.now).entries) }
+{
+    // Read, so that the number of rows, and with it each row's, is known to have 32 bits.
+    let _rows = table.rows();
+    if ordinal <= u64::from(parts.count) {
+        let row = table.row(parts.first + (ordinal - 1) as u32);
+        if u64::from(row.key) == ordinal {
+            return Some(row);
+        }
+    }
+    let mut probes = 0;
+    table.member(index, ordinal, &mut probes)
+}
+
 /// The envelopes of a table of an entry.
 #[derive(Clone, Copy)]
 struct Envelopes {
@@ -159,14 +188,14 @@ fn write_envelopes(
         (terms.members_of table.now envelopes.index) 0 envelopes.count
         (members_of (map entry_view members.now))) target.depth (written out.old)) }
 {
+    let parts = table.entry(envelopes.index);
     let mut last = 0;
     for k in 0..members.len() {
         let (ordinal, member) = &members[k];
         if *ordinal <= last || *ordinal > envelopes.count {
             return Err(EncodeFault::WrongShape);
         }
-        let mut probes = 0;
-        let row = table.member(envelopes.index, *ordinal, &mut probes);
+        let row = row_of(table, envelopes.index, &parts, *ordinal);
         let place = Target {
             at: target.at + 8 * (*ordinal as usize - 1),
             depth: target.depth,

@@ -23,6 +23,7 @@ pub(crate) fn is_optional(entry: &Entry) -> bool
 }
 
 /// Writes a bool.
+#[inline(always)]
 pub(crate) fn write_bool(
     value: &Value,
     target: Target,
@@ -44,6 +45,7 @@ pub(crate) fn write_bool(
 }
 
 /// Writes a string, or that it is absent.
+#[inline(always)]
 pub(crate) fn write_string(
     entry: &Entry,
     value: &Value,

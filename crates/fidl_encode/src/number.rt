@@ -30,6 +30,7 @@ use fidl_wire::Value;
 
 /// Writes the bytes of a number of a kind of numbers, and answers it in 64 bits: a negative one in
 /// two's complement. None is written of a number out of the kind's range.
+#[inline(always)]
 fn put_number(kind: EntryKind, number: i128, at: usize, out: &mut Message) -> Option<u64>
     requires { at + byte_len (width (as_number kind)) ≤ length out.old.bytes.items }
     ensures over { OnSome result (IsOver out.old.bytes.items out.new.bytes.items at
@@ -85,6 +86,7 @@ fn put_number(kind: EntryKind, number: i128, at: usize, out: &mut Message) -> Op
 }
 
 /// Writes a number of a kind of numbers.
+#[inline(always)]
 pub(crate) fn write_number(
     kind: EntryKind,
     value: &Value,

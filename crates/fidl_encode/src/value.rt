@@ -26,9 +26,10 @@ use fidl_table_format::EntryKind;
 use fidl_verify::Table;
 use fidl_wire::Value;
 
-/// Writes a value of an entry.
+/// Writes a value of any entry.
 #[cycle(write)]
-pub(crate) fn write_value(
+#[inline(never)]
+fn write_any(
     table: &Table<'_>,
     index: u32,
     value: &Value,
@@ -57,6 +58,42 @@ pub(crate) fn write_value(
         EntryKind::Table => write_table(table, index, value, target, out),
         EntryKind::Union => write_union(table, index, value, target, out),
         EntryKind::Handle => write_handle(&entry, value, target, out),
+        _ => write_number(kind, value, target, out),
+    }
+}
+
+/// Writes a value of an entry: a bool or a number in place, and any other by a call.
+#[cycle(write)]
+#[inline(always)]
+pub(crate) fn write_value(
+    table: &Table<'_>,
+    index: u32,
+    value: &Value,
+    target: Target,
+    out: &mut Message,
+) -> Result<(), EncodeFault>
+    requires entry { index < (header_of table.now).entries }
+    requires within { IsWithin (written out.old) }
+    requires room { target.at + (entry_at table.now index).size ≤ length out.old.bytes.items }
+    ensures ok { OnOk result (IsWritten (entry_part table.now index (value_view value.now))
+        target.depth target.at (written out.old) (written out.new)) }
+    ensures fault_is_true { IfErr result (IsRefused
+        (entry_part table.now index (value_view value.now)) target.depth (written out.old)) }
+{
+    let entry = table.entry(index);
+    let kind = EntryKind::from_number(entry.kind).unwrap();
+    match kind {
+        EntryKind::Bool => write_bool(value, target, out),
+        EntryKind::Bits
+        | EntryKind::Enum
+        | EntryKind::String
+        | EntryKind::Vector
+        | EntryKind::Array
+        | EntryKind::Box
+        | EntryKind::Struct
+        | EntryKind::Table
+        | EntryKind::Union
+        | EntryKind::Handle => write_any(table, index, value, target, out),
         _ => write_number(kind, value, target, out),
     }
 }

@@ -719,8 +719,8 @@ envelope::write_envelopes-returns-then-ordinal-last-clause-fault_is_true t c =
       | envelope::write_envelopes-then-ordinal-last-via-else-ordinal-last+then-ordinal-envelopes w ↦ omega (arith, le, w.if-ordinal-envelopes.true)
     ])
 
-pub envelope::write_envelopes-member-row-requires-clause-kind : goal.envelope::write_envelopes-member-row-requires-clause-kind
-envelope::write_envelopes-member-row-requires-clause-kind t c = test_of uses_ordinals Table (entry_at c.args.table.now c.args.envelopes.index) c.requires.of_table
+pub envelope::write_envelopes-row_of-row-requires-clause-kind : goal.envelope::write_envelopes-row_of-row-requires-clause-kind
+envelope::write_envelopes-row_of-row-requires-clause-kind t c = test_of uses_ordinals Table (entry_at c.args.table.now c.args.envelopes.index) c.requires.of_table
 
 pub envelope::write_envelopes-write_member-requires : goal.envelope::write_envelopes-write_member-requires
 envelope::write_envelopes-write_member-requires t c =
@@ -728,7 +728,7 @@ envelope::write_envelopes-write_member-requires t c =
     let longer = c.loop-k.invariant.longer in
     let rises = c.if-ordinal-last.false in
     let le = c.if-ordinal-envelopes.false in
-    (omega (arith, c.decreases), (c.requires.well_formed, (c.member-row.ensures.entry_below, (c.loop-k.invariant.within, omega (arith, room, longer, rises, le)))))
+    (omega (arith, c.decreases), (c.requires.well_formed, (c.row_of-row.ensures.entry_below, (c.loop-k.invariant.within, omega (arith, room, longer, rises, le)))))
 
 pub envelope::write_envelopes-returns-in_err-write_member-clause-fault_is_true : goal.envelope::write_envelopes-returns-in_err-write_member-clause-fault_is_true
 envelope::write_envelopes-returns-in_err-write_member-clause-fault_is_true t c =
@@ -740,7 +740,7 @@ envelope::write_envelopes-returns-in_err-write_member-clause-fault_is_true t c =
     handed_on c.from_residual.result f (IsRefused (envelopes_part (declarations_of b) rows 0 c.args.envelopes.count (envelopes.entry_views c.args.members.now)) c.args.target.depth a) c.from_residual.ensures.1
     (envelopes.left_refused (declarations_of b) rows c.args.envelopes.count c.args.members.now c.args.target.depth c.args.target.at a (laid_out b c.requires.well_formed)
     c.loop-k.k c.loop-k.last m (written c.loop-k.out) c.loop-k-test.true (sym c.index-members-k.is) c.loop-k.invariant (omega (arith, c.if-ordinal-last.false)) (omega (arith, c.if-ordinal-envelopes.false)) f
-    (subst (λ o. IsRefused (member_part (declarations_of b) false o (member_view m.1)) c.args.target.depth (written c.loop-k.out) f) (envelopes.row_found rows m.0 c.member-row.result c.member-row.ensures.none c.member-row.ensures.some) c.in_err-write_member.ensures.fault_is_true))
+    (subst (λ o. IsRefused (member_part (declarations_of b) false o (member_view m.1)) c.args.target.depth (written c.loop-k.out) f) (envelopes.row_found rows m.0 c.row_of-row.result c.row_of-row.ensures.none c.row_of-row.ensures.some) c.in_err-write_member.ensures.fault_is_true))
 
 pub envelope::write_envelopes-loop-k-preserved : goal.envelope::write_envelopes-loop-k-preserved
 envelope::write_envelopes-loop-k-preserved t c =
@@ -749,7 +749,7 @@ envelope::write_envelopes-loop-k-preserved t c =
     let m = c.index-members-k.result in
     envelopes.left_next (declarations_of b) rows c.args.envelopes.count c.args.members.now c.args.target.depth c.args.target.at (written c.args.out.now) (laid_out b c.requires.well_formed)
     c.loop-k.k c.loop-k.last m (written c.loop-k.out) c.loop-k-test.true (sym c.index-members-k.is) c.loop-k.invariant (omega (arith, c.if-ordinal-last.false)) (omega (arith, c.if-ordinal-envelopes.false)) (written c.write_member.new.out)
-    (subst (λ o. IsWritten (member_part (declarations_of b) false o (member_view m.1)) c.args.target.depth (c.args.target.at + 8 * (m.0 - 1)) (written c.loop-k.out) (written c.write_member.new.out)) (envelopes.row_found rows m.0 c.member-row.result c.member-row.ensures.none c.member-row.ensures.some)
+    (subst (λ o. IsWritten (member_part (declarations_of b) false o (member_view m.1)) c.args.target.depth (c.args.target.at + 8 * (m.0 - 1)) (written c.loop-k.out) (written c.write_member.new.out)) (envelopes.row_found rows m.0 c.row_of-row.result c.row_of-row.ensures.none c.row_of-row.ensures.some)
     c.in_ok-write_member.ensures.ok)
 
 pub envelope::write_envelopes-returns-clause-ok : goal.envelope::write_envelopes-returns-clause-ok
@@ -944,6 +944,476 @@ envelope::write_union-returns-clause-fault_is_true t c =
 
 -- ---- values
 
+pub value::write_any-unwrap-kind-requires : goal.value::write_any-unwrap-kind-requires
+value::write_any-unwrap-kind-requires t c =
+    let b = c.args.table.now in
+    let e = c.entry-entry.result in
+    let w = c.entry-entry.ensures.well_formed in
+    let same = c.entry-entry.ensures.value in
+    let i = c.args.index in
+    let lt = c.requires.entry in
+    entries.kind_there b w i lt e same c.from_number.result c.from_number.ensures
+
+pub value::write_any-write_bool-requires-clause-room : goal.value::write_any-write_bool-requires-clause-room
+value::write_any-write_bool-requires-clause-room t c =
+    let b = c.args.table.now in
+    let e = c.entry-entry.result in
+    let w = c.entry-entry.ensures.well_formed in
+    let same = c.entry-entry.ensures.value in
+    let i = c.args.index in
+    let lt = c.requires.entry in
+    let is : IsOf Boolean e = sym c.from_number.ensures ∙ c.unwrap-kind.ensures ∙ ap Some c.in-Bool.is in
+    let size = entries.size_from b w i lt e same Boolean is in
+    let room = c.requires.room in
+    omega (arith, size, room)
+
+pub value::write_any-write_bits-requires-clause-room : goal.value::write_any-write_bits-requires-clause-room
+value::write_any-write_bits-requires-clause-room t c =
+    let b = c.args.table.now in
+    let e = c.entry-entry.result in
+    let w = c.entry-entry.ensures.well_formed in
+    let same = c.entry-entry.ensures.value in
+    let i = c.args.index in
+    let lt = c.requires.entry in
+    let is : IsOf Bits e = sym c.from_number.ensures ∙ c.unwrap-kind.ensures ∙ ap Some c.in-Bits.is in
+    let size = entries.size_from b w i lt e same Bits is in
+    let room = c.requires.room in
+    omega (arith, size, room)
+
+pub value::write_any-write_string-requires-clause-room : goal.value::write_any-write_string-requires-clause-room
+value::write_any-write_string-requires-clause-room t c =
+    let b = c.args.table.now in
+    let e = c.entry-entry.result in
+    let w = c.entry-entry.ensures.well_formed in
+    let same = c.entry-entry.ensures.value in
+    let i = c.args.index in
+    let lt = c.requires.entry in
+    let is : IsOf String e = sym c.from_number.ensures ∙ c.unwrap-kind.ensures ∙ ap Some c.in-String.is in
+    let size = entries.size_from b w i lt e same String is in
+    let room = c.requires.room in
+    omega (arith, size, room)
+
+pub value::write_any-write_handle-requires-clause-room : goal.value::write_any-write_handle-requires-clause-room
+value::write_any-write_handle-requires-clause-room t c =
+    let b = c.args.table.now in
+    let e = c.entry-entry.result in
+    let w = c.entry-entry.ensures.well_formed in
+    let same = c.entry-entry.ensures.value in
+    let i = c.args.index in
+    let lt = c.requires.entry in
+    let is : IsOf Handle e = sym c.from_number.ensures ∙ c.unwrap-kind.ensures ∙ ap Some c.in-Handle.is in
+    let size = entries.size_from b w i lt e same Handle is in
+    let room = c.requires.room in
+    omega (arith, size, room)
+
+pub value::write_any-write_bits-requires-clause-unsigned : goal.value::write_any-write_bits-requires-clause-unsigned
+value::write_any-write_bits-requires-clause-unsigned t c =
+    let b = c.args.table.now in
+    let e = c.entry-entry.result in
+    let w = c.entry-entry.ensures.well_formed in
+    let same = c.entry-entry.ensures.value in
+    let i = c.args.index in
+    let lt = c.requires.entry in
+    let is : IsOf Bits e = sym c.from_number.ensures ∙ c.unwrap-kind.ensures ∙ ap Some c.in-Bits.is in
+    entries.unsigned_from b w i lt e same is
+
+pub value::write_any-write_enum-requires-clause-kind : goal.value::write_any-write_enum-requires-clause-kind
+value::write_any-write_enum-requires-clause-kind t c =
+    let b = c.args.table.now in
+    let e = c.entry-entry.result in
+    let w = c.entry-entry.ensures.well_formed in
+    let same = c.entry-entry.ensures.value in
+    let i = c.args.index in
+    let lt = c.requires.entry in
+    let is : IsOf Enum e = sym c.from_number.ensures ∙ c.unwrap-kind.ensures ∙ ap Some c.in-Enum.is in
+    entries.is_there b w i lt e same Enum is
+
+pub value::write_any-write_enum-requires-clause-room : goal.value::write_any-write_enum-requires-clause-room
+value::write_any-write_enum-requires-clause-room t c =
+    let b = c.args.table.now in
+    let e = c.entry-entry.result in
+    let w = c.entry-entry.ensures.well_formed in
+    let same = c.entry-entry.ensures.value in
+    let i = c.args.index in
+    let lt = c.requires.entry in
+    let is : IsOf Enum e = sym c.from_number.ensures ∙ c.unwrap-kind.ensures ∙ ap Some c.in-Enum.is in
+    let size = entries.size_as b w i lt Enum (entries.is_there b w i lt e same Enum is) in
+    let room = c.requires.room in
+    omega (arith, size, room)
+
+pub value::write_any-write_vector-requires : goal.value::write_any-write_vector-requires
+value::write_any-write_vector-requires t c =
+    let b = c.args.table.now in
+    let e = c.entry-entry.result in
+    let w = c.entry-entry.ensures.well_formed in
+    let same = c.entry-entry.ensures.value in
+    let i = c.args.index in
+    let lt = c.requires.entry in
+    let is : IsOf Vector e = sym c.from_number.ensures ∙ c.unwrap-kind.ensures ∙ ap Some c.in-Vector.is in
+    let size = entries.size_from b w i lt e same Vector is in
+    let room = c.requires.room in
+    (omega (arith, c.decreases), (w, (entries.first_from b w i lt e same Vector is refl, (entries.bound_from b w i lt e same is, (c.requires.within, omega (arith, size, room))))))
+
+pub value::write_any-write_array-requires : goal.value::write_any-write_array-requires
+value::write_any-write_array-requires t c =
+    let b = c.args.table.now in
+    let e = c.entry-entry.result in
+    let w = c.entry-entry.ensures.well_formed in
+    let same = c.entry-entry.ensures.value in
+    let i = c.args.index in
+    let lt = c.requires.entry in
+    let is : IsOf Array e = sym c.from_number.ensures ∙ c.unwrap-kind.ensures ∙ ap Some c.in-Array.is in
+    let room = c.requires.room in
+    let fits = entries.fits_from b w i lt e same is in
+    let less = entries.less_from b w i lt e same is in (
+      omega (arith, c.decreases, fits, less),
+      (entries.first_from b w i lt e same Array is refl, (c.requires.within, subst (λ n. c.args.target.at + n ≤ length c.args.out.now.bytes.items) (sym (entries.array_from b w i lt e same is)) room)),
+    )
+
+pub value::write_any-write_box-requires : goal.value::write_any-write_box-requires
+value::write_any-write_box-requires t c =
+    let b = c.args.table.now in
+    let e = c.entry-entry.result in
+    let w = c.entry-entry.ensures.well_formed in
+    let same = c.entry-entry.ensures.value in
+    let i = c.args.index in
+    let lt = c.requires.entry in
+    let is : IsOf Box e = sym c.from_number.ensures ∙ c.unwrap-kind.ensures ∙ ap Some c.in-Box.is in
+    let size = entries.size_from b w i lt e same Box is in
+    let room = c.requires.room in
+    (omega (arith, c.decreases), (w, (entries.first_from b w i lt e same Box is refl, (entries.struct_from b w i lt e same is, (c.requires.within, omega (arith, size, room))))))
+
+pub value::write_any-write_struct-requires : goal.value::write_any-write_struct-requires
+value::write_any-write_struct-requires t c =
+    let b = c.args.table.now in
+    let e = c.entry-entry.result in
+    let w = c.entry-entry.ensures.well_formed in
+    let same = c.entry-entry.ensures.value in
+    let i = c.args.index in
+    let lt = c.requires.entry in
+    let is : IsOf Struct e = sym c.from_number.ensures ∙ c.unwrap-kind.ensures ∙ ap Some c.in-Struct.is in
+    (omega (arith, c.decreases), (lt, (entries.is_there b w i lt e same Struct is, (c.requires.within, c.requires.room))))
+
+pub value::write_any-write_table-requires : goal.value::write_any-write_table-requires
+value::write_any-write_table-requires t c =
+    let b = c.args.table.now in
+    let e = c.entry-entry.result in
+    let w = c.entry-entry.ensures.well_formed in
+    let same = c.entry-entry.ensures.value in
+    let i = c.args.index in
+    let lt = c.requires.entry in
+    let is : IsOf Table e = sym c.from_number.ensures ∙ c.unwrap-kind.ensures ∙ ap Some c.in-Table.is in
+    let size = entries.size_from b w i lt e same Table is in
+    let room = c.requires.room in
+    (omega (arith, c.decreases), (w, (lt, (entries.is_there b w i lt e same Table is, (c.requires.within, omega (arith, size, room))))))
+
+pub value::write_any-write_union-requires : goal.value::write_any-write_union-requires
+value::write_any-write_union-requires t c =
+    let b = c.args.table.now in
+    let e = c.entry-entry.result in
+    let w = c.entry-entry.ensures.well_formed in
+    let same = c.entry-entry.ensures.value in
+    let i = c.args.index in
+    let lt = c.requires.entry in
+    let is : IsOf Union e = sym c.from_number.ensures ∙ c.unwrap-kind.ensures ∙ ap Some c.in-Union.is in
+    let size = entries.size_from b w i lt e same Union is in
+    let room = c.requires.room in
+    (omega (arith, c.decreases, size), (lt, (entries.is_there b w i lt e same Union is, (c.requires.within, omega (arith, size, room)))))
+
+pub value::write_any-returns-in-Bool-clause-ok : goal.value::write_any-returns-in-Bool-clause-ok
+value::write_any-returns-in-Bool-clause-ok t c =
+    let b = c.args.table.now in
+    let e = c.entry-entry.result in
+    let w = c.entry-entry.ensures.well_formed in
+    let same = c.entry-entry.ensures.value in
+    let i = c.args.index in
+    let lt = c.requires.entry in
+    let is : IsOf Boolean e = sym c.from_number.ensures ∙ c.unwrap-kind.ensures ∙ ap Some c.in-Bool.is in
+    on_ok c.write_bool.result (λ h. subst (λ t. IsWritten (value_part (declarations_of b) t (value_view c.args.value.now)) c.args.target.depth c.args.target.at (written c.args.out.now) (written c.write_bool.new.out)) (sym (entries.term_from b w i lt e same Boolean is)) (h (declarations_of b))) c.write_bool.ensures.ok
+
+pub value::write_any-returns-in-Bool-clause-fault_is_true : goal.value::write_any-returns-in-Bool-clause-fault_is_true
+value::write_any-returns-in-Bool-clause-fault_is_true t c =
+    let b = c.args.table.now in
+    let e = c.entry-entry.result in
+    let w = c.entry-entry.ensures.well_formed in
+    let same = c.entry-entry.ensures.value in
+    let i = c.args.index in
+    let lt = c.requires.entry in
+    let is : IsOf Boolean e = sym c.from_number.ensures ∙ c.unwrap-kind.ensures ∙ ap Some c.in-Bool.is in
+    if_err (λ f. (ds : Declarations) → IsRefused (value_part ds (ty.bool) (value_view c.args.value.now)) c.args.target.depth (written c.args.out.now) f) (IsRefused (entry_part b i (value_view c.args.value.now)) c.args.target.depth (written c.args.out.now)) c.write_bool.result
+    (λ f h. subst (λ t. IsRefused (value_part (declarations_of b) t (value_view c.args.value.now)) c.args.target.depth (written c.args.out.now) f) (sym (entries.term_from b w i lt e same Boolean is)) (h (declarations_of b))) c.write_bool.ensures.fault_is_true
+
+pub value::write_any-returns-in-Bits-clause-ok : goal.value::write_any-returns-in-Bits-clause-ok
+value::write_any-returns-in-Bits-clause-ok t c =
+    let b = c.args.table.now in
+    let e = c.entry-entry.result in
+    let w = c.entry-entry.ensures.well_formed in
+    let same = c.entry-entry.ensures.value in
+    let i = c.args.index in
+    let lt = c.requires.entry in
+    let is : IsOf Bits e = sym c.from_number.ensures ∙ c.unwrap-kind.ensures ∙ ap Some c.in-Bits.is in
+    on_ok c.write_bits.result (λ h. subst (λ t. IsWritten (value_part (declarations_of b) t (value_view c.args.value.now)) c.args.target.depth c.args.target.at (written c.args.out.now) (written c.write_bits.new.out)) (sym (entries.term_from b w i lt e same Bits is)) (h (declarations_of b))) c.write_bits.ensures.ok
+
+pub value::write_any-returns-in-Bits-clause-fault_is_true : goal.value::write_any-returns-in-Bits-clause-fault_is_true
+value::write_any-returns-in-Bits-clause-fault_is_true t c =
+    let b = c.args.table.now in
+    let e = c.entry-entry.result in
+    let w = c.entry-entry.ensures.well_formed in
+    let same = c.entry-entry.ensures.value in
+    let i = c.args.index in
+    let lt = c.requires.entry in
+    let is : IsOf Bits e = sym c.from_number.ensures ∙ c.unwrap-kind.ensures ∙ ap Some c.in-Bits.is in
+    if_err (λ f. (ds : Declarations) → IsRefused (value_part ds (ty.bits (underlying e) (mask_of e)) (value_view c.args.value.now)) c.args.target.depth (written c.args.out.now) f) (IsRefused (entry_part b i (value_view c.args.value.now)) c.args.target.depth (written c.args.out.now)) c.write_bits.result
+    (λ f h. subst (λ t. IsRefused (value_part (declarations_of b) t (value_view c.args.value.now)) c.args.target.depth (written c.args.out.now) f) (sym (entries.term_from b w i lt e same Bits is)) (h (declarations_of b))) c.write_bits.ensures.fault_is_true
+
+pub value::write_any-returns-in-String-clause-ok : goal.value::write_any-returns-in-String-clause-ok
+value::write_any-returns-in-String-clause-ok t c =
+    let b = c.args.table.now in
+    let e = c.entry-entry.result in
+    let w = c.entry-entry.ensures.well_formed in
+    let same = c.entry-entry.ensures.value in
+    let i = c.args.index in
+    let lt = c.requires.entry in
+    let is : IsOf String e = sym c.from_number.ensures ∙ c.unwrap-kind.ensures ∙ ap Some c.in-String.is in
+    on_ok c.write_string.result (λ h. subst (λ t. IsWritten (value_part (declarations_of b) t (value_view c.args.value.now)) c.args.target.depth c.args.target.at (written c.args.out.now) (written c.write_string.new.out)) (sym (entries.term_from b w i lt e same String is)) (h (declarations_of b))) c.write_string.ensures.ok
+
+pub value::write_any-returns-in-String-clause-fault_is_true : goal.value::write_any-returns-in-String-clause-fault_is_true
+value::write_any-returns-in-String-clause-fault_is_true t c =
+    let b = c.args.table.now in
+    let e = c.entry-entry.result in
+    let w = c.entry-entry.ensures.well_formed in
+    let same = c.entry-entry.ensures.value in
+    let i = c.args.index in
+    let lt = c.requires.entry in
+    let is : IsOf String e = sym c.from_number.ensures ∙ c.unwrap-kind.ensures ∙ ap Some c.in-String.is in
+    if_err (λ f. (ds : Declarations) → IsRefused (value_part ds (ty.string (is_optional e) e.bound) (value_view c.args.value.now)) c.args.target.depth (written c.args.out.now) f) (IsRefused (entry_part b i (value_view c.args.value.now)) c.args.target.depth (written c.args.out.now)) c.write_string.result
+    (λ f h. subst (λ t. IsRefused (value_part (declarations_of b) t (value_view c.args.value.now)) c.args.target.depth (written c.args.out.now) f) (sym (entries.term_from b w i lt e same String is)) (h (declarations_of b))) c.write_string.ensures.fault_is_true
+
+pub value::write_any-returns-in-Handle-clause-ok : goal.value::write_any-returns-in-Handle-clause-ok
+value::write_any-returns-in-Handle-clause-ok t c =
+    let b = c.args.table.now in
+    let e = c.entry-entry.result in
+    let w = c.entry-entry.ensures.well_formed in
+    let same = c.entry-entry.ensures.value in
+    let i = c.args.index in
+    let lt = c.requires.entry in
+    let is : IsOf Handle e = sym c.from_number.ensures ∙ c.unwrap-kind.ensures ∙ ap Some c.in-Handle.is in
+    on_ok c.write_handle.result (λ h. subst (λ t. IsWritten (value_part (declarations_of b) t (value_view c.args.value.now)) c.args.target.depth c.args.target.at (written c.args.out.now) (written c.write_handle.new.out)) (sym (entries.term_from b w i lt e same Handle is)) (h (declarations_of b))) c.write_handle.ensures.ok
+
+pub value::write_any-returns-in-Handle-clause-fault_is_true : goal.value::write_any-returns-in-Handle-clause-fault_is_true
+value::write_any-returns-in-Handle-clause-fault_is_true t c =
+    let b = c.args.table.now in
+    let e = c.entry-entry.result in
+    let w = c.entry-entry.ensures.well_formed in
+    let same = c.entry-entry.ensures.value in
+    let i = c.args.index in
+    let lt = c.requires.entry in
+    let is : IsOf Handle e = sym c.from_number.ensures ∙ c.unwrap-kind.ensures ∙ ap Some c.in-Handle.is in
+    if_err (λ f. (ds : Declarations) → IsRefused (value_part ds (ty.handle (is_optional e) e.subtype e.rights) (value_view c.args.value.now)) c.args.target.depth (written c.args.out.now) f) (IsRefused (entry_part b i (value_view c.args.value.now)) c.args.target.depth (written c.args.out.now)) c.write_handle.result
+    (λ f h. subst (λ t. IsRefused (value_part (declarations_of b) t (value_view c.args.value.now)) c.args.target.depth (written c.args.out.now) f) (sym (entries.term_from b w i lt e same Handle is)) (h (declarations_of b))) c.write_handle.ensures.fault_is_true
+
+pub value::write_any-returns-in-Enum-clause-ok : goal.value::write_any-returns-in-Enum-clause-ok
+value::write_any-returns-in-Enum-clause-ok t c =
+    let b = c.args.table.now in
+    let e = c.entry-entry.result in
+    let w = c.entry-entry.ensures.well_formed in
+    let same = c.entry-entry.ensures.value in
+    let i = c.args.index in
+    let lt = c.requires.entry in
+    let is : IsOf Enum e = sym c.from_number.ensures ∙ c.unwrap-kind.ensures ∙ ap Some c.in-Enum.is in
+    on_ok c.write_enum.result (λ h. subst (λ t. IsWritten (value_part (declarations_of b) t (value_view c.args.value.now)) c.args.target.depth c.args.target.at (written c.args.out.now) (written c.write_enum.new.out)) (sym (entries.term_at b w i lt Enum (entries.is_there b w i lt e same Enum is))) (h (declarations_of b))) c.write_enum.ensures.ok
+
+pub value::write_any-returns-in-Enum-clause-fault_is_true : goal.value::write_any-returns-in-Enum-clause-fault_is_true
+value::write_any-returns-in-Enum-clause-fault_is_true t c =
+    let b = c.args.table.now in
+    let e = c.entry-entry.result in
+    let w = c.entry-entry.ensures.well_formed in
+    let same = c.entry-entry.ensures.value in
+    let i = c.args.index in
+    let lt = c.requires.entry in
+    let is : IsOf Enum e = sym c.from_number.ensures ∙ c.unwrap-kind.ensures ∙ ap Some c.in-Enum.is in
+    if_err (λ f. (ds : Declarations) → IsRefused (value_part ds (enum_at b i) (value_view c.args.value.now)) c.args.target.depth (written c.args.out.now) f) (IsRefused (entry_part b i (value_view c.args.value.now)) c.args.target.depth (written c.args.out.now)) c.write_enum.result
+    (λ f h. subst (λ t. IsRefused (value_part (declarations_of b) t (value_view c.args.value.now)) c.args.target.depth (written c.args.out.now) f) (sym (entries.term_at b w i lt Enum (entries.is_there b w i lt e same Enum is))) (h (declarations_of b))) c.write_enum.ensures.fault_is_true
+
+pub value::write_any-returns-in-Vector-clause-ok : goal.value::write_any-returns-in-Vector-clause-ok
+value::write_any-returns-in-Vector-clause-ok t c =
+    let b = c.args.table.now in
+    let e = c.entry-entry.result in
+    let w = c.entry-entry.ensures.well_formed in
+    let same = c.entry-entry.ensures.value in
+    let i = c.args.index in
+    let lt = c.requires.entry in
+    let is : IsOf Vector e = sym c.from_number.ensures ∙ c.unwrap-kind.ensures ∙ ap Some c.in-Vector.is in
+    subst (λ t. OnOk c.write_vector.result (IsWritten (value_part (declarations_of b) t (value_view c.args.value.now)) c.args.target.depth c.args.target.at (written c.args.out.now) (written c.write_vector.new.out))) (sym (entries.term_from b w i lt e same Vector is)) c.write_vector.ensures.ok
+
+pub value::write_any-returns-in-Vector-clause-fault_is_true : goal.value::write_any-returns-in-Vector-clause-fault_is_true
+value::write_any-returns-in-Vector-clause-fault_is_true t c =
+    let b = c.args.table.now in
+    let e = c.entry-entry.result in
+    let w = c.entry-entry.ensures.well_formed in
+    let same = c.entry-entry.ensures.value in
+    let i = c.args.index in
+    let lt = c.requires.entry in
+    let is : IsOf Vector e = sym c.from_number.ensures ∙ c.unwrap-kind.ensures ∙ ap Some c.in-Vector.is in
+    subst (λ t. IfErr c.write_vector.result (IsRefused (value_part (declarations_of b) t (value_view c.args.value.now)) c.args.target.depth (written c.args.out.now))) (sym (entries.term_from b w i lt e same Vector is)) c.write_vector.ensures.fault_is_true
+
+pub value::write_any-returns-in-Array-clause-ok : goal.value::write_any-returns-in-Array-clause-ok
+value::write_any-returns-in-Array-clause-ok t c =
+    let b = c.args.table.now in
+    let e = c.entry-entry.result in
+    let w = c.entry-entry.ensures.well_formed in
+    let same = c.entry-entry.ensures.value in
+    let i = c.args.index in
+    let lt = c.requires.entry in
+    let is : IsOf Array e = sym c.from_number.ensures ∙ c.unwrap-kind.ensures ∙ ap Some c.in-Array.is in
+    subst (λ t. OnOk c.write_array.result (IsWritten (value_part (declarations_of b) t (value_view c.args.value.now)) c.args.target.depth c.args.target.at (written c.args.out.now) (written c.write_array.new.out))) (sym (entries.term_from b w i lt e same Array is)) c.write_array.ensures.ok
+
+pub value::write_any-returns-in-Array-clause-fault_is_true : goal.value::write_any-returns-in-Array-clause-fault_is_true
+value::write_any-returns-in-Array-clause-fault_is_true t c =
+    let b = c.args.table.now in
+    let e = c.entry-entry.result in
+    let w = c.entry-entry.ensures.well_formed in
+    let same = c.entry-entry.ensures.value in
+    let i = c.args.index in
+    let lt = c.requires.entry in
+    let is : IsOf Array e = sym c.from_number.ensures ∙ c.unwrap-kind.ensures ∙ ap Some c.in-Array.is in
+    subst (λ t. IfErr c.write_array.result (IsRefused (value_part (declarations_of b) t (value_view c.args.value.now)) c.args.target.depth (written c.args.out.now))) (sym (entries.term_from b w i lt e same Array is)) c.write_array.ensures.fault_is_true
+
+pub value::write_any-returns-in-Box-clause-ok : goal.value::write_any-returns-in-Box-clause-ok
+value::write_any-returns-in-Box-clause-ok t c =
+    let b = c.args.table.now in
+    let e = c.entry-entry.result in
+    let w = c.entry-entry.ensures.well_formed in
+    let same = c.entry-entry.ensures.value in
+    let i = c.args.index in
+    let lt = c.requires.entry in
+    let is : IsOf Box e = sym c.from_number.ensures ∙ c.unwrap-kind.ensures ∙ ap Some c.in-Box.is in
+    subst (λ t. OnOk c.write_box.result (IsWritten (value_part (declarations_of b) t (value_view c.args.value.now)) c.args.target.depth c.args.target.at (written c.args.out.now) (written c.write_box.new.out))) (sym (entries.term_from b w i lt e same Box is)) c.write_box.ensures.ok
+
+pub value::write_any-returns-in-Box-clause-fault_is_true : goal.value::write_any-returns-in-Box-clause-fault_is_true
+value::write_any-returns-in-Box-clause-fault_is_true t c =
+    let b = c.args.table.now in
+    let e = c.entry-entry.result in
+    let w = c.entry-entry.ensures.well_formed in
+    let same = c.entry-entry.ensures.value in
+    let i = c.args.index in
+    let lt = c.requires.entry in
+    let is : IsOf Box e = sym c.from_number.ensures ∙ c.unwrap-kind.ensures ∙ ap Some c.in-Box.is in
+    subst (λ t. IfErr c.write_box.result (IsRefused (value_part (declarations_of b) t (value_view c.args.value.now)) c.args.target.depth (written c.args.out.now))) (sym (entries.term_from b w i lt e same Box is)) c.write_box.ensures.fault_is_true
+
+pub value::write_any-returns-in-Struct-clause-ok : goal.value::write_any-returns-in-Struct-clause-ok
+value::write_any-returns-in-Struct-clause-ok t c =
+    let b = c.args.table.now in
+    let e = c.entry-entry.result in
+    let w = c.entry-entry.ensures.well_formed in
+    let same = c.entry-entry.ensures.value in
+    let i = c.args.index in
+    let lt = c.requires.entry in
+    let is : IsOf Struct e = sym c.from_number.ensures ∙ c.unwrap-kind.ensures ∙ ap Some c.in-Struct.is in
+    subst (λ t. OnOk c.write_struct.result (IsWritten (value_part (declarations_of b) t (value_view c.args.value.now)) c.args.target.depth c.args.target.at (written c.args.out.now) (written c.write_struct.new.out))) (sym (entries.term_at b w i lt Struct (entries.is_there b w i lt e same Struct is))) c.write_struct.ensures.ok
+
+pub value::write_any-returns-in-Struct-clause-fault_is_true : goal.value::write_any-returns-in-Struct-clause-fault_is_true
+value::write_any-returns-in-Struct-clause-fault_is_true t c =
+    let b = c.args.table.now in
+    let e = c.entry-entry.result in
+    let w = c.entry-entry.ensures.well_formed in
+    let same = c.entry-entry.ensures.value in
+    let i = c.args.index in
+    let lt = c.requires.entry in
+    let is : IsOf Struct e = sym c.from_number.ensures ∙ c.unwrap-kind.ensures ∙ ap Some c.in-Struct.is in
+    subst (λ t. IfErr c.write_struct.result (IsRefused (value_part (declarations_of b) t (value_view c.args.value.now)) c.args.target.depth (written c.args.out.now))) (sym (entries.term_at b w i lt Struct (entries.is_there b w i lt e same Struct is))) c.write_struct.ensures.fault_is_true
+
+pub value::write_any-returns-in-Table-clause-ok : goal.value::write_any-returns-in-Table-clause-ok
+value::write_any-returns-in-Table-clause-ok t c =
+    let b = c.args.table.now in
+    let e = c.entry-entry.result in
+    let w = c.entry-entry.ensures.well_formed in
+    let same = c.entry-entry.ensures.value in
+    let i = c.args.index in
+    let lt = c.requires.entry in
+    let is : IsOf Table e = sym c.from_number.ensures ∙ c.unwrap-kind.ensures ∙ ap Some c.in-Table.is in
+    subst (λ t. OnOk c.write_table.result (IsWritten (value_part (declarations_of b) t (value_view c.args.value.now)) c.args.target.depth c.args.target.at (written c.args.out.now) (written c.write_table.new.out))) (sym (entries.table_is b w i lt (entries.is_there b w i lt e same Table is))) c.write_table.ensures.ok
+
+pub value::write_any-returns-in-Table-clause-fault_is_true : goal.value::write_any-returns-in-Table-clause-fault_is_true
+value::write_any-returns-in-Table-clause-fault_is_true t c =
+    let b = c.args.table.now in
+    let e = c.entry-entry.result in
+    let w = c.entry-entry.ensures.well_formed in
+    let same = c.entry-entry.ensures.value in
+    let i = c.args.index in
+    let lt = c.requires.entry in
+    let is : IsOf Table e = sym c.from_number.ensures ∙ c.unwrap-kind.ensures ∙ ap Some c.in-Table.is in
+    subst (λ t. IfErr c.write_table.result (IsRefused (value_part (declarations_of b) t (value_view c.args.value.now)) c.args.target.depth (written c.args.out.now))) (sym (entries.table_is b w i lt (entries.is_there b w i lt e same Table is))) c.write_table.ensures.fault_is_true
+
+pub value::write_any-returns-in-Union-clause-ok : goal.value::write_any-returns-in-Union-clause-ok
+value::write_any-returns-in-Union-clause-ok t c =
+    let b = c.args.table.now in
+    let e = c.entry-entry.result in
+    let w = c.entry-entry.ensures.well_formed in
+    let same = c.entry-entry.ensures.value in
+    let i = c.args.index in
+    let lt = c.requires.entry in
+    let is : IsOf Union e = sym c.from_number.ensures ∙ c.unwrap-kind.ensures ∙ ap Some c.in-Union.is in
+    subst (λ t. OnOk c.write_union.result (IsWritten (value_part (declarations_of b) t (value_view c.args.value.now)) c.args.target.depth c.args.target.at (written c.args.out.now) (written c.write_union.new.out))) (sym (entries.union_is b w i lt (entries.is_there b w i lt e same Union is))) c.write_union.ensures.ok
+
+pub value::write_any-returns-in-Union-clause-fault_is_true : goal.value::write_any-returns-in-Union-clause-fault_is_true
+value::write_any-returns-in-Union-clause-fault_is_true t c =
+    let b = c.args.table.now in
+    let e = c.entry-entry.result in
+    let w = c.entry-entry.ensures.well_formed in
+    let same = c.entry-entry.ensures.value in
+    let i = c.args.index in
+    let lt = c.requires.entry in
+    let is : IsOf Union e = sym c.from_number.ensures ∙ c.unwrap-kind.ensures ∙ ap Some c.in-Union.is in
+    subst (λ t. IfErr c.write_union.result (IsRefused (value_part (declarations_of b) t (value_view c.args.value.now)) c.args.target.depth (written c.args.out.now))) (sym (entries.union_is b w i lt (entries.is_there b w i lt e same Union is))) c.write_union.ensures.fault_is_true
+
+pub value::write_any-write_number-requires-clause-room : goal.value::write_any-write_number-requires-clause-room
+value::write_any-write_number-requires-clause-room t c =
+    let b = c.args.table.now in
+    let e = c.entry-entry.result in
+    let w = c.entry-entry.ensures.well_formed in
+    let same = c.entry-entry.ensures.value in
+    let i = c.args.index in
+    let lt = c.requires.entry in
+    let k = c.unwrap-kind.result in
+    let is : IsOf k e = sym c.from_number.ensures ∙ c.unwrap-kind.ensures in
+    let d = c.in_default in
+    let n = entries.number_term b (header_of b) e k d.not-Bool d.not-Bits d.not-Enum d.not-String d.not-Vector d.not-Array d.not-Box d.not-Struct d.not-Table d.not-Union d.not-Handle in
+    let size : byte_len (width (as_number k)) ≡ (entry_at b i).size = sym (ap (λ t. size_of (declarations_of b) t) n) ∙ entries.size_from b w i lt e same k is in
+    let room = c.requires.room in
+    omega (arith, size, room)
+
+pub value::write_any-returns-in_default-clause-ok : goal.value::write_any-returns-in_default-clause-ok
+value::write_any-returns-in_default-clause-ok t c =
+    let b = c.args.table.now in
+    let e = c.entry-entry.result in
+    let w = c.entry-entry.ensures.well_formed in
+    let same = c.entry-entry.ensures.value in
+    let i = c.args.index in
+    let lt = c.requires.entry in
+    let k = c.unwrap-kind.result in
+    let is : IsOf k e = sym c.from_number.ensures ∙ c.unwrap-kind.ensures in
+    let d = c.in_default in
+    let n = entries.number_term b (header_of b) e k d.not-Bool d.not-Bits d.not-Enum d.not-String d.not-Vector d.not-Array d.not-Box d.not-Struct d.not-Table d.not-Union d.not-Handle in
+    on_ok c.write_number.result (λ h. subst (λ t. IsWritten (value_part (declarations_of b) t (value_view c.args.value.now)) c.args.target.depth c.args.target.at (written c.args.out.now) (written c.write_number.new.out)) (sym (entries.term_from b w i lt e same k is ∙ n)) (h (declarations_of b))) c.write_number.ensures.ok
+
+pub value::write_any-returns-in_default-clause-fault_is_true : goal.value::write_any-returns-in_default-clause-fault_is_true
+value::write_any-returns-in_default-clause-fault_is_true t c =
+    let b = c.args.table.now in
+    let e = c.entry-entry.result in
+    let w = c.entry-entry.ensures.well_formed in
+    let same = c.entry-entry.ensures.value in
+    let i = c.args.index in
+    let lt = c.requires.entry in
+    let k = c.unwrap-kind.result in
+    let is : IsOf k e = sym c.from_number.ensures ∙ c.unwrap-kind.ensures in
+    let d = c.in_default in
+    let n = entries.number_term b (header_of b) e k d.not-Bool d.not-Bits d.not-Enum d.not-String d.not-Vector d.not-Array d.not-Box d.not-Struct d.not-Table d.not-Union d.not-Handle in
+    if_err (λ f. (ds : Declarations) → IsRefused (value_part ds (ty.number (as_number k)) (value_view c.args.value.now)) c.args.target.depth (written c.args.out.now) f) (IsRefused (entry_part b i (value_view c.args.value.now)) c.args.target.depth (written c.args.out.now)) c.write_number.result
+    (λ f h. subst (λ t. IsRefused (value_part (declarations_of b) t (value_view c.args.value.now)) c.args.target.depth (written c.args.out.now) f) (sym (entries.term_from b w i lt e same k is ∙ n)) (h (declarations_of b))) c.write_number.ensures.fault_is_true
+
+-- ---- bools and numbers in place
+
 pub value::write_value-unwrap-kind-requires : goal.value::write_value-unwrap-kind-requires
 value::write_value-unwrap-kind-requires t c =
     let b = c.args.table.now in
@@ -967,159 +1437,6 @@ value::write_value-write_bool-requires-clause-room t c =
     let room = c.requires.room in
     omega (arith, size, room)
 
-pub value::write_value-write_bits-requires-clause-room : goal.value::write_value-write_bits-requires-clause-room
-value::write_value-write_bits-requires-clause-room t c =
-    let b = c.args.table.now in
-    let e = c.entry-entry.result in
-    let w = c.entry-entry.ensures.well_formed in
-    let same = c.entry-entry.ensures.value in
-    let i = c.args.index in
-    let lt = c.requires.entry in
-    let is : IsOf Bits e = sym c.from_number.ensures ∙ c.unwrap-kind.ensures ∙ ap Some c.in-Bits.is in
-    let size = entries.size_from b w i lt e same Bits is in
-    let room = c.requires.room in
-    omega (arith, size, room)
-
-pub value::write_value-write_string-requires-clause-room : goal.value::write_value-write_string-requires-clause-room
-value::write_value-write_string-requires-clause-room t c =
-    let b = c.args.table.now in
-    let e = c.entry-entry.result in
-    let w = c.entry-entry.ensures.well_formed in
-    let same = c.entry-entry.ensures.value in
-    let i = c.args.index in
-    let lt = c.requires.entry in
-    let is : IsOf String e = sym c.from_number.ensures ∙ c.unwrap-kind.ensures ∙ ap Some c.in-String.is in
-    let size = entries.size_from b w i lt e same String is in
-    let room = c.requires.room in
-    omega (arith, size, room)
-
-pub value::write_value-write_handle-requires-clause-room : goal.value::write_value-write_handle-requires-clause-room
-value::write_value-write_handle-requires-clause-room t c =
-    let b = c.args.table.now in
-    let e = c.entry-entry.result in
-    let w = c.entry-entry.ensures.well_formed in
-    let same = c.entry-entry.ensures.value in
-    let i = c.args.index in
-    let lt = c.requires.entry in
-    let is : IsOf Handle e = sym c.from_number.ensures ∙ c.unwrap-kind.ensures ∙ ap Some c.in-Handle.is in
-    let size = entries.size_from b w i lt e same Handle is in
-    let room = c.requires.room in
-    omega (arith, size, room)
-
-pub value::write_value-write_bits-requires-clause-unsigned : goal.value::write_value-write_bits-requires-clause-unsigned
-value::write_value-write_bits-requires-clause-unsigned t c =
-    let b = c.args.table.now in
-    let e = c.entry-entry.result in
-    let w = c.entry-entry.ensures.well_formed in
-    let same = c.entry-entry.ensures.value in
-    let i = c.args.index in
-    let lt = c.requires.entry in
-    let is : IsOf Bits e = sym c.from_number.ensures ∙ c.unwrap-kind.ensures ∙ ap Some c.in-Bits.is in
-    entries.unsigned_from b w i lt e same is
-
-pub value::write_value-write_enum-requires-clause-kind : goal.value::write_value-write_enum-requires-clause-kind
-value::write_value-write_enum-requires-clause-kind t c =
-    let b = c.args.table.now in
-    let e = c.entry-entry.result in
-    let w = c.entry-entry.ensures.well_formed in
-    let same = c.entry-entry.ensures.value in
-    let i = c.args.index in
-    let lt = c.requires.entry in
-    let is : IsOf Enum e = sym c.from_number.ensures ∙ c.unwrap-kind.ensures ∙ ap Some c.in-Enum.is in
-    entries.is_there b w i lt e same Enum is
-
-pub value::write_value-write_enum-requires-clause-room : goal.value::write_value-write_enum-requires-clause-room
-value::write_value-write_enum-requires-clause-room t c =
-    let b = c.args.table.now in
-    let e = c.entry-entry.result in
-    let w = c.entry-entry.ensures.well_formed in
-    let same = c.entry-entry.ensures.value in
-    let i = c.args.index in
-    let lt = c.requires.entry in
-    let is : IsOf Enum e = sym c.from_number.ensures ∙ c.unwrap-kind.ensures ∙ ap Some c.in-Enum.is in
-    let size = entries.size_as b w i lt Enum (entries.is_there b w i lt e same Enum is) in
-    let room = c.requires.room in
-    omega (arith, size, room)
-
-pub value::write_value-write_vector-requires : goal.value::write_value-write_vector-requires
-value::write_value-write_vector-requires t c =
-    let b = c.args.table.now in
-    let e = c.entry-entry.result in
-    let w = c.entry-entry.ensures.well_formed in
-    let same = c.entry-entry.ensures.value in
-    let i = c.args.index in
-    let lt = c.requires.entry in
-    let is : IsOf Vector e = sym c.from_number.ensures ∙ c.unwrap-kind.ensures ∙ ap Some c.in-Vector.is in
-    let size = entries.size_from b w i lt e same Vector is in
-    let room = c.requires.room in
-    (omega (arith, c.decreases), (w, (entries.first_from b w i lt e same Vector is refl, (entries.bound_from b w i lt e same is, (c.requires.within, omega (arith, size, room))))))
-
-pub value::write_value-write_array-requires : goal.value::write_value-write_array-requires
-value::write_value-write_array-requires t c =
-    let b = c.args.table.now in
-    let e = c.entry-entry.result in
-    let w = c.entry-entry.ensures.well_formed in
-    let same = c.entry-entry.ensures.value in
-    let i = c.args.index in
-    let lt = c.requires.entry in
-    let is : IsOf Array e = sym c.from_number.ensures ∙ c.unwrap-kind.ensures ∙ ap Some c.in-Array.is in
-    let room = c.requires.room in
-    let fits = entries.fits_from b w i lt e same is in
-    let less = entries.less_from b w i lt e same is in (
-      omega (arith, c.decreases, fits, less),
-      (entries.first_from b w i lt e same Array is refl, (c.requires.within, subst (λ n. c.args.target.at + n ≤ length c.args.out.now.bytes.items) (sym (entries.array_from b w i lt e same is)) room)),
-    )
-
-pub value::write_value-write_box-requires : goal.value::write_value-write_box-requires
-value::write_value-write_box-requires t c =
-    let b = c.args.table.now in
-    let e = c.entry-entry.result in
-    let w = c.entry-entry.ensures.well_formed in
-    let same = c.entry-entry.ensures.value in
-    let i = c.args.index in
-    let lt = c.requires.entry in
-    let is : IsOf Box e = sym c.from_number.ensures ∙ c.unwrap-kind.ensures ∙ ap Some c.in-Box.is in
-    let size = entries.size_from b w i lt e same Box is in
-    let room = c.requires.room in
-    (omega (arith, c.decreases), (w, (entries.first_from b w i lt e same Box is refl, (entries.struct_from b w i lt e same is, (c.requires.within, omega (arith, size, room))))))
-
-pub value::write_value-write_struct-requires : goal.value::write_value-write_struct-requires
-value::write_value-write_struct-requires t c =
-    let b = c.args.table.now in
-    let e = c.entry-entry.result in
-    let w = c.entry-entry.ensures.well_formed in
-    let same = c.entry-entry.ensures.value in
-    let i = c.args.index in
-    let lt = c.requires.entry in
-    let is : IsOf Struct e = sym c.from_number.ensures ∙ c.unwrap-kind.ensures ∙ ap Some c.in-Struct.is in
-    (omega (arith, c.decreases), (lt, (entries.is_there b w i lt e same Struct is, (c.requires.within, c.requires.room))))
-
-pub value::write_value-write_table-requires : goal.value::write_value-write_table-requires
-value::write_value-write_table-requires t c =
-    let b = c.args.table.now in
-    let e = c.entry-entry.result in
-    let w = c.entry-entry.ensures.well_formed in
-    let same = c.entry-entry.ensures.value in
-    let i = c.args.index in
-    let lt = c.requires.entry in
-    let is : IsOf Table e = sym c.from_number.ensures ∙ c.unwrap-kind.ensures ∙ ap Some c.in-Table.is in
-    let size = entries.size_from b w i lt e same Table is in
-    let room = c.requires.room in
-    (omega (arith, c.decreases), (w, (lt, (entries.is_there b w i lt e same Table is, (c.requires.within, omega (arith, size, room))))))
-
-pub value::write_value-write_union-requires : goal.value::write_value-write_union-requires
-value::write_value-write_union-requires t c =
-    let b = c.args.table.now in
-    let e = c.entry-entry.result in
-    let w = c.entry-entry.ensures.well_formed in
-    let same = c.entry-entry.ensures.value in
-    let i = c.args.index in
-    let lt = c.requires.entry in
-    let is : IsOf Union e = sym c.from_number.ensures ∙ c.unwrap-kind.ensures ∙ ap Some c.in-Union.is in
-    let size = entries.size_from b w i lt e same Union is in
-    let room = c.requires.room in
-    (omega (arith, c.decreases, size), (lt, (entries.is_there b w i lt e same Union is, (c.requires.within, omega (arith, size, room)))))
-
 pub value::write_value-returns-in-Bool-clause-ok : goal.value::write_value-returns-in-Bool-clause-ok
 value::write_value-returns-in-Bool-clause-ok t c =
     let b = c.args.table.now in
@@ -1142,230 +1459,6 @@ value::write_value-returns-in-Bool-clause-fault_is_true t c =
     let is : IsOf Boolean e = sym c.from_number.ensures ∙ c.unwrap-kind.ensures ∙ ap Some c.in-Bool.is in
     if_err (λ f. (ds : Declarations) → IsRefused (value_part ds (ty.bool) (value_view c.args.value.now)) c.args.target.depth (written c.args.out.now) f) (IsRefused (entry_part b i (value_view c.args.value.now)) c.args.target.depth (written c.args.out.now)) c.write_bool.result
     (λ f h. subst (λ t. IsRefused (value_part (declarations_of b) t (value_view c.args.value.now)) c.args.target.depth (written c.args.out.now) f) (sym (entries.term_from b w i lt e same Boolean is)) (h (declarations_of b))) c.write_bool.ensures.fault_is_true
-
-pub value::write_value-returns-in-Bits-clause-ok : goal.value::write_value-returns-in-Bits-clause-ok
-value::write_value-returns-in-Bits-clause-ok t c =
-    let b = c.args.table.now in
-    let e = c.entry-entry.result in
-    let w = c.entry-entry.ensures.well_formed in
-    let same = c.entry-entry.ensures.value in
-    let i = c.args.index in
-    let lt = c.requires.entry in
-    let is : IsOf Bits e = sym c.from_number.ensures ∙ c.unwrap-kind.ensures ∙ ap Some c.in-Bits.is in
-    on_ok c.write_bits.result (λ h. subst (λ t. IsWritten (value_part (declarations_of b) t (value_view c.args.value.now)) c.args.target.depth c.args.target.at (written c.args.out.now) (written c.write_bits.new.out)) (sym (entries.term_from b w i lt e same Bits is)) (h (declarations_of b))) c.write_bits.ensures.ok
-
-pub value::write_value-returns-in-Bits-clause-fault_is_true : goal.value::write_value-returns-in-Bits-clause-fault_is_true
-value::write_value-returns-in-Bits-clause-fault_is_true t c =
-    let b = c.args.table.now in
-    let e = c.entry-entry.result in
-    let w = c.entry-entry.ensures.well_formed in
-    let same = c.entry-entry.ensures.value in
-    let i = c.args.index in
-    let lt = c.requires.entry in
-    let is : IsOf Bits e = sym c.from_number.ensures ∙ c.unwrap-kind.ensures ∙ ap Some c.in-Bits.is in
-    if_err (λ f. (ds : Declarations) → IsRefused (value_part ds (ty.bits (underlying e) (mask_of e)) (value_view c.args.value.now)) c.args.target.depth (written c.args.out.now) f) (IsRefused (entry_part b i (value_view c.args.value.now)) c.args.target.depth (written c.args.out.now)) c.write_bits.result
-    (λ f h. subst (λ t. IsRefused (value_part (declarations_of b) t (value_view c.args.value.now)) c.args.target.depth (written c.args.out.now) f) (sym (entries.term_from b w i lt e same Bits is)) (h (declarations_of b))) c.write_bits.ensures.fault_is_true
-
-pub value::write_value-returns-in-String-clause-ok : goal.value::write_value-returns-in-String-clause-ok
-value::write_value-returns-in-String-clause-ok t c =
-    let b = c.args.table.now in
-    let e = c.entry-entry.result in
-    let w = c.entry-entry.ensures.well_formed in
-    let same = c.entry-entry.ensures.value in
-    let i = c.args.index in
-    let lt = c.requires.entry in
-    let is : IsOf String e = sym c.from_number.ensures ∙ c.unwrap-kind.ensures ∙ ap Some c.in-String.is in
-    on_ok c.write_string.result (λ h. subst (λ t. IsWritten (value_part (declarations_of b) t (value_view c.args.value.now)) c.args.target.depth c.args.target.at (written c.args.out.now) (written c.write_string.new.out)) (sym (entries.term_from b w i lt e same String is)) (h (declarations_of b))) c.write_string.ensures.ok
-
-pub value::write_value-returns-in-String-clause-fault_is_true : goal.value::write_value-returns-in-String-clause-fault_is_true
-value::write_value-returns-in-String-clause-fault_is_true t c =
-    let b = c.args.table.now in
-    let e = c.entry-entry.result in
-    let w = c.entry-entry.ensures.well_formed in
-    let same = c.entry-entry.ensures.value in
-    let i = c.args.index in
-    let lt = c.requires.entry in
-    let is : IsOf String e = sym c.from_number.ensures ∙ c.unwrap-kind.ensures ∙ ap Some c.in-String.is in
-    if_err (λ f. (ds : Declarations) → IsRefused (value_part ds (ty.string (is_optional e) e.bound) (value_view c.args.value.now)) c.args.target.depth (written c.args.out.now) f) (IsRefused (entry_part b i (value_view c.args.value.now)) c.args.target.depth (written c.args.out.now)) c.write_string.result
-    (λ f h. subst (λ t. IsRefused (value_part (declarations_of b) t (value_view c.args.value.now)) c.args.target.depth (written c.args.out.now) f) (sym (entries.term_from b w i lt e same String is)) (h (declarations_of b))) c.write_string.ensures.fault_is_true
-
-pub value::write_value-returns-in-Handle-clause-ok : goal.value::write_value-returns-in-Handle-clause-ok
-value::write_value-returns-in-Handle-clause-ok t c =
-    let b = c.args.table.now in
-    let e = c.entry-entry.result in
-    let w = c.entry-entry.ensures.well_formed in
-    let same = c.entry-entry.ensures.value in
-    let i = c.args.index in
-    let lt = c.requires.entry in
-    let is : IsOf Handle e = sym c.from_number.ensures ∙ c.unwrap-kind.ensures ∙ ap Some c.in-Handle.is in
-    on_ok c.write_handle.result (λ h. subst (λ t. IsWritten (value_part (declarations_of b) t (value_view c.args.value.now)) c.args.target.depth c.args.target.at (written c.args.out.now) (written c.write_handle.new.out)) (sym (entries.term_from b w i lt e same Handle is)) (h (declarations_of b))) c.write_handle.ensures.ok
-
-pub value::write_value-returns-in-Handle-clause-fault_is_true : goal.value::write_value-returns-in-Handle-clause-fault_is_true
-value::write_value-returns-in-Handle-clause-fault_is_true t c =
-    let b = c.args.table.now in
-    let e = c.entry-entry.result in
-    let w = c.entry-entry.ensures.well_formed in
-    let same = c.entry-entry.ensures.value in
-    let i = c.args.index in
-    let lt = c.requires.entry in
-    let is : IsOf Handle e = sym c.from_number.ensures ∙ c.unwrap-kind.ensures ∙ ap Some c.in-Handle.is in
-    if_err (λ f. (ds : Declarations) → IsRefused (value_part ds (ty.handle (is_optional e) e.subtype e.rights) (value_view c.args.value.now)) c.args.target.depth (written c.args.out.now) f) (IsRefused (entry_part b i (value_view c.args.value.now)) c.args.target.depth (written c.args.out.now)) c.write_handle.result
-    (λ f h. subst (λ t. IsRefused (value_part (declarations_of b) t (value_view c.args.value.now)) c.args.target.depth (written c.args.out.now) f) (sym (entries.term_from b w i lt e same Handle is)) (h (declarations_of b))) c.write_handle.ensures.fault_is_true
-
-pub value::write_value-returns-in-Enum-clause-ok : goal.value::write_value-returns-in-Enum-clause-ok
-value::write_value-returns-in-Enum-clause-ok t c =
-    let b = c.args.table.now in
-    let e = c.entry-entry.result in
-    let w = c.entry-entry.ensures.well_formed in
-    let same = c.entry-entry.ensures.value in
-    let i = c.args.index in
-    let lt = c.requires.entry in
-    let is : IsOf Enum e = sym c.from_number.ensures ∙ c.unwrap-kind.ensures ∙ ap Some c.in-Enum.is in
-    on_ok c.write_enum.result (λ h. subst (λ t. IsWritten (value_part (declarations_of b) t (value_view c.args.value.now)) c.args.target.depth c.args.target.at (written c.args.out.now) (written c.write_enum.new.out)) (sym (entries.term_at b w i lt Enum (entries.is_there b w i lt e same Enum is))) (h (declarations_of b))) c.write_enum.ensures.ok
-
-pub value::write_value-returns-in-Enum-clause-fault_is_true : goal.value::write_value-returns-in-Enum-clause-fault_is_true
-value::write_value-returns-in-Enum-clause-fault_is_true t c =
-    let b = c.args.table.now in
-    let e = c.entry-entry.result in
-    let w = c.entry-entry.ensures.well_formed in
-    let same = c.entry-entry.ensures.value in
-    let i = c.args.index in
-    let lt = c.requires.entry in
-    let is : IsOf Enum e = sym c.from_number.ensures ∙ c.unwrap-kind.ensures ∙ ap Some c.in-Enum.is in
-    if_err (λ f. (ds : Declarations) → IsRefused (value_part ds (enum_at b i) (value_view c.args.value.now)) c.args.target.depth (written c.args.out.now) f) (IsRefused (entry_part b i (value_view c.args.value.now)) c.args.target.depth (written c.args.out.now)) c.write_enum.result
-    (λ f h. subst (λ t. IsRefused (value_part (declarations_of b) t (value_view c.args.value.now)) c.args.target.depth (written c.args.out.now) f) (sym (entries.term_at b w i lt Enum (entries.is_there b w i lt e same Enum is))) (h (declarations_of b))) c.write_enum.ensures.fault_is_true
-
-pub value::write_value-returns-in-Vector-clause-ok : goal.value::write_value-returns-in-Vector-clause-ok
-value::write_value-returns-in-Vector-clause-ok t c =
-    let b = c.args.table.now in
-    let e = c.entry-entry.result in
-    let w = c.entry-entry.ensures.well_formed in
-    let same = c.entry-entry.ensures.value in
-    let i = c.args.index in
-    let lt = c.requires.entry in
-    let is : IsOf Vector e = sym c.from_number.ensures ∙ c.unwrap-kind.ensures ∙ ap Some c.in-Vector.is in
-    subst (λ t. OnOk c.write_vector.result (IsWritten (value_part (declarations_of b) t (value_view c.args.value.now)) c.args.target.depth c.args.target.at (written c.args.out.now) (written c.write_vector.new.out))) (sym (entries.term_from b w i lt e same Vector is)) c.write_vector.ensures.ok
-
-pub value::write_value-returns-in-Vector-clause-fault_is_true : goal.value::write_value-returns-in-Vector-clause-fault_is_true
-value::write_value-returns-in-Vector-clause-fault_is_true t c =
-    let b = c.args.table.now in
-    let e = c.entry-entry.result in
-    let w = c.entry-entry.ensures.well_formed in
-    let same = c.entry-entry.ensures.value in
-    let i = c.args.index in
-    let lt = c.requires.entry in
-    let is : IsOf Vector e = sym c.from_number.ensures ∙ c.unwrap-kind.ensures ∙ ap Some c.in-Vector.is in
-    subst (λ t. IfErr c.write_vector.result (IsRefused (value_part (declarations_of b) t (value_view c.args.value.now)) c.args.target.depth (written c.args.out.now))) (sym (entries.term_from b w i lt e same Vector is)) c.write_vector.ensures.fault_is_true
-
-pub value::write_value-returns-in-Array-clause-ok : goal.value::write_value-returns-in-Array-clause-ok
-value::write_value-returns-in-Array-clause-ok t c =
-    let b = c.args.table.now in
-    let e = c.entry-entry.result in
-    let w = c.entry-entry.ensures.well_formed in
-    let same = c.entry-entry.ensures.value in
-    let i = c.args.index in
-    let lt = c.requires.entry in
-    let is : IsOf Array e = sym c.from_number.ensures ∙ c.unwrap-kind.ensures ∙ ap Some c.in-Array.is in
-    subst (λ t. OnOk c.write_array.result (IsWritten (value_part (declarations_of b) t (value_view c.args.value.now)) c.args.target.depth c.args.target.at (written c.args.out.now) (written c.write_array.new.out))) (sym (entries.term_from b w i lt e same Array is)) c.write_array.ensures.ok
-
-pub value::write_value-returns-in-Array-clause-fault_is_true : goal.value::write_value-returns-in-Array-clause-fault_is_true
-value::write_value-returns-in-Array-clause-fault_is_true t c =
-    let b = c.args.table.now in
-    let e = c.entry-entry.result in
-    let w = c.entry-entry.ensures.well_formed in
-    let same = c.entry-entry.ensures.value in
-    let i = c.args.index in
-    let lt = c.requires.entry in
-    let is : IsOf Array e = sym c.from_number.ensures ∙ c.unwrap-kind.ensures ∙ ap Some c.in-Array.is in
-    subst (λ t. IfErr c.write_array.result (IsRefused (value_part (declarations_of b) t (value_view c.args.value.now)) c.args.target.depth (written c.args.out.now))) (sym (entries.term_from b w i lt e same Array is)) c.write_array.ensures.fault_is_true
-
-pub value::write_value-returns-in-Box-clause-ok : goal.value::write_value-returns-in-Box-clause-ok
-value::write_value-returns-in-Box-clause-ok t c =
-    let b = c.args.table.now in
-    let e = c.entry-entry.result in
-    let w = c.entry-entry.ensures.well_formed in
-    let same = c.entry-entry.ensures.value in
-    let i = c.args.index in
-    let lt = c.requires.entry in
-    let is : IsOf Box e = sym c.from_number.ensures ∙ c.unwrap-kind.ensures ∙ ap Some c.in-Box.is in
-    subst (λ t. OnOk c.write_box.result (IsWritten (value_part (declarations_of b) t (value_view c.args.value.now)) c.args.target.depth c.args.target.at (written c.args.out.now) (written c.write_box.new.out))) (sym (entries.term_from b w i lt e same Box is)) c.write_box.ensures.ok
-
-pub value::write_value-returns-in-Box-clause-fault_is_true : goal.value::write_value-returns-in-Box-clause-fault_is_true
-value::write_value-returns-in-Box-clause-fault_is_true t c =
-    let b = c.args.table.now in
-    let e = c.entry-entry.result in
-    let w = c.entry-entry.ensures.well_formed in
-    let same = c.entry-entry.ensures.value in
-    let i = c.args.index in
-    let lt = c.requires.entry in
-    let is : IsOf Box e = sym c.from_number.ensures ∙ c.unwrap-kind.ensures ∙ ap Some c.in-Box.is in
-    subst (λ t. IfErr c.write_box.result (IsRefused (value_part (declarations_of b) t (value_view c.args.value.now)) c.args.target.depth (written c.args.out.now))) (sym (entries.term_from b w i lt e same Box is)) c.write_box.ensures.fault_is_true
-
-pub value::write_value-returns-in-Struct-clause-ok : goal.value::write_value-returns-in-Struct-clause-ok
-value::write_value-returns-in-Struct-clause-ok t c =
-    let b = c.args.table.now in
-    let e = c.entry-entry.result in
-    let w = c.entry-entry.ensures.well_formed in
-    let same = c.entry-entry.ensures.value in
-    let i = c.args.index in
-    let lt = c.requires.entry in
-    let is : IsOf Struct e = sym c.from_number.ensures ∙ c.unwrap-kind.ensures ∙ ap Some c.in-Struct.is in
-    subst (λ t. OnOk c.write_struct.result (IsWritten (value_part (declarations_of b) t (value_view c.args.value.now)) c.args.target.depth c.args.target.at (written c.args.out.now) (written c.write_struct.new.out))) (sym (entries.term_at b w i lt Struct (entries.is_there b w i lt e same Struct is))) c.write_struct.ensures.ok
-
-pub value::write_value-returns-in-Struct-clause-fault_is_true : goal.value::write_value-returns-in-Struct-clause-fault_is_true
-value::write_value-returns-in-Struct-clause-fault_is_true t c =
-    let b = c.args.table.now in
-    let e = c.entry-entry.result in
-    let w = c.entry-entry.ensures.well_formed in
-    let same = c.entry-entry.ensures.value in
-    let i = c.args.index in
-    let lt = c.requires.entry in
-    let is : IsOf Struct e = sym c.from_number.ensures ∙ c.unwrap-kind.ensures ∙ ap Some c.in-Struct.is in
-    subst (λ t. IfErr c.write_struct.result (IsRefused (value_part (declarations_of b) t (value_view c.args.value.now)) c.args.target.depth (written c.args.out.now))) (sym (entries.term_at b w i lt Struct (entries.is_there b w i lt e same Struct is))) c.write_struct.ensures.fault_is_true
-
-pub value::write_value-returns-in-Table-clause-ok : goal.value::write_value-returns-in-Table-clause-ok
-value::write_value-returns-in-Table-clause-ok t c =
-    let b = c.args.table.now in
-    let e = c.entry-entry.result in
-    let w = c.entry-entry.ensures.well_formed in
-    let same = c.entry-entry.ensures.value in
-    let i = c.args.index in
-    let lt = c.requires.entry in
-    let is : IsOf Table e = sym c.from_number.ensures ∙ c.unwrap-kind.ensures ∙ ap Some c.in-Table.is in
-    subst (λ t. OnOk c.write_table.result (IsWritten (value_part (declarations_of b) t (value_view c.args.value.now)) c.args.target.depth c.args.target.at (written c.args.out.now) (written c.write_table.new.out))) (sym (entries.table_is b w i lt (entries.is_there b w i lt e same Table is))) c.write_table.ensures.ok
-
-pub value::write_value-returns-in-Table-clause-fault_is_true : goal.value::write_value-returns-in-Table-clause-fault_is_true
-value::write_value-returns-in-Table-clause-fault_is_true t c =
-    let b = c.args.table.now in
-    let e = c.entry-entry.result in
-    let w = c.entry-entry.ensures.well_formed in
-    let same = c.entry-entry.ensures.value in
-    let i = c.args.index in
-    let lt = c.requires.entry in
-    let is : IsOf Table e = sym c.from_number.ensures ∙ c.unwrap-kind.ensures ∙ ap Some c.in-Table.is in
-    subst (λ t. IfErr c.write_table.result (IsRefused (value_part (declarations_of b) t (value_view c.args.value.now)) c.args.target.depth (written c.args.out.now))) (sym (entries.table_is b w i lt (entries.is_there b w i lt e same Table is))) c.write_table.ensures.fault_is_true
-
-pub value::write_value-returns-in-Union-clause-ok : goal.value::write_value-returns-in-Union-clause-ok
-value::write_value-returns-in-Union-clause-ok t c =
-    let b = c.args.table.now in
-    let e = c.entry-entry.result in
-    let w = c.entry-entry.ensures.well_formed in
-    let same = c.entry-entry.ensures.value in
-    let i = c.args.index in
-    let lt = c.requires.entry in
-    let is : IsOf Union e = sym c.from_number.ensures ∙ c.unwrap-kind.ensures ∙ ap Some c.in-Union.is in
-    subst (λ t. OnOk c.write_union.result (IsWritten (value_part (declarations_of b) t (value_view c.args.value.now)) c.args.target.depth c.args.target.at (written c.args.out.now) (written c.write_union.new.out))) (sym (entries.union_is b w i lt (entries.is_there b w i lt e same Union is))) c.write_union.ensures.ok
-
-pub value::write_value-returns-in-Union-clause-fault_is_true : goal.value::write_value-returns-in-Union-clause-fault_is_true
-value::write_value-returns-in-Union-clause-fault_is_true t c =
-    let b = c.args.table.now in
-    let e = c.entry-entry.result in
-    let w = c.entry-entry.ensures.well_formed in
-    let same = c.entry-entry.ensures.value in
-    let i = c.args.index in
-    let lt = c.requires.entry in
-    let is : IsOf Union e = sym c.from_number.ensures ∙ c.unwrap-kind.ensures ∙ ap Some c.in-Union.is in
-    subst (λ t. IfErr c.write_union.result (IsRefused (value_part (declarations_of b) t (value_view c.args.value.now)) c.args.target.depth (written c.args.out.now))) (sym (entries.union_is b w i lt (entries.is_there b w i lt e same Union is))) c.write_union.ensures.fault_is_true
 
 pub value::write_value-write_number-requires-clause-room : goal.value::write_value-write_number-requires-clause-room
 value::write_value-write_number-requires-clause-room t c =

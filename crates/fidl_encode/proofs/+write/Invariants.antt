@@ -13,14 +13,17 @@ use Rattle.fidl_encode.proofs.+write.Given as goal
 -- An out-of-line object lies one level of depth below its holder. At one depth a member is no larger than its holder, and a member of a
 -- union that stands in its envelope is smaller than the union; at one size it nests less.
 
+abbrev pub decreases-value::write_any : goal.decreases-value::write_any
+decreases-value::write_any l = 10000000 * l.target.depth + 100 * (entry_at l.table.now l.index).size + 4 * (entry_at l.table.now l.index).nest + 2
+
 abbrev pub decreases-value::write_value : goal.decreases-value::write_value
-decreases-value::write_value l = 10000000 * l.target.depth + 100 * (entry_at l.table.now l.index).size + 4 * (entry_at l.table.now l.index).nest + 2
+decreases-value::write_value l = 10000000 * l.target.depth + 100 * (entry_at l.table.now l.index).size + 4 * (entry_at l.table.now l.index).nest + 3
 
 abbrev pub decreases-list::write_elements : goal.decreases-list::write_elements
-decreases-list::write_elements l = 10000000 * l.target.depth + 100 * (entry_at l.table.now l.element).size + 4 * (entry_at l.table.now l.element).nest + 3
+decreases-list::write_elements l = 10000000 * l.target.depth + 100 * (entry_at l.table.now l.element).size + 4 * (entry_at l.table.now l.element).nest + 4
 
 abbrev pub decreases-list::write_array : goal.decreases-list::write_array
-decreases-list::write_array l = 10000000 * l.target.depth + 100 * (entry_at l.table.now l.entry.now.first).size + 4 * (entry_at l.table.now l.entry.now.first).nest + 4
+decreases-list::write_array l = 10000000 * l.target.depth + 100 * (entry_at l.table.now l.entry.now.first).size + 4 * (entry_at l.table.now l.entry.now.first).nest + 5
 
 abbrev pub decreases-list::write_vector : goal.decreases-list::write_vector
 decreases-list::write_vector l = 10000000 * l.target.depth
