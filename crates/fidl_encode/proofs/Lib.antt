@@ -1,4 +1,5 @@
 pub mod Adding
+pub mod Ascii
 pub mod Excluding
 pub mod Ending
 pub mod Leaving

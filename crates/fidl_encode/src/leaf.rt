@@ -11,9 +11,9 @@ use crate::fault::EncodeFault;
 use crate::message::Message;
 use crate::shape::{as_bool, as_handle, as_text, check_absent};
 use crate::target::Target;
+use crate::text::is_text;
 use fidl_table_format::Entry;
 use fidl_wire::{SAME_RIGHTS, Value};
-use simdutf8::is_utf8;
 
 /// Whether what an entry declares may be absent.
 pub(crate) fn is_optional(entry: &Entry) -> bool
@@ -69,7 +69,7 @@ pub(crate) fn write_string(
         return Err(EncodeFault::OverBound);
     }
     let place = out.reserve(bytes.len())?;
-    if !is_utf8(bytes.as_slice()) {
+    if !is_text(bytes.as_slice()) {
         return Err(EncodeFault::NotUtf8);
     }
     out.put(place, bytes.as_slice());

@@ -12,6 +12,7 @@ mod number;
 mod shape;
 mod structs;
 mod target;
+mod text;
 mod unknown;
 mod value;
 pub mod worked;

@@ -17,7 +17,7 @@ returns-clause-ok c ds =
     let a : Written = written c.args.out.now in
     subst (λ (v : Value). IsWritten (value_part ds (ty.string (is_optional e) e.bound) v) c.args.target.depth c.args.target.at a (written c.put_count.new.self))
     (sym c.in-Some.ensures.some)
-    (written_text ds (is_optional e) e.bound bytes (subst IsUtf8 c.as_slice.ensures (c.is_utf8.ensures.0 (search rules))) (omega (arith, c.if-len-entry.false, c.len.ensures)) c.args.target.depth c.in_ok-depth_below.field-0 c.in_ok-depth_below.ensures.ok a
+    (written_text ds (is_optional e) e.bound bytes (subst IsUtf8 c.as_slice.ensures (c.is_text.ensures.0 (search rules))) (omega (arith, c.if-len-entry.false, c.len.ensures)) c.args.target.depth c.in_ok-depth_below.field-0 c.in_ok-depth_below.ensures.ok a
     (written c.reserve.new.self) (written c.put.new.self) (written c.put_count.new.self) c.args.target.at
     (c.in_ok-place.ensures.room ∙ ap (λ n. a.bytes ++ zeros (next_multiple_of n 8)) c.len-2.ensures)
     c.in_ok-place.ensures.handles
