@@ -145,6 +145,7 @@ fn escape_at(text: &[u8], at: usize) -> Option<Part>
 
 /// The piece at `at`. `None` at a quote, at the end of a line, and at a backslash that begins no
 /// escape.
+#[inline(always)]
 pub(crate) fn piece_at(text: &[u8], at: usize) -> Option<Part>
     requires within { at < length text.now }
     ensures found { IfSome result (λ p. (at < p.to) × (p.to ≤ length text.now)

@@ -25,6 +25,7 @@ pub(crate) struct Key {
 }
 
 /// Whether a word begins as names do, and numbers do not.
+#[inline(always)]
 pub(crate) fn is_name(word: &[u8]) -> bool
     ensures { result ≡ is_name word.now }
 {

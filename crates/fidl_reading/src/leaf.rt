@@ -155,6 +155,7 @@ impl<'r, 't> Reader<'r, 't> {
     }
 
     /// The words that follow `absent`, where a value of this kind can be absent and is so.
+    #[inline(always)]
     pub(crate) fn absent<'w, 'x>(
         &self,
         kind: EntryKind,

@@ -10,6 +10,9 @@ use crate::quoted::quoted_end;
 use crate::word::{Cut, Word};
 use std::alloc::{AllocError, Global};
 
+/// For so many words there is room at first, unless the text has fewer bytes.
+const FIRST_WORDS: usize = 256;
+
 /// The end of the longest run of word bytes that begins at `from`.
 fn run_end(text: &[u8], from: usize) -> usize
     requires { from ≤ length text.now }
@@ -61,7 +64,7 @@ fn word_end(text: &[u8], at: usize) -> Option<usize>
 pub(crate) fn cut_words(alloc: Global, text: &[u8]) -> Result<Cut<'_>, AllocError>
     ensures { IfOk result (λ cut. IsCut text.now cut) }
 {
-    let mut words = Vec::new(alloc);
+    let mut words = Vec::with_capacity(alloc, text.len().min(FIRST_WORDS))?;
     let mut at = 0;
     while at < text.len() {
         if is_blank(text[at]) {

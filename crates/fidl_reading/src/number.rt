@@ -1,5 +1,5 @@
 //! The numbers that words write.
-ghost use Rattle.std.specs.Prelude.{◌≡◌, ◌<◌, ◌^◌, ◌↔◌, ℤ, IfOk, OnErr, IsTrue, SomeIff};
+ghost use Rattle.std.specs.Prelude.{◌≡◌, ◌≤◌, ◌<◌, ◌^◌, ◌↔◌, ℤ, IfOk, OnErr, IsTrue, SomeIff, length};
 ghost use Rattle.std.specs.Char.{is_ascii_digit};
 ghost use Rattle.std.specs.List.{list_all};
 ghost use Rattle.std.specs.Str.Parse.{IsNumeral, digits_value};
@@ -38,11 +38,30 @@ fn split_sign(word: &[u8]) -> (bool, &[u8])
     }
 }
 
+/// Each number of so many digits has 64 bits.
+const FEW_DIGITS: usize = 19;
+
+/// The number that at most 19 digits write.
+fn short_value(digits: &[u8]) -> u64
+    requires numeral { IsNumeral 10 digits.now }
+    requires short { length digits.now ≤ 19 }
+    ensures { result ≡ digits_value 10 digits.now }
+{
+    let mut value = 0;
+    for digit in digits {
+        value = value * 10 + u64::from(*digit - b'0');
+    }
+    value
+}
+
 /// The number that digits write, if it has 64 bits.
 fn numeral_value(digits: &[u8]) -> Option<u64>
     requires { IsNumeral 10 digits.now }
     ensures { SomeIff result (digits_value 10 digits.now < 2 ^ 64) (digits_value 10 digits.now) }
 {
+    if digits.len() <= FEW_DIGITS {
+        return Some(short_value(digits));
+    }
     match from_utf8(digits) {
         Ok(text) => text.parse::<u64>().ok(),
         Err(_) => None,

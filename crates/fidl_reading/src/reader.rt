@@ -29,6 +29,7 @@ pub(crate) fn place(words: &[Word<'_>], end: usize) -> usize {
 }
 
 /// The first word, and the words that follow it.
+#[inline(always)]
 fn split<'w, 'x>(words: &'w [Word<'x>]) -> Option<(Word<'x>, &'w [Word<'x>])>
     ensures some { IfSome result (λ r. texts_of words.now ≡ r.0.text.now ∷ texts_of r.1.now) }
     ensures fewer { IfSome result (λ r. length r.1.now < length words.now) }
@@ -40,12 +41,29 @@ fn split<'w, 'x>(words: &'w [Word<'x>]) -> Option<(Word<'x>, &'w [Word<'x>])>
     }
 }
 
+/// Whether bytes are those of a text, which are few and mostly constant.
+#[inline(always)]
+fn are_same(bytes: &[u8], text: &[u8]) -> bool
+    ensures { IsTrue result ↔ (bytes.now ≡ text.now) }
+{
+    if bytes.len() != text.len() {
+        return false;
+    }
+    for i in 0..text.len() {
+        if bytes[i] != text[i] {
+            return false;
+        }
+    }
+    true
+}
+
 /// Whether this word comes first.
+#[inline(always)]
 pub(crate) fn begins(words: &[Word<'_>], text: &[u8]) -> bool
     ensures { IsTrue result ↔ ((rest : Words) × (texts_of words.now ≡ text.now ∷ rest)) }
 {
     match split(words) {
-        Some((word, _)) => word.text == text,
+        Some((word, _)) => are_same(word.text, text),
         None => false,
     }
 }
@@ -59,6 +77,7 @@ impl<'r, 't> Reader<'r, 't> {
     }
 
     /// The first word, and the words that follow it.
+    #[inline(always)]
     pub(crate) fn first<'w, 'x>(
         &self,
         words: &'w [Word<'x>],
@@ -74,6 +93,7 @@ impl<'r, 't> Reader<'r, 't> {
     }
 
     /// The words that follow this one, where it comes first.
+    #[inline(always)]
     pub(crate) fn take<'w, 'x>(
         &self,
         words: &'w [Word<'x>],
@@ -85,12 +105,13 @@ impl<'r, 't> Reader<'r, 't> {
             (texts_of words.now)) }
     {
         match split(words) {
-            Some((word, rest)) if word.text == text => Ok(rest),
+            Some((word, rest)) if are_same(word.text, text) => Ok(rest),
             _ => Err(self.syntax(words)),
         }
     }
 
     /// The words that follow a comma, where an item comes before; else all.
+    #[inline(always)]
     pub(crate) fn separate<'w, 'x>(
         &self,
         words: &'w [Word<'x>],

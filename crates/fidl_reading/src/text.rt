@@ -32,7 +32,7 @@ pub fn text_of(alloc: Global, word: &[u8]) -> Result<Option<Bytes>, AllocError>
     if word.is_empty() || word[0] != b'"' {
         return Ok(None);
     }
-    let mut bytes = Vec::new(alloc);
+    let mut bytes = Vec::with_capacity(alloc, word.len())?;
     let mut at = 1;
     while at < word.len() && word[at] != b'"' {
         let Some(part) = piece_at(word, at) else {

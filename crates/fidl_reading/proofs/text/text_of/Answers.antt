@@ -13,7 +13,7 @@ loop-at-init c =
     record {
       behind = omega arith;
       within = omega (arith, some);
-      front = subst (λ l. Pieces [] l) (sym c.new-bytes.ensures.items) no_pieces;
+      front = subst (λ l. Pieces [] l) (sym c.in_ok-bytes.ensures.items) no_pieces;
     }
 
 pub returns-in_default-clause-none : goal.returns-in_default-clause-none
