@@ -6,7 +6,6 @@
 
 #include "capn.h"
 #include "fidl.h"
-#include "flat.h"
 #include "line.h"
 #include "plain.h"
 #include "print.h"
@@ -23,7 +22,8 @@ static uint32_t decode(const std::string& table, const std::string& root, const 
 
 static uint64_t decode_and_read(const std::string& table, const FidlShape& fidl, uint64_t times) {
   uint64_t sum = 0;
-  uint32_t failure = fidl.read(start(table), table.size(), start(fidl.message), fidl.message.size(), times - 1, &sum);
+  uint32_t failure = fidl_bench_read(start(table), table.size(), start(fidl.root), strlen(fidl.root), start(fidl.message),
+                                     fidl.message.size(), times - 1, &sum);
   must(failure == 0, "the decoder refuses a message");
   return sum;
 }
@@ -101,29 +101,9 @@ static void print_line(const Printer& printer, const char* shape, const Plain& v
                }));
 }
 
-template <class Shape>
-static void flat_lines(const Printer& printer, const char* shape, uint64_t want) {
-  const typename Shape::Plain value = Shape::value();
-  const std::string message = flat::message_of<Shape>(value);
-  auto verify = [&] {
-    must(flat::verifies<typename Shape::Root>(message), "FlatBuffers refuses a message");
-    return 1;
-  };
-  must(verify() && Shape::read(message) == want, "FlatBuffers reads another sum");
-  printer.line(shape, "flatbuffers", "verify", message.size(), each(verify));
-  printer.line(shape, "flatbuffers", "verify + read", message.size(), each([&] { return verify() + Shape::read(message); }));
-  printer.line(shape, "flatbuffers", "build", message.size(), each([&] {
-                 flatbuffers::FlatBufferBuilder builder;
-                 Shape::build(builder, value);
-                 return builder.GetSize();
-               }));
-  flatbuffers::FlatBufferBuilder reused;
-  printer.line(shape, "flatbuffers", "build reused", message.size(), each([&] {
-                 reused.Clear();
-                 Shape::build(reused, value);
-                 return reused.GetSize();
-               }));
-}
+// The lines of FlatBuffers for each shape, each compiled apart (flat.cc).
+#define FLAT_LINES(shape) void flat_lines_##shape(const Printer& printer, const char* shape_name, uint64_t want);
+FLAT_LINES(Records) FLAT_LINES(Chain) FLAT_LINES(Wide) FLAT_LINES(Tables) FLAT_LINES(Unions) FLAT_LINES(Texts) FLAT_LINES(Lists) FLAT_LINES(Strict)
 
 template <class Shape>
 static void capn_lines(const Printer& printer, const char* shape, uint64_t want) {
@@ -148,28 +128,54 @@ int main(int count, char** words) {
   Printer printer{count > 1 ? words[1] : nullptr, count > 2 ? strtoull(words[2], nullptr, 10) : 0};
   printf("%-8s %-12s %-24s %7s %12s %12s\n", "shape", "codec", "operation", "bytes", "ns/message", "allocations");
 
-  const FidlShape records{"bench/Records", fidl_table_format(), fidl_bench_read_records, plain::text(plain::records())};
+  const FidlShape records{"bench/Records", fidl_records(), plain::text(plain::records())};
   fidl_lines(printer, "records", records, sum_of_records());
   fidl_writing_lines(printer, "records", records);
   print_line(printer, "records", plain::records(), records.text);
-  flat_lines<flat::Records>(printer, "records", sum_of_records());
+  flat_lines_Records(printer, "records", sum_of_records());
   capn_lines<capn::Records>(printer, "records", sum_of_records());
   proto_lines<proto::Records>(printer, "records", sum_of_records());
 
-  const FidlShape chain{"bench/Node", fidl_chain(), fidl_bench_read_chain, plain::text(plain::chain())};
+  const FidlShape chain{"bench/Node", fidl_chain(), plain::text(plain::chain())};
   fidl_lines(printer, "chain", chain, sum_of_chain());
   fidl_writing_lines(printer, "chain", chain);
   print_line(printer, "chain", plain::chain(), chain.text);
-  flat_lines<flat::Chain>(printer, "chain", sum_of_chain());
+  flat_lines_Chain(printer, "chain", sum_of_chain());
   capn_lines<capn::Chain>(printer, "chain", sum_of_chain());
   proto_lines<proto::Chain>(printer, "chain", sum_of_chain());
 
-  const FidlShape wide{"bench/Wide", fidl_wide(), fidl_bench_read_wide, plain::text(plain::wide())};
+  const FidlShape wide{"bench/Wide", fidl_wide(), plain::text(plain::wide())};
   fidl_lines(printer, "wide", wide, sum_of_wide());
   fidl_writing_lines(printer, "wide", wide);
   print_line(printer, "wide", plain::wide(), wide.text);
-  flat_lines<flat::Wide>(printer, "wide", sum_of_wide());
+  flat_lines_Wide(printer, "wide", sum_of_wide());
   capn_lines<capn::Wide>(printer, "wide", sum_of_wide());
   proto_lines<proto::Wide>(printer, "wide", sum_of_wide());
+
+  fidl_lines(printer, "tables", {"bench/Items", fidl_tables(), ""}, sum_of_tables());
+  flat_lines_Tables(printer, "tables", sum_of_tables());
+  capn_lines<capn::Tables>(printer, "tables", sum_of_tables());
+  proto_lines<proto::Tables>(printer, "tables", sum_of_tables());
+
+  fidl_lines(printer, "unions", {"bench/Choices", fidl_unions(), ""}, sum_of_unions());
+  flat_lines_Unions(printer, "unions", sum_of_unions());
+  capn_lines<capn::Unions>(printer, "unions", sum_of_unions());
+  proto_lines<proto::Unions>(printer, "unions", sum_of_unions());
+
+  fidl_lines(printer, "texts", {"bench/Texts", fidl_texts(), ""}, sum_of_texts());
+  flat_lines_Texts(printer, "texts", sum_of_texts());
+  capn_lines<capn::Texts>(printer, "texts", sum_of_texts());
+  proto_lines<proto::Texts>(printer, "texts", sum_of_texts());
+
+  fidl_lines(printer, "lists", {"bench/Lists", fidl_lists(), ""}, sum_of_lists());
+  flat_lines_Lists(printer, "lists", sum_of_lists());
+  capn_lines<capn::Lists>(printer, "lists", sum_of_lists());
+  proto_lines<proto::Lists>(printer, "lists", sum_of_lists());
+
+  fidl_lines(printer, "strict", {"bench/Marks", fidl_strict(), ""}, sum_of_strict());
+  flat_lines_Strict(printer, "strict", sum_of_strict());
+  capn_lines<capn::Strict>(printer, "strict", sum_of_strict());
+  proto_lines<proto::Strict>(printer, "strict", sum_of_strict());
+
   return 0;
 }

@@ -10,14 +10,10 @@ extern "C" {
 // first; else why not (crates/fidl_bench/src/failure.rt). A slice is passed as its start and its length.
 uint32_t fidl_bench_decode(const uint8_t* table, size_t table_length, const uint8_t* root, size_t root_length,
                            const uint8_t* message, size_t message_length, uint64_t again);
-// The same for the roots bench/Records, bench/Node and bench/Wide. Each time all of the value is read;
-// `sum` gets its sum.
-uint32_t fidl_bench_read_records(const uint8_t* table, size_t table_length, const uint8_t* message,
-                                 size_t message_length, uint64_t again, uint64_t* sum);
-uint32_t fidl_bench_read_chain(const uint8_t* table, size_t table_length, const uint8_t* message,
-                               size_t message_length, uint64_t again, uint64_t* sum);
-uint32_t fidl_bench_read_wide(const uint8_t* table, size_t table_length, const uint8_t* message,
-                              size_t message_length, uint64_t again, uint64_t* sum);
+// The same for each root of shapes.fidl that is a shape of this bench. Each time all of the value is
+// read; `sum` gets its sum.
+uint32_t fidl_bench_read(const uint8_t* table, size_t table_length, const uint8_t* root, size_t root_length,
+                         const uint8_t* message, size_t message_length, uint64_t again, uint64_t* sum);
 // Decodes the message once, and encodes its value `again` times after the first. `copy`, which is as
 // long as the message, gets the bytes of the last.
 uint32_t fidl_bench_encode(const uint8_t* table, size_t table_length, const uint8_t* root, size_t root_length,
@@ -33,15 +29,20 @@ uint32_t fidl_bench_read_text(const uint8_t* table, size_t table_length, const u
                               const uint8_t* text, size_t text_length, uint64_t again);
 }
 
-// A shape: its root in the table, its message, the call that reads it, and the text of its value.
+// A shape: its root in the table, its message, and the text of its value, where texts are measured.
 struct FidlShape {
   const char* root;
   std::string message;
-  decltype(&fidl_bench_read_records) read;
   std::string text;
 };
 
+// The coding table of shapes.fidl, as `fidl compile` writes it.
 std::string fidl_table();
-std::string fidl_table_format();
+std::string fidl_records();
 std::string fidl_chain();
 std::string fidl_wide();
+std::string fidl_tables();
+std::string fidl_unions();
+std::string fidl_texts();
+std::string fidl_lists();
+std::string fidl_strict();

@@ -86,4 +86,128 @@ struct Wide {
   }
 };
 
+// The message that a builder has finished.
+inline std::string finished(const flatbuffers::FlatBufferBuilder& b) {
+  return std::string(reinterpret_cast<const char*>(b.GetBufferPointer()), b.GetSize());
+}
+
+struct Tables {
+  using Root = fb::Items;
+  static std::string make() {
+    flatbuffers::FlatBufferBuilder b;
+    std::vector<flatbuffers::Offset<fb::Item>> items;
+    for (uint32_t i = 0; i < ITEMS; i++) {
+      auto name = b.CreateString(item_name_of(i));
+      flatbuffers::Offset<fb::Nested> place = has_place(i) ? fb::CreateNested(b, i + 1ull, i) : 0;
+      items.push_back(fb::CreateItem(b, i, uint64_t(score_of(i)), name, kind_of(i), place, active_of(i)));
+    }
+    b.Finish(fb::CreateItems(b, b.CreateVector(items)));
+    return finished(b);
+  }
+  static uint64_t read(const std::string& message) {
+    uint64_t sum = 0;
+    for (auto it : *flatbuffers::GetRoot<Root>(message.data())->items()) {
+      sum += it->id() + it->size() + it->name()->size() + it->kind() + it->active();
+      if (auto place = it->place()) sum += place->a() + place->b();
+    }
+    return sum;
+  }
+};
+
+struct Unions {
+  using Root = fb::Choices;
+  static flatbuffers::Offset<void> choice(flatbuffers::FlatBufferBuilder& b, uint32_t i) {
+    if (choice_of(i) == 1) return fb::CreateSmall(b, i).Union();
+    if (choice_of(i) == 2) return fb::CreateLarge(b, uint64_t(score_of(i))).Union();
+    if (choice_of(i) == 3) return fb::CreateName(b, b.CreateString(item_name_of(i))).Union();
+    return fb::CreateNested(b, i + 1ull, i).Union();
+  }
+  static std::string make() {
+    flatbuffers::FlatBufferBuilder b;
+    std::vector<flatbuffers::Offset<fb::Chosen>> items;
+    for (uint32_t i = 0; i < CHOICES; i++) {
+      auto it = choice(b, i);
+      items.push_back(fb::CreateChosen(b, fb::Choice(choice_of(i)), it));
+    }
+    b.Finish(fb::CreateChoices(b, b.CreateVector(items)));
+    return finished(b);
+  }
+  static uint64_t read(const std::string& message) {
+    uint64_t sum = 0;
+    for (auto it : *flatbuffers::GetRoot<Root>(message.data())->items()) {
+      if (auto small = it->choice_as_Small()) sum += small->value();
+      if (auto large = it->choice_as_Large()) sum += large->value();
+      if (auto name = it->choice_as_Name()) sum += name->value()->size();
+      if (auto place = it->choice_as_Nested()) sum += place->a() + place->b();
+    }
+    return sum;
+  }
+};
+
+struct Texts {
+  using Root = fb::Texts;
+  static std::string make() {
+    flatbuffers::FlatBufferBuilder b;
+    std::vector<flatbuffers::Offset<flatbuffers::String>> t;
+    for (uint32_t k = 0; k < TEXTS; k++) t.push_back(b.CreateString(long_text_of(k)));
+    b.Finish(fb::CreateTexts(b, t[0], t[1], t[2], t[3], t[4], t[5], t[6], t[7], t[8], t[9], t[10], t[11], t[12], t[13], t[14],
+                             t[15], t[16], t[17], t[18], t[19], t[20], t[21], t[22], t[23]));
+    return finished(b);
+  }
+  static uint64_t read(const std::string& message) {
+    auto it = flatbuffers::GetRoot<Root>(message.data());
+    uint64_t sum = it->t0()->size() + it->t1()->size() + it->t2()->size() + it->t3()->size() + it->t4()->size() + it->t5()->size();
+    sum += it->t6()->size() + it->t7()->size() + it->t8()->size() + it->t9()->size() + it->t10()->size() + it->t11()->size();
+    sum += it->t12()->size() + it->t13()->size() + it->t14()->size() + it->t15()->size() + it->t16()->size() + it->t17()->size();
+    sum += it->t18()->size() + it->t19()->size() + it->t20()->size() + it->t21()->size() + it->t22()->size() + it->t23()->size();
+    return sum;
+  }
+};
+
+struct Lists {
+  using Root = fb::Lists;
+  static std::string make() {
+    flatbuffers::FlatBufferBuilder b;
+    std::vector<flatbuffers::Offset<fb::Entry>> items;
+    for (uint32_t i = 0; i < ENTRIES; i++) {
+      std::vector<uint32_t> weights;
+      std::vector<int64_t> scores;
+      for (uint32_t k = 0; k < weights_of(i); k++) weights.push_back(weight_of(i, k));
+      for (uint32_t k = 0; k < scores_of(i); k++) scores.push_back(score_of(i + k));
+      auto made = b.CreateVector(weights);
+      auto next = b.CreateVector(scores);
+      items.push_back(fb::CreateEntry(b, i, made, next, b.CreateString(name_of(i)), uint64_t(score_of(i))));
+    }
+    b.Finish(fb::CreateLists(b, b.CreateVector(items)));
+    return finished(b);
+  }
+  static uint64_t read(const std::string& message) {
+    uint64_t sum = 0;
+    for (auto it : *flatbuffers::GetRoot<Root>(message.data())->items()) {
+      sum += it->id() + it->name()->size() + it->last();
+      for (uint32_t weight : *it->weights()) sum += weight;
+      for (int64_t score : *it->scores()) sum += uint64_t(score);
+    }
+    return sum;
+  }
+};
+
+struct Strict {
+  using Root = fb::Marks;
+  static std::string make() {
+    flatbuffers::FlatBufferBuilder b;
+    std::vector<fb::Mark> items;
+    for (uint32_t i = 0; i < MARKS; i++)
+      items.push_back(fb::Mark(fb::Color(color_of(i)), access_of(i), active_of(i), fb::Level(level_of(i)), i));
+    b.Finish(fb::CreateMarks(b, b.CreateVectorOfStructs(items)));
+    return finished(b);
+  }
+  static uint64_t read(const std::string& message) {
+    uint64_t sum = 0;
+    for (auto it : *flatbuffers::GetRoot<Root>(message.data())->items())
+      sum += it->color() + it->access() + it->ready() + uint64_t(int64_t(it->level())) + it->number();
+    return sum;
+  }
+};
+
 }  // namespace flat

@@ -57,13 +57,6 @@ message_of_root file table root message entry t r x = (x.0, value_of_root file t
 pub no_message_of_root : (file table root message : List ℕ) (entry : ℕ) → table ≡ file → IsRootOf file root entry → ¬ IsEncoding (declarations_of table) (ty.named entry) message [] → ¬ IsMessageOf file root message
 no_message_of_root file table root message entry t r none x = none (x.0, value_of_entry file table root message entry x.0 t r x.1)
 
--- the same where the root's name is another word for it
-pub root_of_name : (file table root name : List ℕ) (entry : ℕ) → table ≡ file → name ≡ root → WellFormed file → IsRootEntry table (header_of table) name entry → IsRootOf file root entry
-root_of_name file table root name entry t n w h = root_of_file file table root entry t w (subst (λ (l : List ℕ). IsRootEntry table (header_of table) l entry) n h)
-
-pub lacks_of_name : (file table root name : List ℕ) → table ≡ file → name ≡ root → WellFormed file → HasNoRoot table (header_of table) name → LacksRoot file root
-lacks_of_name file table root name t n w h = lacks_of_file file table root t w (subst (λ (l : List ℕ). HasNoRoot table (header_of table) l) n h)
-
 -- why a message is not read says so of the root
 pub why_of_root : (file table root message : List ℕ) (entry : ℕ) (f : Failure) → table ≡ file → IsRootOf file root entry → IsWhyUnread (declarations_of table) (ty.named entry) message f → IsWhy file root message f
 why_of_root file table root message entry BadTable t r x = absurd x

@@ -1,5 +1,5 @@
 -- What the bench answers, and what each failure says of the table, the root and the message.
-use Rattle.std.specs.Prelude.{ℕ, List, [], codes}
+use Rattle.std.specs.Prelude.{ℕ, List, []}
 use Rattle.fidl_wire.specs.Value.{Value}
 use Rattle.fidl_wire.specs.Term.{Term}
 use Rattle.fidl_wire.specs.Term as ty
@@ -9,8 +9,6 @@ use Rattle.fidl_table_format.specs.Section.{header_of}
 use Rattle.fidl_table_format.specs.Terms.{declarations_of}
 use Rattle.fidl_table_format.specs.Root.{IsRootEntry, HasNoRoot}
 use Rattle.fidl_table_format.specs.WellFormed.{WellFormed}
-use Rattle.fidl_bench.specs.declared.shape.Shape.{Shape}
-use Rattle.fidl_bench.specs.declared.shape.Shape.TheVariants.{Records, Chain, Wide}
 use Rattle.fidl_bench.specs.declared.failure.Failure.{Failure}
 use Rattle.fidl_bench.specs.declared.failure.Failure.TheVariants.{BadTable, NoRoot, NoMemory}
 use Rattle.fidl_bench.specs.declared.failure.Failure.TheVariants.{Refused, OtherShape, OtherSum, NoRoom}
@@ -67,9 +65,3 @@ IsWhyUnread ds t message NoRoom = IsEncoding ds t message []
 IsWhyUnread ds t message Refused = ¬ IsEncoding ds t message []
 IsWhyUnread ds t message OtherShape = IsEncoding ds t message []
 IsWhyUnread ds t message _ = ⊥
-
--- the name of a shape's root
-abbrev pub root_of : Shape → List ℕ
-root_of Records = codes "bench/Records"
-root_of Chain = codes "bench/Node"
-root_of Wide = codes "bench/Wide"

@@ -13,6 +13,7 @@ use fidl_table_format::EntryKind;
 impl<'v, 'm> View<'v, 'm> {
     /// The bytes of an array or a vector of uint8; none where it is absent, and of another type. A
     /// string is of another type here.
+    #[inline(always)]
     fn octets(self) -> Option<&'m [u8]>
         ensures value { (v : Value) → IsShownBy self.entry v → string_of v ≡ None
             → option_copied result ≡ bytes_of (types_shown self.entry) (type_shown self.entry) v }
@@ -31,6 +32,7 @@ impl<'v, 'm> View<'v, 'm> {
 
     /// The bytes of a string, or of an array or a vector of uint8, as a slice of the message
     /// itself; none where it is absent, and of another type.
+    #[inline(always)]
     pub fn as_bytes(self) -> Option<&'m [u8]>
         ensures value { (v : Value) → IsShownBy self.entry v
             → option_copied result ≡ bytes_of (types_shown self.entry) (type_shown self.entry) v }

@@ -35,6 +35,7 @@ impl<'v, 'm> Iterator for Elements<'v, 'm> {
 
     ghost remaining = { λ s. at_most s.left };
 
+    #[inline(always)]
     fn next(&mut self) -> Option<View<'v, 'm>> {
         if self.left == 0 {
             return None;

@@ -51,6 +51,7 @@ impl<'v, 'm> Envelope<'v, 'm> {
     ghost use Rattle.fidl_view.specs.Views.{type_shown, type_held};
 
     /// Where a known member of this size stands: in the envelope, or as its object.
+    #[inline(always)]
     fn content_place(self, size: u32) -> usize
         ensures { result ≡ enclosed_at self.entry.decoded.now.links (nat_le size 4)
             self.entry.place }
@@ -63,6 +64,7 @@ impl<'v, 'm> Envelope<'v, 'm> {
     }
 
     /// The view of the member, where it is known.
+    #[inline(always)]
     pub(crate) fn known(self) -> Option<View<'v, 'm>>
         ensures message { IfSome result (λ part. (part_of part).message ≡ message_in self.entry) }
         ensures typed { IfSome result (λ part. Some (type_shown part) ≡ type_held self.entry) }

@@ -8,6 +8,7 @@ use fidl_decode::Decoded;
 use fidl_table_format::EntryKind;
 
 /// The kind of an entry of a message's table.
+#[inline(always)]
 pub(crate) fn entry_kind(decoded: &Decoded<'_, '_, '_>, index: u32) -> EntryKind
     requires { index < (header_of decoded.now.table).entries }
     ensures of { IsOf result (entry_at decoded.now.table index) }

@@ -15,6 +15,7 @@ use fidl_wire::{Presence, presence_at, u64_at};
 
 impl<'v, 'm> View<'v, 'm> {
     /// The envelope of a table's member at this ordinal; none where it is absent.
+    #[inline(always)]
     fn table_envelope(self, ordinal: u64) -> Option<Envelope<'v, 'm>>
         requires { IsOf EntryKind.Table (entry_at self.decoded.now.table self.index) }
         ensures message { IfSome result (λ e. message_in e ≡ (part_of self.entry).message) }
@@ -48,6 +49,7 @@ impl<'v, 'm> View<'v, 'm> {
     }
 
     /// The envelope of a union; none where it is absent.
+    #[inline(always)]
     fn union_envelope(self) -> Option<Envelope<'v, 'm>>
         requires { IsOf EntryKind.Union (entry_at self.decoded.now.table self.index) }
         ensures message { IfSome result (λ e. message_in e ≡ (part_of self.entry).message) }
@@ -96,6 +98,7 @@ impl<'v, 'm> View<'v, 'm> {
 
     /// The known member of a table at this ordinal; none where it is absent or unknown, and of
     /// another kind.
+    #[inline(always)]
     pub fn member(self, ordinal: u64) -> Option<View<'v, 'm>>
         ensures message { IfSome result (λ part. (part_of part).message
             ≡ (part_of self.entry).message) }
@@ -118,6 +121,7 @@ impl<'v, 'm> View<'v, 'm> {
 
     /// The ordinal of a union, and its member where that is known; none where the union is absent,
     /// and of another kind.
+    #[inline(always)]
     pub fn variant(self) -> Option<(u64, Option<View<'v, 'm>>)>
         ensures message { IfSome result (λ found. IfSome found.1 (λ part. (part_of part).message
             ≡ (part_of self.entry).message)) }

@@ -16,6 +16,7 @@ use fidl_wire::u64_at;
 
 impl<'v, 'm> View<'v, 'm> {
     /// The elements of an array.
+    #[inline(always)]
     fn array_elements(self) -> Elements<'v, 'm>
         requires { IsOf EntryKind.Array (entry_at self.decoded.now.table self.index) }
         ensures run { IsRunOf self.entry result }
@@ -33,6 +34,7 @@ impl<'v, 'm> View<'v, 'm> {
     }
 
     /// The elements of a vector, none where it is absent.
+    #[inline(always)]
     fn vector_elements(self) -> Option<Elements<'v, 'm>>
         requires { IsOf EntryKind.Vector (entry_at self.decoded.now.table self.index) }
         ensures run { IfSome result (IsRunOf self.entry) }
@@ -66,6 +68,7 @@ impl<'v, 'm> View<'v, 'm> {
     }
 
     /// The elements of an array or a vector; none where it is absent, and of another kind.
+    #[inline(always)]
     pub(crate) fn list(self) -> Option<Elements<'v, 'm>>
         ensures run { IfSome result (IsRunOf self.entry) }
         ensures parts { (v : Value) → IsShownBy self.entry v
@@ -97,6 +100,7 @@ impl<'v, 'm> View<'v, 'm> {
 
     /// The element of an array or a vector at this place, counted from 0; none past the last, of an
     /// absent one, and of another kind.
+    #[inline(always)]
     pub fn element(self, at: usize) -> Option<View<'v, 'm>>
         ensures message { IfSome result (λ part. (part_of part).message
             ≡ (part_of self.entry).message) }
@@ -120,6 +124,7 @@ impl<'v, 'm> View<'v, 'm> {
 
     /// The elements of an array or a vector in their order; of an absent one and of another kind
     /// there are none.
+    #[inline(always)]
     pub fn elements(self) -> Elements<'v, 'm>
         ensures message { message_left result ≡ (part_of self.entry).message }
         ensures typed { AreOfElements self.entry result }

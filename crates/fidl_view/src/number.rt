@@ -9,6 +9,7 @@ ghost use Rattle.fidl_view.specs.Numbers.{unsigned_at, signed_at};
 use fidl_table_format::{EntryKind, number_bits};
 
 /// The number of an unsigned kind at a place, none for the other kinds.
+#[inline(always)]
 pub(crate) fn unsigned(kind: EntryKind, bytes: &[u8], place: usize) -> Option<u64>
     requires { place + byte_len (width (as_number kind)) ≤ length bytes.now }
     ensures { result ≡ unsigned_at (number_type kind) bytes.now place }
@@ -22,6 +23,7 @@ pub(crate) fn unsigned(kind: EntryKind, bytes: &[u8], place: usize) -> Option<u6
 }
 
 /// The number of a signed kind at a place, none for the other kinds.
+#[inline(always)]
 pub(crate) fn signed(kind: EntryKind, bytes: &[u8], place: usize) -> Option<i64>
     requires { place + byte_len (width (as_number kind)) ≤ length bytes.now }
     ensures { result ≡ signed_at (number_type kind) bytes.now place }

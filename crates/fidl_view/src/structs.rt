@@ -31,6 +31,7 @@ impl<'v, 'm> View<'v, 'm> {
 
     /// The members of a struct, or of the struct in a box; none where the box is absent, and of
     /// another kind.
+    #[inline(always)]
     fn members(self) -> Option<Members<'v, 'm>>
         ensures message { IfSome result (λ members. message_held members
             ≡ (part_of self.entry).message) }
@@ -60,6 +61,7 @@ impl<'v, 'm> View<'v, 'm> {
 
     /// The member of a struct, or of the struct in a box, at this place in its declaration, counted
     /// from 0; none past the last, of an absent box, and of another kind.
+    #[inline(always)]
     pub fn field(self, at: usize) -> Option<View<'v, 'm>>
         ensures message { IfSome result (λ part. (part_of part).message
             ≡ (part_of self.entry).message) }

@@ -15,6 +15,7 @@ use std::str::from_utf8_unchecked;
 
 impl<'v, 'm> View<'v, 'm> {
     /// The bytes of a string, a slice of the message itself; none where it is absent.
+    #[inline(always)]
     pub(crate) fn string_bytes(self) -> Option<&'m [u8]>
         requires { IsOf EntryKind.String (entry_at self.decoded.now.table self.index) }
         ensures value { (v : Value) → IsShownBy self.entry v → option_copied result ≡ string_of v }
@@ -38,6 +39,7 @@ impl<'v, 'm> View<'v, 'm> {
 
     /// The text of a string, a slice of the message itself; none where it is absent, and of another
     /// kind. The decoder checked it as UTF-8.
+    #[inline(always)]
     pub fn as_str(self) -> Option<&'m str>
         ensures { (v : Value) → IsShownBy self.entry v → option_copied result ≡ string_of v }
     {

@@ -42,6 +42,7 @@ impl<'v, 'm> View<'v, 'm> {
     ghost use Rattle.fidl_view.specs.Views.{IsShownBy, part_of, type_shown};
 
     /// The table that the part's type is from.
+    #[inline(always)]
     pub fn table(self) -> &'v Table<'v>
         ensures { result.now ≡ (part_of self.entry).message.table }
     {
@@ -49,6 +50,7 @@ impl<'v, 'm> View<'v, 'm> {
     }
 
     /// The number of the entry of the part's type, which is below the table's `entries`.
+    #[inline(always)]
     pub fn entry(self) -> u32
         ensures value { result ≡ (part_of self.entry).index }
         ensures in_range { result < (header_of (part_of self.entry).message.table).entries }
@@ -57,6 +59,7 @@ impl<'v, 'm> View<'v, 'm> {
     }
 
     /// The kind of the part's type.
+    #[inline(always)]
     pub(crate) fn kind(self) -> EntryKind
         ensures of { IsOf result (entry_at self.entry.decoded.now.table self.entry.index) }
         ensures well_formed { WellFormed self.entry.decoded.now.table }
@@ -65,6 +68,7 @@ impl<'v, 'm> View<'v, 'm> {
     }
 
     /// The kind of the part's number: its own kind, or the underlying kind of bits and enums.
+    #[inline(always)]
     fn number_kind(self) -> EntryKind
         ensures numbers { number_type result ≡ numbers_of (type_shown self.entry) }
         ensures room { self.entry.place + byte_len (width (as_number result))
@@ -80,6 +84,7 @@ impl<'v, 'm> View<'v, 'm> {
     }
 
     /// Whether an optional value or a box is absent.
+    #[inline(always)]
     pub fn is_absent(self) -> bool
         ensures { (v : Value) → IsShownBy self.entry v → result ≡ absence_of v }
     {
@@ -94,6 +99,7 @@ impl<'v, 'm> View<'v, 'm> {
     }
 
     /// A bool, none of another kind.
+    #[inline(always)]
     pub fn as_bool(self) -> Option<bool>
         ensures { (v : Value) → IsShownBy self.entry v → result ≡ bool_of v }
     {
@@ -105,6 +111,7 @@ impl<'v, 'm> View<'v, 'm> {
 
     /// The number of uint8, uint16, uint32 or uint64, and of bits or an enum of one of these; none
     /// of another type.
+    #[inline(always)]
     pub fn as_u64(self) -> Option<u64>
         ensures { (v : Value) → IsShownBy self.entry v → result
             ≡ unsigned_of (type_shown self.entry) v }
@@ -114,6 +121,7 @@ impl<'v, 'm> View<'v, 'm> {
 
     /// The number of int8, int16, int32 or int64, and of an enum of one of these; none of another
     /// type.
+    #[inline(always)]
     pub fn as_i64(self) -> Option<i64>
         ensures { (v : Value) → IsShownBy self.entry v → result
             ≡ signed_of (type_shown self.entry) v }

@@ -24,6 +24,7 @@ pub trait Views<'m> {
 impl<'t, 'm, 's> Views<'m> for Decoded<'t, 'm, 's> {
     ghost shown = { λ d. d };
 
+    #[inline(always)]
     fn view<'v>(&'v self) -> View<'v, 'm> {
         let index = self.entry();
         // Read, so that the table is known to be well-formed: a message of the entry then has room
