@@ -6,7 +6,6 @@ pub mod Scalars
 pub mod Marked
 pub mod Carried
 pub mod Written
-pub mod Searching
 pub mod Stated
 pub mod Elements
 pub mod Visiting

@@ -6,13 +6,14 @@ ghost use Rattle.fidl_limits.specs.declared.limits.TheConstants.{MAX_DEPTH};
 ghost use Rattle.fidl_wire.specs.Term as ty;
 ghost use Rattle.fidl_wire.specs.Term.{resolve, width};
 ghost use Rattle.fidl_wire.specs.Typed.{InMask};
+ghost use Rattle.fidl_table_format.specs.declared.kind.EntryKind.TheVariants as kinds;
 ghost use Rattle.fidl_table_format.specs.Kind.{kind_of};
 ghost use Rattle.fidl_table_format.specs.Number.{number_standing};
 ghost use Rattle.fidl_table_format.specs.Section.{header_of, entry_at};
 ghost use Rattle.fidl_table_format.specs.Entry.{subtype_is};
 ghost use Rattle.fidl_table_format.specs.Uses.{is_unsigned};
 ghost use Rattle.fidl_table_format.specs.Terms.{underlying, mask_of, strict_values, declarations_of};
-ghost use Rattle.fidl_decode.specs.Invariants.{EnumFine, is_leaf, is_free};
+ghost use Rattle.fidl_decode.specs.Invariants.{is_leaf, is_free};
 ghost use Rattle.fidl_decode.specs.Faults.{message_of};
 ghost use Rattle.fidl_decode.specs.Breaks.{BreaksField, Breaks};
 ghost use Rattle.fidl_decode.specs.Steps.{Spends};
@@ -21,7 +22,6 @@ ghost use Rattle.fidl_decode.specs.Machine.{StateFine, Visits, at_of, probes};
 use crate::decoder::Decoder;
 use crate::fault::DecodeFault;
 use crate::frame::State;
-use crate::values::has_value;
 use fidl_table_format::{Entry, EntryKind, number_bits};
 
 /// Whether values of the kind hold no others.
@@ -81,25 +81,29 @@ impl<'t, 'm> Decoder<'t, 'm> {
     }
 
     /// Reads an enum: a strict one has one of its values.
-    fn read_enum(&self, entry: &Entry, place: usize, state: &mut State) -> Result<(), DecodeFault>
-        requires values { EnumFine self.now.table.now entry.now }
-        requires room { place + byte_len (width (underlying entry.now))
-            ≤ length self.now.bytes.now }
+    fn read_enum(&self, entry: u32, place: usize, state: &mut State) -> Result<(), DecodeFault>
+        requires entry { entry < (header_of self.now.table.now).entries }
+        requires kind { kind_of (entry_at self.now.table.now entry).kind ≡ Some kinds.Enum }
+        requires room { let d = entry_at self.now.table.now entry in
+            place + byte_len (width (underlying d)) ≤ length self.now.bytes.now }
         requires budget { state.old.steps < 2 ^ 41 }
-        ensures ok { OnOk result
-            (IfSome (strict_values self.now.table.now (header_of self.now.table.now) entry.now)
-            (λ values. Contains values (number_standing (underlying entry.now) self.now.bytes.now place))) }
-        ensures fault_is_true { IfErr result
-            (BreaksField (message_of self.now.bytes.now self.now.handles.now)
-            (ty.enum (underlying entry.now) (strict_values self.now.table.now (header_of self.now.table.now) entry.now)) place) }
+        ensures ok { let t = self.now.table.now in
+            let d = entry_at t entry in
+            OnOk result (IfSome (strict_values t (header_of t) d)
+            (λ values. Contains values (number_standing (underlying d) self.now.bytes.now place))) }
+        ensures fault_is_true { let t = self.now.table.now in
+            let d = entry_at t entry in
+            IfErr result (BreaksField (message_of self.now.bytes.now self.now.handles.now)
+            (ty.enum (underlying d) (strict_values t (header_of t) d)) place) }
         ensures same { at_of state.new ≡ at_of state.old }
         ensures spends { Spends state.old.steps state.new.steps 0 probes }
     {
-        if !entry.is_strict() {
+        let e = self.table.entry(entry);
+        if !e.is_strict() {
             return Ok(());
         }
-        let number = number_bits(entry.underlying(), self.bytes, place);
-        if !has_value(self.table, entry, number, &mut state.steps) {
+        let number = number_bits(e.underlying(), self.bytes, place);
+        if !self.table.has_value(entry, number, &mut state.steps) {
             return Err(DecodeFault::UnknownValue { at: place });
         }
         Ok(())
@@ -144,7 +148,7 @@ impl<'t, 'm> Decoder<'t, 'm> {
                 Ok(())
             }
             EntryKind::Bits => self.read_bits(&self.table.entry(entry), place),
-            EntryKind::Enum => self.read_enum(&self.table.entry(entry), place, state),
+            EntryKind::Enum => self.read_enum(entry, place, state),
             EntryKind::Handle => { self.read_handle(&self.table.entry(entry), place, depth, state) }
             EntryKind::String => self.read_text(&self.table.entry(entry), place, depth, state),
             // Any bytes are a number.

@@ -14,7 +14,6 @@ use Rattle.fidl_wire.specs.Typed.{InMask}
 use Rattle.fidl_table_format.specs.Number.{number_standing}
 use Rattle.fidl_table_format.specs.Terms.{underlying, mask_of, strict_values, declarations_of, is_optional}
 use Rattle.fidl_table_format.specs.declared.record.Entry.{Entry}
-use Rattle.fidl_decode.specs.Invariants.{EnumFine}
 use Rattle.fidl_decode.specs.Breaks.{BreaksField, BreaksHandle, BreaksText}
 use Rattle.fidl_decode.specs.State.{Position}
 use Rattle.fidl_decode.proofs.Turning.{on_ok_from, on_ok_two, on_ok_three}
@@ -64,19 +63,21 @@ returns-in-Bits-clause-fault_is_true c =
 pub returns-in-Enum-clause-ok : goal.returns-in-Enum-clause-ok
 returns-in-Enum-clause-ok c =
     let is : kind_of (entry_at c.args.self.now.table.now c.args.entry).kind ≡ Some Enum = c.requires.kind ∙ ap (λ (k : EntryKind). Some k) c.in-Enum.is in
-    let own : c.entry-in-Enum.result ≡ entry_at c.args.self.now.table.now c.args.entry = c.entry-in-Enum.ensures.value in
-    on_ok_from c.read_enum.result (λ p. subst (λ (s : Position). Visits c.args.self.now.table.now (message_of c.args.self.now.bytes.now c.args.self.now.handles.now) c.args.depth c.args.entry c.args.place (at_of c.args.state.now) s (c.read_enum.new.state.steps - c.args.state.now.steps) None) (sym c.read_enum.ensures.same) (visits_enum c.args.self.now.table.now c.args.self.now.fine (message_of c.args.self.now.bytes.now c.args.self.now.handles.now) c.args.depth c.args.entry c.args.place (at_of c.args.state.now) c.requires.entry c.requires.state c.requires.depth is (c.read_enum.new.state.steps - c.args.state.now.steps) (omega (arith, c.read_enum.ensures.spends.most)) c.requires.room (λ i. omega (arith, c.args.self.now.octets i)) (subst (λ (d : Entry). IfSome (strict_values c.args.self.now.table.now (header_of c.args.self.now.table.now) d) (λ values. Contains values (number_standing (underlying d) c.args.self.now.bytes.now c.args.place))) own p))) c.read_enum.ensures.ok
+    on_ok_from c.read_enum.result (λ p. subst (λ (s : Position). Visits c.args.self.now.table.now (message_of c.args.self.now.bytes.now c.args.self.now.handles.now) c.args.depth c.args.entry c.args.place (at_of c.args.state.now) s (c.read_enum.new.state.steps - c.args.state.now.steps) None) (sym c.read_enum.ensures.same)
+    (visits_enum c.args.self.now.table.now c.args.self.now.fine (message_of c.args.self.now.bytes.now c.args.self.now.handles.now) c.args.depth c.args.entry c.args.place (at_of c.args.state.now) c.requires.entry c.requires.state c.requires.depth is (c.read_enum.new.state.steps - c.args.state.now.steps) (omega (arith, c.read_enum.ensures.spends.most)) c.requires.room
+    (λ i. omega (arith, c.args.self.now.octets i)) p)) c.read_enum.ensures.ok
 
 pub returns-in-Enum-clause-fault_is_true : goal.returns-in-Enum-clause-fault_is_true
 returns-in-Enum-clause-fault_is_true c =
     let is : kind_of (entry_at c.args.self.now.table.now c.args.entry).kind ≡ Some Enum = c.requires.kind ∙ ap (λ (k : EntryKind). Some k) c.in-Enum.is in
-    let own : c.entry-in-Enum.result ≡ entry_at c.args.self.now.table.now c.args.entry = c.entry-in-Enum.ensures.value in
-    IfErr-weaker c.read_enum.result _ _ (λ fault b. enum_breaks c.args.self.now.table.now c.args.self.now.fine (message_of c.args.self.now.bytes.now c.args.self.now.handles.now) c.args.depth c.args.entry c.args.place (at_of c.args.state.now) c.requires.entry c.requires.state c.requires.depth is fault (subst (λ (d : Entry). BreaksField (message_of c.args.self.now.bytes.now c.args.self.now.handles.now) (ty.enum (underlying d) (strict_values c.args.self.now.table.now (header_of c.args.self.now.table.now) d)) c.args.place fault) own b)) c.read_enum.ensures.fault_is_true
+    IfErr-weaker c.read_enum.result _ _
+    (λ fault b. enum_breaks c.args.self.now.table.now c.args.self.now.fine (message_of c.args.self.now.bytes.now c.args.self.now.handles.now) c.args.depth c.args.entry c.args.place (at_of c.args.state.now) c.requires.entry c.requires.state c.requires.depth is fault b) c.read_enum.ensures.fault_is_true
 
-pub read_enum-requires-clause-values : goal.read_enum-requires-clause-values
-read_enum-requires-clause-values c =
-    let is : kind_of (entry_at c.args.self.now.table.now c.args.entry).kind ≡ Some Enum = c.requires.kind ∙ ap (λ (k : EntryKind). Some k) c.in-Enum.is in
-    subst (λ (d : Entry). EnumFine c.args.self.now.table.now d) (sym c.entry-in-Enum.ensures.value) (fine_as c.args.self.now.table.now c.args.self.now.fine c.args.entry Enum c.requires.entry is).content
+pub read_enum-requires-clause-kind : goal.read_enum-requires-clause-kind
+read_enum-requires-clause-kind c = c.requires.kind ∙ ap (λ (k : EntryKind). Some k) c.in-Enum.is
+
+pub read_enum-requires-clause-entry : goal.read_enum-requires-clause-entry
+read_enum-requires-clause-entry c = c.requires.entry
 
 pub read_handle-requires-clause-room : goal.read_handle-requires-clause-room
 read_handle-requires-clause-room c =
@@ -138,7 +139,7 @@ pub read_enum-requires-clause-room : goal.read_enum-requires-clause-room
 read_enum-requires-clause-room c =
     let is : kind_of (entry_at c.args.self.now.table.now c.args.entry).kind ≡ Some Enum = c.requires.kind ∙ ap (λ (k : EntryKind). Some k) c.in-Enum.is in
     let size : byte_len (width (underlying (entry_at c.args.self.now.table.now c.args.entry))) ≡ (entry_at c.args.self.now.table.now c.args.entry).size = size_as c.args.self.now.table.now c.args.self.now.fine c.args.entry Enum c.requires.entry is in
-    subst (λ (d : Entry). c.args.place + byte_len (width (underlying d)) ≤ length c.args.self.now.bytes.now) (sym c.entry-in-Enum.ensures.value) (omega (arith, c.requires.room, size))
+    omega (arith, c.requires.room, size)
 
 pub returns-then-self-place-gt1-clause-ok : goal.returns-then-self-place-gt1-clause-ok
 returns-then-self-place-gt1-clause-ok c = tt
@@ -148,9 +149,6 @@ returns-then-self-place-gt1-clause-spends c = spends_any _ _ _ (same_le _) (omeg
 
 pub entry-requires : goal.entry-requires
 entry-requires c = c.requires.entry
-
-pub entry-requires-in-Enum : goal.entry-requires-in-Enum
-entry-requires-in-Enum c = c.requires.entry
 
 pub read_enum-requires-clause-budget : goal.read_enum-requires-clause-budget
 read_enum-requires-clause-budget c = c.requires.budget
