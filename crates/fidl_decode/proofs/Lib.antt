@@ -56,5 +56,6 @@ pub mod Front
 pub mod Known
 pub mod Words
 pub mod Freely
+pub mod Sequences
 pub mod BodyTurns
 pub mod TextMember

@@ -1,12 +1,13 @@
 -- The envelopes of a table's value, and the members that are passed over without a turn of their own.
-use Rattle.std.specs.Prelude.{◌≡◌, ℕ, ◌-◌, ◌*◌, ◌<◌, ◌≤◌, List, true, Some}
+use Rattle.std.specs.Prelude.{◌≡◌, ℕ, ◌+◌, ◌-◌, ◌*◌, ◌<◌, ◌≤◌, List, true, Some}
+use Rattle.std.specs.Int.{next_multiple_of}
 use Rattle.fidl_table_format.specs.declared.kind.EntryKind.{EntryKind}
 use Rattle.fidl_table_format.specs.declared.kind.EntryKind.TheVariants.{Table}
 use Rattle.fidl_table_format.specs.Kind.{kind_of}
 use Rattle.fidl_table_format.specs.Section.{header_of, entry_at}
 use Rattle.fidl_table_format.specs.WellFormed.{WellFormed}
 use Rattle.fidl_decode.specs.declared.frame.Frame.{Frame}
-use Rattle.fidl_decode.specs.declared.frame.Remaining.TheVariants.{Envelopes}
+use Rattle.fidl_decode.specs.declared.frame.Remaining.TheVariants.{Elements, Envelopes}
 use Rattle.fidl_decode.specs.declared.body.TableBody.{TableBody}
 use Rattle.fidl_decode.specs.declared.body.Passing.{Passing}
 use Rattle.fidl_decode.specs.declared.body.Passing.TheVariants.{Inside, Below}
@@ -47,6 +48,21 @@ envelopes_of entry base count depth =
       done = 0;
       size = 8 * count;
       nest = most_nest;
+      depth = depth;
+      in_envelope = 0;
+    }
+
+-- the frame of so many elements of a value of a vector's entry, of which none is read
+abbrev pub elements_of : List ℕ → (entry base count depth : ℕ) → Frame
+elements_of t entry base count depth =
+    let d = entry_at t entry in
+    let each = entry_at t d.first in
+    record {
+      left = Elements d.first each.size count;
+      base = base;
+      done = 0;
+      size = next_multiple_of (each.size * count) 8;
+      nest = each.nest + 1;
       depth = depth;
       in_envelope = 0;
     }

@@ -160,7 +160,7 @@ impl<'t, 'm> Decoder<'t, 'm> {
         let Some(kind) = EntryKind::from_number(e.kind) else {
             unreachable!()
         };
-        if !self.is_flat(&e, kind) {
+        if !self.is_flat(entry, kind) {
             return Ok(Some(frame));
         }
         self.read_whole(frame, entry, kind, size, until, state)?;

@@ -4,16 +4,17 @@ ghost use Rattle.std.specs.Prelude.{◌≡◌, ◌+◌, ◌-◌, ◌*◌, ◌^�
 ghost use Rattle.std.specs.Prelude.{IfNone, true, Some, None};
 ghost use Rattle.fidl_table_format.specs.Kind.{kind_of};
 ghost use Rattle.fidl_table_format.specs.Section.{header_of, entry_at};
-ghost use Rattle.fidl_decode.specs.Invariants.{is_leaf};
+ghost use Rattle.fidl_decode.specs.Invariants.{is_leaf, is_free_at};
 ghost use Rattle.fidl_decode.specs.Faults.{message_of};
 ghost use Rattle.fidl_decode.specs.declared.frame.Remaining.TheVariants as left;
+ghost use Rattle.fidl_decode.specs.Steps.{Spends};
 ghost use Rattle.fidl_decode.specs.Machine.{StateFine, FrameFine, BreaksFrame, Turns};
 ghost use Rattle.fidl_decode.specs.Machine.{IsKnown, turn_work, at_of};
 
 use crate::decoder::{Decoder, zeros_at};
 use crate::fault::DecodeFault;
 use crate::frame::{Frame, Remaining, State};
-use crate::leaf::{is_free, is_leaf};
+use crate::leaf::is_free;
 use crate::plain::Plain;
 use fidl_table_format::EntryKind;
 
@@ -124,7 +125,7 @@ impl<'t, 'm> Decoder<'t, 'm> {
         requires left { frame.left ≡ left.Elements entry size count }
         requires entry { entry < (header_of self.now.table.now).entries }
         requires kind { kind_of (entry_at self.now.table.now entry).kind ≡ Some kind }
-        requires leaf { is_leaf kind ≡ true }
+        requires leaf { is_leaf self.now.table.now (entry_at self.now.table.now entry) kind ≡ true }
         requires state { StateFine (message_of self.now.bytes.now self.now.handles.now)
             (at_of state.old) }
         requires budget { state.old.steps + turn_work self.now.bytes.now state.old.next frame
@@ -151,6 +152,37 @@ impl<'t, 'm> Decoder<'t, 'm> {
         let stop = frame.base + frame.size;
         state.steps += (stop - at) as u64 + 1;
         zeros_at(self.bytes, at, stop)
+    }
+
+    /// Passes over elements that any bytes are values of, and reads the zeros behind them.
+    #[inline(always)]
+    pub(crate) fn pass_elements(
+        &self,
+        frame: Frame,
+        entry: u32,
+        size: usize,
+        count: u32,
+        state: &mut State,
+    ) -> Result<(), DecodeFault>
+        requires frame { FrameFine self.now.table.now self.now.bytes.now frame }
+        requires left { frame.left ≡ left.Elements entry size count }
+        requires free { is_free_at self.now.table.now entry ≡ true }
+        requires state { StateFine (message_of self.now.bytes.now self.now.handles.now)
+            (at_of state.old) }
+        requires budget { state.old.steps < 2 ^ 42 }
+        ensures ok { OnOk result
+            (Turns self.now.table.now (message_of self.now.bytes.now self.now.handles.now) frame
+            (at_of state.old) (at_of state.new) (state.new.steps - state.old.steps)
+            (record { below = None; rest = None })) }
+        ensures spends { Spends state.old.steps state.new.steps 1 (1 + (frame.size - frame.done)) }
+        ensures fault_is_true { IfErr result
+            (BreaksFrame self.now.table.now (message_of self.now.bytes.now self.now.handles.now)
+            frame (at_of state.old)) }
+    {
+        let from = frame.base + frame.done + size * count as usize;
+        let stop = frame.base + frame.size;
+        state.steps += (stop - from) as u64 + 1;
+        zeros_at(self.bytes, from, stop)
     }
 
     /// Reads the elements of an array or vector in place, where they are leaves. Nothing is left at
@@ -188,17 +220,14 @@ impl<'t, 'm> Decoder<'t, 'm> {
         let Some(kind) = EntryKind::from_number(e.kind) else {
             unreachable!()
         };
-        if !is_leaf(kind) {
+        if !self.is_leaf(entry, kind) {
             return Ok(Some(frame));
         }
-        if !is_free(&e, kind) {
-            self.read_each(frame, entry, kind, size, count, state)?;
+        if is_free(&e, kind) {
+            self.pass_elements(frame, entry, size, count, state)?;
             return Ok(None);
         }
-        let from = frame.base + frame.done + size * count as usize;
-        let stop = frame.base + frame.size;
-        state.steps += (stop - from) as u64 + 1;
-        zeros_at(self.bytes, from, stop)?;
+        self.read_each(frame, entry, kind, size, count, state)?;
         Ok(None)
     }
 

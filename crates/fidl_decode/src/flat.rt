@@ -4,7 +4,6 @@ ghost use Rattle.std.specs.Prelude.{Some, None, length};
 ghost use Rattle.fidl_limits.specs.declared.limits.TheConstants.{MAX_DEPTH};
 ghost use Rattle.fidl_wire.specs.Term as ty;
 ghost use Rattle.fidl_wire.specs.Term.{resolve};
-ghost use Rattle.fidl_table_format.specs.declared.kind.EntryKind.TheVariants as kinds;
 ghost use Rattle.fidl_table_format.specs.Kind.{kind_of};
 ghost use Rattle.fidl_table_format.specs.Section.{header_of, entry_at};
 ghost use Rattle.fidl_table_format.specs.Terms.{declarations_of};
@@ -19,9 +18,8 @@ ghost use Rattle.fidl_decode.specs.Machine.{Turns, turn_work, value_work, at_of}
 use crate::decoder::Decoder;
 use crate::fault::DecodeFault;
 use crate::frame::{Frame, Remaining, State};
-use crate::leaf::is_leaf;
 use crate::plain::{MOST_ROWS, rows_from};
-use fidl_table_format::{Entry, EntryKind};
+use fidl_table_format::EntryKind;
 
 impl<'t, 'm> Decoder<'t, 'm> {
     /// Whether so many rows, from the first on, are no more than are looked at, and their members are
@@ -37,11 +35,12 @@ impl<'t, 'm> Decoder<'t, 'm> {
         // Read, so that the number of rows, and with it each row's, is known to have 32 bits.
         let _rows = self.table.rows();
         for i in 0..count {
-            let e = self.table.entry(self.table.row(first + i).entry);
+            let entry = self.table.row(first + i).entry;
+            let e = self.table.entry(entry);
             let Some(kind) = EntryKind::from_number(e.kind) else {
                 return false;
             };
-            if !is_leaf(kind) {
+            if !self.is_leaf(entry, kind) {
                 return false;
             }
         }
@@ -50,14 +49,18 @@ impl<'t, 'm> Decoder<'t, 'm> {
 
     /// Whether a value of the entry, which is of this kind, is a leaf, or a struct of leaves.
     #[inline(always)]
-    pub(crate) fn is_flat(&self, entry: &Entry, kind: EntryKind) -> bool
-        requires rows { kind ≡ kinds.Struct
-            → entry.now.first + entry.now.count ≤ (header_of self.now.table.now).rows }
-        ensures { IsTrue result → IsFlat self.now.table.now entry.now kind }
+    pub(crate) fn is_flat(&self, entry: u32, kind: EntryKind) -> bool
+        requires entry { entry < (header_of self.now.table.now).entries }
+        requires kind { kind_of (entry_at self.now.table.now entry).kind ≡ Some kind }
+        ensures { IsTrue result
+            → IsFlat self.now.table.now (entry_at self.now.table.now entry) kind }
     {
         match kind {
-            EntryKind::Struct => self.are_leaves(entry.first, entry.count),
-            _ => is_leaf(kind),
+            EntryKind::Struct => {
+                let e = self.table.entry(entry);
+                self.are_leaves(e.first, e.count)
+            }
+            _ => self.is_leaf(entry, kind),
         }
     }
 
@@ -140,7 +143,7 @@ impl<'t, 'm> Decoder<'t, 'm> {
             (value_work self.now.bytes.now state.old.next
             (entry_at self.now.table.now entry)) }
     {
-        if is_leaf(kind) {
+        if self.is_leaf(entry, kind) {
             return self.read_leaf(entry, kind, place, depth, state);
         }
         let e = self.table.entry(entry);

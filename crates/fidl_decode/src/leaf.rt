@@ -1,4 +1,4 @@
-//! Leaves: values that hold no other.
+//! Leaves: values that hold no other, or numbers alone.
 ghost use Rattle.std.specs.Prelude.{◌≡◌, ◌+◌, ◌-◌, ◌^◌, ◌<◌, ◌≤◌, OnOk, IfErr, IfSome};
 ghost use Rattle.std.specs.Prelude.{IsTrue, Contains, true, Some, None, length};
 ghost use Rattle.std.specs.Int.{byte_len};
@@ -13,7 +13,7 @@ ghost use Rattle.fidl_table_format.specs.Section.{header_of, entry_at};
 ghost use Rattle.fidl_table_format.specs.Entry.{subtype_is};
 ghost use Rattle.fidl_table_format.specs.Uses.{is_unsigned};
 ghost use Rattle.fidl_table_format.specs.Terms.{underlying, mask_of, strict_values, declarations_of};
-ghost use Rattle.fidl_decode.specs.Invariants.{is_leaf, is_free};
+ghost use Rattle.fidl_decode.specs.Invariants.{is_leaf, is_free, is_free_at};
 ghost use Rattle.fidl_decode.specs.Faults.{message_of};
 ghost use Rattle.fidl_decode.specs.Breaks.{BreaksField, Breaks};
 ghost use Rattle.fidl_decode.specs.Steps.{Spends};
@@ -23,21 +23,6 @@ use crate::decoder::Decoder;
 use crate::fault::DecodeFault;
 use crate::frame::State;
 use fidl_table_format::{Entry, EntryKind, number_bits};
-
-/// Whether values of the kind hold no others.
-pub(crate) fn is_leaf(kind: EntryKind) -> bool
-    ensures { result ≡ is_leaf kind }
-{
-    match kind {
-        EntryKind::Vector
-        | EntryKind::Array
-        | EntryKind::Box
-        | EntryKind::Struct
-        | EntryKind::Table
-        | EntryKind::Union => false,
-        _ => true,
-    }
-}
 
 /// Whether any bytes are a value of the entry, which is of this kind: a number, or bits or an enum
 /// that are not strict.
@@ -59,6 +44,33 @@ pub(crate) fn is_free(entry: &Entry, kind: EntryKind) -> bool
 }
 
 impl<'t, 'm> Decoder<'t, 'm> {
+    /// Whether any bytes are a value of the entry.
+    pub(crate) fn is_free_at(&self, entry: u32) -> bool
+        requires { entry < (header_of self.now.table.now).entries }
+        ensures { result ≡ is_free_at self.now.table.now entry }
+    {
+        let e = self.table.entry(entry);
+        match EntryKind::from_number(e.kind) {
+            Some(kind) => is_free(&e, kind),
+            None => false,
+        }
+    }
+
+    /// Whether values of the entry, which is of this kind, hold no others, or numbers alone.
+    #[inline(always)]
+    pub(crate) fn is_leaf(&self, entry: u32, kind: EntryKind) -> bool
+        requires entry { entry < (header_of self.now.table.now).entries }
+        requires kind { kind_of (entry_at self.now.table.now entry).kind ≡ Some kind }
+        ensures { result ≡ is_leaf self.now.table.now (entry_at self.now.table.now entry) kind }
+    {
+        match kind {
+            EntryKind::Vector => self.is_free_at(self.table.entry(entry).first),
+            EntryKind::Array => self.is_free_at(self.table.entry(entry).first),
+            EntryKind::Box | EntryKind::Struct | EntryKind::Table | EntryKind::Union => false,
+            _ => true,
+        }
+    }
+
     /// Reads bits: strict ones have no bit outside their mask.
     fn read_bits(&self, entry: &Entry, place: usize) -> Result<(), DecodeFault>
         requires kind { IsTrue (subtype_is is_unsigned entry.now) }
@@ -109,7 +121,7 @@ impl<'t, 'm> Decoder<'t, 'm> {
         Ok(())
     }
 
-    /// Reads a leaf at a place: a value that holds no other.
+    /// Reads a leaf at a place: a value that holds no other, or numbers alone.
     #[inline(always)]
     pub(crate) fn read_leaf(
         &self,
@@ -121,7 +133,7 @@ impl<'t, 'm> Decoder<'t, 'm> {
     ) -> Result<(), DecodeFault>
         requires entry { entry < (header_of self.now.table.now).entries }
         requires kind { kind_of (entry_at self.now.table.now entry).kind ≡ Some kind }
-        requires leaf { is_leaf kind ≡ true }
+        requires leaf { is_leaf self.now.table.now (entry_at self.now.table.now entry) kind ≡ true }
         requires room { place + (entry_at self.now.table.now entry).size
             ≤ length self.now.bytes.now }
         requires state { StateFine (message_of self.now.bytes.now self.now.handles.now)
@@ -151,7 +163,8 @@ impl<'t, 'm> Decoder<'t, 'm> {
             EntryKind::Enum => self.read_enum(entry, place, state),
             EntryKind::Handle => { self.read_handle(&self.table.entry(entry), place, depth, state) }
             EntryKind::String => self.read_text(&self.table.entry(entry), place, depth, state),
-            // Any bytes are a number.
+            EntryKind::Vector => self.read_numbers(entry, place, depth, state),
+            // Any bytes are a number, or an array of numbers.
             _ => Ok(()),
         }
     }

@@ -15,7 +15,6 @@ ghost use Rattle.fidl_decode.specs.Machine.{turn_work, at_of};
 use crate::decoder::{Decoder, zeros_at};
 use crate::fault::DecodeFault;
 use crate::frame::{Frame, Remaining, State};
-use crate::leaf::is_leaf;
 use crate::plain::{Plain, rows_from};
 use fidl_table_format::EntryKind;
 
@@ -93,7 +92,8 @@ impl<'t, 'm> Decoder<'t, 'm> {
         requires some { 0 < count }
         requires kind { let row = row_at self.now.table.now (header_of self.now.table.now) first in
             kind_of (entry_at self.now.table.now row.entry).kind ≡ Some kind }
-        requires leaf { is_leaf kind ≡ true }
+        requires leaf { let row = row_at self.now.table.now (header_of self.now.table.now) first in
+            is_leaf self.now.table.now (entry_at self.now.table.now row.entry) kind ≡ true }
         requires state { StateFine (message_of self.now.bytes.now self.now.handles.now)
             (at_of state.old) }
         requires budget { state.old.steps + turn_work self.now.bytes.now state.old.next frame
@@ -192,7 +192,7 @@ impl<'t, 'm> Decoder<'t, 'm> {
             let Some(kind) = EntryKind::from_number(e.kind) else {
                 unreachable!()
             };
-            if is_leaf(kind) {
+            if self.is_leaf(row.entry, kind) {
                 self.read_row(rest, next, many, kind, state)?;
                 done = row.key as usize + e.size as usize;
                 next += 1;

@@ -113,7 +113,7 @@ impl<'t, 'm> Decoder<'t, 'm> {
         let Some(kind) = EntryKind::from_number(e.kind) else {
             unreachable!()
         };
-        if self.is_flat(&e, kind) {
+        if self.is_flat(entry, kind) {
             self.read_enclosed(entry, kind, envelope, depth, state)?;
             return Ok(None);
         }

@@ -1,13 +1,19 @@
 //! Vectors: a count and a marker, and the elements, which are the next object.
-ghost use Rattle.std.specs.Prelude.{◌≡◌, ℕ, ◌+◌, ◌-◌, ◌*◌, ◌<◌, ◌≤◌, IfOk, IfErr, Some, length};
+ghost use Rattle.std.specs.Prelude.{◌≡◌, ℕ, ◌+◌, ◌-◌, ◌*◌, ◌^◌, ◌<◌, ◌≤◌, OnOk, IfOk, IfErr};
+ghost use Rattle.std.specs.Prelude.{IfSome, Some, None, true, length};
 ghost use Rattle.fidl_limits.specs.declared.limits.TheConstants.{MAX_DEPTH};
 ghost use Rattle.fidl_table_format.specs.declared.kind.EntryKind.TheVariants as kinds;
 ghost use Rattle.fidl_table_format.specs.Kind.{kind_of};
 ghost use Rattle.fidl_table_format.specs.Section.{header_of, entry_at};
-ghost use Rattle.fidl_table_format.specs.Terms.{is_optional};
+ghost use Rattle.fidl_wire.specs.Term as ty;
+ghost use Rattle.fidl_wire.specs.Term.{resolve};
+ghost use Rattle.fidl_table_format.specs.Terms.{declarations_of, is_optional};
+ghost use Rattle.fidl_decode.specs.Invariants.{is_free_at};
+ghost use Rattle.fidl_decode.specs.Body.{elements_of};
+ghost use Rattle.fidl_decode.specs.Steps.{Spends};
 ghost use Rattle.fidl_decode.specs.Faults.{message_of};
-ghost use Rattle.fidl_decode.specs.Breaks.{BreaksCounted, count_at};
-ghost use Rattle.fidl_decode.specs.Machine.{StateFine, Visits, VisitFine, at_of};
+ghost use Rattle.fidl_decode.specs.Breaks.{Breaks, BreaksCounted, count_at};
+ghost use Rattle.fidl_decode.specs.Machine.{StateFine, Visits, VisitFine, at_of, probes};
 
 use crate::decoder::Decoder;
 use crate::fault::DecodeFault;
@@ -42,6 +48,8 @@ impl<'t, 'm> Decoder<'t, 'm> {
             let size = (entry_at t d.first).size * count_at self.now.bytes.now place in
             IfErr result (BreaksCounted (message_of self.now.bytes.now self.now.handles.now) depth
             (is_optional d) d.bound size place state.old.next) }
+        ensures frame { IfOk result (λ found. IfSome found (λ f. f ≡ elements_of self.now.table.now
+            entry state.old.next (count_at self.now.bytes.now place) (depth + 1))) }
         ensures steps { state.new.steps ≡ state.old.steps }
     {
         let e = self.table.entry(entry);
@@ -98,5 +106,41 @@ impl<'t, 'm> Decoder<'t, 'm> {
             depth: depth + 1,
             in_envelope: 0,
         }))
+    }
+
+    /// Reads a vector at a place, with its elements, which any bytes are values of.
+    pub(crate) fn read_numbers(
+        &self,
+        entry: u32,
+        place: usize,
+        depth: u8,
+        state: &mut State,
+    ) -> Result<(), DecodeFault>
+        requires entry { entry < (header_of self.now.table.now).entries }
+        requires kind { kind_of (entry_at self.now.table.now entry).kind ≡ Some kinds.Vector }
+        requires free { let d = entry_at self.now.table.now entry in
+            is_free_at self.now.table.now d.first ≡ true }
+        requires room { place + 16 ≤ length self.now.bytes.now }
+        requires state { StateFine (message_of self.now.bytes.now self.now.handles.now)
+            (at_of state.old) }
+        requires depth { depth ≤ MAX_DEPTH }
+        requires budget { state.old.steps < 2 ^ 41 }
+        ensures ok { OnOk result (Visits self.now.table.now
+            (message_of self.now.bytes.now self.now.handles.now) depth entry place
+            (at_of state.old) (at_of state.new) (state.new.steps - state.old.steps) None) }
+        ensures fault_is_true { IfErr result (Breaks (declarations_of self.now.table.now)
+            (message_of self.now.bytes.now self.now.handles.now) depth
+            (resolve (declarations_of self.now.table.now).terms (ty.named entry)) place
+            (at_of state.old)) }
+        ensures spends { Spends state.old.steps state.new.steps 0
+            (probes + (length self.now.bytes.now - state.old.next)) }
+    {
+        let Some(frame) = self.read_vector(entry, place, depth, state)? else {
+            return Ok(());
+        };
+        let Remaining::Elements { entry, size, count } = frame.left else {
+            unreachable!()
+        };
+        self.pass_elements(frame, entry, size, count, state)
     }
 }

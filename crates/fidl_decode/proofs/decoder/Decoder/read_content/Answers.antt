@@ -1,18 +1,14 @@
 use Rattle.fidl_decode.proofs.Fitting.{le_more, lt_le}
 use Rattle.fidl_decode.proofs.Unchanged.{no_ok, same_le}
-use Rattle.std.proofs.Common.{◌≡◌, ◌+◌, ◌≤◌, sym, ap, subst, ◌∙◌}
+use Rattle.std.proofs.Common.{◌≡◌, sym, ap, ◌∙◌}
 use Rattle.std.specs.Prelude.{Some, None}
 use Rattle.fidl_table_format.specs.declared.record.Entry.{Entry}
 use Rattle.fidl_table_format.specs.Kind.{kind_of}
-use Rattle.fidl_table_format.specs.declared.kind.EntryKind.{EntryKind}
-use Rattle.fidl_table_format.specs.declared.kind.EntryKind.TheVariants.{Struct}
-use Rattle.fidl_table_format.specs.Section.{header_of, entry_at}
-use Rattle.fidl_decode.specs.Invariants.{IsFlat}
+use Rattle.fidl_table_format.specs.Section.{entry_at}
 use Rattle.fidl_decode.specs.declared.frame.Remaining.TheVariants.{Content}
 use Rattle.fidl_decode.specs.Machine.{at_of}
 use Rattle.fidl_decode.specs.Faults.{message_of}
 use Rattle.fidl_decode.proofs.Turning.{passed_on}
-use Rattle.fidl_decode.proofs.Visiting.{fine_as}
 use Rattle.fidl_decode.proofs.LeafContent.{leaf_known}
 use Rattle.fidl_decode.proofs.decoder.Decoder.read_content.Goals as goal
 
@@ -34,15 +30,10 @@ unreachable-requires c =
     no_some f.0 (sym f.1.is ∙ none)
 
 pub is_flat-requires : goal.is_flat-requires
-is_flat-requires c =
-    let t = c.args.self.now.table.now in
-    let m = message_of c.args.self.now.bytes.now c.args.self.now.handles.now in
-    record {
-      rows = λ struct.
-          let known = leaf_known t c.args.self.now.fine m c.args.frame c.args.entry c.args.size c.args.count c.args.until c.requires.left c.if-count-ne1.false (at_of c.args.state.now) c.requires.frame c.requires.state in
-          let is : kind_of (entry_at t c.args.entry).kind ≡ Some Struct = ap (λ (e : Entry). kind_of e.kind) (sym c.entry-e.ensures.value) ∙ sym c.from_number.ensures ∙ c.in-Some.is ∙ ap (λ (k : EntryKind). Some k) struct in
-          subst (λ (d : Entry). d.first + d.count ≤ (header_of t).rows) (sym c.entry-e.ensures.value) (fine_as t c.args.self.now.fine c.args.entry Struct known is).content.0;
-    }
+is_flat-requires c = record {
+  entry = leaf_known c.args.self.now.table.now c.args.self.now.fine (message_of c.args.self.now.bytes.now c.args.self.now.handles.now) c.args.frame c.args.entry c.args.size c.args.count c.args.until c.requires.left c.if-count-ne1.false (at_of c.args.state.now) c.requires.frame c.requires.state;
+  kind = ap (λ (e : Entry). kind_of e.kind) (sym c.entry-e.ensures.value) ∙ sym c.from_number.ensures ∙ c.in-Some.is;
+}
 
 pub read_whole-requires-clause-kind : goal.read_whole-requires-clause-kind
 read_whole-requires-clause-kind c =
@@ -53,7 +44,7 @@ read_whole-requires-clause-kind c =
 pub read_whole-requires-clause-flat : goal.read_whole-requires-clause-flat
 read_whole-requires-clause-flat c =
     let t = c.args.self.now.table.now in
-    subst (λ (d : Entry). IsFlat t d c.in-Some.kind) c.entry-e.ensures.value (c.is_flat.ensures c.if-not-is_flat.false)
+    c.is_flat.ensures c.if-not-is_flat.false
 
 pub read_whole-requires-clause-left : goal.read_whole-requires-clause-left
 read_whole-requires-clause-left c =

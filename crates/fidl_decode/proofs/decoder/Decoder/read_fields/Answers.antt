@@ -64,7 +64,7 @@ read_row-requires-clause-leaf c =
     let so_far = subst (λ (x : Frame). Turns t m f old now a (left_over (Some x))) (sym same) c.loop-many.invariant.turns in
     let leaf = c.loop-many.invariant.leaves c.loop-many.next (omega arith) (omega (arith, c.loop-many-test.true)) in
     let is : kind_of (entry_at t (row_at t (header_of t) c.loop-many.next).entry).kind ≡ Some c.in-Some.kind = ap (λ (w : raw.Row). kind_of (entry_at t w.entry).kind) (sym c.row-row.ensures.value) ∙ ap (λ (e : Entry). kind_of e.kind) (sym c.entry-e.ensures.value) ∙ sym c.from_number.ensures ∙ c.in-Some.is in
-    ap (λ (k : EntryKind). is_leaf k) (same_some c.in-Some.kind leaf.0 (sym is ∙ leaf.1)) ∙ leaf.2
+    ap (λ (k : EntryKind). is_leaf t (entry_at t (row_at t (header_of t) c.loop-many.next).entry) k) (same_some c.in-Some.kind leaf.0 (sym is ∙ leaf.1)) ∙ leaf.2
 
 pub returns-in_err-read_row-clause-fault_is_true : goal.returns-in_err-read_row-clause-fault_is_true
 returns-in_err-read_row-clause-fault_is_true c =

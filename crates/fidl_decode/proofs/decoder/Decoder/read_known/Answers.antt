@@ -1,20 +1,16 @@
 use Rattle.fidl_decode.proofs.Unchanged.{no_ok}
-use Rattle.std.proofs.Common.{◌≡◌, ◌+◌, ◌≤◌, sym, ap, subst, ◌∙◌, arith}
+use Rattle.std.proofs.Common.{◌≡◌, sym, ap, subst, ◌∙◌, arith}
 use Rattle.std.specs.Prelude.{Some, None}
 use Rattle.fidl_wire.specs.Term as ty
 use Rattle.fidl_table_format.specs.declared.record.Entry.{Entry}
-use Rattle.fidl_table_format.specs.declared.kind.EntryKind.{EntryKind}
-use Rattle.fidl_table_format.specs.declared.kind.EntryKind.TheVariants.{Struct}
 use Rattle.fidl_table_format.specs.Kind.{kind_of}
-use Rattle.fidl_table_format.specs.Section.{header_of, entry_at}
+use Rattle.fidl_table_format.specs.Section.{entry_at}
 use Rattle.fidl_table_format.specs.Terms.{declarations_of}
-use Rattle.fidl_decode.specs.Invariants.{IsFlat}
 use Rattle.fidl_decode.specs.State.{Position}
 use Rattle.fidl_decode.specs.Breaks.{BreaksMember}
 use Rattle.fidl_decode.specs.Machine.{StateFine, Opens, at_of}
 use Rattle.fidl_decode.specs.Faults.{message_of}
 use Rattle.fidl_decode.proofs.Turning.{passed_on}
-use Rattle.fidl_decode.proofs.Visiting.{fine_as}
 use Rattle.fidl_decode.proofs.Opening.{opens_known}
 use Rattle.fidl_decode.proofs.decoder.Decoder.read_known.Goals as goal
 
@@ -42,15 +38,10 @@ unreachable-requires c =
     no_some f.0 (sym f.1.is ∙ none)
 
 pub is_flat-requires : goal.is_flat-requires
-is_flat-requires c =
-    let t = c.args.self.now.table.now in
-    let m = message_of c.args.self.now.bytes.now c.args.self.now.handles.now in
-    let old = at_of c.args.state.now in
-    record {
-      rows = λ struct.
-          let is : kind_of (entry_at t c.args.entry).kind ≡ Some Struct = ap (λ (e : Entry). kind_of e.kind) (sym c.entry-e.ensures.value) ∙ sym c.from_number.ensures ∙ c.in-Some.is ∙ ap (λ (k : EntryKind). Some k) struct in
-          subst (λ (d : Entry). d.first + d.count ≤ (header_of t).rows) (sym c.entry-e.ensures.value) (fine_as t c.args.self.now.fine c.args.entry Struct c.requires.entry is).content.0;
-    }
+is_flat-requires c = record {
+  entry = c.requires.entry;
+  kind = ap (λ (e : Entry). kind_of e.kind) (sym c.entry-e.ensures.value) ∙ sym c.from_number.ensures ∙ c.in-Some.is;
+}
 
 pub read_enclosed-requires-clause-kind : goal.read_enclosed-requires-clause-kind
 read_enclosed-requires-clause-kind c =
@@ -64,7 +55,7 @@ read_enclosed-requires-clause-flat c =
     let t = c.args.self.now.table.now in
     let m = message_of c.args.self.now.bytes.now c.args.self.now.handles.now in
     let old = at_of c.args.state.now in
-    subst (λ (d : Entry). IsFlat t d c.in-Some.kind) c.entry-e.ensures.value (c.is_flat.ensures c.if-is_flat.true)
+    c.is_flat.ensures c.if-is_flat.true
 
 pub read_enclosed-requires-clause-state : goal.read_enclosed-requires-clause-state
 read_enclosed-requires-clause-state c =

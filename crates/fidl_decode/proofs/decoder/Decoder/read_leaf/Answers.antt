@@ -1,10 +1,10 @@
 use Rattle.fidl_decode.proofs.Fitting.{more_steps, spends_any, not_fewer}
 use Rattle.fidl_decode.proofs.Unchanged.{same_le}
-use Rattle.std.proofs.Common.{arith, ◌≡◌, sym, ap, subst, ◌∙◌}
+use Rattle.std.proofs.Common.{arith, inl, inr, ℕ, get_or, ◌<◌}
 use Rattle.fidl_decode.specs.Machine.{at_of, Visits, Leads}
 use Rattle.fidl_decode.specs.Faults.{message_of}
 use Rattle.std.proofs.Common.{◌-◌, ◌+◌, ◌≤◌, IsTrue, length, sym, subst, ap, ◌∙◌, ◌≡◌}
-use Rattle.std.specs.Prelude.{Some, None, IfSome, Contains}
+use Rattle.std.specs.Prelude.{Some, None, IfSome}
 use Rattle.std.specs.Int.{byte_len}
 use Rattle.fidl_wire.specs.Term as ty
 use Rattle.fidl_wire.specs.Term.{width}
@@ -12,17 +12,19 @@ use Rattle.fidl_table_format.specs.Uses.{is_unsigned}
 use Rattle.fidl_table_format.specs.Entry.{subtype_is}
 use Rattle.fidl_wire.specs.Typed.{InMask}
 use Rattle.fidl_table_format.specs.Number.{number_standing}
-use Rattle.fidl_table_format.specs.Terms.{underlying, mask_of, strict_values, declarations_of, is_optional}
+use Rattle.fidl_table_format.specs.Terms.{underlying, mask_of, declarations_of, is_optional}
 use Rattle.fidl_table_format.specs.declared.record.Entry.{Entry}
 use Rattle.fidl_decode.specs.Breaks.{BreaksField, BreaksHandle, BreaksText}
 use Rattle.fidl_decode.specs.State.{Position}
 use Rattle.fidl_decode.proofs.Turning.{on_ok_from, on_ok_two, on_ok_three}
 use Rattle.std.proofs.lemmas.Result.{IfErr-weaker}
 use Rattle.fidl_table_format.specs.declared.kind.EntryKind.{EntryKind}
-use Rattle.fidl_table_format.specs.declared.kind.EntryKind.TheVariants.{Bool as Boolean, Bits, Enum, Handle, String}
+use Rattle.fidl_table_format.specs.declared.kind.EntryKind.TheVariants.{Bool as Boolean, Bits, Enum, Handle, String, Vector}
 use Rattle.fidl_table_format.specs.Kind.{kind_of}
-use Rattle.fidl_table_format.specs.Section.{header_of, entry_at}
-use Rattle.fidl_decode.proofs.Visiting.{size_is, size_as, visits_leaf, text_cost, leaf_breaks, fine_as, positive, bool_breaks, visits_bool, free_else, visits_free, visits_bits, bits_break, visits_enum, enum_breaks}
+use Rattle.fidl_table_format.specs.Section.{entry_at}
+use Rattle.fidl_decode.proofs.Visiting.{size_is, size_as, visits_leaf, text_cost, leaf_breaks, fine_as, positive, bool_breaks, visits_bool, visits_free, visits_bits, bits_break, visits_enum, enum_breaks}
+use Rattle.fidl_decode.specs.Invariants.{is_leaf}
+use Rattle.fidl_decode.proofs.Sequences.{free_else, visits_numbers}
 use Rattle.fidl_decode.proofs.decoder.Decoder.read_leaf.Goals as goal
 
 pub bounds-self-place : goal.bounds-self-place
@@ -45,8 +47,29 @@ returns-else-self-place-gt1-clause-ok c =
 
 pub returns-in_default-clause-ok : goal.returns-in_default-clause-ok
 returns-in_default-clause-ok c =
-    let free = free_else c.args.self.now.table.now c.args.self.now.fine (message_of c.args.self.now.bytes.now c.args.self.now.handles.now) c.args.depth c.args.entry c.args.place (at_of c.args.state.now) c.requires.entry c.requires.state c.requires.depth c.args.kind c.requires.leaf c.in_default.not-Bool c.in_default.not-Bits c.in_default.not-Enum c.in_default.not-Handle c.in_default.not-String in
-    visits_free c.args.self.now.table.now c.args.self.now.fine (message_of c.args.self.now.bytes.now c.args.self.now.handles.now) c.args.depth c.args.entry c.args.place (at_of c.args.state.now) c.requires.entry c.requires.state c.requires.depth c.args.kind c.requires.kind free _ (omega arith) c.requires.room (λ i. omega (arith, c.args.self.now.octets i))
+    let t = c.args.self.now.table.now in
+    let m = message_of c.args.self.now.bytes.now c.args.self.now.handles.now in
+    let small : (i : ℕ) → get_or c.args.self.now.bytes.now i 0 < 256 = λ i. omega (arith, c.args.self.now.octets i) in
+    elim (free_else t (entry_at t c.args.entry) c.args.kind c.requires.leaf c.in_default.not-Bool c.in_default.not-Bits c.in_default.not-Enum c.in_default.not-Handle c.in_default.not-String c.in_default.not-Vector) [
+      | inl free ↦ visits_free t c.args.self.now.fine m c.args.depth c.args.entry c.args.place (at_of c.args.state.now) c.requires.entry c.requires.state c.requires.depth c.args.kind c.requires.kind free _ (omega arith) c.requires.room small
+      | inr array ↦ (let none : 0 ≡ c.args.state.now.steps - c.args.state.now.steps = omega arith in
+          subst (λ n. Visits t m c.args.depth c.args.entry c.args.place (at_of c.args.state.now) (at_of c.args.state.now) n None) none
+          (visits_numbers t c.args.self.now.fine m c.args.depth c.args.entry c.args.place (at_of c.args.state.now) c.requires.entry c.requires.state c.requires.depth (c.requires.kind ∙ ap (λ (k : EntryKind). Some k) array.0) array.1 c.requires.room small))
+    ]
+
+pub read_numbers-requires-clause-kind : goal.read_numbers-requires-clause-kind
+read_numbers-requires-clause-kind c = c.requires.kind ∙ ap (λ (k : EntryKind). Some k) c.in-Vector.is
+
+pub read_numbers-requires-clause-free : goal.read_numbers-requires-clause-free
+read_numbers-requires-clause-free c =
+    let t = c.args.self.now.table.now in
+    sym (ap (λ (k : EntryKind). is_leaf t (entry_at t c.args.entry) k) c.in-Vector.is) ∙ c.requires.leaf
+
+pub read_numbers-requires-clause-room : goal.read_numbers-requires-clause-room
+read_numbers-requires-clause-room c =
+    let is : kind_of (entry_at c.args.self.now.table.now c.args.entry).kind ≡ Some Vector = c.requires.kind ∙ ap (λ (k : EntryKind). Some k) c.in-Vector.is in
+    let size : 16 ≡ (entry_at c.args.self.now.table.now c.args.entry).size = size_as c.args.self.now.table.now c.args.self.now.fine c.args.entry Vector c.requires.entry is in
+    omega (arith, c.requires.room, size)
 
 pub returns-in-Bits-clause-ok : goal.returns-in-Bits-clause-ok
 returns-in-Bits-clause-ok c =

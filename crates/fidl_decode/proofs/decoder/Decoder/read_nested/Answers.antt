@@ -10,6 +10,7 @@ use Rattle.fidl_decode.specs.declared.frame.Frame.{Frame}
 use Rattle.fidl_decode.specs.declared.frame.Remaining.TheVariants.{Rows}
 use Rattle.fidl_decode.specs.Machine.{Turns, at_of, turn_work, IsPlain, rows_left}
 use Rattle.fidl_decode.specs.Faults.{message_of}
+use Rattle.fidl_decode.specs.Invariants.{is_leaf}
 use Rattle.fidl_decode.proofs.Turning.{passed_on}
 use Rattle.fidl_decode.proofs.Leaves.{going_on, same_frame, left_over, turns_then, turns_break}
 use Rattle.fidl_decode.proofs.decoder.Decoder.read_nested.Goals as goal
@@ -367,7 +368,7 @@ pub rows_from-rest-requires : goal.rows_from-rest-requires
 rows_from-rest-requires c = tt
 
 pub is_leaf-requires : goal.is_leaf-requires
-is_leaf-requires c = tt
+is_leaf-requires c = record { entry = c.row-row.ensures.entry; kind = ap (λ (e : Entry). kind_of e.kind) (sym c.entry-e.ensures.value) ∙ sym c.from_number.ensures ∙ c.in-Some.is }
 
 pub rows_from-requires : goal.rows_from-requires
 rows_from-requires c = tt
@@ -388,7 +389,7 @@ pub read_row-requires-clause-kind : goal.read_row-requires-clause-kind
 read_row-requires-clause-kind c = ap (λ (w : raw.Row). kind_of (entry_at c.args.self.now.table.now w.entry).kind) (sym c.row-row.ensures.value) ∙ ap (λ (e : Entry). kind_of e.kind) (sym c.entry-e.ensures.value) ∙ sym c.from_number.ensures ∙ c.in-Some.is
 
 pub read_row-requires-clause-leaf : goal.read_row-requires-clause-leaf
-read_row-requires-clause-leaf c = sym c.is_leaf.ensures ∙ c.if-is_leaf.true
+read_row-requires-clause-leaf c = ap (λ (w : raw.Row). is_leaf c.args.self.now.table.now (entry_at c.args.self.now.table.now w.entry) c.in-Some.kind) (sym c.row-row.ensures.value) ∙ sym c.is_leaf.ensures ∙ c.if-is_leaf.true
 
 pub read_row-requires-clause-state : goal.read_row-requires-clause-state
 read_row-requires-clause-state c = c.loop-many.invariant.turns.state

@@ -9,6 +9,7 @@ use Rattle.fidl_decode.specs.declared.frame.Remaining.{Remaining}
 use Rattle.fidl_decode.specs.declared.frame.Remaining.TheVariants.{Rows}
 use Rattle.fidl_decode.specs.Machine.{LeftFine, Turns, at_of}
 use Rattle.fidl_decode.specs.Faults.{message_of}
+use Rattle.fidl_decode.specs.Invariants.{is_leaf}
 use Rattle.fidl_decode.proofs.Turning.{passed_on}
 use Rattle.fidl_decode.proofs.Leaves.{going_on, left_over}
 use Rattle.fidl_decode.proofs.Front.{front_room, front_gap_breaks, front_breaks, front_turns}
@@ -124,7 +125,7 @@ returns-clause-spends c =
     spends_some _ _ _ (omega (arith, (not_fewer _ _ _ c.in_ok-read_leaf.ensures.spends))) (omega (arith, room.3, room.0, c.in_ok-read_leaf.ensures.spends.most))
 
 pub read_leaf-requires-clause-leaf : goal.read_leaf-requires-clause-leaf
-read_leaf-requires-clause-leaf c = c.requires.leaf
+read_leaf-requires-clause-leaf c = ap (λ (w : raw.Row). is_leaf c.args.self.now.table.now (entry_at c.args.self.now.table.now w.entry) c.args.kind) c.row-row.ensures.value ∙ c.requires.leaf
 
 pub read_leaf-requires-clause-state : goal.read_leaf-requires-clause-state
 read_leaf-requires-clause-state c = c.requires.state
