@@ -57,5 +57,6 @@ pub mod Known
 pub mod Words
 pub mod Freely
 pub mod Sequences
+pub mod Items
 pub mod BodyTurns
 pub mod TextMember

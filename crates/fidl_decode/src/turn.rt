@@ -1,14 +1,20 @@
 //! A turn of the decoder: it reads members of a frame in place, up to one that leads to more than
 //! it reads there.
 ghost use Rattle.std.specs.Prelude.{◌≡◌, ◌+◌, ◌-◌, ◌^◌, ◌<◌, ◌≤◌, ◌↔◌, OnOk, IfOk, IfErr, Some};
-ghost use Rattle.std.specs.Prelude.{None, IsTrue};
+ghost use Rattle.std.specs.Prelude.{None, IsTrue, length};
+ghost use Rattle.fidl_limits.specs.declared.limits.TheConstants.{MAX_DEPTH};
+ghost use Rattle.fidl_wire.specs.Term as ty;
+ghost use Rattle.fidl_wire.specs.Term.{resolve};
 ghost use Rattle.fidl_table_format.specs.declared.kind.EntryKind.TheVariants as kinds;
 ghost use Rattle.fidl_table_format.specs.Kind.{kind_of};
 ghost use Rattle.fidl_table_format.specs.Section.{header_of, entry_at};
+ghost use Rattle.fidl_table_format.specs.Terms.{declarations_of};
+ghost use Rattle.fidl_decode.specs.Breaks.{Breaks};
 ghost use Rattle.fidl_decode.specs.Faults.{message_of};
 ghost use Rattle.fidl_decode.specs.declared.frame.Remaining.TheVariants as left;
 ghost use Rattle.fidl_decode.specs.Machine.{StateFine, FrameFine, BreaksFrame, Turns};
-ghost use Rattle.fidl_decode.specs.Machine.{turn_work, at_of};
+ghost use Rattle.fidl_decode.specs.Machine.{IsInside, Visits, VisitFine};
+ghost use Rattle.fidl_decode.specs.Machine.{turn_work, value_work, at_of};
 ghost use Rattle.fidl_decode.specs.Over.{IsOver};
 
 use crate::decoder::{Decoder, zeros_at};
@@ -106,8 +112,109 @@ impl<'t, 'm> Decoder<'t, 'm> {
         })
     }
 
-    /// Reads elements of an array or vector: structs in place, up to one that holds more than is read
-    /// there; of others the next.
+    /// Reads a value at a place, and what it leads to where that is read in place. What is left of
+    /// it, if anything, is to be read next.
+    #[inline(always)]
+    fn read_item(
+        &self,
+        entry: u32,
+        place: usize,
+        depth: u8,
+        in_envelope: u8,
+        state: &mut State,
+    ) -> Result<Option<Frame>, DecodeFault>
+        requires entry { entry < (header_of self.now.table.now).entries }
+        requires room { place + (entry_at self.now.table.now entry).size
+            ≤ length self.now.bytes.now }
+        requires state { StateFine (message_of self.now.bytes.now self.now.handles.now)
+            (at_of state.old) }
+        requires depth { depth ≤ MAX_DEPTH }
+        requires in_envelope { IsInside in_envelope (entry_at self.now.table.now entry).size }
+        requires budget { state.old.steps + value_work self.now.bytes.now state.old.next
+            (entry_at self.now.table.now entry) < 2 ^ 40 }
+        ensures ok { IfOk result
+            (λ found. Visits self.now.table.now (message_of self.now.bytes.now self.now.handles.now)
+            depth entry place (at_of state.old) (at_of state.new)
+            (state.new.steps - state.old.steps) found) }
+        ensures fine { IfOk result (VisitFine self.now.table.now
+            (message_of self.now.bytes.now self.now.handles.now) depth in_envelope entry) }
+        ensures grows { OnOk result (state.old.steps ≤ state.new.steps) }
+        ensures cost { state.new.steps ≤ state.old.steps
+            + value_work self.now.bytes.now state.old.next (entry_at self.now.table.now entry) }
+        ensures fault_is_true { IfErr result
+            (Breaks (declarations_of self.now.table.now)
+            (message_of self.now.bytes.now self.now.handles.now) depth
+            (resolve (declarations_of self.now.table.now).terms (ty.named entry)) place
+            (at_of state.old)) }
+    {
+        let Some(below) = self.visit(entry, place, depth, in_envelope, state)? else {
+            return Ok(None);
+        };
+        self.read_leaves(below, state)
+    }
+
+    /// Reads elements of an array or vector in place, up to one of which something is left: that is
+    /// to be read next.
+    fn read_items(
+        &self,
+        frame: Frame,
+        entry: u32,
+        size: usize,
+        count: u32,
+        state: &mut State,
+    ) -> Result<Turn, DecodeFault>
+        requires left { frame.left ≡ left.Elements entry size count }
+        requires frame { FrameFine self.now.table.now self.now.bytes.now frame }
+        requires state { StateFine (message_of self.now.bytes.now self.now.handles.now)
+            (at_of state.old) }
+        requires budget { state.old.steps + turn_work self.now.bytes.now state.old.next frame
+            < 2 ^ 40 }
+        ensures ok { IfOk result
+            (λ turn. Turns self.now.table.now (message_of self.now.bytes.now self.now.handles.now)
+            frame (at_of state.old) (at_of state.new) (state.new.steps - state.old.steps) turn) }
+        ensures rises { OnOk result (state.old.steps < state.new.steps) }
+        ensures cost { state.new.steps
+            ≤ state.old.steps + turn_work self.now.bytes.now state.old.next frame }
+        ensures fault_is_true { IfErr result
+            (BreaksFrame self.now.table.now (message_of self.now.bytes.now self.now.handles.now)
+            frame (at_of state.old)) }
+    {
+        let mut done = frame.done;
+        for i in 0..count {
+            let place = frame.base + done;
+            state.steps += 1;
+            let found = self.read_item(entry, place, frame.depth, frame.in_envelope, state)?;
+            done += size;
+            if let Some(inner) = found {
+                return Ok(Turn {
+                    below: Some(inner),
+                    rest: Some(Frame {
+                        left: Remaining::Elements {
+                            entry,
+                            size,
+                            count: count - (i + 1),
+                        },
+                        base: frame.base,
+                        done,
+                        size: frame.size,
+                        nest: frame.nest,
+                        depth: frame.depth,
+                        in_envelope: frame.in_envelope,
+                    }),
+                });
+            }
+        }
+        let behind = frame.base + done;
+        let stop = frame.base + frame.size;
+        state.steps += (stop - behind) as u64 + 1;
+        zeros_at(self.bytes, behind, stop)?;
+        Ok(Turn {
+            below: None,
+            rest: None,
+        })
+    }
+
+    /// Reads elements of an array or vector in place, up to one that holds more than is read there.
     #[inline(always)]
     pub(crate) fn take_elements(
         &self,
@@ -139,7 +246,7 @@ impl<'t, 'm> Decoder<'t, 'm> {
                 return self.read_structs(frame, entry, size, count, state);
             }
         }
-        self.take_row(frame, state)
+        self.read_items(frame, entry, size, count, state)
     }
 
     /// Reads a frame in place, and what it holds, up to a frame that holds another: that one, where

@@ -1,7 +1,5 @@
-use Rattle.std.proofs.Common.{arith}
 use Rattle.fidl_decode.specs.Machine.{at_of}
 use Rattle.fidl_decode.specs.Faults.{message_of}
-use Rattle.fidl_decode.proofs.Unchanged.{on_ok}
 use Rattle.fidl_decode.proofs.Leaves.{element_known}
 use Rattle.fidl_decode.proofs.decoder.Decoder.take_elements.Goals as goal
 
@@ -10,6 +8,3 @@ entry-e-requires c = element_known c.args.self.now.table.now c.args.self.now.fin
 
 pub read_structs-requires-clause-entry : goal.read_structs-requires-clause-entry
 read_structs-requires-clause-entry c = element_known c.args.self.now.table.now c.args.self.now.fine (message_of c.args.self.now.bytes.now c.args.self.now.handles.now) c.args.frame (at_of c.args.state.now) c.requires.frame c.requires.state c.args.entry c.args.size c.args.count c.requires.left c.if-count-ne0.true
-
-pub returns-clause-rises : goal.returns-clause-rises
-returns-clause-rises c = on_ok c.take_row.result _ (let r = c.take_row.ensures.spends.least in omega (arith, r))

@@ -1,0 +1,14 @@
+use Rattle.std.proofs.Common.{◌-◌, ◌≤◌}
+use Rattle.std.specs.Prelude.{Some}
+use Rattle.fidl_decode.specs.declared.frame.Remaining.TheVariants.{Elements}
+use Rattle.fidl_decode.specs.Machine.{at_of, Turns}
+use Rattle.fidl_decode.specs.Faults.{message_of}
+use Rattle.fidl_decode.proofs.Leaves.{going_on, left_over}
+use Rattle.fidl_decode.proofs.decoder.Decoder.read_items.Given as goal
+
+-- what is read so far is a turn that leaves the frame from this element on
+abbrev pub invariant-loop-i : goal.invariant-loop-i
+invariant-loop-i l = record {
+  turns : Turns l.self.table.now (message_of l.self.bytes.now l.self.handles.now) l.frame (at_of l.fn.state) (at_of l.state) (l.state.steps - l.fn.state.steps) (left_over (Some (going_on l.frame (Elements l.entry l.size (l.count - l.i)) l.done)));
+  steps : l.fn.state.steps ≤ l.state.steps;
+}
