@@ -1,6 +1,6 @@
 -- The next row of a struct: a leaf, behind zeros.
 use Rattle.std.proofs.Common.{◌≡◌, ℕ, ◌+◌, ◌-◌, ◌<◌, ◌≤◌, List, ◌∷◌, length, refl, sym, ap, ◌∙◌, arith}
-use Rattle.std.specs.Prelude.{Some, None}
+use Rattle.std.specs.Prelude.{Option, Some, None}
 use Rattle.fidl_wire.specs.Term.{resolve}
 use Rattle.fidl_wire.specs.Term as ty
 use Rattle.fidl_wire.specs.Figure.{Declarations, size_of}
@@ -17,9 +17,10 @@ use Rattle.fidl_decode.specs.Invariants.{IsFine}
 use Rattle.fidl_decode.specs.Rows.{Row, table_rows}
 use Rattle.fidl_decode.specs.State.{Message, Position}
 use Rattle.fidl_decode.specs.Breaks.{IsPadding, Breaks}
-use Rattle.fidl_decode.specs.Machine.{rows_left, BreaksFrame, StateFine, FrameFine, Visits, Turns, frame_work, probes}
+use Rattle.fidl_decode.specs.Machine.{rows_left, BreaksFrame, StateFine, FrameFine, IsInside, Visits, VisitFine, Turns, frame_work, probes}
 use Rattle.fidl_decode.proofs.Stated.{table_rows-more}
-use Rattle.fidl_decode.proofs.Leaves.{going_on, same_frame, left_over, turns_start, next_room, next_gap_breaks, next_leaf_breaks, next_turns}
+use Rattle.fidl_decode.proofs.Leaves.{going_on, same_frame, left_over, turns_start, next_size, next_room, next_gap_breaks, next_leaf_breaks, next_takes, next_turns}
+use Rattle.fidl_decode.proofs.Turning.{row_inside}
 
 module _ (t : List ℕ) (fine : IsFine t) (m : Message) (f : Frame) (first count : ℕ) (w : raw.Row) (rows : f.left ≡ Rows first count) (some : 0 < count) (is : w ≡ row_at t (header_of t) first) (old : Position) (ff : FrameFine t m.bytes f) (state : StateFine m old) where
   abbrev ds : Declarations
@@ -50,6 +51,17 @@ module _ (t : List ℕ) (fine : IsFine t) (m : Message) (f : Frame) (first count
 
   pub front_breaks : (fault : DecodeFault) → Stands m.bytes (f.base + f.done) (zeros (f.base + w.key - (f.base + f.done))) → Breaks ds m f.depth (resolve ds.terms (ty.named w.entry)) (f.base + w.key) old fault → BreaksFrame t m f old fault
   front_breaks fault z b = next_leaf_breaks t fine m f old old 0 g start r left one tt fault z b
+
+  -- it lies in the four bytes of an envelope where its frame does
+  pub front_inside : IsInside f.in_envelope (entry_at t w.entry).size
+  front_inside = row_inside t fine m g old start.rest_fine.0 state r left one (entry_at t w.entry).size (next_size t fine m f old old 0 g start r left one)
+
+  -- it leads to what is below
+  pub front_takes : (below : Option Frame) (new : Position) (spent n : ℕ) → n ≤ f.base + w.key - (f.base + f.done) + 1 + spent → Stands m.bytes (f.base + f.done) (zeros (f.base + w.key - (f.base + f.done))) → Visits t m f.depth w.entry (f.base + w.key) old new spent below
+      → VisitFine t m f.depth f.in_envelope w.entry below → Turns t m f old new n (record { below = below; rest = Some (going_on f left (w.key + (entry_at t w.entry).size)) })
+  front_takes below new spent n le z v vf =
+      let room = start.rest_fine.0.left in
+      next_takes t fine m f old old 0 g start r left one tt (omega (arith, room, some)) tt below new (w.key + (entry_at t w.entry).size) spent n refl (omega (arith, le)) z v vf
 
   pub front_turns : (new : Position) (spent n : ℕ) → n ≤ f.base + w.key - (f.base + f.done) + 1 + spent → Stands m.bytes (f.base + f.done) (zeros (f.base + w.key - (f.base + f.done))) → Visits t m f.depth w.entry (f.base + w.key) old new spent None
       → Turns t m f old new n (left_over (Some (going_on f left (w.key + (entry_at t w.entry).size))))

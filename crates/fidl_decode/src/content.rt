@@ -195,7 +195,7 @@ impl<'t, 'm> Decoder<'t, 'm> {
                 count,
                 until,
             } => self.take_content(frame, entry, size, count, until, state),
-            Remaining::Rows { .. } => self.take_row(frame, state),
+            Remaining::Rows { first, count } => self.take_row(frame, first, count, state),
             Remaining::Elements { entry, size, count } => {
                 self.take_elements(frame, entry, size, count, state)
             }

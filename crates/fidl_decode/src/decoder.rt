@@ -1,10 +1,9 @@
 //! The decoder: one field, and one member of a frame.
-ghost use Rattle.std.specs.Prelude.{◌≡◌, ℕ, ◌+◌, ◌-◌, ◌^◌, ◌<◌, ◌≤◌, ◌∷◌, [], OnOk};
-ghost use Rattle.std.specs.Prelude.{IfOk, IfErr, IfSome, IfNone, Some, None, length, slice_index};
+ghost use Rattle.std.specs.Prelude.{◌≡◌, ℕ, ◌+◌, ◌-◌, ◌^◌, ◌<◌, ◌≤◌, OnOk, IfOk, IfErr};
+ghost use Rattle.std.specs.Prelude.{None, length, slice_index};
 ghost use Rattle.fidl_limits.specs.declared.limits.TheConstants.{MAX_DEPTH, MAX_MESSAGE_BYTES};
 ghost use Rattle.fidl_wire.specs.Term as ty;
 ghost use Rattle.fidl_wire.specs.Term.{resolve};
-ghost use Rattle.fidl_wire.specs.Figure.{size_of};
 ghost use Rattle.fidl_wire.specs.Standing.{Stands};
 ghost use Rattle.fidl_wire.specs.Encoding.{zeros};
 ghost use Rattle.fidl_table_format.specs.Section.{header_of, entry_at};
@@ -13,13 +12,14 @@ ghost use Rattle.fidl_decode.specs.Invariants.{IsFine};
 ghost use Rattle.fidl_decode.specs.Fine.{fine_prop};
 ghost use Rattle.fidl_decode.specs.Faults.{message_of};
 ghost use Rattle.fidl_decode.specs.Breaks.{IsPadding, Breaks};
-ghost use Rattle.fidl_decode.specs.Machine.{rows_left, LeftFine, StateFine, FrameFine};
-ghost use Rattle.fidl_decode.specs.Machine.{IsInside, IsPlain, VisitFine};
+ghost use Rattle.fidl_decode.specs.declared.frame.Remaining.TheVariants as left;
+ghost use Rattle.fidl_decode.specs.Machine.{StateFine, FrameFine, IsInside, VisitFine};
 ghost use Rattle.fidl_decode.specs.Steps.{Spends};
 ghost use Rattle.fidl_decode.specs.Machine.{BreaksFrame, Visits, Turns, turn_work, at_of, probes};
 
 use crate::fault::DecodeFault;
-use crate::frame::{Frame, Member, Remaining, State, Turn};
+use crate::frame::{Frame, Remaining, State, Turn};
+use crate::plain::rows_from;
 use fidl_table_format::EntryKind;
 use fidl_verify::Table;
 use fidl_wire::HandleInfo;
@@ -37,54 +37,6 @@ pub(crate) fn zeros_at(bytes: &[u8], from: usize, to: usize) -> Result<(), Decod
         }
     }
     Ok(())
-}
-
-/// The next member of those that are left, and those after it.
-fn next_member(table: &Table, left: Remaining, done: usize) -> Option<Member>
-    requires table { IsFine table.now }
-    requires left { LeftFine table.now left }
-    requires plain { IsPlain left }
-    ensures none { IfNone result (rows_left table.now done left ≡ []) }
-    ensures some { IfSome result (λ m.
-        let size = size_of (declarations_of table.now) (ty.named m.entry) in
-        rows_left table.now done left ≡ record { offset = m.offset; entry = m.entry }
-        ∷ rows_left table.now (m.offset + size) m.left) }
-    ensures left { IfSome result (λ m. LeftFine table.now m.left) }
-    ensures plain { IfSome result (λ m. IsPlain m.left) }
-{
-    match left {
-        Remaining::Rows { first, count } => {
-            if count == 0 {
-                return None;
-            }
-            let within = first < table.rows();
-            prove!(within);
-            let row = table.row(first);
-            Some(Member {
-                offset: row.key as usize,
-                entry: row.entry,
-                left: Remaining::Rows {
-                    first: first + 1,
-                    count: count - 1,
-                },
-            })
-        }
-        Remaining::Elements { entry, size, count } => {
-            if count == 0 {
-                return None;
-            }
-            Some(Member {
-                offset: done,
-                entry,
-                left: Remaining::Elements {
-                    entry,
-                    size,
-                    count: count - 1,
-                },
-            })
-        }
-        Remaining::Envelopes { .. } | Remaining::Content { .. } => unreachable!(),
-    }
 }
 
 /// What is read and never changes: a verified table, and a message within the limit of bytes.
@@ -179,14 +131,21 @@ impl<'t, 'm> Decoder<'t, 'm> {
         }
     }
 
-    /// Reads the zeros before the next member and that member, or the zeros at the end.
+    /// Reads the zeros before the next row of a struct and its member, or the zeros at the end.
     #[inline(always)]
-    pub(crate) fn take_row(&self, frame: Frame, state: &mut State) -> Result<Turn, DecodeFault>
+    pub(crate) fn take_row(
+        &self,
+        frame: Frame,
+        first: u32,
+        count: u32,
+        state: &mut State,
+    ) -> Result<Turn, DecodeFault>
         requires frame { FrameFine self.now.table.now self.now.bytes.now frame }
-        requires plain { IsPlain frame.left }
+        requires left { frame.left ≡ left.Rows first count }
         requires state { StateFine (message_of self.now.bytes.now self.now.handles.now)
             (at_of state.old) }
-        requires steps { state.old.steps < 2 ^ 40 }
+        requires budget { state.old.steps + turn_work self.now.bytes.now state.old.next frame
+            < 2 ^ 40 }
         ensures ok { IfOk result
             (λ turn. Turns self.now.table.now (message_of self.now.bytes.now self.now.handles.now)
             frame (at_of state.old) (at_of state.new) (state.new.steps - state.old.steps) turn) }
@@ -196,33 +155,25 @@ impl<'t, 'm> Decoder<'t, 'm> {
             (BreaksFrame self.now.table.now (message_of self.now.bytes.now self.now.handles.now)
             frame (at_of state.old)) }
     {
-        let at = frame.base + frame.done;
-        let Some(member) = next_member(self.table, frame.left, frame.done) else {
-            let stop = frame.base + frame.size;
-            state.steps += (stop - at) as u64 + 1;
-            zeros_at(self.bytes, at, stop)?;
+        if count == 0 {
+            self.end_rows(frame, state)?;
             return Ok(Turn {
                 below: None,
                 rest: None,
             });
-        };
-        let place = frame.base + member.offset;
-        state.steps += (place - at) as u64 + 1;
-        zeros_at(self.bytes, at, place)?;
-        let below = self.visit(member.entry, place, frame.depth, frame.in_envelope, state)?;
-        let done = member.offset + self.table.entry(member.entry).size as usize;
-        let rest = Frame {
-            left: member.left,
-            base: frame.base,
-            done,
-            size: frame.size,
-            nest: frame.nest,
-            depth: frame.depth,
-            in_envelope: frame.in_envelope,
-        };
+        }
+        // Read, so that the number of rows, and with it each row's, is known to have 32 bits.
+        let _rows = self.table.rows();
+        let row = self.table.row(first);
+        let front = frame.base + frame.done;
+        let place = frame.base + row.key as usize;
+        state.steps += (place - front) as u64 + 1;
+        zeros_at(self.bytes, front, place)?;
+        let below = self.visit(row.entry, place, frame.depth, frame.in_envelope, state)?;
+        let done = row.key as usize + self.table.entry(row.entry).size as usize;
         Ok(Turn {
             below,
-            rest: Some(rest),
+            rest: Some(rows_from(frame, first + 1, count - 1, done)),
         })
     }
 }

@@ -42,7 +42,8 @@ returns-clause-ok c =
     let mid = c.visit.new.state in
     let new = c.read_leaves.new.state in
     let v = subst (λ (o : Option Frame). Visits t m c.args.depth c.args.entry c.args.place (at_of old) (at_of mid) (mid.steps - old.steps) o) c.in-Some.is c.in_ok-below.ensures.ok in
-    IfOk-weaker c.read_leaves.result _ _ (λ o turns. visits_on t m c.args.depth c.args.entry c.args.place (at_of old) (at_of mid) (mid.steps - old.steps) c.in-Some.below v (at_of new) (new.steps - mid.steps) (new.steps - old.steps) o (omega (arith, c.in_ok-below.ensures.spends.least)) turns) c.read_leaves.ensures.ok
+    IfOk-weaker c.read_leaves.result _ _ (λ o turns. visits_on t m c.args.depth c.args.entry c.args.place (at_of old) (at_of mid) (mid.steps - old.steps)
+    c.in-Some.below v (at_of new) (new.steps - mid.steps) (new.steps - old.steps) o (omega (arith, c.in_ok-below.ensures.spends.least)) turns) c.read_leaves.ensures.ok
 
 pub returns-clause-fine : goal.returns-clause-fine
 returns-clause-fine c =
