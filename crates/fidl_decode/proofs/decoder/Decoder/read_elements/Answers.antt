@@ -22,7 +22,8 @@ entry-e-requires c =
 
 pub unreachable-requires : goal.unreachable-requires
 unreachable-requires c =
-    let f = c.args.self.now.fine.each c.args.entry (element_known c.args.self.now.table.now c.args.self.now.fine (message_of c.args.self.now.bytes.now c.args.self.now.handles.now) c.args.frame (at_of c.args.state.now) c.requires.frame c.requires.state c.args.entry c.args.size c.args.count c.requires.left c.if-count-eq0.false) in
+    let f = c.args.self.now.fine.each c.args.entry (element_known c.args.self.now.table.now c.args.self.now.fine (message_of c.args.self.now.bytes.now c.args.self.now.handles.now) c.args.frame (at_of c.args.state.now) c.requires.frame c.requires.state c.args.entry c.args.size c.args.count
+    c.requires.left c.if-count-eq0.false) in
     let none : kind_of (entry_at c.args.self.now.table.now c.args.entry).kind ≡ None = ap (λ (e : Entry). kind_of e.kind) (sym c.entry-e.ensures.value) ∙ sym c.from_number.ensures ∙ c.in_default.is in
     no_some f.0 (sym f.1.is ∙ none)
 

@@ -28,7 +28,12 @@ loop-many-init c =
     let f = c.args.frame in
     let old = at_of c.args.state.now in
     let none : 0 ≡ c.args.state.now.steps - c.args.state.now.steps = omega arith in
-    record { turns = subst (λ n. Turns t m f old old n (left_over (Some (going_on f (Rows c.args.first c.args.count) f.done)))) none (turns_start t m f old c.requires.frame c.requires.state (going_on f (Rows c.args.first c.args.count) f.done) (same_frame f (Rows c.args.first c.args.count) c.requires.left)); leaves = c.requires.leaves; steps = omega arith }
+    record {
+      turns = subst (λ n. Turns t m f old old n (left_over (Some (going_on f (Rows c.args.first c.args.count) f.done)))) none (turns_start t m f old c.requires.frame c.requires.state (going_on f (Rows c.args.first c.args.count) f.done) (same_frame f (Rows c.args.first c.args.count)
+          c.requires.left));
+      leaves = c.requires.leaves;
+      steps = omega arith;
+    }
 
 pub unreachable-requires : goal.unreachable-requires
 unreachable-requires c =
@@ -63,7 +68,8 @@ read_row-requires-clause-leaf c =
     let same = c.rows_from-rest.ensures in
     let so_far = subst (λ (x : Frame). Turns t m f old now a (left_over (Some x))) (sym same) c.loop-many.invariant.turns in
     let leaf = c.loop-many.invariant.leaves c.loop-many.next (omega arith) (omega (arith, c.loop-many-test.true)) in
-    let is : kind_of (entry_at t (row_at t (header_of t) c.loop-many.next).entry).kind ≡ Some c.in-Some.kind = ap (λ (w : raw.Row). kind_of (entry_at t w.entry).kind) (sym c.row-row.ensures.value) ∙ ap (λ (e : Entry). kind_of e.kind) (sym c.entry-e.ensures.value) ∙ sym c.from_number.ensures ∙ c.in-Some.is in
+    let is : kind_of (entry_at t (row_at t (header_of t) c.loop-many.next).entry).kind ≡ Some c.in-Some.kind = ap (λ (w : raw.Row). kind_of (entry_at t w.entry).kind) (sym c.row-row.ensures.value) ∙ ap (λ (e : Entry). kind_of e.kind) (sym c.entry-e.ensures.value) ∙ sym
+    c.from_number.ensures ∙ c.in-Some.is in
     ap (λ (k : EntryKind). is_leaf t (entry_at t (row_at t (header_of t) c.loop-many.next).entry) k) (same_some c.in-Some.kind leaf.0 (sym is ∙ leaf.1)) ∙ leaf.2
 
 pub returns-in_err-read_row-clause-fault_is_true : goal.returns-in_err-read_row-clause-fault_is_true
@@ -96,7 +102,8 @@ loop-many-preserved c =
     let new = at_of c.read_row.new.state in
     let spent = c.read_row.new.state.steps - c.loop-many.state.steps in
     let rows = Rows (c.loop-many.next + 1) (c.loop-many.many - 1) in
-    let size : (row_at t (header_of t) c.loop-many.next).key + (entry_at t (row_at t (header_of t) c.loop-many.next).entry).size ≡ c.row-row.result.key + c.entry-e.result.size = ap (λ (w : raw.Row). w.key + (entry_at t w.entry).size) (sym c.row-row.ensures.value) ∙ ap (λ (e : Entry). c.row-row.result.key + e.size) (sym c.entry-e.ensures.value) in
+    let size : (row_at t (header_of t) c.loop-many.next).key + (entry_at t (row_at t (header_of t) c.loop-many.next).entry).size ≡ c.row-row.result.key + c.entry-e.result.size = ap (λ (w : raw.Row). w.key + (entry_at t w.entry).size) (sym c.row-row.ensures.value) ∙ ap (λ (e : Entry).
+    c.row-row.result.key + e.size) (sym c.entry-e.ensures.value) in
     let one = subst (λ (x : Frame). Turns t m x now new spent (left_over (Some (going_on x rows ((row_at t (header_of t) c.loop-many.next).key + (entry_at t (row_at t (header_of t) c.loop-many.next).entry).size))))) same c.in_ok-read_row.ensures.ok in
     let two = subst (λ d. Turns t m g now new spent (left_over (Some (going_on c.args.frame rows d)))) size one in
     let rises = (one_more _ _ _ c.in_ok-read_row.ensures.spends) in
@@ -190,10 +197,12 @@ pub read_row-requires-clause-state : goal.read_row-requires-clause-state
 read_row-requires-clause-state c = c.loop-many.invariant.turns.state
 
 pub read_row-requires-clause-budget : goal.read_row-requires-clause-budget
-read_row-requires-clause-budget c = subst (λ (x : Frame). c.loop-many.state.steps + turn_work c.args.self.now.bytes.now c.loop-many.state.next x < 2 ^ 40) (sym c.rows_from-rest.ensures) (budget_on _ _ _ c.args.state.now.steps c.loop-many.state.steps (2 ^ 40) c.loop-many.invariant.steps c.loop-many.invariant.turns.less c.requires.budget)
+read_row-requires-clause-budget c = subst (λ (x : Frame). c.loop-many.state.steps + turn_work c.args.self.now.bytes.now c.loop-many.state.next x < 2 ^ 40) (sym c.rows_from-rest.ensures) (budget_on _ _ _ c.args.state.now.steps c.loop-many.state.steps (2 ^ 40) c.loop-many.invariant.steps
+    c.loop-many.invariant.turns.less c.requires.budget)
 
 pub returns-in_err-read_row-clause-spends : goal.returns-in_err-read_row-clause-spends
-returns-in_err-read_row-clause-spends c = spends_some _ _ _ (rises_on _ _ _ c.loop-many.invariant.steps (one_more _ _ _ c.in_err-read_row.ensures.spends)) (cost_on _ _ _ c.args.state.now.steps c.loop-many.state.steps c.read_row.new.state.steps c.loop-many.invariant.steps c.loop-many.invariant.turns.less (subst (λ (x : Frame). c.read_row.new.state.steps ≤ c.loop-many.state.steps + turn_work c.args.self.now.bytes.now c.loop-many.state.next x) c.rows_from-rest.ensures c.in_err-read_row.ensures.spends.most))
+returns-in_err-read_row-clause-spends c = spends_some _ _ _ (rises_on _ _ _ c.loop-many.invariant.steps (one_more _ _ _ c.in_err-read_row.ensures.spends)) (cost_on _ _ _ c.args.state.now.steps c.loop-many.state.steps c.read_row.new.state.steps c.loop-many.invariant.steps
+    c.loop-many.invariant.turns.less (subst (λ (x : Frame). c.read_row.new.state.steps ≤ c.loop-many.state.steps + turn_work c.args.self.now.bytes.now c.loop-many.state.next x) c.rows_from-rest.ensures c.in_err-read_row.ensures.spends.most))
 
 pub overflow_sub-many : goal.overflow_sub-many
 overflow_sub-many c = some_left c.loop-many.many c.loop-many-test.true
@@ -208,7 +217,9 @@ pub end_rows-requires-clause-state : goal.end_rows-requires-clause-state
 end_rows-requires-clause-state c = c.loop-many.invariant.turns.state
 
 pub returns-clause-spends : goal.returns-clause-spends
-returns-clause-spends c = spends_some _ _ _ (rises_on _ _ _ c.loop-many.invariant.steps (one_more _ _ _ c.end_rows.ensures.spends)) (cost_on _ _ _ c.args.state.now.steps c.loop-many.state.steps c.end_rows.new.state.steps c.loop-many.invariant.steps c.loop-many.invariant.turns.less (subst (λ (x : Frame). c.end_rows.new.state.steps ≤ c.loop-many.state.steps + turn_work c.args.self.now.bytes.now c.loop-many.state.next x) c.rows_from.ensures c.end_rows.ensures.spends.most))
+returns-clause-spends c = spends_some _ _ _ (rises_on _ _ _ c.loop-many.invariant.steps (one_more _ _ _ c.end_rows.ensures.spends)) (cost_on _ _ _ c.args.state.now.steps c.loop-many.state.steps c.end_rows.new.state.steps c.loop-many.invariant.steps c.loop-many.invariant.turns.less (subst
+    (λ (x : Frame). c.end_rows.new.state.steps ≤ c.loop-many.state.steps + turn_work c.args.self.now.bytes.now c.loop-many.state.next x) c.rows_from.ensures c.end_rows.ensures.spends.most))
 
 pub end_rows-requires-clause-budget : goal.end_rows-requires-clause-budget
-end_rows-requires-clause-budget c = subst (λ (x : Frame). c.loop-many.state.steps + turn_work c.args.self.now.bytes.now c.loop-many.state.next x < 2 ^ 40) (sym c.rows_from.ensures) (budget_on _ _ _ c.args.state.now.steps c.loop-many.state.steps (2 ^ 40) c.loop-many.invariant.steps c.loop-many.invariant.turns.less c.requires.budget)
+end_rows-requires-clause-budget c = subst (λ (x : Frame). c.loop-many.state.steps + turn_work c.args.self.now.bytes.now c.loop-many.state.next x < 2 ^ 40) (sym c.rows_from.ensures) (budget_on _ _ _ c.args.state.now.steps c.loop-many.state.steps (2 ^ 40) c.loop-many.invariant.steps
+    c.loop-many.invariant.turns.less c.requires.budget)

@@ -71,7 +71,8 @@ loop-many-preserved-then-is_leaf c =
     let new = at_of c.read_row.new.state in
     let spent = c.read_row.new.state.steps - c.loop-many.state.steps in
     let rows = Rows (c.loop-many.next + 1) (c.loop-many.many - 1) in
-    let size : (row_at t (header_of t) c.loop-many.next).key + (entry_at t (row_at t (header_of t) c.loop-many.next).entry).size ≡ c.row-row.result.key + c.entry-e.result.size = ap (λ (w : raw.Row). w.key + (entry_at t w.entry).size) (sym c.row-row.ensures.value) ∙ ap (λ (e : Entry). c.row-row.result.key + e.size) (sym c.entry-e.ensures.value) in
+    let size : (row_at t (header_of t) c.loop-many.next).key + (entry_at t (row_at t (header_of t) c.loop-many.next).entry).size ≡ c.row-row.result.key + c.entry-e.result.size = ap (λ (w : raw.Row). w.key + (entry_at t w.entry).size) (sym c.row-row.ensures.value) ∙ ap (λ (e : Entry).
+    c.row-row.result.key + e.size) (sym c.entry-e.ensures.value) in
     let one = subst (λ (x : Frame). Turns t m x now new spent (left_over (Some (going_on x rows ((row_at t (header_of t) c.loop-many.next).key + (entry_at t (row_at t (header_of t) c.loop-many.next).entry).size))))) same c.in_ok-read_row.ensures.ok in
     let two = subst (λ d. Turns t m g now new spent (left_over (Some (going_on c.loop-many.holder rows d)))) size one in
     let rises = (one_more _ _ _ c.in_ok-read_row.ensures.spends) in
@@ -395,13 +396,15 @@ pub read_row-requires-clause-state : goal.read_row-requires-clause-state
 read_row-requires-clause-state c = c.loop-many.invariant.turns.state
 
 pub read_row-requires-clause-budget : goal.read_row-requires-clause-budget
-read_row-requires-clause-budget c = subst (λ (x : Frame). c.loop-many.state.steps + turn_work c.args.self.now.bytes.now c.loop-many.state.next x < 2 ^ 40) (sym c.rows_from-rest.ensures) (budget_on _ _ _ c.args.state.now.steps c.loop-many.state.steps (2 ^ 40) c.loop-many.invariant.steps c.loop-many.invariant.turns.less c.requires.budget)
+read_row-requires-clause-budget c = subst (λ (x : Frame). c.loop-many.state.steps + turn_work c.args.self.now.bytes.now c.loop-many.state.next x < 2 ^ 40) (sym c.rows_from-rest.ensures) (budget_on _ _ _ c.args.state.now.steps c.loop-many.state.steps (2 ^ 40) c.loop-many.invariant.steps
+    c.loop-many.invariant.turns.less c.requires.budget)
 
 pub ends_in_box-requires : goal.ends_in_box-requires
 ends_in_box-requires c = record { within = c.loop-many.invariant.turns.rest_fine.0.left }
 
 pub returns-then-not-ends_in_box-clause-ok : goal.returns-then-not-ends_in_box-clause-ok
-returns-then-not-ends_in_box-clause-ok c = subst (λ (x : Frame). Turns c.args.self.now.table.now (message_of c.args.self.now.bytes.now c.args.self.now.handles.now) c.args.frame (at_of c.args.state.now) (at_of c.loop-many.state) (c.loop-many.state.steps - c.args.state.now.steps) (left_over (Some x))) (sym c.rows_from-rest.ensures) c.loop-many.invariant.turns
+returns-then-not-ends_in_box-clause-ok c = subst (λ (x : Frame). Turns c.args.self.now.table.now (message_of c.args.self.now.bytes.now c.args.self.now.handles.now) c.args.frame (at_of c.args.state.now) (at_of c.loop-many.state) (c.loop-many.state.steps - c.args.state.now.steps) (left_over
+    (Some x))) (sym c.rows_from-rest.ensures) c.loop-many.invariant.turns
 
 pub returns-then-not-ends_in_box-clause-grows : goal.returns-then-not-ends_in_box-clause-grows
 returns-then-not-ends_in_box-clause-grows c = c.loop-many.invariant.steps
@@ -419,7 +422,8 @@ pub enter_box-requires-clause-state : goal.enter_box-requires-clause-state
 enter_box-requires-clause-state c = c.loop-many.invariant.turns.state
 
 pub enter_box-requires-clause-budget : goal.enter_box-requires-clause-budget
-enter_box-requires-clause-budget c = subst (λ (x : Frame). c.loop-many.state.steps + turn_work c.args.self.now.bytes.now c.loop-many.state.next x < 2 ^ 40) (sym c.rows_from-rest.ensures) (budget_on _ _ _ c.args.state.now.steps c.loop-many.state.steps (2 ^ 40) c.loop-many.invariant.steps c.loop-many.invariant.turns.less c.requires.budget)
+enter_box-requires-clause-budget c = subst (λ (x : Frame). c.loop-many.state.steps + turn_work c.args.self.now.bytes.now c.loop-many.state.next x < 2 ^ 40) (sym c.rows_from-rest.ensures) (budget_on _ _ _ c.args.state.now.steps c.loop-many.state.steps (2 ^ 40) c.loop-many.invariant.steps
+    c.loop-many.invariant.turns.less c.requires.budget)
 
 pub pass_known-content-requires-clause-known : goal.pass_known-content-requires-clause-known
 pass_known-content-requires-clause-known c = c.requires.known
@@ -434,7 +438,8 @@ pub end_rows-requires-clause-state : goal.end_rows-requires-clause-state
 end_rows-requires-clause-state c = c.loop-many.invariant.turns.state
 
 pub end_rows-requires-clause-budget : goal.end_rows-requires-clause-budget
-end_rows-requires-clause-budget c = subst (λ (x : Frame). c.loop-many.state.steps + turn_work c.args.self.now.bytes.now c.loop-many.state.next x < 2 ^ 40) (sym c.rows_from.ensures) (budget_on _ _ _ c.args.state.now.steps c.loop-many.state.steps (2 ^ 40) c.loop-many.invariant.steps c.loop-many.invariant.turns.less c.requires.budget)
+end_rows-requires-clause-budget c = subst (λ (x : Frame). c.loop-many.state.steps + turn_work c.args.self.now.bytes.now c.loop-many.state.next x < 2 ^ 40) (sym c.rows_from.ensures) (budget_on _ _ _ c.args.state.now.steps c.loop-many.state.steps (2 ^ 40) c.loop-many.invariant.steps
+    c.loop-many.invariant.turns.less c.requires.budget)
 
 pub returns-in_default-2-clause-grows : goal.returns-in_default-2-clause-grows
 returns-in_default-2-clause-grows c = grows_on _ _ _ c.loop-many.invariant.steps (one_more _ _ _ c.in_ok-below.ensures.spends)
@@ -443,7 +448,8 @@ pub returns-in_default-2-clause-ended : goal.returns-in_default-2-clause-ended
 returns-in_default-2-clause-ended c = rises_on _ _ _ c.loop-many.invariant.steps (one_more _ _ _ c.in_ok-below.ensures.spends)
 
 pub returns-in_default-2-clause-cost : goal.returns-in_default-2-clause-cost
-returns-in_default-2-clause-cost c = cost_on _ _ _ c.args.state.now.steps c.loop-many.state.steps c.enter_box.new.state.steps c.loop-many.invariant.steps c.loop-many.invariant.turns.less (subst (λ (x : Frame). c.enter_box.new.state.steps ≤ c.loop-many.state.steps + turn_work c.args.self.now.bytes.now c.loop-many.state.next x) c.rows_from-rest.ensures c.in_ok-below.ensures.spends.most)
+returns-in_default-2-clause-cost c = cost_on _ _ _ c.args.state.now.steps c.loop-many.state.steps c.enter_box.new.state.steps c.loop-many.invariant.steps c.loop-many.invariant.turns.less (subst (λ (x : Frame). c.enter_box.new.state.steps ≤ c.loop-many.state.steps + turn_work
+    c.args.self.now.bytes.now c.loop-many.state.next x) c.rows_from-rest.ensures c.in_ok-below.ensures.spends.most)
 
 pub returns-in_default-2-clause-fault_is_true : goal.returns-in_default-2-clause-fault_is_true
 returns-in_default-2-clause-fault_is_true c = tt
@@ -455,7 +461,8 @@ pub returns-clause-ended : goal.returns-clause-ended
 returns-clause-ended c = rises_on _ _ _ c.loop-many.invariant.steps (one_more _ _ _ c.in_ok-end_rows.ensures.spends)
 
 pub returns-clause-cost : goal.returns-clause-cost
-returns-clause-cost c = cost_on _ _ _ c.args.state.now.steps c.loop-many.state.steps c.end_rows.new.state.steps c.loop-many.invariant.steps c.loop-many.invariant.turns.less (subst (λ (x : Frame). c.end_rows.new.state.steps ≤ c.loop-many.state.steps + turn_work c.args.self.now.bytes.now c.loop-many.state.next x) c.rows_from.ensures c.in_ok-end_rows.ensures.spends.most)
+returns-clause-cost c = cost_on _ _ _ c.args.state.now.steps c.loop-many.state.steps c.end_rows.new.state.steps c.loop-many.invariant.steps c.loop-many.invariant.turns.less (subst (λ (x : Frame). c.end_rows.new.state.steps ≤ c.loop-many.state.steps + turn_work c.args.self.now.bytes.now
+    c.loop-many.state.next x) c.rows_from.ensures c.in_ok-end_rows.ensures.spends.most)
 
 pub returns-clause-fault_is_true : goal.returns-clause-fault_is_true
 returns-clause-fault_is_true c = tt
@@ -470,7 +477,8 @@ pub returns-in_err-read_row-clause-ended : goal.returns-in_err-read_row-clause-e
 returns-in_err-read_row-clause-ended c = no_ok c.from_residual.result c.in_err-read_row.field-0.0 _ c.from_residual.ensures.1
 
 pub returns-in_err-read_row-clause-cost : goal.returns-in_err-read_row-clause-cost
-returns-in_err-read_row-clause-cost c = cost_on _ _ _ c.args.state.now.steps c.loop-many.state.steps c.read_row.new.state.steps c.loop-many.invariant.steps c.loop-many.invariant.turns.less (subst (λ (x : Frame). c.read_row.new.state.steps ≤ c.loop-many.state.steps + turn_work c.args.self.now.bytes.now c.loop-many.state.next x) c.rows_from-rest.ensures c.in_err-read_row.ensures.spends.most)
+returns-in_err-read_row-clause-cost c = cost_on _ _ _ c.args.state.now.steps c.loop-many.state.steps c.read_row.new.state.steps c.loop-many.invariant.steps c.loop-many.invariant.turns.less (subst (λ (x : Frame). c.read_row.new.state.steps ≤ c.loop-many.state.steps + turn_work
+    c.args.self.now.bytes.now c.loop-many.state.next x) c.rows_from-rest.ensures c.in_err-read_row.ensures.spends.most)
 
 pub returns-in_err-below-clause-ok : goal.returns-in_err-below-clause-ok
 returns-in_err-below-clause-ok c = no_ok c.from_residual-in_err-below.result c.in_err-below.field-0.0 _ c.from_residual-in_err-below.ensures.1
@@ -482,7 +490,8 @@ pub returns-in_err-below-clause-ended : goal.returns-in_err-below-clause-ended
 returns-in_err-below-clause-ended c = no_ok c.from_residual-in_err-below.result c.in_err-below.field-0.0 _ c.from_residual-in_err-below.ensures.1
 
 pub returns-in_err-below-clause-cost : goal.returns-in_err-below-clause-cost
-returns-in_err-below-clause-cost c = cost_on _ _ _ c.args.state.now.steps c.loop-many.state.steps c.enter_box.new.state.steps c.loop-many.invariant.steps c.loop-many.invariant.turns.less (subst (λ (x : Frame). c.enter_box.new.state.steps ≤ c.loop-many.state.steps + turn_work c.args.self.now.bytes.now c.loop-many.state.next x) c.rows_from-rest.ensures c.in_err-below.ensures.spends.most)
+returns-in_err-below-clause-cost c = cost_on _ _ _ c.args.state.now.steps c.loop-many.state.steps c.enter_box.new.state.steps c.loop-many.invariant.steps c.loop-many.invariant.turns.less (subst (λ (x : Frame). c.enter_box.new.state.steps ≤ c.loop-many.state.steps + turn_work
+    c.args.self.now.bytes.now c.loop-many.state.next x) c.rows_from-rest.ensures c.in_err-below.ensures.spends.most)
 
 pub returns-in_err-end_rows-clause-ok : goal.returns-in_err-end_rows-clause-ok
 returns-in_err-end_rows-clause-ok c = no_ok c.from_residual-in_err-end_rows.result c.in_err-end_rows.field-0.0 _ c.from_residual-in_err-end_rows.ensures.1
@@ -494,7 +503,8 @@ pub returns-in_err-end_rows-clause-ended : goal.returns-in_err-end_rows-clause-e
 returns-in_err-end_rows-clause-ended c = no_ok c.from_residual-in_err-end_rows.result c.in_err-end_rows.field-0.0 _ c.from_residual-in_err-end_rows.ensures.1
 
 pub returns-in_err-end_rows-clause-cost : goal.returns-in_err-end_rows-clause-cost
-returns-in_err-end_rows-clause-cost c = cost_on _ _ _ c.args.state.now.steps c.loop-many.state.steps c.end_rows.new.state.steps c.loop-many.invariant.steps c.loop-many.invariant.turns.less (subst (λ (x : Frame). c.end_rows.new.state.steps ≤ c.loop-many.state.steps + turn_work c.args.self.now.bytes.now c.loop-many.state.next x) c.rows_from.ensures c.in_err-end_rows.ensures.spends.most)
+returns-in_err-end_rows-clause-cost c = cost_on _ _ _ c.args.state.now.steps c.loop-many.state.steps c.end_rows.new.state.steps c.loop-many.invariant.steps c.loop-many.invariant.turns.less (subst (λ (x : Frame). c.end_rows.new.state.steps ≤ c.loop-many.state.steps + turn_work
+    c.args.self.now.bytes.now c.loop-many.state.next x) c.rows_from.ensures c.in_err-end_rows.ensures.spends.most)
 
 pub overflow_sub-many : goal.overflow_sub-many
 overflow_sub-many c = some_left c.loop-many.many c.loop-many-test.true
@@ -519,7 +529,8 @@ loop-many-smaller-then-is_leaf c =
     let new = at_of c.read_row.new.state in
     let spent = c.read_row.new.state.steps - c.loop-many.state.steps in
     let rows = Rows (c.loop-many.next + 1) (c.loop-many.many - 1) in
-    let size : (row_at t (header_of t) c.loop-many.next).key + (entry_at t (row_at t (header_of t) c.loop-many.next).entry).size ≡ c.row-row.result.key + c.entry-e.result.size = ap (λ (w : raw.Row). w.key + (entry_at t w.entry).size) (sym c.row-row.ensures.value) ∙ ap (λ (e : Entry). c.row-row.result.key + e.size) (sym c.entry-e.ensures.value) in
+    let size : (row_at t (header_of t) c.loop-many.next).key + (entry_at t (row_at t (header_of t) c.loop-many.next).entry).size ≡ c.row-row.result.key + c.entry-e.result.size = ap (λ (w : raw.Row). w.key + (entry_at t w.entry).size) (sym c.row-row.ensures.value) ∙ ap (λ (e : Entry).
+    c.row-row.result.key + e.size) (sym c.entry-e.ensures.value) in
     let one = subst (λ (x : Frame). Turns t m x now new spent (left_over (Some (going_on x rows ((row_at t (header_of t) c.loop-many.next).key + (entry_at t (row_at t (header_of t) c.loop-many.next).entry).size))))) same c.in_ok-read_row.ensures.ok in
     let two = subst (λ d. Turns t m g now new spent (left_over (Some (going_on c.loop-many.holder rows d)))) size one in
     let rises = (one_more _ _ _ c.in_ok-read_row.ensures.spends) in

@@ -80,7 +80,8 @@ pub returns-in_err-zeros_at-clause-fault_is_true : goal.returns-in_err-zeros_at-
 returns-in_err-zeros_at-clause-fault_is_true c =
     let t = c.args.self.now.table.now in
     let m = message_of c.args.self.now.bytes.now c.args.self.now.handles.now in
-    passed_on c.from_residual.result c.in_err-zeros_at.field-0.0 _ c.from_residual.ensures.1 (front_gap_breaks t c.args.self.now.fine m c.args.frame c.args.first c.args.count c.row-row.result c.requires.left c.requires.some c.row-row.ensures.value (at_of c.args.state.now) c.requires.frame c.requires.state c.in_err-zeros_at.field-0.0 c.in_err-zeros_at.ensures.fault_is_true)
+    passed_on c.from_residual.result c.in_err-zeros_at.field-0.0 _ c.from_residual.ensures.1 (front_gap_breaks t c.args.self.now.fine m c.args.frame c.args.first c.args.count c.row-row.result c.requires.left c.requires.some c.row-row.ensures.value (at_of c.args.state.now) c.requires.frame
+    c.requires.state c.in_err-zeros_at.field-0.0 c.in_err-zeros_at.ensures.fault_is_true)
 
 pub read_leaf-requires-clause-kind : goal.read_leaf-requires-clause-kind
 read_leaf-requires-clause-kind c =
@@ -107,15 +108,18 @@ pub returns-in_err-read_leaf-clause-fault_is_true : goal.returns-in_err-read_lea
 returns-in_err-read_leaf-clause-fault_is_true c =
     let t = c.args.self.now.table.now in
     let m = message_of c.args.self.now.bytes.now c.args.self.now.handles.now in
-    passed_on c.from_residual-in_err-read_leaf.result c.in_err-read_leaf.field-0.0 _ c.from_residual-in_err-read_leaf.ensures.1 (front_breaks t c.args.self.now.fine m c.args.frame c.args.first c.args.count c.row-row.result c.requires.left c.requires.some c.row-row.ensures.value (at_of c.args.state.now) c.requires.frame c.requires.state c.in_err-read_leaf.field-0.0 c.in_ok-zeros_at.ensures.ok c.in_err-read_leaf.ensures.fault_is_true)
+    passed_on c.from_residual-in_err-read_leaf.result c.in_err-read_leaf.field-0.0 _ c.from_residual-in_err-read_leaf.ensures.1 (front_breaks t c.args.self.now.fine m c.args.frame c.args.first c.args.count c.row-row.result c.requires.left c.requires.some c.row-row.ensures.value (at_of
+    c.args.state.now) c.requires.frame c.requires.state c.in_err-read_leaf.field-0.0 c.in_ok-zeros_at.ensures.ok c.in_err-read_leaf.ensures.fault_is_true)
 
 pub returns-clause-ok : goal.returns-clause-ok
 returns-clause-ok c =
     let t = c.args.self.now.table.now in
     let m = message_of c.args.self.now.bytes.now c.args.self.now.handles.now in
     let grows = (not_fewer _ _ _ c.in_ok-read_leaf.ensures.spends) in
-    let two = front_turns t c.args.self.now.fine m c.args.frame c.args.first c.args.count c.row-row.result c.requires.left c.requires.some c.row-row.ensures.value (at_of c.args.state.now) c.requires.frame c.requires.state (at_of c.read_leaf.new.state) (c.read_leaf.new.state.steps - (c.args.state.now.steps + (c.args.frame.base + c.row-row.result.key - (c.args.frame.base + c.args.frame.done) + 1))) (c.read_leaf.new.state.steps - c.args.state.now.steps) (omega (arith, grows)) c.in_ok-zeros_at.ensures.ok c.in_ok-read_leaf.ensures.ok in
-    subst (λ (w : raw.Row). Turns t m c.args.frame (at_of c.args.state.now) (at_of c.read_leaf.new.state) (c.read_leaf.new.state.steps - c.args.state.now.steps) (left_over (Some (going_on c.args.frame (Rows (c.args.first + 1) (c.args.count - 1)) (w.key + (entry_at t w.entry).size))))) c.row-row.ensures.value two
+    let two = front_turns t c.args.self.now.fine m c.args.frame c.args.first c.args.count c.row-row.result c.requires.left c.requires.some c.row-row.ensures.value (at_of c.args.state.now) c.requires.frame c.requires.state (at_of c.read_leaf.new.state)
+    (c.read_leaf.new.state.steps - (c.args.state.now.steps + (c.args.frame.base + c.row-row.result.key - (c.args.frame.base + c.args.frame.done) + 1))) (c.read_leaf.new.state.steps - c.args.state.now.steps) (omega (arith, grows)) c.in_ok-zeros_at.ensures.ok c.in_ok-read_leaf.ensures.ok in
+    subst (λ (w : raw.Row). Turns t m c.args.frame (at_of c.args.state.now) (at_of c.read_leaf.new.state) (c.read_leaf.new.state.steps - c.args.state.now.steps) (left_over (Some (going_on c.args.frame (Rows (c.args.first + 1) (c.args.count - 1)) (w.key + (entry_at t w.entry).size)))))
+    c.row-row.ensures.value two
 
 pub returns-clause-spends : goal.returns-clause-spends
 returns-clause-spends c =
