@@ -222,7 +222,7 @@ module _ (d : Shown) (w : WellFormed d.table) (index place : ℕ) (lt : index < 
 
   pub subtype_there : (IsOf Bits (entry_at d.table index) ⊎ IsOf Enum (entry_at d.table index)) → IsTrue (subtype_is is_number (entry_at d.table index))
   subtype_there (inl is) = number_of (kind_of (entry_at d.table index).subtype) (fine_as d.table fine index Bits lt is).content
-  subtype_there (inr is) = (fine_as d.table fine index Enum lt is).content.kind
+  subtype_there (inr is) = ((w.entries index lt).shape.enum is).subtype
 
   pub numbers_there : (IsOf Bits (entry_at d.table index) ⊎ IsOf Enum (entry_at d.table index)) → (k : EntryKind) → as_number k ≡ underlying (entry_at d.table index) → IsTrue (is_number k) → number_type k ≡ numbers_of (type_of d index)
   numbers_there (inl is) = numbers_bits is
