@@ -11,11 +11,16 @@
 namespace flat {
 
 // The message that a builder has finished.
+inline std::string finished(const flatbuffers::FlatBufferBuilder& b) {
+  return std::string(reinterpret_cast<const char*>(b.GetBufferPointer()), b.GetSize());
+}
+
+// The message of a value, built by a builder of its own.
 template <class Shape>
 std::string message_of(const typename Shape::Plain& value) {
   flatbuffers::FlatBufferBuilder builder;
   Shape::build(builder, value);
-  return std::string(reinterpret_cast<const char*>(builder.GetBufferPointer()), builder.GetSize());
+  return finished(builder);
 }
 
 // Whether the message is right: bounds, offsets, required fields and the ends of texts.
@@ -85,11 +90,6 @@ struct Wide {
     return sum + w->m19()->a() + w->m19()->b() + w->m20();
   }
 };
-
-// The message that a builder has finished.
-inline std::string finished(const flatbuffers::FlatBufferBuilder& b) {
-  return std::string(reinterpret_cast<const char*>(b.GetBufferPointer()), b.GetSize());
-}
 
 struct Tables {
   using Root = fb::Items;
