@@ -6,6 +6,7 @@ use crate::Stop;
 use crate::inputs::{HANDLES, MESSAGE, ROOT, SCRIPT, Worked};
 use fidl_compile::{CompileFault, compile};
 use fidl_decode::{Scratch, decode};
+use fidl_migrate::migrate;
 use fidl_reading::{NotationFault, read_value};
 use fidl_requests::Ended;
 use fidl_script::{Script, ScriptFault};
@@ -94,14 +95,26 @@ fn decode_all(table: &Table<'_>, scratch: &mut Scratch) -> u64 {
     accepted
 }
 
-/// Verifies a table; one that is accepted decodes messages.
-fn give_table(scratch: &mut Scratch, bytes: &[u8]) -> bool {
+/// Migrates a table. What comes of it has to be accepted.
+fn migrate_whole(alloc: Global, table: &Table<'_>) -> Result<(), Stop> {
+    let Ok(bytes) = migrate(alloc, table) else {
+        return Err(Stop);
+    };
+    match verify(&bytes) {
+        Ok(_migrated) => Ok(()),
+        Err(_) => Err(Stop),
+    }
+}
+
+/// Verifies a table; one that is accepted decodes messages, and is migrated.
+fn give_table(alloc: Global, scratch: &mut Scratch, bytes: &[u8]) -> Result<bool, Stop> {
     match verify(bytes) {
         Ok(table) => {
             let _accepted = decode_all(&table, scratch);
-            true
+            migrate_whole(alloc, &table)?;
+            Ok(true)
         }
-        Err(_) => false,
+        Err(_) => Ok(false),
     }
 }
 
@@ -162,7 +175,7 @@ fn give_stream(desk: &Desk<'_, '_>, stream: &[u8]) -> Result<bool, Stop> {
 pub(crate) fn give(desk: &mut Desk<'_, '_>, kind: Kind, input: &[u8]) -> Result<bool, Stop> {
     match kind {
         Kind::Source => give_source(desk.alloc, input),
-        Kind::Table => Ok(give_table(&mut desk.scratch, input)),
+        Kind::Table => give_table(desk.alloc, &mut desk.scratch, input),
         Kind::Message => give_message(desk, input),
         Kind::Text => give_text(desk, input),
         Kind::Script => give_script(desk, input),

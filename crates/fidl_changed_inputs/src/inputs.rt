@@ -3,7 +3,8 @@
 use crate::Stop;
 use fidl_compile::compile;
 use fidl_header::Header;
-use fidl_verify::Table;
+use fidl_migrate::migrate;
+use fidl_verify::{Table, verify};
 use fidl_wire::HandleInfo;
 use std::alloc::Global;
 
@@ -16,6 +17,14 @@ pub(crate) const SOURCE: &[u8] = b"library s;\n\
     type Node = struct { next box<Node>; };\n\
     type Listed = struct { v vector<strict enum : uint16 { A = 1; B = 2; }>:4; };\n\
     open protocol P { strict Get(struct {k uint8;}) -> (struct {v uint8;}); flexible F() -> (); };";
+
+/// A table of version 1, of a strict enum with the values 1, 2 and 4: its header, its entry, its
+/// values, and its root with the names.
+pub(crate) const FIRST_VERSION: &[u8] =
+    b"FCT2\x01\0\0\0\x01\0\0\0\0\0\0\0\x03\0\0\0\x01\0\0\0\0\0\0\0\0\0\0\0\x06\0\0\0\0\0\0\0\
+    \x0b\x02\x04\0\x04\0\0\0\0\0\0\0\x03\0\0\0\0\0\0\0\0\0\0\0\x08\0\0\0\0\0\0\0\0\0\0\0\x03\0\0\0\
+    \x01\0\0\0\0\0\0\0\x02\0\0\0\0\0\0\0\x04\0\0\0\0\0\0\0\
+    \x03\0\0\0\x03\0\0\0\0\0\0\0e/Ee/E";
 
 /// The type of the text, and of the message that the entries of tables decode.
 pub(crate) const ROOT: &[u8] = b"s/T";
@@ -92,6 +101,17 @@ pub(crate) const TEXT: &[u8] =
 /// A script for the protocol.
 pub(crate) const SCRIPT: &[u8] =
     b"protocol s/P\nreply s/P.Get {v: 9}\nreply s/P.F union(response: {})\n";
+
+/// The table of version 1 in version 2.
+pub(crate) fn migrated_table(alloc: Global) -> Result<Vec<u8>, Stop> {
+    let Ok(table) = verify(FIRST_VERSION) else {
+        return Err(Stop);
+    };
+    match migrate(alloc, &table) {
+        Ok(migrated) => Ok(migrated),
+        Err(_) => Err(Stop),
+    }
+}
 
 /// The table of the library.
 pub(crate) fn table_of(alloc: Global) -> Result<Vec<u8>, Stop> {

@@ -1,7 +1,7 @@
 //! Gives cut and changed inputs to the calls of the library, and prints which kinds are done
 //! (docs/checking.md, "The gate").
 //!
-//! A source, a coding table, a message, a text, a script and a stream are cut at each length, and
+//! A source, coding tables, a message, a text, a script and a stream are cut at each length, and
 //! all but the source get each of their bytes changed to each value. Each call has to return.
 //! Its contract says what it answers. A cut table or message has to be refused.
 #![tactic(auto)]
@@ -12,7 +12,9 @@ mod inputs;
 
 use crate::changing::{try_changes, try_cuts};
 use crate::giving::{Desk, Kind};
-use crate::inputs::{MESSAGES, SCRIPT, SOURCE, TEXT, stream_of, table_of};
+use crate::inputs::{
+    FIRST_VERSION, MESSAGES, SCRIPT, SOURCE, TEXT, migrated_table, stream_of, table_of,
+};
 use fidl_decode::Scratch;
 use fidl_text::Output;
 use fidl_verify::verify;
@@ -53,6 +55,16 @@ fn try_messages(desk: &mut Desk<'_, '_>) -> Result<(), Stop> {
     Ok(())
 }
 
+/// Gives a table of version 1, and what it is migrated to.
+fn try_versions<W: Write>(desk: &mut Desk<'_, '_>, out: &mut Output<W>) -> Result<(), Stop> {
+    let migrated = migrated_table(desk.alloc)?;
+    for table in [FIRST_VERSION, migrated.as_slice()] {
+        try_cuts(desk, Kind::Table, table)?;
+        try_changes(desk, Kind::Table, table)?;
+    }
+    done(out, "versions")
+}
+
 /// Gives all inputs.
 fn try_all<W: Write>(alloc: Global, out: &mut Output<W>) -> Result<(), Stop> {
     let bytes = table_of(alloc)?;
@@ -69,6 +81,7 @@ fn try_all<W: Write>(alloc: Global, out: &mut Output<W>) -> Result<(), Stop> {
     try_cuts(&mut desk, Kind::Source, SOURCE)?;
     done(out, Kind::Source.name())?;
     try_input(&mut desk, Kind::Table, &bytes, out)?;
+    try_versions(&mut desk, out)?;
     try_messages(&mut desk)?;
     done(out, Kind::Message.name())?;
     try_input(&mut desk, Kind::Text, TEXT, out)?;

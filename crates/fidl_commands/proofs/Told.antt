@@ -10,7 +10,7 @@ use Rattle.fidl_table_format.specs.Section.{header_of}
 use Rattle.fidl_table_format.specs.Terms.{declarations_of}
 use Rattle.fidl_table_format.specs.Root.{IsRootEntry, HasNoRoot}
 use Rattle.fidl_table_format.specs.WellFormed.{WellFormed}
-use Rattle.fidl_decode.specs.Model.{Shown}
+use Rattle.fidl_decode_model.specs.Model.{Shown}
 use Rattle.fidl_commands.specs.declared.outcome.Outcome.{Outcome}
 use Rattle.fidl_commands.specs.declared.outcome.Outcome.TheVariants.{Done, Unwritten}
 use Rattle.fidl_commands.specs.declared.outcome.Outcome.TheVariants as outcome

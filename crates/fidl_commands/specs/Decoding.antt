@@ -14,9 +14,9 @@ use Rattle.fidl_table_format.specs.WellFormed.{WellFormed}
 use Rattle.fidl_verify.specs.Faults.{Breaks}
 use Rattle.fidl_verify.specs.Faults as table_faults
 use Rattle.fidl_verify.specs.declared.fault.TableFault.{TableFault}
-use Rattle.fidl_decode.specs.Faults.{IsTold}
-use Rattle.fidl_decode.specs.Faults as message_faults
-use Rattle.fidl_decode.specs.declared.fault.DecodeFault.{DecodeFault}
+use Rattle.fidl_decode_model.specs.Faults.{IsTold}
+use Rattle.fidl_decode_model.specs.Faults as message_faults
+use Rattle.fidl_decode_model.specs.declared.fault.DecodeFault.{DecodeFault}
 use Rattle.fidl_command_line.specs.Complaints.{no_memory}
 use Rattle.fidl_commands.specs.declared.decoding.TypedMessage.{TypedMessage}
 use Rattle.fidl_commands.specs.declared.outcome.Outcome.{Outcome}

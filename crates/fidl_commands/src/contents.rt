@@ -1,11 +1,12 @@
 //! What an argument names in place of its text: a file, or the standard input.
-ghost use Rattle.std.specs.Prelude.{◌≡◌, ◌↔◌, None, Ok, Err, IfOk, IfErr, OnOk, IsSome};
+ghost use Rattle.std.specs.Prelude.{◌≡◌, ◌↔◌, None, Ok, Err, IfOk, IfErr, OnOk, IfSome, IsSome};
 ghost use Rattle.std.specs.Io.KnownBytes.{Appends};
 ghost use Rattle.fidl_command_line.specs.Contents.{message_of};
 ghost use Rattle.fidl_commands.specs.Contents.{HoldsBytes, IsStoredMissing, IsGivenBytes, HasNoBytes};
 ghost use Rattle.fidl_commands.specs.Contents.{LacksContent, IsNoMessage, CanEndHeld, CanEndGiven};
 ghost use Rattle.fidl_commands.specs.Contents.{IsGivenText, LacksText, CanEndReading};
 ghost use Rattle.fidl_commands.specs.Decoding.{no_memory_line};
+ghost use Rattle.fidl_commands.specs.Files.{IsMissing};
 ghost use Rattle.fidl_commands.specs.declared.outcome.Outcome.TheVariants as outcome;
 
 use crate::files::Files;
@@ -16,6 +17,30 @@ use fidl_command_line::{Content, Message, Stored, Unread, message_bytes};
 use fidl_text::Output;
 use std::alloc::Global;
 use std::io::Write;
+
+/// The bytes of a file, which is named where it cannot be read.
+pub fn file_bytes<F: Files, E: Write>(
+    alloc: Global,
+    name: &str,
+    files: &F,
+    errors: &mut Output<E>,
+) -> Result<Vec<u8>, Outcome>
+    ensures bytes { IfOk result (λ read. IfSome (F.bytes_of files.now name.now)
+        (λ bytes. read.items ≡ bytes)) }
+    ensures kept { OnOk result (errors.new ≡ errors.old) }
+    ensures ends { IfErr result CanEndReading }
+    ensures no_file { result ≡ Err outcome.NoFile → IsMissing (F.bytes_of files.now) name.now
+        (E.contents errors.old.writer) (E.contents errors.new.writer) }
+    ensures memory_line { result ≡ Err outcome.NoMemory
+        → Appends (E.contents errors.old.writer) (E.contents errors.new.writer) no_memory_line }
+    ensures unwritten { IfErr result (λ ended. errors.old.failure ≡ None
+        → (ended ≡ outcome.Unwritten ↔ IsSome errors.new.failure)) }
+{
+    match files.read(alloc, name) {
+        Ok(bytes) => Ok(bytes),
+        Err(error) => Err(tell_no_file(alloc, name, &error, errors)),
+    }
+}
 
 /// The bytes of a file, or of the standard input, which is named `-` where it cannot be read.
 pub(crate) fn read_stored<F: Files, E: Write>(
@@ -37,10 +62,7 @@ pub(crate) fn read_stored<F: Files, E: Write>(
         → (ended ≡ outcome.Unwritten ↔ IsSome errors.new.failure)) }
 {
     match place {
-        Stored::File(name) => match files.read(alloc, name) {
-            Ok(held) => Ok(held),
-            Err(error) => Err(tell_no_file(alloc, name, &error, errors)),
-        },
+        Stored::File(name) => file_bytes(alloc, name, files, errors),
         Stored::Input => match files.read_input(alloc) {
             Ok(held) => Ok(held),
             Err(error) => Err(tell_no_file(alloc, "-", &error, errors)),

@@ -19,6 +19,7 @@ mod telling;
 mod verifying;
 pub mod worked;
 
+pub use crate::contents::file_bytes;
 pub use crate::decoding::{TypedMessage, decode};
 pub use crate::encoding::{TypedText, encode};
 pub use crate::explaining::explain;

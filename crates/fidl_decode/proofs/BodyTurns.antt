@@ -8,26 +8,27 @@ use Rattle.fidl_wire.specs.Encoding.{zeros}
 use Rattle.fidl_wire.specs.Standing.{Stands}
 use Rattle.fidl_table_format.specs.declared.record.Row.{Row}
 use Rattle.fidl_table_format.specs.declared.kind.EntryKind.{EntryKind}
-use Rattle.fidl_table_format.specs.Section.{header_of, entry_at, row_at}
-use Rattle.fidl_table_format.specs.Uses.{uses_ordinals}
+use Rattle.fidl_table_format.specs.declared.record.Header.{Header}
+use Rattle.fidl_table_format.specs.Section.{header_of, entry_at, row_at, row_place, table_length}
+use Rattle.fidl_table_format.specs.Uses.{uses_ordinals, uses_rows}
 use Rattle.fidl_table_format.specs.Entry.{kind_is}
-use Rattle.fidl_verify.proofs.Members.{if_some}
+use Rattle.fidl_verify.proofs.Members.{lies_within, if_some}
 use Rattle.fidl_table_format.specs.Kind.{kind_of}
 use Rattle.fidl_table_format.specs.Terms.{declarations_of, members_of, term_as}
 use Rattle.fidl_wire.specs.Figure.{size_of}
 use Rattle.fidl_decode.specs.declared.body.TableBody.{TableBody}
-use Rattle.fidl_decode.specs.declared.frame.Frame.{Frame}
-use Rattle.fidl_decode.specs.declared.frame.Remaining.TheVariants.{Envelopes}
-use Rattle.fidl_decode.specs.declared.frame.Turn.{Turn}
-use Rattle.fidl_decode.specs.Invariants.{IsFine, is_free}
-use Rattle.fidl_decode.specs.Faults.{IsWithin}
-use Rattle.fidl_decode.specs.State.{Message, Position}
+use Rattle.fidl_decode_model.specs.declared.frame.Frame.{Frame}
+use Rattle.fidl_decode_model.specs.declared.frame.Remaining.TheVariants.{Envelopes}
+use Rattle.fidl_decode_model.specs.declared.frame.Turn.{Turn}
+use Rattle.fidl_decode_model.specs.Invariants.{IsFine, is_free}
+use Rattle.fidl_decode_model.specs.Faults.{IsWithin}
+use Rattle.fidl_decode_model.specs.State.{Message, Position}
 use Rattle.fidl_decode.specs.Body.{BodyFine, IsFreeOf, rest_of, envelopes_of}
-use Rattle.fidl_decode.specs.Machine.{ReadsIf, StateFine, FrameFine, Turns, Visits, Opens, most_nest}
+use Rattle.fidl_decode_model.specs.Machine.{ReadsIf, StateFine, FrameFine, Turns, Visits, Opens, most_nest}
 use Rattle.fidl_decode.proofs.EnvelopeTurns.{envelope_absent, envelope_opened}
-use Rattle.fidl_decode.proofs.Enclosed.{contained_some}
+use Rattle.fidl_decode_model.proofs.Enclosed.{contained_some}
 use Rattle.fidl_decode.proofs.Leaves.{left_over}
-use Rattle.fidl_decode.proofs.Visiting.{size_as}
+use Rattle.fidl_decode_model.proofs.Visiting.{size_as}
 
 module _ (t : List ℕ) (fine : IsFine t) (m : Message) (within : IsWithin m.bytes m.handles) (b : TableBody) (read : ℕ) (old : Position) (ff : FrameFine t m.bytes (rest_of b read)) (state : StateFine m old) (more : read < b.count) where
   abbrev place : ℕ
@@ -53,6 +54,27 @@ module _ (t : List ℕ) (fine : IsFine t) (m : Message) (within : IsWithin m.byt
       let within_old = state.next in
       subst (λ d. Turns t m (rest_of b read) old new n (behind d)) eight
       (envelope_opened t fine m within (rest_of b read) b.entry read (b.count - read) old ff state (read + 1) (b.count - (read + 1)) (add-one read) (omega (arith, more)) (omega (arith, more)) some None new spent n few (omega (arith, pays, within_new, within_old)) own)
+
+-- the rows of the entry that is noted lie in the table, and name entries of it
+pub row_lies : (t : List ℕ) (b : TableBody) → BodyFine t b → (read : ℕ) → read < b.known → b.first + read < (header_of t).rows
+row_lies t b bf read more =
+    let d = entry_at t b.entry in
+    let uses : IsTrue (kind_is uses_ordinals d) = ap (λ (o : Option EntryKind). option_map_or uses_ordinals o false) bf.is in
+    let within = lies_within t bf.well b.entry bf.entry uses d refl in
+    let first = bf.first in
+    let known = bf.known in
+    omega (arith, within, first, known, more)
+
+pub row_names : (t : List ℕ) (b : TableBody) → BodyFine t b → (read : ℕ) → read < b.known → (row_at t (header_of t) (b.first + read)).entry < (header_of t).entries
+row_names t b bf read more =
+    let d = entry_at t b.entry in
+    let uses : IsTrue (kind_is uses_rows d) = ap (λ (o : Option EntryKind). option_map_or uses_rows o false) bf.is in
+    let known = bf.known in
+    subst (λ n. (row_at t (header_of t) (n + read)).entry < (header_of t).entries) (sym bf.first) ((bf.well.entries b.entry bf.entry).children.members uses read (omega (arith, more, known)))
+
+-- a row lies within the bytes of a table
+pub row_fits : (h : Header) (n i : ℕ) → n ≡ table_length h → i < h.rows → row_place h i + 16 ≤ n
+row_fits h n i whole less = omega (arith, whole, less)
 
 -- the row of the next envelope is that of its ordinal's member
 pub body_found : (t : List ℕ) (b : TableBody) → BodyFine t b → (read : ℕ) → read < b.known → (row : Row) → row ≡ row_at b.table.now (header_of b.table.now) (b.first + read) → row.key ≡ read + 1 → find (members_of t b.entry) (suc read) ≡ Some (ty.named row.entry)

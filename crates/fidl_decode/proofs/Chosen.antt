@@ -19,20 +19,20 @@ use Rattle.fidl_table_format.specs.declared.record.Entry.{Entry}
 use Rattle.fidl_table_format.specs.Kind.{kind_of}
 use Rattle.fidl_table_format.specs.Section.{header_of, entry_at}
 use Rattle.fidl_table_format.specs.Terms.{declarations_of, members_of, term_as, rows_from, is_optional, is_strict}
-use Rattle.fidl_decode.specs.declared.fault.DecodeFault.{DecodeFault}
-use Rattle.fidl_decode.specs.declared.frame.Frame.{Frame}
-use Rattle.fidl_decode.specs.Invariants.{IsFine}
-use Rattle.fidl_decode.specs.State.{Message, Position, StandsAt, ValueAt}
-use Rattle.fidl_decode.specs.Envelopes.{Contained}
-use Rattle.fidl_decode.specs.Breaks.{Breaks, BreaksUnion, BreaksMember, ordinal_at}
-use Rattle.fidl_decode.specs.Breaks as broken
-use Rattle.fidl_decode.specs.Machine.{StateFine, Visits, VisitFine, Opens, FineIf, member_term, level, most_nest, inline_work, byte_work, probes, frame_work_if}
-use Rattle.fidl_decode.proofs.Broken.{union_absent, absent_union, union_chosen, union_right}
-use Rattle.fidl_decode.proofs.Rows.{joined_stands, past_inline}
-use Rattle.fidl_decode.proofs.Scalars.{standing}
-use Rattle.fidl_decode.proofs.Stated.{stated}
-use Rattle.fidl_decode.proofs.Turning.{fine_from}
-use Rattle.fidl_decode.proofs.Visiting.{term_is, figure_is}
+use Rattle.fidl_decode_model.specs.declared.fault.DecodeFault.{DecodeFault}
+use Rattle.fidl_decode_model.specs.declared.frame.Frame.{Frame}
+use Rattle.fidl_decode_model.specs.Invariants.{IsFine}
+use Rattle.fidl_decode_model.specs.State.{Message, Position, StandsAt, ValueAt}
+use Rattle.fidl_decode_model.specs.Envelopes.{Contained}
+use Rattle.fidl_decode_model.specs.Breaks.{Breaks, BreaksUnion, BreaksMember, ordinal_at}
+use Rattle.fidl_decode_model.specs.Breaks as broken
+use Rattle.fidl_decode_model.specs.Machine.{StateFine, Visits, VisitFine, Opens, FineIf, member_term, level, most_nest, inline_work, byte_work, probes, frame_work_if}
+use Rattle.fidl_decode_model.proofs.Broken.{union_absent, absent_union, union_chosen, union_right}
+use Rattle.fidl_decode_model.proofs.Rows.{joined_stands, past_inline}
+use Rattle.fidl_decode_model.proofs.Scalars.{standing}
+use Rattle.fidl_decode_model.proofs.Stated.{stated}
+use Rattle.fidl_decode_model.proofs.Turning.{fine_from}
+use Rattle.fidl_decode_model.proofs.Visiting.{term_is, figure_is}
 
 clash : true ≡ false → ⊥
 clash e = cc

@@ -8,19 +8,19 @@ use Rattle.fidl_wire.specs.Encoding.{zeros}
 use Rattle.fidl_wire.specs.Standing.{Stands}
 use Rattle.fidl_table_format.specs.Section.{header_of, entry_at}
 use Rattle.fidl_table_format.specs.Terms.{declarations_of}
-use Rattle.fidl_decode.specs.declared.fault.DecodeFault.{DecodeFault}
-use Rattle.fidl_decode.specs.declared.fault.DecodeFault.TheVariants.{WrongCounts}
-use Rattle.fidl_decode.specs.declared.frame.Frame.{Frame}
-use Rattle.fidl_decode.specs.declared.frame.Until.{Until}
-use Rattle.fidl_decode.specs.declared.frame.Remaining.TheVariants.{Elements, Content}
-use Rattle.fidl_decode.specs.Invariants.{IsFine}
-use Rattle.fidl_decode.specs.Rows.{Row, element_rows}
-use Rattle.fidl_decode.specs.State.{Message, Position}
-use Rattle.fidl_decode.specs.Breaks.{IsPadding, Breaks}
-use Rattle.fidl_decode.specs.Machine.{rows_left, BreaksFrame, IsUntil, IsInside, StateFine, FrameFine, Visits, VisitFine, Turns, inline_work, frame_work, probes}
-use Rattle.fidl_decode.proofs.Stated.{element_rows-more}
-use Rattle.fidl_decode.proofs.Visiting.{size_is, nest_is, positive}
-use Rattle.fidl_decode.proofs.Turning.{work_falls, done_fits, spends, spends_more, turns_end, end_breaks, row_fine, row_room, row_inside, visit_breaks, turns_more}
+use Rattle.fidl_decode_model.specs.declared.fault.DecodeFault.{DecodeFault}
+use Rattle.fidl_decode_model.specs.declared.fault.DecodeFault.TheVariants.{WrongCounts}
+use Rattle.fidl_decode_model.specs.declared.frame.Frame.{Frame}
+use Rattle.fidl_decode_model.specs.declared.frame.Until.{Until}
+use Rattle.fidl_decode_model.specs.declared.frame.Remaining.TheVariants.{Elements, Content}
+use Rattle.fidl_decode_model.specs.Invariants.{IsFine}
+use Rattle.fidl_decode_model.specs.Rows.{Row, element_rows}
+use Rattle.fidl_decode_model.specs.State.{Message, Position}
+use Rattle.fidl_decode_model.specs.Breaks.{IsPadding, Breaks}
+use Rattle.fidl_decode_model.specs.Machine.{rows_left, BreaksFrame, IsUntil, IsInside, StateFine, FrameFine, Visits, VisitFine, Turns, inline_work, frame_work, probes}
+use Rattle.fidl_decode_model.proofs.Stated.{element_rows-more}
+use Rattle.fidl_decode_model.proofs.Visiting.{size_is, nest_is, positive}
+use Rattle.fidl_decode_model.proofs.Turning.{work_falls, done_fits, spends, spends_more, turns_end, end_breaks, row_fine, row_room, row_inside, visit_breaks, turns_more}
 use Rattle.fidl_decode.proofs.Leaves.{going_on, no_zeros}
 
 module _ (t : List ℕ) (fine : IsFine t) (m : Message) (f : Frame) (e size count : ℕ) (u : Until) (old : Position) (ff : FrameFine t m.bytes (going_on f (Content e size count u) f.done)) (state : StateFine m old) where

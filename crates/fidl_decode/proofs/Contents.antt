@@ -13,15 +13,15 @@ use Rattle.fidl_wire.specs.Standing.{Stands}
 use Rattle.fidl_wire.proofs.Sizes.{size_of-resolve, length-inline, length-padded}
 use Rattle.fidl_wire.proofs.Stand.{stands_to, stands_front, stands_back, stands_both}
 use Rattle.fidl_wire.proofs.Unique.{no_out}
-use Rattle.fidl_decode.specs.Rows.{Row, element_rows, RowsRise}
-use Rattle.fidl_decode.specs.Faults.{IsWithin}
-use Rattle.fidl_decode.specs.State.{Message, Position, opened, linked, member_at, begun, after, after_member, StandsAt, ValueAt, Members}
-use Rattle.fidl_decode.specs.Envelopes.{Contained}
+use Rattle.fidl_decode_model.specs.Rows.{Row, element_rows, RowsRise}
+use Rattle.fidl_decode_model.specs.Faults.{IsWithin}
+use Rattle.fidl_decode_model.specs.State.{Message, Position, opened, linked, member_at, begun, after, after_member, StandsAt, ValueAt, Members}
+use Rattle.fidl_decode_model.specs.Envelopes.{Contained}
 use Rattle.fidl_wire.specs.Envelope.{bytes_below, handles_below, flags_at}
-use Rattle.fidl_decode.proofs.After.{length-pad8, length-object, after_past}
-use Rattle.fidl_decode.proofs.Rows.{members_end, members_more, more_members}
+use Rattle.fidl_decode_model.proofs.After.{length-pad8, length-object, after_past}
+use Rattle.fidl_decode_model.proofs.Rows.{members_end, members_more, more_members}
 use Rattle.fidl_decode.proofs.Covering.{object_stands}
-use Rattle.fidl_decode.proofs.Shallow.{no_depth}
+use Rattle.fidl_decode_model.proofs.Shallow.{no_depth}
 use Rattle.fidl_decode.proofs.Counts.{at_most_four, not_at_most_four, end_numbers, first_number, end_stands, first_stands}
 
 -- ---- an object of one value

@@ -8,11 +8,11 @@ use Rattle.fidl_wire.specs.Encoding.{envelope_end}
 use Rattle.fidl_wire.specs.Standing.{Stands, Carries}
 use Rattle.fidl_wire.proofs.Sizes.{le_of_test}
 use Rattle.fidl_wire.proofs.Stand.{stands_to, stands_front, stands_back, stands_both}
-use Rattle.fidl_decode.specs.State.{Message}
-use Rattle.fidl_decode.specs.Faults.{IsWithin}
+use Rattle.fidl_decode_model.specs.State.{Message}
+use Rattle.fidl_decode_model.specs.Faults.{IsWithin}
 use Rattle.fidl_wire.specs.Envelope.{bytes_below, handles_below, flags_at}
-use Rattle.fidl_decode.proofs.Numbers.{number_16, number_32}
-use Rattle.fidl_decode.proofs.Scalars.{standing}
+use Rattle.fidl_decode_model.proofs.Numbers.{number_16, number_32}
+use Rattle.fidl_decode_model.proofs.Scalars.{standing}
 
 -- what stands in a message is no longer than what is left of it
 pub bytes_left : (m : List ℕ) (p : ℕ) (a : List ℕ) → Stands m p a → length a ≤ length m - p

@@ -6,11 +6,11 @@ use Rattle.fidl_wire.specs.Encoding.{Encoding, zeros, padded, pad8, object, enve
 use Rattle.fidl_wire.specs.Standing.{Stands, Carries}
 use Rattle.fidl_wire.proofs.Sizes.{le-next_multiple_of, le_of_test}
 use Rattle.fidl_wire.proofs.Stand.{stands_to, stands_front, stands_back}
-use Rattle.fidl_decode.specs.Links.{Linked}
-use Rattle.fidl_decode.specs.State.{Message, Position, member_at, begun, StandsAt}
-use Rattle.fidl_decode.specs.Placed.{enclosed_at, first_record_at}
-use Rattle.fidl_decode.proofs.After.{length-pad8}
-use Rattle.fidl_decode.proofs.Keeping.{Apart, Keeps}
+use Rattle.fidl_decode_model.specs.Links.{Linked}
+use Rattle.fidl_decode_model.specs.State.{Message, Position, member_at, begun, StandsAt}
+use Rattle.fidl_decode_model.specs.Placed.{enclosed_at, first_record_at}
+use Rattle.fidl_decode_model.proofs.After.{length-pad8}
+use Rattle.fidl_decode_model.proofs.Keeping.{Apart, Keeps}
 
 -- links agree with a state on the cells of the places from a up to b
 pub record Covers (l : Linked) (r : Position) (a b : ℕ) : Type 0 where

@@ -13,20 +13,20 @@ use Rattle.fidl_wire.proofs.Sizes.{le-next_multiple_of}
 use Rattle.fidl_table_format.specs.declared.record.Entry.{Entry}
 use Rattle.fidl_table_format.specs.Section.{header_of, entry_at}
 use Rattle.fidl_table_format.specs.Terms.{declarations_of}
-use Rattle.fidl_decode.specs.Invariants.{IsFine}
-use Rattle.fidl_decode.specs.Faults.{IsWithin}
-use Rattle.fidl_decode.specs.declared.fault.DecodeFault.{DecodeFault}
-use Rattle.fidl_decode.specs.declared.fault.DecodeFault.TheVariants.{BadEnvelope, TooDeep, Truncated}
-use Rattle.fidl_decode.specs.declared.frame.Frame.{Frame}
-use Rattle.fidl_decode.specs.declared.frame.Remaining.TheVariants.{Content}
-use Rattle.fidl_decode.specs.State.{Message, Position, opened, linked, member_at, begun, ValueAt}
-use Rattle.fidl_decode.specs.Envelopes.{Contained, CanHold, BreaksEnvelope, depth_within, Miscounts}
+use Rattle.fidl_decode_model.specs.Invariants.{IsFine}
+use Rattle.fidl_decode_model.specs.Faults.{IsWithin}
+use Rattle.fidl_decode_model.specs.declared.fault.DecodeFault.{DecodeFault}
+use Rattle.fidl_decode_model.specs.declared.fault.DecodeFault.TheVariants.{BadEnvelope, TooDeep, Truncated}
+use Rattle.fidl_decode_model.specs.declared.frame.Frame.{Frame}
+use Rattle.fidl_decode_model.specs.declared.frame.Remaining.TheVariants.{Content}
+use Rattle.fidl_decode_model.specs.State.{Message, Position, opened, linked, member_at, begun, ValueAt}
+use Rattle.fidl_decode_model.specs.Envelopes.{Contained, CanHold, BreaksEnvelope, depth_within, Miscounts}
 use Rattle.fidl_wire.specs.Envelope.{bytes_below, handles_below, flags_at}
-use Rattle.fidl_decode.specs.Breaks.{BreaksMember}
-use Rattle.fidl_decode.specs.Breaks as broken
-use Rattle.fidl_decode.specs.Machine.{Reads, BreaksFrame, FrameFine, StateFine, level, height, most_nest, inline_work, frame_work}
-use Rattle.fidl_decode.proofs.Stated.{stated}
-use Rattle.fidl_decode.proofs.Enveloped.{envelope_excluded}
+use Rattle.fidl_decode_model.specs.Breaks.{BreaksMember}
+use Rattle.fidl_decode_model.specs.Breaks as broken
+use Rattle.fidl_decode_model.specs.Machine.{Reads, BreaksFrame, FrameFine, StateFine, level, height, most_nest, inline_work, frame_work}
+use Rattle.fidl_decode_model.proofs.Stated.{stated}
+use Rattle.fidl_decode_model.proofs.Enveloped.{envelope_excluded}
 use Rattle.fidl_decode.proofs.Counts.{at_most_four, not_at_most_four}
 use Rattle.fidl_decode.proofs.Contents.{members_only, only_members, inside_led, below_led, contained_inside, contained_below, inside_contained, below_contained}
 

@@ -8,19 +8,19 @@ use Rattle.fidl_wire.specs.Encoding.{zeros}
 use Rattle.fidl_wire.specs.Standing.{Stands}
 use Rattle.fidl_table_format.specs.declared.record.Row as raw
 use Rattle.fidl_table_format.specs.Terms.{declarations_of, members_of}
-use Rattle.fidl_decode.specs.declared.fault.DecodeFault.{DecodeFault}
-use Rattle.fidl_decode.specs.declared.frame.Frame.{Frame}
-use Rattle.fidl_decode.specs.declared.frame.Remaining.TheVariants.{Envelopes}
-use Rattle.fidl_decode.specs.Invariants.{IsFine}
-use Rattle.fidl_decode.specs.Faults.{IsWithin}
-use Rattle.fidl_decode.specs.State.{Message, Position, envelope_place, Slots}
-use Rattle.fidl_decode.specs.Envelopes.{Contained}
-use Rattle.fidl_decode.specs.Breaks.{BreaksMember, BreaksEnvelopes}
-use Rattle.fidl_decode.specs.Machine.{Reads, BreaksFrame, StateFine, FrameFine, Turns, Opens, PaysEnvelope, member_term, most_nest, inline_work, frame_work, envelope_work, height}
+use Rattle.fidl_decode_model.specs.declared.fault.DecodeFault.{DecodeFault}
+use Rattle.fidl_decode_model.specs.declared.frame.Frame.{Frame}
+use Rattle.fidl_decode_model.specs.declared.frame.Remaining.TheVariants.{Envelopes}
+use Rattle.fidl_decode_model.specs.Invariants.{IsFine}
+use Rattle.fidl_decode_model.specs.Faults.{IsWithin}
+use Rattle.fidl_decode_model.specs.State.{Message, Position, envelope_place, Slots}
+use Rattle.fidl_decode_model.specs.Envelopes.{Contained}
+use Rattle.fidl_decode_model.specs.Breaks.{BreaksMember, BreaksEnvelopes}
+use Rattle.fidl_decode_model.specs.Machine.{Reads, BreaksFrame, StateFine, FrameFine, Turns, Opens, PaysEnvelope, member_term, most_nest, inline_work, frame_work, envelope_work, height}
 use Rattle.fidl_decode.proofs.Leaves.{going_on}
-use Rattle.fidl_decode.proofs.Turning.{fine_from}
-use Rattle.fidl_decode.proofs.Enclosed.{slots_step, step_slots, slots_end, end_slots, contained_some}
-use Rattle.fidl_decode.proofs.Broken.{next_broken}
+use Rattle.fidl_decode_model.proofs.Turning.{fine_from}
+use Rattle.fidl_decode_model.proofs.Enclosed.{slots_step, step_slots, slots_end, end_slots, contained_some}
+use Rattle.fidl_decode_model.proofs.Broken.{next_broken}
 
 -- the member of an ordinal has the type of the row that was found
 pub member_found : (rows : Rows) (ordinal : ℕ) (o : Option raw.Row) → IfNone o (find rows ordinal ≡ None) → IfSome o (λ row. find rows ordinal ≡ Some (ty.named row.entry)) → find rows ordinal ≡ member_term o

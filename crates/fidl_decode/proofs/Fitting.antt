@@ -1,8 +1,8 @@
 -- Places and sizes of a message are small numbers. Said of variables alone, so that nothing else is looked at.
 use Rattle.std.proofs.Common.{◌≡◌, ℕ, suc, ◌+◌, ◌-◌, ◌^◌, ◌<◌, ◌≤◌, arith, inl, inr}
 use Rattle.std.specs.Int.{next_multiple_of}
-use Rattle.fidl_decode.specs.Steps.{Spends}
-use Rattle.fidl_decode.specs.Machine.{IsInside}
+use Rattle.fidl_decode_model.specs.Steps.{Spends}
+use Rattle.fidl_decode_model.specs.Machine.{IsInside}
 use Rattle.fidl_limits.specs.declared.limits.TheConstants.{MAX_DEPTH, MAX_MESSAGE_BYTES, MAX_MESSAGE_HANDLES}
 
 -- what lies in front of more, and what comes behind it

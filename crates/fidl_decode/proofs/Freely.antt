@@ -15,15 +15,15 @@ use Rattle.fidl_table_format.specs.declared.kind.EntryKind.TheVariants.{Bool as 
 use Rattle.fidl_table_format.specs.declared.record.Entry.{Entry}
 use Rattle.fidl_table_format.specs.Kind.{kind_of}
 use Rattle.fidl_table_format.specs.Section.{header_of, entry_at}
-use Rattle.fidl_decode.specs.Invariants.{IsFine, is_free}
-use Rattle.fidl_decode.specs.Faults.{IsWithin}
-use Rattle.fidl_decode.specs.declared.frame.Frame.{Frame}
-use Rattle.fidl_decode.specs.declared.frame.Until.{Until}
-use Rattle.fidl_decode.specs.declared.frame.Remaining.TheVariants.{Rows, Content}
-use Rattle.fidl_decode.specs.State.{Message, Position, opened, linked}
+use Rattle.fidl_decode_model.specs.Invariants.{IsFine, is_free}
+use Rattle.fidl_decode_model.specs.Faults.{IsWithin}
+use Rattle.fidl_decode_model.specs.declared.frame.Frame.{Frame}
+use Rattle.fidl_decode_model.specs.declared.frame.Until.{Until}
+use Rattle.fidl_decode_model.specs.declared.frame.Remaining.TheVariants.{Rows, Content}
+use Rattle.fidl_decode_model.specs.State.{Message, Position, opened, linked}
 use Rattle.fidl_wire.specs.Envelope.{bytes_below, handles_below, flags_at}
-use Rattle.fidl_decode.specs.Machine.{IsUntil, StateFine, Visits, Turns, Passes, Opens, behind_rows}
-use Rattle.fidl_decode.proofs.Visiting.{size_as, struct_frame, struct_fine, visits_free, visits_bool, visits_struct}
+use Rattle.fidl_decode_model.specs.Machine.{IsUntil, StateFine, Visits, Turns, Passes, Opens, behind_rows}
+use Rattle.fidl_decode_model.proofs.Visiting.{size_as, struct_frame, struct_fine, visits_free, visits_bool, visits_struct}
 use Rattle.fidl_decode.proofs.Leaves.{left_over, no_zeros, over_room, over_turns}
 use Rattle.fidl_decode.proofs.LeafContent.{leaf_over}
 use Rattle.fidl_decode.proofs.Wholly.{visits_over}

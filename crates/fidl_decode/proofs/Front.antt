@@ -9,18 +9,18 @@ use Rattle.fidl_wire.specs.Standing.{Stands}
 use Rattle.fidl_table_format.specs.declared.record.Row as raw
 use Rattle.fidl_table_format.specs.Section.{header_of, entry_at, row_at}
 use Rattle.fidl_table_format.specs.Terms.{declarations_of}
-use Rattle.fidl_decode.specs.declared.fault.DecodeFault.{DecodeFault}
-use Rattle.fidl_decode.specs.declared.frame.Frame.{Frame}
-use Rattle.fidl_decode.specs.declared.frame.Remaining.{Remaining}
-use Rattle.fidl_decode.specs.declared.frame.Remaining.TheVariants.{Rows}
-use Rattle.fidl_decode.specs.Invariants.{IsFine}
-use Rattle.fidl_decode.specs.Rows.{Row, table_rows}
-use Rattle.fidl_decode.specs.State.{Message, Position}
-use Rattle.fidl_decode.specs.Breaks.{IsPadding, Breaks}
-use Rattle.fidl_decode.specs.Machine.{rows_left, BreaksFrame, StateFine, FrameFine, IsInside, Visits, VisitFine, Turns, frame_work, probes}
-use Rattle.fidl_decode.proofs.Stated.{table_rows-more}
+use Rattle.fidl_decode_model.specs.declared.fault.DecodeFault.{DecodeFault}
+use Rattle.fidl_decode_model.specs.declared.frame.Frame.{Frame}
+use Rattle.fidl_decode_model.specs.declared.frame.Remaining.{Remaining}
+use Rattle.fidl_decode_model.specs.declared.frame.Remaining.TheVariants.{Rows}
+use Rattle.fidl_decode_model.specs.Invariants.{IsFine}
+use Rattle.fidl_decode_model.specs.Rows.{Row, table_rows}
+use Rattle.fidl_decode_model.specs.State.{Message, Position}
+use Rattle.fidl_decode_model.specs.Breaks.{IsPadding, Breaks}
+use Rattle.fidl_decode_model.specs.Machine.{rows_left, BreaksFrame, StateFine, FrameFine, IsInside, Visits, VisitFine, Turns, frame_work, probes}
+use Rattle.fidl_decode_model.proofs.Stated.{table_rows-more}
 use Rattle.fidl_decode.proofs.Leaves.{going_on, same_frame, left_over, turns_start, next_size, next_room, next_gap_breaks, next_leaf_breaks, next_takes, next_turns}
-use Rattle.fidl_decode.proofs.Turning.{row_inside}
+use Rattle.fidl_decode_model.proofs.Turning.{row_inside}
 
 module _ (t : List ℕ) (fine : IsFine t) (m : Message) (f : Frame) (first count : ℕ) (w : raw.Row) (rows : f.left ≡ Rows first count) (some : 0 < count) (is : w ≡ row_at t (header_of t) first) (old : Position) (ff : FrameFine t m.bytes f) (state : StateFine m old) where
   abbrev ds : Declarations

@@ -8,18 +8,18 @@ use Rattle.fidl_wire.specs.Term as ty
 use Rattle.fidl_wire.specs.Term.{resolve}
 use Rattle.fidl_table_format.specs.Section.{header_of, entry_at}
 use Rattle.fidl_table_format.specs.Terms.{declarations_of}
-use Rattle.fidl_decode.specs.declared.fault.DecodeFault.{DecodeFault}
-use Rattle.fidl_decode.specs.declared.frame.Frame.{Frame}
-use Rattle.fidl_decode.specs.declared.frame.Remaining.{Remaining}
-use Rattle.fidl_decode.specs.declared.frame.Remaining.TheVariants.{Elements}
-use Rattle.fidl_decode.specs.Breaks.{IsPadding, Breaks}
-use Rattle.fidl_decode.specs.Invariants.{IsFine}
-use Rattle.fidl_decode.specs.Rows.{Row}
-use Rattle.fidl_decode.specs.State.{Message, Position}
-use Rattle.fidl_decode.specs.Machine.{IsInside, Visits, VisitFine, Turns, BreaksFrame, byte_work, inline_work, frame_work, frame_work_if, value_work, rows_left}
-use Rattle.fidl_decode.proofs.Visiting.{nest_is, positive}
-use Rattle.fidl_decode.proofs.Stated.{stated}
-use Rattle.fidl_decode.proofs.Turning.{row_fine, row_room, row_inside, work_falls}
+use Rattle.fidl_decode_model.specs.declared.fault.DecodeFault.{DecodeFault}
+use Rattle.fidl_decode_model.specs.declared.frame.Frame.{Frame}
+use Rattle.fidl_decode_model.specs.declared.frame.Remaining.{Remaining}
+use Rattle.fidl_decode_model.specs.declared.frame.Remaining.TheVariants.{Elements}
+use Rattle.fidl_decode_model.specs.Breaks.{IsPadding, Breaks}
+use Rattle.fidl_decode_model.specs.Invariants.{IsFine}
+use Rattle.fidl_decode_model.specs.Rows.{Row}
+use Rattle.fidl_decode_model.specs.State.{Message, Position}
+use Rattle.fidl_decode_model.specs.Machine.{IsInside, Visits, VisitFine, Turns, BreaksFrame, byte_work, inline_work, frame_work, frame_work_if, value_work, rows_left}
+use Rattle.fidl_decode_model.proofs.Visiting.{nest_is, positive}
+use Rattle.fidl_decode_model.proofs.Stated.{stated}
+use Rattle.fidl_decode_model.proofs.Turning.{row_fine, row_room, row_inside, work_falls}
 use Rattle.fidl_decode.proofs.Leaves.{going_on, left_over, next_known, next_size, next_room, next_takes, next_leaf_breaks, over_room, over_turns, over_breaks, elements_next, elements_over, no_zeros}
 
 module _ (t : List ℕ) (fine : IsFine t) (m : Message) (f : Frame) (old now : Position) (a e size count i done : ℕ) (turns : Turns t m f old now a (left_over (Some (going_on f (Elements e size (count - i)) done)))) where

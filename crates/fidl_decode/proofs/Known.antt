@@ -4,12 +4,12 @@ use Rattle.std.specs.Prelude.{Option, Some}
 use Rattle.fidl_table_format.specs.declared.kind.EntryKind.TheVariants.{Box, Struct}
 use Rattle.fidl_table_format.specs.Kind.{kind_of}
 use Rattle.fidl_table_format.specs.Section.{header_of, entry_at}
-use Rattle.fidl_decode.specs.declared.frame.Remaining.{Remaining}
-use Rattle.fidl_decode.specs.declared.frame.Remaining.TheVariants.{Rows}
-use Rattle.fidl_decode.specs.Invariants.{IsFine}
-use Rattle.fidl_decode.specs.State.{Message}
-use Rattle.fidl_decode.specs.Machine.{Passes, IsKnown}
-use Rattle.fidl_decode.proofs.Visiting.{fine_as}
+use Rattle.fidl_decode_model.specs.declared.frame.Remaining.{Remaining}
+use Rattle.fidl_decode_model.specs.declared.frame.Remaining.TheVariants.{Rows}
+use Rattle.fidl_decode_model.specs.Invariants.{IsFine}
+use Rattle.fidl_decode_model.specs.State.{Message}
+use Rattle.fidl_decode_model.specs.Machine.{Passes, IsKnown}
+use Rattle.fidl_decode_model.proofs.Visiting.{fine_as}
 
 pub same_rows : (a n rows first count : ℕ) → first ≡ a + rows → rows + count ≡ n → Rows a n ≡ Rows (first - rows) (rows + count)
 same_rows a n rows first count is whole =

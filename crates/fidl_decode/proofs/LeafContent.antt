@@ -8,15 +8,15 @@ use Rattle.fidl_wire.specs.Encoding.{zeros}
 use Rattle.fidl_wire.specs.Standing.{Stands}
 use Rattle.fidl_table_format.specs.Section.{header_of, entry_at}
 use Rattle.fidl_table_format.specs.Terms.{declarations_of}
-use Rattle.fidl_decode.specs.declared.fault.DecodeFault.{DecodeFault}
-use Rattle.fidl_decode.specs.declared.fault.DecodeFault.TheVariants.{WrongCounts}
-use Rattle.fidl_decode.specs.declared.frame.Frame.{Frame}
-use Rattle.fidl_decode.specs.declared.frame.Until.{Until}
-use Rattle.fidl_decode.specs.declared.frame.Remaining.TheVariants.{Content}
-use Rattle.fidl_decode.specs.Invariants.{IsFine}
-use Rattle.fidl_decode.specs.State.{Message, Position}
-use Rattle.fidl_decode.specs.Breaks.{IsPadding, Breaks}
-use Rattle.fidl_decode.specs.Machine.{BreaksFrame, IsUntil, StateFine, FrameFine, Visits, Turns, inline_work, frame_work, byte_work, probes}
+use Rattle.fidl_decode_model.specs.declared.fault.DecodeFault.{DecodeFault}
+use Rattle.fidl_decode_model.specs.declared.fault.DecodeFault.TheVariants.{WrongCounts}
+use Rattle.fidl_decode_model.specs.declared.frame.Frame.{Frame}
+use Rattle.fidl_decode_model.specs.declared.frame.Until.{Until}
+use Rattle.fidl_decode_model.specs.declared.frame.Remaining.TheVariants.{Content}
+use Rattle.fidl_decode_model.specs.Invariants.{IsFine}
+use Rattle.fidl_decode_model.specs.State.{Message, Position}
+use Rattle.fidl_decode_model.specs.Breaks.{IsPadding, Breaks}
+use Rattle.fidl_decode_model.specs.Machine.{BreaksFrame, IsUntil, StateFine, FrameFine, Visits, Turns, inline_work, frame_work, byte_work, probes}
 use Rattle.fidl_decode.proofs.ContentTurns.{content_end_room, content_over, content_miscounted, content_end_breaks, content_known, content_size, content_room, content_pays, content_breaks, content_turns}
 use Rattle.fidl_decode.proofs.Leaves.{going_on, same_frame, left_over, turns_then, turns_break}
 

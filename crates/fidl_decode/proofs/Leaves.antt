@@ -11,19 +11,19 @@ use Rattle.fidl_table_format.specs.declared.kind.EntryKind.{EntryKind}
 use Rattle.fidl_table_format.specs.Kind.{kind_of}
 use Rattle.fidl_table_format.specs.Section.{header_of, entry_at, row_at}
 use Rattle.fidl_table_format.specs.Terms.{declarations_of}
-use Rattle.fidl_decode.specs.Invariants.{IsFine, is_free}
-use Rattle.fidl_decode.specs.declared.frame.Frame.{Frame}
-use Rattle.fidl_decode.specs.declared.frame.Remaining.{Remaining}
-use Rattle.fidl_decode.specs.declared.frame.Remaining.TheVariants.{Rows, Elements}
-use Rattle.fidl_decode.specs.declared.frame.Turn.{Turn}
-use Rattle.fidl_decode.specs.Rows.{Row, table_rows, element_rows}
-use Rattle.fidl_decode.specs.State.{Message, Position}
-use Rattle.fidl_decode.specs.declared.fault.DecodeFault.{DecodeFault}
-use Rattle.fidl_decode.specs.Breaks.{IsPadding, Breaks}
-use Rattle.fidl_decode.specs.Machine.{rows_left, Reads, ReadsIf, BreaksFrame, LeftFine, IsPlain, VisitFine, height, FrameFine, frame_work, probes, StateFine, Visits, Turns}
-use Rattle.fidl_decode.proofs.Stated.{table_rows-more, element_rows-more}
-use Rattle.fidl_decode.proofs.Visiting.{size_is, positive, visits_free}
-use Rattle.fidl_decode.proofs.Turning.{fine_from, done_fits, spends, spends_more, turns_end, row_fine, row_room, turns_more, end_breaks, gap_breaks, visit_breaks}
+use Rattle.fidl_decode_model.specs.Invariants.{IsFine, is_free}
+use Rattle.fidl_decode_model.specs.declared.frame.Frame.{Frame}
+use Rattle.fidl_decode_model.specs.declared.frame.Remaining.{Remaining}
+use Rattle.fidl_decode_model.specs.declared.frame.Remaining.TheVariants.{Rows, Elements}
+use Rattle.fidl_decode_model.specs.declared.frame.Turn.{Turn}
+use Rattle.fidl_decode_model.specs.Rows.{Row, table_rows, element_rows}
+use Rattle.fidl_decode_model.specs.State.{Message, Position}
+use Rattle.fidl_decode_model.specs.declared.fault.DecodeFault.{DecodeFault}
+use Rattle.fidl_decode_model.specs.Breaks.{IsPadding, Breaks}
+use Rattle.fidl_decode_model.specs.Machine.{rows_left, Reads, ReadsIf, BreaksFrame, LeftFine, IsPlain, VisitFine, height, FrameFine, frame_work, probes, StateFine, Visits, Turns}
+use Rattle.fidl_decode_model.proofs.Stated.{table_rows-more, element_rows-more}
+use Rattle.fidl_decode_model.proofs.Visiting.{size_is, positive, visits_free}
+use Rattle.fidl_decode_model.proofs.Turning.{fine_from, done_fits, spends, spends_more, turns_end, row_fine, row_room, turns_more, end_breaks, gap_breaks, visit_breaks}
 
 -- a frame with other members left, so many of its bytes read
 abbrev pub going_on : Frame → Remaining → (done : ℕ) → Frame

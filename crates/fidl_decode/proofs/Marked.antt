@@ -5,8 +5,8 @@ use Rattle.fidl_wire.specs.Term.{uint64}
 use Rattle.fidl_wire.specs.Encoding.{zeros}
 use Rattle.fidl_wire.specs.Standing.{Stands}
 use Rattle.fidl_wire.specs.Field.{number_at}
-use Rattle.fidl_decode.proofs.Numbers.{number_64}
-use Rattle.fidl_decode.proofs.Scalars.{standing}
+use Rattle.fidl_decode_model.proofs.Numbers.{number_64}
+use Rattle.fidl_decode_model.proofs.Scalars.{standing}
 
 module _ (m : List ℕ) (p : ℕ) where
   pub zeros_read : Stands m p (zeros 8) → number_at w64 m p ≡ 0

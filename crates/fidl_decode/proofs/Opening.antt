@@ -4,13 +4,13 @@ use Rattle.std.specs.Prelude.{◌↔◌, ◌⊎◌, Option}
 use Rattle.fidl_wire.specs.Term.{Term}
 use Rattle.fidl_wire.specs.Term as ty
 use Rattle.fidl_table_format.specs.Terms.{declarations_of}
-use Rattle.fidl_decode.specs.declared.fault.DecodeFault.{DecodeFault}
-use Rattle.fidl_decode.specs.declared.frame.Frame.{Frame}
-use Rattle.fidl_decode.specs.State.{Message, Position}
-use Rattle.fidl_decode.specs.Envelopes.{Contained}
-use Rattle.fidl_decode.specs.Breaks.{BreaksMember}
-use Rattle.fidl_decode.specs.Machine.{Reads, ReadsIf, BreaksFrame, FrameFine, StateFine, Turns, Opens, PaysEnvelope, level, height, most_nest, inline_work, frame_work, byte_work, envelope_work}
-use Rattle.fidl_decode.proofs.Turning.{fine_from}
+use Rattle.fidl_decode_model.specs.declared.fault.DecodeFault.{DecodeFault}
+use Rattle.fidl_decode_model.specs.declared.frame.Frame.{Frame}
+use Rattle.fidl_decode_model.specs.State.{Message, Position}
+use Rattle.fidl_decode_model.specs.Envelopes.{Contained}
+use Rattle.fidl_decode_model.specs.Breaks.{BreaksMember}
+use Rattle.fidl_decode_model.specs.Machine.{Reads, ReadsIf, BreaksFrame, FrameFine, StateFine, Turns, Opens, PaysEnvelope, level, height, most_nest, inline_work, frame_work, byte_work, envelope_work}
+use Rattle.fidl_decode_model.proofs.Turning.{fine_from}
 use Rattle.fidl_decode.proofs.Leaves.{left_over}
 
 module _ (t : List ℕ) (m : Message) (held envelope : ℕ) (old new : Position) (state : StateFine m new) where

@@ -14,19 +14,19 @@ use Rattle.fidl_wire.specs.Standing.{Stands, Carries}
 use Rattle.fidl_wire.proofs.Sizes.{size_of-resolve, length-inline, length-elements, length-members, length-enveloped, end_of-le, le-next_multiple_of}
 use Rattle.fidl_wire.proofs.Unique.{no_out}
 use Rattle.fidl_wire.proofs.Stand.{stands_front}
-use Rattle.fidl_decode.specs.Links.{Linked}
-use Rattle.fidl_decode.specs.State.{Message, Position, linked, member_at, begun, envelope_place, after, after_elements, after_fields, after_member, after_envelopes, StandsAt, ValueAt}
+use Rattle.fidl_decode_model.specs.Links.{Linked}
+use Rattle.fidl_decode_model.specs.State.{Message, Position, linked, member_at, begun, envelope_place, after, after_elements, after_fields, after_member, after_envelopes, StandsAt, ValueAt}
 use Rattle.fidl_table_format.specs.Section.{header_of, entry_at}
 use Rattle.fidl_table_format.specs.Terms.{declarations_of}
-use Rattle.fidl_decode.specs.Invariants.{IsFine}
-use Rattle.fidl_decode.specs.Machine.{IsWhole}
-use Rattle.fidl_decode.specs.Placed.{Placed, ArePlaced, AreFieldsPlaced, IsMemberPlaced, AreMembersPlaced, StandsIn, links_of}
-use Rattle.fidl_decode.proofs.Visiting.{size_is}
-use Rattle.fidl_decode.proofs.Messages.{begins, item_encodes}
-use Rattle.fidl_decode.proofs.After.{past, length-table, after_past, member_past, stands_alike}
-use Rattle.fidl_decode.proofs.Rows.{stands_joined, stands_at, past_inline}
+use Rattle.fidl_decode_model.specs.Invariants.{IsFine}
+use Rattle.fidl_decode_model.specs.Machine.{IsWhole}
+use Rattle.fidl_decode_model.specs.Placed.{Placed, ArePlaced, AreFieldsPlaced, IsMemberPlaced, AreMembersPlaced, StandsIn, links_of}
+use Rattle.fidl_decode_model.proofs.Visiting.{size_is}
+use Rattle.fidl_decode_model.proofs.Messages.{begins, item_encodes}
+use Rattle.fidl_decode_model.proofs.After.{past, length-table, after_past, member_past, stands_alike}
+use Rattle.fidl_decode_model.proofs.Rows.{stands_joined, stands_at, past_inline}
 use Rattle.fidl_decode.proofs.Covering.{Covers, covers_within, covers_before, Fits, object_stands, envelope_stands, member_fits, first_is}
-use Rattle.fidl_decode.proofs.Keeping.{Keeps, ends_behind, keeps, keeps_elements, keeps_fields, keeps_member, keeps_envelopes}
+use Rattle.fidl_decode_model.proofs.Keeping.{Keeps, ends_behind, keeps, keeps_elements, keeps_fields, keeps_member, keeps_envelopes}
 
 module _ (ds : Declarations) (laid : IsLaidOut ds) (m : Message) (l : Linked) where
   mutual

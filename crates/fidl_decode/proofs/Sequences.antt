@@ -11,17 +11,17 @@ use Rattle.fidl_table_format.specs.declared.kind.EntryKind.TheVariants.{Bool as 
 use Rattle.fidl_table_format.specs.Kind.{kind_of}
 use Rattle.fidl_table_format.specs.Section.{header_of, entry_at}
 use Rattle.fidl_table_format.specs.Terms.{declarations_of}
-use Rattle.fidl_decode.specs.Invariants.{IsFine, is_free, is_free_at, is_leaf}
-use Rattle.fidl_decode.specs.declared.frame.Frame.{Frame}
-use Rattle.fidl_decode.specs.declared.frame.Remaining.TheVariants.{Elements}
-use Rattle.fidl_decode.specs.State.{Message, Position}
+use Rattle.fidl_decode_model.specs.Invariants.{IsFine, is_free, is_free_at, is_leaf}
+use Rattle.fidl_decode_model.specs.declared.frame.Frame.{Frame}
+use Rattle.fidl_decode_model.specs.declared.frame.Remaining.TheVariants.{Elements}
+use Rattle.fidl_decode_model.specs.State.{Message, Position}
 use Rattle.fidl_wire.specs.Encoding.{zeros}
 use Rattle.fidl_wire.specs.Standing.{Stands}
-use Rattle.fidl_decode.specs.declared.fault.DecodeFault.{DecodeFault}
-use Rattle.fidl_decode.specs.Breaks.{IsPadding}
-use Rattle.fidl_decode.specs.Machine.{StateFine, FrameFine, Visits, Turns, BreaksFrame}
+use Rattle.fidl_decode_model.specs.declared.fault.DecodeFault.{DecodeFault}
+use Rattle.fidl_decode_model.specs.Breaks.{IsPadding}
+use Rattle.fidl_decode_model.specs.Machine.{StateFine, FrameFine, Visits, Turns, BreaksFrame}
 use Rattle.fidl_decode.proofs.Unchanged.{no_true}
-use Rattle.fidl_decode.proofs.Visiting.{size_is, figure_is, fine_as, array_frame, visits_array, array_fine}
+use Rattle.fidl_decode_model.proofs.Visiting.{size_is, figure_is, fine_as, array_frame, visits_array, array_fine}
 use Rattle.fidl_decode.proofs.Leaves.{going_on, left_over, free_turns, over_turns, over_breaks, over_room, no_zeros}
 use Rattle.fidl_decode.proofs.Wholly.{visits_over}
 

@@ -13,15 +13,15 @@ use Rattle.fidl_wire.specs.Typed.{IsTypedMember, IsHandle, AreBytes, IsUnknownLe
 use Rattle.fidl_wire.specs.Encoding.{out_envelope, inline_envelope, envelope_end, enveloped}
 use Rattle.fidl_wire.specs.Standing.{Carries}
 use Rattle.fidl_wire.proofs.Stand.{stands_to, stands_front, stands_back, stands_both}
-use Rattle.fidl_decode.specs.Faults.{IsWithin}
-use Rattle.fidl_decode.specs.State.{Message, Position, opened, linked, passed, after_member, StandsAt}
-use Rattle.fidl_decode.specs.declared.fault.DecodeFault.{DecodeFault}
-use Rattle.fidl_decode.specs.Envelopes.{Contained, CanHold, BreaksEnvelope}
+use Rattle.fidl_decode_model.specs.Faults.{IsWithin}
+use Rattle.fidl_decode_model.specs.State.{Message, Position, opened, linked, passed, after_member, StandsAt}
+use Rattle.fidl_decode_model.specs.declared.fault.DecodeFault.{DecodeFault}
+use Rattle.fidl_decode_model.specs.Envelopes.{Contained, CanHold, BreaksEnvelope}
 use Rattle.fidl_wire.specs.Envelope.{bytes_below, handles_below, flags_at}
-use Rattle.fidl_decode.specs.Breaks.{BreaksMember}
-use Rattle.fidl_decode.specs.Breaks as broken
-use Rattle.fidl_decode.proofs.Scalars.{bytes_at, bytes_stand, length-bytes_at}
-use Rattle.fidl_decode.proofs.Enveloped.{envelope_excluded}
+use Rattle.fidl_decode_model.specs.Breaks.{BreaksMember}
+use Rattle.fidl_decode_model.specs.Breaks as broken
+use Rattle.fidl_decode_model.proofs.Scalars.{bytes_at, bytes_stand, length-bytes_at}
+use Rattle.fidl_decode_model.proofs.Enveloped.{envelope_excluded}
 use Rattle.fidl_decode.proofs.Counts.{end_numbers, first_number, end_stands, first_stands}
 
 some_same : (a b : HandleInfo) → Some a ≡ Some b → a ≡ b

@@ -16,18 +16,18 @@ use Rattle.fidl_table_format.specs.declared.kind.EntryKind.{EntryKind}
 use Rattle.fidl_table_format.specs.Kind.{kind_of}
 use Rattle.fidl_table_format.specs.Section.{header_of, entry_at}
 use Rattle.fidl_table_format.specs.Terms.{declarations_of, members_of, term_as, rows_from}
-use Rattle.fidl_decode.specs.declared.frame.Frame.{Frame}
-use Rattle.fidl_decode.specs.declared.frame.Remaining.TheVariants.{Envelopes}
-use Rattle.fidl_decode.specs.Invariants.{IsFine}
-use Rattle.fidl_decode.specs.State.{Message, Position, linked, ValueAt, Slots}
-use Rattle.fidl_decode.specs.Breaks.{Breaks, BreaksEnvelopes, count_at}
-use Rattle.fidl_decode.specs.Breaks as broken
-use Rattle.fidl_decode.specs.Machine.{StateFine, Visits, most_nest, inline_work, byte_work}
-use Rattle.fidl_decode.proofs.After.{length-table, length-pad8}
-use Rattle.fidl_decode.proofs.Scalars.{standing}
-use Rattle.fidl_decode.proofs.Rows.{stands_at}
-use Rattle.fidl_decode.proofs.Broken.{table_value, table_right}
-use Rattle.fidl_decode.proofs.Visiting.{term_is}
+use Rattle.fidl_decode_model.specs.declared.frame.Frame.{Frame}
+use Rattle.fidl_decode_model.specs.declared.frame.Remaining.TheVariants.{Envelopes}
+use Rattle.fidl_decode_model.specs.Invariants.{IsFine}
+use Rattle.fidl_decode_model.specs.State.{Message, Position, linked, ValueAt, Slots}
+use Rattle.fidl_decode_model.specs.Breaks.{Breaks, BreaksEnvelopes, count_at}
+use Rattle.fidl_decode_model.specs.Breaks as broken
+use Rattle.fidl_decode_model.specs.Machine.{StateFine, Visits, most_nest, inline_work, byte_work}
+use Rattle.fidl_decode_model.proofs.After.{length-table, length-pad8}
+use Rattle.fidl_decode_model.proofs.Scalars.{standing}
+use Rattle.fidl_decode_model.proofs.Rows.{stands_at}
+use Rattle.fidl_decode_model.proofs.Broken.{table_value, table_right}
+use Rattle.fidl_decode_model.proofs.Visiting.{term_is}
 
 pub whole_eights : (n : ℕ) → next_multiple_of (8 * n) 8 ≡ 8 * n
 whole_eights n = omega arith

@@ -4,16 +4,16 @@ use Rattle.std.specs.Prelude.{Some}
 use Rattle.fidl_wire.specs.Figure.{Declarations}
 use Rattle.fidl_table_format.specs.Section.{header_of}
 use Rattle.fidl_table_format.specs.Terms.{declarations_of}
-use Rattle.fidl_decode.specs.declared.frame.Frame.{Frame}
-use Rattle.fidl_decode.specs.declared.frame.Remaining.{Remaining}
-use Rattle.fidl_decode.specs.declared.frame.Remaining.TheVariants.{Rows, Elements, Envelopes, Content}
-use Rattle.fidl_decode.specs.Invariants.{IsFine}
-use Rattle.fidl_decode.specs.Rows.{Row, table_rows, element_rows}
-use Rattle.fidl_decode.specs.State.{Message, Position, Members}
-use Rattle.fidl_decode.specs.Machine.{rows_left, Reads, BreaksFrame, IsPlain, Turns}
+use Rattle.fidl_decode_model.specs.declared.frame.Frame.{Frame}
+use Rattle.fidl_decode_model.specs.declared.frame.Remaining.{Remaining}
+use Rattle.fidl_decode_model.specs.declared.frame.Remaining.TheVariants.{Rows, Elements, Envelopes, Content}
+use Rattle.fidl_decode_model.specs.Invariants.{IsFine}
+use Rattle.fidl_decode_model.specs.Rows.{Row, table_rows, element_rows}
+use Rattle.fidl_decode_model.specs.State.{Message, Position, Members}
+use Rattle.fidl_decode_model.specs.Machine.{rows_left, Reads, BreaksFrame, IsPlain, Turns}
 use Rattle.fidl_decode.specs.Over.{NoRows, IsOver}
-use Rattle.fidl_decode.proofs.Rows.{members_end}
-use Rattle.fidl_decode.proofs.Turning.{plain_reads}
+use Rattle.fidl_decode_model.proofs.Rows.{members_end}
+use Rattle.fidl_decode_model.proofs.Turning.{plain_reads}
 use Rattle.fidl_decode.proofs.Leaves.{left_over, no_zeros}
 
 no_rows_plain : (left : Remaining) → NoRows left → IsPlain left

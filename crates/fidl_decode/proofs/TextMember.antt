@@ -16,20 +16,20 @@ use Rattle.fidl_table_format.specs.declared.record.Entry.{Entry}
 use Rattle.fidl_table_format.specs.Kind.{kind_of}
 use Rattle.fidl_table_format.specs.Section.{header_of, entry_at}
 use Rattle.fidl_table_format.specs.Terms.{declarations_of, is_optional}
-use Rattle.fidl_decode.specs.Invariants.{IsFine}
-use Rattle.fidl_decode.specs.Faults.{IsWithin}
-use Rattle.fidl_decode.specs.Breaks.{count_at}
-use Rattle.fidl_decode.specs.State.{Message, Position, opened, linked}
+use Rattle.fidl_decode_model.specs.Invariants.{IsFine}
+use Rattle.fidl_decode_model.specs.Faults.{IsWithin}
+use Rattle.fidl_decode_model.specs.Breaks.{count_at}
+use Rattle.fidl_decode_model.specs.State.{Message, Position, opened, linked}
 use Rattle.fidl_wire.specs.Envelope.{bytes_below, handles_below, flags_at}
-use Rattle.fidl_decode.specs.Machine.{StateFine, Opens, Visits, Leads}
-use Rattle.fidl_decode.proofs.Visiting.{size_as, visits_leaf}
+use Rattle.fidl_decode_model.specs.Machine.{StateFine, Opens, Visits, Leads}
+use Rattle.fidl_decode_model.proofs.Visiting.{size_as, visits_leaf}
 use Rattle.fidl_decode.proofs.Leaves.{no_zeros}
 use Rattle.fidl_decode.proofs.LeafContent.{leaf_over}
 use Rattle.fidl_decode.proofs.Opening.{opens_known, opens_on}
 use Rattle.fidl_decode.proofs.Entered.{below_frame, enters_below}
-use Rattle.fidl_decode.proofs.Numbers.{slice_is}
-use Rattle.fidl_decode.proofs.Scalars.{bytes_at, bytes_stand, length-bytes_at}
-use Rattle.fidl_decode.proofs.Written.{text_leads}
+use Rattle.fidl_decode_model.proofs.Numbers.{slice_is}
+use Rattle.fidl_decode_model.proofs.Scalars.{bytes_at, bytes_stand, length-bytes_at}
+use Rattle.fidl_decode_model.proofs.Written.{text_leads}
 
 -- bytes that are all ASCII are UTF-8
 pub ascii_text : (m : List ℕ) (from n : ℕ) → from + n ≤ length m → ((k : ℕ) → k < n → get_or m (from + k) 0 < 128) → IsUtf8 (slice_range m from (from + n))

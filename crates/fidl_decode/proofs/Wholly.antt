@@ -3,11 +3,11 @@ use Rattle.std.proofs.Common.{◌≡◌, ℕ, ◌+◌, ◌-◌, ◌<◌, ◌≤�
 use Rattle.std.specs.Prelude.{Some, None}
 use Rattle.std.proofs.Math.Nat.{mul-le-mul_left}
 use Rattle.fidl_table_format.specs.Section.{header_of, entry_at}
-use Rattle.fidl_decode.specs.declared.frame.Frame.{Frame}
-use Rattle.fidl_decode.specs.Invariants.{IsFine}
-use Rattle.fidl_decode.specs.State.{Message, Position}
-use Rattle.fidl_decode.specs.Machine.{Visits, Turns, inline_work, value_work, probes}
-use Rattle.fidl_decode.proofs.Visiting.{size_is, positive}
+use Rattle.fidl_decode_model.specs.declared.frame.Frame.{Frame}
+use Rattle.fidl_decode_model.specs.Invariants.{IsFine}
+use Rattle.fidl_decode_model.specs.State.{Message, Position}
+use Rattle.fidl_decode_model.specs.Machine.{Visits, Turns, inline_work, value_work, probes}
+use Rattle.fidl_decode_model.proofs.Visiting.{size_is, positive}
 use Rattle.fidl_decode.proofs.Leaves.{left_over}
 
 -- the work of a leaf is within that of a value

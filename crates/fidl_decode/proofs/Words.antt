@@ -13,8 +13,8 @@ use Rattle.fidl_wire.specs.Standing.{Stands}
 use Rattle.fidl_wire.proofs.Stand.{stands_to, stands_front, stands_back}
 use Rattle.fidl_wire.specs.Field.{number_at}
 use Rattle.fidl_wire.specs.Envelope.{bytes_below, handles_below, flags_at}
-use Rattle.fidl_decode.proofs.Numbers.{number_16, number_32}
-use Rattle.fidl_decode.proofs.Scalars.{standing}
+use Rattle.fidl_decode_model.proofs.Numbers.{number_16, number_32}
+use Rattle.fidl_decode_model.proofs.Scalars.{standing}
 
 -- the high bit of each of eight bytes
 abbrev pub high_bits : ℕ

@@ -6,13 +6,13 @@ use Rattle.fidl_table_format.specs.declared.kind.EntryKind.TheVariants.{Table}
 use Rattle.fidl_table_format.specs.Kind.{kind_of}
 use Rattle.fidl_table_format.specs.Section.{header_of, entry_at}
 use Rattle.fidl_table_format.specs.WellFormed.{WellFormed}
-use Rattle.fidl_decode.specs.declared.frame.Frame.{Frame}
-use Rattle.fidl_decode.specs.declared.frame.Remaining.TheVariants.{Elements, Envelopes}
+use Rattle.fidl_decode_model.specs.declared.frame.Frame.{Frame}
+use Rattle.fidl_decode_model.specs.declared.frame.Remaining.TheVariants.{Elements, Envelopes}
 use Rattle.fidl_decode.specs.declared.body.TableBody.{TableBody}
 use Rattle.fidl_decode.specs.declared.body.Passing.{Passing}
 use Rattle.fidl_decode.specs.declared.body.Passing.TheVariants.{Inside, Below}
-use Rattle.fidl_decode.specs.Invariants.{is_free}
-use Rattle.fidl_decode.specs.Machine.{most_nest}
+use Rattle.fidl_decode_model.specs.Invariants.{is_free}
+use Rattle.fidl_decode_model.specs.Machine.{most_nest}
 
 -- what is noted of a table's entry is so: its header, the first of its rows, and how many of them
 -- name members of these envelopes

@@ -1,9 +1,9 @@
 -- Frames of which nothing is left to read.
 use Rattle.std.specs.Prelude.{◌≡◌}
-use Rattle.fidl_decode.specs.declared.frame.Frame.{Frame}
-use Rattle.fidl_decode.specs.declared.frame.Remaining.{Remaining}
-use Rattle.fidl_decode.specs.declared.frame.Remaining.TheVariants.{Rows, Elements, Envelopes}
-use Rattle.fidl_decode.specs.declared.frame.Remaining.TheVariants.{Content}
+use Rattle.fidl_decode_model.specs.declared.frame.Frame.{Frame}
+use Rattle.fidl_decode_model.specs.declared.frame.Remaining.{Remaining}
+use Rattle.fidl_decode_model.specs.declared.frame.Remaining.TheVariants.{Rows, Elements, Envelopes}
+use Rattle.fidl_decode_model.specs.declared.frame.Remaining.TheVariants.{Content}
 
 -- there are rows alone, and none is left
 abbrev pub NoRows : Remaining → Type 0

@@ -8,13 +8,13 @@ ghost use Rattle.fidl_wire.specs.Term.{find};
 ghost use Rattle.fidl_table_format.specs.Kind.{kind_of};
 ghost use Rattle.fidl_table_format.specs.Section.{header_of, entry_at, row_at};
 ghost use Rattle.fidl_table_format.specs.Terms.{members_of};
-ghost use Rattle.fidl_decode.specs.Faults.{message_of};
+ghost use Rattle.fidl_decode_model.specs.Faults.{message_of};
 ghost use Rattle.fidl_decode.specs.Body.{BodyFine, IsPassing, rest_of};
-ghost use Rattle.fidl_decode.specs.Steps.{Spends};
-ghost use Rattle.fidl_decode.specs.Machine.{StateFine, FrameFine, Turns, at_of};
+ghost use Rattle.fidl_decode_model.specs.Steps.{Spends};
+ghost use Rattle.fidl_decode_model.specs.Machine.{StateFine, FrameFine, Turns, at_of};
 
 use crate::decoder::Decoder;
-use crate::frame::{Frame, Remaining, State};
+use fidl_decode_model::frame::{Frame, Remaining, State};
 use fidl_table_format::{EntryKind, Header, Row, read_entry, read_header, read_row};
 use fidl_wire::MAX_NEST;
 

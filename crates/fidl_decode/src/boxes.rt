@@ -4,13 +4,13 @@ ghost use Rattle.fidl_limits.specs.declared.limits.TheConstants.{MAX_DEPTH};
 ghost use Rattle.fidl_table_format.specs.declared.kind.EntryKind.TheVariants as kinds;
 ghost use Rattle.fidl_table_format.specs.Kind.{kind_of};
 ghost use Rattle.fidl_table_format.specs.Section.{header_of, entry_at};
-ghost use Rattle.fidl_decode.specs.Faults.{message_of};
-ghost use Rattle.fidl_decode.specs.Breaks.{BreaksBox};
-ghost use Rattle.fidl_decode.specs.Machine.{StateFine, Visits, VisitFine, at_of};
+ghost use Rattle.fidl_decode_model.specs.Faults.{message_of};
+ghost use Rattle.fidl_decode_model.specs.Breaks.{BreaksBox};
+ghost use Rattle.fidl_decode_model.specs.Machine.{StateFine, Visits, VisitFine, at_of};
 
 use crate::decoder::Decoder;
-use crate::fault::DecodeFault;
-use crate::frame::{Frame, Remaining, State};
+use fidl_decode_model::DecodeFault;
+use fidl_decode_model::frame::{Frame, Remaining, State};
 use fidl_wire::MAX_DEPTH;
 
 impl<'t, 'm> Decoder<'t, 'm> {

@@ -3,16 +3,16 @@ ghost use Rattle.std.specs.Prelude.{◌≡◌, ◌+◌, ◌-◌, ◌^◌, ◌<�
 ghost use Rattle.std.specs.Prelude.{Some, None};
 ghost use Rattle.fidl_table_format.specs.Kind.{kind_of};
 ghost use Rattle.fidl_table_format.specs.Section.{entry_at};
-ghost use Rattle.fidl_decode.specs.Invariants.{IsFlat};
-ghost use Rattle.fidl_decode.specs.Faults.{message_of};
-ghost use Rattle.fidl_decode.specs.declared.frame.Remaining.TheVariants as left;
-ghost use Rattle.fidl_decode.specs.Steps.{Spends};
-ghost use Rattle.fidl_decode.specs.Machine.{StateFine, FrameFine, Turns, BreaksFrame};
-ghost use Rattle.fidl_decode.specs.Machine.{turn_work, at_of};
+ghost use Rattle.fidl_decode_model.specs.Invariants.{IsFlat};
+ghost use Rattle.fidl_decode_model.specs.Faults.{message_of};
+ghost use Rattle.fidl_decode_model.specs.declared.frame.Remaining.TheVariants as left;
+ghost use Rattle.fidl_decode_model.specs.Steps.{Spends};
+ghost use Rattle.fidl_decode_model.specs.Machine.{StateFine, FrameFine, Turns, BreaksFrame};
+ghost use Rattle.fidl_decode_model.specs.Machine.{turn_work, at_of};
 
 use crate::decoder::{Decoder, zeros_at};
-use crate::fault::DecodeFault;
-use crate::frame::{Frame, Remaining, State, Turn, Until};
+use fidl_decode_model::DecodeFault;
+use fidl_decode_model::frame::{Frame, Remaining, State, Turn, Until};
 use fidl_table_format::EntryKind;
 
 impl<'t, 'm> Decoder<'t, 'm> {

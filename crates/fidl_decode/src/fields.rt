@@ -4,18 +4,18 @@ ghost use Rattle.std.specs.Prelude.{◌≡◌, ◌+◌, ◌-◌, ◌*◌, ◌^�
 ghost use Rattle.std.specs.Prelude.{IfNone, true, Some, None};
 ghost use Rattle.fidl_table_format.specs.Kind.{kind_of};
 ghost use Rattle.fidl_table_format.specs.Section.{header_of, entry_at};
-ghost use Rattle.fidl_decode.specs.Invariants.{is_leaf, is_free_at};
-ghost use Rattle.fidl_decode.specs.Faults.{message_of};
-ghost use Rattle.fidl_decode.specs.declared.frame.Remaining.TheVariants as left;
-ghost use Rattle.fidl_decode.specs.Steps.{Spends};
-ghost use Rattle.fidl_decode.specs.Machine.{StateFine, FrameFine, BreaksFrame, Turns};
-ghost use Rattle.fidl_decode.specs.Machine.{IsKnown, turn_work, at_of};
+ghost use Rattle.fidl_decode_model.specs.Invariants.{is_leaf, is_free_at};
+ghost use Rattle.fidl_decode_model.specs.Faults.{message_of};
+ghost use Rattle.fidl_decode_model.specs.declared.frame.Remaining.TheVariants as left;
+ghost use Rattle.fidl_decode_model.specs.Steps.{Spends};
+ghost use Rattle.fidl_decode_model.specs.Machine.{StateFine, FrameFine, BreaksFrame, Turns};
+ghost use Rattle.fidl_decode_model.specs.Machine.{IsKnown, turn_work, at_of};
 
 use crate::decoder::{Decoder, zeros_at};
-use crate::fault::DecodeFault;
-use crate::frame::{Frame, Remaining, State};
 use crate::leaf::is_free;
 use crate::plain::Plain;
+use fidl_decode_model::DecodeFault;
+use fidl_decode_model::frame::{Frame, Remaining, State};
 use fidl_table_format::EntryKind;
 
 impl<'t, 'm> Decoder<'t, 'm> {

@@ -7,18 +7,18 @@ ghost use Rattle.fidl_wire.specs.Term.{resolve};
 ghost use Rattle.fidl_table_format.specs.Kind.{kind_of};
 ghost use Rattle.fidl_table_format.specs.Section.{header_of, entry_at};
 ghost use Rattle.fidl_table_format.specs.Terms.{declarations_of};
-ghost use Rattle.fidl_decode.specs.Invariants.{AreLeaves, IsFlat};
-ghost use Rattle.fidl_decode.specs.Faults.{message_of};
-ghost use Rattle.fidl_decode.specs.Breaks.{Breaks};
-ghost use Rattle.fidl_decode.specs.declared.frame.Remaining.TheVariants as left;
-ghost use Rattle.fidl_decode.specs.Steps.{Spends};
-ghost use Rattle.fidl_decode.specs.Machine.{StateFine, FrameFine, BreaksFrame, Visits};
-ghost use Rattle.fidl_decode.specs.Machine.{Turns, turn_work, value_work, at_of};
+ghost use Rattle.fidl_decode_model.specs.Invariants.{AreLeaves, IsFlat};
+ghost use Rattle.fidl_decode_model.specs.Faults.{message_of};
+ghost use Rattle.fidl_decode_model.specs.Breaks.{Breaks};
+ghost use Rattle.fidl_decode_model.specs.declared.frame.Remaining.TheVariants as left;
+ghost use Rattle.fidl_decode_model.specs.Steps.{Spends};
+ghost use Rattle.fidl_decode_model.specs.Machine.{StateFine, FrameFine, BreaksFrame, Visits};
+ghost use Rattle.fidl_decode_model.specs.Machine.{Turns, turn_work, value_work, at_of};
 
 use crate::decoder::Decoder;
-use crate::fault::DecodeFault;
-use crate::frame::{Frame, Remaining, State};
 use crate::plain::{MOST_ROWS, rows_from};
+use fidl_decode_model::DecodeFault;
+use fidl_decode_model::frame::{Frame, Remaining, State};
 use fidl_table_format::EntryKind;
 
 impl<'t, 'm> Decoder<'t, 'm> {

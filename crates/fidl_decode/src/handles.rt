@@ -5,13 +5,13 @@ ghost use Rattle.fidl_limits.specs.declared.limits.TheConstants.{MAX_DEPTH};
 ghost use Rattle.fidl_wire.specs.Term as ty;
 ghost use Rattle.fidl_wire.specs.Typed.{IsHandle, IsAllowed};
 ghost use Rattle.fidl_table_format.specs.Terms.{declarations_of, is_optional};
-ghost use Rattle.fidl_decode.specs.Faults.{message_of};
-ghost use Rattle.fidl_decode.specs.Breaks.{BreaksHandle};
-ghost use Rattle.fidl_decode.specs.Machine.{StateFine, Leads, at_of};
+ghost use Rattle.fidl_decode_model.specs.Faults.{message_of};
+ghost use Rattle.fidl_decode_model.specs.Breaks.{BreaksHandle};
+ghost use Rattle.fidl_decode_model.specs.Machine.{StateFine, Leads, at_of};
 
 use crate::decoder::Decoder;
-use crate::fault::DecodeFault;
-use crate::frame::State;
+use fidl_decode_model::DecodeFault;
+use fidl_decode_model::frame::State;
 use fidl_table_format::Entry;
 use fidl_wire::{HandleInfo, Presence, SAME_RIGHTS, presence_at};
 

@@ -12,16 +12,17 @@ ghost use Rattle.fidl_table_format.specs.Number.{number_standing};
 ghost use Rattle.fidl_table_format.specs.Section.{header_of, entry_at};
 ghost use Rattle.fidl_table_format.specs.Entry.{subtype_is};
 ghost use Rattle.fidl_table_format.specs.Uses.{is_unsigned};
-ghost use Rattle.fidl_table_format.specs.Terms.{underlying, mask_of, strict_values, declarations_of};
-ghost use Rattle.fidl_decode.specs.Invariants.{is_leaf, is_free, is_free_at};
-ghost use Rattle.fidl_decode.specs.Faults.{message_of};
-ghost use Rattle.fidl_decode.specs.Breaks.{BreaksField, Breaks};
-ghost use Rattle.fidl_decode.specs.Steps.{Spends};
-ghost use Rattle.fidl_decode.specs.Machine.{StateFine, Visits, at_of, probes};
+ghost use Rattle.fidl_table_format.specs.Terms.{underlying, mask_of, strict_values};
+ghost use Rattle.fidl_table_format.specs.Terms.{declarations_of};
+ghost use Rattle.fidl_decode_model.specs.Invariants.{is_leaf, is_free, is_free_at};
+ghost use Rattle.fidl_decode_model.specs.Faults.{message_of};
+ghost use Rattle.fidl_decode_model.specs.Breaks.{BreaksField, Breaks};
+ghost use Rattle.fidl_decode_model.specs.Steps.{Spends};
+ghost use Rattle.fidl_decode_model.specs.Machine.{StateFine, Visits, at_of, probes};
 
 use crate::decoder::Decoder;
-use crate::fault::DecodeFault;
-use crate::frame::State;
+use fidl_decode_model::DecodeFault;
+use fidl_decode_model::frame::State;
 use fidl_table_format::{Entry, EntryKind, number_bits};
 
 /// Whether any bytes are a value of the entry, which is of this kind: a number, or bits or an enum

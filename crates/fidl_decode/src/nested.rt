@@ -4,18 +4,18 @@ ghost use Rattle.std.specs.Prelude.{IfNone, IsTrue, Some, None, true, []};
 ghost use Rattle.fidl_table_format.specs.declared.kind.EntryKind.TheVariants as kinds;
 ghost use Rattle.fidl_table_format.specs.Kind.{kind_of};
 ghost use Rattle.fidl_table_format.specs.Section.{header_of, entry_at, row_at};
-ghost use Rattle.fidl_decode.specs.Invariants.{is_leaf};
-ghost use Rattle.fidl_decode.specs.Faults.{message_of};
-ghost use Rattle.fidl_decode.specs.declared.frame.Remaining.TheVariants as left;
-ghost use Rattle.fidl_decode.specs.Steps.{Spends};
-ghost use Rattle.fidl_decode.specs.Machine.{StateFine, FrameFine, BreaksFrame, Turns};
-ghost use Rattle.fidl_decode.specs.Machine.{IsPlain, IsKnown, rows_left, behind_rows};
-ghost use Rattle.fidl_decode.specs.Machine.{turn_work, at_of};
+ghost use Rattle.fidl_decode_model.specs.Invariants.{is_leaf};
+ghost use Rattle.fidl_decode_model.specs.Faults.{message_of};
+ghost use Rattle.fidl_decode_model.specs.declared.frame.Remaining.TheVariants as left;
+ghost use Rattle.fidl_decode_model.specs.Steps.{Spends};
+ghost use Rattle.fidl_decode_model.specs.Machine.{StateFine, FrameFine, BreaksFrame, Turns};
+ghost use Rattle.fidl_decode_model.specs.Machine.{IsPlain, IsKnown, rows_left, behind_rows};
+ghost use Rattle.fidl_decode_model.specs.Machine.{turn_work, at_of};
 
 use crate::decoder::{Decoder, zeros_at};
-use crate::fault::DecodeFault;
-use crate::frame::{Frame, Remaining, State};
 use crate::plain::{Plain, rows_from};
+use fidl_decode_model::DecodeFault;
+use fidl_decode_model::frame::{Frame, Remaining, State};
 use fidl_table_format::EntryKind;
 
 impl<'t, 'm> Decoder<'t, 'm> {

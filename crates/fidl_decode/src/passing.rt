@@ -8,13 +8,13 @@ ghost use Rattle.fidl_table_format.specs.declared.kind.EntryKind.{EntryKind};
 ghost use Rattle.fidl_table_format.specs.declared.kind.EntryKind.TheVariants as kinds;
 ghost use Rattle.fidl_table_format.specs.Kind.{kind_of};
 ghost use Rattle.fidl_table_format.specs.Section.{header_of, entry_at};
-ghost use Rattle.fidl_decode.specs.Invariants.{is_free};
-ghost use Rattle.fidl_decode.specs.Faults.{message_of};
-ghost use Rattle.fidl_decode.specs.Machine.{StateFine, Opens, at_of};
+ghost use Rattle.fidl_decode_model.specs.Invariants.{is_free};
+ghost use Rattle.fidl_decode_model.specs.Faults.{message_of};
+ghost use Rattle.fidl_decode_model.specs.Machine.{StateFine, Opens, at_of};
 
 use crate::decoder::Decoder;
-use crate::frame::State;
 use crate::leaf::is_free;
+use fidl_decode_model::frame::State;
 use fidl_table_format::EntryKind;
 use fidl_wire::{MAX_DEPTH, byte_count_at, flags_at, handle_count_at, u32_at, u64_at};
 

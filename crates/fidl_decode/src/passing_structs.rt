@@ -6,11 +6,11 @@ ghost use Rattle.fidl_wire.specs.Term as ty;
 ghost use Rattle.fidl_table_format.specs.declared.kind.EntryKind.TheVariants as kinds;
 ghost use Rattle.fidl_table_format.specs.Kind.{kind_of};
 ghost use Rattle.fidl_table_format.specs.Section.{header_of, entry_at};
-ghost use Rattle.fidl_decode.specs.Faults.{message_of};
-ghost use Rattle.fidl_decode.specs.Machine.{StateFine, Opens, at_of};
+ghost use Rattle.fidl_decode_model.specs.Faults.{message_of};
+ghost use Rattle.fidl_decode_model.specs.Machine.{StateFine, Opens, at_of};
 
 use crate::decoder::{Decoder, zeros_at};
-use crate::frame::State;
+use fidl_decode_model::frame::State;
 use fidl_wire::{MAX_DEPTH, u64_at};
 
 impl<'t, 'm> Decoder<'t, 'm> {

@@ -6,18 +6,18 @@ ghost use Rattle.fidl_limits.specs.declared.limits.TheConstants.{MAX_DEPTH, MAX_
 ghost use Rattle.fidl_table_format.specs.declared.kind.EntryKind.{EntryKind};
 ghost use Rattle.fidl_table_format.specs.Kind.{kind_of};
 ghost use Rattle.fidl_table_format.specs.Section.{header_of, entry_at};
-ghost use Rattle.fidl_decode.specs.Invariants.{is_free};
-ghost use Rattle.fidl_decode.specs.Faults.{message_of};
-ghost use Rattle.fidl_decode.specs.declared.frame.Remaining.TheVariants as left;
+ghost use Rattle.fidl_decode_model.specs.Invariants.{is_free};
+ghost use Rattle.fidl_decode_model.specs.Faults.{message_of};
+ghost use Rattle.fidl_decode_model.specs.declared.frame.Remaining.TheVariants as left;
 ghost use Rattle.fidl_decode.specs.declared.plain.TheConstants.{MOST_ROWS};
-ghost use Rattle.fidl_decode.specs.State.{Position};
-ghost use Rattle.fidl_decode.specs.Machine.{StateFine, FrameFine, Visits, Turns, BreaksFrame};
-ghost use Rattle.fidl_decode.specs.Machine.{IsGood, Passes, IsKnown, turn_work, at_of};
+ghost use Rattle.fidl_decode_model.specs.State.{Position};
+ghost use Rattle.fidl_decode_model.specs.Machine.{StateFine, FrameFine, Visits, Turns, BreaksFrame};
+ghost use Rattle.fidl_decode_model.specs.Machine.{IsGood, Passes, IsKnown, turn_work, at_of};
 
 use crate::decoder::Decoder;
-use crate::fault::DecodeFault;
-use crate::frame::{Frame, Remaining, State};
 use crate::leaf::is_free;
+use fidl_decode_model::DecodeFault;
+use fidl_decode_model::frame::{Frame, Remaining, State};
 use fidl_table_format::{EntryKind, Row};
 
 /// How many rows of a struct are looked at before it is read. These looks are no steps.

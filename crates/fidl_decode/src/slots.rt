@@ -9,17 +9,18 @@ ghost use Rattle.fidl_table_format.specs.Section.{header_of, entry_at};
 ghost use Rattle.fidl_table_format.specs.Terms.{declarations_of, members_of};
 ghost use Rattle.fidl_table_format.specs.Uses.{uses_ordinals};
 ghost use Rattle.fidl_table_format.specs.Entry.{kind_is};
-ghost use Rattle.fidl_decode.specs.Breaks.{BreaksMember};
-ghost use Rattle.fidl_decode.specs.Invariants.{IsFlat};
-ghost use Rattle.fidl_decode.specs.Faults.{message_of};
-ghost use Rattle.fidl_decode.specs.declared.frame.Remaining.TheVariants as left;
-ghost use Rattle.fidl_decode.specs.Machine.{StateFine, FrameFine, Turns, BreaksFrame};
-ghost use Rattle.fidl_decode.specs.Machine.{Opens, PaysEnvelope, member_term, behind_envelopes};
-ghost use Rattle.fidl_decode.specs.Machine.{byte_work, envelope_work, turn_work, at_of};
+ghost use Rattle.fidl_decode_model.specs.Breaks.{BreaksMember};
+ghost use Rattle.fidl_decode_model.specs.Invariants.{IsFlat};
+ghost use Rattle.fidl_decode_model.specs.Faults.{message_of};
+ghost use Rattle.fidl_decode_model.specs.declared.frame.Remaining.TheVariants as left;
+ghost use Rattle.fidl_decode_model.specs.Machine.{StateFine, FrameFine, Turns, BreaksFrame};
+ghost use Rattle.fidl_decode_model.specs.Machine.{Opens, PaysEnvelope, member_term};
+ghost use Rattle.fidl_decode_model.specs.Machine.{behind_envelopes};
+ghost use Rattle.fidl_decode_model.specs.Machine.{byte_work, envelope_work, turn_work, at_of};
 
 use crate::decoder::Decoder;
-use crate::fault::DecodeFault;
-use crate::frame::{Frame, Remaining, State, Turn};
+use fidl_decode_model::DecodeFault;
+use fidl_decode_model::frame::{Frame, Remaining, State, Turn};
 use fidl_table_format::{Entry, EntryKind, Row};
 
 /// A frame with so many envelopes left, behind those that are read, and so many of its bytes read.

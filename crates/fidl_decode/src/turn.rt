@@ -9,17 +9,17 @@ ghost use Rattle.fidl_table_format.specs.declared.kind.EntryKind.TheVariants as 
 ghost use Rattle.fidl_table_format.specs.Kind.{kind_of};
 ghost use Rattle.fidl_table_format.specs.Section.{header_of, entry_at};
 ghost use Rattle.fidl_table_format.specs.Terms.{declarations_of};
-ghost use Rattle.fidl_decode.specs.Breaks.{Breaks};
-ghost use Rattle.fidl_decode.specs.Faults.{message_of};
-ghost use Rattle.fidl_decode.specs.declared.frame.Remaining.TheVariants as left;
-ghost use Rattle.fidl_decode.specs.Machine.{StateFine, FrameFine, BreaksFrame, Turns};
-ghost use Rattle.fidl_decode.specs.Machine.{IsInside, Visits, VisitFine};
-ghost use Rattle.fidl_decode.specs.Machine.{turn_work, value_work, at_of};
+ghost use Rattle.fidl_decode_model.specs.Breaks.{Breaks};
+ghost use Rattle.fidl_decode_model.specs.Faults.{message_of};
+ghost use Rattle.fidl_decode_model.specs.declared.frame.Remaining.TheVariants as left;
+ghost use Rattle.fidl_decode_model.specs.Machine.{StateFine, FrameFine, BreaksFrame, Turns};
+ghost use Rattle.fidl_decode_model.specs.Machine.{IsInside, Visits, VisitFine};
+ghost use Rattle.fidl_decode_model.specs.Machine.{turn_work, value_work, at_of};
 ghost use Rattle.fidl_decode.specs.Over.{IsOver};
 
 use crate::decoder::{Decoder, zeros_at};
-use crate::fault::DecodeFault;
-use crate::frame::{Frame, Remaining, State, Turn};
+use fidl_decode_model::DecodeFault;
+use fidl_decode_model::frame::{Frame, Remaining, State, Turn};
 use fidl_table_format::EntryKind;
 
 /// Whether all of a frame is read, up to its end: nothing is left behind what is below.

@@ -9,16 +9,17 @@ ghost use Rattle.fidl_table_format.specs.declared.kind.EntryKind.TheVariants as 
 ghost use Rattle.fidl_table_format.specs.Kind.{kind_of};
 ghost use Rattle.fidl_table_format.specs.Section.{header_of, entry_at};
 ghost use Rattle.fidl_table_format.specs.Terms.{declarations_of};
-ghost use Rattle.fidl_decode.specs.Faults.{message_of};
-ghost use Rattle.fidl_decode.specs.Breaks.{Breaks, BreaksMember};
-ghost use Rattle.fidl_decode.specs.Steps.{Spends};
-ghost use Rattle.fidl_decode.specs.Machine.{StateFine, Visits, VisitFine, Opens, member_term, at_of};
-ghost use Rattle.fidl_decode.specs.Machine.{probes};
+ghost use Rattle.fidl_decode_model.specs.Faults.{message_of};
+ghost use Rattle.fidl_decode_model.specs.Breaks.{Breaks, BreaksMember};
+ghost use Rattle.fidl_decode_model.specs.Steps.{Spends};
+ghost use Rattle.fidl_decode_model.specs.Machine.{StateFine, Visits, VisitFine, Opens, member_term};
+ghost use Rattle.fidl_decode_model.specs.Machine.{at_of};
+ghost use Rattle.fidl_decode_model.specs.Machine.{probes};
 
 use crate::decoder::Decoder;
-use crate::fault::DecodeFault;
-use crate::frame::{Frame, State};
 use crate::handles::is_optional;
+use fidl_decode_model::DecodeFault;
+use fidl_decode_model::frame::{Frame, State};
 use fidl_table_format::Row;
 use fidl_wire::u64_at;
 

@@ -8,17 +8,17 @@ ghost use Rattle.fidl_table_format.specs.Section.{header_of, entry_at};
 ghost use Rattle.fidl_wire.specs.Term as ty;
 ghost use Rattle.fidl_wire.specs.Term.{resolve};
 ghost use Rattle.fidl_table_format.specs.Terms.{declarations_of, is_optional};
-ghost use Rattle.fidl_decode.specs.Invariants.{is_free_at};
+ghost use Rattle.fidl_decode_model.specs.Invariants.{is_free_at};
 ghost use Rattle.fidl_decode.specs.Body.{elements_of};
-ghost use Rattle.fidl_decode.specs.Steps.{Spends};
-ghost use Rattle.fidl_decode.specs.Faults.{message_of};
-ghost use Rattle.fidl_decode.specs.Breaks.{Breaks, BreaksCounted, count_at};
-ghost use Rattle.fidl_decode.specs.Machine.{StateFine, Visits, VisitFine, at_of, probes};
+ghost use Rattle.fidl_decode_model.specs.Steps.{Spends};
+ghost use Rattle.fidl_decode_model.specs.Faults.{message_of};
+ghost use Rattle.fidl_decode_model.specs.Breaks.{Breaks, BreaksCounted, count_at};
+ghost use Rattle.fidl_decode_model.specs.Machine.{StateFine, Visits, VisitFine, at_of, probes};
 
 use crate::decoder::Decoder;
-use crate::fault::DecodeFault;
-use crate::frame::{Frame, Remaining, State};
 use crate::handles::is_optional;
+use fidl_decode_model::DecodeFault;
+use fidl_decode_model::frame::{Frame, Remaining, State};
 use fidl_wire::{MAX_DEPTH, Presence, u64_at};
 
 impl<'t, 'm> Decoder<'t, 'm> {

@@ -7,7 +7,7 @@ use Rattle.fidl_header.specs.Header.{IsHeader, header_of}
 use Rattle.fidl_header.specs.Faults.{IsRefused}
 use Rattle.fidl_header.specs.declared.header.Header.{Header}
 use Rattle.fidl_header.specs.declared.fault.HeaderFault.{HeaderFault}
-use Rattle.fidl_decode.specs.declared.fault.DecodeFault.{DecodeFault}
+use Rattle.fidl_decode_model.specs.declared.fault.DecodeFault.{DecodeFault}
 use Rattle.fidl_verify.specs.declared.method.Payload.{Payload}
 use Rattle.fidl_verify.specs.declared.method.Payload.TheVariants.{Missing, Empty, Entry}
 use Rattle.fidl_verify.specs.Lookups.{TableProtocol, TableMethod, method_record}

@@ -12,8 +12,8 @@ use Rattle.fidl_header.specs.Header.{IsHeader}
 use Rattle.fidl_header.specs.Faults.{IsRefused}
 use Rattle.fidl_header.specs.declared.fault.HeaderFault.{HeaderFault}
 use Rattle.fidl_header.specs.declared.fault.HeaderFault.TheVariants.{Short, BadMagic, NotVersion2, Overflow}
-use Rattle.fidl_decode.specs.Faults.{IsTold}
-use Rattle.fidl_decode.specs.declared.fault.DecodeFault.{DecodeFault}
+use Rattle.fidl_decode_model.specs.Faults.{IsTold}
+use Rattle.fidl_decode_model.specs.declared.fault.DecodeFault.{DecodeFault}
 use Rattle.fidl_verify.specs.declared.method.Payload.{Payload}
 use Rattle.fidl_verify.specs.declared.method.Payload.TheVariants.{Missing, Empty, Entry}
 use Rattle.fidl_verify.specs.Lookups.{TableProtocol, IsProtocolOfTable, EntryHolds}

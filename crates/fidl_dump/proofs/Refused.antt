@@ -2,8 +2,8 @@
 use Rattle.std.proofs.Common.{List, ℕ}
 use Rattle.fidl_verify.specs.Lookups.{TableProtocol, IsProtocolOfTable}
 use Rattle.fidl_verify.proofs.Declared.{sound}
-use Rattle.fidl_decode.proofs.Bridge.{fine_of}
-use Rattle.fidl_decode.proofs.Excluding.{told_excluded}
+use Rattle.fidl_decode_model.proofs.Bridge.{fine_of}
+use Rattle.fidl_decode_model.proofs.Excluding.{told_excluded}
 use Rattle.fidl_dump.specs.declared.direction.Direction.{Direction}
 use Rattle.fidl_dump.specs.declared.fault.FrameFault.{FrameFault}
 use Rattle.fidl_dump.specs.Lines.{IsLine}

@@ -6,9 +6,9 @@ use Rattle.fidl_wire.specs.Value.{Value}
 use Rattle.fidl_wire.specs.Message.{Encodes, IsEncoding}
 use Rattle.fidl_table_format.specs.Terms.{declarations_of}
 use Rattle.fidl_header.specs.declared.header.Header.{Header}
-use Rattle.fidl_decode.specs.Faults.{IsTold}
-use Rattle.fidl_decode.specs.Model.{Shown}
-use Rattle.fidl_decode.specs.declared.fault.DecodeFault.{DecodeFault}
+use Rattle.fidl_decode_model.specs.Faults.{IsTold}
+use Rattle.fidl_decode_model.specs.Model.{Shown}
+use Rattle.fidl_decode_model.specs.declared.fault.DecodeFault.{DecodeFault}
 use Rattle.fidl_requests.specs.Frame.{handles_of}
 use Rattle.fidl_dump.specs.Lines.{body_of, Holds, value_text, value_line}
 use Rattle.fidl_dump.specs.Faults.{IsBodyFault}

@@ -7,8 +7,8 @@ use Rattle.fidl_frames.specs.Frames.{between, frames_of}
 use Rattle.fidl_header.specs.Header.{IsHeader}
 use Rattle.fidl_header.specs.Faults as header
 use Rattle.fidl_header.specs.declared.fault.HeaderFault.{HeaderFault}
-use Rattle.fidl_decode.specs.Faults as decode
-use Rattle.fidl_decode.specs.declared.fault.DecodeFault.{DecodeFault}
+use Rattle.fidl_decode_model.specs.Faults as decode
+use Rattle.fidl_decode_model.specs.declared.fault.DecodeFault.{DecodeFault}
 use Rattle.fidl_verify.specs.declared.method.Payload.TheVariants.{Empty, Entry}
 use Rattle.fidl_verify.specs.Lookups.{TableProtocol}
 use Rattle.fidl_requests.specs.Endings as endings

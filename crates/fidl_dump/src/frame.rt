@@ -3,7 +3,7 @@ ghost use Rattle.std.specs.Prelude.{◌≡◌, ◌<◌};
 ghost use Rattle.fidl_wire.specs.Value.{Value};
 ghost use Rattle.fidl_table_format.specs.Section.{header_of};
 ghost use Rattle.fidl_header.specs.Header.{IsHeader};
-ghost use Rattle.fidl_decode.specs.declared.fault.DecodeFault.{DecodeFault};
+ghost use Rattle.fidl_decode_model.specs.declared.fault.DecodeFault.{DecodeFault};
 ghost use Rattle.fidl_requests.specs.Frame.{message_of};
 ghost use Rattle.fidl_dump.specs.Lines.{body_of, IsBare, Holds, value_text, IsLine};
 ghost use Rattle.fidl_dump.specs.Lines.{unknown_line, bare_line, value_line};
@@ -16,11 +16,9 @@ use crate::line::{write_bare, write_unknown, write_value};
 use crate::stream::Stream;
 use fidl_decode::{Scratch, decode};
 use fidl_header::{HEADER_BYTES, Header};
-use fidl_limits::MAX_MESSAGE_HANDLES;
-use fidl_requests::Frame;
+use fidl_requests::{Frame, HANDLE_ROOM};
 use fidl_text::{Failed, Output};
 use fidl_verify::{Payload, Table};
-use fidl_wire::HandleInfo;
 use std::io::Write;
 
 /// Why the line of a frame is not printed whole.
@@ -39,13 +37,6 @@ struct Named<'n> {
     header: Header,
     name: &'n [u8],
 }
-
-/// A place in a room of handles that holds none.
-const NO_HANDLE: HandleInfo = HandleInfo {
-    id: 0,
-    object_type: 0,
-    rights: 0,
-};
 
 /// The bytes after the header of a frame's message.
 fn body_of<'f>(frame: &Frame<'f>) -> &'f [u8]
@@ -77,7 +68,7 @@ fn print_bare<W: Write>(named: &Named<'_>, out: &mut Output<W>) -> Result<(), Un
         (W.contents out.old.writer) (W.contents out.new.writer) result }
     ensures error { KeepsError out.old.failure out.new.failure result }
 {
-    let mut room = [NO_HANDLE; MAX_MESSAGE_HANDLES];
+    let mut room = HANDLE_ROOM;
     let body = body_of(named.frame);
     let handles = named.frame.handles(&mut room);
     if !body.is_empty() || !handles.is_empty() {
@@ -107,7 +98,7 @@ fn print_value<W: Write>(
         (W.contents out.old.writer) (W.contents out.new.writer) result }
     ensures error { KeepsError out.old.failure out.new.failure result }
 {
-    let mut room = [NO_HANDLE; MAX_MESSAGE_HANDLES];
+    let mut room = HANDLE_ROOM;
     let body = body_of(named.frame);
     let handles = named.frame.handles(&mut room);
     let decoded = match decode(table, entry, body, handles, scratch) {

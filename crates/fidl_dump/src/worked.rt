@@ -2,7 +2,7 @@
 ghost use Rattle.std.specs.Prelude.{◌≡◌, ℕ, List, [], ◌∷◌, ◌++◌, replicate, codes, None, Some};
 ghost use Rattle.fidl_frames.specs.Frames.{frames_of};
 ghost use Rattle.fidl_header.specs.declared.fault.HeaderFault.TheVariants as header;
-ghost use Rattle.fidl_decode.specs.declared.fault.DecodeFault.TheVariants as decode;
+ghost use Rattle.fidl_decode_model.specs.declared.fault.DecodeFault.TheVariants as decode;
 ghost use Rattle.fidl_verify.specs.Lookups.{TableProtocol};
 ghost use Rattle.fidl_requests.specs.Samples.{protocol_of, a_frame};
 ghost use Rattle.fidl_dump.specs.declared.direction.Direction.{Direction};

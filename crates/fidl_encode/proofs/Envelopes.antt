@@ -5,6 +5,7 @@ use Rattle.std.proofs.Math.ListN.{length-replicate}
 use Rattle.std.specs.Prelude.{Option, Some, None, IfNone, IfSome, is_some}
 use Rattle.fidl_table_format.specs.declared.record.Row.{Row}
 use Rattle.std.specs.Int.{to_le_bytes, w64}
+use Rattle.fidl_wire.specs.declared.handle.HandleInfo.{HandleInfo}
 use Rattle.fidl_wire.specs.declared.value.Member.{Member as Tree}
 use Rattle.fidl_wire.specs.Value.{Value, absent, table, union, Member, known, unknown, Members, empty, member, members_of}
 use Rattle.fidl_wire.specs.Views.{member_view, entry_view}
@@ -181,6 +182,15 @@ not_some (Some row) e = let never : true ≡ false = e in absurd (apart never)
   where
     apart : true ≡ false → ⊥
     apart e = cc
+
+-- an unknown member is none of a layout that has its ordinal
+pub unknown_clash : (ds : Declarations) (o : Option Row) (m : Member) (inline : Bool) (bytes : List ℕ) (handles : List HandleInfo) → is_some o ≡ true
+    → m ≡ unknown inline bytes handles → IsTypedMember ds false (row_type o) m → ⊥
+unknown_clash ds None m inline bytes handles some is h = let never : false ≡ true = some in absurd (apart never)
+  where
+    apart : false ≡ true → ⊥
+    apart e = cc
+unknown_clash ds (Some row) m inline bytes handles some is h = subst (λ x. IsTypedMember ds false (row_type (Some row)) x) is h
 
 pub clash : (b : Bool) → b ≡ true → b ≡ false → ⊥
 clash b is other = let never : true ≡ false = sym is ∙ other in cc

@@ -37,6 +37,8 @@ mod outside;
 #[cfg(test)]
 mod protocols;
 #[cfg(test)]
+mod ranges;
+#[cfg(test)]
 mod reading;
 #[cfg(test)]
 mod records;

@@ -5,7 +5,7 @@ use crate::protocols::protocol_call;
 use crate::rules::TWO_ROOTS;
 use crate::showing::text;
 use crate::structs::POINT;
-use fidl_table_format::{read_header, read_value};
+use fidl_table_format::{ValueRange, read_header, read_range, values_size};
 use fidl_verify::Table;
 use std::alloc::Global;
 use std::test::Fail;
@@ -31,26 +31,31 @@ fn row_text(alloc: Global, table: &Table<'_>, index: u32) -> Option<String> {
     format!(in alloc; "{} {} {name}", row.key, row.entry).ok()
 }
 
-/// A value.
-fn value_text(alloc: Global, table: &Table<'_>, index: u32) -> Option<String> {
+/// The ends of a range.
+fn ends_text(alloc: Global, range: ValueRange) -> Option<String> {
+    format!(in alloc; "{} {}", range.lowest, range.highest).ok()
+}
+
+/// The ends of the range in a record of values.
+fn range_text(alloc: Global, table: &Table<'_>, index: u32) -> Option<String> {
     if table.values() <= index {
         return None;
     }
-    text(alloc, Some(table.value(index)))
+    ends_text(alloc, table.range(index))
 }
 
-/// A value as the records have it, of a table that is not verified.
+/// The range as the records have it, of a table that is not verified.
 fn read(alloc: Global, bytes: &[u8], index: u32) -> Option<String> {
     if bytes.len() < 40 {
         return None;
     }
     let header = read_header(bytes);
     let rows = 40 + 40 * header.entries as usize;
-    let place = rows + 16 * header.rows as usize + 8 * index as usize;
-    if bytes.len() < place + 8 {
+    let place = rows + 16 * header.rows as usize + values_size(&header, index);
+    if bytes.len() < place + values_size(&header, 1) {
         return None;
     }
-    text(alloc, Some(read_value(bytes, &header, index)))
+    ends_text(alloc, read_range(bytes, &header, index))
 }
 
 /// What a record or the number of records is.
@@ -58,8 +63,8 @@ fn record(alloc: Global, table: &Table<'_>, name: &str, at: u32) -> Option<Strin
     match name {
         "entry" => entry_text(alloc, table, at),
         "row" => row_text(alloc, table, at),
-        "value" => value_text(alloc, table, at),
-        "read_value" => read(alloc, table.bytes(), at),
+        "range" => range_text(alloc, table, at),
+        "read_range" => read(alloc, table.bytes(), at),
         _ => None,
     }
 }
@@ -108,10 +113,10 @@ const SUITES: [Suite<'_>; 3] = [
         count: 7,
         cases: "
             values -> 5
-            value 0 -> 18446744073709551615
-            value 2 -> 5
-            value 4 -> 18446744073709551615
-            read_value 3 -> 1
+            range 0 -> 18446744073709551615 18446744073709551615
+            range 2 -> 5 5
+            range 4 -> 18446744073709551615 18446744073709551615
+            read_range 3 -> 1 1
             entry 0 -> 10 1 0 15 42
             root E -> 1
         ",

@@ -24,13 +24,15 @@ const SUITES: [Suite<'_>; 10] = [
     Suite {
         asked: Asked::Verdict,
         table: POINT,
-        count: 34,
+        count: 36,
         cases: "
             -> accepted 2
             # the header: mark, version, the two reserved fields, one byte of names more and one
             # less
             0=47 -> 1 BadMagic 0
-            4=02 -> 2 BadVersion 0
+            4=00 -> 2 BadVersion 0
+            4=02 -> accepted 2
+            4=03 -> 2 BadVersion 0
             6=01 -> 2 BadVersion 0
             36=01 -> 2 BadVersion 0
             32=0d -> 3 Truncated 0

@@ -18,14 +18,14 @@ use Rattle.fidl_table_format.specs.declared.kind.EntryKind.{EntryKind}
 use Rattle.fidl_table_format.specs.declared.kind.EntryKind.TheVariants.{Bool as Boolean, Int8, Int16, Int32, Int64, Uint8, Uint16, Uint32, Uint64, Bits, Enum, String, Vector, Array, Box, Struct, Table, Union, Handle}
 use Rattle.fidl_table_format.specs.Section.{header_of, entry_at, row_at, name_at}
 use Rattle.fidl_table_format.specs.Terms.{declarations_of, fields_from, term_as}
-use Rattle.fidl_decode.specs.Model.{Shown}
+use Rattle.fidl_decode_model.specs.Model.{Shown}
 use Rattle.fidl_view.specs.Shows.{Shows}
 use Rattle.fidl_view.specs.declared.view.View.{View}
 use Rattle.fidl_streams.specs.Written.{Taken}
 use Rattle.fidl_view.specs.Within.{IsPart, IsElements, IsMembers}
 use Rattle.fidl_streams.proofs.Taking.{IsSoFar}
 use Rattle.fidl_notation.proofs.Quoting.{quoted}
-use Rattle.fidl_decode.proofs.Scalars.{numeric_number, numeric_bits, numeric_enum}
+use Rattle.fidl_decode_model.proofs.Scalars.{numeric_number, numeric_bits, numeric_enum}
 use Rattle.fidl_view.specs.Numbers.{unsigned_in, signed_in}
 use Rattle.fidl_view.specs.Parts.{absence_of, bool_of, nth, numbers_of, unsigned_of, signed_of, string_of, handle_of}
 use Rattle.fidl_view.proofs.Listed.{values_after, values_at, values_end, own_element}

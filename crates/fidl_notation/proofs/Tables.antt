@@ -24,9 +24,9 @@ use Rattle.fidl_table_format.specs.Uses.{uses_ordinals}
 use Rattle.fidl_table_format.specs.Entry.{IsOf, kind_is}
 use Rattle.fidl_table_format.specs.WellFormed.{WellFormed}
 use Rattle.fidl_verify.proofs.Ordered.{rows_declared, rising_keys}
-use Rattle.fidl_decode.proofs.Bridge.{fine_of}
-use Rattle.fidl_decode.proofs.Visiting.{figure_is, size_is}
-use Rattle.fidl_decode.proofs.Shallow.{no_depth}
+use Rattle.fidl_decode_model.proofs.Bridge.{fine_of}
+use Rattle.fidl_decode_model.proofs.Visiting.{figure_is, size_is}
+use Rattle.fidl_decode_model.proofs.Shallow.{no_depth}
 use Rattle.fidl_view.specs.Parts.{at_ordinal, known_of, unknown_in, variant_of, member_of, held_of, unknown_of, length_of}
 use Rattle.fidl_view.specs.declared.envelope.Unknown.{Unknown}
 use Rattle.fidl_view.proofs.Keyed.{held_variant}

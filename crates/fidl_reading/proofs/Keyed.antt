@@ -54,6 +54,10 @@ no_colon rows ws word rest e colon ds o (unknown i x hs) r p = colon p.2.0 (subs
 pub name_no_colon : (b : List ℕ) (row : ℕ) (ws : Words) (word : List ℕ) (rest : Words) → ws ≡ word ∷ rest → StandsNot (The ":") rest → StandsNot (ANameOf b row) ws
 name_no_colon b row ws word rest e colon r p = colon r (subst (λ l. The ":" l r) (word_tail p.1.0 word p.0 rest (sym p.1.2 ∙ e)) p.2)
 
+-- a struct member's name is another
+pub name_differs : (b : List ℕ) (row : ℕ) (ws : Words) (word : List ℕ) (rest : Words) → ws ≡ word ∷ rest → pointwise nat_eq (name_of_row b row) word ≡ false → StandsNot (ANameOf b row) ws
+name_differs b row ws word rest e other r p = differ (name_of_row b row) word other (sym p.1.1 ∙ word_head p.1.0 word p.0 rest (sym p.1.2 ∙ e))
+
 -- an ordinal is no name
 pub name_no_number : (word : List ℕ) → is_name word ≡ true → (o : ℕ) → ¬ (IsNumberBelow (2 ^ 64) o word)
 name_no_number word is o h = let e = number_no_name _ word h.1 in absurd (cc (e, is))

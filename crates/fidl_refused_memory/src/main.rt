@@ -8,11 +8,13 @@
 
 mod compiling;
 mod messages;
+mod migrating;
 mod serving;
 mod telling;
 
 use crate::compiling::{compile_whole, table_of};
 use crate::messages::round_trip;
+use crate::migrating::migrate_once;
 use crate::serving::serve_once;
 use crate::telling::{Stop, refused};
 use fidl_text::Output;
@@ -31,6 +33,7 @@ const ROUNDS: u32 = 2;
 fn make_calls<W: Write>(alloc: Global, out: &mut Output<W>) -> Result<(), Stop> {
     let bytes = table_of(alloc, SOURCE, out)?;
     compile_whole(alloc, SOURCE, out)?;
+    migrate_once(alloc, out)?;
     match verify(&bytes) {
         Ok(table) => {
             round_trip(alloc, &table, out)?;

@@ -11,6 +11,13 @@ use fidl_limits::MAX_MESSAGE_HANDLES;
 use fidl_wire::{HandleInfo, u32_at};
 use std::marker::Model;
 
+/// Room for the handles of a frame (`Frame::handles`).
+pub const HANDLE_ROOM: [HandleInfo; MAX_MESSAGE_HANDLES] = [HandleInfo {
+    id: 0,
+    object_type: 0,
+    rights: 0,
+}; MAX_MESSAGE_HANDLES];
+
 /// A whole frame. Contracts see its bytes.
 #[derive(Drop)]
 pub struct Frame<'f> {

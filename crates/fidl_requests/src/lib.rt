@@ -12,5 +12,5 @@ pub mod worked;
 
 pub use body::is_carried;
 pub use ended::Ended;
-pub use frame::Frame;
+pub use frame::{Frame, HANDLE_ROOM};
 pub use verdict::{Verdict, judge};

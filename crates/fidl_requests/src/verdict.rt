@@ -7,13 +7,11 @@ ghost use Rattle.fidl_requests.specs.Verdict.{IsBody, IsCalledRight, IsVerdict, 
 
 use crate::body::is_carried;
 use crate::ended::Ended;
-use crate::frame::Frame;
+use crate::frame::{Frame, HANDLE_ROOM};
 use crate::method::{is_two_way, requested};
 use fidl_decode::Scratch;
 use fidl_header::{HEADER_BYTES, Header};
-use fidl_limits::MAX_MESSAGE_HANDLES;
 use fidl_verify::{Method, Openness, Protocol, Table};
-use fidl_wire::HandleInfo;
 
 /// What a frame asks of a service.
 #[derive(Clone, Copy, PartialEq, Eq, Debug, Drop)]
@@ -27,13 +25,6 @@ pub enum Verdict {
     /// The end.
     End(Ended),
 }
-
-/// A place in a room of handles that holds none.
-const NO_HANDLE: HandleInfo = HandleInfo {
-    id: 0,
-    object_type: 0,
-    rights: 0,
-};
 
 /// What an ordinal asks that is no method with a request.
 fn unknown(openness: Openness, header: Header) -> Verdict
@@ -59,7 +50,7 @@ fn is_body(table: &Table<'_>, method: &Method<'_>, frame: &Frame<'_>, scratch: &
     requires header { IsHeader (message_of frame.now) }
     ensures { IsTrue result ↔ IsBody table.now method.now.number frame.now }
 {
-    let mut room = [NO_HANDLE; MAX_MESSAGE_HANDLES];
+    let mut room = HANDLE_ROOM;
     let body = &frame.message()[HEADER_BYTES..];
     let handles = frame.handles(&mut room);
     is_carried(table, method.request(), body, handles, scratch)

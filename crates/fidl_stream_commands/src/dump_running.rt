@@ -10,9 +10,8 @@ ghost use Rattle.fidl_stream_commands.specs.DumpRunning.{IsDumpedBy, IsDumpedInP
 ghost use Rattle.fidl_stream_commands.specs.DumpRunning.{IsDumpRefusalBy, CanEndDumpRun};
 
 use crate::dumping::{Recorded, dump};
-use crate::running::file_bytes;
 use fidl_command_line::DumpArguments;
-use fidl_commands::{File, Files, Outcome};
+use fidl_commands::{File, Files, Outcome, file_bytes};
 use fidl_dump::Direction;
 use fidl_text::Output;
 use std::alloc::Global;

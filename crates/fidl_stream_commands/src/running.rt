@@ -14,36 +14,12 @@ ghost use Rattle.fidl_stream_commands.specs.Running.{IsBrokenOffFrom};
 
 use crate::serving::{ServedFiles, serve};
 use fidl_command_line::ServeArguments;
-use fidl_commands::{File, Files, Outcome, tell_no_file, write_no_memory};
+use fidl_commands::{File, Files, Outcome, file_bytes, write_no_memory};
 use fidl_requests::Ended;
 use fidl_serve::ServeFault;
 use fidl_text::Output;
 use std::alloc::Global;
 use std::io::Write;
-
-/// The bytes of a file; otherwise prints the line for it.
-pub(crate) fn file_bytes<F: Files, E: Write>(
-    alloc: Global,
-    name: &str,
-    files: &F,
-    errors: &mut Output<E>,
-) -> Result<Vec<u8>, Outcome>
-    ensures bytes { IfOk result (λ read. IfSome (F.bytes_of files.now name.now)
-        (λ bytes. read.items ≡ bytes)) }
-    ensures kept { OnOk result (errors.new ≡ errors.old) }
-    ensures ends { IfErr result CanEndReading }
-    ensures no_file { result ≡ Err outcome.NoFile → IsMissing (F.bytes_of files.now) name.now
-        (E.contents errors.old.writer) (E.contents errors.new.writer) }
-    ensures memory_line { result ≡ Err outcome.NoMemory
-        → Appends (E.contents errors.old.writer) (E.contents errors.new.writer) no_memory_line }
-    ensures unwritten { IfErr result (λ ended. errors.old.failure ≡ None
-        → (ended ≡ outcome.Unwritten ↔ IsSome errors.new.failure)) }
-{
-    match files.read(alloc, name) {
-        Ok(bytes) => Ok(bytes),
-        Err(error) => Err(tell_no_file(alloc, name, &error, errors)),
-    }
-}
 
 /// Reads the table's file and the script's, and answers the requests of the standard input by the
 /// script.

@@ -4,7 +4,7 @@ ghost use Rattle.fidl_requests.specs.declared.ended.Ended.TheVariants as ended;
 ghost use Rattle.fidl_script.specs.declared.fault.ScriptFault.TheVariants as script_fault;
 ghost use Rattle.fidl_serve.specs.declared.fault.ServeFault.TheVariants as fault;
 ghost use Rattle.fidl_commands.specs.declared.outcome.Outcome.TheVariants as outcome;
-ghost use Rattle.fidl_decode.specs.declared.fault.DecodeFault.TheVariants as message_fault;
+ghost use Rattle.fidl_decode_model.specs.declared.fault.DecodeFault.TheVariants as message_fault;
 ghost use Rattle.fidl_header.specs.declared.fault.HeaderFault.TheVariants as header_fault;
 ghost use Rattle.fidl_dump.specs.declared.fault.FrameFault.TheVariants as frame_fault;
 ghost use Rattle.fidl_stream_commands.specs.Serving.{script_line, line_of, outcome_of};

@@ -11,9 +11,9 @@ pub mod worked;
 mod writing;
 
 pub use fidl_table_format::{
-    Entry, EntryKind, HEADER_SIZE, Header, MethodRecord, ProtocolRecord, Root, Row, is_less,
-    name_bytes, number_bits, read_entry, read_header, read_method, read_protocol, read_root,
-    read_row, read_value,
+    Entry, EntryKind, HEADER_SIZE, Header, MethodRecord, ProtocolRecord, Root, Row, ValueRange,
+    is_less, name_bytes, number_bits, read_entry, read_header, read_method, read_protocol,
+    read_range, read_root, read_row,
 };
 pub use fidl_wire::{u16_at, u32_at, u64_at};
 pub use writing::write_table;

@@ -3,6 +3,7 @@ ghost use Rattle.std.specs.Prelude.{◌≡◌, ◌++◌, IfOk, IsTrue, OnOk, fla
 ghost use Rattle.fidl_ir.specs.Terms.{definitions_view};
 ghost use Rattle.fidl_reachable_types.specs.Growing.{reference_view, types_of, IsKept};
 ghost use Rattle.fidl_reachable_types.specs.Reached.{AreReached};
+ghost use Rattle.fidl_table_format.specs.Section.{header_of};
 ghost use Rattle.fidl_table_format.specs.WellFormed.{WellFormed};
 ghost use Rattle.fidl_table_build.specs.Starts.{carried_number, method_numbers, protocol_numbers};
 ghost use Rattle.fidl_table_build.specs.Starts.{starts_of};
@@ -18,6 +19,9 @@ use fidl_reachable_types::{TypeList, TypeRef, reached_types};
 use fidl_table_check::{entries_are, names_are};
 use fidl_verify::{Table, verify};
 use std::alloc::{AllocError, Global};
+
+/// The version of the format that is written.
+const WRITTEN_VERSION: u16 = 2;
 
 /// Appends the definition that a message carries.
 fn push_carried(starts: &mut Vec<u32>, carried: Carried) -> Result<(), AllocError>
@@ -106,14 +110,15 @@ fn is_assembled(table: &Table<'_>, listing: &Listing<'_>, types: &[TypeRef<'_>])
         && are_protocols(&records, types, listing.protocols)
 }
 
-/// The bytes of the coding table of a listing (docs/table.md, "What is written"). The table is read
-/// back and compared with the listing before it is handed out.
+/// The bytes of the coding table of a listing, of version 2 (docs/table.md, "What is written"). The
+/// table is read back and compared with the listing before it is handed out.
 ///
 /// `AllocError`: memory ran out, or the listing has no table: it has more names, protocols or
 /// methods than fields of four bytes count, types past the limits, names that are no names of a
 /// table, or ordinals or names that do not rise.
 pub fn assemble(alloc: Global, listing: &Listing<'_>) -> Result<Vec<u8>, AllocError>
     ensures well_formed { IfOk result (λ table. WellFormed table.items) }
+    ensures version { IfOk result (λ table. (header_of table.items).version ≡ 2) }
     ensures assembled { IfOk result (λ table. IsAssembled listing.now table.items) }
 {
     let list = all_types(alloc, listing)?;
@@ -122,7 +127,7 @@ pub fn assemble(alloc: Global, listing: &Listing<'_>) -> Result<Vec<u8>, AllocEr
     let Ok(table) = verify(&bytes) else {
         return Err(AllocError);
     };
-    if !is_assembled(&table, listing, &types) {
+    if Records::of(&table).version() != WRITTEN_VERSION || !is_assembled(&table, listing, &types) {
         return Err(AllocError);
     }
     Ok(bytes)

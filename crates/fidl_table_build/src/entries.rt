@@ -7,6 +7,7 @@ use crate::listing::Listing;
 use crate::names::{NamePlace, push_name};
 use crate::numbers::{push_u32, push_u64, small, sum};
 use crate::sections::Sections;
+use crate::values::range_count;
 use fidl_ir::{Definition, NumberKind, Type};
 use fidl_reachable_types::{TypeList, TypeRef};
 use fidl_type_shape::Figure;
@@ -97,7 +98,7 @@ impl Shape {
     }
 }
 
-/// How many rows and values the entries so far have.
+/// How many rows and ranges of values the entries so far have.
 #[derive(Clone, Copy, Drop)]
 struct Parts {
     rows: usize,
@@ -168,14 +169,14 @@ fn bits_shape(kind: NumberKind, mask: Option<u64>) -> Shape {
     }
 }
 
-/// The shape of an enum, whose values follow those so far.
+/// The shape of an enum, whose ranges follow those so far.
 fn enum_shape(
     kind: NumberKind,
     values: &Option<Vec<i128>>,
     parts: Parts,
 ) -> Result<Shape, AllocError> {
     let count = match values {
-        Some(values) => values.len(),
+        Some(values) => range_count(values),
         None => 0,
     };
     Ok(Shape {
@@ -217,7 +218,7 @@ fn with_parts(parts: Parts, definition: &Definition) -> Result<Parts, AllocError
     let (rows, values) = match definition {
         Definition::Bits { .. } => (0, 0),
         Definition::Enum { values, .. } => match values {
-            Some(values) => (0, values.len()),
+            Some(values) => (0, range_count(values)),
             None => (0, 0),
         },
         Definition::Struct(fields) => (fields.len(), 0),

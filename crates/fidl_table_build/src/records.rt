@@ -40,6 +40,13 @@ impl<'t> Records<'t> {
         }
     }
 
+    /// The version of the format.
+    pub(crate) fn version(&self) -> u16
+        ensures { result ≡ (header_of self.now).version }
+    {
+        self.header.version
+    }
+
     /// How many roots there are.
     pub(crate) fn roots(&self) -> u32
         ensures { result ≡ (header_of self.now).roots }

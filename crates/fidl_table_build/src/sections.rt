@@ -38,10 +38,10 @@ impl Sections {
 
     /// Appends the header: the mark, the version, and how many records each section has.
     fn push_header(&self, table: &mut Vec<u8>) -> Result<(), AllocError> {
-        table.extend_from_slice(b"FCT2\x01\0\0\0")?;
+        table.extend_from_slice(b"FCT2\x02\0\0\0")?;
         push_u32(table, small(self.entries.len() / 40)?)?;
         push_u32(table, small(self.rows.len() / 16)?)?;
-        push_u32(table, small(self.values.len() / 8)?)?;
+        push_u32(table, small(self.values.len() / 16)?)?;
         push_u32(table, small(self.roots.len() / 12)?)?;
         push_u32(table, small(self.protocols.len() / 16)?)?;
         push_u32(table, small(self.methods.len() / 32)?)?;

@@ -1,31 +1,32 @@
 //! The values of enums.
-ghost use Rattle.std.specs.Prelude.{◌≡◌, ◌+◌, ◌≤◌, IsTrue};
+ghost use Rattle.std.specs.Prelude.{◌≡◌, ◌+◌, ◌≤◌, ◌++◌, IsTrue, IfSome};
 ghost use Rattle.std.specs.Option.{option_map};
 ghost use Rattle.fidl_equivalence.specs.Alike.{AlikeValues};
 ghost use Rattle.fidl_table_format.specs.Section.{header_of};
-ghost use Rattle.fidl_table_format.specs.Terms.{as_number, value_number, underlying, values_from};
-ghost use Rattle.fidl_table_format.specs.Terms.{strict_values};
+ghost use Rattle.fidl_table_format.specs.Terms.{span, underlying, values_from, strict_values};
 
-use fidl_table_format::{Entry, EntryKind};
+use fidl_table_format::{Entry, number_of};
 use fidl_verify::Table;
 
-/// The number of this kind that the eight bytes of a value stand for.
-fn number_of(kind: EntryKind, value: u64) -> i128
-    ensures { result ≡ value_number (as_number kind) value }
+/// The values behind those of a range, where they begin with these. As many numbers of the range
+/// are compared as there are values, and no more.
+fn behind_range(values: &[i128], lowest: i128, highest: i128) -> Option<&[i128]>
+    ensures { IfSome result (λ rest. values.now ≡ span lowest highest ++ rest.now) }
 {
-    match kind {
-        EntryKind::Int8 | EntryKind::Int16 | EntryKind::Int32 | EntryKind::Int64 => {
-            i128::from(value.cast_signed())
-        }
-        _ => i128::from(value),
+    if highest < lowest {
+        return None;
     }
-}
-
-/// Whether two numbers are the same.
-fn is_same_number(a: &i128, b: i128) -> bool
-    ensures { IsTrue result → a.now ≡ b }
-{
-    *a == b
+    let mut number = lowest;
+    for place in 0..values.len() {
+        if values[place] != number {
+            return None;
+        }
+        if highest <= number {
+            return Some(&values[place + 1..]);
+        }
+        number += 1;
+    }
+    None
 }
 
 /// Whether the values of an entry are these, in this order.
@@ -35,19 +36,19 @@ fn values_are(table: &Table<'_>, entry: &Entry, values: &[i128]) -> bool
         → values.now ≡ values_from table.now (header_of table.now) (underlying entry.now)
         entry.now.first entry.now.count }
 {
-    if values.len() != entry.count as usize {
-        return false;
-    }
-    // Read, so that the number of values, and with it each value's, is known to have 32 bits.
+    // Read, so that the number of ranges, and with it each range's, is known to have 32 bits.
     let _values = table.values();
     let kind = entry.underlying();
+    let mut rest = values;
     for place in 0..entry.count {
-        let number = number_of(kind, table.value(entry.first + place));
-        if !is_same_number(&values[place as usize], number) {
+        let range = table.range(entry.first + place);
+        let lowest = number_of(kind, range.lowest);
+        let Some(behind) = behind_range(rest, lowest, number_of(kind, range.highest)) else {
             return false;
-        }
+        };
+        rest = behind;
     }
-    true
+    rest.is_empty()
 }
 
 /// Whether an entry has the values of an enum, in their order, and is strict where there are any.

@@ -1,5 +1,6 @@
 -- The rules of an entry, in the order in which they are asked (docs/table.md, "Verification").
-use Rattle.std.specs.Prelude.{◌≡◌, ℕ, zero, suc, ◌+◌, ◌^◌, ◌<◌, ◌≤◌, ℤ, pos, ◌<ℤ◌, Bool, false}
+use Rattle.std.specs.Prelude.{◌≡◌, ℕ, zero, suc, ◌+◌, ◌^◌, ◌<◌, ◌≤◌, ℤ, pos, ◌+ℤ◌, ◌<ℤ◌, ◌≤ℤ◌}
+use Rattle.std.specs.Prelude.{Bool, false}
 use Rattle.std.specs.Prelude.{if◌then◌else◌, List, [], ◌∷◌, map, Some, IsTrue, IsFalse}
 use Rattle.std.specs.Option.{option_map_or}
 use Rattle.fidl_limits.specs.declared.limits.TheConstants.{MAX_INLINE_SIZE, MAX_LAYOUT_MEMBERS}
@@ -12,7 +13,7 @@ use Rattle.fidl_table_format.specs.declared.kind.EntryKind.{EntryKind}
 use Rattle.fidl_table_format.specs.declared.kind.EntryKind.TheVariants.{Bits, Enum, String, Vector}
 use Rattle.fidl_table_format.specs.declared.kind.EntryKind.TheVariants.{Array, Box, Struct, Table, Union}
 use Rattle.fidl_table_format.specs.Kind.{kind_of, number_type}
-use Rattle.fidl_table_format.specs.Section.{entry_at, row_at, value_at}
+use Rattle.fidl_table_format.specs.Section.{entry_at, row_at, range_at, has_ranges}
 use Rattle.fidl_table_format.specs.Terms.{is_strict, underlying, value_number, term_of, fields_from}
 use Rattle.fidl_table_format.specs.Terms.{stated_figure, below}
 use Rattle.fidl_table_format.specs.Uses.{is_number, is_unsigned, is_known, allows, uses_entry, uses_rows}
@@ -155,14 +156,22 @@ pub record HasNest (f : Figure) (e : Entry) : Type 0 where
   pub nest : e.nest ≡ f.nest
   pub limit : e.nest ≤ MAX_NEST
 
--- the number of this place in a strict enum
-abbrev pub enum_value : List ℕ → Header → Entry → (k : ℕ) → ℤ
-enum_value bytes h e k = value_number (underlying e) (value_at bytes h (e.first + k))
+-- the ends of the range of this place in a strict enum
+abbrev pub lowest_value : List ℕ → Header → Entry → (k : ℕ) → ℤ
+lowest_value bytes h e k = value_number (underlying e) (range_at bytes h (e.first + k)).lowest
 
--- the number of this place in a strict enum fits the underlying type, and is less than the next
-pub record IsEnumValue (bytes : List ℕ) (h : Header) (e : Entry) (k : ℕ) : Type 0 where
-  pub fits : InRange (underlying e) (enum_value bytes h e k)
-  pub rises : suc k < e.count → enum_value bytes h e k <ℤ enum_value bytes h e (suc k)
+abbrev pub highest_value : List ℕ → Header → Entry → (k : ℕ) → ℤ
+highest_value bytes h e k = value_number (underlying e) (range_at bytes h (e.first + k)).highest
+
+-- the range of this place in a strict enum has its ends in their order and in the underlying type,
+-- and stands before the next; ranges of version 2 don't touch: there is a number between the two
+pub record IsEnumRange (bytes : List ℕ) (h : Header) (e : Entry) (k : ℕ) : Type 0 where
+  pub lowest : InRange (underlying e) (lowest_value bytes h e k)
+  pub highest : InRange (underlying e) (highest_value bytes h e k)
+  pub order : lowest_value bytes h e k ≤ℤ highest_value bytes h e k
+  pub rises : suc k < e.count → highest_value bytes h e k <ℤ lowest_value bytes h e (suc k)
+  pub apart : IsTrue (has_ranges h) → suc k < e.count
+      → (highest_value bytes h e k +ℤ pos 1) <ℤ lowest_value bytes h e (suc k)
 
 -- the key of the row of this place in an entry: in a table or union, an ordinal
 abbrev pub row_key : List ℕ → Header → Entry → (k : ℕ) → ℕ
@@ -175,10 +184,10 @@ pub record IsOrdinal (bytes : List ℕ) (h : Header) (e : Entry) (k : ℕ) : Typ
   pub limit : IsOf Table e → row_key bytes h e k ≤ MAX_TABLE_ORDINAL
   pub rises : suc k < e.count → row_key bytes h e k < row_key bytes h e (suc k)
 
--- the ordinals of a table or union rise, and so do the numbers of a strict enum
+-- the ordinals of a table or union rise, and so do the ranges of a strict enum
 pub record IsSorted (bytes : List ℕ) (h : Header) (e : Entry) : Type 0 where
   pub ordinals : IsTrue (kind_is uses_ordinals e) → (k : ℕ) → k < e.count → IsOrdinal bytes h e k
-  pub values : IsOf Enum e → (k : ℕ) → k < e.count → IsEnumValue bytes h e k
+  pub values : IsOf Enum e → (k : ℕ) → k < e.count → IsEnumRange bytes h e k
 
 -- the names of the entry and of its rows
 pub record HasNames (bytes : List ℕ) (h : Header) (e : Entry) : Type 0 where

@@ -1,7 +1,7 @@
 -- The rules of a method, what its messages carry, and finding one of a protocol (docs/table.md,
 -- "Verification").
 use Rattle.std.specs.Prelude.{◌≡◌, ◌≢◌, ℕ, suc, ◌+◌, ◌/◌, ◌%◌, ◌^◌, ◌<◌, ◌==◌, ◌||◌, ◌⊎◌, List}
-use Rattle.std.specs.Prelude.{Bool, if◌then◌else◌, IsTrue, IsFalse}
+use Rattle.std.specs.Prelude.{Bool, IsTrue, IsFalse}
 use Rattle.fidl_table_format.specs.declared.record.Header.{Header}
 use Rattle.fidl_table_format.specs.declared.record.Entry.{Entry}
 use Rattle.fidl_table_format.specs.declared.record.MethodRecord.{MethodRecord}

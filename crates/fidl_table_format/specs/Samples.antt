@@ -20,10 +20,14 @@ an_entry kind flags first count bound subtype = record {
   name_length = 0;
 }
 
--- the header of a table with only entries and values
+-- the header of a table of this version with only entries and values
+abbrev pub header_of_version : (version entries values : ℕ) → List ℕ
+header_of_version version entries values =
+    codes "FCT2" ++ version ∷ 0 ∷ 0 ∷ 0 ∷ entries ∷ replicate 7 0 ++ values ∷ replicate 23 0
+
+-- the header of such a table of version 1
 abbrev pub header_bytes : (entries values : ℕ) → List ℕ
-header_bytes entries values = codes "FCT2" ++ 1 ∷ 0 ∷ 0 ∷ 0 ∷ entries ∷ replicate 7 0 ++ values
-    ∷ replicate 23 0
+header_bytes = header_of_version 1
 
 -- the bytes of an entry of this size and alignment, without a bound, rights and a name
 abbrev pub entry_bytes : (kind flags size first count subtype : ℕ) → List ℕ
@@ -41,6 +45,33 @@ value_bytes n = n ∷ replicate 7 0
 
 abbrev pub all_ones : List ℕ
 all_ones = replicate 8 255
+
+-- the bytes of a range of version 2
+abbrev pub range_bytes : (lowest highest : ℕ) → List ℕ
+range_bytes lowest highest = value_bytes lowest ++ value_bytes highest
+
+-- a table of version 2 of one strict enum with two ranges
+abbrev pub two_ranges : (size subtype : ℕ) → List ℕ → List ℕ → List ℕ
+two_ranges size subtype a b = header_of_version 2 1 2 ++ enum_bytes 2 size 0 2 subtype ++ a ++ b
+
+-- a table of a strict enum of uint32 with the name "e/E", which is a root, and with these records
+-- of values
+abbrev pub root_of_enum : (version records : ℕ) → List ℕ → List ℕ
+root_of_enum version records values =
+    codes "FCT2" ++ version ∷ 0 ∷ 0 ∷ 0 ∷ 1 ∷ replicate 7 0 ++ records ∷ 0 ∷ 0 ∷ 0 ∷ 1
+    ∷ replicate 11 0 ++ 6 ∷ replicate 7 0
+    ++ 11 ∷ 2 ∷ 4 ∷ 0 ∷ 4 ∷ replicate 7 0 ++ records ∷ replicate 11 0 ++ 8 ∷ replicate 11 0
+    ++ 3 ∷ 0 ∷ 0 ∷ 0 ∷ values
+    ++ 3 ∷ 0 ∷ 0 ∷ 0 ∷ 3 ∷ replicate 7 0 ++ codes "e/Ee/E"
+
+-- a table of version 2 of the enum with the values 1 and 2, and those from `lowest` to 4
+abbrev pub one_two_and_four : (version lowest : ℕ) → List ℕ
+one_two_and_four version lowest = root_of_enum version 2 (range_bytes 1 2 ++ range_bytes lowest 4)
+
+-- a table of version 1 of the enum with the values 1, 2 and 4
+abbrev pub one_two_four : (version : ℕ) → List ℕ
+one_two_four version =
+    root_of_enum version 3 (value_bytes 1 ++ value_bytes 2 ++ value_bytes 4)
 
 -- a table of one strict enum with two values
 abbrev pub two_values : (size subtype : ℕ) → List ℕ → List ℕ → List ℕ

@@ -1,9 +1,11 @@
 -- The sections of a table and their records (docs/table.md, "Sections" and "Records").
-use Rattle.std.specs.Prelude.{ℕ, ◌+◌, ◌*◌, List, slice_index, slice_range}
+use Rattle.std.specs.Prelude.{ℕ, ◌+◌, ◌*◌, ◌==◌, Bool, if◌then◌else◌, List, [], ◌∷◌, get_or}
+use Rattle.std.specs.Prelude.{slice_index, slice_range}
 use Rattle.std.specs.Int.{w16, w32, w64}
 use Rattle.fidl_table_format.specs.declared.record.Header.{Header}
 use Rattle.fidl_table_format.specs.declared.record.Entry.{Entry}
 use Rattle.fidl_table_format.specs.declared.record.Row.{Row}
+use Rattle.fidl_table_format.specs.declared.record.ValueRange.{ValueRange}
 use Rattle.fidl_table_format.specs.declared.record.Root.{Root}
 use Rattle.fidl_table_format.specs.declared.record.ProtocolRecord.{ProtocolRecord}
 use Rattle.fidl_table_format.specs.declared.record.MethodRecord.{MethodRecord}
@@ -32,8 +34,16 @@ entry_place index = 40 + 40 * index
 abbrev pub row_place : Header → (index : ℕ) → ℕ
 row_place h index = 40 + 40 * h.entries + 16 * index
 
+-- the values of version 2 are ranges, which state both their ends
+abbrev pub has_ranges : Header → Bool
+has_ranges h = h.version == 2
+
+-- how many bytes the record of a value has, by the version: 16 in version 2, else 8
+abbrev pub value_size : Header → ℕ
+value_size h = get_or (8 ∷ 8 ∷ 16 ∷ []) h.version 8
+
 abbrev pub value_place : Header → (index : ℕ) → ℕ
-value_place h index = row_place h h.rows + 8 * index
+value_place h index = row_place h h.rows + value_size h * index
 
 abbrev pub root_place : Header → (index : ℕ) → ℕ
 root_place h index = value_place h h.values + 12 * index
@@ -82,10 +92,15 @@ row_at bytes h index =
       name_length = number_at w32 bytes (place + 12);
     }
 
--- the eight bytes of a strict enum's value as a number; negative values are sign-extended to 64
--- bits
-abbrev pub value_at : List ℕ → Header → (index : ℕ) → ℕ
-value_at bytes h index = number_at w64 bytes (value_place h index)
+-- the ends of the range that a value's record states, eight bytes each, where negative numbers are
+-- sign-extended to 64 bits; the record of version 1 is one number, which is both ends
+abbrev pub range_at : List ℕ → Header → (index : ℕ) → ValueRange
+range_at bytes h index =
+    let place = value_place h index in
+    record {
+      lowest = number_at w64 bytes place;
+      highest = number_at w64 bytes (if has_ranges h then place + 8 else place);
+    }
 
 -- the fields of a root, 12 bytes
 abbrev pub root_at : List ℕ → Header → (index : ℕ) → Root

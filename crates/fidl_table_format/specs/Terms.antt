@@ -1,8 +1,8 @@
 -- What the entries of a table declare (docs/table.md, "Declarations").
-use Rattle.std.specs.Prelude.{ℕ, zero, suc, ◌/◌, ◌%◌, ◌==◌, ℤ, pos, Bool, if◌then◌else◌, List, []}
-use Rattle.std.specs.Prelude.{◌∷◌, ◌++◌, map, Option, Some, None, unwrap_or}
+use Rattle.std.specs.Prelude.{ℕ, zero, suc, ◌/◌, ◌%◌, ◌==◌, ℤ, pos, ◌+ℤ◌, Bool, if◌then◌else◌, List}
+use Rattle.std.specs.Prelude.{[], ◌∷◌, ◌++◌, map, Option, Some, None, unwrap_or}
 use Rattle.std.specs.Option.{option_map_or}
-use Rattle.std.specs.Int.{w64, cast_signed}
+use Rattle.std.specs.Int.{w64, cast_signed, int_gap}
 use Rattle.fidl_wire.specs.Term as ty
 use Rattle.fidl_wire.specs.Term.{Term, Fields, no_fields, field, Rows, no_rows, row, nothing}
 use Rattle.fidl_wire.specs.Term.{rows_of}
@@ -14,7 +14,7 @@ use Rattle.fidl_table_format.specs.declared.kind.EntryKind.TheVariants.{Bool as 
 use Rattle.fidl_table_format.specs.declared.kind.EntryKind.TheVariants.{String, Vector, Array, Box}
 use Rattle.fidl_table_format.specs.declared.kind.EntryKind.TheVariants.{Struct, Table, Union, Handle}
 use Rattle.fidl_table_format.specs.Kind.{kind_of, number_type}
-use Rattle.fidl_table_format.specs.Section.{header_of, entry_at, row_at, value_at, name_at}
+use Rattle.fidl_table_format.specs.Section.{header_of, entry_at, row_at, range_at, name_at}
 
 -- the entry has flag 1
 abbrev pub is_optional : Entry → Bool
@@ -32,8 +32,8 @@ as_number k = unwrap_or (number_type k) ty.uint8
 abbrev pub underlying : Entry → ty.Kind
 underlying e = option_map_or as_number (kind_of e.subtype) ty.uint8
 
--- the number that the eight bytes of a value stand for: in two's complement where its number type
--- is signed, else as it is
+-- the number that eight bytes of a value stand for: in two's complement where its number type is
+-- signed, else as it is
 abbrev pub value_number : ty.Kind → ℕ → ℤ
 value_number ty.int8 n = cast_signed w64 n
 value_number ty.int16 n = cast_signed w64 n
@@ -41,11 +41,22 @@ value_number ty.int32 n = cast_signed w64 n
 value_number ty.int64 n = cast_signed w64 n
 value_number _ n = pos n
 
--- the numbers of a strict enum of this number type: `count` values from the `first` on
+-- so many numbers from this one on, one after the other
+abbrev pub numbers_from : ℤ → (count : ℕ) → List ℤ
+numbers_from z zero = []
+numbers_from z (suc n) = z ∷ numbers_from (z +ℤ pos 1) n
+
+-- the numbers from the lowest to the highest, with both; there is none where the lowest is greater
+unfoldable pub span : (lowest highest : ℤ) → List ℤ
+span lowest highest = numbers_from lowest (int_gap lowest (highest +ℤ pos 1))
+
+-- the numbers of a strict enum of this number type: those in `count` ranges from the `first` on
 abbrev pub values_from : List ℕ → Header → ty.Kind → (first count : ℕ) → List ℤ
 values_from bytes h kind first zero = []
-values_from bytes h kind first (suc n) = value_number kind (value_at bytes h first)
-    ∷ values_from bytes h kind (suc first) n
+values_from bytes h kind first (suc n) =
+    let range = range_at bytes h first in
+    span (value_number kind range.lowest) (value_number kind range.highest)
+    ++ values_from bytes h kind (suc first) n
 
 -- the mask of bits, where they are strict
 abbrev pub mask_of : Entry → Option ℕ

@@ -12,9 +12,10 @@ use Rattle.fidl_table_format.specs.Method.{IsMethod}
 abbrev pub table_magic : ℕ
 table_magic = 0x32544346
 
--- the version that is read, and zeros where nothing is stated
+-- the versions that are read, 1 and 2, and zeros where nothing is stated
 pub record IsVersion (h : Header) : Type 0 where
-  pub version : h.version ≡ 1
+  pub first : 1 ≤ h.version
+  pub last : h.version ≤ 2
   pub reserved : h.reserved ≡ 0
   pub reserved_end : h.reserved_end ≡ 0
 

@@ -29,6 +29,7 @@ impl EntryKind {
     ghost use Rattle.fidl_table_format.specs.Kind.{kind_of};
 
     /// The kind of this number, from 1 on; no other number has a kind.
+    #[inline(always)]
     pub fn from_number(number: u8) -> Option<EntryKind>
         ensures { result ≡ kind_of number }
     {

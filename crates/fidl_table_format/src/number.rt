@@ -10,6 +10,7 @@ use fidl_wire::{u16_at, u32_at, u64_at};
 
 /// The number of a kind of numbers at a place, in 64 bits: a negative one in two's complement, as a
 /// table states the values of enums. Other kinds are read as uint8.
+#[inline(always)]
 pub fn number_bits(kind: EntryKind, bytes: &[u8], place: usize) -> u64
     requires { place + byte_len (width (as_number kind)) ≤ length bytes.now }
     ensures { value_number (as_number kind) result ≡ number_standing (as_number kind) bytes.now
@@ -23,6 +24,18 @@ pub fn number_bits(kind: EntryKind, bytes: &[u8], place: usize) -> u64
         EntryKind::Uint16 => u64::from(u16_at(bytes, place)),
         EntryKind::Uint32 => u64::from(u32_at(bytes, place)),
         _ => u64::from(bytes[place]),
+    }
+}
+
+/// The number of a kind of numbers that 64 bits stand for.
+pub fn number_of(kind: EntryKind, bits: u64) -> i128
+    ensures { result ≡ value_number (as_number kind) bits }
+{
+    match kind {
+        EntryKind::Int8 | EntryKind::Int16 | EntryKind::Int32 | EntryKind::Int64 => {
+            i128::from(bits.cast_signed())
+        }
+        _ => i128::from(bits),
     }
 }
 

@@ -34,9 +34,9 @@ pub struct Entry {
     pub nest: u8,
     /// The inline size, in bytes.
     pub size: u32,
-    /// The first row or value, or the entry of the elements or of a box's content.
+    /// The first row or record of values, or the entry of the elements or of a box's content.
     pub first: u32,
-    /// How many rows or values there are, or how many elements an array has.
+    /// How many rows or records of values there are, or how many elements an array has.
     pub count: u32,
     /// The bound of a string or vector, or the mask of strict bits.
     pub bound: u64,
@@ -80,6 +80,15 @@ pub struct Row {
     pub entry: u32,
     pub name_place: u32,
     pub name_length: u32,
+}
+
+/// The values of a strict enum from the lowest to the highest, with both. A record of version 1 is
+/// one number, which is both.
+#[derive(Clone, Copy, PartialEq, Eq, Debug, Drop)]
+pub struct ValueRange {
+    /// The ends in 64 bits: a negative number in two's complement.
+    pub lowest: u64,
+    pub highest: u64,
 }
 
 /// A type that a user can name.

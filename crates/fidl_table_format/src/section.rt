@@ -1,11 +1,11 @@
 //! Readers of the records of a table's sections.
-ghost use Rattle.std.specs.Prelude.{◌≡◌, ◌+◌, ◌*◌, ◌≤◌, length, slice_range};
-ghost use Rattle.fidl_table_format.specs.Section.{header_of, entry_at, row_at, value_at, root_at};
+ghost use Rattle.std.specs.Prelude.{◌≡◌, ◌+◌, ◌*◌, ◌^◌, ◌≤◌, length, slice_range};
+ghost use Rattle.fidl_table_format.specs.Section.{header_of, entry_at, row_at, range_at, root_at};
 ghost use Rattle.fidl_table_format.specs.Section.{entry_place, row_place, value_place, root_place};
 ghost use Rattle.fidl_table_format.specs.Section.{protocol_place, protocol_at, method_place, method_at};
-ghost use Rattle.fidl_table_format.specs.Section.{names_place, name_at};
+ghost use Rattle.fidl_table_format.specs.Section.{names_place, name_at, value_size};
 
-use crate::record::{Entry, Header, MethodRecord, ProtocolRecord, Root, Row};
+use crate::record::{Entry, Header, MethodRecord, ProtocolRecord, Root, Row, ValueRange};
 use fidl_wire::{u16_at, u32_at, u64_at};
 
 /// The length of the header, in bytes.
@@ -32,6 +32,7 @@ pub fn read_header(table: &[u8]) -> Header
 }
 
 /// The fields of an entry, by its number.
+#[inline(always)]
 pub fn read_entry(table: &[u8], index: u32) -> Entry
     requires { entry_place index + 40 ≤ length table.now }
     ensures { result ≡ entry_at table.now index }
@@ -54,6 +55,7 @@ pub fn read_entry(table: &[u8], index: u32) -> Entry
 }
 
 /// The fields of a row, by its number, in a table with this header.
+#[inline(always)]
 pub fn read_row(table: &[u8], header: &Header, index: u32) -> Row
     requires { row_place header.now index + 16 ≤ length table.now }
     ensures { result ≡ row_at table.now header.now index }
@@ -67,14 +69,42 @@ pub fn read_row(table: &[u8], header: &Header, index: u32) -> Row
     }
 }
 
-/// The eight bytes of a value as a number, by the value's number, in a table with this header.
-pub fn read_value(table: &[u8], header: &Header, index: u32) -> u64
-    requires { value_place header.now index + 8 ≤ length table.now }
-    ensures { result ≡ value_at table.now header.now index }
+/// How many bytes so many records of values have, in a table with this header.
+pub fn values_size(header: &Header, count: u32) -> usize
+    ensures value { result ≡ value_size header.now * count }
+    ensures small { result ≤ 2 ^ 36 }
+{
+    match header.version {
+        2 => 16 * count as usize,
+        _ => 8 * count as usize,
+    }
+}
+
+/// Where a record of values begins, by its number, in bytes from the start of a table with this
+/// header.
+fn value_start(header: &Header, index: u32) -> usize
+    ensures value { result ≡ value_place header.now index }
+    ensures small { result ≤ 2 ^ 40 }
 {
     let rows = HEADER_SIZE + 40 * header.entries as usize;
     let values = rows + 16 * header.rows as usize;
-    u64_at(table, values + 8 * index as usize)
+    values + values_size(header, index)
+}
+
+/// The range of a record of values, by its number, in a table with this header.
+pub fn read_range(table: &[u8], header: &Header, index: u32) -> ValueRange
+    requires { value_place header.now index + value_size header.now ≤ length table.now }
+    ensures { result ≡ range_at table.now header.now index }
+{
+    let place = value_start(header, index);
+    let highest = match header.version {
+        2 => place + 8,
+        _ => place,
+    };
+    ValueRange {
+        lowest: u64_at(table, place),
+        highest: u64_at(table, highest),
+    }
 }
 
 /// The fields of a root, by its number, in a table with this header.
@@ -82,10 +112,7 @@ pub fn read_root(table: &[u8], header: &Header, index: u32) -> Root
     requires { root_place header.now index + 12 ≤ length table.now }
     ensures { result ≡ root_at table.now header.now index }
 {
-    let rows = HEADER_SIZE + 40 * header.entries as usize;
-    let values = rows + 16 * header.rows as usize;
-    let roots = values + 8 * header.values as usize;
-    let place = roots + 12 * index as usize;
+    let place = value_start(header, header.values) + 12 * index as usize;
     Root {
         name_place: u32_at(table, place),
         name_length: u32_at(table, place + 4),
@@ -97,10 +124,7 @@ pub fn read_root(table: &[u8], header: &Header, index: u32) -> Root
 fn protocols_start(header: &Header) -> usize
     ensures { result ≡ protocol_place header.now 0 }
 {
-    let rows = HEADER_SIZE + 40 * header.entries as usize;
-    let values = rows + 16 * header.rows as usize;
-    let roots = values + 8 * header.values as usize;
-    roots + 12 * header.roots as usize
+    value_start(header, header.values) + 12 * header.roots as usize
 }
 
 /// The fields of a protocol, by its number, in a table with this header.

@@ -3,13 +3,13 @@ ghost use Rattle.std.specs.Prelude.{◌≡◌, [], ◌∷◌, ◌++◌, replicat
 ghost use Rattle.std.specs.Prelude.{negsuc};
 ghost use Rattle.fidl_wire.specs.Term as ty;
 ghost use Rattle.fidl_wire.specs.Term.{Term, uint64, int64, int8};
-ghost use Rattle.fidl_table_format.specs.Section.{header_of, value_at};
-ghost use Rattle.fidl_table_format.specs.Terms.{declarations_of, value_number};
+ghost use Rattle.fidl_table_format.specs.Terms.{declarations_of};
 
 pub mod below;
 pub mod methods;
 pub mod numbers;
 pub mod ordinals;
+pub mod ranges;
 pub mod tables;
 pub mod unknown;
 

@@ -6,8 +6,8 @@ use Rattle.fidl_table_format.specs.declared.record.Header.{Header}
 use Rattle.fidl_table_format.specs.declared.kind.EntryKind.{EntryKind}
 use Rattle.fidl_table_format.specs.declared.kind.EntryKind.TheVariants as kinds
 use Rattle.fidl_table_format.specs.Kind.{kind_of}
-use Rattle.fidl_table_format.specs.Section.{header_of, entry_at, row_at, value_at, root_at, protocol_at}
-use Rattle.fidl_table_format.specs.Section.{method_at, name_at}
+use Rattle.fidl_table_format.specs.Section.{header_of, entry_at, row_at, has_ranges, range_at, root_at}
+use Rattle.fidl_table_format.specs.Section.{protocol_at, method_at, name_at}
 use Rattle.fidl_text.specs.declared.listing.Section.{Section}
 use Rattle.fidl_text.specs.declared.listing.Section.TheVariants.{Entries, Rows, Values, Roots}
 use Rattle.fidl_text.specs.declared.listing.Section.TheVariants.{Protocols, Methods}
@@ -63,10 +63,13 @@ row_line bytes h index =
     (decimal index ∷ decimal r.key ∷ decimal r.entry
     ∷ name_word (name_at bytes h r.name_place r.name_length) ∷ [])
 
--- the line of a value, as a number without a sign
+-- the line of a record of values: its number, or in version 2 the lowest and the highest of its
+-- range, as numbers without a sign
 abbrev pub value_line : List ℕ → Header → (index : ℕ) → List ℕ
 value_line bytes h index =
-    words_line (codes "value") (decimal index ∷ decimal (value_at bytes h index) ∷ [])
+    let r = range_at bytes h index in
+    words_line (codes "value")
+    (decimal index ∷ decimal r.lowest ∷ (if has_ranges h then decimal r.highest ∷ [] else []))
 
 -- the line of a root: its name, and its entry
 abbrev pub root_line : List ℕ → Header → (index : ℕ) → List ℕ

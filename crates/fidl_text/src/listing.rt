@@ -127,7 +127,7 @@ fn write_row<W: Write>(table: &Table<'_>, index: u32, out: &mut Output<W>) -> Re
     write_words("row", &words, out)
 }
 
-/// Writes the line of a value.
+/// Writes the line of a record of values.
 fn write_value<W: Write>(table: &Table<'_>, index: u32, out: &mut Output<W>) -> Result<(), Failed>
     requires { index < (header_of table.now).values }
     ensures text { Writes (W.contents out.old.writer) (W.contents out.new.writer)
@@ -135,8 +135,16 @@ fn write_value<W: Write>(table: &Table<'_>, index: u32, out: &mut Output<W>) -> 
     ensures kept { OnOk result (out.new.failure ≡ out.old.failure) }
     ensures failed { OnErr result (IsSome out.new.failure) }
 {
-    let words = [Word::Number(index as u64), Word::Number(table.value(index))];
-    write_words("value", &words, out)
+    let range = table.range(index);
+    let words = [
+        Word::Number(index as u64),
+        Word::Number(range.lowest),
+        Word::Number(range.highest),
+    ];
+    match read_header(table.bytes()).version {
+        2 => write_words("value", &words, out),
+        _ => write_words("value", &words[..2], out),
+    }
 }
 
 /// Writes the line of a root.

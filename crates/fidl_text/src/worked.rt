@@ -1,7 +1,9 @@
 //! Worked facts: the lines of records, computed by the definitions.
 ghost use Rattle.std.specs.Prelude.{◌≡◌, ◌++◌, codes};
 ghost use Rattle.fidl_table_format.specs.Section.{header_of};
-ghost use Rattle.fidl_text.specs.Listing.{table_text, row_line, kind_word, openness_word};
+ghost use Rattle.fidl_table_format.specs.Samples.{one_two_four, one_two_and_four};
+ghost use Rattle.fidl_text.specs.Listing.{table_text, row_line, value_line, kind_word};
+ghost use Rattle.fidl_text.specs.Listing.{openness_word};
 ghost use Rattle.fidl_text.specs.Words.{ordinal_word, payload_word, name_word};
 ghost use Rattle.fidl_text.specs.Samples.{point};
 
@@ -19,6 +21,15 @@ pub fn rows_have_names()
     ensures is { row_line point (header_of point) 1 ≡ codes "row 1 4 1 y\n" }
     ensures unnamed { ¬ (row_line point (header_of point) 1 ≡ codes "row 1 4 1 -\n") }
     ensures turned { ¬ (row_line point (header_of point) 1 ≡ codes "row 1 1 4 y\n") }
+{}
+
+/// The line of a record of values has one number, and in version 2 both ends.
+pub fn values_have_their_ends()
+    ensures one { let t = one_two_four 1 in value_line t (header_of t) 1 ≡ codes "value 1 2\n" }
+    ensures two { let t = one_two_and_four 2 4 in
+        value_line t (header_of t) 0 ≡ codes "value 0 1 2\n" }
+    ensures alone { let t = one_two_and_four 2 4 in
+        value_line t (header_of t) 1 ≡ codes "value 1 4 4\n" }
 {}
 
 /// Words of the other records.

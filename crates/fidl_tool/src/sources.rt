@@ -14,7 +14,7 @@ ghost use Rattle.fidl_commands.specs.declared.outcome.Outcome.TheVariants as out
 
 use crate::compiling::{compile, summarize};
 use fidl_command_line::CompileArguments;
-use fidl_commands::{File, Files, Outcome, tell_no_file, write_no_memory};
+use fidl_commands::{File, Files, Outcome, file_bytes, tell_no_file, write_no_memory};
 use fidl_text::Output;
 use std::alloc::{AllocError, Global};
 use std::io::Write;
@@ -44,10 +44,8 @@ fn read_source<'a, F: Files, E: Write>(
     ensures unwritten { IfErr result (λ ended. errors.old.failure ≡ None
         → (ended ≡ outcome.Unwritten ↔ IsSome errors.new.failure)) }
 {
-    match files.read(alloc, name) {
-        Ok(bytes) => Ok(Source { name, bytes }),
-        Err(error) => Err(tell_no_file(alloc, name, &error, errors)),
-    }
+    let bytes = file_bytes(alloc, name, files, errors)?;
+    Ok(Source { name, bytes })
 }
 
 /// Reads the files of these names.

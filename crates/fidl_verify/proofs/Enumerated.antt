@@ -1,9 +1,9 @@
--- The underlying types of bits and enums, and the numbers of a strict enum one by one.
-use Rattle.std.proofs.Common.{◌≡◌, ◌↔◌, ℕ, zero, suc, ◌+◌, ◌<◌, ℤ, ◌<ℤ◌, List, Bool, true, false, IsTrue, Option, Some, None, is_some, inl, inr, refl, ap, subst, sym, ◌∙◌, arith, add-one}
+-- The underlying types of bits and enums, and the ranges of a strict enum one by one.
+use Rattle.std.proofs.Common.{◌≡◌, ◌↔◌, ℕ, zero, suc, ◌+◌, ◌^◌, ◌<◌, ℤ, pos, negsuc, ◌<ℤ◌, List, Bool, true, false, IsTrue, Option, Some, None, is_some, inl, inr, refl, ap, subst, sym, ◌∙◌, arith, add-one}
 use Rattle.std.proofs.lemmas.Int.{ints}
-use Rattle.std.specs.Prelude.{unwrap_or}
+use Rattle.std.specs.Prelude.{unwrap_or, ◌+ℤ◌, ◌≤ℤ◌}
 use Rattle.std.specs.Option.{option_map_or}
-use Rattle.fidl_wire.specs.Term.{Kind, uint8}
+use Rattle.fidl_wire.specs.Term.{Kind, int8, int16, int32, int64, uint8, uint16, uint32, uint64}
 use Rattle.fidl_wire.specs.Typed.{InRange}
 use Rattle.fidl_table_format.specs.declared.record.Header.{Header}
 use Rattle.fidl_table_format.specs.declared.record.Entry.{Entry}
@@ -12,7 +12,8 @@ use Rattle.fidl_table_format.specs.declared.kind.EntryKind.TheVariants.{Uint8, U
 use Rattle.fidl_table_format.specs.Kind.{kind_of, number_type}
 use Rattle.fidl_table_format.specs.Terms.{as_number, underlying}
 use Rattle.fidl_table_format.specs.Uses.{is_number, is_unsigned}
-use Rattle.fidl_table_format.specs.Entry.{subtype_is, HasNumberKind, enum_value, IsEnumValue}
+use Rattle.fidl_table_format.specs.Section.{has_ranges}
+use Rattle.fidl_table_format.specs.Entry.{subtype_is, HasNumberKind, lowest_value, highest_value, IsEnumRange}
 use Rattle.fidl_verify.proofs.Stated.{or_last}
 
 -- a number type that is there
@@ -38,26 +39,54 @@ enum_number e is = number_kind (kind_of e.subtype) is
 pub bits_number : (e : Entry) → IsTrue (subtype_is is_unsigned e) → HasNumberKind e
 bits_number e is = number_kind (kind_of e.subtype) (numbered (kind_of e.subtype) is)
 
-less_than_both : (a b c : ℤ) → a <ℤ b → b <ℤ c → a <ℤ c
-less_than_both a b c p q = omega (arith, ints)
+-- numbers of a type have 64 bits
+pub below_64 : (k : Kind) (z : ℤ) → InRange k z → z <ℤ pos (2 ^ 64)
+below_64 int8 z fits = grind (arith, ints)
+below_64 int16 z fits = grind (arith, ints)
+below_64 int32 z fits = grind (arith, ints)
+below_64 int64 z fits = grind (arith, ints)
+below_64 uint8 (pos n) fits = omega (arith, ints, fits)
+below_64 uint8 (negsuc n) fits = absurd fits
+below_64 uint16 (pos n) fits = omega (arith, ints, fits)
+below_64 uint16 (negsuc n) fits = absurd fits
+below_64 uint32 (pos n) fits = omega (arith, ints, fits)
+below_64 uint32 (negsuc n) fits = absurd fits
+below_64 uint64 (pos n) fits = omega (arith, ints, fits)
+below_64 uint64 (negsuc n) fits = absurd fits
 
--- numbers of which each is less than the next
-pub rising : (f : ℕ → ℤ) (n : ℕ) → ((k : ℕ) → suc k < n → f k <ℤ f (suc k)) → (i j : ℕ) → i < j → j < n → f i <ℤ f j
-rising f n step i zero p q = absurd (omega (arith, p))
-rising f n step i (suc j) p q =
+-- ranges of which each ends before the next begins
+pub rising : (lowest highest : ℕ → ℤ) (n : ℕ) → ((k : ℕ) → k < n → lowest k ≤ℤ highest k) → ((k : ℕ) → suc k < n → highest k <ℤ lowest (suc k))
+    → (i j : ℕ) → i < j → j < n → highest i <ℤ lowest j
+rising lowest highest n order step i zero p q = absurd (omega (arith, p))
+rising lowest highest n order step i (suc j) p q =
     elim (or_last i j p) [
-      | inl less ↦ less_than_both (f i) (f j) (f (suc j)) (rising f n step i j less (omega (arith, q))) (step j q)
-      | inr same ↦ subst (λ m. f m <ℤ f (suc j)) (sym same) (step j q)
+      | inl less ↦
+          let before = rising lowest highest n order step i j less (omega (arith, q)) in
+          let own = order j (omega (arith, q)) in
+          let next = step j q in
+          omega (arith, ints)
+      | inr same ↦ subst (λ m. highest m <ℤ lowest (suc j)) (sym same) (step j q)
     ]
 
--- a number that fits is right where it is less than the next
-pub is_value_if : (bytes : List ℕ) (h : Header) (e : Entry) (k : ℕ) (kind : Kind) (z y : ℤ) (less : Bool) → kind ≡ underlying e
-    → z ≡ enum_value bytes h e k → y ≡ enum_value bytes h e (k + 1) → suc k < e.count → InRange kind z → (IsTrue less ↔ (z <ℤ y)) → (IsTrue less ↔ IsEnumValue bytes h e k)
-is_value_if bytes h e k kind z y less same this after more fits both =
-    let next : y ≡ enum_value bytes h e (suc k) = after ∙ ap (enum_value bytes h e) (add-one k) in (
-      λ t. record {
-        fits = subst (λ z. InRange (underlying e) z) this (subst (λ u. InRange u z) same fits);
-        rises = λ p. subst (λ y. enum_value bytes h e k <ℤ y) next (subst (λ z. z <ℤ y) this (both.0 t));
-      },
-      λ v. both.1 (subst (λ z. z <ℤ y) (sym this) (subst (λ y. enum_value bytes h e k <ℤ y) (sym next) (v.rises more))),
-    )
+module _ (bytes : List ℕ) (h : Header) (e : Entry) (k : ℕ) where
+  -- what a range alone has to keep
+  abbrev Own : Kind → ℤ → ℤ → Type 0
+  Own kind low high = InRange kind low × InRange kind high × (low ≤ℤ high)
+
+  -- what it has to keep with the next
+  abbrev Next : ℤ → ℤ → Type 0
+  Next high low = (high <ℤ low) × (IsTrue (has_ranges h) → (high +ℤ pos 1) <ℤ low)
+
+  module _ (kind : Kind) (low high : ℤ) (same : kind ≡ underlying e) (lowest : low ≡ lowest_value bytes h e k) (highest : high ≡ highest_value bytes h e k) where
+    own : Own kind low high → Own (underlying e) (lowest_value bytes h e k) (highest_value bytes h e k)
+    own o = subst (λ z. Own (underlying e) (lowest_value bytes h e k) z) highest (subst (λ z. Own (underlying e) z high) lowest (subst (λ u. Own u low high) same o))
+
+    -- a range before another
+    pub is_range_if : (next : ℤ) (before : Bool) → next ≡ lowest_value bytes h e (k + 1) → suc k < e.count → Own kind low high → (IsTrue before ↔ Next high next) → (IsTrue before ↔ IsEnumRange bytes h e k)
+    is_range_if next before after more o both =
+        let there : next ≡ lowest_value bytes h e (suc k) = after ∙ ap (lowest_value bytes h e) (add-one k) in
+        let forth : Next high next → Next (highest_value bytes h e k) (lowest_value bytes h e (suc k)) = λ n. subst (λ z. Next (highest_value bytes h e k) z) there (subst (λ z. Next z next) highest n) in
+        let back : Next (highest_value bytes h e k) (lowest_value bytes h e (suc k)) → Next high next = λ n. subst (λ z. Next high z) (sym there) (subst (λ z. Next z (lowest_value bytes h e (suc k))) (sym highest) n) in (
+          λ t. let u = own o in let n = forth (both.0 t) in record { lowest = u.0; highest = u.1; order = u.2; rises = λ p. n.0; apart = λ on p. n.1 on },
+          λ r. both.1 (back (r.rises more, λ on. r.apart on more)),
+        )

@@ -6,7 +6,7 @@ ghost use Rattle.fidl_verify.specs.Faults.{Breaks};
 
 use crate::fault::TableFault;
 use crate::sections::Sections;
-use fidl_table_format::{HEADER_SIZE, Header, read_header};
+use fidl_table_format::{HEADER_SIZE, Header, read_header, values_size};
 use fidl_wire::MAX_ENTRIES;
 
 /// "FCT2", as a number.
@@ -19,7 +19,7 @@ fn length_of(header: &Header) -> u64
     HEADER_SIZE as u64
         + 40 * u64::from(header.entries)
         + 16 * u64::from(header.rows)
-        + 8 * u64::from(header.values)
+        + values_size(header, header.values) as u64
         + 12 * u64::from(header.roots)
         + 16 * u64::from(header.protocols)
         + 32 * u64::from(header.methods)
@@ -30,7 +30,7 @@ fn length_of(header: &Header) -> u64
 fn is_version(header: &Header) -> bool
     ensures { IsTrue result ↔ IsVersion header.now }
 {
-    header.version == 1 && header.reserved == 0 && header.reserved_end == 0
+    matches!(header.version, 1 | 2) && header.reserved == 0 && header.reserved_end == 0
 }
 
 /// The sections of a table whose header is right.

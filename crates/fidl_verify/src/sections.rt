@@ -1,11 +1,11 @@
 //! The sections of a table whose header is right.
 ghost use Rattle.std.specs.Prelude.{◌≡◌, ◌+◌, ◌≤◌, ◌<◌, length};
-ghost use Rattle.fidl_table_format.specs.Section.{header_of, table_length, entry_at, row_at, value_at};
+ghost use Rattle.fidl_table_format.specs.Section.{header_of, table_length, entry_at, row_at, range_at};
 ghost use Rattle.fidl_table_format.specs.Section.{root_at, protocol_at, method_at, name_at};
 
 use fidl_table_format::{
-    Entry, Header, MethodRecord, ProtocolRecord, Root, Row, name_bytes, read_entry, read_method,
-    read_protocol, read_root, read_row, read_value,
+    Entry, Header, MethodRecord, ProtocolRecord, Root, Row, ValueRange, name_bytes, read_entry,
+    read_method, read_protocol, read_range, read_root, read_row,
 };
 
 /// The bytes of a table, and its header; the sections fill the table.
@@ -19,6 +19,7 @@ pub(crate) struct Sections<'t> {
 
 impl<'t> Sections<'t> {
     /// The entry of this number.
+    #[inline(always)]
     pub(crate) fn entry(&self, index: u32) -> Entry
         requires { index < self.now.header.entries }
         ensures { result ≡ entry_at self.now.bytes.now index }
@@ -27,6 +28,7 @@ impl<'t> Sections<'t> {
     }
 
     /// The row of this number.
+    #[inline(always)]
     pub(crate) fn row(&self, index: u32) -> Row
         requires { index < self.now.header.rows }
         ensures { result ≡ row_at self.now.bytes.now self.now.header index }
@@ -34,7 +36,7 @@ impl<'t> Sections<'t> {
         read_row(self.bytes, &self.header, index)
     }
 
-    /// The end of a range of rows.
+    /// The end of rows that follow one another.
     pub(crate) fn rows_end(&self, first: u32, count: u32) -> u32
         requires { first + count ≤ self.now.header.rows }
         ensures { result ≡ first + count }
@@ -44,15 +46,15 @@ impl<'t> Sections<'t> {
         first + count
     }
 
-    /// The value of this number.
-    pub(crate) fn value(&self, index: u32) -> u64
+    /// The range in the record of values of this number.
+    pub(crate) fn range(&self, index: u32) -> ValueRange
         requires { index < self.now.header.values }
-        ensures { result ≡ value_at self.now.bytes.now self.now.header index }
+        ensures { result ≡ range_at self.now.bytes.now self.now.header index }
     {
-        read_value(self.bytes, &self.header, index)
+        read_range(self.bytes, &self.header, index)
     }
 
-    /// The end of a range of values.
+    /// The end of records of values that follow one another.
     pub(crate) fn values_end(&self, first: u32, count: u32) -> u32
         requires { first + count ≤ self.now.header.values }
         ensures { result ≡ first + count }

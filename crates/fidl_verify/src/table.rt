@@ -1,7 +1,7 @@
 //! Tables that are verified.
 ghost use Rattle.std.specs.Prelude.{◌≡◌, ℕ, ◌+◌, ◌<◌, ◌≤◌, OnOk, OnErr, IfOk, IfErr, IfSome};
 ghost use Rattle.std.specs.Prelude.{IfNone};
-ghost use Rattle.fidl_table_format.specs.Section.{header_of, entry_at, row_at, value_at, name_at};
+ghost use Rattle.fidl_table_format.specs.Section.{header_of, entry_at, row_at, range_at, name_at};
 ghost use Rattle.fidl_table_format.specs.Entry.{rows_before, values_before};
 ghost use Rattle.fidl_table_format.specs.Root.{IsRootEntry, HasNoRoot};
 ghost use Rattle.fidl_table_format.specs.WellFormed.{WellFormed};
@@ -16,7 +16,7 @@ use crate::protocols::check_protocols;
 use crate::roots::{check_roots, find_root};
 use crate::runs::Seen;
 use crate::sections::Sections;
-use fidl_table_format::{Entry, Row};
+use fidl_table_format::{Entry, Row, ValueRange};
 use std::marker::Model;
 
 /// The bytes of a well-formed table (docs/table.md, "Verification").
@@ -83,6 +83,7 @@ impl<'t> Table<'t> {
     }
 
     /// The bytes that were verified.
+    #[inline(always)]
     pub fn bytes(&self) -> &'t [u8]
         ensures value { result.now ≡ self.now }
         ensures well_formed { WellFormed self.now }
@@ -91,6 +92,7 @@ impl<'t> Table<'t> {
     }
 
     /// The number of entries.
+    #[inline(always)]
     pub fn entries(&self) -> u32
         ensures value { result ≡ (header_of self.now).entries }
         ensures well_formed { WellFormed self.now }
@@ -99,6 +101,7 @@ impl<'t> Table<'t> {
     }
 
     /// The number of rows.
+    #[inline(always)]
     pub fn rows(&self) -> u32
         ensures value { result ≡ (header_of self.now).rows }
         ensures well_formed { WellFormed self.now }
@@ -106,7 +109,8 @@ impl<'t> Table<'t> {
         self.sections.header.rows
     }
 
-    /// The number of values.
+    /// The number of records of values.
+    #[inline(always)]
     pub fn values(&self) -> u32
         ensures value { result ≡ (header_of self.now).values }
         ensures well_formed { WellFormed self.now }
@@ -124,6 +128,7 @@ impl<'t> Table<'t> {
     }
 
     /// The entry of this number.
+    #[inline(always)]
     pub fn entry(&self, index: u32) -> Entry
         requires { index < (header_of self.now).entries }
         ensures value { result ≡ entry_at self.now index }
@@ -134,6 +139,7 @@ impl<'t> Table<'t> {
     }
 
     /// The row of this number.
+    #[inline(always)]
     pub fn row(&self, index: u32) -> Row
         requires { index < (header_of self.now).rows }
         ensures value { result ≡ row_at self.now (header_of self.now) index }
@@ -144,13 +150,13 @@ impl<'t> Table<'t> {
         self.sections.row(index)
     }
 
-    /// The eight bytes of the value of this number, as a number.
-    pub fn value(&self, index: u32) -> u64
+    /// The range in the record of values of this number, whose ends are one in version 1.
+    pub fn range(&self, index: u32) -> ValueRange
         requires { index < (header_of self.now).values }
-        ensures value { result ≡ value_at self.now (header_of self.now) index }
+        ensures value { result ≡ range_at self.now (header_of self.now) index }
         ensures well_formed { WellFormed self.now }
     {
-        self.sections.value(index)
+        self.sections.range(index)
     }
 
     /// The bytes of a row's name.

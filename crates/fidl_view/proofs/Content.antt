@@ -23,10 +23,10 @@ use Rattle.fidl_table_format.specs.declared.kind.EntryKind.{EntryKind}
 use Rattle.fidl_table_format.specs.declared.kind.EntryKind.TheVariants.{Bool as Boolean, Int8, Int16, Int32, Int64, Uint8, Uint16, Uint32, Uint64, Bits, Enum, String, Vector, Array, Box, Struct, Table, Union, Handle}
 use Rattle.fidl_table_format.specs.Terms.{term_as}
 use Rattle.fidl_wire.specs.Field.{number_at}
-use Rattle.fidl_decode.specs.Links.{Linked}
-use Rattle.fidl_decode.specs.State.{Message}
-use Rattle.fidl_decode.specs.Placed.{Placed, object_at, record_at}
-use Rattle.fidl_decode.proofs.Numbers.{number_64, slice_is}
+use Rattle.fidl_decode_model.specs.Links.{Linked}
+use Rattle.fidl_decode_model.specs.State.{Message}
+use Rattle.fidl_decode_model.specs.Placed.{Placed, object_at, record_at}
+use Rattle.fidl_decode_model.proofs.Numbers.{number_64, slice_is}
 use Rattle.fidl_view.specs.Parts.{absence_of, handle_of, granted_of, rights_of, string_of, length_of}
 
 -- what stands in a message is no longer than the message

@@ -20,8 +20,8 @@ use Rattle.fidl_wire.specs.Figure.{Figure, size_of}
 use Rattle.fidl_verify.proofs.Known.{test_of}
 use Rattle.fidl_verify.proofs.Standing.{members_stand}
 use Rattle.fidl_verify.proofs.Declared.{element_nests, member_nests}
-use Rattle.fidl_decode.proofs.Bridge.{fine_of}
-use Rattle.fidl_decode.proofs.Visiting.{term_is, figure_is, size_is}
+use Rattle.fidl_decode_model.proofs.Bridge.{fine_of}
+use Rattle.fidl_decode_model.proofs.Visiting.{term_is, figure_is, size_is}
 use Rattle.fidl_view.specs.declared.view.View.{View}
 use Rattle.fidl_view.specs.Within.{IsPart, IsMembers}
 use Rattle.fidl_view.specs.Parts.{absence_of, nth, unsigned_of, signed_of}

@@ -14,11 +14,11 @@ use Rattle.fidl_wire.specs.Encoding.{Encoding, zeros, padded, object, envelope_e
 use Rattle.fidl_wire.specs.Standing.{Stands}
 use Rattle.fidl_wire.proofs.Stand.{stands_to, stands_front, stands_back, copies_stand, copies_are}
 use Rattle.fidl_wire.proofs.Sizes.{size_of-resolve, length-inline, length-enveloped, length-padded, le_of_test, le-next_multiple_of}
-use Rattle.fidl_decode.specs.Links.{Linked}
-use Rattle.fidl_decode.specs.State.{Message, envelope_place}
-use Rattle.fidl_decode.specs.Placed.{IsMemberPlaced, AreMembersPlaced}
-use Rattle.fidl_decode.proofs.Numbers.{number_32}
-use Rattle.fidl_decode.proofs.After.{length-object}
+use Rattle.fidl_decode_model.specs.Links.{Linked}
+use Rattle.fidl_decode_model.specs.State.{Message, envelope_place}
+use Rattle.fidl_decode_model.specs.Placed.{IsMemberPlaced, AreMembersPlaced}
+use Rattle.fidl_decode_model.proofs.Numbers.{number_32}
+use Rattle.fidl_decode_model.proofs.After.{length-object}
 use Rattle.fidl_view.specs.Parts.{at_ordinal}
 use Rattle.fidl_view.proofs.Content.{stands_short}
 

@@ -11,10 +11,10 @@ use Rattle.fidl_wire.specs.Encoding.{encoding_of, members}
 use Rattle.fidl_wire.specs.Standing.{Stands}
 use Rattle.fidl_table_format.specs.Section.{header_of, row_at}
 use Rattle.fidl_table_format.specs.Terms.{declarations_of, fields_from}
-use Rattle.fidl_decode.specs.Invariants.{Keys}
-use Rattle.fidl_decode.specs.Links.{Linked}
-use Rattle.fidl_decode.specs.State.{Message}
-use Rattle.fidl_decode.specs.Placed.{Placed, ArePlaced, AreFieldsPlaced}
+use Rattle.fidl_decode_model.specs.Invariants.{Keys}
+use Rattle.fidl_decode_model.specs.Links.{Linked}
+use Rattle.fidl_decode_model.specs.State.{Message}
+use Rattle.fidl_decode_model.specs.Placed.{Placed, ArePlaced, AreFieldsPlaced}
 use Rattle.fidl_view.specs.Parts.{nth}
 
 module _ (ds : Declarations) (m : Message) (l : Linked) where

@@ -25,15 +25,15 @@ use Rattle.fidl_table_format.specs.Terms.{declarations_of, members_of, term_as, 
 use Rattle.fidl_table_format.specs.Uses.{uses_ordinals}
 use Rattle.fidl_table_format.specs.Entry.{IsOf, kind_is}
 use Rattle.fidl_table_format.specs.WellFormed.{WellFormed}
-use Rattle.fidl_decode.specs.Model.{Shown}
-use Rattle.fidl_decode.specs.Faults.{message_of}
-use Rattle.fidl_decode.specs.State.{Message, envelope_place}
-use Rattle.fidl_decode.specs.Placed.{Placed, IsMemberPlaced, AreMembersPlaced, object_at, enclosed_at}
-use Rattle.fidl_decode.specs.Invariants.{IsFine}
-use Rattle.fidl_decode.proofs.Bridge.{fine_of}
-use Rattle.fidl_decode.proofs.Numbers.{number_64}
-use Rattle.fidl_decode.proofs.Visiting.{figure_is, size_is}
-use Rattle.fidl_decode.proofs.After.{length-table}
+use Rattle.fidl_decode_model.specs.Model.{Shown}
+use Rattle.fidl_decode_model.specs.Faults.{message_of}
+use Rattle.fidl_decode_model.specs.State.{Message, envelope_place}
+use Rattle.fidl_decode_model.specs.Placed.{Placed, IsMemberPlaced, AreMembersPlaced, object_at, enclosed_at}
+use Rattle.fidl_decode_model.specs.Invariants.{IsFine}
+use Rattle.fidl_decode_model.proofs.Bridge.{fine_of}
+use Rattle.fidl_decode_model.proofs.Numbers.{number_64}
+use Rattle.fidl_decode_model.proofs.Visiting.{figure_is, size_is}
+use Rattle.fidl_decode_model.proofs.After.{length-table}
 use Rattle.fidl_view.specs.Parts.{held_of, member_of, known_of, known_in, unknown_in, variant_of, unknown_of}
 use Rattle.fidl_view.specs.Shows.{Shows}
 use Rattle.fidl_view.specs.declared.view.View.{View}

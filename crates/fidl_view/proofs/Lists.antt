@@ -22,15 +22,15 @@ use Rattle.fidl_wire.specs.Field.{number_at}
 use Rattle.fidl_table_format.specs.Terms.{declarations_of, term_as, is_optional}
 use Rattle.fidl_table_format.specs.Entry.{IsOf}
 use Rattle.fidl_table_format.specs.WellFormed.{WellFormed}
-use Rattle.fidl_decode.specs.Model.{Shown}
-use Rattle.fidl_decode.specs.Faults.{message_of}
-use Rattle.fidl_decode.specs.State.{Message}
-use Rattle.fidl_decode.specs.Links.{Linked}
-use Rattle.fidl_decode.specs.Placed.{ArePlaced, object_at, content_at}
-use Rattle.fidl_decode.specs.Invariants.{IsFine}
-use Rattle.fidl_decode.proofs.Bridge.{fine_of}
-use Rattle.fidl_decode.proofs.Numbers.{slice_is, number_64}
-use Rattle.fidl_decode.proofs.Visiting.{fine_as, term_is, figure_is, size_is}
+use Rattle.fidl_decode_model.specs.Model.{Shown}
+use Rattle.fidl_decode_model.specs.Faults.{message_of}
+use Rattle.fidl_decode_model.specs.State.{Message}
+use Rattle.fidl_decode_model.specs.Links.{Linked}
+use Rattle.fidl_decode_model.specs.Placed.{ArePlaced, object_at, content_at}
+use Rattle.fidl_decode_model.specs.Invariants.{IsFine}
+use Rattle.fidl_decode_model.proofs.Bridge.{fine_of}
+use Rattle.fidl_decode_model.proofs.Numbers.{slice_is, number_64}
+use Rattle.fidl_decode_model.proofs.Visiting.{fine_as, term_is, figure_is, size_is}
 use Rattle.fidl_view.specs.Parts.{nth, octet, octets, bytes_if, bytes_of, length_of, element_of, elements_of, string_of, IsNoList}
 use Rattle.fidl_view.specs.Shows.{Shows, type_of}
 use Rattle.fidl_view.specs.Elements.{parts_from, ShowEach}

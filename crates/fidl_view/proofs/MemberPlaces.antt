@@ -15,14 +15,14 @@ use Rattle.fidl_table_format.specs.Section.{header_of, entry_at, row_at}
 use Rattle.fidl_table_format.specs.Terms.{declarations_of, term_as}
 use Rattle.fidl_table_format.specs.Entry.{IsOf}
 use Rattle.fidl_table_format.specs.WellFormed.{WellFormed}
-use Rattle.fidl_decode.specs.Model.{Shown}
-use Rattle.fidl_decode.specs.Faults.{message_of}
-use Rattle.fidl_decode.specs.Placed.{AreFieldsPlaced, object_at}
-use Rattle.fidl_decode.specs.Invariants.{IsFine, EntryFine}
-use Rattle.fidl_decode.specs.Rows.{table_rows, TypedRows}
-use Rattle.fidl_decode.proofs.Bridge.{fine_of}
-use Rattle.fidl_decode.proofs.Visiting.{fine_as, term_is}
-use Rattle.fidl_decode.proofs.Stated.{typed_rows}
+use Rattle.fidl_decode_model.specs.Model.{Shown}
+use Rattle.fidl_decode_model.specs.Faults.{message_of}
+use Rattle.fidl_decode_model.specs.Placed.{AreFieldsPlaced, object_at}
+use Rattle.fidl_decode_model.specs.Invariants.{IsFine, EntryFine}
+use Rattle.fidl_decode_model.specs.Rows.{table_rows, TypedRows}
+use Rattle.fidl_decode_model.proofs.Bridge.{fine_of}
+use Rattle.fidl_decode_model.proofs.Visiting.{fine_as, term_is}
+use Rattle.fidl_decode_model.proofs.Stated.{typed_rows}
 use Rattle.fidl_view.specs.Parts.{nth, field_of, IsNoStruct}
 use Rattle.fidl_view.specs.Shows.{Shows, type_of}
 use Rattle.fidl_view.specs.Members.{ShowMembers, fields_at}

@@ -1,7 +1,7 @@
 -- The parts of an array that are left.
 use Rattle.std.proofs.Common.{◌≡◌, ℕ, zero, suc, ◌+◌, ◌-◌, ◌∷◌, ap, subst, arith}
 use Rattle.fidl_wire.specs.Value.{Values, none, value}
-use Rattle.fidl_decode.specs.Model.{Shown}
+use Rattle.fidl_decode_model.specs.Model.{Shown}
 use Rattle.fidl_view.specs.Elements.{part, parts_from, ShowEach, HaveValues}
 use Rattle.fidl_view.specs.Shows.{HasValue}
 

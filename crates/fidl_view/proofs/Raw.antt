@@ -13,10 +13,10 @@ use Rattle.fidl_wire.specs.Standing.{Stands, Carries}
 use Rattle.fidl_wire.proofs.Stand.{stands_to, stands_front, stands_back}
 use Rattle.fidl_wire.specs.Field.{number_at}
 use Rattle.fidl_table_format.specs.Terms.{declarations_of}
-use Rattle.fidl_decode.specs.Model.{Shown}
-use Rattle.fidl_decode.specs.Faults.{message_of}
-use Rattle.fidl_decode.specs.Placed.{IsMemberPlaced, object_at, enclosed_at, first_record_at}
-use Rattle.fidl_decode.proofs.Numbers.{number_16, number_32, slice_is}
+use Rattle.fidl_decode_model.specs.Model.{Shown}
+use Rattle.fidl_decode_model.specs.Faults.{message_of}
+use Rattle.fidl_decode_model.specs.Placed.{IsMemberPlaced, object_at, enclosed_at, first_record_at}
+use Rattle.fidl_decode_model.proofs.Numbers.{number_16, number_32, slice_is}
 use Rattle.fidl_view.specs.Parts.{known_of}
 use Rattle.fidl_view.specs.Members.{ShowMember, term_at}
 use Rattle.fidl_view.proofs.Content.{stands_short, nonzero}

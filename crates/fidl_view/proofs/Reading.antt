@@ -18,8 +18,8 @@ use Rattle.fidl_view.specs.Parts.{bool_of, numbers_of, unsigned_of, signed_of}
 use Rattle.fidl_view.specs.Numbers.{unsigned_in, signed_in, unsigned_at, signed_at}
 use Rattle.fidl_view.proofs.Sorts.{by_sort}
 use Rattle.fidl_table_format.specs.Number.{number_standing}
-use Rattle.fidl_decode.proofs.Numbers.{number_is}
-use Rattle.fidl_decode.proofs.Scalars.{Numeric, numeric_number, numeric_bits, numeric_enum}
+use Rattle.fidl_decode_model.proofs.Numbers.{number_is}
+use Rattle.fidl_decode_model.proofs.Scalars.{Numeric, numeric_number, numeric_bits, numeric_enum}
 
 module _ (ds : Declarations) (t : List ℕ) (h : Header) (d : Entry) (m : List ℕ) (p : ℕ) where
   -- the value is one of the kind, and stands at the place

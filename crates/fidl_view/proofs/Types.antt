@@ -7,7 +7,7 @@ use Rattle.fidl_table_format.specs.declared.record.Header.{Header}
 use Rattle.fidl_table_format.specs.Section.{row_at}
 use Rattle.fidl_table_format.specs.Terms.{fields_from}
 use Rattle.fidl_wire.specs.Term.{Term}
-use Rattle.fidl_decode.specs.Model.{Shown}
+use Rattle.fidl_decode_model.specs.Model.{Shown}
 use Rattle.fidl_view.specs.Shows.{type_of}
 use Rattle.fidl_view.specs.Elements.{Part, parts_from}
 use Rattle.fidl_view.specs.Members.{field_at}

@@ -22,13 +22,13 @@ use Rattle.fidl_table_format.specs.Terms.{is_optional, declarations_of, term_as,
 use Rattle.fidl_table_format.specs.Uses.{is_number, is_unsigned}
 use Rattle.fidl_table_format.specs.Entry.{IsOf, subtype_is}
 use Rattle.fidl_table_format.specs.WellFormed.{WellFormed}
-use Rattle.fidl_decode.specs.Model.{Shown}
-use Rattle.fidl_decode.specs.Invariants.{IsFine}
-use Rattle.fidl_decode.proofs.Bridge.{fine_of}
-use Rattle.fidl_decode.proofs.Visiting.{fine_as, term_is, figure_is, size_is, positive}
+use Rattle.fidl_decode_model.specs.Model.{Shown}
+use Rattle.fidl_decode_model.specs.Invariants.{IsFine}
+use Rattle.fidl_decode_model.proofs.Bridge.{fine_of}
+use Rattle.fidl_decode_model.proofs.Visiting.{fine_as, term_is, figure_is, size_is, positive}
 use Rattle.fidl_wire.specs.Message.{IsEncoding, Encodes}
-use Rattle.fidl_decode.specs.State.{Message}
-use Rattle.fidl_decode.proofs.Messages.{message_item}
+use Rattle.fidl_decode_model.specs.State.{Message}
+use Rattle.fidl_decode_model.proofs.Messages.{message_item}
 use Rattle.fidl_view.specs.Numbers.{unsigned_at, signed_at}
 use Rattle.fidl_view.specs.Parts.{numbers_of, unsigned_of, signed_of, string_of, handle_of, rights_of, granted_of}
 use Rattle.fidl_view.specs.Views.{IsEncoded, IsOnly, elements_at, bytes_at}
@@ -38,8 +38,8 @@ use Rattle.fidl_view.proofs.Content.{TextThere, text_found, granted_is}
 use Rattle.fidl_view.proofs.Finding.{inline_of}
 use Rattle.fidl_wire.proofs.Unique.{one_value}
 use Rattle.fidl_verify.proofs.Declared.{sound}
-use Rattle.fidl_decode.specs.Faults.{message_of}
-use Rattle.fidl_decode.specs.Placed.{object_at, Placed, StandsIn}
+use Rattle.fidl_decode_model.specs.Faults.{message_of}
+use Rattle.fidl_decode_model.specs.Placed.{object_at, Placed, StandsIn}
 use Rattle.fidl_view.proofs.Reading.{Stood, unsigned_is, signed_is}
 
 unknown_none : false ≡ true → ⊥

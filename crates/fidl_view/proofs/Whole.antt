@@ -8,7 +8,7 @@ use Rattle.fidl_wire.specs.Term as ty
 use Rattle.fidl_wire.specs.Typed.{IsTyped}
 use Rattle.fidl_wire.specs.Depth.{depth_of}
 use Rattle.fidl_table_format.specs.Terms.{declarations_of}
-use Rattle.fidl_decode.specs.Model.{Shown}
+use Rattle.fidl_decode_model.specs.Model.{Shown}
 use Rattle.fidl_view.specs.Shows.{Shows, type_of}
 use Rattle.fidl_view.specs.declared.view.View.{View}
 use Rattle.fidl_view.specs.Within.{IsValueOf}

@@ -1,7 +1,7 @@
 -- The elements of an array or a vector, one by one (docs/views.md, "Elements").
 use Rattle.std.specs.Prelude.{ℕ, zero, suc, ◌+◌, List, [], ◌∷◌}
 use Rattle.fidl_wire.specs.Value.{Values, none, value}
-use Rattle.fidl_decode.specs.Model.{Shown}
+use Rattle.fidl_decode_model.specs.Model.{Shown}
 use Rattle.fidl_view.specs.Shows.{Shows}
 
 -- what a view is seen as: a decoded message, the entry of a part's type, and the part's place in

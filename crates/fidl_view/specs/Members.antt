@@ -10,9 +10,9 @@ use Rattle.fidl_wire.specs.Encoding.{members, enveloped}
 use Rattle.fidl_wire.specs.Standing.{Stands}
 use Rattle.fidl_table_format.specs.Section.{header_of, entry_at}
 use Rattle.fidl_table_format.specs.Terms.{declarations_of, fields_from, members_of}
-use Rattle.fidl_decode.specs.Faults.{message_of}
-use Rattle.fidl_decode.specs.Placed.{AreFieldsPlaced, IsMemberPlaced}
-use Rattle.fidl_decode.specs.Model.{Shown}
+use Rattle.fidl_decode_model.specs.Faults.{message_of}
+use Rattle.fidl_decode_model.specs.Placed.{AreFieldsPlaced, IsMemberPlaced}
+use Rattle.fidl_decode_model.specs.Model.{Shown}
 
 -- the members that a struct's entry declares
 abbrev pub fields_at : Shown → (index : ℕ) → Fields

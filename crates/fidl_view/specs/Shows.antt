@@ -6,9 +6,9 @@ use Rattle.fidl_wire.specs.Term as ty
 use Rattle.fidl_wire.specs.Typed.{Typed}
 use Rattle.fidl_wire.specs.Encoding.{encoding_of}
 use Rattle.fidl_table_format.specs.Terms.{declarations_of}
-use Rattle.fidl_decode.specs.Faults.{message_of}
-use Rattle.fidl_decode.specs.Placed.{Placed}
-use Rattle.fidl_decode.specs.Model.{Shown}
+use Rattle.fidl_decode_model.specs.Faults.{message_of}
+use Rattle.fidl_decode_model.specs.Placed.{Placed}
+use Rattle.fidl_decode_model.specs.Model.{Shown}
 
 -- the type that an entry declares
 abbrev pub type_of : Shown → (index : ℕ) → Term

@@ -13,8 +13,8 @@ use Rattle.fidl_wire.specs.Encoding.{element_of}
 use Rattle.fidl_wire.specs.Message.{Encodes}
 use Rattle.fidl_wire.specs.Field.{number_at}
 use Rattle.fidl_table_format.specs.Terms.{declarations_of}
-use Rattle.fidl_decode.specs.Placed.{content_at, object_at}
-use Rattle.fidl_decode.specs.Model.{Shown}
+use Rattle.fidl_decode_model.specs.Placed.{content_at, object_at}
+use Rattle.fidl_decode_model.specs.Model.{Shown}
 use Rattle.fidl_view.specs.declared.view.View.{View}
 use Rattle.fidl_view.specs.declared.elements.Elements.{Elements}
 use Rattle.fidl_view.specs.declared.structs.Members.{Members}
@@ -22,7 +22,8 @@ use Rattle.fidl_view.specs.declared.envelope.Envelope.{Envelope}
 use Rattle.fidl_view.specs.Parts.{known_of}
 use Rattle.fidl_view.specs.Shows.{Shows, type_of}
 use Rattle.fidl_view.specs.Elements.{Part, part, parts_from, ShowEach}
-use Rattle.fidl_view.specs.Members.{ShowMembers, ShowMember, struct_of, field_at, fields_at, term_at}
+use Rattle.fidl_view.specs.Members.{ShowMembers, ShowMember, struct_of, field_at, fields_at}
+use Rattle.fidl_view.specs.Members.{term_at}
 
 -- what a view is seen as
 abbrev pub part_of : View → Part

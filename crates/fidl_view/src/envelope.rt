@@ -11,7 +11,7 @@ ghost use Rattle.fidl_wire.specs.Value.{Value, Member, unknown};
 ghost use Rattle.fidl_table_format.specs.Section.{header_of, entry_at};
 ghost use Rattle.fidl_table_format.specs.Entry.{kind_is};
 ghost use Rattle.fidl_table_format.specs.Uses.{uses_ordinals};
-ghost use Rattle.fidl_decode.specs.Placed.{enclosed_at};
+ghost use Rattle.fidl_decode_model.specs.Placed.{enclosed_at};
 ghost use Rattle.fidl_view.specs.Members.{HaveMember, term_at};
 
 use crate::view::View;

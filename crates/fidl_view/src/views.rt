@@ -1,7 +1,7 @@
 //! What gives views: a decoded message.
 ghost use Rattle.std.specs.Prelude.{◌≡◌};
 ghost use Rattle.fidl_wire.specs.Value.{Value};
-ghost use Rattle.fidl_decode.specs.Model.{Shown};
+ghost use Rattle.fidl_decode_model.specs.Model.{Shown};
 ghost use Rattle.fidl_view.specs.Elements.{part};
 ghost use Rattle.fidl_view.specs.Views.{part_of, IsShownBy, IsEncoded, IsOnly};
 

@@ -11,7 +11,7 @@ ghost use Rattle.fidl_wire.specs.Term.{uint8, uint16, int8};
 ghost use Rattle.fidl_wire.specs.Term as ty;
 ghost use Rattle.fidl_wire.specs.Figure.{Declarations};
 ghost use Rattle.fidl_wire.specs.Encoding.{zeros};
-ghost use Rattle.fidl_decode.specs.Model.{Shown};
+ghost use Rattle.fidl_decode_model.specs.Model.{Shown};
 ghost use Rattle.fidl_view.specs.Parts.{absence_of, bool_of, unsigned_of, signed_of, octets};
 ghost use Rattle.fidl_view.specs.Parts.{bytes_if, bytes_of, length_of, string_of, handle_of};
 ghost use Rattle.fidl_view.specs.Parts.{granted_of};

@@ -834,6 +834,25 @@ envelope::write_table-returns-clause-ok t c =
     (subst (λ l. IsWritten (envelopes_part (declarations_of b) rows 0 c.in-Some.count (data_of.members_of l)) c.in_ok-depth.depth c.in_ok-at.at r z) c.as_slice.ensures c.in_ok-write_envelopes.ensures.ok))
     c.put_count.ensures.over c.put_count.ensures.same c.put_count.ensures.handles)
 
+pub envelope::write_member-returns-then-is_some-clause-fault_is_true : goal.envelope::write_member-returns-then-is_some-clause-fault_is_true
+envelope::write_member-returns-then-is_some-clause-fault_is_true t c =
+    envelopes.unknown_clash (declarations_of c.args.table.now) c.args.row (member_view c.args.member.now) c.in-Unknown.inline c.in-Unknown.bytes c.in-Unknown.handles (sym c.is_some.ensures ∙ c.if-is_some.true)
+    (ap member_view c.in-Unknown.is ∙ unknown_is c.in-Unknown.inline c.in-Unknown.bytes c.in-Unknown.handles)
+
+pub envelope::write_member-returns-else-is_some-clause-ok : goal.envelope::write_member-returns-else-is_some-clause-ok
+envelope::write_member-returns-else-is_some-clause-ok t c =
+    let ds = declarations_of c.args.table.now in
+    let a = written c.args.out.now in
+    let z = written c.write_unknown.new.out in
+    let row : c.args.row ≡ None = envelopes.not_some c.args.row (sym c.is_some.ensures ∙ c.if-is_some.false) in
+    let is : member_view c.args.member.now ≡ unknown c.in-Unknown.inline c.as_slice.result.now c.as_slice-in-Unknown.result.now
+    = ap member_view c.in-Unknown.is ∙ unknown_is c.in-Unknown.inline c.in-Unknown.bytes c.in-Unknown.handles ∙ ap (λ l. unknown c.in-Unknown.inline l c.in-Unknown.handles) (sym c.as_slice.ensures)
+    ∙ ap (λ l. unknown c.in-Unknown.inline c.as_slice.result.now l) (sym c.as_slice-in-Unknown.ensures) in
+    on_ok c.write_unknown.result
+    (λ h. subst (λ o. IsWritten (member_part ds false (row_type o) (member_view c.args.member.now)) c.args.target.depth c.args.target.at a z) (sym row)
+    (subst (λ m. IsWritten (member_part ds false None m) c.args.target.depth c.args.target.at a z) (sym is) (h ds)))
+    c.write_unknown.ensures.ok
+
 pub envelope::write_member-returns-else-is_some-clause-fault_is_true : goal.envelope::write_member-returns-else-is_some-clause-fault_is_true
 envelope::write_member-returns-else-is_some-clause-fault_is_true t c =
     let ds = declarations_of c.args.table.now in

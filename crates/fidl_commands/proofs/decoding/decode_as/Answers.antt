@@ -3,7 +3,7 @@ use Rattle.std.specs.Prelude.{codes}
 use Rattle.fidl_wire.specs.Term as ty
 use Rattle.fidl_wire.specs.Text.{Text}
 use Rattle.fidl_table_format.specs.Terms.{declarations_of}
-use Rattle.fidl_decode.specs.Faults as message_faults
+use Rattle.fidl_decode_model.specs.Faults as message_faults
 use Rattle.fidl_commands.specs.declared.outcome.Outcome.TheVariants as outcome
 use Rattle.fidl_commands.specs.Decoding.{CanEndDecodeAs, refusal_line, message_line, value, of_message}
 use Rattle.fidl_text.proofs.Written.{appends_as, front_as}

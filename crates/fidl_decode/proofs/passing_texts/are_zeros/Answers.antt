@@ -1,5 +1,5 @@
 use Rattle.std.proofs.Common.{arith}
-use Rattle.fidl_decode.proofs.Stand.{zeros_stand}
+use Rattle.fidl_decode_model.proofs.Stand.{zeros_stand}
 use Rattle.fidl_decode.proofs.passing_texts.are_zeros.Goals as goal
 
 pub returns : goal.returns

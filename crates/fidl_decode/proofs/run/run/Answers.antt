@@ -1,9 +1,9 @@
 use Rattle.std.proofs.Common.{rules, refl, false, true, ◌≡◌, ◌+◌, ◌++◌, ◌<◌, List, length, sym, ap, ◌∙◌, subst, arith}
 use Rattle.std.specs.Option.{option_to_list}
-use Rattle.fidl_decode.specs.declared.frame.Frame.{Frame}
-use Rattle.fidl_decode.specs.declared.fault.DecodeFault.{DecodeFault}
-use Rattle.fidl_decode.specs.Machine.{at_of, BreaksFrame, BreaksStack, IsStopped, Finishes, StackFine, height, work}
-use Rattle.fidl_decode.specs.Faults.{message_of}
+use Rattle.fidl_decode_model.specs.declared.frame.Frame.{Frame}
+use Rattle.fidl_decode_model.specs.declared.fault.DecodeFault.{DecodeFault}
+use Rattle.fidl_decode_model.specs.Machine.{at_of, BreaksFrame, BreaksStack, IsStopped, Finishes, StackFine, height, work}
+use Rattle.fidl_decode_model.specs.Faults.{message_of}
 use Rattle.fidl_decode.proofs.Running.{read_all, stack_work_top, fine_top, room_if, length_if, turn_same, turn_fine, turn_less, top_breaks, turn_breaks}
 use Rattle.fidl_decode.proofs.Refusing.{broken_stopped}
 use Rattle.fidl_decode.proofs.run.run.Goals as goal

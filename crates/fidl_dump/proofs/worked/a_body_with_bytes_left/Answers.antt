@@ -1,7 +1,7 @@
 use Rattle.std.proofs.Common.{rules, arith, refl, replicate}
 use Rattle.fidl_wire.specs.Value.{fields, none}
 use Rattle.fidl_header.specs.Header.{IsHeader}
-use Rattle.fidl_decode.specs.declared.fault.DecodeFault.TheVariants.{BytesLeft}
+use Rattle.fidl_decode_model.specs.declared.fault.DecodeFault.TheVariants.{BytesLeft}
 use Rattle.fidl_requests.specs.Frame.{message_length, handle_count, message_of, handle_of, handles_of}
 use Rattle.fidl_requests.specs.Samples.{a_frame}
 use Rattle.fidl_dump.specs.Methods.{NamesMethod}

@@ -1,4 +1,4 @@
-use Rattle.std.proofs.Common.{refl}
+use Rattle.std.proofs.Common.{refl, arith}
 use Rattle.fidl_serve.proofs.Exits.{ends_between, ends_inside, ends_past_limit, fails_reading, fails_unread, ends_by_answer, fails_unflushed, fails_cut}
 use Rattle.fidl_serve.proofs.Going.{goes_silent, goes_replied}
 use Rattle.fidl_serve.proofs.serving.turn.Goals as goal
@@ -32,3 +32,24 @@ returns-in-Unflushed-clause-turns g c = fails_unflushed _ _ _ _ _ _ _ _ _ _ _ _ 
 
 pub returns-in-Cut-clause-turns : goal.returns-in-Cut-clause-turns
 returns-in-Cut-clause-turns g c = fails_cut _ _ _ _ _ _ _ _ _ _ _ _ c.in-Frame.ensures.bytes c.in-Reply.ensures.reacts c.in-Cut.ensures
+
+pub overflow_add-counts : goal.overflow_add-counts
+overflow_add-counts g c =
+    let used = c.in-Frame.ensures.used _ refl in
+    record { fits = omega (arith, used, c.args.counts) }
+
+pub overflow_add-frames : goal.overflow_add-frames
+overflow_add-frames g c =
+    let used = c.in-Frame.ensures.used _ refl in
+    record { fits = omega (arith, used, c.args.counts) }
+
+pub returns-in-Silence-clause-used : goal.returns-in-Silence-clause-used
+returns-in-Silence-clause-used g c _ = c.in-Frame.ensures.used _ refl
+
+pub returns-in-Done-clause-used : goal.returns-in-Done-clause-used
+returns-in-Done-clause-used g c _ = c.in-Frame.ensures.used _ refl
+
+pub returns-in-Done-clause-counts : goal.returns-in-Done-clause-counts
+returns-in-Done-clause-counts g c =
+    let used = c.in-Frame.ensures.used _ refl in
+    omega (arith, used)

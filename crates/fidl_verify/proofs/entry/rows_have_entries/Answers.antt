@@ -1,7 +1,7 @@
 use Rattle.std.proofs.Common.{ℕ, ◌<◌, subst, sym, arith}
 use Rattle.fidl_table_format.specs.declared.record.Row.{Row}
 use Rattle.fidl_table_format.specs.Section.{row_at}
-use Rattle.fidl_verify.proofs.Ranges.{of_range}
+use Rattle.fidl_verify.proofs.Ranges.{of_range, one_more}
 use Rattle.fidl_verify.proofs.entry.rows_have_entries.Goals as goal
 
 pub returns-then-row-table : goal.returns-then-row-table
@@ -14,3 +14,9 @@ returns-then-row-table c =
           omega arith
           ),
     )
+
+pub loop-index-preserved : goal.loop-index-preserved
+loop-index-preserved c =
+    let Q : Row → Type 0 = λ r. r.entry < c.args.table.now.header.entries in
+    let P : ℕ → Type 0 = λ row. Q (row_at c.args.table.now.bytes.now c.args.table.now.header row) in
+    one_more P c.args.first c.loop-index.index c.loop-index.invariant (subst Q c.row.ensures (omega (arith, c.if-row-table.false)))

@@ -4,7 +4,7 @@ use Rattle.fidl_table_format.specs.declared.record.Entry.{Entry}
 use Rattle.fidl_table_format.specs.Kind.{kind_of}
 use Rattle.fidl_table_format.specs.Section.{entry_at}
 use Rattle.fidl_table_format.specs.WellFormed.{WellFormed}
-use Rattle.fidl_decode.proofs.Bridge.{fine_of}
+use Rattle.fidl_decode_model.proofs.Bridge.{fine_of}
 use Rattle.fidl_view.proofs.kind.entry_kind.Goals as goal
 
 no_some : {A : Type 0} (a : A) → Some a ≡ None → ⊥

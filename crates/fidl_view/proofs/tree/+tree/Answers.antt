@@ -18,7 +18,7 @@ use Rattle.fidl_table_format.specs.Section.{header_of, entry_at, row_at}
 use Rattle.fidl_table_format.specs.Terms.{declarations_of, members_of, term_as, is_optional}
 use Rattle.fidl_table_format.specs.Entry.{IsOf}
 use Rattle.fidl_table_format.specs.WellFormed.{WellFormed}
-use Rattle.fidl_decode.specs.Model.{Shown}
+use Rattle.fidl_decode_model.specs.Model.{Shown}
 use Rattle.fidl_view.specs.declared.view.View.{View}
 use Rattle.fidl_view.specs.Parts.{element_of, field_of, held_of, length_of, at_ordinal}
 use Rattle.fidl_view.specs.Views.{ShowsKnown}

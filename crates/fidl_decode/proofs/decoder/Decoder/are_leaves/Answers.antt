@@ -5,7 +5,7 @@ use Rattle.fidl_table_format.specs.declared.record.Row as raw
 use Rattle.fidl_table_format.specs.declared.record.Entry.{Entry}
 use Rattle.fidl_table_format.specs.Kind.{kind_of}
 use Rattle.fidl_table_format.specs.Section.{header_of, entry_at, row_at}
-use Rattle.fidl_decode.specs.Invariants.{is_leaf, IsLeafAt}
+use Rattle.fidl_decode_model.specs.Invariants.{is_leaf, IsLeafAt}
 use Rattle.fidl_decode.proofs.decoder.Decoder.are_leaves.Goals as goal
 
 pub loop-i-preserved : goal.loop-i-preserved

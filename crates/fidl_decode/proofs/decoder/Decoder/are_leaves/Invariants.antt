@@ -1,4 +1,4 @@
-use Rattle.fidl_decode.specs.Invariants.{AreLeaves}
+use Rattle.fidl_decode_model.specs.Invariants.{AreLeaves}
 use Rattle.fidl_decode.proofs.decoder.Decoder.are_leaves.Given as goal
 
 -- the members of the rows that were looked at are leaves

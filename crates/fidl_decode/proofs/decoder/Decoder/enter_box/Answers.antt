@@ -6,12 +6,12 @@ use Rattle.fidl_table_format.specs.declared.record.Row as raw
 use Rattle.fidl_table_format.specs.declared.kind.EntryKind.TheVariants.{Box}
 use Rattle.fidl_table_format.specs.Kind.{kind_of}
 use Rattle.fidl_table_format.specs.Section.{header_of, entry_at}
-use Rattle.fidl_decode.specs.declared.frame.Remaining.{Remaining}
-use Rattle.fidl_decode.specs.Machine.{LeftFine, at_of}
-use Rattle.fidl_decode.specs.Faults.{message_of}
-use Rattle.fidl_decode.proofs.Boxed.{box_breaks}
-use Rattle.fidl_decode.proofs.Visiting.{size_as}
-use Rattle.fidl_decode.proofs.Turning.{passed_on}
+use Rattle.fidl_decode_model.specs.declared.frame.Remaining.{Remaining}
+use Rattle.fidl_decode_model.specs.Machine.{LeftFine, at_of}
+use Rattle.fidl_decode_model.specs.Faults.{message_of}
+use Rattle.fidl_decode_model.proofs.Boxed.{box_breaks}
+use Rattle.fidl_decode_model.proofs.Visiting.{size_as}
+use Rattle.fidl_decode_model.proofs.Turning.{passed_on}
 use Rattle.fidl_decode.proofs.Last.{last_room, last_gap_breaks, last_breaks, last_turns}
 use Rattle.fidl_decode.proofs.decoder.Decoder.enter_box.Goals as goal
 

@@ -4,13 +4,13 @@ use Rattle.std.proofs.Common.{subst, ◌≡◌, ◌+◌, ℕ, refl, sym, ap, ◌
 use Rattle.std.specs.Int.{next_multiple_of}
 use Rattle.fidl_table_format.specs.declared.record.Entry.{Entry}
 use Rattle.fidl_table_format.specs.Section.{entry_at}
-use Rattle.fidl_decode.specs.declared.fault.DecodeFault.TheVariants.{BadEnvelope, TooDeep, Truncated}
-use Rattle.fidl_decode.specs.declared.frame.Frame.{Frame}
-use Rattle.fidl_decode.specs.declared.frame.Until.{Until}
-use Rattle.fidl_decode.specs.declared.frame.Remaining.TheVariants.{Content}
-use Rattle.fidl_decode.specs.Faults.{message_of}
-use Rattle.fidl_decode.specs.State.{Position, opened, linked}
-use Rattle.fidl_decode.specs.Machine.{at_of}
+use Rattle.fidl_decode_model.specs.declared.fault.DecodeFault.TheVariants.{BadEnvelope, TooDeep, Truncated}
+use Rattle.fidl_decode_model.specs.declared.frame.Frame.{Frame}
+use Rattle.fidl_decode_model.specs.declared.frame.Until.{Until}
+use Rattle.fidl_decode_model.specs.declared.frame.Remaining.TheVariants.{Content}
+use Rattle.fidl_decode_model.specs.Faults.{message_of}
+use Rattle.fidl_decode_model.specs.State.{Position, opened, linked}
+use Rattle.fidl_decode_model.specs.Machine.{at_of}
 use Rattle.fidl_decode.proofs.Entered.{Enters, enters_inside_as, enters_below_as, numbers_refuse, not_inside, not_below, cut_off}
 use Rattle.fidl_decode.proofs.decoder.Decoder.enter_member.Goals.{then-flags-ne0-via-then-flags-ne0, then-flags-ne0-via-else-flags-ne0+then-counted-eq0, then-flags-ne0-via-else-flags-ne0+else-counted-eq0+then-counted-ne0}
 use Rattle.fidl_decode.proofs.decoder.Decoder.enter_member.Goals as goal

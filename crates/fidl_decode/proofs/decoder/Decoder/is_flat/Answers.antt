@@ -4,8 +4,8 @@ use Rattle.fidl_table_format.specs.declared.record.Entry.{Entry}
 use Rattle.fidl_table_format.specs.declared.kind.EntryKind.{EntryKind}
 use Rattle.fidl_table_format.specs.declared.kind.EntryKind.TheVariants.{Struct}
 use Rattle.fidl_table_format.specs.Section.{header_of}
-use Rattle.fidl_decode.specs.Invariants.{AreLeaves}
-use Rattle.fidl_decode.proofs.Visiting.{fine_as}
+use Rattle.fidl_decode_model.specs.Invariants.{AreLeaves}
+use Rattle.fidl_decode_model.proofs.Visiting.{fine_as}
 use Rattle.fidl_decode.proofs.decoder.Decoder.is_flat.Goals as goal
 
 pub are_leaves-requires : goal.are_leaves-requires

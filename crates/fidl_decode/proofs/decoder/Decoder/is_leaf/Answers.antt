@@ -4,7 +4,7 @@ use Rattle.fidl_table_format.specs.declared.record.Entry.{Entry}
 use Rattle.fidl_table_format.specs.declared.kind.EntryKind.{EntryKind}
 use Rattle.fidl_table_format.specs.declared.kind.EntryKind.TheVariants.{Vector, Array}
 use Rattle.fidl_table_format.specs.Section.{header_of}
-use Rattle.fidl_decode.proofs.Visiting.{fine_as}
+use Rattle.fidl_decode_model.proofs.Visiting.{fine_as}
 use Rattle.fidl_decode.proofs.decoder.Decoder.is_leaf.Goals as goal
 
 pub is_free_at-requires : goal.is_free_at-requires

@@ -5,8 +5,8 @@ use Rattle.fidl_table_format.specs.declared.kind.EntryKind.TheVariants.{Bool as 
 use Rattle.fidl_table_format.specs.declared.record.Entry.{Entry}
 use Rattle.fidl_table_format.specs.Kind.{kind_of}
 use Rattle.fidl_table_format.specs.Section.{entry_at}
-use Rattle.fidl_decode.specs.Faults.{message_of}
-use Rattle.fidl_decode.proofs.Visiting.{size_as, visits_bool, visits_free}
+use Rattle.fidl_decode_model.specs.Faults.{message_of}
+use Rattle.fidl_decode_model.proofs.Visiting.{size_as, visits_bool, visits_free}
 use Rattle.fidl_decode.proofs.decoder.Decoder.next_flag.Goals as goal
 
 pub returns-then-takes_any-clause-visits : goal.returns-then-takes_any-clause-visits

@@ -2,8 +2,8 @@ use Rattle.fidl_decode.proofs.Unchanged.{no_ok}
 use Rattle.std.proofs.Common.{sym, subst}
 use Rattle.std.specs.Prelude.{Option, Some, None}
 use Rattle.fidl_table_format.specs.declared.record.Row as raw
-use Rattle.fidl_decode.specs.Machine.{Opens, member_term, at_of}
-use Rattle.fidl_decode.specs.Faults.{message_of}
+use Rattle.fidl_decode_model.specs.Machine.{Opens, member_term, at_of}
+use Rattle.fidl_decode_model.specs.Faults.{message_of}
 use Rattle.fidl_decode.proofs.Opening.{opens_known, opens_unknown}
 use Rattle.fidl_decode.proofs.decoder.Decoder.open_envelope.Goals as goal
 

@@ -1,11 +1,11 @@
 use Rattle.std.proofs.Common.{refl, inl, inr, ◌≡◌, ◌+◌, ◌*◌, sym, ap, subst, ◌∙◌, arith}
 use Rattle.std.specs.Prelude.{Option, Some}
 use Rattle.std.specs.Int.{next_multiple_of}
-use Rattle.fidl_decode.specs.declared.frame.Frame.{Frame}
-use Rattle.fidl_decode.specs.Faults.{message_of}
-use Rattle.fidl_decode.specs.Breaks.{count_at}
-use Rattle.fidl_decode.specs.State.{Position, linked}
-use Rattle.fidl_decode.specs.Machine.{Visits, at_of}
+use Rattle.fidl_decode_model.specs.declared.frame.Frame.{Frame}
+use Rattle.fidl_decode_model.specs.Faults.{message_of}
+use Rattle.fidl_decode_model.specs.Breaks.{count_at}
+use Rattle.fidl_decode_model.specs.State.{Position, linked}
+use Rattle.fidl_decode_model.specs.Machine.{Visits, at_of}
 use Rattle.fidl_decode.proofs.Tabled.{whole_eights, table_frame, visits_table}
 use Rattle.fidl_decode.proofs.decoder.Decoder.open_table.Goals as goal
 

@@ -129,3 +129,11 @@ returns-in-Int32-clause-pays c = c.pass_run.ensures.pays
 
 pub returns-in-Int64-clause-pays : goal.returns-in-Int64-clause-pays
 returns-in-Int64-clause-pays c = c.pass_run-in-Int64.ensures.pays
+
+pub unreachable-requires : goal.unreachable-requires
+unreachable-requires c =
+    let t = c.args.self.now.table.now in
+    let e = c.row-row.result.entry in
+    let number : c.kind_of.result ≡ (entry_at t e).kind = c.kind_of.ensures ∙ ap (λ (u : List ℕ). (entry_at u e).kind) c.requires.body.table in
+    let fine = c.args.self.now.fine.each e (subst (λ u. e < (header_of u).entries) c.requires.body.table c.row-row.ensures.entry) in
+    c.in_default.not-Some fine.0 (c.from_number.ensures ∙ ap kind_of number ∙ fine.1.is)

@@ -3,9 +3,9 @@ use Rattle.std.proofs.Common.{◌≡◌, ◌+◌, ◌/◌, ◌<◌, ◌^◌, ℕ
 use Rattle.std.specs.Int.{next_multiple_of, w64}
 use Rattle.fidl_wire.specs.Field.{number_at}
 use Rattle.fidl_table_format.specs.Section.{entry_at}
-use Rattle.fidl_decode.specs.Faults.{message_of}
-use Rattle.fidl_decode.specs.State.{Position, opened, linked}
-use Rattle.fidl_decode.specs.Machine.{at_of}
+use Rattle.fidl_decode_model.specs.Faults.{message_of}
+use Rattle.fidl_decode_model.specs.State.{Position, opened, linked}
+use Rattle.fidl_decode_model.specs.Machine.{at_of}
 use Rattle.fidl_decode.proofs.Words.{counted_small, handles_none, flags_none}
 use Rattle.fidl_decode.proofs.Freely.{below_passed}
 use Rattle.fidl_decode.proofs.decoder.Decoder.pass_below.Goals as goal

@@ -1,8 +1,8 @@
 use Rattle.std.proofs.Common.{arith}
 use Rattle.std.proofs.lemmas.Result.{IfErr-weaker}
-use Rattle.fidl_decode.specs.Faults.{message_of}
-use Rattle.fidl_decode.specs.Machine.{at_of}
-use Rattle.fidl_decode.proofs.Turning.{on_ok_from}
+use Rattle.fidl_decode_model.specs.Faults.{message_of}
+use Rattle.fidl_decode_model.specs.Machine.{at_of}
+use Rattle.fidl_decode_model.proofs.Turning.{on_ok_from}
 use Rattle.fidl_decode.proofs.Sequences.{elements_room, elements_over, elements_break}
 use Rattle.fidl_decode.proofs.decoder.Decoder.pass_elements.Goals as goal
 

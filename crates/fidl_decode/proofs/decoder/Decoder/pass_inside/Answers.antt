@@ -1,7 +1,7 @@
 use Rattle.std.proofs.Common.{◌≡◌, sym, ◌∙◌, arith}
-use Rattle.fidl_decode.specs.Faults.{message_of}
-use Rattle.fidl_decode.specs.State.{Position, opened}
-use Rattle.fidl_decode.specs.Machine.{at_of}
+use Rattle.fidl_decode_model.specs.Faults.{message_of}
+use Rattle.fidl_decode_model.specs.State.{Position, opened}
+use Rattle.fidl_decode_model.specs.Machine.{at_of}
 use Rattle.fidl_decode.proofs.Words.{inside_numbers}
 use Rattle.fidl_decode.proofs.Freely.{inside_passed}
 use Rattle.fidl_decode.proofs.decoder.Decoder.pass_inside.Goals as goal

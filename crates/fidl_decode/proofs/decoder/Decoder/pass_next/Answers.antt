@@ -3,9 +3,9 @@ use Rattle.fidl_decode.proofs.Unchanged.{no_true, same_le}
 use Rattle.std.proofs.Common.{◌+◌, ◌-◌, ◌*◌, sym, subst, arith, refl}
 use Rattle.std.specs.Prelude.{Some, None}
 use Rattle.fidl_wire.specs.Term as ty
-use Rattle.fidl_decode.specs.Faults.{message_of}
+use Rattle.fidl_decode_model.specs.Faults.{message_of}
 use Rattle.fidl_decode.specs.Body.{BodyFine}
-use Rattle.fidl_decode.specs.Machine.{Opens, at_of}
+use Rattle.fidl_decode_model.specs.Machine.{Opens, at_of}
 use Rattle.fidl_decode.proofs.BodyTurns.{body_found, next_passed}
 use Rattle.fidl_decode.proofs.decoder.Decoder.pass_next.Goals as goal
 

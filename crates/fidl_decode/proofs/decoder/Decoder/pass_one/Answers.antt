@@ -3,8 +3,8 @@ use Rattle.fidl_decode.proofs.Unchanged.{same_le}
 use Rattle.std.proofs.Common.{◌+◌, ◌-◌, sym, ap, ◌∙◌, add-one, arith}
 use Rattle.fidl_wire.specs.Term.{find}
 use Rattle.fidl_table_format.specs.Terms.{members_of}
-use Rattle.fidl_decode.specs.Faults.{message_of}
-use Rattle.fidl_decode.specs.Machine.{at_of}
+use Rattle.fidl_decode_model.specs.Faults.{message_of}
+use Rattle.fidl_decode_model.specs.Machine.{at_of}
 use Rattle.fidl_decode.proofs.BodyTurns.{next_passed}
 use Rattle.fidl_decode.proofs.decoder.Decoder.pass_one.Goals as goal
 

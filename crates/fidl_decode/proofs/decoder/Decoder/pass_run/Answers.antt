@@ -1,9 +1,9 @@
 use Rattle.std.proofs.Common.{◌≡◌, ◌+◌, ◌-◌, sym, ap, subst, arith}
 use Rattle.std.specs.Prelude.{Some}
-use Rattle.fidl_decode.specs.Faults.{message_of}
-use Rattle.fidl_decode.specs.State.{Position}
+use Rattle.fidl_decode_model.specs.Faults.{message_of}
+use Rattle.fidl_decode_model.specs.State.{Position}
 use Rattle.fidl_decode.specs.Body.{rest_of}
-use Rattle.fidl_decode.specs.Machine.{Turns, at_of}
+use Rattle.fidl_decode_model.specs.Machine.{Turns, at_of}
 use Rattle.fidl_decode.proofs.Leaves.{left_over, turns_then}
 use Rattle.fidl_decode.proofs.decoder.Decoder.pass_run.Goals as goal
 

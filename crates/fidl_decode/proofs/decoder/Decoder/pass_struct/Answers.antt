@@ -11,11 +11,11 @@ use Rattle.fidl_table_format.specs.declared.kind.EntryKind.TheVariants.{Struct}
 use Rattle.fidl_table_format.specs.declared.record.Entry.{Entry}
 use Rattle.fidl_wire.specs.Field.{number_at}
 use Rattle.fidl_table_format.specs.Section.{header_of, entry_at}
-use Rattle.fidl_decode.specs.declared.frame.Remaining.TheVariants.{Rows}
-use Rattle.fidl_decode.specs.Faults.{message_of}
-use Rattle.fidl_decode.specs.State.{Message, Position, opened, linked}
-use Rattle.fidl_decode.specs.Machine.{Passes, at_of}
-use Rattle.fidl_decode.proofs.Visiting.{fine_as}
+use Rattle.fidl_decode_model.specs.declared.frame.Remaining.TheVariants.{Rows}
+use Rattle.fidl_decode_model.specs.Faults.{message_of}
+use Rattle.fidl_decode_model.specs.State.{Message, Position, opened, linked}
+use Rattle.fidl_decode_model.specs.Machine.{Passes, at_of}
+use Rattle.fidl_decode_model.proofs.Visiting.{fine_as}
 use Rattle.fidl_decode.proofs.Freely.{rows_within, struct_passed}
 use Rattle.fidl_decode.proofs.Words.{counted_small, handles_none, flags_none}
 use Rattle.fidl_decode.proofs.decoder.Decoder.pass_struct.Goals as goal

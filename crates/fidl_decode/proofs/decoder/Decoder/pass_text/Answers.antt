@@ -9,10 +9,10 @@ use Rattle.fidl_table_format.specs.declared.kind.EntryKind.TheVariants.{String}
 use Rattle.fidl_table_format.specs.declared.record.Entry.{Entry}
 use Rattle.fidl_wire.specs.Field.{number_at}
 use Rattle.fidl_table_format.specs.Section.{entry_at}
-use Rattle.fidl_decode.specs.Faults.{message_of}
-use Rattle.fidl_decode.specs.State.{Position, opened, linked}
-use Rattle.fidl_decode.specs.Machine.{at_of}
-use Rattle.fidl_decode.proofs.Visiting.{size_as}
+use Rattle.fidl_decode_model.specs.Faults.{message_of}
+use Rattle.fidl_decode_model.specs.State.{Position, opened, linked}
+use Rattle.fidl_decode_model.specs.Machine.{at_of}
+use Rattle.fidl_decode_model.proofs.Visiting.{size_as}
 use Rattle.fidl_decode.proofs.Words.{counted_small, handles_none, flags_none}
 use Rattle.fidl_decode.proofs.TextMember.{text_passed}
 use Rattle.fidl_decode.proofs.decoder.Decoder.pass_text.Goals as goal

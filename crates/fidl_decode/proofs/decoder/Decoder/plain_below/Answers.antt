@@ -5,7 +5,7 @@ use Rattle.fidl_table_format.specs.declared.kind.EntryKind.TheVariants.{Box}
 use Rattle.fidl_table_format.specs.declared.record.Entry.{Entry}
 use Rattle.fidl_table_format.specs.Kind.{kind_of}
 use Rattle.fidl_table_format.specs.Section.{header_of, entry_at}
-use Rattle.fidl_decode.specs.Faults.{message_of}
+use Rattle.fidl_decode_model.specs.Faults.{message_of}
 use Rattle.fidl_decode.proofs.Known.{known_from, box_inside, box_rows}
 use Rattle.fidl_decode.proofs.decoder.Decoder.plain_below.Goals as goal
 

@@ -1,10 +1,10 @@
 use Rattle.std.proofs.Common.{◌≡◌, ◌-◌}
 use Rattle.std.specs.Prelude.{Some}
-use Rattle.fidl_decode.specs.declared.frame.Frame.{Frame}
-use Rattle.fidl_decode.specs.declared.frame.Remaining.TheVariants.{Rows}
-use Rattle.fidl_decode.specs.State.{Position}
-use Rattle.fidl_decode.specs.Machine.{FrameFine, StateFine, IsGood, Turns}
-use Rattle.fidl_decode.specs.Faults.{message_of}
+use Rattle.fidl_decode_model.specs.declared.frame.Frame.{Frame}
+use Rattle.fidl_decode_model.specs.declared.frame.Remaining.TheVariants.{Rows}
+use Rattle.fidl_decode_model.specs.State.{Position}
+use Rattle.fidl_decode_model.specs.Machine.{FrameFine, StateFine, IsGood, Turns}
+use Rattle.fidl_decode_model.specs.Faults.{message_of}
 use Rattle.fidl_decode.proofs.Leaves.{going_on, left_over}
 use Rattle.fidl_decode.proofs.decoder.Decoder.plain_rows.Given as goal
 

@@ -5,13 +5,13 @@ use Rattle.std.specs.Int.{next_multiple_of}
 use Rattle.fidl_table_format.specs.declared.record.Entry.{Entry}
 use Rattle.fidl_table_format.specs.declared.kind.EntryKind.TheVariants.{Box}
 use Rattle.fidl_table_format.specs.Section.{header_of, entry_at}
-use Rattle.fidl_decode.specs.declared.frame.Remaining.TheVariants.{Rows}
-use Rattle.fidl_decode.specs.declared.frame.Frame.{Frame}
-use Rattle.fidl_decode.specs.Faults.{message_of}
-use Rattle.fidl_decode.specs.State.{Position, linked}
-use Rattle.fidl_decode.specs.Machine.{Visits, VisitFine, at_of}
-use Rattle.fidl_decode.proofs.Visiting.{fine_as}
-use Rattle.fidl_decode.proofs.Boxed.{visits_absent_box, visits_box, box_fine}
+use Rattle.fidl_decode_model.specs.declared.frame.Remaining.TheVariants.{Rows}
+use Rattle.fidl_decode_model.specs.declared.frame.Frame.{Frame}
+use Rattle.fidl_decode_model.specs.Faults.{message_of}
+use Rattle.fidl_decode_model.specs.State.{Position, linked}
+use Rattle.fidl_decode_model.specs.Machine.{Visits, VisitFine, at_of}
+use Rattle.fidl_decode_model.proofs.Visiting.{fine_as}
+use Rattle.fidl_decode_model.proofs.Boxed.{visits_absent_box, visits_box, box_fine}
 use Rattle.fidl_decode.proofs.decoder.Decoder.read_box.Goals as goal
 
 pub returns-then-is_absent-clause-ok : goal.returns-then-is_absent-clause-ok

@@ -5,10 +5,10 @@ use Rattle.std.specs.Prelude.{Some, None}
 use Rattle.fidl_table_format.specs.declared.record.Entry.{Entry}
 use Rattle.fidl_table_format.specs.Kind.{kind_of}
 use Rattle.fidl_table_format.specs.Section.{entry_at}
-use Rattle.fidl_decode.specs.declared.frame.Remaining.TheVariants.{Content}
-use Rattle.fidl_decode.specs.Machine.{at_of}
-use Rattle.fidl_decode.specs.Faults.{message_of}
-use Rattle.fidl_decode.proofs.Turning.{passed_on}
+use Rattle.fidl_decode_model.specs.declared.frame.Remaining.TheVariants.{Content}
+use Rattle.fidl_decode_model.specs.Machine.{at_of}
+use Rattle.fidl_decode_model.specs.Faults.{message_of}
+use Rattle.fidl_decode_model.proofs.Turning.{passed_on}
 use Rattle.fidl_decode.proofs.LeafContent.{leaf_known}
 use Rattle.fidl_decode.proofs.decoder.Decoder.read_content.Goals as goal
 

@@ -1,11 +1,11 @@
 use Rattle.fidl_decode.proofs.Fitting.{not_fewer}
 use Rattle.fidl_decode.proofs.Unchanged.{no_ok}
 use Rattle.std.proofs.Common.{◌≡◌, ◌+◌, ◌-◌, arith}
-use Rattle.fidl_decode.specs.declared.frame.Remaining.TheVariants.{Elements}
-use Rattle.fidl_decode.specs.Rows.{Row}
-use Rattle.fidl_decode.specs.Machine.{at_of}
-use Rattle.fidl_decode.specs.Faults.{message_of}
-use Rattle.fidl_decode.proofs.Turning.{on_ok_from, passed_on}
+use Rattle.fidl_decode_model.specs.declared.frame.Remaining.TheVariants.{Elements}
+use Rattle.fidl_decode_model.specs.Rows.{Row}
+use Rattle.fidl_decode_model.specs.Machine.{at_of}
+use Rattle.fidl_decode_model.specs.Faults.{message_of}
+use Rattle.fidl_decode_model.proofs.Turning.{on_ok_from, passed_on}
 use Rattle.std.proofs.lemmas.Result.{IfErr-weaker}
 use Rattle.fidl_decode.proofs.Leaves.{going_on, next_size, next_room, next_leaf_breaks, next_turns, over_room, over_turns, over_breaks, elements_next, elements_over, no_zeros}
 use Rattle.fidl_decode.proofs.decoder.Decoder.read_each.Goals as goal

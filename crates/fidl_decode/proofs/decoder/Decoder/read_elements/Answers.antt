@@ -2,13 +2,13 @@ use Rattle.fidl_decode.proofs.Fitting.{le_more}
 use Rattle.fidl_decode.proofs.Unchanged.{no_ok, same_le}
 use Rattle.std.proofs.Common.{rules, ◌≡◌, sym, ap, ◌∙◌}
 use Rattle.std.specs.Prelude.{Some, None, true}
-use Rattle.fidl_decode.specs.Invariants.{is_free}
+use Rattle.fidl_decode_model.specs.Invariants.{is_free}
 use Rattle.fidl_table_format.specs.declared.record.Entry.{Entry}
 use Rattle.fidl_table_format.specs.Kind.{kind_of}
 use Rattle.fidl_table_format.specs.Section.{entry_at}
-use Rattle.fidl_decode.specs.Machine.{at_of}
-use Rattle.fidl_decode.specs.Faults.{message_of}
-use Rattle.fidl_decode.proofs.Turning.{passed_on}
+use Rattle.fidl_decode_model.specs.Machine.{at_of}
+use Rattle.fidl_decode_model.specs.Faults.{message_of}
+use Rattle.fidl_decode_model.proofs.Turning.{passed_on}
 use Rattle.fidl_decode.proofs.Leaves.{element_known}
 use Rattle.fidl_decode.proofs.Sequences.{kind_free}
 use Rattle.fidl_decode.proofs.decoder.Decoder.read_elements.Goals as goal

@@ -8,9 +8,9 @@ use Rattle.fidl_table_format.specs.declared.record.Entry.{Entry}
 use Rattle.fidl_table_format.specs.Number.{number_standing}
 use Rattle.fidl_table_format.specs.Section.{header_of, entry_at}
 use Rattle.fidl_table_format.specs.Terms.{as_number, underlying, value_number, values_from, strict_values, is_strict}
-use Rattle.fidl_decode.specs.declared.fault.DecodeFault.TheVariants.{UnknownValue}
-use Rattle.fidl_decode.specs.Breaks.{BreaksField}
-use Rattle.fidl_decode.specs.Faults.{message_of}
+use Rattle.fidl_decode_model.specs.declared.fault.DecodeFault.TheVariants.{UnknownValue}
+use Rattle.fidl_decode_model.specs.Breaks.{BreaksField}
+use Rattle.fidl_decode_model.specs.Faults.{message_of}
 use Rattle.fidl_decode.proofs.decoder.Decoder.read_enum.Goals as goal
 
 pub returns-then-not-has_value-clause-fault_is_true : goal.returns-then-not-has_value-clause-fault_is_true

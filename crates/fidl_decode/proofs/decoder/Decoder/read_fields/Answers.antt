@@ -8,13 +8,13 @@ use Rattle.fidl_table_format.specs.declared.record.Entry.{Entry}
 use Rattle.fidl_table_format.specs.declared.kind.EntryKind.{EntryKind}
 use Rattle.fidl_table_format.specs.Kind.{kind_of}
 use Rattle.fidl_table_format.specs.Section.{header_of, entry_at, row_at}
-use Rattle.fidl_decode.specs.Invariants.{is_leaf}
-use Rattle.fidl_decode.specs.declared.frame.Frame.{Frame}
-use Rattle.fidl_decode.specs.declared.frame.Remaining.TheVariants.{Rows}
-use Rattle.fidl_decode.specs.Machine.{Turns, at_of, turn_work, IsPlain}
-use Rattle.fidl_decode.specs.Faults.{message_of}
-use Rattle.fidl_decode.proofs.Turning.{on_ok_from, passed_on}
-use Rattle.fidl_decode.proofs.Visiting.{same_some}
+use Rattle.fidl_decode_model.specs.Invariants.{is_leaf}
+use Rattle.fidl_decode_model.specs.declared.frame.Frame.{Frame}
+use Rattle.fidl_decode_model.specs.declared.frame.Remaining.TheVariants.{Rows}
+use Rattle.fidl_decode_model.specs.Machine.{Turns, at_of, turn_work, IsPlain}
+use Rattle.fidl_decode_model.specs.Faults.{message_of}
+use Rattle.fidl_decode_model.proofs.Turning.{on_ok_from, passed_on}
+use Rattle.fidl_decode_model.proofs.Visiting.{same_some}
 use Rattle.fidl_decode.proofs.Leaves.{going_on, same_frame, left_over, turns_start, turns_then, turns_break}
 use Rattle.fidl_decode.proofs.decoder.Decoder.read_fields.Goals as goal
 

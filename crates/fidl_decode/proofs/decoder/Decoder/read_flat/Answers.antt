@@ -7,12 +7,12 @@ use Rattle.fidl_table_format.specs.declared.kind.EntryKind.{EntryKind}
 use Rattle.fidl_table_format.specs.declared.kind.EntryKind.TheVariants.{Struct}
 use Rattle.fidl_table_format.specs.Kind.{kind_of}
 use Rattle.fidl_table_format.specs.Section.{entry_at}
-use Rattle.fidl_decode.specs.Invariants.{AreLeaves}
-use Rattle.fidl_decode.specs.declared.frame.Frame.{Frame}
-use Rattle.fidl_decode.specs.Machine.{FrameFine, Visits, value_work, at_of}
-use Rattle.fidl_decode.specs.Faults.{message_of}
-use Rattle.fidl_decode.proofs.Turning.{on_ok_from}
-use Rattle.fidl_decode.proofs.Visiting.{work_none, struct_frame, visits_struct, struct_fine}
+use Rattle.fidl_decode_model.specs.Invariants.{AreLeaves}
+use Rattle.fidl_decode_model.specs.declared.frame.Frame.{Frame}
+use Rattle.fidl_decode_model.specs.Machine.{FrameFine, Visits, value_work, at_of}
+use Rattle.fidl_decode_model.specs.Faults.{message_of}
+use Rattle.fidl_decode_model.proofs.Turning.{on_ok_from}
+use Rattle.fidl_decode_model.proofs.Visiting.{work_none, struct_frame, visits_struct, struct_fine}
 use Rattle.fidl_decode.proofs.Wholly.{leaf_cost, visits_over}
 use Rattle.fidl_decode.proofs.decoder.Decoder.read_flat.Goals as goal
 

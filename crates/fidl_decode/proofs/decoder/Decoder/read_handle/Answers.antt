@@ -3,10 +3,10 @@ use Rattle.std.proofs.lemmas.Option.{slice_get-get_or}
 use Rattle.fidl_wire.specs.declared.handle.HandleInfo.{HandleInfo}
 use Rattle.fidl_wire.specs.Term as ty
 use Rattle.fidl_table_format.specs.Terms.{declarations_of, is_optional}
-use Rattle.fidl_decode.specs.Faults.{message_of}
-use Rattle.fidl_decode.specs.State.{Position, taken}
-use Rattle.fidl_decode.specs.Machine.{Leads, at_of}
-use Rattle.fidl_decode.proofs.Carried.{absent_leads, handle_leads}
+use Rattle.fidl_decode_model.specs.Faults.{message_of}
+use Rattle.fidl_decode_model.specs.State.{Position, taken}
+use Rattle.fidl_decode_model.specs.Machine.{Leads, at_of}
+use Rattle.fidl_decode_model.proofs.Carried.{absent_leads, handle_leads}
 use Rattle.fidl_decode.proofs.decoder.Decoder.read_handle.Goals as goal
 
 abbrev nobody : HandleInfo

@@ -1,10 +1,10 @@
 use Rattle.std.proofs.Common.{◌-◌, subst, arith}
 use Rattle.std.specs.Prelude.{Option, Some}
 use Rattle.std.proofs.lemmas.Result.{IfOk-weaker, IfErr-weaker}
-use Rattle.fidl_decode.specs.declared.frame.Frame.{Frame}
-use Rattle.fidl_decode.specs.Faults.{message_of}
-use Rattle.fidl_decode.specs.Machine.{Visits, VisitFine, at_of, height}
-use Rattle.fidl_decode.proofs.Turning.{fine_from, on_ok_from}
+use Rattle.fidl_decode_model.specs.declared.frame.Frame.{Frame}
+use Rattle.fidl_decode_model.specs.Faults.{message_of}
+use Rattle.fidl_decode_model.specs.Machine.{Visits, VisitFine, at_of, height}
+use Rattle.fidl_decode_model.proofs.Turning.{fine_from, on_ok_from}
 use Rattle.fidl_decode.proofs.Wholly.{leaf_cost}
 use Rattle.fidl_decode.proofs.BodyTurns.{visits_on}
 use Rattle.fidl_decode.proofs.Items.{visit_work}

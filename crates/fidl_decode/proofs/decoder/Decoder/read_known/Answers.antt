@@ -6,11 +6,11 @@ use Rattle.fidl_table_format.specs.declared.record.Entry.{Entry}
 use Rattle.fidl_table_format.specs.Kind.{kind_of}
 use Rattle.fidl_table_format.specs.Section.{entry_at}
 use Rattle.fidl_table_format.specs.Terms.{declarations_of}
-use Rattle.fidl_decode.specs.State.{Position}
-use Rattle.fidl_decode.specs.Breaks.{BreaksMember}
-use Rattle.fidl_decode.specs.Machine.{StateFine, Opens, at_of}
-use Rattle.fidl_decode.specs.Faults.{message_of}
-use Rattle.fidl_decode.proofs.Turning.{passed_on}
+use Rattle.fidl_decode_model.specs.State.{Position}
+use Rattle.fidl_decode_model.specs.Breaks.{BreaksMember}
+use Rattle.fidl_decode_model.specs.Machine.{StateFine, Opens, at_of}
+use Rattle.fidl_decode_model.specs.Faults.{message_of}
+use Rattle.fidl_decode_model.proofs.Turning.{passed_on}
 use Rattle.fidl_decode.proofs.Opening.{opens_known}
 use Rattle.fidl_decode.proofs.decoder.Decoder.read_known.Goals as goal
 

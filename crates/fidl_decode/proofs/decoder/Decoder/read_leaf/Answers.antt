@@ -1,8 +1,8 @@
 use Rattle.fidl_decode.proofs.Fitting.{more_steps, spends_any, not_fewer}
 use Rattle.fidl_decode.proofs.Unchanged.{same_le}
 use Rattle.std.proofs.Common.{arith, inl, inr, ℕ, get_or, ◌<◌}
-use Rattle.fidl_decode.specs.Machine.{at_of, Visits, Leads}
-use Rattle.fidl_decode.specs.Faults.{message_of}
+use Rattle.fidl_decode_model.specs.Machine.{at_of, Visits, Leads}
+use Rattle.fidl_decode_model.specs.Faults.{message_of}
 use Rattle.std.proofs.Common.{◌-◌, ◌+◌, ◌≤◌, IsTrue, length, sym, subst, ap, ◌∙◌, ◌≡◌}
 use Rattle.std.specs.Prelude.{Some, None, IfSome}
 use Rattle.std.specs.Int.{byte_len}
@@ -14,16 +14,16 @@ use Rattle.fidl_wire.specs.Typed.{InMask}
 use Rattle.fidl_table_format.specs.Number.{number_standing}
 use Rattle.fidl_table_format.specs.Terms.{underlying, mask_of, declarations_of, is_optional}
 use Rattle.fidl_table_format.specs.declared.record.Entry.{Entry}
-use Rattle.fidl_decode.specs.Breaks.{BreaksField, BreaksHandle, BreaksText}
-use Rattle.fidl_decode.specs.State.{Position}
-use Rattle.fidl_decode.proofs.Turning.{on_ok_from, on_ok_two, on_ok_three}
+use Rattle.fidl_decode_model.specs.Breaks.{BreaksField, BreaksHandle, BreaksText}
+use Rattle.fidl_decode_model.specs.State.{Position}
+use Rattle.fidl_decode_model.proofs.Turning.{on_ok_from, on_ok_two, on_ok_three}
 use Rattle.std.proofs.lemmas.Result.{IfErr-weaker}
 use Rattle.fidl_table_format.specs.declared.kind.EntryKind.{EntryKind}
 use Rattle.fidl_table_format.specs.declared.kind.EntryKind.TheVariants.{Bool as Boolean, Bits, Enum, Handle, String, Vector}
 use Rattle.fidl_table_format.specs.Kind.{kind_of}
 use Rattle.fidl_table_format.specs.Section.{entry_at}
-use Rattle.fidl_decode.proofs.Visiting.{size_is, size_as, visits_leaf, text_cost, leaf_breaks, fine_as, positive, bool_breaks, visits_bool, visits_free, visits_bits, bits_break, visits_enum, enum_breaks}
-use Rattle.fidl_decode.specs.Invariants.{is_leaf}
+use Rattle.fidl_decode_model.proofs.Visiting.{size_is, size_as, visits_leaf, text_cost, leaf_breaks, fine_as, positive, bool_breaks, visits_bool, visits_free, visits_bits, bits_break, visits_enum, enum_breaks}
+use Rattle.fidl_decode_model.specs.Invariants.{is_leaf}
 use Rattle.fidl_decode.proofs.Sequences.{free_else, visits_numbers}
 use Rattle.fidl_decode.proofs.decoder.Decoder.read_leaf.Goals as goal
 

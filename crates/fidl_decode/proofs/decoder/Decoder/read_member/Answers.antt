@@ -3,9 +3,9 @@ use Rattle.std.proofs.Common.{sym, subst, arith}
 use Rattle.std.specs.Prelude.{Option, None, IfErr, IfOk}
 use Rattle.fidl_table_format.specs.declared.record.Row as raw
 use Rattle.fidl_table_format.specs.Terms.{declarations_of}
-use Rattle.fidl_decode.specs.Faults.{message_of}
-use Rattle.fidl_decode.specs.Breaks.{BreaksMember}
-use Rattle.fidl_decode.specs.Machine.{Opens, member_term, at_of}
+use Rattle.fidl_decode_model.specs.Faults.{message_of}
+use Rattle.fidl_decode_model.specs.Breaks.{BreaksMember}
+use Rattle.fidl_decode_model.specs.Machine.{Opens, member_term, at_of}
 use Rattle.fidl_decode.proofs.Opening.{opens_unknown}
 use Rattle.fidl_decode.proofs.decoder.Decoder.read_member.Goals as goal
 

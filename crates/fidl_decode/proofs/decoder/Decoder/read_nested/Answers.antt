@@ -6,12 +6,12 @@ use Rattle.fidl_table_format.specs.declared.record.Row as raw
 use Rattle.fidl_table_format.specs.declared.record.Entry.{Entry}
 use Rattle.fidl_table_format.specs.Kind.{kind_of}
 use Rattle.fidl_table_format.specs.Section.{header_of, entry_at, row_at}
-use Rattle.fidl_decode.specs.declared.frame.Frame.{Frame}
-use Rattle.fidl_decode.specs.declared.frame.Remaining.TheVariants.{Rows}
-use Rattle.fidl_decode.specs.Machine.{Turns, at_of, turn_work, IsPlain, rows_left}
-use Rattle.fidl_decode.specs.Faults.{message_of}
-use Rattle.fidl_decode.specs.Invariants.{is_leaf}
-use Rattle.fidl_decode.proofs.Turning.{passed_on}
+use Rattle.fidl_decode_model.specs.declared.frame.Frame.{Frame}
+use Rattle.fidl_decode_model.specs.declared.frame.Remaining.TheVariants.{Rows}
+use Rattle.fidl_decode_model.specs.Machine.{Turns, at_of, turn_work, IsPlain, rows_left}
+use Rattle.fidl_decode_model.specs.Faults.{message_of}
+use Rattle.fidl_decode_model.specs.Invariants.{is_leaf}
+use Rattle.fidl_decode_model.proofs.Turning.{passed_on}
 use Rattle.fidl_decode.proofs.Leaves.{going_on, same_frame, left_over, turns_then, turns_break}
 use Rattle.fidl_decode.proofs.decoder.Decoder.read_nested.Goals as goal
 

@@ -1,14 +1,14 @@
 use Rattle.std.proofs.Common.{◌≡◌, ◌+◌, ◌-◌, ap, subst, arith}
 use Rattle.std.specs.Prelude.{Option, IfSome}
 use Rattle.std.proofs.lemmas.Result.{IfErr-weaker}
-use Rattle.fidl_decode.specs.declared.frame.Frame.{Frame}
+use Rattle.fidl_decode_model.specs.declared.frame.Frame.{Frame}
 use Rattle.fidl_decode.specs.Body.{elements_of}
-use Rattle.fidl_decode.specs.Breaks.{count_at}
-use Rattle.fidl_decode.specs.Faults.{message_of}
-use Rattle.fidl_decode.specs.Machine.{Visits, VisitFine, at_of}
+use Rattle.fidl_decode_model.specs.Breaks.{count_at}
+use Rattle.fidl_decode_model.specs.Faults.{message_of}
+use Rattle.fidl_decode_model.specs.Machine.{Visits, VisitFine, at_of}
 use Rattle.fidl_decode.proofs.Fitting.{le_more, spends_any}
-use Rattle.fidl_decode.proofs.Turning.{on_ok_from, passed_on}
-use Rattle.fidl_decode.proofs.Listed.{vector_breaks}
+use Rattle.fidl_decode_model.proofs.Turning.{on_ok_from, passed_on}
+use Rattle.fidl_decode_model.proofs.Listed.{vector_breaks}
 use Rattle.fidl_decode.proofs.Wholly.{visits_over}
 use Rattle.fidl_decode.proofs.decoder.Decoder.read_numbers.Goals as goal
 

@@ -5,12 +5,12 @@ use Rattle.std.specs.Prelude.{Some}
 use Rattle.fidl_table_format.specs.declared.record.Row as raw
 use Rattle.fidl_table_format.specs.Kind.{kind_of}
 use Rattle.fidl_table_format.specs.Section.{header_of, entry_at}
-use Rattle.fidl_decode.specs.declared.frame.Remaining.{Remaining}
-use Rattle.fidl_decode.specs.declared.frame.Remaining.TheVariants.{Rows}
-use Rattle.fidl_decode.specs.Machine.{LeftFine, Turns, at_of}
-use Rattle.fidl_decode.specs.Faults.{message_of}
-use Rattle.fidl_decode.specs.Invariants.{is_leaf}
-use Rattle.fidl_decode.proofs.Turning.{passed_on}
+use Rattle.fidl_decode_model.specs.declared.frame.Remaining.{Remaining}
+use Rattle.fidl_decode_model.specs.declared.frame.Remaining.TheVariants.{Rows}
+use Rattle.fidl_decode_model.specs.Machine.{LeftFine, Turns, at_of}
+use Rattle.fidl_decode_model.specs.Faults.{message_of}
+use Rattle.fidl_decode_model.specs.Invariants.{is_leaf}
+use Rattle.fidl_decode_model.proofs.Turning.{passed_on}
 use Rattle.fidl_decode.proofs.Leaves.{going_on, left_over}
 use Rattle.fidl_decode.proofs.Front.{front_room, front_gap_breaks, front_breaks, front_turns}
 use Rattle.fidl_decode.proofs.decoder.Decoder.read_row.Goals as goal

@@ -1,9 +1,9 @@
 use Rattle.std.proofs.Common.{◌-◌, subst, arith}
 use Rattle.std.specs.Prelude.{Option, Some, None, IfNone, ◌<◌}
-use Rattle.fidl_decode.specs.declared.frame.Frame.{Frame}
-use Rattle.fidl_decode.specs.Machine.{Turns, at_of}
-use Rattle.fidl_decode.specs.Faults.{message_of}
-use Rattle.fidl_decode.proofs.Turning.{passed_on, none_weaker}
+use Rattle.fidl_decode_model.specs.declared.frame.Frame.{Frame}
+use Rattle.fidl_decode_model.specs.Machine.{Turns, at_of}
+use Rattle.fidl_decode_model.specs.Faults.{message_of}
+use Rattle.fidl_decode_model.proofs.Turning.{passed_on, none_weaker}
 use Rattle.fidl_decode.proofs.Leaves.{left_over, turns_then, turns_break}
 use Rattle.fidl_decode.proofs.decoder.Decoder.read_struct.Goals as goal
 

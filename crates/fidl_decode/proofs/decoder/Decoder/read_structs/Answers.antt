@@ -1,15 +1,15 @@
 use Rattle.std.proofs.Common.{refl, ◌≡◌, ℕ, ◌+◌, ◌-◌, ◌≤◌, sym, ap, subst, ◌∙◌, arith, inl, inr}
 use Rattle.std.specs.Prelude.{Option, Some}
 use Rattle.fidl_table_format.specs.declared.record.Entry.{Entry}
-use Rattle.fidl_decode.specs.declared.frame.Frame.{Frame}
-use Rattle.fidl_decode.specs.declared.frame.Remaining.TheVariants.{Elements}
-use Rattle.fidl_decode.specs.Rows.{Row}
-use Rattle.fidl_decode.specs.Machine.{Visits, VisitFine, Turns, at_of}
-use Rattle.fidl_decode.specs.Faults.{message_of}
+use Rattle.fidl_decode_model.specs.declared.frame.Frame.{Frame}
+use Rattle.fidl_decode_model.specs.declared.frame.Remaining.TheVariants.{Elements}
+use Rattle.fidl_decode_model.specs.Rows.{Row}
+use Rattle.fidl_decode_model.specs.Machine.{Visits, VisitFine, Turns, at_of}
+use Rattle.fidl_decode_model.specs.Faults.{message_of}
 use Rattle.fidl_table_format.specs.Section.{header_of}
 use Rattle.fidl_table_format.specs.declared.kind.EntryKind.TheVariants.{Struct}
-use Rattle.fidl_decode.proofs.Visiting.{fine_as, struct_frame, visits_struct, struct_fine}
-use Rattle.fidl_decode.proofs.Turning.{passed_on}
+use Rattle.fidl_decode_model.proofs.Visiting.{fine_as, struct_frame, visits_struct, struct_fine}
+use Rattle.fidl_decode_model.proofs.Turning.{passed_on}
 use Rattle.fidl_decode.proofs.Leaves.{going_on, left_over, same_frame, turns_start, next_size, next_room, next_takes, turns_below, turns_over, below_breaks, over_room, over_turns, over_breaks, elements_next, elements_over, no_zeros}
 use Rattle.fidl_decode.proofs.decoder.Decoder.read_structs.Goals as goal
 

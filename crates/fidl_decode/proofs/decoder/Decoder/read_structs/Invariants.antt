@@ -1,8 +1,8 @@
 use Rattle.std.proofs.Common.{◌-◌, ◌≤◌}
 use Rattle.std.specs.Prelude.{Some}
-use Rattle.fidl_decode.specs.declared.frame.Remaining.TheVariants.{Elements}
-use Rattle.fidl_decode.specs.Machine.{at_of, Turns}
-use Rattle.fidl_decode.specs.Faults.{message_of}
+use Rattle.fidl_decode_model.specs.declared.frame.Remaining.TheVariants.{Elements}
+use Rattle.fidl_decode_model.specs.Machine.{at_of, Turns}
+use Rattle.fidl_decode_model.specs.Faults.{message_of}
 use Rattle.fidl_decode.proofs.Leaves.{going_on, left_over}
 use Rattle.fidl_decode.proofs.decoder.Decoder.read_structs.Given as goal
 

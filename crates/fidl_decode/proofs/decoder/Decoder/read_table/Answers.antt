@@ -2,12 +2,12 @@ use Rattle.fidl_decode.proofs.Fitting.{le_more, eq_le, spends_any, not_fewer}
 use Rattle.fidl_decode.proofs.Unchanged.{no_ok}
 use Rattle.std.proofs.Common.{◌+◌, ◌-◌, subst, arith}
 use Rattle.std.specs.Prelude.{Some}
-use Rattle.fidl_decode.specs.declared.frame.Frame.{Frame}
-use Rattle.fidl_decode.specs.Faults.{message_of}
+use Rattle.fidl_decode_model.specs.declared.frame.Frame.{Frame}
+use Rattle.fidl_decode_model.specs.Faults.{message_of}
 use Rattle.fidl_decode.specs.Body.{rest_of}
-use Rattle.fidl_decode.specs.Machine.{Visits, VisitFine, at_of, height}
+use Rattle.fidl_decode_model.specs.Machine.{Visits, VisitFine, at_of, height}
 use Rattle.fidl_decode.proofs.Leaves.{left_over, turns_then}
-use Rattle.fidl_decode.proofs.Turning.{fine_from, passed_on}
+use Rattle.fidl_decode_model.proofs.Turning.{fine_from, passed_on}
 use Rattle.fidl_decode.proofs.BodyTurns.{body_start, visits_on}
 use Rattle.fidl_decode.proofs.decoder.Decoder.read_table.Goals as goal
 

@@ -7,10 +7,10 @@ use Rattle.fidl_wire.specs.Encoding.{zeros}
 use Rattle.fidl_wire.specs.Standing.{Stands}
 use Rattle.fidl_wire.proofs.Sizes.{le-next_multiple_of}
 use Rattle.fidl_table_format.specs.Terms.{declarations_of, is_optional}
-use Rattle.fidl_decode.specs.Faults.{message_of}
-use Rattle.fidl_decode.specs.State.{Position, linked}
-use Rattle.fidl_decode.specs.Machine.{Leads, at_of}
-use Rattle.fidl_decode.proofs.Written.{absent_leads, text_leads}
+use Rattle.fidl_decode_model.specs.Faults.{message_of}
+use Rattle.fidl_decode_model.specs.State.{Position, linked}
+use Rattle.fidl_decode_model.specs.Machine.{Leads, at_of}
+use Rattle.fidl_decode_model.proofs.Written.{absent_leads, text_leads}
 use Rattle.fidl_decode.proofs.decoder.Decoder.read_text.Goals as goal
 
 pub returns-then-not-is_present-clause-ok : goal.returns-then-not-is_present-clause-ok

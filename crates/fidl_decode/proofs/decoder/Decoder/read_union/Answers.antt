@@ -6,10 +6,10 @@ use Rattle.std.proofs.lemmas.Result.{IfOk-weaker, IfErr-weaker}
 use Rattle.fidl_wire.specs.Term.{Term, find}
 use Rattle.fidl_table_format.specs.Section.{entry_at}
 use Rattle.fidl_table_format.specs.Terms.{declarations_of, members_of, is_optional, is_strict}
-use Rattle.fidl_decode.specs.declared.fault.DecodeFault.TheVariants.{BadEnvelope, AbsentRequired, UnknownOrdinal}
-use Rattle.fidl_decode.specs.Faults.{message_of}
-use Rattle.fidl_decode.specs.Breaks.{BreaksUnion, BreaksMember, ordinal_at}
-use Rattle.fidl_decode.specs.Machine.{Opens, member_term, at_of}
+use Rattle.fidl_decode_model.specs.declared.fault.DecodeFault.TheVariants.{BadEnvelope, AbsentRequired, UnknownOrdinal}
+use Rattle.fidl_decode_model.specs.Faults.{message_of}
+use Rattle.fidl_decode_model.specs.Breaks.{BreaksUnion, BreaksMember, ordinal_at}
+use Rattle.fidl_decode_model.specs.Machine.{Opens, member_term, at_of}
 use Rattle.fidl_decode.proofs.Chosen.{member_is, no_member, one_member, union_breaks, visits_absent_union, visits_union, member_breaks, union_fine}
 use Rattle.fidl_decode.proofs.decoder.Decoder.read_union.Goals.{else-is_none-via-then-is_none+else-is_strict, else-is_none-via-else-is_none}
 use Rattle.fidl_decode.proofs.decoder.Decoder.read_union.Goals as goal

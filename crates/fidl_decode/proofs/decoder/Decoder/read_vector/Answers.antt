@@ -6,14 +6,14 @@ use Rattle.fidl_table_format.specs.declared.record.Entry.{Entry}
 use Rattle.fidl_table_format.specs.declared.kind.EntryKind.TheVariants.{Vector}
 use Rattle.fidl_table_format.specs.Section.{header_of, entry_at}
 use Rattle.fidl_table_format.specs.Terms.{is_optional}
-use Rattle.fidl_decode.specs.declared.frame.Remaining.TheVariants.{Elements}
-use Rattle.fidl_decode.specs.declared.frame.Frame.{Frame}
-use Rattle.fidl_decode.specs.Faults.{message_of}
-use Rattle.fidl_decode.specs.Breaks.{count_at}
-use Rattle.fidl_decode.specs.State.{Position, linked}
-use Rattle.fidl_decode.specs.Machine.{Visits, VisitFine, at_of}
-use Rattle.fidl_decode.proofs.Visiting.{fine_as}
-use Rattle.fidl_decode.proofs.Listed.{count_fits, visits_absent_vector, visits_vector, vector_fine}
+use Rattle.fidl_decode_model.specs.declared.frame.Remaining.TheVariants.{Elements}
+use Rattle.fidl_decode_model.specs.declared.frame.Frame.{Frame}
+use Rattle.fidl_decode_model.specs.Faults.{message_of}
+use Rattle.fidl_decode_model.specs.Breaks.{count_at}
+use Rattle.fidl_decode_model.specs.State.{Position, linked}
+use Rattle.fidl_decode_model.specs.Machine.{Visits, VisitFine, at_of}
+use Rattle.fidl_decode_model.proofs.Visiting.{fine_as}
+use Rattle.fidl_decode_model.proofs.Listed.{count_fits, visits_absent_vector, visits_vector, vector_fine}
 use Rattle.fidl_decode.proofs.decoder.Decoder.read_vector.Goals as goal
 
 pub returns-in-Absent-clause-ok : goal.returns-in-Absent-clause-ok

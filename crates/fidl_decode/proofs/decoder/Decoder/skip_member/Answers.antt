@@ -3,12 +3,12 @@ use Rattle.fidl_wire.specs.Typed.{IsUnknownLength}
 use Rattle.std.specs.Prelude.{false, ◌/◌, ◌↔◌, slice_set, None}
 use Rattle.std.specs.Int.{next_multiple_of}
 use Rattle.fidl_table_format.specs.Terms.{declarations_of}
-use Rattle.fidl_decode.specs.declared.fault.DecodeFault.TheVariants.{BadEnvelope, TooDeep, Truncated, HandleMissing}
-use Rattle.fidl_decode.specs.Faults.{message_of}
-use Rattle.fidl_decode.specs.Envelopes.{Contained}
+use Rattle.fidl_decode_model.specs.declared.fault.DecodeFault.TheVariants.{BadEnvelope, TooDeep, Truncated, HandleMissing}
+use Rattle.fidl_decode_model.specs.Faults.{message_of}
+use Rattle.fidl_decode_model.specs.Envelopes.{Contained}
 use Rattle.fidl_wire.specs.Envelope.{bytes_below, handles_below}
-use Rattle.fidl_decode.specs.State.{Position, opened, linked, passed}
-use Rattle.fidl_decode.specs.Machine.{at_of}
+use Rattle.fidl_decode_model.specs.State.{Position, opened, linked, passed}
+use Rattle.fidl_decode_model.specs.Machine.{at_of}
 use Rattle.fidl_decode.proofs.Skipped.{AreHandles, skips_inside, skips_below, unknown_refuse, not_held, whole_eights}
 use Rattle.fidl_decode.proofs.decoder.Decoder.skip_member.Goals.{then-flags-ne0-via-then-flags-ne0, then-flags-ne0-via-else-flags-ne0+then-counted-eq0, then-flags-ne0-via-else-flags-ne0+else-counted-eq0+then-counted-ne0}
 use Rattle.fidl_decode.proofs.decoder.Decoder.skip_member.Goals as goal

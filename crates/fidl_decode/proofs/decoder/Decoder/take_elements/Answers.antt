@@ -1,5 +1,5 @@
-use Rattle.fidl_decode.specs.Machine.{at_of}
-use Rattle.fidl_decode.specs.Faults.{message_of}
+use Rattle.fidl_decode_model.specs.Machine.{at_of}
+use Rattle.fidl_decode_model.specs.Faults.{message_of}
 use Rattle.fidl_decode.proofs.Leaves.{element_known}
 use Rattle.fidl_decode.proofs.decoder.Decoder.take_elements.Goals as goal
 

@@ -2,13 +2,13 @@ use Rattle.std.proofs.Common.{◌≡◌, ◌+◌, ◌-◌, ◌≤◌, [], refl, 
 use Rattle.std.specs.Prelude.{Some}
 use Rattle.fidl_table_format.specs.declared.record.Entry.{Entry}
 use Rattle.fidl_table_format.specs.Section.{header_of, entry_at}
-use Rattle.fidl_decode.specs.declared.frame.Frame.{Frame}
-use Rattle.fidl_decode.specs.declared.frame.Remaining.{Remaining}
-use Rattle.fidl_decode.specs.declared.frame.Remaining.TheVariants.{Rows}
-use Rattle.fidl_decode.specs.Faults.{message_of}
-use Rattle.fidl_decode.specs.Machine.{LeftFine, IsPlain, Turns, rows_left, at_of}
+use Rattle.fidl_decode_model.specs.declared.frame.Frame.{Frame}
+use Rattle.fidl_decode_model.specs.declared.frame.Remaining.{Remaining}
+use Rattle.fidl_decode_model.specs.declared.frame.Remaining.TheVariants.{Rows}
+use Rattle.fidl_decode_model.specs.Faults.{message_of}
+use Rattle.fidl_decode_model.specs.Machine.{LeftFine, IsPlain, Turns, rows_left, at_of}
 use Rattle.fidl_decode.proofs.Fitting.{next_fits, some_left, spends_some}
-use Rattle.fidl_decode.proofs.Turning.{passed_on}
+use Rattle.fidl_decode_model.proofs.Turning.{passed_on}
 use Rattle.fidl_decode.proofs.Leaves.{going_on}
 use Rattle.fidl_decode.proofs.Front.{front_room, front_inside, front_takes, front_gap_breaks, front_breaks}
 use Rattle.fidl_decode.proofs.decoder.Decoder.take_row.Goals as goal

@@ -8,12 +8,12 @@ use Rattle.fidl_table_format.specs.declared.kind.EntryKind.{EntryKind}
 use Rattle.fidl_table_format.specs.declared.kind.EntryKind.TheVariants.{Vector, Array, Box, Struct, Table, Union}
 use Rattle.fidl_table_format.specs.Kind.{kind_of}
 use Rattle.fidl_table_format.specs.Section.{header_of, entry_at}
-use Rattle.fidl_decode.specs.Machine.{at_of, Visits, VisitFine}
-use Rattle.fidl_decode.specs.Faults.{message_of}
-use Rattle.fidl_decode.proofs.Visiting.{fine_as, size_as, leaf_else, leaf_breaks, visits_struct, visits_array, struct_fine, array_fine, struct_frame, array_frame}
-use Rattle.fidl_decode.proofs.Boxed.{box_breaks}
-use Rattle.fidl_decode.proofs.Listed.{vector_breaks}
-use Rattle.fidl_decode.proofs.Turning.{passed_on}
+use Rattle.fidl_decode_model.specs.Machine.{at_of, Visits, VisitFine}
+use Rattle.fidl_decode_model.specs.Faults.{message_of}
+use Rattle.fidl_decode_model.proofs.Visiting.{fine_as, size_as, leaf_else, leaf_breaks, visits_struct, visits_array, struct_fine, array_fine, struct_frame, array_frame}
+use Rattle.fidl_decode_model.proofs.Boxed.{box_breaks}
+use Rattle.fidl_decode_model.proofs.Listed.{vector_breaks}
+use Rattle.fidl_decode_model.proofs.Turning.{passed_on}
 use Rattle.fidl_decode.proofs.decoder.Decoder.visit.Goals as goal
 
 no_some : {A : Type 0} (a : A) → Some a ≡ None → ⊥

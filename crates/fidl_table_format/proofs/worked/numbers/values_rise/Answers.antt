@@ -4,11 +4,35 @@ use Rattle.fidl_table_format.proofs.worked.numbers.values_rise.Goals as goal
 pub returns-clause-signed : goal.returns-clause-signed
 returns-clause-signed c = record {
   ordinals = search rules;
-  values = λ is. below_more _ 1 (below_more _ 0 (below_none _) (record { fits = search rules; rises = λ p. search rules })) (record { fits = search rules; rises = λ p. search rules });
+  values = λ is. below_more _ 1 (below_more _ 0 (below_none _) (record {
+    lowest = search rules;
+    highest = search rules;
+    order = search rules;
+    rises = λ p. search rules;
+    apart = λ on p. search rules;
+  })) (record {
+    lowest = search rules;
+    highest = search rules;
+    order = search rules;
+    rises = λ p. search rules;
+    apart = λ on p. search rules;
+  });
 }
 
 pub returns-clause-unsigned : goal.returns-clause-unsigned
 returns-clause-unsigned c = record {
   ordinals = search rules;
-  values = λ is. below_more _ 1 (below_more _ 0 (below_none _) (record { fits = search rules; rises = λ p. search rules })) (record { fits = search rules; rises = λ p. search rules });
+  values = λ is. below_more _ 1 (below_more _ 0 (below_none _) (record {
+    lowest = search rules;
+    highest = search rules;
+    order = search rules;
+    rises = λ p. search rules;
+    apart = λ on p. search rules;
+  })) (record {
+    lowest = search rules;
+    highest = search rules;
+    order = search rules;
+    rises = λ p. search rules;
+    apart = λ on p. search rules;
+  });
 }

@@ -16,7 +16,19 @@ returns-clause-whole c = record {
         nest = search rules;
         sorted = record {
           ordinals = search rules;
-          values = λ is. below_more _ 1 (below_more _ 0 (below_none _) (record { fits = search rules; rises = λ p. search rules })) (record { fits = search rules; rises = λ p. search rules });
+          values = λ is. below_more _ 1 (below_more _ 0 (below_none _) (record {
+            lowest = search rules;
+            highest = search rules;
+            order = search rules;
+            rises = λ p. search rules;
+            apart = λ on p. search rules;
+          })) (record {
+            lowest = search rules;
+            highest = search rules;
+            order = search rules;
+            rises = λ p. search rules;
+            apart = λ on p. search rules;
+          });
         };
         names = search rules;
       })
@@ -41,7 +53,13 @@ returns-clause-whole c = record {
         nest = search rules;
         sorted = record {
           ordinals = search rules;
-          values = λ is. below_more _ 0 (below_none _) (record { fits = search rules; rises = λ p. search rules });
+          values = λ is. below_more _ 0 (below_none _) (record {
+            lowest = search rules;
+            highest = search rules;
+            order = search rules;
+            rises = λ p. search rules;
+            apart = λ on p. search rules;
+          });
         };
         names = search rules;
       });

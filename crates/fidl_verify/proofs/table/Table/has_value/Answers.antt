@@ -1,11 +1,11 @@
-use Rattle.std.proofs.Common.{◌↔◌, ℕ, suc, ◌+◌, ◌^◌, ◌<◌, ◌≤◌, ◌<ℤ◌, IsTrue, sym, subst, arith}
+use Rattle.std.proofs.Common.{◌↔◌, ℕ, ◌+◌, ◌^◌, ◌<◌, ◌≤◌, IsTrue, sym, subst, arith}
 use Rattle.std.specs.Prelude.{Contains}
 use Rattle.fidl_table_format.specs.declared.record.Entry.{Entry}
 use Rattle.fidl_table_format.specs.declared.kind.EntryKind.TheVariants.{Enum}
 use Rattle.fidl_table_format.specs.Section.{header_of, entry_at}
 use Rattle.fidl_table_format.specs.Terms.{underlying, value_number, values_from}
 use Rattle.fidl_table_format.specs.Uses.{uses_values}
-use Rattle.fidl_table_format.specs.Entry.{enum_value}
+use Rattle.fidl_table_format.specs.Entry.{IsEnumRange}
 use Rattle.fidl_verify.proofs.Known.{test_of}
 use Rattle.fidl_verify.proofs.table.Table.has_value.Goals as goal
 
@@ -21,11 +21,11 @@ search-requires-clause-small c =
     let few = (c.entry-parts.ensures.well_formed.entries c.args.entry c.requires.entry).shape.few_values (test_of uses_values Enum (entry_at b c.args.entry) c.requires.kind) in
     subst (λ (e : Entry). e.count < 2 ^ 16) (sym c.entry-parts.ensures.value) (omega (arith, few))
 
-pub search-requires-clause-rises : goal.search-requires-clause-rises
-search-requires-clause-rises c =
+pub search-requires-clause-ranges : goal.search-requires-clause-ranges
+search-requires-clause-ranges c =
     let b = c.args.self.now in
-    subst (λ (e : Entry). (k : ℕ) → suc k < e.count → enum_value b (header_of b) e k <ℤ enum_value b (header_of b) e (suc k)) (sym c.entry-parts.ensures.value)
-    (λ k next. ((c.entry-parts.ensures.well_formed.entries c.args.entry c.requires.entry).sorted.values c.requires.kind k (omega (arith, next))).rises next)
+    subst (λ (e : Entry). (k : ℕ) → k < e.count → IsEnumRange b (header_of b) e k) (sym c.entry-parts.ensures.value)
+    ((c.entry-parts.ensures.well_formed.entries c.args.entry c.requires.entry).sorted.values c.requires.kind)
 
 pub returns-clause-value : goal.returns-clause-value
 returns-clause-value c =

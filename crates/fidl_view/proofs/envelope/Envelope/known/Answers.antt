@@ -10,7 +10,7 @@ use Rattle.fidl_table_format.specs.declared.record.Entry.{Entry}
 use Rattle.fidl_table_format.specs.Section.{header_of, entry_at}
 use Rattle.fidl_table_format.specs.Terms.{declarations_of, members_of}
 use Rattle.fidl_table_format.specs.WellFormed.{WellFormed}
-use Rattle.fidl_decode.specs.Placed.{enclosed_at}
+use Rattle.fidl_decode_model.specs.Placed.{enclosed_at}
 use Rattle.fidl_view.specs.Shows.{Shows}
 use Rattle.fidl_view.specs.Members.{term_at}
 use Rattle.fidl_view.proofs.Lists as lists

@@ -5,7 +5,7 @@ use Rattle.std.proofs.Math.Logic.{∥∥₁_elim}
 use Rattle.std.proofs.Math.Bridge.{le_prop}
 use Rattle.fidl_wire.specs.Value.{unknown}
 use Rattle.fidl_wire.specs.Field.{number_at}
-use Rattle.fidl_decode.specs.Placed.{object_at}
+use Rattle.fidl_decode_model.specs.Placed.{object_at}
 use Rattle.fidl_view.proofs.Raw as raw
 use Rattle.fidl_view.proofs.envelope.Envelope.raw_bytes.Goals as goal
 

@@ -1,5 +1,5 @@
 use Rattle.fidl_view.specs.Shows.{type_of}
-use Rattle.fidl_decode.specs.Model.{Shown}
+use Rattle.fidl_decode_model.specs.Model.{Shown}
 use Rattle.std.proofs.Common.{ap, sym, ◌∙◌, arith}
 use Rattle.std.proofs.Math.Logic.{∥∥₁_map}
 use Rattle.fidl_wire.specs.Value.{Value}

@@ -1,6 +1,6 @@
 use Rattle.fidl_view.proofs.Types.{each_typed}
 use Rattle.fidl_view.specs.Shows.{type_of}
-use Rattle.fidl_decode.specs.Model.{Shown}
+use Rattle.fidl_decode_model.specs.Model.{Shown}
 use Rattle.std.proofs.Common.{◌≡◌, ℕ, ◌*◌, List, ap, sym, subst, ◌∙◌, arith}
 use Rattle.fidl_wire.specs.Value.{Value, none}
 use Rattle.fidl_table_format.specs.declared.record.Entry.{Entry}

@@ -1,7 +1,7 @@
 use Rattle.fidl_view.proofs.Types.{field_of_row}
 use Rattle.fidl_view.specs.Views.{type_shown, types_shown}
 use Rattle.fidl_view.specs.Members.{struct_of, field_at, fields_at}
-use Rattle.fidl_decode.specs.Model.{Shown}
+use Rattle.fidl_decode_model.specs.Model.{Shown}
 use Rattle.fidl_table_format.specs.Terms.{declarations_of}
 use Rattle.fidl_wire.specs.Term.{Fields, fields_of, resolve}
 use Rattle.std.specs.Option.{option_map}

@@ -6,7 +6,7 @@ use Rattle.fidl_table_format.specs.Section.{header_of, entry_at}
 use Rattle.fidl_table_format.specs.Terms.{declarations_of, is_optional, is_strict, rows_from}
 use Rattle.fidl_wire.specs.Field.{number_at}
 use Rattle.fidl_wire.specs.Term as ty
-use Rattle.fidl_decode.specs.Faults.{message_of}
+use Rattle.fidl_decode_model.specs.Faults.{message_of}
 use Rattle.fidl_view.specs.Parts.{absence_of}
 use Rattle.fidl_view.proofs.Viewing as viewing
 use Rattle.fidl_view.proofs.Content as content

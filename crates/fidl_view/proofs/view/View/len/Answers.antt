@@ -1,4 +1,4 @@
-use Rattle.std.proofs.Common.{ℕ, List, ap, sym, ◌∙◌}
+use Rattle.std.proofs.Common.{ℕ, List, ap, sym, ◌∙◌, length, arith}
 use Rattle.std.specs.Int.{w64}
 use Rattle.fidl_table_format.specs.Section.{header_of, entry_at}
 use Rattle.fidl_wire.specs.Field.{number_at}
@@ -39,3 +39,10 @@ returns-in_default-kind c v h =
     let w = c.kind.ensures.well_formed in
     lists.no_length v (c.in_default.ensures.parts v h) (c.in_default-as_str.ensures v h)
     (lists.no_table_of (declarations_of d.table) d.table (header_of d.table) (entry_at d.table i) c.kind.result c.in_default-kind.not-Table v (viewing.lies d w i p lt c.kind.result c.kind.ensures.of v h).0)
+
+pub u64_at-requires : goal.u64_at-requires
+u64_at-requires c =
+    let d = c.args.self.decoded.now in
+    let wide = keyed.table_size d c.kind.ensures.well_formed c.args.self.index c.args.self.place c.args.self.in_range c.in-Table.ensures.of in
+    let long = ap length c.bytes.ensures in
+    omega (arith, wide, long, c.args.self.room)

@@ -1,6 +1,6 @@
 use Rattle.fidl_view.specs.Members.{struct_of, fields_at}
 use Rattle.fidl_wire.specs.Term.{Term, fields_of}
-use Rattle.std.proofs.Common.{◌≡◌, ℕ, ◌<◌, List, get_or, ap, sym, subst, ◌∙◌, arith}
+use Rattle.std.proofs.Common.{◌≡◌, ℕ, ◌<◌, List, get_or, ap, sym, subst, ◌∙◌, length, arith}
 use Rattle.std.proofs.Math.Logic.{∥∥₁_map}
 use Rattle.fidl_table_format.specs.declared.record.Entry.{Entry}
 use Rattle.fidl_table_format.specs.declared.kind.EntryKind.TheVariants.{Struct, Box}
@@ -119,3 +119,10 @@ returns-else-bytes-self-eq0-clause-of c =
     let f = (entry_at d.table i).first in
     let begun : c.entry.result.first ≡ f = ap (λ (e : Entry). e.first) (c.entry.ensures.value ∙ ap (λ (b : List ℕ). entry_at b i) c.table.ensures) in
     ap (λ (t : Term). fields_of (struct_of ds t)) (viewing.own_type d w i p lt Box is) ∙ ap fields_of (viewing.own_type d w f p b.0 Struct b.1) ∙ ap (λ k. fields_at d k) (sym begun)
+
+pub bounds-bytes-self : goal.bounds-bytes-self
+bounds-bytes-self c =
+    let d = c.args.self.decoded.now in
+    let wide = viewing.has_byte d c.kind.ensures.well_formed c.args.self.index c.args.self.place c.args.self.in_range in
+    let long = ap length c.bytes.ensures in
+    omega (arith, wide, long, c.args.self.room)

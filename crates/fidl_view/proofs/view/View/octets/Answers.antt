@@ -4,8 +4,8 @@ use Rattle.fidl_wire.specs.Value.{Value}
 use Rattle.fidl_wire.specs.Term.{Term}
 use Rattle.fidl_table_format.specs.declared.kind.EntryKind.TheVariants.{Uint8}
 use Rattle.fidl_table_format.specs.Section.{header_of, entry_at}
-use Rattle.fidl_decode.specs.Model.{Shown}
-use Rattle.fidl_decode.specs.Placed.{content_at}
+use Rattle.fidl_decode_model.specs.Model.{Shown}
+use Rattle.fidl_decode_model.specs.Placed.{content_at}
 use Rattle.fidl_view.specs.Parts.{bytes_if, bytes_of}
 use Rattle.fidl_view.specs.Shows.{type_of}
 use Rattle.fidl_view.specs.Elements.{parts_from, ShowEach}

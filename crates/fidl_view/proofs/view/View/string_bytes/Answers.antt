@@ -6,7 +6,7 @@ use Rattle.std.proofs.Math.Bridge.{le_prop}
 use Rattle.std.proofs.lemmas.Str.{IsUtf8-had, IsUtf8-nil}
 use Rattle.fidl_wire.specs.Field.{number_at}
 use Rattle.fidl_table_format.specs.WellFormed.{WellFormed}
-use Rattle.fidl_decode.specs.Placed.{object_at}
+use Rattle.fidl_decode_model.specs.Placed.{object_at}
 use Rattle.fidl_view.proofs.Viewing as viewing
 use Rattle.fidl_view.proofs.Content as content
 use Rattle.fidl_view.proofs.view.View.string_bytes.Goals as goal

@@ -6,7 +6,7 @@ use Rattle.fidl_table_format.specs.declared.record.Entry.{Entry}
 use Rattle.fidl_table_format.specs.Section.{header_of, entry_at}
 use Rattle.fidl_wire.specs.Field.{number_at}
 use Rattle.fidl_table_format.specs.WellFormed.{WellFormed}
-use Rattle.fidl_decode.specs.Placed.{object_at}
+use Rattle.fidl_decode_model.specs.Placed.{object_at}
 use Rattle.fidl_view.proofs.Viewing as viewing
 use Rattle.fidl_view.proofs.Lists as lists
 use Rattle.fidl_view.proofs.view.View.vector_elements.Goals as goal

@@ -1,5 +1,0 @@
-use Rattle.fidl_decode.proofs.Inverted.{bad_element}
-use Rattle.fidl_decode.proofs.worked.a_bool_in_an_array_that_is_2.Goals as goal
-
-pub returns : goal.returns
-returns c = bad_element

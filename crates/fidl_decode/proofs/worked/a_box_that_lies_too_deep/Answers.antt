@@ -1,5 +1,0 @@
-use Rattle.fidl_decode.proofs.Held.{box_too_deep}
-use Rattle.fidl_decode.proofs.worked.a_box_that_lies_too_deep.Goals as goal
-
-pub returns : goal.returns
-returns c = box_too_deep

@@ -1,0 +1,3 @@
+pub mod Spans
+pub mod Moved
+pub mod Kept

@@ -1,0 +1,3 @@
+-- What a migrated table keeps.
+pub mod Migrated
+pub mod Kept

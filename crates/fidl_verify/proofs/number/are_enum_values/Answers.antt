@@ -1,5 +1,0 @@
-use Rattle.std.proofs.Common.{below_more}
-use Rattle.fidl_verify.proofs.number.are_enum_values.Goals as goal
-
-pub loop-place-preserved : goal.loop-place-preserved
-loop-place-preserved c = below_more _ _ c.loop-place.invariant (c.is_enum_value.ensures.0 c.if-not-is_enum_value.false)
