@@ -1,3 +1,5 @@
 pub mod Spans
 pub mod Moved
 pub mod Kept
+pub mod Apart
+pub mod Enums

@@ -19,7 +19,7 @@ gaps (negsuc a) (pos b) (negsuc c) p q = absurd (omega (arith, ints))
 gaps (negsuc a) (negsuc b) (pos c) p q = omega (arith, ints)
 gaps (negsuc a) (negsuc b) (negsuc c) p q = omega (arith, ints)
 
-reached : (a b : ℤ) → a ≤ℤ b → a +ℤ pos (int_gap a b) ≡ b
+pub reached : (a b : ℤ) → a ≤ℤ b → a +ℤ pos (int_gap a b) ≡ b
 reached (pos a) (pos b) p = omega (arith, ints)
 reached (pos a) (negsuc b) p = absurd (omega (arith, ints))
 reached (negsuc a) (pos b) p = omega (arith, ints)

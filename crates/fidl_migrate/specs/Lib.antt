@@ -1,3 +1,4 @@
--- What a migrated table keeps.
+-- What a migrated table keeps, and lists of ranges.
 pub mod Migrated
 pub mod Kept
+pub mod Ranges

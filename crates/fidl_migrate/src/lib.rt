@@ -2,6 +2,7 @@
 #![tactic(auto)]
 
 mod keeping;
+pub mod laws;
 mod migrating;
 mod ranges;
 #[cfg(test)]

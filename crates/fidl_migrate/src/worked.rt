@@ -1,8 +1,10 @@
 //! Worked facts: a table and what it is migrated to, and tables that it is not migrated to.
-ghost use Rattle.std.specs.Prelude.{◌++◌, codes, take};
+ghost use Rattle.std.specs.Prelude.{◌≡◌, [], ◌∷◌, ◌++◌, codes, take, pos};
+ghost use Rattle.fidl_table_format.specs.Section.{entry_at};
 ghost use Rattle.fidl_table_format.specs.Samples.{root_of_enum, range_bytes, one_two_four};
 ghost use Rattle.fidl_table_format.specs.Samples.{one_two_and_four};
 ghost use Rattle.fidl_migrate.specs.Migrated.{IsMigrated};
+ghost use Rattle.fidl_migrate.specs.Ranges.{AreApart, numbers_in, ends, ranges_of};
 
 use fidl_table_format::worked::ranges::tables_of_both_versions;
 
@@ -20,3 +22,18 @@ pub fn migrated_tables()
 {
     tables_of_both_versions();
 }
+
+/// The numbers 1, 2 and 4 are those of two ranges with a number between them. Two ranges that touch
+/// have the numbers of one.
+pub fn lists_of_ranges()
+    ensures apart { AreApart (ends 1 2 ∷ ends 4 4 ∷ []) }
+    ensures touching { ¬ AreApart (ends 1 2 ∷ ends 3 4 ∷ []) }
+    ensures falling { ¬ AreApart (ends 4 4 ∷ ends 1 2 ∷ []) }
+    ensures ends_swapped { ¬ AreApart (ends 2 1 ∷ ends 4 4 ∷ []) }
+    ensures with_a_gap { numbers_in (ends 1 2 ∷ ends 4 4 ∷ []) ≡ pos 1 ∷ pos 2 ∷ pos 4 ∷ [] }
+    ensures joined { numbers_in (ends 1 2 ∷ ends 3 4 ∷ []) ≡ numbers_in (ends 1 4 ∷ []) }
+    ensures of_a_table { ranges_of (one_two_and_four 2 4) (entry_at (one_two_and_four 2 4) 0)
+        ≡ ends 1 2 ∷ ends 4 4 ∷ [] }
+    ensures of_version_1 { ranges_of (one_two_four 1) (entry_at (one_two_four 1) 0)
+        ≡ ends 1 1 ∷ ends 2 2 ∷ ends 4 4 ∷ [] }
+{}
