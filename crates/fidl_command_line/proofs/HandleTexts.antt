@@ -57,6 +57,7 @@ module _ (texts : List (Bor (List ℕ))) (at : ℕ) (d : Bor (List ℕ)) (lt : a
       refusal unread.Missing h = absurd h
       refusal unread.BadHex h = absurd h
       refusal unread.OutIsSource h = absurd h
+      refusal unread.OutIsTable h = absurd h
       refusal unread.BadRaw h = absurd h
       refusal unread.TwoLists h = absurd h
       refusal unread.BadFault h = absurd h

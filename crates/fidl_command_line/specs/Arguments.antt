@@ -18,8 +18,10 @@ use Rattle.fidl_command_line.specs.declared.unread.Unread.{Unread}
 use Rattle.fidl_command_line.specs.declared.unread.Unread.TheVariants.{Asked, Wrong, Missing}
 use Rattle.fidl_command_line.specs.declared.unread.Unread.TheVariants.{BadHex, BadRaw, BadFault}
 use Rattle.fidl_command_line.specs.declared.unread.Unread.TheVariants.{TwoLists}
-use Rattle.fidl_command_line.specs.declared.unread.Unread.TheVariants.{BadHandle, OutIsSource, Memory}
+use Rattle.fidl_command_line.specs.declared.unread.Unread.TheVariants.{BadHandle, OutIsSource, OutIsTable}
+use Rattle.fidl_command_line.specs.declared.unread.Unread.TheVariants.{Memory}
 use Rattle.fidl_command_line.specs.declared.arguments.CompileArguments.{CompileArguments}
+use Rattle.fidl_command_line.specs.declared.arguments.MigrateArguments.{MigrateArguments}
 use Rattle.fidl_command_line.specs.declared.arguments.DecodeArguments.{DecodeArguments}
 use Rattle.fidl_command_line.specs.declared.arguments.EncodeArguments.{EncodeArguments}
 use Rattle.fidl_command_line.specs.declared.arguments.TableArguments.{TableArguments}
@@ -30,10 +32,11 @@ use Rattle.fidl_command_line.specs.declared.arguments.Listing.TheVariants.{Recor
 use Rattle.fidl_command_line.specs.declared.arguments.Arguments.{Arguments}
 use Rattle.fidl_command_line.specs.declared.arguments.Arguments.TheVariants.{Compile, Decode, Table}
 use Rattle.fidl_command_line.specs.declared.arguments.Arguments.TheVariants.{Explain, Encode}
-use Rattle.fidl_command_line.specs.declared.arguments.Arguments.TheVariants.{Dump, Serve}
+use Rattle.fidl_command_line.specs.declared.arguments.Arguments.TheVariants.{Dump, Serve, Migrate}
 use Rattle.fidl_wire.specs.declared.handle.HandleInfo.{HandleInfo}
-use Rattle.fidl_command_line.specs.CommandLine.{program, GivesCompile, GivesDecode, GivesTable}
-use Rattle.fidl_command_line.specs.CommandLine.{GivesExplain, GivesEncode, GivesDump, GivesServe}
+use Rattle.fidl_command_line.specs.CommandLine.{program, GivesCompile, GivesMigrate, GivesDecode}
+use Rattle.fidl_command_line.specs.CommandLine.{GivesEncode, GivesTable, GivesDump, GivesServe}
+use Rattle.fidl_command_line.specs.CommandLine.{GivesExplain}
 use Rattle.fidl_command_line.specs.Contents.{IsContent, IsMessage, IsNoMessage}
 use Rattle.fidl_command_line.specs.Handles.{IsDecimal, IsHandleText}
 use Rattle.fidl_command_line.specs.Complaints.{handle_line}
@@ -135,6 +138,29 @@ IsNoCompile rows OutIsSource = WritesSource rows
 IsNoCompile rows Memory = ⊤
 IsNoCompile rows _ = ⊥
 
+-- the values of the arguments are these arguments of `migrate`: the file to write and the table's
+-- have two paths
+pub record IsMigrate (rows : List Row) (given : MigrateArguments) : Type 0 where
+  pub out : first_of (codes "out") rows ≡ Some given.out.now
+  pub table : first_of (codes "TABLE") rows ≡ Some given.table.now
+  pub apart : is_one_path given.out.now given.table.now ≡ false
+
+-- the file to write has the path of the table's
+pub record WritesTable (rows : List Row) : Type 0 where
+  pub file : List ℕ
+  pub table : List ℕ
+  pub out : first_of (codes "out") rows ≡ Some file
+  pub given : first_of (codes "TABLE") rows ≡ Some table
+  pub same : is_one_path file table ≡ true
+
+-- why the values of the arguments are no arguments of `migrate`
+abbrev pub IsNoMigrate : List Row → Unread → Type 0
+IsNoMigrate rows Missing =
+    (first_of (codes "out") rows ≡ None) ⊎ (first_of (codes "TABLE") rows ≡ None)
+IsNoMigrate rows OutIsTable = WritesTable rows
+IsNoMigrate rows Memory = ⊤
+IsNoMigrate rows _ = ⊥
+
 -- what is printed of a table, by whether `--roots` and `--protocols` were given; not both
 abbrev pub listing_of : (roots protocols : Bool) → Option Listing
 listing_of false false = Some Records
@@ -212,6 +238,7 @@ Enters Names Holds = (rows : List Row) × Names rows × Holds rows
 -- the words give these arguments of a command
 abbrev pub IsGiven : List Text → Arguments → Type 0
 IsGiven words (Compile given) = Enters (GivesCompile words) (λ rows. IsCompile rows given)
+IsGiven words (Migrate given) = Enters (GivesMigrate words) (λ rows. IsMigrate rows given)
 IsGiven words (Decode given) = Enters (GivesDecode words) (λ rows. IsDecode rows given)
 IsGiven words (Encode given) = Enters (GivesEncode words) (λ rows. IsEncode rows given)
 IsGiven words (Table given) = Enters (GivesTable words) (λ rows. IsTable rows given)
@@ -222,6 +249,7 @@ IsGiven words (Explain asked) = Enters (GivesExplain words) (λ rows. IsExplain 
 -- the words name a command whose arguments have no such values
 abbrev pub HasBadValues : List Text → Unread → Type 0
 HasBadValues words unread = Enters (GivesCompile words) (λ rows. IsNoCompile rows unread)
+    ⊎ Enters (GivesMigrate words) (λ rows. IsNoMigrate rows unread)
     ⊎ Enters (GivesDecode words) (λ rows. IsNoDecode rows unread)
     ⊎ Enters (GivesEncode words) (λ rows. IsNoEncode rows unread)
     ⊎ Enters (GivesTable words) (λ rows. IsNoTable rows unread)
@@ -231,9 +259,9 @@ HasBadValues words unread = Enters (GivesCompile words) (λ rows. IsNoCompile ro
 
 -- the words name no command
 abbrev pub NamesNone : List Text → Type 0
-NamesNone words = (rows : List Row) → (GivesCompile words rows → ⊥) × (GivesDecode words rows → ⊥)
-    × (GivesEncode words rows → ⊥) × (GivesTable words rows → ⊥) × (GivesDump words rows → ⊥)
-    × (GivesServe words rows → ⊥) × (GivesExplain words rows → ⊥)
+NamesNone words = (rows : List Row) → (GivesCompile words rows → ⊥) × (GivesMigrate words rows → ⊥)
+    × (GivesDecode words rows → ⊥) × (GivesEncode words rows → ⊥) × (GivesTable words rows → ⊥)
+    × (GivesDump words rows → ⊥) × (GivesServe words rows → ⊥) × (GivesExplain words rows → ⊥)
 
 -- why the words give no arguments: they are no command line, or ask for help; or the arguments have
 -- no such values

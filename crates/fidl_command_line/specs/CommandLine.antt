@@ -54,6 +54,12 @@ compile_command = record (new_shape (codes "compile")) {
   rules = out_option ∷ flag (codes "snippet") ∷ files_argument ∷ [];
 }
 
+-- `migrate --out OUT TABLE`
+abbrev pub migrate_command : Shape
+migrate_command = record (new_shape (codes "migrate")) {
+  rules = out_option ∷ positional (codes "TABLE") ∷ [];
+}
+
 -- `decode [--handle I:T:R].. [--raw] TABLE ROOT HEX`
 abbrev pub decode_command : Shape
 decode_command = record (new_shape (codes "decode")) {
@@ -100,8 +106,8 @@ program = record {
         is_leaf =
             false;
       };
-  subs = compile_command ∷ decode_command ∷ encode_command ∷ table_command ∷ dump_command
-      ∷ serve_command ∷ explain_command ∷ [];
+  subs = compile_command ∷ migrate_command ∷ decode_command ∷ encode_command ∷ table_command
+      ∷ dump_command ∷ serve_command ∷ explain_command ∷ [];
 }
 
 -- this is a command of the program, with no commands of its own
@@ -112,6 +118,10 @@ pub record IsCommandOf (shape : Shape) (command : Command) : Type 0 where
 -- the words name the command `compile`, and give its arguments these values
 abbrev pub GivesCompile : List Text → List Row → Type 0
 GivesCompile words rows = subcommand_of program words ≡ Some (codes "compile", rows)
+
+-- the words name the command `migrate`, and give its arguments these values
+abbrev pub GivesMigrate : List Text → List Row → Type 0
+GivesMigrate words rows = subcommand_of program words ≡ Some (codes "migrate", rows)
 
 -- the words name the command `decode`, and give its arguments these values
 abbrev pub GivesDecode : List Text → List Row → Type 0

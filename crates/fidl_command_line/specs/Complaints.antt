@@ -4,7 +4,7 @@ use Rattle.fidl_command_line.specs.declared.unread.Unread.{Unread}
 use Rattle.fidl_command_line.specs.declared.unread.Unread.TheVariants.{Asked, Wrong, NotText}
 use Rattle.fidl_command_line.specs.declared.unread.Unread.TheVariants.{Missing, BadHex, BadHandle}
 use Rattle.fidl_command_line.specs.declared.unread.Unread.TheVariants.{OutIsSource, BadRaw, TwoLists, BadFault}
-use Rattle.fidl_command_line.specs.declared.unread.Unread.TheVariants.{Memory}
+use Rattle.fidl_command_line.specs.declared.unread.Unread.TheVariants.{OutIsTable, Memory}
 
 -- memory ran out
 abbrev pub no_memory : List ℕ
@@ -23,6 +23,7 @@ complaint_of NotText = codes "error: the arguments: UTF-8 is wanted"
 complaint_of Missing =
     codes "error: the arguments: compile --out OUT FILE.., decode TABLE ROOT HEX, encode TABLE ROOT TEXT, table TABLE or explain FAULT is wanted"
 complaint_of OutIsSource = codes "error: --out: a file that is none of the sources is wanted"
+complaint_of OutIsTable = codes "error: --out: a file that is not the table is wanted"
 complaint_of BadHex = codes "error: HEX: an even number of hexadecimal digits is wanted"
 complaint_of BadRaw = codes "error: --raw: @FILE or - is wanted in place of HEX"
 complaint_of TwoLists = codes "error: --protocols: it does not go with --roots"

@@ -6,7 +6,7 @@ ghost use Rattle.clap.specs.Words.{found_of, rows_of, first_of};
 ghost use Rattle.fidl_command_line.specs.Handles.{IsHandleText};
 ghost use Rattle.fidl_command_line.specs.Arguments.{AreNoHandles, IsDecode, IsNoDecode, is_given};
 ghost use Rattle.fidl_command_line.specs.Arguments.{IsCompile, IsNoCompile, IsTable, IsNoTable};
-ghost use Rattle.fidl_command_line.specs.Arguments.{IsEncode, IsNoEncode};
+ghost use Rattle.fidl_command_line.specs.Arguments.{IsEncode, IsNoEncode, IsMigrate, IsNoMigrate};
 ghost use Rattle.fidl_command_line.specs.Arguments.{IsAskedBy, NamesNoFault, IsExplain};
 ghost use Rattle.fidl_command_line.specs.Arguments.{IsNoExplain, IsGiven, IsUngiven};
 ghost use Rattle.fidl_command_line.specs.Arguments.{handle_texts, is_one_path, listing_of, IsHandleRefusal};
@@ -50,6 +50,13 @@ pub struct CompileArguments<'a> {
     pub sources: Vec<&'a str>,
 }
 
+/// What `fidl migrate` is given: the file to write the table of version 2 to, and the table's file.
+#[derive(Clone, Copy, Debug, Drop)]
+pub struct MigrateArguments<'a> {
+    pub out: &'a str,
+    pub table: &'a str,
+}
+
 /// What is printed of a table.
 #[derive(Clone, Copy, PartialEq, Eq, Debug, Drop)]
 pub enum Listing {
@@ -72,6 +79,7 @@ pub struct TableArguments<'a> {
 #[derive(Drop)]
 pub enum Arguments<'a> {
     Compile(CompileArguments<'a>),
+    Migrate(MigrateArguments<'a>),
     Decode(DecodeArguments<'a>),
     Encode(EncodeArguments<'a>),
     Table(TableArguments<'a>),
@@ -226,6 +234,30 @@ fn read_compile<'a>(alloc: Global, matches: &ArgMatches<'a>) -> Result<CompileAr
     })
 }
 
+/// Whether two names are those of one path. Links are not followed, and `..` is not resolved.
+fn is_one_path(alloc: Global, one: &str, other: &str) -> Result<bool, AllocError>
+    ensures { IfOk result (λ same. same ≡ is_one_path one.now other.now) }
+{
+    let path = from_here(alloc, one)?;
+    let other_path = from_here(alloc, other)?;
+    Ok(path == other_path)
+}
+
+/// What `fidl migrate` was given.
+fn read_migrate<'a>(alloc: Global, matches: &ArgMatches<'a>) -> Result<MigrateArguments<'a>, Unread>
+    ensures ok { IfOk result (IsMigrate (rows_of (found_of matches.now))) }
+    ensures fault_is_true { IfErr result (IsNoMigrate (rows_of (found_of matches.now))) }
+{
+    let (Some(out), Some(table)) = (value_of(matches, "out"), value_of(matches, "TABLE")) else {
+        return Err(Unread::Missing);
+    };
+    let is_table = is_one_path(alloc, out, table)?;
+    if is_table {
+        return Err(Unread::OutIsTable);
+    }
+    Ok(MigrateArguments { out, table })
+}
+
 /// What is printed of a table, by the options that were given; None where both were.
 fn listing_of(roots: bool, protocols: bool) -> Option<Listing>
     ensures { result ≡ listing_of roots protocols }
@@ -297,6 +329,9 @@ pub fn read_arguments<'a, S: AsStr>(alloc: Global, words: &'a [S]) -> Result<Arg
     };
     if let Some(matches) = matches.subcommand_matches("compile") {
         return Ok(Arguments::Compile(read_compile(alloc, matches)?));
+    }
+    if let Some(matches) = matches.subcommand_matches("migrate") {
+        return Ok(Arguments::Migrate(read_migrate(alloc, matches)?));
     }
     if let Some(matches) = matches.subcommand_matches("decode") {
         return Ok(Arguments::Decode(read_decode(alloc, matches)?));

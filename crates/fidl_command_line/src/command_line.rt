@@ -42,6 +42,17 @@ Status:
   3  a file cannot be read or written
   4  memory ran out";
 
+const MIGRATE_HELP: &str = "\
+Example:
+  fidl migrate --out new.fct old.fct
+
+Status:
+  0  the table of version 2 is written
+  1  the table is refused
+  2  the command line is wrong
+  3  a file cannot be read or written
+  4  memory ran out";
+
 const DECODE_HELP: &str = "\
 Examples:
   fidl decode point.fct Point 0100000002000000
@@ -200,6 +211,17 @@ fn compile_command<'a>(alloc: Global) -> Result<Command<'a>, AllocError>
         .arg(files(alloc))
 }
 
+/// The command `migrate`.
+fn migrate_command<'a>(alloc: Global) -> Result<Command<'a>, AllocError>
+    ensures { IfOk result (IsCommandOf spec.migrate_command) }
+{
+    Command::new(alloc, "migrate")
+        .about("Writes the version 2 of a coding table")
+        .after_help(MIGRATE_HELP)
+        .arg(out(alloc))?
+        .arg(required(alloc, "TABLE", "The file of the coding table"))
+}
+
 /// The command `decode`.
 fn decode_command<'a>(alloc: Global) -> Result<Command<'a>, AllocError>
     ensures { IfOk result (IsCommandOf spec.decode_command) }
@@ -295,6 +317,7 @@ pub(crate) fn command_line<'a>(alloc: Global) -> Result<Command<'a>, AllocError>
         .after_help(PROGRAM_HELP)
         .subcommand_required(true)
         .subcommand(compile_command(alloc)?)?
+        .subcommand(migrate_command(alloc)?)?
         .subcommand(decode_command(alloc)?)?
         .subcommand(encode_command(alloc)?)?
         .subcommand(table_command(alloc)?)?

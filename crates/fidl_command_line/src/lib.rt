@@ -10,10 +10,11 @@ mod content;
 mod handle;
 mod streams;
 mod unread;
+pub mod worked;
 
 pub use crate::arguments::{
-    Arguments, CompileArguments, DecodeArguments, EncodeArguments, Listing, TableArguments,
-    read_arguments,
+    Arguments, CompileArguments, DecodeArguments, EncodeArguments, Listing, MigrateArguments,
+    TableArguments, read_arguments,
 };
 pub use crate::content::{Content, Message, Stored, content_of, message_bytes};
 pub use crate::handle::read_handle;

@@ -32,6 +32,8 @@ pub enum Unread {
     BadHandle { line: String },
     /// The file to write the table to is one of the sources.
     OutIsSource,
+    /// The file to write the migrated table to is the table's.
+    OutIsTable,
     /// Memory ran out.
     Memory,
 }
@@ -113,6 +115,7 @@ impl Unread {
                 "error: the arguments: compile --out OUT FILE.., decode TABLE ROOT HEX, encode TABLE ROOT TEXT, table TABLE or explain FAULT is wanted"
             }
             Unread::OutIsSource => "error: --out: a file that is none of the sources is wanted",
+            Unread::OutIsTable => "error: --out: a file that is not the table is wanted",
             Unread::BadHex => "error: HEX: an even number of hexadecimal digits is wanted",
             Unread::BadRaw => "error: --raw: @FILE or - is wanted in place of HEX",
             Unread::TwoLists => "error: --protocols: it does not go with --roots",

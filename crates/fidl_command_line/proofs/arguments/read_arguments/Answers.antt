@@ -5,9 +5,9 @@ use Rattle.clap.specs.declared.error.kind.ErrorKind.{ErrorKind}
 use Rattle.clap.specs.declared.error.kind.ErrorKind.TheVariants as kinds
 use Rattle.clap.specs.Words.{App, Text, found_of, rows_of, HasMatchesOf, takes}
 use Rattle.fidl_command_line.specs.Arguments.{HasBadValues, IsUngiven, IsToldByKind}
-use Rattle.fidl_command_line.specs.CommandLine.{program, GivesCompile, GivesDecode, GivesEncode, GivesTable, GivesDump, GivesServe, GivesExplain}
+use Rattle.fidl_command_line.specs.CommandLine.{program, GivesCompile, GivesMigrate, GivesDecode, GivesEncode, GivesTable, GivesDump, GivesServe, GivesExplain}
 use Rattle.fidl_command_line.specs.declared.unread.Unread.{Unread}
-use Rattle.fidl_command_line.specs.declared.unread.Unread.TheVariants.{Asked, Wrong, NotText, Missing, BadHex, BadRaw, TwoLists, BadFault, BadHandle, OutIsSource, Memory}
+use Rattle.fidl_command_line.specs.declared.unread.Unread.TheVariants.{Asked, Wrong, NotText, Missing, BadHex, BadRaw, TwoLists, BadFault, BadHandle, OutIsSource, OutIsTable, Memory}
 use Rattle.fidl_command_line.proofs.Commands.{both_of, none_here}
 use Rattle.fidl_command_line.proofs.arguments.read_arguments.Goals as goal
 
@@ -22,7 +22,8 @@ badly words (Asked text) h = absurd (no_text words (Asked text) h)
     no_text words u (inr (inr (inr (inl h)))) = h.2
     no_text words u (inr (inr (inr (inr (inl h))))) = h.2
     no_text words u (inr (inr (inr (inr (inr (inl h)))))) = h.2
-    no_text words u (inr (inr (inr (inr (inr (inr h)))))) = h.2
+    no_text words u (inr (inr (inr (inr (inr (inr (inl h))))))) = h.2
+    no_text words u (inr (inr (inr (inr (inr (inr (inr h))))))) = h.2
 badly words (Wrong line) h = absurd (no_line words h)
   where
     no_line : (words : List Text) → HasBadValues words (Wrong line) → ⊥
@@ -32,7 +33,8 @@ badly words (Wrong line) h = absurd (no_line words h)
     no_line words (inr (inr (inr (inl h)))) = h.2
     no_line words (inr (inr (inr (inr (inl h))))) = h.2
     no_line words (inr (inr (inr (inr (inr (inl h)))))) = h.2
-    no_line words (inr (inr (inr (inr (inr (inr h)))))) = h.2
+    no_line words (inr (inr (inr (inr (inr (inr (inl h))))))) = h.2
+    no_line words (inr (inr (inr (inr (inr (inr (inr h))))))) = h.2
 badly words NotText h = h
 badly words Missing h = inr h
 badly words BadHex h = h
@@ -41,6 +43,7 @@ badly words TwoLists h = h
 badly words BadFault h = h
 badly words (BadHandle line) h = h
 badly words OutIsSource h = h
+badly words OutIsTable h = h
 badly words Memory h = tt
 
 not_taken : (b : Bool) → (b ≡ true → ⊥) → b ≡ false
@@ -60,6 +63,7 @@ refused words kind TwoLists passes h = absurd h
 refused words kind BadFault passes h = absurd h
 refused words kind (BadHandle line) passes h = absurd h
 refused words kind OutIsSource passes h = absurd h
+refused words kind OutIsTable passes h = absurd h
 refused words kind Memory passes h = tt
 
 pub returns-in-Some-clause-ok : goal.returns-in-Some-clause-ok
@@ -77,8 +81,8 @@ returns-in-Some-subcommand_matches-clause-ok g c =
     let found = c.in-Some-subcommand_matches in
     let rows = rows_of (found_of found.matches.now) in
     let met = (subst (λ (a : App). HasMatchesOf a words c.in-Ok.matches) c.in_ok-command_line.ensures c.in-Ok.ensures.matches) refl in
-    let entered : GivesDecode words rows = sym met.1 ∙ both_of _ _ _ _ _ (found.ensures.found.0 refl) found.ensures.rows in
-    (rows, entered, c.in_ok-read_decode.ensures.ok)
+    let entered : GivesMigrate words rows = sym met.1 ∙ both_of _ _ _ _ _ (found.ensures.found.0 refl) found.ensures.rows in
+    (rows, entered, c.in_ok-read_migrate.ensures.ok)
 
 pub returns-in-Some-subcommand_matches-2-clause-ok : goal.returns-in-Some-subcommand_matches-2-clause-ok
 returns-in-Some-subcommand_matches-2-clause-ok g c =
@@ -86,8 +90,8 @@ returns-in-Some-subcommand_matches-2-clause-ok g c =
     let found = c.in-Some-subcommand_matches-2 in
     let rows = rows_of (found_of found.matches.now) in
     let met = (subst (λ (a : App). HasMatchesOf a words c.in-Ok.matches) c.in_ok-command_line.ensures c.in-Ok.ensures.matches) refl in
-    let entered : GivesEncode words rows = sym met.1 ∙ both_of _ _ _ _ _ (found.ensures.found.0 refl) found.ensures.rows in
-    (rows, entered, c.in_ok-read_encode.ensures.ok)
+    let entered : GivesDecode words rows = sym met.1 ∙ both_of _ _ _ _ _ (found.ensures.found.0 refl) found.ensures.rows in
+    (rows, entered, c.in_ok-read_decode.ensures.ok)
 
 pub returns-in-Some-subcommand_matches-3-clause-ok : goal.returns-in-Some-subcommand_matches-3-clause-ok
 returns-in-Some-subcommand_matches-3-clause-ok g c =
@@ -95,8 +99,8 @@ returns-in-Some-subcommand_matches-3-clause-ok g c =
     let found = c.in-Some-subcommand_matches-3 in
     let rows = rows_of (found_of found.matches.now) in
     let met = (subst (λ (a : App). HasMatchesOf a words c.in-Ok.matches) c.in_ok-command_line.ensures c.in-Ok.ensures.matches) refl in
-    let entered : GivesTable words rows = sym met.1 ∙ both_of _ _ _ _ _ (found.ensures.found.0 refl) found.ensures.rows in
-    (rows, entered, c.in_ok-read_table.ensures.ok)
+    let entered : GivesEncode words rows = sym met.1 ∙ both_of _ _ _ _ _ (found.ensures.found.0 refl) found.ensures.rows in
+    (rows, entered, c.in_ok-read_encode.ensures.ok)
 
 pub returns-in-Some-subcommand_matches-4-clause-ok : goal.returns-in-Some-subcommand_matches-4-clause-ok
 returns-in-Some-subcommand_matches-4-clause-ok g c =
@@ -104,8 +108,8 @@ returns-in-Some-subcommand_matches-4-clause-ok g c =
     let found = c.in-Some-subcommand_matches-4 in
     let rows = rows_of (found_of found.matches.now) in
     let met = (subst (λ (a : App). HasMatchesOf a words c.in-Ok.matches) c.in_ok-command_line.ensures c.in-Ok.ensures.matches) refl in
-    let entered : GivesDump words rows = sym met.1 ∙ both_of _ _ _ _ _ (found.ensures.found.0 refl) found.ensures.rows in
-    (rows, entered, c.in_ok-read_dump.ensures.ok)
+    let entered : GivesTable words rows = sym met.1 ∙ both_of _ _ _ _ _ (found.ensures.found.0 refl) found.ensures.rows in
+    (rows, entered, c.in_ok-read_table.ensures.ok)
 
 pub returns-in-Some-subcommand_matches-5-clause-ok : goal.returns-in-Some-subcommand_matches-5-clause-ok
 returns-in-Some-subcommand_matches-5-clause-ok g c =
@@ -113,8 +117,8 @@ returns-in-Some-subcommand_matches-5-clause-ok g c =
     let found = c.in-Some-subcommand_matches-5 in
     let rows = rows_of (found_of found.matches.now) in
     let met = (subst (λ (a : App). HasMatchesOf a words c.in-Ok.matches) c.in_ok-command_line.ensures c.in-Ok.ensures.matches) refl in
-    let entered : GivesServe words rows = sym met.1 ∙ both_of _ _ _ _ _ (found.ensures.found.0 refl) found.ensures.rows in
-    (rows, entered, c.in_ok-read_serve.ensures.ok)
+    let entered : GivesDump words rows = sym met.1 ∙ both_of _ _ _ _ _ (found.ensures.found.0 refl) found.ensures.rows in
+    (rows, entered, c.in_ok-read_dump.ensures.ok)
 
 pub returns-in-Some-subcommand_matches-6-clause-ok : goal.returns-in-Some-subcommand_matches-6-clause-ok
 returns-in-Some-subcommand_matches-6-clause-ok g c =
@@ -122,8 +126,17 @@ returns-in-Some-subcommand_matches-6-clause-ok g c =
     let found = c.in-Some-subcommand_matches-6 in
     let rows = rows_of (found_of found.matches.now) in
     let met = (subst (λ (a : App). HasMatchesOf a words c.in-Ok.matches) c.in_ok-command_line.ensures c.in-Ok.ensures.matches) refl in
+    let entered : GivesServe words rows = sym met.1 ∙ both_of _ _ _ _ _ (found.ensures.found.0 refl) found.ensures.rows in
+    (rows, entered, c.in_ok-read_serve.ensures.ok)
+
+pub returns-in-Some-subcommand_matches-7-clause-ok : goal.returns-in-Some-subcommand_matches-7-clause-ok
+returns-in-Some-subcommand_matches-7-clause-ok g c =
+    let words = map g.S.AsStr.text c.args.words.now in
+    let found = c.in-Some-subcommand_matches-7 in
+    let rows = rows_of (found_of found.matches.now) in
+    let met = (subst (λ (a : App). HasMatchesOf a words c.in-Ok.matches) c.in_ok-command_line.ensures c.in-Ok.ensures.matches) refl in
     let entered : GivesExplain words rows = sym met.1 ∙ both_of _ _ _ _ _ (found.ensures.found.0 refl) found.ensures.rows in
-    (rows, entered, c.in_ok-read_explain-in-Some-subcommand_matches-6.ensures.ok)
+    (rows, entered, c.in_ok-read_explain-in-Some-subcommand_matches-7.ensures.ok)
 
 pub returns-in-Err-clause-fault_is_true : goal.returns-in-Err-clause-fault_is_true
 returns-in-Err-clause-fault_is_true g c =
@@ -144,67 +157,77 @@ returns-in_err-read_compile-clause-fault_is_true g c =
     let p = err_from_is_err_and c.from_residual-in_err-read_compile.result c.from_residual-in_err-read_compile.ensures.1 in
     rw (p.1, p.2) (badly words c.in_err-read_compile.field-0.0 (inl (rows, entered, c.in_err-read_compile.ensures.fault_is_true)))
 
-pub returns-in_err-read_decode-clause-fault_is_true : goal.returns-in_err-read_decode-clause-fault_is_true
-returns-in_err-read_decode-clause-fault_is_true g c =
+pub returns-in_err-read_migrate-clause-fault_is_true : goal.returns-in_err-read_migrate-clause-fault_is_true
+returns-in_err-read_migrate-clause-fault_is_true g c =
     let words = map g.S.AsStr.text c.args.words.now in
     let found = c.in-Some-subcommand_matches in
     let rows = rows_of (found_of found.matches.now) in
     let met = (subst (λ (a : App). HasMatchesOf a words c.in-Ok.matches) c.in_ok-command_line.ensures c.in-Ok.ensures.matches) refl in
-    let entered : GivesDecode words rows = sym met.1 ∙ both_of _ _ _ _ _ (found.ensures.found.0 refl) found.ensures.rows in
-    let p = err_from_is_err_and c.from_residual-in_err-read_decode.result c.from_residual-in_err-read_decode.ensures.1 in
-    rw (p.1, p.2) (badly words c.in_err-read_decode.field-0.0 (inr (inl (rows, entered, c.in_err-read_decode.ensures.fault_is_true))))
+    let entered : GivesMigrate words rows = sym met.1 ∙ both_of _ _ _ _ _ (found.ensures.found.0 refl) found.ensures.rows in
+    let p = err_from_is_err_and c.from_residual-in_err-read_migrate.result c.from_residual-in_err-read_migrate.ensures.1 in
+    rw (p.1, p.2) (badly words c.in_err-read_migrate.field-0.0 (inr (inl (rows, entered, c.in_err-read_migrate.ensures.fault_is_true))))
 
-pub returns-in_err-read_encode-clause-fault_is_true : goal.returns-in_err-read_encode-clause-fault_is_true
-returns-in_err-read_encode-clause-fault_is_true g c =
+pub returns-in_err-read_decode-clause-fault_is_true : goal.returns-in_err-read_decode-clause-fault_is_true
+returns-in_err-read_decode-clause-fault_is_true g c =
     let words = map g.S.AsStr.text c.args.words.now in
     let found = c.in-Some-subcommand_matches-2 in
     let rows = rows_of (found_of found.matches.now) in
     let met = (subst (λ (a : App). HasMatchesOf a words c.in-Ok.matches) c.in_ok-command_line.ensures c.in-Ok.ensures.matches) refl in
-    let entered : GivesEncode words rows = sym met.1 ∙ both_of _ _ _ _ _ (found.ensures.found.0 refl) found.ensures.rows in
-    let p = err_from_is_err_and c.from_residual-in_err-read_encode.result c.from_residual-in_err-read_encode.ensures.1 in
-    rw (p.1, p.2) (badly words c.in_err-read_encode.field-0.0 (inr (inr (inl (rows, entered, c.in_err-read_encode.ensures.fault_is_true)))))
+    let entered : GivesDecode words rows = sym met.1 ∙ both_of _ _ _ _ _ (found.ensures.found.0 refl) found.ensures.rows in
+    let p = err_from_is_err_and c.from_residual-in_err-read_decode.result c.from_residual-in_err-read_decode.ensures.1 in
+    rw (p.1, p.2) (badly words c.in_err-read_decode.field-0.0 (inr (inr (inl (rows, entered, c.in_err-read_decode.ensures.fault_is_true)))))
 
-pub returns-in_err-read_table-clause-fault_is_true : goal.returns-in_err-read_table-clause-fault_is_true
-returns-in_err-read_table-clause-fault_is_true g c =
+pub returns-in_err-read_encode-clause-fault_is_true : goal.returns-in_err-read_encode-clause-fault_is_true
+returns-in_err-read_encode-clause-fault_is_true g c =
     let words = map g.S.AsStr.text c.args.words.now in
     let found = c.in-Some-subcommand_matches-3 in
     let rows = rows_of (found_of found.matches.now) in
     let met = (subst (λ (a : App). HasMatchesOf a words c.in-Ok.matches) c.in_ok-command_line.ensures c.in-Ok.ensures.matches) refl in
-    let entered : GivesTable words rows = sym met.1 ∙ both_of _ _ _ _ _ (found.ensures.found.0 refl) found.ensures.rows in
-    let p = err_from_is_err_and c.from_residual-in_err-read_table.result c.from_residual-in_err-read_table.ensures.1 in
-    rw (p.1, p.2) (badly words c.in_err-read_table.field-0.0 (inr (inr (inr (inl (rows, entered, c.in_err-read_table.ensures.fault_is_true))))))
+    let entered : GivesEncode words rows = sym met.1 ∙ both_of _ _ _ _ _ (found.ensures.found.0 refl) found.ensures.rows in
+    let p = err_from_is_err_and c.from_residual-in_err-read_encode.result c.from_residual-in_err-read_encode.ensures.1 in
+    rw (p.1, p.2) (badly words c.in_err-read_encode.field-0.0 (inr (inr (inr (inl (rows, entered, c.in_err-read_encode.ensures.fault_is_true))))))
 
-pub returns-in_err-read_dump-clause-fault_is_true : goal.returns-in_err-read_dump-clause-fault_is_true
-returns-in_err-read_dump-clause-fault_is_true g c =
+pub returns-in_err-read_table-clause-fault_is_true : goal.returns-in_err-read_table-clause-fault_is_true
+returns-in_err-read_table-clause-fault_is_true g c =
     let words = map g.S.AsStr.text c.args.words.now in
     let found = c.in-Some-subcommand_matches-4 in
     let rows = rows_of (found_of found.matches.now) in
     let met = (subst (λ (a : App). HasMatchesOf a words c.in-Ok.matches) c.in_ok-command_line.ensures c.in-Ok.ensures.matches) refl in
-    let entered : GivesDump words rows = sym met.1 ∙ both_of _ _ _ _ _ (found.ensures.found.0 refl) found.ensures.rows in
-    let p = err_from_is_err_and c.from_residual-in_err-read_dump.result c.from_residual-in_err-read_dump.ensures.1 in
-    rw (p.1, p.2) (badly words c.in_err-read_dump.field-0.0 (inr (inr (inr (inr (inl (rows, entered, c.in_err-read_dump.ensures.fault_is_true)))))))
+    let entered : GivesTable words rows = sym met.1 ∙ both_of _ _ _ _ _ (found.ensures.found.0 refl) found.ensures.rows in
+    let p = err_from_is_err_and c.from_residual-in_err-read_table.result c.from_residual-in_err-read_table.ensures.1 in
+    rw (p.1, p.2) (badly words c.in_err-read_table.field-0.0 (inr (inr (inr (inr (inl (rows, entered, c.in_err-read_table.ensures.fault_is_true)))))))
 
-pub returns-in_err-read_serve-clause-fault_is_true : goal.returns-in_err-read_serve-clause-fault_is_true
-returns-in_err-read_serve-clause-fault_is_true g c =
+pub returns-in_err-read_dump-clause-fault_is_true : goal.returns-in_err-read_dump-clause-fault_is_true
+returns-in_err-read_dump-clause-fault_is_true g c =
     let words = map g.S.AsStr.text c.args.words.now in
     let found = c.in-Some-subcommand_matches-5 in
     let rows = rows_of (found_of found.matches.now) in
     let met = (subst (λ (a : App). HasMatchesOf a words c.in-Ok.matches) c.in_ok-command_line.ensures c.in-Ok.ensures.matches) refl in
-    let entered : GivesServe words rows = sym met.1 ∙ both_of _ _ _ _ _ (found.ensures.found.0 refl) found.ensures.rows in
-    let p = err_from_is_err_and c.from_residual-in_err-read_serve.result c.from_residual-in_err-read_serve.ensures.1 in
-    rw (p.1, p.2) (badly words c.in_err-read_serve.field-0.0 (inr (inr (inr (inr (inr (inl (rows, entered, c.in_err-read_serve.ensures.fault_is_true))))))))
+    let entered : GivesDump words rows = sym met.1 ∙ both_of _ _ _ _ _ (found.ensures.found.0 refl) found.ensures.rows in
+    let p = err_from_is_err_and c.from_residual-in_err-read_dump.result c.from_residual-in_err-read_dump.ensures.1 in
+    rw (p.1, p.2) (badly words c.in_err-read_dump.field-0.0 (inr (inr (inr (inr (inr (inl (rows, entered, c.in_err-read_dump.ensures.fault_is_true))))))))
 
-pub returns-in_err-read_explain-in-Some-subcommand_matches-6-clause-fault_is_true : goal.returns-in_err-read_explain-in-Some-subcommand_matches-6-clause-fault_is_true
-returns-in_err-read_explain-in-Some-subcommand_matches-6-clause-fault_is_true g c =
+pub returns-in_err-read_serve-clause-fault_is_true : goal.returns-in_err-read_serve-clause-fault_is_true
+returns-in_err-read_serve-clause-fault_is_true g c =
     let words = map g.S.AsStr.text c.args.words.now in
     let found = c.in-Some-subcommand_matches-6 in
     let rows = rows_of (found_of found.matches.now) in
     let met = (subst (λ (a : App). HasMatchesOf a words c.in-Ok.matches) c.in_ok-command_line.ensures c.in-Ok.ensures.matches) refl in
+    let entered : GivesServe words rows = sym met.1 ∙ both_of _ _ _ _ _ (found.ensures.found.0 refl) found.ensures.rows in
+    let p = err_from_is_err_and c.from_residual-in_err-read_serve.result c.from_residual-in_err-read_serve.ensures.1 in
+    rw (p.1, p.2) (badly words c.in_err-read_serve.field-0.0 (inr (inr (inr (inr (inr (inr (inl (rows, entered, c.in_err-read_serve.ensures.fault_is_true)))))))))
+
+pub returns-in_err-read_explain-in-Some-subcommand_matches-7-clause-fault_is_true : goal.returns-in_err-read_explain-in-Some-subcommand_matches-7-clause-fault_is_true
+returns-in_err-read_explain-in-Some-subcommand_matches-7-clause-fault_is_true g c =
+    let words = map g.S.AsStr.text c.args.words.now in
+    let found = c.in-Some-subcommand_matches-7 in
+    let rows = rows_of (found_of found.matches.now) in
+    let met = (subst (λ (a : App). HasMatchesOf a words c.in-Ok.matches) c.in_ok-command_line.ensures c.in-Ok.ensures.matches) refl in
     let entered : GivesExplain words rows = sym met.1 ∙ both_of _ _ _ _ _ (found.ensures.found.0 refl) found.ensures.rows in
-    let bad = c.in_err-read_explain-in-Some-subcommand_matches-6 in
-    let from = c.from_residual-in_err-read_explain-in-Some-subcommand_matches-6 in
+    let bad = c.in_err-read_explain-in-Some-subcommand_matches-7 in
+    let from = c.from_residual-in_err-read_explain-in-Some-subcommand_matches-7 in
     let p = err_from_is_err_and from.result from.ensures.1 in
-    rw (p.1, p.2) (badly words bad.field-0.0 (inr (inr (inr (inr (inr (inr (rows, entered, bad.ensures.fault_is_true))))))))
+    rw (p.1, p.2) (badly words bad.field-0.0 (inr (inr (inr (inr (inr (inr (inr (rows, entered, bad.ensures.fault_is_true)))))))))
 
 pub returns-clause-fault_is_true : goal.returns-clause-fault_is_true
 returns-clause-fault_is_true g c =
@@ -217,5 +240,6 @@ returns-clause-fault_is_true g c =
       λ e. none_here _ _ _ _ _ c.in_default-subcommand_matches-3.ensures.found.1 (met.1 ∙ e),
       λ e. none_here _ _ _ _ _ c.in_default-subcommand_matches-4.ensures.found.1 (met.1 ∙ e),
       λ e. none_here _ _ _ _ _ c.in_default-subcommand_matches-5.ensures.found.1 (met.1 ∙ e),
+      λ e. none_here _ _ _ _ _ c.in_default-subcommand_matches-6.ensures.found.1 (met.1 ∙ e),
       λ e. none_here _ _ _ _ _ c.in-None.ensures.found.1 (met.1 ∙ e),
     ))
