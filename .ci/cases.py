@@ -22,6 +22,10 @@ of other names. A line behind the word `no` is not printed. `bytes` and hexadeci
 of that kind, is a root and the text of a value; then `->`, the exit status and what `encode` prints, on the output where the status is 0,
 else on the errors; `\\n` in it is a line feed.
 
+`cases/migrate/*.txt`: a block of lines of hexadecimal digits behind a line `table` is a table. A line behind the word `of` has the sources
+of the table that `migrate` writes of it, as in a line of `cases/compile`; a block behind a line `to` has the bytes of that table. A line behind
+`->` has the exit status and what is printed, on the output where the status is 0, else on the errors, and ends the case.
+
 `cases/command/*.txt`: a line `file NAME` has the bytes of a file behind it, and a line `text NAME` its text, in which `^` is a line
 feed; `copy NAME PATH` takes a file of the repository, and `input` has the bytes of the standard input. They hold for the lines below.
 Each other line has the words of a command line, then `->`, the exit status and what is printed, on the output where the status is 0,
@@ -266,6 +270,50 @@ class EncodeCase(CommandCase):
         return compiled.what_fails(program, folder) or super().what_fails(program, folder)
 
 
+class MigrateCase(CommandCase):
+    """A table that is migrated, to the table of sources or to these bytes, where there are any."""
+
+    def __init__(self, where, table, sources, new, status, wanted):
+        super().__init__(where, ["migrate", "--out", "out.fct", "t.fct"], {"t.fct": table, **sources}, b"", status, wanted)
+        self.sources, self.new = sources, new
+
+    def what_fails(self, program, folder):
+        """Runs the case in a folder, and returns what is wrong with it, or nothing."""
+        said = super().what_fails(program, folder)
+        found, wanted = read_in(folder, "out.fct"), self.new
+        if self.sources:
+            compiled = CommandCase(self.where, ["compile", "--out", "wanted.fct", *self.sources], {}, b"", 0, None)
+            said, wanted = said or compiled.what_fails(program, folder), read_in(folder, "wanted.fct")
+        if said or (found is None) == (self.status == 0):
+            return said or ("a table is written" if self.status else "no table is written")
+        return f"{found.hex()} is written, not {wanted.hex()}" if wanted and found != wanted else ""
+
+
+def read_in(folder, name):
+    """Returns the bytes of a file, or None where there is none."""
+    try:
+        with open(f"{folder}/{name}", "rb") as it:
+            return it.read()
+    except OSError:
+        return None
+
+
+def migrate_cases(name, text):
+    blocks, sources, block = {}, {}, ""
+    for number, line in remarks_left_out(text):
+        if line in ("table", "to"):
+            blocks, block = ({} if line == "table" else blocks), line
+            blocks[block] = b""
+        elif line.startswith("of "):
+            sources = sources_of(repeated(line[3:]), {})
+        elif line.startswith("-> "):
+            status, _, printed = line[3:].partition(" ")
+            yield MigrateCase(f"{name}:{number}", blocks["table"], sources, blocks.get("to"), int(status), f"{printed}\n")
+            sources = {}
+        else:
+            blocks[block] += bytes_of(line.split())
+
+
 def encode_cases(name, text):
     sources = ""
     for number, line in remarks_left_out(text):
@@ -288,7 +336,14 @@ def read_by(word, data):
         return it.read()
 
 
-READERS = {"compile": compile_cases, "decode": decode_cases, "encode": encode_cases, "table": table_cases, "command": command_cases}
+READERS = {
+    "compile": compile_cases,
+    "migrate": migrate_cases,
+    "decode": decode_cases,
+    "encode": encode_cases,
+    "table": table_cases,
+    "command": command_cases,
+}
 
 
 def files_of(root):

@@ -46,6 +46,12 @@ type I = struct { i int32; next box<I>; };
 type T = resource table { 1: a uint8; 2: s string; 4: v vector<I>; 5: h zx.Handle; 7: u U; };
 type U = flexible union { 1: n uint32; 2: s string; 3: t vector<uint8>; 9: i I; };
 """
+# A table of version 1: a strict enum of uint32 with the values 1, 2 and 4.
+VERSION_1 = bytes.fromhex(
+    "4643543201000000010000000000000003000000010000000000000000000000060000000000000"
+    "00b02040004000000000000000300000000000000000000000800000000000000000000000300000"
+    "0010000000000000002000000000000000400000000000000030000000300000000000000652f45652f45"
+)
 ZX = b"""library zx;
 type ObjType = enum : uint32 { VMO = 3; CHANNEL = 4; };
 resource_definition Handle : uint32 { properties { subtype ObjType; rights uint32; }; };
@@ -200,7 +206,7 @@ class Fuzzer:
         self.zx, self.kinds = self.file("zx.fidl", ZX), self.file("f.fidl", KINDS)
         self.table = f"{folder}/f.fct"
         self.must("compile", "--out", self.table, self.zx, self.kinds)
-        self.tables = [open(it, "rb").read() for it in (f"{root}/examples/point.fct", self.table)]
+        self.tables = [*(open(it, "rb").read() for it in (f"{root}/examples/point.fct", self.table)), VERSION_1]
         self.messages = {it: self.must("encode", self.table, it, text.decode()) for it, text in TEXTS.items()}
         self.calls, self.script = f"{folder}/p.fct", self.file("p.script", SCRIPT)
         self.must("compile", "--out", self.calls, self.zx, self.file("p.fidl", CALLS))
@@ -238,9 +244,14 @@ class Fuzzer:
         answer, wrong = self.ask(OTHER_LINE, "table", "--roots", table)
         if wrong and answer.status == 0 and not answer.out and not answer.errors:
             return None  # It has no roots.
+        new = f"{self.folder}/{number}.new.fct"
+        written = self.ask(OTHER_LINE, "migrate", "--out", new, table)
+        wrong = wrong or written[1] or (written[0].status != answer.status and f"{table}: only one of table and migrate refuses it")
         for root in answer.out.decode().split()[:2] if not wrong and answer.status == 0 else []:
-            for message in ("", "00" * 8, dice.choice([*self.messages.values()]).decode().split("\n")[0]):
-                wrong = wrong or self.ask(OTHER_LINE, "decode", table, root, message)[1]
+            for message in ("", "00" * 8, "04" + "00" * 7, dice.choice([*self.messages.values()]).decode().split("\n")[0]):
+                (one, wrong), (other, _) = (self.ask(OTHER_LINE, "decode", it, root, message) for it in (table, new))
+                if wrong or (one.out, one.errors) != (other.out, other.errors):
+                    return wrong or f"{table}: {root} {message}: its version 2 answers {other.out} {other.errors}"
         return wrong
 
     def given(self, printed):

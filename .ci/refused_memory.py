@@ -5,7 +5,8 @@
 
 Each command runs over the examples once for each allocation that it makes, with that one refused (.ci/refuse.c). It then has to end with
 status 4, the line of memory on standard error and nothing on standard output, or to answer as it does with ample memory; where it only
-leaves a suggestion out, that is the same answer. A `compile` that ends with status 4 writes no OUT, and leaves an old OUT as it was.
+leaves a suggestion out, that is the same answer. A `compile` or a `migrate` that ends with status 4 writes no OUT, and leaves an old OUT
+as it was.
 
 The program `fidl_refused_memory`, built beside, makes each call of the library once and prints what it answered. It too runs once for
 each of its allocations: the call that it is refused to has to answer Memory, and all calls are then done.
@@ -34,6 +35,8 @@ CALLS = "fidl_refused_memory"
 COMMANDS = [
     ["compile", "--out", "OUT", *STORE],
     ["compile", "--snippet", "--out", "OUT", STORE[1]],
+    ["migrate", "--out", "OUT", "TABLE"],
+    ["migrate", "--out", "OUT", "examples/point.fct"],
     ["table", "TABLE"],
     ["table", "--roots", "TABLE"],
     ["table", "--protocols", "TABLE"],

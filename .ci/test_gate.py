@@ -314,6 +314,20 @@ echo made > out.fct; echo entries $#, roots 0, protocols 0, methods 0, bytes 40"
         for program in ("exit 1", f"{self.LISTS}; echo x >&2"):
             self.assertEqual(self.run_with_cases({"table/a.txt": "of a\na\n"}, program)[0], 1, program)
 
+    # A stand-in for the program: it migrates the table `ok` to `new`, and compiles a source to itself.
+    MIGRATES = """case $1 in compile) cp $4 $3;; migrate) grep -q ok t.fct || { echo "table 1 No at 0" >&2; exit 1; }; printf new > out.fct; echo done;; esac"""
+
+    def test_cases_of_migrated_tables(self):
+        text = "table\n  6f6b\nof new\n-> 0 done\ntable\n  6f 6b\nto\n  6e65\n  77\n-> 0 done\ntable\n  00\n-> 1 table 1 No at 0\n"
+        status, lines = self.run_with_cases({"migrate/a.txt": text}, self.MIGRATES)
+        self.assertEqual((status, lines[0]), (0, "gate: cases/migrate/a.txt: 3 cases by 1 builds of the program, 0 failed"))
+        for right, wrong in (("of new", "of old"), ("  77", "  78"), ("0 done", "0 other"), ("table\n  00", "table\n  6f6b")):
+            status, _ = self.run_with_cases({"migrate/a.txt": text.replace(right, wrong, 1)}, self.MIGRATES)
+            self.assertEqual(status, 1, wrong)
+        for refuses in ("printf x > out.fct; exit 1", "exit 2"):
+            program = f'echo "table 1 No at 0" >&2; {refuses}'
+            self.assertEqual(self.run_with_cases({"migrate/a.txt": "table\n  00\n-> 1 table 1 No at 0\n"}, program)[0], 1, refuses)
+
     def test_cases_without_a_program_fail_it(self):
         self.write("cases/compile/a.txt", "accepted && a\n")
         status, lines = self.run_with(None, 'case $1 in ci) echo "9 passed, 0 failed";; esac')

@@ -242,7 +242,7 @@ fn wrong_command_lines(rt: HostRuntime) -> Result<(), Fail> {
         dash,
     )?;
     let none = "error: 'fidl' requires a subcommand but one was not provided [subcommands: \
-        compile, decode, encode, table, dump, serve, explain, help]\n";
+        compile, migrate, decode, encode, table, dump, serve, explain, help]\n";
     expect(alloc, &["out/fidl"], 2, "", none)?;
     expect(alloc, &[], 2, "", none)
 }
@@ -254,6 +254,7 @@ fn help_and_version(rt: HostRuntime) -> Result<(), Fail> {
     let help = "Compiles FIDL libraries to coding tables, and reads and writes messages by them\n\n\
         Usage: fidl <COMMAND>\n\nCommands:\n  \
         compile  Writes the coding table of libraries, from their sources\n  \
+        migrate  Writes the version 2 of a coding table\n  \
         decode   Prints the text of the value that a message encodes\n  \
         encode   Prints the message that encodes the value of a text\n  \
         table    Prints the records of a coding table\n  \

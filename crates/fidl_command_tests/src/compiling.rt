@@ -1,4 +1,5 @@
-//! Tests of `run`: command lines of `compile`, with what they write.
+//! Tests of `run`: command lines of `compile` and `migrate`, with what they write.
+use crate::tables::{RANGES, VALUES};
 use fidl_streams::Counted;
 use fidl_tool::{Files, Output, run};
 use std::alloc::{AllocError, Global};
@@ -53,7 +54,7 @@ const POINT: &[u8] = b"library point; type Point = struct {x uint32; y uint32;};
 
 const BAD: &[u8] = b"library point;\ntype Point = struct {x Int;};";
 
-/// A disk with two sources.
+/// A disk with sources, and with a table of version 1 and one whose ranges touch.
 fn disk(alloc: Global) -> Result<Store, Fail> {
     let mut files = Vec::new(alloc);
     files.push(Stored {
@@ -67,6 +68,16 @@ fn disk(alloc: Global) -> Result<Store, Fail> {
     files.push(Stored {
         name: "bad.fidl",
         bytes: Vec::from_slice(alloc, BAD)?,
+    })?;
+    files.push(Stored {
+        name: "old.fct",
+        bytes: Vec::from_slice(alloc, &VALUES)?,
+    })?;
+    let mut touching = RANGES;
+    touching[96] = 3;
+    files.push(Stored {
+        name: "touching.fct",
+        bytes: Vec::from_slice(alloc, &touching)?,
     })?;
     Ok(Store {
         alloc,
@@ -219,4 +230,33 @@ fn the_table_stands_where_its_line_is_not_printed(rt: HostRuntime) -> Result<(),
     };
     assert_eq!(rt; length, 188);
     Ok(())
+}
+
+#[test]
+fn a_table_is_migrated(rt: HostRuntime) -> Result<(), Fail> {
+    let alloc = rt.alloc();
+    let words = ["fidl", "migrate", "--out", "new.fct", "old.fct"];
+    let ran = ran(alloc, disk(alloc)?, &words);
+    assert_eq!(rt; ran.status, 0);
+    let line = b"entries 1, roots 1, protocols 0, methods 0, bytes 130\n";
+    assert_eq!(rt; ran.out.as_slice(), line.as_slice());
+    assert_eq!(rt; ran.errors.as_slice(), b"".as_slice());
+    let Some(new) = &ran.disk.written else {
+        return Err(Fail::from("nothing is written"));
+    };
+    assert_eq!(rt; new.as_slice(), RANGES.as_slice());
+    Ok(())
+}
+
+#[test]
+fn tables_that_are_not_migrated(rt: HostRuntime) -> Result<(), Fail> {
+    let alloc = rt.alloc();
+    let words = ["fidl", "migrate", "--out", "o", "touching.fct"];
+    refused(&rt, alloc, &words, 1, "table 10 NotSorted at 0\n")?;
+    let same = "error: --out: a file that is not the table is wanted\n";
+    let words = ["fidl", "migrate", "--out", "./old.fct", "old.fct"];
+    refused(&rt, alloc, &words, 2, same)?;
+    let none = "error: \"none\": entity not found\n";
+    let words = ["fidl", "migrate", "--out", "o", "none"];
+    refused(&rt, alloc, &words, 3, none)
 }

@@ -3,6 +3,8 @@
 --   Decoding       what the command `decode` answers
 --   Encoding       what the command `encode` answers
 --   Listing        what the command `table` answers
+--   Migrating      what the command `migrate` answers
+--   Summary        the line that says what a table holds
 --   Explaining     what the command `explain` answers
 --   Contents       what a file or the standard input holds that an argument names
 --   Naming         the names of a table's roots and protocols
@@ -21,3 +23,5 @@ pub mod Encoding
 pub mod Listing
 pub mod Explaining
 pub mod Running
+pub mod Summary
+pub mod Migrating

@@ -1,10 +1,12 @@
 //! Worked facts: lines and statuses, computed by the definitions.
 ghost use Rattle.std.specs.Prelude.{◌≡◌, [], ◌∷◌, codes};
+ghost use Rattle.fidl_table_format.specs.declared.record.Header.{Header};
 ghost use Rattle.fidl_reading.specs.declared.fault.NotationFault.TheVariants as text_fault;
 ghost use Rattle.fidl_encode.specs.declared.fault.EncodeFault.TheVariants as value_fault;
 ghost use Rattle.fidl_verify.specs.declared.fault.TableFault.TheVariants as fault;
 ghost use Rattle.fidl_commands.specs.Decoding.{table_line};
 ghost use Rattle.fidl_commands.specs.Encoding.{message_text, text_line, value_line};
+ghost use Rattle.fidl_commands.specs.Summary.{summary_text};
 ghost use Rattle.fidl_commands.specs.Status.{status_of, number_of};
 ghost use Rattle.fidl_commands.specs.declared.outcome.Outcome.TheVariants as outcome;
 ghost use Rattle.fidl_commands.specs.declared.outcome.Status.TheVariants as status;
@@ -26,6 +28,12 @@ pub fn the_lines_of_a_message()
     ensures bytes { message_text (10 ∷ 255 ∷ []) [] ≡ codes "0aff\n" }
     ensures handles { message_text (10 ∷ []) (record { id = 7; object_type = 1; rights = 3 } ∷ [])
         ≡ codes "0a\nhandle 7:1:3\n" }
+{}
+
+/// The line of what a table holds: entries, roots, protocols and methods, and its bytes.
+pub fn the_line_of_a_table()
+    ensures { (h : Header) → h.entries ≡ 1 → h.roots ≡ 2 → h.protocols ≡ 3 → h.methods ≡ 4
+        → summary_text h 5 ≡ codes "entries 1, roots 2, protocols 3, methods 4, bytes 5\n" }
 {}
 
 /// The status of each outcome, and the number of each status.

@@ -1,20 +1,18 @@
 -- What the command `compile` answers (docs/program.md, "compile").
-use Rattle.std.specs.Prelude.{ℕ, ◌≡◌, ⊤, List, [], ◌∷◌, ◌++◌, Option, Some, None, IfSome, map, length, slice_get, codes}
+use Rattle.std.specs.Prelude.{ℕ, ◌≡◌, ⊤, List, [], ◌∷◌, ◌++◌, Option, Some, None, IfSome, map, slice_get, codes}
 use Rattle.std.specs.Prelude.{Bool, not, ◌&&◌, ◌==◌, nat_le, if◌then◌else◌, flat_map, decimal}
 use Rattle.std.specs.List.{list_all}
 use Rattle.fidl_wire.specs.Text.{quoted_byte}
 use Rattle.std.specs.Option.{option_map_or}
 use Rattle.fidl_span.specs.Lines.{line_of, column_of}
 use Rattle.fidl_named.specs.declared.place.Place.{Place}
-use Rattle.fidl_table_format.specs.declared.record.Header.{Header}
-use Rattle.fidl_table_format.specs.Section.{header_of}
 use Rattle.fidl_compile.specs.declared.fault.CompileFault.{CompileFault}
 use Rattle.fidl_compile.specs.Stages.{AreRefused}
 use Rattle.fidl_compile.specs.Reports.{Report, report_of}
 use Rattle.fidl_tool.specs.declared.compiling.LinePlace.{LinePlace}
 use Rattle.fidl_commands.specs.declared.files.File.{File}
 use Rattle.fidl_commands.specs.declared.outcome.Outcome.{Outcome}
-use Rattle.fidl_commands.specs.declared.outcome.Outcome.TheVariants.{Done, Refused, Unwritten}
+use Rattle.fidl_commands.specs.declared.outcome.Outcome.TheVariants.{Refused, Unwritten}
 use Rattle.fidl_commands.specs.declared.outcome.Outcome.TheVariants.{NoMemory}
 use Rattle.fidl_text.specs.Words.{words_line}
 use Rattle.fidl_expected.specs.declared.wanted.Wanted.{Wanted}
@@ -110,27 +108,9 @@ pub data IsSourceRefusal (snippet : Bool) (files : List Named) : List ℕ → Ty
       → IsShown snippet files report shown → IsSourceRefusal snippet files
       (report_line (located_at files report.place) report ++ shown)
 
--- the line that says what a table holds: how many records of each kind, and how many bytes
-abbrev pub summary_text : Header → (size : ℕ) → List ℕ
-summary_text h size =
-    words_line (codes "entries")
-    ((decimal h.entries ++ codes ",") ∷ codes "roots" ∷ (decimal h.roots ++ codes ",")
-    ∷ codes "protocols" ∷ (decimal h.protocols ++ codes ",")
-    ∷ codes "methods" ∷ (decimal h.methods ++ codes ",")
-    ∷ codes "bytes" ∷ decimal size ∷ [])
-
-abbrev pub summary_line : (table : List ℕ) → List ℕ
-summary_line table = summary_text (header_of table) (length table)
-
 -- what can happen to `compile` where it gives no table
 abbrev pub CanEndCompile : Outcome → Type 0
 CanEndCompile Refused = ⊤
 CanEndCompile Unwritten = ⊤
 CanEndCompile NoMemory = ⊤
 CanEndCompile _ = ⊥
-
--- what can happen where a line is printed
-abbrev pub CanEndPrinting : Outcome → Type 0
-CanEndPrinting Done = ⊤
-CanEndPrinting Unwritten = ⊤
-CanEndPrinting _ = ⊥

@@ -16,14 +16,16 @@ use Rattle.fidl_stream_commands.specs.DumpRunning.{OfDumped, IsDumpedBy, IsDumpe
 use Rattle.fidl_stream_commands.specs.DumpRunning.{IsDumpRefusalBy, LacksDumped, LacksProtocolIn}
 use Rattle.fidl_table_format.specs.WellFormed.{WellFormed}
 use Rattle.fidl_compile.specs.Sources.{IsTableOf}
-use Rattle.fidl_tool.specs.Compiling.{Named, texts_of, summary_line, IsSourceRefusal}
+use Rattle.fidl_tool.specs.Compiling.{Named, texts_of, IsSourceRefusal}
+use Rattle.fidl_commands.specs.Summary.{summary_line}
+use Rattle.fidl_commands.specs.Migrating.{IsMigratedTo, IsMigratedInPart, LacksTableOrOut}
 use Rattle.fidl_commands.specs.Files.{IsWritten, NamesFile, IsMissing, HasMissing}
 use Rattle.fidl_commands.specs.Outputs.{AppendsOne}
 use Rattle.fidl_commands.specs.Reasons.{outcome_of}
 use Rattle.fidl_commands.specs.Running.{IsMessageText, IsMessageRefusal, Known, OfTable, PrintsFront, IsExplained, PrintsExplainedFront, LacksTableOrMessage, LacksTableOrText, LacksRootIn, LacksFault}
 use Rattle.fidl_command_line.specs.declared.arguments.Arguments.{Arguments}
 use Rattle.fidl_command_line.specs.declared.arguments.Arguments.TheVariants.{Compile, Decode, Encode, Table, Explain}
-use Rattle.fidl_command_line.specs.declared.arguments.Arguments.TheVariants.{Dump, Serve}
+use Rattle.fidl_command_line.specs.declared.arguments.Arguments.TheVariants.{Dump, Serve, Migrate}
 use Rattle.fidl_command_line.specs.declared.arguments.CompileArguments.{CompileArguments}
 use Rattle.fidl_commands.specs.declared.outcome.Outcome.{Outcome}
 use Rattle.fidl_commands.specs.declared.outcome.Outcome.TheVariants.{Asked, WrongLine, NoRoot, Done}
@@ -85,6 +87,8 @@ abbrev pub IsDone : Known → Arguments → (old new : Option (List ℕ))
     → (before after : Option (List Named)) → Type 0
 IsDone known (Compile given) old new before after = OfSources known.bytes_of (sources_of given)
     (λ files. AreCompiled given files old new before after)
+IsDone known (Migrate given) old new before after = OfTable known.bytes_of given.table.now
+    (λ table. IsMigratedTo given.out.now table old new before after)
 IsDone known (Decode given) old new before after = OfTable known.bytes_of given.table.now
     (λ table. OfMessage known.bytes_of known.input given.message
     (λ bytes. AppendsOne (IsMessageText given table bytes) old new))
@@ -105,6 +109,8 @@ abbrev pub IsDoneInPart : Known → Arguments → (old new : Option (List ℕ))
 IsDoneInPart known (Compile given) old new before after =
     OfSources known.bytes_of (sources_of given)
     (λ files. ArePrintedInPart given files old new before after)
+IsDoneInPart known (Migrate given) old new before after = OfTable known.bytes_of given.table.now
+    (λ table. IsMigratedInPart given.out.now table old new before after)
 IsDoneInPart known (Decode given) old new before after = OfTable known.bytes_of given.table.now
     (λ table. OfMessage known.bytes_of known.input given.message
     (λ bytes. PrintsFront (IsMessageText given table bytes) old new))
@@ -125,6 +131,8 @@ abbrev pub IsRefused : Known → Arguments → (old_out new_out old new : Option
 IsRefused known (Compile given) old_out new_out old new =
     OfSources known.bytes_of (sources_of given)
     (λ files. AppendsOne (IsSourceRefusal given.snippet files) old new)
+IsRefused known (Migrate given) old_out new_out old new = OfTable known.bytes_of given.table.now
+    (λ table. AppendsOne (IsTableRefusal table) old new)
 IsRefused known (Decode given) old_out new_out old new = OfTable known.bytes_of given.table.now
     (λ table. OfMessage known.bytes_of known.input given.message
     (λ bytes. AppendsOne (IsMessageRefusal given table bytes) old new))
@@ -175,6 +183,8 @@ abbrev pub LacksGivenFile : Known → (can_write : List ℕ → Bool) → Argume
     → (old new : Option (List ℕ)) → Type 0
 LacksGivenFile known can_write (Compile given) old new =
     LacksSourceOrOut known.bytes_of can_write given old new
+LacksGivenFile known can_write (Migrate given) old new =
+    LacksTableOrOut known.bytes_of can_write given old new
 LacksGivenFile known can_write (Decode given) old new = LacksTableOrMessage known given old new
 LacksGivenFile known can_write (Encode given) old new = LacksTableOrText known given old new
 LacksGivenFile known can_write (Table given) old new =

@@ -11,19 +11,16 @@ ghost use Rattle.fidl_tool.specs.Compiling.{named_of, texts_of, name_at, text_at
 ghost use Rattle.fidl_tool.specs.Compiling.{located, located_at, is_plain_byte, shown_name};
 ghost use Rattle.fidl_tool.specs.Compiling.{note_text, IsWanted, IsShown};
 ghost use Rattle.std.specs.Prelude.{string_bytes};
-ghost use Rattle.fidl_tool.specs.Compiling.{summary_line, IsSourceRefusal, CanEndCompile};
-ghost use Rattle.fidl_tool.specs.Compiling.{CanEndPrinting};
+ghost use Rattle.fidl_tool.specs.Compiling.{IsSourceRefusal, CanEndCompile};
 ghost use Rattle.fidl_commands.specs.Decoding.{no_memory_line};
-ghost use Rattle.fidl_text.specs.Outputs.{AppendsFront, Writes};
-ghost use Rattle.fidl_commands.specs.Outputs.{AppendsOne, ReportsFailures};
+ghost use Rattle.fidl_commands.specs.Outputs.{AppendsOne};
 ghost use Rattle.fidl_commands.specs.declared.outcome.Outcome.TheVariants as outcome;
 
-use fidl_commands::{File, Outcome, write_no_memory, write_no_output};
+use fidl_commands::{File, Outcome, write_no_memory};
 use fidl_compile::{CompileFault, Refusal};
 use fidl_expected::{Wanted, expected};
 use fidl_named::Place;
 use fidl_span::line_col;
-use fidl_table_format::read_header;
 use fidl_text::{Failed, Output, Word, write_decimal, write_quoted, write_words};
 use std::alloc::{AllocError, Global};
 use std::io::Write;
@@ -212,30 +209,6 @@ fn refuse<E: Write>(
     }
 }
 
-/// Writes the line that says what a table holds.
-fn write_summary<W: Write>(table: &[u8], out: &mut Output<W>) -> Result<(), Failed>
-    requires { WellFormed table.now }
-    ensures text { Writes (W.contents out.old.writer) (W.contents out.new.writer)
-        (summary_line table.now) result }
-    ensures kept { OnOk result (out.new.failure ≡ out.old.failure) }
-    ensures failed { OnErr result (IsSome out.new.failure) }
-{
-    let header = read_header(table);
-    let words = [
-        Word::Counted(header.entries as u64),
-        Word::Text("roots"),
-        Word::Counted(header.roots as u64),
-        Word::Text("protocols"),
-        Word::Counted(header.protocols as u64),
-        Word::Text("methods"),
-        Word::Counted(header.methods as u64),
-        Word::Text("bytes"),
-        Word::Number(table.len() as u64),
-    ];
-    write_words("entries", &words, out)?;
-    out.flush()
-}
-
 /// Compiles the sources of libraries, and gives the bytes of their table.
 ///
 /// `Refused` where a stage refuses the sources, with one line on `errors`: the file, line and
@@ -266,30 +239,5 @@ pub fn compile<E: Write>(
     match fidl_compile::compile(alloc, &sources) {
         Ok(table) => Ok(table),
         Err(fault) => Err(refuse(alloc, files, &fault, snippet, errors)),
-    }
-}
-
-/// Prints what a table holds, in one line.
-///
-/// `Unwritten` where a write of this call fails.
-pub fn summarize<W: Write, E: Write>(
-    table: &[u8],
-    out: &mut Output<W>,
-    errors: &mut Output<E>,
-) -> Outcome
-    requires { WellFormed table.now }
-    ensures ends { CanEndPrinting result }
-    ensures done { result ≡ outcome.Done → Appends (W.contents out.old.writer)
-        (W.contents out.new.writer) (summary_line table.now) }
-    ensures unwritten { ReportsFailures result out.old.failure out.new.failure
-        errors.old.failure errors.new.failure }
-    ensures front { result ≡ outcome.Unwritten → AppendsFront (W.contents out.old.writer)
-        (W.contents out.new.writer) (summary_line table.now) }
-    ensures errors { result ≡ outcome.Done
-        → E.contents errors.new.writer ≡ E.contents errors.old.writer }
-{
-    match write_summary(table, out) {
-        Ok(()) => Outcome::Done,
-        Err(Failed) => Outcome::Unwritten.where_written(&write_no_output(errors, out)),
     }
 }

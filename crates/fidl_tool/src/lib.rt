@@ -11,12 +11,13 @@ mod program;
 mod sources;
 pub mod worked;
 
-pub use crate::compiling::{compile, summarize};
+pub use crate::compiling::compile;
 pub use crate::host::{Ran, run_on_host};
 pub use crate::program::run;
 pub use fidl_command_line::{Listing, read_handle};
 pub use fidl_commands::{
-    File, Files, Outcome, Status, TypedMessage, TypedText, decode, encode, explain, table,
+    File, Files, Outcome, Status, TypedMessage, TypedText, decode, encode, explain, summarize,
+    table,
 };
 pub use fidl_hints::{Explanation, Faults};
 pub use fidl_text::{Failed, Output};

@@ -14,7 +14,9 @@ ghost use Rattle.fidl_commands.specs.declared.outcome.Outcome.TheVariants as out
 
 use crate::sources::run_compile;
 use fidl_command_line::{Arguments, read_arguments};
-use fidl_commands::{Files, Outcome, run_decode, run_encode, run_explain, run_table, tell};
+use fidl_commands::{
+    Files, Outcome, run_decode, run_encode, run_explain, run_migrate, run_table, tell,
+};
 use fidl_stream_commands::{run_dump, run_serve};
 use fidl_text::Output;
 use std::alloc::Global;
@@ -77,6 +79,7 @@ fn run_arguments<F: Files, W: Write, E: Write>(
 {
     match arguments {
         Arguments::Compile(arguments) => run_compile(alloc, arguments, files, out, errors),
+        Arguments::Migrate(arguments) => run_migrate(alloc, arguments, files, out, errors),
         Arguments::Decode(arguments) => run_decode(alloc, arguments, &*files, out, errors),
         Arguments::Encode(arguments) => run_encode(alloc, arguments, &*files, out, errors),
         Arguments::Table(arguments) => run_table(alloc, arguments, &*files, out, errors),

@@ -12,9 +12,9 @@ ghost use Rattle.fidl_tool.specs.Running.{ArePrintedInPart, CanEndCompileRun};
 ghost use Rattle.fidl_commands.specs.Contents.{CanEndReading};
 ghost use Rattle.fidl_commands.specs.declared.outcome.Outcome.TheVariants as outcome;
 
-use crate::compiling::{compile, summarize};
+use crate::compiling::compile;
 use fidl_command_line::CompileArguments;
-use fidl_commands::{File, Files, Outcome, file_bytes, tell_no_file, write_no_memory};
+use fidl_commands::{File, Files, Outcome, file_bytes, summarize, tell_no_file, write_no_memory};
 use fidl_text::Output;
 use std::alloc::{AllocError, Global};
 use std::io::Write;

@@ -1,8 +1,7 @@
 //! Worked facts: lines and names, computed by the definitions.
 ghost use Rattle.std.specs.Prelude.{◌≡◌, ℕ, [], ◌∷◌, codes};
 ghost use Rattle.fidl_named.specs.declared.place.Place.{Place};
-ghost use Rattle.fidl_table_format.specs.declared.record.Header.{Header};
-ghost use Rattle.fidl_tool.specs.Compiling.{report_line, summary_text, name_at};
+ghost use Rattle.fidl_tool.specs.Compiling.{report_line, name_at};
 
 /// The line of a refusal: file, line and column, then stage, number and name. A file's name with a
 /// control character stands between quotes.
@@ -15,12 +14,6 @@ pub fn the_line_of_a_refusal()
         (record { file = codes "t\n.fidl"; line = 2; column = 3 })
         (record { stage = codes "lex"; number = 1; name = codes "NotUtf8"; place = place })
         ≡ codes "\"t\\n.fidl\":2:3: lex 1 NotUtf8\n" }
-{}
-
-/// The line of what a table holds: entries, roots, protocols and methods, and its bytes.
-pub fn the_line_of_a_table()
-    ensures { (h : Header) → h.entries ≡ 1 → h.roots ≡ 2 → h.protocols ≡ 3 → h.methods ≡ 4
-        → summary_text h 5 ≡ codes "entries 1, roots 2, protocols 3, methods 4, bytes 5\n" }
 {}
 
 /// Files have their names by their numbers, from 0 on.

@@ -2,7 +2,8 @@ use Rattle.std.proofs.Common.{◌≡◌, List, ℕ, map, ap, subst, ◌∙◌, i
 use Rattle.std.specs.Prelude.{Err, Option}
 use Rattle.fidl_table_format.specs.WellFormed.{WellFormed}
 use Rattle.fidl_compile.specs.Sources.{IsTableOf}
-use Rattle.fidl_tool.specs.Compiling.{Named, named_of, texts_of, summary_line, IsSourceRefusal}
+use Rattle.fidl_tool.specs.Compiling.{Named, named_of, texts_of, IsSourceRefusal}
+use Rattle.fidl_commands.specs.Summary.{summary_line}
 use Rattle.fidl_commands.specs.Files.{IsWritten, NamesFile}
 use Rattle.fidl_commands.specs.Outputs.{AppendsOne}
 use Rattle.fidl_tool.specs.Running.{AreRead, IsCompiled, stored_as}

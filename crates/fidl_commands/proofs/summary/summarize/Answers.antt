@@ -1,8 +1,8 @@
 use Rattle.std.proofs.Common.{subst, sym, inl}
 use Rattle.fidl_commands.specs.declared.outcome.Outcome.TheVariants as outcome
-use Rattle.fidl_tool.specs.Compiling.{CanEndPrinting}
+use Rattle.fidl_commands.specs.Summary.{CanEndPrinting}
 use Rattle.fidl_commands.proofs.Told.{told_never, only_unwritten}
-use Rattle.fidl_tool.proofs.compiling.summarize.Goals as goal
+use Rattle.fidl_commands.proofs.summary.summarize.Goals as goal
 
 pub returns-in-Err-clause-ends : goal.returns-in-Err-clause-ends
 returns-in-Err-clause-ends g c = subst CanEndPrinting (sym (only_unwritten c.write_no_output.result c.where_written.result c.where_written.ensures)) tt

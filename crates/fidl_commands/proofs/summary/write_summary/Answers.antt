@@ -1,8 +1,8 @@
 use Rattle.std.proofs.Common.{ap, length}
 use Rattle.fidl_table_format.specs.declared.record.Header.{Header}
-use Rattle.fidl_tool.specs.Compiling.{summary_text, summary_line}
+use Rattle.fidl_commands.specs.Summary.{summary_text, summary_line}
 use Rattle.fidl_text.proofs.Written.{appends_kept, appends_as, writes_kept, front_as, failed_as}
-use Rattle.fidl_tool.proofs.compiling.write_summary.Goals as goal
+use Rattle.fidl_commands.proofs.summary.write_summary.Goals as goal
 
 pub returns-in_err-write_words-clause-text : goal.returns-in_err-write_words-clause-text
 returns-in_err-write_words-clause-text g c =

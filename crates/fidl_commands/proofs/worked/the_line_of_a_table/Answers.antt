@@ -2,8 +2,8 @@ use Rattle.std.proofs.Common.{◌≡◌, ◌∙◌, ℕ, List, ◌++◌, refl, a
 use Rattle.std.specs.Prelude.{codes, decimal}
 use Rattle.std.specs.Fmt.{digits}
 use Rattle.fidl_table_format.specs.declared.record.Header.{Header}
-use Rattle.fidl_tool.specs.Compiling.{summary_text}
-use Rattle.fidl_tool.proofs.worked.the_line_of_a_table.Goals as goal
+use Rattle.fidl_commands.specs.Summary.{summary_text}
+use Rattle.fidl_commands.proofs.worked.the_line_of_a_table.Goals as goal
 
 -- the line of four counts
 line : (entries roots protocols methods : ℕ) → List ℕ
