@@ -1,6 +1,7 @@
 -- What the command `migrate` answers (docs/program.md, "migrate").
 use Rattle.std.specs.Prelude.{◌≡◌, ◌⊎◌, ⊤, ℕ, List, Option, Bool, false}
 use Rattle.std.specs.Io.KnownBytes.{Appends}
+use Rattle.fidl_table_format.specs.Section.{header_of}
 use Rattle.fidl_table_format.specs.WellFormed.{WellFormed}
 use Rattle.fidl_migrate.specs.Migrated.{IsMigrated}
 use Rattle.fidl_text.specs.Outputs.{AppendsFront}
@@ -16,10 +17,11 @@ use Rattle.fidl_commands.specs.declared.outcome.Outcome.TheVariants.{Unwritten, 
 abbrev pub Written : Type 0
 Written = Option (List (List ℕ × List ℕ))
 
--- this is an accepted table, and that is its version 2
+-- this is an accepted table, and that is its version 2: itself, where it is of that version
 pub record IsVersion2Of (table bytes : List ℕ) : Type 0 where
   pub accepted : WellFormed table
   pub migrated : IsMigrated table bytes
+  pub same : (header_of table).version ≡ 2 → bytes ≡ table
 
 -- the version 2 of a table is written to the file of this name, and what it holds is printed
 pub record IsMigratedTo (name table : List ℕ) (old new : Option (List ℕ)) (before after : Written)

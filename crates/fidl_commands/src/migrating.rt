@@ -1,6 +1,7 @@
 //! The command `migrate`: from the table of a file to its version 2 in another.
 ghost use Rattle.std.specs.Prelude.{◌≡◌, ◌≢◌, ◌↔◌, ◌⊎◌, None, Err, IfOk, IfErr, OnOk, IsSome};
 ghost use Rattle.std.specs.Io.KnownBytes.{Appends};
+ghost use Rattle.fidl_table_format.specs.Section.{header_of};
 ghost use Rattle.fidl_table_format.specs.WellFormed.{WellFormed};
 ghost use Rattle.fidl_migrate.specs.Migrated.{IsMigrated};
 ghost use Rattle.fidl_commands.specs.Decoding.{no_memory_line};
@@ -33,6 +34,8 @@ fn migrated<E: Write>(
 ) -> Result<Vec<u8>, Outcome>
     ensures accepted { OnOk result (WellFormed bytes.now) }
     ensures migrated { IfOk result (λ new. IsMigrated bytes.now new.items) }
+    ensures same { (header_of bytes.now).version ≡ 2
+        → IfOk result (λ new. new.items ≡ bytes.now) }
     ensures kept { OnOk result (errors.new ≡ errors.old) }
     ensures ends { IfErr result CanEndMigrated }
     ensures refused { result ≡ Err outcome.Refused → AppendsOne (IsTableRefusal bytes.now)
@@ -42,10 +45,7 @@ fn migrated<E: Write>(
     ensures unwritten { IfErr result (λ ended. errors.old.failure ≡ None
         → (ended ≡ outcome.Unwritten ↔ IsSome errors.new.failure)) }
 {
-    let table = match verified(bytes, errors) {
-        Ok(table) => table,
-        Err(ended) => return Err(ended),
-    };
+    let table = verified(bytes, errors)?;
     match migrate(alloc, &table) {
         Ok(new) => Ok(new),
         Err(_) => Err(Outcome::NoMemory.where_written(&write_no_memory(errors))),
