@@ -26,7 +26,7 @@ use Rattle.fidl_decode_model.specs.State.{Message, Position, StandsAt, ValueAt}
 use Rattle.fidl_decode_model.specs.Envelopes.{Contained}
 use Rattle.fidl_decode_model.specs.Breaks.{Breaks, BreaksUnion, BreaksMember, ordinal_at}
 use Rattle.fidl_decode_model.specs.Breaks as broken
-use Rattle.fidl_decode_model.specs.Machine.{StateFine, Visits, VisitFine, Opens, FineIf, member_term, level, most_nest, inline_work, byte_work, probes, frame_work_if}
+use Rattle.fidl_decode_model.specs.Machine.{StateFine, Visits, VisitFine, Opens, PaysEnvelope, FineIf, member_term, level, most_nest, inline_work, byte_work, probes, frame_work_if}
 use Rattle.fidl_decode_model.proofs.Broken.{union_absent, absent_union, union_chosen, union_right}
 use Rattle.fidl_decode_model.proofs.Rows.{joined_stands, past_inline}
 use Rattle.fidl_decode_model.proofs.Scalars.{standing}
@@ -133,9 +133,8 @@ module _ (t : List ℕ) (fine : IsFine t) (m : Message) (held e place : ℕ) (fr
         (broken.in_union (is_optional d) (is_strict d) rows place from fault some (union_right ds m held (is_optional d) (is_strict d) rows place from some (λ strict none. clash (sym strict ∙ may none))) b)
 
     -- one whose member is in the envelope, which is opened
-    pub visits_union : (new : Position) (spent : ℕ) (found : Option Frame) → spent ≤ probes → place + 8 ≤ length m.bytes → ((i : ℕ) → get_or m.bytes i 0 < 256) → Opens t m held (find rows own_ordinal) (place + 8) from new found → Visits t m held e place from new spent found
-    visits_union new spent found few here small o =
-        let less = o.less in
+    pub visits_union : (new : Position) (own spent : ℕ) (found : Option Frame) → spent ≤ own + probes → PaysEnvelope m.bytes from.next new.next own found → place + 8 ≤ length m.bytes → ((i : ℕ) → get_or m.bytes i 0 < 256) → Opens t m held (find rows own_ordinal) (place + 8) from new found → Visits t m held e place from new spent found
+    visits_union new own spent found few pays here small o =
         record {
           same = λ to. (
             (λ x. (o.same to).0 (union_chosen ds m held (is_optional d) (is_strict d) rows place from to some (to_union to x)).contained),
@@ -143,7 +142,7 @@ module _ (t : List ℕ) (fine : IsFine t) (m : Message) (held e place : ℕ) (fr
           );
           breaks = λ fault b. member_breaks fault (o.breaks fault b);
           state = o.state;
-          less = subst (λ (f : Figure). byte_work * (length m.bytes - new.next) + frame_work_if found + spent ≤ byte_work * (length m.bytes - from.next) + inline_work f.nest * f.size + 1) (sym union_figure) (omega (arith, less, few));
+          less = subst (λ (f : Figure). byte_work * (length m.bytes - new.next) + frame_work_if found + spent ≤ byte_work * (length m.bytes - from.next) + inline_work f.nest * f.size + 1) (sym union_figure) (omega (arith, pays, few));
         }
 
   -- and its frame is fine

@@ -98,12 +98,13 @@ module _ (t : List ℕ) (fine : IsFine t) (m : Message) (within : IsWithin m.byt
         (over mid (below_frame m e d.size d.nest held p old) d.size (record { envelope = p; next = old.next + bytes_below m.bytes p; handle = old.handle + handles_below m.bytes p }) refl (omega arith) x v back (omega (arith, counted), omega (arith, none)))
 
   module _ (free : (k : EntryKind) × (kind_of (entry_at t e).kind ≡ Some k) × (is_free k (entry_at t e) ≡ true)) where
-    -- of one that stands in its envelope
-    pub inside_passed : d.size ≡ 4 → flags_at m.bytes p ≡ 1 → handles_below m.bytes p ≡ 0 → (new : Position) → opened p old ≡ new → Opens t m held (Some (ty.named e)) p old new None
-    inside_passed four flags none new led =
-        let x = enters_inside t fine m within held e p old lt room small state deep (omega (arith, four)) flags in
-        let v = visits_free t fine m held e (p + 0) (opened p old) lt x.state deep free.0 free.1 free.2 0 (omega arith) (omega (arith, four, room)) small in
-        let z = no_zeros m.bytes (p + (0 + d.size)) (p + 4 - (p + (0 + d.size))) (omega (arith, four)) in
+    -- of one that stands in its envelope, before zeros
+    pub inside_passed : d.size ≤ 4 → flags_at m.bytes p ≡ 1 → handles_below m.bytes p ≡ 0 → Stands m.bytes (p + d.size) (zeros (p + 4 - (p + d.size))) → (new : Position) → opened p old ≡ new → Opens t m held (Some (ty.named e)) p old new None
+    inside_passed short flags none behind new led =
+        let x = enters_inside t fine m within held e p old lt room small state deep (omega (arith, short)) flags in
+        let v = visits_free t fine m held e (p + 0) (opened p old) lt x.state deep free.0 free.1 free.2 0 (omega arith) (omega (arith, short, room)) small in
+        let own : d.size ≡ 0 + d.size = omega arith in
+        let z = subst (λ n. Stands m.bytes (p + n) (zeros (p + 4 - (p + n)))) own behind in
         subst (λ (s : Position). Opens t m held (Some (ty.named e)) p old s None) led
         (over (opened p old) (inside_frame m e d.size d.nest held p old) d.size (record { envelope = p; next = old.next; handle = old.handle + handles_below m.bytes p }) refl (omega arith) x v z (refl, omega (arith, none)))
 

@@ -127,7 +127,7 @@ impl<'t, 'm> Decoder<'t, 'm> {
         }
         let place = body.base + 8 * read as usize;
         match how {
-            Passing::Inside => self.pass_inside(entry, place, body.depth, state),
+            Passing::Inside => self.pass_inside(entry, 4, place, body.depth, state),
             Passing::Below => self.pass_below(entry, place, body.depth, state),
         }
     }

@@ -1,5 +1,5 @@
-//! Envelopes of members that are passed over by their numbers: of four or eight bytes that may be any,
-//! of a bool, and, where the two files beside this say so, of a text or a struct.
+//! Envelopes of members that are passed over by their numbers: of up to four bytes, or eight, that may
+//! be any, of a bool, and, where the two files beside this say so, of a text or a struct.
 ghost use Rattle.std.specs.Prelude.{◌≡◌, ◌+◌, ◌-◌, ◌^◌, ◌<◌, ◌≤◌, IsTrue, IsFalse, true};
 ghost use Rattle.std.specs.Prelude.{Some, None, length};
 ghost use Rattle.fidl_limits.specs.declared.limits.TheConstants.{MAX_DEPTH};
@@ -14,6 +14,7 @@ ghost use Rattle.fidl_decode_model.specs.Machine.{StateFine, Opens, at_of};
 
 use crate::decoder::Decoder;
 use crate::leaf::is_free;
+use crate::passing_texts::are_zeros;
 use fidl_decode_model::frame::State;
 use fidl_table_format::EntryKind;
 use fidl_wire::{MAX_DEPTH, byte_count_at, flags_at, handle_count_at, u32_at, u64_at};
@@ -22,12 +23,13 @@ use fidl_wire::{MAX_DEPTH, byte_count_at, flags_at, handle_count_at, u32_at, u64
 const NO_HANDLES_INSIDE: u32 = 0x1_0000;
 
 impl<'t, 'm> Decoder<'t, 'm> {
-    /// Passes over the envelope at a place, in which a member of four bytes stands that any bytes
-    /// are a value of, where its numbers are right. Else nothing is read.
+    /// Passes over the envelope at a place, in which a member of this size stands that any bytes are
+    /// a value of, where its numbers and the bytes behind the member are right. Else nothing is read.
     #[inline(always)]
     pub(crate) fn pass_inside(
         &self,
         entry: u32,
+        size: usize,
         envelope: usize,
         depth: u8,
         state: &mut State,
@@ -36,7 +38,8 @@ impl<'t, 'm> Decoder<'t, 'm> {
         requires free { (kind : EntryKind)
             × (kind_of (entry_at self.now.table.now entry).kind ≡ Some kind)
             × (is_free kind (entry_at self.now.table.now entry) ≡ true) }
-        requires size { (entry_at self.now.table.now entry).size ≡ 4 }
+        requires size { (entry_at self.now.table.now entry).size ≡ size }
+        requires small { size ≤ 4 }
         requires room { envelope + 8 ≤ length self.now.bytes.now }
         requires state { StateFine (message_of self.now.bytes.now self.now.handles.now)
             (at_of state.old) }
@@ -49,6 +52,9 @@ impl<'t, 'm> Decoder<'t, 'm> {
         ensures grows { state.old.next ≤ state.new.next }
     {
         if u32_at(self.bytes, envelope + 4) != NO_HANDLES_INSIDE {
+            return false;
+        }
+        if !are_zeros(self.bytes, envelope + size, envelope + 4) {
             return false;
         }
         state.links.record(envelope + 4, state.handle);
@@ -121,8 +127,8 @@ impl<'t, 'm> Decoder<'t, 'm> {
         true
     }
 
-    /// Passes over the envelope of a member at a place, where the member has four or eight bytes and
-    /// any bytes are its value, and the envelope's numbers are right. Else nothing is read.
+    /// Passes over the envelope of a member at a place, where the member has at most four bytes, or
+    /// eight, and any bytes are its value, and the envelope is right. Else nothing is read.
     #[inline(always)]
     fn pass_free(
         &self,
@@ -149,11 +155,14 @@ impl<'t, 'm> Decoder<'t, 'm> {
         if !is_free(&e, kind) {
             return false;
         }
-        match e.size {
-            4 => self.pass_inside(entry, envelope, depth, state),
-            8 => self.pass_below(entry, envelope, depth, state),
-            _ => false,
+        let size = e.size as usize;
+        if size <= 4 {
+            return self.pass_inside(entry, size, envelope, depth, state);
         }
+        if size != 8 {
+            return false;
+        }
+        self.pass_below(entry, envelope, depth, state)
     }
 
     /// Passes over the envelope of a member of this kind at a place, where the member is a number, a

@@ -40,7 +40,7 @@ fn are_ascii(bytes: &[u8], from: usize, size: usize) -> bool
 
 /// Whether the bytes from one place to another are zeros.
 #[inline(always)]
-fn are_zeros(bytes: &[u8], from: usize, to: usize) -> bool
+pub(crate) fn are_zeros(bytes: &[u8], from: usize, to: usize) -> bool
     requires order { from ≤ to }
     requires room { to ≤ length bytes.now }
     ensures { IsTrue result → Stands bytes.now from (zeros (to - from)) }

@@ -13,8 +13,7 @@ ghost use Rattle.fidl_decode_model.specs.Faults.{message_of};
 ghost use Rattle.fidl_decode_model.specs.Breaks.{Breaks, BreaksMember};
 ghost use Rattle.fidl_decode_model.specs.Steps.{Spends};
 ghost use Rattle.fidl_decode_model.specs.Machine.{StateFine, Visits, VisitFine, Opens, member_term};
-ghost use Rattle.fidl_decode_model.specs.Machine.{at_of};
-ghost use Rattle.fidl_decode_model.specs.Machine.{probes};
+ghost use Rattle.fidl_decode_model.specs.Machine.{PaysEnvelope, at_of, probes};
 
 use crate::decoder::Decoder;
 use crate::handles::is_optional;
@@ -24,8 +23,8 @@ use fidl_table_format::Row;
 use fidl_wire::u64_at;
 
 impl<'t, 'm> Decoder<'t, 'm> {
-    /// Opens the envelope of a member at a place: a known one is left to read, one without a row is
-    /// skipped.
+    /// Opens the envelope of a member at a place: a known one is passed over where it can be, and else
+    /// left to read; one without a row is skipped.
     #[inline(always)]
     pub(crate) fn open_envelope(
         &self,
@@ -39,18 +38,25 @@ impl<'t, 'm> Decoder<'t, 'm> {
         requires state { StateFine (message_of self.now.bytes.now self.now.handles.now)
             (at_of state.old) }
         requires depth { depth ≤ MAX_DEPTH }
+        requires budget { state.old.steps < 2 ^ 44 }
         ensures ok { IfOk result (Opens self.now.table.now
             (message_of self.now.bytes.now self.now.handles.now) depth (member_term member) envelope
             (at_of state.old) (at_of state.new)) }
+        ensures pays { IfOk result (PaysEnvelope self.now.bytes.now state.old.next state.new.next
+            (state.new.steps - state.old.steps)) }
         ensures fault_is_true { IfErr result (BreaksMember (declarations_of self.now.table.now)
             (message_of self.now.bytes.now self.now.handles.now) depth (member_term member) envelope
             (at_of state.old)) }
-        ensures steps { state.new.steps ≡ state.old.steps }
+        ensures spends { Spends state.old.steps state.new.steps 0
+            (length self.now.bytes.now - state.old.next) }
     {
         let Some(row) = member else {
             self.skip_member(envelope, depth, state)?;
             return Ok(None);
         };
+        if self.pass_member(row.entry, envelope, depth, state) {
+            return Ok(None);
+        }
         let frame = self.enter_member(row.entry, envelope, depth, state)?;
         Ok(Some(frame))
     }
@@ -79,7 +85,8 @@ impl<'t, 'm> Decoder<'t, 'm> {
             (message_of self.now.bytes.now self.now.handles.now) depth
             (resolve (declarations_of self.now.table.now).terms (ty.named entry)) place
             (at_of state.old)) }
-        ensures spends { Spends state.old.steps state.new.steps 0 probes }
+        ensures spends { Spends state.old.steps state.new.steps 0
+            (probes + (length self.now.bytes.now - state.old.next)) }
     {
         let e = self.table.entry(entry);
         let ordinal = u64_at(self.bytes, place);

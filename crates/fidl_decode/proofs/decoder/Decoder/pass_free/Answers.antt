@@ -44,38 +44,38 @@ pass_below-requires-clause-state c = c.requires.state
 pub pass_below-requires-clause-depth : goal.pass_below-requires-clause-depth
 pass_below-requires-clause-depth c = c.requires.depth
 
-pub returns-in-4-clause-passed : goal.returns-in-4-clause-passed
-returns-in-4-clause-passed c = c.pass_inside.ensures.passed
+pub returns-then-size-le4-clause-passed : goal.returns-then-size-le4-clause-passed
+returns-then-size-le4-clause-passed c = c.pass_inside.ensures.passed
 
-pub returns-in-4-clause-kept : goal.returns-in-4-clause-kept
-returns-in-4-clause-kept c = c.pass_inside.ensures.kept
+pub returns-then-size-le4-clause-kept : goal.returns-then-size-le4-clause-kept
+returns-then-size-le4-clause-kept c = c.pass_inside.ensures.kept
 
-pub returns-in-4-clause-grows : goal.returns-in-4-clause-grows
-returns-in-4-clause-grows c = c.pass_inside.ensures.grows
+pub returns-then-size-le4-clause-grows : goal.returns-then-size-le4-clause-grows
+returns-then-size-le4-clause-grows c = c.pass_inside.ensures.grows
 
-pub returns-in-4-clause-steps : goal.returns-in-4-clause-steps
-returns-in-4-clause-steps c = c.pass_inside.ensures.steps
+pub returns-then-size-le4-clause-steps : goal.returns-then-size-le4-clause-steps
+returns-then-size-le4-clause-steps c = c.pass_inside.ensures.steps
 
-pub returns-in-8-clause-passed : goal.returns-in-8-clause-passed
-returns-in-8-clause-passed c = c.pass_below.ensures.passed
+pub returns-clause-passed : goal.returns-clause-passed
+returns-clause-passed c = c.pass_below.ensures.passed
 
-pub returns-in-8-clause-kept : goal.returns-in-8-clause-kept
-returns-in-8-clause-kept c = c.pass_below.ensures.kept
+pub returns-clause-kept : goal.returns-clause-kept
+returns-clause-kept c = c.pass_below.ensures.kept
 
-pub returns-in-8-clause-grows : goal.returns-in-8-clause-grows
-returns-in-8-clause-grows c = c.pass_below.ensures.grows
+pub returns-clause-grows : goal.returns-clause-grows
+returns-clause-grows c = c.pass_below.ensures.grows
 
-pub returns-in-8-clause-steps : goal.returns-in-8-clause-steps
-returns-in-8-clause-steps c = c.pass_below.ensures.steps
+pub returns-clause-steps : goal.returns-clause-steps
+returns-clause-steps c = c.pass_below.ensures.steps
 
-pub returns-in_default-clause-passed : goal.returns-in_default-clause-passed
-returns-in_default-clause-passed c so = absurd (no_true so)
+pub returns-then-size-ne8-clause-passed : goal.returns-then-size-ne8-clause-passed
+returns-then-size-ne8-clause-passed c so = absurd (no_true so)
 
-pub returns-in_default-clause-kept : goal.returns-in_default-clause-kept
-returns-in_default-clause-kept c kept = refl
+pub returns-then-size-ne8-clause-kept : goal.returns-then-size-ne8-clause-kept
+returns-then-size-ne8-clause-kept c kept = refl
 
-pub returns-in_default-clause-grows : goal.returns-in_default-clause-grows
-returns-in_default-clause-grows c = same_le _
+pub returns-then-size-ne8-clause-grows : goal.returns-then-size-ne8-clause-grows
+returns-then-size-ne8-clause-grows c = same_le _
 
-pub returns-in_default-clause-steps : goal.returns-in_default-clause-steps
-returns-in_default-clause-steps c = refl
+pub returns-then-size-ne8-clause-steps : goal.returns-then-size-ne8-clause-steps
+returns-then-size-ne8-clause-steps c = refl

@@ -9,7 +9,8 @@ use Rattle.fidl_table_format.specs.Terms.{declarations_of, members_of, is_option
 use Rattle.fidl_decode_model.specs.declared.fault.DecodeFault.TheVariants.{BadEnvelope, AbsentRequired, UnknownOrdinal}
 use Rattle.fidl_decode_model.specs.Faults.{message_of}
 use Rattle.fidl_decode_model.specs.Breaks.{BreaksUnion, BreaksMember, ordinal_at}
-use Rattle.fidl_decode_model.specs.Machine.{Opens, member_term, at_of}
+use Rattle.fidl_decode_model.specs.Machine.{Opens, PaysEnvelope, Visits, member_term, at_of}
+use Rattle.fidl_decode_model.proofs.Turning.{if_ok_two}
 use Rattle.fidl_decode.proofs.Chosen.{member_is, no_member, one_member, union_breaks, visits_absent_union, visits_union, member_breaks, union_fine}
 use Rattle.fidl_decode.proofs.decoder.Decoder.read_union.Goals.{else-is_none-via-then-is_none+else-is_strict, else-is_none-via-else-is_none}
 use Rattle.fidl_decode.proofs.decoder.Decoder.read_union.Goals as goal
@@ -51,10 +52,14 @@ returns-clause-ok c =
       | else-is_none-via-else-is_none w ↦ (λ none. absurd (one_member c.member-member.result (find (members_of c.args.self.now.table.now c.args.entry) c.u64_at-ordinal.result) c.member-member.ensures.some (c.is_none.ensures ∙ ap not w.if-is_none.false) (same ∙ none)))
     ] in
     let few = c.member-member.ensures.few in
-    let steps = c.open_envelope.ensures.steps in
-    IfOk-weaker c.open_envelope.result _ _
-    (λ found o. visits_union c.args.self.now.table.now c.args.self.now.fine (message_of c.args.self.now.bytes.now c.args.self.now.handles.now) c.args.depth c.args.entry c.args.place (at_of c.args.state.now) c.requires.entry c.requires.kind some may (at_of c.open_envelope.new.state) (c.open_envelope.new.state.steps - c.args.state.now.steps) found (omega (arith, few, steps)) (omega (arith, c.requires.room)) (λ i. omega (arith, c.args.self.now.octets i))
-    (subst (λ (u : Option Term). Opens c.args.self.now.table.now (message_of c.args.self.now.bytes.now c.args.self.now.handles.now) c.args.depth u (c.args.place + 8) (at_of c.args.state.now) (at_of c.open_envelope.new.state) found) tie o)) c.open_envelope.ensures.ok
+    let grows = c.member-member.ensures.grows in
+    let new = at_of c.open_envelope.new.state in
+    let own = c.open_envelope.new.state.steps - c.member-member.new.probes in
+    let all = c.open_envelope.new.state.steps - c.args.state.now.steps in
+    if_ok_two c.open_envelope.result (Opens c.args.self.now.table.now (message_of c.args.self.now.bytes.now c.args.self.now.handles.now) c.args.depth (member_term c.member-member.result) (c.args.place + 8) (at_of c.args.state.now) new) (PaysEnvelope c.args.self.now.bytes.now c.args.state.now.next new.next own)
+    (Visits c.args.self.now.table.now (message_of c.args.self.now.bytes.now c.args.self.now.handles.now) c.args.depth c.args.entry c.args.place (at_of c.args.state.now) new all)
+    (λ found o pays. visits_union c.args.self.now.table.now c.args.self.now.fine (message_of c.args.self.now.bytes.now c.args.self.now.handles.now) c.args.depth c.args.entry c.args.place (at_of c.args.state.now) c.requires.entry c.requires.kind some may new own all found (omega (arith, few, grows)) pays (omega (arith, c.requires.room)) (λ i. omega (arith, c.args.self.now.octets i))
+    (subst (λ (u : Option Term). Opens c.args.self.now.table.now (message_of c.args.self.now.bytes.now c.args.self.now.handles.now) c.args.depth u (c.args.place + 8) (at_of c.args.state.now) new found) tie o)) c.open_envelope.ensures.ok c.open_envelope.ensures.pays
 
 pub returns-clause-fine : goal.returns-clause-fine
 returns-clause-fine c =
@@ -116,3 +121,12 @@ open_envelope-requires-clause-state c = c.requires.state
 
 pub open_envelope-requires-clause-depth : goal.open_envelope-requires-clause-depth
 open_envelope-requires-clause-depth c = c.requires.depth
+
+pub open_envelope-requires-clause-budget : goal.open_envelope-requires-clause-budget
+open_envelope-requires-clause-budget c = omega (arith, c.requires.budget, c.member-member.ensures.few)
+
+pub returns-clause-spends : goal.returns-clause-spends
+returns-clause-spends c = record {
+  least = omega (arith, c.member-member.ensures.grows, c.open_envelope.ensures.spends.least);
+  most = omega (arith, c.member-member.ensures.few, c.open_envelope.ensures.spends.most);
+}
