@@ -6,8 +6,7 @@ ghost use Rattle.fidl_named.specs.declared.place.DeclarationId.{DeclarationId as
 ghost use Rattle.fidl_named.specs.Meanings.{IsJust};
 ghost use Rattle.fidl_composition.specs.Compositions.{MeansProtocol};
 
-use fidl_consts::names::is_memory;
-use fidl_named::{DeclarationId, Meaning, Named, Wanted};
+use fidl_named::{DeclarationId, Meaning, Named, Wanted, is_memory};
 use fidl_tree::Path;
 use std::alloc::AllocError;
 

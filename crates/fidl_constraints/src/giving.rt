@@ -14,9 +14,10 @@ ghost use Rattle.fidl_constraints.specs.ItemViews.{IsHandleOf};
 use crate::Head;
 use crate::items::Item;
 use crate::parts::{Part, PartKind};
-use fidl_consts::names::is_memory as is_name_memory;
 use fidl_consts::{ConstType, ConstValue, Constraint, Consts, NumberKind, is_memory};
-use fidl_named::{DeclarationId, Meaning, Named, Predeclared, Wanted, path_alone};
+use fidl_named::{
+    DeclarationId, Meaning, Named, Predeclared, Wanted, is_memory as is_name_memory, path_alone,
+};
 use fidl_tree::{LayoutBody, Value};
 use std::alloc::{AllocError, Global};
 

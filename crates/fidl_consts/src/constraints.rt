@@ -20,11 +20,11 @@ use crate::consts::Entry;
 use crate::fault::ConstFault;
 use crate::found::{declaration_at, property_values_at};
 use crate::layouts::member_kind;
-use crate::names::{is_memory, path_place};
+use crate::names::path_place;
 use crate::scope::{FileScope, NamedFile, Scope};
 use crate::types::{property_type, underlying_path};
 use crate::values::{given, value_in, value_of, value_span};
-use fidl_named::{DeclarationId, Meaning, Named, Place, path_alone};
+use fidl_named::{DeclarationId, Meaning, Named, Place, is_memory, path_alone};
 use fidl_tree::{DeclarationBody, Path, Value};
 use std::alloc::AllocError;
 

@@ -1,23 +1,15 @@
 //! What the names of files mean.
-ghost use Rattle.std.specs.Prelude.{◌≡◌, ◌<◌, ◌↔◌, length, IfOk, IsTrue};
-ghost use Rattle.fidl_named.specs.declared.fault.NameFault.TheVariants as Fault;
+ghost use Rattle.std.specs.Prelude.{◌≡◌, ◌<◌, length, IfOk};
 ghost use Rattle.fidl_tree.specs.Views.{path_view};
 ghost use Rattle.fidl_named.specs.Meanings.{IsJust, Means};
 ghost use Rattle.fidl_named.specs.Paths.{texts};
 ghost use Rattle.fidl_named.specs.Paths.{path_place};
 ghost use Rattle.fidl_named.specs.Scopes.{OfFile};
 
-use fidl_named::{Meaning, NameFault, Named, Wanted, path_span};
+use fidl_named::{Meaning, Named, Wanted, is_memory, path_span};
 use fidl_span::Span;
 use fidl_tree::Path;
 use std::alloc::AllocError;
-
-/// Whether memory ran out.
-pub fn is_memory(fault: NameFault) -> bool
-    ensures { IsTrue result ↔ (fault ≡ Fault.Memory) }
-{
-    matches!(fault, NameFault::Memory)
-}
 
 /// Where a name is.
 pub fn path_place(path: &Path) -> Span

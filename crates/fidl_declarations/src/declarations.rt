@@ -2,6 +2,8 @@
 ghost use Rattle.std.specs.Prelude.{◌≡◌, ◌++◌, ◌∷◌, map, flat_map, option_map, IfOk, OnOk};
 ghost use Rattle.fidl_tree.specs.Syntax.{members_of};
 ghost use Rattle.fidl_tree.specs.Views.{payload_view, error_view, response_view, is_strict};
+ghost use Rattle.fidl_tree.specs.Views.{body_view};
+ghost use Rattle.fidl_declarations.specs.Keywords.{layout_keyword};
 ghost use Rattle.fidl_tree.specs.Views.{protocol_member_view, property_view, declared_view};
 ghost use Rattle.fidl_tree.specs.Views.{declared_name, declaration_view, import_view, file_view};
 ghost use Rattle.fidl_declarations.specs.declared.step.Step.TheVariants as Steps;
@@ -17,8 +19,8 @@ use crate::step::Step;
 use crate::walk::{push_layout, push_members, push_type, push_type_within, within};
 use fidl_span::Span;
 use fidl_tree::{
-    Declaration, DeclarationBody, ErrorType, Event, File, Import, Method, Payload, Property,
-    ProtocolMember, ProtocolMemberBody, Response, Strictness,
+    Declaration, DeclarationBody, ErrorType, Event, File, Import, LayoutBody, Method, Payload,
+    Property, ProtocolMember, ProtocolMemberBody, Response, Strictness, ValuesKeyword,
 };
 use std::alloc::{AllocError, Global};
 
@@ -29,6 +31,21 @@ pub fn is_strict(strictness: &Option<Strictness>) -> bool
     match strictness {
         Some(Strictness::Strict(_)) => true,
         Some(Strictness::Flexible(_)) | None => false,
+    }
+}
+
+/// Where the keyword of a layout stands.
+pub fn layout_keyword(body: &LayoutBody) -> Span
+    ensures { result ≡ layout_keyword (body_view body.now) }
+{
+    match body {
+        LayoutBody::Values(layout) => match &layout.keyword {
+            ValuesKeyword::Bits(span) => *span,
+            ValuesKeyword::Enum(span) => *span,
+        },
+        LayoutBody::Struct(layout) => layout.keyword,
+        LayoutBody::Table(layout) => layout.keyword,
+        LayoutBody::Union(layout) => layout.keyword,
     }
 }
 

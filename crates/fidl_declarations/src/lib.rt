@@ -11,7 +11,7 @@ mod step;
 mod walk;
 pub mod worked;
 
-pub use declarations::{file_sites, is_strict};
+pub use declarations::{file_sites, is_strict, layout_keyword};
 pub use form::{Form, FormKind};
 pub use laws::declarations_keep_their_full_names;
 pub use numbering::forms;

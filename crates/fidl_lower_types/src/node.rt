@@ -13,10 +13,11 @@ ghost use Rattle.fidl_lower_types.specs.TermViews.{node_view, AreKnown};
 
 use crate::arguments::{only_type, two_arguments};
 use crate::counts::count_of;
-use crate::numbers::{keyword_of, number_of};
+use crate::numbers::number_of;
 use crate::sources::Sources;
 use crate::words::word_type;
 use fidl_constraints::{Head, Parts, TypeUse, gather};
+use fidl_declarations::layout_keyword;
 use fidl_ir::Type;
 use fidl_named::Predeclared;
 use fidl_tree::{LayoutBody, TypeArguments};
@@ -55,7 +56,7 @@ fn layout_number(
     ensures none { IsNone result → (i : ℕ) → IsNumber sources.now.named.now file_index optional
         (body_view body.now) i → ⊥ }
 {
-    number_of(sources, file_index, optional, keyword_of(body))
+    number_of(sources, file_index, optional, layout_keyword(body))
 }
 
 /// The layout of the struct that a type is behind its aliases.

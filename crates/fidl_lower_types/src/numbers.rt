@@ -1,7 +1,6 @@
 //! The numbers of layouts and of all forms.
 ghost use Rattle.std.specs.Prelude.{◌≡◌, ◌<◌, ◌+◌, ◌^◌, ℕ, List, Some, slice_get, IfOk, IfSome};
 ghost use Rattle.std.specs.Prelude.{IsNone, OnOk};
-ghost use Rattle.fidl_tree.specs.Views.{body_view};
 ghost use Rattle.fidl_declarations.specs.Forms.{Form as Plain};
 ghost use Rattle.fidl_declarations.specs.FormViews.{form_view, forms_view};
 ghost use Rattle.indexmap.specs.IndexMap.{get};
@@ -14,9 +13,8 @@ ghost use Rattle.fidl_lower_types.specs.TermViews.{AreKnown};
 
 use crate::answers::{AnswerKey, key_of_answer};
 use crate::sources::Sources;
-use fidl_declarations::{Form, FormKind};
+use fidl_declarations::{Form, FormKind, layout_keyword};
 use fidl_span::Span;
-use fidl_tree::{LayoutBody, ValuesKeyword};
 use indexmap::IndexMap;
 use std::alloc::{AllocError, Global};
 
@@ -32,21 +30,6 @@ pub struct LayoutNumbers {
     pub(crate) answers: IndexMap<AnswerKey, u32>,
 }
 
-/// Where the keyword of a layout stands.
-pub(crate) fn keyword_of(body: &LayoutBody) -> Span
-    ensures { result ≡ layout_keyword (body_view body.now) }
-{
-    match body {
-        LayoutBody::Values(layout) => match &layout.keyword {
-            ValuesKeyword::Bits(span) => *span,
-            ValuesKeyword::Enum(span) => *span,
-        },
-        LayoutBody::Struct(layout) => layout.keyword,
-        LayoutBody::Table(layout) => layout.keyword,
-        LayoutBody::Union(layout) => layout.keyword,
-    }
-}
-
 /// What a layout is known by.
 fn layout_key(file_index: usize, optional: bool, keyword: Span) -> LayoutKey
     ensures { result ≡ layout_key file_index optional keyword }
@@ -60,7 +43,7 @@ fn form_key(form: &Form<'_, '_>) -> Option<LayoutKey>
 {
     match form.kind {
         FormKind::Layout { body, optional } => {
-            Some(layout_key(form.file_index, optional, keyword_of(body)))
+            Some(layout_key(form.file_index, optional, layout_keyword(body)))
         }
         FormKind::Result { .. } => None,
         FormKind::EmptyResponse => None,

@@ -4,11 +4,9 @@ ghost use Rattle.fidl_tree.specs.Syntax.{members_of};
 ghost use Rattle.fidl_tree.specs.Views.{member_view, ordinal_member_view, body_view};
 ghost use Rattle.fidl_tree.specs.Views.{is_strict_union};
 ghost use Rattle.fidl_named.specs.MemberNames.{own_names, layout_names};
-ghost use Rattle.fidl_declarations.specs.Keywords.{layout_keyword};
 ghost use Rattle.fidl_member_rules.specs.Strict.{must_have_members, IsEmptyStrict};
 
 use fidl_declarations::is_strict;
-use fidl_span::Span;
 use fidl_tree::{
     LayoutBody, Member, OrdinalBody, OrdinalMember, Strictness, UnionModifiers, ValuesKeyword,
 };
@@ -38,21 +36,6 @@ fn must_have_members(body: &LayoutBody) -> bool
         LayoutBody::Struct(_) => false,
         LayoutBody::Table(_) => false,
         LayoutBody::Union(layout) => is_strict_union(&layout.modifiers),
-    }
-}
-
-/// Where the keyword of a layout stands.
-pub(crate) fn layout_keyword(body: &LayoutBody) -> Span
-    ensures { result ≡ layout_keyword (body_view body.now) }
-{
-    match body {
-        LayoutBody::Values(layout) => match &layout.keyword {
-            ValuesKeyword::Bits(span) => *span,
-            ValuesKeyword::Enum(span) => *span,
-        },
-        LayoutBody::Struct(layout) => layout.keyword,
-        LayoutBody::Table(layout) => layout.keyword,
-        LayoutBody::Union(layout) => layout.keyword,
     }
 }
 

@@ -1,5 +1,6 @@
 //! Why names have no meaning, or not just one.
-ghost use Rattle.std.specs.Prelude.{◌≡◌};
+ghost use Rattle.std.specs.Prelude.{◌≡◌, ◌↔◌, IsTrue};
+ghost use Rattle.fidl_named.specs.declared.fault.NameFault.TheVariants as Fault;
 
 use crate::place::Place;
 use std::alloc::{AllocError, AllocFailed};
@@ -86,6 +87,13 @@ impl NameFault {
             NameFault::Memory => None,
         }
     }
+}
+
+/// Whether memory ran out.
+pub fn is_memory(fault: NameFault) -> bool
+    ensures { IsTrue result ↔ (fault ≡ Fault.Memory) }
+{
+    matches!(fault, NameFault::Memory)
 }
 
 impl From<AllocError> for NameFault {

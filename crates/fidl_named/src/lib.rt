@@ -25,7 +25,7 @@ pub mod worked_aliases;
 
 pub use constraint_names::{is_optional, item_meaning, ordinary, path_alone};
 pub use ends::{AliasEnd, declared_id, end_of, own_end};
-pub use fault::NameFault;
+pub use fault::{NameFault, is_memory};
 pub use file_scope::{FileScope, SetScope};
 pub use file_set::{AddedFile, FileSet, Found, has_declaration};
 pub use kept_names::{KeptName, KeptNames};

@@ -1,6 +1,5 @@
 //! What the names of types mean, and which kind their places want.
 ghost use Rattle.std.specs.Prelude.{◌≡◌, ◌↔◌, Some, IsTrue, IfOk};
-ghost use Rattle.fidl_named.specs.declared.fault.NameFault.TheVariants as Fault;
 ghost use Rattle.fidl_named.specs.declared.meaning.Meaning.TheVariants as Given;
 ghost use Rattle.fidl_named.specs.declared.meaning.Predeclared.TheVariants as Word;
 ghost use Rattle.fidl_named.specs.declared.meaning.Wanted.TheVariants as Kind;
@@ -8,20 +7,13 @@ ghost use Rattle.fidl_named.specs.Aliases.{WantsKind};
 ghost use Rattle.fidl_named.specs.Meanings.{components, IsJust, Means};
 ghost use Rattle.fidl_named.specs.ReferenceViews.{read_path};
 
-use crate::fault::NameFault;
+use crate::fault::is_memory;
 use crate::file_scope::FileScope;
 use crate::meaning::{Meaning, Predeclared, Wanted};
 use crate::place::DeclarationId;
 use crate::reading::read_name;
 use fidl_tree::Path;
 use std::alloc::AllocError;
-
-/// Whether memory ran out.
-fn is_memory(fault: NameFault) -> bool
-    ensures { IsTrue result ↔ (fault ≡ Fault.Memory) }
-{
-    matches!(fault, NameFault::Memory)
-}
 
 /// What a name means where this kind is wanted, if anything.
 pub fn find_meaning(
