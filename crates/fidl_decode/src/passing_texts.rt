@@ -21,7 +21,7 @@ const HIGH_BITS: u64 = 0x8080_8080_8080_8080;
 
 /// Whether so many bytes from a place on, whose number is a multiple of eight, are ASCII.
 #[inline(always)]
-fn are_ascii(bytes: &[u8], from: usize, size: usize) -> bool
+pub(crate) fn are_ascii(bytes: &[u8], from: usize, size: usize) -> bool
     requires eights { size % 8 ≡ 0 }
     requires room { from + size ≤ length bytes.now }
     requires short { length bytes.now ≤ MAX_MESSAGE_BYTES }

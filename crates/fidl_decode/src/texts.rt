@@ -1,6 +1,6 @@
 //! Strings: a count and a marker, and the text, which is the next object.
-ghost use Rattle.std.specs.Prelude.{◌≡◌, ◌+◌, ◌-◌, ◌^◌, ◌<◌, ◌≤◌, OnOk, IfErr, length};
-ghost use Rattle.std.specs.Prelude.{◌↔◌, IsTrue, IsUtf8};
+ghost use Rattle.std.specs.Prelude.{◌≡◌, ◌+◌, ◌-◌, ◌%◌, ◌^◌, ◌<◌, ◌≤◌, OnOk, IfErr, length};
+ghost use Rattle.std.specs.Prelude.{◌↔◌, IsTrue, IsUtf8, slice_range};
 ghost use Rattle.fidl_limits.specs.declared.limits.TheConstants.{MAX_DEPTH};
 ghost use Rattle.fidl_wire.specs.Term as ty;
 ghost use Rattle.fidl_table_format.specs.Terms.{declarations_of, is_optional};
@@ -11,47 +11,32 @@ ghost use Rattle.fidl_decode_model.specs.Machine.{StateFine, Leads, at_of};
 
 use crate::decoder::{Decoder, zeros_at};
 use crate::handles::is_optional;
+use crate::passing_texts::are_ascii;
 use fidl_decode_model::DecodeFault;
 use fidl_decode_model::frame::State;
 use fidl_table_format::Entry;
 use fidl_wire::{MAX_DEPTH, u64_at};
 use simdutf8::is_utf8;
 
-/// The length up to which a text is looked at byte by byte, before it is as blocks.
-const SHORT: usize = 8;
-
-/// The length up to which a longer text is looked at eight bytes at a time, before it is as blocks
-/// of 64.
-const MEDIUM: usize = 32;
-
-/// Whether a text is UTF-8. Of one that is no longer than `MEDIUM` the bytes are looked at first,
-/// since most are ASCII.
-fn is_longer_text(text: &[u8]) -> bool
-    ensures { IsTrue result ↔ IsUtf8 text.now }
-{
-    if text.len() > MEDIUM {
-        return is_utf8(text);
-    }
-    text.is_ascii() || is_utf8(text)
-}
-
-/// Whether a text is UTF-8. Of a short one the bytes are looked at first, since most are ASCII.
-#[inline(always)]
-fn is_text(text: &[u8]) -> bool
-    ensures { IsTrue result ↔ IsUtf8 text.now }
-{
-    if text.len() > SHORT {
-        return is_longer_text(text);
-    }
-    for i in 0..text.len() {
-        if text[i] >= 128 {
-            return is_longer_text(text);
-        }
-    }
-    true
-}
+/// The length up to which a text is looked at eight bytes at a time, before it is in blocks of 64.
+const SHORT: usize = 128;
 
 impl<'t, 'm> Decoder<'t, 'm> {
+    /// Whether so many bytes from a place on are UTF-8, of an object of this size. Of a short one all
+    /// bytes are looked at first, since most are ASCII, and so are the zeros behind them.
+    #[inline(always)]
+    fn is_text(&self, from: usize, count: usize, size: usize) -> bool
+        requires eights { size % 8 ≡ 0 }
+        requires within { count ≤ size }
+        requires room { from + size ≤ length self.now.bytes.now }
+        ensures { IsTrue result ↔ IsUtf8 (slice_range self.now.bytes.now from (from + count)) }
+    {
+        if size <= SHORT && are_ascii(self.bytes, from, size) {
+            return true;
+        }
+        is_utf8(&self.bytes[from..from + count])
+    }
+
     /// Reads a string at a place: its count and marker, and its text, which is linked.
     #[inline(always)]
     pub(crate) fn read_text(
@@ -110,7 +95,7 @@ impl<'t, 'm> Decoder<'t, 'm> {
             return Err(DecodeFault::Truncated { at: from });
         }
         state.steps += size as u64;
-        if !is_text(&self.bytes[from..from + behind]) {
+        if !self.is_text(from, behind, size) {
             return Err(DecodeFault::NotUtf8 { at: from });
         }
         zeros_at(self.bytes, from + behind, from + size)?;

@@ -131,20 +131,14 @@ returns-then-size-rest-clause-spends c = spends_any _ _ _ (same_le _) (le_more _
 pub overflow_add-state : goal.overflow_add-state
 overflow_add-state c = record { fits = omega arith }
 
-pub overflow_add-from : goal.overflow_add-from
-overflow_add-from c = record { fits = omega arith }
+pub is_text-requires-clause-eights : goal.is_text-requires-clause-eights
+is_text-requires-clause-eights c = omega arith
 
-pub slice_bounds-is_text-count : goal.slice_bounds-is_text-count
-slice_bounds-is_text-count c = omega arith
+pub is_text-requires-clause-within : goal.is_text-requires-clause-within
+is_text-requires-clause-within c = c.next_multiple_of-size.ensures.lower_bound
 
-pub slice_bounds-is_text-start : goal.slice_bounds-is_text-start
-slice_bounds-is_text-start c = omega arith
-
-pub slice_bounds-is_text-end : goal.slice_bounds-is_text-end
-slice_bounds-is_text-end c = omega arith
-
-pub is_text-requires : goal.is_text-requires
-is_text-requires c = omega arith
+pub is_text-requires-clause-room : goal.is_text-requires-clause-room
+is_text-requires-clause-room c = ended c.args.state.now.next c.next_multiple_of-size.result (length c.args.self.now.bytes.now) c.requires.state.next c.if-size-rest.false
 
 pub returns-then-not-is_text-clause-ok : goal.returns-then-not-is_text-clause-ok
 returns-then-not-is_text-clause-ok c = tt
@@ -155,8 +149,8 @@ returns-then-not-is_text-clause-state c = tt
 pub returns-then-not-is_text-clause-spent : goal.returns-then-not-is_text-clause-spent
 returns-then-not-is_text-clause-spent c = tt
 
-pub overflow_add-from-2 : goal.overflow_add-from-2
-overflow_add-from-2 c = record { fits = omega arith }
+pub overflow_add-from : goal.overflow_add-from
+overflow_add-from c = record { fits = omega arith }
 
 pub returns-clause-fault_is_true : goal.returns-clause-fault_is_true
 returns-clause-fault_is_true c = tt
@@ -233,8 +227,8 @@ next_multiple_of-size-requires-clause-nonzero c = some_8
 pub next_multiple_of-size-requires-clause-fits : goal.next_multiple_of-size-requires-clause-fits
 next_multiple_of-size-requires-clause-fits c = rounded_left c.u64_at-count.result c.args.state.now.next (length c.args.self.now.bytes.now) c.if-count-rest.false c.args.self.now.short
 
-pub overflow_add-from-3 : goal.overflow_add-from-3
-overflow_add-from-3 c = record { fits = small _ (length c.args.self.now.bytes.now) ((ended c.args.state.now.next c.next_multiple_of-size.result (length c.args.self.now.bytes.now) c.requires.state.next c.if-size-rest.false)) c.args.self.now.short }
+pub overflow_add-from-2 : goal.overflow_add-from-2
+overflow_add-from-2 c = record { fits = small _ (length c.args.self.now.bytes.now) ((ended c.args.state.now.next c.next_multiple_of-size.result (length c.args.self.now.bytes.now) c.requires.state.next c.if-size-rest.false)) c.args.self.now.short }
 
 pub overflow_add-place-2 : goal.overflow_add-place-2
 overflow_add-place-2 c = record { fits = small _ (length c.args.self.now.bytes.now) (front c.args.place 8 8 (length c.args.self.now.bytes.now) c.requires.room) c.args.self.now.short }
