@@ -3,7 +3,8 @@ use Rattle.std.specs.Prelude.{ℕ, List, [], ◌++◌, codes, decimal, string_by
 use Rattle.fidl_command_line.specs.declared.unread.Unread.{Unread}
 use Rattle.fidl_command_line.specs.declared.unread.Unread.TheVariants.{Asked, Wrong, NotText}
 use Rattle.fidl_command_line.specs.declared.unread.Unread.TheVariants.{Missing, BadHex, BadHandle}
-use Rattle.fidl_command_line.specs.declared.unread.Unread.TheVariants.{OutIsSource, BadRaw, TwoLists, BadFault}
+use Rattle.fidl_command_line.specs.declared.unread.Unread.TheVariants.{OutIsSource, BadRaw}
+use Rattle.fidl_command_line.specs.declared.unread.Unread.TheVariants.{TwoLists, BadFault}
 use Rattle.fidl_command_line.specs.declared.unread.Unread.TheVariants.{OutIsTable, Memory}
 
 -- memory ran out
@@ -21,7 +22,7 @@ complaint_of (Asked text) = []
 complaint_of (Wrong line) = string_bytes line
 complaint_of NotText = codes "error: the arguments: UTF-8 is wanted"
 complaint_of Missing =
-    codes "error: the arguments: compile --out OUT FILE.., decode TABLE ROOT HEX, encode TABLE ROOT TEXT, table TABLE or explain FAULT is wanted"
+    codes "error: the arguments: a command and what it needs are wanted; fidl --help names them"
 complaint_of OutIsSource = codes "error: --out: a file that is none of the sources is wanted"
 complaint_of OutIsTable = codes "error: --out: a file that is not the table is wanted"
 complaint_of BadHex = codes "error: HEX: an even number of hexadecimal digits is wanted"

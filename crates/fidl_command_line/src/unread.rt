@@ -111,9 +111,8 @@ impl Unread {
             Unread::Asked { .. } => "",
             Unread::Wrong { line } | Unread::BadHandle { line } => line.as_str(),
             Unread::NotText => "error: the arguments: UTF-8 is wanted",
-            Unread::Missing => {
-                "error: the arguments: compile --out OUT FILE.., decode TABLE ROOT HEX, encode TABLE ROOT TEXT, table TABLE or explain FAULT is wanted"
-            }
+            Unread::Missing => "error: the arguments: a command and what it needs are wanted; \
+                fidl --help names them",
             Unread::OutIsSource => "error: --out: a file that is none of the sources is wanted",
             Unread::OutIsTable => "error: --out: a file that is not the table is wanted",
             Unread::BadHex => "error: HEX: an even number of hexadecimal digits is wanted",
