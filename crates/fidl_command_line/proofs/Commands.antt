@@ -1,8 +1,9 @@
 -- What clap's builder makes of the program's command line, and what a parse of it gives.
-use Rattle.std.proofs.Common.{◌≡◌, refl, ap, ◌∙◌, List}
-use Rattle.std.specs.Prelude.{Option, Some, None, Result, Ok, Err, IfOk, IfErr, option_map, true, false, ◌||◌}
-use Rattle.clap.specs.Words.{App, Shape, Rule, Row, Text, app_of, rule_of}
+use Rattle.std.proofs.Common.{◌≡◌, refl, sym, ap, ◌∙◌, List}
+use Rattle.std.specs.Prelude.{Option, Some, None, Result, Ok, Err, IfOk, IfErr, option_map, false, ◌||◌}
+use Rattle.clap.specs.Words.{App, Shape, Rule, Row, Text, app_of, rule_of, subcommand_name_of, subcommand_rows_of}
 use Rattle.clap.specs.Simple.{shape_of, with_subcommand, with_rule}
+use Rattle.clap.specs.declared.parser.matches.ArgMatches.{ArgMatches}
 use Rattle.clap.specs.declared.builder.arg.Arg.{Arg}
 use Rattle.clap.specs.declared.builder.command.Command.{Command}
 use Rattle.clap.specs.declared.builder.command.Command.TheViews.{out-Command}
@@ -25,14 +26,14 @@ joined old sub new app shape h is e = h.shape is.local
     ∙ ap (λ (s : Shape). with_subcommand app s) (ap (λ (x : App). x.top) is.app)
 
 -- the name and the rows of a subcommand
-abbrev pub pair_of : {B : Type 0} (name : B → Text) (rows : B → List Row) → B → Text × List Row
+abbrev pair_of : {B : Type 0} (name : B → Text) (rows : B → List Row) → B → Text × List Row
 pair_of name rows b = (name b, rows b)
 
 abbrev second : Text × List Row → List Row
 second p = p.1
 
 -- both, by its name alone and by its rows alone
-pub both_of : {B : Type 0} (name : B → Text) (rows : B → List Row) (o : Option B) (n : Text) (rs : List Row)
+both_of : {B : Type 0} (name : B → Text) (rows : B → List Row) (o : Option B) (n : Text) (rs : List Row)
     → option_map name o ≡ Some n → option_map second (option_map (pair_of name rows) o) ≡ Some rs
     → option_map (pair_of name rows) o ≡ Some (n, rs)
 both_of name rows None n rs a b = cc
@@ -51,10 +52,20 @@ grown old new a app rule is h e g = (
   h.globals ∙ ap (λ b. b || a.global) is.1 ∙ g,
 )
 
--- a subcommand of this name was not found, so the words do not give it
 name_of : {B : Type 0} (name : B → Text) (rows : B → List Row) (o : Option B) (n : Text) (rs : List Row) → option_map (pair_of name rows) o ≡ Some (n, rs) → option_map name o ≡ Some n
 name_of name rows None n rs e = cc
 name_of name rows (Some x) n rs e = let both : (name x, rows x) ≡ (n, rs) = cc in ap Some (ap (λ (p : Text × List Row). p.0) both)
 
-pub none_here : {B : Type 0} (name : B → Text) (rows : B → List Row) (o : Option B) (n : Text) (rs : List Row) → (option_map name o ≡ Some n → false ≡ true) → option_map (pair_of name rows) o ≡ Some (n, rs) → ⊥
-none_here name rows o n rs found given = let bad = found (name_of name rows o n rs given) in cc
+-- what clap read has this name and these rows
+pub found_with : (m : ArgMatches) (n : Text) (rs : List Row) → subcommand_name_of m ≡ Some n → option_map (λ p. p.1) (subcommand_rows_of m) ≡ Some rs → subcommand_rows_of m ≡ Some (n, rs)
+found_with m n rs = both_of _ _ _ n rs
+
+pub found_name : (m : ArgMatches) (n : Text) (rs : List Row) → subcommand_rows_of m ≡ Some (n, rs) → subcommand_name_of m ≡ Some n
+found_name m n rs = name_of _ _ _ n rs
+
+-- what stands in an option, or that nothing does
+pub some_value : {A B : Type 0} (f : A → B) (o : Option A) (x : A) (found : Option B) → o ≡ Some x → option_map f o ≡ found → found ≡ Some (f x)
+some_value f o x found is h = sym h ∙ ap (option_map f) is
+
+pub no_value : {A B : Type 0} (f : A → B) (o : Option A) (found : Option B) → o ≡ None → option_map f o ≡ found → found ≡ None
+no_value f o found is h = sym h ∙ ap (option_map f) is

@@ -17,8 +17,8 @@ use Rattle.fidl_hints.specs.declared.explaining.Faults.TheVariants as faults
 use Rattle.fidl_command_line.specs.declared.unread.Unread.{Unread}
 use Rattle.fidl_command_line.specs.declared.unread.Unread.TheVariants.{Asked, Wrong, Missing}
 use Rattle.fidl_command_line.specs.declared.unread.Unread.TheVariants.{BadHex, BadRaw, BadFault}
-use Rattle.fidl_command_line.specs.declared.unread.Unread.TheVariants.{TwoLists}
-use Rattle.fidl_command_line.specs.declared.unread.Unread.TheVariants.{BadHandle, OutIsSource, OutIsTable}
+use Rattle.fidl_command_line.specs.declared.unread.Unread.TheVariants.{TwoLists, BadHandle}
+use Rattle.fidl_command_line.specs.declared.unread.Unread.TheVariants.{OutIsSource, OutIsTable}
 use Rattle.fidl_command_line.specs.declared.unread.Unread.TheVariants.{Memory}
 use Rattle.fidl_command_line.specs.declared.arguments.CompileArguments.{CompileArguments}
 use Rattle.fidl_command_line.specs.declared.arguments.MigrateArguments.{MigrateArguments}
@@ -28,15 +28,16 @@ use Rattle.fidl_command_line.specs.declared.arguments.TableArguments.{TableArgum
 use Rattle.fidl_command_line.specs.declared.streams.DumpArguments.{DumpArguments}
 use Rattle.fidl_command_line.specs.declared.streams.ServeArguments.{ServeArguments}
 use Rattle.fidl_command_line.specs.declared.arguments.Listing.{Listing}
-use Rattle.fidl_command_line.specs.declared.arguments.Listing.TheVariants.{Records, Roots, Protocols}
+use Rattle.fidl_command_line.specs.declared.arguments.Listing.TheVariants.{Records, Roots}
+use Rattle.fidl_command_line.specs.declared.arguments.Listing.TheVariants.{Protocols}
 use Rattle.fidl_command_line.specs.declared.arguments.Arguments.{Arguments}
 use Rattle.fidl_command_line.specs.declared.arguments.Arguments.TheVariants.{Compile, Decode, Table}
 use Rattle.fidl_command_line.specs.declared.arguments.Arguments.TheVariants.{Explain, Encode}
 use Rattle.fidl_command_line.specs.declared.arguments.Arguments.TheVariants.{Dump, Serve, Migrate}
 use Rattle.fidl_wire.specs.declared.handle.HandleInfo.{HandleInfo}
-use Rattle.fidl_command_line.specs.CommandLine.{program, GivesCompile, GivesMigrate, GivesDecode}
-use Rattle.fidl_command_line.specs.CommandLine.{GivesEncode, GivesTable, GivesDump, GivesServe}
-use Rattle.fidl_command_line.specs.CommandLine.{GivesExplain}
+use Rattle.fidl_command_line.specs.declared.named.CommandName.{CommandName}
+use Rattle.fidl_command_line.specs.declared.named.CommandName.TheVariants as named
+use Rattle.fidl_command_line.specs.CommandLine.{program, Gives}
 use Rattle.fidl_command_line.specs.Contents.{IsContent, IsMessage, IsNoMessage}
 use Rattle.fidl_command_line.specs.Handles.{IsDecimal, IsHandleText}
 use Rattle.fidl_command_line.specs.Complaints.{handle_line}
@@ -231,37 +232,52 @@ IsNoExplain rows BadFault = (words : List (List ℕ))
 IsNoExplain rows Memory = ⊤
 IsNoExplain rows _ = ⊥
 
+-- the values of the arguments of a command are these
+abbrev pub IsRead : CommandName → List Row → Arguments → Type 0
+IsRead named.Compile rows (Compile given) = IsCompile rows given
+IsRead named.Migrate rows (Migrate given) = IsMigrate rows given
+IsRead named.Decode rows (Decode given) = IsDecode rows given
+IsRead named.Encode rows (Encode given) = IsEncode rows given
+IsRead named.Table rows (Table given) = IsTable rows given
+IsRead named.Dump rows (Dump given) = IsDump rows given
+IsRead named.Serve rows (Serve given) = IsServe rows given
+IsRead named.Explain rows (Explain asked) = IsExplain rows asked
+IsRead _ rows _ = ⊥
+
+-- why the values of the arguments of a command are none
+abbrev pub IsUnread : CommandName → List Row → Unread → Type 0
+IsUnread named.Compile = IsNoCompile
+IsUnread named.Migrate = IsNoMigrate
+IsUnread named.Decode = IsNoDecode
+IsUnread named.Encode = IsNoEncode
+IsUnread named.Table = IsNoTable
+IsUnread named.Dump = IsNoDump
+IsUnread named.Serve = IsNoServe
+IsUnread named.Explain = IsNoExplain
+
 -- the words name this command, and the values of its arguments are as they have to be
-abbrev pub Enters : (Names : List Row → Type 0) (Holds : List Row → Type 0) → Type 0
-Enters Names Holds = (rows : List Row) × Names rows × Holds rows
+abbrev pub Enters : List Text → CommandName → (Holds : List Row → Type 0) → Type 0
+Enters words command Holds = (rows : List Row) × Gives words command rows × Holds rows
 
 -- the words give these arguments of a command
 abbrev pub IsGiven : List Text → Arguments → Type 0
-IsGiven words (Compile given) = Enters (GivesCompile words) (λ rows. IsCompile rows given)
-IsGiven words (Migrate given) = Enters (GivesMigrate words) (λ rows. IsMigrate rows given)
-IsGiven words (Decode given) = Enters (GivesDecode words) (λ rows. IsDecode rows given)
-IsGiven words (Encode given) = Enters (GivesEncode words) (λ rows. IsEncode rows given)
-IsGiven words (Table given) = Enters (GivesTable words) (λ rows. IsTable rows given)
-IsGiven words (Dump given) = Enters (GivesDump words) (λ rows. IsDump rows given)
-IsGiven words (Serve given) = Enters (GivesServe words) (λ rows. IsServe rows given)
-IsGiven words (Explain asked) = Enters (GivesExplain words) (λ rows. IsExplain rows asked)
+IsGiven words (Compile given) = Enters words named.Compile (λ rows. IsCompile rows given)
+IsGiven words (Migrate given) = Enters words named.Migrate (λ rows. IsMigrate rows given)
+IsGiven words (Decode given) = Enters words named.Decode (λ rows. IsDecode rows given)
+IsGiven words (Encode given) = Enters words named.Encode (λ rows. IsEncode rows given)
+IsGiven words (Table given) = Enters words named.Table (λ rows. IsTable rows given)
+IsGiven words (Dump given) = Enters words named.Dump (λ rows. IsDump rows given)
+IsGiven words (Serve given) = Enters words named.Serve (λ rows. IsServe rows given)
+IsGiven words (Explain asked) = Enters words named.Explain (λ rows. IsExplain rows asked)
 
 -- the words name a command whose arguments have no such values
 abbrev pub HasBadValues : List Text → Unread → Type 0
-HasBadValues words unread = Enters (GivesCompile words) (λ rows. IsNoCompile rows unread)
-    ⊎ Enters (GivesMigrate words) (λ rows. IsNoMigrate rows unread)
-    ⊎ Enters (GivesDecode words) (λ rows. IsNoDecode rows unread)
-    ⊎ Enters (GivesEncode words) (λ rows. IsNoEncode rows unread)
-    ⊎ Enters (GivesTable words) (λ rows. IsNoTable rows unread)
-    ⊎ Enters (GivesDump words) (λ rows. IsNoDump rows unread)
-    ⊎ Enters (GivesServe words) (λ rows. IsNoServe rows unread)
-    ⊎ Enters (GivesExplain words) (λ rows. IsNoExplain rows unread)
+HasBadValues words unread =
+    (command : CommandName) × Enters words command (λ rows. IsUnread command rows unread)
 
 -- the words name no command
 abbrev pub NamesNone : List Text → Type 0
-NamesNone words = (rows : List Row) → (GivesCompile words rows → ⊥) × (GivesMigrate words rows → ⊥)
-    × (GivesDecode words rows → ⊥) × (GivesEncode words rows → ⊥) × (GivesTable words rows → ⊥)
-    × (GivesDump words rows → ⊥) × (GivesServe words rows → ⊥) × (GivesExplain words rows → ⊥)
+NamesNone words = (command : CommandName) (rows : List Row) → ¬ Gives words command rows
 
 -- why the words give no arguments: they are no command line, or ask for help; or the arguments have
 -- no such values

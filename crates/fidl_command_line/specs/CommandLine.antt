@@ -1,11 +1,17 @@
 -- The command line of the program, in clap's words (docs/program.md, "Command line").
 use Rattle.std.specs.Prelude.{◌≡◌, true, false, List, [], ◌∷◌, Some, codes}
 use Rattle.clap.specs.Words.{App, Shape, Rule, Row, Text, new_rule, subcommand_of, app_of}
+use Rattle.clap.specs.Words.{subcommand_rows_of}
 use Rattle.clap.specs.Lexer.{usize_max}
 use Rattle.clap.specs.declared.builder.command.Command.{Command}
 use Rattle.clap.specs.declared.builder.command.Command.TheViews.{out-Command}
 use Rattle.clap.specs.Simple.{new_shape}
 use Rattle.clap.specs.declared.builder.action.ArgAction.TheVariants.{Set, Append, SetTrue}
+use Rattle.clap.specs.declared.parser.matches.ArgMatches.{ArgMatches}
+use Rattle.fidl_command_line.specs.declared.named.CommandName.{CommandName}
+use Rattle.fidl_command_line.specs.declared.named.CommandName.TheVariants.{Compile, Migrate, Decode}
+use Rattle.fidl_command_line.specs.declared.named.CommandName.TheVariants.{Encode, Table, Dump}
+use Rattle.fidl_command_line.specs.declared.named.CommandName.TheVariants.{Serve, Explain}
 
 -- an argument that must be given, by its place
 abbrev pub positional : Text → Rule
@@ -115,34 +121,21 @@ pub record IsCommandOf (shape : Shape) (command : Command) : Type 0 where
   pub app : app_of command ≡ record { top = shape; subs = [] }
   pub local : (out-Command command).has_globals ≡ false
 
--- the words name the command `compile`, and give its arguments these values
-abbrev pub GivesCompile : List Text → List Row → Type 0
-GivesCompile words rows = subcommand_of program words ≡ Some (codes "compile", rows)
+-- the word that names a command
+abbrev pub word_of : CommandName → Text
+word_of Compile = codes "compile"
+word_of Migrate = codes "migrate"
+word_of Decode = codes "decode"
+word_of Encode = codes "encode"
+word_of Table = codes "table"
+word_of Dump = codes "dump"
+word_of Serve = codes "serve"
+word_of Explain = codes "explain"
 
--- the words name the command `migrate`, and give its arguments these values
-abbrev pub GivesMigrate : List Text → List Row → Type 0
-GivesMigrate words rows = subcommand_of program words ≡ Some (codes "migrate", rows)
+-- what clap read names this command, and gives its arguments these values
+abbrev pub Names : ArgMatches → CommandName → List Row → Type 0
+Names matches command rows = subcommand_rows_of matches ≡ Some (word_of command, rows)
 
--- the words name the command `decode`, and give its arguments these values
-abbrev pub GivesDecode : List Text → List Row → Type 0
-GivesDecode words rows = subcommand_of program words ≡ Some (codes "decode", rows)
-
--- the words name the command `encode`, and give its arguments these values
-abbrev pub GivesEncode : List Text → List Row → Type 0
-GivesEncode words rows = subcommand_of program words ≡ Some (codes "encode", rows)
-
--- the words name the command `table`, and give its argument this value
-abbrev pub GivesTable : List Text → List Row → Type 0
-GivesTable words rows = subcommand_of program words ≡ Some (codes "table", rows)
-
--- the words name the command `dump`, and give its arguments these values
-abbrev pub GivesDump : List Text → List Row → Type 0
-GivesDump words rows = subcommand_of program words ≡ Some (codes "dump", rows)
-
--- the words name the command `serve`, and give its arguments these values
-abbrev pub GivesServe : List Text → List Row → Type 0
-GivesServe words rows = subcommand_of program words ≡ Some (codes "serve", rows)
-
--- the words name the command `explain`, and give its argument these values
-abbrev pub GivesExplain : List Text → List Row → Type 0
-GivesExplain words rows = subcommand_of program words ≡ Some (codes "explain", rows)
+-- the words name this command, and give its arguments these values
+abbrev pub Gives : List Text → CommandName → List Row → Type 0
+Gives words command rows = subcommand_of program words ≡ Some (word_of command, rows)

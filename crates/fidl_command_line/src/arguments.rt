@@ -8,12 +8,15 @@ ghost use Rattle.fidl_command_line.specs.Arguments.{AreNoHandles, IsDecode, IsNo
 ghost use Rattle.fidl_command_line.specs.Arguments.{IsCompile, IsNoCompile, IsTable, IsNoTable};
 ghost use Rattle.fidl_command_line.specs.Arguments.{IsEncode, IsNoEncode, IsMigrate, IsNoMigrate};
 ghost use Rattle.fidl_command_line.specs.Arguments.{IsAskedBy, NamesNoFault, IsExplain};
-ghost use Rattle.fidl_command_line.specs.Arguments.{IsNoExplain, IsGiven, IsUngiven};
-ghost use Rattle.fidl_command_line.specs.Arguments.{handle_texts, is_one_path, listing_of, IsHandleRefusal};
+ghost use Rattle.fidl_command_line.specs.Arguments.{IsNoExplain, IsRead, IsUnread};
+ghost use Rattle.fidl_command_line.specs.Arguments.{IsGiven, IsUngiven};
+ghost use Rattle.fidl_command_line.specs.Arguments.{handle_texts, is_one_path, listing_of};
+ghost use Rattle.fidl_command_line.specs.Arguments.{IsHandleRefusal};
 
 use crate::command_line::command_line;
 use crate::content::{Content, Message, content_of, read_message};
 use crate::handle::{read_handle, read_number};
+use crate::named::{CommandName, Named, named_command};
 use crate::streams::{DumpArguments, ServeArguments, read_dump, read_serve};
 use crate::unread::Unread;
 use clap::ArgMatches;
@@ -318,6 +321,26 @@ fn read_explain<'a>(matches: &ArgMatches<'a>) -> Result<Faults<'a>, Unread>
     }
 }
 
+/// What the command that was named was given.
+fn read_command<'a>(alloc: Global, named: Named<'_, 'a>) -> Result<Arguments<'a>, Unread>
+    ensures ok { IfOk result
+        (IsRead named.entry.command (rows_of (found_of named.entry.matches.now))) }
+    ensures fault_is_true { IfErr result
+        (IsUnread named.entry.command (rows_of (found_of named.entry.matches.now))) }
+{
+    let matches = named.matches;
+    match named.command {
+        CommandName::Compile => Ok(Arguments::Compile(read_compile(alloc, matches)?)),
+        CommandName::Migrate => Ok(Arguments::Migrate(read_migrate(alloc, matches)?)),
+        CommandName::Decode => Ok(Arguments::Decode(read_decode(alloc, matches)?)),
+        CommandName::Encode => Ok(Arguments::Encode(read_encode(matches)?)),
+        CommandName::Table => Ok(Arguments::Table(read_table(matches)?)),
+        CommandName::Dump => Ok(Arguments::Dump(read_dump(matches)?)),
+        CommandName::Serve => Ok(Arguments::Serve(read_serve(matches)?)),
+        CommandName::Explain => Ok(Arguments::Explain(read_explain(matches)?)),
+    }
+}
+
 /// Reads the words of a command line, of which the first is the program's name.
 pub fn read_arguments<'a, S: AsStr>(alloc: Global, words: &'a [S]) -> Result<Arguments<'a>, Unread>
     ensures ok { IfOk result (IsGiven (map S.text words.entry.now)) }
@@ -327,29 +350,8 @@ pub fn read_arguments<'a, S: AsStr>(alloc: Global, words: &'a [S]) -> Result<Arg
         Ok(matches) => matches,
         Err(error) => return Err(Unread::from_clap(alloc, &error)),
     };
-    if let Some(matches) = matches.subcommand_matches("compile") {
-        return Ok(Arguments::Compile(read_compile(alloc, matches)?));
-    }
-    if let Some(matches) = matches.subcommand_matches("migrate") {
-        return Ok(Arguments::Migrate(read_migrate(alloc, matches)?));
-    }
-    if let Some(matches) = matches.subcommand_matches("decode") {
-        return Ok(Arguments::Decode(read_decode(alloc, matches)?));
-    }
-    if let Some(matches) = matches.subcommand_matches("encode") {
-        return Ok(Arguments::Encode(read_encode(matches)?));
-    }
-    if let Some(matches) = matches.subcommand_matches("table") {
-        return Ok(Arguments::Table(read_table(matches)?));
-    }
-    if let Some(matches) = matches.subcommand_matches("dump") {
-        return Ok(Arguments::Dump(read_dump(matches)?));
-    }
-    if let Some(matches) = matches.subcommand_matches("serve") {
-        return Ok(Arguments::Serve(read_serve(matches)?));
-    }
-    match matches.subcommand_matches("explain") {
-        Some(matches) => Ok(Arguments::Explain(read_explain(matches)?)),
+    match named_command(&matches) {
+        Some(named) => read_command(alloc, named),
         None => Err(Unread::Missing),
     }
 }

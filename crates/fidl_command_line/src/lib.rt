@@ -8,6 +8,7 @@ mod arguments;
 mod command_line;
 mod content;
 mod handle;
+mod named;
 mod streams;
 mod unread;
 pub mod worked;

@@ -3,38 +3,59 @@ use Rattle.std.specs.Prelude.{Bool}
 use Rattle.std.proofs.lemmas.Result.{err_from_is_err_and}
 use Rattle.clap.specs.declared.error.kind.ErrorKind.{ErrorKind}
 use Rattle.clap.specs.declared.error.kind.ErrorKind.TheVariants as kinds
-use Rattle.clap.specs.Words.{App, Text, found_of, rows_of, HasMatchesOf, takes}
-use Rattle.fidl_command_line.specs.Arguments.{HasBadValues, IsUngiven, IsToldByKind}
-use Rattle.fidl_command_line.specs.CommandLine.{program, GivesCompile, GivesMigrate, GivesDecode, GivesEncode, GivesTable, GivesDump, GivesServe, GivesExplain}
+use Rattle.clap.specs.declared.parser.matches.ArgMatches.{ArgMatches}
+use Rattle.clap.specs.Words.{App, Row, Text, found_of, rows_of, HasMatchesOf, takes, subcommand_of, subcommand_rows_of}
+use Rattle.fidl_command_line.specs.Arguments.{HasBadValues, IsGiven, IsUngiven, IsRead, IsUnread, IsToldByKind}
+use Rattle.fidl_command_line.specs.CommandLine.{program, Gives}
+use Rattle.fidl_command_line.specs.declared.arguments.Arguments.{Arguments}
+use Rattle.fidl_command_line.specs.declared.arguments.Arguments.TheVariants.{Compile, Migrate, Decode, Encode, Table, Dump, Serve, Explain}
+use Rattle.fidl_command_line.specs.declared.named.CommandName.{CommandName}
+use Rattle.fidl_command_line.specs.declared.named.CommandName.TheVariants as named
 use Rattle.fidl_command_line.specs.declared.unread.Unread.{Unread}
 use Rattle.fidl_command_line.specs.declared.unread.Unread.TheVariants.{Asked, Wrong, NotText, Missing, BadHex, BadRaw, TwoLists, BadFault, BadHandle, OutIsSource, OutIsTable, Memory}
-use Rattle.fidl_command_line.proofs.Commands.{both_of, none_here}
+use Rattle.fidl_command_line.proofs.Commands.{if_ok, if_err}
 use Rattle.fidl_command_line.proofs.arguments.read_arguments.Goals as goal
+
+-- the words name the command that clap's matches of them name
+same_command : (words : List Text) (app : App) (m : ArgMatches) → app ≡ program → HasMatchesOf app words m → subcommand_rows_of m ≡ subcommand_of program words
+same_command words app m is met = ((subst (λ (a : App). HasMatchesOf a words m) is met) refl).1
+
+-- what was read of a command that the words name, they give
+given : (words : List Text) (command : CommandName) (rows : List Row) (read : Arguments) → Gives words command rows → IsRead command rows read → IsGiven words read
+given words named.Compile rows (Compile read) names is = (rows, names, is)
+given words named.Migrate rows (Migrate read) names is = (rows, names, is)
+given words named.Decode rows (Decode read) names is = (rows, names, is)
+given words named.Encode rows (Encode read) names is = (rows, names, is)
+given words named.Table rows (Table read) names is = (rows, names, is)
+given words named.Dump rows (Dump read) names is = (rows, names, is)
+given words named.Serve rows (Serve read) names is = (rows, names, is)
+given words named.Explain rows (Explain read) names is = (rows, names, is)
+given words _ rows _ names is = absurd is
 
 -- bad values are those of the words
 badly : (words : List Text) (u : Unread) → HasBadValues words u → IsUngiven words u
-badly words (Asked text) h = absurd (no_text words (Asked text) h)
+badly words (Asked text) h = absurd (no_text h.0 h.1.0 h.1.2)
   where
-    no_text : (words : List Text) (u : Unread) → HasBadValues words (Asked text) → ⊥
-    no_text words u (inl h) = h.2
-    no_text words u (inr (inl h)) = h.2
-    no_text words u (inr (inr (inl h))) = h.2
-    no_text words u (inr (inr (inr (inl h)))) = h.2
-    no_text words u (inr (inr (inr (inr (inl h))))) = h.2
-    no_text words u (inr (inr (inr (inr (inr (inl h)))))) = h.2
-    no_text words u (inr (inr (inr (inr (inr (inr (inl h))))))) = h.2
-    no_text words u (inr (inr (inr (inr (inr (inr (inr h))))))) = h.2
-badly words (Wrong line) h = absurd (no_line words h)
+    no_text : (command : CommandName) (rows : List Row) → IsUnread command rows (Asked text) → ⊥
+    no_text named.Compile rows h = h
+    no_text named.Migrate rows h = h
+    no_text named.Decode rows h = h
+    no_text named.Encode rows h = h
+    no_text named.Table rows h = h
+    no_text named.Dump rows h = h
+    no_text named.Serve rows h = h
+    no_text named.Explain rows h = h
+badly words (Wrong line) h = absurd (no_line h.0 h.1.0 h.1.2)
   where
-    no_line : (words : List Text) → HasBadValues words (Wrong line) → ⊥
-    no_line words (inl h) = h.2
-    no_line words (inr (inl h)) = h.2
-    no_line words (inr (inr (inl h))) = h.2
-    no_line words (inr (inr (inr (inl h)))) = h.2
-    no_line words (inr (inr (inr (inr (inl h))))) = h.2
-    no_line words (inr (inr (inr (inr (inr (inl h)))))) = h.2
-    no_line words (inr (inr (inr (inr (inr (inr (inl h))))))) = h.2
-    no_line words (inr (inr (inr (inr (inr (inr (inr h))))))) = h.2
+    no_line : (command : CommandName) (rows : List Row) → IsUnread command rows (Wrong line) → ⊥
+    no_line named.Compile rows h = h
+    no_line named.Migrate rows h = h
+    no_line named.Decode rows h = h
+    no_line named.Encode rows h = h
+    no_line named.Table rows h = h
+    no_line named.Dump rows h = h
+    no_line named.Serve rows h = h
+    no_line named.Explain rows h = h
 badly words NotText h = h
 badly words Missing h = inr h
 badly words BadHex h = h
@@ -66,78 +87,6 @@ refused words kind OutIsSource passes h = absurd h
 refused words kind OutIsTable passes h = absurd h
 refused words kind Memory passes h = tt
 
-pub returns-in-Some-clause-ok : goal.returns-in-Some-clause-ok
-returns-in-Some-clause-ok g c =
-    let words = map g.S.AsStr.text c.args.words.now in
-    let found = c.in-Some in
-    let rows = rows_of (found_of found.matches.now) in
-    let met = (subst (λ (a : App). HasMatchesOf a words c.in-Ok.matches) c.in_ok-command_line.ensures c.in-Ok.ensures.matches) refl in
-    let entered : GivesCompile words rows = sym met.1 ∙ both_of _ _ _ _ _ (found.ensures.found.0 refl) found.ensures.rows in
-    (rows, entered, c.in_ok-read_compile.ensures.ok)
-
-pub returns-in-Some-subcommand_matches-clause-ok : goal.returns-in-Some-subcommand_matches-clause-ok
-returns-in-Some-subcommand_matches-clause-ok g c =
-    let words = map g.S.AsStr.text c.args.words.now in
-    let found = c.in-Some-subcommand_matches in
-    let rows = rows_of (found_of found.matches.now) in
-    let met = (subst (λ (a : App). HasMatchesOf a words c.in-Ok.matches) c.in_ok-command_line.ensures c.in-Ok.ensures.matches) refl in
-    let entered : GivesMigrate words rows = sym met.1 ∙ both_of _ _ _ _ _ (found.ensures.found.0 refl) found.ensures.rows in
-    (rows, entered, c.in_ok-read_migrate.ensures.ok)
-
-pub returns-in-Some-subcommand_matches-2-clause-ok : goal.returns-in-Some-subcommand_matches-2-clause-ok
-returns-in-Some-subcommand_matches-2-clause-ok g c =
-    let words = map g.S.AsStr.text c.args.words.now in
-    let found = c.in-Some-subcommand_matches-2 in
-    let rows = rows_of (found_of found.matches.now) in
-    let met = (subst (λ (a : App). HasMatchesOf a words c.in-Ok.matches) c.in_ok-command_line.ensures c.in-Ok.ensures.matches) refl in
-    let entered : GivesDecode words rows = sym met.1 ∙ both_of _ _ _ _ _ (found.ensures.found.0 refl) found.ensures.rows in
-    (rows, entered, c.in_ok-read_decode.ensures.ok)
-
-pub returns-in-Some-subcommand_matches-3-clause-ok : goal.returns-in-Some-subcommand_matches-3-clause-ok
-returns-in-Some-subcommand_matches-3-clause-ok g c =
-    let words = map g.S.AsStr.text c.args.words.now in
-    let found = c.in-Some-subcommand_matches-3 in
-    let rows = rows_of (found_of found.matches.now) in
-    let met = (subst (λ (a : App). HasMatchesOf a words c.in-Ok.matches) c.in_ok-command_line.ensures c.in-Ok.ensures.matches) refl in
-    let entered : GivesEncode words rows = sym met.1 ∙ both_of _ _ _ _ _ (found.ensures.found.0 refl) found.ensures.rows in
-    (rows, entered, c.in_ok-read_encode.ensures.ok)
-
-pub returns-in-Some-subcommand_matches-4-clause-ok : goal.returns-in-Some-subcommand_matches-4-clause-ok
-returns-in-Some-subcommand_matches-4-clause-ok g c =
-    let words = map g.S.AsStr.text c.args.words.now in
-    let found = c.in-Some-subcommand_matches-4 in
-    let rows = rows_of (found_of found.matches.now) in
-    let met = (subst (λ (a : App). HasMatchesOf a words c.in-Ok.matches) c.in_ok-command_line.ensures c.in-Ok.ensures.matches) refl in
-    let entered : GivesTable words rows = sym met.1 ∙ both_of _ _ _ _ _ (found.ensures.found.0 refl) found.ensures.rows in
-    (rows, entered, c.in_ok-read_table.ensures.ok)
-
-pub returns-in-Some-subcommand_matches-5-clause-ok : goal.returns-in-Some-subcommand_matches-5-clause-ok
-returns-in-Some-subcommand_matches-5-clause-ok g c =
-    let words = map g.S.AsStr.text c.args.words.now in
-    let found = c.in-Some-subcommand_matches-5 in
-    let rows = rows_of (found_of found.matches.now) in
-    let met = (subst (λ (a : App). HasMatchesOf a words c.in-Ok.matches) c.in_ok-command_line.ensures c.in-Ok.ensures.matches) refl in
-    let entered : GivesDump words rows = sym met.1 ∙ both_of _ _ _ _ _ (found.ensures.found.0 refl) found.ensures.rows in
-    (rows, entered, c.in_ok-read_dump.ensures.ok)
-
-pub returns-in-Some-subcommand_matches-6-clause-ok : goal.returns-in-Some-subcommand_matches-6-clause-ok
-returns-in-Some-subcommand_matches-6-clause-ok g c =
-    let words = map g.S.AsStr.text c.args.words.now in
-    let found = c.in-Some-subcommand_matches-6 in
-    let rows = rows_of (found_of found.matches.now) in
-    let met = (subst (λ (a : App). HasMatchesOf a words c.in-Ok.matches) c.in_ok-command_line.ensures c.in-Ok.ensures.matches) refl in
-    let entered : GivesServe words rows = sym met.1 ∙ both_of _ _ _ _ _ (found.ensures.found.0 refl) found.ensures.rows in
-    (rows, entered, c.in_ok-read_serve.ensures.ok)
-
-pub returns-in-Some-subcommand_matches-7-clause-ok : goal.returns-in-Some-subcommand_matches-7-clause-ok
-returns-in-Some-subcommand_matches-7-clause-ok g c =
-    let words = map g.S.AsStr.text c.args.words.now in
-    let found = c.in-Some-subcommand_matches-7 in
-    let rows = rows_of (found_of found.matches.now) in
-    let met = (subst (λ (a : App). HasMatchesOf a words c.in-Ok.matches) c.in_ok-command_line.ensures c.in-Ok.ensures.matches) refl in
-    let entered : GivesExplain words rows = sym met.1 ∙ both_of _ _ _ _ _ (found.ensures.found.0 refl) found.ensures.rows in
-    (rows, entered, c.in_ok-read_explain-in-Some-subcommand_matches-7.ensures.ok)
-
 pub returns-in-Err-clause-fault_is_true : goal.returns-in-Err-clause-fault_is_true
 returns-in-Err-clause-fault_is_true g c =
     let words = map g.S.AsStr.text c.args.words.now in
@@ -148,98 +97,24 @@ returns-in_err-command_line-clause-fault_is_true g c =
     let p = err_from_is_err_and c.from_residual.result c.from_residual.ensures.1 in
     rw (p.1, p.2) tt
 
-pub returns-in_err-read_compile-clause-fault_is_true : goal.returns-in_err-read_compile-clause-fault_is_true
-returns-in_err-read_compile-clause-fault_is_true g c =
+pub returns-in-Some-clause-ok : goal.returns-in-Some-clause-ok
+returns-in-Some-clause-ok g c =
     let words = map g.S.AsStr.text c.args.words.now in
-    let rows = rows_of (found_of c.in-Some.matches.now) in
-    let met = (subst (λ (a : App). HasMatchesOf a words c.in-Ok.matches) c.in_ok-command_line.ensures c.in-Ok.ensures.matches) refl in
-    let entered : GivesCompile words rows = sym met.1 ∙ both_of _ _ _ _ _ (c.in-Some.ensures.found.0 refl) c.in-Some.ensures.rows in
-    let p = err_from_is_err_and c.from_residual-in_err-read_compile.result c.from_residual-in_err-read_compile.ensures.1 in
-    rw (p.1, p.2) (badly words c.in_err-read_compile.field-0.0 (inl (rows, entered, c.in_err-read_compile.ensures.fault_is_true)))
+    let rows = rows_of (found_of c.in-Some.named.matches.now) in
+    let command = c.in-Some.named.command in
+    let names : Gives words command rows = sym (same_command words _ c.in-Ok.matches c.in_ok-command_line.ensures c.in-Ok.ensures.matches) ∙ c.in-Some.ensures.some in
+    if_ok (IsRead command rows) (IsGiven words) c.read_command.result (λ read. given words command rows read names) c.read_command.ensures.ok
 
-pub returns-in_err-read_migrate-clause-fault_is_true : goal.returns-in_err-read_migrate-clause-fault_is_true
-returns-in_err-read_migrate-clause-fault_is_true g c =
+pub returns-in-Some-clause-fault_is_true : goal.returns-in-Some-clause-fault_is_true
+returns-in-Some-clause-fault_is_true g c =
     let words = map g.S.AsStr.text c.args.words.now in
-    let found = c.in-Some-subcommand_matches in
-    let rows = rows_of (found_of found.matches.now) in
-    let met = (subst (λ (a : App). HasMatchesOf a words c.in-Ok.matches) c.in_ok-command_line.ensures c.in-Ok.ensures.matches) refl in
-    let entered : GivesMigrate words rows = sym met.1 ∙ both_of _ _ _ _ _ (found.ensures.found.0 refl) found.ensures.rows in
-    let p = err_from_is_err_and c.from_residual-in_err-read_migrate.result c.from_residual-in_err-read_migrate.ensures.1 in
-    rw (p.1, p.2) (badly words c.in_err-read_migrate.field-0.0 (inr (inl (rows, entered, c.in_err-read_migrate.ensures.fault_is_true))))
-
-pub returns-in_err-read_decode-clause-fault_is_true : goal.returns-in_err-read_decode-clause-fault_is_true
-returns-in_err-read_decode-clause-fault_is_true g c =
-    let words = map g.S.AsStr.text c.args.words.now in
-    let found = c.in-Some-subcommand_matches-2 in
-    let rows = rows_of (found_of found.matches.now) in
-    let met = (subst (λ (a : App). HasMatchesOf a words c.in-Ok.matches) c.in_ok-command_line.ensures c.in-Ok.ensures.matches) refl in
-    let entered : GivesDecode words rows = sym met.1 ∙ both_of _ _ _ _ _ (found.ensures.found.0 refl) found.ensures.rows in
-    let p = err_from_is_err_and c.from_residual-in_err-read_decode.result c.from_residual-in_err-read_decode.ensures.1 in
-    rw (p.1, p.2) (badly words c.in_err-read_decode.field-0.0 (inr (inr (inl (rows, entered, c.in_err-read_decode.ensures.fault_is_true)))))
-
-pub returns-in_err-read_encode-clause-fault_is_true : goal.returns-in_err-read_encode-clause-fault_is_true
-returns-in_err-read_encode-clause-fault_is_true g c =
-    let words = map g.S.AsStr.text c.args.words.now in
-    let found = c.in-Some-subcommand_matches-3 in
-    let rows = rows_of (found_of found.matches.now) in
-    let met = (subst (λ (a : App). HasMatchesOf a words c.in-Ok.matches) c.in_ok-command_line.ensures c.in-Ok.ensures.matches) refl in
-    let entered : GivesEncode words rows = sym met.1 ∙ both_of _ _ _ _ _ (found.ensures.found.0 refl) found.ensures.rows in
-    let p = err_from_is_err_and c.from_residual-in_err-read_encode.result c.from_residual-in_err-read_encode.ensures.1 in
-    rw (p.1, p.2) (badly words c.in_err-read_encode.field-0.0 (inr (inr (inr (inl (rows, entered, c.in_err-read_encode.ensures.fault_is_true))))))
-
-pub returns-in_err-read_table-clause-fault_is_true : goal.returns-in_err-read_table-clause-fault_is_true
-returns-in_err-read_table-clause-fault_is_true g c =
-    let words = map g.S.AsStr.text c.args.words.now in
-    let found = c.in-Some-subcommand_matches-4 in
-    let rows = rows_of (found_of found.matches.now) in
-    let met = (subst (λ (a : App). HasMatchesOf a words c.in-Ok.matches) c.in_ok-command_line.ensures c.in-Ok.ensures.matches) refl in
-    let entered : GivesTable words rows = sym met.1 ∙ both_of _ _ _ _ _ (found.ensures.found.0 refl) found.ensures.rows in
-    let p = err_from_is_err_and c.from_residual-in_err-read_table.result c.from_residual-in_err-read_table.ensures.1 in
-    rw (p.1, p.2) (badly words c.in_err-read_table.field-0.0 (inr (inr (inr (inr (inl (rows, entered, c.in_err-read_table.ensures.fault_is_true)))))))
-
-pub returns-in_err-read_dump-clause-fault_is_true : goal.returns-in_err-read_dump-clause-fault_is_true
-returns-in_err-read_dump-clause-fault_is_true g c =
-    let words = map g.S.AsStr.text c.args.words.now in
-    let found = c.in-Some-subcommand_matches-5 in
-    let rows = rows_of (found_of found.matches.now) in
-    let met = (subst (λ (a : App). HasMatchesOf a words c.in-Ok.matches) c.in_ok-command_line.ensures c.in-Ok.ensures.matches) refl in
-    let entered : GivesDump words rows = sym met.1 ∙ both_of _ _ _ _ _ (found.ensures.found.0 refl) found.ensures.rows in
-    let p = err_from_is_err_and c.from_residual-in_err-read_dump.result c.from_residual-in_err-read_dump.ensures.1 in
-    rw (p.1, p.2) (badly words c.in_err-read_dump.field-0.0 (inr (inr (inr (inr (inr (inl (rows, entered, c.in_err-read_dump.ensures.fault_is_true))))))))
-
-pub returns-in_err-read_serve-clause-fault_is_true : goal.returns-in_err-read_serve-clause-fault_is_true
-returns-in_err-read_serve-clause-fault_is_true g c =
-    let words = map g.S.AsStr.text c.args.words.now in
-    let found = c.in-Some-subcommand_matches-6 in
-    let rows = rows_of (found_of found.matches.now) in
-    let met = (subst (λ (a : App). HasMatchesOf a words c.in-Ok.matches) c.in_ok-command_line.ensures c.in-Ok.ensures.matches) refl in
-    let entered : GivesServe words rows = sym met.1 ∙ both_of _ _ _ _ _ (found.ensures.found.0 refl) found.ensures.rows in
-    let p = err_from_is_err_and c.from_residual-in_err-read_serve.result c.from_residual-in_err-read_serve.ensures.1 in
-    rw (p.1, p.2) (badly words c.in_err-read_serve.field-0.0 (inr (inr (inr (inr (inr (inr (inl (rows, entered, c.in_err-read_serve.ensures.fault_is_true)))))))))
-
-pub returns-in_err-read_explain-in-Some-subcommand_matches-7-clause-fault_is_true : goal.returns-in_err-read_explain-in-Some-subcommand_matches-7-clause-fault_is_true
-returns-in_err-read_explain-in-Some-subcommand_matches-7-clause-fault_is_true g c =
-    let words = map g.S.AsStr.text c.args.words.now in
-    let found = c.in-Some-subcommand_matches-7 in
-    let rows = rows_of (found_of found.matches.now) in
-    let met = (subst (λ (a : App). HasMatchesOf a words c.in-Ok.matches) c.in_ok-command_line.ensures c.in-Ok.ensures.matches) refl in
-    let entered : GivesExplain words rows = sym met.1 ∙ both_of _ _ _ _ _ (found.ensures.found.0 refl) found.ensures.rows in
-    let bad = c.in_err-read_explain-in-Some-subcommand_matches-7 in
-    let from = c.from_residual-in_err-read_explain-in-Some-subcommand_matches-7 in
-    let p = err_from_is_err_and from.result from.ensures.1 in
-    rw (p.1, p.2) (badly words bad.field-0.0 (inr (inr (inr (inr (inr (inr (inr (rows, entered, bad.ensures.fault_is_true)))))))))
+    let rows = rows_of (found_of c.in-Some.named.matches.now) in
+    let command = c.in-Some.named.command in
+    let names : Gives words command rows = sym (same_command words _ c.in-Ok.matches c.in_ok-command_line.ensures c.in-Ok.ensures.matches) ∙ c.in-Some.ensures.some in
+    if_err (IsUnread command rows) (IsUngiven words) c.read_command.result (λ unread bad. badly words unread (command, (rows, names, bad))) c.read_command.ensures.fault_is_true
 
 pub returns-clause-fault_is_true : goal.returns-clause-fault_is_true
 returns-clause-fault_is_true g c =
     let words = map g.S.AsStr.text c.args.words.now in
-    let met = (subst (λ (a : App). HasMatchesOf a words c.in-Ok.matches) c.in_ok-command_line.ensures c.in-Ok.ensures.matches) refl in
-    inl (λ rows. (
-      λ e. none_here _ _ _ _ _ c.in_default.ensures.found.1 (met.1 ∙ e),
-      λ e. none_here _ _ _ _ _ c.in_default-subcommand_matches.ensures.found.1 (met.1 ∙ e),
-      λ e. none_here _ _ _ _ _ c.in_default-subcommand_matches-2.ensures.found.1 (met.1 ∙ e),
-      λ e. none_here _ _ _ _ _ c.in_default-subcommand_matches-3.ensures.found.1 (met.1 ∙ e),
-      λ e. none_here _ _ _ _ _ c.in_default-subcommand_matches-4.ensures.found.1 (met.1 ∙ e),
-      λ e. none_here _ _ _ _ _ c.in_default-subcommand_matches-5.ensures.found.1 (met.1 ∙ e),
-      λ e. none_here _ _ _ _ _ c.in_default-subcommand_matches-6.ensures.found.1 (met.1 ∙ e),
-      λ e. none_here _ _ _ _ _ c.in-None.ensures.found.1 (met.1 ∙ e),
-    ))
+    let same = same_command words _ c.in-Ok.matches c.in_ok-command_line.ensures c.in-Ok.ensures.matches in
+    inl (λ command rows names. c.in-None.ensures.none command rows (same ∙ names))

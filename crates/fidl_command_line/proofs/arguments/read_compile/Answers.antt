@@ -1,17 +1,11 @@
-use Rattle.std.proofs.Common.{◌≡◌, sym, ap, ◌∙◌, map, codes, inl, inr}
-use Rattle.std.specs.Prelude.{Option, Some, None, option_map}
+use Rattle.std.proofs.Common.{sym, ap, ◌∙◌, map, codes, inl, inr}
+use Rattle.std.specs.Prelude.{Some}
 use Rattle.std.specs.List.{list_any}
 use Rattle.clap.proofs.WalkLemmas.{raw_values-rows}
 use Rattle.clap.specs.Words.{found_of}
 use Rattle.fidl_command_line.specs.Arguments.{is_one_path}
+use Rattle.fidl_command_line.proofs.Commands.{some_value, no_value}
 use Rattle.fidl_command_line.proofs.arguments.read_compile.Goals as goal
-
--- what stands at an argument, or that nothing does
-some_value : {A B : Type 0} (f : A → B) (o : Option A) (x : A) (found : Option B) → o ≡ Some x → option_map f o ≡ found → found ≡ Some (f x)
-some_value f o x found is h = sym h ∙ ap (option_map f) is
-
-no_value : {A B : Type 0} (f : A → B) (o : Option A) (found : Option B) → o ≡ None → option_map f o ≡ found → found ≡ None
-no_value f o found is h = sym h ∙ ap (option_map f) is
 
 pub returns-in_default-clause-fault_is_true : goal.returns-in_default-clause-fault_is_true
 returns-in_default-clause-fault_is_true c = inl (no_value _ _ _ c.in_default.is c.value_of.ensures)
