@@ -102,6 +102,13 @@ serve_command = record (new_shape (codes "serve")) {
 abbrev pub explain_command : Shape
 explain_command = record (new_shape (codes "explain")) { rules = fault_argument ∷ [] }
 
+-- `fidl` without its commands
+abbrev pub bare_program : App
+bare_program = record {
+  top = record (new_shape (codes "fidl")) { has_version = true; subcommand_required = true };
+  subs = [];
+}
+
 -- `fidl COMMAND`; clap adds help and version
 abbrev pub program : App
 program = record {

@@ -1,6 +1,7 @@
 //! The command line of the program, as `clap` reads it.
 ghost use Rattle.std.specs.Prelude.{◌≡◌, IfOk, false};
-ghost use Rattle.clap.specs.Words.{app_of, rule_of};
+ghost use Rattle.clap.specs.Words.{Shape, app_of, new_app, rule_of, with_subcommand};
+ghost use Rattle.clap.specs.declared.builder.command.Command.TheViews.{out-Command};
 ghost use Rattle.fidl_command_line.specs.CommandLine as spec;
 ghost use Rattle.fidl_command_line.specs.CommandLine.{positional, out_option, files_argument};
 ghost use Rattle.fidl_command_line.specs.CommandLine.{handle_option, flag, fault_argument};
@@ -195,133 +196,192 @@ fn fault<'a>(alloc: Global) -> Arg<'a>
         .help("The name of a fault, as BadConstraint, or its stage and number, as types 9")
 }
 
+/// A command of this name, with what stands above and below its help.
+fn described<'a>(alloc: Global, name: &'a str, about: &'a str, after_help: &'a str) -> Command<'a>
+    ensures app { app_of result ≡ new_app name.entry.now }
+    ensures local { (out-Command result).has_globals ≡ false }
+{
+    Command::new(alloc, name)
+        .about(about)
+        .after_help(after_help)
+}
+
 /// The command `compile`.
 fn compile_command<'a>(alloc: Global) -> Result<Command<'a>, AllocError>
     ensures { IfOk result (IsCommandOf spec.compile_command) }
 {
-    Command::new(alloc, "compile")
-        .about("Writes the coding table of libraries, from their sources")
-        .after_help(COMPILE_HELP)
-        .arg(out(alloc))?
-        .arg(flag(
-            alloc,
-            "snippet",
-            "Shows the line of a fault, with a caret under its place",
-        ))?
-        .arg(files(alloc))
+    described(
+        alloc,
+        "compile",
+        "Writes the coding table of libraries, from their sources",
+        COMPILE_HELP,
+    )
+    .arg(out(alloc))?
+    .arg(flag(
+        alloc,
+        "snippet",
+        "Shows the line of a fault, with a caret under its place",
+    ))?
+    .arg(files(alloc))
 }
 
 /// The command `migrate`.
 fn migrate_command<'a>(alloc: Global) -> Result<Command<'a>, AllocError>
     ensures { IfOk result (IsCommandOf spec.migrate_command) }
 {
-    Command::new(alloc, "migrate")
-        .about("Writes the version 2 of a coding table")
-        .after_help(MIGRATE_HELP)
-        .arg(out(alloc))?
-        .arg(required(alloc, "TABLE", "The file of the coding table"))
+    described(
+        alloc,
+        "migrate",
+        "Writes the version 2 of a coding table",
+        MIGRATE_HELP,
+    )
+    .arg(out(alloc))?
+    .arg(required(alloc, "TABLE", "The file of the coding table"))
 }
 
 /// The command `decode`.
 fn decode_command<'a>(alloc: Global) -> Result<Command<'a>, AllocError>
     ensures { IfOk result (IsCommandOf spec.decode_command) }
 {
-    Command::new(alloc, "decode")
-        .about("Prints the text of the value that a message encodes")
-        .after_help(DECODE_HELP)
-        .arg(handle(alloc))?
-        .arg(flag(
-            alloc,
-            "raw",
-            "Takes the bytes of a file or of the standard input as they are",
-        ))?
-        .arg(required(alloc, "TABLE", "The file of the coding table"))?
-        .arg(required(alloc, "ROOT", "The name of the value's type in the table"))?
-        .arg(required(alloc, "HEX", HEX_HELP))
+    described(
+        alloc,
+        "decode",
+        "Prints the text of the value that a message encodes",
+        DECODE_HELP,
+    )
+    .arg(handle(alloc))?
+    .arg(flag(
+        alloc,
+        "raw",
+        "Takes the bytes of a file or of the standard input as they are",
+    ))?
+    .arg(required(alloc, "TABLE", "The file of the coding table"))?
+    .arg(required(alloc, "ROOT", "The name of the value's type in the table"))?
+    .arg(required(alloc, "HEX", HEX_HELP))
 }
 
 /// The command `encode`.
 fn encode_command<'a>(alloc: Global) -> Result<Command<'a>, AllocError>
     ensures { IfOk result (IsCommandOf spec.encode_command) }
 {
-    Command::new(alloc, "encode")
-        .about("Prints the message that encodes the value of a text")
-        .after_help(ENCODE_HELP)
-        .arg(required(alloc, "TABLE", "The file of the coding table"))?
-        .arg(required(alloc, "ROOT", "The name of the value's type in the table"))?
-        .arg(required(alloc, "TEXT", TEXT_HELP))
+    described(
+        alloc,
+        "encode",
+        "Prints the message that encodes the value of a text",
+        ENCODE_HELP,
+    )
+    .arg(required(alloc, "TABLE", "The file of the coding table"))?
+    .arg(required(alloc, "ROOT", "The name of the value's type in the table"))?
+    .arg(required(alloc, "TEXT", TEXT_HELP))
 }
 
 /// The command `table`.
 fn table_command<'a>(alloc: Global) -> Result<Command<'a>, AllocError>
     ensures { IfOk result (IsCommandOf spec.table_command) }
 {
-    Command::new(alloc, "table")
-        .about("Prints the records of a coding table")
-        .after_help(TABLE_HELP)
-        .arg(flag(alloc, "roots", "Prints the names of the roots alone"))?
-        .arg(flag(
-            alloc,
-            "protocols",
-            "Prints the names of the protocols alone",
-        ))?
-        .arg(required(alloc, "TABLE", "The file of the coding table"))
+    described(
+        alloc,
+        "table",
+        "Prints the records of a coding table",
+        TABLE_HELP,
+    )
+    .arg(flag(alloc, "roots", "Prints the names of the roots alone"))?
+    .arg(flag(
+        alloc,
+        "protocols",
+        "Prints the names of the protocols alone",
+    ))?
+    .arg(required(alloc, "TABLE", "The file of the coding table"))
 }
 
 /// The command `dump`.
 fn dump_command<'a>(alloc: Global) -> Result<Command<'a>, AllocError>
     ensures { IfOk result (IsCommandOf spec.dump_command) }
 {
-    Command::new(alloc, "dump")
-        .about("Prints a line for each frame of a stream of messages")
-        .after_help(DUMP_HELP)
-        .arg(flag(
-            alloc,
-            "response",
-            "Takes the frames for responses and events, not for requests",
-        ))?
-        .arg(required(alloc, "TABLE", "The file of the coding table"))?
-        .arg(required(alloc, "PROTOCOL", "The name of the protocol in the table"))?
-        .arg(required(alloc, "FILE", "The file of the frames"))
+    described(
+        alloc,
+        "dump",
+        "Prints a line for each frame of a stream of messages",
+        DUMP_HELP,
+    )
+    .arg(flag(
+        alloc,
+        "response",
+        "Takes the frames for responses and events, not for requests",
+    ))?
+    .arg(required(alloc, "TABLE", "The file of the coding table"))?
+    .arg(required(alloc, "PROTOCOL", "The name of the protocol in the table"))?
+    .arg(required(alloc, "FILE", "The file of the frames"))
 }
 
 /// The command `serve`.
 fn serve_command<'a>(alloc: Global) -> Result<Command<'a>, AllocError>
     ensures { IfOk result (IsCommandOf spec.serve_command) }
 {
-    Command::new(alloc, "serve")
-        .about("Answers the requests of the standard input by the replies of a script")
-        .after_help(SERVE_HELP)
-        .arg(required(alloc, "TABLE", "The file of the coding table"))?
-        .arg(required(alloc, "SCRIPT", "The file of the script"))
+    described(
+        alloc,
+        "serve",
+        "Answers the requests of the standard input by the replies of a script",
+        SERVE_HELP,
+    )
+    .arg(required(alloc, "TABLE", "The file of the coding table"))?
+    .arg(required(alloc, "SCRIPT", "The file of the script"))
 }
 
 /// The command `explain`.
 fn explain_command<'a>(alloc: Global) -> Result<Command<'a>, AllocError>
     ensures { IfOk result (IsCommandOf spec.explain_command) }
 {
-    Command::new(alloc, "explain")
-        .about("Says what a fault means, with an example")
-        .after_help(EXPLAIN_HELP)
-        .arg(fault(alloc))
+    described(
+        alloc,
+        "explain",
+        "Says what a fault means, with an example",
+        EXPLAIN_HELP,
+    )
+    .arg(fault(alloc))
+}
+
+/// The program without its commands.
+fn bare_program<'a>(alloc: Global) -> Result<Command<'a>, AllocError>
+    ensures { IfOk result (λ c. app_of c ≡ spec.bare_program) }
+{
+    let program = described(
+        alloc,
+        "fidl",
+        "Compiles FIDL libraries to coding tables, and reads and writes messages by them",
+        PROGRAM_HELP,
+    );
+    Ok(
+        program
+            .bin_name("fidl")?
+            .version("0.1")
+            .subcommand_required(true),
+    )
+}
+
+/// The program with one more command.
+fn added<'a>(
+    program: Command<'a>,
+    command: Result<Command<'a>, AllocError>,
+) -> Result<Command<'a>, AllocError>
+    ensures { (shape : Shape) → IfOk command.entry (IsCommandOf shape)
+        → IfOk result (λ c. app_of c ≡ with_subcommand (app_of program.entry) shape) }
+{
+    let command = command?;
+    program.subcommand(command)
 }
 
 /// The command line of the program.
 pub(crate) fn command_line<'a>(alloc: Global) -> Result<Command<'a>, AllocError>
     ensures { IfOk result (λ c. app_of c ≡ program) }
 {
-    Command::new(alloc, "fidl")
-        .bin_name("fidl")?
-        .version("0.1")
-        .about("Compiles FIDL libraries to coding tables, and reads and writes messages by them")
-        .after_help(PROGRAM_HELP)
-        .subcommand_required(true)
-        .subcommand(compile_command(alloc)?)?
-        .subcommand(migrate_command(alloc)?)?
-        .subcommand(decode_command(alloc)?)?
-        .subcommand(encode_command(alloc)?)?
-        .subcommand(table_command(alloc)?)?
-        .subcommand(dump_command(alloc)?)?
-        .subcommand(serve_command(alloc)?)?
-        .subcommand(explain_command(alloc)?)
+    let program = bare_program(alloc)?;
+    let program = added(program, compile_command(alloc))?;
+    let program = added(program, migrate_command(alloc))?;
+    let program = added(program, decode_command(alloc))?;
+    let program = added(program, encode_command(alloc))?;
+    let program = added(program, table_command(alloc))?;
+    let program = added(program, dump_command(alloc))?;
+    let program = added(program, serve_command(alloc))?;
+    added(program, explain_command(alloc))
 }

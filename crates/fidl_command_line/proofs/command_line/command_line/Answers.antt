@@ -1,19 +1,21 @@
-use Rattle.std.proofs.Common.{◌≡◌, ap, ◌∙◌, true, codes, []}
-use Rattle.clap.specs.Words.{App, app_of}
-use Rattle.clap.specs.Simple.{app_of_fields, new_shape}
-use Rattle.fidl_command_line.proofs.Commands.{if_ok, joined}
+use Rattle.std.proofs.Common.{◌≡◌, ap, ◌∙◌}
+use Rattle.clap.specs.Words.{App, Shape, with_subcommand}
+use Rattle.fidl_command_line.specs.CommandLine as spec
+use Rattle.fidl_command_line.proofs.Commands.{if_ok}
 use Rattle.fidl_command_line.proofs.command_line.command_line.Goals as goal
+
+-- a shape is added on both sides
+more : (shape : Shape) (x y : App) → x ≡ y → with_subcommand x shape ≡ with_subcommand y shape
+more shape x y = ap (λ (z : App). with_subcommand z shape)
 
 pub returns : goal.returns
 returns c =
-    let whole : app_of c.subcommand_required.result ≡ record { top = record (new_shape (codes "fidl")) { has_version = true; subcommand_required = true }; subs = [] } = ap app_of_fields c.subcommand_required.ensures
-    ∙ ap (λ (x : App). record x { top = record x.top { subcommand_required = true } }) (ap app_of_fields c.after_help.ensures ∙ ap app_of_fields c.about.ensures ∙ ap app_of_fields c.version.ensures
-    ∙ ap (λ (x : App). record x { top = record x.top { has_version = true } }) (ap app_of_fields c.in_ok-bin_name.ensures.0 ∙ c.new.ensures.app)) in
-    let one = joined _ _ _ _ _ c.in_ok-subcommand.ensures c.in_ok-compile_command.ensures whole in
-    let two = joined _ _ _ _ _ c.in_ok-subcommand-2.ensures c.in_ok-migrate_command.ensures one in
-    let three = joined _ _ _ _ _ c.in_ok-subcommand-3.ensures c.in_ok-decode_command.ensures two in
-    let four = joined _ _ _ _ _ c.in_ok-subcommand-4.ensures c.in_ok-encode_command.ensures three in
-    let five = joined _ _ _ _ _ c.in_ok-subcommand-5.ensures c.in_ok-table_command.ensures four in
-    let six = joined _ _ _ _ _ c.in_ok-subcommand-6.ensures c.in_ok-dump_command.ensures five in
-    let seven = joined _ _ _ _ _ c.in_ok-subcommand-7.ensures c.in_ok-serve_command.ensures six in
-    if_ok _ _ c.subcommand-8.result (λ r h. joined _ _ _ _ _ h c.in_ok-explain_command.ensures seven) c.subcommand-8.ensures
+    let none = c.in_ok-program.ensures in
+    let one = c.in_ok-program-2.ensures spec.compile_command c.compile_command.ensures ∙ more spec.compile_command _ _ none in
+    let two = c.in_ok-program-3.ensures spec.migrate_command c.migrate_command.ensures ∙ more spec.migrate_command _ _ one in
+    let three = c.in_ok-program-4.ensures spec.decode_command c.decode_command.ensures ∙ more spec.decode_command _ _ two in
+    let four = c.in_ok-program-5.ensures spec.encode_command c.encode_command.ensures ∙ more spec.encode_command _ _ three in
+    let five = c.in_ok-program-6.ensures spec.table_command c.table_command.ensures ∙ more spec.table_command _ _ four in
+    let six = c.in_ok-program-7.ensures spec.dump_command c.dump_command.ensures ∙ more spec.dump_command _ _ five in
+    let seven = c.in_ok-program-8.ensures spec.serve_command c.serve_command.ensures ∙ more spec.serve_command _ _ six in
+    if_ok _ _ c.added-8.result (λ r h. h ∙ more spec.explain_command _ _ seven) (c.added-8.ensures spec.explain_command c.explain_command.ensures)

@@ -1,16 +1,11 @@
-use Rattle.std.proofs.Common.{ap, ◌∙◌, codes}
-use Rattle.clap.specs.Simple.{app_of_fields, new_app}
-use Rattle.clap.specs.declared.builder.command.Command.TheOpen.{Command-F}
-use Rattle.clap.specs.declared.builder.command.Command.{Command}
+use Rattle.std.proofs.Common.{codes}
+use Rattle.clap.specs.Simple.{new_app}
 use Rattle.fidl_command_line.proofs.Commands.{if_ok, grown, IsApp}
 use Rattle.fidl_command_line.proofs.command_line.decode_command.Goals as goal
 
 pub returns : goal.returns
 returns c =
-    let base : IsApp (new_app (codes "decode")) c.after_help.result = (
-      ap app_of_fields c.after_help.ensures ∙ ap app_of_fields c.about.ensures ∙ c.new.ensures.app,
-      ap (λ (f : Command-F Command). f.has_globals) c.after_help.ensures ∙ ap (λ (f : Command-F Command). f.has_globals) c.about.ensures ∙ c.new.ensures.local,
-    ) in
+    let base : IsApp (new_app (codes "decode")) c.described.result = (c.described.ensures.app, c.described.ensures.local) in
     let handles = grown _ _ _ _ _ base c.in_ok-arg.ensures c.handle.ensures.rule c.handle.ensures.local in
     let raw = grown _ _ _ _ _ handles c.in_ok-arg-2.ensures c.flag.ensures.rule c.flag.ensures.local in
     let table = grown _ _ _ _ _ raw c.in_ok-arg-3.ensures c.required.ensures.rule c.required.ensures.local in

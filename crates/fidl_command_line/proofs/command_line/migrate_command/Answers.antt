@@ -1,0 +1,10 @@
+use Rattle.std.proofs.Common.{codes}
+use Rattle.clap.specs.Simple.{new_app}
+use Rattle.fidl_command_line.proofs.Commands.{if_ok, grown, IsApp}
+use Rattle.fidl_command_line.proofs.command_line.migrate_command.Goals as goal
+
+pub returns : goal.returns
+returns c =
+    let base : IsApp (new_app (codes "migrate")) c.described.result = (c.described.ensures.app, c.described.ensures.local) in
+    let out = grown _ _ _ _ _ base c.in_ok-arg.ensures c.out.ensures.rule c.out.ensures.local in
+    if_ok _ _ c.arg-2.result (λ r h. let all = grown _ _ _ _ _ out h c.required.ensures.rule c.required.ensures.local in record { app = all.0; local = all.1 }) c.arg-2.ensures

@@ -1,0 +1,11 @@
+use Rattle.std.proofs.Common.{codes}
+use Rattle.clap.specs.Simple.{new_app}
+use Rattle.fidl_command_line.proofs.Commands.{if_ok, grown, IsApp}
+use Rattle.fidl_command_line.proofs.command_line.table_command.Goals as goal
+
+pub returns : goal.returns
+returns c =
+    let base : IsApp (new_app (codes "table")) c.described.result = (c.described.ensures.app, c.described.ensures.local) in
+    let roots = grown _ _ _ _ _ base c.in_ok-arg.ensures c.flag.ensures.rule c.flag.ensures.local in
+    let protocols = grown _ _ _ _ _ roots c.in_ok-arg-2.ensures c.flag-2.ensures.rule c.flag-2.ensures.local in
+    if_ok _ _ c.arg-3.result (λ r h. let all = grown _ _ _ _ _ protocols h c.required.ensures.rule c.required.ensures.local in record { app = all.0; local = all.1 }) c.arg-3.ensures
