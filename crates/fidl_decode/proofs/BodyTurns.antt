@@ -27,7 +27,7 @@ use Rattle.fidl_decode.specs.Body.{BodyFine, IsFreeOf, rest_of, envelopes_of}
 use Rattle.fidl_decode_model.specs.Machine.{ReadsIf, StateFine, FrameFine, Turns, Visits, Opens, most_nest}
 use Rattle.fidl_decode.proofs.EnvelopeTurns.{envelope_absent, envelope_opened}
 use Rattle.fidl_decode_model.proofs.Enclosed.{contained_some}
-use Rattle.fidl_decode.proofs.Leaves.{left_over}
+use Rattle.fidl_decode_columns.proofs.Leaves.{left_over}
 use Rattle.fidl_decode_model.proofs.Visiting.{size_as}
 
 module _ (t : List ℕ) (fine : IsFine t) (m : Message) (within : IsWithin m.bytes m.handles) (b : TableBody) (read : ℕ) (old : Position) (ff : FrameFine t m.bytes (rest_of b read)) (state : StateFine m old) (more : read < b.count) where

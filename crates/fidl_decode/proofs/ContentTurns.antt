@@ -21,7 +21,7 @@ use Rattle.fidl_decode_model.specs.Machine.{rows_left, BreaksFrame, IsUntil, IsI
 use Rattle.fidl_decode_model.proofs.Stated.{element_rows-more}
 use Rattle.fidl_decode_model.proofs.Visiting.{size_is, nest_is, positive}
 use Rattle.fidl_decode_model.proofs.Turning.{work_falls, done_fits, spends, spends_more, turns_end, end_breaks, row_fine, row_room, row_inside, visit_breaks, turns_more}
-use Rattle.fidl_decode.proofs.Leaves.{going_on, no_zeros}
+use Rattle.fidl_decode_columns.proofs.Leaves.{going_on, no_zeros}
 
 module _ (t : List ℕ) (fine : IsFine t) (m : Message) (f : Frame) (e size count : ℕ) (u : Until) (old : Position) (ff : FrameFine t m.bytes (going_on f (Content e size count u) f.done)) (state : StateFine m old) where
   abbrev ds : Declarations

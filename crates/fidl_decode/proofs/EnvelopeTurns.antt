@@ -17,7 +17,7 @@ use Rattle.fidl_decode_model.specs.State.{Message, Position, envelope_place, Slo
 use Rattle.fidl_decode_model.specs.Envelopes.{Contained}
 use Rattle.fidl_decode_model.specs.Breaks.{BreaksMember, BreaksEnvelopes}
 use Rattle.fidl_decode_model.specs.Machine.{Reads, BreaksFrame, StateFine, FrameFine, Turns, Opens, PaysEnvelope, member_term, most_nest, inline_work, frame_work, envelope_work, height}
-use Rattle.fidl_decode.proofs.Leaves.{going_on}
+use Rattle.fidl_decode_columns.proofs.Leaves.{going_on}
 use Rattle.fidl_decode_model.proofs.Turning.{fine_from}
 use Rattle.fidl_decode_model.proofs.Enclosed.{slots_step, step_slots, slots_end, end_slots, contained_some}
 use Rattle.fidl_decode_model.proofs.Broken.{next_broken}

@@ -24,9 +24,9 @@ use Rattle.fidl_decode_model.specs.State.{Message, Position, opened, linked}
 use Rattle.fidl_wire.specs.Envelope.{bytes_below, handles_below, flags_at}
 use Rattle.fidl_decode_model.specs.Machine.{IsUntil, StateFine, Visits, Turns, Passes, Opens, behind_rows}
 use Rattle.fidl_decode_model.proofs.Visiting.{size_as, struct_frame, struct_fine, visits_free, visits_bool, visits_struct}
-use Rattle.fidl_decode.proofs.Leaves.{left_over, no_zeros, over_room, over_turns}
+use Rattle.fidl_decode_columns.proofs.Leaves.{left_over, no_zeros, over_room, over_turns}
 use Rattle.fidl_decode.proofs.LeafContent.{leaf_over}
-use Rattle.fidl_decode.proofs.Wholly.{visits_over}
+use Rattle.fidl_decode_columns.proofs.Wholly.{visits_over}
 use Rattle.fidl_decode.proofs.Words.{byte_below}
 use Rattle.fidl_decode.proofs.Opening.{opens_known, opens_on}
 use Rattle.fidl_decode.proofs.Entered.{Enters, inside_frame, below_frame, enters_inside, enters_below}

@@ -19,7 +19,7 @@ use Rattle.fidl_decode_model.specs.State.{Message, Position}
 use Rattle.fidl_decode_model.specs.Breaks.{IsPadding, Breaks}
 use Rattle.fidl_decode_model.specs.Machine.{rows_left, BreaksFrame, StateFine, FrameFine, IsInside, Visits, VisitFine, Turns, frame_work, probes}
 use Rattle.fidl_decode_model.proofs.Stated.{table_rows-more}
-use Rattle.fidl_decode.proofs.Leaves.{going_on, same_frame, left_over, turns_start, next_size, next_room, next_gap_breaks, next_leaf_breaks, next_takes, next_turns}
+use Rattle.fidl_decode_columns.proofs.Leaves.{going_on, same_frame, left_over, turns_start, next_size, next_room, next_gap_breaks, next_leaf_breaks, next_takes, next_turns}
 use Rattle.fidl_decode_model.proofs.Turning.{row_inside}
 
 module _ (t : List ℕ) (fine : IsFine t) (m : Message) (f : Frame) (first count : ℕ) (w : raw.Row) (rows : f.left ≡ Rows first count) (some : 0 < count) (is : w ≡ row_at t (header_of t) first) (old : Position) (ff : FrameFine t m.bytes f) (state : StateFine m old) where

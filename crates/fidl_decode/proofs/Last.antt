@@ -19,7 +19,7 @@ use Rattle.fidl_decode_model.specs.State.{Message, Position}
 use Rattle.fidl_decode_model.specs.Breaks.{IsPadding, Breaks}
 use Rattle.fidl_decode_model.specs.Machine.{rows_left, BreaksFrame, IsInside, StateFine, FrameFine, Visits, VisitFine, Turns, frame_work, probes}
 use Rattle.fidl_decode_model.proofs.Turning.{row_inside}
-use Rattle.fidl_decode.proofs.Leaves.{going_on, same_frame, left_over, no_zeros, turns_start, next_size, next_room, next_gap_breaks, next_leaf_breaks, next_takes, over_turns}
+use Rattle.fidl_decode_columns.proofs.Leaves.{going_on, same_frame, left_over, no_zeros, turns_start, next_size, next_room, next_gap_breaks, next_leaf_breaks, next_takes, over_turns}
 use Rattle.fidl_decode.proofs.Tail.{turns_tail}
 
 module _ (t : List ℕ) (fine : IsFine t) (m : Message) (f : Frame) (first : ℕ) (w : raw.Row) (last : f.left ≡ Rows first 1) (is : w ≡ row_at t (header_of t) first) (old : Position) (ff : FrameFine t m.bytes f) (state : StateFine m old) where

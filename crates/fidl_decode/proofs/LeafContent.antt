@@ -18,7 +18,7 @@ use Rattle.fidl_decode_model.specs.State.{Message, Position}
 use Rattle.fidl_decode_model.specs.Breaks.{IsPadding, Breaks}
 use Rattle.fidl_decode_model.specs.Machine.{BreaksFrame, IsUntil, StateFine, FrameFine, Visits, Turns, inline_work, frame_work, byte_work, probes}
 use Rattle.fidl_decode.proofs.ContentTurns.{content_end_room, content_over, content_miscounted, content_end_breaks, content_known, content_size, content_room, content_pays, content_breaks, content_turns}
-use Rattle.fidl_decode.proofs.Leaves.{going_on, same_frame, left_over, turns_then, turns_break}
+use Rattle.fidl_decode_columns.proofs.Leaves.{going_on, same_frame, left_over, turns_then, turns_break}
 
 module _ (t : List ℕ) (fine : IsFine t) (m : Message) (f : Frame) (e size count : ℕ) (u : Until) (is : f.left ≡ Content e size count u) (one : count ≡ 1) (old : Position) (ff : FrameFine t m.bytes f) (state : StateFine m old) where
   abbrev ds : Declarations

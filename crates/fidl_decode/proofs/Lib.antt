@@ -1,6 +1,4 @@
 pub mod Marked
-pub mod Leaves
-pub mod Wholly
 pub mod Running
 pub mod Refusing
 pub mod Covering
@@ -24,6 +22,5 @@ pub mod Known
 pub mod Words
 pub mod Freely
 pub mod Sequences
-pub mod Items
 pub mod BodyTurns
 pub mod TextMember

@@ -11,7 +11,7 @@ use Rattle.fidl_decode_model.specs.Envelopes.{Contained}
 use Rattle.fidl_decode_model.specs.Breaks.{BreaksMember}
 use Rattle.fidl_decode_model.specs.Machine.{Reads, ReadsIf, BreaksFrame, FrameFine, StateFine, Turns, Opens, PaysEnvelope, level, height, most_nest, inline_work, frame_work, byte_work, envelope_work}
 use Rattle.fidl_decode_model.proofs.Turning.{fine_from}
-use Rattle.fidl_decode.proofs.Leaves.{left_over}
+use Rattle.fidl_decode_columns.proofs.Leaves.{left_over}
 
 module _ (t : List ℕ) (m : Message) (held envelope : ℕ) (old new : Position) (state : StateFine m new) where
   -- a known member is left to read

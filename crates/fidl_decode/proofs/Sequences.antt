@@ -22,8 +22,8 @@ use Rattle.fidl_decode_model.specs.Breaks.{IsPadding}
 use Rattle.fidl_decode_model.specs.Machine.{StateFine, FrameFine, Visits, Turns, BreaksFrame}
 use Rattle.fidl_decode.proofs.Unchanged.{no_true}
 use Rattle.fidl_decode_model.proofs.Visiting.{size_is, figure_is, fine_as, array_frame, visits_array, array_fine}
-use Rattle.fidl_decode.proofs.Leaves.{going_on, left_over, free_turns, over_turns, over_breaks, over_room, no_zeros}
-use Rattle.fidl_decode.proofs.Wholly.{visits_over}
+use Rattle.fidl_decode_columns.proofs.Leaves.{going_on, left_over, free_turns, over_turns, over_breaks, over_room, no_zeros}
+use Rattle.fidl_decode_columns.proofs.Wholly.{visits_over}
 
 -- an entry that any bytes are a value of has a kind of which this holds
 pub free_kind : (e : Entry) (o : Option EntryKind) → option_map_or (λ (k : EntryKind). is_free k e) o false ≡ true → (k : EntryKind) × (o ≡ Some k) × (is_free k e ≡ true)

@@ -14,7 +14,7 @@ use Rattle.fidl_decode_model.specs.Machine.{rows_left, Reads, BreaksFrame, IsPla
 use Rattle.fidl_decode.specs.Over.{NoRows, IsOver}
 use Rattle.fidl_decode_model.proofs.Rows.{members_end}
 use Rattle.fidl_decode_model.proofs.Turning.{plain_reads}
-use Rattle.fidl_decode.proofs.Leaves.{left_over, no_zeros}
+use Rattle.fidl_decode_columns.proofs.Leaves.{left_over, no_zeros}
 
 no_rows_plain : (left : Remaining) → NoRows left → IsPlain left
 no_rows_plain (Rows first count) none = tt

@@ -23,7 +23,7 @@ use Rattle.fidl_decode_model.specs.State.{Message, Position, opened, linked}
 use Rattle.fidl_wire.specs.Envelope.{bytes_below, handles_below, flags_at}
 use Rattle.fidl_decode_model.specs.Machine.{StateFine, Opens, Visits, Leads}
 use Rattle.fidl_decode_model.proofs.Visiting.{size_as, visits_leaf}
-use Rattle.fidl_decode.proofs.Leaves.{no_zeros}
+use Rattle.fidl_decode_columns.proofs.Leaves.{no_zeros}
 use Rattle.fidl_decode.proofs.LeafContent.{leaf_over}
 use Rattle.fidl_decode.proofs.Opening.{opens_known, opens_on}
 use Rattle.fidl_decode.proofs.Entered.{below_frame, enters_below}

@@ -10,7 +10,8 @@ ghost use Rattle.fidl_decode_model.specs.Steps.{Spends};
 ghost use Rattle.fidl_decode_model.specs.Machine.{StateFine, FrameFine, Turns, BreaksFrame};
 ghost use Rattle.fidl_decode_model.specs.Machine.{turn_work, at_of};
 
-use crate::decoder::{Decoder, zeros_at};
+use crate::decoder::Decoder;
+use fidl_decode_columns::zeros_at;
 use fidl_decode_model::DecodeFault;
 use fidl_decode_model::frame::{Frame, Remaining, State, Turn, Until};
 use fidl_table_format::EntryKind;

@@ -1,17 +1,15 @@
 //! The decoder: one field, and one member of a frame.
-ghost use Rattle.std.specs.Prelude.{◌≡◌, ℕ, ◌+◌, ◌-◌, ◌^◌, ◌<◌, ◌≤◌, OnOk, IfOk, IfErr};
+ghost use Rattle.std.specs.Prelude.{◌≡◌, ℕ, ◌+◌, ◌-◌, ◌^◌, ◌<◌, ◌≤◌, IfOk, IfErr};
 ghost use Rattle.std.specs.Prelude.{None, length, slice_index};
 ghost use Rattle.fidl_limits.specs.declared.limits.TheConstants.{MAX_DEPTH, MAX_MESSAGE_BYTES};
 ghost use Rattle.fidl_wire.specs.Term as ty;
 ghost use Rattle.fidl_wire.specs.Term.{resolve};
-ghost use Rattle.fidl_wire.specs.Standing.{Stands};
-ghost use Rattle.fidl_wire.specs.Encoding.{zeros};
 ghost use Rattle.fidl_table_format.specs.Section.{header_of, entry_at};
 ghost use Rattle.fidl_table_format.specs.Terms.{declarations_of};
 ghost use Rattle.fidl_decode_model.specs.Invariants.{IsFine};
 ghost use Rattle.fidl_decode_model.specs.Fine.{fine_prop};
 ghost use Rattle.fidl_decode_model.specs.Faults.{message_of};
-ghost use Rattle.fidl_decode_model.specs.Breaks.{IsPadding, Breaks};
+ghost use Rattle.fidl_decode_model.specs.Breaks.{Breaks};
 ghost use Rattle.fidl_decode_model.specs.declared.frame.Remaining.TheVariants as left;
 ghost use Rattle.fidl_decode_model.specs.Machine.{StateFine, FrameFine, IsInside, VisitFine};
 ghost use Rattle.fidl_decode_model.specs.Steps.{Spends};
@@ -19,26 +17,12 @@ ghost use Rattle.fidl_decode_model.specs.Machine.{BreaksFrame, Visits, Turns, tu
 ghost use Rattle.fidl_decode_model.specs.Machine.{probes};
 
 use crate::plain::rows_from;
+use fidl_decode_columns::zeros_at;
 use fidl_decode_model::DecodeFault;
 use fidl_decode_model::frame::{Frame, Remaining, State, Turn};
 use fidl_table_format::EntryKind;
 use fidl_verify::Table;
 use fidl_wire::HandleInfo;
-
-/// Zeros from one place to another.
-pub(crate) fn zeros_at(bytes: &[u8], from: usize, to: usize) -> Result<(), DecodeFault>
-    requires order { from ≤ to }
-    requires room { to ≤ length bytes.now }
-    ensures ok { OnOk result (Stands bytes.now from (zeros (to - from))) }
-    ensures fault_is_true { IfErr result (IsPadding bytes.now from to) }
-{
-    for i in from..to {
-        if bytes[i] != 0 {
-            return Err(DecodeFault::Padding { at: i });
-        }
-    }
-    Ok(())
-}
 
 /// What is read and never changes: a verified table, and a message within the limit of bytes.
 #[derive(Clone, Copy)]

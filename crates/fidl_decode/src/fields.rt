@@ -11,9 +11,9 @@ ghost use Rattle.fidl_decode_model.specs.Steps.{Spends};
 ghost use Rattle.fidl_decode_model.specs.Machine.{StateFine, FrameFine, BreaksFrame, Turns};
 ghost use Rattle.fidl_decode_model.specs.Machine.{IsKnown, turn_work, at_of};
 
-use crate::decoder::{Decoder, zeros_at};
-use crate::leaf::is_free;
+use crate::decoder::Decoder;
 use crate::plain::Plain;
+use fidl_decode_columns::{is_free, zeros_at};
 use fidl_decode_model::DecodeFault;
 use fidl_decode_model::frame::{Frame, Remaining, State};
 use fidl_table_format::EntryKind;

@@ -16,7 +16,8 @@ ghost use Rattle.fidl_decode_model.specs.Machine.{StateFine, FrameFine, BreaksFr
 ghost use Rattle.fidl_decode_model.specs.Machine.{Turns, turn_work, value_work, at_of};
 
 use crate::decoder::Decoder;
-use crate::plain::{MOST_ROWS, rows_from};
+use crate::plain::rows_from;
+use fidl_decode_columns::MOST_ROWS;
 use fidl_decode_model::DecodeFault;
 use fidl_decode_model::frame::{Frame, Remaining, State};
 use fidl_table_format::EntryKind;

@@ -14,35 +14,17 @@ ghost use Rattle.fidl_table_format.specs.Entry.{subtype_is};
 ghost use Rattle.fidl_table_format.specs.Uses.{is_unsigned};
 ghost use Rattle.fidl_table_format.specs.Terms.{underlying, mask_of, strict_values};
 ghost use Rattle.fidl_table_format.specs.Terms.{declarations_of};
-ghost use Rattle.fidl_decode_model.specs.Invariants.{is_leaf, is_free, is_free_at};
+ghost use Rattle.fidl_decode_model.specs.Invariants.{is_leaf, is_free_at};
 ghost use Rattle.fidl_decode_model.specs.Faults.{message_of};
 ghost use Rattle.fidl_decode_model.specs.Breaks.{BreaksField, Breaks};
 ghost use Rattle.fidl_decode_model.specs.Steps.{Spends};
 ghost use Rattle.fidl_decode_model.specs.Machine.{StateFine, Visits, at_of, probes};
 
 use crate::decoder::Decoder;
+use fidl_decode_columns::is_free;
 use fidl_decode_model::DecodeFault;
 use fidl_decode_model::frame::State;
 use fidl_table_format::{Entry, EntryKind, number_bits};
-
-/// Whether any bytes are a value of the entry, which is of this kind: a number, or bits or an enum
-/// that are not strict.
-pub(crate) fn is_free(entry: &Entry, kind: EntryKind) -> bool
-    ensures { result ≡ is_free kind entry.now }
-{
-    match kind {
-        EntryKind::Bits | EntryKind::Enum => !entry.is_strict(),
-        EntryKind::Int8
-        | EntryKind::Int16
-        | EntryKind::Int32
-        | EntryKind::Int64
-        | EntryKind::Uint8
-        | EntryKind::Uint16
-        | EntryKind::Uint32
-        | EntryKind::Uint64 => true,
-        _ => false,
-    }
-}
 
 impl<'t, 'm> Decoder<'t, 'm> {
     /// Whether any bytes are a value of the entry.

@@ -12,8 +12,9 @@ ghost use Rattle.fidl_decode_model.specs.Machine.{StateFine, FrameFine, BreaksFr
 ghost use Rattle.fidl_decode_model.specs.Machine.{IsPlain, IsKnown, rows_left, behind_rows};
 ghost use Rattle.fidl_decode_model.specs.Machine.{turn_work, at_of};
 
-use crate::decoder::{Decoder, zeros_at};
+use crate::decoder::Decoder;
 use crate::plain::{Plain, rows_from};
+use fidl_decode_columns::zeros_at;
 use fidl_decode_model::DecodeFault;
 use fidl_decode_model::frame::{Frame, Remaining, State};
 use fidl_table_format::EntryKind;

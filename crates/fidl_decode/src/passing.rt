@@ -13,8 +13,8 @@ ghost use Rattle.fidl_decode_model.specs.Faults.{message_of};
 ghost use Rattle.fidl_decode_model.specs.Machine.{StateFine, Opens, at_of};
 
 use crate::decoder::Decoder;
-use crate::leaf::is_free;
 use crate::passing_texts::are_zeros;
+use fidl_decode_columns::is_free;
 use fidl_decode_model::frame::State;
 use fidl_table_format::EntryKind;
 use fidl_wire::{MAX_DEPTH, byte_count_at, flags_at, handle_count_at, u32_at, u64_at};

@@ -9,7 +9,8 @@ ghost use Rattle.fidl_table_format.specs.Section.{header_of, entry_at};
 ghost use Rattle.fidl_decode_model.specs.Faults.{message_of};
 ghost use Rattle.fidl_decode_model.specs.Machine.{StateFine, Opens, at_of};
 
-use crate::decoder::{Decoder, zeros_at};
+use crate::decoder::Decoder;
+use fidl_decode_columns::zeros_at;
 use fidl_decode_model::frame::State;
 use fidl_wire::{MAX_DEPTH, u64_at};
 

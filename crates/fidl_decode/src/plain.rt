@@ -9,19 +9,16 @@ ghost use Rattle.fidl_table_format.specs.Section.{header_of, entry_at};
 ghost use Rattle.fidl_decode_model.specs.Invariants.{is_free};
 ghost use Rattle.fidl_decode_model.specs.Faults.{message_of};
 ghost use Rattle.fidl_decode_model.specs.declared.frame.Remaining.TheVariants as left;
-ghost use Rattle.fidl_decode.specs.declared.plain.TheConstants.{MOST_ROWS};
+ghost use Rattle.fidl_decode_columns.specs.declared.kinds.TheConstants.{MOST_ROWS};
 ghost use Rattle.fidl_decode_model.specs.State.{Position};
 ghost use Rattle.fidl_decode_model.specs.Machine.{StateFine, FrameFine, Visits, Turns, BreaksFrame};
 ghost use Rattle.fidl_decode_model.specs.Machine.{IsGood, Passes, IsKnown, turn_work, at_of};
 
 use crate::decoder::Decoder;
-use crate::leaf::is_free;
+use fidl_decode_columns::{MOST_ROWS, is_free};
 use fidl_decode_model::DecodeFault;
 use fidl_decode_model::frame::{Frame, Remaining, State};
 use fidl_table_format::{EntryKind, Row};
-
-/// How many rows of a struct are looked at before it is read. These looks are no steps.
-pub(crate) const MOST_ROWS: u32 = 32;
 
 /// So many rows, but no more than are looked at.
 fn few_rows(count: u32) -> u32

@@ -9,9 +9,10 @@ ghost use Rattle.fidl_decode_model.specs.Breaks.{BreaksText};
 ghost use Rattle.fidl_decode_model.specs.Steps.{Spends};
 ghost use Rattle.fidl_decode_model.specs.Machine.{StateFine, Leads, at_of};
 
-use crate::decoder::{Decoder, zeros_at};
+use crate::decoder::Decoder;
 use crate::handles::is_optional;
 use crate::passing_texts::are_ascii;
+use fidl_decode_columns::zeros_at;
 use fidl_decode_model::DecodeFault;
 use fidl_decode_model::frame::State;
 use fidl_table_format::Entry;

@@ -1,7 +1,7 @@
 //! A turn of the decoder: it reads members of a frame in place, up to one that leads to more than
 //! it reads there.
 ghost use Rattle.std.specs.Prelude.{◌≡◌, ◌+◌, ◌-◌, ◌^◌, ◌<◌, ◌≤◌, ◌↔◌, OnOk, IfOk, IfErr, Some};
-ghost use Rattle.std.specs.Prelude.{None, IsTrue, length};
+ghost use Rattle.std.specs.Prelude.{None, IsTrue, IsFalse, length};
 ghost use Rattle.fidl_limits.specs.declared.limits.TheConstants.{MAX_DEPTH};
 ghost use Rattle.fidl_wire.specs.Term as ty;
 ghost use Rattle.fidl_wire.specs.Term.{resolve};
@@ -17,7 +17,8 @@ ghost use Rattle.fidl_decode_model.specs.Machine.{IsInside, Visits, VisitFine};
 ghost use Rattle.fidl_decode_model.specs.Machine.{turn_work, value_work, at_of};
 ghost use Rattle.fidl_decode.specs.Over.{IsOver};
 
-use crate::decoder::{Decoder, zeros_at};
+use crate::decoder::Decoder;
+use fidl_decode_columns::{Columns, zeros_at};
 use fidl_decode_model::DecodeFault;
 use fidl_decode_model::frame::{Frame, Remaining, State, Turn};
 use fidl_table_format::EntryKind;
@@ -110,6 +111,89 @@ impl<'t, 'm> Decoder<'t, 'm> {
             below: None,
             rest: None,
         })
+    }
+
+    /// Checks the structs of an array or vector member by member, where no struct is read yet and their
+    /// members are numbers alone. Else nothing is read.
+    #[inline(never)]
+    fn check_columns(
+        &self,
+        frame: Frame,
+        entry: u32,
+        size: usize,
+        count: u32,
+        state: &mut State,
+    ) -> Result<bool, DecodeFault>
+        requires left { frame.left ≡ left.Elements entry size count }
+        requires some { 0 < count }
+        requires entry { entry < (header_of self.now.table.now).entries }
+        requires kind { kind_of (entry_at self.now.table.now entry).kind ≡ Some kinds.Struct }
+        requires frame { FrameFine self.now.table.now self.now.bytes.now frame }
+        requires state { StateFine (message_of self.now.bytes.now self.now.handles.now)
+            (at_of state.old) }
+        requires budget { state.old.steps + turn_work self.now.bytes.now state.old.next frame
+            < 2 ^ 40 }
+        ensures ok { IfOk result (λ all. IsTrue all
+            → Turns self.now.table.now (message_of self.now.bytes.now self.now.handles.now) frame
+            (at_of state.old) (at_of state.new) (state.new.steps - state.old.steps)
+            (record { below = None; rest = None })) }
+        ensures rises { IfOk result (λ all. IsTrue all → state.old.steps < state.new.steps) }
+        ensures kept { IfOk result (λ all. IsFalse all → state.new ≡ state.old) }
+        ensures cost { state.new.steps
+            ≤ state.old.steps + turn_work self.now.bytes.now state.old.next frame }
+        ensures fault_is_true { IfErr result
+            (BreaksFrame self.now.table.now (message_of self.now.bytes.now self.now.handles.now)
+            frame (at_of state.old)) }
+    {
+        // Structs of numbers are read whole, so none is left to go on with.
+        if frame.done != 0 {
+            return Ok(false);
+        }
+        let columns = Columns {
+            table: self.table,
+            bytes: self.bytes,
+            handles: self.handles,
+        };
+        columns.check_structs(frame, entry, size, count, state)
+    }
+
+    /// Reads structs of an array or vector in place: member by member where these are numbers alone,
+    /// else up to a struct that holds more than leaves.
+    #[inline(always)]
+    fn take_structs(
+        &self,
+        frame: Frame,
+        entry: u32,
+        size: usize,
+        count: u32,
+        state: &mut State,
+    ) -> Result<Turn, DecodeFault>
+        requires left { frame.left ≡ left.Elements entry size count }
+        requires some { 0 < count }
+        requires entry { entry < (header_of self.now.table.now).entries }
+        requires kind { kind_of (entry_at self.now.table.now entry).kind ≡ Some kinds.Struct }
+        requires frame { FrameFine self.now.table.now self.now.bytes.now frame }
+        requires state { StateFine (message_of self.now.bytes.now self.now.handles.now)
+            (at_of state.old) }
+        requires budget { state.old.steps + turn_work self.now.bytes.now state.old.next frame
+            < 2 ^ 40 }
+        ensures ok { IfOk result
+            (λ turn. Turns self.now.table.now (message_of self.now.bytes.now self.now.handles.now)
+            frame (at_of state.old) (at_of state.new) (state.new.steps - state.old.steps) turn) }
+        ensures rises { OnOk result (state.old.steps < state.new.steps) }
+        ensures cost { state.new.steps
+            ≤ state.old.steps + turn_work self.now.bytes.now state.old.next frame }
+        ensures fault_is_true { IfErr result
+            (BreaksFrame self.now.table.now (message_of self.now.bytes.now self.now.handles.now)
+            frame (at_of state.old)) }
+    {
+        if self.check_columns(frame, entry, size, count, state)? {
+            return Ok(Turn {
+                below: None,
+                rest: None,
+            });
+        }
+        self.read_structs(frame, entry, size, count, state)
     }
 
     /// Reads a value at a place, and what it leads to where that is read in place. What is left of
@@ -243,7 +327,7 @@ impl<'t, 'm> Decoder<'t, 'm> {
         if count != 0 {
             let e = self.table.entry(entry);
             if let Some(EntryKind::Struct) = EntryKind::from_number(e.kind) {
-                return self.read_structs(frame, entry, size, count, state);
+                return self.take_structs(frame, entry, size, count, state);
             }
         }
         self.read_items(frame, entry, size, count, state)

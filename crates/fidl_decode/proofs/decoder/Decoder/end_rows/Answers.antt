@@ -4,7 +4,7 @@ use Rattle.fidl_decode_model.specs.Machine.{at_of}
 use Rattle.fidl_decode_model.specs.Faults.{message_of}
 use Rattle.std.proofs.lemmas.Result.{IfErr-weaker}
 use Rattle.fidl_decode_model.proofs.Turning.{on_ok_from}
-use Rattle.fidl_decode.proofs.Leaves.{turns_start, over_room, over_turns, over_breaks}
+use Rattle.fidl_decode_columns.proofs.Leaves.{turns_start, over_room, over_turns, over_breaks}
 use Rattle.fidl_decode.proofs.decoder.Decoder.end_rows.Goals as goal
 
 pub overflow_add-over : goal.overflow_add-over

@@ -3,7 +3,7 @@ use Rattle.std.specs.Prelude.{Some}
 use Rattle.fidl_decode_model.specs.declared.frame.Frame.{Frame}
 use Rattle.fidl_decode_model.specs.Machine.{Turns, at_of}
 use Rattle.fidl_decode_model.specs.Faults.{message_of}
-use Rattle.fidl_decode.proofs.Leaves.{left_over, turns_start}
+use Rattle.fidl_decode_columns.proofs.Leaves.{left_over, turns_start}
 use Rattle.fidl_decode.proofs.decoder.Decoder.pass_over.Goals as goal
 
 pub is_good-requires : goal.is_good-requires

@@ -4,7 +4,7 @@ use Rattle.std.specs.Prelude.{Some}
 use Rattle.fidl_decode_model.specs.Faults.{message_of}
 use Rattle.fidl_decode.specs.Body.{rest_of}
 use Rattle.fidl_decode_model.specs.Machine.{Turns, at_of}
-use Rattle.fidl_decode.proofs.Leaves.{left_over, turns_then}
+use Rattle.fidl_decode_columns.proofs.Leaves.{left_over, turns_then}
 use Rattle.fidl_decode.proofs.BodyTurns.{next_absent}
 use Rattle.fidl_decode.proofs.decoder.Decoder.pass_some.Goals as goal
 

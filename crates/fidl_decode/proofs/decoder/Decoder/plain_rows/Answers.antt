@@ -11,7 +11,7 @@ use Rattle.fidl_decode_model.specs.declared.frame.Remaining.TheVariants.{Rows}
 use Rattle.fidl_decode_model.specs.Rows.{Row}
 use Rattle.fidl_decode_model.specs.Machine.{StateFine, IsGood, Visits, Turns}
 use Rattle.fidl_decode_model.specs.Faults.{message_of}
-use Rattle.fidl_decode.proofs.Leaves.{going_on, left_over, same_frame, turns_start, next_room, next_turns, rows_next, no_zeros}
+use Rattle.fidl_decode_columns.proofs.Leaves.{going_on, left_over, same_frame, turns_start, next_room, next_turns, rows_next, no_zeros}
 use Rattle.fidl_decode.proofs.decoder.Decoder.plain_rows.Goals as goal
 
 pub loop-i-init : goal.loop-i-init

@@ -5,7 +5,7 @@ use Rattle.fidl_decode_model.specs.declared.frame.Remaining.TheVariants.{Rows}
 use Rattle.fidl_decode_model.specs.State.{Position}
 use Rattle.fidl_decode_model.specs.Machine.{FrameFine, StateFine, IsGood, Turns}
 use Rattle.fidl_decode_model.specs.Faults.{message_of}
-use Rattle.fidl_decode.proofs.Leaves.{going_on, left_over}
+use Rattle.fidl_decode_columns.proofs.Leaves.{going_on, left_over}
 use Rattle.fidl_decode.proofs.decoder.Decoder.plain_rows.Given as goal
 
 -- wherever the struct stands with its bool, if any, right, the rows before this one are a turn that leaves it from this row on

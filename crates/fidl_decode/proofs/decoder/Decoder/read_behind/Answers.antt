@@ -4,7 +4,7 @@ use Rattle.std.proofs.lemmas.Result.{IfOk-weaker, IfErr-weaker, on_ok_weaker}
 use Rattle.fidl_decode_model.specs.Machine.{BreaksFrame, Turns, at_of}
 use Rattle.fidl_decode_model.specs.Faults.{message_of}
 use Rattle.fidl_decode_model.proofs.Turning.{none_weaker}
-use Rattle.fidl_decode.proofs.Leaves.{left_over, turns_then, turns_break}
+use Rattle.fidl_decode_columns.proofs.Leaves.{left_over, turns_then, turns_break}
 use Rattle.fidl_decode.proofs.decoder.Decoder.read_behind.Goals as goal
 
 pub read_struct-requires-clause-frame : goal.read_struct-requires-clause-frame

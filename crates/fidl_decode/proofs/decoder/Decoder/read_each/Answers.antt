@@ -7,7 +7,7 @@ use Rattle.fidl_decode_model.specs.Machine.{at_of}
 use Rattle.fidl_decode_model.specs.Faults.{message_of}
 use Rattle.fidl_decode_model.proofs.Turning.{on_ok_from, passed_on}
 use Rattle.std.proofs.lemmas.Result.{IfErr-weaker}
-use Rattle.fidl_decode.proofs.Leaves.{going_on, next_size, next_room, next_leaf_breaks, next_turns, over_room, over_turns, over_breaks, elements_next, elements_over, no_zeros}
+use Rattle.fidl_decode_columns.proofs.Leaves.{going_on, next_size, next_room, next_leaf_breaks, next_turns, over_room, over_turns, over_breaks, elements_next, elements_over, no_zeros}
 use Rattle.fidl_decode.proofs.decoder.Decoder.read_each.Goals as goal
 
 pub overflow_add-place : goal.overflow_add-place

@@ -9,7 +9,7 @@ use Rattle.fidl_table_format.specs.Section.{entry_at}
 use Rattle.fidl_decode_model.specs.Machine.{at_of}
 use Rattle.fidl_decode_model.specs.Faults.{message_of}
 use Rattle.fidl_decode_model.proofs.Turning.{passed_on}
-use Rattle.fidl_decode.proofs.Leaves.{element_known}
+use Rattle.fidl_decode_columns.proofs.Leaves.{element_known}
 use Rattle.fidl_decode.proofs.Sequences.{kind_free}
 use Rattle.fidl_decode.proofs.decoder.Decoder.read_elements.Goals as goal
 

@@ -7,7 +7,7 @@ use Rattle.fidl_decode_model.specs.Machine.{Turns, behind_envelopes, at_of}
 use Rattle.fidl_decode_model.specs.Faults.{message_of}
 use Rattle.fidl_decode_model.proofs.Turning.{passed_on}
 use Rattle.fidl_decode.proofs.EnvelopeTurns.{envelopes_over}
-use Rattle.fidl_decode.proofs.Leaves.{left_over, same_frame, turns_start, turns_then, turns_break}
+use Rattle.fidl_decode_columns.proofs.Leaves.{left_over, same_frame, turns_start, turns_then, turns_break}
 use Rattle.fidl_decode.proofs.decoder.Decoder.read_envelopes.Goals as goal
 
 pub loop-many-init : goal.loop-many-init

@@ -2,7 +2,7 @@ use Rattle.std.proofs.Common.{◌-◌, ◌≤◌}
 use Rattle.std.specs.Prelude.{Some}
 use Rattle.fidl_decode_model.specs.Machine.{at_of, Turns, behind_envelopes}
 use Rattle.fidl_decode_model.specs.Faults.{message_of}
-use Rattle.fidl_decode.proofs.Leaves.{left_over}
+use Rattle.fidl_decode_columns.proofs.Leaves.{left_over}
 use Rattle.fidl_decode.proofs.decoder.Decoder.read_envelopes.Given as goal
 
 -- what is read so far is a turn that leaves these envelopes

@@ -15,7 +15,7 @@ use Rattle.fidl_decode_model.specs.Machine.{Turns, at_of, turn_work, IsPlain}
 use Rattle.fidl_decode_model.specs.Faults.{message_of}
 use Rattle.fidl_decode_model.proofs.Turning.{on_ok_from, passed_on}
 use Rattle.fidl_decode_model.proofs.Visiting.{same_some}
-use Rattle.fidl_decode.proofs.Leaves.{going_on, same_frame, left_over, turns_start, turns_then, turns_break}
+use Rattle.fidl_decode_columns.proofs.Leaves.{going_on, same_frame, left_over, turns_start, turns_then, turns_break}
 use Rattle.fidl_decode.proofs.decoder.Decoder.read_fields.Goals as goal
 
 no_some : {A : Type 0} (a : A) → Some a ≡ None → ⊥

@@ -4,7 +4,7 @@ use Rattle.fidl_decode_model.specs.declared.frame.Remaining.TheVariants.{Rows}
 use Rattle.fidl_decode_model.specs.Invariants.{AreLeaves}
 use Rattle.fidl_decode_model.specs.Machine.{at_of, Turns}
 use Rattle.fidl_decode_model.specs.Faults.{message_of}
-use Rattle.fidl_decode.proofs.Leaves.{going_on, left_over}
+use Rattle.fidl_decode_columns.proofs.Leaves.{going_on, left_over}
 use Rattle.fidl_decode.proofs.decoder.Decoder.read_fields.Given as goal
 
 -- what is read so far is a turn that leaves these rows, which are leaves

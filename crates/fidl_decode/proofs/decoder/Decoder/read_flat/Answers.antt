@@ -13,7 +13,7 @@ use Rattle.fidl_decode_model.specs.Machine.{FrameFine, Visits, value_work, at_of
 use Rattle.fidl_decode_model.specs.Faults.{message_of}
 use Rattle.fidl_decode_model.proofs.Turning.{on_ok_from}
 use Rattle.fidl_decode_model.proofs.Visiting.{work_none, struct_frame, visits_struct, struct_fine}
-use Rattle.fidl_decode.proofs.Wholly.{leaf_cost, visits_over}
+use Rattle.fidl_decode_columns.proofs.Wholly.{leaf_cost, visits_over}
 use Rattle.fidl_decode.proofs.decoder.Decoder.read_flat.Goals as goal
 
 no_true : false ≡ true → ⊥

@@ -5,9 +5,9 @@ use Rattle.fidl_decode_model.specs.declared.frame.Frame.{Frame}
 use Rattle.fidl_decode_model.specs.Faults.{message_of}
 use Rattle.fidl_decode_model.specs.Machine.{Visits, VisitFine, at_of, height}
 use Rattle.fidl_decode_model.proofs.Turning.{fine_from, on_ok_from}
-use Rattle.fidl_decode.proofs.Wholly.{leaf_cost}
+use Rattle.fidl_decode_columns.proofs.Wholly.{leaf_cost}
 use Rattle.fidl_decode.proofs.BodyTurns.{visits_on}
-use Rattle.fidl_decode.proofs.Items.{visit_work}
+use Rattle.fidl_decode_columns.proofs.Items.{visit_work}
 use Rattle.fidl_decode.proofs.decoder.Decoder.read_item.Goals as goal
 
 pub returns-in_err-below-clause-cost : goal.returns-in_err-below-clause-cost

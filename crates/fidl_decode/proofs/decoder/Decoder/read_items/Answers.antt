@@ -5,8 +5,8 @@ use Rattle.fidl_decode_model.specs.declared.frame.Remaining.TheVariants.{Element
 use Rattle.fidl_decode_model.specs.Faults.{message_of}
 use Rattle.fidl_decode_model.specs.Machine.{Visits, VisitFine, Turns, at_of}
 use Rattle.fidl_decode_model.proofs.Turning.{passed_on}
-use Rattle.fidl_decode.proofs.Leaves.{going_on, left_over, same_frame, turns_start}
-use Rattle.fidl_decode.proofs.Items.{items_room, item_known, item_size, item_room, item_inside, item_work, item_takes, item_breaks, items_over, items_break}
+use Rattle.fidl_decode_columns.proofs.Leaves.{going_on, left_over, same_frame, turns_start}
+use Rattle.fidl_decode_columns.proofs.Items.{items_room, item_known, item_size, item_room, item_inside, item_work, item_takes, item_breaks, items_over, items_break}
 use Rattle.fidl_decode.proofs.decoder.Decoder.read_items.Goals as goal
 
 pub loop-i-init : goal.loop-i-init

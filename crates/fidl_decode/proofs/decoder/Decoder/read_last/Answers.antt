@@ -8,7 +8,7 @@ use Rattle.fidl_decode_model.specs.Machine.{LeftFine, Turns, at_of}
 use Rattle.fidl_decode_model.specs.Faults.{message_of}
 use Rattle.std.specs.Prelude.{Some}
 use Rattle.fidl_decode.proofs.Unchanged.{if_none}
-use Rattle.fidl_decode.proofs.Leaves.{left_over, turns_start}
+use Rattle.fidl_decode_columns.proofs.Leaves.{left_over, turns_start}
 use Rattle.fidl_decode_model.proofs.Turning.{passed_on}
 use Rattle.fidl_decode.proofs.Last.{last_room, last_inside, last_gap_breaks, last_breaks, last_turns}
 use Rattle.fidl_decode.proofs.decoder.Decoder.read_last.Goals as goal

@@ -9,7 +9,7 @@ use Rattle.fidl_decode_model.specs.Machine.{Visits, VisitFine, at_of}
 use Rattle.fidl_decode.proofs.Fitting.{le_more, spends_any}
 use Rattle.fidl_decode_model.proofs.Turning.{on_ok_from, passed_on}
 use Rattle.fidl_decode_model.proofs.Listed.{vector_breaks}
-use Rattle.fidl_decode.proofs.Wholly.{visits_over}
+use Rattle.fidl_decode_columns.proofs.Wholly.{visits_over}
 use Rattle.fidl_decode.proofs.decoder.Decoder.read_numbers.Goals as goal
 
 pub returns-in_err-frame-clause-fault_is_true : goal.returns-in_err-frame-clause-fault_is_true

@@ -11,7 +11,7 @@ use Rattle.fidl_decode_model.specs.Machine.{LeftFine, Turns, at_of}
 use Rattle.fidl_decode_model.specs.Faults.{message_of}
 use Rattle.fidl_decode_model.specs.Invariants.{is_leaf}
 use Rattle.fidl_decode_model.proofs.Turning.{passed_on}
-use Rattle.fidl_decode.proofs.Leaves.{going_on, left_over}
+use Rattle.fidl_decode_columns.proofs.Leaves.{going_on, left_over}
 use Rattle.fidl_decode.proofs.Front.{front_room, front_gap_breaks, front_breaks, front_turns}
 use Rattle.fidl_decode.proofs.decoder.Decoder.read_row.Goals as goal
 

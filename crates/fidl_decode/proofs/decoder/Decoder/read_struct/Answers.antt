@@ -4,7 +4,7 @@ use Rattle.fidl_decode_model.specs.declared.frame.Frame.{Frame}
 use Rattle.fidl_decode_model.specs.Machine.{Turns, at_of}
 use Rattle.fidl_decode_model.specs.Faults.{message_of}
 use Rattle.fidl_decode_model.proofs.Turning.{passed_on, none_weaker}
-use Rattle.fidl_decode.proofs.Leaves.{left_over, turns_then, turns_break}
+use Rattle.fidl_decode_columns.proofs.Leaves.{left_over, turns_then, turns_break}
 use Rattle.fidl_decode.proofs.decoder.Decoder.read_struct.Goals as goal
 
 pub returns-in_default-clause-ok : goal.returns-in_default-clause-ok

@@ -10,7 +10,7 @@ use Rattle.fidl_table_format.specs.Section.{header_of}
 use Rattle.fidl_table_format.specs.declared.kind.EntryKind.TheVariants.{Struct}
 use Rattle.fidl_decode_model.proofs.Visiting.{fine_as, struct_frame, visits_struct, struct_fine}
 use Rattle.fidl_decode_model.proofs.Turning.{passed_on}
-use Rattle.fidl_decode.proofs.Leaves.{going_on, left_over, same_frame, turns_start, next_size, next_room, next_takes, turns_below, turns_over, below_breaks, over_room, over_turns, over_breaks, elements_next, elements_over, no_zeros}
+use Rattle.fidl_decode_columns.proofs.Leaves.{going_on, left_over, same_frame, turns_start, next_size, next_room, next_takes, turns_below, turns_over, below_breaks, over_room, over_turns, over_breaks, elements_next, elements_over, no_zeros}
 use Rattle.fidl_decode.proofs.decoder.Decoder.read_structs.Goals as goal
 
 pub overflow_add-place : goal.overflow_add-place

@@ -3,7 +3,7 @@ use Rattle.std.specs.Prelude.{Some}
 use Rattle.fidl_decode_model.specs.declared.frame.Remaining.TheVariants.{Elements}
 use Rattle.fidl_decode_model.specs.Machine.{at_of, Turns}
 use Rattle.fidl_decode_model.specs.Faults.{message_of}
-use Rattle.fidl_decode.proofs.Leaves.{going_on, left_over}
+use Rattle.fidl_decode_columns.proofs.Leaves.{going_on, left_over}
 use Rattle.fidl_decode.proofs.decoder.Decoder.read_structs.Given as goal
 
 -- what is read so far is a turn that leaves the frame from this element on

@@ -6,7 +6,7 @@ use Rattle.fidl_decode_model.specs.declared.frame.Frame.{Frame}
 use Rattle.fidl_decode_model.specs.Faults.{message_of}
 use Rattle.fidl_decode.specs.Body.{rest_of}
 use Rattle.fidl_decode_model.specs.Machine.{Visits, VisitFine, at_of, height}
-use Rattle.fidl_decode.proofs.Leaves.{left_over, turns_then}
+use Rattle.fidl_decode_columns.proofs.Leaves.{left_over, turns_then}
 use Rattle.fidl_decode_model.proofs.Turning.{fine_from, passed_on}
 use Rattle.fidl_decode.proofs.BodyTurns.{body_start, visits_on}
 use Rattle.fidl_decode.proofs.decoder.Decoder.read_table.Goals as goal

@@ -7,7 +7,7 @@ use Rattle.fidl_decode_model.specs.declared.frame.Frame.{Frame}
 use Rattle.fidl_decode_model.specs.declared.frame.Remaining.TheVariants.{Content}
 use Rattle.fidl_decode_model.specs.Machine.{Turns, BreaksFrame, FrameFine, IsUntil, at_of}
 use Rattle.fidl_decode_model.specs.Faults.{message_of}
-use Rattle.fidl_decode.proofs.Leaves.{going_on, same_frame}
+use Rattle.fidl_decode_columns.proofs.Leaves.{going_on, same_frame}
 use Rattle.fidl_decode_model.proofs.Turning.{passed_on}
 use Rattle.fidl_decode.proofs.ContentTurns.{content_end_room, content_over, content_miscounted, content_end_breaks, content_known, content_size, content_room, content_inside, content_breaks, content_turns}
 use Rattle.fidl_decode.proofs.decoder.Decoder.take_content.Goals.{then-state-until-via-then-state-until, then-state-until-via-else-state-until+then-state-until-2}

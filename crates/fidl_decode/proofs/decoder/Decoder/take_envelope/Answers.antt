@@ -10,7 +10,7 @@ use Rattle.fidl_decode_model.specs.Breaks.{BreaksMember}
 use Rattle.fidl_decode_model.specs.Machine.{Turns, Opens, PaysEnvelope, BreaksFrame, FrameFine, member_term, at_of}
 use Rattle.fidl_decode_model.specs.Faults.{message_of}
 use Rattle.std.proofs.lemmas.Result.{IfErr-weaker}
-use Rattle.fidl_decode.proofs.Leaves.{going_on, same_frame}
+use Rattle.fidl_decode_columns.proofs.Leaves.{going_on, same_frame}
 use Rattle.fidl_decode_model.proofs.Turning.{if_ok_two, on_ok_from}
 use Rattle.fidl_decode.proofs.EnvelopeTurns.{member_found, envelope_room, envelope_absent, envelope_opened, envelope_breaks}
 use Rattle.fidl_decode.proofs.decoder.Decoder.take_envelope.Goals as goal

@@ -9,7 +9,7 @@ use Rattle.fidl_decode_model.specs.Faults.{message_of}
 use Rattle.fidl_decode_model.specs.Machine.{LeftFine, IsPlain, Turns, rows_left, at_of}
 use Rattle.fidl_decode.proofs.Fitting.{next_fits, some_left, spends_some}
 use Rattle.fidl_decode_model.proofs.Turning.{passed_on}
-use Rattle.fidl_decode.proofs.Leaves.{going_on}
+use Rattle.fidl_decode_columns.proofs.Leaves.{going_on}
 use Rattle.fidl_decode.proofs.Front.{front_room, front_inside, front_takes, front_gap_breaks, front_breaks}
 use Rattle.fidl_decode.proofs.decoder.Decoder.take_row.Goals as goal
 

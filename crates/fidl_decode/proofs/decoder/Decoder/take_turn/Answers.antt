@@ -6,7 +6,7 @@ use Rattle.fidl_decode_model.specs.declared.frame.Turn.{Turn}
 use Rattle.fidl_decode_model.specs.Machine.{Turns, at_of}
 use Rattle.fidl_decode_model.specs.Faults.{message_of}
 use Rattle.fidl_decode_model.proofs.Turning.{passed_on}
-use Rattle.fidl_decode.proofs.Leaves.{left_over, turns_start, turns_then, turns_break, turns_below, turns_over, below_breaks}
+use Rattle.fidl_decode_columns.proofs.Leaves.{left_over, turns_start, turns_then, turns_break, turns_below, turns_over, below_breaks}
 use Rattle.fidl_decode.proofs.Tail.{turns_tail}
 use Rattle.fidl_decode.proofs.decoder.Decoder.take_turn.Goals as goal
 

@@ -20,7 +20,7 @@ use Rattle.fidl_decode_model.specs.Machine.{IsInside, Visits, VisitFine, Turns, 
 use Rattle.fidl_decode_model.proofs.Visiting.{nest_is, positive}
 use Rattle.fidl_decode_model.proofs.Stated.{stated}
 use Rattle.fidl_decode_model.proofs.Turning.{row_fine, row_room, row_inside, work_falls}
-use Rattle.fidl_decode.proofs.Leaves.{going_on, left_over, next_known, next_size, next_room, next_takes, next_leaf_breaks, over_room, over_turns, over_breaks, elements_next, elements_over, no_zeros}
+use Rattle.fidl_decode_columns.proofs.Leaves.{going_on, left_over, next_known, next_size, next_room, next_takes, next_leaf_breaks, over_room, over_turns, over_breaks, elements_next, elements_over, no_zeros}
 
 module _ (t : List ℕ) (fine : IsFine t) (m : Message) (f : Frame) (old now : Position) (a e size count i done : ℕ) (turns : Turns t m f old now a (left_over (Some (going_on f (Elements e size (count - i)) done)))) where
   abbrev g : Frame

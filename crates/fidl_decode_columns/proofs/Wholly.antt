@@ -8,7 +8,7 @@ use Rattle.fidl_decode_model.specs.Invariants.{IsFine}
 use Rattle.fidl_decode_model.specs.State.{Message, Position}
 use Rattle.fidl_decode_model.specs.Machine.{Visits, Turns, inline_work, value_work, probes}
 use Rattle.fidl_decode_model.proofs.Visiting.{size_is, positive}
-use Rattle.fidl_decode.proofs.Leaves.{left_over}
+use Rattle.fidl_decode_columns.proofs.Leaves.{left_over}
 
 -- the work of a leaf is within that of a value
 pub leaf_cost : (t : List ℕ) → IsFine t → (m : List ℕ) (next e : ℕ) → e < (header_of t).entries → probes + (length m - next) ≤ value_work m next (entry_at t e)

@@ -1,0 +1,25 @@
+use Rattle.std.proofs.Common.{◌≡◌, ◌+◌, sym, ap, subst, ◌∙◌, arith, inl, inr}
+use Rattle.std.specs.Prelude.{Some}
+use Rattle.std.proofs.lemmas.Bool.{cases_eq}
+use Rattle.fidl_table_format.specs.declared.record.Row as raw
+use Rattle.fidl_table_format.specs.declared.record.Entry.{Entry}
+use Rattle.fidl_table_format.specs.Kind.{kind_of}
+use Rattle.fidl_table_format.specs.Section.{header_of, entry_at, row_at}
+use Rattle.fidl_decode_columns.specs.Columns.{IsNumericAt}
+use Rattle.fidl_decode_columns.proofs.columns.Columns.are_numbers.Goals as goal
+
+pub loop-i-preserved : goal.loop-i-preserved
+loop-i-preserved c =
+    λ i from below.
+    let t = c.args.self.now.table.now in
+    let own = c.row-entry.ensures.value in
+    let is : kind_of (entry_at t (row_at t (header_of t) (c.args.first + c.loop-i.i)).entry).kind ≡ Some c.in-Some.kind = ap (λ (w : raw.Row). kind_of (entry_at t w.entry).kind) (sym own) ∙ ap (λ (e : Entry). kind_of e.kind) (sym c.entry.ensures.value) ∙ sym c.from_number.ensures ∙ c.in-Some.is in
+    elim (cases_eq i (c.args.first + c.loop-i.i)) [
+      | inl same ↦ subst (λ n. IsNumericAt t (row_at t (header_of t) n).entry) (sym same) (c.in-Some.kind, is, sym c.has_numbers.ensures ∙ c.if-not-has_numbers.false)
+      | inr other ↦ c.loop-i.invariant i from (omega (arith, below, other))
+    ]
+
+pub returns : goal.returns
+returns c =
+    λ so i from below.
+    c.loop-i.invariant i from (omega (arith, below, c.loop-i-test.false))

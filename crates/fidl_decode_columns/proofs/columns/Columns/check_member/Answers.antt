@@ -1,0 +1,44 @@
+use Rattle.std.proofs.Common.{◌≡◌, ℕ, ◌+◌, ◌*◌, ◌≤◌, sym, ap, subst, ◌∙◌, arith}
+use Rattle.std.specs.Prelude.{Some, true}
+use Rattle.fidl_table_format.specs.declared.kind.EntryKind.{EntryKind}
+use Rattle.fidl_table_format.specs.declared.record.Entry.{Entry}
+use Rattle.fidl_table_format.specs.Kind.{kind_of}
+use Rattle.fidl_table_format.specs.Section.{header_of, entry_at}
+use Rattle.fidl_table_format.specs.Terms.{term_as}
+use Rattle.fidl_decode_model.specs.Breaks.{BreaksField}
+use Rattle.fidl_decode_model.specs.Faults.{message_of}
+use Rattle.fidl_decode_model.proofs.Visiting.{same_some}
+use Rattle.fidl_decode_columns.specs.Columns.{has_numbers, right_before, IsFirstWrong, IsGoodAt}
+use Rattle.fidl_decode_columns.proofs.Sizes.{fewer_room}
+use Rattle.fidl_decode_columns.proofs.columns.Columns.check_member.Goals as goal
+
+few : (limit known n : ℕ) → limit ≡ known → known ≤ n → limit ≤ n
+few limit known n is le = omega (arith, is, le)
+
+pub first_wrong-requires-clause-kind : goal.first_wrong-requires-clause-kind
+first_wrong-requires-clause-kind c = ap (λ (e : Entry). kind_of e.kind) (sym c.entry.ensures.value) ∙ sym c.from_number.ensures ∙ c.in-Some.is
+
+pub first_wrong-requires-clause-numbers : goal.first_wrong-requires-clause-numbers
+first_wrong-requires-clause-numbers c =
+    let t = c.args.self.now.table.now in
+    let is : kind_of (entry_at t c.args.row.now.entry).kind ≡ Some c.in-Some.kind = ap (λ (e : Entry). kind_of e.kind) (sym c.entry.ensures.value) ∙ sym c.from_number.ensures ∙ c.in-Some.is in
+    let numeric = c.requires.numeric in
+    subst (λ (k : EntryKind). has_numbers k ≡ true) (same_some numeric.0 c.in-Some.kind (sym numeric.1 ∙ is)) numeric.2
+
+pub first_wrong-requires-clause-room : goal.first_wrong-requires-clause-room
+first_wrong-requires-clause-room c =
+    let le = few c.right_before-limit.result (right_before c.args.structs.now.count c.args.known) c.args.structs.now.count c.right_before-limit.ensures c.requires.known in
+    record {
+      within = fewer_room c.args.structs.now.base c.args.structs.now.entry.size c.right_before-limit.result c.args.structs.now.count _ le c.requires.within;
+      member = c.requires.end;
+    }
+
+pub returns-clause-value : goal.returns-clause-value
+returns-clause-value c =
+    let t = c.args.self.now.table.now in
+    let bytes = c.args.self.now.bytes.now in
+    let m = message_of bytes c.args.self.now.handles.now in
+    let d = entry_at t c.args.row.now.entry in
+    let is : kind_of d.kind ≡ Some c.in-Some.kind = ap (λ (e : Entry). kind_of e.kind) (sym c.entry.ensures.value) ∙ sym c.from_number.ensures ∙ c.in-Some.is in
+    let at : ℕ → ℕ = λ k. c.args.structs.now.base + c.args.structs.now.entry.size * k + c.args.row.now.key in
+    (c.in-Some.kind, is, (c.first_wrong.result, c.first_of.ensures, subst (λ n. IsFirstWrong (λ k. IsGoodAt t bytes d c.in-Some.kind (at k)) (λ k. BreaksField m (term_as c.in-Some.kind t (header_of t) d) (at k)) n c.first_wrong.result) c.right_before-limit.ensures c.first_wrong.ensures.value))

@@ -1,0 +1,12 @@
+use Rattle.std.proofs.Common.{◌≡◌, ℕ, ◌+◌, ◌*◌, ◌<◌}
+use Rattle.fidl_wire.specs.Encoding.{zeros}
+use Rattle.fidl_wire.specs.Standing.{Stands}
+use Rattle.fidl_decode_columns.specs.Columns.{place_of}
+use Rattle.fidl_decode_columns.proofs.columns.Columns.first_gap.Given as goal
+
+-- the gaps before this one are zeros
+abbrev pub invariant-loop-i : goal.invariant-loop-i
+invariant-loop-i l = record {
+  start : l.start ≡ l.column.base + l.column.size * l.i;
+  before : (k : ℕ) → k < l.i → Stands l.self.bytes.now (place_of l.column k) (zeros l.width);
+}

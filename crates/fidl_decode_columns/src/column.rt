@@ -1,0 +1,147 @@
+//! One member of each of some structs that stand behind one another: a loop for each kind of test.
+ghost use Rattle.std.specs.Prelude.{ℕ, ◌+◌, ◌-◌, ◌<◌, ◌≤◌, ◌≤ℤ◌, ◌↔◌, IsTrue};
+ghost use Rattle.std.specs.Prelude.{Some, slice_index};
+ghost use Rattle.std.specs.Int.{byte_len};
+ghost use Rattle.fidl_wire.specs.Encoding.{zeros};
+ghost use Rattle.fidl_wire.specs.Standing.{Stands};
+ghost use Rattle.fidl_wire.specs.Term.{width};
+ghost use Rattle.fidl_wire.specs.Typed.{InMask};
+ghost use Rattle.fidl_table_format.specs.Number.{number_standing};
+ghost use Rattle.fidl_table_format.specs.Terms.{as_number, value_number};
+ghost use Rattle.fidl_decode_model.specs.Breaks.{IsPadding};
+ghost use Rattle.fidl_decode_columns.specs.Columns.{place_of, HasRoom, HasNoSign, IsFirstNot};
+ghost use Rattle.fidl_decode_columns.specs.Columns.{IsFirstWrong};
+
+use crate::columns::Columns;
+use crate::zeros::zeros_at;
+use fidl_decode_model::DecodeFault;
+use fidl_table_format::{EntryKind, ValueRange, number_bits};
+
+/// One member of structs that stand behind one another: where the first struct begins, how many
+/// bytes each has, and how far behind its struct's start the member begins.
+#[derive(Clone, Copy, Drop)]
+pub(crate) struct Column {
+    pub base: usize,
+    pub size: usize,
+    pub offset: usize,
+}
+
+/// A struct that is wrong, by its number among those that stand behind one another, and why.
+#[derive(Clone, Copy, Drop)]
+pub(crate) struct Wrong {
+    pub element: u32,
+    pub fault: DecodeFault,
+}
+
+/// Whether one number of a kind of numbers is at most another, both in 64 bits.
+#[inline(always)]
+fn is_at_most(kind: EntryKind, a: u64, b: u64) -> bool
+    ensures { IsTrue result ↔ (value_number (as_number kind) a ≤ℤ value_number (as_number kind) b) }
+{
+    match kind {
+        EntryKind::Int8 | EntryKind::Int16 | EntryKind::Int32 | EntryKind::Int64 => {
+            a.cast_signed() <= b.cast_signed()
+        }
+        _ => a <= b,
+    }
+}
+
+/// Whether a number of a kind of numbers is in a range, all in 64 bits.
+#[inline(always)]
+fn is_within(kind: EntryKind, number: u64, range: ValueRange) -> bool
+    ensures { let value = value_number (as_number kind) in
+        IsTrue result ↔ ((value range.lowest ≤ℤ value number)
+        × (value number ≤ℤ value range.highest)) }
+{
+    is_at_most(kind, range.lowest, number) && is_at_most(kind, number, range.highest)
+}
+
+impl<'t, 'm> Columns<'t, 'm> {
+    /// The first of so many structs with a byte that is not zero among those before a member.
+    pub(crate) fn first_gap(&self, column: Column, width: usize, limit: u32) -> Option<Wrong>
+        requires room { HasRoom self.now.bytes.now column width limit }
+        ensures { IsFirstWrong
+            (λ k. Stands self.now.bytes.now (place_of column k) (zeros width))
+            (λ k. IsPadding self.now.bytes.now (place_of column k) (place_of column k + width))
+            limit result }
+    {
+        let mut start = column.base;
+        for i in 0..limit {
+            let from = start + column.offset;
+            if let Err(fault) = zeros_at(self.bytes, from, from + width) {
+                return Some(Wrong { element: i, fault });
+            }
+            start += column.size;
+        }
+        None
+    }
+
+    /// The first of so many bools that is neither 0 nor 1.
+    pub(crate) fn first_no_bool(&self, column: Column, limit: u32) -> u32
+        requires room { HasRoom self.now.bytes.now column 1 limit }
+        ensures { IsFirstNot (λ k. slice_index self.now.bytes.now (place_of column k) ≤ 1)
+            limit result }
+    {
+        let mut start = column.base;
+        for i in 0..limit {
+            if self.bytes[start + column.offset] > 1 {
+                return i;
+            }
+            start += column.size;
+        }
+        limit
+    }
+
+    /// The first of so many numbers of a kind with a bit outside a mask.
+    #[inline(always)]
+    pub(crate) fn first_outside_mask(
+        &self,
+        column: Column,
+        kind: EntryKind,
+        mask: u64,
+        limit: u32,
+    ) -> u32
+        requires kind { HasNoSign (as_number kind) }
+        requires room { HasRoom self.now.bytes.now column (byte_len (width (as_number kind))) limit }
+        ensures { IsFirstNot (λ k. InMask mask
+            (number_standing (as_number kind) self.now.bytes.now (place_of column k)))
+            limit result }
+    {
+        let mut start = column.base;
+        for i in 0..limit {
+            let number = number_bits(kind, self.bytes, start + column.offset);
+            if number | mask != mask {
+                return i;
+            }
+            start += column.size;
+        }
+        limit
+    }
+
+    /// The first of so many numbers of a kind that is not in a range.
+    #[inline(always)]
+    pub(crate) fn first_outside_range(
+        &self,
+        column: Column,
+        kind: EntryKind,
+        range: ValueRange,
+        limit: u32,
+    ) -> u32
+        requires room { HasRoom self.now.bytes.now column (byte_len (width (as_number kind))) limit }
+        ensures { let value = value_number (as_number kind) in
+            let at = λ (k : ℕ). number_standing (as_number kind) self.now.bytes.now
+            (place_of column k) in
+            IsFirstNot (λ k. (value range.lowest ≤ℤ at k) × (at k ≤ℤ value range.highest))
+            limit result }
+    {
+        let mut start = column.base;
+        for i in 0..limit {
+            let number = number_bits(kind, self.bytes, start + column.offset);
+            if !is_within(kind, number, range) {
+                return i;
+            }
+            start += column.size;
+        }
+        limit
+    }
+}

@@ -1,0 +1,15 @@
+//! Vectors and arrays of structs whose members are numbers alone, checked member by member: one loop
+//! over all structs for each member.
+#![tactic(auto)]
+
+mod column;
+mod columns;
+mod kinds;
+mod searched;
+mod structs;
+mod values;
+mod zeros;
+
+pub use columns::Columns;
+pub use kinds::{MOST_ROWS, is_free};
+pub use zeros::zeros_at;

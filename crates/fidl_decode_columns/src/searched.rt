@@ -1,0 +1,83 @@
+//! Enums of several ranges: each number is searched, and of the least numbers those that were found.
+ghost use Rattle.std.specs.Prelude.{◌≡◌, ℕ, ◌+◌, ◌*◌, ◌^◌, ◌<◌, ◌≤◌, ◌↔◌, IsTrue, Some, Contains};
+ghost use Rattle.std.specs.Prelude.{List, slice_index};
+ghost use Rattle.std.specs.Int.{byte_len};
+ghost use Rattle.fidl_wire.specs.Term.{width};
+ghost use Rattle.fidl_table_format.specs.declared.kind.EntryKind.TheVariants as kinds;
+ghost use Rattle.fidl_table_format.specs.Kind.{kind_of};
+ghost use Rattle.fidl_table_format.specs.Number.{number_standing};
+ghost use Rattle.fidl_table_format.specs.Section.{header_of, entry_at};
+ghost use Rattle.fidl_table_format.specs.Terms.{underlying, value_number, values_from};
+ghost use Rattle.fidl_decode_columns.specs.Columns.{place_of, HasRoom, IsFirstNot, AreValues};
+
+use crate::column::Column;
+use crate::columns::Columns;
+use fidl_table_format::number_bits;
+
+/// How many numbers, from 0 on, are searched once alone.
+const NOTED: usize = 256;
+
+impl<'t, 'm> Columns<'t, 'm> {
+    /// Whether a number is a value of an enum. One that is noted as such is not searched, and a small
+    /// one that is found is noted. A search's probes are steps.
+    #[inline(always)]
+    fn is_value(&self, entry: u32, number: u64, noted: &mut [u8; NOTED], steps: &mut u64) -> bool
+        requires entry { entry < (header_of self.now.table.now).entries }
+        requires kind { kind_of (entry_at self.now.table.now entry).kind ≡ Some kinds.Enum }
+        requires noted { AreValues self.now.table.now entry noted.old }
+        requires budget { steps.old < 2 ^ 62 }
+        ensures value { let t = self.now.table.now in
+            let e = entry_at t entry in
+            IsTrue result ↔ Contains (values_from t (header_of t) (underlying e) e.first e.count)
+            (value_number (underlying e) number) }
+        ensures noted { AreValues self.now.table.now entry noted.new }
+        ensures grows { steps.old ≤ steps.new }
+        ensures few { steps.new ≤ steps.old + 16 }
+    {
+        if number >= NOTED as u64 {
+            return self.table.has_value(entry, number, steps);
+        }
+        let place = number as usize;
+        if noted[place] == 1 {
+            return true;
+        }
+        if !self.table.has_value(entry, number, steps) {
+            return false;
+        }
+        noted[place] = 1;
+        true
+    }
+
+    /// The first of so many numbers that is no value of an enum.
+    pub(crate) fn first_no_value(
+        &self,
+        column: Column,
+        entry: u32,
+        limit: u32,
+        steps: &mut u64,
+    ) -> u32
+        requires entry { entry < (header_of self.now.table.now).entries }
+        requires kind { kind_of (entry_at self.now.table.now entry).kind ≡ Some kinds.Enum }
+        requires room { HasRoom self.now.bytes.now column
+            (byte_len (width (underlying (entry_at self.now.table.now entry)))) limit }
+        requires budget { steps.old < 2 ^ 42 }
+        ensures value { let t = self.now.table.now in
+            let e = entry_at t entry in
+            IsFirstNot (λ k. Contains (values_from t (header_of t) (underlying e) e.first e.count)
+            (number_standing (underlying e) self.now.bytes.now (place_of column k))) limit result }
+        ensures grows { steps.old ≤ steps.new }
+        ensures cost { steps.new ≤ steps.old + 16 * limit }
+    {
+        let kind = self.table.entry(entry).underlying();
+        let mut noted = [0; NOTED];
+        let mut start = column.base;
+        for i in 0..limit {
+            let number = number_bits(kind, self.bytes, start + column.offset);
+            if !self.is_value(entry, number, &mut noted, steps) {
+                return i;
+            }
+            start += column.size;
+        }
+        limit
+    }
+}
