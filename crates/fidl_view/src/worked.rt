@@ -101,6 +101,7 @@ pub fn bytes_that_stand()
       entry = 0;
       bytes = 2 ∷ zeros 7 ++ replicate 8 255 ++ 104 ∷ 105 ∷ zeros 6;
       handles = [];
+      steps = 0;
       links = record { objects = 0 ∷ 16 ∷ []; records = [] };
     } in
         bytes_at d (ty.string false 2) 0 ≡ 104 ∷ 105 ∷ [] }
@@ -109,6 +110,7 @@ pub fn bytes_that_stand()
       entry = 0;
       bytes = 2 ∷ zeros 7 ++ replicate 8 255 ++ 104 ∷ 105 ∷ zeros 6;
       handles = [];
+      steps = 0;
       links = record { objects = 0 ∷ 8 ∷ []; records = [] };
     } in
         bytes_at d (ty.string false 2) 0 ≡ 255 ∷ 255 ∷ [] }
@@ -117,6 +119,7 @@ pub fn bytes_that_stand()
       entry = 0;
       bytes = 2 ∷ zeros 7 ++ replicate 8 255 ++ 104 ∷ 105 ∷ zeros 6;
       handles = [];
+      steps = 0;
       links = record { objects = 0 ∷ 16 ∷ []; records = [] };
     } in
         bytes_at d (ty.array (ty.number uint8) 3) 15 ≡ 255 ∷ 104 ∷ 105 ∷ [] }
