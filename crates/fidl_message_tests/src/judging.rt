@@ -1,6 +1,7 @@
 //! The loop that goes through the cases of suites, and what is asked in them.
 use crate::bytes::bytes_of;
 use crate::choices::{any_bytes, encoded};
+use crate::counting::counted;
 use crate::decoding::decoded;
 use crate::hostile::{changes, fronts};
 use crate::limits::values_found;
@@ -26,6 +27,8 @@ pub(crate) enum Asked {
     Call,
     /// What `decode` answers to a message, and its views.
     Message,
+    /// Whether a message takes steps.
+    Steps,
     /// How many fronts of a message are refused.
     Fronts,
     /// How many changes of a byte of a message are refused.
@@ -71,6 +74,7 @@ fn answer_by_table(
     match asked {
         Asked::Call => call(alloc, table, case.given),
         Asked::Message => decoded(alloc, table, case, scratch),
+        Asked::Steps => counted(alloc, table, case, scratch),
         Asked::Fronts => fronts(alloc, table, case.given, scratch),
         Asked::Changes => changes(alloc, table, case.given, scratch),
         Asked::AnyBytes => any_bytes(alloc, table, case.given, scratch),

@@ -15,6 +15,8 @@ mod choices;
 #[cfg(test)]
 mod chosen;
 #[cfg(test)]
+mod counting;
+#[cfg(test)]
 mod decoding;
 #[cfg(test)]
 mod depths;

@@ -80,7 +80,7 @@ pub(crate) fn values_found(
     text(alloc, Some(told))
 }
 
-const SUITES: [Suite<'_>; 8] = [
+const SUITES: [Suite<'_>; 9] = [
     Suite {
         asked: Asked::Verdict,
         table: LONG,
@@ -148,6 +148,19 @@ const SUITES: [Suite<'_>; 8] = [
             0 0100000000000000 -> decoded
             0 0100000000000000 with 1:3:0*64 -> 20 HandlesLeft 8
             0 0100000000000000 with 1:3:0*65 -> 2 TooManyHandles 0
+        ",
+    },
+    // A message that is past a limit is not read.
+    Suite {
+        asked: Asked::Steps,
+        table: LONG,
+        count: 5,
+        cases: "
+            0 01*65535 00 -> steps
+            0 00*65537 -> no steps
+            0 01*65534 0200 -> steps
+            0 01*65535 00 with 1:3:0*65 -> no steps
+            0 01*65535 00 with 1:3:0*64 -> steps
         ",
     },
     // The enum has the values 1, 3, 5 and so on, as many as are given. The numbers from 0 to twice
