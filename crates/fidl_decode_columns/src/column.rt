@@ -2,18 +2,13 @@
 ghost use Rattle.std.specs.Prelude.{ℕ, ◌+◌, ◌-◌, ◌<◌, ◌≤◌, ◌≤ℤ◌, ◌↔◌, IsTrue};
 ghost use Rattle.std.specs.Prelude.{Some, slice_index};
 ghost use Rattle.std.specs.Int.{byte_len};
-ghost use Rattle.fidl_wire.specs.Encoding.{zeros};
-ghost use Rattle.fidl_wire.specs.Standing.{Stands};
 ghost use Rattle.fidl_wire.specs.Term.{width};
 ghost use Rattle.fidl_wire.specs.Typed.{InMask};
 ghost use Rattle.fidl_table_format.specs.Number.{number_standing};
 ghost use Rattle.fidl_table_format.specs.Terms.{as_number, value_number};
-ghost use Rattle.fidl_decode_model.specs.Breaks.{IsPadding};
 ghost use Rattle.fidl_decode_columns.specs.Columns.{place_of, HasRoom, HasNoSign, IsFirstNot};
-ghost use Rattle.fidl_decode_columns.specs.Columns.{IsFirstWrong};
 
 use crate::columns::Columns;
-use crate::zeros::zeros_at;
 use fidl_decode_model::DecodeFault;
 use fidl_table_format::{EntryKind, ValueRange, number_bits};
 
@@ -57,25 +52,6 @@ fn is_within(kind: EntryKind, number: u64, range: ValueRange) -> bool
 }
 
 impl<'t, 'm> Columns<'t, 'm> {
-    /// The first of so many structs with a byte that is not zero among those before a member.
-    pub(crate) fn first_gap(&self, column: Column, width: usize, limit: u32) -> Option<Wrong>
-        requires room { HasRoom self.now.bytes.now column width limit }
-        ensures { IsFirstWrong
-            (λ k. Stands self.now.bytes.now (place_of column k) (zeros width))
-            (λ k. IsPadding self.now.bytes.now (place_of column k) (place_of column k + width))
-            limit result }
-    {
-        let mut start = column.base;
-        for i in 0..limit {
-            let from = start + column.offset;
-            if let Err(fault) = zeros_at(self.bytes, from, from + width) {
-                return Some(Wrong { element: i, fault });
-            }
-            start += column.size;
-        }
-        None
-    }
-
     /// The first of so many bools that is neither 0 nor 1.
     pub(crate) fn first_no_bool(&self, column: Column, limit: u32) -> u32
         requires room { HasRoom self.now.bytes.now column 1 limit }
@@ -92,15 +68,10 @@ impl<'t, 'm> Columns<'t, 'm> {
         limit
     }
 
-    /// The first of so many numbers of a kind with a bit outside a mask.
+    /// The first of so many numbers of a kind with a bit outside a mask. Each caller names the kind,
+    /// so that no number's kind is looked up.
     #[inline(always)]
-    pub(crate) fn first_outside_mask(
-        &self,
-        column: Column,
-        kind: EntryKind,
-        mask: u64,
-        limit: u32,
-    ) -> u32
+    fn first_outside_mask(&self, column: Column, kind: EntryKind, mask: u64, limit: u32) -> u32
         requires kind { HasNoSign (as_number kind) }
         requires room { HasRoom self.now.bytes.now column (byte_len (width (as_number kind))) limit }
         ensures { IsFirstNot (λ k. InMask mask
@@ -118,9 +89,10 @@ impl<'t, 'm> Columns<'t, 'm> {
         limit
     }
 
-    /// The first of so many numbers of a kind that is not in a range.
+    /// The first of so many numbers of a kind that is not in a range. Each caller names the kind, so
+    /// that no number's kind is looked up.
     #[inline(always)]
-    pub(crate) fn first_outside_range(
+    fn first_outside_range(
         &self,
         column: Column,
         kind: EntryKind,
@@ -143,5 +115,56 @@ impl<'t, 'm> Columns<'t, 'm> {
             start += column.size;
         }
         limit
+    }
+
+    /// The first of so many numbers of a kind with a bit outside a mask, by a loop for its kind.
+    pub(crate) fn first_outside_mask_by_kind(
+        &self,
+        column: Column,
+        kind: EntryKind,
+        mask: u64,
+        limit: u32,
+    ) -> u32
+        requires kind { HasNoSign (as_number kind) }
+        requires room { HasRoom self.now.bytes.now column (byte_len (width (as_number kind))) limit }
+        ensures { IsFirstNot (λ k. InMask mask
+            (number_standing (as_number kind) self.now.bytes.now (place_of column k)))
+            limit result }
+    {
+        match kind {
+            EntryKind::Uint8 => self.first_outside_mask(column, EntryKind::Uint8, mask, limit),
+            EntryKind::Uint16 => self.first_outside_mask(column, EntryKind::Uint16, mask, limit),
+            EntryKind::Uint32 => self.first_outside_mask(column, EntryKind::Uint32, mask, limit),
+            EntryKind::Uint64 => self.first_outside_mask(column, EntryKind::Uint64, mask, limit),
+            _ => self.first_outside_mask(column, kind, mask, limit),
+        }
+    }
+
+    /// The first of so many numbers of a kind that is not in a range, by a loop for its kind.
+    pub(crate) fn first_outside_range_by_kind(
+        &self,
+        column: Column,
+        kind: EntryKind,
+        range: ValueRange,
+        limit: u32,
+    ) -> u32
+        requires room { HasRoom self.now.bytes.now column (byte_len (width (as_number kind))) limit }
+        ensures { let value = value_number (as_number kind) in
+            let at = λ (k : ℕ). number_standing (as_number kind) self.now.bytes.now
+            (place_of column k) in
+            IsFirstNot (λ k. (value range.lowest ≤ℤ at k) × (at k ≤ℤ value range.highest))
+            limit result }
+    {
+        match kind {
+            EntryKind::Int8 => self.first_outside_range(column, EntryKind::Int8, range, limit),
+            EntryKind::Int16 => self.first_outside_range(column, EntryKind::Int16, range, limit),
+            EntryKind::Int32 => self.first_outside_range(column, EntryKind::Int32, range, limit),
+            EntryKind::Int64 => self.first_outside_range(column, EntryKind::Int64, range, limit),
+            EntryKind::Uint8 => self.first_outside_range(column, EntryKind::Uint8, range, limit),
+            EntryKind::Uint16 => self.first_outside_range(column, EntryKind::Uint16, range, limit),
+            EntryKind::Uint32 => self.first_outside_range(column, EntryKind::Uint32, range, limit),
+            EntryKind::Uint64 => self.first_outside_range(column, EntryKind::Uint64, range, limit),
+            _ => self.first_outside_range(column, kind, range, limit),
+        }
     }
 }

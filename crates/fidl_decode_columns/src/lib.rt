@@ -4,6 +4,7 @@
 
 mod column;
 mod columns;
+mod gaps;
 mod kinds;
 mod searched;
 mod structs;

@@ -7,12 +7,13 @@ ghost use Rattle.fidl_table_format.specs.declared.kind.EntryKind.TheVariants as 
 ghost use Rattle.fidl_table_format.specs.Kind.{kind_of};
 ghost use Rattle.fidl_table_format.specs.Number.{number_standing};
 ghost use Rattle.fidl_table_format.specs.Section.{header_of, entry_at};
-ghost use Rattle.fidl_table_format.specs.Terms.{underlying, value_number, values_from};
+ghost use Rattle.fidl_table_format.specs.Terms.{as_number, underlying, value_number};
+ghost use Rattle.fidl_table_format.specs.Terms.{values_from};
 ghost use Rattle.fidl_decode_columns.specs.Columns.{place_of, HasRoom, IsFirstNot, AreValues};
 
 use crate::column::Column;
 use crate::columns::Columns;
-use fidl_table_format::number_bits;
+use fidl_table_format::{EntryKind, number_bits};
 
 /// How many numbers, from 0 on, are searched once alone.
 const NOTED: usize = 256;
@@ -48,7 +49,43 @@ impl<'t, 'm> Columns<'t, 'm> {
         true
     }
 
-    /// The first of so many numbers that is no value of an enum.
+    /// The first of so many numbers of a kind that is no value of an enum. Each caller names the
+    /// kind, so that no number's kind is looked up.
+    #[inline(always)]
+    fn first_not_found(
+        &self,
+        column: Column,
+        entry: u32,
+        kind: EntryKind,
+        limit: u32,
+        steps: &mut u64,
+    ) -> u32
+        requires entry { entry < (header_of self.now.table.now).entries }
+        requires kind { kind_of (entry_at self.now.table.now entry).kind ≡ Some kinds.Enum }
+        requires underlying { as_number kind ≡ underlying (entry_at self.now.table.now entry) }
+        requires room { HasRoom self.now.bytes.now column
+            (byte_len (width (underlying (entry_at self.now.table.now entry)))) limit }
+        requires budget { steps.old < 2 ^ 42 }
+        ensures value { let t = self.now.table.now in
+            let e = entry_at t entry in
+            IsFirstNot (λ k. Contains (values_from t (header_of t) (underlying e) e.first e.count)
+            (number_standing (underlying e) self.now.bytes.now (place_of column k))) limit result }
+        ensures grows { steps.old ≤ steps.new }
+        ensures cost { steps.new ≤ steps.old + 16 * limit }
+    {
+        let mut noted = [0; NOTED];
+        let mut start = column.base;
+        for i in 0..limit {
+            let number = number_bits(kind, self.bytes, start + column.offset);
+            if !self.is_value(entry, number, &mut noted, steps) {
+                return i;
+            }
+            start += column.size;
+        }
+        limit
+    }
+
+    /// The first of so many numbers that is no value of an enum, by a loop for its kind.
     pub(crate) fn first_no_value(
         &self,
         column: Column,
@@ -69,15 +106,22 @@ impl<'t, 'm> Columns<'t, 'm> {
         ensures cost { steps.new ≤ steps.old + 16 * limit }
     {
         let kind = self.table.entry(entry).underlying();
-        let mut noted = [0; NOTED];
-        let mut start = column.base;
-        for i in 0..limit {
-            let number = number_bits(kind, self.bytes, start + column.offset);
-            if !self.is_value(entry, number, &mut noted, steps) {
-                return i;
+        match kind {
+            EntryKind::Int8 => self.first_not_found(column, entry, EntryKind::Int8, limit, steps),
+            EntryKind::Int16 => self.first_not_found(column, entry, EntryKind::Int16, limit, steps),
+            EntryKind::Int32 => self.first_not_found(column, entry, EntryKind::Int32, limit, steps),
+            EntryKind::Int64 => self.first_not_found(column, entry, EntryKind::Int64, limit, steps),
+            EntryKind::Uint8 => self.first_not_found(column, entry, EntryKind::Uint8, limit, steps),
+            EntryKind::Uint16 => {
+                self.first_not_found(column, entry, EntryKind::Uint16, limit, steps)
             }
-            start += column.size;
+            EntryKind::Uint32 => {
+                self.first_not_found(column, entry, EntryKind::Uint32, limit, steps)
+            }
+            EntryKind::Uint64 => {
+                self.first_not_found(column, entry, EntryKind::Uint64, limit, steps)
+            }
+            _ => self.first_not_found(column, entry, kind, limit, steps),
         }
-        limit
     }
 }

@@ -48,7 +48,7 @@ impl<'t, 'm> Columns<'t, 'm> {
         if !entry.is_strict() {
             return limit;
         }
-        self.first_outside_mask(column, entry.underlying(), entry.bound, limit)
+        self.first_outside_mask_by_kind(column, entry.underlying(), entry.bound, limit)
     }
 
     /// The first of so many enums that is none of the values, where they are strict. Those of one
@@ -77,7 +77,7 @@ impl<'t, 'm> Columns<'t, 'm> {
         // Read, so that the number of ranges, and with it each range's, is known to have 32 bits.
         let _values = self.table.values();
         let range = self.table.range(e.first);
-        self.first_outside_range(column, e.underlying(), range, limit)
+        self.first_outside_range_by_kind(column, e.underlying(), range, limit)
     }
 
     /// The first of so many numbers of an entry, which is of this kind, that is none of its values.

@@ -1,5 +1,5 @@
 //! Zeros before, between and behind members.
-ghost use Rattle.std.specs.Prelude.{◌-◌, ◌≤◌, OnOk, IfErr, length};
+ghost use Rattle.std.specs.Prelude.{◌+◌, ◌-◌, ◌≤◌, ◌↔◌, IsTrue, OnOk, IfErr, length};
 ghost use Rattle.fidl_wire.specs.Standing.{Stands};
 ghost use Rattle.fidl_wire.specs.Encoding.{zeros};
 ghost use Rattle.fidl_decode_model.specs.Breaks.{IsPadding};
@@ -19,4 +19,18 @@ pub fn zeros_at(bytes: &[u8], from: usize, to: usize) -> Result<(), DecodeFault>
         }
     }
     Ok(())
+}
+
+/// Whether so many bytes from a place on are zeros.
+#[inline(always)]
+pub(crate) fn are_zeros(bytes: &[u8], from: usize, width: usize) -> bool
+    requires room { from + width ≤ length bytes.now }
+    ensures { IsTrue result ↔ Stands bytes.now from (zeros width) }
+{
+    for i in 0..width {
+        if bytes[from + i] != 0 {
+            return false;
+        }
+    }
+    true
 }

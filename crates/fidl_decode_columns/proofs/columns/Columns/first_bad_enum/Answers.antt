@@ -43,8 +43,8 @@ returns-clause-value c =
     let In : Kind → ValueRange → ℕ → Type 0 = λ u r k. (value_number u r.lowest ≤ℤ at u k) × (at u k ≤ℤ value_number u r.highest) in
     let same : as_number c.underlying.result ≡ underlying d = c.underlying.ensures.number ∙ ap (λ (e : Entry). underlying e) own in
     let range : c.range-range.result ≡ range_at t (header_of t) d.first = c.range-range.ensures.value ∙ ap (λ (e : Entry). range_at t (header_of t) e.first) own in
-    let typed = subst (λ (u : Kind). IsFirstNot (In u c.range-range.result) c.args.limit c.first_outside_range.result) same c.first_outside_range.ensures in
-    let ranged = subst (λ (r : ValueRange). IsFirstNot (In (underlying d) r) c.args.limit c.first_outside_range.result) range typed in
-    let listed = same_first (In (underlying d) (range_at t (header_of t) d.first)) (λ k. Contains (values_from t (header_of t) (underlying d) d.first d.count) (at (underlying d) k)) c.args.limit c.first_outside_range.result
+    let typed = subst (λ (u : Kind). IsFirstNot (In u c.range-range.result) c.args.limit c.first_outside_range_by_kind.result) same c.first_outside_range_by_kind.ensures in
+    let ranged = subst (λ (r : ValueRange). IsFirstNot (In (underlying d) r) c.args.limit c.first_outside_range_by_kind.result) range typed in
+    let listed = same_first (In (underlying d) (range_at t (header_of t) d.first)) (λ k. Contains (values_from t (header_of t) (underlying d) d.first d.count) (at (underlying d) k)) c.args.limit c.first_outside_range_by_kind.result
     (λ k. one_range_has t (header_of t) (underlying d) (at (underlying d) k) d.first d.count one) (λ k. one_range_only t (header_of t) (underlying d) (at (underlying d) k) d.first d.count one) ranged in
-    subst (λ (o : Option (List ℤ)). IsFirstNot (λ k. IfSome o (λ values. Contains values (at (underlying d) k))) c.args.limit c.first_outside_range.result) (sym is) listed
+    subst (λ (o : Option (List ℤ)). IsFirstNot (λ k. IfSome o (λ values. Contains values (at (underlying d) k))) c.args.limit c.first_outside_range_by_kind.result) (sym is) listed

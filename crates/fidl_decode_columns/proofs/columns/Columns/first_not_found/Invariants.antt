@@ -4,7 +4,7 @@ use Rattle.fidl_table_format.specs.Number.{number_standing}
 use Rattle.fidl_table_format.specs.Section.{header_of, entry_at}
 use Rattle.fidl_table_format.specs.Terms.{underlying, values_from}
 use Rattle.fidl_decode_columns.specs.Columns.{place_of, AreValues}
-use Rattle.fidl_decode_columns.proofs.columns.Columns.first_no_value.Given as goal
+use Rattle.fidl_decode_columns.proofs.columns.Columns.first_not_found.Given as goal
 
 -- the numbers before this one are values, each found by a search
 abbrev pub invariant-loop-i : goal.invariant-loop-i

@@ -1,14 +1,13 @@
-use Rattle.std.proofs.Common.{rules, ◌≡◌, ℕ, zero, suc, refl, ◌+◌, ◌<◌, ◌≤◌, ℤ, get_or, replicate, sym, ap, subst, ◌∙◌, arith}
+use Rattle.std.proofs.Common.{rules, ◌≡◌, ℕ, zero, suc, refl, ◌+◌, ◌<◌, ◌≤◌, ℤ, get_or, replicate, sym, ap, subst, arith}
 use Rattle.std.specs.Prelude.{Contains}
 use Rattle.fidl_wire.specs.Term.{Kind}
-use Rattle.fidl_table_format.specs.declared.record.Entry.{Entry}
 use Rattle.fidl_table_format.specs.Number.{number_standing}
 use Rattle.fidl_table_format.specs.Section.{header_of, entry_at}
 use Rattle.fidl_table_format.specs.Terms.{as_number, underlying, value_number, values_from}
 use Rattle.fidl_decode_columns.specs.Columns.{place_of}
 use Rattle.fidl_decode_columns.proofs.Sizes.{next_start}
 use Rattle.fidl_decode_columns.proofs.Narrowed.{one_more, first_here, all_hold}
-use Rattle.fidl_decode_columns.proofs.columns.Columns.first_no_value.Goals as goal
+use Rattle.fidl_decode_columns.proofs.columns.Columns.first_not_found.Goals as goal
 
 -- nothing is noted at first
 none_noted : (m n : ℕ) → get_or {A = ℕ} (replicate m 0) n 0 ≡ 0
@@ -31,7 +30,7 @@ loop-i-preserved c =
     let d = entry_at t c.args.entry in
     let bytes = c.args.self.now.bytes.now in
     let Has : ℤ → Type 0 = λ z. Contains (values_from t (header_of t) (underlying d) d.first d.count) z in
-    let same : as_number c.underlying-kind.result ≡ underlying d = c.underlying-kind.ensures.number ∙ ap (λ (e : Entry). underlying e) c.entry.ensures.value in
+    let same : as_number c.args.kind ≡ underlying d = c.requires.underlying in
     let there : c.loop-i.start + c.args.column.offset ≡ place_of c.args.column c.loop-i.i = ap (λ n. n + c.args.column.offset) c.loop-i.invariant.start in
     let stands : value_number (underlying d) c.number_bits-number.result ≡ number_standing (underlying d) bytes (c.loop-i.start + c.args.column.offset) = subst (λ (u : Kind). value_number u c.number_bits-number.result ≡ number_standing u bytes (c.loop-i.start + c.args.column.offset))
     same c.number_bits-number.ensures in
@@ -51,7 +50,7 @@ returns-then-not-is_value-clause-value c =
     let d = entry_at t c.args.entry in
     let bytes = c.args.self.now.bytes.now in
     let Has : ℤ → Type 0 = λ z. Contains (values_from t (header_of t) (underlying d) d.first d.count) z in
-    let same : as_number c.underlying-kind.result ≡ underlying d = c.underlying-kind.ensures.number ∙ ap (λ (e : Entry). underlying e) c.entry.ensures.value in
+    let same : as_number c.args.kind ≡ underlying d = c.requires.underlying in
     let there : c.loop-i.start + c.args.column.offset ≡ place_of c.args.column c.loop-i.i = ap (λ n. n + c.args.column.offset) c.loop-i.invariant.start in
     let stands : value_number (underlying d) c.number_bits-number.result ≡ number_standing (underlying d) bytes (c.loop-i.start + c.args.column.offset) = subst (λ (u : Kind). value_number u c.number_bits-number.result ≡ number_standing u bytes (c.loop-i.start + c.args.column.offset))
     same c.number_bits-number.ensures in

@@ -2,7 +2,7 @@ use Rattle.std.proofs.Common.{◌≡◌, ℕ, ◌+◌, ◌*◌, ◌<◌}
 use Rattle.fidl_wire.specs.Encoding.{zeros}
 use Rattle.fidl_wire.specs.Standing.{Stands}
 use Rattle.fidl_decode_columns.specs.Columns.{place_of}
-use Rattle.fidl_decode_columns.proofs.columns.Columns.first_gap.Given as goal
+use Rattle.fidl_decode_columns.proofs.columns.Columns.first_no_zeros.Given as goal
 
 -- the gaps before this one are zeros
 abbrev pub invariant-loop-i : goal.invariant-loop-i
