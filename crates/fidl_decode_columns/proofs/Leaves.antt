@@ -159,7 +159,8 @@ rows_next t first end done d w is lt =
     ∙ ap (λ (r : raw.Row). (let x : Row = record { offset = r.key; entry = r.entry } in x) ∷ table_rows t (header_of t) (first + 1) (end - (first + 1))) (sym is)
 
 -- the next of an array's elements
-pub elements_next : (t : List ℕ) (e size k count done : ℕ) → size_of (declarations_of t) (ty.named e) ≡ size → k < count → rows_left t done (Elements e size (count - k)) ≡ (let x : Row = record { offset = done; entry = e } in x) ∷ rows_left t (done + size_of (declarations_of t) (ty.named e)) (Elements e size (count - (k + 1)))
+pub elements_next : (t : List ℕ) (e size k count done : ℕ) → size_of (declarations_of t) (ty.named e) ≡ size → k < count
+    → rows_left t done (Elements e size (count - k)) ≡ (let x : Row = record { offset = done; entry = e } in x) ∷ rows_left t (done + size_of (declarations_of t) (ty.named e)) (Elements e size (count - (k + 1)))
 elements_next t e size k count done is lt =
     let fewer : count - k - 1 ≡ count - (k + 1) = omega arith in
     element_rows-more e size (count - k) done (λ none. absurd (omega (arith, none)))

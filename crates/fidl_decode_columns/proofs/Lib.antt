@@ -6,3 +6,4 @@ pub mod Narrowed
 pub mod Numbers
 pub mod Reading
 pub mod Together
+pub mod Examples

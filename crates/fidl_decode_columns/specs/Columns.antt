@@ -1,7 +1,7 @@
 -- Structs that stand behind one another, whose members are numbers alone: what a column of their
 -- members is, and what it means that the first of them are read up to a member.
-use Rattle.std.specs.Prelude.{◌≡◌, ℕ, ◌+◌, ◌-◌, ◌*◌, ◌<◌, ◌≤◌, List, length, slice_index, Bool, true}
-use Rattle.std.specs.Prelude.{Option, Some, None, IfSome, Contains, pos}
+use Rattle.std.specs.Prelude.{◌≡◌, ℕ, ◌+◌, ◌-◌, ◌*◌, ◌<◌, ◌≤◌, List, length, slice_index, Bool}
+use Rattle.std.specs.Prelude.{true, Option, Some, None, IfSome, Contains, pos}
 use Rattle.fidl_wire.specs.Term as ty
 use Rattle.fidl_wire.specs.Typed.{InMask}
 use Rattle.fidl_table_format.specs.declared.kind.EntryKind.{EntryKind}

@@ -68,12 +68,13 @@ impl<'t, 'm> Columns<'t, 'm> {
         limit
     }
 
-    /// The first of so many numbers of a kind with a bit outside a mask. Each caller names the kind,
-    /// so that no number's kind is looked up.
+    /// The first of so many numbers of a kind with a bit outside a mask. A caller names the kind,
+    /// so that it is not looked up for each number.
     #[inline(always)]
     fn first_outside_mask(&self, column: Column, kind: EntryKind, mask: u64, limit: u32) -> u32
         requires kind { HasNoSign (as_number kind) }
-        requires room { HasRoom self.now.bytes.now column (byte_len (width (as_number kind))) limit }
+        requires room { let size = byte_len (width (as_number kind)) in
+            HasRoom self.now.bytes.now column size limit }
         ensures { IsFirstNot (λ k. InMask mask
             (number_standing (as_number kind) self.now.bytes.now (place_of column k)))
             limit result }
@@ -89,8 +90,8 @@ impl<'t, 'm> Columns<'t, 'm> {
         limit
     }
 
-    /// The first of so many numbers of a kind that is not in a range. Each caller names the kind, so
-    /// that no number's kind is looked up.
+    /// The first of so many numbers of a kind that is not in a range. A caller names the kind, so
+    /// that it is not looked up for each number.
     #[inline(always)]
     fn first_outside_range(
         &self,
@@ -99,7 +100,8 @@ impl<'t, 'm> Columns<'t, 'm> {
         range: ValueRange,
         limit: u32,
     ) -> u32
-        requires room { HasRoom self.now.bytes.now column (byte_len (width (as_number kind))) limit }
+        requires room { let size = byte_len (width (as_number kind)) in
+            HasRoom self.now.bytes.now column size limit }
         ensures { let value = value_number (as_number kind) in
             let at = λ (k : ℕ). number_standing (as_number kind) self.now.bytes.now
             (place_of column k) in
@@ -126,7 +128,8 @@ impl<'t, 'm> Columns<'t, 'm> {
         limit: u32,
     ) -> u32
         requires kind { HasNoSign (as_number kind) }
-        requires room { HasRoom self.now.bytes.now column (byte_len (width (as_number kind))) limit }
+        requires room { let size = byte_len (width (as_number kind)) in
+            HasRoom self.now.bytes.now column size limit }
         ensures { IsFirstNot (λ k. InMask mask
             (number_standing (as_number kind) self.now.bytes.now (place_of column k)))
             limit result }
@@ -148,7 +151,8 @@ impl<'t, 'm> Columns<'t, 'm> {
         range: ValueRange,
         limit: u32,
     ) -> u32
-        requires room { HasRoom self.now.bytes.now column (byte_len (width (as_number kind))) limit }
+        requires room { let size = byte_len (width (as_number kind)) in
+            HasRoom self.now.bytes.now column size limit }
         ensures { let value = value_number (as_number kind) in
             let at = λ (k : ℕ). number_standing (as_number kind) self.now.bytes.now
             (place_of column k) in

@@ -10,8 +10,8 @@ use crate::columns::Columns;
 use crate::zeros::{are_zeros, zeros_at};
 
 impl<'t, 'm> Columns<'t, 'm> {
-    /// The first of so many structs whose bytes in a gap are not all zeros. A caller that names the
-    /// width has each byte tested without a loop over the bytes.
+    /// The first of so many structs whose bytes in a gap are not all zeros. Where a caller names
+    /// the width, no struct has a loop over its bytes.
     #[inline(always)]
     fn first_no_zeros(&self, column: Column, width: usize, limit: u32) -> u32
         requires room { HasRoom self.now.bytes.now column width limit }
@@ -28,8 +28,8 @@ impl<'t, 'm> Columns<'t, 'm> {
         limit
     }
 
-    /// The first of so many structs whose bytes in a gap are not all zeros, by a loop for each width
-    /// that alignment leaves.
+    /// The first of so many structs whose bytes in a gap are not all zeros. Each width that
+    /// alignment leaves has a loop of its own.
     fn first_no_zeros_by_width(&self, column: Column, width: usize, limit: u32) -> u32
         requires room { HasRoom self.now.bytes.now column width limit }
         ensures { IsFirstNot

@@ -50,8 +50,8 @@ fn has_numbers(kind: EntryKind) -> bool
 }
 
 impl<'t, 'm> Columns<'t, 'm> {
-    /// Whether so many rows, from the first on, are no more than are looked at, and their members are
-    /// numbers.
+    /// Whether so many rows, from the first on, are no more than are looked at, and their members
+    /// are numbers.
     pub(crate) fn are_numbers(&self, first: u32, count: u32) -> bool
         requires within { first + count ≤ (header_of self.now.table.now).rows }
         ensures { IsTrue result → AreNumbers self.now.table.now first count }

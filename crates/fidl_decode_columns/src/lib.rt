@@ -1,5 +1,5 @@
-//! Vectors and arrays of structs whose members are numbers alone, checked member by member: one loop
-//! over all structs for each member.
+//! Vectors and arrays of structs whose members are numbers alone, checked member by member: one
+//! loop over all structs for each member.
 #![tactic(auto)]
 
 mod column;
@@ -9,6 +9,7 @@ mod kinds;
 mod searched;
 mod structs;
 mod values;
+pub mod worked;
 mod zeros;
 
 pub use columns::Columns;

@@ -1,4 +1,4 @@
-//! Enums of several ranges: each number is searched, and of the least numbers those that were found.
+//! Enums of several ranges. Each number is searched, but small ones that were found before.
 ghost use Rattle.std.specs.Prelude.{◌≡◌, ℕ, ◌+◌, ◌*◌, ◌^◌, ◌<◌, ◌≤◌, ◌↔◌, IsTrue, Some, Contains};
 ghost use Rattle.std.specs.Prelude.{List, slice_index};
 ghost use Rattle.std.specs.Int.{byte_len};
@@ -19,8 +19,8 @@ use fidl_table_format::{EntryKind, number_bits};
 const NOTED: usize = 256;
 
 impl<'t, 'm> Columns<'t, 'm> {
-    /// Whether a number is a value of an enum. One that is noted as such is not searched, and a small
-    /// one that is found is noted. A search's probes are steps.
+    /// Whether a number is a value of an enum. One that is noted as such is not searched, and a
+    /// small one that is found is noted. A search's probes are steps.
     #[inline(always)]
     fn is_value(&self, entry: u32, number: u64, noted: &mut [u8; NOTED], steps: &mut u64) -> bool
         requires entry { entry < (header_of self.now.table.now).entries }
@@ -49,8 +49,8 @@ impl<'t, 'm> Columns<'t, 'm> {
         true
     }
 
-    /// The first of so many numbers of a kind that is no value of an enum. Each caller names the
-    /// kind, so that no number's kind is looked up.
+    /// The first of so many numbers of a kind that is no value of an enum. A caller names the kind,
+    /// so that it is not looked up for each number.
     #[inline(always)]
     fn first_not_found(
         &self,
