@@ -1,14 +1,13 @@
 -- Worked facts of structs without members, and of the enums of the samples.
-use Rattle.std.proofs.Common.{◌≡◌, ℕ, zero, suc, ◌+◌, ◌-◌, ◌<◌, ◌≤◌, ℤ, pos, negsuc, List, [], ◌∷◌, get_or, refl, sym, arith}
+use Rattle.std.proofs.Common.{◌≡◌, ℕ, zero, suc, ◌+◌, ◌-◌, ◌<◌, pos, negsuc, List, [], ◌∷◌, get_or, refl, sym, arith}
 use Rattle.std.specs.Prelude.{Contains, slice_index_or}
-use Rattle.fidl_limits.specs.declared.limits.TheConstants.{MAX_DEPTH}
 use Rattle.fidl_wire.specs.Value.{Values, none, value}
 use Rattle.fidl_wire.specs.Encoding.{zeros}
 use Rattle.fidl_wire.specs.Figure.{Declarations}
 use Rattle.fidl_wire.specs.Standing.{Stands}
 use Rattle.fidl_decode_model.specs.Faults.{message_of}
 use Rattle.fidl_decode_model.specs.Machine.{StateFine}
-use Rattle.fidl_decode_model.specs.Rows.{Row, TypedRows, enc_rows}
+use Rattle.fidl_decode_model.specs.Rows.{TypedRows, enc_rows}
 use Rattle.fidl_decode_model.specs.State.{Message, Position, Members, StandsAt, after_rows}
 use Rattle.fidl_decode_columns.specs.Samples.{at_start}
 
@@ -58,7 +57,3 @@ two_is_none y = go y.0 y.1 y.2
     go zero lt e = cc
     go (suc zero) lt e = cc
     go (suc (suc k)) lt e = absurd (omega (arith, lt))
-
--- all bits set are no number as int8
-pub negative : (n : ℕ) → negsuc 0 ≡ pos n → ⊥
-negative n e = cc

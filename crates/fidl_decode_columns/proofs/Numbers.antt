@@ -1,5 +1,5 @@
 -- Numbers at a place, by the kind of their entry.
-use Rattle.std.proofs.Common.{◌≡◌, ℕ, ◌+◌, ◌<◌, ◌≤◌, ℤ, List, length, get_or, refl, sym, subst, arith, inl, inr}
+use Rattle.std.proofs.Common.{◌≡◌, ℕ, ◌+◌, ◌<◌, ◌≤◌, ℤ, pos, negsuc, List, length, get_or, refl, sym, subst, arith, inl, inr}
 use Rattle.std.specs.Prelude.{◌≤ℤ◌, true, false, Option, Some, None, IfSome, Contains}
 use Rattle.std.specs.Option.{option_map_or}
 use Rattle.std.specs.Int.{byte_len}
@@ -95,6 +95,21 @@ no_sign (Some Uint16) is n = refl
 no_sign (Some Uint32) is n = refl
 no_sign (Some Uint64) is n = refl
 no_sign (Some k) is n = absurd (no_true is)
+
+-- all bits set are no number of a type with a sign
+pub negative : (n : ℕ) → negsuc 0 ≡ pos n → ⊥
+negative n e = cc
+
+-- a kind without a sign that is none of the wider ones is read as uint8
+pub as_uint8 : (k : EntryKind) → HasNoSign (as_number k) → (k ≡ Uint16 → ⊥) → (k ≡ Uint32 → ⊥) → (k ≡ Uint64 → ⊥) → as_number k ≡ ty.uint8
+as_uint8 Int8 h a b c = absurd (negative 18446744073709551615 (h 18446744073709551615))
+as_uint8 Int16 h a b c = absurd (negative 18446744073709551615 (h 18446744073709551615))
+as_uint8 Int32 h a b c = absurd (negative 18446744073709551615 (h 18446744073709551615))
+as_uint8 Int64 h a b c = absurd (negative 18446744073709551615 (h 18446744073709551615))
+as_uint8 Uint16 h a b c = absurd (a refl)
+as_uint8 Uint32 h a b c = absurd (b refl)
+as_uint8 Uint64 h a b c = absurd (c refl)
+as_uint8 k h a b c = refl
 
 -- the bytes of bits and enums are as many as their entry states
 pub bits_size : (t : List ℕ) (fine : IsFine t) (e : ℕ) → e < (header_of t).entries → kind_of (entry_at t e).kind ≡ Some Bits → byte_len (width (underlying (entry_at t e))) ≡ (entry_at t e).size

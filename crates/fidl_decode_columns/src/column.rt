@@ -135,11 +135,10 @@ impl<'t, 'm> Columns<'t, 'm> {
             limit result }
     {
         match kind {
-            EntryKind::Uint8 => self.first_outside_mask(column, EntryKind::Uint8, mask, limit),
             EntryKind::Uint16 => self.first_outside_mask(column, EntryKind::Uint16, mask, limit),
             EntryKind::Uint32 => self.first_outside_mask(column, EntryKind::Uint32, mask, limit),
             EntryKind::Uint64 => self.first_outside_mask(column, EntryKind::Uint64, mask, limit),
-            _ => self.first_outside_mask(column, kind, mask, limit),
+            _ => self.first_outside_mask(column, EntryKind::Uint8, mask, limit),
         }
     }
 
@@ -164,11 +163,10 @@ impl<'t, 'm> Columns<'t, 'm> {
             EntryKind::Int16 => self.first_outside_range(column, EntryKind::Int16, range, limit),
             EntryKind::Int32 => self.first_outside_range(column, EntryKind::Int32, range, limit),
             EntryKind::Int64 => self.first_outside_range(column, EntryKind::Int64, range, limit),
-            EntryKind::Uint8 => self.first_outside_range(column, EntryKind::Uint8, range, limit),
             EntryKind::Uint16 => self.first_outside_range(column, EntryKind::Uint16, range, limit),
             EntryKind::Uint32 => self.first_outside_range(column, EntryKind::Uint32, range, limit),
             EntryKind::Uint64 => self.first_outside_range(column, EntryKind::Uint64, range, limit),
-            _ => self.first_outside_range(column, kind, range, limit),
+            _ => self.first_outside_range(column, EntryKind::Uint8, range, limit),
         }
     }
 }

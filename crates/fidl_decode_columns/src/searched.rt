@@ -105,13 +105,11 @@ impl<'t, 'm> Columns<'t, 'm> {
         ensures grows { steps.old ≤ steps.new }
         ensures cost { steps.new ≤ steps.old + 16 * limit }
     {
-        let kind = self.table.entry(entry).underlying();
-        match kind {
+        match self.table.entry(entry).underlying() {
             EntryKind::Int8 => self.first_not_found(column, entry, EntryKind::Int8, limit, steps),
             EntryKind::Int16 => self.first_not_found(column, entry, EntryKind::Int16, limit, steps),
             EntryKind::Int32 => self.first_not_found(column, entry, EntryKind::Int32, limit, steps),
             EntryKind::Int64 => self.first_not_found(column, entry, EntryKind::Int64, limit, steps),
-            EntryKind::Uint8 => self.first_not_found(column, entry, EntryKind::Uint8, limit, steps),
             EntryKind::Uint16 => {
                 self.first_not_found(column, entry, EntryKind::Uint16, limit, steps)
             }
@@ -121,7 +119,7 @@ impl<'t, 'm> Columns<'t, 'm> {
             EntryKind::Uint64 => {
                 self.first_not_found(column, entry, EntryKind::Uint64, limit, steps)
             }
-            _ => self.first_not_found(column, entry, kind, limit, steps),
+            _ => self.first_not_found(column, entry, EntryKind::Uint8, limit, steps),
         }
     }
 }

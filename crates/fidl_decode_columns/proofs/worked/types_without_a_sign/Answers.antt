@@ -1,4 +1,4 @@
-use Rattle.fidl_decode_columns.proofs.Examples.{negative}
+use Rattle.fidl_decode_columns.proofs.Numbers.{negative}
 use Rattle.fidl_decode_columns.proofs.worked.types_without_a_sign.Goals as goal
 
 pub returns-clause-signed : goal.returns-clause-signed

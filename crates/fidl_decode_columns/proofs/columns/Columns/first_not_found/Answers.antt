@@ -1,4 +1,4 @@
-use Rattle.std.proofs.Common.{rules, ◌≡◌, ℕ, zero, suc, refl, ◌+◌, ◌<◌, ◌≤◌, ℤ, get_or, replicate, sym, ap, subst, arith}
+use Rattle.std.proofs.Common.{rules, ◌≡◌, ℕ, zero, suc, refl, ◌+◌, ℤ, get_or, replicate, sym, ap, subst, arith}
 use Rattle.std.specs.Prelude.{Contains}
 use Rattle.fidl_wire.specs.Term.{Kind}
 use Rattle.fidl_table_format.specs.Number.{number_standing}

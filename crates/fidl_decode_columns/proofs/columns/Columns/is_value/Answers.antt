@@ -1,4 +1,4 @@
-use Rattle.std.proofs.Common.{◌≡◌, ℕ, ◌<◌, ◌≤◌, length, get_or, inl, inr, sym, subst, ◌∙◌, arith, get_or-set_other}
+use Rattle.std.proofs.Common.{inl, inr, sym, subst, ◌∙◌, get_or-set_other}
 use Rattle.std.specs.Prelude.{Contains}
 use Rattle.std.proofs.lemmas.Bool.{cases_eq}
 use Rattle.fidl_table_format.specs.Section.{header_of, entry_at}
