@@ -45,15 +45,15 @@ module _ (t : List ℕ) (fine : IsFine t) (m : Message) (within : IsWithin m.byt
   next_absent z n is = subst (λ d. Turns t m (rest_of b read) old old n (behind d)) eight
       (envelope_absent t fine m within (rest_of b read) b.entry read (b.count - read) old ff state (read + 1) (b.count - (read + 1)) (add-one read) (omega (arith, more)) (omega (arith, more)) z n is)
 
-  pub next_passed : (e : ℕ) → find (members_of t b.entry) (suc read) ≡ Some (ty.named e) → (new : Position) (spent n : ℕ) → n ≤ 17 + spent → spent + old.next ≤ new.next → Opens t m b.depth (Some (ty.named e)) place old new None
+  pub next_passed : (e : ℕ) → find (members_of t b.entry) (suc read) ≡ Some (ty.named e) → (new : Position) (spent n : ℕ) → spent + 1 ≤ n → n ≤ 17 + spent → spent + old.next ≤ new.next → Opens t m b.depth (Some (ty.named e)) place old new spent None
       → Turns t m (rest_of b read) old new n (record { below = None; rest = Some (rest_of b (read + 1)) })
-  next_passed e is new spent n few pays o =
-      let own : Opens t m b.depth (find (members_of t b.entry) (suc read)) place old new None = subst (λ (o : Option Term). Opens t m b.depth o place old new None) (sym is) o in
+  next_passed e is new spent n some_steps few pays o =
+      let own : Opens t m b.depth (find (members_of t b.entry) (suc read)) place old new spent None = subst (λ (o : Option Term). Opens t m b.depth o place old new spent None) (sym is) o in
       let some : Stands m.bytes place (zeros 8) → ⊥ = λ z. contained_some (declarations_of t) fine.laid_out m within b.depth (find (members_of t b.entry) (suc read)) place old new ((own.same new).1 refl) z in
       let within_new = o.state.next in
       let within_old = state.next in
       subst (λ d. Turns t m (rest_of b read) old new n (behind d)) eight
-      (envelope_opened t fine m within (rest_of b read) b.entry read (b.count - read) old ff state (read + 1) (b.count - (read + 1)) (add-one read) (omega (arith, more)) (omega (arith, more)) some None new spent n few (omega (arith, pays, within_new, within_old)) own)
+      (envelope_opened t fine m within (rest_of b read) b.entry read (b.count - read) old ff state (read + 1) (b.count - (read + 1)) (add-one read) (omega (arith, more)) (omega (arith, more)) some None new spent n some_steps few (omega (arith, pays, within_new, within_old)) own)
 
 -- the rows of the entry that is noted lie in the table, and name entries of it
 pub row_lies : (t : List ℕ) (b : TableBody) → BodyFine t b → (read : ℕ) → read < b.known → b.first + read < (header_of t).rows
@@ -92,13 +92,14 @@ body_start b entry base count depth e p n d =
     λ i. record { left = Envelopes (sym e i) 0 (left i); base = sym p i; done = 0; size = 8 * sym n i; nest = most_nest; depth = sym d i; in_envelope = 0 }
 
 -- what a visit leaves is read on
-pub visits_on : (t : List ℕ) (m : Message) (held e place : ℕ) (old mid : Position) (a : ℕ) (g : Frame) → Visits t m held e place old mid a (Some g) → (new : Position) (b n : ℕ) (o : Option Frame) → n ≤ a + b → Turns t m g mid new b (left_over o) → Visits t m held e place old new n o
+pub visits_on : (t : List ℕ) (m : Message) (held e place : ℕ) (old mid : Position) (a : ℕ) (g : Frame) → Visits t m held e place old mid a (Some g) → (new : Position) (b n : ℕ) (o : Option Frame) → n ≡ a + b → Turns t m g mid new b (left_over o) → Visits t m held e place old new n o
 visits_on t m held e place old mid a g v new b n o le turns = record {
   same = λ to. (
     (λ x. let p = (turns.same to).0 ((v.same to).0 x) in subst (λ (s : Position). ReadsIf t m o s to) (sym p.1) p.2),
     (λ y. (v.same to).1 ((turns.same to).1 (new, refl, y))),
   );
   breaks = λ fault b. v.breaks fault (turns.breaks fault (inr (new, refl, b)));
+  least = λ to w y. let x = v.least to (0 + w + b) (turns.least to new 0 w refl y) in let worth = x.1 in (x.0, omega (arith, worth, le));
   state = turns.state;
   less = omega (arith, le, v.less, turns.less);
 }

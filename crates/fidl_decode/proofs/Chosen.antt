@@ -26,7 +26,9 @@ use Rattle.fidl_decode_model.specs.State.{Message, Position, StandsAt, ValueAt}
 use Rattle.fidl_decode_model.specs.Envelopes.{Contained}
 use Rattle.fidl_decode_model.specs.Breaks.{Breaks, BreaksUnion, BreaksMember, ordinal_at}
 use Rattle.fidl_decode_model.specs.Breaks as broken
+use Rattle.fidl_decode_model.specs.Work.{Work, member_work}
 use Rattle.fidl_decode_model.specs.Machine.{StateFine, Visits, VisitFine, Opens, PaysEnvelope, FineIf, member_term, level, most_nest, inline_work, byte_work, probes, frame_work_if}
+use Rattle.fidl_decode_model.specs.Worth.{ContainedWorth, ValueWorth}
 use Rattle.fidl_decode_model.proofs.Broken.{union_absent, absent_union, union_chosen, union_right}
 use Rattle.fidl_decode_model.proofs.Rows.{joined_stands, past_inline}
 use Rattle.fidl_decode_model.proofs.Scalars.{standing}
@@ -64,19 +66,21 @@ module _ (ds : Declarations) (m : Message) (held : ℕ) (optional strict : Bool)
   ordinal = ordinal_at m.bytes place
 
   -- a union stands where its member does, behind the ordinal
-  chosen_union : (to : Position) → (ordinal ≢ 0) → (find rows ordinal ≡ None → IsFalse strict) → Contained ds m held (find rows ordinal) (place + 8) from to → ValueAt ds m held (ty.union optional strict rows) place from to
-  chosen_union to some may x =
+  chosen_union : (to : Position) → (ordinal ≢ 0) → (find rows ordinal ≡ None → IsFalse strict) → (w : ℕ) → ContainedWorth ds m held (find rows ordinal) (place + 8) from to w → ValueWorth ds m held (ty.union optional strict rows) place from to (w + 1)
+  chosen_union to some may w (x, le) =
       let number = standing uint64 m.bytes place here small in
       let few = number.0 in
       let front : List ℕ = to_le_bytes w64 ordinal in
-      let b = enveloped ds (find rows ordinal) x.content in
-      record {
-        value = union ordinal x.content;
-        typed = (omega (arith, some), omega (arith, few), strict_too ds strict (find rows ordinal) x.content may x.typed);
-        shallow = x.shallow;
-        stands = joined_stands m (inline_only front) b place from (record { inline = number.1; out = tt; carried = tt }) (subst (λ (s : Position). StandsAt m b (place + 8) s) (sym (past_inline front from)) x.stands);
-        end = x.end;
-      }
+      let b = enveloped ds (find rows ordinal) x.content in (
+        record {
+          value = union ordinal x.content;
+          typed = (omega (arith, some), omega (arith, few), strict_too ds strict (find rows ordinal) x.content may x.typed);
+          shallow = x.shallow;
+          stands = joined_stands m (inline_only front) b place from (record { inline = number.1; out = tt; carried = tt }) (subst (λ (s : Position). StandsAt m b (place + 8) s) (sym (past_inline front from)) x.stands);
+          end = x.end;
+        },
+        omega (arith, le),
+      )
 
 module _ (t : List ℕ) (fine : IsFine t) (m : Message) (held e place : ℕ) (from : Position) (lt : e < (header_of t).entries) (is : kind_of (entry_at t e).kind ≡ Some Union) where
   abbrev ds : Declarations
@@ -118,9 +122,11 @@ module _ (t : List ℕ) (fine : IsFine t) (m : Message) (held e place : ℕ) (fr
       record {
         same = λ to. (
           (λ x. (union_absent ds m held (is_optional d) (is_strict d) rows place from to none (to_union to x)).2),
-          (λ same. subst (λ (s : Position). ValueAt ds m held term place from s) same (from_union from (absent_union ds m held (is_optional d) (is_strict d) rows place from may all deep))),
+          (λ same. subst (λ (s : Position). ValueAt ds m held term place from s) same (from_union from (absent_union ds m held (is_optional d) (is_strict d) rows place from may all deep).0)),
         );
         breaks = λ fault b. absurd b;
+        least = λ to w y. subst (λ (s : Position). ValueWorth ds m held term place from s (w + spent + 1)) y
+            (subst (λ (u : Term). ValueWorth ds m held u place from from (w + spent + 1)) (sym union_is) (let x = absent_union ds m held (is_optional d) (is_strict d) rows place from may all deep in let le = x.1 in (x.0, omega (arith, le))));
         state = state;
         less = omega (arith, nothing);
       }
@@ -133,13 +139,15 @@ module _ (t : List ℕ) (fine : IsFine t) (m : Message) (held e place : ℕ) (fr
         (broken.in_union (is_optional d) (is_strict d) rows place from fault some (union_right ds m held (is_optional d) (is_strict d) rows place from some (λ strict none. clash (sym strict ∙ may none))) b)
 
     -- one whose member is in the envelope, which is opened
-    pub visits_union : (new : Position) (own spent : ℕ) (found : Option Frame) → spent ≤ own + probes → PaysEnvelope m.bytes from.next new.next own found → place + 8 ≤ length m.bytes → ((i : ℕ) → get_or m.bytes i 0 < 256) → Opens t m held (find rows own_ordinal) (place + 8) from new found → Visits t m held e place from new spent found
-    visits_union new own spent found few pays here small o =
+    pub visits_union : (new : Position) (own spent : ℕ) (found : Option Frame) → own + 1 ≤ spent → spent ≤ own + probes + 1 → PaysEnvelope m.bytes from.next new.next own found → place + 8 ≤ length m.bytes → ((i : ℕ) → get_or m.bytes i 0 < 256) → Opens t m held (find rows own_ordinal) (place + 8) from new own found → Visits t m held e place from new spent found
+    visits_union new own spent found some_steps few pays here small o =
         record {
           same = λ to. (
             (λ x. (o.same to).0 (union_chosen ds m held (is_optional d) (is_strict d) rows place from to some (to_union to x)).contained),
-            (λ y. from_union to (chosen_union ds m held (is_optional d) (is_strict d) rows place from here small to some may ((o.same to).1 y))),
+            (λ y. let x = (o.same to).1 y in from_union to (chosen_union ds m held (is_optional d) (is_strict d) rows place from here small to some may (member_work x.content) (x, omega arith)).0),
           );
+          least = λ to w y. subst (λ (u : Term). ValueWorth ds m held u place from to (w + spent + 1)) (sym union_is)
+              (let x = chosen_union ds m held (is_optional d) (is_strict d) rows place from here small to some may (w + own + 1) (o.least to w y) in let le = x.1 in (x.0, omega (arith, le, some_steps)));
           breaks = λ fault b. member_breaks fault (o.breaks fault b);
           state = o.state;
           less = subst (λ (f : Figure). byte_work * (length m.bytes - new.next) + frame_work_if found + spent ≤ byte_work * (length m.bytes - from.next) + inline_work f.nest * f.size + 1) (sym union_figure) (omega (arith, pays, few));

@@ -14,13 +14,16 @@ use Rattle.fidl_decode_model.specs.declared.frame.Frame.{Frame}
 use Rattle.fidl_decode_model.specs.declared.frame.Until.{Until}
 use Rattle.fidl_decode_model.specs.declared.frame.Remaining.TheVariants.{Elements, Content}
 use Rattle.fidl_decode_model.specs.Invariants.{IsFine}
-use Rattle.fidl_decode_model.specs.Rows.{Row, element_rows}
+use Rattle.fidl_decode_model.specs.Rows.{Row, element_rows, RowsRise}
 use Rattle.fidl_decode_model.specs.State.{Message, Position}
 use Rattle.fidl_decode_model.specs.Breaks.{IsPadding, Breaks}
-use Rattle.fidl_decode_model.specs.Machine.{rows_left, BreaksFrame, IsUntil, IsInside, StateFine, FrameFine, Visits, VisitFine, Turns, inline_work, frame_work, probes}
+use Rattle.fidl_decode_model.proofs.Rows.{worth_more, worth_none}
+use Rattle.fidl_decode_model.specs.Machine.{rows_left, BreaksFrame, IsInside, StateFine, FrameFine, Visits, VisitFine, Turns, inline_work, frame_work, probes}
+use Rattle.fidl_decode_model.specs.Worth.{ReadsWorth, MembersWorth}
+use Rattle.fidl_decode_model.specs.Envelopes.{IsUntil}
 use Rattle.fidl_decode_model.proofs.Stated.{element_rows-more}
 use Rattle.fidl_decode_model.proofs.Visiting.{size_is, nest_is, positive}
-use Rattle.fidl_decode_model.proofs.Turning.{work_falls, done_fits, spends, spends_more, turns_end, end_breaks, row_fine, row_room, row_inside, visit_breaks, turns_more}
+use Rattle.fidl_decode_model.proofs.Turning.{raised, work_falls, done_fits, spends, spends_more, turns_end, end_breaks, row_fine, row_room, row_inside, visit_breaks, turns_more}
 use Rattle.fidl_decode_columns.proofs.Leaves.{going_on, no_zeros}
 
 module _ (t : List ℕ) (fine : IsFine t) (m : Message) (f : Frame) (e size count : ℕ) (u : Until) (old : Position) (ff : FrameFine t m.bytes (going_on f (Content e size count u) f.done)) (state : StateFine m old) where
@@ -49,7 +52,7 @@ module _ (t : List ℕ) (fine : IsFine t) (m : Message) (f : Frame) (e size coun
 
     module _ (z : Stands m.bytes (f.base + f.done) (zeros (f.base + f.size - (f.base + f.done)))) where
       ended : Turns t m s old old (f.base + f.size - (f.base + f.done) + 1) (record { below = None; rest = None })
-      ended = turns_end t fine m s old sf state over tt z
+      ended = turns_end t fine m s old sf state over tt z _ (omega arith)
 
       pub content_over : IsUntil u old → (n : ℕ) → n ≡ f.base + f.size - (f.base + f.done) + 1 → Turns t m g old old n (record { below = None; rest = None })
       content_over own n is = record {
@@ -58,6 +61,7 @@ module _ (t : List ℕ) (fine : IsFine t) (m : Message) (f : Frame) (e size coun
           (λ y. ((ended.same to).1 y, subst (λ (k : Position). IsUntil u k) (y.1 ∙ y.2) own)),
         );
         breaks = λ fault b. elim b [ inl x ↦ absurd x | inr y ↦ absurd y.2 ];
+        least = λ to mid a b y k. (raised t m s old to (a + b + (f.base + f.size - (f.base + f.done) + 1)) (a + b + n) (omega (arith, is)) (ended.least to mid a b y k), subst (λ (k : Position). IsUntil u k) (y ∙ k) own);
         state = state;
         below_fine = tt;
         rest_fine = tt;
@@ -86,7 +90,7 @@ module _ (t : List ℕ) (fine : IsFine t) (m : Message) (f : Frame) (e size coun
     content_size = sym (size_is t fine e content_known) ∙ ff.left
 
     -- it lies within the frame and the message, and there is work for it
-    pub content_room : (f.done + (entry_at t e).size ≤ f.size) × (f.base + f.size ≤ length m.bytes) × (0 + 1 + probes ≤ frame_work g)
+    pub content_room : (f.done + (entry_at t e).size ≤ f.size) × (f.base + f.size ≤ length m.bytes) × (0 + 2 + probes ≤ frame_work g)
     content_room =
         let fits = row_room t fine m s old sf state r (Elements e size (count - 1)) one in
         let own = size_is t fine e content_known in
@@ -115,7 +119,7 @@ module _ (t : List ℕ) (fine : IsFine t) (m : Message) (f : Frame) (e size coun
     pub content_turns : (below : Option Frame) (new : Position) (spent n : ℕ) → n ≡ 1 + spent → Visits t m f.depth e (f.base + f.done) old new spent below → VisitFine t m f.depth f.in_envelope e below
         → Turns t m g old new n (record { below = below; rest = Some (going_on f (Content e size (count - 1) u) (f.done + size)) })
     content_turns below new spent n is v vf =
-        let one_more = turns_more t fine m s old sf state r (Elements e size (count - 1)) one tt (positive t fine e content_known) ff.left tt below new (f.done + size) spent (ap (λ k. f.done + k) (sym ff.left)) none_between v vf in
+        let one_more = turns_more t fine m s old sf state r (Elements e size (count - 1)) one tt (positive t fine e content_known) ff.left tt below new (f.done + size) spent (1 + spent) (ap (λ k. f.done + k) (sym ff.left)) (omega arith) (omega arith) none_between v vf in
         let rest = one_more.rest_fine.0 in
         record {
           same = λ to. (
@@ -129,8 +133,33 @@ module _ (t : List ℕ) (fine : IsFine t) (m : Message) (f : Frame) (e size coun
               | inr end ↦ inr (end.0, (one_more.same end.0).1 (y.0, y.1, end.1), end.2, end.3)
             ]
           ];
+          least = λ to mid a b y k. (raised t m s old to (a + b + (1 + spent)) (a + b + n) (omega (arith, is)) (one_more.least to mid a b y k.0), k.1);
           state = one_more.state;
           below_fine = one_more.below_fine;
           rest_fine = (record { left = rest.left; slots = tt; room = rest.room; some = rest.some; nest = rest.nest; depth = rest.depth; in_envelope = rest.in_envelope; rise = rest.rise }, one_more.rest_fine.1);
           less = (let less = one_more.less in omega (arith, less, is));
         }
+
+  -- the value, up to the zeros behind it, is worth no more than itself
+  module _ (one : count ≡ 1) (new : Position) (spent : ℕ) (v : Visits t m f.depth e (f.base + f.done) old new spent None) where
+    abbrev row : Row
+    row = record { offset = f.done; entry = e }
+
+    only : element_rows e size count f.done ≡ row ∷ []
+    only = ap (λ n. element_rows e size n f.done) one
+
+    rises : RowsRise ds (header_of t).entries f.nest f.size f.done (row ∷ [])
+    rises = subst (λ (rs : List Row). RowsRise ds (header_of t).entries f.nest f.size f.done rs) only ff.rise
+
+    pub content_worth : Stands m.bytes (f.base + (f.done + size)) (zeros (f.base + f.size - (f.base + (f.done + size)))) → IsUntil u new → ReadsWorth t m g old new (spent + 1)
+    content_worth z own =
+        let next = f.done + size_of ds (ty.named e) in
+        let there : next ≡ f.done + size = ap (λ k. f.done + k) ff.left in
+        let fits : next ≤ f.size = rises.3 in
+        let wide : f.base + f.size - (f.base + (f.done + size)) ≡ f.size - next = omega (arith, there, fits) in
+        let at : f.base + (f.done + size) ≡ f.base + next = omega (arith, there) in
+        let end = subst (λ p. Stands m.bytes p (zeros (f.size - next))) at (subst (λ n. Stands m.bytes (f.base + (f.done + size)) (zeros n)) wide z) in
+        let none = no_zeros m.bytes (f.base + f.done) (f.done - f.done) (omega arith) in
+        let more = worth_more ds fine.laid_out m f.depth (header_of t).entries f.nest f.size f.base f.done row [] old new new rises none (spent + 1) 0 (let x = v.least new 0 refl in let le = x.1 in (x.0, omega (arith, le))) (worth_none ds fine.laid_out m f.depth f.size f.base next new new ff.depth refl end 0) in
+        let le = more.1 in
+        (subst (λ (rs : List Row). MembersWorth ds m f.depth f.size f.base f.done rs old new (spent + 1)) (sym only) (more.0, omega (arith, le)), own)

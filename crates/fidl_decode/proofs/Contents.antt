@@ -19,7 +19,9 @@ use Rattle.fidl_decode_model.specs.State.{Message, Position, opened, linked, mem
 use Rattle.fidl_decode_model.specs.Envelopes.{Contained}
 use Rattle.fidl_wire.specs.Envelope.{bytes_below, handles_below, flags_at}
 use Rattle.fidl_decode_model.proofs.After.{length-pad8, length-object, after_past}
-use Rattle.fidl_decode_model.proofs.Rows.{members_end, members_more, more_members}
+use Rattle.fidl_decode_model.specs.Work.{Work, values_work}
+use Rattle.fidl_decode_model.specs.Worth.{ValueWorth, MembersWorth, ContainedWorth}
+use Rattle.fidl_decode_model.proofs.Rows.{members_end, more_members, worth_apart}
 use Rattle.fidl_decode.proofs.Covering.{object_stands}
 use Rattle.fidl_decode_model.proofs.Shallow.{no_depth}
 use Rattle.fidl_decode.proofs.Counts.{at_most_four, not_at_most_four, end_numbers, first_number, end_stands, first_stands}
@@ -40,15 +42,20 @@ module _ (ds : Declarations) (laid : IsLaidOut ds) (m : Message) (e held wide ba
   only_rises = (omega arith, omega arith, omega arith, omega (arith, fits))
 
   -- the value stands there, and zeros behind it
-  pub members_only : (from to : Position) → Members ds m held wide base 0 (element_rows e size 1 0) from to → ValueAt ds m held u base from to × Stands m.bytes (base + size) (zeros (wide - size))
-  members_only from to x =
-      let p = members_more ds laid m held (suc e) (suc (figure_of ds.figures (ty.named e)).nest) wide base 0 only [] from to only_rises x in
-      let q = (members_end ds laid m held wide base (0 + size) p.1.0 to deep).0 p.1.2 in
+  pub worth_only : (from to : Position) (w : ℕ) → MembersWorth ds m held wide base 0 (element_rows e size 1 0) from to w → ValueWorth ds m held u base from to w × Stands m.bytes (base + size) (zeros (wide - size))
+  worth_only from to w x =
+      let p = (worth_apart ds laid m held (suc e) (suc (figure_of ds.figures (ty.named e)).nest) wide base 0 only [] from to only_rises w x).1 in
+      let q = (members_end ds laid m held wide base (0 + size) p.0 to deep).0 p.4.0 in
       let here : base + 0 ≡ base = omega arith in
-      let flat : 0 + size ≡ size = omega arith in (
-        subst (λ (s : Position). ValueAt ds m held u base from s) q.0 (subst (λ (b : ℕ). ValueAt ds m held u b from p.1.0) here p.1.1),
+      let flat : 0 + size ≡ size = omega arith in
+      let le = p.5 in
+      let own = p.3.1 in (
+        subst (λ (s : Position). ValueWorth ds m held u base from s w) q.0 (subst (λ (b : ℕ). ValueWorth ds m held u b from p.0 w) here (p.3.0, omega (arith, le, own))),
         subst (λ (k : ℕ). Stands m.bytes (base + k) (zeros (wide - k))) flat q.1,
       )
+
+  pub members_only : (from to : Position) → Members ds m held wide base 0 (element_rows e size 1 0) from to → ValueAt ds m held u base from to × Stands m.bytes (base + size) (zeros (wide - size))
+  members_only from to x = let p = worth_only from to (values_work x.values) (x, omega arith) in (p.0.0, p.1)
 
   pub only_members : (from to : Position) → ValueAt ds m held u base from to → Stands m.bytes (base + size) (zeros (wide - size)) → Members ds m held wide base 0 (element_rows e size 1 0) from to
   only_members from to x z =
@@ -173,8 +180,8 @@ module _ (ds : Declarations) (laid : IsLaidOut ds) (m : Message) (within : IsWit
       only_known _ h d s end = absurd h
 
   module _ (room : p + 8 ≤ length m.bytes) (small : (i : ℕ) → get_or m.bytes i 0 < 256) where
-    pub inside_contained : wide ≤ 4 → held ≤ MAX_DEPTH → flags_at m.bytes p ≡ 1 → Inside → Contained ds m held (Some t) p from to
-    inside_contained le deep flags i =
+    pub inside_contained : wide ≤ 4 → held ≤ MAX_DEPTH → flags_at m.bytes p ≡ 1 → (i : Inside) → (w : ℕ) → Work i.item.value ≤ w → ContainedWorth ds m held (Some t) p from to w
+    inside_contained le deep flags i w worth =
         let x = i.item in
         let v = x.value in
         let a = encoding_of ds term v in
@@ -192,17 +199,19 @@ module _ (ds : Declarations) (laid : IsLaidOut ds) (m : Message) (within : IsWit
               (stands_to m.bytes (p + 4) (p + length (padded 4 a.inline)) (envelope_end 1 a.handles) (omega (arith, whole)) last);
           out = tt;
           carried = x.stands.carried;
-        } in
-        record {
-          content = known v;
-          typed = x.typed;
-          shallow = subst (λ (b : Bool). cond b 0 (suc (depth_of ds term v)) + held ≤ MAX_DEPTH) (sym is) (omega arith);
-          stands = subst (λ (b : Bool). StandsAt m (cond b (inline_envelope (padded 4 a.inline) a.handles) (out_envelope (object a) a.handles)) p from) (sym is) st;
-          end = subst (λ (b : Bool). to ≡ after ds term v (member_at b p from) (begun b p wide from)) (sym is) x.end;
-        }
+        } in (
+          record {
+            content = known v;
+            typed = x.typed;
+            shallow = subst (λ (b : Bool). cond b 0 (suc (depth_of ds term v)) + held ≤ MAX_DEPTH) (sym is) (omega arith);
+            stands = subst (λ (b : Bool). StandsAt m (cond b (inline_envelope (padded 4 a.inline) a.handles) (out_envelope (object a) a.handles)) p from) (sym is) st;
+            end = subst (λ (b : Bool). to ≡ after ds term v (member_at b p from) (begun b p wide from)) (sym is) x.end;
+          },
+          worth,
+        )
 
-    pub below_contained : 4 < wide → flags_at m.bytes p ≡ 0 → Below → Contained ds m held (Some t) p from to
-    below_contained lt flags i =
+    pub below_contained : 4 < wide → flags_at m.bytes p ≡ 0 → (i : Below) → (w : ℕ) → Work i.item.value ≤ w → ContainedWorth ds m held (Some t) p from to w
+    below_contained lt flags i w worth =
         let x = i.item in
         let v = x.value in
         let a = encoding_of ds term v in
@@ -224,11 +233,13 @@ module _ (ds : Declarations) (laid : IsLaidOut ds) (m : Message) (within : IsWit
               (stands_both m.bytes from.next a.inline (zeros (next_multiple_of (length a.inline) 8 - length a.inline)) x.stands.inline behind)
               (stands_to m.bytes (from.next + next_multiple_of wide 8) (from.next + length (pad8 a.inline)) a.out (omega (arith, up)) x.stands.out);
           carried = x.stands.carried;
-        } in
-        record {
-          content = known v;
-          typed = x.typed;
-          shallow = subst (λ (b : Bool). cond b 0 (suc (depth_of ds term v)) + held ≤ MAX_DEPTH) (sym is) (omega (arith, d));
-          stands = subst (λ (b : Bool). StandsAt m (cond b (inline_envelope (padded 4 a.inline) a.handles) (out_envelope (object a) a.handles)) p from) (sym is) st;
-          end = subst (λ (b : Bool). to ≡ after ds term v (member_at b p from) (begun b p wide from)) (sym is) x.end;
-        }
+        } in (
+          record {
+            content = known v;
+            typed = x.typed;
+            shallow = subst (λ (b : Bool). cond b 0 (suc (depth_of ds term v)) + held ≤ MAX_DEPTH) (sym is) (omega (arith, d));
+            stands = subst (λ (b : Bool). StandsAt m (cond b (inline_envelope (padded 4 a.inline) a.handles) (out_envelope (object a) a.handles)) p from) (sym is) st;
+            end = subst (λ (b : Bool). to ≡ after ds term v (member_at b p from) (begun b p wide from)) (sym is) x.end;
+          },
+          worth,
+        )

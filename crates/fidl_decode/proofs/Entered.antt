@@ -24,11 +24,13 @@ use Rattle.fidl_decode_model.specs.Envelopes.{Contained, CanHold, BreaksEnvelope
 use Rattle.fidl_wire.specs.Envelope.{bytes_below, handles_below, flags_at}
 use Rattle.fidl_decode_model.specs.Breaks.{BreaksMember}
 use Rattle.fidl_decode_model.specs.Breaks as broken
+use Rattle.fidl_decode_model.specs.Work.{Work}
 use Rattle.fidl_decode_model.specs.Machine.{Reads, BreaksFrame, FrameFine, StateFine, level, height, most_nest, inline_work, frame_work}
+use Rattle.fidl_decode_model.specs.Worth.{ReadsWorth, ContainedWorth}
 use Rattle.fidl_decode_model.proofs.Stated.{stated}
 use Rattle.fidl_decode_model.proofs.Enveloped.{envelope_excluded}
 use Rattle.fidl_decode.proofs.Counts.{at_most_four, not_at_most_four}
-use Rattle.fidl_decode.proofs.Contents.{members_only, only_members, inside_led, below_led, contained_inside, contained_below, inside_contained, below_contained}
+use Rattle.fidl_decode.proofs.Contents.{members_only, only_members, worth_only, inside_led, below_led, contained_inside, contained_below, inside_contained, below_contained}
 
 -- the frame of a member in its envelope, of this size and nest
 abbrev pub inside_frame : (m : Message) (e size nest held p : ℕ) → Position → Frame
@@ -58,6 +60,7 @@ below_frame m e size nest held p from = record {
 pub record Enters (t : List ℕ) (m : Message) (held e p : ℕ) (old new : Position) (frame : Frame) : Type 0 where
   pub same : (to : Position) → Contained (declarations_of t) m held (Some (ty.named e)) p old to ↔ Reads t m frame new to
   pub breaks : (fault : DecodeFault) → BreaksFrame t m frame new fault → BreaksMember (declarations_of t) m held (Some (ty.named e)) p old fault
+  pub least : (to : Position) (w : ℕ) → ReadsWorth t m frame new to w → ContainedWorth (declarations_of t) m held (Some (ty.named e)) p old to w
   pub fine : FrameFine t m.bytes frame
   pub deeper : level held 1 most_nest ≤ height frame
   pub state : StateFine m new
@@ -115,8 +118,10 @@ module _ (t : List ℕ) (fine : IsFine t) (m : Message) (within : IsWithin m.byt
     same = λ to. (
       (λ x. let i = contained_inside ds fine.laid_out m within held u p from to le x in (only_members ds fine.laid_out m e held 4 p deep le (opened p from) to i.item i.behind, (i.next, i.handle))),
       (λ r. let one = members_only ds fine.laid_out m e held 4 p deep le (opened p from) to r.0 in
-          inside_contained ds fine.laid_out m within held u p from to room small le deep flags (record { item = one.0; behind = one.1; next = r.1.0; handle = r.1.1 })),
+          (inside_contained ds fine.laid_out m within held u p from to room small le deep flags (record { item = one.0; behind = one.1; next = r.1.0; handle = r.1.1 }) (Work one.0.value) (omega arith)).0),
     );
+    least = λ to w r. let one = worth_only ds fine.laid_out m e held 4 p deep le (opened p from) to w r.0 in
+        inside_contained ds fine.laid_out m within held u p from to room small le deep flags (record { item = one.0.0; behind = one.1; next = r.1.0; handle = r.1.1 }) w one.0.1;
     breaks = λ fault b. elim b [
       | inl c ↦ broken.in_envelope u p from fault (inl (flags, le)) le c
       | inr w ↦ subst (λ (f : DecodeFault). BreaksMember ds m held (Some u) p from f) (sym w.3)
@@ -162,8 +167,10 @@ module _ (t : List ℕ) (fine : IsFine t) (m : Message) (within : IsWithin m.byt
           same = λ to. (
             (λ x. let i = contained_below ds fine.laid_out m within held u p from to over x in (only_members ds fine.laid_out m e (held + 1) (next_multiple_of size 8) from.next deeper le mid to i.item i.behind, (i.next, i.handle))),
             (λ r. let one = members_only ds fine.laid_out m e (held + 1) (next_multiple_of size 8) from.next deeper le mid to r.0 in
-                below_contained ds fine.laid_out m within held u p from to room small over flags (record { item = one.0; behind = one.1; next = r.1.0; handle = r.1.1 })),
+                (below_contained ds fine.laid_out m within held u p from to room small over flags (record { item = one.0; behind = one.1; next = r.1.0; handle = r.1.1 }) (Work one.0.value) (omega arith)).0),
           );
+          least = λ to w r. let one = worth_only ds fine.laid_out m e (held + 1) (next_multiple_of size 8) from.next deeper le mid to w r.0 in
+              below_contained ds fine.laid_out m within held u p from to room small over flags (record { item = one.0.0; behind = one.1; next = r.1.0; handle = r.1.1 }) w one.0.1;
           breaks = λ fault b. elim b [
             | inl c ↦ broken.out_of_line u p from fault (inr (flags, whole, over)) over right c
             | inr w ↦ subst (λ (f : DecodeFault). BreaksMember ds m held (Some u) p from f) (sym w.3)

@@ -17,9 +17,10 @@ use Rattle.fidl_decode_model.specs.State.{Message, Position, envelope_place, Slo
 use Rattle.fidl_decode_model.specs.Envelopes.{Contained}
 use Rattle.fidl_decode_model.specs.Breaks.{BreaksMember, BreaksEnvelopes}
 use Rattle.fidl_decode_model.specs.Machine.{Reads, BreaksFrame, StateFine, FrameFine, Turns, Opens, PaysEnvelope, member_term, most_nest, inline_work, frame_work, envelope_work, height}
+use Rattle.fidl_decode_model.specs.Worth.{ReadsWorth, SlotsWorth, ContainedWorth}
 use Rattle.fidl_decode_columns.proofs.Leaves.{going_on}
 use Rattle.fidl_decode_model.proofs.Turning.{fine_from}
-use Rattle.fidl_decode_model.proofs.Enclosed.{slots_step, step_slots, slots_end, end_slots, contained_some}
+use Rattle.fidl_decode_model.proofs.Enclosed.{worth_zeros, worth_member, worth_end, slots_step, step_slots, slots_end, end_slots, contained_some}
 use Rattle.fidl_decode_model.proofs.Broken.{next_broken}
 
 -- the member of an ordinal has the type of the row that was found
@@ -54,6 +55,7 @@ module _ (t : List ℕ) (fine : IsFine t) (m : Message) (within : IsWithin m.byt
           (λ y. subst (λ k. Slots ds m f.depth rows read k f.base old to) (sym all) (subst (λ (s : Position). Slots ds m f.depth rows read read f.base old s) (y.1 ∙ y.2) (end_slots ds fine.laid_out m f.depth rows read f.base old ff.depth))),
         );
         breaks = λ fault b. elim b [ inl x ↦ absurd x | inr y ↦ absurd y.2 ];
+        least = λ to mid a b y z. subst (λ k. SlotsWorth ds m f.depth rows read k f.base old to (a + b + n)) (sym all) (subst (λ (s : Position). SlotsWorth ds m f.depth rows read read f.base old s (a + b + n)) (y ∙ z) (worth_end ds fine.laid_out m f.depth rows read f.base old ff.depth (a + b + n)));
         state = state;
         below_fine = tt;
         rest_fine = tt;
@@ -71,6 +73,9 @@ module _ (t : List ℕ) (fine : IsFine t) (m : Message) (within : IsWithin m.byt
 
     from_rest : (from to : Position) → Reads t m rest from to → Slots ds m f.depth rows (suc read) (read + count) f.base from to
     from_rest from to x = subst (λ k. Slots ds m f.depth rows k (read + count) f.base from to) next (subst (λ k. Slots ds m f.depth rows r k f.base from to) fewer x)
+
+    worth_rest : (from to : Position) (w : ℕ) → ReadsWorth t m rest from to w → SlotsWorth ds m f.depth rows (suc read) (read + count) f.base from to w
+    worth_rest from to w x = subst (λ k. SlotsWorth ds m f.depth rows k (read + count) f.base from to w) next (subst (λ k. SlotsWorth ds m f.depth rows r k f.base from to w) fewer x)
 
     rest_breaks : (from : Position) (fault : DecodeFault) → BreaksFrame t m rest from fault → BreaksEnvelopes ds m f.depth rows (suc (suc read)) (read + count) f.base from fault
     rest_breaks from fault b = subst (λ k. BreaksEnvelopes ds m f.depth rows (suc k) (read + count) f.base from fault) next (subst (λ k. BreaksEnvelopes ds m f.depth rows (suc r) k f.base from fault) fewer b)
@@ -121,6 +126,7 @@ module _ (t : List ℕ) (fine : IsFine t) (m : Message) (within : IsWithin m.byt
             | inr y ↦ next_broken ds m f.depth rows (read + count) f.base read old fault (omega (arith, more))
                 (inl (at_place (λ p. Stands m.bytes p (zeros 8)) z, subst (λ (s : Position). BreaksEnvelopes ds m f.depth rows (suc (suc read)) (read + count) f.base s fault) (sym y.1) (rest_breaks y.0 fault y.2)))
           ];
+          least = λ to mid a b y w. let x = worth_zeros ds fine.laid_out m f.depth rows (read + count) f.base read (omega (arith, more)) old to z' b (worth_rest old to b (subst (λ (s : Position). ReadsWorth t m rest s to b) (sym y) w)) in let le = x.1 in (x.0, omega (arith, le));
           state = state;
           below_fine = tt;
           rest_fine = (rest_fine, omega arith);
@@ -131,8 +137,8 @@ module _ (t : List ℕ) (fine : IsFine t) (m : Message) (within : IsWithin m.byt
       no_zeros_there : Stands m.bytes (envelope_place f.base (suc read)) (zeros 8) → ⊥
       no_zeros_there z = some (subst (λ p. Stands m.bytes p (zeros 8)) own_place z)
 
-      pub envelope_opened : (found : Option Frame) (new : Position) (spent n : ℕ) → n ≤ 17 + spent → PaysEnvelope m.bytes old.next new.next spent found → Opens t m f.depth (find rows (suc read)) place old new found → Turns t m g old new n (record { below = found; rest = Some rest })
-      envelope_opened found new spent n few own o = record {
+      pub envelope_opened : (found : Option Frame) (new : Position) (spent n : ℕ) → spent + 1 ≤ n → n ≤ 17 + spent → PaysEnvelope m.bytes old.next new.next spent found → Opens t m f.depth (find rows (suc read)) place old new spent found → Turns t m g old new n (record { below = found; rest = Some rest })
+      envelope_opened found new spent n some_steps few own o = record {
         same = λ to. (
           (λ x. elim (slots_step ds fine.laid_out m f.depth rows (read + count) f.base read old to (omega (arith, more)) x) [
             | inl y ↦ absurd (no_zeros_there y.0)
@@ -145,6 +151,10 @@ module _ (t : List ℕ) (fine : IsFine t) (m : Message) (within : IsWithin m.byt
           | inl x ↦ inr (inl ((λ z. some (subst (λ p. Stands m.bytes p (zeros 8)) (let done = ff.slots.0 in omega (arith, done)) z)), at_place (λ p. BreaksMember ds m f.depth (find rows (suc read)) p old fault) (o.breaks fault x)))
           | inr y ↦ inr (inr (y.0, at_place (λ p. Contained ds m f.depth (find rows (suc read)) p old y.0) ((o.same y.0).1 y.1), rest_breaks y.0 fault y.2))
         ]);
+        least = λ to mid a b y w.
+            let x = worth_member ds fine.laid_out m f.depth rows (read + count) f.base read (omega (arith, more)) old mid to (a + spent + 1) b (subst (λ p. ContainedWorth ds m f.depth (find rows (suc read)) p old mid (a + spent + 1)) (sym own_place) (o.least mid a y)) (worth_rest mid to b w) in
+            let le = x.1 in
+            (x.0, omega (arith, le, some_steps));
         state = o.state;
         below_fine = (let nest = ff.slots.2 in let out = ff.slots.3 in fine_from t m.bytes _ (height g + 1) found (omega (arith, nest, out)) o.fine);
         rest_fine = (rest_fine, omega arith);

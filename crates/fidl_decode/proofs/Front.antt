@@ -43,7 +43,7 @@ module _ (t : List ℕ) (fine : IsFine t) (m : Message) (f : Frame) (first count
       ∙ ap (λ (w : raw.Row). (let x : Row = record { offset = w.key; entry = w.entry } in x) ∷ table_rows t (header_of t) (first + 1) (count - 1)) (sym is)
 
   -- it lies behind what is read, within the frame and the message, and there is work for it
-  pub front_room : (f.done ≤ w.key) × (w.key + (entry_at t w.entry).size ≤ f.size) × (f.base + f.size ≤ length m.bytes) × (w.key - f.done + 1 + probes ≤ frame_work f)
+  pub front_room : (f.done ≤ w.key) × (w.key + (entry_at t w.entry).size ≤ f.size) × (f.base + f.size ≤ length m.bytes) × (w.key - f.done + 2 + probes ≤ frame_work f)
   front_room = next_room t fine m f old old 0 g start r left one
 
   pub front_gap_breaks : (fault : DecodeFault) → IsPadding m.bytes (f.base + f.done) (f.base + w.key) fault → BreaksFrame t m f old fault
@@ -57,14 +57,14 @@ module _ (t : List ℕ) (fine : IsFine t) (m : Message) (f : Frame) (first count
   front_inside = row_inside t fine m g old start.rest_fine.0 state r left one (entry_at t w.entry).size (next_size t fine m f old old 0 g start r left one)
 
   -- it leads to what is below
-  pub front_takes : (below : Option Frame) (new : Position) (spent n : ℕ) → n ≤ f.base + w.key - (f.base + f.done) + 1 + spent → Stands m.bytes (f.base + f.done) (zeros (f.base + w.key - (f.base + f.done))) → Visits t m f.depth w.entry (f.base + w.key) old new spent below
+  pub front_takes : (below : Option Frame) (new : Position) (spent n : ℕ) → 1 + spent ≤ n → n ≤ f.base + w.key - (f.base + f.done) + 1 + spent → Stands m.bytes (f.base + f.done) (zeros (f.base + w.key - (f.base + f.done))) → Visits t m f.depth w.entry (f.base + w.key) old new spent below
       → VisitFine t m f.depth f.in_envelope w.entry below → Turns t m f old new n (record { below = below; rest = Some (going_on f left (w.key + (entry_at t w.entry).size)) })
-  front_takes below new spent n le z v vf =
+  front_takes below new spent n least le z v vf =
       let room = start.rest_fine.0.left in
-      next_takes t fine m f old old 0 g start r left one tt (omega (arith, room, some)) tt below new (w.key + (entry_at t w.entry).size) spent n refl (omega (arith, le)) z v vf
+      next_takes t fine m f old old 0 g start r left one tt (omega (arith, room, some)) tt below new (w.key + (entry_at t w.entry).size) spent n refl (omega (arith, least)) (omega (arith, le)) z v vf
 
-  pub front_turns : (new : Position) (spent n : ℕ) → n ≤ f.base + w.key - (f.base + f.done) + 1 + spent → Stands m.bytes (f.base + f.done) (zeros (f.base + w.key - (f.base + f.done))) → Visits t m f.depth w.entry (f.base + w.key) old new spent None
+  pub front_turns : (new : Position) (spent n : ℕ) → 1 + spent ≤ n → n ≤ f.base + w.key - (f.base + f.done) + 1 + spent → Stands m.bytes (f.base + f.done) (zeros (f.base + w.key - (f.base + f.done))) → Visits t m f.depth w.entry (f.base + w.key) old new spent None
       → Turns t m f old new n (left_over (Some (going_on f left (w.key + (entry_at t w.entry).size))))
-  front_turns new spent n le z v =
+  front_turns new spent n least le z v =
       let room = start.rest_fine.0.left in
-      next_turns t fine m f old old 0 g start r left one tt (omega (arith, room, some)) tt new (w.key + (entry_at t w.entry).size) spent n refl (omega (arith, le)) z v
+      next_turns t fine m f old old 0 g start r left one tt (omega (arith, room, some)) tt new (w.key + (entry_at t w.entry).size) spent n refl (omega (arith, least)) (omega (arith, le)) z v

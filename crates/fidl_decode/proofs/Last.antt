@@ -42,7 +42,7 @@ module _ (t : List ℕ) (fine : IsFine t) (m : Message) (f : Frame) (first : ℕ
   one = ap (λ (w : raw.Row). (let x : Row = record { offset = w.key; entry = w.entry } in x) ∷ []) (sym is)
 
   -- it lies behind what is read, within the frame and the message, and there is work for it
-  pub last_room : (f.done ≤ w.key) × (w.key + (entry_at t w.entry).size ≤ f.size) × (f.base + f.size ≤ length m.bytes) × (w.key - f.done + 1 + probes ≤ frame_work f)
+  pub last_room : (f.done ≤ w.key) × (w.key + (entry_at t w.entry).size ≤ f.size) × (f.base + f.size ≤ length m.bytes) × (w.key - f.done + 2 + probes ≤ frame_work f)
   last_room = next_room t fine m f old old 0 g start r left one
 
   pub last_inside : IsInside f.in_envelope (entry_at t w.entry).size
@@ -54,14 +54,14 @@ module _ (t : List ℕ) (fine : IsFine t) (m : Message) (f : Frame) (first : ℕ
   pub last_breaks : (fault : DecodeFault) → Stands m.bytes (f.base + f.done) (zeros (f.base + w.key - (f.base + f.done))) → Breaks ds m f.depth (resolve ds.terms (ty.named w.entry)) (f.base + w.key) old fault → BreaksFrame t m f old fault
   last_breaks fault z b = next_leaf_breaks t fine m f old old 0 g start r left one tt fault z b
 
-  module _ (new : Position) (spent n : ℕ) (whole : w.key + (entry_at t w.entry).size ≡ f.size) (le : n ≤ f.base + w.key - (f.base + f.done) + 1 + spent) (z : Stands m.bytes (f.base + f.done) (zeros (f.base + w.key - (f.base + f.done)))) where
+  module _ (new : Position) (spent n : ℕ) (whole : w.key + (entry_at t w.entry).size ≡ f.size) (some : 1 + spent ≤ n) (le : n ≤ f.base + w.key - (f.base + f.done) + 1 + spent) (z : Stands m.bytes (f.base + f.done) (zeros (f.base + w.key - (f.base + f.done)))) where
     abbrev h : Frame
     h = going_on f left f.size
 
     takes : (found : Option Frame) → Visits t m f.depth w.entry (f.base + w.key) old new spent found → VisitFine t m f.depth f.in_envelope w.entry found → Turns t m f old new n (record { below = found; rest = Some h })
-    takes found v vf = next_takes t fine m f old old 0 g start r left one tt (let left = start.rest_fine.0.left in omega (arith, left)) tt found new f.size spent n (sym whole) (omega (arith, le)) z v vf
+    takes found v vf = next_takes t fine m f old old 0 g start r left one tt (let left = start.rest_fine.0.left in omega (arith, left)) tt found new f.size spent n (sym whole) (omega (arith, some)) (omega (arith, le)) z v vf
 
     -- what it leads to is left, or nothing
     pub last_turns : (found : Option Frame) → Visits t m f.depth w.entry (f.base + w.key) old new spent found → VisitFine t m f.depth f.in_envelope w.entry found → Turns t m f old new n (left_over found)
-    last_turns None v vf = over_turns t fine m f old new n h (takes None v vf) refl tt n (omega arith) (no_zeros m.bytes (h.base + h.done) _ (omega arith))
+    last_turns None v vf = over_turns t fine m f old new n h (takes None v vf) refl tt n (omega arith) (omega arith) (no_zeros m.bytes (h.base + h.done) _ (omega arith))
     last_turns (Some below) v vf = turns_tail t fine m f below h old new n (takes (Some below) v vf) (refl, refl)

@@ -16,8 +16,10 @@ use Rattle.fidl_decode_model.specs.declared.frame.Remaining.TheVariants.{Content
 use Rattle.fidl_decode_model.specs.Invariants.{IsFine}
 use Rattle.fidl_decode_model.specs.State.{Message, Position}
 use Rattle.fidl_decode_model.specs.Breaks.{IsPadding, Breaks}
-use Rattle.fidl_decode_model.specs.Machine.{BreaksFrame, IsUntil, StateFine, FrameFine, Visits, Turns, inline_work, frame_work, byte_work, probes}
-use Rattle.fidl_decode.proofs.ContentTurns.{content_end_room, content_over, content_miscounted, content_end_breaks, content_known, content_size, content_room, content_pays, content_breaks, content_turns}
+use Rattle.fidl_decode_model.specs.Machine.{BreaksFrame, StateFine, FrameFine, Visits, Turns, inline_work, frame_work, byte_work, probes}
+use Rattle.fidl_decode_model.specs.Worth.{ReadsWorth}
+use Rattle.fidl_decode_model.specs.Envelopes.{IsUntil}
+use Rattle.fidl_decode.proofs.ContentTurns.{content_end_room, content_over, content_miscounted, content_end_breaks, content_known, content_size, content_room, content_pays, content_breaks, content_turns, content_worth}
 use Rattle.fidl_decode_columns.proofs.Leaves.{going_on, same_frame, left_over, turns_then, turns_break}
 
 module _ (t : List ℕ) (fine : IsFine t) (m : Message) (f : Frame) (e size count : ℕ) (u : Until) (is : f.left ≡ Content e size count u) (one : count ≡ 1) (old : Position) (ff : FrameFine t m.bytes f) (state : StateFine m old) where
@@ -43,7 +45,7 @@ module _ (t : List ℕ) (fine : IsFine t) (m : Message) (f : Frame) (e size coun
   leaf_size = content_size t fine m f e size count u old gf state some
 
   -- it lies within the frame and the message, and there is work for it
-  pub leaf_room : (f.done + (entry_at t e).size ≤ f.size) × (f.base + f.size ≤ length m.bytes) × (0 + 1 + probes ≤ frame_work f)
+  pub leaf_room : (f.done + (entry_at t e).size ≤ f.size) × (f.base + f.size ≤ length m.bytes) × (0 + 2 + probes ≤ frame_work f)
   leaf_room = content_room t fine m f e size count u old gf state some
 
   -- and for what the value may make, with a turn more
@@ -72,6 +74,10 @@ module _ (t : List ℕ) (fine : IsFine t) (m : Message) (f : Frame) (e size coun
 
     pub leaf_over : Stands m.bytes (f.base + (f.done + size)) (zeros (f.base + f.size - (f.base + (f.done + size)))) → IsUntil u new → (n : ℕ) → n ≡ 1 + spent + (f.base + f.size - (f.base + (f.done + size)) + 1) → Turns t m f old new n (left_over None)
     leaf_over z own n is = turns_then t m f old new (1 + spent) h read new (f.base + f.size - (f.base + (f.done + size)) + 1) n (left_over None) (omega (arith, is)) (content_over t fine m h e size (count - 1) u new read.rest_fine.0 read.state none z own _ refl)
+
+    -- it is worth no more than its value
+    pub leaf_worth : Stands m.bytes (f.base + (f.done + size)) (zeros (f.base + f.size - (f.base + (f.done + size)))) → IsUntil u new → ReadsWorth t m f old new (spent + 1)
+    leaf_worth z own = subst (λ (f : Frame). ReadsWorth t m f old new (spent + 1)) (sym same) (content_worth t fine m f e size count u old gf state one new spent v z own)
 
     pub leaf_miscounted : Stands m.bytes (f.base + (f.done + size)) (zeros (f.base + f.size - (f.base + (f.done + size)))) → (IsUntil u new → ⊥) → BreaksFrame t m f old (WrongCounts u.envelope)
     leaf_miscounted z other = turns_break t m f old new (1 + spent) h read (WrongCounts u.envelope) (content_miscounted t fine m h e size (count - 1) u new read.rest_fine.0 read.state none z other)

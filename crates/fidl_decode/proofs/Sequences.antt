@@ -74,7 +74,7 @@ visits_numbers t fine m held e place old lt state deep is free room small =
     let size : (figure_of (declarations_of t).figures (ty.named d.first)).size * d.count ≡ d.size = ap (λ (f : Figure). f.size) (figure_is t fine e Array lt is) in
     let whole : each * d.count ≡ d.size = (λ i. sym one i * d.count) ∙ size in
     let none : g.base + g.size - (g.base + g.done) ≡ 0 = omega (arith, whole) in
-    visits_over t m held e place old old 0 f start old 0 0 (omega arith) (over_turns t fine m f old old 0 g turns refl tt 0 (omega arith) (no_zeros m.bytes (g.base + g.done) _ none))
+    visits_over t m held e place old old 0 f start old 0 0 (omega arith) (over_turns t fine m f old old 0 g turns refl tt 0 (omega arith) (omega arith) (no_zeros m.bytes (g.base + g.done) _ none))
 
 -- elements that any bytes are values of, up to the zeros behind them
 module _ (t : List ℕ) (fine : IsFine t) (m : Message) (f : Frame) (old : Position) (ff : FrameFine t m.bytes f) (state : StateFine m old) (e size count : ℕ) (is : f.left ≡ Elements e size count) (free : is_free_at t e ≡ true) (small : (i : ℕ) → get_or m.bytes i 0 < 256) where
@@ -91,7 +91,7 @@ module _ (t : List ℕ) (fine : IsFine t) (m : Message) (f : Frame) (old : Posit
   elements_room = let room = over_room t fine m f old old 0 over turns in (room.0, room.1)
 
   pub elements_over : (n : ℕ) → n ≤ f.base + f.size - (f.base + f.done + size * count) + 1 → Stands m.bytes (f.base + f.done + size * count) (zeros (f.base + f.size - (f.base + f.done + size * count))) → Turns t m f old old n (left_over None)
-  elements_over n le z = over_turns t fine m f old old 0 over turns refl tt n (omega (arith, there, le)) (subst (λ k. Stands m.bytes k (zeros (f.base + f.size - k))) there z)
+  elements_over n le z = over_turns t fine m f old old 0 over turns refl tt n (omega arith) (omega (arith, there, le)) (subst (λ k. Stands m.bytes k (zeros (f.base + f.size - k))) there z)
 
   pub elements_break : (fault : DecodeFault) → IsPadding m.bytes (f.base + f.done + size * count) (f.base + f.size) fault → BreaksFrame t m f old fault
   elements_break fault p = over_breaks t fine m f old old 0 over turns refl tt fault (subst (λ k. IsPadding m.bytes k (f.base + f.size) fault) there p)

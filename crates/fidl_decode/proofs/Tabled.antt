@@ -22,7 +22,9 @@ use Rattle.fidl_decode_model.specs.Invariants.{IsFine}
 use Rattle.fidl_decode_model.specs.State.{Message, Position, linked, ValueAt, Slots}
 use Rattle.fidl_decode_model.specs.Breaks.{Breaks, BreaksEnvelopes, count_at}
 use Rattle.fidl_decode_model.specs.Breaks as broken
+use Rattle.fidl_decode_model.specs.Work.{members_work}
 use Rattle.fidl_decode_model.specs.Machine.{StateFine, Visits, most_nest, inline_work, byte_work}
+use Rattle.fidl_decode_model.specs.Worth.{SlotsWorth, ValueWorth}
 use Rattle.fidl_decode_model.proofs.After.{length-table, length-pad8}
 use Rattle.fidl_decode_model.proofs.Scalars.{standing}
 use Rattle.fidl_decode_model.proofs.Rows.{stands_at}
@@ -37,8 +39,8 @@ module _ (ds : Declarations) (laid : IsLaidOut ds) (m : Message) (held : ℕ) (r
   abbrev n : ℕ
   n = count_at m.bytes place
 
-  pub item_table : (to : Position) → place + 8 ≤ length m.bytes → ((i : ℕ) → get_or m.bytes i 0 < 256) → n < 2 ^ 64 → Stands m.bytes (place + 8) present → Slots ds m (held + 1) rows 0 n from.next (linked (place + 8) (8 * n) from) to → ValueAt ds m held (ty.table rows) place from to
-  item_table to here small few ones y =
+  pub item_table : (to : Position) → place + 8 ≤ length m.bytes → ((i : ℕ) → get_or m.bytes i 0 < 256) → n < 2 ^ 64 → Stands m.bytes (place + 8) present → (w : ℕ) → SlotsWorth ds m (held + 1) rows 0 n from.next (linked (place + 8) (8 * n) from) to w → ValueWorth ds m held (ty.table rows) place from to (w + 1)
+  item_table to here small few ones w (y, le) =
       let a = envelopes ds rows 1 n y.members in
       let own = linked (place + 8) (8 * n) from in
       let long = length-table ds laid rows n y.members y.typed in
@@ -46,20 +48,22 @@ module _ (ds : Declarations) (laid : IsLaidOut ds) (m : Message) (held : ℕ) (r
       let pad : next_multiple_of (length a.inline) 8 - length a.inline ≡ 0 = ap (λ j. next_multiple_of j 8 - j) long ∙ omega (arith, whole) in
       let deep = y.shallow in
       let at = stands_at m a (from.next + 8 * 0) from.next own (omega arith) y.stands in
-      let wide : from.next + next_multiple_of (8 * n) 8 ≡ from.next + length (pad8 a.inline) = ap (λ k. from.next + next_multiple_of k 8) (sym long) ∙ ap (λ k. from.next + k) (sym (length-pad8 a.inline)) in
-      record {
-        value = table n y.members;
-        typed = (few, y.typed);
-        shallow = omega (arith, deep);
-        stands = record {
-          inline = stands_both m.bytes place (to_le_bytes w64 n) present (standing uint64 m.bytes place here small).1 ones;
-          out = stands_both m.bytes from.next (pad8 a.inline) a.out
-              (stands_both m.bytes from.next a.inline (zeros (next_multiple_of (length a.inline) 8 - length a.inline)) at.inline (subst (λ k. Stands m.bytes (from.next + length a.inline) (zeros k)) (sym pad) tt))
-              (stands_to m.bytes (from.next + next_multiple_of (8 * n) 8) (from.next + length (pad8 a.inline)) a.out wide at.out);
-          carried = at.carried;
-        };
-        end = y.end;
-      }
+      let wide : from.next + next_multiple_of (8 * n) 8 ≡ from.next + length (pad8 a.inline) = ap (λ k. from.next + next_multiple_of k 8) (sym long) ∙ ap (λ k. from.next + k) (sym (length-pad8 a.inline)) in (
+        record {
+          value = table n y.members;
+          typed = (few, y.typed);
+          shallow = omega (arith, deep);
+          stands = record {
+            inline = stands_both m.bytes place (to_le_bytes w64 n) present (standing uint64 m.bytes place here small).1 ones;
+            out = stands_both m.bytes from.next (pad8 a.inline) a.out
+                (stands_both m.bytes from.next a.inline (zeros (next_multiple_of (length a.inline) 8 - length a.inline)) at.inline (subst (λ k. Stands m.bytes (from.next + length a.inline) (zeros k)) (sym pad) tt))
+                (stands_to m.bytes (from.next + next_multiple_of (8 * n) 8) (from.next + length (pad8 a.inline)) a.out wide at.out);
+            carried = at.carried;
+          };
+          end = y.end;
+        },
+        omega (arith, le),
+      )
 
 -- the frame of a table's envelopes
 abbrev pub table_frame : (entry n held : ℕ) → Position → Frame
@@ -94,8 +98,10 @@ module _ (t : List ℕ) (fine : IsFine t) (m : Message) (held e place : ℕ) (fr
       record {
         same = λ to. (
           (λ x. subst (λ k. Slots ds m (held + 1) rows 0 k from.next own to) (sym all) (table_value ds fine.laid_out m held rows place from to (subst (λ (u : Term). ValueAt ds m held u place from to) table_is x)).slots),
-          (λ y. subst (λ (u : Term). ValueAt ds m held u place from to) (sym table_is) (item_table ds fine.laid_out m held rows place from to here small few ones (subst (λ k. Slots ds m (held + 1) rows 0 k from.next own to) all y))),
+          (λ y. subst (λ (u : Term). ValueAt ds m held u place from to) (sym table_is) (item_table ds fine.laid_out m held rows place from to here small few ones (members_work y.members) (subst (λ k. (x : Slots ds m (held + 1) rows 0 k from.next own to) × (members_work x.members ≤ members_work y.members)) all (y, omega arith))).0),
         );
+        least = λ to w y. subst (λ (u : Term). ValueWorth ds m held u place from to (w + spent + 1)) (sym table_is)
+            (let x = item_table ds fine.laid_out m held rows place from to here small few ones w (subst (λ k. SlotsWorth ds m (held + 1) rows 0 k from.next own to w) all y) in let less = x.1 in (x.0, omega (arith, less)));
         breaks = λ fault b. subst (λ (u : Term). Breaks ds m held u place from fault) (sym table_is)
             (broken.in_table rows place from fault ones (table_right ds fine.laid_out m held rows place from ones shallow few (omega (arith, room, whole))) (subst (λ k. BreaksEnvelopes ds m (held + 1) rows 1 k from.next own fault) all b));
         state = record { next = omega (arith, within, room, whole); handle = state.handle; few = state.few };

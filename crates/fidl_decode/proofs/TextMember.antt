@@ -19,17 +19,21 @@ use Rattle.fidl_table_format.specs.Terms.{declarations_of, is_optional}
 use Rattle.fidl_decode_model.specs.Invariants.{IsFine}
 use Rattle.fidl_decode_model.specs.Faults.{IsWithin}
 use Rattle.fidl_decode_model.specs.Breaks.{count_at}
-use Rattle.fidl_decode_model.specs.State.{Message, Position, opened, linked}
+use Rattle.fidl_decode_model.specs.State.{Message, Position, ValueAt, opened, linked}
 use Rattle.fidl_wire.specs.Envelope.{bytes_below, handles_below, flags_at}
+use Rattle.fidl_decode_model.specs.declared.frame.Until.{Until}
+use Rattle.fidl_decode_model.specs.Work.{Work}
 use Rattle.fidl_decode_model.specs.Machine.{StateFine, Opens, Visits, Leads}
+use Rattle.fidl_decode_model.specs.Worth.{ContainedWorth}
+use Rattle.fidl_decode_model.specs.Envelopes.{IsUntil}
 use Rattle.fidl_decode_model.proofs.Visiting.{size_as, visits_leaf}
 use Rattle.fidl_decode_columns.proofs.Leaves.{no_zeros}
-use Rattle.fidl_decode.proofs.LeafContent.{leaf_over}
-use Rattle.fidl_decode.proofs.Opening.{opens_known, opens_on}
+use Rattle.fidl_decode.proofs.LeafContent.{leaf_over, leaf_worth}
+use Rattle.fidl_decode.proofs.Opening.{opens_known, opens_on, opens_worth}
 use Rattle.fidl_decode.proofs.Entered.{below_frame, enters_below}
 use Rattle.fidl_decode_model.proofs.Numbers.{slice_is}
 use Rattle.fidl_decode_model.proofs.Scalars.{bytes_at, bytes_stand, length-bytes_at}
-use Rattle.fidl_decode_model.proofs.Written.{text_leads}
+use Rattle.fidl_decode_model.proofs.Written.{text_leads, text_work}
 
 -- bytes that are all ASCII are UTF-8
 pub ascii_text : (m : List ℕ) (from n : ℕ) → from + n ≤ length m → ((k : ℕ) → k < n → get_or m (from + k) 0 < 128) → IsUtf8 (slice_range m from (from + n))
@@ -73,19 +77,29 @@ module _ (t : List ℕ) (fine : IsFine t) (m : Message) (within : IsWithin m.byt
     there : StateFine m new
     there = record { next = omega (arith, fits, up); handle = state.handle; few = state.few }
 
-    visited : StateFine m mid → Visits t m (held + 1) e (old.next + 0) mid new 0 None
+    -- it is worth its bytes and one more
+    worth : (to : Position) (x : ValueAt (declarations_of t) m (held + 1) (ty.string (is_optional d) d.bound) old.next mid to) → Work x.value ≤ next_multiple_of n 8 + 1
+    worth to x = let le = le-next_multiple_of n 8 in omega (arith, text_work (declarations_of t) m (omega (arith, within.0)) (held + 1) (is_optional d) d.bound old.next mid to x, count, le)
+
+    visited : StateFine m mid → Visits t m (held + 1) e (old.next + 0) mid new (next_multiple_of n 8) None
     visited entered =
         let here : old.next ≡ old.next + 0 = omega arith in
-        subst (λ q. Visits t m (held + 1) e q mid new 0 None) here
-        (visits_leaf t fine m (held + 1) e old.next mid lt entered (omega (arith, shallow)) String kind new 0 (omega arith) there leads)
+        subst (λ q. Visits t m (held + 1) e q mid new (next_multiple_of n 8) None) here
+        (visits_leaf t fine m (held + 1) e old.next mid lt entered (omega (arith, shallow)) String kind new (next_multiple_of n 8) (omega (arith, up, fits)) there leads worth)
 
-    pub text_passed : flags_at m.bytes p ≡ 0 → bytes_below m.bytes p ≡ 16 + next_multiple_of n 8 → handles_below m.bytes p ≡ 0 → (to : Position) → new ≡ to → Opens t m held (Some (ty.named e)) p old to None
-    text_passed flags counted none to led =
+    pub text_passed : flags_at m.bytes p ≡ 0 → bytes_below m.bytes p ≡ 16 + next_multiple_of n 8 → handles_below m.bytes p ≡ 0 → (to : Position) → new ≡ to → (most : ℕ) → next_multiple_of n 8 ≤ most → Opens t m held (Some (ty.named e)) p old to most None
+    text_passed flags counted none to led most few =
+        let size = next_multiple_of n 8 in
         let eights : next_multiple_of n 8 % 8 ≡ 0 = omega arith in
         let much : IsUnknownLength false (bytes_below m.bytes p) = subst (λ n. IsUnknownLength false n) (sym counted) (omega arith, omega (arith, eights)) in
         let x = enters_below t fine m within held e p old lt room small state deep (omega (arith, sixteen)) flags much (omega (arith, shallow)) (omega (arith, up, fits)) in
-        let o = opens_known t m held p old mid x.state e (below_frame m e d.size d.nest held p old) (omega arith) x.same x.breaks x.fine x.deeper x.work in
+        let f = below_frame m e d.size d.nest held p old in
+        let u : Until = record { envelope = p; next = old.next + bytes_below m.bytes p; handle = old.handle + handles_below m.bytes p } in
+        let o = opens_known t m held p old mid x.state 0 e f (omega arith) x.same x.breaks x.least x.fine x.deeper x.work in
         let none_behind = no_zeros m.bytes (old.next + (0 + d.size)) (old.next + next_multiple_of d.size 8 - (old.next + (0 + d.size))) (omega (arith, up, sixteen)) in
-        subst (λ (s : Position). Opens t m held (Some (ty.named e)) p old s None) led
-        (opens_on t m held (Some (ty.named e)) p old mid (below_frame m e d.size d.nest held p old) o new _ None
-        (leaf_over t fine m (below_frame m e d.size d.nest held p old) e d.size 1 (record { envelope = p; next = old.next + bytes_below m.bytes p; handle = old.handle + handles_below m.bytes p }) refl refl mid x.fine x.state new 0 (visited x.state) none_behind (omega (arith, up, counted), omega (arith, none)) _ refl))
+        let own : IsUntil u new = (omega (arith, up, counted), omega (arith, none)) in
+        let k = 1 + size + (f.base + f.size - (f.base + (f.done + d.size)) + 1) in
+        let opened = opens_on t m held (Some (ty.named e)) p old mid 0 f o new k k None (omega arith) (leaf_over t fine m f e d.size 1 u refl refl mid x.fine x.state new size (visited x.state) none_behind own k refl) in
+        subst (λ (s : Position). Opens t m held (Some (ty.named e)) p old s most None) led
+        (opens_worth t m held (Some (ty.named e)) p old new k most None opened
+        (λ to w y. let worth = x.least new (size + 1) (leaf_worth t fine m f e d.size 1 u refl refl mid x.fine x.state new size (visited x.state) none_behind own) in let le = worth.1 in subst (λ (s : Position). ContainedWorth (declarations_of t) m held (Some (ty.named e)) p old s (w + most + 1)) y (worth.0, omega (arith, le, few))))

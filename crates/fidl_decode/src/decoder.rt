@@ -66,7 +66,7 @@ impl<'t, 'm> Decoder<'t, 'm> {
             (resolve (declarations_of self.now.table.now).terms (ty.named entry)) place
             (at_of state.old)) }
         ensures spends { Spends state.old.steps state.new.steps 0
-            (probes + (length self.now.bytes.now - state.old.next)) }
+            (1 + probes + (length self.now.bytes.now - state.old.next)) }
     {
         let e = self.table.entry(entry);
         let Some(kind) = EntryKind::from_number(e.kind) else {

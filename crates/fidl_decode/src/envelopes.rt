@@ -17,6 +17,7 @@ ghost use Rattle.fidl_decode_model.specs.State.{Position};
 ghost use Rattle.fidl_decode_model.specs.Machine.{Reads, BreaksFrame, FrameFine, StateFine, at_of};
 ghost use Rattle.fidl_decode_model.specs.Machine.{level, height, most_nest, inline_work};
 ghost use Rattle.fidl_decode_model.specs.Machine.{frame_work};
+ghost use Rattle.fidl_decode_model.specs.Worth.{ReadsWorth, ContainedWorth};
 
 use crate::decoder::Decoder;
 use fidl_decode_model::DecodeFault;
@@ -106,6 +107,12 @@ impl<'t, 'm> Decoder<'t, 'm> {
             → BreaksMember (declarations_of self.now.table.now)
             (message_of self.now.bytes.now self.now.handles.now) depth (Some (ty.named entry))
             envelope (at_of state.old) fault) }
+        ensures least { IfOk result (λ frame. (to : Position) → (w : ℕ)
+            → ReadsWorth self.now.table.now (message_of self.now.bytes.now self.now.handles.now) frame
+            (at_of state.new) to w
+            → ContainedWorth (declarations_of self.now.table.now)
+            (message_of self.now.bytes.now self.now.handles.now) depth (Some (ty.named entry))
+            envelope (at_of state.old) to w) }
         ensures fine { IfOk result
             (λ frame. FrameFine self.now.table.now self.now.bytes.now frame) }
         ensures deeper { IfOk result (λ frame. level depth 1 most_nest ≤ height frame) }

@@ -1,5 +1,5 @@
 //! Envelopes of structs of numbers that stand behind one another, which are passed over.
-ghost use Rattle.std.specs.Prelude.{◌≡◌, ◌+◌, ◌^◌, ◌<◌, ◌≤◌, IsTrue, IsFalse, Some, None};
+ghost use Rattle.std.specs.Prelude.{◌≡◌, ◌+◌, ◌-◌, ◌^◌, ◌<◌, ◌≤◌, IsTrue, IsFalse, Some, None};
 ghost use Rattle.std.specs.Prelude.{length};
 ghost use Rattle.fidl_limits.specs.declared.limits.TheConstants.{MAX_DEPTH};
 ghost use Rattle.fidl_wire.specs.Term as ty;
@@ -34,7 +34,8 @@ impl<'t, 'm> Decoder<'t, 'm> {
         requires budget { state.old.steps < 2 ^ 44 }
         ensures passed { IsTrue result → Opens self.now.table.now
             (message_of self.now.bytes.now self.now.handles.now) depth (Some (ty.named entry))
-            envelope (at_of state.old) (at_of state.new) None }
+            envelope (at_of state.old) (at_of state.new) (state.new.steps - state.old.steps)
+            None }
         ensures kept { IsFalse result → at_of state.new ≡ at_of state.old }
         ensures grows { state.old.steps ≤ state.new.steps }
         ensures pays { state.new.steps + state.old.next ≤ state.old.steps + state.new.next }

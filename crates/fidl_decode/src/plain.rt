@@ -124,6 +124,7 @@ impl<'t, 'm> Decoder<'t, 'm> {
         ensures few { result.rows ≤ count }
         ensures first { result.first ≡ first + result.rows }
         ensures count { result.rows + result.count ≡ count }
+        ensures wide { result.rows ≤ result.done }
         ensures passes { Passes self.now.table.now
             (message_of self.now.bytes.now self.now.handles.now) (left.Rows first count)
             result.rows result.first result.count result.done result.flag }

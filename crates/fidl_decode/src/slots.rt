@@ -61,7 +61,8 @@ impl<'t, 'm> Decoder<'t, 'm> {
             * (length self.now.bytes.now - state.old.next) + envelope_work < 2 ^ 40 }
         ensures ok { OnOk result (Opens self.now.table.now
             (message_of self.now.bytes.now self.now.handles.now) depth (Some (ty.named entry))
-            envelope (at_of state.old) (at_of state.new) None) }
+            envelope (at_of state.old) (at_of state.new) (state.new.steps - state.old.steps)
+            None) }
         ensures pays { OnOk result (PaysEnvelope self.now.bytes.now state.old.next state.new.next
             (state.new.steps - state.old.steps) None) }
         ensures fault_is_true { IfErr result (BreaksMember (declarations_of self.now.table.now)
@@ -97,7 +98,7 @@ impl<'t, 'm> Decoder<'t, 'm> {
             * (length self.now.bytes.now - state.old.next) + envelope_work < 2 ^ 40 }
         ensures ok { IfOk result (Opens self.now.table.now
             (message_of self.now.bytes.now self.now.handles.now) depth (Some (ty.named entry))
-            envelope (at_of state.old) (at_of state.new)) }
+            envelope (at_of state.old) (at_of state.new) (state.new.steps - state.old.steps)) }
         ensures pays { IfOk result (PaysEnvelope self.now.bytes.now state.old.next state.new.next
             (state.new.steps - state.old.steps)) }
         ensures fault_is_true { IfErr result (BreaksMember (declarations_of self.now.table.now)
@@ -142,7 +143,7 @@ impl<'t, 'm> Decoder<'t, 'm> {
             * (length self.now.bytes.now - state.old.next) + envelope_work < 2 ^ 40 }
         ensures ok { IfOk result (Opens self.now.table.now
             (message_of self.now.bytes.now self.now.handles.now) depth (member_term member) envelope
-            (at_of state.old) (at_of state.new)) }
+            (at_of state.old) (at_of state.new) (state.new.steps - state.old.steps)) }
         ensures pays { IfOk result (PaysEnvelope self.now.bytes.now state.old.next state.new.next
             (state.new.steps - state.old.steps)) }
         ensures fault_is_true { IfErr result (BreaksMember (declarations_of self.now.table.now)

@@ -7,6 +7,8 @@ ghost use Rattle.fidl_table_format.specs.Terms.{declarations_of, is_optional};
 ghost use Rattle.fidl_decode_model.specs.Faults.{message_of};
 ghost use Rattle.fidl_decode_model.specs.Breaks.{BreaksText};
 ghost use Rattle.fidl_decode_model.specs.Steps.{Spends};
+ghost use Rattle.fidl_decode_model.specs.State.{Position, ValueAt};
+ghost use Rattle.fidl_decode_model.specs.Work.{Work};
 ghost use Rattle.fidl_decode_model.specs.Machine.{StateFine, Leads, at_of};
 
 use crate::decoder::Decoder;
@@ -63,6 +65,11 @@ impl<'t, 'm> Decoder<'t, 'm> {
             (StateFine (message_of self.now.bytes.now self.now.handles.now) (at_of state.new)) }
         ensures spent { OnOk result
             (state.new.steps + state.old.next ≡ state.old.steps + state.new.next) }
+        ensures least { OnOk result ((to : Position)
+            → (x : ValueAt (declarations_of self.now.table.now)
+            (message_of self.now.bytes.now self.now.handles.now) depth
+            (ty.string (is_optional entry.now) entry.now.bound) place (at_of state.old) to)
+            → Work x.value ≤ state.new.steps - state.old.steps + 1) }
         ensures spends { Spends state.old.steps state.new.steps 0
             (length self.now.bytes.now - state.old.next) }
     {

@@ -41,7 +41,7 @@ impl<'t, 'm> Decoder<'t, 'm> {
         requires budget { state.old.steps < 2 ^ 44 }
         ensures ok { IfOk result (Opens self.now.table.now
             (message_of self.now.bytes.now self.now.handles.now) depth (member_term member) envelope
-            (at_of state.old) (at_of state.new)) }
+            (at_of state.old) (at_of state.new) (state.new.steps - state.old.steps)) }
         ensures pays { IfOk result (PaysEnvelope self.now.bytes.now state.old.next state.new.next
             (state.new.steps - state.old.steps)) }
         ensures fault_is_true { IfErr result (BreaksMember (declarations_of self.now.table.now)
@@ -86,7 +86,7 @@ impl<'t, 'm> Decoder<'t, 'm> {
             (resolve (declarations_of self.now.table.now).terms (ty.named entry)) place
             (at_of state.old)) }
         ensures spends { Spends state.old.steps state.new.steps 0
-            (probes + (length self.now.bytes.now - state.old.next)) }
+            (1 + probes + (length self.now.bytes.now - state.old.next)) }
     {
         let e = self.table.entry(entry);
         let ordinal = u64_at(self.bytes, place);
@@ -100,6 +100,7 @@ impl<'t, 'm> Decoder<'t, 'm> {
             }
             return Ok(None);
         }
+        state.steps += 1;
         let member = self.table.member(entry, ordinal, &mut state.steps);
         if member.is_none() && e.is_strict() {
             return Err(DecodeFault::UnknownOrdinal { at: place });

@@ -7,6 +7,7 @@ use Rattle.fidl_wire.specs.Figure.{Declarations}
 use Rattle.fidl_wire.specs.Standing.{Stands}
 use Rattle.fidl_decode_model.specs.Faults.{message_of}
 use Rattle.fidl_decode_model.specs.Machine.{StateFine}
+use Rattle.fidl_decode_model.specs.Worth.{MembersWorth}
 use Rattle.fidl_decode_model.specs.Rows.{TypedRows, enc_rows}
 use Rattle.fidl_decode_model.specs.State.{Message, Position, Members, StandsAt, after_rows}
 use Rattle.fidl_decode_columns.specs.Samples.{at_start}
@@ -20,8 +21,8 @@ module _ (ds : Declarations) (m : Message) (size base done : ℕ) (from to : Pos
   pub zeros_only : Members ds m 0 size base done [] from to → (from ≡ to) × Stands m.bytes (base + done) (zeros (size - done))
   zeros_only x = at_end x.values x.typed x.stands x.end
 
-  pub only_zeros : from ≡ to → Stands m.bytes (base + done) (zeros (size - done)) → Members ds m 0 size base done [] from to
-  only_zeros e z = record { values = none; typed = tt; shallow = omega arith; stands = record { inline = z; out = tt; carried = tt }; end = sym e }
+  pub only_zeros : from ≡ to → Stands m.bytes (base + done) (zeros (size - done)) → (w : ℕ) → MembersWorth ds m 0 size base done [] from to w
+  only_zeros e z w = (record { values = none; typed = tt; shallow = omega arith; stands = record { inline = z; out = tt; carried = tt }; end = sym e }, omega arith)
 
 -- the message of the worked structs, before anything is read
 pub fine_start : StateFine (message_of (0 ∷ 5 ∷ []) []) at_start

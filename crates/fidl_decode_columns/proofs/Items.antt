@@ -70,19 +70,19 @@ module _ (t : List ℕ) (fine : IsFine t) (m : Message) (f : Frame) (old now : P
     nothing : f.base + done - (f.base + done) ≡ 0
     nothing = omega arith
 
-    pub item_takes : (below : Option Frame) (new : Position) (spent n : ℕ) → n ≤ a + 1 + spent → Visits t m f.depth e (f.base + done) now new spent below → VisitFine t m f.depth f.in_envelope e below
+    pub item_takes : (below : Option Frame) (new : Position) (spent n : ℕ) → n ≡ a + 1 + spent → Visits t m f.depth e (f.base + done) now new spent below → VisitFine t m f.depth f.in_envelope e below
         → Turns t m f old new n (record { below = below; rest = Some (going_on f behind (done + size)) })
     item_takes below new spent n le v vf =
         let is = item_size in
-        next_takes t fine m f old now a g turns row behind one tt turns.rest_fine.0.left tt below new (done + size) spent n (omega (arith, is)) (omega (arith, le)) (no_zeros m.bytes (f.base + done) _ nothing) v vf
+        next_takes t fine m f old now a g turns row behind one tt turns.rest_fine.0.left tt below new (done + size) spent n (omega (arith, is)) (omega (arith, le)) (omega (arith, le)) (no_zeros m.bytes (f.base + done) _ nothing) v vf
 
     pub item_breaks : (fault : DecodeFault) → Breaks (declarations_of t) m f.depth (resolve (declarations_of t).terms (ty.named e)) (f.base + done) now fault → BreaksFrame t m f old fault
     item_breaks fault b = next_leaf_breaks t fine m f old now a g turns row behind one tt fault (no_zeros m.bytes (f.base + done) _ nothing) b
 
   -- all elements are read: zeros to the end
   module _ (all : count ≤ i) where
-    pub items_over : (n : ℕ) → n ≤ a + (f.base + f.size - (f.base + done) + 1) → Stands m.bytes (f.base + done) (zeros (f.base + f.size - (f.base + done))) → Turns t m f old now n (left_over None)
-    items_over n le z = over_turns t fine m f old now a g turns (elements_over t e size i count done all) tt n le z
+    pub items_over : (n : ℕ) → a ≤ n → n ≤ a + (f.base + f.size - (f.base + done) + 1) → Stands m.bytes (f.base + done) (zeros (f.base + f.size - (f.base + done))) → Turns t m f old now n (left_over None)
+    items_over n some le z = over_turns t fine m f old now a g turns (elements_over t e size i count done all) tt n some le z
 
     pub items_break : (fault : DecodeFault) → IsPadding m.bytes (f.base + done) (f.base + f.size) fault → BreaksFrame t m f old fault
     items_break fault p = over_breaks t fine m f old now a g turns (elements_over t e size i count done all) tt fault p

@@ -7,3 +7,4 @@ pub mod Numbers
 pub mod Reading
 pub mod Together
 pub mod Examples
+pub mod Counted

@@ -18,10 +18,10 @@ use Rattle.fidl_decode_model.specs.Breaks.{IsPadding, BreaksField}
 use Rattle.fidl_decode_model.specs.Invariants.{IsFine}
 use Rattle.fidl_decode_model.specs.Rows.{Row, table_rows, RowsRise}
 use Rattle.fidl_decode_model.specs.State.{Message}
-use Rattle.fidl_decode_model.specs.Machine.{rows_left}
+use Rattle.fidl_decode_model.specs.Machine.{rows_left, Turns}
 use Rattle.fidl_decode_model.proofs.Rows.{rows_fit}
 use Rattle.fidl_decode_model.proofs.Visiting.{size_is, positive}
-use Rattle.fidl_decode_columns.proofs.Leaves.{going_on, turns_start, next_gap_breaks, next_leaf_breaks, next_turns, over_turns, over_breaks, rows_next}
+use Rattle.fidl_decode_columns.proofs.Leaves.{going_on, left_over, turns_start, next_gap_breaks, next_leaf_breaks, next_turns, over_turns, over_breaks, rows_next}
 use Rattle.fidl_decode_columns.specs.declared.column.Wrong.{Wrong}
 use Rattle.fidl_decode_columns.specs.declared.structs.Structs.{Structs}
 use Rattle.fidl_decode_columns.specs.Columns.{has_numbers, IsGoodAt, StructsFine, struct_at, IsReadTo, IsRead, IsBroken, IsFirstWrong, Narrows, right_before}
@@ -52,7 +52,9 @@ module _ (t : List ℕ) (fine : IsFine t) (m : Message) (x : Structs) where
   pub none_read : StructsFine t m.bytes x → (k : ℕ) → k < x.count → IsReadTo t m x x.entry.first 0 k
   none_read ok k lt s state =
       let all : x.entry.count ≡ end - x.entry.first = omega arith in
-      turns_start t m (struct_at x k) s (ok.frames k lt) state (going_on (struct_at x k) (Rows x.entry.first (end - x.entry.first)) 0) (ap (λ n. going_on (struct_at x k) (Rows x.entry.first n) 0) all)
+      let none : 0 ≡ x.entry.first - x.entry.first = omega arith in
+      subst (λ n. Turns t m (struct_at x k) s s n (left_over (Some (going_on (struct_at x k) (Rows x.entry.first (end - x.entry.first)) 0)))) none
+      (turns_start t m (struct_at x k) s (ok.frames k lt) state (going_on (struct_at x k) (Rows x.entry.first (end - x.entry.first)) 0) (ap (λ n. going_on (struct_at x k) (Rows x.entry.first n) 0) all))
 
   pub first_rise : StructsFine t m.bytes x → Rise x.entry.first 0
   first_rise ok =
@@ -63,7 +65,7 @@ module _ (t : List ℕ) (fine : IsFine t) (m : Message) (x : Structs) where
   pub rows_within : StructsFine t m.bytes x → end ≤ (header_of t).rows
   rows_within ok = (ok.frames 0 ok.some).left
 
-  module _ (index done : ℕ) (below : index < end) (rise : Rise index done) where
+  module _ (index done : ℕ) (from_first : x.entry.first ≤ index) (below : index < end) (rise : Rise index done) where
     abbrev here : Row
     here = record { offset = (row index).key; entry = (row index).entry }
 
@@ -110,7 +112,7 @@ module _ (t : List ℕ) (fine : IsFine t) (m : Message) (x : Structs) where
       gap_broken fault p s state =
           let before = row_behind in
           let to : f.base + done + ((row index).key - done) ≡ g.base + here.offset = omega (arith, before) in
-          next_gap_breaks t fine m f s s 0 g (read s state) here behind one tt fault (subst (λ n. IsPadding m.bytes (f.base + done) n fault) to p)
+          next_gap_breaks t fine m f s s (index - x.entry.first) g (read s state) here behind one tt fault (subst (λ n. IsPadding m.bytes (f.base + done) n fault) to p)
 
       module _ (gap : Stands m.bytes (f.base + done) (zeros ((row index).key - done))) where
         clear : Stands m.bytes (g.base + g.done) (zeros (g.base + here.offset - (g.base + g.done)))
@@ -123,7 +125,7 @@ module _ (t : List ℕ) (fine : IsFine t) (m : Message) (x : Structs) where
           -- so does a number that is no value
           pub number_broken : (fault : DecodeFault) → BreaksField m (term_as kind t (header_of t) (entry_at t (row index).entry)) (f.base + (row index).key) fault → IsBroken t m x k fault
           number_broken fault b s state =
-              next_leaf_breaks t fine m f s s 0 g (read s state) here behind one tt fault clear
+              next_leaf_breaks t fine m f s s (index - x.entry.first) g (read s state) here behind one tt fault clear
               (bad_breaks t fine m f.depth (row index).entry (f.base + (row index).key) s row_known state (ok.frames k lt).depth kind is numbers fault b)
 
           -- behind one that is a value the struct is read up to the next row
@@ -133,10 +135,10 @@ module _ (t : List ℕ) (fine : IsFine t) (m : Message) (x : Structs) where
               let room = (ok.frames k lt).room in
               let rows = rows_within ok in
               let v = good_visits t fine m f.depth (row index).entry (f.base + (row index).key) s row_known state (ok.frames k lt).depth kind is numbers (omega (arith, fits, room)) small good in
-              next_turns t fine m f s s 0 g (read s state) here behind one tt (omega (arith, below, rows)) tt s ((row index).key + own_size index) 0 0 refl (omega arith) clear v
+              next_turns t fine m f s s (index - x.entry.first) g (read s state) here behind one tt (omega (arith, below, rows)) tt s ((row index).key + own_size index) 0 (index + 1 - x.entry.first) refl (omega (arith, from_first)) (omega (arith, from_first)) clear v
 
   -- all rows are read: zeros to the end
-  module _ (index done k : ℕ) (over : end ≤ index) (read : IsReadTo t m x index done k) (fits : done ≤ x.entry.size) where
+  module _ (index done k : ℕ) (over : index ≡ end) (read : IsReadTo t m x index done k) (fits : done ≤ x.entry.size) where
     abbrev whole : Frame
     whole = struct_at x k
 
@@ -149,12 +151,12 @@ module _ (t : List ℕ) (fine : IsFine t) (m : Message) (x : Structs) where
     pub end_broken : (fault : DecodeFault) → IsPadding m.bytes (whole.base + done) (whole.base + done + (x.entry.size - done)) fault → IsBroken t m x k fault
     end_broken fault p s state =
         let to : whole.base + done + (x.entry.size - done) ≡ last.base + last.size = omega (arith, fits) in
-        over_breaks t fine m whole s s 0 last (read s state) none tt fault (subst (λ n. IsPadding m.bytes (whole.base + done) n fault) to p)
+        over_breaks t fine m whole s s (index - x.entry.first) last (read s state) none tt fault (subst (λ n. IsPadding m.bytes (whole.base + done) n fault) to p)
 
     pub end_read : Stands m.bytes (whole.base + done) (zeros (x.entry.size - done)) → IsRead t m x k
     end_read z s state =
         let wide : x.entry.size - done ≡ last.base + last.size - (last.base + last.done) = omega (arith, fits) in
-        over_turns t fine m whole s s 0 last (read s state) none tt 0 (omega arith) (subst (λ n. Stands m.bytes (whole.base + done) (zeros n)) wide z)
+        over_turns t fine m whole s s (index - x.entry.first) last (read s state) none tt x.entry.count (omega (arith, over)) (omega (arith, over)) (subst (λ n. Stands m.bytes (whole.base + done) (zeros n)) wide z)
 
   -- the gap between two places of each struct is looked at
   abbrev Gap : (from to k : ℕ) → Type 0
@@ -163,9 +165,9 @@ module _ (t : List ℕ) (fine : IsFine t) (m : Message) (x : Structs) where
   abbrev GapFails : (from to k : ℕ) → DecodeFault → Type 0
   GapFails from to k = IsPadding m.bytes (x.base + x.entry.size * k + from) (x.base + x.entry.size * k + from + (to - from))
 
-  module _ (index done : ℕ) (below : index < end) (rise : Rise index done) (known front : Option Wrong) (all : IsFirstWrong (IsReadTo t m x index done) (IsBroken t m x) x.count known) (gaps : Narrows (Gap done (row index).key) (GapFails done (row index).key) x.count known front) where
+  module _ (index done : ℕ) (from_first : x.entry.first ≤ index) (below : index < end) (rise : Rise index done) (known front : Option Wrong) (all : IsFirstWrong (IsReadTo t m x index done) (IsBroken t m x) x.count known) (gaps : Narrows (Gap done (row index).key) (GapFails done (row index).key) x.count known front) where
     middle : IsFirstWrong (λ k. IsReadTo t m x index done k × Gap done (row index).key k) (IsBroken t m x) x.count front
-    middle = narrowed (IsReadTo t m x index done) (Gap done (row index).key) (λ k. IsReadTo t m x index done k × Gap done (row index).key k) (IsBroken t m x) (GapFails done (row index).key) x.count (λ k lt r z. (r, z)) (λ k lt r fault p. gap_broken index done below rise k r fault p)
+    middle = narrowed (IsReadTo t m x index done) (Gap done (row index).key) (λ k. IsReadTo t m x index done k × Gap done (row index).key k) (IsBroken t m x) (GapFails done (row index).key) x.count (λ k lt r z. (r, z)) (λ k lt r fault p. gap_broken index done from_first below rise k r fault p)
         known front all gaps
 
     pub front_le : right_before x.count front ≤ x.count
@@ -182,10 +184,10 @@ module _ (t : List ℕ) (fine : IsFine t) (m : Message) (x : Structs) where
       pub row_checked : (answer : Option Wrong) → Narrows Good Bad x.count front answer → IsFirstWrong (IsReadTo t m x (index + 1) ((row index).key + own_size index)) (IsBroken t m x) x.count answer
       row_checked answer new =
           narrowed (λ k. IsReadTo t m x index done k × Gap done (row index).key k) Good (IsReadTo t m x (index + 1) ((row index).key + own_size index)) (IsBroken t m x) Bad x.count
-          (λ k lt r g. number_read index done below rise k r.0 r.1 ok lt kind is numbers small g) (λ k lt r fault b. number_broken index done below rise k r.0 r.1 ok lt kind is numbers fault b) front answer middle new
+          (λ k lt r g. number_read index done from_first below rise k r.0 r.1 ok lt kind is numbers small g) (λ k lt r fault b. number_broken index done from_first below rise k r.0 r.1 ok lt kind is numbers fault b) front answer middle new
 
   -- behind all rows
-  pub end_checked : (index done : ℕ) → end ≤ index → done ≤ x.entry.size → (known answer : Option Wrong) → IsFirstWrong (IsReadTo t m x index done) (IsBroken t m x) x.count known → Narrows (Gap done x.entry.size) (GapFails done x.entry.size) x.count known answer
+  pub end_checked : (index done : ℕ) → index ≡ end → done ≤ x.entry.size → (known answer : Option Wrong) → IsFirstWrong (IsReadTo t m x index done) (IsBroken t m x) x.count known → Narrows (Gap done x.entry.size) (GapFails done x.entry.size) x.count known answer
       → IsFirstWrong (IsRead t m x) (IsBroken t m x) x.count answer
   end_checked index done over fits known answer all gaps =
       narrowed (IsReadTo t m x index done) (Gap done x.entry.size) (IsRead t m x) (IsBroken t m x) (GapFails done x.entry.size) x.count

@@ -20,7 +20,8 @@ use Rattle.fidl_decode_model.specs.Invariants.{IsFine}
 use Rattle.fidl_decode_model.specs.Rows.{element_rows, RowsRise}
 use Rattle.fidl_decode_model.specs.State.{Message, Position}
 use Rattle.fidl_decode_model.specs.Machine.{IsInside, StateFine, FrameFine, Visits, Turns, BreaksFrame, inline_work, frame_work}
-use Rattle.fidl_decode_model.proofs.Visiting.{size_is, visits_struct, struct_fine}
+use Rattle.fidl_decode_model.proofs.Visiting.{size_is, positive, visits_struct, struct_fine}
+use Rattle.fidl_decode_model.proofs.Turning.{raised}
 use Rattle.fidl_decode_columns.proofs.Leaves.{going_on, left_over, same_frame, turns_start}
 use Rattle.fidl_decode_columns.proofs.Items.{item_takes, item_breaks, items_over, items_break}
 use Rattle.fidl_decode_columns.proofs.Wholly.{visits_over}
@@ -37,12 +38,12 @@ elements_fit ds n nest all e size is (suc count) done rise =
     omega (arith, on, more)
 
 -- steps for which the bytes of a frame pay
-pub pays : (nest all size done count zs n : ℕ) → done + size * count + zs ≤ all → n ≤ 17 * (count * size) + zs + 1 → n ≤ inline_work nest * (all - done) + 1
+pub pays : (nest all size done count zs n : ℕ) → done + size * count + zs ≤ all → n ≤ 18 * (count * size) + zs + 1 → n ≤ inline_work nest * (all - done) + 1
 pays nest all size done count zs n fits le =
     let turned : count * size ≡ size * count = omega arith in
-    let many : 17 ≤ inline_work nest = omega arith in
+    let many : 18 ≤ inline_work nest = omega arith in
     let bytes : size * count + zs ≤ all - done = omega (arith, fits) in
-    omega (arith, turned, le, bytes, mul-le-mul_left 17 bytes, mul-le-mul_left (all - done) many)
+    omega (arith, turned, le, bytes, mul-le-mul_left 18 bytes, mul-le-mul_left (all - done) many)
 
 -- so many structs of an entry that a frame begins with
 abbrev pub structs_of : Frame → (count : ℕ) → Entry → Structs
@@ -67,15 +68,19 @@ module _ (t : List ℕ) (fine : IsFine t) (m : Message) (f : Frame) (old : Posit
   pub structs_fit : f.done + size * count ≤ f.size
   structs_fit = elements_fit (declarations_of t) (header_of t).entries f.nest f.size e size as_left.left count f.done as_left.rise
 
-  -- what the rows and the zeros behind the structs take is within the frame's work
-  pub within_work : (mid begun : ℕ) → mid ≤ begun + 17 * (count * d.size) → mid + (f.base + f.size - (f.base + f.done + size * count) + 1) ≤ begun + frame_work f
+  -- a struct has a byte at least
+  some_size : count ≤ count * size
+  some_size = let one : 1 ≤ size = omega (arith, positive t fine e lt, as_left.left) in omega (arith, mul-le-mul_left count one)
+
+  -- what the structs, their rows and the zeros behind them take is within the frame's work
+  pub within_work : (mid begun : ℕ) → mid ≤ begun + 17 * (count * d.size) → mid + (count + (f.base + f.size - (f.base + f.done + size * count)) + 1) ≤ begun + frame_work f
   within_work mid begun le =
       let fits = structs_fit in
       let zs = f.base + f.size - (f.base + f.done + size * count) in
       let all : f.done + size * count + zs ≤ f.size = omega (arith, fits) in
       let alike : count * d.size ≡ count * size = ap (λ n. count * n) own_size in
-      let paid = pays f.nest f.size size f.done count zs (17 * (count * size) + zs + 1) all (omega arith) in
-      omega (arith, le, alike, paid)
+      let paid = pays f.nest f.size size f.done count zs (18 * (count * size) + zs + 1) all (omega arith) in
+      omega (arith, le, alike, paid, some_size)
 
   -- the structs that the frame begins with
   abbrev pub x : Structs
@@ -106,43 +111,56 @@ module _ (t : List ℕ) (fine : IsFine t) (m : Message) (f : Frame) (old : Posit
   begun : (k : ℕ) → k < count → Visits t m f.depth e (f.base + f.done + d.size * k) old old 0 (Some (struct_at x k))
   begun k before = visits_struct t fine m f.depth e (f.base + f.done + d.size * k) old lt state ff.depth f.in_envelope 0 refl kind (struct_within k before)
 
-  visited : (k : ℕ) → k < count → IsRead t m x k → Visits t m f.depth e (f.base + (f.done + size * k)) old old 0 None
-  visited k before read = subst (λ p. Visits t m f.depth e p old old 0 None) (sym (place k)) (visits_over t m f.depth e (f.base + f.done + d.size * k) old old 0 (struct_at x k) (begun k before) old 0 0 (omega arith) (read old state))
+  visited : (k : ℕ) → k < count → IsRead t m x k → Visits t m f.depth e (f.base + (f.done + size * k)) old old d.count None
+  visited k before read = subst (λ p. Visits t m f.depth e p old old d.count None) (sym (place k)) (visits_over t m f.depth e (f.base + f.done + d.size * k) old old 0 (struct_at x k) (begun k before) old d.count d.count (omega arith) (read old state))
 
-  -- the first n are read
-  read_up_to : (n : ℕ) → n ≤ count → ((k : ℕ) → k < n → IsRead t m x k) → Turns t m f old old 0 (left_over (Some (going_on f (Elements e size (count - n)) (f.done + size * n))))
+  -- the first n are read, a step for each and one for each of its rows
+  read_up_to : (n : ℕ) → n ≤ count → ((k : ℕ) → k < n → IsRead t m x k) → Turns t m f old old (n * (1 + d.count)) (left_over (Some (going_on f (Elements e size (count - n)) (f.done + size * n))))
   read_up_to zero le reads =
       let all : count ≡ count - 0 = omega arith in
       let none : f.done ≡ f.done + size * 0 = omega arith in
-      turns_start t m f old ff state (going_on f (Elements e size (count - 0)) (f.done + size * 0)) (same ∙ (λ i. going_on f (Elements e size (all i)) (none i)))
+      let nothing : 0 ≡ 0 * (1 + d.count) = omega arith in
+      subst (λ k. Turns t m f old old k (left_over (Some (going_on f (Elements e size (count - 0)) (f.done + size * 0))))) nothing
+      (turns_start t m f old ff state (going_on f (Elements e size (count - 0)) (f.done + size * 0)) (same ∙ (λ i. going_on f (Elements e size (all i)) (none i))))
   read_up_to (suc n) le reads =
       let before = read_up_to n (omega (arith, le)) (λ k less. reads k (omega (arith, less))) in
-      let next = item_takes t fine m f old old 0 e size count n (f.done + size * n) before (omega (arith, le)) None old 0 0 (omega arith) (visited n (omega (arith, le)) (reads n (omega arith))) tt in
+      let next = item_takes t fine m f old old (n * (1 + d.count)) e size count n (f.done + size * n) before (omega (arith, le)) None old d.count (n * (1 + d.count) + 1 + d.count) refl (visited n (omega (arith, le)) (reads n (omega arith))) tt in
       let fewer : count - (n + 1) ≡ count - suc n = omega arith in
       let more : size * suc n ≡ size * n + size = mul-suc size n in
       let there : f.done + size * n + size ≡ f.done + size * suc n = omega (arith, more) in
-      subst (λ (g : Frame). Turns t m f old old 0 (left_over (Some g))) (λ i. going_on f (Elements e size (fewer i)) (there i)) next
+      let steps : n * (1 + d.count) + 1 + d.count ≡ suc n * (1 + d.count) = omega arith in
+      let whole : Turns t m f old old (n * (1 + d.count) + 1 + d.count) (left_over (Some (going_on f (Elements e size (count - (n + 1))) (f.done + size * n + size)))) ≡ Turns t m f old old (suc n * (1 + d.count)) (left_over (Some (going_on f (Elements e size (count - suc n)) (f.done + size * suc n))))
+      = λ i. Turns t m f old old (steps i) (left_over (Some (going_on f (Elements e size (fewer i)) (there i)))) in
+      subst (λ (X : Type 0). X) whole next
 
   -- steps for which the frame pays
-  spent : (n : ℕ) → n ≤ frame_work f → Turns t m f old old 0 (left_over None) → Turns t m f old old n (left_over None)
-  spent n le turns = record { same = turns.same; breaks = turns.breaks; state = turns.state; below_fine = turns.below_fine; rest_fine = turns.rest_fine; less = omega (arith, le) }
+  spent : (a n : ℕ) → a ≤ n → n ≤ frame_work f → Turns t m f old old a (left_over None) → Turns t m f old old n (left_over None)
+  spent a n some le turns = record {
+    same = turns.same;
+    breaks = turns.breaks;
+    least = λ to mid v w y z. raised t m f old to (v + w + a) (v + w + n) (omega (arith, some)) (turns.least to mid v w y z);
+    state = turns.state;
+    below_fine = turns.below_fine;
+    rest_fine = turns.rest_fine;
+    less = omega (arith, le);
+  }
 
   module _ (reads : (k : ℕ) → k < count → IsRead t m x k) where
-    all_turns : Turns t m f old old 0 (left_over (Some (going_on f (Elements e size (count - count)) (f.done + size * count))))
+    all_turns : Turns t m f old old (count * (1 + d.count)) (left_over (Some (going_on f (Elements e size (count - count)) (f.done + size * count))))
     all_turns = read_up_to count (omega arith) reads
 
     there_end : f.base + f.done + size * count ≡ f.base + (f.done + size * count)
     there_end = omega arith
 
     -- all are read, and zeros to the end
-    pub all_read : (n : ℕ) → n ≤ frame_work f → Stands m.bytes (f.base + f.done + size * count) (zeros (f.base + f.size - (f.base + f.done + size * count))) → Turns t m f old old n (left_over None)
-    all_read n le z = spent n le (items_over t fine m f old old 0 e size count count (f.done + size * count) all_turns (omega arith) 0 (omega arith) (subst (λ p. Stands m.bytes p (zeros (f.base + f.size - p))) there_end z))
+    pub all_read : (n : ℕ) → count * (1 + d.count) ≤ n → n ≤ frame_work f → Stands m.bytes (f.base + f.done + size * count) (zeros (f.base + f.size - (f.base + f.done + size * count))) → Turns t m f old old n (left_over None)
+    all_read n some le z = spent (count * (1 + d.count)) n some le (items_over t fine m f old old (count * (1 + d.count)) e size count count (f.done + size * count) all_turns (omega arith) (count * (1 + d.count)) (omega arith) (omega arith) (subst (λ p. Stands m.bytes p (zeros (f.base + f.size - p))) there_end z))
 
     pub end_breaks : (fault : DecodeFault) → IsPadding m.bytes (f.base + f.done + size * count) (f.base + f.size) fault → BreaksFrame t m f old fault
-    end_breaks fault p = items_break t fine m f old old 0 e size count count (f.done + size * count) all_turns (omega arith) fault (subst (λ q. IsPadding m.bytes q (f.base + f.size) fault) there_end p)
+    end_breaks fault p = items_break t fine m f old old (count * (1 + d.count)) e size count count (f.done + size * count) all_turns (omega arith) fault (subst (λ q. IsPadding m.bytes q (f.base + f.size) fault) there_end p)
 
   -- the first that is wrong breaks the frame
   pub one_breaks : (n : ℕ) → n < count → ((k : ℕ) → k < n → IsRead t m x k) → (fault : DecodeFault) → IsBroken t m x n fault → BreaksFrame t m f old fault
   one_breaks n before reads fault broken =
-      item_breaks t fine m f old old 0 e size count n (f.done + size * n) (read_up_to n (omega (arith, before)) reads) before fault
+      item_breaks t fine m f old old (n * (1 + d.count)) e size count n (f.done + size * n) (read_up_to n (omega (arith, before)) reads) before fault
       (subst (λ p. Breaks (declarations_of t) m f.depth (resolve (declarations_of t).terms (ty.named e)) p old fault) (sym (place n)) ((begun n before).breaks fault (broken old state)))

@@ -21,13 +21,14 @@ leaf_cost t fine m next e lt =
 
 module _ (t : List ℕ) (m : Message) (held e place : ℕ) (old mid : Position) (a : ℕ) (g : Frame) (v : Visits t m held e place old mid a (Some g)) where
   -- what a visit leaves is read to its end
-  pub visits_over : (new : Position) (b n : ℕ) → n ≤ a + b → Turns t m g mid new b (left_over None) → Visits t m held e place old new n None
+  pub visits_over : (new : Position) (b n : ℕ) → n ≡ a + b → Turns t m g mid new b (left_over None) → Visits t m held e place old new n None
   visits_over new b n le turns = record {
     same = λ to. (
       (λ x. let p = (turns.same to).0 ((v.same to).0 x) in subst (λ (s : Position). s ≡ to) (sym p.1) p.2),
       (λ y. (v.same to).1 ((turns.same to).1 (new, refl, y))),
     );
     breaks = λ fault b. absurd b;
+    least = λ to w y. let x = v.least to (0 + w + b) (turns.least to new 0 w refl y) in let worth = x.1 in (x.0, omega (arith, worth, le));
     state = turns.state;
     less = omega (arith, le, v.less, turns.less);
   }

@@ -111,20 +111,20 @@ pub record StructsFine (t m : List ℕ) (x : Structs) : Type 0 where
   pub within : x.base + x.entry.size * x.count ≤ length m
   pub frames : (k : ℕ) → k < x.count → FrameFine t m (struct_at x k)
 
--- the struct with this number is read up to this row, and so many of its bytes
+-- the struct with this number is read up to this row, and so many of its bytes, a step a row
 abbrev pub IsReadTo : List ℕ → Message → Structs → (row done k : ℕ) → Type 0
 IsReadTo t m x row done k = (s : Position) → StateFine m s
-    → Turns t m (struct_at x k) s s 0
+    → Turns t m (struct_at x k) s s (row - x.entry.first)
     (record {
       below = None;
       rest =
           Some (behind_rows (struct_at x k) row (x.entry.first + x.entry.count - row) done);
     })
 
--- it is read to its end
+-- it is read to its end, a step a row
 abbrev pub IsRead : List ℕ → Message → Structs → (k : ℕ) → Type 0
 IsRead t m x k = (s : Position) → StateFine m s
-    → Turns t m (struct_at x k) s s 0 (record { below = None; rest = None })
+    → Turns t m (struct_at x k) s s x.entry.count (record { below = None; rest = None })
 
 -- it breaks a rule
 abbrev pub IsBroken : List ℕ → Message → Structs → (k : ℕ) → DecodeFault → Type 0

@@ -79,7 +79,7 @@ impl<'t, 'm> Columns<'t, 'm> {
         }
         let behind = structs.base + size * count as usize;
         let stop = frame.base + frame.size;
-        state.steps += (stop - behind) as u64 + 1;
+        state.steps += u64::from(count) + (stop - behind) as u64 + 1;
         zeros_at(self.bytes, behind, stop)?;
         Ok(true)
     }

@@ -1,5 +1,6 @@
 //! Structs that stand behind one another, checked row after row.
-ghost use Rattle.std.specs.Prelude.{◌≡◌, ℕ, ◌+◌, ◌-◌, ◌*◌, ◌^◌, ◌<◌, ◌≤◌, Some, length};
+ghost use Rattle.std.specs.Prelude.{◌≡◌, ℕ, ◌+◌, ◌-◌, ◌*◌, ◌^◌, ◌<◌, ◌≤◌, Some, None, IfNone};
+ghost use Rattle.std.specs.Prelude.{length};
 ghost use Rattle.fidl_wire.specs.Encoding.{zeros};
 ghost use Rattle.fidl_wire.specs.Standing.{Stands};
 ghost use Rattle.fidl_table_format.specs.declared.kind.EntryKind.{EntryKind};
@@ -106,6 +107,7 @@ impl<'t, 'm> Columns<'t, 'm> {
             × Narrows (λ k. IsGoodAt t self.now.bytes.now e kind (at k))
             (λ k. BreaksField (message_of self.now.bytes.now self.now.handles.now)
             (term_as kind t (header_of t) e) (at k)) structs.now.count known result }
+        ensures least { IfNone result (steps.old + structs.now.count ≤ steps.new) }
         ensures grows { steps.old ≤ steps.new }
         ensures cost { steps.new ≤ steps.old + 17 * structs.now.count }
     {
@@ -155,6 +157,8 @@ impl<'t, 'm> Columns<'t, 'm> {
             IsFirstWrong (IsReadTo t m structs.now (index + 1)
             (r.key + (entry_at t r.entry).size))
             (IsBroken t m structs.now) structs.now.count result }
+        ensures least { IfNone result
+            ((known ≡ None) × (steps.old + structs.now.count ≤ steps.new)) }
         ensures grows { steps.old ≤ steps.new }
         ensures cost { let t = self.now.table.now in
             steps.new ≤ steps.old + structs.now.count
@@ -177,6 +181,8 @@ impl<'t, 'm> Columns<'t, 'm> {
         ensures value { let m = message_of self.now.bytes.now self.now.handles.now in
             IsFirstWrong (IsRead self.now.table.now m structs.now)
             (IsBroken self.now.table.now m structs.now) structs.now.count result }
+        ensures least { IfNone result
+            (steps.old + structs.now.count * structs.now.entry.count ≤ steps.new) }
         ensures grows { steps.old ≤ steps.new }
         ensures cost { steps.new
             ≤ steps.old + 17 * (structs.now.count * structs.now.entry.size) }

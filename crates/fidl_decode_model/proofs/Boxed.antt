@@ -27,6 +27,8 @@ use Rattle.fidl_decode_model.specs.State.{Message, Position, linked, after, afte
 use Rattle.fidl_decode_model.specs.Breaks.{Part, Object, object_of, member_parts, BreaksBox, BreaksRule, Breaks, BreaksParts}
 use Rattle.fidl_decode_model.specs.Breaks as broken
 use Rattle.fidl_decode_model.specs.Machine.{row_parts, StateFine, Visits, VisitFine}
+use Rattle.fidl_decode_model.specs.Work.{values_work}
+use Rattle.fidl_decode_model.specs.Worth.{ValueWorth}
 use Rattle.fidl_decode_model.proofs.After.{length-pad8}
 use Rattle.fidl_decode_model.proofs.Stated.{typed_rows, rows_typed, enc_rows-table, depth_rows-table, after_rows-table, table_rise, table_parts}
 use Rattle.fidl_decode_model.proofs.Visiting.{fine_as, term_is, figure_is, size_as}
@@ -56,17 +58,21 @@ module _ (ds : Declarations) (laid : IsLaidOut ds) (m : Message) (held : ℕ) (u
       only (fields vs) h d s e = inr (record { values = vs; struct = h.0; typed = h.1; shallow = omega (arith, d); ones = s.inline; out = s.out; carried = s.carried; end = e })
       only _ h d s e = absurd h
 
-  pub values_box : (to : Position) → Boxed (resolve ds.terms u) to → ValueAt ds m held (ty.box u) place from to
-  values_box to b = record {
-    value = fields b.values;
-    typed = (b.struct, b.typed);
-    shallow = (let d = b.shallow in omega (arith, d));
-    stands = record { inline = b.ones; out = b.out; carried = b.carried };
-    end = b.end;
-  }
+  -- a box is worth one more than the members of its content
+  pub worth_box : (to : Position) → (b : Boxed (resolve ds.terms u) to) → (w : ℕ) → values_work b.values ≤ w → ValueWorth ds m held (ty.box u) place from to (w + 1)
+  worth_box to b w le = (
+    record {
+      value = fields b.values;
+      typed = (b.struct, b.typed);
+      shallow = (let d = b.shallow in omega (arith, d));
+      stands = record { inline = b.ones; out = b.out; carried = b.carried };
+      end = b.end;
+    },
+    omega (arith, le),
+  )
 
-  pub absent_box : Stands m.bytes place (zeros 8) → held ≤ MAX_DEPTH → ValueAt ds m held (ty.box u) place from from
-  absent_box z deep = record { value = absent; typed = tt; shallow = omega arith; stands = record { inline = z; out = tt; carried = tt }; end = refl }
+  pub absent_box : Stands m.bytes place (zeros 8) → held ≤ MAX_DEPTH → ValueWorth ds m held (ty.box u) place from from 1
+  absent_box z deep = (record { value = absent; typed = tt; shallow = omega arith; stands = record { inline = z; out = tt; carried = tt }; end = refl }, omega arith)
 
   -- the content of a present box fits the message
   boxed_room : (w : Term) (to : Position) → Boxed w to → padded_size (size_of ds (ty.struct (fields_of w))) ≤ length m.bytes - from.next
@@ -168,23 +174,25 @@ module _ (t : List ℕ) (fine : IsFine t) (m : Message) (held e place : ℕ) (fr
         };
       }
 
-  opened_boxes : (to : Position) → Opened ds m held place size rs from to → Boxed ds fine.laid_out m held u place from (ty.struct fs) to
+  opened_boxes : (to : Position) → (o : Opened ds m held place size rs from to) → (b : Boxed ds fine.laid_out m held u place from (ty.struct fs) to) × (values_work b.values ≤ values_work o.members.values)
   opened_boxes to o =
       let y = o.members in
       let vs = y.values in
       let same = enc_rows-table t inner.first inner.count size 0 vs keys in
       let deep = depth_rows-table t inner.first inner.count vs in
-      let long = ap (λ (x : Encoding). length x.inline) same ∙ inline_is ds fine.laid_out h.entries inner.nest size rs box_rise vs y.typed in
-      record {
-        values = vs;
-        struct = tt;
-        typed = rows_typed t inner.first inner.count vs y.typed;
-        shallow = omega (arith, y.shallow, deep);
-        ones = o.ones;
-        out = subst (λ (x : Encoding). Stands m.bytes from.next (object x)) (sym same) (object_stands ds fine.laid_out h.entries inner.nest size rs box_rise vs y.typed m place from y.stands);
-        carried = subst (λ (x : Encoding). Carries m.handles from.handle x.handles) (sym same) (object_carries ds fine.laid_out h.entries inner.nest size rs box_rise vs y.typed m place from y.stands);
-        end = y.end ∙ sym (after_rows-table t inner.first inner.count 0 vs from.next (linked place size from) keys) ∙ sym (ap (λ n. after_fields ds fs 0 vs from.next (linked place n from)) long);
-      }
+      let long = ap (λ (x : Encoding). length x.inline) same ∙ inline_is ds fine.laid_out h.entries inner.nest size rs box_rise vs y.typed in (
+        record {
+          values = vs;
+          struct = tt;
+          typed = rows_typed t inner.first inner.count vs y.typed;
+          shallow = omega (arith, y.shallow, deep);
+          ones = o.ones;
+          out = subst (λ (x : Encoding). Stands m.bytes from.next (object x)) (sym same) (object_stands ds fine.laid_out h.entries inner.nest size rs box_rise vs y.typed m place from y.stands);
+          carried = subst (λ (x : Encoding). Carries m.handles from.handle x.handles) (sym same) (object_carries ds fine.laid_out h.entries inner.nest size rs box_rise vs y.typed m place from y.stands);
+          end = y.end ∙ sym (after_rows-table t inner.first inner.count 0 vs from.next (linked place size from) keys) ∙ sym (ap (λ n. after_fields ds fs 0 vs from.next (linked place n from)) long);
+        },
+        omega arith,
+      )
 
   -- a present box: its content is the next object
   pub box_item : (to : Position) → ValueAt ds m held (ty.box u) place from to → Stands m.bytes place present → Opened ds m held place size rs from to
@@ -193,8 +201,11 @@ module _ (t : List ℕ) (fine : IsFine t) (m : Message) (held e place : ℕ) (fr
     | inr y ↦ boxed_opens to (subst (λ (w : Term). Boxed ds fine.laid_out m held u place from w to) content_is y)
   ]
 
-  item_box : (to : Position) → Opened ds m held place size rs from to → ValueAt ds m held (ty.box u) place from to
-  item_box to o = values_box ds fine.laid_out m held u place from to (subst (λ (w : Term). Boxed ds fine.laid_out m held u place from w to) (sym content_is) (opened_boxes to o))
+  item_box : (to : Position) → (o : Opened ds m held place size rs from to) → (w : ℕ) → values_work o.members.values ≤ w → ValueWorth ds m held (ty.box u) place from to (w + 1)
+  item_box to o w le =
+      let b = subst (λ (t : Term). (b : Boxed ds fine.laid_out m held u place from t to) × (values_work b.values ≤ values_work o.members.values)) (sym content_is) (opened_boxes to o) in
+      let few = b.1 in
+      worth_box ds fine.laid_out m held u place from to b.0 w (omega (arith, le, few))
 
   pub box_object : (o : Object) → object_of ds m.bytes (ty.box u) place ≡ Some o → o ≡ record { marker = place; size = size; parts = row_parts rs }
   box_object o has =
@@ -213,8 +224,8 @@ module _ (t : List ℕ) (fine : IsFine t) (m : Message) (held e place : ℕ) (fr
     pub visits_absent_box : (spent : ℕ) → spent ≡ 0 → Stands m.bytes place (zeros 8) → Visits t m held e place from from spent None
     visits_absent_box spent nothing z = visits_absent t fine m held e place from lt state spent nothing (λ to. (
       (λ x. elim (box_values ds fine.laid_out m held u place from to (subst (λ (w : Term). ValueAt ds m held w place from to) own x)) [ inl y ↦ y.1 | inr y ↦ absurd (zeros_or_ones m.bytes place z y.ones) ]),
-      (λ same. subst (λ (w : Term). ValueAt ds m held w place from to) (sym own) (subst (λ (s : Position). ValueAt ds m held (ty.box u) place from s) same (absent_box ds fine.laid_out m held u place from z deep))),
-    ))
+      (λ same. subst (λ (w : Term). ValueAt ds m held w place from to) (sym own) (subst (λ (s : Position). ValueAt ds m held (ty.box u) place from s) same (absent_box ds fine.laid_out m held u place from z deep).0)),
+    )) (subst (λ (w : Term). ValueWorth ds m held w place from from 1) (sym own) (absent_box ds fine.laid_out m held u place from z deep))
 
     pub visits_box : (spent : ℕ) → spent ≡ 0 → Stands m.bytes place present → held < MAX_DEPTH → padded_size inner.size ≤ length m.bytes - from.next
         → Visits t m held e place from (linked place inner.size from) spent (Some (object_frame (Rows inner.first inner.count) inner.size inner.nest held from))
@@ -226,8 +237,9 @@ module _ (t : List ℕ) (fine : IsFine t) (m : Message) (held e place : ℕ) (fr
         (visits_object t fine m held e place from lt state place size inner.nest (Rows inner.first inner.count) spent nothing tt (omega (arith, small)) shallow room'
         (λ to. (
           (λ x. (box_item to (subst (λ (w : Term). ValueAt ds m held w place from to) own x) ones).members),
-          (λ y. subst (λ (w : Term). ValueAt ds m held w place from to) (sym own) (item_box to (record { ones = ones; shallow = omega (arith, shallow); room = room'; members = y }))),
+          (λ y. subst (λ (w : Term). ValueAt ds m held w place from to) (sym own) (item_box to (record { ones = ones; shallow = omega (arith, shallow); room = room'; members = y }) (values_work y.values) (omega arith)).0),
         ))
+        (λ to w y. subst (λ (u : Term). ValueWorth ds m held u place from to (w + 1)) (sym own) (item_box to (record { ones = ones; shallow = omega (arith, shallow); room = room'; members = y.0 }) w y.1))
         (λ fault b. subst (λ (w : Term). Breaks ds m held w place from fault) (sym own)
         (broken.in_object (ty.box u) place from fault (let x : Object = record { marker = place; size = size_of ds (ty.struct (fields_of (resolve ds.terms u))); parts = member_parts ds 0 (fields_of (resolve ds.terms u)) } in x) refl ones
         (box_right ds fine.laid_out m held u place from ones shallow (omega (arith, room, ap padded_size rule_size)))

@@ -16,6 +16,7 @@ use Rattle.fidl_wire.proofs.Sizes.{le-next_multiple_of}
 use Rattle.fidl_wire.proofs.Stand.{stands_front, stands_back}
 use Rattle.fidl_decode_model.specs.declared.fault.DecodeFault.{DecodeFault}
 use Rattle.fidl_decode_model.specs.declared.fault.DecodeFault.TheVariants.{BadMarker, AbsentRequired, BadCount, OverBound, TooDeep, Truncated, BadEnvelope, UnknownOrdinal}
+use Rattle.fidl_decode_model.specs.Worth.{ValueWorth}
 use Rattle.fidl_decode_model.specs.State.{Message, Position, linked, envelope_place, after, StandsAt, ValueAt, Slots}
 use Rattle.fidl_decode_model.specs.Envelopes.{Contained, CanHold, IsRightEnvelope}
 use Rattle.fidl_decode_model.specs.Breaks.{count_at, ordinal_at, BreaksTable, BreaksUnion, IsRight, BreaksEnvelopes, BreaksMember, at_member, behind_none, behind_member}
@@ -87,8 +88,8 @@ module _ (ds : Declarations) (m : Message) (held : ℕ) (optional strict : Bool)
   pub union_absent : (to : Position) → ordinal_at m.bytes place ≡ 0 → ValueAt ds m held (ty.union optional strict rows) place from to → Absent to
   union_absent to none x = elim (union_values to x) [ inl y ↦ y | inr c ↦ absurd (omega (arith, c.some, none)) ]
 
-  pub absent_union : IsTrue optional → Stands m.bytes place (zeros 16) → held ≤ MAX_DEPTH → ValueAt ds m held (ty.union optional strict rows) place from from
-  absent_union may z deep = record { value = absent; typed = may; shallow = omega arith; stands = record { inline = z; out = tt; carried = tt }; end = refl }
+  pub absent_union : IsTrue optional → Stands m.bytes place (zeros 16) → held ≤ MAX_DEPTH → ValueWorth ds m held (ty.union optional strict rows) place from from 1
+  absent_union may z deep = (record { value = absent; typed = may; shallow = omega arith; stands = record { inline = z; out = tt; carried = tt }; end = refl }, omega arith)
 
   -- with one it is the member in its envelope
   pub union_chosen : (to : Position) → (ordinal_at m.bytes place ≢ 0) → ValueAt ds m held (ty.union optional strict rows) place from to → Chosen to

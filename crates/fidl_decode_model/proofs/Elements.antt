@@ -11,7 +11,9 @@ use Rattle.fidl_wire.specs.Depth.{depth_of, elements_depth}
 use Rattle.fidl_decode_model.specs.Rows.{element_rows, TypedRows, enc_rows, depth_rows, RowsRise}
 use Rattle.fidl_decode_model.specs.State.{Message, Position, after, after_elements, after_rows, StandsAt, ValueAt, Members}
 use Rattle.fidl_decode_model.specs.Breaks.{Part, element_parts}
+use Rattle.fidl_decode_model.specs.Work.{values_work}
 use Rattle.fidl_decode_model.specs.Machine.{row_parts}
+use Rattle.fidl_decode_model.specs.Worth.{ValueWorth, MembersWorth}
 
 module _ (ds : Declarations) (e : ℕ) where
   abbrev term : Term
@@ -91,17 +93,23 @@ module _ (ds : Declarations) (e : ℕ) where
             }
         only _ h d s end = absurd h
 
-    pub item_array : Members ds m held (size * n) place 0 (element_rows e size n 0) from to → ValueAt ds m held (ty.array (ty.named e) n) place from to
-    item_array y =
+    -- an array is worth one more than its elements
+    pub worth_array : (w : ℕ) → MembersWorth ds m held (size * n) place 0 (element_rows e size n 0) from to w → ValueWorth ds m held (ty.array (ty.named e) n) place from to (w + 1)
+    worth_array w (y, le) =
         let t = elements_typed n 0 y.values y.typed in
         let flat : 0 + size * n ≡ size * n = omega arith in
         let same = sym (enc_rows-elements n 0 y.values t.0 ∙ ap (λ k. enc_rows ds k 0 (element_rows e size n 0) y.values) flat) in
         let deep = depth_rows-elements n 0 y.values t.0 in
-        let none_more : place + 0 ≡ place = omega arith in
-        record {
-          value = list y.values;
-          typed = t;
-          shallow = omega (arith, y.shallow, deep);
-          stands = subst (λ (x : Encoding). StandsAt m x place from) same (subst (λ (p : ℕ). StandsAt m (enc_rows ds (size * n) 0 (element_rows e size n 0) y.values) p from) none_more y.stands);
-          end = y.end ∙ sym (after_rows-elements n 0 place y.values from t.0) ∙ ap (λ p. after_elements ds term size y.values p from) none_more;
-        }
+        let none_more : place + 0 ≡ place = omega arith in (
+          record {
+            value = list y.values;
+            typed = t;
+            shallow = omega (arith, y.shallow, deep);
+            stands = subst (λ (x : Encoding). StandsAt m x place from) same (subst (λ (p : ℕ). StandsAt m (enc_rows ds (size * n) 0 (element_rows e size n 0) y.values) p from) none_more y.stands);
+            end = y.end ∙ sym (after_rows-elements n 0 place y.values from t.0) ∙ ap (λ p. after_elements ds term size y.values p from) none_more;
+          },
+          omega (arith, le),
+        )
+
+    pub item_array : Members ds m held (size * n) place 0 (element_rows e size n 0) from to → ValueAt ds m held (ty.array (ty.named e) n) place from to
+    item_array y = (worth_array (values_work y.values) (y, omega arith)).0

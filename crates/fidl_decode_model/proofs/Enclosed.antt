@@ -17,6 +17,8 @@ use Rattle.fidl_wire.proofs.Sizes.{size_of-resolve, length-inline, length-envelo
 use Rattle.fidl_wire.proofs.Stand.{stands_to, stands_front, stands_back, stands_both}
 use Rattle.fidl_wire.proofs.Unique.{no_out}
 use Rattle.fidl_decode_model.specs.State.{Message, Position, passed, opened, member_at, begun, envelope_place, after, after_member, after_envelopes, StandsAt, ValueAt, Slots}
+use Rattle.fidl_decode_model.specs.Work.{member_work, members_work}
+use Rattle.fidl_decode_model.specs.Worth.{ContainedWorth, SlotsWorth}
 use Rattle.fidl_decode_model.specs.Envelopes.{Contained, depth_within}
 use Rattle.fidl_wire.specs.Envelope.{bytes_below, handles_below, flags_at}
 use Rattle.fidl_decode_model.specs.Faults.{IsWithin}
@@ -298,73 +300,87 @@ module _ (ds : Declarations) (laid : IsLaidOut ds) (m : Message) (held : ℕ) (r
             inr (at_next ordinal same y ms h.2 h.3 d s' e)
       ]
 
-  -- what stands behind zeros, or behind a member, are the members from there on
-  pub step_slots : (read : ℕ) (from to : Position) → read < n → Step read from to → Slots ds m held rows read n base from to
-  step_slots read from to lt step = elim step [ inl z ↦ behind_zeros z.0 z.1.members z.1.typed z.1.shallow z.1.stands z.1.end | inr b ↦ behind_member b ]
-    where
-      here : envelope_place base (suc read) ≡ base + 8 * read
-      here = omega arith
+  -- members behind zeros, and behind a member
+  module _ (read : ℕ) (lt : read < n) where
+    here : envelope_place base (suc read) ≡ base + 8 * read
+    here = omega arith
 
-      there : base + 8 * suc read ≡ base + 8 * read + 8
-      there = omega arith
+    there : base + 8 * suc read ≡ base + 8 * read + 8
+    there = omega arith
 
-      behind_zeros : Stands m.bytes (envelope_place base (suc read)) (zeros 8) → (ms : Members) → RiseTyped ds rows (suc read) n ms → members_depth ds rows ms + held ≤ MAX_DEPTH
-          → StandsAt m (envelopes ds rows (suc (suc read)) n ms) (base + 8 * suc read) from → to ≡ after_envelopes ds rows ms base from → Slots ds m held rows read n base from to
-      behind_zeros z empty h d s e =
-          let rest = zeros (8 * (suc n - suc (suc read))) in
-          let first = stands_to m.bytes (envelope_place base (suc read)) (base + 8 * read) (zeros 8) here z in
-          let both = stands_both m.bytes (base + 8 * read) (zeros 8) rest first (stands_to m.bytes (base + 8 * suc read) (base + 8 * read + 8) rest there s.inline) in
-          record {
-            members = empty;
-            typed = tt;
-            shallow = d;
-            stands = record { inline = subst (λ (l : List ℕ). Stands m.bytes (base + 8 * read) l) (sym (split_zeros (suc n - suc read) (suc n - suc (suc read)) (omega (arith, lt)))) both; out = tt; carried = tt };
-            end = e;
-          }
-      behind_zeros z (member ordinal y ms) h d s e =
-          let further = h.0 in
-          let rest = joined (enveloped ds (find rows ordinal) y) (envelopes ds rows (suc ordinal) n ms) in
-          let gap = zeros (8 * (ordinal - suc (suc read))) in
-          let long = length-append (zeros 8) gap in
-          let first = stands_to m.bytes (envelope_place base (suc read)) (base + 8 * read) (zeros 8) here z in
-          let gap_there = stands_to m.bytes (base + 8 * suc read) (base + 8 * read + 8) gap there (stands_front m.bytes (base + 8 * suc read) gap rest.inline s.inline) in
-          let rest_there = stands_to m.bytes (base + 8 * suc read + length gap) (base + 8 * read + length (zeros 8 ++ gap)) rest.inline (omega (arith, long)) (stands_back m.bytes (base + 8 * suc read) gap rest.inline s.inline) in
-          let whole = stands_both m.bytes (base + 8 * read) (zeros 8 ++ gap) rest.inline (stands_both m.bytes (base + 8 * read) (zeros 8) gap first gap_there) rest_there in
-          record {
-            members = member ordinal y ms;
-            typed = (omega (arith, further), h.1, h.2, h.3);
-            shallow = d;
-            stands = record {
-              inline = subst (λ (l : List ℕ). Stands m.bytes (base + 8 * read) (l ++ rest.inline)) (sym (split_zeros (ordinal - suc read) (ordinal - suc (suc read)) (omega (arith, further)))) whole;
-              out = s.out;
-              carried = s.carried;
-            };
-            end = e;
-          }
+    pub worth_zeros : (from to : Position) → Stands m.bytes (envelope_place base (suc read)) (zeros 8) → (w : ℕ) → SlotsWorth ds m held rows (suc read) n base from to w → SlotsWorth ds m held rows read n base from to w
+    worth_zeros from to z w (x, less) = behind_zeros x.members x.typed x.shallow x.stands x.end less
+      where
+        behind_zeros : (ms : Members) → RiseTyped ds rows (suc read) n ms → members_depth ds rows ms + held ≤ MAX_DEPTH
+            → StandsAt m (envelopes ds rows (suc (suc read)) n ms) (base + 8 * suc read) from → to ≡ after_envelopes ds rows ms base from → members_work ms ≤ w → SlotsWorth ds m held rows read n base from to w
+        behind_zeros empty h d s e le =
+            let rest = zeros (8 * (suc n - suc (suc read))) in
+            let first = stands_to m.bytes (envelope_place base (suc read)) (base + 8 * read) (zeros 8) here z in
+            let both = stands_both m.bytes (base + 8 * read) (zeros 8) rest first (stands_to m.bytes (base + 8 * suc read) (base + 8 * read + 8) rest there s.inline) in (
+              record {
+                members = empty;
+                typed = tt;
+                shallow = d;
+                stands = record { inline = subst (λ (l : List ℕ). Stands m.bytes (base + 8 * read) l) (sym (split_zeros (suc n - suc read) (suc n - suc (suc read)) (omega (arith, lt)))) both; out = tt; carried = tt };
+                end = e;
+              },
+              le,
+            )
+        behind_zeros (member ordinal y ms) h d s e le =
+            let further = h.0 in
+            let rest = joined (enveloped ds (find rows ordinal) y) (envelopes ds rows (suc ordinal) n ms) in
+            let gap = zeros (8 * (ordinal - suc (suc read))) in
+            let long = length-append (zeros 8) gap in
+            let first = stands_to m.bytes (envelope_place base (suc read)) (base + 8 * read) (zeros 8) here z in
+            let gap_there = stands_to m.bytes (base + 8 * suc read) (base + 8 * read + 8) gap there (stands_front m.bytes (base + 8 * suc read) gap rest.inline s.inline) in
+            let rest_there = stands_to m.bytes (base + 8 * suc read + length gap) (base + 8 * read + length (zeros 8 ++ gap)) rest.inline (omega (arith, long)) (stands_back m.bytes (base + 8 * suc read) gap rest.inline s.inline) in
+            let whole = stands_both m.bytes (base + 8 * read) (zeros 8 ++ gap) rest.inline (stands_both m.bytes (base + 8 * read) (zeros 8) gap first gap_there) rest_there in (
+              record {
+                members = member ordinal y ms;
+                typed = (omega (arith, further), h.1, h.2, h.3);
+                shallow = d;
+                stands = record {
+                  inline = subst (λ (l : List ℕ). Stands m.bytes (base + 8 * read) (l ++ rest.inline)) (sym (split_zeros (ordinal - suc read) (ordinal - suc (suc read)) (omega (arith, further)))) whole;
+                  out = s.out;
+                  carried = s.carried;
+                };
+                end = e;
+              },
+              le,
+            )
 
-      behind_member : Behind read from to → Slots ds m held rows read n base from to
-      behind_member b =
-          let o = find rows (suc read) in
-          let y = b.contained.content in
-          let a = enveloped ds o y in
-          let ms = b.slots.members in
-          let c = envelopes ds rows (suc (suc read)) n ms in
-          let led = member_past ds laid false o y (envelope_place base (suc read)) from b.contained.typed in
-          let long = length-enveloped ds laid false o y b.contained.typed in
-          let none : 0 ≡ 8 * (suc read - suc read) = omega arith in
-          let deep = b.contained.shallow in
-          let more = b.slots.shallow in
-          let front = stands_at m a (envelope_place base (suc read)) (base + 8 * read) from here b.contained.stands in
-          let moved = stands_at m c (base + 8 * suc read) (base + 8 * read + length a.inline) b.mid (omega (arith, long)) b.slots.stands in
-          let back = stands_alike m c (base + 8 * read + length a.inline) (after_member ds o y (envelope_place base (suc read)) from) (past a from) led (subst (λ (q : Position). StandsAt m c (base + 8 * read + length a.inline) q) b.contained.end moved) in
-          let both = joined_stands m a c (base + 8 * read) from front back in
+    pub worth_member : (from mid to : Position) (a b : ℕ) → ContainedWorth ds m held (find rows (suc read)) (envelope_place base (suc read)) from mid a → SlotsWorth ds m held rows (suc read) n base mid to b → SlotsWorth ds m held rows read n base from to (a + b)
+    worth_member from mid to a_work b_work (x, x_le) (z, z_le) =
+        let o = find rows (suc read) in
+        let y = x.content in
+        let a = enveloped ds o y in
+        let ms = z.members in
+        let c = envelopes ds rows (suc (suc read)) n ms in
+        let led = member_past ds laid false o y (envelope_place base (suc read)) from x.typed in
+        let long = length-enveloped ds laid false o y x.typed in
+        let none : 0 ≡ 8 * (suc read - suc read) = omega arith in
+        let deep = x.shallow in
+        let more = z.shallow in
+        let front = stands_at m a (envelope_place base (suc read)) (base + 8 * read) from here x.stands in
+        let moved = stands_at m c (base + 8 * suc read) (base + 8 * read + length a.inline) mid (omega (arith, long)) z.stands in
+        let back = stands_alike m c (base + 8 * read + length a.inline) (after_member ds o y (envelope_place base (suc read)) from) (past a from) led (subst (λ (q : Position). StandsAt m c (base + 8 * read + length a.inline) q) x.end moved) in
+        let both = joined_stands m a c (base + 8 * read) from front back in (
           record {
             members = member (suc read) y ms;
-            typed = (omega arith, omega (arith, lt), b.contained.typed, b.slots.typed);
+            typed = (omega arith, omega (arith, lt), x.typed, z.typed);
             shallow = omega (arith, deep, more);
             stands = record { inline = subst (λ k. Stands m.bytes (base + 8 * read) (zeros k ++ (joined a c).inline)) none both.inline; out = both.out; carried = both.carried };
-            end = b.slots.end ∙ ap (λ (q : Position). after_envelopes ds rows ms base q) b.contained.end;
-          }
+            end = z.end ∙ ap (λ (q : Position). after_envelopes ds rows ms base q) x.end;
+          },
+          omega (arith, x_le, z_le),
+        )
+
+  -- what stands behind zeros, or behind a member, are the members from there on
+  pub step_slots : (read : ℕ) (from to : Position) → read < n → Step read from to → Slots ds m held rows read n base from to
+  step_slots read from to lt step = elim step [
+    | inl z ↦ (worth_zeros read lt from to z.0 (members_work z.1.members) (z.1, omega arith)).0
+    | inr b ↦ (worth_member read lt from b.mid to (member_work b.contained.content) (members_work b.slots.members) (b.contained, omega arith) (b.slots, omega arith)).0
+  ]
 
   -- no envelope is left: nothing stands there
   pub slots_end : (from to : Position) → Slots ds m held rows n n base from to → from ≡ to
@@ -374,13 +390,18 @@ module _ (ds : Declarations) (laid : IsLaidOut ds) (m : Message) (held : ℕ) (r
       go empty h e = sym e
       go (member ordinal y ms) h e = absurd (omega (arith, h.0, h.1))
 
+  pub worth_end : (from : Position) → held ≤ MAX_DEPTH → (w : ℕ) → SlotsWorth ds m held rows n n base from from w
+  worth_end from deep w =
+      let none : 0 ≡ 8 * (suc n - suc n) = omega arith in (
+        record {
+          members = empty;
+          typed = tt;
+          shallow = omega arith;
+          stands = record { inline = subst (λ k. Stands m.bytes (base + 8 * n) (zeros k)) none tt; out = tt; carried = tt };
+          end = refl;
+        },
+        omega arith,
+      )
+
   pub end_slots : (from : Position) → held ≤ MAX_DEPTH → Slots ds m held rows n n base from from
-  end_slots from deep =
-      let none : 0 ≡ 8 * (suc n - suc n) = omega arith in
-      record {
-        members = empty;
-        typed = tt;
-        shallow = omega arith;
-        stands = record { inline = subst (λ k. Stands m.bytes (base + 8 * n) (zeros k)) none tt; out = tt; carried = tt };
-        end = refl;
-      }
+  end_slots from deep = (worth_end from deep 0).0

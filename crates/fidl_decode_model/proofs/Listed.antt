@@ -29,6 +29,8 @@ use Rattle.fidl_decode_model.specs.State.{Message, Position, linked, after, afte
 use Rattle.fidl_decode_model.specs.Breaks.{Part, Object, object_of, count_at, element_parts, BreaksCounted, BreaksRule, Breaks, BreaksParts}
 use Rattle.fidl_decode_model.specs.Breaks as broken
 use Rattle.fidl_decode_model.specs.Machine.{row_parts, StateFine, Visits, VisitFine}
+use Rattle.fidl_decode_model.specs.Work.{values_work}
+use Rattle.fidl_decode_model.specs.Worth.{ValueWorth}
 use Rattle.fidl_decode_model.proofs.After.{length-pad8}
 use Rattle.fidl_decode_model.proofs.Numbers.{number_64}
 use Rattle.fidl_decode_model.proofs.Scalars.{standing}
@@ -80,17 +82,21 @@ module _ (ds : Declarations) (laid : IsLaidOut ds) (m : Message) (held : ℕ) (o
       })
       only _ h d s e = absurd h
 
-  pub values_vector : (to : Position) → Listed to → ValueAt ds m held (ty.vector optional bound u) place from to
-  values_vector to l = record {
-    value = list l.values;
-    typed = (l.bounded, l.typed);
-    shallow = (let d = l.shallow in omega (arith, d));
-    stands = record { inline = stands_both m.bytes place (to_le_bytes w64 (count l.values)) present l.number l.ones; out = l.out; carried = l.carried };
-    end = l.end;
-  }
+  -- a vector is worth one more than its elements
+  pub worth_vector : (to : Position) → (l : Listed to) → (w : ℕ) → values_work l.values ≤ w → ValueWorth ds m held (ty.vector optional bound u) place from to (w + 1)
+  worth_vector to l w le = (
+    record {
+      value = list l.values;
+      typed = (l.bounded, l.typed);
+      shallow = (let d = l.shallow in omega (arith, d));
+      stands = record { inline = stands_both m.bytes place (to_le_bytes w64 (count l.values)) present l.number l.ones; out = l.out; carried = l.carried };
+      end = l.end;
+    },
+    omega (arith, le),
+  )
 
-  pub absent_vector : IsTrue optional → Stands m.bytes place (zeros 16) → held ≤ MAX_DEPTH → ValueAt ds m held (ty.vector optional bound u) place from from
-  absent_vector may z deep = record { value = absent; typed = may; shallow = omega arith; stands = record { inline = z; out = tt; carried = tt }; end = refl }
+  pub absent_vector : IsTrue optional → Stands m.bytes place (zeros 16) → held ≤ MAX_DEPTH → ValueWorth ds m held (ty.vector optional bound u) place from from 1
+  absent_vector may z deep = (record { value = absent; typed = may; shallow = omega arith; stands = record { inline = z; out = tt; carried = tt }; end = refl }, omega arith)
 
   pub absent_back : Stands m.bytes place (zeros 16) → Stands m.bytes (place + 8) (zeros 8)
   absent_back z = stands_back m.bytes place (zeros 8) (zeros 8) z
@@ -225,7 +231,7 @@ module _ (t : List ℕ) (fine : IsFine t) (m : Message) (held e place : ℕ) (fr
         };
       }
 
-  opened_lists : (to : Position) → n ≤ d.bound → place + 8 ≤ length m.bytes → ((i : ℕ) → get_or m.bytes i 0 < 256) → Opened ds m held (place + 8) (size * n) rs from to → List_of to
+  opened_lists : (to : Position) → n ≤ d.bound → place + 8 ≤ length m.bytes → ((i : ℕ) → get_or m.bytes i 0 < 256) → (o : Opened ds m held (place + 8) (size * n) rs from to) → (l : List_of to) × (values_work l.values ≤ values_work o.members.values)
   opened_lists to le room small o =
       let y = o.members in
       let vs = y.values in
@@ -234,24 +240,32 @@ module _ (t : List ℕ) (fine : IsFine t) (m : Message) (held e place : ℕ) (fr
       let same = same_rows vs c in
       let deep = depth_rows-elements ds d.first n 0 vs c in
       let long = ap (λ (x : Encoding). length x.inline) same ∙ inline_is ds fine.laid_out h.entries (inner.nest + 1) (size * n) rs vector_rise vs y.typed in
-      let none_more : from.next ≡ from.next + 0 = omega arith in
-      record {
-        values = vs;
-        typed = t'.1;
-        bounded = omega (arith, le, c);
-        shallow = omega (arith, y.shallow, deep);
-        number = subst (λ k. Stands m.bytes place (to_le_bytes w64 k)) (sym c) (standing uint64 m.bytes place room small).1;
-        ones = o.ones;
-        out = subst (λ (x : Encoding). Stands m.bytes from.next (object x)) (sym same) (object_stands ds fine.laid_out h.entries (inner.nest + 1) (size * n) rs vector_rise vs y.typed m (place + 8) from y.stands);
-        carried = subst (λ (x : Encoding). Carries m.handles from.handle x.handles) (sym same) (object_carries ds fine.laid_out h.entries (inner.nest + 1) (size * n) rs vector_rise vs y.typed m (place + 8) from y.stands);
-        end = y.end ∙ sym (after_rows-elements ds d.first n 0 from.next vs (linked (place + 8) (size * n) from) c)
-            ∙ sym (ap (λ p. after_elements ds (resolve ds.terms (ty.named d.first)) size vs p (linked (place + 8) (size * n) from)) none_more)
-            ∙ sym (ap (λ k. after_elements ds (resolve ds.terms (ty.named d.first)) size vs from.next (linked (place + 8) k from)) long);
-      }
+      let none_more : from.next ≡ from.next + 0 = omega arith in (
+        record {
+          values = vs;
+          typed = t'.1;
+          bounded = omega (arith, le, c);
+          shallow = omega (arith, y.shallow, deep);
+          number = subst (λ k. Stands m.bytes place (to_le_bytes w64 k)) (sym c) (standing uint64 m.bytes place room small).1;
+          ones = o.ones;
+          out = subst (λ (x : Encoding). Stands m.bytes from.next (object x)) (sym same) (object_stands ds fine.laid_out h.entries (inner.nest + 1) (size * n) rs vector_rise vs y.typed m (place + 8) from y.stands);
+          carried = subst (λ (x : Encoding). Carries m.handles from.handle x.handles) (sym same) (object_carries ds fine.laid_out h.entries (inner.nest + 1) (size * n) rs vector_rise vs y.typed m (place + 8) from y.stands);
+          end = y.end ∙ sym (after_rows-elements ds d.first n 0 from.next vs (linked (place + 8) (size * n) from) c)
+              ∙ sym (ap (λ p. after_elements ds (resolve ds.terms (ty.named d.first)) size vs p (linked (place + 8) (size * n) from)) none_more)
+              ∙ sym (ap (λ k. after_elements ds (resolve ds.terms (ty.named d.first)) size vs from.next (linked (place + 8) k from)) long);
+        },
+        omega arith,
+      )
 
   -- a present vector: its elements are the next object
   pub vector_item : (to : Position) → ValueAt ds m held vector place from to → Stands m.bytes (place + 8) present → Opened ds m held (place + 8) (size * n) rs from to
   vector_item to x ones = listed_opens to (present_list ds fine.laid_out m held (is_optional d) d.bound few (ty.named d.first) place from to x ones)
+
+  item_vector : (to : Position) → n ≤ d.bound → place + 8 ≤ length m.bytes → ((i : ℕ) → get_or m.bytes i 0 < 256) → (o : Opened ds m held (place + 8) (size * n) rs from to) → (w : ℕ) → values_work o.members.values ≤ w → ValueWorth ds m held vector place from to (w + 1)
+  item_vector to le room small o w less =
+      let l = opened_lists to le room small o in
+      let few' = l.1 in
+      worth_vector ds fine.laid_out m held (is_optional d) d.bound few (ty.named d.first) place from to l.0 w (omega (arith, less, few'))
 
   pub vector_object : (o : Object) → object_of ds m.bytes vector place ≡ Some o → o ≡ record { marker = place + 8; size = size * n; parts = row_parts rs }
   vector_object o has =
@@ -261,15 +275,17 @@ module _ (t : List ℕ) (fine : IsFine t) (m : Message) (held e place : ℕ) (fr
   own = term_is t fine e Vector lt is
 
   module _ (state : StateFine m from) (deep : held ≤ MAX_DEPTH) where
+    no_vector : IsTrue (is_optional d) → Stands m.bytes (place + 8) (zeros 8) → place + 8 ≤ length m.bytes → ((i : ℕ) → get_or m.bytes i 0 < 256) → n ≡ 0 → ValueWorth ds m held vector place from from 1
+    no_vector may z room small none = absent_vector ds fine.laid_out m held (is_optional d) d.bound few (ty.named d.first) place from may (stands_both m.bytes place (zeros 8) (zeros 8) (subst (λ k. Stands m.bytes place (to_le_bytes w64 k)) none (standing uint64 m.bytes place room small).1) z) deep
+
     pub visits_absent_vector : (spent : ℕ) → spent ≡ 0 → IsTrue (is_optional d) → Stands m.bytes (place + 8) (zeros 8) → place + 8 ≤ length m.bytes → ((i : ℕ) → get_or m.bytes i 0 < 256) → n ≡ 0 → Visits t m held e place from from spent None
     visits_absent_vector spent nothing may z room small none = visits_absent t fine m held e place from lt state spent nothing (λ to. (
       (λ x. elim (vector_values ds fine.laid_out m held (is_optional d) d.bound few (ty.named d.first) place from to (subst (λ (w : Term). ValueAt ds m held w place from to) own x)) [
         | inl y ↦ y.2
         | inr l ↦ absurd (zeros_or_ones m.bytes (place + 8) z l.ones)
       ]),
-      (λ same. subst (λ (w : Term). ValueAt ds m held w place from to) (sym own) (subst (λ (s : Position). ValueAt ds m held vector place from s) same
-          (absent_vector ds fine.laid_out m held (is_optional d) d.bound few (ty.named d.first) place from may (stands_both m.bytes place (zeros 8) (zeros 8) (subst (λ k. Stands m.bytes place (to_le_bytes w64 k)) none (standing uint64 m.bytes place room small).1) z) deep))),
-    ))
+      (λ same. subst (λ (w : Term). ValueAt ds m held w place from to) (sym own) (subst (λ (s : Position). ValueAt ds m held vector place from s) same (no_vector may z room small none).0)),
+    )) (subst (λ (w : Term). ValueWorth ds m held w place from from 1) (sym own) (no_vector may z room small none))
 
     pub visits_vector : (spent : ℕ) → spent ≡ 0 → Stands m.bytes (place + 8) present → held < MAX_DEPTH → n ≤ d.bound → padded_size (inner.size * n) ≤ length m.bytes - from.next → place + 8 ≤ length m.bytes → ((i : ℕ) → get_or m.bytes i 0 < 256)
         → Visits t m held e place from (linked (place + 8) (inner.size * n) from) spent (Some (object_frame (Elements d.first inner.size n) (inner.size * n) (inner.nest + 1) held from))
@@ -281,9 +297,9 @@ module _ (t : List ℕ) (fine : IsFine t) (m : Message) (held e place : ℕ) (fr
         (visits_object t fine m held e place from lt state (place + 8) (size * n) (inner.nest + 1) (Elements d.first size n) spent nothing tt (omega (arith, small_nest)) shallow room'
         (λ to. (
           (λ x. (vector_item to (subst (λ (w : Term). ValueAt ds m held w place from to) own x) ones).members),
-          (λ y. subst (λ (w : Term). ValueAt ds m held w place from to) (sym own)
-              (values_vector ds fine.laid_out m held (is_optional d) d.bound few (ty.named d.first) place from to (opened_lists to le here small (record { ones = ones; shallow = shallow; room = room'; members = y })))),
+          (λ y. subst (λ (w : Term). ValueAt ds m held w place from to) (sym own) (item_vector to le here small (record { ones = ones; shallow = shallow; room = room'; members = y }) (values_work y.values) (omega arith)).0),
         ))
+        (λ to w y. subst (λ (u : Term). ValueWorth ds m held u place from to (w + 1)) (sym own) (item_vector to le here small (record { ones = ones; shallow = shallow; room = room'; members = y.0 }) w y.1))
         (λ fault b. subst (λ (w : Term). Breaks ds m held w place from fault) (sym own)
         (broken.in_object vector place from fault (let x : Object = record { marker = place + 8; size = size * n; parts = element_parts ds (ty.named d.first) n 0 } in x) refl ones
         (vector_right ds fine.laid_out m held (is_optional d) d.bound few (ty.named d.first) place from ones shallow le room')

@@ -25,9 +25,10 @@ use Rattle.fidl_decode_model.specs.Rows.{Row, TypedRows, enc_rows, RowsRise}
 use Rattle.fidl_decode_model.specs.State.{Message, Position, linked, StandsAt, ValueAt, Members}
 use Rattle.fidl_decode_model.specs.Breaks.{Breaks, BreaksParts}
 use Rattle.fidl_decode_model.specs.Machine.{rows_left, row_parts, IsPlain, LeftFine, StateFine, Visits, VisitFine, most_nest, inline_work, byte_work}
+use Rattle.fidl_decode_model.specs.Worth.{ValueWorth, MembersWorth}
 use Rattle.fidl_decode_model.proofs.After.{length-pad8}
 use Rattle.fidl_decode_model.proofs.Rows.{rows_fit, length-entry}
-use Rattle.fidl_decode_model.proofs.Turning.{plain_reads, plain_breaks, plain_fits}
+use Rattle.fidl_decode_model.proofs.Turning.{plain_reads, plain_worth, plain_breaks, plain_fits}
 use Rattle.fidl_decode_model.proofs.Visiting.{work_none}
 
 -- the size of an object with its padding
@@ -161,21 +162,29 @@ module _ (t : List ℕ) (fine : IsFine t) (m : Message) (held e place : ℕ) (fr
   ds = declarations_of t
 
   -- nothing is there
-  pub visits_absent : (spent : ℕ) → spent ≡ 0 → ((to : Position) → ValueAt ds m held (resolve ds.terms (ty.named e)) place from to ↔ (from ≡ to)) → Visits t m held e place from from spent None
-  visits_absent spent nothing same = record { same = same; breaks = λ fault b. absurd b; state = state; less = omega (arith, nothing) }
+  pub visits_absent : (spent : ℕ) → spent ≡ 0 → ((to : Position) → ValueAt ds m held (resolve ds.terms (ty.named e)) place from to ↔ (from ≡ to)) → ValueWorth ds m held (resolve ds.terms (ty.named e)) place from from 1 → Visits t m held e place from from spent None
+  visits_absent spent nothing same there = record {
+    same = same;
+    breaks = λ fault b. absurd b;
+    least = λ to w y. subst (λ (s : Position). ValueWorth ds m held (resolve ds.terms (ty.named e)) place from s (w + spent + 1)) y (let le = there.1 in (there.0, omega (arith, le)));
+    state = state;
+    less = omega (arith, nothing);
+  }
 
   -- the object is left to read
   pub visits_object : (marker size nest : ℕ) (left : Remaining) (spent : ℕ) → spent ≡ 0 → IsPlain left → nest ≤ most_nest → held < MAX_DEPTH → padded_size size ≤ length m.bytes - from.next
       → ((to : Position) → ValueAt ds m held (resolve ds.terms (ty.named e)) place from to ↔ Members ds m (held + 1) (padded_size size) from.next 0 (rows_left t 0 left) (linked marker size from) to)
+      → ((to : Position) (w : ℕ) → MembersWorth ds m (held + 1) (padded_size size) from.next 0 (rows_left t 0 left) (linked marker size from) to w → ValueWorth ds m held (resolve ds.terms (ty.named e)) place from to (w + 1))
       → ((fault : DecodeFault) → BreaksParts ds m (held + 1) (padded_size size) from.next 0 (row_parts (rows_left t 0 left)) (linked marker size from) fault → Breaks ds m held (resolve ds.terms (ty.named e)) place from fault)
       → Visits t m held e place from (linked marker size from) spent (Some (object_frame left size nest held from))
-  visits_object marker size nest left spent nothing plain deep shallow room same breaks =
+  visits_object marker size nest left spent nothing plain deep shallow room same least breaks =
       let within = state.next in
       record {
         same = λ to. (
           (λ x. (plain_reads t m (object_frame left size nest held from) left plain (linked marker size from) to).1 ((same to).0 x)),
           (λ y. (same to).1 ((plain_reads t m (object_frame left size nest held from) left plain (linked marker size from) to).0 y)),
         );
+        least = λ to w y. let x = least to w ((plain_worth t m (object_frame left size nest held from) left plain (linked marker size from) to w).0 y) in let le = x.1 in (x.0, omega (arith, le));
         breaks = λ fault b. breaks fault ((plain_breaks t m (object_frame left size nest held from) left plain (linked marker size from) fault).0 b);
         state = record { next = omega (arith, within, room); handle = state.handle; few = state.few };
         less = omega (arith, nothing, object_work (length m.bytes) (padded_size size) nest deep, split_work (length m.bytes) from.next (padded_size size) room);

@@ -13,6 +13,8 @@ use Rattle.fidl_wire.specs.Standing.{Stands}
 use Rattle.fidl_wire.proofs.Sizes.{length-inline, size_of-resolve}
 use Rattle.fidl_wire.proofs.Stand.{stands_front, stands_back, stands_both, carries_front, carries_back, carries_both}
 use Rattle.fidl_decode_model.specs.Rows.{Row, TypedRows, enc_rows, depth_rows, RowsRise}
+use Rattle.fidl_decode_model.specs.Work.{Work, values_work}
+use Rattle.fidl_decode_model.specs.Worth.{ValueWorth, MembersWorth}
 use Rattle.fidl_decode_model.specs.State.{Message, Position, after, after_rows, StandsAt, ValueAt, Members}
 use Rattle.fidl_decode_model.proofs.After.{past, after_past, stands_alike}
 
@@ -46,29 +48,36 @@ module _ (ds : Declarations) (laid : IsLaidOut ds) where
   length-entry e v h = length-inline ds laid (resolve ds.terms (ty.named e)) v h ∙ size_of-resolve ds laid (ty.named e)
 
   module _ (m : Message) (held : ℕ) where
-    -- no members are left: zeros
-    pub members_end : (size base done : ℕ) (from to : Position) → held ≤ MAX_DEPTH → Members ds m held size base done [] from to ↔ ((from ≡ to) × Stands m.bytes (base + done) (zeros (size - done)))
-    members_end size base done from to deep = (
-      λ x. at_end x.values x.typed x.stands x.end,
-      λ y. record { values = none; typed = tt; shallow = none_deep held deep; stands = record { inline = y.1; out = tt; carried = tt }; end = sym y.0 },
+    -- no members are worth nothing
+    pub worth_none : (size base done : ℕ) (from to : Position) → held ≤ MAX_DEPTH → (from ≡ to) → Stands m.bytes (base + done) (zeros (size - done)) → (w : ℕ) → MembersWorth ds m held size base done [] from to w
+    worth_none size base done from to deep same z w = (
+      record { values = none; typed = tt; shallow = none_deep held deep; stands = record { inline = z; out = tt; carried = tt }; end = sym same },
+      omega arith,
     )
       where
         none_deep : (n : ℕ) → n ≤ MAX_DEPTH → 0 + n ≤ MAX_DEPTH
         none_deep n h = omega arith
 
+    -- no members are left: zeros
+    pub members_end : (size base done : ℕ) (from to : Position) → held ≤ MAX_DEPTH → Members ds m held size base done [] from to ↔ ((from ≡ to) × Stands m.bytes (base + done) (zeros (size - done)))
+    members_end size base done from to deep = (
+      λ x. at_end x.values x.typed x.stands x.end,
+      λ y. (worth_none size base done from to deep y.0 y.1 0).0,
+    )
+      where
         at_end : (vs : Values) → TypedRows ds [] vs → StandsAt m (enc_rows ds size done [] vs) (base + done) from → to ≡ after_rows ds [] vs base from → (from ≡ to) × Stands m.bytes (base + done) (zeros (size - done))
         at_end none h s e = (sym e, s.inline)
         at_end (value v vs) h s e = absurd h
 
     -- a member behind zeros, and those after it
-    pub members_more : (n nest size base done : ℕ) (r : Row) (rs : List Row) (from to : Position) → RowsRise ds n nest size done (r ∷ rs) → Members ds m held size base done (r ∷ rs) from to
-        → Stands m.bytes (base + done) (zeros (r.offset - done)) × ((mid : Position) × ValueAt ds m held (resolve ds.terms (ty.named r.entry)) (base + r.offset) from mid × Members ds m held size base (r.offset + size_of ds (ty.named r.entry)) rs mid to)
-    members_more n nest size base done r rs from to f x = apart x.values x.typed x.shallow x.stands x.end
+    pub worth_apart : (n nest size base done : ℕ) (r : Row) (rs : List Row) (from to : Position) → RowsRise ds n nest size done (r ∷ rs) → (w : ℕ) → MembersWorth ds m held size base done (r ∷ rs) from to w
+        → Stands m.bytes (base + done) (zeros (r.offset - done)) × ((mid : Position) × (a : ℕ) × (b : ℕ) × ValueWorth ds m held (resolve ds.terms (ty.named r.entry)) (base + r.offset) from mid a × MembersWorth ds m held size base (r.offset + size_of ds (ty.named r.entry)) rs mid to b × (a + b ≤ w))
+    worth_apart n nest size base done r rs from to f w (x, le) = apart x.values x.typed x.shallow x.stands x.end le
       where
-        apart : (vs : Values) → TypedRows ds (r ∷ rs) vs → depth_rows ds (r ∷ rs) vs + held ≤ MAX_DEPTH → StandsAt m (enc_rows ds size done (r ∷ rs) vs) (base + done) from → to ≡ after_rows ds (r ∷ rs) vs base from
-            → Stands m.bytes (base + done) (zeros (r.offset - done)) × ((mid : Position) × ValueAt ds m held (resolve ds.terms (ty.named r.entry)) (base + r.offset) from mid × Members ds m held size base (r.offset + size_of ds (ty.named r.entry)) rs mid to)
-        apart none h d s e = absurd h
-        apart (value v vs) h d s e =
+        apart : (vs : Values) → TypedRows ds (r ∷ rs) vs → depth_rows ds (r ∷ rs) vs + held ≤ MAX_DEPTH → StandsAt m (enc_rows ds size done (r ∷ rs) vs) (base + done) from → to ≡ after_rows ds (r ∷ rs) vs base from → values_work vs ≤ w
+            → Stands m.bytes (base + done) (zeros (r.offset - done)) × ((mid : Position) × (a : ℕ) × (b : ℕ) × ValueWorth ds m held (resolve ds.terms (ty.named r.entry)) (base + r.offset) from mid a × MembersWorth ds m held size base (r.offset + size_of ds (ty.named r.entry)) rs mid to b × (a + b ≤ w))
+        apart none h d s e less = absurd h
+        apart (value v vs) h d s e less =
             let next = r.offset + size_of ds (ty.named r.entry) in
             let g = inline_only (zeros (r.offset - done)) in
             let a = encoding_of ds (resolve ds.terms (ty.named r.entry)) v in
@@ -85,20 +94,31 @@ module _ (ds : Declarations) (laid : IsLaidOut ds) where
               one.0.inline,
               (
                 mid,
-                record { value = v; typed = h.0; shallow = omega (arith, d); stands = two.0; end = refl },
-                record {
-                  values = vs;
-                  typed = h.1;
-                  shallow = omega (arith, d);
-                  stands = stands_alike m b (base + next) (past a from) mid (sym led.0, sym led.1) (stands_at m b (base + r.offset + length a.inline) (base + next) (past a from) (omega arith) two.1);
-                  end = e;
-                },
+                Work v,
+                values_work vs,
+                (record { value = v; typed = h.0; shallow = omega (arith, d); stands = two.0; end = refl }, omega arith),
+                (
+                  record {
+                    values = vs;
+                    typed = h.1;
+                    shallow = omega (arith, d);
+                    stands = stands_alike m b (base + next) (past a from) mid (sym led.0, sym led.1) (stands_at m b (base + r.offset + length a.inline) (base + next) (past a from) (omega arith) two.1);
+                    end = e;
+                  },
+                  omega arith,
+                ),
+                less,
               ),
             )
 
-    pub more_members : (n nest size base done : ℕ) (r : Row) (rs : List Row) (from mid to : Position) → RowsRise ds n nest size done (r ∷ rs)
-        → Stands m.bytes (base + done) (zeros (r.offset - done)) → ValueAt ds m held (resolve ds.terms (ty.named r.entry)) (base + r.offset) from mid → Members ds m held size base (r.offset + size_of ds (ty.named r.entry)) rs mid to → Members ds m held size base done (r ∷ rs) from to
-    more_members n nest size base done r rs from mid to f z x y =
+    pub members_more : (n nest size base done : ℕ) (r : Row) (rs : List Row) (from to : Position) → RowsRise ds n nest size done (r ∷ rs) → Members ds m held size base done (r ∷ rs) from to
+        → Stands m.bytes (base + done) (zeros (r.offset - done)) × ((mid : Position) × ValueAt ds m held (resolve ds.terms (ty.named r.entry)) (base + r.offset) from mid × Members ds m held size base (r.offset + size_of ds (ty.named r.entry)) rs mid to)
+    members_more n nest size base done r rs from to f x = let p = worth_apart n nest size base done r rs from to f (values_work x.values) (x, omega arith) in (p.0, (p.1.0, p.1.3.0, p.1.4.0))
+
+    -- they are worth together what each is
+    pub worth_more : (n nest size base done : ℕ) (r : Row) (rs : List Row) (from mid to : Position) → RowsRise ds n nest size done (r ∷ rs)
+        → Stands m.bytes (base + done) (zeros (r.offset - done)) → (a b : ℕ) → ValueWorth ds m held (resolve ds.terms (ty.named r.entry)) (base + r.offset) from mid a → MembersWorth ds m held size base (r.offset + size_of ds (ty.named r.entry)) rs mid to b → MembersWorth ds m held size base done (r ∷ rs) from to (a + b)
+    worth_more n nest size base done r rs from mid to f z a_work b_work (x, x_le) (y, y_le) =
         let next = r.offset + size_of ds (ty.named r.entry) in
         let g = inline_only (zeros (r.offset - done)) in
         let a = encoding_of ds (resolve ds.terms (ty.named r.entry)) x.value in
@@ -111,11 +131,17 @@ module _ (ds : Declarations) (laid : IsLaidOut ds) where
         let led = after_past ds laid u x.value (base + r.offset) from x.typed in
         let b_there : StandsAt m b (base + r.offset + length a.inline) mid = stands_at m b (base + next) (base + r.offset + length a.inline) mid (omega arith) y.stands in
         let both = joined_stands m a b (base + r.offset) from x.stands (stands_alike m b (base + r.offset + length a.inline) (after ds u x.value (base + r.offset) from) (past a from) led (subst (λ (q : Position). StandsAt m b (base + r.offset + length a.inline) q) x.end b_there)) in
-        let moved = subst (λ (p : ℕ). StandsAt m (joined a b) p from) here both in
-        record {
-          values = value x.value y.values;
-          typed = (x.typed, y.typed);
-          shallow = omega (arith, x.shallow, y.shallow);
-          stands = joined_stands m g (joined a b) (base + done) from (record { inline = z; out = tt; carried = tt }) (subst (λ (q : Position). StandsAt m (joined a b) (base + done + length g.inline) q) (sym (past_inline (zeros (r.offset - done)) from)) moved);
-          end = y.end ∙ ap (λ (q : Position). after_rows ds rs y.values base q) x.end;
-        }
+        let moved = subst (λ (p : ℕ). StandsAt m (joined a b) p from) here both in (
+          record {
+            values = value x.value y.values;
+            typed = (x.typed, y.typed);
+            shallow = omega (arith, x.shallow, y.shallow);
+            stands = joined_stands m g (joined a b) (base + done) from (record { inline = z; out = tt; carried = tt }) (subst (λ (q : Position). StandsAt m (joined a b) (base + done + length g.inline) q) (sym (past_inline (zeros (r.offset - done)) from)) moved);
+            end = y.end ∙ ap (λ (q : Position). after_rows ds rs y.values base q) x.end;
+          },
+          omega (arith, x_le, y_le),
+        )
+
+    pub more_members : (n nest size base done : ℕ) (r : Row) (rs : List Row) (from mid to : Position) → RowsRise ds n nest size done (r ∷ rs)
+        → Stands m.bytes (base + done) (zeros (r.offset - done)) → ValueAt ds m held (resolve ds.terms (ty.named r.entry)) (base + r.offset) from mid → Members ds m held size base (r.offset + size_of ds (ty.named r.entry)) rs mid to → Members ds m held size base done (r ∷ rs) from to
+    more_members n nest size base done r rs from mid to f z x y = (worth_more n nest size base done r rs from mid to f z (Work x.value) (values_work y.values) (x, omega arith) (y, omega arith)).0

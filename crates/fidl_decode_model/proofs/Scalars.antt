@@ -4,16 +4,17 @@ use Rattle.fidl_limits.specs.declared.limits.TheConstants.{MAX_DEPTH}
 use Rattle.std.proofs.Math.Facts.{sfits_to_z}
 use Rattle.std.proofs.lemmas.Int.{of_z-to_z}
 use Rattle.std.proofs.lemmas.Nat.{le_bytes_2, le_bytes_4, le_bytes_8}
-use Rattle.std.specs.Prelude.{Option, IfSome, Contains}
+use Rattle.std.specs.Prelude.{Bool, Option, IfSome, Contains}
 use Rattle.std.specs.Int.{Width, w8, w16, w32, w64, byte_len, from_le_bytes, to_le_bytes, cast_signed, cast_unsigned}
 use mir.Val.{bits}
-use Rattle.fidl_wire.specs.Value.{Value, bool, number}
+use Rattle.fidl_wire.specs.Value.{Value, absent, bool, number, handle}
 use Rattle.fidl_wire.specs.Term.{Term, Kind, int8, int16, int32, int64, uint8, uint16, uint32, uint64, width}
 use Rattle.fidl_wire.specs.Term as ty
 use Rattle.fidl_wire.specs.Figure.{Declarations, size_of}
 use Rattle.fidl_wire.specs.Typed.{IsTyped, InRange, InMask}
 use Rattle.fidl_wire.specs.Encoding.{Encoding, inline_only, kind_of, number_bytes, encoding_of}
 use Rattle.fidl_wire.specs.Standing.{Stands}
+use Rattle.fidl_decode_model.specs.Work.{Work}
 use Rattle.fidl_decode_model.specs.State.{Message, Position, after, StandsAt, ValueAt}
 use Rattle.fidl_table_format.specs.Number.{number_standing}
 use Rattle.fidl_decode_model.proofs.Numbers.{number_is}
@@ -108,6 +109,20 @@ standing kind m place room small =
     let s : Stands m place (number_bytes kind r.0) = subst (λ (l : List ℕ). Stands m place l) (sym r.2) (bytes_stand m place n room) in
     let is : number_standing kind m place ≡ r.0 = number_is kind m place r.0 r.1 s in
     (subst (λ z. InRange kind z) (sym is) r.1, subst (λ z. Stands m place (number_bytes kind z)) (sym is) s)
+
+-- ---- what the values of a leaf are worth
+
+pub light_number : (ds : Declarations) (u : Term) (kind : Kind) (P : ℤ → Type 0) → Numeric ds u kind P → (v : Value) → IsTyped ds u v → Work v ≡ 0
+light_number ds u kind P numeric v h = ap (λ (v : Value). Work v) (numeric.only v h).1
+
+pub light_bool : (ds : Declarations) (v : Value) → IsTyped ds ty.bool v → Work v ≤ 1
+light_bool ds (bool b) h = omega arith
+light_bool ds _ h = absurd h
+
+pub light_handle : (ds : Declarations) (optional : Bool) (subtype rights : ℕ) (v : Value) → IsTyped ds (ty.handle optional subtype rights) v → Work v ≤ 1
+light_handle ds optional subtype rights (handle info) h = omega arith
+light_handle ds optional subtype rights absent h = omega arith
+light_handle ds optional subtype rights _ h = absurd h
 
 module _ (ds : Declarations) (m : Message) (held place : ℕ) (from : Position) where
   module _ (u : Term) (kind : Kind) (P : ℤ → Type 0) (numeric : Numeric ds u kind P) where

@@ -18,7 +18,9 @@ use Rattle.fidl_decode_model.specs.Invariants.{Keys}
 use Rattle.fidl_decode_model.specs.Rows.{Row, table_rows, element_rows, TypedRows, enc_rows, depth_rows, RowsRise}
 use Rattle.fidl_decode_model.specs.State.{Message, Position, after, after_fields, after_rows, StandsAt, ValueAt, Members}
 use Rattle.fidl_decode_model.specs.Breaks.{Part, member_parts}
+use Rattle.fidl_decode_model.specs.Work.{values_work}
 use Rattle.fidl_decode_model.specs.Machine.{row_parts}
+use Rattle.fidl_decode_model.specs.Worth.{ValueWorth, MembersWorth}
 
 -- ---- the numbers below n, by place
 
@@ -148,20 +150,26 @@ module _ (t : List ℕ) where
             }
         only _ h d s e = absurd h
 
-    pub item_struct : (let ds = declarations_of t in Members ds m held (size_of ds (ty.struct (fields_from t (header_of t) first n))) place 0 (table_rows t (header_of t) first n) from to → ValueAt ds m held (ty.struct (fields_from t (header_of t) first n)) place from to)
-    item_struct y =
+    -- a struct is worth one more than its members
+    pub worth_struct : (w : ℕ) → (let ds = declarations_of t in MembersWorth ds m held (size_of ds (ty.struct (fields_from t (header_of t) first n))) place 0 (table_rows t (header_of t) first n) from to w → ValueWorth ds m held (ty.struct (fields_from t (header_of t) first n)) place from to (w + 1))
+    worth_struct w (y, le) =
         let ds = declarations_of t in
         let fs = fields_from t (header_of t) first n in
         let same = sym (enc_rows-table first n (size_of ds (ty.struct fs)) 0 y.values k) in
         let deep = depth_rows-table first n y.values in
-        let none_more : place + 0 ≡ place = omega arith in
-        record {
-          value = fields y.values;
-          typed = rows_typed first n y.values y.typed;
-          shallow = omega (arith, y.shallow, deep);
-          stands = subst (λ (x : Encoding). StandsAt m x place from) same (subst (λ (p : ℕ). StandsAt m (enc_rows ds (size_of ds (ty.struct fs)) 0 (table_rows t (header_of t) first n) y.values) p from) none_more y.stands);
-          end = y.end ∙ sym (after_rows-table first n 0 y.values place from k);
-        }
+        let none_more : place + 0 ≡ place = omega arith in (
+          record {
+            value = fields y.values;
+            typed = rows_typed first n y.values y.typed;
+            shallow = omega (arith, y.shallow, deep);
+            stands = subst (λ (x : Encoding). StandsAt m x place from) same (subst (λ (p : ℕ). StandsAt m (enc_rows ds (size_of ds (ty.struct fs)) 0 (table_rows t (header_of t) first n) y.values) p from) none_more y.stands);
+            end = y.end ∙ sym (after_rows-table first n 0 y.values place from k);
+          },
+          omega (arith, le),
+        )
+
+    pub item_struct : (let ds = declarations_of t in Members ds m held (size_of ds (ty.struct (fields_from t (header_of t) first n))) place 0 (table_rows t (header_of t) first n) from to → ValueAt ds m held (ty.struct (fields_from t (header_of t) first n)) place from to)
+    item_struct y = (worth_struct (values_work y.values) (y, omega arith)).0
 
 -- a struct's rows are its parts
 pub table_parts : (t : List ℕ) (first n from : ℕ) → Keys t first n from → row_parts (table_rows t (header_of t) first n) ≡ member_parts (declarations_of t) from (fields_from t (header_of t) first n)

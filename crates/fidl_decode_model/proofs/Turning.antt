@@ -20,7 +20,8 @@ use Rattle.fidl_decode_model.specs.declared.fault.DecodeFault.{DecodeFault}
 use Rattle.fidl_decode_model.specs.Breaks.{IsPadding, Breaks, BreaksParts}
 use Rattle.fidl_decode_model.specs.Breaks as broken
 use Rattle.fidl_decode_model.specs.Machine.{rows_left, Reads, ReadsLeft, ReadsRows, row_parts, BreaksFrame, BreaksLeft, BreaksRows, LeftFine, EnvelopesFit, IsPlain, IsInside, VisitFine, level, height, FrameFine, FineIf, StateFine, Visits, Turns, inline_work, probes}
-use Rattle.fidl_decode_model.proofs.Rows.{rows_fit, members_end, members_more, more_members}
+use Rattle.fidl_decode_model.specs.Worth.{MembersWorth, LeftWorth, ReadsWorth, WorthIf}
+use Rattle.fidl_decode_model.proofs.Rows.{rows_fit, members_end, members_more, more_members, worth_none, worth_more}
 
 -- what holds anyway, at an error
 pub on_err : {T E : Type 0} (r : Result T E) (P : Type 0) → P → OnErr r P
@@ -36,6 +37,10 @@ pub if_ok_two : {T E : Type 0} (r : Result T E) (P Q R : T → Type 0) → ((x :
 if_ok_two (Ok x) P Q R f p q = f x p q
 if_ok_two (Err e) P Q R f p q = tt
 
+pub if_ok_on : {T E Q : Type 0} (r : Result T E) (P R : T → Type 0) → ((x : T) → P x → Q → R x) → IfOk r P → OnOk r Q → IfOk r R
+if_ok_on (Ok x) P R f p q = f x p q
+if_ok_on (Err e) P R f p q = tt
+
 -- what holds where there is no value
 pub none_weaker : {T : Type 0} (o : Option T) (P Q : Type 0) → (P → Q) → IfNone o P → IfNone o Q
 none_weaker None P Q f h = f h
@@ -48,6 +53,10 @@ on_ok_two (Err e) f p q = tt
 pub on_ok_three : {T E P Q S R : Type 0} (r : Result T E) → (P → Q → S → R) → OnOk r P → OnOk r Q → OnOk r S → OnOk r R
 on_ok_three (Ok x) f p q s = f p q s
 on_ok_three (Err e) f p q s = tt
+
+pub on_ok_four : {T E P Q S U R : Type 0} (r : Result T E) → (P → Q → S → U → R) → OnOk r P → OnOk r Q → OnOk r S → OnOk r U → OnOk r R
+on_ok_four (Ok x) f p q s u = f p q s u
+on_ok_four (Err e) f p q s u = tt
 
 pub on_ok_from : {T E P Q : Type 0} (r : Result T E) → (P → Q) → OnOk r P → OnOk r Q
 on_ok_from (Ok x) f p = f p
@@ -63,8 +72,8 @@ work_falls n k s g a b lt pos le =
 pub spends : (n x y : ℕ) → x ≤ y → x + 1 ≤ inline_work n * y + 1
 spends n x y le = let one : 1 ≤ inline_work n = omega arith in omega (arith, mul-le-mul_right y one)
 
--- and what it spends on a search too, where a byte is left
-pub spends_more : (n x y : ℕ) → x < y → x + 1 + probes ≤ inline_work n * y + 1
+-- and what it spends on a union and a search too, where a byte is left
+pub spends_more : (n x y : ℕ) → x < y → x + 2 + probes ≤ inline_work n * y + 1
 spends_more n x y lt = let many : 2 + probes ≤ inline_work n = omega arith in omega (arith, mul-le-mul_right y many)
 
 pub fine_from : (t : List ℕ) (m : List ℕ) (h k : ℕ) (o : Option Frame) → k ≤ h → FineIf t m h o → FineIf t m k o
@@ -78,6 +87,26 @@ plain_reads t m f (Rows first count) plain from to = ((λ x. x), (λ x. x))
 plain_reads t m f (Elements entry size count) plain from to = ((λ x. x), (λ x. x))
 plain_reads t m f (Envelopes entry read count) plain from to = absurd plain
 plain_reads t m f (Content entry size count until) plain from to = absurd plain
+
+pub plain_worth : (t : List ℕ) (m : Message) (f : Frame) (left : Remaining) → IsPlain left → (from to : Position) (w : ℕ) → LeftWorth t m f left from to w ↔ MembersWorth (declarations_of t) m f.depth f.size f.base f.done (rows_left t f.done left) from to w
+plain_worth t m f (Rows first count) plain from to w = ((λ x. x), (λ x. x))
+plain_worth t m f (Elements entry size count) plain from to w = ((λ x. x), (λ x. x))
+plain_worth t m f (Envelopes entry read count) plain from to w = absurd plain
+plain_worth t m f (Content entry size count until) plain from to w = absurd plain
+
+-- what is worth so much is worth more
+pub left_raised : (t : List ℕ) (m : Message) (f : Frame) (left : Remaining) (from to : Position) (v w : ℕ) → v ≤ w → LeftWorth t m f left from to v → LeftWorth t m f left from to w
+left_raised t m f (Rows first count) from to v w le x = let own = x.1 in (x.0, omega (arith, own, le))
+left_raised t m f (Elements entry size count) from to v w le x = let own = x.1 in (x.0, omega (arith, own, le))
+left_raised t m f (Envelopes entry read count) from to v w le x = let own = x.1 in (x.0, omega (arith, own, le))
+left_raised t m f (Content entry size count until) from to v w le x = let own = x.0.1 in ((x.0.0, omega (arith, own, le)), x.1)
+
+pub raised : (t : List ℕ) (m : Message) (f : Frame) (from to : Position) (v w : ℕ) → v ≤ w → ReadsWorth t m f from to v → ReadsWorth t m f from to w
+raised t m f from to v w le x = left_raised t m f f.left from to v w le x
+
+pub raised_if : (t : List ℕ) (m : Message) (o : Option Frame) (from to : Position) (v w : ℕ) → v ≤ w → WorthIf t m o from to v → WorthIf t m o from to w
+raised_if t m None from to v w le x = x
+raised_if t m (Some f) from to v w le x = raised t m f from to v w le x
 
 pub plain_breaks : (t : List ℕ) (m : Message) (f : Frame) (left : Remaining) → IsPlain left → (from : Position) (fault : DecodeFault) → BreaksLeft t m f left from fault ↔ BreaksRows t m f (rows_left t f.done left) from fault
 plain_breaks t m f (Rows first count) plain from fault = ((λ x. x), (λ x. x))
@@ -108,8 +137,8 @@ module _ (t : List ℕ) (fine : IsFine t) (m : Message) (f : Frame) (old : Posit
     pub end_breaks : (fault : DecodeFault) → IsPadding m.bytes (f.base + f.done) (f.base + f.size) fault → BreaksFrame t m f old fault
     end_breaks fault p = (plain_breaks t m f f.left plain old fault).1 (subst (λ (rs : List Row). BreaksParts ds m f.depth f.size f.base f.done (row_parts rs) old fault) (sym over) (broken.in_end f.size f.base f.done old fault p))
 
-    pub turns_end : Stands m.bytes (f.base + f.done) (zeros (f.base + f.size - (f.base + f.done))) → Turns t m f old old (f.base + f.size - (f.base + f.done) + 1) (record { below = None; rest = None })
-    turns_end z =
+    pub turns_end : Stands m.bytes (f.base + f.done) (zeros (f.base + f.size - (f.base + f.done))) → (n : ℕ) → n ≤ f.base + f.size - (f.base + f.done) + 1 → Turns t m f old old n (record { below = None; rest = None })
+    turns_end z n few =
         let z' = subst (λ n. Stands m.bytes (f.base + f.done) (zeros n)) zeros_left z in
         record {
           same = λ to. (
@@ -117,10 +146,12 @@ module _ (t : List ℕ) (fine : IsFine t) (m : Message) (f : Frame) (old : Posit
             (λ y. (plain_reads t m f f.left plain old to).1 (subst (λ (rs : List Row). Members ds m f.depth f.size f.base f.done rs old to) (sym over) ((members_end ds fine.laid_out m f.depth f.size f.base f.done old to ff.depth).1 (y.1 ∙ y.2, z')))),
           );
           breaks = λ fault b. elim b [ inl x ↦ absurd x | inr y ↦ absurd y.2 ];
+          least = λ to mid a b y z. (plain_worth t m f f.left plain old to (a + b + n)).1
+              (subst (λ (rs : List Row). MembersWorth ds m f.depth f.size f.base f.done rs old to (a + b + n)) (sym over) (worth_none ds fine.laid_out m f.depth f.size f.base f.done old to ff.depth (y ∙ z) z' (a + b + n)));
           state = state;
           below_fine = tt;
           rest_fine = tt;
-          less = omega (arith, zeros_left, spends f.nest (f.size - f.done) (f.size - f.done) (omega arith));
+          less = omega (arith, few, zeros_left, spends f.nest (f.size - f.done) (f.size - f.done) (omega arith));
         }
 
   module _ (r : Row) (left : Remaining) (one : rows_left t f.done f.left ≡ r ∷ rows_left t (r.offset + size_of ds (ty.named r.entry)) left) where
@@ -158,16 +189,16 @@ module _ (t : List ℕ) (fine : IsFine t) (m : Message) (f : Frame) (old : Posit
           → BreaksParts ds m f.depth f.size f.base (r.offset + size_of ds (ty.named r.entry)) (row_parts rest) mid fault → BreaksFrame t m f old fault
       rest_breaks fault mid z i b = parts_break fault (broken.in_later f.size f.base f.done _ _ old mid fault (subst (λ n. Stands m.bytes (f.base + f.done) (zeros n)) gap z) i b)
 
-      pub turns_more : 0 < size_of ds (ty.named r.entry) → LeftFine t left → IsPlain left → (below : Option Frame) (new : Position) (done spent : ℕ) → done ≡ r.offset + size_of ds (ty.named r.entry) → Stands m.bytes (f.base + f.done) (zeros (f.base + r.offset - (f.base + f.done))) → Visits t m f.depth r.entry (f.base + r.offset) old new spent below → VisitFine t m f.depth f.in_envelope r.entry below
-          → Turns t m f old new (f.base + r.offset - (f.base + f.done) + 1 + spent) (record { below = below; rest = Some (record { left = left; base = f.base; done = done; size = f.size; nest = f.nest; depth = f.depth; in_envelope = f.in_envelope }) })
-      turns_more pos left_fine left_plain below new done spent done-is z v vf =
+      pub turns_more : 0 < size_of ds (ty.named r.entry) → LeftFine t left → IsPlain left → (below : Option Frame) (new : Position) (done spent n : ℕ) → done ≡ r.offset + size_of ds (ty.named r.entry) → spent + 1 ≤ n → n ≤ f.base + r.offset - (f.base + f.done) + 1 + spent → Stands m.bytes (f.base + f.done) (zeros (f.base + r.offset - (f.base + f.done))) → Visits t m f.depth r.entry (f.base + r.offset) old new spent below → VisitFine t m f.depth f.in_envelope r.entry below
+          → Turns t m f old new n (record { below = below; rest = Some (record { left = left; base = f.base; done = done; size = f.size; nest = f.nest; depth = f.depth; in_envelope = f.in_envelope }) })
+      turns_more pos left_fine left_plain below new done spent k done-is some few z v vf =
           let s = size_of ds (ty.named r.entry) in
           let n = (figure_of ds.figures (ty.named r.entry)).nest in
           let d = r.offset + s in
           let rest_frame : Frame = record { left = left; base = f.base; done = d; size = f.size; nest = f.nest; depth = f.depth; in_envelope = f.in_envelope } in
           let z' = subst (λ k. Stands m.bytes (f.base + f.done) (zeros k)) gap z in
           let falls = work_falls f.nest n s (r.offset - f.done) (f.size - f.done) (f.size - d) row_fine.2 pos (omega (arith, row_room, row_fine.1)) in
-          let main : Turns t m f old new (f.base + r.offset - (f.base + f.done) + 1 + spent) (record { below = below; rest = Some (record { left = left; base = f.base; done = d; size = f.size; nest = f.nest; depth = f.depth; in_envelope = f.in_envelope }) }) = record {
+          let main : Turns t m f old new k (record { below = below; rest = Some (record { left = left; base = f.base; done = d; size = f.size; nest = f.nest; depth = f.depth; in_envelope = f.in_envelope }) }) = record {
             same = λ to. (
               (λ x. let a = (apart to x).1 in (a.0, (v.same a.0).0 a.1, (plain_reads t m rest_frame left left_plain a.0 to).1 a.2)),
               (λ y. (plain_reads t m f f.left plain old to).1 (subst (λ (rs : List Row). Members ds m f.depth f.size f.base f.done rs old to) (sym one) (more_members ds fine.laid_out m f.depth (header_of t).entries f.nest f.size f.base f.done r rest old y.0 to row_fine z' ((v.same y.0).1 y.1) ((plain_reads t m rest_frame left left_plain y.0 to).0 y.2)))),
@@ -176,9 +207,14 @@ module _ (t : List ℕ) (fine : IsFine t) (m : Message) (f : Frame) (old : Posit
               | inl x ↦ visit_breaks fault z (v.breaks fault x)
               | inr y ↦ rest_breaks fault y.0 z ((v.same y.0).1 y.1) ((plain_breaks t m rest_frame left left_plain y.0 fault).0 y.2)
             ];
+            least = λ to mid a b y w.
+                let all = a + b + k in
+                let more = worth_more ds fine.laid_out m f.depth (header_of t).entries f.nest f.size f.base f.done r rest old mid to row_fine z' (a + spent + 1) b (v.least mid a y) ((plain_worth t m rest_frame left left_plain mid to b).0 w) in
+                let le = more.1 in
+                (plain_worth t m f f.left plain old to all).1 (subst (λ (rs : List Row). MembersWorth ds m f.depth f.size f.base f.done rs old to all) (sym one) (more.0, omega (arith, le, some)));
             state = v.state;
             below_fine = fine_from t m.bytes (level f.depth f.in_envelope n) (height f + 1) below (omega (arith, row_fine.2, ff.nest)) vf;
             rest_fine = (record { left = left_fine; slots = plain_fits rest_frame left left_plain; room = ff.room; some = ff.some; nest = ff.nest; depth = ff.depth; in_envelope = ff.in_envelope; rise = row_fine.3 }, omega arith);
-            less = omega (arith, v.less, falls, gap);
+            less = omega (arith, v.less, falls, gap, few);
           } in
-          subst (λ k. Turns t m f old new (f.base + r.offset - (f.base + f.done) + 1 + spent) (record { below = below; rest = Some (record { left = left; base = f.base; done = k; size = f.size; nest = f.nest; depth = f.depth; in_envelope = f.in_envelope }) })) (sym done-is) main
+          subst (λ d. Turns t m f old new k (record { below = below; rest = Some (record { left = left; base = f.base; done = d; size = f.size; nest = f.nest; depth = f.depth; in_envelope = f.in_envelope }) })) (sym done-is) main

@@ -17,7 +17,9 @@ use Rattle.fidl_table_format.specs.Kind.{kind_of, number_type}
 use Rattle.fidl_table_format.specs.Number.{number_standing}
 use Rattle.fidl_table_format.specs.Section.{header_of, entry_at}
 use Rattle.fidl_table_format.specs.Terms.{term_as, stated_figure, declarations_of, fields_from, underlying, mask_of, strict_values, values_from, is_strict, is_optional, rows_from}
-use Rattle.fidl_wire.specs.Typed.{InMask}
+use Rattle.fidl_wire.specs.Typed.{IsTyped, InMask}
+use Rattle.fidl_wire.specs.Value.{Value}
+use Rattle.fidl_decode_model.specs.Work.{Work}
 use Rattle.fidl_decode_model.specs.Invariants.{is_leaf, is_free, EntryFine, IsFine}
 use Rattle.fidl_decode_model.specs.declared.frame.Frame.{Frame}
 use Rattle.fidl_decode_model.specs.declared.frame.Remaining.TheVariants.{Rows, Elements}
@@ -28,9 +30,10 @@ use Rattle.fidl_decode_model.specs.declared.fault.DecodeFault.{DecodeFault}
 use Rattle.fidl_decode_model.specs.Breaks as broken
 use Rattle.fidl_decode_model.specs.declared.fault.DecodeFault.TheVariants.{BadBool}
 use Rattle.fidl_decode_model.specs.Machine.{IsInside, VisitFine, Reads, StateFine, Leads, Visits, row_parts, byte_work, inline_work, probes}
-use Rattle.fidl_decode_model.proofs.Scalars.{Numeric, numeric_number, numeric_bits, numeric_enum, numeric_item, item_numeric, bool_item, item_bool}
-use Rattle.fidl_decode_model.proofs.Stated.{stated_term, stated, table_rise, struct_item, item_struct, table_parts}
-use Rattle.fidl_decode_model.proofs.Elements.{elements_rise, array_item, item_array, row_parts-elements}
+use Rattle.fidl_decode_model.specs.Worth.{ValueWorth, MembersWorth}
+use Rattle.fidl_decode_model.proofs.Scalars.{light_number, light_bool, Numeric, numeric_number, numeric_bits, numeric_enum, numeric_item, item_numeric, bool_item, item_bool}
+use Rattle.fidl_decode_model.proofs.Stated.{stated_term, stated, table_rise, struct_item, item_struct, worth_struct, table_parts}
+use Rattle.fidl_decode_model.proofs.Elements.{elements_rise, array_item, item_array, worth_array, row_parts-elements}
 
 unknown : false ≡ true → ⊥
 unknown e = cc
@@ -152,16 +155,47 @@ module _ (t : List ℕ) (fine : IsFine t) where
   pub positive : (e : ℕ) → e < h.entries → 0 < size_of ds (ty.named e)
   positive e lt = positive_within (fig e).nest e lt (omega arith)
 
+  -- what any bytes are a value of is worth nothing
+  light_as : (e : ℕ) (k : EntryKind) (kind : Kind) (P : ℤ → Type 0) → e < h.entries → kind_of (entry_at t e).kind ≡ Some k → Numeric ds (term_as k t h (entry_at t e)) kind P → (v : Value) → IsTyped ds (term e) v → Work v ≡ 0
+  light_as e k kind P lt is numeric v typed = light_number ds (term_as k t h (entry_at t e)) kind P numeric v (subst (λ (u : Term). IsTyped ds u v) (term_is e k lt is) typed)
+
+  pub light_free : (e : ℕ) → e < h.entries → (k : EntryKind) → kind_of (entry_at t e).kind ≡ Some k → is_free k (entry_at t e) ≡ true → (v : Value) → IsTyped ds (term e) v → Work v ≡ 0
+  light_free e lt Bits is free = let d = entry_at t e in light_as e Bits (underlying d) (λ z. IfSome (mask_of d) (λ mask. InMask mask z)) lt is (numeric_bits ds (underlying d) (mask_of d))
+  light_free e lt Enum is free = let d = entry_at t e in light_as e Enum (underlying d) (λ z. IfSome (strict_values t h d) (λ values. Contains values z)) lt is (numeric_enum ds (underlying d) (strict_values t h d))
+  light_free e lt Int8 is free = light_as e Int8 int8 (λ z. Unit {0}) lt is (numeric_number ds int8)
+  light_free e lt Int16 is free = light_as e Int16 int16 (λ z. Unit {0}) lt is (numeric_number ds int16)
+  light_free e lt Int32 is free = light_as e Int32 int32 (λ z. Unit {0}) lt is (numeric_number ds int32)
+  light_free e lt Int64 is free = light_as e Int64 int64 (λ z. Unit {0}) lt is (numeric_number ds int64)
+  light_free e lt Uint8 is free = light_as e Uint8 uint8 (λ z. Unit {0}) lt is (numeric_number ds uint8)
+  light_free e lt Uint16 is free = light_as e Uint16 uint16 (λ z. Unit {0}) lt is (numeric_number ds uint16)
+  light_free e lt Uint32 is free = light_as e Uint32 uint32 (λ z. Unit {0}) lt is (numeric_number ds uint32)
+  light_free e lt Uint64 is free = light_as e Uint64 uint64 (λ z. Unit {0}) lt is (numeric_number ds uint64)
+  light_free e lt Boolean is free = absurd (unknown free)
+  light_free e lt String is free = absurd (unknown free)
+  light_free e lt Vector is free = absurd (unknown free)
+  light_free e lt Array is free = absurd (unknown free)
+  light_free e lt Box is free = absurd (unknown free)
+  light_free e lt Struct is free = absurd (unknown free)
+  light_free e lt Table is free = absurd (unknown free)
+  light_free e lt Union is free = absurd (unknown free)
+  light_free e lt Handle is free = absurd (unknown free)
+
   -- ---- what is visited
 
   module _ (m : Message) (held e place : ℕ) (old : Position) (lt : e < h.entries) (state : StateFine m old) (deep : held ≤ MAX_DEPTH) where
-    visits_none : (spent : ℕ) → spent ≤ probes → ((to : Position) → ValueAt ds m held (term e) place old to ↔ (old ≡ to)) → Visits t m held e place old old spent None
-    visits_none spent le same = record { same = same; breaks = λ fault b. absurd b; state = state; less = omega (arith, search_fits (fig e).nest (fig e).size spent le (positive e lt)) }
+    visits_none : (spent : ℕ) → spent ≤ probes → ((to : Position) → ValueAt ds m held (term e) place old to ↔ (old ≡ to)) → ((v : Value) → IsTyped ds (term e) v → Work v ≤ 1) → Visits t m held e place old old spent None
+    visits_none spent le same light = record {
+      same = same;
+      breaks = λ fault b. absurd b;
+      least = λ to w y. let x = (same to).1 y in (x, omega (arith, light x.value x.typed));
+      state = state;
+      less = omega (arith, search_fits (fig e).nest (fig e).size spent le (positive e lt));
+    }
 
     -- what is read as a leaf
     pub visits_leaf : (k : EntryKind) → kind_of (entry_at t e).kind ≡ Some k → (new : Position) (spent : ℕ) → byte_work * (length m.bytes - new.next) + spent ≤ byte_work * (length m.bytes - old.next) + probes → StateFine m new
-        → Leads ds m held (term_as k t h (entry_at t e)) place old new → Visits t m held e place old new spent None
-    visits_leaf k is new spent cost there leads =
+        → Leads ds m held (term_as k t h (entry_at t e)) place old new → ((to : Position) (x : ValueAt ds m held (term_as k t h (entry_at t e)) place old to) → Work x.value ≤ spent + 1) → Visits t m held e place old new spent None
+    visits_leaf k is new spent cost there leads light =
         let own = term_is e k lt is in
         record {
           same = λ to. (
@@ -169,9 +203,14 @@ module _ (t : List ℕ) (fine : IsFine t) where
             (λ y. subst (λ (u : Term). ValueAt ds m held u place old to) (sym own) ((leads to).1 y)),
           );
           breaks = λ fault b. absurd b;
+          least = λ to w y. subst (λ (u : Term). ValueWorth ds m held u place old to (w + spent + 1)) (sym own) (let x = (leads to).1 y in (x, omega (arith, light to x)));
           state = there;
           less = omega (arith, cost, search_fits (fig e).nest (fig e).size probes (omega arith) (positive e lt));
         }
+
+    -- what values of the kind are worth, those of the entry are
+    as_kind : (k : EntryKind) → kind_of (entry_at t e).kind ≡ Some k → (n : ℕ) → ((v : Value) → IsTyped ds (term_as k t h (entry_at t e)) v → Work v ≤ n) → (v : Value) → IsTyped ds (term e) v → Work v ≤ n
+    as_kind k is n light v typed = light v (subst (λ (u : Term). IsTyped ds u v) (term_is e k lt is) typed)
 
     pub leaf_breaks : (k : EntryKind) → kind_of (entry_at t e).kind ≡ Some k → (fault : DecodeFault) → BreaksRule ds m held (term_as k t h (entry_at t e)) place old.next old.handle fault → Breaks ds m held (term e) place old fault
     leaf_breaks k is fault b = subst (λ (u : Term). Breaks ds m held u place old fault) (sym (term_is e k lt is)) (broken.in_field (term_as k t h (entry_at t e)) place old fault b)
@@ -185,7 +224,7 @@ module _ (t : List ℕ) (fine : IsFine t) where
         visits_none spent few (λ to. (
           (λ x. (bool_item ds m held place old to (subst (λ (u : Term). ValueAt ds m held u place old to) u x)).0),
           (λ same. subst (λ (s : Position). ValueAt ds m held (term e) place old s) same (subst (λ (u : Term). ValueAt ds m held u place old old) (sym u) (item_bool ds m held place old room le deep))),
-        ))
+        )) (as_kind Boolean is 1 (light_bool ds))
 
     -- what is a number of a kind: a number, bits or an enum
     module _ (k : EntryKind) (is : kind_of (entry_at t e).kind ≡ Some k) (kind : Kind) (P : ℤ → Type 0) (numeric : Numeric ds (term_as k t h (entry_at t e)) kind P) where
@@ -200,7 +239,7 @@ module _ (t : List ℕ) (fine : IsFine t) where
           visits_none spent few (λ to. (
             (λ x. (numeric_item ds m held place old (term_as k t h (entry_at t e)) kind P numeric to (subst (λ (u : Term). ValueAt ds m held u place old to) own x)).0),
             (λ same. subst (λ (s : Position). ValueAt ds m held (term e) place old s) same (subst (λ (u : Term). ValueAt ds m held u place old old) (sym own) (item_numeric ds m held place old (term_as k t h (entry_at t e)) kind P numeric (omega (arith, room, own_size)) small deep p))),
-          ))
+          )) (as_kind k is 1 (λ v typed. omega (arith, light_number ds (term_as k t h (entry_at t e)) kind P numeric v typed)))
 
     -- a number
     number_with : (k : EntryKind) (kind : Kind) → kind_of (entry_at t e).kind ≡ Some k → term_as k t h (entry_at t e) ≡ ty.number kind → (spent : ℕ) → spent ≤ probes → place + (entry_at t e).size ≤ length m.bytes → ((i : ℕ) → get_or m.bytes i 0 < 256) → Visits t m held e place old old spent None
@@ -298,6 +337,8 @@ module _ (t : List ℕ) (fine : IsFine t) where
         subst (λ (u : Term). ValueAt ds m held u place old to) (sym u) (item_struct t m held place d.first d.count old to k (subst (λ (s : ℕ). Members ds m held s place 0 (table_rows t h d.first d.count) old to) (sym size) y)) in
         record {
           same = λ to. (to_members to, to_item to);
+          least = λ to w y. subst (λ (u : Term). ValueWorth ds m held u place old to (w + spent + 1)) (sym u)
+              (let x = worth_struct t m held place d.first d.count old to k w (subst (λ (s : ℕ). MembersWorth ds m held s place 0 (table_rows t h d.first d.count) old to w) (sym size) y) in let le = x.1 in (x.0, omega (arith, le)));
           breaks = λ fault b. subst (λ (u : Term). Breaks ds m held u place old fault) (sym u)
               (broken.in_parts (ty.struct (fields_from t h d.first d.count)) place old fault (member_parts ds 0 (fields_from t h d.first d.count)) refl
               (subst (λ (ps : List Part). BreaksParts ds m held (size_of ds (ty.struct (fields_from t h d.first d.count))) place 0 ps old fault) (table_parts t d.first d.count 0 k)
@@ -340,11 +381,15 @@ module _ (t : List ℕ) (fine : IsFine t) where
         let nest : suc (fig d.first).nest ≡ d.nest = ap (λ (f : Figure). f.nest) g in
         let both : (to : Position) → Members ds m held ((fig d.first).size * d.count) place 0 (element_rows d.first (fig d.first).size d.count 0) old to ≡ Members ds m held d.size place 0 (element_rows d.first element d.count 0) old to = λ to i. Members ds m held (size i) place 0
         (element_rows d.first (one i) d.count 0) old to in
+        let both_worth : (to : Position) (w : ℕ) → MembersWorth ds m held ((fig d.first).size * d.count) place 0 (element_rows d.first (fig d.first).size d.count 0) old to w ≡ MembersWorth ds m held d.size place 0 (element_rows d.first element d.count 0) old to w = λ to w i. MembersWorth ds m held (size i) place 0
+        (element_rows d.first (one i) d.count 0) old to w in
         record {
           same = λ to. (
             (λ x. subst (λ (X : Type 0). X) (both to) (array_item ds d.first m held place d.count old to (subst (λ (u : Term). ValueAt ds m held u place old to) u x))),
             (λ y. subst (λ (u : Term). ValueAt ds m held u place old to) (sym u) (item_array ds d.first m held place d.count old to (subst (λ (X : Type 0). X) (sym (both to)) y))),
           );
+          least = λ to w y. subst (λ (u : Term). ValueWorth ds m held u place old to (w + spent + 1)) (sym u)
+              (let x = worth_array ds d.first m held place d.count old to w (subst (λ (X : Type 0). X) (sym (both_worth to w)) y) in let le = x.1 in (x.0, omega (arith, le)));
           breaks = λ fault b. subst (λ (u : Term). Breaks ds m held u place old fault) (sym u)
               (broken.in_parts (ty.array (ty.named d.first) d.count) place old fault (element_parts ds (ty.named d.first) d.count 0) refl
               (subst (λ (ps : List Part). BreaksParts ds m held ((fig d.first).size * d.count) place 0 ps old fault) (row_parts-elements ds d.first d.count 0)

@@ -15,6 +15,7 @@ use Rattle.fidl_wire.proofs.Sizes.{le-next_multiple_of}
 use Rattle.fidl_wire.proofs.Stand.{stands_front, stands_back, stands_both, copies_are}
 use Rattle.fidl_decode_model.specs.declared.fault.DecodeFault.{DecodeFault}
 use Rattle.fidl_decode_model.specs.declared.fault.DecodeFault.TheVariants.{Padding, BadMarker, AbsentRequired, BadCount, OverBound, NotUtf8, TooDeep, Truncated}
+use Rattle.fidl_decode_model.specs.Work.{Work}
 use Rattle.fidl_decode_model.specs.State.{Message, Position, linked, after, StandsAt, ValueAt}
 use Rattle.fidl_decode_model.specs.Breaks.{IsPadding, count_at, BreaksCounted, BreaksText}
 use Rattle.fidl_decode_model.specs.Machine.{Leads}
@@ -49,12 +50,12 @@ pub record TextAt (m : Message) (held bound place : ℕ) (from to : Position) (b
   pub end : linked (place + 8) (length bytes) from ≡ to
 
 module _ (ds : Declarations) (m : Message) (fits : length m.bytes < 2 ^ 32) (held : ℕ) (optional : Bool) (bound place : ℕ) (from : Position) where
-  pub text_item : (to : Position) → ValueAt ds m held (ty.string optional bound) place from to → (Stands m.bytes place (zeros 16) × IsTrue optional × (from ≡ to)) ⊎ ((bytes : List ℕ) × TextAt m held bound place from to bytes)
-  text_item to x = only x.value x.typed x.shallow x.stands x.end
+  text_worth : (to : Position) (x : ValueAt ds m held (ty.string optional bound) place from to) → (Stands m.bytes place (zeros 16) × IsTrue optional × (from ≡ to) × (Work x.value ≡ 1)) ⊎ ((bytes : List ℕ) × TextAt m held bound place from to bytes × (Work x.value ≡ suc (length bytes)))
+  text_worth to x = only x.value x.typed x.shallow x.stands x.end
     where
       only : (v : Value) → IsTyped ds (ty.string optional bound) v → depth_of ds (ty.string optional bound) v + held ≤ MAX_DEPTH → StandsAt m (encoding_of ds (ty.string optional bound) v) place from → to ≡ after ds (ty.string optional bound) v place from
-          → (Stands m.bytes place (zeros 16) × IsTrue optional × (from ≡ to)) ⊎ ((bytes : List ℕ) × TextAt m held bound place from to bytes)
-      only absent h d s e = inl (s.inline, h, sym e)
+          → (Stands m.bytes place (zeros 16) × IsTrue optional × (from ≡ to) × (Work v ≡ 1)) ⊎ ((bytes : List ℕ) × TextAt m held bound place from to bytes × (Work v ≡ suc (length bytes)))
+      only absent h d s e = inl (s.inline, h, sym e, refl)
       only (text bytes) h d s e = inr (
         bytes,
         record {
@@ -66,8 +67,12 @@ module _ (ds : Declarations) (m : Message) (fits : length m.bytes < 2 ^ 32) (hel
           stands = stands_front m.bytes from.next (pad8 bytes) [] s.out;
           end = sym e;
         },
+        refl,
       )
       only _ h d s e = absurd h
+
+  pub text_item : (to : Position) → ValueAt ds m held (ty.string optional bound) place from to → (Stands m.bytes place (zeros 16) × IsTrue optional × (from ≡ to)) ⊎ ((bytes : List ℕ) × TextAt m held bound place from to bytes)
+  text_item to x = elim (text_worth to x) [ inl y ↦ inl (y.0, y.1, y.2) | inr y ↦ inr (y.0, y.1) ]
 
   absent_front : Stands m.bytes place (zeros 16) → Stands m.bytes place (zeros 8)
   absent_front z = stands_front m.bytes place (zeros 8) (zeros 8) z
@@ -102,6 +107,10 @@ module _ (ds : Declarations) (m : Message) (fits : length m.bytes < 2 ^ 32) (hel
 
     end_is : linked (place + 8) (count_at m.bytes place) from ≡ to
     end_is = ap (λ n. linked (place + 8) n from) count_is ∙ t.end
+
+  -- a text is worth its bytes and one more
+  pub text_work : (to : Position) (x : ValueAt ds m held (ty.string optional bound) place from to) → Work x.value ≤ suc (count_at m.bytes place)
+  text_work to x = elim (text_worth to x) [ inl y ↦ omega (arith, y.3) | inr y ↦ omega (arith, y.2, count_is to y.0 y.1) ]
 
   module _ (deep : held ≤ MAX_DEPTH) where
     pub absent_leads : IsTrue optional → Stands m.bytes (place + 8) (zeros 8) → place + 8 ≤ length m.bytes → ((i : ℕ) → get_or m.bytes i 0 < 256) → count_at m.bytes place ≡ 0 → Leads ds m held (ty.string optional bound) place from from

@@ -11,6 +11,7 @@ use Rattle.fidl_wire.specs.Typed.{IsTypedMember, IsUnknownLength}
 use Rattle.fidl_wire.specs.Encoding.{enveloped}
 use Rattle.fidl_wire.specs.Depth.{member_depth}
 use Rattle.fidl_wire.specs.Envelope.{bytes_below, handles_below, flags_at}
+use Rattle.fidl_decode_model.specs.declared.frame.Until.{Until}
 use Rattle.fidl_decode_model.specs.declared.fault.DecodeFault.{DecodeFault}
 use Rattle.fidl_decode_model.specs.declared.fault.DecodeFault.TheVariants.{BadEnvelope}
 use Rattle.fidl_decode_model.specs.declared.fault.DecodeFault.TheVariants.{TooDeep, Truncated}
@@ -84,3 +85,7 @@ Miscounts ds m held t envelope from = let inline = nat_le (size_of ds t) 4 in
     (member_at inline envelope from) (begun inline envelope (size_of ds t) from) to
     × ((handles_below m.bytes envelope ≢ to.handle - from.handle)
     ⊎ ((inline ≡ false) × (bytes_below m.bytes envelope ≢ to.next - from.next)))
+
+-- a state at the end of an envelope's content is the one that the envelope counts up to
+abbrev pub IsUntil : Until → Position → Type 0
+IsUntil until to = (to.next ≡ until.next) × (to.handle ≡ until.handle)

@@ -5,10 +5,12 @@
 --   Faults         what each refusal says of a message
 --   Placed         where a value's bytes stand, found through the links
 --   Links, Model   what links, and a decoded message, are seen as
+--   Work           the least steps that decoding a value takes
 -- What a decoder's loop rests on, which no reader of a contract needs:
 --   Invariants     what a well-formed table gives the decoder
 --   Fine           that it gives this in one way alone
 --   Rows, Machine  what frames and turns read, and what they cost
+--   Worth          what is read, where its values are of at most so much work
 --   Steps          how many steps a call counts
 pub mod State
 pub mod Envelopes
@@ -17,8 +19,10 @@ pub mod Faults
 pub mod Placed
 pub mod Links
 pub mod Model
+pub mod Work
 pub mod Invariants
 pub mod Fine
 pub mod Rows
+pub mod Worth
 pub mod Machine
 pub mod Steps

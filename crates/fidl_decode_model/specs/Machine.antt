@@ -19,14 +19,14 @@ use Rattle.fidl_decode_model.specs.declared.frame.Frame.{Frame}
 use Rattle.fidl_decode_model.specs.declared.frame.Remaining.{Remaining}
 use Rattle.fidl_decode_model.specs.declared.frame.Remaining.TheVariants.{Rows, Elements, Envelopes}
 use Rattle.fidl_decode_model.specs.declared.frame.Remaining.TheVariants.{Content}
-use Rattle.fidl_decode_model.specs.declared.frame.Until.{Until}
 use Rattle.fidl_decode_model.specs.declared.frame.Turn.{Turn}
 use Rattle.fidl_decode_model.specs.declared.frame.State.{State}
 use Rattle.fidl_decode_model.specs.Rows.{Row, table_rows, element_rows, RowsRise}
 use Rattle.fidl_decode_model.specs.Breaks.{Part, Breaks, BreaksParts, BreaksEnvelopes}
 use Rattle.fidl_decode_model.specs.Breaks.{BreaksMember}
-use Rattle.fidl_decode_model.specs.Envelopes.{Contained}
+use Rattle.fidl_decode_model.specs.Envelopes.{Contained, IsUntil}
 use Rattle.fidl_decode_model.specs.State.{Message, Position, ValueAt, Members, Slots}
+use Rattle.fidl_decode_model.specs.Worth.{ValueWorth, ContainedWorth, ReadsWorth, WorthIf}
 
 -- the rows that a frame has left; envelopes are no rows
 abbrev pub rows_left : List ℕ → (done : ℕ) → Remaining → List Row
@@ -38,10 +38,6 @@ rows_left t done (Envelopes entry read count) = []
 -- the rows of a frame, behind what is read of it
 abbrev pub ReadsRows : List ℕ → Message → Frame → List Row → Position → Position → Type 0
 ReadsRows t m f rs from to = Members (declarations_of t) m f.depth f.size f.base f.done rs from to
-
--- a state at the end of an envelope's content is the one that the envelope counts up to
-abbrev pub IsUntil : Until → Position → Type 0
-IsUntil until to = (to.next ≡ until.next) × (to.handle ≡ until.handle)
 
 -- what a frame still has to read, where this is left of it
 abbrev pub ReadsLeft : List ℕ → Message → Frame → Remaining → Position → Position → Type 0
@@ -238,6 +234,9 @@ pub record Visits (t : List ℕ) (m : Message) (held e place : ℕ) (old new : P
   pub breaks : (fault : DecodeFault) → BreaksIf t m found new fault
       → Breaks (declarations_of t) m held (resolve (declarations_of t).terms (ty.named e)) place old
       fault
+  pub least : (to : Position) (w : ℕ) → WorthIf t m found new to w
+      → ValueWorth (declarations_of t) m held (resolve (declarations_of t).terms (ty.named e)) place
+      old to (w + spent + 1)
   pub state : StateFine m new
   pub less : let f = figure_of (declarations_of t).figures (ty.named e) in
       byte_work * (length m.bytes - new.next) + frame_work_if found + spent
@@ -254,13 +253,16 @@ abbrev pub member_term : Option raw.Row → Option Term
 member_term None = None
 member_term (Some row) = Some (ty.named row.entry)
 
--- an envelope at a place is opened: what of its member is left to read, if any, and the state then
+-- an envelope at a place is opened, in so many steps: what of its member is left to read, if any,
+-- and the state then
 pub record Opens (t : List ℕ) (m : Message) (held : ℕ) (member : Option Term) (envelope : ℕ)
-    (old new : Position) (found : Option Frame) : Type 0 where
+    (old new : Position) (spent : ℕ) (found : Option Frame) : Type 0 where
   pub same : (to : Position) → Contained (declarations_of t) m held member envelope old to
       ↔ ReadsIf t m found new to
   pub breaks : (fault : DecodeFault) → BreaksIf t m found new fault
       → BreaksMember (declarations_of t) m held member envelope old fault
+  pub least : (to : Position) (w : ℕ) → WorthIf t m found new to w
+      → ContainedWorth (declarations_of t) m held member envelope old to (w + spent + 1)
   pub state : StateFine m new
   pub fine : FineIf t m.bytes (level held 1 most_nest) found
   pub less : byte_work * (length m.bytes - new.next) + frame_work_if found
@@ -279,6 +281,8 @@ pub record Turns (t : List ℕ) (m : Message) (f : Frame) (old new : Position) (
   pub same : (to : Position) → Reads t m f old to
       ↔ ((mid : Position) × ReadsIf t m x.below new mid × ReadsIf t m x.rest mid to)
   pub breaks : (fault : DecodeFault) → BreaksAfter t m x new fault → BreaksFrame t m f old fault
+  pub least : (to mid : Position) (a b : ℕ) → WorthIf t m x.below new mid a
+      → WorthIf t m x.rest mid to b → ReadsWorth t m f old to (a + b + spent)
   pub state : StateFine m new
   pub below_fine : FineIf t m.bytes (height f + 1) x.below
   pub rest_fine : FineIf t m.bytes (height f) x.rest

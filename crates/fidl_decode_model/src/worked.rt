@@ -13,6 +13,7 @@ pub mod envelopes;
 pub mod placed;
 pub mod tables;
 pub mod unions;
+pub mod works;
 
 /// `struct {a uint8; b uint32;}` with two bytes between the members that are not zero: Padding at
 /// the first, not at the second, nor at a byte of a member.

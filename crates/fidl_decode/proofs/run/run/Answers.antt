@@ -1,10 +1,11 @@
-use Rattle.std.proofs.Common.{rules, refl, false, true, ◌≡◌, ◌+◌, ◌++◌, ◌<◌, List, length, sym, ap, ◌∙◌, subst, arith}
+use Rattle.std.proofs.Common.{rules, ◌-◌, refl, false, true, ◌≡◌, ◌+◌, ◌++◌, ◌<◌, List, length, sym, ap, ◌∙◌, subst, arith}
 use Rattle.std.specs.Option.{option_to_list}
 use Rattle.fidl_decode_model.specs.declared.frame.Frame.{Frame}
 use Rattle.fidl_decode_model.specs.declared.fault.DecodeFault.{DecodeFault}
 use Rattle.fidl_decode_model.specs.Machine.{at_of, BreaksFrame, BreaksStack, IsStopped, Finishes, StackFine, height, work}
+use Rattle.fidl_decode_model.specs.Worth.{FinishesWorth}
 use Rattle.fidl_decode_model.specs.Faults.{message_of}
-use Rattle.fidl_decode.proofs.Running.{read_all, stack_work_top, fine_top, room_if, length_if, turn_same, turn_fine, turn_less, top_breaks, turn_breaks}
+use Rattle.fidl_decode.proofs.Running.{finishes_raised, worth_all, turn_worth, read_all, stack_work_top, fine_top, room_if, length_if, turn_same, turn_fine, turn_less, top_breaks, turn_breaks}
 use Rattle.fidl_decode.proofs.Refusing.{broken_stopped}
 use Rattle.fidl_decode.proofs.run.run.Goals as goal
 
@@ -37,6 +38,17 @@ loop-frame-smaller c =
     let fewer : work c.args.decoder.now.bytes.now c.push_if-in-Some.new.stack.items c.take_turn.new.state.next < work c.args.decoder.now.bytes.now c.loop-frame.stack.items c.loop-frame.state.next = omega (arith, c.in_ok-turn.ensures.rises) in
     fewer
 
+pub loop-frame-init : goal.loop-frame-init
+loop-frame-init c = record {
+  same = λ to. ((λ h. h), (λ h. h));
+  breaks = λ fault b. b;
+  grows = omega arith;
+  least = λ to w h. finishes_raised c.args.decoder.now.table.now (message_of c.args.decoder.now.bytes.now c.args.decoder.now.handles.now) c.args.stack.now.items (at_of c.args.state.now) to w _ (omega arith) h;
+  fine = c.requires.stack;
+  steps = omega arith;
+  state = c.requires.state;
+}
+
 pub loop-frame-preserved : goal.loop-frame-preserved
 loop-frame-preserved c =
     let popped = c.in-Some.ensures.items in
@@ -49,6 +61,13 @@ loop-frame-preserved c =
       );
       breaks = λ fault b. c.loop-frame.invariant.breaks fault (subst (λ (l : List Frame). BreaksStack c.args.decoder.now.table.now (message_of c.args.decoder.now.bytes.now c.args.decoder.now.handles.now) l (at_of c.loop-frame.state) fault) (sym popped)
           (turn_breaks c.args.decoder.now.table.now (message_of c.args.decoder.now.bytes.now c.args.decoder.now.handles.now) c.pop.new.self.items c.in-Some.frame (at_of c.loop-frame.state) _ _ c.in_ok-turn.turn c.in_ok-turn.ensures.ok fault (subst (λ (l : List Frame). BreaksStack c.args.decoder.now.table.now (message_of c.args.decoder.now.bytes.now c.args.decoder.now.handles.now) l (at_of c.take_turn.new.state) fault) after b)));
+      grows = omega (arith, c.loop-frame.invariant.grows, c.in_ok-turn.ensures.rises);
+      least = λ to w h.
+          let spent = c.take_turn.new.state.steps - c.loop-frame.state.steps in
+          let now = subst (λ (l : List Frame). FinishesWorth c.args.decoder.now.table.now (message_of c.args.decoder.now.bytes.now c.args.decoder.now.handles.now) l (at_of c.take_turn.new.state) to w) after h in
+          let one = turn_worth c.args.decoder.now.table.now (message_of c.args.decoder.now.bytes.now c.args.decoder.now.handles.now) c.pop.new.self.items c.in-Some.frame (at_of c.loop-frame.state) (at_of c.take_turn.new.state) spent c.in_ok-turn.turn c.in_ok-turn.ensures.ok to w now in
+          let all = c.loop-frame.invariant.least to (w + spent) (subst (λ (l : List Frame). FinishesWorth c.args.decoder.now.table.now (message_of c.args.decoder.now.bytes.now c.args.decoder.now.handles.now) l (at_of c.loop-frame.state) to (w + spent)) (sym popped) one) in
+          finishes_raised c.args.decoder.now.table.now (message_of c.args.decoder.now.bytes.now c.args.decoder.now.handles.now) c.args.stack.now.items (at_of c.args.state.now) to _ _ (omega (arith, c.loop-frame.invariant.grows, c.in_ok-turn.ensures.rises)) all;
       fine = subst (λ (l : List Frame). StackFine c.args.decoder.now.table.now c.args.decoder.now.bytes.now 0 l) (sym after) (turn_fine c.args.decoder.now.table.now (message_of c.args.decoder.now.bytes.now c.args.decoder.now.handles.now) c.pop.new.self.items c.in-Some.frame (at_of c.loop-frame.state) _ _ c.in_ok-turn.turn c.in_ok-turn.ensures.ok (subst (λ (l : List Frame). StackFine c.args.decoder.now.table.now c.args.decoder.now.bytes.now 0 l) popped c.loop-frame.invariant.fine));
       steps = (let less = turn_less c.args.decoder.now.table.now (message_of c.args.decoder.now.bytes.now c.args.decoder.now.handles.now) c.pop.new.self.items c.in-Some.frame (at_of c.loop-frame.state) _ _ c.in_ok-turn.turn c.in_ok-turn.ensures.ok in
           let new = ap (λ (l : List Frame). work c.args.decoder.now.bytes.now l c.take_turn.new.state.next) after in
@@ -90,3 +109,8 @@ take_turn-requires-clause-budget c =
     let old = ap (λ (l : List Frame). work c.args.decoder.now.bytes.now l c.loop-frame.state.next) c.in-Some.ensures.items in
     let so_far = c.loop-frame.invariant.steps in
     omega (arith, old, so_far, c.requires.budget, stack_work_top c.args.decoder.now.table.now (message_of c.args.decoder.now.bytes.now c.args.decoder.now.handles.now) c.pop.new.self.items c.in-Some.frame)
+
+pub returns-clause-least : goal.returns-clause-least
+returns-clause-least c =
+    finishes_raised c.args.decoder.now.table.now (message_of c.args.decoder.now.bytes.now c.args.decoder.now.handles.now) c.args.stack.now.items (at_of c.args.state.now) (at_of c.loop-frame.state) _ _ (omega arith)
+    (c.loop-frame.invariant.least (at_of c.loop-frame.state) 0 (worth_all c.args.decoder.now.table.now (message_of c.args.decoder.now.bytes.now c.args.decoder.now.handles.now) c.loop-frame.stack.items (at_of c.loop-frame.state) 0 (λ lt. no_false (c.in_default.ensures.variant.1 lt))))

@@ -84,7 +84,7 @@ returns-clause-ok c =
     let f = c.args.frame in
     let old = at_of c.args.state.now in
     let start = turns_start t m f old c.requires.frame c.requires.state f refl in
-    on_ok_from c.zeros_at.result (λ z. over_turns t c.args.self.now.fine m f old old 0 f start c.requires.over c.requires.plain _ (omega arith) z) c.zeros_at.ensures.ok
+    on_ok_from c.zeros_at.result (λ z. over_turns t c.args.self.now.fine m f old old 0 f start c.requires.over c.requires.plain _ (omega arith) (omega arith) z) c.zeros_at.ensures.ok
 
 pub returns-clause-fault_is_true : goal.returns-clause-fault_is_true
 returns-clause-fault_is_true c =

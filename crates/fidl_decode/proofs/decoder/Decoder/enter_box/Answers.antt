@@ -126,7 +126,7 @@ returns-clause-ok c =
     let still = c.in_ok-below.ensures.steps in
     let whole : c.row-row.result.key + (entry_at t c.row-row.result.entry).size ≡ c.args.frame.size = ap (λ (w : raw.Row). w.key + (entry_at t w.entry).size) c.row-row.ensures.value ∙ c.requires.whole in
     let few : c.args.frame.in_envelope ≤ 1 = elim c.requires.frame.in_envelope [ inl out ↦ omega (arith, out) | inr own ↦ (let one = own.0 in omega (arith, one)) ] in
-    last_turns t c.args.self.now.fine m c.args.frame c.args.first c.row-row.result last c.row-row.ensures.value (at_of c.args.state.now) c.requires.frame c.requires.state (at_of c.read_box.new.state) (c.read_box.new.state.steps - (c.args.state.now.steps + (c.args.frame.base + c.row-row.result.key - (c.args.frame.base + c.args.frame.done) + 1))) (c.read_box.new.state.steps - c.args.state.now.steps) whole (omega (arith, still)) c.in_ok-zeros_at.ensures.ok c.in_ok-below.below c.in_ok-below.ensures.ok (c.in_ok-below.ensures.fine c.args.frame.in_envelope few)
+    last_turns t c.args.self.now.fine m c.args.frame c.args.first c.row-row.result last c.row-row.ensures.value (at_of c.args.state.now) c.requires.frame c.requires.state (at_of c.read_box.new.state) (c.read_box.new.state.steps - (c.args.state.now.steps + (c.args.frame.base + c.row-row.result.key - (c.args.frame.base + c.args.frame.done) + 1))) (c.read_box.new.state.steps - c.args.state.now.steps) whole (omega (arith, still)) (omega (arith, still)) c.in_ok-zeros_at.ensures.ok c.in_ok-below.below c.in_ok-below.ensures.ok (c.in_ok-below.ensures.fine c.args.frame.in_envelope few)
 
 pub returns-clause-spends : goal.returns-clause-spends
 returns-clause-spends c =

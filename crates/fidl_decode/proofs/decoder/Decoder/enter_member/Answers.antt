@@ -34,7 +34,7 @@ returns-then-flags-ne1 c =
     let old = at_of c.args.state.now in
     let size = ap (λ (d : Entry). d.size) c.entry-content.ensures.value in
     let r = numbers_refuse t c.args.self.now.fine m (c.args.self.now.short, c.requires.state.few) c.args.depth c.args.entry c.args.envelope old c.requires.entry c.requires.room (λ i. omega (arith, c.args.self.now.octets i)) c.requires.state c.requires.depth (BadEnvelope c.args.envelope) (refl, not_inside t c.args.self.now.fine m (c.args.self.now.short, c.requires.state.few) c.args.depth c.args.entry c.args.envelope old c.requires.entry c.requires.room (λ i. omega (arith, c.args.self.now.octets i)) c.requires.state c.requires.depth (omega (arith, size, c.if-size-le4.true)) (λ f. c.if-flags-ne1.true (c.flags_at-flags.ensures ∙ f))) in
-    record { ok = tt; breaks = tt; fine = tt; deeper = tt; left = tt; state = c.requires.state; fault_is_true = r.0; steps = refl; grows = omega arith; work = tt }
+    record { ok = tt; breaks = tt; least = tt; fine = tt; deeper = tt; left = tt; state = c.requires.state; fault_is_true = r.0; steps = refl; grows = omega arith; work = tt }
 
 pub returns-then-size-le4 : goal.returns-then-size-le4
 returns-then-size-le4 c =
@@ -48,7 +48,7 @@ returns-then-size-le4 c =
     let y = subst (λ (f : Frame). Enters t m c.args.depth c.args.entry c.args.envelope old (record { next = old.next; handle = old.handle; objects = c.record.new.self.objects; records = c.record.new.self.records }) f) (sym c.content_frame.ensures) x in
     let until : Until = record { envelope = c.args.envelope; next = old.next; handle = old.handle + c.handle_count_at-handles.result } in
     let left : c.content_frame.result.left ≡ Content c.args.entry (entry_at t c.args.entry).size 1 until = ap (λ (f : Frame). f.left) c.content_frame.ensures ∙ ap (λ n. Content c.args.entry n 1 until) size in
-    record { ok = y.same; breaks = y.breaks; fine = y.fine; deeper = y.deeper; left = (until, left); state = y.state; fault_is_true = tt; steps = refl; grows = omega arith; work = y.work }
+    record { ok = y.same; breaks = y.breaks; least = y.least; fine = y.fine; deeper = y.deeper; left = (until, left); state = y.state; fault_is_true = tt; steps = refl; grows = omega arith; work = y.work }
 
 pub returns-then-flags-ne0 : goal.returns-then-flags-ne0
 returns-then-flags-ne0 c =
@@ -64,7 +64,7 @@ returns-then-flags-ne0 c =
         | then-flags-ne0-via-else-flags-ne0+else-counted-eq0+then-counted-ne0 w ↦ omega (arith, w.if-counted-ne0.true, c.byte_count_at-counted.ensures, u.1)
       ]),
     ) in
-    record { ok = tt; breaks = tt; fine = tt; deeper = tt; left = tt; state = c.requires.state; fault_is_true = r.0; steps = refl; grows = omega arith; work = tt }
+    record { ok = tt; breaks = tt; least = tt; fine = tt; deeper = tt; left = tt; state = c.requires.state; fault_is_true = r.0; steps = refl; grows = omega arith; work = tt }
 
 pub returns-then-depth-eq-MAX_DEPTH : goal.returns-then-depth-eq-MAX_DEPTH
 returns-then-depth-eq-MAX_DEPTH c =
@@ -73,7 +73,7 @@ returns-then-depth-eq-MAX_DEPTH c =
     let old = at_of c.args.state.now in
     let size = ap (λ (d : Entry). d.size) c.entry-content.ensures.value in
     let r = numbers_refuse t c.args.self.now.fine m (c.args.self.now.short, c.requires.state.few) c.args.depth c.args.entry c.args.envelope old c.requires.entry c.requires.room (λ i. omega (arith, c.args.self.now.octets i)) c.requires.state c.requires.depth (TooDeep c.args.envelope) (refl, sym c.flags_at-flags.ensures ∙ c.if-flags-ne0.false, omega (arith, c.if-depth-eq-MAX_DEPTH.true)) in
-    record { ok = tt; breaks = tt; fine = tt; deeper = tt; left = tt; state = c.requires.state; fault_is_true = r.0; steps = refl; grows = omega arith; work = tt }
+    record { ok = tt; breaks = tt; least = tt; fine = tt; deeper = tt; left = tt; state = c.requires.state; fault_is_true = r.0; steps = refl; grows = omega arith; work = tt }
 
 pub returns-then-whole-self : goal.returns-then-whole-self
 returns-then-whole-self c =
@@ -84,7 +84,7 @@ returns-then-whole-self c =
     let up = cut_off t c.args.self.now.fine m (c.args.self.now.short, c.requires.state.few) c.args.depth c.args.entry c.args.envelope old c.requires.entry c.requires.room (λ i. omega (arith, c.args.self.now.octets i)) c.requires.state c.requires.depth in
     let whole : c.next_multiple_of-whole.result ≡ next_multiple_of (entry_at t c.args.entry).size 8 = c.next_multiple_of-whole.ensures.value ∙ ap (λ k. next_multiple_of k 8) size in
     let r = numbers_refuse t c.args.self.now.fine m (c.args.self.now.short, c.requires.state.few) c.args.depth c.args.entry c.args.envelope old c.requires.entry c.requires.room (λ i. omega (arith, c.args.self.now.octets i)) c.requires.state c.requires.depth (Truncated old.next) (refl, sym c.flags_at-flags.ensures ∙ c.if-flags-ne0.false, omega (arith, c.if-whole-self.true, whole, up)) in
-    record { ok = tt; breaks = tt; fine = tt; deeper = tt; left = tt; state = c.requires.state; fault_is_true = r.0; steps = refl; grows = omega arith; work = tt }
+    record { ok = tt; breaks = tt; least = tt; fine = tt; deeper = tt; left = tt; state = c.requires.state; fault_is_true = r.0; steps = refl; grows = omega arith; work = tt }
 
 pub returns : goal.returns
 returns c =
@@ -105,7 +105,7 @@ returns c =
     let y = subst (λ (f : Frame). Enters t m c.args.depth c.args.entry c.args.envelope old new f) (sym c.content_frame-2.ensures) x in
     let until : Until = record { envelope = c.args.envelope; next = old.next + c.byte_count_at-counted.result; handle = old.handle + c.handle_count_at-handles.result } in
     let left : c.content_frame-2.result.left ≡ Content c.args.entry (entry_at t c.args.entry).size 1 until = ap (λ (f : Frame). f.left) c.content_frame-2.ensures ∙ ap (λ n. Content c.args.entry n 1 until) size in
-    record { ok = y.same; breaks = y.breaks; fine = y.fine; deeper = y.deeper; left = (until, left); state = y.state; fault_is_true = tt; steps = refl; grows = omega arith; work = y.work }
+    record { ok = y.same; breaks = y.breaks; least = y.least; fine = y.fine; deeper = y.deeper; left = (until, left); state = y.state; fault_is_true = tt; steps = refl; grows = omega arith; work = y.work }
 
 pub entry-content-requires : goal.entry-content-requires
 entry-content-requires c = c.requires.entry

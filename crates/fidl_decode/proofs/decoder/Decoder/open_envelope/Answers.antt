@@ -14,8 +14,8 @@ use Rattle.fidl_decode.proofs.decoder.Decoder.open_envelope.Goals as goal
 
 pub returns-in_default-clause-ok : goal.returns-in_default-clause-ok
 returns-in_default-clause-ok c =
-    subst (λ (o : Option raw.Row). Opens c.args.self.now.table.now (message_of c.args.self.now.bytes.now c.args.self.now.handles.now) c.args.depth (member_term o) c.args.envelope (at_of c.args.state.now) (at_of c.skip_member.new.state) None) (sym c.in_default.is)
-    (opens_unknown c.args.self.now.table.now (message_of c.args.self.now.bytes.now c.args.self.now.handles.now) c.args.depth c.args.envelope (at_of c.args.state.now) (at_of c.skip_member.new.state) c.in_ok-skip_member.ensures.state c.in_ok-skip_member.ensures.grows c.in_ok-skip_member.ensures.ok)
+    subst (λ (o : Option raw.Row). Opens c.args.self.now.table.now (message_of c.args.self.now.bytes.now c.args.self.now.handles.now) c.args.depth (member_term o) c.args.envelope (at_of c.args.state.now) (at_of c.skip_member.new.state) (c.skip_member.new.state.steps - c.args.state.now.steps) None) (sym c.in_default.is)
+    (opens_unknown c.args.self.now.table.now (message_of c.args.self.now.bytes.now c.args.self.now.handles.now) c.args.depth c.args.envelope (at_of c.args.state.now) (at_of c.skip_member.new.state) c.in_ok-skip_member.ensures.state _ c.in_ok-skip_member.ensures.grows c.in_ok-skip_member.ensures.ok)
 
 pub skip_member-requires-clause-room : goal.skip_member-requires-clause-room
 skip_member-requires-clause-room c = c.requires.room
@@ -51,7 +51,7 @@ returns-in_default-clause-pays c =
     let old = at_of c.args.state.now in
     let new = at_of c.skip_member.new.state in
     let x = c.in_ok-skip_member.ensures in
-    let o = opens_unknown t m c.args.depth c.args.envelope old new x.state x.grows x.ok in
+    let o = opens_unknown t m c.args.depth c.args.envelope old new x.state 0 x.grows x.ok in
     omega (arith, o.less, x.steps)
 
 pub returns-in_default-clause-spends : goal.returns-in_default-clause-spends
@@ -89,7 +89,7 @@ returns-then-pass_member-clause-ok c =
     let t = c.args.self.now.table.now in
     let m = message_of c.args.self.now.bytes.now c.args.self.now.handles.now in
     let old = at_of c.args.state.now in
-    subst (λ (o : Option raw.Row). Opens t m c.args.depth (member_term o) c.args.envelope old (at_of c.pass_member.new.state) None) (sym c.in-Some.is) (c.pass_member.ensures.passed c.if-pass_member.true)
+    subst (λ (o : Option raw.Row). Opens t m c.args.depth (member_term o) c.args.envelope old (at_of c.pass_member.new.state) (c.pass_member.new.state.steps - c.args.state.now.steps) None) (sym c.in-Some.is) (c.pass_member.ensures.passed c.if-pass_member.true)
 
 pub returns-then-pass_member-clause-pays : goal.returns-then-pass_member-clause-pays
 returns-then-pass_member-clause-pays c =
@@ -159,9 +159,9 @@ returns-clause-ok c =
     let still : c.pass_member.new.state.steps ≡ c.args.state.now.steps = omega (arith, next, c.pass_member.ensures.grows, c.pass_member.ensures.pays) in
     let new = at_of c.enter_member.new.state in
     let x = c.in_ok-frame.ensures in
-    let o = opens_known t m c.args.depth c.args.envelope (at_of c.pass_member.new.state) new x.state c.in-Some.row.entry c.in_ok-frame.frame x.grows x.ok x.breaks x.fine x.deeper x.work in
-    subst (λ (o : Option raw.Row). Opens t m c.args.depth (member_term o) c.args.envelope old new (Some c.in_ok-frame.frame)) (sym c.in-Some.is)
-    (subst (λ (s : Position). Opens t m c.args.depth (Some (ty.named c.in-Some.row.entry)) c.args.envelope s new (Some c.in_ok-frame.frame)) kept o)
+    let o = opens_known t m c.args.depth c.args.envelope (at_of c.pass_member.new.state) new x.state (c.enter_member.new.state.steps - c.args.state.now.steps) c.in-Some.row.entry c.in_ok-frame.frame x.grows x.ok x.breaks x.least x.fine x.deeper x.work in
+    subst (λ (o : Option raw.Row). Opens t m c.args.depth (member_term o) c.args.envelope old new (c.enter_member.new.state.steps - c.args.state.now.steps) (Some c.in_ok-frame.frame)) (sym c.in-Some.is)
+    (subst (λ (s : Position). Opens t m c.args.depth (Some (ty.named c.in-Some.row.entry)) c.args.envelope s new (c.enter_member.new.state.steps - c.args.state.now.steps) (Some c.in_ok-frame.frame)) kept o)
 
 pub returns-clause-pays : goal.returns-clause-pays
 returns-clause-pays c =
@@ -173,7 +173,7 @@ returns-clause-pays c =
     let still : c.pass_member.new.state.steps ≡ c.args.state.now.steps = omega (arith, next, c.pass_member.ensures.grows, c.pass_member.ensures.pays) in
     let new = at_of c.enter_member.new.state in
     let x = c.in_ok-frame.ensures in
-    let o = opens_known t m c.args.depth c.args.envelope (at_of c.pass_member.new.state) new x.state c.in-Some.row.entry c.in_ok-frame.frame x.grows x.ok x.breaks x.fine x.deeper x.work in
+    let o = opens_known t m c.args.depth c.args.envelope (at_of c.pass_member.new.state) new x.state (c.enter_member.new.state.steps - c.args.state.now.steps) c.in-Some.row.entry c.in_ok-frame.frame x.grows x.ok x.breaks x.least x.fine x.deeper x.work in
     let less = o.less in
     let steps = x.steps in
     omega (arith, less, next, still, steps)

@@ -1,6 +1,6 @@
 use Rattle.fidl_decode.proofs.Fitting.{lt_le}
 use Rattle.fidl_decode.proofs.Unchanged.{same_le}
-use Rattle.std.proofs.Common.{◌≡◌, ◌<◌, ℕ, List, refl, sym, ap, subst, ◌∙◌, inl, inr, add-one}
+use Rattle.std.proofs.Common.{◌≡◌, ◌<◌, ◌+◌, ◌-◌, arith, ℕ, List, refl, sym, ap, subst, ◌∙◌, inl, inr, add-one}
 use Rattle.std.specs.Prelude.{Some}
 use Rattle.fidl_wire.specs.Term.{find}
 use Rattle.fidl_table_format.specs.declared.kind.EntryKind.{EntryKind}
@@ -8,7 +8,10 @@ use Rattle.fidl_table_format.specs.declared.kind.EntryKind.TheVariants.{Int32, I
 use Rattle.fidl_table_format.specs.Kind.{kind_of}
 use Rattle.fidl_table_format.specs.Section.{header_of, entry_at}
 use Rattle.fidl_table_format.specs.Terms.{members_of}
-use Rattle.fidl_decode.specs.Body.{BodyFine}
+use Rattle.fidl_decode.specs.Body.{BodyFine, rest_of}
+use Rattle.fidl_decode_model.specs.Faults.{message_of}
+use Rattle.fidl_decode_model.specs.Machine.{at_of}
+use Rattle.fidl_decode_columns.proofs.Leaves.{turns_stay}
 use Rattle.fidl_decode.proofs.BodyTurns.{body_found, free_of}
 use Rattle.fidl_decode.proofs.decoder.Decoder.pass_alike.Goals as goal
 
@@ -137,3 +140,6 @@ unreachable-requires c =
     let number : c.kind_of.result ≡ (entry_at t e).kind = c.kind_of.ensures ∙ ap (λ (u : List ℕ). (entry_at u e).kind) c.requires.body.table in
     let fine = c.args.self.now.fine.each e (subst (λ u. e < (header_of u).entries) c.requires.body.table c.row-row.ensures.entry) in
     c.in_default.not-Some fine.0 (c.from_number.ensures ∙ ap kind_of number ∙ fine.1.is)
+
+pub returns-then-row-from-clause-turns : goal.returns-then-row-from-clause-turns
+returns-then-row-from-clause-turns c = turns_stay c.args.self.now.table.now (message_of c.args.self.now.bytes.now c.args.self.now.handles.now) (rest_of c.args.body.now c.args.from) (at_of c.args.state.now) c.requires.frame c.requires.state _ (omega arith)

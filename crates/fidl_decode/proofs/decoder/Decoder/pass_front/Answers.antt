@@ -4,9 +4,17 @@ use Rattle.fidl_decode_model.specs.declared.frame.State.{State}
 use Rattle.fidl_decode_model.specs.Faults.{message_of}
 use Rattle.fidl_decode.specs.Body.{rest_of}
 use Rattle.fidl_decode_model.specs.Machine.{Turns, at_of}
-use Rattle.fidl_decode_columns.proofs.Leaves.{left_over, turns_then}
+use Rattle.fidl_decode_columns.proofs.Leaves.{left_over, turns_then, turns_stay}
 use Rattle.fidl_decode.proofs.decoder.Decoder.pass_front.Goals.{else-loop-from-test, then-loop-from-test+then-read-from}
 use Rattle.fidl_decode.proofs.decoder.Decoder.pass_front.Goals as goal
+
+pub loop-from-init : goal.loop-from-init
+loop-from-init c = record {
+  turns = turns_stay c.args.self.now.table.now (message_of c.args.self.now.bytes.now c.args.self.now.handles.now) (rest_of c.args.body.now 0) (at_of c.args.state.now) c.requires.frame c.requires.state _ (omega arith);
+  few = omega arith;
+  grows = omega arith;
+  pays = omega arith;
+}
 
 pub loop-from-preserved : goal.loop-from-preserved
 loop-from-preserved c =

@@ -1,9 +1,10 @@
 use Rattle.fidl_decode.proofs.Unchanged.{same_le}
-use Rattle.std.proofs.Common.{◌≡◌, ◌+◌, sym, subst, ◌∙◌, arith}
+use Rattle.std.proofs.Common.{◌≡◌, ◌+◌, sym, subst, ◌∙◌, arith, ◌-◌, ◌≤◌}
 use Rattle.fidl_decode_model.specs.declared.frame.Remaining.{Remaining}
-use Rattle.fidl_decode_model.specs.Machine.{Passes}
+use Rattle.fidl_decode_model.specs.Machine.{Passes, at_of}
 use Rattle.fidl_decode_model.specs.Faults.{message_of}
 use Rattle.fidl_decode.proofs.Known.{same_rows}
+use Rattle.fidl_decode_columns.proofs.Leaves.{turns_stay}
 use Rattle.fidl_decode.proofs.decoder.Decoder.pass_known.Goals as goal
 
 pub pass_over-requires-clause-passes : goal.pass_over-requires-clause-passes
@@ -33,3 +34,15 @@ pass_over-requires-clause-state c = c.requires.state
 
 pub pass_over-requires-clause-budget : goal.pass_over-requires-clause-budget
 pass_over-requires-clause-budget c = c.requires.budget
+
+pub returns-in_default : goal.returns-in_default
+returns-in_default c = record { turns = turns_stay c.args.self.now.table.now (message_of c.args.self.now.bytes.now c.args.self.now.handles.now) c.args.frame (at_of c.args.state.now) c.requires.frame c.requires.state _ (omega arith); grows = omega arith }
+
+pub returns-then-frame-ne0-clause-turns : goal.returns-then-frame-ne0-clause-turns
+returns-then-frame-ne0-clause-turns c = turns_stay c.args.self.now.table.now (message_of c.args.self.now.bytes.now c.args.self.now.handles.now) c.args.frame (at_of c.args.state.now) c.requires.frame c.requires.state _ (omega arith)
+
+pub returns-then-from-clause-turns : goal.returns-then-from-clause-turns
+returns-then-from-clause-turns c = turns_stay c.args.self.now.table.now (message_of c.args.self.now.bytes.now c.args.self.now.handles.now) c.args.frame (at_of c.args.state.now) c.requires.frame c.requires.state _ (omega arith)
+
+pub returns-then-from-2-clause-turns : goal.returns-then-from-2-clause-turns
+returns-then-from-2-clause-turns c = turns_stay c.args.self.now.table.now (message_of c.args.self.now.bytes.now c.args.self.now.handles.now) c.args.frame (at_of c.args.state.now) c.requires.frame c.requires.state _ (omega arith)

@@ -4,8 +4,17 @@ use Rattle.fidl_decode_model.specs.Faults.{message_of}
 use Rattle.fidl_decode_model.specs.State.{Position}
 use Rattle.fidl_decode.specs.Body.{rest_of}
 use Rattle.fidl_decode_model.specs.Machine.{Turns, at_of}
-use Rattle.fidl_decode_columns.proofs.Leaves.{left_over, turns_then}
+use Rattle.fidl_decode_columns.proofs.Leaves.{left_over, turns_then, turns_stay}
 use Rattle.fidl_decode.proofs.decoder.Decoder.pass_run.Goals as goal
+
+pub loop-read-init : goal.loop-read-init
+loop-read-init c = record {
+  turns = turns_stay c.args.self.now.table.now (message_of c.args.self.now.bytes.now c.args.self.now.handles.now) (rest_of c.args.body.now c.args.from) (at_of c.args.state.now) c.requires.frame c.requires.state _ (omega arith);
+  order = omega arith;
+  few = c.requires.more;
+  grows = omega arith;
+  pays = omega arith;
+}
 
 pub loop-read-preserved : goal.loop-read-preserved
 loop-read-preserved c =

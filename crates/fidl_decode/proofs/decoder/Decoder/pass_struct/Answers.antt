@@ -79,6 +79,9 @@ returns-clause-passed c =
     let whole : c.next_multiple_of-whole.result ≡ next_multiple_of d.size 8 = c.next_multiple_of-whole.ensures.value ∙ ap (λ (d : Entry). next_multiple_of d.size 8) is in
     let plain = c.plain_rows-plain.result in
     let passes = plainly t m c.entry-e.result d plain.rows plain.first plain.count plain.done plain.flag is c.if-plain-ne0.false (no_flag plain.flag (sym c.is_some.ensures ∙ c.if-is_some.false)) c.plain_rows-plain.ensures.passes in
+    let within = rows_within t c.args.self.now.fine m (c.args.self.now.short, c.requires.state.few) c.args.depth c.args.entry c.args.envelope old c.requires.entry c.requires.room (λ i. omega (arith, c.args.self.now.octets i)) c.requires.state c.requires.depth c.requires.kind
+    (omega (arith, c.requires.depth, c.if-depth-eq-MAX_DEPTH.false)) (omega (arith, c.if-whole-self.false, whole)) plain.rows plain.first plain.done passes in
+    let wide = c.plain_rows-plain.ensures.wide in
     let small = c.next_multiple_of-whole.result in
     let is_small = sym c.u64_at.ensures ∙ c.if-u64_at-whole.false in
     let few : number_at w64 m.bytes c.args.envelope < 2 ^ 32 = omega (arith, is_small, c.if-whole-self.false, c.args.self.now.short) in
@@ -92,7 +95,7 @@ returns-clause-passed c =
     = λ i. record { next = old.next + sym whole i; handle = old.handle; objects = sym objects i; records = sym records i } in
     struct_passed t c.args.self.now.fine m (c.args.self.now.short, c.requires.state.few) c.args.depth c.args.entry c.args.envelope old c.requires.entry c.requires.room (λ i. omega (arith, c.args.self.now.octets i)) c.requires.state c.requires.depth c.requires.kind
     (omega (arith, c.requires.depth, c.if-depth-eq-MAX_DEPTH.false)) (omega (arith, c.if-whole-self.false, whole)) plain.rows plain.first plain.done passes
-    (omega (arith, c.if-size-le4.false, ap (λ (d : Entry). d.size) is)) (flags_none m.bytes c.args.envelope c.requires.room octets few) (counted_small m.bytes c.args.envelope c.requires.room octets few ∙ is_small ∙ whole) (handles_none m.bytes c.args.envelope c.requires.room octets few) z' new led
+    (omega (arith, c.if-size-le4.false, ap (λ (d : Entry). d.size) is)) (flags_none m.bytes c.args.envelope c.requires.room octets few) (counted_small m.bytes c.args.envelope c.requires.room octets few ∙ is_small ∙ whole) (handles_none m.bytes c.args.envelope c.requires.room octets few) z' new led _ (omega (arith, wide, within, c.next_multiple_of-whole.ensures.lower_bound, ap (λ (d : Entry). d.size) is))
 
 pub entry-e-requires : goal.entry-e-requires
 entry-e-requires c = c.requires.entry

@@ -49,7 +49,7 @@ returns-clause-passed c =
     text_passed t c.args.self.now.fine m (c.args.self.now.short, c.requires.state.few) c.args.depth e p old c.requires.entry c.requires.room small c.requires.state c.requires.depth c.requires.kind
     (omega (arith, c.if-depth-ge-MAX_DEPTH.false)) n room (sym c.u64_at-count.ensures) bound (c.is_present.ensures.0 c.if-not-is_present.false)
     (λ k lt. c.are_ascii.ensures c.if-not-are_ascii.false k (omega (arith, lt, le, value))) (subst (λ k. Stands bytes (from + 16 + n) (zeros k)) gap (c.are_zeros.ensures c.if-not-are_zeros.false))
-    (flags_none bytes p c.requires.room small few) (counted_small bytes p c.requires.room small few ∙ sym c.u64_at-counted.ensures ∙ omega (arith, counted, value)) (handles_none bytes p c.requires.room small few) new led
+    (flags_none bytes p c.requires.room small few) (counted_small bytes p c.requires.room small few ∙ sym c.u64_at-counted.ensures ∙ omega (arith, counted, value)) (handles_none bytes p c.requires.room small few) new led _ (omega (arith, value))
 
 pub entry-bound-requires : goal.entry-bound-requires
 entry-bound-requires c = c.requires.entry

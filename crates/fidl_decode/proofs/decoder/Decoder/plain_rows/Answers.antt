@@ -11,6 +11,7 @@ use Rattle.fidl_decode_model.specs.declared.frame.Remaining.TheVariants.{Rows}
 use Rattle.fidl_decode_model.specs.Rows.{Row}
 use Rattle.fidl_decode_model.specs.Machine.{StateFine, IsGood, Visits, Turns}
 use Rattle.fidl_decode_model.specs.Faults.{message_of}
+use Rattle.fidl_decode_model.proofs.Visiting.{positive, size_is}
 use Rattle.fidl_decode_columns.proofs.Leaves.{going_on, left_over, same_frame, turns_start, next_room, next_turns, rows_next, no_zeros}
 use Rattle.fidl_decode.proofs.decoder.Decoder.plain_rows.Goals as goal
 
@@ -26,6 +27,7 @@ loop-i-init c =
           let begun = turns_start t m f s ff state (going_on f left f.done) (same_frame f left (is ∙ ap (λ n. Rows c.args.first n) all)) in
           let zero = subst (λ d. Turns t m f s s 0 (left_over (Some (going_on f left d)))) start begun in
           subst (λ n. Turns t m f s s n (left_over (Some (going_on f left 0)))) none zero;
+      wide = omega arith;
     }
 
 pub loop-i-preserved : goal.loop-i-preserved
@@ -49,7 +51,8 @@ loop-i-preserved c =
           let room = next_room t c.args.self.now.fine m f s s (c.loop-i.i - c.args.first) g here member left one in
           let seen : Visits t m f.depth row.entry (f.base + row.key) s s 0 None = visits f.base f.depth s ff.depth state (omega (arith, room.1, room.2)) good in
           let none : f.base + row.key - (f.base + c.loop-i.done) ≡ 0 = omega (arith, there) in
-          next_turns t c.args.self.now.fine m f s s (c.loop-i.i - c.args.first) g here member left one tt (omega (arith, c.requires.within, before)) tt s (row.key + c.entry.result.size) 0 (c.loop-i.i + 1 - c.args.first) (omega (arith, size)) (omega (arith, c.loop-i.auto.i)) (no_zeros m.bytes (f.base + c.loop-i.done) _ none) seen;
+          next_turns t c.args.self.now.fine m f s s (c.loop-i.i - c.args.first) g here member left one tt (omega (arith, c.requires.within, before)) tt s (row.key + c.entry.result.size) 0 (c.loop-i.i + 1 - c.args.first) (omega (arith, size)) (omega (arith, c.loop-i.auto.i)) (omega (arith, c.loop-i.auto.i)) (no_zeros m.bytes (f.base + c.loop-i.done) _ none) seen;
+      wide = (let some = positive t c.args.self.now.fine row.entry c.row-row.ensures.entry in let own = size_is t c.args.self.now.fine row.entry c.row-row.ensures.entry in omega (arith, c.loop-i.invariant.wide, c.loop-i.auto.i, there, some, own, size));
     }
 
 pub returns-clause-passes : goal.returns-clause-passes
@@ -65,3 +68,6 @@ returns-clause-passes c =
     let here = c.loop-i.invariant.passes f s ff is start state good in
     let counted = subst (λ n. Turns t m f s s n (left_over (Some (going_on f (Rows c.loop-i.i (end - c.loop-i.i)) c.loop-i.done)))) read here in
     subst (λ k. Turns t m f s s few (left_over (Some (going_on f (Rows k (c.args.count - few)) c.loop-i.done)))) over (subst (λ k. Turns t m f s s few (left_over (Some (going_on f (Rows c.loop-i.i k) c.loop-i.done)))) rest counted)
+
+pub returns-clause-wide : goal.returns-clause-wide
+returns-clause-wide c = omega (arith, c.loop-i.invariant.wide, c.loop-i-test.false, c.loop-i.auto.i, c.loop-i.auto.i-end)

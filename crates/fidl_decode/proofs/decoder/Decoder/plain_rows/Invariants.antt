@@ -1,4 +1,4 @@
-use Rattle.std.proofs.Common.{◌≡◌, ◌-◌}
+use Rattle.std.proofs.Common.{◌≡◌, ◌-◌, ◌≤◌}
 use Rattle.std.specs.Prelude.{Some}
 use Rattle.fidl_decode_model.specs.declared.frame.Frame.{Frame}
 use Rattle.fidl_decode_model.specs.declared.frame.Remaining.TheVariants.{Rows}
@@ -12,4 +12,5 @@ use Rattle.fidl_decode.proofs.decoder.Decoder.plain_rows.Given as goal
 abbrev pub invariant-loop-i : goal.invariant-loop-i
 invariant-loop-i l = record {
   passes : (f : Frame) → (s : Position) → FrameFine l.self.table.now l.self.bytes.now f → f.left ≡ Rows l.first l.count → f.done ≡ 0 → StateFine (message_of l.self.bytes.now l.self.handles.now) s → IsGood l.self.bytes.now f.base l.flag → Turns l.self.table.now (message_of l.self.bytes.now l.self.handles.now) f s s (l.i - l.first) (left_over (Some (going_on f (Rows l.i (l.end - l.i)) l.done)));
+  wide : l.i - l.first ≤ l.done;
 }

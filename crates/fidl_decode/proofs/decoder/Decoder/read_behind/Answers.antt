@@ -3,7 +3,7 @@ use Rattle.std.specs.Prelude.{Some, IfNone, ◌<◌}
 use Rattle.std.proofs.lemmas.Result.{IfOk-weaker, IfErr-weaker, on_ok_weaker}
 use Rattle.fidl_decode_model.specs.Machine.{BreaksFrame, Turns, at_of}
 use Rattle.fidl_decode_model.specs.Faults.{message_of}
-use Rattle.fidl_decode_model.proofs.Turning.{none_weaker}
+use Rattle.fidl_decode_model.proofs.Turning.{if_ok_on, none_weaker}
 use Rattle.fidl_decode_columns.proofs.Leaves.{left_over, turns_then, turns_break}
 use Rattle.fidl_decode.proofs.decoder.Decoder.read_behind.Goals as goal
 
@@ -36,7 +36,7 @@ returns c =
     let less = one.less in
     let grows = c.pass_over-rest.ensures.grows in
     record {
-      ok = IfOk-weaker c.read_struct.result _ (λ o. Turns t m f old new all (left_over o)) (λ o two. turns_then t m f old mid first g one new spent all (left_over o) (omega arith) two) c.read_struct.ensures.ok;
+      ok = if_ok_on c.read_struct.result (λ o. Turns t m g mid new spent (left_over o)) (λ o. Turns t m f old new all (left_over o)) (λ o two more. turns_then t m f old mid first g one new spent all (left_over o) (omega (arith, grows, more)) two) c.read_struct.ensures.ok c.read_struct.ensures.grows;
       grows = on_ok_weaker c.read_struct.result (λ h. omega (arith, h, grows)) c.read_struct.ensures.grows;
       ended = IfOk-weaker c.read_struct.result _ (λ o. IfNone o (c.args.state.now.steps < c.read_struct.new.state.steps)) (λ o h. none_weaker o _ _ (λ lt. omega (arith, lt, grows)) h) c.read_struct.ensures.ended;
       cost = omega (arith, less, grows, c.read_struct.ensures.cost);

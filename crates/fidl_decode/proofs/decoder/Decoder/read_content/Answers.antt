@@ -1,6 +1,6 @@
 use Rattle.fidl_decode.proofs.Fitting.{le_more, lt_le}
 use Rattle.fidl_decode.proofs.Unchanged.{no_ok, same_le}
-use Rattle.std.proofs.Common.{◌≡◌, sym, ap, ◌∙◌}
+use Rattle.std.proofs.Common.{◌≡◌, sym, ap, ◌∙◌, ◌-◌, ◌+◌, ◌≤◌, arith}
 use Rattle.std.specs.Prelude.{Some, None}
 use Rattle.fidl_table_format.specs.declared.record.Entry.{Entry}
 use Rattle.fidl_table_format.specs.Kind.{kind_of}
@@ -10,6 +10,7 @@ use Rattle.fidl_decode_model.specs.Machine.{at_of}
 use Rattle.fidl_decode_model.specs.Faults.{message_of}
 use Rattle.fidl_decode_model.proofs.Turning.{passed_on}
 use Rattle.fidl_decode.proofs.LeafContent.{leaf_known}
+use Rattle.fidl_decode_columns.proofs.Leaves.{turns_stay}
 use Rattle.fidl_decode.proofs.decoder.Decoder.read_content.Goals as goal
 
 no_some : {A : Type 0} (a : A) → Some a ≡ None → ⊥
@@ -112,3 +113,9 @@ returns-then-not-is_flat-clause-grows c = same_le _
 
 pub returns-then-not-is_flat-clause-cost : goal.returns-then-not-is_flat-clause-cost
 returns-then-not-is_flat-clause-cost c = le_more _ _
+
+pub returns-then-count-ne1-clause-ok : goal.returns-then-count-ne1-clause-ok
+returns-then-count-ne1-clause-ok c = turns_stay c.args.self.now.table.now (message_of c.args.self.now.bytes.now c.args.self.now.handles.now) c.args.frame (at_of c.args.state.now) c.requires.frame c.requires.state _ (omega arith)
+
+pub returns-then-not-is_flat-clause-ok : goal.returns-then-not-is_flat-clause-ok
+returns-then-not-is_flat-clause-ok c = turns_stay c.args.self.now.table.now (message_of c.args.self.now.bytes.now c.args.self.now.handles.now) c.args.frame (at_of c.args.state.now) c.requires.frame c.requires.state _ (omega arith)

@@ -1,13 +1,15 @@
 use Rattle.fidl_decode.proofs.Fitting.{not_fewer}
 use Rattle.fidl_decode.proofs.Unchanged.{no_ok}
-use Rattle.std.proofs.Common.{◌≡◌, ◌+◌, ◌-◌, arith}
+use Rattle.std.proofs.Common.{◌≡◌, ◌+◌, ◌-◌, arith, ◌≤◌, ◌∙◌, ap, subst}
 use Rattle.fidl_decode_model.specs.declared.frame.Remaining.TheVariants.{Elements}
 use Rattle.fidl_decode_model.specs.Rows.{Row}
-use Rattle.fidl_decode_model.specs.Machine.{at_of}
+use Rattle.fidl_decode_model.specs.Machine.{at_of, Turns}
 use Rattle.fidl_decode_model.specs.Faults.{message_of}
 use Rattle.fidl_decode_model.proofs.Turning.{on_ok_from, passed_on}
 use Rattle.std.proofs.lemmas.Result.{IfErr-weaker}
-use Rattle.fidl_decode_columns.proofs.Leaves.{going_on, next_size, next_room, next_leaf_breaks, next_turns, over_room, over_turns, over_breaks, elements_next, elements_over, no_zeros}
+use Rattle.fidl_decode_columns.proofs.Leaves.{going_on, next_size, next_room, next_leaf_breaks, next_turns, over_room, over_turns, over_breaks, elements_next, elements_over, no_zeros, turns_stay, left_over, same_frame}
+use Rattle.fidl_decode_model.specs.declared.frame.Frame.{Frame}
+use Rattle.std.specs.Prelude.{Some}
 use Rattle.fidl_decode.proofs.decoder.Decoder.read_each.Goals as goal
 
 pub overflow_add-place : goal.overflow_add-place
@@ -48,7 +50,7 @@ loop-i-preserved c =
     let own = next_size c.args.self.now.table.now c.args.self.now.fine (message_of c.args.self.now.bytes.now c.args.self.now.handles.now) c.args.frame (at_of c.args.state.now) (at_of c.loop-i.state) (c.loop-i.state.steps - c.args.state.now.steps) (going_on c.args.frame (Elements c.args.entry c.args.size (c.args.count - c.loop-i.i)) c.loop-i.done) c.loop-i.invariant.turns (let x : Row = record { offset = c.loop-i.done; entry = c.args.entry } in x) (Elements c.args.entry c.args.size (c.args.count - (c.loop-i.i + 1))) one in
     let none : c.args.frame.base + c.loop-i.done - (c.args.frame.base + c.loop-i.done) ≡ 0 = omega arith in
     let so_far = c.loop-i.invariant.steps in
-    record { turns = next_turns c.args.self.now.table.now c.args.self.now.fine (message_of c.args.self.now.bytes.now c.args.self.now.handles.now) c.args.frame (at_of c.args.state.now) (at_of c.loop-i.state) (c.loop-i.state.steps - c.args.state.now.steps) (going_on c.args.frame (Elements c.args.entry c.args.size (c.args.count - c.loop-i.i)) c.loop-i.done) c.loop-i.invariant.turns (let x : Row = record { offset = c.loop-i.done; entry = c.args.entry } in x) (Elements c.args.entry c.args.size (c.args.count - (c.loop-i.i + 1))) one tt is tt (at_of c.read_leaf.new.state) (c.loop-i.done + c.args.size) _ (c.read_leaf.new.state.steps - c.args.state.now.steps) (omega (arith, own, is)) (omega (arith, (not_fewer _ _ _ c.in_ok-read_leaf.ensures.spends), so_far)) (no_zeros c.args.self.now.bytes.now (c.args.frame.base + c.loop-i.done) _ none) c.in_ok-read_leaf.ensures.ok; steps = omega (arith, (not_fewer _ _ _ c.in_ok-read_leaf.ensures.spends), so_far) }
+    record { turns = next_turns c.args.self.now.table.now c.args.self.now.fine (message_of c.args.self.now.bytes.now c.args.self.now.handles.now) c.args.frame (at_of c.args.state.now) (at_of c.loop-i.state) (c.loop-i.state.steps - c.args.state.now.steps) (going_on c.args.frame (Elements c.args.entry c.args.size (c.args.count - c.loop-i.i)) c.loop-i.done) c.loop-i.invariant.turns (let x : Row = record { offset = c.loop-i.done; entry = c.args.entry } in x) (Elements c.args.entry c.args.size (c.args.count - (c.loop-i.i + 1))) one tt is tt (at_of c.read_leaf.new.state) (c.loop-i.done + c.args.size) _ (c.read_leaf.new.state.steps - c.args.state.now.steps) (omega (arith, own, is)) (omega (arith, (not_fewer _ _ _ c.in_ok-read_leaf.ensures.spends), so_far)) (omega (arith, (not_fewer _ _ _ c.in_ok-read_leaf.ensures.spends), so_far)) (no_zeros c.args.self.now.bytes.now (c.args.frame.base + c.loop-i.done) _ none) c.in_ok-read_leaf.ensures.ok; steps = omega (arith, (not_fewer _ _ _ c.in_ok-read_leaf.ensures.spends), so_far) }
 
 pub overflow_add-at : goal.overflow_add-at
 overflow_add-at c =
@@ -75,7 +77,7 @@ pub returns-clause-ok : goal.returns-clause-ok
 returns-clause-ok c =
     let over = elements_over c.args.self.now.table.now c.args.entry c.args.size c.loop-i.i c.args.count c.loop-i.done (omega (arith, c.loop-i-test.false)) in
     let so_far = c.loop-i.invariant.steps in
-    on_ok_from c.zeros_at.result (λ z. over_turns c.args.self.now.table.now c.args.self.now.fine (message_of c.args.self.now.bytes.now c.args.self.now.handles.now) c.args.frame (at_of c.args.state.now) (at_of c.loop-i.state) (c.loop-i.state.steps - c.args.state.now.steps) (going_on c.args.frame (Elements c.args.entry c.args.size (c.args.count - c.loop-i.i)) c.loop-i.done) c.loop-i.invariant.turns over tt _ (omega (arith, so_far)) z) c.zeros_at.ensures.ok
+    on_ok_from c.zeros_at.result (λ z. over_turns c.args.self.now.table.now c.args.self.now.fine (message_of c.args.self.now.bytes.now c.args.self.now.handles.now) c.args.frame (at_of c.args.state.now) (at_of c.loop-i.state) (c.loop-i.state.steps - c.args.state.now.steps) (going_on c.args.frame (Elements c.args.entry c.args.size (c.args.count - c.loop-i.i)) c.loop-i.done) c.loop-i.invariant.turns over tt _ (omega (arith, so_far)) (omega (arith, so_far)) z) c.zeros_at.ensures.ok
 
 pub returns-in_err-read_leaf-clause-fault_is_true : goal.returns-in_err-read_leaf-clause-fault_is_true
 returns-in_err-read_leaf-clause-fault_is_true c =
@@ -112,3 +114,13 @@ returns-in_err-read_leaf-clause-ok c = no_ok c.from_residual.result c.in_err-rea
 
 pub returns-in_err-read_leaf-clause-ended : goal.returns-in_err-read_leaf-clause-ended
 returns-in_err-read_leaf-clause-ended c = no_ok c.from_residual.result c.in_err-read_leaf.field-0.0 _ c.from_residual.ensures.1
+
+pub loop-i-init : goal.loop-i-init
+loop-i-init c =
+    let all : c.args.count ≡ c.args.count - 0 = omega arith in
+    record {
+      turns = subst (λ (g : Frame). Turns c.args.self.now.table.now (message_of c.args.self.now.bytes.now c.args.self.now.handles.now) c.args.frame (at_of c.args.state.now) (at_of c.args.state.now) (c.args.state.now.steps - c.args.state.now.steps) (left_over (Some g)))
+          (same_frame c.args.frame (Elements c.args.entry c.args.size c.args.count) c.requires.left ∙ ap (λ n. going_on c.args.frame (Elements c.args.entry c.args.size n) c.args.frame.done) all)
+          (turns_stay c.args.self.now.table.now (message_of c.args.self.now.bytes.now c.args.self.now.handles.now) c.args.frame (at_of c.args.state.now) c.requires.frame c.requires.state _ (omega arith));
+      steps = omega arith;
+    }

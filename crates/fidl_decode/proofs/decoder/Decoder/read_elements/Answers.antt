@@ -1,6 +1,6 @@
 use Rattle.fidl_decode.proofs.Fitting.{le_more}
 use Rattle.fidl_decode.proofs.Unchanged.{no_ok, same_le}
-use Rattle.std.proofs.Common.{rules, ◌≡◌, sym, ap, ◌∙◌}
+use Rattle.std.proofs.Common.{rules, ◌≡◌, sym, ap, ◌∙◌, ◌-◌, ◌+◌, ◌≤◌, arith}
 use Rattle.std.specs.Prelude.{Some, None, true}
 use Rattle.fidl_decode_model.specs.Invariants.{is_free}
 use Rattle.fidl_table_format.specs.declared.record.Entry.{Entry}
@@ -9,7 +9,7 @@ use Rattle.fidl_table_format.specs.Section.{entry_at}
 use Rattle.fidl_decode_model.specs.Machine.{at_of}
 use Rattle.fidl_decode_model.specs.Faults.{message_of}
 use Rattle.fidl_decode_model.proofs.Turning.{passed_on}
-use Rattle.fidl_decode_columns.proofs.Leaves.{element_known}
+use Rattle.fidl_decode_columns.proofs.Leaves.{element_known, turns_stay}
 use Rattle.fidl_decode.proofs.Sequences.{kind_free}
 use Rattle.fidl_decode.proofs.decoder.Decoder.read_elements.Goals as goal
 
@@ -87,3 +87,9 @@ pass_elements-requires-clause-free c =
     let t = c.args.self.now.table.now in
     let free : is_free c.in-Some.kind (entry_at t c.args.entry) ≡ true = (let r = ap (λ (d : Entry). is_free c.in-Some.kind d) (sym c.entry-e.ensures.value) ∙ sym c.is_free.ensures in search (rules, r, c.if-is_free.true)) in
     kind_free t c.args.entry c.in-Some.kind (ap (λ (e : Entry). kind_of e.kind) (sym c.entry-e.ensures.value) ∙ sym c.from_number.ensures ∙ c.in-Some.is) free
+
+pub returns-then-count-eq0-clause-ok : goal.returns-then-count-eq0-clause-ok
+returns-then-count-eq0-clause-ok c = turns_stay c.args.self.now.table.now (message_of c.args.self.now.bytes.now c.args.self.now.handles.now) c.args.frame (at_of c.args.state.now) c.requires.frame c.requires.state _ (omega arith)
+
+pub returns-then-not-is_leaf-clause-ok : goal.returns-then-not-is_leaf-clause-ok
+returns-then-not-is_leaf-clause-ok c = turns_stay c.args.self.now.table.now (message_of c.args.self.now.bytes.now c.args.self.now.handles.now) c.args.frame (at_of c.args.state.now) c.requires.frame c.requires.state _ (omega arith)

@@ -27,8 +27,8 @@ read_whole-requires-clause-frame c =
     let mid = at_of c.enter_member.new.state in
     let frame = c.in_ok-frame.frame in
     let x = c.in_ok-frame.ensures in
-    let o = opens_known t m c.args.depth c.args.envelope old mid x.state c.args.entry frame x.grows x.ok x.breaks x.fine x.deeper x.work in
-    let work = opens_work t m c.args.depth (Some (ty.named c.args.entry)) c.args.envelope old mid frame o in
+    let o = opens_known t m c.args.depth c.args.envelope old mid x.state 0 c.args.entry frame x.grows x.ok x.breaks x.least x.fine x.deeper x.work in
+    let work = opens_work t m c.args.depth (Some (ty.named c.args.entry)) c.args.envelope old mid 0 frame o in
     let still = x.steps in
     x.fine
 
@@ -48,8 +48,8 @@ read_whole-requires-clause-budget c =
     let mid = at_of c.enter_member.new.state in
     let frame = c.in_ok-frame.frame in
     let x = c.in_ok-frame.ensures in
-    let o = opens_known t m c.args.depth c.args.envelope old mid x.state c.args.entry frame x.grows x.ok x.breaks x.fine x.deeper x.work in
-    let work = opens_work t m c.args.depth (Some (ty.named c.args.entry)) c.args.envelope old mid frame o in
+    let o = opens_known t m c.args.depth c.args.envelope old mid x.state 0 c.args.entry frame x.grows x.ok x.breaks x.least x.fine x.deeper x.work in
+    let work = opens_work t m c.args.depth (Some (ty.named c.args.entry)) c.args.envelope old mid 0 frame o in
     let still = x.steps in
     omega (arith, work, still, c.requires.budget)
 
@@ -61,13 +61,13 @@ returns-clause-ok c =
     let mid = at_of c.enter_member.new.state in
     let frame = c.in_ok-frame.frame in
     let x = c.in_ok-frame.ensures in
-    let o = opens_known t m c.args.depth c.args.envelope old mid x.state c.args.entry frame x.grows x.ok x.breaks x.fine x.deeper x.work in
-    let work = opens_work t m c.args.depth (Some (ty.named c.args.entry)) c.args.envelope old mid frame o in
+    let o = opens_known t m c.args.depth c.args.envelope old mid x.state 0 c.args.entry frame x.grows x.ok x.breaks x.least x.fine x.deeper x.work in
+    let work = opens_work t m c.args.depth (Some (ty.named c.args.entry)) c.args.envelope old mid 0 frame o in
     let still = x.steps in
     let new = at_of c.read_whole.new.state in
     let spent = c.read_whole.new.state.steps - c.args.state.now.steps in
     let same : c.read_whole.new.state.steps - c.enter_member.new.state.steps ≡ spent = omega (arith, still) in
-    on_ok_from c.read_whole.result (λ turns. opens_on t m c.args.depth (Some (ty.named c.args.entry)) c.args.envelope old mid frame o new (c.read_whole.new.state.steps - c.enter_member.new.state.steps) None turns) c.read_whole.ensures.ok
+    on_ok_from c.read_whole.result (λ turns. opens_on t m c.args.depth (Some (ty.named c.args.entry)) c.args.envelope old mid 0 frame o new (c.read_whole.new.state.steps - c.enter_member.new.state.steps) (c.read_whole.new.state.steps - c.args.state.now.steps) None (omega (arith, x.steps)) turns) c.read_whole.ensures.ok
 
 pub returns-clause-pays : goal.returns-clause-pays
 returns-clause-pays c =
@@ -77,13 +77,13 @@ returns-clause-pays c =
     let mid = at_of c.enter_member.new.state in
     let frame = c.in_ok-frame.frame in
     let x = c.in_ok-frame.ensures in
-    let o = opens_known t m c.args.depth c.args.envelope old mid x.state c.args.entry frame x.grows x.ok x.breaks x.fine x.deeper x.work in
-    let work = opens_work t m c.args.depth (Some (ty.named c.args.entry)) c.args.envelope old mid frame o in
+    let o = opens_known t m c.args.depth c.args.envelope old mid x.state 0 c.args.entry frame x.grows x.ok x.breaks x.least x.fine x.deeper x.work in
+    let work = opens_work t m c.args.depth (Some (ty.named c.args.entry)) c.args.envelope old mid 0 frame o in
     let still = x.steps in
     let new = at_of c.read_whole.new.state in
     let spent = c.read_whole.new.state.steps - c.args.state.now.steps in
     let same : c.read_whole.new.state.steps - c.enter_member.new.state.steps ≡ spent = omega (arith, still) in
-    on_ok_from c.read_whole.result (λ turns. let own = opens_pays t m c.args.depth (Some (ty.named c.args.entry)) c.args.envelope old mid frame o new (c.read_whole.new.state.steps - c.enter_member.new.state.steps) None turns in omega (arith, own, same)) c.read_whole.ensures.ok
+    on_ok_from c.read_whole.result (λ turns. let own = opens_pays t m c.args.depth (Some (ty.named c.args.entry)) c.args.envelope old mid 0 frame o new (c.read_whole.new.state.steps - c.enter_member.new.state.steps) None turns in omega (arith, own, same)) c.read_whole.ensures.ok
 
 pub returns-clause-fault_is_true : goal.returns-clause-fault_is_true
 returns-clause-fault_is_true c =
@@ -93,8 +93,8 @@ returns-clause-fault_is_true c =
     let mid = at_of c.enter_member.new.state in
     let frame = c.in_ok-frame.frame in
     let x = c.in_ok-frame.ensures in
-    let o = opens_known t m c.args.depth c.args.envelope old mid x.state c.args.entry frame x.grows x.ok x.breaks x.fine x.deeper x.work in
-    let work = opens_work t m c.args.depth (Some (ty.named c.args.entry)) c.args.envelope old mid frame o in
+    let o = opens_known t m c.args.depth c.args.envelope old mid x.state 0 c.args.entry frame x.grows x.ok x.breaks x.least x.fine x.deeper x.work in
+    let work = opens_work t m c.args.depth (Some (ty.named c.args.entry)) c.args.envelope old mid 0 frame o in
     let still = x.steps in
     IfErr-weaker c.read_whole.result _ _ (λ fault b. o.breaks fault b) c.read_whole.ensures.fault_is_true
 
@@ -106,8 +106,8 @@ returns-clause-grows c =
     let mid = at_of c.enter_member.new.state in
     let frame = c.in_ok-frame.frame in
     let x = c.in_ok-frame.ensures in
-    let o = opens_known t m c.args.depth c.args.envelope old mid x.state c.args.entry frame x.grows x.ok x.breaks x.fine x.deeper x.work in
-    let work = opens_work t m c.args.depth (Some (ty.named c.args.entry)) c.args.envelope old mid frame o in
+    let o = opens_known t m c.args.depth c.args.envelope old mid x.state 0 c.args.entry frame x.grows x.ok x.breaks x.least x.fine x.deeper x.work in
+    let work = opens_work t m c.args.depth (Some (ty.named c.args.entry)) c.args.envelope old mid 0 frame o in
     let still = x.steps in
     on_ok_from c.read_whole.result (λ rises. omega (arith, rises, still)) c.read_whole.ensures.rises
 
@@ -119,8 +119,8 @@ returns-clause-cost c =
     let mid = at_of c.enter_member.new.state in
     let frame = c.in_ok-frame.frame in
     let x = c.in_ok-frame.ensures in
-    let o = opens_known t m c.args.depth c.args.envelope old mid x.state c.args.entry frame x.grows x.ok x.breaks x.fine x.deeper x.work in
-    let work = opens_work t m c.args.depth (Some (ty.named c.args.entry)) c.args.envelope old mid frame o in
+    let o = opens_known t m c.args.depth c.args.envelope old mid x.state 0 c.args.entry frame x.grows x.ok x.breaks x.least x.fine x.deeper x.work in
+    let work = opens_work t m c.args.depth (Some (ty.named c.args.entry)) c.args.envelope old mid 0 frame o in
     let still = x.steps in
     omega (arith, work, still, c.read_whole.ensures.cost)
 

@@ -3,8 +3,9 @@ use Rattle.std.specs.Prelude.{Option, Some}
 use Rattle.std.proofs.lemmas.Result.{IfOk-weaker, IfErr-weaker}
 use Rattle.fidl_decode_model.specs.declared.frame.Frame.{Frame}
 use Rattle.fidl_decode_model.specs.Faults.{message_of}
-use Rattle.fidl_decode_model.specs.Machine.{Visits, VisitFine, at_of, height}
-use Rattle.fidl_decode_model.proofs.Turning.{fine_from, on_ok_from}
+use Rattle.fidl_decode_model.specs.Machine.{Turns, Visits, VisitFine, at_of, height}
+use Rattle.fidl_decode_model.proofs.Turning.{fine_from, if_ok_on, on_ok_from}
+use Rattle.fidl_decode_columns.proofs.Leaves.{left_over}
 use Rattle.fidl_decode_columns.proofs.Wholly.{leaf_cost}
 use Rattle.fidl_decode.proofs.BodyTurns.{visits_on}
 use Rattle.fidl_decode_columns.proofs.Items.{visit_work}
@@ -42,8 +43,9 @@ returns-clause-ok c =
     let mid = c.visit.new.state in
     let new = c.read_leaves.new.state in
     let v = subst (λ (o : Option Frame). Visits t m c.args.depth c.args.entry c.args.place (at_of old) (at_of mid) (mid.steps - old.steps) o) c.in-Some.is c.in_ok-below.ensures.ok in
-    IfOk-weaker c.read_leaves.result _ _ (λ o turns. visits_on t m c.args.depth c.args.entry c.args.place (at_of old) (at_of mid) (mid.steps - old.steps)
-    c.in-Some.below v (at_of new) (new.steps - mid.steps) (new.steps - old.steps) o (omega (arith, c.in_ok-below.ensures.spends.least)) turns) c.read_leaves.ensures.ok
+    if_ok_on c.read_leaves.result (λ o. Turns t m c.in-Some.below (at_of mid) (at_of new) (new.steps - mid.steps) (left_over o)) (Visits t m c.args.depth c.args.entry c.args.place (at_of old) (at_of new) (new.steps - old.steps))
+    (λ o turns more. visits_on t m c.args.depth c.args.entry c.args.place (at_of old) (at_of mid) (mid.steps - old.steps)
+    c.in-Some.below v (at_of new) (new.steps - mid.steps) (new.steps - old.steps) o (omega (arith, c.in_ok-below.ensures.spends.least, more)) turns) c.read_leaves.ensures.ok c.read_leaves.ensures.grows
 
 pub returns-clause-fine : goal.returns-clause-fine
 returns-clause-fine c =

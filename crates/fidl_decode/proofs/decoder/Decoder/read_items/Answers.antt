@@ -188,7 +188,7 @@ returns-clause-ok c =
     let less = c.loop-i.invariant.turns.less in
     let so_far = c.loop-i.invariant.steps in
     items_over c.args.self.now.table.now c.args.self.now.fine (message_of c.args.self.now.bytes.now c.args.self.now.handles.now) c.args.frame (at_of c.args.state.now) (at_of c.loop-i.state)
-    (c.loop-i.state.steps - c.args.state.now.steps) c.args.entry c.args.size c.args.count c.loop-i.i c.loop-i.done c.loop-i.invariant.turns (omega (arith, c.loop-i-test.false)) _ (omega (arith, so_far)) c.in_ok-zeros_at.ensures.ok
+    (c.loop-i.state.steps - c.args.state.now.steps) c.args.entry c.args.size c.args.count c.loop-i.i c.loop-i.done c.loop-i.invariant.turns (omega (arith, c.loop-i-test.false)) _ (omega (arith, so_far)) (omega (arith, so_far)) c.in_ok-zeros_at.ensures.ok
 
 pub returns-clause-rises : goal.returns-clause-rises
 returns-clause-rises c =

@@ -1,5 +1,5 @@
 use Rattle.fidl_decode.proofs.Unchanged.{no_ok}
-use Rattle.std.proofs.Common.{◌≡◌, sym, ap, subst, ◌∙◌, arith}
+use Rattle.std.proofs.Common.{ℕ, ◌-◌, ◌≡◌, sym, ap, subst, ◌∙◌, arith}
 use Rattle.std.specs.Prelude.{Some, None}
 use Rattle.fidl_wire.specs.Term as ty
 use Rattle.fidl_table_format.specs.declared.record.Entry.{Entry}
@@ -106,7 +106,8 @@ returns-then-is_flat-clause-ok c =
     let kept : at_of c.pass_member.new.state ≡ old = c.pass_member.ensures.kept c.if-pass_member.false in
     let next : c.pass_member.new.state.next ≡ c.args.state.now.next = ap (λ (s : Position). s.next) kept in
     let still : c.pass_member.new.state.steps ≡ c.args.state.now.steps = omega (arith, next, c.pass_member.ensures.grows, c.pass_member.ensures.pays) in
-    subst (λ (s : Position). Opens t m c.args.depth (Some (ty.named c.args.entry)) c.args.envelope s (at_of c.read_enclosed.new.state) None) kept c.in_ok-read_enclosed.ensures.ok
+    subst (λ (n : ℕ). Opens t m c.args.depth (Some (ty.named c.args.entry)) c.args.envelope old (at_of c.read_enclosed.new.state) (c.read_enclosed.new.state.steps - n) None) still
+    (subst (λ (s : Position). Opens t m c.args.depth (Some (ty.named c.args.entry)) c.args.envelope s (at_of c.read_enclosed.new.state) (c.read_enclosed.new.state.steps - c.pass_member.new.state.steps) None) kept c.in_ok-read_enclosed.ensures.ok)
 
 pub returns-then-is_flat-clause-pays : goal.returns-then-is_flat-clause-pays
 returns-then-is_flat-clause-pays c =
@@ -173,8 +174,8 @@ returns-clause-ok c =
     let new = at_of c.enter_member.new.state in
     let x = c.in_ok-frame.ensures in
     let steps = x.steps in
-    let o = opens_known t m c.args.depth c.args.envelope mid new x.state c.args.entry c.in_ok-frame.frame x.grows x.ok x.breaks x.fine x.deeper x.work in
-    subst (λ (s : Position). Opens t m c.args.depth (Some (ty.named c.args.entry)) c.args.envelope s new (Some c.in_ok-frame.frame)) kept o
+    let o = opens_known t m c.args.depth c.args.envelope mid new x.state (c.enter_member.new.state.steps - c.args.state.now.steps) c.args.entry c.in_ok-frame.frame x.grows x.ok x.breaks x.least x.fine x.deeper x.work in
+    subst (λ (s : Position). Opens t m c.args.depth (Some (ty.named c.args.entry)) c.args.envelope s new (c.enter_member.new.state.steps - c.args.state.now.steps) (Some c.in_ok-frame.frame)) kept o
 
 pub returns-clause-pays : goal.returns-clause-pays
 returns-clause-pays c =
@@ -188,7 +189,7 @@ returns-clause-pays c =
     let new = at_of c.enter_member.new.state in
     let x = c.in_ok-frame.ensures in
     let steps = x.steps in
-    let o = opens_known t m c.args.depth c.args.envelope mid new x.state c.args.entry c.in_ok-frame.frame x.grows x.ok x.breaks x.fine x.deeper x.work in
+    let o = opens_known t m c.args.depth c.args.envelope mid new x.state (c.enter_member.new.state.steps - c.args.state.now.steps) c.args.entry c.in_ok-frame.frame x.grows x.ok x.breaks x.least x.fine x.deeper x.work in
     let less = o.less in
     omega (arith, less, next, still, steps)
 

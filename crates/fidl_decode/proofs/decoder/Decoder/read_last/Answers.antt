@@ -8,7 +8,7 @@ use Rattle.fidl_decode_model.specs.Machine.{LeftFine, Turns, at_of}
 use Rattle.fidl_decode_model.specs.Faults.{message_of}
 use Rattle.std.specs.Prelude.{Some}
 use Rattle.fidl_decode.proofs.Unchanged.{if_none}
-use Rattle.fidl_decode_columns.proofs.Leaves.{left_over, turns_start}
+use Rattle.fidl_decode_columns.proofs.Leaves.{left_over, turns_start, turns_stay}
 use Rattle.fidl_decode_model.proofs.Turning.{passed_on}
 use Rattle.fidl_decode.proofs.Last.{last_room, last_inside, last_gap_breaks, last_breaks, last_turns}
 use Rattle.fidl_decode.proofs.decoder.Decoder.read_last.Goals as goal
@@ -135,7 +135,7 @@ returns-clause-ok c =
     let last : c.args.frame.left ≡ Rows c.args.first 1 = c.requires.left ∙ ap (λ n. Rows c.args.first n) c.if-count-ne1.false in
     let grows = (not_fewer _ _ _ c.in_ok-below.ensures.spends) in
     let size = ap (λ (d : Entry). d.size) c.entry-e.ensures.value in
-    last_turns t c.args.self.now.fine m c.args.frame c.args.first c.row-row.result last c.row-row.ensures.value (at_of c.args.state.now) c.requires.frame c.requires.state (at_of c.visit.new.state) (c.visit.new.state.steps - (c.args.state.now.steps + (c.args.frame.base + c.row-row.result.key - (c.args.frame.base + c.args.frame.done) + 1))) (c.visit.new.state.steps - c.args.state.now.steps) (omega (arith, size, c.if-done-frame.false)) (omega (arith, grows)) c.in_ok-zeros_at.ensures.ok c.in_ok-below.below c.in_ok-below.ensures.ok c.in_ok-below.ensures.fine
+    last_turns t c.args.self.now.fine m c.args.frame c.args.first c.row-row.result last c.row-row.ensures.value (at_of c.args.state.now) c.requires.frame c.requires.state (at_of c.visit.new.state) (c.visit.new.state.steps - (c.args.state.now.steps + (c.args.frame.base + c.row-row.result.key - (c.args.frame.base + c.args.frame.done) + 1))) (c.visit.new.state.steps - c.args.state.now.steps) (omega (arith, size, c.if-done-frame.false)) (omega (arith, grows)) (omega (arith, grows)) c.in_ok-zeros_at.ensures.ok c.in_ok-below.below c.in_ok-below.ensures.ok c.in_ok-below.ensures.fine
 
 pub returns-clause-grows : goal.returns-clause-grows
 returns-clause-grows c =
@@ -165,3 +165,6 @@ pub returns-clause-ended : goal.returns-clause-ended
 returns-clause-ended c =
     let grows = (not_fewer _ _ _ c.in_ok-below.ensures.spends) in
     if_none c.in_ok-below.below _ (omega (arith, grows))
+
+pub returns-then-count-ne1-clause-ok : goal.returns-then-count-ne1-clause-ok
+returns-then-count-ne1-clause-ok c = turns_stay c.args.self.now.table.now (message_of c.args.self.now.bytes.now c.args.self.now.handles.now) c.args.frame (at_of c.args.state.now) c.requires.frame c.requires.state _ (omega arith)

@@ -15,8 +15,10 @@ use Rattle.fidl_table_format.specs.Number.{number_standing}
 use Rattle.fidl_table_format.specs.Terms.{underlying, mask_of, declarations_of, is_optional}
 use Rattle.fidl_table_format.specs.declared.record.Entry.{Entry}
 use Rattle.fidl_decode_model.specs.Breaks.{BreaksField, BreaksHandle, BreaksText}
-use Rattle.fidl_decode_model.specs.State.{Position}
-use Rattle.fidl_decode_model.proofs.Turning.{on_ok_from, on_ok_two, on_ok_three}
+use Rattle.fidl_decode_model.specs.State.{Position, ValueAt}
+use Rattle.fidl_decode_model.specs.Work.{Work}
+use Rattle.fidl_decode_model.proofs.Scalars.{light_handle}
+use Rattle.fidl_decode_model.proofs.Turning.{on_ok_from, on_ok_two, on_ok_four}
 use Rattle.std.proofs.lemmas.Result.{IfErr-weaker}
 use Rattle.fidl_table_format.specs.declared.kind.EntryKind.{EntryKind}
 use Rattle.fidl_table_format.specs.declared.kind.EntryKind.TheVariants.{Bool as Boolean, Bits, Enum, Handle, String, Vector}
@@ -126,7 +128,8 @@ returns-in-Handle-clause-ok c =
     on_ok_two c.read_handle.result
     (λ leads there. visits_leaf c.args.self.now.table.now c.args.self.now.fine (message_of c.args.self.now.bytes.now c.args.self.now.handles.now) c.args.depth c.args.entry c.args.place (at_of c.args.state.now) c.requires.entry c.requires.state c.requires.depth Handle is (at_of
     c.read_handle.new.state) (c.read_handle.new.state.steps - c.args.state.now.steps) (omega (arith, c.read_handle.ensures.next, c.read_handle.ensures.steps)) there
-    (subst (λ (d : Entry). Leads (declarations_of c.args.self.now.table.now) (message_of c.args.self.now.bytes.now c.args.self.now.handles.now) c.args.depth (ty.handle (is_optional d) d.subtype d.rights) c.args.place (at_of c.args.state.now) (at_of c.read_handle.new.state)) own leads))
+    (subst (λ (d : Entry). Leads (declarations_of c.args.self.now.table.now) (message_of c.args.self.now.bytes.now c.args.self.now.handles.now) c.args.depth (ty.handle (is_optional d) d.subtype d.rights) c.args.place (at_of c.args.state.now) (at_of c.read_handle.new.state)) own leads)
+    (λ to x. omega (arith, light_handle (declarations_of c.args.self.now.table.now) (is_optional (entry_at c.args.self.now.table.now c.args.entry)) (entry_at c.args.self.now.table.now c.args.entry).subtype (entry_at c.args.self.now.table.now c.args.entry).rights x.value x.typed)))
     c.read_handle.ensures.ok
     c.read_handle.ensures.state
 
@@ -147,13 +150,15 @@ pub returns-in-String-clause-ok : goal.returns-in-String-clause-ok
 returns-in-String-clause-ok c =
     let is : kind_of (entry_at c.args.self.now.table.now c.args.entry).kind ≡ Some String = c.requires.kind ∙ ap (λ (k : EntryKind). Some k) c.in-String.is in
     let own : c.entry-in-String.result ≡ entry_at c.args.self.now.table.now c.args.entry = c.entry-in-String.ensures.value in
-    on_ok_three c.read_text.result
-    (λ leads there spent. visits_leaf c.args.self.now.table.now c.args.self.now.fine (message_of c.args.self.now.bytes.now c.args.self.now.handles.now) c.args.depth c.args.entry c.args.place (at_of c.args.state.now) c.requires.entry c.requires.state c.requires.depth String is (at_of
+    on_ok_four c.read_text.result
+    (λ leads there spent least. visits_leaf c.args.self.now.table.now c.args.self.now.fine (message_of c.args.self.now.bytes.now c.args.self.now.handles.now) c.args.depth c.args.entry c.args.place (at_of c.args.state.now) c.requires.entry c.requires.state c.requires.depth String is (at_of
     c.read_text.new.state) (c.read_text.new.state.steps - c.args.state.now.steps) (text_cost (length c.args.self.now.bytes.now) c.args.state.now.next c.read_text.new.state.next c.args.state.now.steps c.read_text.new.state.steps spent there.next (not_fewer _ _ _ c.read_text.ensures.spends)) there
-    (subst (λ (d : Entry). Leads (declarations_of c.args.self.now.table.now) (message_of c.args.self.now.bytes.now c.args.self.now.handles.now) c.args.depth (ty.string (is_optional d) d.bound) c.args.place (at_of c.args.state.now) (at_of c.read_text.new.state)) own leads))
+    (subst (λ (d : Entry). Leads (declarations_of c.args.self.now.table.now) (message_of c.args.self.now.bytes.now c.args.self.now.handles.now) c.args.depth (ty.string (is_optional d) d.bound) c.args.place (at_of c.args.state.now) (at_of c.read_text.new.state)) own leads)
+    (subst (λ (d : Entry). (to : Position) (x : ValueAt (declarations_of c.args.self.now.table.now) (message_of c.args.self.now.bytes.now c.args.self.now.handles.now) c.args.depth (ty.string (is_optional d) d.bound) c.args.place (at_of c.args.state.now) to) → Work x.value ≤ c.read_text.new.state.steps - c.args.state.now.steps + 1) own least))
     c.read_text.ensures.ok
     c.read_text.ensures.state
     c.read_text.ensures.spent
+    c.read_text.ensures.least
 
 pub returns-in-String-clause-fault_is_true : goal.returns-in-String-clause-fault_is_true
 returns-in-String-clause-fault_is_true c =

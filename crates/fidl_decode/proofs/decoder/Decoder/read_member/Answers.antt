@@ -1,5 +1,5 @@
 use Rattle.fidl_decode.proofs.Unchanged.{no_ok}
-use Rattle.std.proofs.Common.{sym, subst, arith}
+use Rattle.std.proofs.Common.{◌-◌, sym, subst, arith}
 use Rattle.std.specs.Prelude.{Option, None, IfErr, IfOk}
 use Rattle.fidl_table_format.specs.declared.record.Row as raw
 use Rattle.fidl_table_format.specs.Terms.{declarations_of}
@@ -16,8 +16,8 @@ returns-in_default-clause-ok c =
     let old = at_of c.args.state.now in
     let new = at_of c.skip_member.new.state in
     let x = c.in_ok-skip_member.ensures in
-    let o = opens_unknown t m c.args.depth c.args.envelope old new x.state x.grows x.ok in
-    subst (λ (r : Option raw.Row). Opens t m c.args.depth (member_term r) c.args.envelope old new None) (sym c.in_default.is) o
+    let o = opens_unknown t m c.args.depth c.args.envelope old new x.state (c.skip_member.new.state.steps - c.args.state.now.steps) x.grows x.ok in
+    subst (λ (r : Option raw.Row). Opens t m c.args.depth (member_term r) c.args.envelope old new (c.skip_member.new.state.steps - c.args.state.now.steps) None) (sym c.in_default.is) o
 
 pub returns-in_default-clause-pays : goal.returns-in_default-clause-pays
 returns-in_default-clause-pays c =
@@ -26,7 +26,7 @@ returns-in_default-clause-pays c =
     let old = at_of c.args.state.now in
     let new = at_of c.skip_member.new.state in
     let x = c.in_ok-skip_member.ensures in
-    let o = opens_unknown t m c.args.depth c.args.envelope old new x.state x.grows x.ok in
+    let o = opens_unknown t m c.args.depth c.args.envelope old new x.state 0 x.grows x.ok in
     let less = o.less in
     let still = x.steps in
     omega (arith, less, still)
@@ -36,7 +36,7 @@ returns-clause-ok c =
     let t = c.args.self.now.table.now in
     let m = message_of c.args.self.now.bytes.now c.args.self.now.handles.now in
     let old = at_of c.args.state.now in
-    subst (λ (r : Option raw.Row). IfOk c.read_known.result (Opens t m c.args.depth (member_term r) c.args.envelope old (at_of c.read_known.new.state))) (sym c.in-Some.is) c.read_known.ensures.ok
+    subst (λ (r : Option raw.Row). IfOk c.read_known.result (Opens t m c.args.depth (member_term r) c.args.envelope old (at_of c.read_known.new.state) (c.read_known.new.state.steps - c.args.state.now.steps))) (sym c.in-Some.is) c.read_known.ensures.ok
 
 pub returns-clause-fault_is_true : goal.returns-clause-fault_is_true
 returns-clause-fault_is_true c =

@@ -12,7 +12,7 @@ use Rattle.fidl_decode_model.specs.Machine.{Turns, at_of, turn_work, IsPlain, ro
 use Rattle.fidl_decode_model.specs.Faults.{message_of}
 use Rattle.fidl_decode_model.specs.Invariants.{is_leaf}
 use Rattle.fidl_decode_model.proofs.Turning.{passed_on}
-use Rattle.fidl_decode_columns.proofs.Leaves.{going_on, same_frame, left_over, turns_then, turns_break}
+use Rattle.fidl_decode_columns.proofs.Leaves.{going_on, same_frame, left_over, turns_then, turns_break, turns_stay}
 use Rattle.fidl_decode.proofs.decoder.Decoder.read_nested.Goals as goal
 
 no_some : {A : Type 0} (a : A) → Some a ≡ None → ⊥
@@ -535,3 +535,12 @@ loop-many-smaller-then-is_leaf c =
     let two = subst (λ d. Turns t m g now new spent (left_over (Some (going_on c.loop-many.holder rows d)))) size one in
     let rises = (one_more _ _ _ c.in_ok-read_row.ensures.spends) in
     smaller_on _ _ _ c.loop-many.state.steps c.read_row.new.state.steps two.less rises
+
+pub returns-in_default : goal.returns-in_default
+returns-in_default c = record { ok = turns_stay c.args.self.now.table.now (message_of c.args.self.now.bytes.now c.args.self.now.handles.now) c.args.frame (at_of c.args.state.now) c.requires.frame c.requires.state _ (omega arith); grows = omega arith; ended = tt; cost = omega arith; fault_is_true = tt }
+
+pub loop-many-init : goal.loop-many-init
+loop-many-init c = record {
+  turns = subst (λ (g : Frame). Turns c.args.self.now.table.now (message_of c.args.self.now.bytes.now c.args.self.now.handles.now) c.args.frame (at_of c.args.state.now) (at_of c.args.state.now) (c.args.state.now.steps - c.args.state.now.steps) (left_over (Some g))) (same_frame c.args.frame (Rows c.in-Rows.first c.in-Rows.count) c.in-Rows.is) (turns_stay c.args.self.now.table.now (message_of c.args.self.now.bytes.now c.args.self.now.handles.now) c.args.frame (at_of c.args.state.now) c.requires.frame c.requires.state _ (omega arith));
+  steps = omega arith;
+}

@@ -1,6 +1,6 @@
 use Rattle.fidl_decode.proofs.Fitting.{front, apart, inside, at_most, small, ended, some_8, rounded_left, part_order, le_more, eq_le, spent_text, spends_any}
 use Rattle.fidl_decode.proofs.Unchanged.{same_le, no_ok, clash}
-use Rattle.std.proofs.Common.{◌≡◌, ◌+◌, ◌-◌, sym, subst, ◌∙◌, arith, refl, ap, inl, inr, length, ◌<◌}
+use Rattle.std.proofs.Common.{ℕ, ◌≡◌, ◌+◌, ◌-◌, sym, subst, ◌∙◌, arith, refl, ap, inl, inr, length, ◌<◌}
 use Rattle.std.specs.Int.{next_multiple_of}
 use Rattle.fidl_wire.specs.Term as ty
 use Rattle.fidl_wire.specs.Encoding.{zeros}
@@ -10,7 +10,8 @@ use Rattle.fidl_table_format.specs.Terms.{declarations_of, is_optional}
 use Rattle.fidl_decode_model.specs.Faults.{message_of}
 use Rattle.fidl_decode_model.specs.State.{Position, linked}
 use Rattle.fidl_decode_model.specs.Machine.{Leads, at_of}
-use Rattle.fidl_decode_model.proofs.Written.{absent_leads, text_leads}
+use Rattle.fidl_decode_model.specs.Breaks.{count_at}
+use Rattle.fidl_decode_model.proofs.Written.{absent_leads, text_leads, text_work}
 use Rattle.fidl_decode.proofs.decoder.Decoder.read_text.Goals as goal
 
 pub returns-then-not-is_present-clause-ok : goal.returns-then-not-is_present-clause-ok
@@ -247,3 +248,42 @@ link-requires-clause-marker c = inside (c.args.place + 8) 7 (length c.args.self.
 
 pub link-requires-clause-object : goal.link-requires-clause-object
 link-requires-clause-object c = at_most c.args.state.now.next (length c.args.self.now.bytes.now) c.requires.state.next c.args.self.now.short
+
+pub returns-then-not-is_absent-clause-least : goal.returns-then-not-is_absent-clause-least
+returns-then-not-is_absent-clause-least c = tt
+
+pub returns-then-count-ne0-clause-least : goal.returns-then-count-ne0-clause-least
+returns-then-count-ne0-clause-least c = tt
+
+pub returns-then-not-is_optional-clause-least : goal.returns-then-not-is_optional-clause-least
+returns-then-not-is_optional-clause-least c = tt
+
+pub returns-then-count-rest-clause-least : goal.returns-then-count-rest-clause-least
+returns-then-count-rest-clause-least c = tt
+
+pub returns-then-count-entry-clause-least : goal.returns-then-count-entry-clause-least
+returns-then-count-entry-clause-least c = tt
+
+pub returns-then-depth-eq-MAX_DEPTH-clause-least : goal.returns-then-depth-eq-MAX_DEPTH-clause-least
+returns-then-depth-eq-MAX_DEPTH-clause-least c = tt
+
+pub returns-then-size-rest-clause-least : goal.returns-then-size-rest-clause-least
+returns-then-size-rest-clause-least c = tt
+
+pub returns-then-not-is_text-clause-least : goal.returns-then-not-is_text-clause-least
+returns-then-not-is_text-clause-least c = tt
+
+pub returns-in_err-zeros_at-clause-least : goal.returns-in_err-zeros_at-clause-least
+returns-in_err-zeros_at-clause-least c = no_ok c.from_residual.result c.in_err-zeros_at.field-0.0 _ c.from_residual.ensures.1
+
+pub returns-then-not-is_present-clause-least : goal.returns-then-not-is_present-clause-least
+returns-then-not-is_present-clause-least c = λ to x.
+    let short = c.args.self.now.short in
+    let none : count_at c.args.self.now.bytes.now c.args.place ≡ 0 = sym c.u64_at-count.ensures ∙ c.if-count-ne0.false in
+    omega (arith, none, text_work (declarations_of c.args.self.now.table.now) (message_of c.args.self.now.bytes.now c.args.self.now.handles.now) (omega (arith, short)) c.args.depth (is_optional c.args.entry.now) c.args.entry.now.bound c.args.place (at_of c.args.state.now) to x)
+
+pub returns-clause-least : goal.returns-clause-least
+returns-clause-least c = λ to x.
+    let short = c.args.self.now.short in
+    let counted : count_at c.args.self.now.bytes.now c.args.place ≡ c.u64_at-count.result = sym c.u64_at-count.ensures in
+    omega (arith, counted, c.next_multiple_of-size.ensures.lower_bound, text_work (declarations_of c.args.self.now.table.now) (message_of c.args.self.now.bytes.now c.args.self.now.handles.now) (omega (arith, short)) c.args.depth (is_optional c.args.entry.now) c.args.entry.now.bound c.args.place (at_of c.args.state.now) to x)

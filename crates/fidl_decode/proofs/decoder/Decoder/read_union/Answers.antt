@@ -56,10 +56,10 @@ returns-clause-ok c =
     let new = at_of c.open_envelope.new.state in
     let own = c.open_envelope.new.state.steps - c.member-member.new.probes in
     let all = c.open_envelope.new.state.steps - c.args.state.now.steps in
-    if_ok_two c.open_envelope.result (Opens c.args.self.now.table.now (message_of c.args.self.now.bytes.now c.args.self.now.handles.now) c.args.depth (member_term c.member-member.result) (c.args.place + 8) (at_of c.args.state.now) new) (PaysEnvelope c.args.self.now.bytes.now c.args.state.now.next new.next own)
+    if_ok_two c.open_envelope.result (Opens c.args.self.now.table.now (message_of c.args.self.now.bytes.now c.args.self.now.handles.now) c.args.depth (member_term c.member-member.result) (c.args.place + 8) (at_of c.args.state.now) new own) (PaysEnvelope c.args.self.now.bytes.now c.args.state.now.next new.next own)
     (Visits c.args.self.now.table.now (message_of c.args.self.now.bytes.now c.args.self.now.handles.now) c.args.depth c.args.entry c.args.place (at_of c.args.state.now) new all)
-    (λ found o pays. visits_union c.args.self.now.table.now c.args.self.now.fine (message_of c.args.self.now.bytes.now c.args.self.now.handles.now) c.args.depth c.args.entry c.args.place (at_of c.args.state.now) c.requires.entry c.requires.kind some may new own all found (omega (arith, few, grows)) pays (omega (arith, c.requires.room)) (λ i. omega (arith, c.args.self.now.octets i))
-    (subst (λ (u : Option Term). Opens c.args.self.now.table.now (message_of c.args.self.now.bytes.now c.args.self.now.handles.now) c.args.depth u (c.args.place + 8) (at_of c.args.state.now) new found) tie o)) c.open_envelope.ensures.ok c.open_envelope.ensures.pays
+    (λ found o pays. visits_union c.args.self.now.table.now c.args.self.now.fine (message_of c.args.self.now.bytes.now c.args.self.now.handles.now) c.args.depth c.args.entry c.args.place (at_of c.args.state.now) c.requires.entry c.requires.kind some may new own all found (omega (arith, grows, c.open_envelope.ensures.spends.least)) (omega (arith, few, grows)) pays (omega (arith, c.requires.room)) (λ i. omega (arith, c.args.self.now.octets i))
+    (subst (λ (u : Option Term). Opens c.args.self.now.table.now (message_of c.args.self.now.bytes.now c.args.self.now.handles.now) c.args.depth u (c.args.place + 8) (at_of c.args.state.now) new own found) tie o)) c.open_envelope.ensures.ok c.open_envelope.ensures.pays
 
 pub returns-clause-fine : goal.returns-clause-fine
 returns-clause-fine c =

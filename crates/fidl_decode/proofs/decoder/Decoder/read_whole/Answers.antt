@@ -1,7 +1,8 @@
 use Rattle.fidl_decode.proofs.Fitting.{not_fewer}
 use Rattle.fidl_decode.proofs.Unchanged.{no_ok}
 use Rattle.std.proofs.Common.{◌+◌, ◌-◌, refl, arith}
-use Rattle.fidl_decode_model.specs.Machine.{IsUntil, at_of}
+use Rattle.fidl_decode_model.specs.Machine.{at_of}
+use Rattle.fidl_decode_model.specs.Envelopes.{IsUntil}
 use Rattle.fidl_decode_model.specs.Faults.{message_of}
 use Rattle.fidl_decode_model.proofs.Turning.{passed_on}
 use Rattle.fidl_decode.proofs.LeafContent.{leaf_known, leaf_size, leaf_room, leaf_pays, leaf_breaks, end_room, end_less, leaf_over, leaf_miscounted, leaf_end_breaks}

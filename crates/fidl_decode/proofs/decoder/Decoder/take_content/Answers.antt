@@ -5,7 +5,8 @@ use Rattle.std.specs.Prelude.{Some, None}
 use Rattle.fidl_decode_model.specs.declared.fault.DecodeFault.TheVariants.{WrongCounts}
 use Rattle.fidl_decode_model.specs.declared.frame.Frame.{Frame}
 use Rattle.fidl_decode_model.specs.declared.frame.Remaining.TheVariants.{Content}
-use Rattle.fidl_decode_model.specs.Machine.{Turns, BreaksFrame, FrameFine, IsUntil, at_of}
+use Rattle.fidl_decode_model.specs.Machine.{Turns, BreaksFrame, FrameFine, at_of}
+use Rattle.fidl_decode_model.specs.Envelopes.{IsUntil}
 use Rattle.fidl_decode_model.specs.Faults.{message_of}
 use Rattle.fidl_decode_columns.proofs.Leaves.{going_on, same_frame}
 use Rattle.fidl_decode_model.proofs.Turning.{passed_on}

@@ -11,7 +11,7 @@ use Rattle.fidl_decode_model.specs.Machine.{Turns, Opens, PaysEnvelope, BreaksFr
 use Rattle.fidl_decode_model.specs.Faults.{message_of}
 use Rattle.std.proofs.lemmas.Result.{IfErr-weaker}
 use Rattle.fidl_decode_columns.proofs.Leaves.{going_on, same_frame}
-use Rattle.fidl_decode_model.proofs.Turning.{if_ok_two, on_ok_from}
+use Rattle.fidl_decode_model.proofs.Turning.{if_ok_on, if_ok_two, on_ok_from}
 use Rattle.fidl_decode.proofs.EnvelopeTurns.{member_found, envelope_room, envelope_absent, envelope_opened, envelope_breaks}
 use Rattle.fidl_decode.proofs.decoder.Decoder.take_envelope.Goals as goal
 
@@ -60,10 +60,13 @@ returns-clause-ok c =
     let new = at_of c.read_member.new.state in
     let spent = c.read_member.new.state.steps - c.row_of-member.new.probes in
     let all = c.read_member.new.state.steps - c.args.state.now.steps in
-    if_ok_two c.read_member.result (Opens t m f.depth (member_term c.row_of-member.result) place old new) (PaysEnvelope m.bytes old.next new.next spent) (λ below. Turns t m f old new all (record { below = below; rest = Some (going_on f (Envelopes c.args.entry (c.args.read + 1) (c.args.count - 1)) (f.done + 8)) }))
-    (λ below o pays. subst (λ (g : Frame). Turns t m g old new all (record { below = below; rest = Some (going_on f (Envelopes c.args.entry (c.args.read + 1) (c.args.count - 1)) (f.done + 8)) })) (sym same)
-    (envelope_opened t c.args.self.now.fine m (c.args.self.now.short, c.requires.state.few) f c.args.entry c.args.read c.args.count old gf c.requires.state (c.args.read + 1) (c.args.count - 1) (add-one c.args.read) (omega (arith, some)) some there below new spent all (omega (arith, few, grows)) pays (subst (λ (o : Option Term). Opens t m f.depth o place old new below) (sym is) o)))
-    c.read_member.ensures.ok c.read_member.ensures.pays
+    let P : Option Frame → Type 0 = λ below. Opens t m f.depth (member_term c.row_of-member.result) place old new spent below × PaysEnvelope m.bytes old.next new.next spent below in
+    let R : Option Frame → Type 0 = λ below. Turns t m f old new all (record { below = below; rest = Some (going_on f (Envelopes c.args.entry (c.args.read + 1) (c.args.count - 1)) (f.done + 8)) }) in
+    if_ok_on c.read_member.result P R
+    (λ below o more. subst (λ (g : Frame). Turns t m g old new all (record { below = below; rest = Some (going_on f (Envelopes c.args.entry (c.args.read + 1) (c.args.count - 1)) (f.done + 8)) })) (sym same)
+    (envelope_opened t c.args.self.now.fine m (c.args.self.now.short, c.requires.state.few) f c.args.entry c.args.read c.args.count old gf c.requires.state (c.args.read + 1) (c.args.count - 1) (add-one c.args.read) (omega (arith, some)) some there below new spent all (omega (arith, grows, more)) (omega (arith, few, grows)) o.1 (subst (λ (o : Option Term). Opens t m f.depth o place old new spent below) (sym is) o.0)))
+    (if_ok_two c.read_member.result (Opens t m f.depth (member_term c.row_of-member.result) place old new spent) (PaysEnvelope m.bytes old.next new.next spent) P (λ below o pays. (o, pays)) c.read_member.ensures.ok c.read_member.ensures.pays)
+    c.read_member.ensures.grows
 
 pub returns-clause-rises : goal.returns-clause-rises
 returns-clause-rises c =

@@ -180,7 +180,7 @@ returns-clause-ok c =
     let rest = going_on c.args.frame (Rows (c.args.first + 1) (c.args.count - 1)) in
     let taken = front_takes c.args.self.now.table.now c.args.self.now.fine (message_of c.args.self.now.bytes.now c.args.self.now.handles.now) c.args.frame c.args.first c.args.count c.row-row.result
     c.requires.left (some_left c.args.count c.if-count-eq0.false) c.row-row.ensures.value (at_of c.args.state.now) c.requires.frame c.requires.state
-    c.in_ok-below.below (at_of c.visit.new.state) (c.visit.new.state.steps - (c.args.state.now.steps + (c.args.frame.base + c.row-row.result.key - (c.args.frame.base + c.args.frame.done) + 1))) (c.visit.new.state.steps - c.args.state.now.steps) (omega (arith, more.least))
+    c.in_ok-below.below (at_of c.visit.new.state) (c.visit.new.state.steps - (c.args.state.now.steps + (c.args.frame.base + c.row-row.result.key - (c.args.frame.base + c.args.frame.done) + 1))) (c.visit.new.state.steps - c.args.state.now.steps) (omega (arith, more.least)) (omega (arith, more.least))
     c.in_ok-zeros_at.ensures.ok c.in_ok-below.ensures.ok c.in_ok-below.ensures.fine in
     subst (λ (g : Frame). Turns c.args.self.now.table.now (message_of c.args.self.now.bytes.now c.args.self.now.handles.now) c.args.frame (at_of c.args.state.now) (at_of c.visit.new.state) (c.visit.new.state.steps - c.args.state.now.steps) (record { below = c.in_ok-below.below; rest = Some g }))
     (ap (λ d. rest d) size ∙ sym c.rows_from.ensures) taken

@@ -197,7 +197,7 @@ pub returns-in_err-read_leaf-in_default-kind-clause-fine : goal.returns-in_err-r
 returns-in_err-read_leaf-in_default-kind-clause-fine c = no_ok c.from_residual.result c.in_err-read_leaf-in_default-kind.field-0.0 _ c.from_residual.ensures.1
 
 pub returns-in_err-read_leaf-in_default-kind-clause-spends : goal.returns-in_err-read_leaf-in_default-kind-clause-spends
-returns-in_err-read_leaf-in_default-kind-clause-spends c = c.in_err-read_leaf-in_default-kind.ensures.spends
+returns-in_err-read_leaf-in_default-kind-clause-spends c = more_steps _ _ _ _ c.in_err-read_leaf-in_default-kind.ensures.spends (omega arith)
 
 pub read_table-requires-clause-kind : goal.read_table-requires-clause-kind
 read_table-requires-clause-kind c = ap (λ (e : Entry). kind_of e.kind) (sym c.entry-e.ensures.value) ∙ sym c.from_number.ensures ∙ c.in-Some.is ∙ ap (λ (k : EntryKind). Some k) c.in-Table.is

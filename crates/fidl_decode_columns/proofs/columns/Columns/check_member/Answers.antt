@@ -9,6 +9,7 @@ use Rattle.fidl_decode_model.specs.Breaks.{BreaksField}
 use Rattle.fidl_decode_model.specs.Faults.{message_of}
 use Rattle.fidl_decode_model.proofs.Visiting.{same_some}
 use Rattle.fidl_decode_columns.specs.Columns.{has_numbers, right_before, IsFirstWrong, IsGoodAt}
+use Rattle.fidl_decode_columns.proofs.Counted.{if_none, none_known, all_counted}
 use Rattle.fidl_decode_columns.proofs.Sizes.{fewer_room}
 use Rattle.fidl_decode_columns.proofs.columns.Columns.check_member.Goals as goal
 
@@ -42,3 +43,8 @@ returns-clause-value c =
     let is : kind_of d.kind ≡ Some c.in-Some.kind = ap (λ (e : Entry). kind_of e.kind) (sym c.entry.ensures.value) ∙ sym c.from_number.ensures ∙ c.in-Some.is in
     let at : ℕ → ℕ = λ k. c.args.structs.now.base + c.args.structs.now.entry.size * k + c.args.row.now.key in
     (c.in-Some.kind, is, (c.first_wrong.result, c.first_of.ensures, subst (λ n. IsFirstWrong (λ k. IsGoodAt t bytes d c.in-Some.kind (at k)) (λ k. BreaksField m (term_as c.in-Some.kind t (header_of t) d) (at k)) n c.first_wrong.result) c.right_before-limit.ensures c.first_wrong.ensures.value))
+
+pub returns-clause-least : goal.returns-clause-least
+returns-clause-least c =
+    if_none c.first_of.result (λ none. all_counted c.args.structs.now.count c.right_before-limit.result c.args.steps.now c.first_wrong.new.steps c.args.known c.right_before-limit.ensures none (omega (arith, c.first_wrong.ensures.grows, c.from.ensures)))
+    (none_known c.args.known c.first_wrong.result c.first_of.result c.first_of.ensures)

@@ -1,4 +1,5 @@
 use Rattle.std.proofs.Common.{◌+◌, ◌-◌, ◌*◌, ◌≤◌}
+use Rattle.std.specs.Prelude.{IfNone}
 use Rattle.fidl_table_format.specs.Section.{header_of}
 use Rattle.fidl_table_format.specs.Terms.{declarations_of}
 use Rattle.fidl_decode_model.specs.Faults.{message_of}
@@ -11,6 +12,8 @@ abbrev pub invariant-loop-i : goal.invariant-loop-i
 invariant-loop-i l = record {
   rise : RowsRise (declarations_of l.self.table.now) (header_of l.self.table.now).entries l.structs.entry.nest l.structs.entry.size l.done (table_rows l.self.table.now (header_of l.self.table.now) l.i (l.structs.entry.first + l.structs.entry.count - l.i));
   wrong : IsFirstWrong (IsReadTo l.self.table.now (message_of l.self.bytes.now l.self.handles.now) l.structs l.i l.done) (IsBroken l.self.table.now (message_of l.self.bytes.now l.self.handles.now) l.structs) l.structs.count l.wrong;
+  below : l.i ≤ l.structs.entry.first + l.structs.entry.count;
+  least : IfNone l.wrong (l.fn.steps + l.structs.count * (l.i - l.structs.entry.first) ≤ l.steps);
   grows : l.fn.steps ≤ l.steps;
   cost : l.steps ≤ l.fn.steps + 17 * (l.structs.count * l.done);
 }

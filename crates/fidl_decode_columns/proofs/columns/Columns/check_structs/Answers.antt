@@ -1,8 +1,8 @@
 use Rattle.std.proofs.Common.{◌≡◌, ℕ, ◌+◌, ◌*◌, ◌<◌, ◌≤◌, List, refl, sym, subst, arith}
-use Rattle.std.specs.Prelude.{Option, Some, None}
+use Rattle.std.specs.Prelude.{Option, Some, None, IfNone}
 use Rattle.fidl_table_format.specs.declared.kind.EntryKind.TheVariants.{Struct}
 use Rattle.fidl_table_format.specs.declared.record.Entry.{Entry}
-use Rattle.fidl_table_format.specs.Section.{header_of}
+use Rattle.fidl_table_format.specs.Section.{header_of, entry_at}
 use Rattle.fidl_decode_model.specs.Faults.{message_of}
 use Rattle.fidl_decode_model.specs.State.{Message}
 use Rattle.fidl_decode_model.specs.Machine.{at_of}
@@ -74,8 +74,8 @@ overflow_sub-state c =
     c.requires.kind in
     omega (arith, fits)
 
-pub overflow_add-state-2 : goal.overflow_add-state-2
-overflow_add-state-2 c =
+pub overflow_add-state-3 : goal.overflow_add-state-3
+overflow_add-state-3 c =
     let paid = within_work c.args.self.now.table.now c.args.self.now.fine (message_of c.args.self.now.bytes.now c.args.self.now.handles.now) c.args.frame (at_of c.args.state.now) c.requires.frame c.requires.state c.args.entry c.args.size c.args.count c.requires.left c.requires.entry
     c.requires.kind c.check_rows.new.steps c.args.state.now.steps (subst (λ (d : Entry). c.check_rows.new.steps ≤ c.args.state.now.steps + 17 * (c.args.count * d.size)) c.entry-e.ensures.value c.check_rows.ensures.cost) in
     record { fits = omega (arith, paid, c.requires.budget) }
@@ -106,8 +106,15 @@ returns-in_err-zeros_at-clause-fault_is_true c =
     passed_on c.from_residual.result c.in_err-zeros_at.field-0.0 _ c.from_residual.ensures.1 (end_breaks c.args.self.now.table.now c.args.self.now.fine (message_of c.args.self.now.bytes.now c.args.self.now.handles.now) c.args.frame (at_of c.args.state.now) c.requires.frame
     c.requires.state c.args.entry c.args.size c.args.count c.requires.left c.requires.entry c.requires.kind all _ c.in_err-zeros_at.ensures.fault_is_true)
 
+-- the steps of all rows, where no struct is wrong
+rows_least : (o : Option Wrong) (P : Type 0) → IfNone o P → ((w : Wrong) → o ≡ Some w → ⊥) → P
+rows_least None P h no_one = h
+rows_least (Some w) P h no_one = absurd (no_one w refl)
+
 pub returns-clause-ok : goal.returns-clause-ok
 returns-clause-ok c = λ yes.
+    let rows = subst (λ (d : Entry). c.args.state.now.steps + c.args.count * d.count ≤ c.check_rows.new.steps) c.entry-e.ensures.value (rows_least c.check_rows.result _ c.check_rows.ensures.least c.in_default.not-Some) in
+    let counts : c.args.count * (1 + (entry_at c.args.self.now.table.now c.args.entry).count) ≡ c.args.count + c.args.count * (entry_at c.args.self.now.table.now c.args.entry).count = omega arith in
     let t = c.args.self.now.table.now in
     let m = message_of c.args.self.now.bytes.now c.args.self.now.handles.now in
     let all = subst (λ (d : Entry). (k : ℕ) → k < c.args.count → IsRead t m (structs_of c.args.frame c.args.count d) k) c.entry-e.ensures.value
@@ -115,7 +122,7 @@ returns-clause-ok c = λ yes.
     let paid = within_work c.args.self.now.table.now c.args.self.now.fine (message_of c.args.self.now.bytes.now c.args.self.now.handles.now) c.args.frame (at_of c.args.state.now) c.requires.frame c.requires.state c.args.entry c.args.size c.args.count c.requires.left c.requires.entry
     c.requires.kind c.check_rows.new.steps c.args.state.now.steps (subst (λ (d : Entry). c.check_rows.new.steps ≤ c.args.state.now.steps + 17 * (c.args.count * d.size)) c.entry-e.ensures.value c.check_rows.ensures.cost) in
     all_read c.args.self.now.table.now c.args.self.now.fine (message_of c.args.self.now.bytes.now c.args.self.now.handles.now) c.args.frame (at_of c.args.state.now) c.requires.frame c.requires.state c.args.entry c.args.size c.args.count c.requires.left c.requires.entry
-    c.requires.kind all _ (omega (arith, paid)) c.in_ok-zeros_at.ensures.ok
+    c.requires.kind all _ (omega (arith, rows, counts)) (omega (arith, paid)) c.in_ok-zeros_at.ensures.ok
 
 pub returns-clause-cost : goal.returns-clause-cost
 returns-clause-cost c =

@@ -1,4 +1,4 @@
-use Rattle.std.proofs.Common.{◌∷◌, [], refl, ◌∙◌, arith, inl, inr}
+use Rattle.std.proofs.Common.{◌∷◌, [], refl, ◌∙◌, ◌+◌, arith, inl, inr}
 use Rattle.fidl_table_format.specs.Terms.{declarations_of}
 use Rattle.fidl_decode_model.specs.Faults.{message_of}
 use Rattle.fidl_decode_columns.specs.Samples.{at_start}
@@ -11,8 +11,9 @@ returns-clause-zero c = λ s state.
     record {
       same = λ to. (
         (λ x. (s, refl, (zeros_only (declarations_of []) m 1 0 0 s to x).0)),
-        (λ y. only_zeros (declarations_of []) m 1 0 0 s to (y.1 ∙ y.2) (omega arith, refl, tt)),
+        (λ y. (only_zeros (declarations_of []) m 1 0 0 s to (y.1 ∙ y.2) (omega arith, refl, tt) 0).0),
       );
+      least = λ to mid a b y z. only_zeros (declarations_of []) m 1 0 0 s to (y ∙ z) (omega arith, refl, tt) (a + b + 0);
       breaks = λ fault b. elim b [ inl x ↦ absurd x | inr y ↦ absurd y.2 ];
       state = state;
       below_fine = tt;

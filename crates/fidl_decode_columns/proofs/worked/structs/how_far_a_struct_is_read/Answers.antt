@@ -9,7 +9,7 @@ pub returns-clause-passed : goal.returns-clause-passed
 returns-clause-passed c = λ h.
     let m = message_of (0 ∷ 5 ∷ []) [] in
     let turns = h at_start fine_start in
-    let members = (turns.same at_start).1 (at_start, refl, only_zeros (declarations_of []) m 1 1 1 at_start at_start refl tt) in
+    let members = (turns.same at_start).1 (at_start, refl, (only_zeros (declarations_of []) m 1 1 1 at_start at_start refl tt 0).0) in
     not_five (zeros_only (declarations_of []) m 1 1 0 at_start at_start members).1.1
 
 pub returns-clause-past : goal.returns-clause-past
