@@ -1,5 +1,5 @@
 -- What a return says that changes nothing.
-use Rattle.std.proofs.Common.{◌≡◌, ℕ, ◌≤◌, Bool, false, true, arith}
+use Rattle.std.proofs.Common.{◌≡◌, ℕ, ◌-◌, ◌<◌, ◌≤◌, Bool, false, true, subst, arith}
 use Rattle.std.specs.Prelude.{Result, Ok, Err, IfOk, OnOk, Option, Some, None, IfNone}
 use Rattle.std.specs.Result.{IsErrAnd}
 
@@ -31,3 +31,13 @@ if_none (Some x) P h = tt
 -- what a test says is not so
 pub clash : {b : Bool} → b ≡ true → b ≡ false → ⊥
 clash is not = cc
+
+-- what the decoder's size says of room is so of the message
+pub size_short : {n m : ℕ} → n ≡ m → (k x : ℕ) → n - k < x → m - k < x
+size_short e k x h = subst (λ n. n - k < x) e h
+
+pub size_fits : {n m : ℕ} → n ≡ m → (k x : ℕ) → x ≤ n - k → x ≤ m - k
+size_fits e k x h = subst (λ n. x ≤ n - k) e h
+
+pub size_room : {n m : ℕ} → n ≡ m → (k : ℕ) → k ≤ m → k ≤ n
+size_room e k h = omega (arith, e, h)

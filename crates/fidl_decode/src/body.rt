@@ -8,10 +8,10 @@ ghost use Rattle.fidl_wire.specs.Term.{find};
 ghost use Rattle.fidl_table_format.specs.Kind.{kind_of};
 ghost use Rattle.fidl_table_format.specs.Section.{header_of, entry_at, row_at};
 ghost use Rattle.fidl_table_format.specs.Terms.{members_of};
-ghost use Rattle.fidl_decode_model.specs.Faults.{message_of};
 ghost use Rattle.fidl_decode.specs.Body.{BodyFine, IsPassing, rest_of};
 ghost use Rattle.fidl_decode_model.specs.Steps.{Spends};
 ghost use Rattle.fidl_decode_model.specs.Machine.{StateFine, FrameFine, Turns, at_of};
+ghost use Rattle.fidl_decode.specs.Reading.{came, message, Holds};
 
 use crate::decoder::Decoder;
 use fidl_decode_model::frame::{Frame, Remaining, State};
@@ -67,7 +67,7 @@ impl<'t> TableBody<'t> {
     }
 }
 
-impl<'t, 'm> Decoder<'t, 'm> {
+impl<'t, 'm, 's> Decoder<'t, 'm, 's> {
     /// The envelopes of a value of a table entry, so many of them from a place on.
     #[inline(always)]
     pub(crate) fn body_of(&self, entry: u32, base: usize, count: u32, depth: u8) -> TableBody<'t>
@@ -102,19 +102,19 @@ impl<'t, 'm> Decoder<'t, 'm> {
         read: u32,
         entry: u32,
         how: Passing,
-        state: &mut State,
+        state: &mut State<'_, '_>,
     ) -> bool
         requires body { BodyFine self.now.table.now body.now }
         requires more { read < body.now.known }
         requires entry { entry < (header_of self.now.table.now).entries }
         requires how { IsPassing self.now.table.now entry how }
-        requires frame { FrameFine self.now.table.now self.now.bytes.now
-            (rest_of body.now read) }
-        requires state { StateFine (message_of self.now.bytes.now self.now.handles.now)
-            (at_of state.old) }
+        requires frame { FrameFine self.now.table.now (came self.now) (rest_of body.now read) }
+        requires holds { Holds self.now state.old }
+        requires state { StateFine (message self.now) (at_of state.old) }
         requires budget { state.old.steps < 2 ^ 43 }
+        ensures holds { Holds self.now state.new }
         ensures passed { IsTrue result → Turns self.now.table.now
-            (message_of self.now.bytes.now self.now.handles.now) (rest_of body.now read)
+            (message self.now) (rest_of body.now read)
             (at_of state.old) (at_of state.new) (state.new.steps + 1 - state.old.steps)
             (record { below = None; rest = Some (rest_of body.now (read + 1)) }) }
         ensures kept { IsFalse result → at_of state.new ≡ at_of state.old }
@@ -141,19 +141,19 @@ impl<'t, 'm> Decoder<'t, 'm> {
         from: u32,
         entry: u32,
         how: Passing,
-        state: &mut State,
+        state: &mut State<'_, '_>,
     ) -> u32
         requires body { BodyFine self.now.table.now body.now }
         requires more { from ≤ body.now.known }
         requires entry { entry < (header_of self.now.table.now).entries }
         requires how { IsPassing self.now.table.now entry how }
-        requires frame { FrameFine self.now.table.now self.now.bytes.now
-            (rest_of body.now from) }
-        requires state { StateFine (message_of self.now.bytes.now self.now.handles.now)
-            (at_of state.old) }
+        requires frame { FrameFine self.now.table.now (came self.now) (rest_of body.now from) }
+        requires holds { Holds self.now state.old }
+        requires state { StateFine (message self.now) (at_of state.old) }
         requires budget { state.old.steps < 2 ^ 42 }
+        ensures holds { Holds self.now state.new }
         ensures turns { Turns self.now.table.now
-            (message_of self.now.bytes.now self.now.handles.now) (rest_of body.now from)
+            (message self.now) (rest_of body.now from)
             (at_of state.old) (at_of state.new)
             (state.new.steps + (result - from) - state.old.steps)
             (record { below = None; rest = Some (rest_of body.now result) }) }
@@ -178,7 +178,7 @@ impl<'t, 'm> Decoder<'t, 'm> {
         from: u32,
         entry: u32,
         kind: EntryKind,
-        state: &mut State,
+        state: &mut State<'_, '_>,
     ) -> u32
         requires body { BodyFine self.now.table.now body.now }
         requires more { from < body.now.known }
@@ -186,13 +186,13 @@ impl<'t, 'm> Decoder<'t, 'm> {
             ≡ Some (ty.named entry) }
         requires entry { entry < (header_of self.now.table.now).entries }
         requires kind { kind_of (entry_at self.now.table.now entry).kind ≡ Some kind }
-        requires frame { FrameFine self.now.table.now self.now.bytes.now
-            (rest_of body.now from) }
-        requires state { StateFine (message_of self.now.bytes.now self.now.handles.now)
-            (at_of state.old) }
+        requires frame { FrameFine self.now.table.now (came self.now) (rest_of body.now from) }
+        requires holds { Holds self.now state.old }
+        requires state { StateFine (message self.now) (at_of state.old) }
         requires budget { state.old.steps < 2 ^ 42 }
+        ensures holds { Holds self.now state.new }
         ensures turns { Turns self.now.table.now
-            (message_of self.now.bytes.now self.now.handles.now) (rest_of body.now from)
+            (message self.now) (rest_of body.now from)
             (at_of state.old) (at_of state.new)
             (state.new.steps + (result - from) - state.old.steps)
             (record { below = None; rest = Some (rest_of body.now result) }) }
@@ -211,16 +211,16 @@ impl<'t, 'm> Decoder<'t, 'm> {
     /// Passes over the next envelopes with members of one entry, and answers how many are read then.
     /// The steps, one for each, are not counted yet.
     #[inline(always)]
-    fn pass_alike(&self, body: &TableBody<'_>, from: u32, state: &mut State) -> u32
+    fn pass_alike(&self, body: &TableBody<'_>, from: u32, state: &mut State<'_, '_>) -> u32
         requires body { BodyFine self.now.table.now body.now }
         requires more { from < body.now.known }
-        requires frame { FrameFine self.now.table.now self.now.bytes.now
-            (rest_of body.now from) }
-        requires state { StateFine (message_of self.now.bytes.now self.now.handles.now)
-            (at_of state.old) }
+        requires frame { FrameFine self.now.table.now (came self.now) (rest_of body.now from) }
+        requires holds { Holds self.now state.old }
+        requires state { StateFine (message self.now) (at_of state.old) }
         requires budget { state.old.steps < 2 ^ 42 }
+        ensures holds { Holds self.now state.new }
         ensures turns { Turns self.now.table.now
-            (message_of self.now.bytes.now self.now.handles.now) (rest_of body.now from)
+            (message self.now) (rest_of body.now from)
             (at_of state.old) (at_of state.new)
             (state.new.steps + (result - from) - state.old.steps)
             (record { below = None; rest = Some (rest_of body.now result) }) }
@@ -251,16 +251,16 @@ impl<'t, 'm> Decoder<'t, 'm> {
     /// Passes over the next envelopes: those with members of one entry, or one that is absent; answers
     /// how many are read then. The steps, one for each, are not counted yet.
     #[inline(always)]
-    fn pass_some(&self, body: &TableBody<'_>, from: u32, state: &mut State) -> u32
+    fn pass_some(&self, body: &TableBody<'_>, from: u32, state: &mut State<'_, '_>) -> u32
         requires body { BodyFine self.now.table.now body.now }
         requires more { from < body.now.known }
-        requires frame { FrameFine self.now.table.now self.now.bytes.now
-            (rest_of body.now from) }
-        requires state { StateFine (message_of self.now.bytes.now self.now.handles.now)
-            (at_of state.old) }
+        requires frame { FrameFine self.now.table.now (came self.now) (rest_of body.now from) }
+        requires holds { Holds self.now state.old }
+        requires state { StateFine (message self.now) (at_of state.old) }
         requires budget { state.old.steps < 2 ^ 42 }
+        ensures holds { Holds self.now state.new }
         ensures turns { Turns self.now.table.now
-            (message_of self.now.bytes.now self.now.handles.now) (rest_of body.now from)
+            (message self.now) (rest_of body.now from)
             (at_of state.old) (at_of state.new)
             (state.new.steps + (result - from) - state.old.steps)
             (record { below = None; rest = Some (rest_of body.now result) }) }
@@ -270,7 +270,7 @@ impl<'t, 'm> Decoder<'t, 'm> {
         ensures pays { state.new.steps + state.old.next ≤ state.old.steps + state.new.next }
     {
         let read = self.pass_alike(body, from, state);
-        if read == from && self.is_absent(body.base + 8 * from as usize) {
+        if read == from && self.is_absent(body.base + 8 * from as usize, state) {
             return from + 1;
         }
         read
@@ -278,15 +278,15 @@ impl<'t, 'm> Decoder<'t, 'm> {
 
     /// Passes over the first envelopes of a table's value, and answers how many are read then.
     #[inline(never)]
-    pub(crate) fn pass_front(&self, body: &TableBody<'_>, state: &mut State) -> u32
+    pub(crate) fn pass_front(&self, body: &TableBody<'_>, state: &mut State<'_, '_>) -> u32
         requires body { BodyFine self.now.table.now body.now }
-        requires frame { FrameFine self.now.table.now self.now.bytes.now
-            (rest_of body.now 0) }
-        requires state { StateFine (message_of self.now.bytes.now self.now.handles.now)
-            (at_of state.old) }
+        requires frame { FrameFine self.now.table.now (came self.now) (rest_of body.now 0) }
+        requires holds { Holds self.now state.old }
+        requires state { StateFine (message self.now) (at_of state.old) }
         requires budget { state.old.steps < 2 ^ 41 }
+        ensures holds { Holds self.now state.new }
         ensures turns { Turns self.now.table.now
-            (message_of self.now.bytes.now self.now.handles.now) (rest_of body.now 0)
+            (message self.now) (rest_of body.now 0)
             (at_of state.old) (at_of state.new) (state.new.steps - state.old.steps)
             (record { below = None; rest = Some (rest_of body.now result) }) }
         ensures few { result ≤ body.now.known }
@@ -314,17 +314,17 @@ impl<'t, 'm> Decoder<'t, 'm> {
         &self,
         body: &TableBody<'_>,
         read: u32,
-        state: &mut State,
+        state: &mut State<'_, '_>,
     ) -> Option<Frame>
         requires body { BodyFine self.now.table.now body.now }
         requires order { read ≤ body.now.count }
-        requires frame { FrameFine self.now.table.now self.now.bytes.now
-            (rest_of body.now read) }
-        requires state { StateFine (message_of self.now.bytes.now self.now.handles.now)
-            (at_of state.old) }
+        requires frame { FrameFine self.now.table.now (came self.now) (rest_of body.now read) }
+        requires holds { Holds self.now state.old }
+        requires state { StateFine (message self.now) (at_of state.old) }
         requires budget { state.old.steps < 2 ^ 42 }
+        ensures holds { Holds self.now state.new }
         ensures turns { Turns self.now.table.now
-            (message_of self.now.bytes.now self.now.handles.now) (rest_of body.now read)
+            (message self.now) (rest_of body.now read)
             (at_of state.old) (at_of state.new) (state.new.steps - state.old.steps)
             (record { below = None; rest = result }) }
         ensures next { state.new.next ≡ state.old.next }

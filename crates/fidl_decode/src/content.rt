@@ -4,19 +4,18 @@ ghost use Rattle.std.specs.Prelude.{Some, None};
 ghost use Rattle.fidl_table_format.specs.Kind.{kind_of};
 ghost use Rattle.fidl_table_format.specs.Section.{entry_at};
 ghost use Rattle.fidl_decode_model.specs.Invariants.{IsFlat};
-ghost use Rattle.fidl_decode_model.specs.Faults.{message_of};
 ghost use Rattle.fidl_decode_model.specs.declared.frame.Remaining.TheVariants as left;
 ghost use Rattle.fidl_decode_model.specs.Steps.{Spends};
 ghost use Rattle.fidl_decode_model.specs.Machine.{StateFine, FrameFine, Turns, BreaksFrame};
 ghost use Rattle.fidl_decode_model.specs.Machine.{turn_work, at_of};
+ghost use Rattle.fidl_decode.specs.Reading.{came, message, Holds};
 
 use crate::decoder::Decoder;
-use fidl_decode_columns::zeros_at;
 use fidl_decode_model::DecodeFault;
 use fidl_decode_model::frame::{Frame, Remaining, State, Turn, Until};
 use fidl_table_format::EntryKind;
 
-impl<'t, 'm> Decoder<'t, 'm> {
+impl<'t, 'm, 's> Decoder<'t, 'm, 's> {
     /// Reads the value of an envelope's content, or its end, which has to be where the envelope
     /// counts up to.
     #[inline(always)]
@@ -27,27 +26,26 @@ impl<'t, 'm> Decoder<'t, 'm> {
         size: usize,
         count: u32,
         until: Until,
-        state: &mut State,
+        state: &mut State<'_, '_>,
     ) -> Result<Turn, DecodeFault>
         requires left { frame.left ≡ left.Content entry size count until }
-        requires frame { FrameFine self.now.table.now self.now.bytes.now frame }
-        requires state { StateFine (message_of self.now.bytes.now self.now.handles.now)
-            (at_of state.old) }
+        requires frame { FrameFine self.now.table.now (came self.now) frame }
+        requires holds { Holds self.now state.old }
+        requires state { StateFine (message self.now) (at_of state.old) }
         requires steps { state.old.steps < 2 ^ 40 }
-        ensures ok { IfOk result
-            (λ turn. Turns self.now.table.now (message_of self.now.bytes.now self.now.handles.now)
-            frame (at_of state.old) (at_of state.new) (state.new.steps - state.old.steps) turn) }
-        ensures spends { Spends state.old.steps state.new.steps 1
-            (turn_work self.now.bytes.now state.old.next frame) }
-        ensures fault_is_true { IfErr result
-            (BreaksFrame self.now.table.now (message_of self.now.bytes.now self.now.handles.now)
+        ensures holds { Holds self.now state.new }
+        ensures ok { IfOk result (λ turn. Turns self.now.table.now (message self.now) frame
+            (at_of state.old) (at_of state.new) (state.new.steps - state.old.steps) turn) }
+        ensures spends { Spends state.old.steps state.new.steps 1 (turn_work (came self.now)
+            state.old.next frame) }
+        ensures fault_is_true { IfErr result (BreaksFrame self.now.table.now (message self.now)
             frame (at_of state.old)) }
     {
         let at = frame.base + frame.done;
         if count == 0 {
             let stop = frame.base + frame.size;
             state.steps += (stop - at) as u64 + 1;
-            zeros_at(self.bytes, at, stop)?;
+            self.zeros_at(at, stop, state)?;
             if state.next != until.next || state.handle != until.handle {
                 return Err(DecodeFault::WrongCounts { at: until.envelope });
             }
@@ -89,25 +87,24 @@ impl<'t, 'm> Decoder<'t, 'm> {
         kind: EntryKind,
         size: usize,
         until: Until,
-        state: &mut State,
+        state: &mut State<'_, '_>,
     ) -> Result<(), DecodeFault>
-        requires frame { FrameFine self.now.table.now self.now.bytes.now frame }
+        requires frame { FrameFine self.now.table.now (came self.now) frame }
         requires left { frame.left ≡ left.Content entry size 1 until }
         requires kind { kind_of (entry_at self.now.table.now entry).kind ≡ Some kind }
         requires flat { IsFlat self.now.table.now (entry_at self.now.table.now entry) kind }
-        requires state { StateFine (message_of self.now.bytes.now self.now.handles.now)
-            (at_of state.old) }
-        requires budget { state.old.steps + turn_work self.now.bytes.now state.old.next frame
-            < 2 ^ 40 }
+        requires holds { Holds self.now state.old }
+        requires state { StateFine (message self.now) (at_of state.old) }
+        requires budget { state.old.steps + turn_work (came self.now) state.old.next frame < 2 ^ 40 }
+        ensures holds { Holds self.now state.new }
         ensures ok { OnOk result
-            (Turns self.now.table.now (message_of self.now.bytes.now self.now.handles.now) frame
+            (Turns self.now.table.now (message self.now) frame
             (at_of state.old) (at_of state.new) (state.new.steps - state.old.steps)
             (record { below = None; rest = None })) }
         ensures rises { OnOk result (state.old.steps < state.new.steps) }
-        ensures cost { state.new.steps
-            ≤ state.old.steps + turn_work self.now.bytes.now state.old.next frame }
-        ensures fault_is_true { IfErr result
-            (BreaksFrame self.now.table.now (message_of self.now.bytes.now self.now.handles.now)
+        ensures cost { state.new.steps ≤ state.old.steps + turn_work (came self.now) state.old.next
+            frame }
+        ensures fault_is_true { IfErr result (BreaksFrame self.now.table.now (message self.now)
             frame (at_of state.old)) }
     {
         let at = frame.base + frame.done;
@@ -117,7 +114,7 @@ impl<'t, 'm> Decoder<'t, 'm> {
         let over = frame.base + done;
         let stop = frame.base + frame.size;
         state.steps += (stop - over) as u64 + 1;
-        zeros_at(self.bytes, over, stop)?;
+        self.zeros_at(over, stop, state)?;
         if state.next != until.next || state.handle != until.handle {
             return Err(DecodeFault::WrongCounts { at: until.envelope });
         }
@@ -134,24 +131,23 @@ impl<'t, 'm> Decoder<'t, 'm> {
         size: usize,
         count: u32,
         until: Until,
-        state: &mut State,
+        state: &mut State<'_, '_>,
     ) -> Result<Option<Frame>, DecodeFault>
-        requires frame { FrameFine self.now.table.now self.now.bytes.now frame }
+        requires frame { FrameFine self.now.table.now (came self.now) frame }
         requires left { frame.left ≡ left.Content entry size count until }
-        requires state { StateFine (message_of self.now.bytes.now self.now.handles.now)
-            (at_of state.old) }
-        requires budget { state.old.steps + turn_work self.now.bytes.now state.old.next frame
-            < 2 ^ 40 }
+        requires holds { Holds self.now state.old }
+        requires state { StateFine (message self.now) (at_of state.old) }
+        requires budget { state.old.steps + turn_work (came self.now) state.old.next frame < 2 ^ 40 }
+        ensures holds { Holds self.now state.new }
         ensures ok { IfOk result
-            (λ rest. Turns self.now.table.now (message_of self.now.bytes.now self.now.handles.now)
+            (λ rest. Turns self.now.table.now (message self.now)
             frame (at_of state.old) (at_of state.new) (state.new.steps - state.old.steps)
             (record { below = None; rest = rest })) }
         ensures grows { OnOk result (state.old.steps ≤ state.new.steps) }
         ensures ended { IfOk result (λ rest. IfNone rest (state.old.steps < state.new.steps)) }
-        ensures cost { state.new.steps
-            ≤ state.old.steps + turn_work self.now.bytes.now state.old.next frame }
-        ensures fault_is_true { IfErr result
-            (BreaksFrame self.now.table.now (message_of self.now.bytes.now self.now.handles.now)
+        ensures cost { state.new.steps ≤ state.old.steps + turn_work (came self.now) state.old.next
+            frame }
+        ensures fault_is_true { IfErr result (BreaksFrame self.now.table.now (message self.now)
             frame (at_of state.old)) }
     {
         if count != 1 {
@@ -170,20 +166,22 @@ impl<'t, 'm> Decoder<'t, 'm> {
 
     /// Reads the next member of a frame, or its end; of a table all members that are read in place.
     #[inline(always)]
-    pub(crate) fn take_member(&self, frame: Frame, state: &mut State) -> Result<Turn, DecodeFault>
-        requires frame { FrameFine self.now.table.now self.now.bytes.now frame }
-        requires state { StateFine (message_of self.now.bytes.now self.now.handles.now)
-            (at_of state.old) }
-        requires budget { state.old.steps + turn_work self.now.bytes.now state.old.next frame
-            < 2 ^ 40 }
-        ensures ok { IfOk result
-            (λ turn. Turns self.now.table.now (message_of self.now.bytes.now self.now.handles.now)
-            frame (at_of state.old) (at_of state.new) (state.new.steps - state.old.steps) turn) }
+    pub(crate) fn take_member(
+        &self,
+        frame: Frame,
+        state: &mut State<'_, '_>,
+    ) -> Result<Turn, DecodeFault>
+        requires frame { FrameFine self.now.table.now (came self.now) frame }
+        requires holds { Holds self.now state.old }
+        requires state { StateFine (message self.now) (at_of state.old) }
+        requires budget { state.old.steps + turn_work (came self.now) state.old.next frame < 2 ^ 40 }
+        ensures holds { Holds self.now state.new }
+        ensures ok { IfOk result (λ turn. Turns self.now.table.now (message self.now) frame
+            (at_of state.old) (at_of state.new) (state.new.steps - state.old.steps) turn) }
         ensures rises { OnOk result (state.old.steps < state.new.steps) }
-        ensures cost { state.new.steps ≤ state.old.steps
-            + turn_work self.now.bytes.now state.old.next frame }
-        ensures fault_is_true { IfErr result
-            (BreaksFrame self.now.table.now (message_of self.now.bytes.now self.now.handles.now)
+        ensures cost { state.new.steps ≤ state.old.steps + turn_work (came self.now) state.old.next
+            frame }
+        ensures fault_is_true { IfErr result (BreaksFrame self.now.table.now (message self.now)
             frame (at_of state.old)) }
     {
         match frame.left {

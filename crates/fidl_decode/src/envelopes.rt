@@ -10,7 +10,6 @@ ghost use Rattle.fidl_table_format.specs.Terms.{declarations_of};
 ghost use Rattle.fidl_decode_model.specs.declared.fault.DecodeFault.{DecodeFault};
 ghost use Rattle.fidl_decode_model.specs.declared.frame.Remaining.TheVariants as left;
 ghost use Rattle.fidl_decode_model.specs.declared.frame.Until.{Until};
-ghost use Rattle.fidl_decode_model.specs.Faults.{message_of};
 ghost use Rattle.fidl_decode_model.specs.Envelopes.{Contained};
 ghost use Rattle.fidl_decode_model.specs.Breaks.{BreaksMember};
 ghost use Rattle.fidl_decode_model.specs.State.{Position};
@@ -18,12 +17,13 @@ ghost use Rattle.fidl_decode_model.specs.Machine.{Reads, BreaksFrame, FrameFine,
 ghost use Rattle.fidl_decode_model.specs.Machine.{level, height, most_nest, inline_work};
 ghost use Rattle.fidl_decode_model.specs.Machine.{frame_work};
 ghost use Rattle.fidl_decode_model.specs.Worth.{ReadsWorth, ContainedWorth};
+ghost use Rattle.fidl_decode.specs.Reading.{came, message, Holds};
 
 use crate::decoder::Decoder;
 use fidl_decode_model::DecodeFault;
 use fidl_decode_model::frame::{Frame, Remaining, State, Until};
 use fidl_table_format::Entry;
-use fidl_wire::{HandleInfo, MAX_DEPTH, byte_count_at, flags_at, handle_count_at};
+use fidl_wire::{HandleInfo, MAX_DEPTH};
 
 /// The frame of the content of an envelope, which is one value of an entry, and zeros behind it.
 fn content_frame(
@@ -79,7 +79,7 @@ fn are_handles(handles: &[HandleInfo], from: usize, count: usize)
     }
 }
 
-impl<'t, 'm> Decoder<'t, 'm> {
+impl<'t, 'm, 's> Decoder<'t, 'm, 's> {
     /// Reads the numbers of the envelope at a place, which holds a known member: its content, in
     /// the envelope or linked as the next object, is left to read.
     #[inline(always)]
@@ -88,41 +88,33 @@ impl<'t, 'm> Decoder<'t, 'm> {
         entry: u32,
         envelope: usize,
         depth: u8,
-        state: &mut State,
+        state: &mut State<'_, '_>,
     ) -> Result<Frame, DecodeFault>
         requires entry { entry < (header_of self.now.table.now).entries }
-        requires room { envelope + 8 ≤ length self.now.bytes.now }
-        requires state { StateFine (message_of self.now.bytes.now self.now.handles.now)
-            (at_of state.old) }
+        requires room { envelope + 8 ≤ length (came self.now) }
+        requires holds { Holds self.now state.old }
+        requires state { StateFine (message self.now) (at_of state.old) }
         requires depth { depth ≤ MAX_DEPTH }
-        ensures ok { IfOk result (λ frame. (to : Position)
-            → Contained (declarations_of self.now.table.now)
-            (message_of self.now.bytes.now self.now.handles.now) depth (Some (ty.named entry))
-            envelope (at_of state.old) to
-            ↔ Reads self.now.table.now (message_of self.now.bytes.now self.now.handles.now) frame
+        ensures holds { Holds self.now state.new }
+        ensures ok { IfOk result (λ frame. (to : Position) → Contained
+            (declarations_of self.now.table.now) (message self.now) depth (Some (ty.named entry))
+            envelope (at_of state.old) to ↔ Reads self.now.table.now (message self.now) frame
             (at_of state.new) to) }
-        ensures breaks { IfOk result (λ frame. (fault : DecodeFault)
-            → BreaksFrame self.now.table.now (message_of self.now.bytes.now self.now.handles.now)
-            frame (at_of state.new) fault
-            → BreaksMember (declarations_of self.now.table.now)
-            (message_of self.now.bytes.now self.now.handles.now) depth (Some (ty.named entry))
+        ensures breaks { IfOk result (λ frame. (fault : DecodeFault) → BreaksFrame
+            self.now.table.now (message self.now) frame (at_of state.new) fault → BreaksMember
+            (declarations_of self.now.table.now) (message self.now) depth (Some (ty.named entry))
             envelope (at_of state.old) fault) }
-        ensures least { IfOk result (λ frame. (to : Position) → (w : ℕ)
-            → ReadsWorth self.now.table.now (message_of self.now.bytes.now self.now.handles.now) frame
-            (at_of state.new) to w
-            → ContainedWorth (declarations_of self.now.table.now)
-            (message_of self.now.bytes.now self.now.handles.now) depth (Some (ty.named entry))
+        ensures least { IfOk result (λ frame. (to : Position) → (w : ℕ) → ReadsWorth
+            self.now.table.now (message self.now) frame (at_of state.new) to w → ContainedWorth
+            (declarations_of self.now.table.now) (message self.now) depth (Some (ty.named entry))
             envelope (at_of state.old) to w) }
-        ensures fine { IfOk result
-            (λ frame. FrameFine self.now.table.now self.now.bytes.now frame) }
+        ensures fine { IfOk result (λ frame. FrameFine self.now.table.now (came self.now) frame) }
         ensures deeper { IfOk result (λ frame. level depth 1 most_nest ≤ height frame) }
         ensures left { IfOk result (λ frame. (until : Until) × (frame.left ≡ left.Content entry
             (entry_at self.now.table.now entry).size 1 until)) }
-        ensures state { StateFine (message_of self.now.bytes.now self.now.handles.now)
-            (at_of state.new) }
+        ensures state { StateFine (message self.now) (at_of state.new) }
         ensures fault_is_true { IfErr result (BreaksMember (declarations_of self.now.table.now)
-            (message_of self.now.bytes.now self.now.handles.now) depth (Some (ty.named entry))
-            envelope (at_of state.old)) }
+            (message self.now) depth (Some (ty.named entry)) envelope (at_of state.old)) }
         ensures steps { state.new.steps ≡ state.old.steps }
         ensures grows { state.old.next ≤ state.new.next }
         ensures work { IfOk result (λ frame.
@@ -132,9 +124,9 @@ impl<'t, 'm> Decoder<'t, 'm> {
             ≤ inline_work most_nest * (state.new.next - state.old.next) + 1)) }
     {
         let content = self.table.entry(entry);
-        let counted = byte_count_at(self.bytes, envelope) as usize;
-        let handles = handle_count_at(self.bytes, envelope) as usize;
-        let flags = flags_at(self.bytes, envelope);
+        let counted = self.byte_count_at(envelope, state) as usize;
+        let handles = self.handle_count_at(envelope, state) as usize;
+        let flags = self.flags_at(envelope, state);
         let size = content.size as usize;
         let next = state.next;
         if size <= 4 {
@@ -156,7 +148,7 @@ impl<'t, 'm> Decoder<'t, 'm> {
             return Err(DecodeFault::TooDeep { at: envelope });
         }
         let whole = size.next_multiple_of(8);
-        if whole > self.bytes.len() - next {
+        if whole > self.size - next {
             return Err(DecodeFault::Truncated { at: next });
         }
         state.links.record(envelope + 4, state.handle);
@@ -176,27 +168,24 @@ impl<'t, 'm> Decoder<'t, 'm> {
         &self,
         envelope: usize,
         depth: u8,
-        state: &mut State,
+        state: &mut State<'_, '_>,
     ) -> Result<(), DecodeFault>
-        requires room { envelope + 8 ≤ length self.now.bytes.now }
-        requires state { StateFine (message_of self.now.bytes.now self.now.handles.now)
-            (at_of state.old) }
+        requires room { envelope + 8 ≤ length (came self.now) }
+        requires holds { Holds self.now state.old }
+        requires state { StateFine (message self.now) (at_of state.old) }
         requires depth { depth ≤ MAX_DEPTH }
-        ensures ok { OnOk result ((to : Position)
-            → Contained (declarations_of self.now.table.now)
-            (message_of self.now.bytes.now self.now.handles.now) depth None envelope
-            (at_of state.old) to ↔ (at_of state.new ≡ to)) }
-        ensures state { StateFine (message_of self.now.bytes.now self.now.handles.now)
-            (at_of state.new) }
+        ensures holds { Holds self.now state.new }
+        ensures ok { OnOk result ((to : Position) → Contained (declarations_of self.now.table.now)
+            (message self.now) depth None envelope (at_of state.old) to ↔ (at_of state.new ≡ to)) }
+        ensures state { StateFine (message self.now) (at_of state.new) }
         ensures fault_is_true { IfErr result (BreaksMember (declarations_of self.now.table.now)
-            (message_of self.now.bytes.now self.now.handles.now) depth None envelope
-            (at_of state.old)) }
+            (message self.now) depth None envelope (at_of state.old)) }
         ensures steps { state.new.steps ≡ state.old.steps }
         ensures grows { state.old.next ≤ state.new.next }
     {
-        let counted = byte_count_at(self.bytes, envelope) as usize;
-        let handles = handle_count_at(self.bytes, envelope) as usize;
-        let flags = flags_at(self.bytes, envelope);
+        let counted = self.byte_count_at(envelope, state) as usize;
+        let handles = self.handle_count_at(envelope, state) as usize;
+        let flags = self.flags_at(envelope, state);
         if flags == 1 {
             if handles > self.handles.len() - state.handle {
                 return Err(DecodeFault::HandleMissing { at: envelope });
@@ -213,7 +202,7 @@ impl<'t, 'm> Decoder<'t, 'm> {
             return Err(DecodeFault::TooDeep { at: envelope });
         }
         let next = state.next;
-        if counted > self.bytes.len() - next {
+        if counted > self.size - next {
             return Err(DecodeFault::Truncated { at: next });
         }
         if handles > self.handles.len() - state.handle {

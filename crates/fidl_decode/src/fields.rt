@@ -5,20 +5,20 @@ ghost use Rattle.std.specs.Prelude.{IfNone, true, Some, None};
 ghost use Rattle.fidl_table_format.specs.Kind.{kind_of};
 ghost use Rattle.fidl_table_format.specs.Section.{header_of, entry_at};
 ghost use Rattle.fidl_decode_model.specs.Invariants.{is_leaf, is_free_at};
-ghost use Rattle.fidl_decode_model.specs.Faults.{message_of};
 ghost use Rattle.fidl_decode_model.specs.declared.frame.Remaining.TheVariants as left;
 ghost use Rattle.fidl_decode_model.specs.Steps.{Spends};
 ghost use Rattle.fidl_decode_model.specs.Machine.{StateFine, FrameFine, BreaksFrame, Turns};
 ghost use Rattle.fidl_decode_model.specs.Machine.{IsKnown, turn_work, at_of};
+ghost use Rattle.fidl_decode.specs.Reading.{came, message, Holds};
 
 use crate::decoder::Decoder;
 use crate::plain::Plain;
-use fidl_decode_columns::{is_free, zeros_at};
+use fidl_decode_columns::is_free;
 use fidl_decode_model::DecodeFault;
 use fidl_decode_model::frame::{Frame, Remaining, State};
 use fidl_table_format::EntryKind;
 
-impl<'t, 'm> Decoder<'t, 'm> {
+impl<'t, 'm, 's> Decoder<'t, 'm, 's> {
     /// Reads the last member of a struct, where nothing is left behind it: what it leads to takes
     /// the struct's place. Else the frame is left as it is.
     fn read_last(
@@ -26,24 +26,23 @@ impl<'t, 'm> Decoder<'t, 'm> {
         frame: Frame,
         first: u32,
         count: u32,
-        state: &mut State,
+        state: &mut State<'_, '_>,
     ) -> Result<Option<Frame>, DecodeFault>
-        requires frame { FrameFine self.now.table.now self.now.bytes.now frame }
+        requires frame { FrameFine self.now.table.now (came self.now) frame }
         requires left { frame.left ≡ left.Rows first count }
-        requires state { StateFine (message_of self.now.bytes.now self.now.handles.now)
-            (at_of state.old) }
-        requires budget { state.old.steps + turn_work self.now.bytes.now state.old.next frame
-            < 2 ^ 40 }
+        requires holds { Holds self.now state.old }
+        requires state { StateFine (message self.now) (at_of state.old) }
+        requires budget { state.old.steps + turn_work (came self.now) state.old.next frame < 2 ^ 40 }
+        ensures holds { Holds self.now state.new }
         ensures ok { IfOk result
-            (λ rest. Turns self.now.table.now (message_of self.now.bytes.now self.now.handles.now)
+            (λ rest. Turns self.now.table.now (message self.now)
             frame (at_of state.old) (at_of state.new) (state.new.steps - state.old.steps)
             (record { below = None; rest = rest })) }
         ensures grows { OnOk result (state.old.steps ≤ state.new.steps) }
         ensures ended { IfOk result (λ rest. IfNone rest (state.old.steps < state.new.steps)) }
-        ensures cost { state.new.steps
-            ≤ state.old.steps + turn_work self.now.bytes.now state.old.next frame }
-        ensures fault_is_true { IfErr result
-            (BreaksFrame self.now.table.now (message_of self.now.bytes.now self.now.handles.now)
+        ensures cost { state.new.steps ≤ state.old.steps + turn_work (came self.now) state.old.next
+            frame }
+        ensures fault_is_true { IfErr result (BreaksFrame self.now.table.now (message self.now)
             frame (at_of state.old)) }
     {
         if count != 1 {
@@ -58,7 +57,7 @@ impl<'t, 'm> Decoder<'t, 'm> {
         let read = frame.base + frame.done;
         let place = frame.base + row.key as usize;
         state.steps += (place - read) as u64 + 1;
-        zeros_at(self.bytes, read, place)?;
+        self.zeros_at(read, place, state)?;
         let below = self.visit(row.entry, place, frame.depth, frame.in_envelope, state)?;
         Ok(below)
     }
@@ -69,26 +68,24 @@ impl<'t, 'm> Decoder<'t, 'm> {
         &self,
         frame: Frame,
         known: &Plain,
-        state: &mut State,
+        state: &mut State<'_, '_>,
     ) -> Result<Option<Frame>, DecodeFault>
-        requires frame { FrameFine self.now.table.now self.now.bytes.now frame }
-        requires known { IsKnown self.now.table.now
-            (message_of self.now.bytes.now self.now.handles.now) known.now.rows known.now.first
-            known.now.count known.now.done known.now.flag }
-        requires state { StateFine (message_of self.now.bytes.now self.now.handles.now)
-            (at_of state.old) }
-        requires budget { state.old.steps + turn_work self.now.bytes.now state.old.next frame
-            < 2 ^ 40 }
+        requires frame { FrameFine self.now.table.now (came self.now) frame }
+        requires known { IsKnown self.now.table.now (message self.now) known.now.rows
+            known.now.first known.now.count known.now.done known.now.flag }
+        requires holds { Holds self.now state.old }
+        requires state { StateFine (message self.now) (at_of state.old) }
+        requires budget { state.old.steps + turn_work (came self.now) state.old.next frame < 2 ^ 40 }
+        ensures holds { Holds self.now state.new }
         ensures ok { IfOk result
-            (λ rest. Turns self.now.table.now (message_of self.now.bytes.now self.now.handles.now)
+            (λ rest. Turns self.now.table.now (message self.now)
             frame (at_of state.old) (at_of state.new) (state.new.steps - state.old.steps)
             (record { below = None; rest = rest })) }
         ensures grows { OnOk result (state.old.steps ≤ state.new.steps) }
         ensures ended { IfOk result (λ rest. IfNone rest (state.old.steps < state.new.steps)) }
-        ensures cost { state.new.steps
-            ≤ state.old.steps + turn_work self.now.bytes.now state.old.next frame }
-        ensures fault_is_true { IfErr result
-            (BreaksFrame self.now.table.now (message_of self.now.bytes.now self.now.handles.now)
+        ensures cost { state.new.steps ≤ state.old.steps + turn_work (came self.now) state.old.next
+            frame }
+        ensures fault_is_true { IfErr result (BreaksFrame self.now.table.now (message self.now)
             frame (at_of state.old)) }
     {
         let Some(now) = self.read_nested(frame, known, state)? else {
@@ -119,26 +116,25 @@ impl<'t, 'm> Decoder<'t, 'm> {
         kind: EntryKind,
         size: usize,
         count: u32,
-        state: &mut State,
+        state: &mut State<'_, '_>,
     ) -> Result<(), DecodeFault>
-        requires frame { FrameFine self.now.table.now self.now.bytes.now frame }
+        requires frame { FrameFine self.now.table.now (came self.now) frame }
         requires left { frame.left ≡ left.Elements entry size count }
         requires entry { entry < (header_of self.now.table.now).entries }
         requires kind { kind_of (entry_at self.now.table.now entry).kind ≡ Some kind }
         requires leaf { is_leaf self.now.table.now (entry_at self.now.table.now entry) kind ≡ true }
-        requires state { StateFine (message_of self.now.bytes.now self.now.handles.now)
-            (at_of state.old) }
-        requires budget { state.old.steps + turn_work self.now.bytes.now state.old.next frame
-            < 2 ^ 40 }
+        requires holds { Holds self.now state.old }
+        requires state { StateFine (message self.now) (at_of state.old) }
+        requires budget { state.old.steps + turn_work (came self.now) state.old.next frame < 2 ^ 40 }
+        ensures holds { Holds self.now state.new }
         ensures ok { OnOk result
-            (Turns self.now.table.now (message_of self.now.bytes.now self.now.handles.now) frame
+            (Turns self.now.table.now (message self.now) frame
             (at_of state.old) (at_of state.new) (state.new.steps - state.old.steps)
             (record { below = None; rest = None })) }
         ensures ended { OnOk result (state.old.steps < state.new.steps) }
-        ensures cost { state.new.steps
-            ≤ state.old.steps + turn_work self.now.bytes.now state.old.next frame }
-        ensures fault_is_true { IfErr result
-            (BreaksFrame self.now.table.now (message_of self.now.bytes.now self.now.handles.now)
+        ensures cost { state.new.steps ≤ state.old.steps + turn_work (came self.now) state.old.next
+            frame }
+        ensures fault_is_true { IfErr result (BreaksFrame self.now.table.now (message self.now)
             frame (at_of state.old)) }
     {
         let mut done = frame.done;
@@ -151,7 +147,7 @@ impl<'t, 'm> Decoder<'t, 'm> {
         let at = frame.base + done;
         let stop = frame.base + frame.size;
         state.steps += (stop - at) as u64 + 1;
-        zeros_at(self.bytes, at, stop)
+        self.zeros_at(at, stop, state)
     }
 
     /// Passes over elements that any bytes are values of, and reads the zeros behind them.
@@ -162,27 +158,27 @@ impl<'t, 'm> Decoder<'t, 'm> {
         entry: u32,
         size: usize,
         count: u32,
-        state: &mut State,
+        state: &mut State<'_, '_>,
     ) -> Result<(), DecodeFault>
-        requires frame { FrameFine self.now.table.now self.now.bytes.now frame }
+        requires frame { FrameFine self.now.table.now (came self.now) frame }
         requires left { frame.left ≡ left.Elements entry size count }
         requires free { is_free_at self.now.table.now entry ≡ true }
-        requires state { StateFine (message_of self.now.bytes.now self.now.handles.now)
-            (at_of state.old) }
+        requires holds { Holds self.now state.old }
+        requires state { StateFine (message self.now) (at_of state.old) }
         requires budget { state.old.steps < 2 ^ 42 }
+        ensures holds { Holds self.now state.new }
         ensures ok { OnOk result
-            (Turns self.now.table.now (message_of self.now.bytes.now self.now.handles.now) frame
+            (Turns self.now.table.now (message self.now) frame
             (at_of state.old) (at_of state.new) (state.new.steps - state.old.steps)
             (record { below = None; rest = None })) }
         ensures spends { Spends state.old.steps state.new.steps 1 (1 + (frame.size - frame.done)) }
-        ensures fault_is_true { IfErr result
-            (BreaksFrame self.now.table.now (message_of self.now.bytes.now self.now.handles.now)
+        ensures fault_is_true { IfErr result (BreaksFrame self.now.table.now (message self.now)
             frame (at_of state.old)) }
     {
         let from = frame.base + frame.done + size * count as usize;
         let stop = frame.base + frame.size;
         state.steps += (stop - from) as u64 + 1;
-        zeros_at(self.bytes, from, stop)
+        self.zeros_at(from, stop, state)
     }
 
     /// Reads the elements of an array or vector in place, where they are leaves. Nothing is left at
@@ -193,24 +189,23 @@ impl<'t, 'm> Decoder<'t, 'm> {
         entry: u32,
         size: usize,
         count: u32,
-        state: &mut State,
+        state: &mut State<'_, '_>,
     ) -> Result<Option<Frame>, DecodeFault>
-        requires frame { FrameFine self.now.table.now self.now.bytes.now frame }
+        requires frame { FrameFine self.now.table.now (came self.now) frame }
         requires left { frame.left ≡ left.Elements entry size count }
-        requires state { StateFine (message_of self.now.bytes.now self.now.handles.now)
-            (at_of state.old) }
-        requires budget { state.old.steps + turn_work self.now.bytes.now state.old.next frame
-            < 2 ^ 40 }
+        requires holds { Holds self.now state.old }
+        requires state { StateFine (message self.now) (at_of state.old) }
+        requires budget { state.old.steps + turn_work (came self.now) state.old.next frame < 2 ^ 40 }
+        ensures holds { Holds self.now state.new }
         ensures ok { IfOk result
-            (λ rest. Turns self.now.table.now (message_of self.now.bytes.now self.now.handles.now)
+            (λ rest. Turns self.now.table.now (message self.now)
             frame (at_of state.old) (at_of state.new) (state.new.steps - state.old.steps)
             (record { below = None; rest = rest })) }
         ensures grows { OnOk result (state.old.steps ≤ state.new.steps) }
         ensures ended { IfOk result (λ rest. IfNone rest (state.old.steps < state.new.steps)) }
-        ensures cost { state.new.steps
-            ≤ state.old.steps + turn_work self.now.bytes.now state.old.next frame }
-        ensures fault_is_true { IfErr result
-            (BreaksFrame self.now.table.now (message_of self.now.bytes.now self.now.handles.now)
+        ensures cost { state.new.steps ≤ state.old.steps + turn_work (came self.now) state.old.next
+            frame }
+        ensures fault_is_true { IfErr result (BreaksFrame self.now.table.now (message self.now)
             frame (at_of state.old)) }
     {
         if count == 0 {
@@ -237,23 +232,22 @@ impl<'t, 'm> Decoder<'t, 'm> {
     pub(crate) fn read_leaves(
         &self,
         frame: Frame,
-        state: &mut State,
+        state: &mut State<'_, '_>,
     ) -> Result<Option<Frame>, DecodeFault>
-        requires frame { FrameFine self.now.table.now self.now.bytes.now frame }
-        requires state { StateFine (message_of self.now.bytes.now self.now.handles.now)
-            (at_of state.old) }
-        requires budget { state.old.steps + turn_work self.now.bytes.now state.old.next frame
-            < 2 ^ 40 }
+        requires frame { FrameFine self.now.table.now (came self.now) frame }
+        requires holds { Holds self.now state.old }
+        requires state { StateFine (message self.now) (at_of state.old) }
+        requires budget { state.old.steps + turn_work (came self.now) state.old.next frame < 2 ^ 40 }
+        ensures holds { Holds self.now state.new }
         ensures ok { IfOk result
-            (λ rest. Turns self.now.table.now (message_of self.now.bytes.now self.now.handles.now)
+            (λ rest. Turns self.now.table.now (message self.now)
             frame (at_of state.old) (at_of state.new) (state.new.steps - state.old.steps)
             (record { below = None; rest = rest })) }
         ensures grows { OnOk result (state.old.steps ≤ state.new.steps) }
         ensures ended { IfOk result (λ rest. IfNone rest (state.old.steps < state.new.steps)) }
-        ensures cost { state.new.steps
-            ≤ state.old.steps + turn_work self.now.bytes.now state.old.next frame }
-        ensures fault_is_true { IfErr result
-            (BreaksFrame self.now.table.now (message_of self.now.bytes.now self.now.handles.now)
+        ensures cost { state.new.steps ≤ state.old.steps + turn_work (came self.now) state.old.next
+            frame }
+        ensures fault_is_true { IfErr result (BreaksFrame self.now.table.now (message self.now)
             frame (at_of state.old)) }
     {
         match frame.left {

@@ -8,12 +8,12 @@ ghost use Rattle.fidl_table_format.specs.Kind.{kind_of};
 ghost use Rattle.fidl_table_format.specs.Section.{header_of, entry_at};
 ghost use Rattle.fidl_table_format.specs.Terms.{declarations_of};
 ghost use Rattle.fidl_decode_model.specs.Invariants.{AreLeaves, IsFlat};
-ghost use Rattle.fidl_decode_model.specs.Faults.{message_of};
 ghost use Rattle.fidl_decode_model.specs.Breaks.{Breaks};
 ghost use Rattle.fidl_decode_model.specs.declared.frame.Remaining.TheVariants as left;
 ghost use Rattle.fidl_decode_model.specs.Steps.{Spends};
 ghost use Rattle.fidl_decode_model.specs.Machine.{StateFine, FrameFine, BreaksFrame, Visits};
 ghost use Rattle.fidl_decode_model.specs.Machine.{Turns, turn_work, value_work, at_of};
+ghost use Rattle.fidl_decode.specs.Reading.{came, message, Holds};
 
 use crate::decoder::Decoder;
 use crate::plain::rows_from;
@@ -22,7 +22,7 @@ use fidl_decode_model::DecodeFault;
 use fidl_decode_model::frame::{Frame, Remaining, State};
 use fidl_table_format::EntryKind;
 
-impl<'t, 'm> Decoder<'t, 'm> {
+impl<'t, 'm, 's> Decoder<'t, 'm, 's> {
     /// Whether so many rows, from the first on, are no more than are looked at, and their members are
     /// leaves.
     #[inline(never)]
@@ -72,23 +72,22 @@ impl<'t, 'm> Decoder<'t, 'm> {
         frame: Frame,
         first: u32,
         count: u32,
-        state: &mut State,
+        state: &mut State<'_, '_>,
     ) -> Result<(), DecodeFault>
-        requires frame { FrameFine self.now.table.now self.now.bytes.now frame }
+        requires frame { FrameFine self.now.table.now (came self.now) frame }
         requires left { frame.left ≡ left.Rows first count }
         requires leaves { AreLeaves self.now.table.now first count }
-        requires state { StateFine (message_of self.now.bytes.now self.now.handles.now)
-            (at_of state.old) }
-        requires budget { state.old.steps + turn_work self.now.bytes.now state.old.next frame
-            < 2 ^ 40 }
+        requires holds { Holds self.now state.old }
+        requires state { StateFine (message self.now) (at_of state.old) }
+        requires budget { state.old.steps + turn_work (came self.now) state.old.next frame < 2 ^ 40 }
+        ensures holds { Holds self.now state.new }
         ensures ok { OnOk result
-            (Turns self.now.table.now (message_of self.now.bytes.now self.now.handles.now) frame
+            (Turns self.now.table.now (message self.now) frame
             (at_of state.old) (at_of state.new) (state.new.steps - state.old.steps)
             (record { below = None; rest = None })) }
-        ensures spends { Spends state.old.steps state.new.steps 1
-            (turn_work self.now.bytes.now state.old.next frame) }
-        ensures fault_is_true { IfErr result
-            (BreaksFrame self.now.table.now (message_of self.now.bytes.now self.now.handles.now)
+        ensures spends { Spends state.old.steps state.new.steps 1 (turn_work (came self.now)
+            state.old.next frame) }
+        ensures fault_is_true { IfErr result (BreaksFrame self.now.table.now (message self.now)
             frame (at_of state.old)) }
     {
         // Read, so that the number of rows, and with it each row's, is known to have 32 bits.
@@ -119,30 +118,25 @@ impl<'t, 'm> Decoder<'t, 'm> {
         kind: EntryKind,
         place: usize,
         depth: u8,
-        state: &mut State,
+        state: &mut State<'_, '_>,
     ) -> Result<(), DecodeFault>
         requires entry { entry < (header_of self.now.table.now).entries }
         requires kind { kind_of (entry_at self.now.table.now entry).kind ≡ Some kind }
         requires flat { IsFlat self.now.table.now (entry_at self.now.table.now entry) kind }
-        requires room { place + (entry_at self.now.table.now entry).size
-            ≤ length self.now.bytes.now }
-        requires state { StateFine (message_of self.now.bytes.now self.now.handles.now)
-            (at_of state.old) }
+        requires room { place + (entry_at self.now.table.now entry).size ≤ length (came self.now) }
+        requires holds { Holds self.now state.old }
+        requires state { StateFine (message self.now) (at_of state.old) }
         requires depth { depth ≤ MAX_DEPTH }
-        requires budget { state.old.steps + value_work self.now.bytes.now state.old.next
+        requires budget { state.old.steps + value_work (came self.now) state.old.next
             (entry_at self.now.table.now entry) < 2 ^ 40 }
-        ensures ok { OnOk result
-            (Visits self.now.table.now (message_of self.now.bytes.now self.now.handles.now) depth
-            entry place (at_of state.old) (at_of state.new) (state.new.steps - state.old.steps)
-            None) }
-        ensures fault_is_true { IfErr result
-            (Breaks (declarations_of self.now.table.now)
-            (message_of self.now.bytes.now self.now.handles.now) depth
-            (resolve (declarations_of self.now.table.now).terms (ty.named entry)) place
-            (at_of state.old)) }
-        ensures spends { Spends state.old.steps state.new.steps 0
-            (value_work self.now.bytes.now state.old.next
-            (entry_at self.now.table.now entry)) }
+        ensures holds { Holds self.now state.new }
+        ensures ok { OnOk result (Visits self.now.table.now (message self.now) depth entry place
+            (at_of state.old) (at_of state.new) (state.new.steps - state.old.steps) None) }
+        ensures fault_is_true { IfErr result (Breaks (declarations_of self.now.table.now)
+            (message self.now) depth (resolve (declarations_of self.now.table.now).terms
+            (ty.named entry)) place (at_of state.old)) }
+        ensures spends { Spends state.old.steps state.new.steps 0 (value_work (came self.now)
+            state.old.next (entry_at self.now.table.now entry)) }
     {
         if self.is_leaf(entry, kind) {
             return self.read_leaf(entry, kind, place, depth, state);

@@ -5,15 +5,15 @@ ghost use Rattle.fidl_limits.specs.declared.limits.TheConstants.{MAX_DEPTH};
 ghost use Rattle.fidl_wire.specs.Term as ty;
 ghost use Rattle.fidl_wire.specs.Typed.{IsHandle, IsAllowed};
 ghost use Rattle.fidl_table_format.specs.Terms.{declarations_of, is_optional};
-ghost use Rattle.fidl_decode_model.specs.Faults.{message_of};
 ghost use Rattle.fidl_decode_model.specs.Breaks.{BreaksHandle};
 ghost use Rattle.fidl_decode_model.specs.Machine.{StateFine, Leads, at_of};
+ghost use Rattle.fidl_decode.specs.Reading.{came, message, Holds};
 
 use crate::decoder::Decoder;
 use fidl_decode_model::DecodeFault;
 use fidl_decode_model::frame::State;
 use fidl_table_format::Entry;
-use fidl_wire::{HandleInfo, Presence, SAME_RIGHTS, presence_at};
+use fidl_wire::{HandleInfo, Presence, SAME_RIGHTS};
 
 /// Whether values of the entry can be absent.
 pub(crate) fn is_optional(entry: &Entry) -> bool
@@ -32,32 +32,30 @@ fn is_allowed(subtype: u32, rights: u32, info: HandleInfo) -> bool
     of_type && has_rights
 }
 
-impl<'t, 'm> Decoder<'t, 'm> {
+impl<'t, 'm, 's> Decoder<'t, 'm, 's> {
     /// Reads a handle at a place: its marker, and the next record, which is noted.
     pub(crate) fn read_handle(
         &self,
         entry: &Entry,
         place: usize,
         depth: u8,
-        state: &mut State,
+        state: &mut State<'_, '_>,
     ) -> Result<(), DecodeFault>
-        requires room { place + 4 ≤ length self.now.bytes.now }
+        requires room { place + 4 ≤ length (came self.now) }
         requires depth { depth ≤ MAX_DEPTH }
-        requires state { StateFine (message_of self.now.bytes.now self.now.handles.now)
-            (at_of state.old) }
-        ensures ok { OnOk result (Leads (declarations_of self.now.table.now)
-            (message_of self.now.bytes.now self.now.handles.now) depth
-            (ty.handle (is_optional entry.now) entry.now.subtype entry.now.rights) place
+        requires holds { Holds self.now state.old }
+        requires state { StateFine (message self.now) (at_of state.old) }
+        ensures holds { Holds self.now state.new }
+        ensures ok { OnOk result (Leads (declarations_of self.now.table.now) (message self.now)
+            depth (ty.handle (is_optional entry.now) entry.now.subtype entry.now.rights) place
             (at_of state.old) (at_of state.new)) }
-        ensures fault_is_true { IfErr result (BreaksHandle
-            (message_of self.now.bytes.now self.now.handles.now)
+        ensures fault_is_true { IfErr result (BreaksHandle (message self.now)
             (is_optional entry.now) entry.now.subtype entry.now.rights place state.old.handle) }
-        ensures state { OnOk result
-            (StateFine (message_of self.now.bytes.now self.now.handles.now) (at_of state.new)) }
+        ensures state { OnOk result (StateFine (message self.now) (at_of state.new)) }
         ensures next { state.new.next ≡ state.old.next }
         ensures steps { state.new.steps ≡ state.old.steps }
     {
-        match presence_at(self.bytes, place, 4) {
+        match self.presence_at(place, state) {
             Presence::Absent => {
                 if !is_optional(entry) {
                     return Err(DecodeFault::AbsentRequired { at: place });

@@ -15,18 +15,18 @@ ghost use Rattle.fidl_table_format.specs.Uses.{is_unsigned};
 ghost use Rattle.fidl_table_format.specs.Terms.{underlying, mask_of, strict_values};
 ghost use Rattle.fidl_table_format.specs.Terms.{declarations_of};
 ghost use Rattle.fidl_decode_model.specs.Invariants.{is_leaf, is_free_at};
-ghost use Rattle.fidl_decode_model.specs.Faults.{message_of};
 ghost use Rattle.fidl_decode_model.specs.Breaks.{BreaksField, Breaks};
 ghost use Rattle.fidl_decode_model.specs.Steps.{Spends};
 ghost use Rattle.fidl_decode_model.specs.Machine.{StateFine, Visits, at_of, probes};
+ghost use Rattle.fidl_decode.specs.Reading.{came, message, Holds};
 
 use crate::decoder::Decoder;
 use fidl_decode_columns::is_free;
 use fidl_decode_model::DecodeFault;
 use fidl_decode_model::frame::State;
-use fidl_table_format::{Entry, EntryKind, number_bits};
+use fidl_table_format::{Entry, EntryKind};
 
-impl<'t, 'm> Decoder<'t, 'm> {
+impl<'t, 'm, 's> Decoder<'t, 'm, 's> {
     /// Whether any bytes are a value of the entry.
     pub(crate) fn is_free_at(&self, entry: u32) -> bool
         requires { entry < (header_of self.now.table.now).entries }
@@ -55,20 +55,24 @@ impl<'t, 'm> Decoder<'t, 'm> {
     }
 
     /// Reads bits: strict ones have no bit outside their mask.
-    fn read_bits(&self, entry: &Entry, place: usize) -> Result<(), DecodeFault>
+    fn read_bits(
+        &self,
+        entry: &Entry,
+        place: usize,
+        state: &State<'_, '_>,
+    ) -> Result<(), DecodeFault>
+        requires holds { Holds self.now state.now }
         requires kind { IsTrue (subtype_is is_unsigned entry.now) }
-        requires room { place + byte_len (width (underlying entry.now))
-            ≤ length self.now.bytes.now }
-        ensures ok { OnOk result (IfSome (mask_of entry.now)
-            (λ mask. InMask mask (number_standing (underlying entry.now) self.now.bytes.now place))) }
-        ensures fault_is_true { IfErr result
-            (BreaksField (message_of self.now.bytes.now self.now.handles.now)
-            (ty.bits (underlying entry.now) (mask_of entry.now)) place) }
+        requires room { place + byte_len (width (underlying entry.now)) ≤ length (came self.now) }
+        ensures ok { OnOk result (IfSome (mask_of entry.now) (λ mask. InMask mask (number_standing
+            (underlying entry.now) (came self.now) place))) }
+        ensures fault_is_true { IfErr result (BreaksField (message self.now) (ty.bits
+            (underlying entry.now) (mask_of entry.now)) place) }
     {
         if !entry.is_strict() {
             return Ok(());
         }
-        let number = number_bits(entry.underlying(), self.bytes, place);
+        let number = self.number_bits(entry.underlying(), place, state);
         if number | entry.bound != entry.bound {
             return Err(DecodeFault::UnknownBits { at: place });
         }
@@ -76,19 +80,26 @@ impl<'t, 'm> Decoder<'t, 'm> {
     }
 
     /// Reads an enum: a strict one has one of its values.
-    fn read_enum(&self, entry: u32, place: usize, state: &mut State) -> Result<(), DecodeFault>
+    fn read_enum(
+        &self,
+        entry: u32,
+        place: usize,
+        state: &mut State<'_, '_>,
+    ) -> Result<(), DecodeFault>
         requires entry { entry < (header_of self.now.table.now).entries }
         requires kind { kind_of (entry_at self.now.table.now entry).kind ≡ Some kinds.Enum }
         requires room { let d = entry_at self.now.table.now entry in
-            place + byte_len (width (underlying d)) ≤ length self.now.bytes.now }
+            place + byte_len (width (underlying d)) ≤ length (came self.now) }
         requires budget { state.old.steps < 2 ^ 41 }
+        requires holds { Holds self.now state.old }
+        ensures holds { Holds self.now state.new }
         ensures ok { let t = self.now.table.now in
             let d = entry_at t entry in
             OnOk result (IfSome (strict_values t (header_of t) d)
-            (λ values. Contains values (number_standing (underlying d) self.now.bytes.now place))) }
+            (λ values. Contains values (number_standing (underlying d) (came self.now) place))) }
         ensures fault_is_true { let t = self.now.table.now in
             let d = entry_at t entry in
-            IfErr result (BreaksField (message_of self.now.bytes.now self.now.handles.now)
+            IfErr result (BreaksField (message self.now)
             (ty.enum (underlying d) (strict_values t (header_of t) d)) place) }
         ensures same { at_of state.new ≡ at_of state.old }
         ensures spends { Spends state.old.steps state.new.steps 0 probes }
@@ -97,7 +108,7 @@ impl<'t, 'm> Decoder<'t, 'm> {
         if !e.is_strict() {
             return Ok(());
         }
-        let number = number_bits(e.underlying(), self.bytes, place);
+        let number = self.number_bits(e.underlying(), place, state);
         if !self.table.has_value(entry, number, &mut state.steps) {
             return Err(DecodeFault::UnknownValue { at: place });
         }
@@ -112,37 +123,33 @@ impl<'t, 'm> Decoder<'t, 'm> {
         kind: EntryKind,
         place: usize,
         depth: u8,
-        state: &mut State,
+        state: &mut State<'_, '_>,
     ) -> Result<(), DecodeFault>
         requires entry { entry < (header_of self.now.table.now).entries }
         requires kind { kind_of (entry_at self.now.table.now entry).kind ≡ Some kind }
         requires leaf { is_leaf self.now.table.now (entry_at self.now.table.now entry) kind ≡ true }
-        requires room { place + (entry_at self.now.table.now entry).size
-            ≤ length self.now.bytes.now }
-        requires state { StateFine (message_of self.now.bytes.now self.now.handles.now)
-            (at_of state.old) }
+        requires room { place + (entry_at self.now.table.now entry).size ≤ length (came self.now) }
+        requires holds { Holds self.now state.old }
+        requires state { StateFine (message self.now) (at_of state.old) }
         requires depth { depth ≤ MAX_DEPTH }
         requires budget { state.old.steps < 2 ^ 41 }
-        ensures ok { OnOk result
-            (Visits self.now.table.now (message_of self.now.bytes.now self.now.handles.now) depth
-            entry place (at_of state.old) (at_of state.new) (state.new.steps - state.old.steps)
-            None) }
-        ensures fault_is_true { IfErr result
-            (Breaks (declarations_of self.now.table.now)
-            (message_of self.now.bytes.now self.now.handles.now) depth
-            (resolve (declarations_of self.now.table.now).terms (ty.named entry)) place
-            (at_of state.old)) }
-        ensures spends { Spends state.old.steps state.new.steps 0
-            (probes + (length self.now.bytes.now - state.old.next)) }
+        ensures holds { Holds self.now state.new }
+        ensures ok { OnOk result (Visits self.now.table.now (message self.now) depth entry place
+            (at_of state.old) (at_of state.new) (state.new.steps - state.old.steps) None) }
+        ensures fault_is_true { IfErr result (Breaks (declarations_of self.now.table.now)
+            (message self.now) depth (resolve (declarations_of self.now.table.now).terms
+            (ty.named entry)) place (at_of state.old)) }
+        ensures spends { Spends state.old.steps state.new.steps 0 (probes + (length (came self.now)
+            - state.old.next)) }
     {
         match kind {
             EntryKind::Bool => {
-                if self.bytes[place] > 1 {
+                if self.byte_at(place, state) > 1 {
                     return Err(DecodeFault::BadBool { at: place });
                 }
                 Ok(())
             }
-            EntryKind::Bits => self.read_bits(&self.table.entry(entry), place),
+            EntryKind::Bits => self.read_bits(&self.table.entry(entry), place, state),
             EntryKind::Enum => self.read_enum(entry, place, state),
             EntryKind::Handle => { self.read_handle(&self.table.entry(entry), place, depth, state) }
             EntryKind::String => self.read_text(&self.table.entry(entry), place, depth, state),

@@ -3,18 +3,21 @@ ghost use Rattle.std.specs.Prelude.{◌+◌, ◌≤◌, ◌↔◌, IsTrue, lengt
 ghost use Rattle.fidl_wire.specs.Encoding.{zeros, present};
 ghost use Rattle.fidl_wire.specs.Marker.{Says};
 ghost use Rattle.fidl_wire.specs.Standing.{Stands};
+ghost use Rattle.fidl_decode.specs.Reading.{came, Holds};
 
 use crate::decoder::Decoder;
-use fidl_wire::{Presence, u64_at};
+use fidl_decode_model::frame::State;
+use fidl_wire::Presence;
 
-impl<'t, 'm> Decoder<'t, 'm> {
+impl<'t, 'm, 's> Decoder<'t, 'm, 's> {
     /// What the marker of eight bytes at a place says.
     #[inline(always)]
-    pub(crate) fn presence(&self, place: usize) -> Presence
-        requires room { place + 8 ≤ length self.now.bytes.now }
-        ensures { Says self.now.bytes.now place 8 result }
+    pub(crate) fn presence(&self, place: usize, state: &State<'_, '_>) -> Presence
+        requires holds { Holds self.now state.now }
+        requires room { place + 8 ≤ length (came self.now) }
+        ensures { Says (came self.now) place 8 result }
     {
-        match u64_at(self.bytes, place) {
+        match self.u64_at(place, state) {
             0 => Presence::Absent,
             u64::MAX => Presence::Present,
             _ => Presence::Neither,
@@ -23,19 +26,21 @@ impl<'t, 'm> Decoder<'t, 'm> {
 
     /// Whether the marker at a place says that its object is there.
     #[inline(always)]
-    pub(crate) fn is_present(&self, place: usize) -> bool
-        requires room { place + 8 ≤ length self.now.bytes.now }
-        ensures { IsTrue result ↔ Stands self.now.bytes.now place present }
+    pub(crate) fn is_present(&self, place: usize, state: &State<'_, '_>) -> bool
+        requires holds { Holds self.now state.now }
+        requires room { place + 8 ≤ length (came self.now) }
+        ensures { IsTrue result ↔ Stands (came self.now) place present }
     {
-        u64_at(self.bytes, place) == u64::MAX
+        self.u64_at(place, state) == u64::MAX
     }
 
     /// Whether the eight bytes of a marker or an envelope at a place are zeros: nothing is there.
     #[inline(always)]
-    pub(crate) fn is_absent(&self, place: usize) -> bool
-        requires room { place + 8 ≤ length self.now.bytes.now }
-        ensures { IsTrue result ↔ Stands self.now.bytes.now place (zeros 8) }
+    pub(crate) fn is_absent(&self, place: usize, state: &State<'_, '_>) -> bool
+        requires holds { Holds self.now state.now }
+        requires room { place + 8 ≤ length (came self.now) }
+        ensures { IsTrue result ↔ Stands (came self.now) place (zeros 8) }
     {
-        u64_at(self.bytes, place) == 0
+        self.u64_at(place, state) == 0
     }
 }

@@ -5,21 +5,20 @@ ghost use Rattle.fidl_table_format.specs.declared.kind.EntryKind.TheVariants as 
 ghost use Rattle.fidl_table_format.specs.Kind.{kind_of};
 ghost use Rattle.fidl_table_format.specs.Section.{header_of, entry_at, row_at};
 ghost use Rattle.fidl_decode_model.specs.Invariants.{is_leaf};
-ghost use Rattle.fidl_decode_model.specs.Faults.{message_of};
 ghost use Rattle.fidl_decode_model.specs.declared.frame.Remaining.TheVariants as left;
 ghost use Rattle.fidl_decode_model.specs.Steps.{Spends};
 ghost use Rattle.fidl_decode_model.specs.Machine.{StateFine, FrameFine, BreaksFrame, Turns};
 ghost use Rattle.fidl_decode_model.specs.Machine.{IsPlain, IsKnown, rows_left, behind_rows};
 ghost use Rattle.fidl_decode_model.specs.Machine.{turn_work, at_of};
+ghost use Rattle.fidl_decode.specs.Reading.{came, message, Holds};
 
 use crate::decoder::Decoder;
 use crate::plain::{Plain, rows_from};
-use fidl_decode_columns::zeros_at;
 use fidl_decode_model::DecodeFault;
 use fidl_decode_model::frame::{Frame, Remaining, State};
 use fidl_table_format::EntryKind;
 
-impl<'t, 'm> Decoder<'t, 'm> {
+impl<'t, 'm, 's> Decoder<'t, 'm, 's> {
     /// Whether a row is the last of a struct of this size, and a box behind which nothing is left.
     #[inline(always)]
     fn ends_in_box(&self, first: u32, count: u32, size: usize) -> bool
@@ -47,33 +46,32 @@ impl<'t, 'm> Decoder<'t, 'm> {
         &self,
         frame: Frame,
         first: u32,
-        state: &mut State,
+        state: &mut State<'_, '_>,
     ) -> Result<Option<Frame>, DecodeFault>
-        requires frame { FrameFine self.now.table.now self.now.bytes.now frame }
+        requires frame { FrameFine self.now.table.now (came self.now) frame }
         requires left { frame.left ≡ left.Rows first 1 }
         requires kind { let row = row_at self.now.table.now (header_of self.now.table.now) first in
             kind_of (entry_at self.now.table.now row.entry).kind ≡ Some kinds.Box }
         requires whole { let row = row_at self.now.table.now (header_of self.now.table.now) first in
             row.key + (entry_at self.now.table.now row.entry).size ≡ frame.size }
-        requires state { StateFine (message_of self.now.bytes.now self.now.handles.now)
-            (at_of state.old) }
-        requires budget { state.old.steps + turn_work self.now.bytes.now state.old.next frame
-            < 2 ^ 40 }
+        requires holds { Holds self.now state.old }
+        requires state { StateFine (message self.now) (at_of state.old) }
+        requires budget { state.old.steps + turn_work (came self.now) state.old.next frame < 2 ^ 40 }
+        ensures holds { Holds self.now state.new }
         ensures ok { IfOk result
-            (λ rest. Turns self.now.table.now (message_of self.now.bytes.now self.now.handles.now)
+            (λ rest. Turns self.now.table.now (message self.now)
             frame (at_of state.old) (at_of state.new) (state.new.steps - state.old.steps)
             (record { below = None; rest = rest })) }
-        ensures spends { Spends state.old.steps state.new.steps 1
-            (turn_work self.now.bytes.now state.old.next frame) }
-        ensures fault_is_true { IfErr result
-            (BreaksFrame self.now.table.now (message_of self.now.bytes.now self.now.handles.now)
+        ensures spends { Spends state.old.steps state.new.steps 1 (turn_work (came self.now)
+            state.old.next frame) }
+        ensures fault_is_true { IfErr result (BreaksFrame self.now.table.now (message self.now)
             frame (at_of state.old)) }
     {
         let row = self.table.row(first);
         let read = frame.base + frame.done;
         let place = frame.base + row.key as usize;
         state.steps += (place - read) as u64 + 1;
-        zeros_at(self.bytes, read, place)?;
+        self.zeros_at(read, place, state)?;
         let below = self.read_box(row.entry, place, frame.depth, state)?;
         Ok(below)
     }
@@ -86,66 +84,68 @@ impl<'t, 'm> Decoder<'t, 'm> {
         first: u32,
         count: u32,
         kind: EntryKind,
-        state: &mut State,
+        state: &mut State<'_, '_>,
     ) -> Result<(), DecodeFault>
-        requires frame { FrameFine self.now.table.now self.now.bytes.now frame }
+        requires frame { FrameFine self.now.table.now (came self.now) frame }
         requires left { frame.left ≡ left.Rows first count }
         requires some { 0 < count }
         requires kind { let row = row_at self.now.table.now (header_of self.now.table.now) first in
             kind_of (entry_at self.now.table.now row.entry).kind ≡ Some kind }
         requires leaf { let row = row_at self.now.table.now (header_of self.now.table.now) first in
             is_leaf self.now.table.now (entry_at self.now.table.now row.entry) kind ≡ true }
-        requires state { StateFine (message_of self.now.bytes.now self.now.handles.now)
-            (at_of state.old) }
-        requires budget { state.old.steps + turn_work self.now.bytes.now state.old.next frame
-            < 2 ^ 40 }
+        requires holds { Holds self.now state.old }
+        requires state { StateFine (message self.now) (at_of state.old) }
+        requires budget { state.old.steps + turn_work (came self.now) state.old.next frame < 2 ^ 40 }
+        ensures holds { Holds self.now state.new }
         ensures ok { let row = row_at self.now.table.now (header_of self.now.table.now) first in
             let done = row.key + (entry_at self.now.table.now row.entry).size in
             OnOk result (Turns self.now.table.now
-            (message_of self.now.bytes.now self.now.handles.now) frame (at_of state.old)
+            (message self.now) frame (at_of state.old)
             (at_of state.new) (state.new.steps - state.old.steps) (record {
               below = None;
               rest = Some (behind_rows frame (first + 1) (count - 1) done);
             })) }
-        ensures spends { Spends state.old.steps state.new.steps 1
-            (turn_work self.now.bytes.now state.old.next frame) }
-        ensures fault_is_true { IfErr result
-            (BreaksFrame self.now.table.now (message_of self.now.bytes.now self.now.handles.now)
+        ensures spends { Spends state.old.steps state.new.steps 1 (turn_work (came self.now)
+            state.old.next frame) }
+        ensures fault_is_true { IfErr result (BreaksFrame self.now.table.now (message self.now)
             frame (at_of state.old)) }
     {
         let row = self.table.row(first);
         let front = frame.base + frame.done;
         let place = frame.base + row.key as usize;
         state.steps += (place - front) as u64 + 1;
-        zeros_at(self.bytes, front, place)?;
+        self.zeros_at(front, place, state)?;
         self.read_leaf(row.entry, kind, place, frame.depth, state)?;
         Ok(())
     }
 
     /// Reads the zeros behind the last row of a struct. Nothing is left then.
     #[inline(always)]
-    pub(crate) fn end_rows(&self, frame: Frame, state: &mut State) -> Result<(), DecodeFault>
-        requires frame { FrameFine self.now.table.now self.now.bytes.now frame }
+    pub(crate) fn end_rows(
+        &self,
+        frame: Frame,
+        state: &mut State<'_, '_>,
+    ) -> Result<(), DecodeFault>
+        requires frame { FrameFine self.now.table.now (came self.now) frame }
         requires plain { IsPlain frame.left }
         requires over { rows_left self.now.table.now frame.done frame.left ≡ [] }
-        requires state { StateFine (message_of self.now.bytes.now self.now.handles.now)
-            (at_of state.old) }
-        requires budget { state.old.steps + turn_work self.now.bytes.now state.old.next frame
-            < 2 ^ 40 }
+        requires holds { Holds self.now state.old }
+        requires state { StateFine (message self.now) (at_of state.old) }
+        requires budget { state.old.steps + turn_work (came self.now) state.old.next frame < 2 ^ 40 }
+        ensures holds { Holds self.now state.new }
         ensures ok { OnOk result
-            (Turns self.now.table.now (message_of self.now.bytes.now self.now.handles.now) frame
+            (Turns self.now.table.now (message self.now) frame
             (at_of state.old) (at_of state.new) (state.new.steps - state.old.steps)
             (record { below = None; rest = None })) }
-        ensures spends { Spends state.old.steps state.new.steps 1
-            (turn_work self.now.bytes.now state.old.next frame) }
-        ensures fault_is_true { IfErr result
-            (BreaksFrame self.now.table.now (message_of self.now.bytes.now self.now.handles.now)
+        ensures spends { Spends state.old.steps state.new.steps 1 (turn_work (came self.now)
+            state.old.next frame) }
+        ensures fault_is_true { IfErr result (BreaksFrame self.now.table.now (message self.now)
             frame (at_of state.old)) }
     {
         let over = frame.base + frame.done;
         let stop = frame.base + frame.size;
         state.steps += (stop - over) as u64 + 1;
-        zeros_at(self.bytes, over, stop)
+        self.zeros_at(over, stop, state)
     }
 
     /// Reads the rows of a struct in place, and those of the struct in the box that its last member
@@ -155,26 +155,24 @@ impl<'t, 'm> Decoder<'t, 'm> {
         &self,
         frame: Frame,
         known: &Plain,
-        state: &mut State,
+        state: &mut State<'_, '_>,
     ) -> Result<Option<Frame>, DecodeFault>
-        requires frame { FrameFine self.now.table.now self.now.bytes.now frame }
-        requires known { IsKnown self.now.table.now
-            (message_of self.now.bytes.now self.now.handles.now) known.now.rows known.now.first
-            known.now.count known.now.done known.now.flag }
-        requires state { StateFine (message_of self.now.bytes.now self.now.handles.now)
-            (at_of state.old) }
-        requires budget { state.old.steps + turn_work self.now.bytes.now state.old.next frame
-            < 2 ^ 40 }
+        requires frame { FrameFine self.now.table.now (came self.now) frame }
+        requires known { IsKnown self.now.table.now (message self.now) known.now.rows
+            known.now.first known.now.count known.now.done known.now.flag }
+        requires holds { Holds self.now state.old }
+        requires state { StateFine (message self.now) (at_of state.old) }
+        requires budget { state.old.steps + turn_work (came self.now) state.old.next frame < 2 ^ 40 }
+        ensures holds { Holds self.now state.new }
         ensures ok { IfOk result
-            (λ rest. Turns self.now.table.now (message_of self.now.bytes.now self.now.handles.now)
+            (λ rest. Turns self.now.table.now (message self.now)
             frame (at_of state.old) (at_of state.new) (state.new.steps - state.old.steps)
             (record { below = None; rest = rest })) }
         ensures grows { OnOk result (state.old.steps ≤ state.new.steps) }
         ensures ended { IfOk result (λ rest. IfNone rest (state.old.steps < state.new.steps)) }
-        ensures cost { state.new.steps
-            ≤ state.old.steps + turn_work self.now.bytes.now state.old.next frame }
-        ensures fault_is_true { IfErr result
-            (BreaksFrame self.now.table.now (message_of self.now.bytes.now self.now.handles.now)
+        ensures cost { state.new.steps ≤ state.old.steps + turn_work (came self.now) state.old.next
+            frame }
+        ensures fault_is_true { IfErr result (BreaksFrame self.now.table.now (message self.now)
             frame (at_of state.old)) }
     {
         let Remaining::Rows { first, count } = frame.left else {
@@ -228,23 +226,22 @@ impl<'t, 'm> Decoder<'t, 'm> {
     pub(crate) fn read_boxed(
         &self,
         frame: Frame,
-        state: &mut State,
+        state: &mut State<'_, '_>,
     ) -> Result<Option<Frame>, DecodeFault>
-        requires frame { FrameFine self.now.table.now self.now.bytes.now frame }
-        requires state { StateFine (message_of self.now.bytes.now self.now.handles.now)
-            (at_of state.old) }
-        requires budget { state.old.steps + turn_work self.now.bytes.now state.old.next frame
-            < 2 ^ 40 }
+        requires frame { FrameFine self.now.table.now (came self.now) frame }
+        requires holds { Holds self.now state.old }
+        requires state { StateFine (message self.now) (at_of state.old) }
+        requires budget { state.old.steps + turn_work (came self.now) state.old.next frame < 2 ^ 40 }
+        ensures holds { Holds self.now state.new }
         ensures ok { IfOk result
-            (λ rest. Turns self.now.table.now (message_of self.now.bytes.now self.now.handles.now)
+            (λ rest. Turns self.now.table.now (message self.now)
             frame (at_of state.old) (at_of state.new) (state.new.steps - state.old.steps)
             (record { below = None; rest = rest })) }
         ensures grows { OnOk result (state.old.steps ≤ state.new.steps) }
         ensures ended { IfOk result (λ rest. IfNone rest (state.old.steps < state.new.steps)) }
-        ensures cost { state.new.steps
-            ≤ state.old.steps + turn_work self.now.bytes.now state.old.next frame }
-        ensures fault_is_true { IfErr result
-            (BreaksFrame self.now.table.now (message_of self.now.bytes.now self.now.handles.now)
+        ensures cost { state.new.steps ≤ state.old.steps + turn_work (came self.now) state.old.next
+            frame }
+        ensures fault_is_true { IfErr result (BreaksFrame self.now.table.now (message self.now)
             frame (at_of state.old)) }
     {
         let Remaining::Rows { first, count } = frame.left else {

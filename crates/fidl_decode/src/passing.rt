@@ -9,20 +9,19 @@ ghost use Rattle.fidl_table_format.specs.declared.kind.EntryKind.TheVariants as 
 ghost use Rattle.fidl_table_format.specs.Kind.{kind_of};
 ghost use Rattle.fidl_table_format.specs.Section.{header_of, entry_at};
 ghost use Rattle.fidl_decode_model.specs.Invariants.{is_free};
-ghost use Rattle.fidl_decode_model.specs.Faults.{message_of};
 ghost use Rattle.fidl_decode_model.specs.Machine.{StateFine, Opens, at_of};
+ghost use Rattle.fidl_decode.specs.Reading.{came, message, Holds};
 
 use crate::decoder::Decoder;
-use crate::passing_texts::are_zeros;
 use fidl_decode_columns::is_free;
 use fidl_decode_model::frame::State;
 use fidl_table_format::EntryKind;
-use fidl_wire::{MAX_DEPTH, byte_count_at, flags_at, handle_count_at, u32_at, u64_at};
+use fidl_wire::MAX_DEPTH;
 
 /// The last four bytes of an envelope that counts no handles and holds its member, as one number.
 const NO_HANDLES_INSIDE: u32 = 0x1_0000;
 
-impl<'t, 'm> Decoder<'t, 'm> {
+impl<'t, 'm, 's> Decoder<'t, 'm, 's> {
     /// Passes over the envelope at a place, in which a member of this size stands that any bytes are
     /// a value of, where its numbers and the bytes behind the member are right. Else nothing is read.
     #[inline(always)]
@@ -32,7 +31,7 @@ impl<'t, 'm> Decoder<'t, 'm> {
         size: usize,
         envelope: usize,
         depth: u8,
-        state: &mut State,
+        state: &mut State<'_, '_>,
     ) -> bool
         requires entry { entry < (header_of self.now.table.now).entries }
         requires free { (kind : EntryKind)
@@ -40,22 +39,22 @@ impl<'t, 'm> Decoder<'t, 'm> {
             × (is_free kind (entry_at self.now.table.now entry) ≡ true) }
         requires size { (entry_at self.now.table.now entry).size ≡ size }
         requires small { size ≤ 4 }
-        requires room { envelope + 8 ≤ length self.now.bytes.now }
-        requires state { StateFine (message_of self.now.bytes.now self.now.handles.now)
-            (at_of state.old) }
+        requires room { envelope + 8 ≤ length (came self.now) }
+        requires holds { Holds self.now state.old }
+        requires state { StateFine (message self.now) (at_of state.old) }
         requires depth { depth ≤ MAX_DEPTH }
-        ensures passed { IsTrue result → Opens self.now.table.now
-            (message_of self.now.bytes.now self.now.handles.now) depth (Some (ty.named entry))
-            envelope (at_of state.old) (at_of state.new) (state.new.steps - state.old.steps)
-            None }
+        ensures holds { Holds self.now state.new }
+        ensures passed { IsTrue result → Opens self.now.table.now (message self.now) depth (Some
+            (ty.named entry)) envelope (at_of state.old) (at_of state.new)
+            (state.new.steps - state.old.steps) None }
         ensures kept { IsFalse result → at_of state.new ≡ at_of state.old }
         ensures steps { state.new.steps ≡ state.old.steps }
         ensures grows { state.old.next ≤ state.new.next }
     {
-        if u32_at(self.bytes, envelope + 4) != NO_HANDLES_INSIDE {
+        if self.u32_at(envelope + 4, state) != NO_HANDLES_INSIDE {
             return false;
         }
-        if !are_zeros(self.bytes, envelope + size, envelope + 4) {
+        if !self.are_zeros(envelope + size, envelope + 4, state) {
             return false;
         }
         state.links.record(envelope + 4, state.handle);
@@ -70,30 +69,30 @@ impl<'t, 'm> Decoder<'t, 'm> {
         entry: u32,
         envelope: usize,
         depth: u8,
-        state: &mut State,
+        state: &mut State<'_, '_>,
     ) -> bool
         requires entry { entry < (header_of self.now.table.now).entries }
         requires free { (kind : EntryKind)
             × (kind_of (entry_at self.now.table.now entry).kind ≡ Some kind)
             × (is_free kind (entry_at self.now.table.now entry) ≡ true) }
         requires size { (entry_at self.now.table.now entry).size ≡ 8 }
-        requires room { envelope + 8 ≤ length self.now.bytes.now }
-        requires state { StateFine (message_of self.now.bytes.now self.now.handles.now)
-            (at_of state.old) }
+        requires room { envelope + 8 ≤ length (came self.now) }
+        requires holds { Holds self.now state.old }
+        requires state { StateFine (message self.now) (at_of state.old) }
         requires depth { depth ≤ MAX_DEPTH }
-        ensures passed { IsTrue result → Opens self.now.table.now
-            (message_of self.now.bytes.now self.now.handles.now) depth (Some (ty.named entry))
-            envelope (at_of state.old) (at_of state.new) (state.new.steps - state.old.steps)
-            None }
+        ensures holds { Holds self.now state.new }
+        ensures passed { IsTrue result → Opens self.now.table.now (message self.now) depth (Some
+            (ty.named entry)) envelope (at_of state.old) (at_of state.new)
+            (state.new.steps - state.old.steps) None }
         ensures kept { IsFalse result → at_of state.new ≡ at_of state.old }
         ensures steps { state.new.steps ≡ state.old.steps }
         ensures grows { state.old.next ≤ state.new.next }
     {
-        if u64_at(self.bytes, envelope) != 8 {
+        if self.u64_at(envelope, state) != 8 {
             return false;
         }
         let next = state.next;
-        if depth as usize == MAX_DEPTH || self.bytes.len() - next < 8 {
+        if depth as usize == MAX_DEPTH || self.size - next < 8 {
             return false;
         }
         state.links.record(envelope + 4, state.handle);
@@ -105,25 +104,25 @@ impl<'t, 'm> Decoder<'t, 'm> {
     /// Passes over the envelope at a place, in which a bool stands, where its numbers are right and
     /// it is one. Else nothing is read.
     #[inline(always)]
-    fn pass_bool(&self, entry: u32, envelope: usize, depth: u8, state: &mut State) -> bool
+    fn pass_bool(&self, entry: u32, envelope: usize, depth: u8, state: &mut State<'_, '_>) -> bool
         requires entry { entry < (header_of self.now.table.now).entries }
         requires kind { kind_of (entry_at self.now.table.now entry).kind ≡ Some kinds.Bool }
-        requires room { envelope + 8 ≤ length self.now.bytes.now }
-        requires state { StateFine (message_of self.now.bytes.now self.now.handles.now)
-            (at_of state.old) }
+        requires room { envelope + 8 ≤ length (came self.now) }
+        requires holds { Holds self.now state.old }
+        requires state { StateFine (message self.now) (at_of state.old) }
         requires depth { depth ≤ MAX_DEPTH }
         requires budget { state.old.steps < 2 ^ 44 }
-        ensures passed { IsTrue result → Opens self.now.table.now
-            (message_of self.now.bytes.now self.now.handles.now) depth (Some (ty.named entry))
-            envelope (at_of state.old) (at_of state.new) (state.new.steps - state.old.steps)
-            None }
+        ensures holds { Holds self.now state.new }
+        ensures passed { IsTrue result → Opens self.now.table.now (message self.now) depth (Some
+            (ty.named entry)) envelope (at_of state.old) (at_of state.new)
+            (state.new.steps - state.old.steps) None }
         ensures kept { IsFalse result → at_of state.new ≡ at_of state.old }
         ensures grows { state.old.steps ≤ state.new.steps }
         ensures pays { state.new.steps + state.old.next ≤ state.old.steps + state.new.next }
     {
-        let handles = handle_count_at(self.bytes, envelope);
-        let flags = flags_at(self.bytes, envelope);
-        if flags != 1 || handles != 0 || byte_count_at(self.bytes, envelope) > 1 {
+        let handles = self.handle_count_at(envelope, state);
+        let flags = self.flags_at(envelope, state);
+        if flags != 1 || handles != 0 || self.byte_count_at(envelope, state) > 1 {
             return false;
         }
         state.links.record(envelope + 4, state.handle);
@@ -139,18 +138,18 @@ impl<'t, 'm> Decoder<'t, 'm> {
         kind: EntryKind,
         envelope: usize,
         depth: u8,
-        state: &mut State,
+        state: &mut State<'_, '_>,
     ) -> bool
         requires entry { entry < (header_of self.now.table.now).entries }
         requires kind { kind_of (entry_at self.now.table.now entry).kind ≡ Some kind }
-        requires room { envelope + 8 ≤ length self.now.bytes.now }
-        requires state { StateFine (message_of self.now.bytes.now self.now.handles.now)
-            (at_of state.old) }
+        requires room { envelope + 8 ≤ length (came self.now) }
+        requires holds { Holds self.now state.old }
+        requires state { StateFine (message self.now) (at_of state.old) }
         requires depth { depth ≤ MAX_DEPTH }
-        ensures passed { IsTrue result → Opens self.now.table.now
-            (message_of self.now.bytes.now self.now.handles.now) depth (Some (ty.named entry))
-            envelope (at_of state.old) (at_of state.new) (state.new.steps - state.old.steps)
-            None }
+        ensures holds { Holds self.now state.new }
+        ensures passed { IsTrue result → Opens self.now.table.now (message self.now) depth (Some
+            (ty.named entry)) envelope (at_of state.old) (at_of state.new)
+            (state.new.steps - state.old.steps) None }
         ensures kept { IsFalse result → at_of state.new ≡ at_of state.old }
         ensures grows { state.old.next ≤ state.new.next }
         ensures steps { state.new.steps ≡ state.old.steps }
@@ -178,19 +177,19 @@ impl<'t, 'm> Decoder<'t, 'm> {
         kind: EntryKind,
         envelope: usize,
         depth: u8,
-        state: &mut State,
+        state: &mut State<'_, '_>,
     ) -> bool
         requires entry { entry < (header_of self.now.table.now).entries }
         requires kind { kind_of (entry_at self.now.table.now entry).kind ≡ Some kind }
-        requires room { envelope + 8 ≤ length self.now.bytes.now }
-        requires state { StateFine (message_of self.now.bytes.now self.now.handles.now)
-            (at_of state.old) }
+        requires room { envelope + 8 ≤ length (came self.now) }
+        requires holds { Holds self.now state.old }
+        requires state { StateFine (message self.now) (at_of state.old) }
         requires depth { depth ≤ MAX_DEPTH }
         requires budget { state.old.steps < 2 ^ 44 }
-        ensures passed { IsTrue result → Opens self.now.table.now
-            (message_of self.now.bytes.now self.now.handles.now) depth (Some (ty.named entry))
-            envelope (at_of state.old) (at_of state.new) (state.new.steps - state.old.steps)
-            None }
+        ensures holds { Holds self.now state.new }
+        ensures passed { IsTrue result → Opens self.now.table.now (message self.now) depth (Some
+            (ty.named entry)) envelope (at_of state.old) (at_of state.new)
+            (state.new.steps - state.old.steps) None }
         ensures kept { IsFalse result → at_of state.new ≡ at_of state.old }
         ensures grows { state.old.steps ≤ state.new.steps }
         ensures pays { state.new.steps + state.old.next ≤ state.old.steps + state.new.next }
@@ -210,18 +209,18 @@ impl<'t, 'm> Decoder<'t, 'm> {
         entry: u32,
         envelope: usize,
         depth: u8,
-        state: &mut State,
+        state: &mut State<'_, '_>,
     ) -> bool
         requires entry { entry < (header_of self.now.table.now).entries }
-        requires room { envelope + 8 ≤ length self.now.bytes.now }
-        requires state { StateFine (message_of self.now.bytes.now self.now.handles.now)
-            (at_of state.old) }
+        requires room { envelope + 8 ≤ length (came self.now) }
+        requires holds { Holds self.now state.old }
+        requires state { StateFine (message self.now) (at_of state.old) }
         requires depth { depth ≤ MAX_DEPTH }
         requires budget { state.old.steps < 2 ^ 44 }
-        ensures passed { IsTrue result → Opens self.now.table.now
-            (message_of self.now.bytes.now self.now.handles.now) depth (Some (ty.named entry))
-            envelope (at_of state.old) (at_of state.new) (state.new.steps - state.old.steps)
-            None }
+        ensures holds { Holds self.now state.new }
+        ensures passed { IsTrue result → Opens self.now.table.now (message self.now) depth (Some
+            (ty.named entry)) envelope (at_of state.old) (at_of state.new)
+            (state.new.steps - state.old.steps) None }
         ensures kept { IsFalse result → at_of state.new ≡ at_of state.old }
         ensures grows { state.old.steps ≤ state.new.steps }
         ensures pays { state.new.steps + state.old.next ≤ state.old.steps + state.new.next }

@@ -6,15 +6,14 @@ ghost use Rattle.fidl_wire.specs.Term as ty;
 ghost use Rattle.fidl_table_format.specs.declared.kind.EntryKind.TheVariants as kinds;
 ghost use Rattle.fidl_table_format.specs.Kind.{kind_of};
 ghost use Rattle.fidl_table_format.specs.Section.{header_of, entry_at};
-ghost use Rattle.fidl_decode_model.specs.Faults.{message_of};
 ghost use Rattle.fidl_decode_model.specs.Machine.{StateFine, Opens, at_of};
+ghost use Rattle.fidl_decode.specs.Reading.{came, message, Holds};
 
 use crate::decoder::Decoder;
-use fidl_decode_columns::zeros_at;
 use fidl_decode_model::frame::State;
-use fidl_wire::{MAX_DEPTH, u64_at};
+use fidl_wire::MAX_DEPTH;
 
-impl<'t, 'm> Decoder<'t, 'm> {
+impl<'t, 'm, 's> Decoder<'t, 'm, 's> {
     /// Passes over the envelope at a place, whose member is a struct of numbers, of which any bytes
     /// are a value, where its numbers are right. Else nothing is read.
     #[inline(never)]
@@ -23,19 +22,19 @@ impl<'t, 'm> Decoder<'t, 'm> {
         entry: u32,
         envelope: usize,
         depth: u8,
-        state: &mut State,
+        state: &mut State<'_, '_>,
     ) -> bool
         requires entry { entry < (header_of self.now.table.now).entries }
         requires kind { kind_of (entry_at self.now.table.now entry).kind ≡ Some kinds.Struct }
-        requires room { envelope + 8 ≤ length self.now.bytes.now }
-        requires state { StateFine (message_of self.now.bytes.now self.now.handles.now)
-            (at_of state.old) }
+        requires room { envelope + 8 ≤ length (came self.now) }
+        requires holds { Holds self.now state.old }
+        requires state { StateFine (message self.now) (at_of state.old) }
         requires depth { depth ≤ MAX_DEPTH }
         requires budget { state.old.steps < 2 ^ 44 }
-        ensures passed { IsTrue result → Opens self.now.table.now
-            (message_of self.now.bytes.now self.now.handles.now) depth (Some (ty.named entry))
-            envelope (at_of state.old) (at_of state.new) (state.new.steps - state.old.steps)
-            None }
+        ensures holds { Holds self.now state.new }
+        ensures passed { IsTrue result → Opens self.now.table.now (message self.now) depth (Some
+            (ty.named entry)) envelope (at_of state.old) (at_of state.new)
+            (state.new.steps - state.old.steps) None }
         ensures kept { IsFalse result → at_of state.new ≡ at_of state.old }
         ensures grows { state.old.steps ≤ state.new.steps }
         ensures pays { state.new.steps + state.old.next ≤ state.old.steps + state.new.next }
@@ -44,17 +43,20 @@ impl<'t, 'm> Decoder<'t, 'm> {
         let size = e.size as usize;
         let whole = size.next_multiple_of(8);
         let next = state.next;
-        if u64_at(self.bytes, envelope) != whole as u64 || size <= 4 {
+        if self.u64_at(envelope, state) != whole as u64 || size <= 4 {
             return false;
         }
-        if whole > self.bytes.len() - next || depth as usize == MAX_DEPTH {
+        if whole > self.size - next || depth as usize == MAX_DEPTH {
             return false;
         }
         let plain = self.plain_rows(e.first, e.count);
         if plain.count != 0 || plain.flag.is_some() {
             return false;
         }
-        if zeros_at(self.bytes, next + plain.done, next + whole).is_err() {
+        if self
+            .zeros_at(next + plain.done, next + whole, state)
+            .is_err()
+        {
             return false;
         }
         state.steps += whole as u64;

@@ -9,8 +9,8 @@ ghost use Rattle.fidl_wire.specs.Standing.{Stands};
 ghost use Rattle.fidl_table_format.specs.declared.kind.EntryKind.TheVariants as kinds;
 ghost use Rattle.fidl_table_format.specs.Kind.{kind_of};
 ghost use Rattle.fidl_table_format.specs.Section.{header_of, entry_at};
-ghost use Rattle.fidl_decode_model.specs.Faults.{message_of};
 ghost use Rattle.fidl_decode_model.specs.Machine.{StateFine, Opens, at_of};
+ghost use Rattle.fidl_decode.specs.Reading.{came, message, Holds};
 
 use crate::decoder::Decoder;
 use fidl_decode_model::frame::State;
@@ -53,7 +53,7 @@ pub(crate) fn are_zeros(bytes: &[u8], from: usize, to: usize) -> bool
     true
 }
 
-impl<'t, 'm> Decoder<'t, 'm> {
+impl<'t, 'm, 's> Decoder<'t, 'm, 's> {
     /// Passes over the envelope at a place, whose member is a text of ASCII that is there, where its
     /// numbers are right. Else nothing is read.
     #[inline(never)]
@@ -62,32 +62,32 @@ impl<'t, 'm> Decoder<'t, 'm> {
         entry: u32,
         envelope: usize,
         depth: u8,
-        state: &mut State,
+        state: &mut State<'_, '_>,
     ) -> bool
         requires entry { entry < (header_of self.now.table.now).entries }
         requires kind { kind_of (entry_at self.now.table.now entry).kind ≡ Some kinds.String }
-        requires room { envelope + 8 ≤ length self.now.bytes.now }
-        requires state { StateFine (message_of self.now.bytes.now self.now.handles.now)
-            (at_of state.old) }
+        requires room { envelope + 8 ≤ length (came self.now) }
+        requires holds { Holds self.now state.old }
+        requires state { StateFine (message self.now) (at_of state.old) }
         requires depth { depth ≤ MAX_DEPTH }
         requires budget { state.old.steps < 2 ^ 44 }
-        ensures passed { IsTrue result → Opens self.now.table.now
-            (message_of self.now.bytes.now self.now.handles.now) depth (Some (ty.named entry))
-            envelope (at_of state.old) (at_of state.new) (state.new.steps - state.old.steps)
-            None }
+        ensures holds { Holds self.now state.new }
+        ensures passed { IsTrue result → Opens self.now.table.now (message self.now) depth (Some
+            (ty.named entry)) envelope (at_of state.old) (at_of state.new)
+            (state.new.steps - state.old.steps) None }
         ensures kept { IsFalse result → at_of state.new ≡ at_of state.old }
         ensures grows { state.old.steps ≤ state.new.steps }
         ensures pays { state.new.steps + state.old.next ≤ state.old.steps + state.new.next }
     {
         let bound = self.table.entry(entry).bound;
-        let counted = u64_at(self.bytes, envelope);
+        let counted = self.u64_at(envelope, state);
         let next = state.next;
-        let rest = (self.bytes.len() - next) as u64;
+        let rest = (self.size - next) as u64;
         if counted < 16 || counted > rest || depth as usize + 1 >= MAX_DEPTH {
             return false;
         }
-        let count = u64_at(self.bytes, next);
-        if count > bound || count > rest || !self.is_present(next + 8) {
+        let count = self.u64_at(next, state);
+        if count > bound || count > rest || !self.is_present(next + 8, state) {
             return false;
         }
         let behind = count as usize;
@@ -96,8 +96,8 @@ impl<'t, 'm> Decoder<'t, 'm> {
             return false;
         }
         let from = next + 16;
-        if !are_ascii(self.bytes, from, size)
-            || !are_zeros(self.bytes, from + behind, from + size)
+        if !self.are_ascii(from, size, state)
+            || !self.are_zeros(from + behind, from + size, state)
         {
             return false;
         }

@@ -7,12 +7,12 @@ ghost use Rattle.fidl_table_format.specs.declared.kind.EntryKind.{EntryKind};
 ghost use Rattle.fidl_table_format.specs.Kind.{kind_of};
 ghost use Rattle.fidl_table_format.specs.Section.{header_of, entry_at};
 ghost use Rattle.fidl_decode_model.specs.Invariants.{is_free};
-ghost use Rattle.fidl_decode_model.specs.Faults.{message_of};
 ghost use Rattle.fidl_decode_model.specs.declared.frame.Remaining.TheVariants as left;
 ghost use Rattle.fidl_decode_columns.specs.declared.kinds.TheConstants.{MOST_ROWS};
 ghost use Rattle.fidl_decode_model.specs.State.{Position};
 ghost use Rattle.fidl_decode_model.specs.Machine.{StateFine, FrameFine, Visits, Turns, BreaksFrame};
 ghost use Rattle.fidl_decode_model.specs.Machine.{IsGood, Passes, IsKnown, turn_work, at_of};
+ghost use Rattle.fidl_decode.specs.Reading.{came, message, Holds};
 
 use crate::decoder::Decoder;
 use fidl_decode_columns::{MOST_ROWS, is_free};
@@ -66,7 +66,7 @@ pub(crate) fn rows_from(frame: Frame, first: u32, count: u32, done: usize) -> Fr
     }
 }
 
-impl<'t, 'm> Decoder<'t, 'm> {
+impl<'t, 'm, 's> Decoder<'t, 'm, 's> {
     /// Whether the member of a row stands this far behind its struct's start, and any bytes are its
     /// value.
     #[inline(always)]
@@ -91,13 +91,12 @@ impl<'t, 'm> Decoder<'t, 'm> {
     fn next_flag(&self, row: &Row, done: usize, flag: Option<u32>) -> Option<Option<u32>>
         requires row { row.now.entry < (header_of self.now.table.now).entries }
         ensures stands { IfSome result (λ next. row.now.key ≡ done) }
-        ensures keeps { IfSome result (λ next. (base : ℕ) → IsGood self.now.bytes.now base next
-            → IsGood self.now.bytes.now base flag) }
-        ensures visits { IfSome result (λ next. (base depth : ℕ) → (s : Position)
-            → depth ≤ MAX_DEPTH → StateFine (message_of self.now.bytes.now self.now.handles.now) s
-            → base + row.now.key + (entry_at self.now.table.now row.now.entry).size
-            ≤ length self.now.bytes.now → IsGood self.now.bytes.now base next
-            → Visits self.now.table.now (message_of self.now.bytes.now self.now.handles.now) depth
+        ensures keeps { IfSome result (λ next. (base : ℕ) → IsGood (came self.now) base next →
+            IsGood (came self.now) base flag) }
+        ensures visits { IfSome result (λ next. (base depth : ℕ) → (s : Position) → depth ≤
+            MAX_DEPTH → StateFine (message self.now) s → base + row.now.key + (entry_at
+            self.now.table.now row.now.entry).size ≤ length (came self.now) → IsGood
+            (came self.now) base next → Visits self.now.table.now (message self.now) depth
             row.now.entry (base + row.now.key) s s 0 None) }
     {
         if self.takes_any(row, done) {
@@ -125,8 +124,7 @@ impl<'t, 'm> Decoder<'t, 'm> {
         ensures first { result.first ≡ first + result.rows }
         ensures count { result.rows + result.count ≡ count }
         ensures wide { result.rows ≤ result.done }
-        ensures passes { Passes self.now.table.now
-            (message_of self.now.bytes.now self.now.handles.now) (left.Rows first count)
+        ensures passes { Passes self.now.table.now (message self.now) (left.Rows first count)
             result.rows result.first result.count result.done result.flag }
     {
         let _rows = self.table.rows();
@@ -161,8 +159,7 @@ impl<'t, 'm> Decoder<'t, 'm> {
     /// The same rows of the struct in the box that is the last of these rows; none where it is no box.
     pub(crate) fn plain_below(&self, first: u32, count: u32) -> Plain
         requires within { first + count ≤ (header_of self.now.table.now).rows }
-        ensures known { IsKnown self.now.table.now
-            (message_of self.now.bytes.now self.now.handles.now) result.rows result.first
+        ensures known { IsKnown self.now.table.now (message self.now) result.rows result.first
             result.count result.done result.flag }
     {
         if count == 0 {
@@ -182,37 +179,37 @@ impl<'t, 'm> Decoder<'t, 'm> {
 
     /// Whether the bool so far behind a struct's start, if there is one, is 0 or 1.
     #[inline(always)]
-    fn is_good(&self, base: usize, flag: Option<u32>) -> bool
-        requires { base ≤ MAX_MESSAGE_BYTES }
-        ensures { IsTrue result → IsGood self.now.bytes.now base flag }
+    fn is_good(&self, base: usize, flag: Option<u32>, state: &State<'_, '_>) -> bool
+        requires holds { Holds self.now state.now }
+        requires short { base ≤ MAX_MESSAGE_BYTES }
+        ensures { IsTrue result → IsGood (came self.now) base flag }
     {
         let Some(offset) = flag else {
             return true;
         };
         let at = base + offset as usize;
-        at < self.bytes.len() && self.bytes[at] <= 1
+        at < self.size && self.byte_at(at, state) <= 1
     }
 
     /// Passes over the first rows of a struct, which are known to take any bytes but for a bool. Where
     /// the bool is wrong, the frame is left as it is.
     #[inline(always)]
-    fn pass_over(&self, frame: Frame, plain: &Plain, state: &mut State) -> Frame
-        requires frame { FrameFine self.now.table.now self.now.bytes.now frame }
+    fn pass_over(&self, frame: Frame, plain: &Plain, state: &mut State<'_, '_>) -> Frame
+        requires frame { FrameFine self.now.table.now (came self.now) frame }
         requires start { frame.done ≡ 0 }
-        requires passes { Passes self.now.table.now
-            (message_of self.now.bytes.now self.now.handles.now) frame.left plain.now.rows
+        requires passes { Passes self.now.table.now (message self.now) frame.left plain.now.rows
             plain.now.first plain.now.count plain.now.done plain.now.flag }
-        requires state { StateFine (message_of self.now.bytes.now self.now.handles.now)
-            (at_of state.old) }
-        requires budget { state.old.steps + turn_work self.now.bytes.now state.old.next frame
-            < 2 ^ 40 }
+        requires holds { Holds self.now state.old }
+        requires state { StateFine (message self.now) (at_of state.old) }
+        requires budget { state.old.steps + turn_work (came self.now) state.old.next frame < 2 ^ 40 }
+        ensures holds { Holds self.now state.new }
         ensures turns { Turns self.now.table.now
-            (message_of self.now.bytes.now self.now.handles.now) frame (at_of state.old)
+            (message self.now) frame (at_of state.old)
             (at_of state.new) (state.new.steps - state.old.steps)
             (record { below = None; rest = Some result }) }
         ensures grows { state.old.steps ≤ state.new.steps }
     {
-        if !self.is_good(frame.base, plain.flag) {
+        if !self.is_good(frame.base, plain.flag, state) {
             return frame;
         }
         state.steps += u64::from(plain.rows);
@@ -221,17 +218,16 @@ impl<'t, 'm> Decoder<'t, 'm> {
 
     /// Passes over the first rows of a struct, where they are those that are known.
     #[inline(always)]
-    pub(crate) fn pass_known(&self, frame: Frame, known: &Plain, state: &mut State) -> Frame
-        requires frame { FrameFine self.now.table.now self.now.bytes.now frame }
-        requires known { IsKnown self.now.table.now
-            (message_of self.now.bytes.now self.now.handles.now) known.now.rows known.now.first
-            known.now.count known.now.done known.now.flag }
-        requires state { StateFine (message_of self.now.bytes.now self.now.handles.now)
-            (at_of state.old) }
-        requires budget { state.old.steps + turn_work self.now.bytes.now state.old.next frame
-            < 2 ^ 40 }
+    pub(crate) fn pass_known(&self, frame: Frame, known: &Plain, state: &mut State<'_, '_>) -> Frame
+        requires frame { FrameFine self.now.table.now (came self.now) frame }
+        requires known { IsKnown self.now.table.now (message self.now) known.now.rows
+            known.now.first known.now.count known.now.done known.now.flag }
+        requires holds { Holds self.now state.old }
+        requires state { StateFine (message self.now) (at_of state.old) }
+        requires budget { state.old.steps + turn_work (came self.now) state.old.next frame < 2 ^ 40 }
+        ensures holds { Holds self.now state.new }
         ensures turns { Turns self.now.table.now
-            (message_of self.now.bytes.now self.now.handles.now) frame (at_of state.old)
+            (message self.now) frame (at_of state.old)
             (at_of state.new) (state.new.steps - state.old.steps)
             (record { below = None; rest = Some result }) }
         ensures grows { state.old.steps ≤ state.new.steps }
@@ -259,30 +255,27 @@ impl<'t, 'm> Decoder<'t, 'm> {
         frame: Frame,
         plain: &Plain,
         known: &Plain,
-        state: &mut State,
+        state: &mut State<'_, '_>,
     ) -> Result<Option<Frame>, DecodeFault>
-        requires frame { FrameFine self.now.table.now self.now.bytes.now frame }
+        requires frame { FrameFine self.now.table.now (came self.now) frame }
         requires start { frame.done ≡ 0 }
-        requires passes { Passes self.now.table.now
-            (message_of self.now.bytes.now self.now.handles.now) frame.left plain.now.rows
+        requires passes { Passes self.now.table.now (message self.now) frame.left plain.now.rows
             plain.now.first plain.now.count plain.now.done plain.now.flag }
-        requires known { IsKnown self.now.table.now
-            (message_of self.now.bytes.now self.now.handles.now) known.now.rows known.now.first
-            known.now.count known.now.done known.now.flag }
-        requires state { StateFine (message_of self.now.bytes.now self.now.handles.now)
-            (at_of state.old) }
-        requires budget { state.old.steps + turn_work self.now.bytes.now state.old.next frame
-            < 2 ^ 40 }
+        requires known { IsKnown self.now.table.now (message self.now) known.now.rows
+            known.now.first known.now.count known.now.done known.now.flag }
+        requires holds { Holds self.now state.old }
+        requires state { StateFine (message self.now) (at_of state.old) }
+        requires budget { state.old.steps + turn_work (came self.now) state.old.next frame < 2 ^ 40 }
+        ensures holds { Holds self.now state.new }
         ensures ok { IfOk result
-            (λ rest. Turns self.now.table.now (message_of self.now.bytes.now self.now.handles.now)
+            (λ rest. Turns self.now.table.now (message self.now)
             frame (at_of state.old) (at_of state.new) (state.new.steps - state.old.steps)
             (record { below = None; rest = rest })) }
         ensures grows { OnOk result (state.old.steps ≤ state.new.steps) }
         ensures ended { IfOk result (λ rest. IfNone rest (state.old.steps < state.new.steps)) }
-        ensures cost { state.new.steps
-            ≤ state.old.steps + turn_work self.now.bytes.now state.old.next frame }
-        ensures fault_is_true { IfErr result
-            (BreaksFrame self.now.table.now (message_of self.now.bytes.now self.now.handles.now)
+        ensures cost { state.new.steps ≤ state.old.steps + turn_work (came self.now) state.old.next
+            frame }
+        ensures fault_is_true { IfErr result (BreaksFrame self.now.table.now (message self.now)
             frame (at_of state.old)) }
     {
         let rest = self.pass_over(frame, plain, state);

@@ -11,12 +11,12 @@ ghost use Rattle.fidl_table_format.specs.Uses.{uses_ordinals};
 ghost use Rattle.fidl_table_format.specs.Entry.{kind_is};
 ghost use Rattle.fidl_decode_model.specs.Breaks.{BreaksMember};
 ghost use Rattle.fidl_decode_model.specs.Invariants.{IsFlat};
-ghost use Rattle.fidl_decode_model.specs.Faults.{message_of};
 ghost use Rattle.fidl_decode_model.specs.declared.frame.Remaining.TheVariants as left;
 ghost use Rattle.fidl_decode_model.specs.Machine.{StateFine, FrameFine, Turns, BreaksFrame};
 ghost use Rattle.fidl_decode_model.specs.Machine.{Opens, PaysEnvelope, member_term};
 ghost use Rattle.fidl_decode_model.specs.Machine.{behind_envelopes};
 ghost use Rattle.fidl_decode_model.specs.Machine.{byte_work, envelope_work, turn_work, at_of};
+ghost use Rattle.fidl_decode.specs.Reading.{came, message, Holds};
 
 use crate::decoder::Decoder;
 use fidl_decode_model::DecodeFault;
@@ -39,7 +39,7 @@ fn envelopes_from(frame: Frame, entry: u32, read: u32, count: u32, done: usize) 
     }
 }
 
-impl<'t, 'm> Decoder<'t, 'm> {
+impl<'t, 'm, 's> Decoder<'t, 'm, 's> {
     /// Reads the member of the envelope at a place in place, which is a leaf or a struct of leaves.
     #[inline(always)]
     fn read_enclosed(
@@ -48,29 +48,28 @@ impl<'t, 'm> Decoder<'t, 'm> {
         kind: EntryKind,
         envelope: usize,
         depth: u8,
-        state: &mut State,
+        state: &mut State<'_, '_>,
     ) -> Result<(), DecodeFault>
         requires entry { entry < (header_of self.now.table.now).entries }
         requires kind { kind_of (entry_at self.now.table.now entry).kind ≡ Some kind }
         requires flat { IsFlat self.now.table.now (entry_at self.now.table.now entry) kind }
-        requires room { envelope + 8 ≤ length self.now.bytes.now }
-        requires state { StateFine (message_of self.now.bytes.now self.now.handles.now)
-            (at_of state.old) }
+        requires room { envelope + 8 ≤ length (came self.now) }
+        requires holds { Holds self.now state.old }
+        requires state { StateFine (message self.now) (at_of state.old) }
         requires depth { depth ≤ MAX_DEPTH }
-        requires budget { state.old.steps + byte_work
-            * (length self.now.bytes.now - state.old.next) + envelope_work < 2 ^ 40 }
-        ensures ok { OnOk result (Opens self.now.table.now
-            (message_of self.now.bytes.now self.now.handles.now) depth (Some (ty.named entry))
-            envelope (at_of state.old) (at_of state.new) (state.new.steps - state.old.steps)
-            None) }
-        ensures pays { OnOk result (PaysEnvelope self.now.bytes.now state.old.next state.new.next
+        requires budget { state.old.steps + byte_work * (length (came self.now) - state.old.next) +
+            envelope_work < 2 ^ 40 }
+        ensures holds { Holds self.now state.new }
+        ensures ok { OnOk result (Opens self.now.table.now (message self.now) depth (Some
+            (ty.named entry)) envelope (at_of state.old) (at_of state.new)
+            (state.new.steps - state.old.steps) None) }
+        ensures pays { OnOk result (PaysEnvelope (came self.now) state.old.next state.new.next
             (state.new.steps - state.old.steps) None) }
         ensures fault_is_true { IfErr result (BreaksMember (declarations_of self.now.table.now)
-            (message_of self.now.bytes.now self.now.handles.now) depth (Some (ty.named entry))
-            envelope (at_of state.old)) }
+            (message self.now) depth (Some (ty.named entry)) envelope (at_of state.old)) }
         ensures grows { OnOk result (state.old.steps ≤ state.new.steps) }
-        ensures cost { state.new.steps ≤ state.old.steps + byte_work
-            * (length self.now.bytes.now - state.old.next) + envelope_work }
+        ensures cost { state.new.steps ≤ state.old.steps + byte_work * (length (came self.now) -
+            state.old.next) + envelope_work }
     {
         let frame = self.enter_member(entry, envelope, depth, state)?;
         let Remaining::Content { size, until, .. } = frame.left else {
@@ -87,26 +86,26 @@ impl<'t, 'm> Decoder<'t, 'm> {
         entry: u32,
         envelope: usize,
         depth: u8,
-        state: &mut State,
+        state: &mut State<'_, '_>,
     ) -> Result<Option<Frame>, DecodeFault>
         requires entry { entry < (header_of self.now.table.now).entries }
-        requires room { envelope + 8 ≤ length self.now.bytes.now }
-        requires state { StateFine (message_of self.now.bytes.now self.now.handles.now)
-            (at_of state.old) }
+        requires room { envelope + 8 ≤ length (came self.now) }
+        requires holds { Holds self.now state.old }
+        requires state { StateFine (message self.now) (at_of state.old) }
         requires depth { depth ≤ MAX_DEPTH }
-        requires budget { state.old.steps + byte_work
-            * (length self.now.bytes.now - state.old.next) + envelope_work < 2 ^ 40 }
-        ensures ok { IfOk result (Opens self.now.table.now
-            (message_of self.now.bytes.now self.now.handles.now) depth (Some (ty.named entry))
-            envelope (at_of state.old) (at_of state.new) (state.new.steps - state.old.steps)) }
-        ensures pays { IfOk result (PaysEnvelope self.now.bytes.now state.old.next state.new.next
+        requires budget { state.old.steps + byte_work * (length (came self.now) - state.old.next) +
+            envelope_work < 2 ^ 40 }
+        ensures holds { Holds self.now state.new }
+        ensures ok { IfOk result (Opens self.now.table.now (message self.now) depth (Some
+            (ty.named entry)) envelope (at_of state.old) (at_of state.new)
+            (state.new.steps - state.old.steps)) }
+        ensures pays { IfOk result (PaysEnvelope (came self.now) state.old.next state.new.next
             (state.new.steps - state.old.steps)) }
         ensures fault_is_true { IfErr result (BreaksMember (declarations_of self.now.table.now)
-            (message_of self.now.bytes.now self.now.handles.now) depth (Some (ty.named entry))
-            envelope (at_of state.old)) }
+            (message self.now) depth (Some (ty.named entry)) envelope (at_of state.old)) }
         ensures grows { OnOk result (state.old.steps ≤ state.new.steps) }
-        ensures cost { state.new.steps ≤ state.old.steps + byte_work
-            * (length self.now.bytes.now - state.old.next) + envelope_work }
+        ensures cost { state.new.steps ≤ state.old.steps + byte_work * (length (came self.now) -
+            state.old.next) + envelope_work }
     {
         if self.pass_member(entry, envelope, depth, state) {
             return Ok(None);
@@ -131,27 +130,27 @@ impl<'t, 'm> Decoder<'t, 'm> {
         member: Option<Row>,
         envelope: usize,
         depth: u8,
-        state: &mut State,
+        state: &mut State<'_, '_>,
     ) -> Result<Option<Frame>, DecodeFault>
         requires member { IfSome member
             (λ row. row.entry < (header_of self.now.table.now).entries) }
-        requires room { envelope + 8 ≤ length self.now.bytes.now }
-        requires state { StateFine (message_of self.now.bytes.now self.now.handles.now)
-            (at_of state.old) }
+        requires room { envelope + 8 ≤ length (came self.now) }
+        requires holds { Holds self.now state.old }
+        requires state { StateFine (message self.now) (at_of state.old) }
         requires depth { depth ≤ MAX_DEPTH }
-        requires budget { state.old.steps + byte_work
-            * (length self.now.bytes.now - state.old.next) + envelope_work < 2 ^ 40 }
-        ensures ok { IfOk result (Opens self.now.table.now
-            (message_of self.now.bytes.now self.now.handles.now) depth (member_term member) envelope
-            (at_of state.old) (at_of state.new) (state.new.steps - state.old.steps)) }
-        ensures pays { IfOk result (PaysEnvelope self.now.bytes.now state.old.next state.new.next
+        requires budget { state.old.steps + byte_work * (length (came self.now) - state.old.next) +
+            envelope_work < 2 ^ 40 }
+        ensures holds { Holds self.now state.new }
+        ensures ok { IfOk result (Opens self.now.table.now (message self.now) depth
+            (member_term member) envelope (at_of state.old) (at_of state.new)
+            (state.new.steps - state.old.steps)) }
+        ensures pays { IfOk result (PaysEnvelope (came self.now) state.old.next state.new.next
             (state.new.steps - state.old.steps)) }
         ensures fault_is_true { IfErr result (BreaksMember (declarations_of self.now.table.now)
-            (message_of self.now.bytes.now self.now.handles.now) depth (member_term member) envelope
-            (at_of state.old)) }
+            (message self.now) depth (member_term member) envelope (at_of state.old)) }
         ensures grows { OnOk result (state.old.steps ≤ state.new.steps) }
-        ensures cost { state.new.steps ≤ state.old.steps + byte_work
-            * (length self.now.bytes.now - state.old.next) + envelope_work }
+        ensures cost { state.new.steps ≤ state.old.steps + byte_work * (length (came self.now) -
+            state.old.next) + envelope_work }
     {
         let Some(row) = member else {
             self.skip_member(envelope, depth, state)?;
@@ -198,33 +197,32 @@ impl<'t, 'm> Decoder<'t, 'm> {
         parts: &Entry,
         read: u32,
         count: u32,
-        state: &mut State,
+        state: &mut State<'_, '_>,
     ) -> Result<Option<Frame>, DecodeFault>
         requires left { frame.left ≡ left.Envelopes entry read count }
         requires parts { parts.now ≡ entry_at self.now.table.now entry }
         requires some { 0 < count }
-        requires frame { FrameFine self.now.table.now self.now.bytes.now frame }
-        requires state { StateFine (message_of self.now.bytes.now self.now.handles.now)
-            (at_of state.old) }
-        requires budget { state.old.steps + turn_work self.now.bytes.now state.old.next frame
-            < 2 ^ 40 }
+        requires frame { FrameFine self.now.table.now (came self.now) frame }
+        requires holds { Holds self.now state.old }
+        requires state { StateFine (message self.now) (at_of state.old) }
+        requires budget { state.old.steps + turn_work (came self.now) state.old.next frame < 2 ^ 40 }
+        ensures holds { Holds self.now state.new }
         ensures ok { IfOk result
-            (λ below. Turns self.now.table.now (message_of self.now.bytes.now self.now.handles.now)
+            (λ below. Turns self.now.table.now (message self.now)
             frame (at_of state.old) (at_of state.new) (state.new.steps - state.old.steps)
             (record {
               below = below;
               rest = Some (behind_envelopes frame entry (read + 1) (count - 1) (frame.done + 8));
             })) }
         ensures rises { OnOk result (state.old.steps < state.new.steps) }
-        ensures cost { state.new.steps ≤ state.old.steps
-            + turn_work self.now.bytes.now state.old.next frame }
-        ensures fault_is_true { IfErr result
-            (BreaksFrame self.now.table.now (message_of self.now.bytes.now self.now.handles.now)
+        ensures cost { state.new.steps ≤ state.old.steps + turn_work (came self.now) state.old.next
+            frame }
+        ensures fault_is_true { IfErr result (BreaksFrame self.now.table.now (message self.now)
             frame (at_of state.old)) }
     {
         state.steps += 1;
         let place = frame.base + frame.done;
-        if self.is_absent(place) {
+        if self.is_absent(place, state) {
             return Ok(None);
         }
         let ordinal = read + 1;
@@ -240,22 +238,20 @@ impl<'t, 'm> Decoder<'t, 'm> {
         entry: u32,
         read: u32,
         count: u32,
-        state: &mut State,
+        state: &mut State<'_, '_>,
     ) -> Result<Turn, DecodeFault>
         requires left { frame.left ≡ left.Envelopes entry read count }
-        requires frame { FrameFine self.now.table.now self.now.bytes.now frame }
-        requires state { StateFine (message_of self.now.bytes.now self.now.handles.now)
-            (at_of state.old) }
-        requires budget { state.old.steps + turn_work self.now.bytes.now state.old.next frame
-            < 2 ^ 40 }
-        ensures ok { IfOk result
-            (λ turn. Turns self.now.table.now (message_of self.now.bytes.now self.now.handles.now)
-            frame (at_of state.old) (at_of state.new) (state.new.steps - state.old.steps) turn) }
+        requires frame { FrameFine self.now.table.now (came self.now) frame }
+        requires holds { Holds self.now state.old }
+        requires state { StateFine (message self.now) (at_of state.old) }
+        requires budget { state.old.steps + turn_work (came self.now) state.old.next frame < 2 ^ 40 }
+        ensures holds { Holds self.now state.new }
+        ensures ok { IfOk result (λ turn. Turns self.now.table.now (message self.now) frame
+            (at_of state.old) (at_of state.new) (state.new.steps - state.old.steps) turn) }
         ensures rises { OnOk result (state.old.steps < state.new.steps) }
-        ensures cost { state.new.steps
-            ≤ state.old.steps + turn_work self.now.bytes.now state.old.next frame }
-        ensures fault_is_true { IfErr result
-            (BreaksFrame self.now.table.now (message_of self.now.bytes.now self.now.handles.now)
+        ensures cost { state.new.steps ≤ state.old.steps + turn_work (came self.now) state.old.next
+            frame }
+        ensures fault_is_true { IfErr result (BreaksFrame self.now.table.now (message self.now)
             frame (at_of state.old)) }
     {
         let parts = self.table.entry(entry);

@@ -5,18 +5,18 @@ ghost use Rattle.fidl_limits.specs.declared.limits.TheConstants.{MAX_DEPTH};
 ghost use Rattle.fidl_table_format.specs.declared.kind.EntryKind.TheVariants as kinds;
 ghost use Rattle.fidl_table_format.specs.Kind.{kind_of};
 ghost use Rattle.fidl_table_format.specs.Section.{header_of, entry_at};
-ghost use Rattle.fidl_decode_model.specs.Faults.{message_of};
 ghost use Rattle.fidl_decode_model.specs.Breaks.{BreaksTable};
 ghost use Rattle.fidl_decode.specs.Body.{envelopes_of};
 ghost use Rattle.fidl_decode_model.specs.Steps.{Spends};
 ghost use Rattle.fidl_decode_model.specs.Machine.{StateFine, Visits, VisitFine, at_of};
+ghost use Rattle.fidl_decode.specs.Reading.{came, message, Holds};
 
 use crate::decoder::Decoder;
 use fidl_decode_model::DecodeFault;
 use fidl_decode_model::frame::{Frame, State};
-use fidl_wire::{MAX_DEPTH, Presence, u64_at};
+use fidl_wire::{MAX_DEPTH, Presence};
 
-impl<'t, 'm> Decoder<'t, 'm> {
+impl<'t, 'm, 's> Decoder<'t, 'm, 's> {
     /// Reads the count and the marker of a table at a place, and links its envelopes; answers how many
     /// these are.
     #[inline(always)]
@@ -25,29 +25,29 @@ impl<'t, 'm> Decoder<'t, 'm> {
         entry: u32,
         place: usize,
         depth: u8,
-        state: &mut State,
+        state: &mut State<'_, '_>,
     ) -> Result<u32, DecodeFault>
         requires entry { entry < (header_of self.now.table.now).entries }
         requires kind { kind_of (entry_at self.now.table.now entry).kind ≡ Some kinds.Table }
-        requires room { place + 16 ≤ length self.now.bytes.now }
-        requires state { StateFine (message_of self.now.bytes.now self.now.handles.now)
-            (at_of state.old) }
+        requires room { place + 16 ≤ length (came self.now) }
+        requires holds { Holds self.now state.old }
+        requires state { StateFine (message self.now) (at_of state.old) }
         requires depth { depth ≤ MAX_DEPTH }
-        ensures ok { IfOk result (λ count. Visits self.now.table.now
-            (message_of self.now.bytes.now self.now.handles.now) depth entry place
-            (at_of state.old) (at_of state.new) 0
-            (Some (envelopes_of entry state.old.next count (depth + 1)))) }
+        ensures holds { Holds self.now state.new }
+        ensures ok { IfOk result (λ count. Visits self.now.table.now (message self.now) depth entry
+            place (at_of state.old) (at_of state.new) 0 (Some (envelopes_of entry state.old.next
+            count (depth + 1)))) }
         ensures fine { (in_envelope : ℕ) → in_envelope ≤ 1 → IfOk result (λ count. VisitFine
-            self.now.table.now (message_of self.now.bytes.now self.now.handles.now) depth
-            in_envelope entry (Some (envelopes_of entry state.old.next count (depth + 1)))) }
+            self.now.table.now (message self.now) depth in_envelope entry (Some (envelopes_of entry
+            state.old.next count (depth + 1)))) }
         ensures next { IfOk result (λ count. state.new.next ≡ state.old.next + 8 * count) }
         ensures shallow { OnOk result (depth < MAX_DEPTH) }
-        ensures fault_is_true { IfErr result (BreaksTable
-            (message_of self.now.bytes.now self.now.handles.now) depth place state.old.next) }
+        ensures fault_is_true { IfErr result (BreaksTable (message self.now) depth place
+            state.old.next) }
         ensures steps { state.new.steps ≡ state.old.steps }
     {
-        let count = u64_at(self.bytes, place);
-        match self.presence(place + 8) {
+        let count = self.u64_at(place, state);
+        match self.presence(place + 8, state) {
             Presence::Neither => return Err(DecodeFault::BadMarker { at: place + 8 }),
             Presence::Absent => {
                 if count != 0 {
@@ -58,7 +58,7 @@ impl<'t, 'm> Decoder<'t, 'm> {
             Presence::Present => {}
         }
         let from = state.next;
-        let rest = self.bytes.len() - from;
+        let rest = self.size - from;
         if count > rest as u64 / 8 {
             return Err(DecodeFault::BadCount { at: place });
         }
@@ -78,25 +78,24 @@ impl<'t, 'm> Decoder<'t, 'm> {
         entry: u32,
         place: usize,
         depth: u8,
-        state: &mut State,
+        state: &mut State<'_, '_>,
     ) -> Result<Option<Frame>, DecodeFault>
         requires entry { entry < (header_of self.now.table.now).entries }
         requires kind { kind_of (entry_at self.now.table.now entry).kind ≡ Some kinds.Table }
-        requires room { place + 16 ≤ length self.now.bytes.now }
-        requires state { StateFine (message_of self.now.bytes.now self.now.handles.now)
-            (at_of state.old) }
+        requires room { place + 16 ≤ length (came self.now) }
+        requires holds { Holds self.now state.old }
+        requires state { StateFine (message self.now) (at_of state.old) }
         requires depth { depth ≤ MAX_DEPTH }
         requires budget { state.old.steps < 2 ^ 41 }
-        ensures ok { IfOk result (λ found. Visits self.now.table.now
-            (message_of self.now.bytes.now self.now.handles.now) depth entry place
-            (at_of state.old) (at_of state.new) (state.new.steps - state.old.steps) found) }
-        ensures fine { (in_envelope : ℕ) → in_envelope ≤ 1
-            → IfOk result (VisitFine self.now.table.now
-            (message_of self.now.bytes.now self.now.handles.now) depth in_envelope entry) }
-        ensures fault_is_true { IfErr result (BreaksTable
-            (message_of self.now.bytes.now self.now.handles.now) depth place state.old.next) }
-        ensures spends { Spends state.old.steps state.new.steps 0
-            (1 + (length self.now.bytes.now - state.old.next)) }
+        ensures holds { Holds self.now state.new }
+        ensures ok { IfOk result (λ found. Visits self.now.table.now (message self.now) depth entry
+            place (at_of state.old) (at_of state.new) (state.new.steps - state.old.steps) found) }
+        ensures fine { (in_envelope : ℕ) → in_envelope ≤ 1 → IfOk result (VisitFine
+            self.now.table.now (message self.now) depth in_envelope entry) }
+        ensures fault_is_true { IfErr result (BreaksTable (message self.now) depth place
+            state.old.next) }
+        ensures spends { Spends state.old.steps state.new.steps 0 (1 + (length (came self.now) -
+            state.old.next)) }
     {
         let from = state.next;
         let count = self.open_table(entry, place, depth, state)?;

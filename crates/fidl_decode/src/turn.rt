@@ -10,15 +10,15 @@ ghost use Rattle.fidl_table_format.specs.Kind.{kind_of};
 ghost use Rattle.fidl_table_format.specs.Section.{header_of, entry_at};
 ghost use Rattle.fidl_table_format.specs.Terms.{declarations_of};
 ghost use Rattle.fidl_decode_model.specs.Breaks.{Breaks};
-ghost use Rattle.fidl_decode_model.specs.Faults.{message_of};
 ghost use Rattle.fidl_decode_model.specs.declared.frame.Remaining.TheVariants as left;
 ghost use Rattle.fidl_decode_model.specs.Machine.{StateFine, FrameFine, BreaksFrame, Turns};
 ghost use Rattle.fidl_decode_model.specs.Machine.{IsInside, Visits, VisitFine};
 ghost use Rattle.fidl_decode_model.specs.Machine.{turn_work, value_work, at_of};
 ghost use Rattle.fidl_decode.specs.Over.{IsOver};
+ghost use Rattle.fidl_decode.specs.Reading.{came, message, Holds};
 
 use crate::decoder::Decoder;
-use fidl_decode_columns::{Columns, zeros_at};
+use fidl_decode_columns::Columns;
 use fidl_decode_model::DecodeFault;
 use fidl_decode_model::frame::{Frame, Remaining, State, Turn};
 use fidl_table_format::EntryKind;
@@ -34,7 +34,7 @@ fn is_over(frame: &Frame) -> bool
     }
 }
 
-impl<'t, 'm> Decoder<'t, 'm> {
+impl<'t, 'm, 's> Decoder<'t, 'm, 's> {
     /// Reads structs of an array or vector in place, up to a struct that holds more than leaves:
     /// that one, where it stopped, is to be read next.
     fn read_structs(
@@ -43,24 +43,22 @@ impl<'t, 'm> Decoder<'t, 'm> {
         entry: u32,
         size: usize,
         count: u32,
-        state: &mut State,
+        state: &mut State<'_, '_>,
     ) -> Result<Turn, DecodeFault>
         requires left { frame.left ≡ left.Elements entry size count }
         requires entry { entry < (header_of self.now.table.now).entries }
         requires kind { kind_of (entry_at self.now.table.now entry).kind ≡ Some kinds.Struct }
-        requires frame { FrameFine self.now.table.now self.now.bytes.now frame }
-        requires state { StateFine (message_of self.now.bytes.now self.now.handles.now)
-            (at_of state.old) }
-        requires budget { state.old.steps + turn_work self.now.bytes.now state.old.next frame
-            < 2 ^ 40 }
-        ensures ok { IfOk result
-            (λ turn. Turns self.now.table.now (message_of self.now.bytes.now self.now.handles.now)
-            frame (at_of state.old) (at_of state.new) (state.new.steps - state.old.steps) turn) }
+        requires frame { FrameFine self.now.table.now (came self.now) frame }
+        requires holds { Holds self.now state.old }
+        requires state { StateFine (message self.now) (at_of state.old) }
+        requires budget { state.old.steps + turn_work (came self.now) state.old.next frame < 2 ^ 40 }
+        ensures holds { Holds self.now state.new }
+        ensures ok { IfOk result (λ turn. Turns self.now.table.now (message self.now) frame
+            (at_of state.old) (at_of state.new) (state.new.steps - state.old.steps) turn) }
         ensures rises { OnOk result (state.old.steps < state.new.steps) }
-        ensures cost { state.new.steps
-            ≤ state.old.steps + turn_work self.now.bytes.now state.old.next frame }
-        ensures fault_is_true { IfErr result
-            (BreaksFrame self.now.table.now (message_of self.now.bytes.now self.now.handles.now)
+        ensures cost { state.new.steps ≤ state.old.steps + turn_work (came self.now) state.old.next
+            frame }
+        ensures fault_is_true { IfErr result (BreaksFrame self.now.table.now (message self.now)
             frame (at_of state.old)) }
     {
         let e = self.table.entry(entry);
@@ -106,7 +104,7 @@ impl<'t, 'm> Decoder<'t, 'm> {
         let behind = frame.base + done;
         let stop = frame.base + frame.size;
         state.steps += (stop - behind) as u64 + 1;
-        zeros_at(self.bytes, behind, stop)?;
+        self.zeros_at(behind, stop, state)?;
         Ok(Turn {
             below: None,
             rest: None,
@@ -122,27 +120,26 @@ impl<'t, 'm> Decoder<'t, 'm> {
         entry: u32,
         size: usize,
         count: u32,
-        state: &mut State,
+        state: &mut State<'_, '_>,
     ) -> Result<bool, DecodeFault>
         requires left { frame.left ≡ left.Elements entry size count }
         requires some { 0 < count }
         requires entry { entry < (header_of self.now.table.now).entries }
         requires kind { kind_of (entry_at self.now.table.now entry).kind ≡ Some kinds.Struct }
-        requires frame { FrameFine self.now.table.now self.now.bytes.now frame }
-        requires state { StateFine (message_of self.now.bytes.now self.now.handles.now)
-            (at_of state.old) }
-        requires budget { state.old.steps + turn_work self.now.bytes.now state.old.next frame
-            < 2 ^ 40 }
+        requires frame { FrameFine self.now.table.now (came self.now) frame }
+        requires holds { Holds self.now state.old }
+        requires state { StateFine (message self.now) (at_of state.old) }
+        requires budget { state.old.steps + turn_work (came self.now) state.old.next frame < 2 ^ 40 }
+        ensures holds { Holds self.now state.new }
         ensures ok { IfOk result (λ all. IsTrue all
-            → Turns self.now.table.now (message_of self.now.bytes.now self.now.handles.now) frame
+            → Turns self.now.table.now (message self.now) frame
             (at_of state.old) (at_of state.new) (state.new.steps - state.old.steps)
             (record { below = None; rest = None })) }
         ensures rises { IfOk result (λ all. IsTrue all → state.old.steps < state.new.steps) }
         ensures kept { IfOk result (λ all. IsFalse all → state.new ≡ state.old) }
-        ensures cost { state.new.steps
-            ≤ state.old.steps + turn_work self.now.bytes.now state.old.next frame }
-        ensures fault_is_true { IfErr result
-            (BreaksFrame self.now.table.now (message_of self.now.bytes.now self.now.handles.now)
+        ensures cost { state.new.steps ≤ state.old.steps + turn_work (came self.now) state.old.next
+            frame }
+        ensures fault_is_true { IfErr result (BreaksFrame self.now.table.now (message self.now)
             frame (at_of state.old)) }
     {
         // Structs of numbers are read whole, so none is left to go on with.
@@ -151,7 +148,7 @@ impl<'t, 'm> Decoder<'t, 'm> {
         }
         let columns = Columns {
             table: self.table,
-            bytes: self.bytes,
+            bytes: self.bytes(state),
             handles: self.handles,
         };
         columns.check_structs(frame, entry, size, count, state)
@@ -166,25 +163,23 @@ impl<'t, 'm> Decoder<'t, 'm> {
         entry: u32,
         size: usize,
         count: u32,
-        state: &mut State,
+        state: &mut State<'_, '_>,
     ) -> Result<Turn, DecodeFault>
         requires left { frame.left ≡ left.Elements entry size count }
         requires some { 0 < count }
         requires entry { entry < (header_of self.now.table.now).entries }
         requires kind { kind_of (entry_at self.now.table.now entry).kind ≡ Some kinds.Struct }
-        requires frame { FrameFine self.now.table.now self.now.bytes.now frame }
-        requires state { StateFine (message_of self.now.bytes.now self.now.handles.now)
-            (at_of state.old) }
-        requires budget { state.old.steps + turn_work self.now.bytes.now state.old.next frame
-            < 2 ^ 40 }
-        ensures ok { IfOk result
-            (λ turn. Turns self.now.table.now (message_of self.now.bytes.now self.now.handles.now)
-            frame (at_of state.old) (at_of state.new) (state.new.steps - state.old.steps) turn) }
+        requires frame { FrameFine self.now.table.now (came self.now) frame }
+        requires holds { Holds self.now state.old }
+        requires state { StateFine (message self.now) (at_of state.old) }
+        requires budget { state.old.steps + turn_work (came self.now) state.old.next frame < 2 ^ 40 }
+        ensures holds { Holds self.now state.new }
+        ensures ok { IfOk result (λ turn. Turns self.now.table.now (message self.now) frame
+            (at_of state.old) (at_of state.new) (state.new.steps - state.old.steps) turn) }
         ensures rises { OnOk result (state.old.steps < state.new.steps) }
-        ensures cost { state.new.steps
-            ≤ state.old.steps + turn_work self.now.bytes.now state.old.next frame }
-        ensures fault_is_true { IfErr result
-            (BreaksFrame self.now.table.now (message_of self.now.bytes.now self.now.handles.now)
+        ensures cost { state.new.steps ≤ state.old.steps + turn_work (came self.now) state.old.next
+            frame }
+        ensures fault_is_true { IfErr result (BreaksFrame self.now.table.now (message self.now)
             frame (at_of state.old)) }
     {
         if self.check_columns(frame, entry, size, count, state)? {
@@ -205,31 +200,27 @@ impl<'t, 'm> Decoder<'t, 'm> {
         place: usize,
         depth: u8,
         in_envelope: u8,
-        state: &mut State,
+        state: &mut State<'_, '_>,
     ) -> Result<Option<Frame>, DecodeFault>
         requires entry { entry < (header_of self.now.table.now).entries }
-        requires room { place + (entry_at self.now.table.now entry).size
-            ≤ length self.now.bytes.now }
-        requires state { StateFine (message_of self.now.bytes.now self.now.handles.now)
-            (at_of state.old) }
+        requires room { place + (entry_at self.now.table.now entry).size ≤ length (came self.now) }
+        requires holds { Holds self.now state.old }
+        requires state { StateFine (message self.now) (at_of state.old) }
         requires depth { depth ≤ MAX_DEPTH }
         requires in_envelope { IsInside in_envelope (entry_at self.now.table.now entry).size }
-        requires budget { state.old.steps + value_work self.now.bytes.now state.old.next
+        requires budget { state.old.steps + value_work (came self.now) state.old.next
             (entry_at self.now.table.now entry) < 2 ^ 40 }
-        ensures ok { IfOk result
-            (λ found. Visits self.now.table.now (message_of self.now.bytes.now self.now.handles.now)
-            depth entry place (at_of state.old) (at_of state.new)
-            (state.new.steps - state.old.steps) found) }
-        ensures fine { IfOk result (VisitFine self.now.table.now
-            (message_of self.now.bytes.now self.now.handles.now) depth in_envelope entry) }
+        ensures holds { Holds self.now state.new }
+        ensures ok { IfOk result (λ found. Visits self.now.table.now (message self.now) depth entry
+            place (at_of state.old) (at_of state.new) (state.new.steps - state.old.steps) found) }
+        ensures fine { IfOk result (VisitFine self.now.table.now (message self.now) depth
+            in_envelope entry) }
         ensures grows { OnOk result (state.old.steps ≤ state.new.steps) }
-        ensures cost { state.new.steps ≤ state.old.steps
-            + value_work self.now.bytes.now state.old.next (entry_at self.now.table.now entry) }
-        ensures fault_is_true { IfErr result
-            (Breaks (declarations_of self.now.table.now)
-            (message_of self.now.bytes.now self.now.handles.now) depth
-            (resolve (declarations_of self.now.table.now).terms (ty.named entry)) place
-            (at_of state.old)) }
+        ensures cost { state.new.steps ≤ state.old.steps + value_work (came self.now)
+            state.old.next (entry_at self.now.table.now entry) }
+        ensures fault_is_true { IfErr result (Breaks (declarations_of self.now.table.now)
+            (message self.now) depth (resolve (declarations_of self.now.table.now).terms
+            (ty.named entry)) place (at_of state.old)) }
     {
         let Some(below) = self.visit(entry, place, depth, in_envelope, state)? else {
             return Ok(None);
@@ -245,22 +236,20 @@ impl<'t, 'm> Decoder<'t, 'm> {
         entry: u32,
         size: usize,
         count: u32,
-        state: &mut State,
+        state: &mut State<'_, '_>,
     ) -> Result<Turn, DecodeFault>
         requires left { frame.left ≡ left.Elements entry size count }
-        requires frame { FrameFine self.now.table.now self.now.bytes.now frame }
-        requires state { StateFine (message_of self.now.bytes.now self.now.handles.now)
-            (at_of state.old) }
-        requires budget { state.old.steps + turn_work self.now.bytes.now state.old.next frame
-            < 2 ^ 40 }
-        ensures ok { IfOk result
-            (λ turn. Turns self.now.table.now (message_of self.now.bytes.now self.now.handles.now)
-            frame (at_of state.old) (at_of state.new) (state.new.steps - state.old.steps) turn) }
+        requires frame { FrameFine self.now.table.now (came self.now) frame }
+        requires holds { Holds self.now state.old }
+        requires state { StateFine (message self.now) (at_of state.old) }
+        requires budget { state.old.steps + turn_work (came self.now) state.old.next frame < 2 ^ 40 }
+        ensures holds { Holds self.now state.new }
+        ensures ok { IfOk result (λ turn. Turns self.now.table.now (message self.now) frame
+            (at_of state.old) (at_of state.new) (state.new.steps - state.old.steps) turn) }
         ensures rises { OnOk result (state.old.steps < state.new.steps) }
-        ensures cost { state.new.steps
-            ≤ state.old.steps + turn_work self.now.bytes.now state.old.next frame }
-        ensures fault_is_true { IfErr result
-            (BreaksFrame self.now.table.now (message_of self.now.bytes.now self.now.handles.now)
+        ensures cost { state.new.steps ≤ state.old.steps + turn_work (came self.now) state.old.next
+            frame }
+        ensures fault_is_true { IfErr result (BreaksFrame self.now.table.now (message self.now)
             frame (at_of state.old)) }
     {
         let mut done = frame.done;
@@ -291,7 +280,7 @@ impl<'t, 'm> Decoder<'t, 'm> {
         let behind = frame.base + done;
         let stop = frame.base + frame.size;
         state.steps += (stop - behind) as u64 + 1;
-        zeros_at(self.bytes, behind, stop)?;
+        self.zeros_at(behind, stop, state)?;
         Ok(Turn {
             below: None,
             rest: None,
@@ -306,22 +295,20 @@ impl<'t, 'm> Decoder<'t, 'm> {
         entry: u32,
         size: usize,
         count: u32,
-        state: &mut State,
+        state: &mut State<'_, '_>,
     ) -> Result<Turn, DecodeFault>
         requires left { frame.left ≡ left.Elements entry size count }
-        requires frame { FrameFine self.now.table.now self.now.bytes.now frame }
-        requires state { StateFine (message_of self.now.bytes.now self.now.handles.now)
-            (at_of state.old) }
-        requires budget { state.old.steps + turn_work self.now.bytes.now state.old.next frame
-            < 2 ^ 40 }
-        ensures ok { IfOk result
-            (λ turn. Turns self.now.table.now (message_of self.now.bytes.now self.now.handles.now)
-            frame (at_of state.old) (at_of state.new) (state.new.steps - state.old.steps) turn) }
+        requires frame { FrameFine self.now.table.now (came self.now) frame }
+        requires holds { Holds self.now state.old }
+        requires state { StateFine (message self.now) (at_of state.old) }
+        requires budget { state.old.steps + turn_work (came self.now) state.old.next frame < 2 ^ 40 }
+        ensures holds { Holds self.now state.new }
+        ensures ok { IfOk result (λ turn. Turns self.now.table.now (message self.now) frame
+            (at_of state.old) (at_of state.new) (state.new.steps - state.old.steps) turn) }
         ensures rises { OnOk result (state.old.steps < state.new.steps) }
-        ensures cost { state.new.steps
-            ≤ state.old.steps + turn_work self.now.bytes.now state.old.next frame }
-        ensures fault_is_true { IfErr result
-            (BreaksFrame self.now.table.now (message_of self.now.bytes.now self.now.handles.now)
+        ensures cost { state.new.steps ≤ state.old.steps + turn_work (came self.now) state.old.next
+            frame }
+        ensures fault_is_true { IfErr result (BreaksFrame self.now.table.now (message self.now)
             frame (at_of state.old)) }
     {
         if count != 0 {
@@ -335,20 +322,22 @@ impl<'t, 'm> Decoder<'t, 'm> {
 
     /// Reads a frame in place, and what it holds, up to a frame that holds another: that one, where
     /// it stopped, is to be read next. The last object that a frame holds takes its place.
-    pub(crate) fn take_turn(&self, frame: Frame, state: &mut State) -> Result<Turn, DecodeFault>
-        requires frame { FrameFine self.now.table.now self.now.bytes.now frame }
-        requires state { StateFine (message_of self.now.bytes.now self.now.handles.now)
-            (at_of state.old) }
-        requires budget { state.old.steps + turn_work self.now.bytes.now state.old.next frame
-            < 2 ^ 40 }
-        ensures ok { IfOk result
-            (λ turn. Turns self.now.table.now (message_of self.now.bytes.now self.now.handles.now)
-            frame (at_of state.old) (at_of state.new) (state.new.steps - state.old.steps) turn) }
+    pub(crate) fn take_turn(
+        &self,
+        frame: Frame,
+        state: &mut State<'_, '_>,
+    ) -> Result<Turn, DecodeFault>
+        requires frame { FrameFine self.now.table.now (came self.now) frame }
+        requires holds { Holds self.now state.old }
+        requires state { StateFine (message self.now) (at_of state.old) }
+        requires budget { state.old.steps + turn_work (came self.now) state.old.next frame < 2 ^ 40 }
+        ensures holds { Holds self.now state.new }
+        ensures ok { IfOk result (λ turn. Turns self.now.table.now (message self.now) frame
+            (at_of state.old) (at_of state.new) (state.new.steps - state.old.steps) turn) }
         ensures rises { OnOk result (state.old.steps < state.new.steps) }
-        ensures cost { state.new.steps
-            ≤ state.old.steps + turn_work self.now.bytes.now state.old.next frame }
-        ensures fault_is_true { IfErr result
-            (BreaksFrame self.now.table.now (message_of self.now.bytes.now self.now.handles.now)
+        ensures cost { state.new.steps ≤ state.old.steps + turn_work (came self.now) state.old.next
+            frame }
+        ensures fault_is_true { IfErr result (BreaksFrame self.now.table.now (message self.now)
             frame (at_of state.old)) }
     {
         let mut rest = frame;

@@ -11,17 +11,17 @@ ghost use Rattle.fidl_table_format.specs.Terms.{declarations_of, is_optional};
 ghost use Rattle.fidl_decode_model.specs.Invariants.{is_free_at};
 ghost use Rattle.fidl_decode.specs.Body.{elements_of};
 ghost use Rattle.fidl_decode_model.specs.Steps.{Spends};
-ghost use Rattle.fidl_decode_model.specs.Faults.{message_of};
 ghost use Rattle.fidl_decode_model.specs.Breaks.{Breaks, BreaksCounted, count_at};
 ghost use Rattle.fidl_decode_model.specs.Machine.{StateFine, Visits, VisitFine, at_of, probes};
+ghost use Rattle.fidl_decode.specs.Reading.{came, message, Holds};
 
 use crate::decoder::Decoder;
 use crate::handles::is_optional;
 use fidl_decode_model::DecodeFault;
 use fidl_decode_model::frame::{Frame, Remaining, State};
-use fidl_wire::{MAX_DEPTH, Presence, u64_at};
+use fidl_wire::{MAX_DEPTH, Presence};
 
-impl<'t, 'm> Decoder<'t, 'm> {
+impl<'t, 'm, 's> Decoder<'t, 'm, 's> {
     /// Reads the count and the marker of a vector at a place, and links its elements, which are
     /// left to read.
     pub(crate) fn read_vector(
@@ -29,32 +29,31 @@ impl<'t, 'm> Decoder<'t, 'm> {
         entry: u32,
         place: usize,
         depth: u8,
-        state: &mut State,
+        state: &mut State<'_, '_>,
     ) -> Result<Option<Frame>, DecodeFault>
         requires entry { entry < (header_of self.now.table.now).entries }
         requires kind { kind_of (entry_at self.now.table.now entry).kind ≡ Some kinds.Vector }
-        requires room { place + 16 ≤ length self.now.bytes.now }
-        requires state { StateFine (message_of self.now.bytes.now self.now.handles.now)
-            (at_of state.old) }
+        requires room { place + 16 ≤ length (came self.now) }
+        requires holds { Holds self.now state.old }
+        requires state { StateFine (message self.now) (at_of state.old) }
         requires depth { depth ≤ MAX_DEPTH }
-        ensures ok { IfOk result (λ found. Visits self.now.table.now
-            (message_of self.now.bytes.now self.now.handles.now) depth entry place
-            (at_of state.old) (at_of state.new) (state.new.steps - state.old.steps) found) }
-        ensures fine { (in_envelope : ℕ) → in_envelope ≤ 1
-            → IfOk result (VisitFine self.now.table.now
-            (message_of self.now.bytes.now self.now.handles.now) depth in_envelope entry) }
+        ensures holds { Holds self.now state.new }
+        ensures ok { IfOk result (λ found. Visits self.now.table.now (message self.now) depth entry
+            place (at_of state.old) (at_of state.new) (state.new.steps - state.old.steps) found) }
+        ensures fine { (in_envelope : ℕ) → in_envelope ≤ 1 → IfOk result (VisitFine
+            self.now.table.now (message self.now) depth in_envelope entry) }
         ensures fault_is_true { let t = self.now.table.now in
             let d = entry_at t entry in
-            let size = (entry_at t d.first).size * count_at self.now.bytes.now place in
-            IfErr result (BreaksCounted (message_of self.now.bytes.now self.now.handles.now) depth
+            let size = (entry_at t d.first).size * count_at (came self.now) place in
+            IfErr result (BreaksCounted (message self.now) depth
             (is_optional d) d.bound size place state.old.next) }
         ensures frame { IfOk result (λ found. IfSome found (λ f. f ≡ elements_of self.now.table.now
-            entry state.old.next (count_at self.now.bytes.now place) (depth + 1))) }
+            entry state.old.next (count_at (came self.now) place) (depth + 1))) }
         ensures steps { state.new.steps ≡ state.old.steps }
     {
         let e = self.table.entry(entry);
-        let count = u64_at(self.bytes, place);
-        match self.presence(place + 8) {
+        let count = self.u64_at(place, state);
+        match self.presence(place + 8, state) {
             Presence::Neither => return Err(DecodeFault::BadMarker { at: place + 8 }),
             Presence::Absent => {
                 if count != 0 {
@@ -69,7 +68,7 @@ impl<'t, 'm> Decoder<'t, 'm> {
         }
         let element = self.table.entry(e.first);
         let from = state.next;
-        let rest = self.bytes.len() - from;
+        let rest = self.size - from;
         // An element has a byte at least, so that the product of a count that is no greater is
         // small.
         if count > rest as u64 {
@@ -114,26 +113,25 @@ impl<'t, 'm> Decoder<'t, 'm> {
         entry: u32,
         place: usize,
         depth: u8,
-        state: &mut State,
+        state: &mut State<'_, '_>,
     ) -> Result<(), DecodeFault>
         requires entry { entry < (header_of self.now.table.now).entries }
         requires kind { kind_of (entry_at self.now.table.now entry).kind ≡ Some kinds.Vector }
         requires free { let d = entry_at self.now.table.now entry in
             is_free_at self.now.table.now d.first ≡ true }
-        requires room { place + 16 ≤ length self.now.bytes.now }
-        requires state { StateFine (message_of self.now.bytes.now self.now.handles.now)
-            (at_of state.old) }
+        requires room { place + 16 ≤ length (came self.now) }
+        requires holds { Holds self.now state.old }
+        requires state { StateFine (message self.now) (at_of state.old) }
         requires depth { depth ≤ MAX_DEPTH }
         requires budget { state.old.steps < 2 ^ 41 }
-        ensures ok { OnOk result (Visits self.now.table.now
-            (message_of self.now.bytes.now self.now.handles.now) depth entry place
+        ensures holds { Holds self.now state.new }
+        ensures ok { OnOk result (Visits self.now.table.now (message self.now) depth entry place
             (at_of state.old) (at_of state.new) (state.new.steps - state.old.steps) None) }
         ensures fault_is_true { IfErr result (Breaks (declarations_of self.now.table.now)
-            (message_of self.now.bytes.now self.now.handles.now) depth
-            (resolve (declarations_of self.now.table.now).terms (ty.named entry)) place
-            (at_of state.old)) }
-        ensures spends { Spends state.old.steps state.new.steps 0
-            (probes + (length self.now.bytes.now - state.old.next)) }
+            (message self.now) depth (resolve (declarations_of self.now.table.now).terms
+            (ty.named entry)) place (at_of state.old)) }
+        ensures spends { Spends state.old.steps state.new.steps 0 (probes + (length (came self.now)
+            - state.old.next)) }
     {
         let Some(frame) = self.read_vector(entry, place, depth, state)? else {
             return Ok(());

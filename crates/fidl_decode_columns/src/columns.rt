@@ -40,7 +40,7 @@ impl<'t, 'm> Columns<'t, 'm> {
         entry: u32,
         size: usize,
         count: u32,
-        state: &mut State,
+        state: &mut State<'_, '_>,
     ) -> Result<bool, DecodeFault>
         requires left { frame.left ≡ left.Elements entry size count }
         requires some { 0 < count }
@@ -51,6 +51,7 @@ impl<'t, 'm> Columns<'t, 'm> {
             (at_of state.old) }
         requires budget { state.old.steps + turn_work self.now.bytes.now state.old.next frame
             < 2 ^ 40 }
+        ensures came { state.new.links.came ≡ state.old.links.came }
         ensures ok { IfOk result (λ all. IsTrue all
             → Turns self.now.table.now (message_of self.now.bytes.now self.now.handles.now) frame
             (at_of state.old) (at_of state.new) (state.new.steps - state.old.steps)

@@ -51,7 +51,7 @@ abbrev ones : List ℕ
 ones = replicate 4 255 ++ zeros 4
 
 abbrev second : Linked
-second = record { objects = []; records = 1 ∷ [] }
+second = record { objects = []; records = 2 ∷ [] }
 
 same_record : Some two ≡ Some one → ⊥
 same_record e = let i : two ≡ one = cc in let n : 2 ≡ 1 = ap (λ (x : HandleInfo). x.id) i in omega (arith, n)
@@ -93,7 +93,7 @@ abbrev ninth : List ℕ
 ninth = 9 ∷ zeros 7 ++ 1 ∷ 2 ∷ 3 ∷ 4 ∷ 1 ∷ 0 ∷ 1 ∷ 0 ∷ []
 
 abbrev from_second : Linked
-from_second = record { objects = []; records = 0 ∷ 0 ∷ 0 ∷ 1 ∷ [] }
+from_second = record { objects = []; records = 0 ∷ 0 ∷ 0 ∷ 2 ∷ [] }
 
 pub own_handle : Placed no_declarations (message_of ninth (one ∷ two ∷ [])) from_second others 0 (union 9 (unknown true (1 ∷ 2 ∷ 3 ∷ 4 ∷ []) (two ∷ [])))
 own_handle = (

@@ -11,6 +11,7 @@
 --   Fine           that it gives this in one way alone
 --   Rows, Machine  what frames and turns read, and what they cost
 --   Worth          what is read, where its values are of at most so much work
+--   Frontier       where links can stand while a message is read
 --   Steps          how many steps a call counts
 pub mod State
 pub mod Envelopes
@@ -24,5 +25,6 @@ pub mod Invariants
 pub mod Fine
 pub mod Rows
 pub mod Worth
+pub mod Frontier
 pub mod Machine
 pub mod Steps

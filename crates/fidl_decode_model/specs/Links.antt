@@ -2,8 +2,18 @@
 use Rattle.std.specs.Prelude.{ℕ, List}
 
 -- for each eight bytes of a message where the object of the marker or envelope there begins, for
--- each four which record the handle there has; the second half of an envelope has the first record
--- of its member
+-- each four the record of the handle there, counted from 1; the second half of an envelope has the
+-- first record of its member; 0 is no link
 pub record Linked : Type 0 where
   pub objects : List ℕ
   pub records : List ℕ
+
+-- what a message is seen as with its links: the message as it came, and the cells of the links
+pub record Written : Type 0 where
+  pub came : List ℕ
+  pub objects : List ℕ
+  pub records : List ℕ
+
+-- its links
+abbrev pub noted : Written → Linked
+noted w = record { objects = w.objects; records = w.records }

@@ -1,6 +1,6 @@
 -- Values that stand in a message, and what lies below them where the links say (docs/decoding.md,
 -- "Links").
-use Rattle.std.specs.Prelude.{◌≡◌, ℕ, ◌+◌, ◌/◌, Bool, true, false, nat_le, List, Option, Some}
+use Rattle.std.specs.Prelude.{◌≡◌, ℕ, ◌+◌, ◌-◌, ◌/◌, Bool, true, false, nat_le, List, Option, Some}
 use Rattle.std.specs.Prelude.{slice_index, slice_get}
 use Rattle.std.specs.Int.{next_multiple_of}
 use Rattle.fidl_wire.specs.declared.handle.HandleInfo.{HandleInfo}
@@ -21,9 +21,9 @@ use Rattle.fidl_decode_model.specs.Faults.{message_of}
 abbrev pub object_at : Linked → (marker : ℕ) → ℕ
 object_at l marker = slice_index l.objects (marker / 8)
 
--- which record the handle at a place has
+-- which record the handle at a place has, counted from 0
 abbrev pub record_at : Linked → (place : ℕ) → ℕ
-record_at l place = slice_index l.records (place / 4)
+record_at l place = slice_index l.records (place / 4) - 1
 
 -- where the content of a value at a place stands: that of a vector or box is the object of its
 -- marker

@@ -24,8 +24,8 @@ pub record Message : Type 0 where
 
 -- how far a message is read: the place of the next object out of line, the next handle, and the
 -- links that are noted: for each eight bytes where the object of the marker or envelope there
--- begins, for each four which record the handle there has; the second half of an envelope has the
--- first record of its member
+-- begins, for each four the record of the handle there, counted from 1; the second half of an
+-- envelope has the first record of its member; 0 is no link
 pub record Position : Type 0 where
   pub next : ℕ
   pub handle : ℕ
@@ -40,7 +40,7 @@ taken place s =
       handle = s.handle + 1;
       objects = s.objects;
       records =
-          slice_set s.records (place / 4) s.handle;
+          slice_set s.records (place / 4) (suc s.handle);
     }
 
 -- this many handles are read
@@ -56,7 +56,7 @@ opened place s =
       handle = s.handle;
       objects = s.objects;
       records =
-          slice_set s.records ((place + 4) / 4) s.handle;
+          slice_set s.records ((place + 4) / 4) (suc s.handle);
     }
 
 -- the object of a marker or envelope is the next one, of this size, padded to a multiple of 8

@@ -72,13 +72,13 @@ pub struct Turn {
 
 /// How far a message is read.
 #[derive(Drop)]
-pub struct State {
+pub struct State<'m, 's> {
     /// The place of the next object out of line.
     pub next: usize,
     /// The next handle.
     pub handle: usize,
     /// The turns that were taken, the probes, and the bytes that were checked as text or padding.
     pub steps: u64,
-    /// Where the objects of the markers begin, and which records the handles have.
-    pub links: Links,
+    /// The message, and where the objects of its markers begin and which records its handles have.
+    pub links: Links<'m, 's>,
 }

@@ -1,4 +1,4 @@
-//! Whether steps are counted of a message, decoded or refused.
+//! Whether enough steps are counted of a message, decoded or refused.
 ghost use Rattle.std.specs.Prelude.{◌+◌, ◌*◌, ◌<◌, ◌≤◌, length};
 ghost use Rattle.fidl_limits.specs.declared.limits.TheConstants.{STEPS_PER_BYTE};
 ghost use Rattle.fidl_table_format.specs.Section.{header_of};
@@ -22,15 +22,16 @@ fn steps_of(
 {
     match attempt(table, entry, bytes, handles, scratch) {
         Ok(decoded) => decoded.steps(),
-        Err(refused) => refused.scratch.steps(),
+        Err(refused) => refused.room.steps(),
     }
 }
 
-/// Whether a message takes steps.
+/// Whether a message takes steps, and at least so many.
 pub(crate) fn counted(
     alloc: Global,
     table: &Table<'_>,
     case: &Case<'_>,
+    least: u64,
     scratch: &mut Scratch,
 ) -> Option<String> {
     let message = message_of(alloc, case.given)?;
@@ -39,6 +40,12 @@ pub(crate) fn counted(
     }
     let (bytes, handles) = (message.bytes.as_slice(), message.handles.as_slice());
     let steps = steps_of(table, message.entry, bytes, handles, scratch);
-    let told = if steps == 0 { "no steps" } else { "steps" };
+    let told = if steps == 0 {
+        "no steps"
+    } else if steps < least {
+        "too few steps"
+    } else {
+        "steps"
+    };
     format!(in alloc; "{}", told).ok()
 }

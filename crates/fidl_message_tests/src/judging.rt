@@ -27,8 +27,8 @@ pub(crate) enum Asked {
     Call,
     /// What `decode` answers to a message, and its views.
     Message,
-    /// Whether a message takes steps.
-    Steps,
+    /// Whether a message takes steps, and at least so many.
+    Steps(u64),
     /// How many fronts of a message are refused.
     Fronts,
     /// How many changes of a byte of a message are refused.
@@ -74,7 +74,7 @@ fn answer_by_table(
     match asked {
         Asked::Call => call(alloc, table, case.given),
         Asked::Message => decoded(alloc, table, case, scratch),
-        Asked::Steps => counted(alloc, table, case, scratch),
+        Asked::Steps(least) => counted(alloc, table, case, least, scratch),
         Asked::Fronts => fronts(alloc, table, case.given, scratch),
         Asked::Changes => changes(alloc, table, case.given, scratch),
         Asked::AnyBytes => any_bytes(alloc, table, case.given, scratch),

@@ -49,6 +49,8 @@ mod rules;
 #[cfg(test)]
 mod showing;
 #[cfg(test)]
+mod steps;
+#[cfg(test)]
 mod structs;
 #[cfg(test)]
 mod values;

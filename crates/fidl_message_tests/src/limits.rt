@@ -152,7 +152,7 @@ const SUITES: [Suite<'_>; 9] = [
     },
     // A message that is past a limit is not read.
     Suite {
-        asked: Asked::Steps,
+        asked: Asked::Steps(1),
         table: LONG,
         count: 5,
         cases: "

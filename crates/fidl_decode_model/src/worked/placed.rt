@@ -34,13 +34,13 @@ pub fn a_handle_is_that_of_its_record()
     ensures second { let t : Term = ty.struct (field (codes "h") (ty.handle false 0 0) no_fields) in
         let a : HandleInfo = record { id = 1; object_type = 3; rights = 0 } in
         let b : HandleInfo = record { id = 2; object_type = 3; rights = 0 } in
-        let l : Linked = record { objects = []; records = 1 ∷ [] } in
+        let l : Linked = record { objects = []; records = 2 ∷ [] } in
         let m = message_of (replicate 4 255 ++ zeros 4) (a ∷ b ∷ []) in
         Placed no_declarations m l t 0 (fields (value (handle b) none)) }
     ensures first { let t : Term = ty.struct (field (codes "h") (ty.handle false 0 0) no_fields) in
         let a : HandleInfo = record { id = 1; object_type = 3; rights = 0 } in
         let b : HandleInfo = record { id = 2; object_type = 3; rights = 0 } in
-        let l : Linked = record { objects = []; records = 1 ∷ [] } in
+        let l : Linked = record { objects = []; records = 2 ∷ [] } in
         let m = message_of (replicate 4 255 ++ zeros 4) (a ∷ b ∷ []) in
         ¬ (Placed no_declarations m l t 0 (fields (value (handle a) none))) }
 {}
@@ -66,14 +66,14 @@ pub fn an_unknown_member_has_its_own_handle()
     ensures second { let t : Term = ty.union false false no_rows in
         let a : HandleInfo = record { id = 1; object_type = 3; rights = 0 } in
         let b : HandleInfo = record { id = 2; object_type = 3; rights = 0 } in
-        let l : Linked = record { objects = []; records = 0 ∷ 0 ∷ 0 ∷ 1 ∷ [] } in
+        let l : Linked = record { objects = []; records = 0 ∷ 0 ∷ 0 ∷ 2 ∷ [] } in
         let bytes = 9 ∷ zeros 7 ++ 1 ∷ 2 ∷ 3 ∷ 4 ∷ 1 ∷ 0 ∷ 1 ∷ 0 ∷ [] in
         let v : Value = union 9 (unknown true (1 ∷ 2 ∷ 3 ∷ 4 ∷ []) (b ∷ [])) in
         Placed no_declarations (message_of bytes (a ∷ b ∷ [])) l t 0 v }
     ensures first { let t : Term = ty.union false false no_rows in
         let a : HandleInfo = record { id = 1; object_type = 3; rights = 0 } in
         let b : HandleInfo = record { id = 2; object_type = 3; rights = 0 } in
-        let l : Linked = record { objects = []; records = 0 ∷ 0 ∷ 0 ∷ 1 ∷ [] } in
+        let l : Linked = record { objects = []; records = 0 ∷ 0 ∷ 0 ∷ 2 ∷ [] } in
         let bytes = 9 ∷ zeros 7 ++ 1 ∷ 2 ∷ 3 ∷ 4 ∷ 1 ∷ 0 ∷ 1 ∷ 0 ∷ [] in
         let v : Value = union 9 (unknown true (1 ∷ 2 ∷ 3 ∷ 4 ∷ []) (a ∷ [])) in
         ¬ (Placed no_declarations (message_of bytes (a ∷ b ∷ [])) l t 0 v) }

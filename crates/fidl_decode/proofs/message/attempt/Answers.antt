@@ -1,4 +1,9 @@
-use Rattle.std.proofs.Common.{ap, arith}
+use Rattle.std.proofs.Common.{◌≡◌, ℕ, List, ◌+◌, ◌*◌, ◌≤◌, length, sym, ap, subst, ◌∙◌, arith}
+use Rattle.fidl_limits.specs.declared.limits.TheConstants.{STEPS_PER_BYTE}
+use Rattle.fidl_wire.specs.Message.{Encodes}
+use Rattle.fidl_decode_model.specs.Links.{Written, noted}
+use Rattle.fidl_decode_model.specs.Faults.{IsTold}
+use Rattle.fidl_decode_model.specs.Placed.{StandsIn}
 use Rattle.fidl_wire.specs.Value.{Value}
 use Rattle.fidl_wire.specs.Term as ty
 use Rattle.fidl_wire.proofs.Unique.{one_value}
@@ -12,20 +17,24 @@ use Rattle.fidl_decode.proofs.message.attempt.Goals as goal
 pub invariant_of-decoder-clause-fine : goal.invariant_of-decoder-clause-fine
 invariant_of-decoder-clause-fine c = fine_of c.args.table.now c.entries-accepted.ensures.well_formed
 
-pub returns-in-Err-clause-err : goal.returns-in-Err-clause-err
-returns-in-Err-clause-err c =
-    let t = c.args.table.now in
-    let well = c.entries-accepted.ensures.well_formed in
-    λ y. told_excluded t (fine_of t well) (sound t well) c.args.entry c.requires c.args.bytes.now c.args.handles.now y c.in-Err.fault c.in-Err.ensures.fault_is_true
-
 -- a message encodes one value, so the steps are no fewer than the work of each that it encodes
 pub invariant_of-result : goal.invariant_of-result
 invariant_of-result c =
     let t = c.args.table.now in
+    let ds = declarations_of t in
     let well = c.entries-accepted.ensures.well_formed in
-    let x = c.in-Ok.ensures.least in (
+    let x = c.in-Ok.ensures.least in
+    let kept : c.check-checked.new.state.links.came ≡ c.of.result.value.came = c.check-checked.ensures.holds in (
       c.requires,
-      c.in-Ok.ensures.steps,
-      c.in-Ok.ensures.ok,
-      λ v h. omega (arith, x.2, ap (λ (v : Value). Work v) (one_value (declarations_of t) (sound t well) (ty.named c.args.entry) tt v x.0 c.args.bytes.now c.args.handles.now h x.1)),
+      subst (λ (b : List ℕ). c.check-checked.new.state.steps ≤ STEPS_PER_BYTE * (length b + 1)) (sym kept) c.in-Ok.ensures.steps,
+      subst (λ (b : List ℕ). StandsIn ds (ty.named c.args.entry) b c.args.handles.now (noted c.check-checked.new.state.links)) (sym kept) c.in-Ok.ensures.ok,
+      λ v h. omega (arith, x.2, ap (λ (v : Value). Work v) (one_value ds (sound t well) (ty.named c.args.entry) tt v x.0 c.of.result.value.came c.args.handles.now (subst (λ (b : List ℕ). Encodes ds (ty.named c.args.entry) v b c.args.handles.now) kept h) x.1)),
     )
+
+pub returns-clause-err : goal.returns-clause-err
+returns-clause-err c =
+    let t = c.args.table.now in
+    let well = c.entries-accepted.ensures.well_formed in
+    let came : c.of.result.value.came ≡ c.args.bytes.now = ap (λ (w : Written). w.came) c.of.ensures ∙ c.new-links.ensures in
+    let told = subst (λ (b : List ℕ). IsTold (declarations_of t) (ty.named c.args.entry) b c.args.handles.now c.in-Err.fault) came c.in-Err.ensures.fault_is_true in
+    λ y. told_excluded t (fine_of t well) (sound t well) c.args.entry c.requires c.args.bytes.now c.args.handles.now y c.in-Err.fault told

@@ -1,3 +1,4 @@
+use Rattle.fidl_decode.proofs.Unchanged.{size_short, size_fits, size_room}
 use Rattle.fidl_decode.proofs.Fitting.{front, apart, inside, at_most, small, ended, few_32, deeper, some_8}
 use Rattle.std.specs.Prelude.{◌/◌, List, slice_set}
 use Rattle.std.proofs.Common.{subst, ◌≡◌, ◌+◌, ℕ, refl, sym, ap, ◌∙◌, arith, length}
@@ -30,16 +31,16 @@ content_frame-requires-2 c =
 pub returns-then-flags-ne1 : goal.returns-then-flags-ne1
 returns-then-flags-ne1 c =
     let t = c.args.self.now.table.now in
-    let m = message_of c.args.self.now.bytes.now c.args.self.now.handles.now in
+    let m = message_of c.args.self.now.bytes.value.came c.args.self.now.handles.now in
     let old = at_of c.args.state.now in
     let size = ap (λ (d : Entry). d.size) c.entry-content.ensures.value in
     let r = numbers_refuse t c.args.self.now.fine m (c.args.self.now.short, c.requires.state.few) c.args.depth c.args.entry c.args.envelope old c.requires.entry c.requires.room (λ i. omega (arith, c.args.self.now.octets i)) c.requires.state c.requires.depth (BadEnvelope c.args.envelope) (refl, not_inside t c.args.self.now.fine m (c.args.self.now.short, c.requires.state.few) c.args.depth c.args.entry c.args.envelope old c.requires.entry c.requires.room (λ i. omega (arith, c.args.self.now.octets i)) c.requires.state c.requires.depth (omega (arith, size, c.if-size-le4.true)) (λ f. c.if-flags-ne1.true (c.flags_at-flags.ensures ∙ f))) in
-    record { ok = tt; breaks = tt; least = tt; fine = tt; deeper = tt; left = tt; state = c.requires.state; fault_is_true = r.0; steps = refl; grows = omega arith; work = tt }
+    record { holds = c.requires.holds; ok = tt; breaks = tt; least = tt; fine = tt; deeper = tt; left = tt; state = c.requires.state; fault_is_true = r.0; steps = refl; grows = omega arith; work = tt }
 
 pub returns-then-size-le4 : goal.returns-then-size-le4
 returns-then-size-le4 c =
     let t = c.args.self.now.table.now in
-    let m = message_of c.args.self.now.bytes.now c.args.self.now.handles.now in
+    let m = message_of c.args.self.now.bytes.value.came c.args.self.now.handles.now in
     let old = at_of c.args.state.now in
     let size = ap (λ (d : Entry). d.size) c.entry-content.ensures.value in
     let led : opened c.args.envelope old ≡ record { next = old.next; handle = old.handle; objects = c.record.new.self.objects; records = c.record.new.self.records }
@@ -48,12 +49,12 @@ returns-then-size-le4 c =
     let y = subst (λ (f : Frame). Enters t m c.args.depth c.args.entry c.args.envelope old (record { next = old.next; handle = old.handle; objects = c.record.new.self.objects; records = c.record.new.self.records }) f) (sym c.content_frame.ensures) x in
     let until : Until = record { envelope = c.args.envelope; next = old.next; handle = old.handle + c.handle_count_at-handles.result } in
     let left : c.content_frame.result.left ≡ Content c.args.entry (entry_at t c.args.entry).size 1 until = ap (λ (f : Frame). f.left) c.content_frame.ensures ∙ ap (λ n. Content c.args.entry n 1 until) size in
-    record { ok = y.same; breaks = y.breaks; least = y.least; fine = y.fine; deeper = y.deeper; left = (until, left); state = y.state; fault_is_true = tt; steps = refl; grows = omega arith; work = y.work }
+    record { holds = c.record.ensures.came ∙ c.requires.holds; ok = y.same; breaks = y.breaks; least = y.least; fine = y.fine; deeper = y.deeper; left = (until, left); state = y.state; fault_is_true = tt; steps = refl; grows = omega arith; work = y.work }
 
 pub returns-then-flags-ne0 : goal.returns-then-flags-ne0
 returns-then-flags-ne0 c =
     let t = c.args.self.now.table.now in
-    let m = message_of c.args.self.now.bytes.now c.args.self.now.handles.now in
+    let m = message_of c.args.self.now.bytes.value.came c.args.self.now.handles.now in
     let old = at_of c.args.state.now in
     let size = ap (λ (d : Entry). d.size) c.entry-content.ensures.value in
     let r = numbers_refuse t c.args.self.now.fine m (c.args.self.now.short, c.requires.state.few) c.args.depth c.args.entry c.args.envelope old c.requires.entry c.requires.room (λ i. omega (arith, c.args.self.now.octets i)) c.requires.state c.requires.depth (BadEnvelope c.args.envelope) (
@@ -64,32 +65,32 @@ returns-then-flags-ne0 c =
         | then-flags-ne0-via-else-flags-ne0+else-counted-eq0+then-counted-ne0 w ↦ omega (arith, w.if-counted-ne0.true, c.byte_count_at-counted.ensures, u.1)
       ]),
     ) in
-    record { ok = tt; breaks = tt; least = tt; fine = tt; deeper = tt; left = tt; state = c.requires.state; fault_is_true = r.0; steps = refl; grows = omega arith; work = tt }
+    record { holds = c.requires.holds; ok = tt; breaks = tt; least = tt; fine = tt; deeper = tt; left = tt; state = c.requires.state; fault_is_true = r.0; steps = refl; grows = omega arith; work = tt }
 
 pub returns-then-depth-eq-MAX_DEPTH : goal.returns-then-depth-eq-MAX_DEPTH
 returns-then-depth-eq-MAX_DEPTH c =
     let t = c.args.self.now.table.now in
-    let m = message_of c.args.self.now.bytes.now c.args.self.now.handles.now in
+    let m = message_of c.args.self.now.bytes.value.came c.args.self.now.handles.now in
     let old = at_of c.args.state.now in
     let size = ap (λ (d : Entry). d.size) c.entry-content.ensures.value in
     let r = numbers_refuse t c.args.self.now.fine m (c.args.self.now.short, c.requires.state.few) c.args.depth c.args.entry c.args.envelope old c.requires.entry c.requires.room (λ i. omega (arith, c.args.self.now.octets i)) c.requires.state c.requires.depth (TooDeep c.args.envelope) (refl, sym c.flags_at-flags.ensures ∙ c.if-flags-ne0.false, omega (arith, c.if-depth-eq-MAX_DEPTH.true)) in
-    record { ok = tt; breaks = tt; least = tt; fine = tt; deeper = tt; left = tt; state = c.requires.state; fault_is_true = r.0; steps = refl; grows = omega arith; work = tt }
+    record { holds = c.requires.holds; ok = tt; breaks = tt; least = tt; fine = tt; deeper = tt; left = tt; state = c.requires.state; fault_is_true = r.0; steps = refl; grows = omega arith; work = tt }
 
 pub returns-then-whole-self : goal.returns-then-whole-self
 returns-then-whole-self c =
     let t = c.args.self.now.table.now in
-    let m = message_of c.args.self.now.bytes.now c.args.self.now.handles.now in
+    let m = message_of c.args.self.now.bytes.value.came c.args.self.now.handles.now in
     let old = at_of c.args.state.now in
     let size = ap (λ (d : Entry). d.size) c.entry-content.ensures.value in
     let up = cut_off t c.args.self.now.fine m (c.args.self.now.short, c.requires.state.few) c.args.depth c.args.entry c.args.envelope old c.requires.entry c.requires.room (λ i. omega (arith, c.args.self.now.octets i)) c.requires.state c.requires.depth in
     let whole : c.next_multiple_of-whole.result ≡ next_multiple_of (entry_at t c.args.entry).size 8 = c.next_multiple_of-whole.ensures.value ∙ ap (λ k. next_multiple_of k 8) size in
-    let r = numbers_refuse t c.args.self.now.fine m (c.args.self.now.short, c.requires.state.few) c.args.depth c.args.entry c.args.envelope old c.requires.entry c.requires.room (λ i. omega (arith, c.args.self.now.octets i)) c.requires.state c.requires.depth (Truncated old.next) (refl, sym c.flags_at-flags.ensures ∙ c.if-flags-ne0.false, omega (arith, c.if-whole-self.true, whole, up)) in
-    record { ok = tt; breaks = tt; least = tt; fine = tt; deeper = tt; left = tt; state = c.requires.state; fault_is_true = r.0; steps = refl; grows = omega arith; work = tt }
+    let r = numbers_refuse t c.args.self.now.fine m (c.args.self.now.short, c.requires.state.few) c.args.depth c.args.entry c.args.envelope old c.requires.entry c.requires.room (λ i. omega (arith, c.args.self.now.octets i)) c.requires.state c.requires.depth (Truncated old.next) (refl, sym c.flags_at-flags.ensures ∙ c.if-flags-ne0.false, omega (arith, (size_short c.args.self.now.sized _ _ c.if-whole-self.true), whole, up)) in
+    record { holds = c.requires.holds; ok = tt; breaks = tt; least = tt; fine = tt; deeper = tt; left = tt; state = c.requires.state; fault_is_true = r.0; steps = refl; grows = omega arith; work = tt }
 
 pub returns : goal.returns
 returns c =
     let t = c.args.self.now.table.now in
-    let m = message_of c.args.self.now.bytes.now c.args.self.now.handles.now in
+    let m = message_of c.args.self.now.bytes.value.came c.args.self.now.handles.now in
     let old = at_of c.args.state.now in
     let size = ap (λ (d : Entry). d.size) c.entry-content.ensures.value in
     let whole : c.next_multiple_of-whole.result ≡ next_multiple_of c.entry-content.result.size 8 = c.next_multiple_of-whole.ensures.value in
@@ -101,29 +102,29 @@ returns c =
     = λ i. record { next = old.next + wide i; handle = old.handle; objects = sym objects i; records = sym records i } in
     let x = enters_below_as t c.args.self.now.fine m (c.args.self.now.short, c.requires.state.few) c.args.depth c.args.entry c.args.envelope old c.requires.entry c.requires.room (λ i. omega (arith, c.args.self.now.octets i)) c.requires.state c.requires.depth c.entry-content.result c.byte_count_at-counted.result c.handle_count_at-handles.result c.next_multiple_of-whole.result new
     c.entry-content.ensures.value c.byte_count_at-counted.ensures c.handle_count_at-handles.ensures whole led c.if-size-le4.false (sym c.flags_at-flags.ensures ∙ c.if-flags-ne0.false)
-    (omega (arith, c.if-counted-eq0.false), omega (arith, c.if-counted-ne0.false)) (omega (arith, c.requires.depth, c.if-depth-eq-MAX_DEPTH.false)) (omega (arith, c.if-whole-self.false)) in
+    (omega (arith, c.if-counted-eq0.false), omega (arith, c.if-counted-ne0.false)) (omega (arith, c.requires.depth, c.if-depth-eq-MAX_DEPTH.false)) (omega (arith, (size_fits c.args.self.now.sized _ _ c.if-whole-self.false))) in
     let y = subst (λ (f : Frame). Enters t m c.args.depth c.args.entry c.args.envelope old new f) (sym c.content_frame-2.ensures) x in
     let until : Until = record { envelope = c.args.envelope; next = old.next + c.byte_count_at-counted.result; handle = old.handle + c.handle_count_at-handles.result } in
     let left : c.content_frame-2.result.left ≡ Content c.args.entry (entry_at t c.args.entry).size 1 until = ap (λ (f : Frame). f.left) c.content_frame-2.ensures ∙ ap (λ n. Content c.args.entry n 1 until) size in
-    record { ok = y.same; breaks = y.breaks; least = y.least; fine = y.fine; deeper = y.deeper; left = (until, left); state = y.state; fault_is_true = tt; steps = refl; grows = omega arith; work = y.work }
+    record { holds = c.link.ensures.came ∙ c.record-2.ensures.came ∙ c.requires.holds; ok = y.same; breaks = y.breaks; least = y.least; fine = y.fine; deeper = y.deeper; left = (until, left); state = y.state; fault_is_true = tt; steps = refl; grows = omega arith; work = y.work }
 
 pub entry-content-requires : goal.entry-content-requires
 entry-content-requires c = c.requires.entry
 
 pub overflow_add-envelope : goal.overflow_add-envelope
-overflow_add-envelope c = record { fits = small _ (length c.args.self.now.bytes.now) (front c.args.envelope 4 4 (length c.args.self.now.bytes.now) c.requires.room) c.args.self.now.short }
+overflow_add-envelope c = record { fits = small _ (length c.args.self.now.bytes.value.came) (front c.args.envelope 4 4 (length c.args.self.now.bytes.value.came) c.requires.room) c.args.self.now.short }
 
 pub overflow_add-envelope-2 : goal.overflow_add-envelope-2
-overflow_add-envelope-2 c = record { fits = small _ (length c.args.self.now.bytes.now) (front c.args.envelope 4 4 (length c.args.self.now.bytes.now) c.requires.room) c.args.self.now.short }
+overflow_add-envelope-2 c = record { fits = small _ (length c.args.self.now.bytes.value.came) (front c.args.envelope 4 4 (length c.args.self.now.bytes.value.came) c.requires.room) c.args.self.now.short }
 
 pub record-requires-clause-place : goal.record-requires-clause-place
-record-requires-clause-place c = inside (c.args.envelope + 4) 3 (length c.args.self.now.bytes.now) (apart c.args.envelope 4 4 (length c.args.self.now.bytes.now) c.requires.room) c.args.self.now.short
+record-requires-clause-place c = inside (c.args.envelope + 4) 3 (length c.args.self.now.bytes.value.came) (apart c.args.envelope 4 4 (length c.args.self.now.bytes.value.came) c.requires.room) c.args.self.now.short
 
 pub record-requires-clause-index : goal.record-requires-clause-index
 record-requires-clause-index c = few_32 c.args.state.now.handle _ c.requires.state.handle c.requires.state.few
 
 pub record-requires-2-clause-place : goal.record-requires-2-clause-place
-record-requires-2-clause-place c = inside (c.args.envelope + 4) 3 (length c.args.self.now.bytes.now) (apart c.args.envelope 4 4 (length c.args.self.now.bytes.now) c.requires.room) c.args.self.now.short
+record-requires-2-clause-place c = inside (c.args.envelope + 4) 3 (length c.args.self.now.bytes.value.came) (apart c.args.envelope 4 4 (length c.args.self.now.bytes.value.came) c.requires.room) c.args.self.now.short
 
 pub record-requires-2-clause-index : goal.record-requires-2-clause-index
 record-requires-2-clause-index c = few_32 c.args.state.now.handle _ c.requires.state.handle c.requires.state.few
@@ -132,16 +133,16 @@ pub next_multiple_of-whole-requires-clause-nonzero : goal.next_multiple_of-whole
 next_multiple_of-whole-requires-clause-nonzero c = some_8
 
 pub overflow_sub-self : goal.overflow_sub-self
-overflow_sub-self c = c.requires.state.next
+overflow_sub-self c = size_room c.args.self.now.sized _ c.requires.state.next
 
 pub link-requires-clause-marker : goal.link-requires-clause-marker
-link-requires-clause-marker c = inside c.args.envelope 7 (length c.args.self.now.bytes.now) c.requires.room c.args.self.now.short
+link-requires-clause-marker c = inside c.args.envelope 7 (length c.args.self.now.bytes.value.came) c.requires.room c.args.self.now.short
 
 pub link-requires-clause-object : goal.link-requires-clause-object
-link-requires-clause-object c = at_most c.args.state.now.next (length c.args.self.now.bytes.now) c.requires.state.next c.args.self.now.short
+link-requires-clause-object c = at_most c.args.state.now.next (length c.args.self.now.bytes.value.came) c.requires.state.next c.args.self.now.short
 
 pub overflow_add-state : goal.overflow_add-state
-overflow_add-state c = record { fits = small _ (length c.args.self.now.bytes.now) (ended c.args.state.now.next c.next_multiple_of-whole.result (length c.args.self.now.bytes.now) c.requires.state.next c.if-whole-self.false) c.args.self.now.short }
+overflow_add-state c = record { fits = small _ (length c.args.self.now.bytes.value.came) (ended c.args.state.now.next c.next_multiple_of-whole.result (length c.args.self.now.bytes.value.came) c.requires.state.next (size_fits c.args.self.now.sized _ _ c.if-whole-self.false)) c.args.self.now.short }
 
 pub overflow_add-depth : goal.overflow_add-depth
 overflow_add-depth c = record { fits = deeper c.args.depth c.requires.depth }

@@ -4,7 +4,7 @@ use Rattle.fidl_decode.proofs.decoder.Decoder.is_present.Goals as goal
 
 pub returns : goal.returns
 returns c =
-    let m = c.args.self.now.bytes.now in
+    let m = c.args.self.now.bytes.value.came in
     let to = ones_stand m c.args.place c.requires.room (λ i. omega (arith, c.args.self.now.octets i)) in
     let from = ones_read m c.args.place in
     ((λ h. to (sym c.u64_at.ensures ∙ (search (rules, h)))), (λ z. let e = from z in search (rules, e, c.u64_at.ensures)))

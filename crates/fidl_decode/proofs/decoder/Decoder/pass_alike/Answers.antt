@@ -48,6 +48,7 @@ pass_one-requires c =
     let is : kind_of (entry_at t e).kind ≡ Some c.in-Some.kind = ap kind_of (sym number) ∙ sym c.from_number.ensures ∙ c.in-Some.is in
     let found = body_found t c.args.body.now c.requires.body c.args.from c.requires.more c.row-row.result c.row-row.ensures.value c.if-row-from.false in
     record {
+      holds = c.requires.holds;
       body = c.requires.body;
       more = c.requires.more;
       found = ap (λ n. find (members_of t c.args.body.now.entry) n) (add-one c.args.from) ∙ found;
@@ -142,4 +143,4 @@ unreachable-requires c =
     c.in_default.not-Some fine.0 (c.from_number.ensures ∙ ap kind_of number ∙ fine.1.is)
 
 pub returns-then-row-from-clause-turns : goal.returns-then-row-from-clause-turns
-returns-then-row-from-clause-turns c = turns_stay c.args.self.now.table.now (message_of c.args.self.now.bytes.now c.args.self.now.handles.now) (rest_of c.args.body.now c.args.from) (at_of c.args.state.now) c.requires.frame c.requires.state _ (omega arith)
+returns-then-row-from-clause-turns c = turns_stay c.args.self.now.table.now (message_of c.args.self.now.bytes.value.came c.args.self.now.handles.now) (rest_of c.args.body.now c.args.from) (at_of c.args.state.now) c.requires.frame c.requires.state _ (omega arith)

@@ -14,7 +14,7 @@ pub returns-clause-passed : goal.returns-clause-passed
 returns-clause-passed c =
     λ so.
     let t = c.args.self.now.table.now in
-    let m = message_of c.args.self.now.bytes.now c.args.self.now.handles.now in
+    let m = message_of c.args.self.now.bytes.value.came c.args.self.now.handles.now in
     let old = at_of c.args.state.now in
     let wide : next_multiple_of (entry_at t c.args.entry).size 8 ≡ 8 = ap (λ k. next_multiple_of k 8) c.requires.size in
     let new : Position = record { next = old.next + 8; handle = old.handle; objects = c.link.new.self.objects; records = c.link.new.self.records } in
@@ -22,7 +22,7 @@ returns-clause-passed c =
     let records = c.link.ensures.records ∙ c.record.ensures.records in
     let led : linked c.args.envelope (entry_at t c.args.entry).size (opened c.args.envelope old) ≡ new
     = λ i. record { next = old.next + wide i; handle = old.handle; objects = sym objects i; records = sym records i } in
-    let bytes = c.args.self.now.bytes.now in
+    let bytes = c.args.self.now.bytes.value.came in
     let p = c.args.envelope in
     let small : (i : ℕ) → get_or bytes i 0 < 256 = λ i. omega (arith, c.args.self.now.octets i) in
     let eight : number_at w64 bytes p ≡ 8 = sym c.u64_at.ensures ∙ c.if-u64_at-ne8.false in

@@ -10,7 +10,8 @@ use Rattle.fidl_decode.proofs.decoder.Decoder.pass_front.Goals as goal
 
 pub loop-from-init : goal.loop-from-init
 loop-from-init c = record {
-  turns = turns_stay c.args.self.now.table.now (message_of c.args.self.now.bytes.now c.args.self.now.handles.now) (rest_of c.args.body.now 0) (at_of c.args.state.now) c.requires.frame c.requires.state _ (omega arith);
+  holds = c.requires.holds;
+  turns = turns_stay c.args.self.now.table.now (message_of c.args.self.now.bytes.value.came c.args.self.now.handles.now) (rest_of c.args.body.now 0) (at_of c.args.state.now) c.requires.frame c.requires.state _ (omega arith);
   few = omega arith;
   grows = omega arith;
   pays = omega arith;
@@ -19,7 +20,7 @@ loop-from-init c = record {
 pub loop-from-preserved : goal.loop-from-preserved
 loop-from-preserved c =
     let t = c.args.self.now.table.now in
-    let m = message_of c.args.self.now.bytes.now c.args.self.now.handles.now in
+    let m = message_of c.args.self.now.bytes.value.came c.args.self.now.handles.now in
     let body = c.args.body.now in
     let i = c.loop-from.invariant in
     let begun = i.grows in
@@ -27,6 +28,7 @@ loop-from-preserved c =
     let grows = c.pass_some-read.ensures.grows in
     let order = c.pass_some-read.ensures.order in
     record {
+      holds = c.pass_some-read.ensures.holds;
       turns = turns_then t m (rest_of body 0) (at_of c.args.state.now) (at_of c.loop-from.state) (c.loop-from.state.steps + c.loop-from.from - c.args.state.now.steps) (rest_of body c.loop-from.from) i.turns (at_of new) (new.steps + (c.pass_some-read.result - c.loop-from.from) - c.loop-from.state.steps) (new.steps + c.pass_some-read.result - c.args.state.now.steps) (left_over (Some (rest_of body c.pass_some-read.result))) (omega (arith, begun, grows, order)) c.pass_some-read.ensures.turns;
       few = c.pass_some-read.ensures.few;
       grows = omega (arith, begun, grows);
@@ -36,7 +38,7 @@ loop-from-preserved c =
 pub returns-clause-turns : goal.returns-clause-turns
 returns-clause-turns c =
     let t = c.args.self.now.table.now in
-    let m = message_of c.args.self.now.bytes.now c.args.self.now.handles.now in
+    let m = message_of c.args.self.now.bytes.value.came c.args.self.now.handles.now in
     let body = c.args.body.now in
     let old = c.args.state.now in
     let l = c.loop-from.state in

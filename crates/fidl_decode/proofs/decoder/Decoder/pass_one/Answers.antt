@@ -15,7 +15,7 @@ use Rattle.fidl_decode.proofs.decoder.Decoder.pass_one.Goals as goal
 pub returns-then-pass_kind-clause-turns : goal.returns-then-pass_kind-clause-turns
 returns-then-pass_kind-clause-turns c =
     let t = c.args.self.now.table.now in
-    let m = message_of c.args.self.now.bytes.now c.args.self.now.handles.now in
+    let m = message_of c.args.self.now.bytes.value.came c.args.self.now.handles.now in
     let body = c.args.body.now in
     let old = c.args.state.now in
     let new = c.pass_kind.new.state in
@@ -57,7 +57,7 @@ pass_kind-requires-clause-budget c = budget_44 _ c.requires.budget
 pub returns-clause-turns : goal.returns-clause-turns
 returns-clause-turns c =
     let t = c.args.self.now.table.now in
-    let m = message_of c.args.self.now.bytes.now c.args.self.now.handles.now in
+    let m = message_of c.args.self.now.bytes.value.came c.args.self.now.handles.now in
     let f = rest_of c.args.body.now c.args.from in
     let kept : at_of c.pass_kind.new.state ≡ at_of c.args.state.now = c.pass_kind.ensures.kept c.if-pass_kind.false in
     let next : c.pass_kind.new.state.next ≡ c.args.state.now.next = ap (λ (s : Position). s.next) kept in

@@ -7,12 +7,12 @@ use Rattle.fidl_decode_columns.proofs.Leaves.{left_over, turns_start}
 use Rattle.fidl_decode.proofs.decoder.Decoder.pass_over.Goals as goal
 
 pub is_good-requires : goal.is_good-requires
-is_good-requires c = omega (arith, c.requires.frame.room, c.args.self.now.short)
+is_good-requires c = record { holds = c.requires.holds; short = omega (arith, c.requires.frame.room, c.args.self.now.short) }
 
 pub returns-then-not-is_good-clause-turns : goal.returns-then-not-is_good-clause-turns
 returns-then-not-is_good-clause-turns c =
     let t = c.args.self.now.table.now in
-    let m = message_of c.args.self.now.bytes.now c.args.self.now.handles.now in
+    let m = message_of c.args.self.now.bytes.value.came c.args.self.now.handles.now in
     let f = c.args.frame in
     let old = at_of c.args.state.now in
     let none : 0 ≡ c.args.state.now.steps - c.args.state.now.steps = omega arith in
@@ -26,7 +26,7 @@ overflow_add-state c =
 pub returns-clause-turns : goal.returns-clause-turns
 returns-clause-turns c =
     let t = c.args.self.now.table.now in
-    let m = message_of c.args.self.now.bytes.now c.args.self.now.handles.now in
+    let m = message_of c.args.self.now.bytes.value.came c.args.self.now.handles.now in
     let f = c.args.frame in
     let old = at_of c.args.state.now in
     let spent : c.args.plain.now.rows ≡ c.args.state.now.steps + c.from.result - c.args.state.now.steps = omega (arith, c.from.ensures) in

@@ -9,7 +9,8 @@ use Rattle.fidl_decode.proofs.decoder.Decoder.pass_run.Goals as goal
 
 pub loop-read-init : goal.loop-read-init
 loop-read-init c = record {
-  turns = turns_stay c.args.self.now.table.now (message_of c.args.self.now.bytes.now c.args.self.now.handles.now) (rest_of c.args.body.now c.args.from) (at_of c.args.state.now) c.requires.frame c.requires.state _ (omega arith);
+  holds = c.requires.holds;
+  turns = turns_stay c.args.self.now.table.now (message_of c.args.self.now.bytes.value.came c.args.self.now.handles.now) (rest_of c.args.body.now c.args.from) (at_of c.args.state.now) c.requires.frame c.requires.state _ (omega arith);
   order = omega arith;
   few = c.requires.more;
   grows = omega arith;
@@ -19,7 +20,7 @@ loop-read-init c = record {
 pub loop-read-preserved : goal.loop-read-preserved
 loop-read-preserved c =
     let t = c.args.self.now.table.now in
-    let m = message_of c.args.self.now.bytes.now c.args.self.now.handles.now in
+    let m = message_of c.args.self.now.bytes.value.came c.args.self.now.handles.now in
     let body = c.args.body.now in
     let i = c.loop-read.invariant in
     let new = c.pass_next.new.state in
@@ -30,6 +31,7 @@ loop-read-preserved c =
     let pays = c.pass_next.ensures.pays in
     let few = i.few in
     record {
+      holds = c.pass_next.ensures.holds;
       turns = turns_then t m (rest_of body c.args.from) (at_of c.args.state.now) (at_of c.loop-read.state) _ (rest_of body c.loop-read.read) one (at_of new) (new.steps + 1 - c.loop-read.state.steps) (new.steps + (c.loop-read.read + 1 - c.args.from) - c.args.state.now.steps) (left_over (Some (rest_of body (c.loop-read.read + 1)))) (omega (arith, order, begun, grows)) (c.pass_next.ensures.passed c.if-pass_next.true);
       order = omega (arith, order);
       few = omega (arith, few, c.loop-read-test.true);
@@ -40,7 +42,7 @@ loop-read-preserved c =
 pub returns-else-pass_next-clause-turns : goal.returns-else-pass_next-clause-turns
 returns-else-pass_next-clause-turns c =
     let t = c.args.self.now.table.now in
-    let m = message_of c.args.self.now.bytes.now c.args.self.now.handles.now in
+    let m = message_of c.args.self.now.bytes.value.came c.args.self.now.handles.now in
     let f = rest_of c.args.body.now c.args.from in
     let old = at_of c.args.state.now in
     let x = left_over (Some (rest_of c.args.body.now c.loop-read.read)) in

@@ -1,4 +1,4 @@
-use Rattle.std.proofs.Common.{◌+◌, ◌-◌, ◌≤◌}
+use Rattle.std.proofs.Common.{◌≡◌, ◌+◌, ◌-◌, ◌≤◌}
 use Rattle.std.specs.Prelude.{Some}
 use Rattle.fidl_decode_model.specs.Machine.{at_of, Turns}
 use Rattle.fidl_decode.specs.Body.{rest_of}
@@ -9,7 +9,8 @@ use Rattle.fidl_decode.proofs.decoder.Decoder.pass_run.Given as goal
 -- what is read so far is a turn, whose steps are those that are counted, and one for each envelope
 abbrev pub invariant-loop-read : goal.invariant-loop-read
 invariant-loop-read l = record {
-  turns : Turns l.self.table.now (message_of l.self.bytes.now l.self.handles.now) (rest_of l.body l.from) (at_of l.fn.state) (at_of l.state) (l.state.steps + (l.read - l.from) - l.fn.state.steps) (left_over (Some (rest_of l.body l.read)));
+  holds : l.state.links.came ≡ l.self.bytes.value.came;
+  turns : Turns l.self.table.now (message_of l.self.bytes.value.came l.self.handles.now) (rest_of l.body l.from) (at_of l.fn.state) (at_of l.state) (l.state.steps + (l.read - l.from) - l.fn.state.steps) (left_over (Some (rest_of l.body l.read)));
   order : l.from ≤ l.read;
   few : l.read ≤ l.body.known;
   grows : l.fn.state.steps ≤ l.state.steps;

@@ -11,7 +11,7 @@ use Rattle.fidl_decode.proofs.decoder.Decoder.pass_some.Goals as goal
 pub returns-then-is_absent-clause-turns : goal.returns-then-is_absent-clause-turns
 returns-then-is_absent-clause-turns c =
     let t = c.args.self.now.table.now in
-    let m = message_of c.args.self.now.bytes.now c.args.self.now.handles.now in
+    let m = message_of c.args.self.now.bytes.value.came c.args.self.now.handles.now in
     let body = c.args.body.now in
     let old = c.args.state.now in
     let mid = c.pass_alike-read.new.state in

@@ -1,5 +1,5 @@
 use Rattle.fidl_decode.proofs.Fitting.{front, apart, inside, at_most, small, ended, few_32, counted_on, some_8, size_in, le_more, pays_whole}
-use Rattle.fidl_decode.proofs.Unchanged.{no_true, same_le}
+use Rattle.fidl_decode.proofs.Unchanged.{no_true, same_le, size_fits, size_room}
 use Rattle.std.proofs.Common.{◌≡◌, ◌+◌, ◌-◌, ◌/◌, ◌<◌, ◌≤◌, ◌^◌, ℕ, List, get_or, slice_set, false, true, refl, sym, ap, subst, ◌∙◌, arith, length}
 use Rattle.std.specs.Prelude.{Option, Some, None, Result, Ok, Err, OnOk}
 use Rattle.std.specs.Option.{is_some}
@@ -43,7 +43,7 @@ plain_rows-plain-requires c =
 pub overflow_add-next : goal.overflow_add-next
 overflow_add-next c =
     let t = c.args.self.now.table.now in
-    let m = message_of c.args.self.now.bytes.now c.args.self.now.handles.now in
+    let m = message_of c.args.self.now.bytes.value.came c.args.self.now.handles.now in
     let old = at_of c.args.state.now in
     let d = entry_at t c.args.entry in
     let is : c.entry-e.result ≡ d = c.entry-e.ensures.value in
@@ -51,13 +51,13 @@ overflow_add-next c =
     let plain = c.plain_rows-plain.result in
     let passes = plainly t m c.entry-e.result d plain.rows plain.first plain.count plain.done plain.flag is c.if-plain-ne0.false (no_flag plain.flag (sym c.is_some.ensures ∙ c.if-is_some.false)) c.plain_rows-plain.ensures.passes in
     let within = rows_within t c.args.self.now.fine m (c.args.self.now.short, c.requires.state.few) c.args.depth c.args.entry c.args.envelope old c.requires.entry c.requires.room (λ i. omega (arith, c.args.self.now.octets i)) c.requires.state c.requires.depth c.requires.kind
-    (omega (arith, c.requires.depth, c.if-depth-eq-MAX_DEPTH.false)) (omega (arith, c.if-whole-self.false, whole)) plain.rows plain.first plain.done passes in
-    record { fits = omega (arith, within, c.if-whole-self.false, c.next_multiple_of-whole.ensures.lower_bound, ap (λ (d : Entry). d.size) is, c.args.self.now.short, c.requires.state.next) }
+    (omega (arith, c.requires.depth, c.if-depth-eq-MAX_DEPTH.false)) (omega (arith, (size_fits c.args.self.now.sized _ _ c.if-whole-self.false), whole)) plain.rows plain.first plain.done passes in
+    record { fits = omega (arith, within, (size_fits c.args.self.now.sized _ _ c.if-whole-self.false), c.next_multiple_of-whole.ensures.lower_bound, ap (λ (d : Entry). d.size) is, c.args.self.now.short, c.requires.state.next) }
 
 pub zeros_at-requires-clause-order : goal.zeros_at-requires-clause-order
 zeros_at-requires-clause-order c =
     let t = c.args.self.now.table.now in
-    let m = message_of c.args.self.now.bytes.now c.args.self.now.handles.now in
+    let m = message_of c.args.self.now.bytes.value.came c.args.self.now.handles.now in
     let old = at_of c.args.state.now in
     let d = entry_at t c.args.entry in
     let is : c.entry-e.result ≡ d = c.entry-e.ensures.value in
@@ -65,14 +65,14 @@ zeros_at-requires-clause-order c =
     let plain = c.plain_rows-plain.result in
     let passes = plainly t m c.entry-e.result d plain.rows plain.first plain.count plain.done plain.flag is c.if-plain-ne0.false (no_flag plain.flag (sym c.is_some.ensures ∙ c.if-is_some.false)) c.plain_rows-plain.ensures.passes in
     let within = rows_within t c.args.self.now.fine m (c.args.self.now.short, c.requires.state.few) c.args.depth c.args.entry c.args.envelope old c.requires.entry c.requires.room (λ i. omega (arith, c.args.self.now.octets i)) c.requires.state c.requires.depth c.requires.kind
-    (omega (arith, c.requires.depth, c.if-depth-eq-MAX_DEPTH.false)) (omega (arith, c.if-whole-self.false, whole)) plain.rows plain.first plain.done passes in
+    (omega (arith, c.requires.depth, c.if-depth-eq-MAX_DEPTH.false)) (omega (arith, (size_fits c.args.self.now.sized _ _ c.if-whole-self.false), whole)) plain.rows plain.first plain.done passes in
     omega (arith, within, c.next_multiple_of-whole.ensures.lower_bound, ap (λ (d : Entry). d.size) is)
 
 pub returns-clause-passed : goal.returns-clause-passed
 returns-clause-passed c =
     λ so.
     let t = c.args.self.now.table.now in
-    let m = message_of c.args.self.now.bytes.now c.args.self.now.handles.now in
+    let m = message_of c.args.self.now.bytes.value.came c.args.self.now.handles.now in
     let old = at_of c.args.state.now in
     let d = entry_at t c.args.entry in
     let is : c.entry-e.result ≡ d = c.entry-e.ensures.value in
@@ -80,11 +80,11 @@ returns-clause-passed c =
     let plain = c.plain_rows-plain.result in
     let passes = plainly t m c.entry-e.result d plain.rows plain.first plain.count plain.done plain.flag is c.if-plain-ne0.false (no_flag plain.flag (sym c.is_some.ensures ∙ c.if-is_some.false)) c.plain_rows-plain.ensures.passes in
     let within = rows_within t c.args.self.now.fine m (c.args.self.now.short, c.requires.state.few) c.args.depth c.args.entry c.args.envelope old c.requires.entry c.requires.room (λ i. omega (arith, c.args.self.now.octets i)) c.requires.state c.requires.depth c.requires.kind
-    (omega (arith, c.requires.depth, c.if-depth-eq-MAX_DEPTH.false)) (omega (arith, c.if-whole-self.false, whole)) plain.rows plain.first plain.done passes in
+    (omega (arith, c.requires.depth, c.if-depth-eq-MAX_DEPTH.false)) (omega (arith, (size_fits c.args.self.now.sized _ _ c.if-whole-self.false), whole)) plain.rows plain.first plain.done passes in
     let wide = c.plain_rows-plain.ensures.wide in
     let small = c.next_multiple_of-whole.result in
     let is_small = sym c.u64_at.ensures ∙ c.if-u64_at-whole.false in
-    let few : number_at w64 m.bytes c.args.envelope < 2 ^ 32 = omega (arith, is_small, c.if-whole-self.false, c.args.self.now.short) in
+    let few : number_at w64 m.bytes c.args.envelope < 2 ^ 32 = omega (arith, is_small, (size_fits c.args.self.now.sized _ _ c.if-whole-self.false), c.args.self.now.short) in
     let octets : (i : ℕ) → get_or m.bytes i 0 < 256 = λ i. omega (arith, c.args.self.now.octets i) in
     let z = not_err c.zeros_at.result (sym c.is_err.ensures.value ∙ c.if-is_err.false) c.zeros_at.ensures.ok in
     let z' = subst (λ n. Stands m.bytes (old.next + plain.done) (zeros (old.next + n - (old.next + plain.done)))) whole z in
@@ -94,7 +94,7 @@ returns-clause-passed c =
     let led : linked c.args.envelope d.size (opened c.args.envelope old) ≡ new
     = λ i. record { next = old.next + sym whole i; handle = old.handle; objects = sym objects i; records = sym records i } in
     struct_passed t c.args.self.now.fine m (c.args.self.now.short, c.requires.state.few) c.args.depth c.args.entry c.args.envelope old c.requires.entry c.requires.room (λ i. omega (arith, c.args.self.now.octets i)) c.requires.state c.requires.depth c.requires.kind
-    (omega (arith, c.requires.depth, c.if-depth-eq-MAX_DEPTH.false)) (omega (arith, c.if-whole-self.false, whole)) plain.rows plain.first plain.done passes
+    (omega (arith, c.requires.depth, c.if-depth-eq-MAX_DEPTH.false)) (omega (arith, (size_fits c.args.self.now.sized _ _ c.if-whole-self.false), whole)) plain.rows plain.first plain.done passes
     (omega (arith, c.if-size-le4.false, ap (λ (d : Entry). d.size) is)) (flags_none m.bytes c.args.envelope c.requires.room octets few) (counted_small m.bytes c.args.envelope c.requires.room octets few ∙ is_small ∙ whole) (handles_none m.bytes c.args.envelope c.requires.room octets few) z' new led _ (omega (arith, wide, within, c.next_multiple_of-whole.ensures.lower_bound, ap (λ (d : Entry). d.size) is))
 
 pub entry-e-requires : goal.entry-e-requires
@@ -161,37 +161,37 @@ pub next_multiple_of-whole-requires-clause-nonzero : goal.next_multiple_of-whole
 next_multiple_of-whole-requires-clause-nonzero c = some_8
 
 pub u64_at-requires : goal.u64_at-requires
-u64_at-requires c = c.requires.room
+u64_at-requires c = record { holds = c.requires.holds; room = c.requires.room }
 
 pub overflow_sub-self : goal.overflow_sub-self
-overflow_sub-self c = c.requires.state.next
+overflow_sub-self c = size_room c.args.self.now.sized _ c.requires.state.next
 
 pub overflow_add-next-2 : goal.overflow_add-next-2
-overflow_add-next-2 c = record { fits = small _ (length c.args.self.now.bytes.now) (ended c.args.state.now.next c.next_multiple_of-whole.result (length c.args.self.now.bytes.now) c.requires.state.next c.if-whole-self.false) c.args.self.now.short }
+overflow_add-next-2 c = record { fits = small _ (length c.args.self.now.bytes.value.came) (ended c.args.state.now.next c.next_multiple_of-whole.result (length c.args.self.now.bytes.value.came) c.requires.state.next (size_fits c.args.self.now.sized _ _ c.if-whole-self.false)) c.args.self.now.short }
 
 pub zeros_at-requires-clause-room : goal.zeros_at-requires-clause-room
-zeros_at-requires-clause-room c = (ended c.args.state.now.next c.next_multiple_of-whole.result (length c.args.self.now.bytes.now) c.requires.state.next c.if-whole-self.false)
+zeros_at-requires-clause-room c = (ended c.args.state.now.next c.next_multiple_of-whole.result (length c.args.self.now.bytes.value.came) c.requires.state.next (size_fits c.args.self.now.sized _ _ c.if-whole-self.false))
 
 pub overflow_add-state : goal.overflow_add-state
-overflow_add-state c = record { fits = counted_on c.args.state.now.steps c.next_multiple_of-whole.result (length c.args.self.now.bytes.now) c.requires.budget (size_in c.args.state.now.next c.next_multiple_of-whole.result (length c.args.self.now.bytes.now) (ended c.args.state.now.next c.next_multiple_of-whole.result (length c.args.self.now.bytes.now) c.requires.state.next c.if-whole-self.false)) c.args.self.now.short }
+overflow_add-state c = record { fits = counted_on c.args.state.now.steps c.next_multiple_of-whole.result (length c.args.self.now.bytes.value.came) c.requires.budget (size_in c.args.state.now.next c.next_multiple_of-whole.result (length c.args.self.now.bytes.value.came) (ended c.args.state.now.next c.next_multiple_of-whole.result (length c.args.self.now.bytes.value.came) c.requires.state.next (size_fits c.args.self.now.sized _ _ c.if-whole-self.false))) c.args.self.now.short }
 
 pub overflow_add-envelope : goal.overflow_add-envelope
-overflow_add-envelope c = record { fits = small _ (length c.args.self.now.bytes.now) (front c.args.envelope 4 4 (length c.args.self.now.bytes.now) c.requires.room) c.args.self.now.short }
+overflow_add-envelope c = record { fits = small _ (length c.args.self.now.bytes.value.came) (front c.args.envelope 4 4 (length c.args.self.now.bytes.value.came) c.requires.room) c.args.self.now.short }
 
 pub record-requires-clause-place : goal.record-requires-clause-place
-record-requires-clause-place c = inside (c.args.envelope + 4) 3 (length c.args.self.now.bytes.now) (apart c.args.envelope 4 4 (length c.args.self.now.bytes.now) c.requires.room) c.args.self.now.short
+record-requires-clause-place c = inside (c.args.envelope + 4) 3 (length c.args.self.now.bytes.value.came) (apart c.args.envelope 4 4 (length c.args.self.now.bytes.value.came) c.requires.room) c.args.self.now.short
 
 pub record-requires-clause-index : goal.record-requires-clause-index
 record-requires-clause-index c = few_32 c.args.state.now.handle _ c.requires.state.handle c.requires.state.few
 
 pub link-requires-clause-marker : goal.link-requires-clause-marker
-link-requires-clause-marker c = inside c.args.envelope 7 (length c.args.self.now.bytes.now) c.requires.room c.args.self.now.short
+link-requires-clause-marker c = inside c.args.envelope 7 (length c.args.self.now.bytes.value.came) c.requires.room c.args.self.now.short
 
 pub link-requires-clause-object : goal.link-requires-clause-object
-link-requires-clause-object c = at_most c.args.state.now.next (length c.args.self.now.bytes.now) c.requires.state.next c.args.self.now.short
+link-requires-clause-object c = at_most c.args.state.now.next (length c.args.self.now.bytes.value.came) c.requires.state.next c.args.self.now.short
 
 pub overflow_add-state-2 : goal.overflow_add-state-2
-overflow_add-state-2 c = record { fits = small _ (length c.args.self.now.bytes.now) (ended c.args.state.now.next c.next_multiple_of-whole.result (length c.args.self.now.bytes.now) c.requires.state.next c.if-whole-self.false) c.args.self.now.short }
+overflow_add-state-2 c = record { fits = small _ (length c.args.self.now.bytes.value.came) (ended c.args.state.now.next c.next_multiple_of-whole.result (length c.args.self.now.bytes.value.came) c.requires.state.next (size_fits c.args.self.now.sized _ _ c.if-whole-self.false)) c.args.self.now.short }
 
 pub returns-clause-grows : goal.returns-clause-grows
 returns-clause-grows c = le_more _ _

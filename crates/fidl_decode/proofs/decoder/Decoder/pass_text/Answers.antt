@@ -1,5 +1,5 @@
 use Rattle.fidl_decode.proofs.Fitting.{front, apart, inside, at_most, small, few_32, deeper_64, counted_on, some_8, rounded_left, counted_front, counted_whole, part_room, part_order, size_in, le_more, pays_text}
-use Rattle.fidl_decode.proofs.Unchanged.{no_true, no_false, same_le}
+use Rattle.fidl_decode.proofs.Unchanged.{no_true, no_false, same_le, size_fits, size_room}
 use Rattle.std.proofs.Common.{◌≡◌, ◌+◌, ◌-◌, ◌/◌, ◌<◌, ◌≤◌, ◌^◌, ℕ, List, length, get_or, slice_set, sym, ap, subst, ◌∙◌, arith, refl}
 use Rattle.std.specs.Int.{next_multiple_of, w64}
 use Rattle.fidl_wire.specs.Encoding.{zeros}
@@ -21,7 +21,7 @@ pub returns-clause-passed : goal.returns-clause-passed
 returns-clause-passed c =
     λ so.
     let t = c.args.self.now.table.now in
-    let bytes = c.args.self.now.bytes.now in
+    let bytes = c.args.self.now.bytes.value.came in
     let m = message_of bytes c.args.self.now.handles.now in
     let e = c.args.entry in
     let p = c.args.envelope in
@@ -35,7 +35,7 @@ returns-clause-passed c =
     let wide : next_multiple_of (entry_at t e).size 8 ≡ 16 = ap (λ k. next_multiple_of k 8) (sym sixteen) in
     let within : from ≤ length bytes = c.requires.state.next in
     let counted : c.u64_at-counted.result ≡ 16 + size = omega (arith, c.if-counted-size.false) in
-    let fits : from + 16 + size ≤ length bytes = omega (arith, c.if-counted-rest.false, counted, within) in
+    let fits : from + 16 + size ≤ length bytes = omega (arith, (size_fits c.args.self.now.sized _ _ c.if-counted-rest.false), counted, within) in
     let few : number_at w64 bytes p < 2 ^ 32 = omega (arith, c.u64_at-counted.ensures, counted, fits, c.args.self.now.short) in
     let bound : n ≤ (entry_at t e).bound = omega (arith, c.if-count-bound.false, ap (λ (d : Entry). d.bound) c.entry-bound.ensures.value) in
     let room : from + 16 + next_multiple_of n 8 ≤ length bytes = omega (arith, fits, value) in
@@ -112,76 +112,76 @@ pub returns-clause-kept : goal.returns-clause-kept
 returns-clause-kept c not = absurd (no_false not)
 
 pub u64_at-counted-requires : goal.u64_at-counted-requires
-u64_at-counted-requires c = c.requires.room
+u64_at-counted-requires c = record { holds = c.requires.holds; room = c.requires.room }
 
 pub overflow_sub-rest : goal.overflow_sub-rest
-overflow_sub-rest c = c.requires.state.next
+overflow_sub-rest c = size_room c.args.self.now.sized _ c.requires.state.next
 
 pub overflow_add-depth : goal.overflow_add-depth
 overflow_add-depth c = record { fits = deeper_64 c.args.depth c.requires.depth }
 
 pub u64_at-count-requires : goal.u64_at-count-requires
-u64_at-count-requires c = front c.args.state.now.next 8 8 (length c.args.self.now.bytes.now) (counted_front c.args.state.now.next c.u64_at-counted.result (length c.args.self.now.bytes.now) c.if-counted-lt16.false c.if-counted-rest.false)
+u64_at-count-requires c = record { holds = c.requires.holds; room = front c.args.state.now.next 8 8 (length c.args.self.now.bytes.value.came) (counted_front c.args.state.now.next c.u64_at-counted.result (length c.args.self.now.bytes.value.came) c.if-counted-lt16.false (size_fits c.args.self.now.sized _ _ c.if-counted-rest.false)) }
 
 pub overflow_add-next : goal.overflow_add-next
-overflow_add-next c = record { fits = small _ (length c.args.self.now.bytes.now) (front c.args.state.now.next 8 8 (length c.args.self.now.bytes.now) (counted_front c.args.state.now.next c.u64_at-counted.result (length c.args.self.now.bytes.now) c.if-counted-lt16.false c.if-counted-rest.false)) c.args.self.now.short }
+overflow_add-next c = record { fits = small _ (length c.args.self.now.bytes.value.came) (front c.args.state.now.next 8 8 (length c.args.self.now.bytes.value.came) (counted_front c.args.state.now.next c.u64_at-counted.result (length c.args.self.now.bytes.value.came) c.if-counted-lt16.false (size_fits c.args.self.now.sized _ _ c.if-counted-rest.false))) c.args.self.now.short }
 
 pub is_present-requires : goal.is_present-requires
-is_present-requires c = record { room = apart c.args.state.now.next 8 8 (length c.args.self.now.bytes.now) (counted_front c.args.state.now.next c.u64_at-counted.result (length c.args.self.now.bytes.now) c.if-counted-lt16.false c.if-counted-rest.false) }
+is_present-requires c = record { holds = c.requires.holds; room = apart c.args.state.now.next 8 8 (length c.args.self.now.bytes.value.came) (counted_front c.args.state.now.next c.u64_at-counted.result (length c.args.self.now.bytes.value.came) c.if-counted-lt16.false (size_fits c.args.self.now.sized _ _ c.if-counted-rest.false)) }
 
 pub next_multiple_of-size-requires-clause-nonzero : goal.next_multiple_of-size-requires-clause-nonzero
 next_multiple_of-size-requires-clause-nonzero c = some_8
 
 pub next_multiple_of-size-requires-clause-fits : goal.next_multiple_of-size-requires-clause-fits
-next_multiple_of-size-requires-clause-fits c = rounded_left c.u64_at-count.result c.args.state.now.next (length c.args.self.now.bytes.now) c.if-count-rest.false c.args.self.now.short
+next_multiple_of-size-requires-clause-fits c = rounded_left c.u64_at-count.result c.args.state.now.next (length c.args.self.now.bytes.value.came) (size_fits c.args.self.now.sized _ _ c.if-count-rest.false) c.args.self.now.short
 
 pub overflow_add-from : goal.overflow_add-from
-overflow_add-from c = record { fits = small _ (length c.args.self.now.bytes.now) (counted_front c.args.state.now.next c.u64_at-counted.result (length c.args.self.now.bytes.now) c.if-counted-lt16.false c.if-counted-rest.false) c.args.self.now.short }
+overflow_add-from c = record { fits = small _ (length c.args.self.now.bytes.value.came) (counted_front c.args.state.now.next c.u64_at-counted.result (length c.args.self.now.bytes.value.came) c.if-counted-lt16.false (size_fits c.args.self.now.sized _ _ c.if-counted-rest.false)) c.args.self.now.short }
 
 pub are_ascii-requires-clause-room : goal.are_ascii-requires-clause-room
-are_ascii-requires-clause-room c = (counted_whole c.args.state.now.next c.u64_at-counted.result c.next_multiple_of-size.result (length c.args.self.now.bytes.now) c.if-counted-rest.false c.if-counted-size.false)
+are_ascii-requires-clause-room c = (counted_whole c.args.state.now.next c.u64_at-counted.result c.next_multiple_of-size.result (length c.args.self.now.bytes.value.came) (size_fits c.args.self.now.sized _ _ c.if-counted-rest.false) c.if-counted-size.false)
 
 pub overflow_add-from-else-not-are_ascii : goal.overflow_add-from-else-not-are_ascii
-overflow_add-from-else-not-are_ascii c = record { fits = small _ (length c.args.self.now.bytes.now) (part_room (c.args.state.now.next + 16) c.u64_at-count.result c.next_multiple_of-size.result (length c.args.self.now.bytes.now) c.next_multiple_of-size.ensures.lower_bound (counted_whole c.args.state.now.next c.u64_at-counted.result c.next_multiple_of-size.result (length c.args.self.now.bytes.now) c.if-counted-rest.false c.if-counted-size.false)) c.args.self.now.short }
+overflow_add-from-else-not-are_ascii c = record { fits = small _ (length c.args.self.now.bytes.value.came) (part_room (c.args.state.now.next + 16) c.u64_at-count.result c.next_multiple_of-size.result (length c.args.self.now.bytes.value.came) c.next_multiple_of-size.ensures.lower_bound (counted_whole c.args.state.now.next c.u64_at-counted.result c.next_multiple_of-size.result (length c.args.self.now.bytes.value.came) (size_fits c.args.self.now.sized _ _ c.if-counted-rest.false) c.if-counted-size.false)) c.args.self.now.short }
 
 pub overflow_add-from-else-not-are_ascii-2 : goal.overflow_add-from-else-not-are_ascii-2
-overflow_add-from-else-not-are_ascii-2 c = record { fits = small _ (length c.args.self.now.bytes.now) (counted_whole c.args.state.now.next c.u64_at-counted.result c.next_multiple_of-size.result (length c.args.self.now.bytes.now) c.if-counted-rest.false c.if-counted-size.false) c.args.self.now.short }
+overflow_add-from-else-not-are_ascii-2 c = record { fits = small _ (length c.args.self.now.bytes.value.came) (counted_whole c.args.state.now.next c.u64_at-counted.result c.next_multiple_of-size.result (length c.args.self.now.bytes.value.came) (size_fits c.args.self.now.sized _ _ c.if-counted-rest.false) c.if-counted-size.false) c.args.self.now.short }
 
 pub are_zeros-requires-clause-order : goal.are_zeros-requires-clause-order
 are_zeros-requires-clause-order c = part_order (c.args.state.now.next + 16) c.u64_at-count.result c.next_multiple_of-size.result c.next_multiple_of-size.ensures.lower_bound
 
 pub are_zeros-requires-clause-room : goal.are_zeros-requires-clause-room
-are_zeros-requires-clause-room c = (counted_whole c.args.state.now.next c.u64_at-counted.result c.next_multiple_of-size.result (length c.args.self.now.bytes.now) c.if-counted-rest.false c.if-counted-size.false)
+are_zeros-requires-clause-room c = (counted_whole c.args.state.now.next c.u64_at-counted.result c.next_multiple_of-size.result (length c.args.self.now.bytes.value.came) (size_fits c.args.self.now.sized _ _ c.if-counted-rest.false) c.if-counted-size.false)
 
 pub overflow_add-state : goal.overflow_add-state
-overflow_add-state c = record { fits = counted_on c.args.state.now.steps c.next_multiple_of-size.result (length c.args.self.now.bytes.now) c.requires.budget (size_in (c.args.state.now.next + 16) c.next_multiple_of-size.result (length c.args.self.now.bytes.now) (counted_whole c.args.state.now.next c.u64_at-counted.result c.next_multiple_of-size.result (length c.args.self.now.bytes.now) c.if-counted-rest.false c.if-counted-size.false)) c.args.self.now.short }
+overflow_add-state c = record { fits = counted_on c.args.state.now.steps c.next_multiple_of-size.result (length c.args.self.now.bytes.value.came) c.requires.budget (size_in (c.args.state.now.next + 16) c.next_multiple_of-size.result (length c.args.self.now.bytes.value.came) (counted_whole c.args.state.now.next c.u64_at-counted.result c.next_multiple_of-size.result (length c.args.self.now.bytes.value.came) (size_fits c.args.self.now.sized _ _ c.if-counted-rest.false) c.if-counted-size.false)) c.args.self.now.short }
 
 pub overflow_add-envelope : goal.overflow_add-envelope
-overflow_add-envelope c = record { fits = small _ (length c.args.self.now.bytes.now) (front c.args.envelope 4 4 (length c.args.self.now.bytes.now) c.requires.room) c.args.self.now.short }
+overflow_add-envelope c = record { fits = small _ (length c.args.self.now.bytes.value.came) (front c.args.envelope 4 4 (length c.args.self.now.bytes.value.came) c.requires.room) c.args.self.now.short }
 
 pub record-requires-clause-place : goal.record-requires-clause-place
-record-requires-clause-place c = inside (c.args.envelope + 4) 3 (length c.args.self.now.bytes.now) (apart c.args.envelope 4 4 (length c.args.self.now.bytes.now) c.requires.room) c.args.self.now.short
+record-requires-clause-place c = inside (c.args.envelope + 4) 3 (length c.args.self.now.bytes.value.came) (apart c.args.envelope 4 4 (length c.args.self.now.bytes.value.came) c.requires.room) c.args.self.now.short
 
 pub record-requires-clause-index : goal.record-requires-clause-index
 record-requires-clause-index c = few_32 c.args.state.now.handle _ c.requires.state.handle c.requires.state.few
 
 pub link-requires-clause-marker : goal.link-requires-clause-marker
-link-requires-clause-marker c = inside c.args.envelope 7 (length c.args.self.now.bytes.now) c.requires.room c.args.self.now.short
+link-requires-clause-marker c = inside c.args.envelope 7 (length c.args.self.now.bytes.value.came) c.requires.room c.args.self.now.short
 
 pub link-requires-clause-object : goal.link-requires-clause-object
-link-requires-clause-object c = at_most c.args.state.now.next (length c.args.self.now.bytes.now) c.requires.state.next c.args.self.now.short
+link-requires-clause-object c = at_most c.args.state.now.next (length c.args.self.now.bytes.value.came) c.requires.state.next c.args.self.now.short
 
 pub overflow_add-next-2 : goal.overflow_add-next-2
-overflow_add-next-2 c = record { fits = small _ (length c.args.self.now.bytes.now) (front c.args.state.now.next 8 8 (length c.args.self.now.bytes.now) (counted_front c.args.state.now.next c.u64_at-counted.result (length c.args.self.now.bytes.now) c.if-counted-lt16.false c.if-counted-rest.false)) c.args.self.now.short }
+overflow_add-next-2 c = record { fits = small _ (length c.args.self.now.bytes.value.came) (front c.args.state.now.next 8 8 (length c.args.self.now.bytes.value.came) (counted_front c.args.state.now.next c.u64_at-counted.result (length c.args.self.now.bytes.value.came) c.if-counted-lt16.false (size_fits c.args.self.now.sized _ _ c.if-counted-rest.false))) c.args.self.now.short }
 
 pub link-requires-2-clause-marker : goal.link-requires-2-clause-marker
-link-requires-2-clause-marker c = inside (c.args.state.now.next + 8) 7 (length c.args.self.now.bytes.now) (apart c.args.state.now.next 8 8 (length c.args.self.now.bytes.now) (counted_front c.args.state.now.next c.u64_at-counted.result (length c.args.self.now.bytes.now) c.if-counted-lt16.false c.if-counted-rest.false)) c.args.self.now.short
+link-requires-2-clause-marker c = inside (c.args.state.now.next + 8) 7 (length c.args.self.now.bytes.value.came) (apart c.args.state.now.next 8 8 (length c.args.self.now.bytes.value.came) (counted_front c.args.state.now.next c.u64_at-counted.result (length c.args.self.now.bytes.value.came) c.if-counted-lt16.false (size_fits c.args.self.now.sized _ _ c.if-counted-rest.false))) c.args.self.now.short
 
 pub link-requires-2-clause-object : goal.link-requires-2-clause-object
-link-requires-2-clause-object c = at_most _ (length c.args.self.now.bytes.now) (counted_front c.args.state.now.next c.u64_at-counted.result (length c.args.self.now.bytes.now) c.if-counted-lt16.false c.if-counted-rest.false) c.args.self.now.short
+link-requires-2-clause-object c = at_most _ (length c.args.self.now.bytes.value.came) (counted_front c.args.state.now.next c.u64_at-counted.result (length c.args.self.now.bytes.value.came) c.if-counted-lt16.false (size_fits c.args.self.now.sized _ _ c.if-counted-rest.false)) c.args.self.now.short
 
 pub overflow_add-state-2 : goal.overflow_add-state-2
-overflow_add-state-2 c = record { fits = small _ (length c.args.self.now.bytes.now) (counted_whole c.args.state.now.next c.u64_at-counted.result c.next_multiple_of-size.result (length c.args.self.now.bytes.now) c.if-counted-rest.false c.if-counted-size.false) c.args.self.now.short }
+overflow_add-state-2 c = record { fits = small _ (length c.args.self.now.bytes.value.came) (counted_whole c.args.state.now.next c.u64_at-counted.result c.next_multiple_of-size.result (length c.args.self.now.bytes.value.came) (size_fits c.args.self.now.sized _ _ c.if-counted-rest.false) c.if-counted-size.false) c.args.self.now.short }
 
 pub returns-clause-grows : goal.returns-clause-grows
 returns-clause-grows c = le_more _ _

@@ -12,7 +12,7 @@ use Rattle.fidl_decode.proofs.decoder.Decoder.plain_below.Goals as goal
 pub returns-then-count-eq0 : goal.returns-then-count-eq0
 returns-then-count-eq0 c =
     let t = c.args.self.now.table.now in
-    let m = message_of c.args.self.now.bytes.now c.args.self.now.handles.now in
+    let m = message_of c.args.self.now.bytes.value.came c.args.self.now.handles.now in
     let r = c.plain_rows.result in
     let e = c.plain_rows.ensures in
     record { known = known_from t m c.args.first 0 r.rows r.first r.count r.done r.flag e.first e.count e.passes }
@@ -33,7 +33,7 @@ plain_rows-requires-in-Some-Box c =
 pub returns-in-Some-Box : goal.returns-in-Some-Box
 returns-in-Some-Box c =
     let t = c.args.self.now.table.now in
-    let m = message_of c.args.self.now.bytes.now c.args.self.now.handles.now in
+    let m = message_of c.args.self.now.bytes.value.came c.args.self.now.handles.now in
     let a = c.entry-content.result in
     let r = c.plain_rows-in-Some-Box.result in
     let e = c.plain_rows-in-Some-Box.ensures in
@@ -42,7 +42,7 @@ returns-in-Some-Box c =
 pub returns-in_default : goal.returns-in_default
 returns-in_default c =
     let t = c.args.self.now.table.now in
-    let m = message_of c.args.self.now.bytes.now c.args.self.now.handles.now in
+    let m = message_of c.args.self.now.bytes.value.came c.args.self.now.handles.now in
     let r = c.plain_rows-in_default.result in
     let e = c.plain_rows-in_default.ensures in
     record { known = known_from t m c.args.first 0 r.rows r.first r.count r.done r.flag e.first e.count e.passes }

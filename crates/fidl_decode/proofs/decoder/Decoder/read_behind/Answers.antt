@@ -23,7 +23,7 @@ read_struct-requires-clause-budget c =
 pub returns : goal.returns
 returns c =
     let t = c.args.self.now.table.now in
-    let m = message_of c.args.self.now.bytes.now c.args.self.now.handles.now in
+    let m = message_of c.args.self.now.bytes.value.came c.args.self.now.handles.now in
     let f = c.args.frame in
     let g = c.pass_over-rest.result in
     let old = at_of c.args.state.now in
@@ -36,6 +36,7 @@ returns c =
     let less = one.less in
     let grows = c.pass_over-rest.ensures.grows in
     record {
+      holds = c.read_struct.ensures.holds;
       ok = if_ok_on c.read_struct.result (λ o. Turns t m g mid new spent (left_over o)) (λ o. Turns t m f old new all (left_over o)) (λ o two more. turns_then t m f old mid first g one new spent all (left_over o) (omega (arith, grows, more)) two) c.read_struct.ensures.ok c.read_struct.ensures.grows;
       grows = on_ok_weaker c.read_struct.result (λ h. omega (arith, h, grows)) c.read_struct.ensures.grows;
       ended = IfOk-weaker c.read_struct.result _ (λ o. IfNone o (c.args.state.now.steps < c.read_struct.new.state.steps)) (λ o h. none_weaker o _ _ (λ lt. omega (arith, lt, grows)) h) c.read_struct.ensures.ended;

@@ -1,3 +1,4 @@
+use Rattle.fidl_decode.proofs.Unchanged.{size_short, size_fits, size_room}
 use Rattle.fidl_decode.proofs.Fitting.{inside, at_most, small, ended, deeper, some_8}
 use Rattle.std.proofs.Common.{◌≡◌, ℕ, ◌+◌, ◌-◌, ◌<◌, refl, Bool, true, false, sym, ap, subst, ◌∙◌, arith, length}
 use Rattle.std.specs.Prelude.{Some}
@@ -16,7 +17,7 @@ use Rattle.fidl_decode.proofs.decoder.Decoder.read_box.Goals as goal
 
 pub returns-then-is_absent-clause-ok : goal.returns-then-is_absent-clause-ok
 returns-then-is_absent-clause-ok c =
-    visits_absent_box c.args.self.now.table.now c.args.self.now.fine (message_of c.args.self.now.bytes.now c.args.self.now.handles.now) c.args.depth c.args.entry c.args.place (at_of c.args.state.now) c.requires.entry c.requires.kind c.requires.state c.requires.depth (c.args.state.now.steps - c.args.state.now.steps) (omega arith) (c.is_absent.ensures.0 c.if-is_absent.true)
+    visits_absent_box c.args.self.now.table.now c.args.self.now.fine (message_of c.args.self.now.bytes.value.came c.args.self.now.handles.now) c.args.depth c.args.entry c.args.place (at_of c.args.state.now) c.requires.entry c.requires.kind c.requires.state c.requires.depth (c.args.state.now.steps - c.args.state.now.steps) (omega arith) (c.is_absent.ensures.0 c.if-is_absent.true)
 
 pub entry-content-requires : goal.entry-content-requires
 entry-content-requires c =
@@ -28,12 +29,12 @@ returns-then-size-self-clause-fault_is_true c =
     let t = c.args.self.now.table.now in
     let content : c.entry-content.result ≡ entry_at t (entry_at t c.args.entry).first = c.entry-content.ensures.value ∙ ap (λ (d : Entry). entry_at t d.first) c.entry.ensures.value in
     let value : c.next_multiple_of-size.result ≡ next_multiple_of (entry_at t (entry_at t c.args.entry).first).size 8 = c.next_multiple_of-size.ensures.value ∙ ap (λ (d : Entry). next_multiple_of d.size 8) content in
-    (refl, (c.is_present.ensures.0 c.if-not-is_present.false), omega (arith, value, c.if-size-self.true))
+    (refl, (c.is_present.ensures.0 c.if-not-is_present.false), omega (arith, value, (size_short c.args.self.now.sized _ _ c.if-size-self.true)))
 
 pub returns-clause-ok : goal.returns-clause-ok
 returns-clause-ok c =
     let t = c.args.self.now.table.now in
-    let m = message_of c.args.self.now.bytes.now c.args.self.now.handles.now in
+    let m = message_of c.args.self.now.bytes.value.came c.args.self.now.handles.now in
     let old = at_of c.args.state.now in
     let inner = entry_at t (entry_at t c.args.entry).first in
     let content : c.entry-content.result ≡ inner = c.entry-content.ensures.value ∙ ap (λ (d : Entry). entry_at t d.first) c.entry.ensures.value in
@@ -41,7 +42,7 @@ returns-clause-ok c =
     let frame : ℕ → Entry → Frame = λ size d. record { left = Rows d.first d.count; base = old.next; done = 0; size = size; nest = d.nest; depth = c.args.depth + 1; in_envelope = 0 } in
     let same : linked c.args.place inner.size old ≡ record { next = old.next + c.next_multiple_of-size.result; handle = old.handle; objects = c.link.new.self.objects; records = c.link.new.self.records }
     = λ i. record { next = old.next + sym value i; handle = old.handle; objects = sym c.link.ensures.objects i; records = sym c.link.ensures.records i } in
-    let opened = visits_box t c.args.self.now.fine m c.args.depth c.args.entry c.args.place old c.requires.entry c.requires.kind c.requires.state c.requires.depth (c.args.state.now.steps - c.args.state.now.steps) (omega arith) (c.is_present.ensures.0 c.if-not-is_present.false) (omega (arith, c.requires.depth, c.if-depth-eq-MAX_DEPTH.false)) (omega (arith, value, c.if-size-self.false)) in
+    let opened = visits_box t c.args.self.now.fine m c.args.depth c.args.entry c.args.place old c.requires.entry c.requires.kind c.requires.state c.requires.depth (c.args.state.now.steps - c.args.state.now.steps) (omega arith) (c.is_present.ensures.0 c.if-not-is_present.false) (omega (arith, c.requires.depth, c.if-depth-eq-MAX_DEPTH.false)) (omega (arith, value, (size_fits c.args.self.now.sized _ _ c.if-size-self.false))) in
     subst (λ (d : Entry). Visits t m c.args.depth c.args.entry c.args.place old (at_of (record { next = old.next + c.next_multiple_of-size.result; handle = c.args.state.now.handle; steps = c.args.state.now.steps; links = c.link.new.self })) (c.args.state.now.steps - c.args.state.now.steps) (Some (frame c.next_multiple_of-size.result d))) (sym content)
     (subst (λ (n : ℕ). Visits t m c.args.depth c.args.entry c.args.place old (at_of (record { next = old.next + c.next_multiple_of-size.result; handle = c.args.state.now.handle; steps = c.args.state.now.steps; links = c.link.new.self })) (c.args.state.now.steps - c.args.state.now.steps) (Some (frame n inner))) (sym value)
     (subst (λ (s : Position). Visits t m c.args.depth c.args.entry c.args.place old s (c.args.state.now.steps - c.args.state.now.steps) (Some (frame (next_multiple_of inner.size 8) inner))) same opened))
@@ -49,13 +50,13 @@ returns-clause-ok c =
 pub returns-clause-fine : goal.returns-clause-fine
 returns-clause-fine c around few =
     let t = c.args.self.now.table.now in
-    let m = message_of c.args.self.now.bytes.now c.args.self.now.handles.now in
+    let m = message_of c.args.self.now.bytes.value.came c.args.self.now.handles.now in
     let old = at_of c.args.state.now in
     let inner = entry_at t (entry_at t c.args.entry).first in
     let content : c.entry-content.result ≡ inner = c.entry-content.ensures.value ∙ ap (λ (d : Entry). entry_at t d.first) c.entry.ensures.value in
     let value : c.next_multiple_of-size.result ≡ next_multiple_of inner.size 8 = c.next_multiple_of-size.ensures.value ∙ ap (λ (d : Entry). next_multiple_of d.size 8) content in
     let frame : ℕ → Entry → Frame = λ size d. record { left = Rows d.first d.count; base = old.next; done = 0; size = size; nest = d.nest; depth = c.args.depth + 1; in_envelope = 0 } in
-    let opened = box_fine t c.args.self.now.fine m c.args.depth c.args.entry c.args.place old c.requires.entry c.requires.kind c.requires.state c.requires.depth (omega (arith, c.requires.depth, c.if-depth-eq-MAX_DEPTH.false)) (omega (arith, value, c.if-size-self.false)) around few in
+    let opened = box_fine t c.args.self.now.fine m c.args.depth c.args.entry c.args.place old c.requires.entry c.requires.kind c.requires.state c.requires.depth (omega (arith, c.requires.depth, c.if-depth-eq-MAX_DEPTH.false)) (omega (arith, value, (size_fits c.args.self.now.sized _ _ c.if-size-self.false))) around few in
     subst (λ (d : Entry). VisitFine t m c.args.depth around c.args.entry (Some (frame c.next_multiple_of-size.result d))) (sym content)
     (subst (λ (n : ℕ). VisitFine t m c.args.depth around c.args.entry (Some (frame n inner))) (sym value) opened)
 
@@ -112,10 +113,10 @@ pub returns-clause-steps : goal.returns-clause-steps
 returns-clause-steps c = refl
 
 pub is_present-requires : goal.is_present-requires
-is_present-requires c = record { room = c.requires.room }
+is_present-requires c = record { holds = c.requires.holds; room = c.requires.room }
 
 pub is_absent-requires : goal.is_absent-requires
-is_absent-requires c = record { room = c.requires.room }
+is_absent-requires c = record { holds = c.requires.holds; room = c.requires.room }
 
 pub entry-requires : goal.entry-requires
 entry-requires c = c.requires.entry
@@ -124,16 +125,16 @@ pub next_multiple_of-size-requires-clause-nonzero : goal.next_multiple_of-size-r
 next_multiple_of-size-requires-clause-nonzero c = some_8
 
 pub overflow_sub-self : goal.overflow_sub-self
-overflow_sub-self c = c.requires.state.next
+overflow_sub-self c = size_room c.args.self.now.sized _ c.requires.state.next
 
 pub link-requires-clause-marker : goal.link-requires-clause-marker
-link-requires-clause-marker c = inside c.args.place 7 (length c.args.self.now.bytes.now) c.requires.room c.args.self.now.short
+link-requires-clause-marker c = inside c.args.place 7 (length c.args.self.now.bytes.value.came) c.requires.room c.args.self.now.short
 
 pub link-requires-clause-object : goal.link-requires-clause-object
-link-requires-clause-object c = at_most c.args.state.now.next (length c.args.self.now.bytes.now) c.requires.state.next c.args.self.now.short
+link-requires-clause-object c = at_most c.args.state.now.next (length c.args.self.now.bytes.value.came) c.requires.state.next c.args.self.now.short
 
 pub overflow_add-state : goal.overflow_add-state
-overflow_add-state c = record { fits = small _ (length c.args.self.now.bytes.now) (ended c.args.state.now.next c.next_multiple_of-size.result (length c.args.self.now.bytes.now) c.requires.state.next c.if-size-self.false) c.args.self.now.short }
+overflow_add-state c = record { fits = small _ (length c.args.self.now.bytes.value.came) (ended c.args.state.now.next c.next_multiple_of-size.result (length c.args.self.now.bytes.value.came) c.requires.state.next (size_fits c.args.self.now.sized _ _ c.if-size-self.false)) c.args.self.now.short }
 
 pub overflow_add-result : goal.overflow_add-result
 overflow_add-result c = record { fits = deeper c.args.depth c.requires.depth }

@@ -1,4 +1,4 @@
-use Rattle.std.proofs.Common.{◌-◌, ◌≤◌}
+use Rattle.std.proofs.Common.{◌≡◌, ◌-◌, ◌≤◌}
 use Rattle.std.specs.Prelude.{Some}
 use Rattle.fidl_decode_model.specs.declared.frame.Remaining.TheVariants.{Elements}
 use Rattle.fidl_decode_model.specs.Machine.{at_of, Turns}
@@ -9,6 +9,7 @@ use Rattle.fidl_decode.proofs.decoder.Decoder.read_each.Given as goal
 -- what is read so far is a turn that leaves the frame from this element on
 abbrev pub invariant-loop-i : goal.invariant-loop-i
 invariant-loop-i l = record {
-  turns : Turns l.self.table.now (message_of l.self.bytes.now l.self.handles.now) l.frame (at_of l.fn.state) (at_of l.state) (l.state.steps - l.fn.state.steps) (left_over (Some (going_on l.frame (Elements l.entry l.size (l.count - l.i)) l.done)));
+  holds : l.state.links.came ≡ l.self.bytes.value.came;
+  turns : Turns l.self.table.now (message_of l.self.bytes.value.came l.self.handles.now) l.frame (at_of l.fn.state) (at_of l.state) (l.state.steps - l.fn.state.steps) (left_over (Some (going_on l.frame (Elements l.entry l.size (l.count - l.i)) l.done)));
   steps : l.fn.state.steps ≤ l.state.steps;
 }

@@ -22,7 +22,7 @@ unreachable-requires c =
 pub read_whole-requires-clause-frame : goal.read_whole-requires-clause-frame
 read_whole-requires-clause-frame c =
     let t = c.args.self.now.table.now in
-    let m = message_of c.args.self.now.bytes.now c.args.self.now.handles.now in
+    let m = message_of c.args.self.now.bytes.value.came c.args.self.now.handles.now in
     let old = at_of c.args.state.now in
     let mid = at_of c.enter_member.new.state in
     let frame = c.in_ok-frame.frame in
@@ -35,7 +35,7 @@ read_whole-requires-clause-frame c =
 pub read_whole-requires-clause-left : goal.read_whole-requires-clause-left
 read_whole-requires-clause-left c =
     let t = c.args.self.now.table.now in
-    let m = message_of c.args.self.now.bytes.now c.args.self.now.handles.now in
+    let m = message_of c.args.self.now.bytes.value.came c.args.self.now.handles.now in
     let old = at_of c.args.state.now in
     let left = c.in_ok-frame.ensures.left in
     same_content c.in_ok-frame.frame.left _ c.in-Content.size _ c.args.entry _ 1 c.in-Content.until left.0 c.in-Content.is left.1
@@ -43,7 +43,7 @@ read_whole-requires-clause-left c =
 pub read_whole-requires-clause-budget : goal.read_whole-requires-clause-budget
 read_whole-requires-clause-budget c =
     let t = c.args.self.now.table.now in
-    let m = message_of c.args.self.now.bytes.now c.args.self.now.handles.now in
+    let m = message_of c.args.self.now.bytes.value.came c.args.self.now.handles.now in
     let old = at_of c.args.state.now in
     let mid = at_of c.enter_member.new.state in
     let frame = c.in_ok-frame.frame in
@@ -56,7 +56,7 @@ read_whole-requires-clause-budget c =
 pub returns-clause-ok : goal.returns-clause-ok
 returns-clause-ok c =
     let t = c.args.self.now.table.now in
-    let m = message_of c.args.self.now.bytes.now c.args.self.now.handles.now in
+    let m = message_of c.args.self.now.bytes.value.came c.args.self.now.handles.now in
     let old = at_of c.args.state.now in
     let mid = at_of c.enter_member.new.state in
     let frame = c.in_ok-frame.frame in
@@ -72,7 +72,7 @@ returns-clause-ok c =
 pub returns-clause-pays : goal.returns-clause-pays
 returns-clause-pays c =
     let t = c.args.self.now.table.now in
-    let m = message_of c.args.self.now.bytes.now c.args.self.now.handles.now in
+    let m = message_of c.args.self.now.bytes.value.came c.args.self.now.handles.now in
     let old = at_of c.args.state.now in
     let mid = at_of c.enter_member.new.state in
     let frame = c.in_ok-frame.frame in
@@ -88,7 +88,7 @@ returns-clause-pays c =
 pub returns-clause-fault_is_true : goal.returns-clause-fault_is_true
 returns-clause-fault_is_true c =
     let t = c.args.self.now.table.now in
-    let m = message_of c.args.self.now.bytes.now c.args.self.now.handles.now in
+    let m = message_of c.args.self.now.bytes.value.came c.args.self.now.handles.now in
     let old = at_of c.args.state.now in
     let mid = at_of c.enter_member.new.state in
     let frame = c.in_ok-frame.frame in
@@ -101,7 +101,7 @@ returns-clause-fault_is_true c =
 pub returns-clause-grows : goal.returns-clause-grows
 returns-clause-grows c =
     let t = c.args.self.now.table.now in
-    let m = message_of c.args.self.now.bytes.now c.args.self.now.handles.now in
+    let m = message_of c.args.self.now.bytes.value.came c.args.self.now.handles.now in
     let old = at_of c.args.state.now in
     let mid = at_of c.enter_member.new.state in
     let frame = c.in_ok-frame.frame in
@@ -114,7 +114,7 @@ returns-clause-grows c =
 pub returns-clause-cost : goal.returns-clause-cost
 returns-clause-cost c =
     let t = c.args.self.now.table.now in
-    let m = message_of c.args.self.now.bytes.now c.args.self.now.handles.now in
+    let m = message_of c.args.self.now.bytes.value.came c.args.self.now.handles.now in
     let old = at_of c.args.state.now in
     let mid = at_of c.enter_member.new.state in
     let frame = c.in_ok-frame.frame in

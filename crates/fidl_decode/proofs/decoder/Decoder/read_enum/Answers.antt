@@ -20,7 +20,7 @@ returns-then-not-has_value-clause-fault_is_true c =
     let own : c.entry-e.result ≡ d = c.entry-e.ensures.value in
     let strict : is_strict d ≡ true = (let r = sym c.is_strict.ensures in search (rules, r, own, c.if-not-is_strict.false)) in
     let is : strict_values t (header_of t) d ≡ Some (values_from t (header_of t) (underlying d) d.first d.count) = ap (λ (b : Bool). if b then Some (values_from t (header_of t) (underlying d) d.first d.count) else None) strict in
-    let bytes = c.args.self.now.bytes.now in
+    let bytes = c.args.self.now.bytes.value.came in
     let same : as_number c.underlying.result ≡ underlying d = c.underlying.ensures.number ∙ ap (λ (e : Entry). underlying e) own in
     let stands : value_number (underlying d) c.number_bits-number.result ≡ number_standing (underlying d) bytes c.args.place = subst (λ (u : Kind). value_number u c.number_bits-number.result ≡ number_standing u bytes c.args.place) same c.number_bits-number.ensures in
     subst (λ (o : Option (List ℤ)). BreaksField (message_of bytes c.args.self.now.handles.now) (ty.enum (underlying d) o) c.args.place (UnknownValue c.args.place)) (sym is)

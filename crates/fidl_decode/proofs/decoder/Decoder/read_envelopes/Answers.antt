@@ -13,17 +13,17 @@ use Rattle.fidl_decode.proofs.decoder.Decoder.read_envelopes.Goals as goal
 pub loop-many-init : goal.loop-many-init
 loop-many-init c =
     let t = c.args.self.now.table.now in
-    let m = message_of c.args.self.now.bytes.now c.args.self.now.handles.now in
+    let m = message_of c.args.self.now.bytes.value.came c.args.self.now.handles.now in
     let f = c.args.frame in
     let old = at_of c.args.state.now in
     let none : 0 ≡ c.args.state.now.steps - c.args.state.now.steps = omega arith in
     let start = behind_envelopes f c.args.entry c.args.read c.args.count f.done in
-    record { turns = subst (λ n. Turns t m f old old n (left_over (Some start))) none (turns_start t m f old c.requires.frame c.requires.state start (same_frame f (Envelopes c.args.entry c.args.read c.args.count) c.requires.left)); steps = omega arith }
+    record { holds = c.requires.holds; turns = subst (λ n. Turns t m f old old n (left_over (Some start))) none (turns_start t m f old c.requires.frame c.requires.state start (same_frame f (Envelopes c.args.entry c.args.read c.args.count) c.requires.left)); steps = omega arith }
 
 pub take_envelope-requires-clause-left : goal.take_envelope-requires-clause-left
 take_envelope-requires-clause-left c =
     let t = c.args.self.now.table.now in
-    let m = message_of c.args.self.now.bytes.now c.args.self.now.handles.now in
+    let m = message_of c.args.self.now.bytes.value.came c.args.self.now.handles.now in
     let f = c.args.frame in
     let old = at_of c.args.state.now in
     let now = at_of c.loop-many.state in
@@ -38,7 +38,7 @@ take_envelope-requires-clause-left c =
 pub take_envelope-requires-clause-frame : goal.take_envelope-requires-clause-frame
 take_envelope-requires-clause-frame c =
     let t = c.args.self.now.table.now in
-    let m = message_of c.args.self.now.bytes.now c.args.self.now.handles.now in
+    let m = message_of c.args.self.now.bytes.value.came c.args.self.now.handles.now in
     let f = c.args.frame in
     let old = at_of c.args.state.now in
     let now = at_of c.loop-many.state in
@@ -53,7 +53,7 @@ take_envelope-requires-clause-frame c =
 pub take_envelope-requires-clause-budget : goal.take_envelope-requires-clause-budget
 take_envelope-requires-clause-budget c =
     let t = c.args.self.now.table.now in
-    let m = message_of c.args.self.now.bytes.now c.args.self.now.handles.now in
+    let m = message_of c.args.self.now.bytes.value.came c.args.self.now.handles.now in
     let f = c.args.frame in
     let old = at_of c.args.state.now in
     let now = at_of c.loop-many.state in
@@ -68,7 +68,7 @@ take_envelope-requires-clause-budget c =
 pub returns-in_err-below-clause-cost : goal.returns-in_err-below-clause-cost
 returns-in_err-below-clause-cost c =
     let t = c.args.self.now.table.now in
-    let m = message_of c.args.self.now.bytes.now c.args.self.now.handles.now in
+    let m = message_of c.args.self.now.bytes.value.came c.args.self.now.handles.now in
     let f = c.args.frame in
     let old = at_of c.args.state.now in
     let now = at_of c.loop-many.state in
@@ -83,7 +83,7 @@ returns-in_err-below-clause-cost c =
 pub returns-in_err-below-clause-fault_is_true : goal.returns-in_err-below-clause-fault_is_true
 returns-in_err-below-clause-fault_is_true c =
     let t = c.args.self.now.table.now in
-    let m = message_of c.args.self.now.bytes.now c.args.self.now.handles.now in
+    let m = message_of c.args.self.now.bytes.value.came c.args.self.now.handles.now in
     let f = c.args.frame in
     let old = at_of c.args.state.now in
     let now = at_of c.loop-many.state in
@@ -98,7 +98,7 @@ returns-in_err-below-clause-fault_is_true c =
 pub returns-in-Some-clause-ok : goal.returns-in-Some-clause-ok
 returns-in-Some-clause-ok c =
     let t = c.args.self.now.table.now in
-    let m = message_of c.args.self.now.bytes.now c.args.self.now.handles.now in
+    let m = message_of c.args.self.now.bytes.value.came c.args.self.now.handles.now in
     let f = c.args.frame in
     let old = at_of c.args.state.now in
     let now = at_of c.loop-many.state in
@@ -118,7 +118,7 @@ returns-in-Some-clause-ok c =
 pub returns-in-Some-clause-cost : goal.returns-in-Some-clause-cost
 returns-in-Some-clause-cost c =
     let t = c.args.self.now.table.now in
-    let m = message_of c.args.self.now.bytes.now c.args.self.now.handles.now in
+    let m = message_of c.args.self.now.bytes.value.came c.args.self.now.handles.now in
     let f = c.args.frame in
     let old = at_of c.args.state.now in
     let now = at_of c.loop-many.state in
@@ -138,7 +138,7 @@ returns-in-Some-clause-cost c =
 pub loop-many-preserved : goal.loop-many-preserved
 loop-many-preserved c =
     let t = c.args.self.now.table.now in
-    let m = message_of c.args.self.now.bytes.now c.args.self.now.handles.now in
+    let m = message_of c.args.self.now.bytes.value.came c.args.self.now.handles.now in
     let f = c.args.frame in
     let old = at_of c.args.state.now in
     let now = at_of c.loop-many.state in
@@ -153,6 +153,7 @@ loop-many-preserved c =
     let one = subst (λ (x : Frame). Turns t m x now new spent (record { below = c.in_ok-below.below; rest = Some (behind_envelopes x c.args.entry (c.loop-many.passed + 1) (c.loop-many.many - 1) (x.done + 8)) })) c.envelopes_from-now.ensures c.in_ok-below.ensures.ok in
     let run = turns_then t m f old now a g c.loop-many.invariant.turns new spent all (record { below = c.in_ok-below.below; rest = Some (then) }) (omega (arith, begun, rises)) one in
     record {
+      holds = c.take_envelope.ensures.holds;
       turns = subst (λ (o : Option Frame). Turns t m f old new all (record { below = o; rest = Some (then) })) c.in_default.is run;
       steps = omega (arith, begun, rises);
     }
@@ -160,7 +161,7 @@ loop-many-preserved c =
 pub returns-clause-ok : goal.returns-clause-ok
 returns-clause-ok c =
     let t = c.args.self.now.table.now in
-    let m = message_of c.args.self.now.bytes.now c.args.self.now.handles.now in
+    let m = message_of c.args.self.now.bytes.value.came c.args.self.now.handles.now in
     let f = c.args.frame in
     let old = at_of c.args.state.now in
     let now = at_of c.loop-many.state in
@@ -175,7 +176,7 @@ returns-clause-ok c =
 pub returns-clause-cost : goal.returns-clause-cost
 returns-clause-cost c =
     let t = c.args.self.now.table.now in
-    let m = message_of c.args.self.now.bytes.now c.args.self.now.handles.now in
+    let m = message_of c.args.self.now.bytes.value.came c.args.self.now.handles.now in
     let f = c.args.frame in
     let old = at_of c.args.state.now in
     let now = at_of c.loop-many.state in

@@ -24,11 +24,12 @@ no_some a e = cc
 pub loop-many-init : goal.loop-many-init
 loop-many-init c =
     let t = c.args.self.now.table.now in
-    let m = message_of c.args.self.now.bytes.now c.args.self.now.handles.now in
+    let m = message_of c.args.self.now.bytes.value.came c.args.self.now.handles.now in
     let f = c.args.frame in
     let old = at_of c.args.state.now in
     let none : 0 ≡ c.args.state.now.steps - c.args.state.now.steps = omega arith in
     record {
+      holds = c.requires.holds;
       turns = subst (λ n. Turns t m f old old n (left_over (Some (going_on f (Rows c.args.first c.args.count) f.done)))) none (turns_start t m f old c.requires.frame c.requires.state (going_on f (Rows c.args.first c.args.count) f.done) (same_frame f (Rows c.args.first c.args.count)
           c.requires.left));
       leaves = c.requires.leaves;
@@ -44,7 +45,7 @@ unreachable-requires c =
 pub read_row-requires-clause-frame : goal.read_row-requires-clause-frame
 read_row-requires-clause-frame c =
     let t = c.args.self.now.table.now in
-    let m = message_of c.args.self.now.bytes.now c.args.self.now.handles.now in
+    let m = message_of c.args.self.now.bytes.value.came c.args.self.now.handles.now in
     let f = c.args.frame in
     let old = at_of c.args.state.now in
     let now = at_of c.loop-many.state in
@@ -58,7 +59,7 @@ read_row-requires-clause-frame c =
 pub read_row-requires-clause-leaf : goal.read_row-requires-clause-leaf
 read_row-requires-clause-leaf c =
     let t = c.args.self.now.table.now in
-    let m = message_of c.args.self.now.bytes.now c.args.self.now.handles.now in
+    let m = message_of c.args.self.now.bytes.value.came c.args.self.now.handles.now in
     let f = c.args.frame in
     let old = at_of c.args.state.now in
     let now = at_of c.loop-many.state in
@@ -75,7 +76,7 @@ read_row-requires-clause-leaf c =
 pub returns-in_err-read_row-clause-fault_is_true : goal.returns-in_err-read_row-clause-fault_is_true
 returns-in_err-read_row-clause-fault_is_true c =
     let t = c.args.self.now.table.now in
-    let m = message_of c.args.self.now.bytes.now c.args.self.now.handles.now in
+    let m = message_of c.args.self.now.bytes.value.came c.args.self.now.handles.now in
     let f = c.args.frame in
     let old = at_of c.args.state.now in
     let now = at_of c.loop-many.state in
@@ -89,7 +90,7 @@ returns-in_err-read_row-clause-fault_is_true c =
 pub loop-many-preserved : goal.loop-many-preserved
 loop-many-preserved c =
     let t = c.args.self.now.table.now in
-    let m = message_of c.args.self.now.bytes.now c.args.self.now.handles.now in
+    let m = message_of c.args.self.now.bytes.value.came c.args.self.now.handles.now in
     let f = c.args.frame in
     let old = at_of c.args.state.now in
     let now = at_of c.loop-many.state in
@@ -109,6 +110,7 @@ loop-many-preserved c =
     let rises = (one_more _ _ _ c.in_ok-read_row.ensures.spends) in
     let done = c.row-row.result.key + c.entry-e.result.size in
     record {
+      holds = c.read_row.ensures.holds;
       turns = turns_then t m f old now a g c.loop-many.invariant.turns new spent (c.read_row.new.state.steps - c.args.state.now.steps) (left_over (Some (going_on c.args.frame rows done))) (omega (arith, begun, rises)) two;
       leaves = λ i from below. c.loop-many.invariant.leaves i (omega (arith, from)) (omega (arith, below, c.loop-many-test.true));
       steps = omega (arith, begun, rises);
@@ -117,7 +119,7 @@ loop-many-preserved c =
 pub end_rows-requires-clause-frame : goal.end_rows-requires-clause-frame
 end_rows-requires-clause-frame c =
     let t = c.args.self.now.table.now in
-    let m = message_of c.args.self.now.bytes.now c.args.self.now.handles.now in
+    let m = message_of c.args.self.now.bytes.value.came c.args.self.now.handles.now in
     let f = c.args.frame in
     let old = at_of c.args.state.now in
     let now = at_of c.loop-many.state in
@@ -133,7 +135,7 @@ end_rows-requires-clause-frame c =
 pub returns-clause-ok : goal.returns-clause-ok
 returns-clause-ok c =
     let t = c.args.self.now.table.now in
-    let m = message_of c.args.self.now.bytes.now c.args.self.now.handles.now in
+    let m = message_of c.args.self.now.bytes.value.came c.args.self.now.handles.now in
     let f = c.args.frame in
     let old = at_of c.args.state.now in
     let now = at_of c.loop-many.state in
@@ -153,7 +155,7 @@ returns-clause-ok c =
 pub returns-clause-fault_is_true : goal.returns-clause-fault_is_true
 returns-clause-fault_is_true c =
     let t = c.args.self.now.table.now in
-    let m = message_of c.args.self.now.bytes.now c.args.self.now.handles.now in
+    let m = message_of c.args.self.now.bytes.value.came c.args.self.now.handles.now in
     let f = c.args.frame in
     let old = at_of c.args.state.now in
     let now = at_of c.loop-many.state in
@@ -197,12 +199,12 @@ pub read_row-requires-clause-state : goal.read_row-requires-clause-state
 read_row-requires-clause-state c = c.loop-many.invariant.turns.state
 
 pub read_row-requires-clause-budget : goal.read_row-requires-clause-budget
-read_row-requires-clause-budget c = subst (λ (x : Frame). c.loop-many.state.steps + turn_work c.args.self.now.bytes.now c.loop-many.state.next x < 2 ^ 40) (sym c.rows_from-rest.ensures) (budget_on _ _ _ c.args.state.now.steps c.loop-many.state.steps (2 ^ 40) c.loop-many.invariant.steps
+read_row-requires-clause-budget c = subst (λ (x : Frame). c.loop-many.state.steps + turn_work c.args.self.now.bytes.value.came c.loop-many.state.next x < 2 ^ 40) (sym c.rows_from-rest.ensures) (budget_on _ _ _ c.args.state.now.steps c.loop-many.state.steps (2 ^ 40) c.loop-many.invariant.steps
     c.loop-many.invariant.turns.less c.requires.budget)
 
 pub returns-in_err-read_row-clause-spends : goal.returns-in_err-read_row-clause-spends
 returns-in_err-read_row-clause-spends c = spends_some _ _ _ (rises_on _ _ _ c.loop-many.invariant.steps (one_more _ _ _ c.in_err-read_row.ensures.spends)) (cost_on _ _ _ c.args.state.now.steps c.loop-many.state.steps c.read_row.new.state.steps c.loop-many.invariant.steps
-    c.loop-many.invariant.turns.less (subst (λ (x : Frame). c.read_row.new.state.steps ≤ c.loop-many.state.steps + turn_work c.args.self.now.bytes.now c.loop-many.state.next x) c.rows_from-rest.ensures c.in_err-read_row.ensures.spends.most))
+    c.loop-many.invariant.turns.less (subst (λ (x : Frame). c.read_row.new.state.steps ≤ c.loop-many.state.steps + turn_work c.args.self.now.bytes.value.came c.loop-many.state.next x) c.rows_from-rest.ensures c.in_err-read_row.ensures.spends.most))
 
 pub overflow_sub-many : goal.overflow_sub-many
 overflow_sub-many c = some_left c.loop-many.many c.loop-many-test.true
@@ -218,8 +220,8 @@ end_rows-requires-clause-state c = c.loop-many.invariant.turns.state
 
 pub returns-clause-spends : goal.returns-clause-spends
 returns-clause-spends c = spends_some _ _ _ (rises_on _ _ _ c.loop-many.invariant.steps (one_more _ _ _ c.end_rows.ensures.spends)) (cost_on _ _ _ c.args.state.now.steps c.loop-many.state.steps c.end_rows.new.state.steps c.loop-many.invariant.steps c.loop-many.invariant.turns.less (subst
-    (λ (x : Frame). c.end_rows.new.state.steps ≤ c.loop-many.state.steps + turn_work c.args.self.now.bytes.now c.loop-many.state.next x) c.rows_from.ensures c.end_rows.ensures.spends.most))
+    (λ (x : Frame). c.end_rows.new.state.steps ≤ c.loop-many.state.steps + turn_work c.args.self.now.bytes.value.came c.loop-many.state.next x) c.rows_from.ensures c.end_rows.ensures.spends.most))
 
 pub end_rows-requires-clause-budget : goal.end_rows-requires-clause-budget
-end_rows-requires-clause-budget c = subst (λ (x : Frame). c.loop-many.state.steps + turn_work c.args.self.now.bytes.now c.loop-many.state.next x < 2 ^ 40) (sym c.rows_from.ensures) (budget_on _ _ _ c.args.state.now.steps c.loop-many.state.steps (2 ^ 40) c.loop-many.invariant.steps
+end_rows-requires-clause-budget c = subst (λ (x : Frame). c.loop-many.state.steps + turn_work c.args.self.now.bytes.value.came c.loop-many.state.next x < 2 ^ 40) (sym c.rows_from.ensures) (budget_on _ _ _ c.args.state.now.steps c.loop-many.state.steps (2 ^ 40) c.loop-many.invariant.steps
     c.loop-many.invariant.turns.less c.requires.budget)

@@ -1,4 +1,4 @@
-use Rattle.std.proofs.Common.{◌-◌, ◌≤◌}
+use Rattle.std.proofs.Common.{◌≡◌, ◌-◌, ◌≤◌}
 use Rattle.std.specs.Prelude.{Some}
 use Rattle.fidl_decode_model.specs.declared.frame.Remaining.TheVariants.{Rows}
 use Rattle.fidl_decode_model.specs.Invariants.{AreLeaves}
@@ -10,7 +10,8 @@ use Rattle.fidl_decode.proofs.decoder.Decoder.read_fields.Given as goal
 -- what is read so far is a turn that leaves these rows, which are leaves
 abbrev pub invariant-loop-many : goal.invariant-loop-many
 invariant-loop-many l = record {
-  turns : Turns l.self.table.now (message_of l.self.bytes.now l.self.handles.now) l.frame (at_of l.fn.state) (at_of l.state) (l.state.steps - l.fn.state.steps) (left_over (Some (going_on l.frame (Rows l.next l.many) l.done)));
+  holds : l.state.links.came ≡ l.self.bytes.value.came;
+  turns : Turns l.self.table.now (message_of l.self.bytes.value.came l.self.handles.now) l.frame (at_of l.fn.state) (at_of l.state) (l.state.steps - l.fn.state.steps) (left_over (Some (going_on l.frame (Rows l.next l.many) l.done)));
   leaves : AreLeaves l.self.table.now l.next l.many;
   steps : l.fn.state.steps ≤ l.state.steps;
 }

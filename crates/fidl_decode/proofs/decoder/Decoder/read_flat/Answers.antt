@@ -22,14 +22,14 @@ no_true e = cc
 pub returns-then-is_leaf-clause-spends : goal.returns-then-is_leaf-clause-spends
 returns-then-is_leaf-clause-spends c =
     let t = c.args.self.now.table.now in
-    let m = message_of c.args.self.now.bytes.now c.args.self.now.handles.now in
+    let m = message_of c.args.self.now.bytes.value.came c.args.self.now.handles.now in
     let old = at_of c.args.state.now in
-    spends_any _ _ _ (omega (arith, (not_fewer _ _ _ c.read_leaf.ensures.spends))) (omega (arith, c.read_leaf.ensures.spends.most, leaf_cost t c.args.self.now.fine c.args.self.now.bytes.now c.args.state.now.next c.args.entry c.requires.entry))
+    spends_any _ _ _ (omega (arith, (not_fewer _ _ _ c.read_leaf.ensures.spends))) (omega (arith, c.read_leaf.ensures.spends.most, leaf_cost t c.args.self.now.fine c.args.self.now.bytes.value.came c.args.state.now.next c.args.entry c.requires.entry))
 
 pub read_fields-requires-clause-frame : goal.read_fields-requires-clause-frame
 read_fields-requires-clause-frame c =
     let t = c.args.self.now.table.now in
-    let m = message_of c.args.self.now.bytes.now c.args.self.now.handles.now in
+    let m = message_of c.args.self.now.bytes.value.came c.args.self.now.handles.now in
     let old = at_of c.args.state.now in
     let d = entry_at t c.args.entry in
     let flat : (c.args.kind ≡ Struct) × AreLeaves t d.first d.count = elim c.requires.flat [ inl leaf ↦ absurd (no_true (sym c.if-is_leaf.false ∙ c.is_leaf.ensures ∙ leaf)) | inr s ↦ s ] in
@@ -40,7 +40,7 @@ read_fields-requires-clause-frame c =
 pub read_fields-requires-clause-leaves : goal.read_fields-requires-clause-leaves
 read_fields-requires-clause-leaves c =
     let t = c.args.self.now.table.now in
-    let m = message_of c.args.self.now.bytes.now c.args.self.now.handles.now in
+    let m = message_of c.args.self.now.bytes.value.came c.args.self.now.handles.now in
     let old = at_of c.args.state.now in
     let d = entry_at t c.args.entry in
     let flat : (c.args.kind ≡ Struct) × AreLeaves t d.first d.count = elim c.requires.flat [ inl leaf ↦ absurd (no_true (sym c.if-is_leaf.false ∙ c.is_leaf.ensures ∙ leaf)) | inr s ↦ s ] in
@@ -50,15 +50,15 @@ read_fields-requires-clause-leaves c =
 pub read_fields-requires-clause-budget : goal.read_fields-requires-clause-budget
 read_fields-requires-clause-budget c =
     let t = c.args.self.now.table.now in
-    let m = message_of c.args.self.now.bytes.now c.args.self.now.handles.now in
+    let m = message_of c.args.self.now.bytes.value.came c.args.self.now.handles.now in
     let old = at_of c.args.state.now in
-    let work = ap (λ (d : Entry). value_work c.args.self.now.bytes.now c.args.state.now.next d) c.entry-e.ensures.value in
+    let work = ap (λ (d : Entry). value_work c.args.self.now.bytes.value.came c.args.state.now.next d) c.entry-e.ensures.value in
     omega (arith, c.requires.budget, work, work_none c.entry-e.result.nest c.entry-e.result.size)
 
 pub returns-clause-ok : goal.returns-clause-ok
 returns-clause-ok c =
     let t = c.args.self.now.table.now in
-    let m = message_of c.args.self.now.bytes.now c.args.self.now.handles.now in
+    let m = message_of c.args.self.now.bytes.value.came c.args.self.now.handles.now in
     let old = at_of c.args.state.now in
     let d = entry_at t c.args.entry in
     let flat : (c.args.kind ≡ Struct) × AreLeaves t d.first d.count = elim c.requires.flat [ inl leaf ↦ absurd (no_true (sym c.if-is_leaf.false ∙ c.is_leaf.ensures ∙ leaf)) | inr s ↦ s ] in
@@ -72,7 +72,7 @@ returns-clause-ok c =
 pub returns-clause-fault_is_true : goal.returns-clause-fault_is_true
 returns-clause-fault_is_true c =
     let t = c.args.self.now.table.now in
-    let m = message_of c.args.self.now.bytes.now c.args.self.now.handles.now in
+    let m = message_of c.args.self.now.bytes.value.came c.args.self.now.handles.now in
     let old = at_of c.args.state.now in
     let d = entry_at t c.args.entry in
     let flat : (c.args.kind ≡ Struct) × AreLeaves t d.first d.count = elim c.requires.flat [ inl leaf ↦ absurd (no_true (sym c.if-is_leaf.false ∙ c.is_leaf.ensures ∙ leaf)) | inr s ↦ s ] in
@@ -85,9 +85,9 @@ returns-clause-fault_is_true c =
 pub returns-clause-spends : goal.returns-clause-spends
 returns-clause-spends c =
     let t = c.args.self.now.table.now in
-    let m = message_of c.args.self.now.bytes.now c.args.self.now.handles.now in
+    let m = message_of c.args.self.now.bytes.value.came c.args.self.now.handles.now in
     let old = at_of c.args.state.now in
-    let work = ap (λ (d : Entry). value_work c.args.self.now.bytes.now c.args.state.now.next d) c.entry-e.ensures.value in
+    let work = ap (λ (d : Entry). value_work c.args.self.now.bytes.value.came c.args.state.now.next d) c.entry-e.ensures.value in
     spends_any _ _ _ (omega (arith, (one_more _ _ _ c.read_fields.ensures.spends))) (omega (arith, c.read_fields.ensures.spends.most, work, work_none c.entry-e.result.nest c.entry-e.result.size))
 
 pub read_leaf-requires-clause-entry : goal.read_leaf-requires-clause-entry

@@ -13,22 +13,22 @@ use Rattle.fidl_decode.proofs.decoder.Decoder.read_item.Goals as goal
 
 pub returns-in_err-below-clause-cost : goal.returns-in_err-below-clause-cost
 returns-in_err-below-clause-cost c =
-    let within = leaf_cost c.args.self.now.table.now c.args.self.now.fine c.args.self.now.bytes.now c.args.state.now.next c.args.entry c.requires.entry in
+    let within = leaf_cost c.args.self.now.table.now c.args.self.now.fine c.args.self.now.bytes.value.came c.args.state.now.next c.args.entry c.requires.entry in
     omega (arith, within, c.in_err-below.ensures.spends.most)
 
 pub returns-in_default-clause-cost : goal.returns-in_default-clause-cost
 returns-in_default-clause-cost c =
-    let within = leaf_cost c.args.self.now.table.now c.args.self.now.fine c.args.self.now.bytes.now c.args.state.now.next c.args.entry c.requires.entry in
+    let within = leaf_cost c.args.self.now.table.now c.args.self.now.fine c.args.self.now.bytes.value.came c.args.state.now.next c.args.entry c.requires.entry in
     omega (arith, within, c.in_ok-below.ensures.spends.most)
 
 pub read_leaves-requires-clause-frame : goal.read_leaves-requires-clause-frame
 read_leaves-requires-clause-frame c =
-    (subst (λ (o : Option Frame). VisitFine c.args.self.now.table.now (message_of c.args.self.now.bytes.now c.args.self.now.handles.now) c.args.depth c.args.in_envelope c.args.entry o) c.in-Some.is c.in_ok-below.ensures.fine).0
+    (subst (λ (o : Option Frame). VisitFine c.args.self.now.table.now (message_of c.args.self.now.bytes.value.came c.args.self.now.handles.now) c.args.depth c.args.in_envelope c.args.entry o) c.in-Some.is c.in_ok-below.ensures.fine).0
 
 pub read_leaves-requires-clause-budget : goal.read_leaves-requires-clause-budget
 read_leaves-requires-clause-budget c =
     let t = c.args.self.now.table.now in
-    let m = message_of c.args.self.now.bytes.now c.args.self.now.handles.now in
+    let m = message_of c.args.self.now.bytes.value.came c.args.self.now.handles.now in
     let old = c.args.state.now in
     let mid = c.visit.new.state in
     let v = subst (λ (o : Option Frame). Visits t m c.args.depth c.args.entry c.args.place (at_of old) (at_of mid) (mid.steps - old.steps) o) c.in-Some.is c.in_ok-below.ensures.ok in
@@ -38,7 +38,7 @@ read_leaves-requires-clause-budget c =
 pub returns-clause-ok : goal.returns-clause-ok
 returns-clause-ok c =
     let t = c.args.self.now.table.now in
-    let m = message_of c.args.self.now.bytes.now c.args.self.now.handles.now in
+    let m = message_of c.args.self.now.bytes.value.came c.args.self.now.handles.now in
     let old = c.args.state.now in
     let mid = c.visit.new.state in
     let new = c.read_leaves.new.state in
@@ -50,7 +50,7 @@ returns-clause-ok c =
 pub returns-clause-fine : goal.returns-clause-fine
 returns-clause-fine c =
     let t = c.args.self.now.table.now in
-    let m = message_of c.args.self.now.bytes.now c.args.self.now.handles.now in
+    let m = message_of c.args.self.now.bytes.value.came c.args.self.now.handles.now in
     let fine = subst (λ (o : Option Frame). VisitFine t m c.args.depth c.args.in_envelope c.args.entry o) c.in-Some.is c.in_ok-below.ensures.fine in
     IfOk-weaker c.read_leaves.result _ _ (λ o turns. fine_from t m.bytes (height c.in-Some.below) _ o fine.1 turns.rest_fine) c.read_leaves.ensures.ok
 
@@ -60,7 +60,7 @@ returns-clause-grows c = on_ok_from c.read_leaves.result (λ grows. omega (arith
 pub returns-clause-cost : goal.returns-clause-cost
 returns-clause-cost c =
     let t = c.args.self.now.table.now in
-    let m = message_of c.args.self.now.bytes.now c.args.self.now.handles.now in
+    let m = message_of c.args.self.now.bytes.value.came c.args.self.now.handles.now in
     let old = c.args.state.now in
     let mid = c.visit.new.state in
     let v = subst (λ (o : Option Frame). Visits t m c.args.depth c.args.entry c.args.place (at_of old) (at_of mid) (mid.steps - old.steps) o) c.in-Some.is c.in_ok-below.ensures.ok in
@@ -70,7 +70,7 @@ returns-clause-cost c =
 pub returns-clause-fault_is_true : goal.returns-clause-fault_is_true
 returns-clause-fault_is_true c =
     let t = c.args.self.now.table.now in
-    let m = message_of c.args.self.now.bytes.now c.args.self.now.handles.now in
+    let m = message_of c.args.self.now.bytes.value.came c.args.self.now.handles.now in
     let old = c.args.state.now in
     let mid = c.visit.new.state in
     let v = subst (λ (o : Option Frame). Visits t m c.args.depth c.args.entry c.args.place (at_of old) (at_of mid) (mid.steps - old.steps) o) c.in-Some.is c.in_ok-below.ensures.ok in

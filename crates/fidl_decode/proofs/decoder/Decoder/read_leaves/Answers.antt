@@ -91,4 +91,4 @@ pub returns-in-Envelopes-clause-cost : goal.returns-in-Envelopes-clause-cost
 returns-in-Envelopes-clause-cost c = le_more _ _
 
 pub returns-in-Envelopes-clause-ok : goal.returns-in-Envelopes-clause-ok
-returns-in-Envelopes-clause-ok c = turns_stay c.args.self.now.table.now (message_of c.args.self.now.bytes.now c.args.self.now.handles.now) c.args.frame (at_of c.args.state.now) c.requires.frame c.requires.state _ (omega arith)
+returns-in-Envelopes-clause-ok c = turns_stay c.args.self.now.table.now (message_of c.args.self.now.bytes.value.came c.args.self.now.handles.now) c.args.frame (at_of c.args.state.now) c.requires.frame c.requires.state _ (omega arith)

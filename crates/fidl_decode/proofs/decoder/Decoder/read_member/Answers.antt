@@ -12,7 +12,7 @@ use Rattle.fidl_decode.proofs.decoder.Decoder.read_member.Goals as goal
 pub returns-in_default-clause-ok : goal.returns-in_default-clause-ok
 returns-in_default-clause-ok c =
     let t = c.args.self.now.table.now in
-    let m = message_of c.args.self.now.bytes.now c.args.self.now.handles.now in
+    let m = message_of c.args.self.now.bytes.value.came c.args.self.now.handles.now in
     let old = at_of c.args.state.now in
     let new = at_of c.skip_member.new.state in
     let x = c.in_ok-skip_member.ensures in
@@ -22,7 +22,7 @@ returns-in_default-clause-ok c =
 pub returns-in_default-clause-pays : goal.returns-in_default-clause-pays
 returns-in_default-clause-pays c =
     let t = c.args.self.now.table.now in
-    let m = message_of c.args.self.now.bytes.now c.args.self.now.handles.now in
+    let m = message_of c.args.self.now.bytes.value.came c.args.self.now.handles.now in
     let old = at_of c.args.state.now in
     let new = at_of c.skip_member.new.state in
     let x = c.in_ok-skip_member.ensures in
@@ -34,14 +34,14 @@ returns-in_default-clause-pays c =
 pub returns-clause-ok : goal.returns-clause-ok
 returns-clause-ok c =
     let t = c.args.self.now.table.now in
-    let m = message_of c.args.self.now.bytes.now c.args.self.now.handles.now in
+    let m = message_of c.args.self.now.bytes.value.came c.args.self.now.handles.now in
     let old = at_of c.args.state.now in
     subst (λ (r : Option raw.Row). IfOk c.read_known.result (Opens t m c.args.depth (member_term r) c.args.envelope old (at_of c.read_known.new.state) (c.read_known.new.state.steps - c.args.state.now.steps))) (sym c.in-Some.is) c.read_known.ensures.ok
 
 pub returns-clause-fault_is_true : goal.returns-clause-fault_is_true
 returns-clause-fault_is_true c =
     let t = c.args.self.now.table.now in
-    let m = message_of c.args.self.now.bytes.now c.args.self.now.handles.now in
+    let m = message_of c.args.self.now.bytes.value.came c.args.self.now.handles.now in
     let old = at_of c.args.state.now in
     subst (λ (r : Option raw.Row). IfErr c.read_known.result (BreaksMember (declarations_of t) m c.args.depth (member_term r) c.args.envelope old)) (sym c.in-Some.is) c.read_known.ensures.fault_is_true
 

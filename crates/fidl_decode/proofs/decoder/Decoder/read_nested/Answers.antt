@@ -27,7 +27,7 @@ unreachable-requires c =
 pub read_row-requires-clause-frame : goal.read_row-requires-clause-frame
 read_row-requires-clause-frame c =
     let t = c.args.self.now.table.now in
-    let m = message_of c.args.self.now.bytes.now c.args.self.now.handles.now in
+    let m = message_of c.args.self.now.bytes.value.came c.args.self.now.handles.now in
     let f = c.args.frame in
     let old = at_of c.args.state.now in
     let now = at_of c.loop-many.state in
@@ -42,7 +42,7 @@ read_row-requires-clause-frame c =
 pub returns-in_err-read_row-clause-fault_is_true : goal.returns-in_err-read_row-clause-fault_is_true
 returns-in_err-read_row-clause-fault_is_true c =
     let t = c.args.self.now.table.now in
-    let m = message_of c.args.self.now.bytes.now c.args.self.now.handles.now in
+    let m = message_of c.args.self.now.bytes.value.came c.args.self.now.handles.now in
     let f = c.args.frame in
     let old = at_of c.args.state.now in
     let now = at_of c.loop-many.state in
@@ -57,7 +57,7 @@ returns-in_err-read_row-clause-fault_is_true c =
 pub loop-many-preserved-then-is_leaf : goal.loop-many-preserved-then-is_leaf
 loop-many-preserved-then-is_leaf c =
     let t = c.args.self.now.table.now in
-    let m = message_of c.args.self.now.bytes.now c.args.self.now.handles.now in
+    let m = message_of c.args.self.now.bytes.value.came c.args.self.now.handles.now in
     let f = c.args.frame in
     let old = at_of c.args.state.now in
     let now = at_of c.loop-many.state in
@@ -77,12 +77,12 @@ loop-many-preserved-then-is_leaf c =
     let two = subst (λ d. Turns t m g now new spent (left_over (Some (going_on c.loop-many.holder rows d)))) size one in
     let rises = (one_more _ _ _ c.in_ok-read_row.ensures.spends) in
     let done = c.row-row.result.key + c.entry-e.result.size in
-    record { turns = turns_then t m f old now a g c.loop-many.invariant.turns new spent (c.read_row.new.state.steps - c.args.state.now.steps) (left_over (Some (going_on c.loop-many.holder rows done))) (omega (arith, begun, rises)) two; steps = omega (arith, begun, rises) }
+    record { holds = c.read_row.ensures.holds; turns = turns_then t m f old now a g c.loop-many.invariant.turns new spent (c.read_row.new.state.steps - c.args.state.now.steps) (left_over (Some (going_on c.loop-many.holder rows done))) (omega (arith, begun, rises)) two; steps = omega (arith, begun, rises) }
 
 pub enter_box-requires-clause-frame : goal.enter_box-requires-clause-frame
 enter_box-requires-clause-frame c =
     let t = c.args.self.now.table.now in
-    let m = message_of c.args.self.now.bytes.now c.args.self.now.handles.now in
+    let m = message_of c.args.self.now.bytes.value.came c.args.self.now.handles.now in
     let f = c.args.frame in
     let old = at_of c.args.state.now in
     let now = at_of c.loop-many.state in
@@ -97,7 +97,7 @@ enter_box-requires-clause-frame c =
 pub enter_box-requires-clause-left : goal.enter_box-requires-clause-left
 enter_box-requires-clause-left c =
     let t = c.args.self.now.table.now in
-    let m = message_of c.args.self.now.bytes.now c.args.self.now.handles.now in
+    let m = message_of c.args.self.now.bytes.value.came c.args.self.now.handles.now in
     let f = c.args.frame in
     let old = at_of c.args.state.now in
     let now = at_of c.loop-many.state in
@@ -118,7 +118,7 @@ enter_box-requires-clause-kind c =
 pub enter_box-requires-clause-whole : goal.enter_box-requires-clause-whole
 enter_box-requires-clause-whole c =
     let t = c.args.self.now.table.now in
-    let m = message_of c.args.self.now.bytes.now c.args.self.now.handles.now in
+    let m = message_of c.args.self.now.bytes.value.came c.args.self.now.handles.now in
     let f = c.args.frame in
     let old = at_of c.args.state.now in
     let now = at_of c.loop-many.state in
@@ -134,7 +134,7 @@ enter_box-requires-clause-whole c =
 pub returns-in_err-below-clause-fault_is_true : goal.returns-in_err-below-clause-fault_is_true
 returns-in_err-below-clause-fault_is_true c =
     let t = c.args.self.now.table.now in
-    let m = message_of c.args.self.now.bytes.now c.args.self.now.handles.now in
+    let m = message_of c.args.self.now.bytes.value.came c.args.self.now.handles.now in
     let f = c.args.frame in
     let old = at_of c.args.state.now in
     let now = at_of c.loop-many.state in
@@ -149,7 +149,7 @@ returns-in_err-below-clause-fault_is_true c =
 pub returns-in_default-2-clause-ok : goal.returns-in_default-2-clause-ok
 returns-in_default-2-clause-ok c =
     let t = c.args.self.now.table.now in
-    let m = message_of c.args.self.now.bytes.now c.args.self.now.handles.now in
+    let m = message_of c.args.self.now.bytes.value.came c.args.self.now.handles.now in
     let f = c.args.frame in
     let old = at_of c.args.state.now in
     let now = at_of c.loop-many.state in
@@ -169,7 +169,7 @@ returns-in_default-2-clause-ok c =
 pub pass_known-content-requires-clause-frame : goal.pass_known-content-requires-clause-frame
 pass_known-content-requires-clause-frame c =
     let t = c.args.self.now.table.now in
-    let m = message_of c.args.self.now.bytes.now c.args.self.now.handles.now in
+    let m = message_of c.args.self.now.bytes.value.came c.args.self.now.handles.now in
     let f = c.args.frame in
     let old = at_of c.args.state.now in
     let now = at_of c.loop-many.state in
@@ -190,7 +190,7 @@ pass_known-content-requires-clause-frame c =
 pub pass_known-content-requires-clause-state : goal.pass_known-content-requires-clause-state
 pass_known-content-requires-clause-state c =
     let t = c.args.self.now.table.now in
-    let m = message_of c.args.self.now.bytes.now c.args.self.now.handles.now in
+    let m = message_of c.args.self.now.bytes.value.came c.args.self.now.handles.now in
     let f = c.args.frame in
     let old = at_of c.args.state.now in
     let now = at_of c.loop-many.state in
@@ -211,7 +211,7 @@ pass_known-content-requires-clause-state c =
 pub pass_known-content-requires-clause-budget : goal.pass_known-content-requires-clause-budget
 pass_known-content-requires-clause-budget c =
     let t = c.args.self.now.table.now in
-    let m = message_of c.args.self.now.bytes.now c.args.self.now.handles.now in
+    let m = message_of c.args.self.now.bytes.value.came c.args.self.now.handles.now in
     let f = c.args.frame in
     let old = at_of c.args.state.now in
     let now = at_of c.loop-many.state in
@@ -233,7 +233,7 @@ pass_known-content-requires-clause-budget c =
 pub returns-in_default-left : goal.returns-in_default-left
 returns-in_default-left c =
     let t = c.args.self.now.table.now in
-    let m = message_of c.args.self.now.bytes.now c.args.self.now.handles.now in
+    let m = message_of c.args.self.now.bytes.value.came c.args.self.now.handles.now in
     let f = c.args.frame in
     let old = at_of c.args.state.now in
     let now = at_of c.loop-many.state in
@@ -255,12 +255,12 @@ returns-in_default-left c =
     let whole = c.pass_known-content.new.state.steps - c.args.state.now.steps in
     let all_read = turns_then t m f old new all c.in-Some-2.below run on (c.pass_known-content.new.state.steps - c.enter_box.new.state.steps) whole (left_over (Some content)) (omega (arith, begun, rises, passed)) c.pass_known-content.ensures.turns in
     let less_read = all_read.less in
-    record { ok = all_read; grows = omega (arith, begun, rises, passed); ended = tt; cost = omega (arith, begun, rises, passed, less_read); fault_is_true = tt }
+    record { holds = c.pass_known-content.ensures.holds; ok = all_read; grows = omega (arith, begun, rises, passed); ended = tt; cost = omega (arith, begun, rises, passed, less_read); fault_is_true = tt }
 
 pub loop-many-smaller : goal.loop-many-smaller
 loop-many-smaller c =
     let t = c.args.self.now.table.now in
-    let m = message_of c.args.self.now.bytes.now c.args.self.now.handles.now in
+    let m = message_of c.args.self.now.bytes.value.came c.args.self.now.handles.now in
     let f = c.args.frame in
     let old = at_of c.args.state.now in
     let now = at_of c.loop-many.state in
@@ -285,7 +285,7 @@ loop-many-smaller c =
 pub loop-many-preserved : goal.loop-many-preserved
 loop-many-preserved c =
     let t = c.args.self.now.table.now in
-    let m = message_of c.args.self.now.bytes.now c.args.self.now.handles.now in
+    let m = message_of c.args.self.now.bytes.value.came c.args.self.now.handles.now in
     let f = c.args.frame in
     let old = at_of c.args.state.now in
     let now = at_of c.loop-many.state in
@@ -307,12 +307,12 @@ loop-many-preserved c =
     let whole = c.pass_known-content.new.state.steps - c.args.state.now.steps in
     let all_read = turns_then t m f old new all c.in-Some-2.below run on (c.pass_known-content.new.state.steps - c.enter_box.new.state.steps) whole (left_over (Some content)) (omega (arith, begun, rises, passed)) c.pass_known-content.ensures.turns in
     let rows = Rows c.in-Rows-left.front c.in-Rows-left.behind in
-    record { turns = subst (λ (x : Frame). Turns t m f old on whole (left_over (Some x))) (same_frame content rows c.in-Rows-left.is) all_read; steps = omega (arith, begun, rises, passed) }
+    record { holds = c.pass_known-content.ensures.holds; turns = subst (λ (x : Frame). Turns t m f old on whole (left_over (Some x))) (same_frame content rows c.in-Rows-left.is) all_read; steps = omega (arith, begun, rises, passed) }
 
 pub end_rows-requires-clause-frame : goal.end_rows-requires-clause-frame
 end_rows-requires-clause-frame c =
     let t = c.args.self.now.table.now in
-    let m = message_of c.args.self.now.bytes.now c.args.self.now.handles.now in
+    let m = message_of c.args.self.now.bytes.value.came c.args.self.now.handles.now in
     let f = c.args.frame in
     let old = at_of c.args.state.now in
     let now = at_of c.loop-many.state in
@@ -329,7 +329,7 @@ end_rows-requires-clause-frame c =
 pub returns-in_err-end_rows-clause-fault_is_true : goal.returns-in_err-end_rows-clause-fault_is_true
 returns-in_err-end_rows-clause-fault_is_true c =
     let t = c.args.self.now.table.now in
-    let m = message_of c.args.self.now.bytes.now c.args.self.now.handles.now in
+    let m = message_of c.args.self.now.bytes.value.came c.args.self.now.handles.now in
     let f = c.args.frame in
     let old = at_of c.args.state.now in
     let now = at_of c.loop-many.state in
@@ -345,7 +345,7 @@ returns-in_err-end_rows-clause-fault_is_true c =
 pub returns-clause-ok : goal.returns-clause-ok
 returns-clause-ok c =
     let t = c.args.self.now.table.now in
-    let m = message_of c.args.self.now.bytes.now c.args.self.now.handles.now in
+    let m = message_of c.args.self.now.bytes.value.came c.args.self.now.handles.now in
     let f = c.args.frame in
     let old = at_of c.args.state.now in
     let now = at_of c.loop-many.state in
@@ -396,14 +396,14 @@ pub read_row-requires-clause-state : goal.read_row-requires-clause-state
 read_row-requires-clause-state c = c.loop-many.invariant.turns.state
 
 pub read_row-requires-clause-budget : goal.read_row-requires-clause-budget
-read_row-requires-clause-budget c = subst (λ (x : Frame). c.loop-many.state.steps + turn_work c.args.self.now.bytes.now c.loop-many.state.next x < 2 ^ 40) (sym c.rows_from-rest.ensures) (budget_on _ _ _ c.args.state.now.steps c.loop-many.state.steps (2 ^ 40) c.loop-many.invariant.steps
+read_row-requires-clause-budget c = subst (λ (x : Frame). c.loop-many.state.steps + turn_work c.args.self.now.bytes.value.came c.loop-many.state.next x < 2 ^ 40) (sym c.rows_from-rest.ensures) (budget_on _ _ _ c.args.state.now.steps c.loop-many.state.steps (2 ^ 40) c.loop-many.invariant.steps
     c.loop-many.invariant.turns.less c.requires.budget)
 
 pub ends_in_box-requires : goal.ends_in_box-requires
 ends_in_box-requires c = record { within = c.loop-many.invariant.turns.rest_fine.0.left }
 
 pub returns-then-not-ends_in_box-clause-ok : goal.returns-then-not-ends_in_box-clause-ok
-returns-then-not-ends_in_box-clause-ok c = subst (λ (x : Frame). Turns c.args.self.now.table.now (message_of c.args.self.now.bytes.now c.args.self.now.handles.now) c.args.frame (at_of c.args.state.now) (at_of c.loop-many.state) (c.loop-many.state.steps - c.args.state.now.steps) (left_over
+returns-then-not-ends_in_box-clause-ok c = subst (λ (x : Frame). Turns c.args.self.now.table.now (message_of c.args.self.now.bytes.value.came c.args.self.now.handles.now) c.args.frame (at_of c.args.state.now) (at_of c.loop-many.state) (c.loop-many.state.steps - c.args.state.now.steps) (left_over
     (Some x))) (sym c.rows_from-rest.ensures) c.loop-many.invariant.turns
 
 pub returns-then-not-ends_in_box-clause-grows : goal.returns-then-not-ends_in_box-clause-grows
@@ -422,7 +422,7 @@ pub enter_box-requires-clause-state : goal.enter_box-requires-clause-state
 enter_box-requires-clause-state c = c.loop-many.invariant.turns.state
 
 pub enter_box-requires-clause-budget : goal.enter_box-requires-clause-budget
-enter_box-requires-clause-budget c = subst (λ (x : Frame). c.loop-many.state.steps + turn_work c.args.self.now.bytes.now c.loop-many.state.next x < 2 ^ 40) (sym c.rows_from-rest.ensures) (budget_on _ _ _ c.args.state.now.steps c.loop-many.state.steps (2 ^ 40) c.loop-many.invariant.steps
+enter_box-requires-clause-budget c = subst (λ (x : Frame). c.loop-many.state.steps + turn_work c.args.self.now.bytes.value.came c.loop-many.state.next x < 2 ^ 40) (sym c.rows_from-rest.ensures) (budget_on _ _ _ c.args.state.now.steps c.loop-many.state.steps (2 ^ 40) c.loop-many.invariant.steps
     c.loop-many.invariant.turns.less c.requires.budget)
 
 pub pass_known-content-requires-clause-known : goal.pass_known-content-requires-clause-known
@@ -438,7 +438,7 @@ pub end_rows-requires-clause-state : goal.end_rows-requires-clause-state
 end_rows-requires-clause-state c = c.loop-many.invariant.turns.state
 
 pub end_rows-requires-clause-budget : goal.end_rows-requires-clause-budget
-end_rows-requires-clause-budget c = subst (λ (x : Frame). c.loop-many.state.steps + turn_work c.args.self.now.bytes.now c.loop-many.state.next x < 2 ^ 40) (sym c.rows_from.ensures) (budget_on _ _ _ c.args.state.now.steps c.loop-many.state.steps (2 ^ 40) c.loop-many.invariant.steps
+end_rows-requires-clause-budget c = subst (λ (x : Frame). c.loop-many.state.steps + turn_work c.args.self.now.bytes.value.came c.loop-many.state.next x < 2 ^ 40) (sym c.rows_from.ensures) (budget_on _ _ _ c.args.state.now.steps c.loop-many.state.steps (2 ^ 40) c.loop-many.invariant.steps
     c.loop-many.invariant.turns.less c.requires.budget)
 
 pub returns-in_default-2-clause-grows : goal.returns-in_default-2-clause-grows
@@ -449,7 +449,7 @@ returns-in_default-2-clause-ended c = rises_on _ _ _ c.loop-many.invariant.steps
 
 pub returns-in_default-2-clause-cost : goal.returns-in_default-2-clause-cost
 returns-in_default-2-clause-cost c = cost_on _ _ _ c.args.state.now.steps c.loop-many.state.steps c.enter_box.new.state.steps c.loop-many.invariant.steps c.loop-many.invariant.turns.less (subst (λ (x : Frame). c.enter_box.new.state.steps ≤ c.loop-many.state.steps + turn_work
-    c.args.self.now.bytes.now c.loop-many.state.next x) c.rows_from-rest.ensures c.in_ok-below.ensures.spends.most)
+    c.args.self.now.bytes.value.came c.loop-many.state.next x) c.rows_from-rest.ensures c.in_ok-below.ensures.spends.most)
 
 pub returns-in_default-2-clause-fault_is_true : goal.returns-in_default-2-clause-fault_is_true
 returns-in_default-2-clause-fault_is_true c = tt
@@ -461,7 +461,7 @@ pub returns-clause-ended : goal.returns-clause-ended
 returns-clause-ended c = rises_on _ _ _ c.loop-many.invariant.steps (one_more _ _ _ c.in_ok-end_rows.ensures.spends)
 
 pub returns-clause-cost : goal.returns-clause-cost
-returns-clause-cost c = cost_on _ _ _ c.args.state.now.steps c.loop-many.state.steps c.end_rows.new.state.steps c.loop-many.invariant.steps c.loop-many.invariant.turns.less (subst (λ (x : Frame). c.end_rows.new.state.steps ≤ c.loop-many.state.steps + turn_work c.args.self.now.bytes.now
+returns-clause-cost c = cost_on _ _ _ c.args.state.now.steps c.loop-many.state.steps c.end_rows.new.state.steps c.loop-many.invariant.steps c.loop-many.invariant.turns.less (subst (λ (x : Frame). c.end_rows.new.state.steps ≤ c.loop-many.state.steps + turn_work c.args.self.now.bytes.value.came
     c.loop-many.state.next x) c.rows_from.ensures c.in_ok-end_rows.ensures.spends.most)
 
 pub returns-clause-fault_is_true : goal.returns-clause-fault_is_true
@@ -478,7 +478,7 @@ returns-in_err-read_row-clause-ended c = no_ok c.from_residual.result c.in_err-r
 
 pub returns-in_err-read_row-clause-cost : goal.returns-in_err-read_row-clause-cost
 returns-in_err-read_row-clause-cost c = cost_on _ _ _ c.args.state.now.steps c.loop-many.state.steps c.read_row.new.state.steps c.loop-many.invariant.steps c.loop-many.invariant.turns.less (subst (λ (x : Frame). c.read_row.new.state.steps ≤ c.loop-many.state.steps + turn_work
-    c.args.self.now.bytes.now c.loop-many.state.next x) c.rows_from-rest.ensures c.in_err-read_row.ensures.spends.most)
+    c.args.self.now.bytes.value.came c.loop-many.state.next x) c.rows_from-rest.ensures c.in_err-read_row.ensures.spends.most)
 
 pub returns-in_err-below-clause-ok : goal.returns-in_err-below-clause-ok
 returns-in_err-below-clause-ok c = no_ok c.from_residual-in_err-below.result c.in_err-below.field-0.0 _ c.from_residual-in_err-below.ensures.1
@@ -491,7 +491,7 @@ returns-in_err-below-clause-ended c = no_ok c.from_residual-in_err-below.result 
 
 pub returns-in_err-below-clause-cost : goal.returns-in_err-below-clause-cost
 returns-in_err-below-clause-cost c = cost_on _ _ _ c.args.state.now.steps c.loop-many.state.steps c.enter_box.new.state.steps c.loop-many.invariant.steps c.loop-many.invariant.turns.less (subst (λ (x : Frame). c.enter_box.new.state.steps ≤ c.loop-many.state.steps + turn_work
-    c.args.self.now.bytes.now c.loop-many.state.next x) c.rows_from-rest.ensures c.in_err-below.ensures.spends.most)
+    c.args.self.now.bytes.value.came c.loop-many.state.next x) c.rows_from-rest.ensures c.in_err-below.ensures.spends.most)
 
 pub returns-in_err-end_rows-clause-ok : goal.returns-in_err-end_rows-clause-ok
 returns-in_err-end_rows-clause-ok c = no_ok c.from_residual-in_err-end_rows.result c.in_err-end_rows.field-0.0 _ c.from_residual-in_err-end_rows.ensures.1
@@ -504,7 +504,7 @@ returns-in_err-end_rows-clause-ended c = no_ok c.from_residual-in_err-end_rows.r
 
 pub returns-in_err-end_rows-clause-cost : goal.returns-in_err-end_rows-clause-cost
 returns-in_err-end_rows-clause-cost c = cost_on _ _ _ c.args.state.now.steps c.loop-many.state.steps c.end_rows.new.state.steps c.loop-many.invariant.steps c.loop-many.invariant.turns.less (subst (λ (x : Frame). c.end_rows.new.state.steps ≤ c.loop-many.state.steps + turn_work
-    c.args.self.now.bytes.now c.loop-many.state.next x) c.rows_from.ensures c.in_err-end_rows.ensures.spends.most)
+    c.args.self.now.bytes.value.came c.loop-many.state.next x) c.rows_from.ensures c.in_err-end_rows.ensures.spends.most)
 
 pub overflow_sub-many : goal.overflow_sub-many
 overflow_sub-many c = some_left c.loop-many.many c.loop-many-test.true
@@ -515,7 +515,7 @@ overflow_add-next c = record { fits = next_fits c.loop-many.next c.loop-many.man
 pub loop-many-smaller-then-is_leaf : goal.loop-many-smaller-then-is_leaf
 loop-many-smaller-then-is_leaf c =
     let t = c.args.self.now.table.now in
-    let m = message_of c.args.self.now.bytes.now c.args.self.now.handles.now in
+    let m = message_of c.args.self.now.bytes.value.came c.args.self.now.handles.now in
     let f = c.args.frame in
     let old = at_of c.args.state.now in
     let now = at_of c.loop-many.state in
@@ -537,10 +537,11 @@ loop-many-smaller-then-is_leaf c =
     smaller_on _ _ _ c.loop-many.state.steps c.read_row.new.state.steps two.less rises
 
 pub returns-in_default : goal.returns-in_default
-returns-in_default c = record { ok = turns_stay c.args.self.now.table.now (message_of c.args.self.now.bytes.now c.args.self.now.handles.now) c.args.frame (at_of c.args.state.now) c.requires.frame c.requires.state _ (omega arith); grows = omega arith; ended = tt; cost = omega arith; fault_is_true = tt }
+returns-in_default c = record { holds = c.requires.holds; ok = turns_stay c.args.self.now.table.now (message_of c.args.self.now.bytes.value.came c.args.self.now.handles.now) c.args.frame (at_of c.args.state.now) c.requires.frame c.requires.state _ (omega arith); grows = omega arith; ended = tt; cost = omega arith; fault_is_true = tt }
 
 pub loop-many-init : goal.loop-many-init
 loop-many-init c = record {
-  turns = subst (λ (g : Frame). Turns c.args.self.now.table.now (message_of c.args.self.now.bytes.now c.args.self.now.handles.now) c.args.frame (at_of c.args.state.now) (at_of c.args.state.now) (c.args.state.now.steps - c.args.state.now.steps) (left_over (Some g))) (same_frame c.args.frame (Rows c.in-Rows.first c.in-Rows.count) c.in-Rows.is) (turns_stay c.args.self.now.table.now (message_of c.args.self.now.bytes.now c.args.self.now.handles.now) c.args.frame (at_of c.args.state.now) c.requires.frame c.requires.state _ (omega arith));
+  holds = c.requires.holds;
+  turns = subst (λ (g : Frame). Turns c.args.self.now.table.now (message_of c.args.self.now.bytes.value.came c.args.self.now.handles.now) c.args.frame (at_of c.args.state.now) (at_of c.args.state.now) (c.args.state.now.steps - c.args.state.now.steps) (left_over (Some g))) (same_frame c.args.frame (Rows c.in-Rows.first c.in-Rows.count) c.in-Rows.is) (turns_stay c.args.self.now.table.now (message_of c.args.self.now.bytes.value.came c.args.self.now.handles.now) c.args.frame (at_of c.args.state.now) c.requires.frame c.requires.state _ (omega arith));
   steps = omega arith;
 }

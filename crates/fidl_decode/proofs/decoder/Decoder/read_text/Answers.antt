@@ -1,5 +1,5 @@
 use Rattle.fidl_decode.proofs.Fitting.{front, apart, inside, at_most, small, ended, some_8, rounded_left, part_order, le_more, eq_le, spent_text, spends_any}
-use Rattle.fidl_decode.proofs.Unchanged.{same_le, no_ok, clash}
+use Rattle.fidl_decode.proofs.Unchanged.{same_le, no_ok, clash, size_short, size_fits, size_room}
 use Rattle.std.proofs.Common.{ℕ, ◌≡◌, ◌+◌, ◌-◌, sym, subst, ◌∙◌, arith, refl, ap, inl, inr, length, ◌<◌}
 use Rattle.std.specs.Int.{next_multiple_of}
 use Rattle.fidl_wire.specs.Term as ty
@@ -17,7 +17,7 @@ use Rattle.fidl_decode.proofs.decoder.Decoder.read_text.Goals as goal
 pub returns-then-not-is_present-clause-ok : goal.returns-then-not-is_present-clause-ok
 returns-then-not-is_present-clause-ok c =
     let short = c.args.self.now.short in
-    absent_leads (declarations_of c.args.self.now.table.now) (message_of c.args.self.now.bytes.now c.args.self.now.handles.now) (omega (arith, short)) c.args.depth (is_optional c.args.entry.now) c.args.entry.now.bound c.args.place (at_of c.args.state.now) c.requires.depth (sym c.is_optional.ensures ∙ c.if-not-is_optional.false) (c.is_absent.ensures.0 c.if-not-is_absent.false) (omega (arith, c.requires.room)) (λ i. omega (arith, c.args.self.now.octets i)) (sym c.u64_at-count.ensures ∙ c.if-count-ne0.false)
+    absent_leads (declarations_of c.args.self.now.table.now) (message_of c.args.self.now.bytes.value.came c.args.self.now.handles.now) (omega (arith, short)) c.args.depth (is_optional c.args.entry.now) c.args.entry.now.bound c.args.place (at_of c.args.state.now) c.requires.depth (sym c.is_optional.ensures ∙ c.if-not-is_optional.false) (c.is_absent.ensures.0 c.if-not-is_absent.false) (omega (arith, c.requires.room)) (λ i. omega (arith, c.args.self.now.octets i)) (sym c.u64_at-count.ensures ∙ c.if-count-ne0.false)
 
 pub returns-clause-ok : goal.returns-clause-ok
 returns-clause-ok c =
@@ -29,9 +29,9 @@ returns-clause-ok c =
     let gap : from + c.next_multiple_of-size.result - (from + n) ≡ next_multiple_of n 8 - n = omega (arith, value) in
     let same : linked (c.args.place + 8) n (at_of c.args.state.now) ≡ record { next = from + c.next_multiple_of-size.result; handle = c.args.state.now.handle; objects = c.link.new.self.objects; records = c.link.new.self.records }
     = λ i. record { next = from + sym value i; handle = c.args.state.now.handle; objects = sym c.link.ensures.objects i; records = sym c.link.ensures.records i } in
-    subst (λ (s : Position). Leads (declarations_of c.args.self.now.table.now) (message_of c.args.self.now.bytes.now c.args.self.now.handles.now) c.args.depth (ty.string (is_optional c.args.entry.now) c.args.entry.now.bound) c.args.place (at_of c.args.state.now) s) same
-    (text_leads (declarations_of c.args.self.now.table.now) (message_of c.args.self.now.bytes.now c.args.self.now.handles.now) (omega (arith, short)) c.args.depth (is_optional c.args.entry.now) c.args.entry.now.bound c.args.place (at_of c.args.state.now) (omega (arith, c.requires.depth, c.if-depth-eq-MAX_DEPTH.false)) (c.is_present.ensures.0 c.if-not-is_present.false) (omega (arith, c.requires.room)) (λ i. omega (arith, c.args.self.now.octets i)) n (sym c.u64_at-count.ensures) (omega (arith, c.if-count-entry.false)) (omega (arith, value, within, c.if-size-rest.false)) (le-next_multiple_of n 8)
-    (c.is_text.ensures.0 c.if-not-is_text.false) (subst (λ k. Stands c.args.self.now.bytes.now (from + n) (zeros k)) gap c.in_ok-zeros_at.ensures.ok))
+    subst (λ (s : Position). Leads (declarations_of c.args.self.now.table.now) (message_of c.args.self.now.bytes.value.came c.args.self.now.handles.now) c.args.depth (ty.string (is_optional c.args.entry.now) c.args.entry.now.bound) c.args.place (at_of c.args.state.now) s) same
+    (text_leads (declarations_of c.args.self.now.table.now) (message_of c.args.self.now.bytes.value.came c.args.self.now.handles.now) (omega (arith, short)) c.args.depth (is_optional c.args.entry.now) c.args.entry.now.bound c.args.place (at_of c.args.state.now) (omega (arith, c.requires.depth, c.if-depth-eq-MAX_DEPTH.false)) (c.is_present.ensures.0 c.if-not-is_present.false) (omega (arith, c.requires.room)) (λ i. omega (arith, c.args.self.now.octets i)) n (sym c.u64_at-count.ensures) (omega (arith, c.if-count-entry.false)) (omega (arith, value, within, (size_fits c.args.self.now.sized _ _ c.if-size-rest.false))) (le-next_multiple_of n 8)
+    (c.is_text.ensures.0 c.if-not-is_text.false) (subst (λ k. Stands c.args.self.now.bytes.value.came (from + n) (zeros k)) gap c.in_ok-zeros_at.ensures.ok))
 
 pub returns-then-not-is_absent-clause-ok : goal.returns-then-not-is_absent-clause-ok
 returns-then-not-is_absent-clause-ok c = tt
@@ -139,7 +139,7 @@ pub is_text-requires-clause-within : goal.is_text-requires-clause-within
 is_text-requires-clause-within c = c.next_multiple_of-size.ensures.lower_bound
 
 pub is_text-requires-clause-room : goal.is_text-requires-clause-room
-is_text-requires-clause-room c = ended c.args.state.now.next c.next_multiple_of-size.result (length c.args.self.now.bytes.now) c.requires.state.next c.if-size-rest.false
+is_text-requires-clause-room c = ended c.args.state.now.next c.next_multiple_of-size.result (length c.args.self.now.bytes.value.came) c.requires.state.next (size_fits c.args.self.now.sized _ _ c.if-size-rest.false)
 
 pub returns-then-not-is_text-clause-ok : goal.returns-then-not-is_text-clause-ok
 returns-then-not-is_text-clause-ok c = tt
@@ -178,7 +178,7 @@ pub returns-then-not-is_present-clause-state : goal.returns-then-not-is_present-
 returns-then-not-is_present-clause-state c = c.requires.state
 
 pub returns-then-count-rest-clause-fault_is_true : goal.returns-then-count-rest-clause-fault_is_true
-returns-then-count-rest-clause-fault_is_true c = (refl, inr (c.is_present.ensures.0 c.if-not-is_present.false, subst (λ n. length c.args.self.now.bytes.now - c.args.state.now.next < n) c.u64_at-count.ensures c.if-count-rest.true))
+returns-then-count-rest-clause-fault_is_true c = (refl, inr (c.is_present.ensures.0 c.if-not-is_present.false, subst (λ n. length c.args.self.now.bytes.value.came - c.args.state.now.next < n) c.u64_at-count.ensures (size_short c.args.self.now.sized _ _ c.if-count-rest.true)))
 
 pub returns-then-count-entry-clause-fault_is_true : goal.returns-then-count-entry-clause-fault_is_true
 returns-then-count-entry-clause-fault_is_true c = (refl, c.is_present.ensures.0 c.if-not-is_present.false, subst (λ n. c.args.entry.now.bound < n) c.u64_at-count.ensures c.if-count-entry.true)
@@ -187,67 +187,67 @@ pub returns-then-depth-eq-MAX_DEPTH-clause-fault_is_true : goal.returns-then-dep
 returns-then-depth-eq-MAX_DEPTH-clause-fault_is_true c = (refl, c.is_present.ensures.0 c.if-not-is_present.false, eq_le _ _ c.if-depth-eq-MAX_DEPTH.true)
 
 pub returns-then-size-rest-clause-fault_is_true : goal.returns-then-size-rest-clause-fault_is_true
-returns-then-size-rest-clause-fault_is_true c = (refl, c.is_present.ensures.0 c.if-not-is_present.false, subst (λ n. length c.args.self.now.bytes.now - c.args.state.now.next < n) (c.next_multiple_of-size.ensures.value ∙ ap (λ k. next_multiple_of k 8) c.u64_at-count.ensures) c.if-size-rest.true)
+returns-then-size-rest-clause-fault_is_true c = (refl, c.is_present.ensures.0 c.if-not-is_present.false, subst (λ n. length c.args.self.now.bytes.value.came - c.args.state.now.next < n) (c.next_multiple_of-size.ensures.value ∙ ap (λ k. next_multiple_of k 8) c.u64_at-count.ensures) (size_short c.args.self.now.sized _ _ c.if-size-rest.true))
 
 pub returns-then-not-is_text-clause-spends : goal.returns-then-not-is_text-clause-spends
-returns-then-not-is_text-clause-spends c = spends_any _ _ _ (le_more _ _) (part_order _ _ _ c.if-size-rest.false)
+returns-then-not-is_text-clause-spends c = spends_any _ _ _ (le_more _ _) (part_order _ _ _ (size_fits c.args.self.now.sized _ _ c.if-size-rest.false))
 
 pub returns-in_err-zeros_at-clause-spends : goal.returns-in_err-zeros_at-clause-spends
-returns-in_err-zeros_at-clause-spends c = spends_any _ _ _ (le_more _ _) (part_order _ _ _ c.if-size-rest.false)
+returns-in_err-zeros_at-clause-spends c = spends_any _ _ _ (le_more _ _) (part_order _ _ _ (size_fits c.args.self.now.sized _ _ c.if-size-rest.false))
 
 pub returns-clause-spent : goal.returns-clause-spent
 returns-clause-spent c = spent_text _ _ _
 
 pub returns-clause-spends : goal.returns-clause-spends
-returns-clause-spends c = spends_any _ _ _ (le_more _ _) (part_order _ _ _ c.if-size-rest.false)
+returns-clause-spends c = spends_any _ _ _ (le_more _ _) (part_order _ _ _ (size_fits c.args.self.now.sized _ _ c.if-size-rest.false))
 
 pub u64_at-count-requires : goal.u64_at-count-requires
-u64_at-count-requires c = front c.args.place 8 8 (length c.args.self.now.bytes.now) c.requires.room
+u64_at-count-requires c = record { holds = c.requires.holds; room = front c.args.place 8 8 (length c.args.self.now.bytes.value.came) c.requires.room }
 
 pub overflow_add-place : goal.overflow_add-place
-overflow_add-place c = record { fits = small _ (length c.args.self.now.bytes.now) (front c.args.place 8 8 (length c.args.self.now.bytes.now) c.requires.room) c.args.self.now.short }
+overflow_add-place c = record { fits = small _ (length c.args.self.now.bytes.value.came) (front c.args.place 8 8 (length c.args.self.now.bytes.value.came) c.requires.room) c.args.self.now.short }
 
 pub overflow_add-place-then-not-is_present : goal.overflow_add-place-then-not-is_present
-overflow_add-place-then-not-is_present c = record { fits = small _ (length c.args.self.now.bytes.now) (front c.args.place 8 8 (length c.args.self.now.bytes.now) c.requires.room) c.args.self.now.short }
+overflow_add-place-then-not-is_present c = record { fits = small _ (length c.args.self.now.bytes.value.came) (front c.args.place 8 8 (length c.args.self.now.bytes.value.came) c.requires.room) c.args.self.now.short }
 
 pub overflow_add-result : goal.overflow_add-result
-overflow_add-result c = record { fits = small _ (length c.args.self.now.bytes.now) (front c.args.place 8 8 (length c.args.self.now.bytes.now) c.requires.room) c.args.self.now.short }
+overflow_add-result c = record { fits = small _ (length c.args.self.now.bytes.value.came) (front c.args.place 8 8 (length c.args.self.now.bytes.value.came) c.requires.room) c.args.self.now.short }
 
 pub overflow_sub-rest : goal.overflow_sub-rest
-overflow_sub-rest c = c.requires.state.next
+overflow_sub-rest c = size_room c.args.self.now.sized _ c.requires.state.next
 
 pub is_present-requires : goal.is_present-requires
-is_present-requires c = record { room = apart c.args.place 8 8 (length c.args.self.now.bytes.now) c.requires.room }
+is_present-requires c = record { holds = c.requires.holds; room = apart c.args.place 8 8 (length c.args.self.now.bytes.value.came) c.requires.room }
 
 pub is_absent-requires : goal.is_absent-requires
-is_absent-requires c = record { room = apart c.args.place 8 8 (length c.args.self.now.bytes.now) c.requires.room }
+is_absent-requires c = record { holds = c.requires.holds; room = apart c.args.place 8 8 (length c.args.self.now.bytes.value.came) c.requires.room }
 
 pub next_multiple_of-size-requires-clause-nonzero : goal.next_multiple_of-size-requires-clause-nonzero
 next_multiple_of-size-requires-clause-nonzero c = some_8
 
 pub next_multiple_of-size-requires-clause-fits : goal.next_multiple_of-size-requires-clause-fits
-next_multiple_of-size-requires-clause-fits c = rounded_left c.u64_at-count.result c.args.state.now.next (length c.args.self.now.bytes.now) c.if-count-rest.false c.args.self.now.short
+next_multiple_of-size-requires-clause-fits c = rounded_left c.u64_at-count.result c.args.state.now.next (length c.args.self.now.bytes.value.came) (size_fits c.args.self.now.sized _ _ c.if-count-rest.false) c.args.self.now.short
 
 pub overflow_add-from-2 : goal.overflow_add-from-2
-overflow_add-from-2 c = record { fits = small _ (length c.args.self.now.bytes.now) ((ended c.args.state.now.next c.next_multiple_of-size.result (length c.args.self.now.bytes.now) c.requires.state.next c.if-size-rest.false)) c.args.self.now.short }
+overflow_add-from-2 c = record { fits = small _ (length c.args.self.now.bytes.value.came) ((ended c.args.state.now.next c.next_multiple_of-size.result (length c.args.self.now.bytes.value.came) c.requires.state.next (size_fits c.args.self.now.sized _ _ c.if-size-rest.false))) c.args.self.now.short }
 
 pub overflow_add-place-2 : goal.overflow_add-place-2
-overflow_add-place-2 c = record { fits = small _ (length c.args.self.now.bytes.now) (front c.args.place 8 8 (length c.args.self.now.bytes.now) c.requires.room) c.args.self.now.short }
+overflow_add-place-2 c = record { fits = small _ (length c.args.self.now.bytes.value.came) (front c.args.place 8 8 (length c.args.self.now.bytes.value.came) c.requires.room) c.args.self.now.short }
 
 pub overflow_add-state-2 : goal.overflow_add-state-2
-overflow_add-state-2 c = record { fits = small _ (length c.args.self.now.bytes.now) ((ended c.args.state.now.next c.next_multiple_of-size.result (length c.args.self.now.bytes.now) c.requires.state.next c.if-size-rest.false)) c.args.self.now.short }
+overflow_add-state-2 c = record { fits = small _ (length c.args.self.now.bytes.value.came) ((ended c.args.state.now.next c.next_multiple_of-size.result (length c.args.self.now.bytes.value.came) c.requires.state.next (size_fits c.args.self.now.sized _ _ c.if-size-rest.false))) c.args.self.now.short }
 
 pub zeros_at-requires-clause-order : goal.zeros_at-requires-clause-order
 zeros_at-requires-clause-order c = part_order c.args.state.now.next c.u64_at-count.result c.next_multiple_of-size.result c.next_multiple_of-size.ensures.lower_bound
 
 pub zeros_at-requires-clause-room : goal.zeros_at-requires-clause-room
-zeros_at-requires-clause-room c = (ended c.args.state.now.next c.next_multiple_of-size.result (length c.args.self.now.bytes.now) c.requires.state.next c.if-size-rest.false)
+zeros_at-requires-clause-room c = (ended c.args.state.now.next c.next_multiple_of-size.result (length c.args.self.now.bytes.value.came) c.requires.state.next (size_fits c.args.self.now.sized _ _ c.if-size-rest.false))
 
 pub link-requires-clause-marker : goal.link-requires-clause-marker
-link-requires-clause-marker c = inside (c.args.place + 8) 7 (length c.args.self.now.bytes.now) (apart c.args.place 8 8 (length c.args.self.now.bytes.now) c.requires.room) c.args.self.now.short
+link-requires-clause-marker c = inside (c.args.place + 8) 7 (length c.args.self.now.bytes.value.came) (apart c.args.place 8 8 (length c.args.self.now.bytes.value.came) c.requires.room) c.args.self.now.short
 
 pub link-requires-clause-object : goal.link-requires-clause-object
-link-requires-clause-object c = at_most c.args.state.now.next (length c.args.self.now.bytes.now) c.requires.state.next c.args.self.now.short
+link-requires-clause-object c = at_most c.args.state.now.next (length c.args.self.now.bytes.value.came) c.requires.state.next c.args.self.now.short
 
 pub returns-then-not-is_absent-clause-least : goal.returns-then-not-is_absent-clause-least
 returns-then-not-is_absent-clause-least c = tt
@@ -279,11 +279,11 @@ returns-in_err-zeros_at-clause-least c = no_ok c.from_residual.result c.in_err-z
 pub returns-then-not-is_present-clause-least : goal.returns-then-not-is_present-clause-least
 returns-then-not-is_present-clause-least c = λ to x.
     let short = c.args.self.now.short in
-    let none : count_at c.args.self.now.bytes.now c.args.place ≡ 0 = sym c.u64_at-count.ensures ∙ c.if-count-ne0.false in
-    omega (arith, none, text_work (declarations_of c.args.self.now.table.now) (message_of c.args.self.now.bytes.now c.args.self.now.handles.now) (omega (arith, short)) c.args.depth (is_optional c.args.entry.now) c.args.entry.now.bound c.args.place (at_of c.args.state.now) to x)
+    let none : count_at c.args.self.now.bytes.value.came c.args.place ≡ 0 = sym c.u64_at-count.ensures ∙ c.if-count-ne0.false in
+    omega (arith, none, text_work (declarations_of c.args.self.now.table.now) (message_of c.args.self.now.bytes.value.came c.args.self.now.handles.now) (omega (arith, short)) c.args.depth (is_optional c.args.entry.now) c.args.entry.now.bound c.args.place (at_of c.args.state.now) to x)
 
 pub returns-clause-least : goal.returns-clause-least
 returns-clause-least c = λ to x.
     let short = c.args.self.now.short in
-    let counted : count_at c.args.self.now.bytes.now c.args.place ≡ c.u64_at-count.result = sym c.u64_at-count.ensures in
-    omega (arith, counted, c.next_multiple_of-size.ensures.lower_bound, text_work (declarations_of c.args.self.now.table.now) (message_of c.args.self.now.bytes.now c.args.self.now.handles.now) (omega (arith, short)) c.args.depth (is_optional c.args.entry.now) c.args.entry.now.bound c.args.place (at_of c.args.state.now) to x)
+    let counted : count_at c.args.self.now.bytes.value.came c.args.place ≡ c.u64_at-count.result = sym c.u64_at-count.ensures in
+    omega (arith, counted, c.next_multiple_of-size.ensures.lower_bound, text_work (declarations_of c.args.self.now.table.now) (message_of c.args.self.now.bytes.value.came c.args.self.now.handles.now) (omega (arith, short)) c.args.depth (is_optional c.args.entry.now) c.args.entry.now.bound c.args.place (at_of c.args.state.now) to x)

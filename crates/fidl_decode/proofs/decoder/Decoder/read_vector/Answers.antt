@@ -1,3 +1,4 @@
+use Rattle.fidl_decode.proofs.Unchanged.{size_short, size_fits, size_room}
 use Rattle.fidl_decode.proofs.Fitting.{front, apart, inside, at_most, small, ended, deeper, some_8}
 use Rattle.std.proofs.Common.{◌≡◌, ℕ, ◌+◌, ◌-◌, ◌*◌, ◌<◌, refl, sym, ap, subst, ◌∙◌, arith, inl, inr, length}
 use Rattle.std.specs.Prelude.{Option, Some}
@@ -19,7 +20,7 @@ use Rattle.fidl_decode.proofs.decoder.Decoder.read_vector.Goals as goal
 pub returns-in-Absent-clause-ok : goal.returns-in-Absent-clause-ok
 returns-in-Absent-clause-ok c =
     let own = ap is_optional c.entry-e.ensures.value in
-    visits_absent_vector c.args.self.now.table.now c.args.self.now.fine (message_of c.args.self.now.bytes.now c.args.self.now.handles.now) c.args.depth c.args.entry c.args.place (at_of c.args.state.now) c.requires.entry c.requires.kind c.requires.state c.requires.depth (c.args.state.now.steps - c.args.state.now.steps) (omega arith)
+    visits_absent_vector c.args.self.now.table.now c.args.self.now.fine (message_of c.args.self.now.bytes.value.came c.args.self.now.handles.now) c.args.depth c.args.entry c.args.place (at_of c.args.state.now) c.requires.entry c.requires.kind c.requires.state c.requires.depth (c.args.state.now.steps - c.args.state.now.steps) (omega arith)
     (sym own ∙ sym c.is_optional.ensures ∙ c.if-not-is_optional.false) c.in-Absent.ensures (omega (arith, c.requires.room)) (λ i. omega (arith, c.args.self.now.octets i)) (sym c.u64_at-count.ensures ∙ c.if-count-ne0.false)
 
 pub entry-element-requires : goal.entry-element-requires
@@ -29,8 +30,8 @@ entry-element-requires c =
 
 pub returns-then-count-rest-clause-fault_is_true : goal.returns-then-count-rest-clause-fault_is_true
 returns-then-count-rest-clause-fault_is_true c =
-    let many = count_fits c.args.self.now.table.now c.args.self.now.fine (message_of c.args.self.now.bytes.now c.args.self.now.handles.now) c.args.depth c.args.entry c.args.place (at_of c.args.state.now) c.requires.entry c.requires.kind in
-    (refl, inr (c.in-Present.ensures, omega (arith, many, c.u64_at-count.ensures, c.if-count-rest.true)))
+    let many = count_fits c.args.self.now.table.now c.args.self.now.fine (message_of c.args.self.now.bytes.value.came c.args.self.now.handles.now) c.args.depth c.args.entry c.args.place (at_of c.args.state.now) c.requires.entry c.requires.kind in
+    (refl, inr (c.in-Present.ensures, omega (arith, many, c.u64_at-count.ensures, (size_short c.args.self.now.sized _ _ c.if-count-rest.true))))
 
 pub overflow_add-result-2 : goal.overflow_add-result-2
 overflow_add-result-2 c =
@@ -43,11 +44,11 @@ overflow_add-result-2 c =
 pub returns-clause-ok : goal.returns-clause-ok
 returns-clause-ok c =
     let t = c.args.self.now.table.now in
-    let m = message_of c.args.self.now.bytes.now c.args.self.now.handles.now in
+    let m = message_of c.args.self.now.bytes.value.came c.args.self.now.handles.now in
     let old = at_of c.args.state.now in
     let d = entry_at t c.args.entry in
     let inner = entry_at t d.first in
-    let n = count_at c.args.self.now.bytes.now c.args.place in
+    let n = count_at c.args.self.now.bytes.value.came c.args.place in
     let holder : c.entry-e.result ≡ d = c.entry-e.ensures.value in
     let element : c.entry-element.result ≡ inner = c.entry-element.ensures.value ∙ ap (λ (d : Entry). entry_at t d.first) holder in
     let number : c.u64_at-count.result ≡ n = c.u64_at-count.ensures in
@@ -59,18 +60,18 @@ returns-clause-ok c =
     let same : linked (c.args.place + 8) (inner.size * n) old ≡ record { next = old.next + c.next_multiple_of-size.result; handle = old.handle; objects = c.link.new.self.objects; records = c.link.new.self.records }
     = λ i. record { next = old.next + sym value i; handle = old.handle; objects = sym c.link.ensures.objects i; records = sym c.link.ensures.records i } in
     let opened = visits_vector t c.args.self.now.fine m c.args.depth c.args.entry c.args.place old c.requires.entry c.requires.kind c.requires.state c.requires.depth (c.args.state.now.steps - c.args.state.now.steps) (omega arith) c.in-Present.ensures (omega (arith, c.requires.depth, c.if-depth-eq-MAX_DEPTH.false)) (omega (arith, number, bound, c.if-count-e.false))
-    (omega (arith, value, c.if-size-rest.false)) (omega (arith, c.requires.room)) (λ i. omega (arith, c.args.self.now.octets i)) in
+    (omega (arith, value, (size_fits c.args.self.now.sized _ _ c.if-size-rest.false))) (omega (arith, c.requires.room)) (λ i. omega (arith, c.args.self.now.octets i)) in
     subst (λ (s : Position). Visits t m c.args.depth c.args.entry c.args.place old s (c.args.state.now.steps - c.args.state.now.steps) (frame c.entry-e.result c.entry-element.result c.u64_at-count.result c.next_multiple_of-size.result)) same
     (subst (λ (o : Option Frame). Visits t m c.args.depth c.args.entry c.args.place old (linked (c.args.place + 8) (inner.size * n) old) (c.args.state.now.steps - c.args.state.now.steps) o) found opened)
 
 pub returns-clause-fine : goal.returns-clause-fine
 returns-clause-fine c around few =
     let t = c.args.self.now.table.now in
-    let m = message_of c.args.self.now.bytes.now c.args.self.now.handles.now in
+    let m = message_of c.args.self.now.bytes.value.came c.args.self.now.handles.now in
     let old = at_of c.args.state.now in
     let d = entry_at t c.args.entry in
     let inner = entry_at t d.first in
-    let n = count_at c.args.self.now.bytes.now c.args.place in
+    let n = count_at c.args.self.now.bytes.value.came c.args.place in
     let holder : c.entry-e.result ≡ d = c.entry-e.ensures.value in
     let element : c.entry-element.result ≡ inner = c.entry-element.ensures.value ∙ ap (λ (d : Entry). entry_at t d.first) holder in
     let number : c.u64_at-count.result ≡ n = c.u64_at-count.ensures in
@@ -78,7 +79,7 @@ returns-clause-fine c around few =
     let frame : Entry → Entry → (k size : ℕ) → Option Frame = λ h e k size. Some (record { left = Elements h.first e.size k; base = old.next; done = 0; size = size; nest = e.nest + 1; depth = c.args.depth + 1; in_envelope = 0 }) in
     let found : frame d inner n (next_multiple_of (inner.size * n) 8) ≡ frame c.entry-e.result c.entry-element.result c.u64_at-count.result c.next_multiple_of-size.result
     = λ i. frame (sym holder i) (sym element i) (sym number i) (sym value i) in
-    let opened = vector_fine t c.args.self.now.fine m c.args.depth c.args.entry c.args.place old c.requires.entry c.requires.kind c.requires.state c.requires.depth (omega (arith, c.requires.depth, c.if-depth-eq-MAX_DEPTH.false)) (omega (arith, value, c.if-size-rest.false)) around few in
+    let opened = vector_fine t c.args.self.now.fine m c.args.depth c.args.entry c.args.place old c.requires.entry c.requires.kind c.requires.state c.requires.depth (omega (arith, c.requires.depth, c.if-depth-eq-MAX_DEPTH.false)) (omega (arith, value, (size_fits c.args.self.now.sized _ _ c.if-size-rest.false))) around few in
     subst (λ (o : Option Frame). VisitFine t m c.args.depth around c.args.entry o) found opened
 
 pub returns-in-Neither-clause-ok : goal.returns-in-Neither-clause-ok
@@ -146,8 +147,8 @@ returns-then-used-rest-clause-fault_is_true c =
     let t = c.args.self.now.table.now in
     let d = entry_at t c.args.entry in
     let element : c.entry-element.result ≡ entry_at t d.first = c.entry-element.ensures.value ∙ ap (λ (d : Entry). entry_at t d.first) c.entry-e.ensures.value in
-    let used : c.entry-element.result.size * c.u64_at-count.result ≡ (entry_at t d.first).size * count_at c.args.self.now.bytes.now c.args.place = λ i. (element i).size * c.u64_at-count.ensures i in
-    (refl, inr (c.in-Present.ensures, subst (λ k. length c.args.self.now.bytes.now - c.args.state.now.next < k) used c.if-used-rest.true))
+    let used : c.entry-element.result.size * c.u64_at-count.result ≡ (entry_at t d.first).size * count_at c.args.self.now.bytes.value.came c.args.place = λ i. (element i).size * c.u64_at-count.ensures i in
+    (refl, inr (c.in-Present.ensures, subst (λ k. length c.args.self.now.bytes.value.came - c.args.state.now.next < k) used (size_short c.args.self.now.sized _ _ c.if-used-rest.true)))
 
 pub returns-then-used-rest-clause-steps : goal.returns-then-used-rest-clause-steps
 returns-then-used-rest-clause-steps c = refl
@@ -189,9 +190,9 @@ returns-then-size-rest-clause-fault_is_true c =
     let t = c.args.self.now.table.now in
     let d = entry_at t c.args.entry in
     let element : c.entry-element.result ≡ entry_at t d.first = c.entry-element.ensures.value ∙ ap (λ (d : Entry). entry_at t d.first) c.entry-e.ensures.value in
-    let used : c.entry-element.result.size * c.u64_at-count.result ≡ (entry_at t d.first).size * count_at c.args.self.now.bytes.now c.args.place = λ i. (element i).size * c.u64_at-count.ensures i in
+    let used : c.entry-element.result.size * c.u64_at-count.result ≡ (entry_at t d.first).size * count_at c.args.self.now.bytes.value.came c.args.place = λ i. (element i).size * c.u64_at-count.ensures i in
     let value = c.next_multiple_of-size.ensures.value ∙ ap (λ k. next_multiple_of k 8) used in
-    (refl, c.in-Present.ensures, subst (λ k. length c.args.self.now.bytes.now - c.args.state.now.next < k) value c.if-size-rest.true)
+    (refl, c.in-Present.ensures, subst (λ k. length c.args.self.now.bytes.value.came - c.args.state.now.next < k) value (size_short c.args.self.now.sized _ _ c.if-size-rest.true))
 
 pub returns-then-size-rest-clause-steps : goal.returns-then-size-rest-clause-steps
 returns-then-size-rest-clause-steps c = refl
@@ -206,37 +207,37 @@ pub entry-e-requires : goal.entry-e-requires
 entry-e-requires c = c.requires.entry
 
 pub u64_at-count-requires : goal.u64_at-count-requires
-u64_at-count-requires c = front c.args.place 8 8 (length c.args.self.now.bytes.now) c.requires.room
+u64_at-count-requires c = record { holds = c.requires.holds; room = front c.args.place 8 8 (length c.args.self.now.bytes.value.came) c.requires.room }
 
 pub overflow_add-place : goal.overflow_add-place
-overflow_add-place c = record { fits = small _ (length c.args.self.now.bytes.now) (front c.args.place 8 8 (length c.args.self.now.bytes.now) c.requires.room) c.args.self.now.short }
+overflow_add-place c = record { fits = small _ (length c.args.self.now.bytes.value.came) (front c.args.place 8 8 (length c.args.self.now.bytes.value.came) c.requires.room) c.args.self.now.short }
 
 pub presence-requires : goal.presence-requires
-presence-requires c = record { room = apart c.args.place 8 8 (length c.args.self.now.bytes.now) c.requires.room }
+presence-requires c = record { holds = c.requires.holds; room = apart c.args.place 8 8 (length c.args.self.now.bytes.value.came) c.requires.room }
 
 pub overflow_add-result : goal.overflow_add-result
-overflow_add-result c = record { fits = small _ (length c.args.self.now.bytes.now) (front c.args.place 8 8 (length c.args.self.now.bytes.now) c.requires.room) c.args.self.now.short }
+overflow_add-result c = record { fits = small _ (length c.args.self.now.bytes.value.came) (front c.args.place 8 8 (length c.args.self.now.bytes.value.came) c.requires.room) c.args.self.now.short }
 
 pub is_optional-requires : goal.is_optional-requires
 is_optional-requires c = tt
 
 pub overflow_sub-rest : goal.overflow_sub-rest
-overflow_sub-rest c = c.requires.state.next
+overflow_sub-rest c = size_room c.args.self.now.sized _ c.requires.state.next
 
 pub next_multiple_of-size-requires-clause-nonzero : goal.next_multiple_of-size-requires-clause-nonzero
 next_multiple_of-size-requires-clause-nonzero c = some_8
 
 pub overflow_add-place-2 : goal.overflow_add-place-2
-overflow_add-place-2 c = record { fits = small _ (length c.args.self.now.bytes.now) (front c.args.place 8 8 (length c.args.self.now.bytes.now) c.requires.room) c.args.self.now.short }
+overflow_add-place-2 c = record { fits = small _ (length c.args.self.now.bytes.value.came) (front c.args.place 8 8 (length c.args.self.now.bytes.value.came) c.requires.room) c.args.self.now.short }
 
 pub link-requires-clause-marker : goal.link-requires-clause-marker
-link-requires-clause-marker c = inside (c.args.place + 8) 7 (length c.args.self.now.bytes.now) (apart c.args.place 8 8 (length c.args.self.now.bytes.now) c.requires.room) c.args.self.now.short
+link-requires-clause-marker c = inside (c.args.place + 8) 7 (length c.args.self.now.bytes.value.came) (apart c.args.place 8 8 (length c.args.self.now.bytes.value.came) c.requires.room) c.args.self.now.short
 
 pub link-requires-clause-object : goal.link-requires-clause-object
-link-requires-clause-object c = at_most c.args.state.now.next (length c.args.self.now.bytes.now) c.requires.state.next c.args.self.now.short
+link-requires-clause-object c = at_most c.args.state.now.next (length c.args.self.now.bytes.value.came) c.requires.state.next c.args.self.now.short
 
 pub overflow_add-state : goal.overflow_add-state
-overflow_add-state c = record { fits = small _ (length c.args.self.now.bytes.now) (ended c.args.state.now.next c.next_multiple_of-size.result (length c.args.self.now.bytes.now) c.requires.state.next c.if-size-rest.false) c.args.self.now.short }
+overflow_add-state c = record { fits = small _ (length c.args.self.now.bytes.value.came) (ended c.args.state.now.next c.next_multiple_of-size.result (length c.args.self.now.bytes.value.came) c.requires.state.next (size_fits c.args.self.now.sized _ _ c.if-size-rest.false)) c.args.self.now.short }
 
 pub overflow_add-result-3 : goal.overflow_add-result-3
 overflow_add-result-3 c = record { fits = deeper c.args.depth c.requires.depth }

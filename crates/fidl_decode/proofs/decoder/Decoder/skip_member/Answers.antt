@@ -1,3 +1,4 @@
+use Rattle.fidl_decode.proofs.Unchanged.{size_short, size_fits}
 use Rattle.std.proofs.Common.{◌≡◌, ◌+◌, ◌-◌, ◌≤◌, ℕ, List, length, refl, sym, ap, subst, ◌∙◌, arith}
 use Rattle.fidl_wire.specs.Typed.{IsUnknownLength}
 use Rattle.std.specs.Prelude.{false, ◌/◌, ◌↔◌, slice_set, None}
@@ -15,15 +16,15 @@ use Rattle.fidl_decode.proofs.decoder.Decoder.skip_member.Goals as goal
 
 pub returns-then-handles-self : goal.returns-then-handles-self
 returns-then-handles-self c =
-    let m = message_of c.args.self.now.bytes.now c.args.self.now.handles.now in
+    let m = message_of c.args.self.now.bytes.value.came c.args.self.now.handles.now in
     let ds = declarations_of c.args.self.now.table.now in
     let old = at_of c.args.state.now in
     let r = unknown_refuse ds c.args.self.now.fine.laid_out m (c.args.self.now.short, c.requires.state.few) c.args.depth c.args.envelope old (HandleMissing c.args.envelope) (refl, omega (arith, c.if-handles-self.true, c.handle_count_at-handles.ensures)) in
-    record { ok = tt; state = c.requires.state; fault_is_true = r.0; steps = refl; grows = omega arith }
+    record { holds = c.requires.holds; ok = tt; state = c.requires.state; fault_is_true = r.0; steps = refl; grows = omega arith }
 
 pub returns-then-flags-eq1 : goal.returns-then-flags-eq1
 returns-then-flags-eq1 c =
-    let m = message_of c.args.self.now.bytes.now c.args.self.now.handles.now in
+    let m = message_of c.args.self.now.bytes.value.came c.args.self.now.handles.now in
     let ds = declarations_of c.args.self.now.table.now in
     let old = at_of c.args.state.now in
     let new : Position = record { next = old.next; handle = old.handle + c.handle_count_at-handles.result; objects = c.record.new.self.objects; records = c.record.new.self.records } in
@@ -35,11 +36,11 @@ returns-then-flags-eq1 c =
     let x = skips_inside ds c.args.self.now.fine.laid_out m (c.args.self.now.short, c.requires.state.few) c.args.depth c.args.envelope old c.requires.room (λ i. omega (arith, c.args.self.now.octets i)) are some (sym c.flags_at-flags.ensures ∙ c.if-flags-eq1.true) c.requires.depth in
     let inner = c.requires.state.handle in
     let ok : (to : Position) → Contained ds m c.args.depth None c.args.envelope old to ↔ (new ≡ to) = subst (λ (s : Position). (to : Position) → Contained ds m c.args.depth None c.args.envelope old to ↔ (s ≡ to)) led x in
-    record { ok = ok; state = record { next = c.requires.state.next; handle = omega (arith, inner, c.if-handles-self.false); few = c.requires.state.few }; fault_is_true = tt; steps = refl; grows = omega arith }
+    record { holds = c.record.ensures.came ∙ c.requires.holds; ok = ok; state = record { next = c.requires.state.next; handle = omega (arith, inner, c.if-handles-self.false); few = c.requires.state.few }; fault_is_true = tt; steps = refl; grows = omega arith }
 
 pub returns-then-flags-ne0 : goal.returns-then-flags-ne0
 returns-then-flags-ne0 c =
-    let m = message_of c.args.self.now.bytes.now c.args.self.now.handles.now in
+    let m = message_of c.args.self.now.bytes.value.came c.args.self.now.handles.now in
     let ds = declarations_of c.args.self.now.table.now in
     let old = at_of c.args.state.now in
     let r = unknown_refuse ds c.args.self.now.fine.laid_out m (c.args.self.now.short, c.requires.state.few) c.args.depth c.args.envelope old (BadEnvelope c.args.envelope) (
@@ -50,35 +51,35 @@ returns-then-flags-ne0 c =
         | then-flags-ne0-via-else-flags-ne0+else-counted-eq0+then-counted-ne0 w ↦ omega (arith, w.if-counted-ne0.true, c.byte_count_at-counted.ensures, u.1)
       ]),
     ) in
-    record { ok = tt; state = c.requires.state; fault_is_true = r.0; steps = refl; grows = omega arith }
+    record { holds = c.requires.holds; ok = tt; state = c.requires.state; fault_is_true = r.0; steps = refl; grows = omega arith }
 
 pub returns-then-depth-eq-MAX_DEPTH : goal.returns-then-depth-eq-MAX_DEPTH
 returns-then-depth-eq-MAX_DEPTH c =
-    let m = message_of c.args.self.now.bytes.now c.args.self.now.handles.now in
+    let m = message_of c.args.self.now.bytes.value.came c.args.self.now.handles.now in
     let ds = declarations_of c.args.self.now.table.now in
     let old = at_of c.args.state.now in
     let r = unknown_refuse ds c.args.self.now.fine.laid_out m (c.args.self.now.short, c.requires.state.few) c.args.depth c.args.envelope old (TooDeep c.args.envelope) (refl, sym c.flags_at-flags.ensures ∙ c.if-flags-ne0.false, omega (arith, c.if-depth-eq-MAX_DEPTH.true)) in
-    record { ok = tt; state = c.requires.state; fault_is_true = r.0; steps = refl; grows = omega arith }
+    record { holds = c.requires.holds; ok = tt; state = c.requires.state; fault_is_true = r.0; steps = refl; grows = omega arith }
 
 pub returns-then-counted-self : goal.returns-then-counted-self
 returns-then-counted-self c =
-    let m = message_of c.args.self.now.bytes.now c.args.self.now.handles.now in
+    let m = message_of c.args.self.now.bytes.value.came c.args.self.now.handles.now in
     let ds = declarations_of c.args.self.now.table.now in
     let old = at_of c.args.state.now in
-    let r = unknown_refuse ds c.args.self.now.fine.laid_out m (c.args.self.now.short, c.requires.state.few) c.args.depth c.args.envelope old (Truncated old.next) (refl, sym c.flags_at-flags.ensures ∙ c.if-flags-ne0.false, omega (arith, c.if-counted-self.true, c.byte_count_at-counted.ensures)) in
-    record { ok = tt; state = c.requires.state; fault_is_true = r.0; steps = refl; grows = omega arith }
+    let r = unknown_refuse ds c.args.self.now.fine.laid_out m (c.args.self.now.short, c.requires.state.few) c.args.depth c.args.envelope old (Truncated old.next) (refl, sym c.flags_at-flags.ensures ∙ c.if-flags-ne0.false, omega (arith, (size_short c.args.self.now.sized _ _ c.if-counted-self.true), c.byte_count_at-counted.ensures)) in
+    record { holds = c.requires.holds; ok = tt; state = c.requires.state; fault_is_true = r.0; steps = refl; grows = omega arith }
 
 pub returns-then-handles-self-2 : goal.returns-then-handles-self-2
 returns-then-handles-self-2 c =
-    let m = message_of c.args.self.now.bytes.now c.args.self.now.handles.now in
+    let m = message_of c.args.self.now.bytes.value.came c.args.self.now.handles.now in
     let ds = declarations_of c.args.self.now.table.now in
     let old = at_of c.args.state.now in
     let r = unknown_refuse ds c.args.self.now.fine.laid_out m (c.args.self.now.short, c.requires.state.few) c.args.depth c.args.envelope old (HandleMissing c.args.envelope) (refl, omega (arith, c.if-handles-self-2.true, c.handle_count_at-handles.ensures)) in
-    record { ok = tt; state = c.requires.state; fault_is_true = r.0; steps = refl; grows = omega arith }
+    record { holds = c.requires.holds; ok = tt; state = c.requires.state; fault_is_true = r.0; steps = refl; grows = omega arith }
 
 pub returns : goal.returns
 returns c =
-    let m = message_of c.args.self.now.bytes.now c.args.self.now.handles.now in
+    let m = message_of c.args.self.now.bytes.value.came c.args.self.now.handles.now in
     let ds = declarations_of c.args.self.now.table.now in
     let old = at_of c.args.state.now in
     let new : Position = record { next = old.next + c.byte_count_at-counted.result; handle = old.handle + c.handle_count_at-handles.result; objects = c.link.new.self.objects; records = c.link.new.self.records } in
@@ -91,10 +92,10 @@ returns c =
     let led : passed (handles_below m.bytes c.args.envelope) (linked c.args.envelope (bytes_below m.bytes c.args.envelope) (opened c.args.envelope old)) ≡ new
     = λ i. record { next = old.next + wide i; handle = old.handle + sym many i; objects = sym objects i; records = sym records i } in
     let some : handles_below m.bytes c.args.envelope ≤ length m.handles - old.handle = omega (arith, c.if-handles-self-2.false, many) in
-    let fits : bytes_below m.bytes c.args.envelope ≤ length m.bytes - old.next = omega (arith, c.if-counted-self.false, much) in
+    let fits : bytes_below m.bytes c.args.envelope ≤ length m.bytes - old.next = omega (arith, (size_fits c.args.self.now.sized _ _ c.if-counted-self.false), much) in
     let are : AreHandles m.handles old.handle (handles_below m.bytes c.args.envelope) = subst (λ k. AreHandles m.handles old.handle k) many c.are_handles-2.ensures in
     let x = skips_below ds c.args.self.now.fine.laid_out m (c.args.self.now.short, c.requires.state.few) c.args.depth c.args.envelope old c.requires.room (λ i. omega (arith, c.args.self.now.octets i)) are some (sym c.flags_at-flags.ensures ∙ c.if-flags-ne0.false) whole (omega (arith, c.requires.depth, c.if-depth-eq-MAX_DEPTH.false)) fits in
     let inner = c.requires.state.handle in
     let bytes = c.requires.state.next in
     let ok : (to : Position) → Contained ds m c.args.depth None c.args.envelope old to ↔ (new ≡ to) = subst (λ (s : Position). (to : Position) → Contained ds m c.args.depth None c.args.envelope old to ↔ (s ≡ to)) led x in
-    record { ok = ok; state = record { next = omega (arith, bytes, c.if-counted-self.false); handle = omega (arith, inner, c.if-handles-self-2.false); few = c.requires.state.few }; fault_is_true = tt; steps = refl; grows = omega arith }
+    record { holds = c.link.ensures.came ∙ c.record-2.ensures.came ∙ c.requires.holds; ok = ok; state = record { next = omega (arith, bytes, (size_fits c.args.self.now.sized _ _ c.if-counted-self.false)); handle = omega (arith, inner, c.if-handles-self-2.false); few = c.requires.state.few }; fault_is_true = tt; steps = refl; grows = omega arith }

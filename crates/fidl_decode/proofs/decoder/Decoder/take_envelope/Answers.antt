@@ -21,17 +21,17 @@ no_true e = cc
 pub returns-then-is_absent-clause-ok : goal.returns-then-is_absent-clause-ok
 returns-then-is_absent-clause-ok c =
     let t = c.args.self.now.table.now in
-    let m = message_of c.args.self.now.bytes.now c.args.self.now.handles.now in
+    let m = message_of c.args.self.now.bytes.value.came c.args.self.now.handles.now in
     let same = same_frame c.args.frame (Envelopes c.args.entry c.args.read c.args.count) c.requires.left in
     let some = c.requires.some in
-    let z : Stands c.args.self.now.bytes.now (c.args.frame.base + c.args.frame.done) (zeros 8) = c.is_absent.ensures.0 c.if-is_absent.true in
+    let z : Stands c.args.self.now.bytes.value.came (c.args.frame.base + c.args.frame.done) (zeros 8) = c.is_absent.ensures.0 c.if-is_absent.true in
     subst (λ (f : Frame). Turns t m f (at_of c.args.state.now) (at_of c.args.state.now) (c.args.state.now.steps + 1 - c.args.state.now.steps) (record { below = None; rest = Some (going_on c.args.frame (Envelopes c.args.entry (c.args.read + 1) (c.args.count - 1)) (c.args.frame.done + 8)) })) (sym same)
     (envelope_absent t c.args.self.now.fine m (c.args.self.now.short, c.requires.state.few) c.args.frame c.args.entry c.args.read c.args.count (at_of c.args.state.now) (subst (λ (f : Frame). FrameFine t m.bytes f) same c.requires.frame) c.requires.state (c.args.read + 1) (c.args.count - 1) (add-one c.args.read) (omega (arith, some)) some z (c.args.state.now.steps + 1 - c.args.state.now.steps) (omega arith))
 
 pub read_member-requires-clause-budget : goal.read_member-requires-clause-budget
 read_member-requires-clause-budget c =
     let t = c.args.self.now.table.now in
-    let m = message_of c.args.self.now.bytes.now c.args.self.now.handles.now in
+    let m = message_of c.args.self.now.bytes.value.came c.args.self.now.handles.now in
     let f = c.args.frame in
     let old = at_of c.args.state.now in
     let same = same_frame f (Envelopes c.args.entry c.args.read c.args.count) c.requires.left in
@@ -45,7 +45,7 @@ read_member-requires-clause-budget c =
 pub returns-clause-ok : goal.returns-clause-ok
 returns-clause-ok c =
     let t = c.args.self.now.table.now in
-    let m = message_of c.args.self.now.bytes.now c.args.self.now.handles.now in
+    let m = message_of c.args.self.now.bytes.value.came c.args.self.now.handles.now in
     let f = c.args.frame in
     let old = at_of c.args.state.now in
     let same = same_frame f (Envelopes c.args.entry c.args.read c.args.count) c.requires.left in
@@ -71,7 +71,7 @@ returns-clause-ok c =
 pub returns-clause-rises : goal.returns-clause-rises
 returns-clause-rises c =
     let t = c.args.self.now.table.now in
-    let m = message_of c.args.self.now.bytes.now c.args.self.now.handles.now in
+    let m = message_of c.args.self.now.bytes.value.came c.args.self.now.handles.now in
     let f = c.args.frame in
     let old = at_of c.args.state.now in
     let same = same_frame f (Envelopes c.args.entry c.args.read c.args.count) c.requires.left in
@@ -85,7 +85,7 @@ returns-clause-rises c =
 pub returns-clause-cost : goal.returns-clause-cost
 returns-clause-cost c =
     let t = c.args.self.now.table.now in
-    let m = message_of c.args.self.now.bytes.now c.args.self.now.handles.now in
+    let m = message_of c.args.self.now.bytes.value.came c.args.self.now.handles.now in
     let f = c.args.frame in
     let old = at_of c.args.state.now in
     let same = same_frame f (Envelopes c.args.entry c.args.read c.args.count) c.requires.left in
@@ -99,7 +99,7 @@ returns-clause-cost c =
 pub returns-clause-fault_is_true : goal.returns-clause-fault_is_true
 returns-clause-fault_is_true c =
     let t = c.args.self.now.table.now in
-    let m = message_of c.args.self.now.bytes.now c.args.self.now.handles.now in
+    let m = message_of c.args.self.now.bytes.value.came c.args.self.now.handles.now in
     let f = c.args.frame in
     let old = at_of c.args.state.now in
     let same = same_frame f (Envelopes c.args.entry c.args.read c.args.count) c.requires.left in

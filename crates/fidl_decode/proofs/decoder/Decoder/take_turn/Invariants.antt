@@ -1,4 +1,4 @@
-use Rattle.std.proofs.Common.{◌-◌, ◌≤◌}
+use Rattle.std.proofs.Common.{◌≡◌, ◌-◌, ◌≤◌}
 use Rattle.std.specs.Prelude.{Some}
 use Rattle.fidl_decode_model.specs.Machine.{at_of, Turns, turn_work}
 use Rattle.fidl_decode_model.specs.Faults.{message_of}
@@ -8,9 +8,10 @@ use Rattle.fidl_decode.proofs.decoder.Decoder.take_turn.Given as goal
 -- what is read so far is a turn that leaves this frame
 abbrev pub invariant-loop-now : goal.invariant-loop-now
 invariant-loop-now l = record {
-  turns : Turns l.self.table.now (message_of l.self.bytes.now l.self.handles.now) l.fn.frame (at_of l.fn.state) (at_of l.state) (l.state.steps - l.fn.state.steps) (left_over (Some l.rest));
+  holds : l.state.links.came ≡ l.self.bytes.value.came;
+  turns : Turns l.self.table.now (message_of l.self.bytes.value.came l.self.handles.now) l.fn.frame (at_of l.fn.state) (at_of l.state) (l.state.steps - l.fn.state.steps) (left_over (Some l.rest));
   steps : l.fn.state.steps ≤ l.state.steps;
 }
 
 abbrev pub decreases-loop-now : goal.decreases-loop-now
-decreases-loop-now l = turn_work l.self.bytes.now l.state.next l.rest
+decreases-loop-now l = turn_work l.self.bytes.value.came l.state.next l.rest

@@ -11,4 +11,4 @@ pub returns-clause-least : goal.returns-clause-least
 returns-clause-least c = λ v h.
     let least = subst (λ (d : Shown). (v : Value) → Encodes (declarations_of d.table) (ty.named d.entry) v d.bytes d.handles → Work v ≤ d.steps) c.self.view_is c.self.invariant.3 in
     let same = ap (λ (d : Shown). d.steps) c.self.view_is in
-    omega (arith, least v h, c.steps.ensures, same)
+    omega (arith, least v h, same)

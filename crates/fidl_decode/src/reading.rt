@@ -1,0 +1,153 @@
+//! What the decoder reads of its message: the bytes as they came, which stand in the state.
+ghost use Rattle.std.specs.Prelude.{◌≡◌, ℕ, ◌+◌, ◌-◌, ◌%◌, ◌<◌, ◌≤◌, OnOk, IfErr, IsTrue};
+ghost use Rattle.std.specs.Prelude.{length, slice_index};
+ghost use Rattle.std.specs.Int.{byte_len, w32, w64};
+ghost use Rattle.fidl_wire.specs.Encoding.{zeros};
+ghost use Rattle.fidl_wire.specs.Envelope.{bytes_below, handles_below, flags_at};
+ghost use Rattle.fidl_wire.specs.Marker.{Says};
+ghost use Rattle.fidl_wire.specs.Field.{number_at};
+ghost use Rattle.fidl_wire.specs.Standing.{Stands};
+ghost use Rattle.fidl_wire.specs.Term.{width};
+ghost use Rattle.fidl_table_format.specs.Number.{number_standing};
+ghost use Rattle.fidl_table_format.specs.Terms.{as_number, value_number};
+ghost use Rattle.fidl_decode_model.specs.Breaks.{IsPadding};
+ghost use Rattle.fidl_decode.specs.Reading.{came, Holds};
+
+use crate::decoder::Decoder;
+use crate::passing_texts::{are_ascii, are_zeros};
+use fidl_decode_columns::zeros_at;
+use fidl_decode_model::DecodeFault;
+use fidl_decode_model::frame::State;
+use fidl_table_format::{EntryKind, number_bits};
+use fidl_wire::{Presence, byte_count_at, flags_at, handle_count_at, presence_at, u32_at, u64_at};
+
+impl<'t, 'm, 's> Decoder<'t, 'm, 's> {
+    /// The message.
+    #[inline(always)]
+    pub(crate) fn bytes<'a>(&self, state: &State<'a, '_>) -> &'a [u8]
+        requires holds { Holds self.now state.now }
+        ensures { result.now ≡ came self.now }
+    {
+        state.links.bytes()
+    }
+
+    /// The byte at a place.
+    #[inline(always)]
+    pub(crate) fn byte_at(&self, place: usize, state: &State<'_, '_>) -> u8
+        requires holds { Holds self.now state.now }
+        requires room { place < length (came self.now) }
+        ensures { result ≡ slice_index (came self.now) place }
+    {
+        self.bytes(state)[place]
+    }
+
+    /// The number of four bytes at a place.
+    #[inline(always)]
+    pub(crate) fn u32_at(&self, place: usize, state: &State<'_, '_>) -> u32
+        requires holds { Holds self.now state.now }
+        requires room { place + 4 ≤ length (came self.now) }
+        ensures { result ≡ number_at w32 (came self.now) place }
+    {
+        u32_at(self.bytes(state), place)
+    }
+
+    /// The number of eight bytes at a place.
+    #[inline(always)]
+    pub(crate) fn u64_at(&self, place: usize, state: &State<'_, '_>) -> u64
+        requires holds { Holds self.now state.now }
+        requires room { place + 8 ≤ length (came self.now) }
+        ensures { result ≡ number_at w64 (came self.now) place }
+    {
+        u64_at(self.bytes(state), place)
+    }
+
+    /// The number of a kind of numbers at a place, in 64 bits.
+    #[inline(always)]
+    pub(crate) fn number_bits(&self, kind: EntryKind, place: usize, state: &State<'_, '_>) -> u64
+        requires holds { Holds self.now state.now }
+        requires room { place + byte_len (width (as_number kind)) ≤ length (came self.now) }
+        ensures { value_number (as_number kind) result ≡ number_standing (as_number kind)
+            (came self.now) place }
+    {
+        number_bits(kind, self.bytes(state), place)
+    }
+
+    /// How many bytes lie out of line below the envelope at a place, or the four bytes in it.
+    #[inline(always)]
+    pub(crate) fn byte_count_at(&self, envelope: usize, state: &State<'_, '_>) -> u32
+        requires holds { Holds self.now state.now }
+        requires room { envelope + 8 ≤ length (came self.now) }
+        ensures { result ≡ bytes_below (came self.now) envelope }
+    {
+        byte_count_at(self.bytes(state), envelope)
+    }
+
+    /// How many handles lie below the envelope at a place.
+    #[inline(always)]
+    pub(crate) fn handle_count_at(&self, envelope: usize, state: &State<'_, '_>) -> u16
+        requires holds { Holds self.now state.now }
+        requires room { envelope + 8 ≤ length (came self.now) }
+        ensures { result ≡ handles_below (came self.now) envelope }
+    {
+        handle_count_at(self.bytes(state), envelope)
+    }
+
+    /// The flags of the envelope at a place.
+    #[inline(always)]
+    pub(crate) fn flags_at(&self, envelope: usize, state: &State<'_, '_>) -> u16
+        requires holds { Holds self.now state.now }
+        requires room { envelope + 8 ≤ length (came self.now) }
+        ensures { result ≡ flags_at (came self.now) envelope }
+    {
+        flags_at(self.bytes(state), envelope)
+    }
+
+    /// What the four bytes of a handle at a place say.
+    #[inline(always)]
+    pub(crate) fn presence_at(&self, place: usize, state: &State<'_, '_>) -> Presence
+        requires holds { Holds self.now state.now }
+        requires room { place + 4 ≤ length (came self.now) }
+        ensures { Says (came self.now) place 4 result }
+    {
+        presence_at(self.bytes(state), place, 4)
+    }
+
+    /// Zeros from one place to another.
+    #[inline(always)]
+    pub(crate) fn zeros_at(
+        &self,
+        from: usize,
+        to: usize,
+        state: &State<'_, '_>,
+    ) -> Result<(), DecodeFault>
+        requires holds { Holds self.now state.now }
+        requires order { from ≤ to }
+        requires room { to ≤ length (came self.now) }
+        ensures ok { OnOk result (Stands (came self.now) from (zeros (to - from))) }
+        ensures fault_is_true { IfErr result (IsPadding (came self.now) from to) }
+    {
+        zeros_at(self.bytes(state), from, to)
+    }
+
+    /// Whether so many bytes from a place on, whose number is a multiple of eight, are ASCII.
+    #[inline(always)]
+    pub(crate) fn are_ascii(&self, from: usize, size: usize, state: &State<'_, '_>) -> bool
+        requires holds { Holds self.now state.now }
+        requires eights { size % 8 ≡ 0 }
+        requires room { from + size ≤ length (came self.now) }
+        ensures { IsTrue result → (k : ℕ) → k < size → slice_index (came self.now) (from + k) < 128 }
+    {
+        are_ascii(self.bytes(state), from, size)
+    }
+
+    /// Whether the bytes from one place to another are zeros.
+    #[inline(always)]
+    pub(crate) fn are_zeros(&self, from: usize, to: usize, state: &State<'_, '_>) -> bool
+        requires holds { Holds self.now state.now }
+        requires order { from ≤ to }
+        requires room { to ≤ length (came self.now) }
+        ensures { IsTrue result → Stands (came self.now) from (zeros (to - from)) }
+    {
+        are_zeros(self.bytes(state), from, to)
+    }
+}
