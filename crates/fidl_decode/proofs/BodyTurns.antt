@@ -17,6 +17,7 @@ use Rattle.fidl_table_format.specs.Kind.{kind_of}
 use Rattle.fidl_table_format.specs.Terms.{declarations_of, members_of, term_as}
 use Rattle.fidl_wire.specs.Figure.{size_of}
 use Rattle.fidl_decode.specs.declared.body.TableBody.{TableBody}
+use Rattle.fidl_decode_model.proofs.Moving.{moves_below}
 use Rattle.fidl_decode_model.specs.declared.frame.Frame.{Frame}
 use Rattle.fidl_decode_model.specs.declared.frame.Remaining.TheVariants.{Envelopes}
 use Rattle.fidl_decode_model.specs.declared.frame.Turn.{Turn}
@@ -101,6 +102,7 @@ visits_on t m held e place old mid a g v new b n o le turns = record {
   breaks = λ fault b. v.breaks fault (turns.breaks fault (inr (new, refl, b)));
   least = λ to w y. let x = v.least to (0 + w + b) (turns.least to new 0 w refl y) in let worth = x.1 in (x.0, omega (arith, worth, le));
   state = turns.state;
+  moves = λ ahead read even. let p = v.moves ahead read even in moves_below t m place (place + size_of (declarations_of t) (ty.named e)) g old mid new o None p (turns.moves p.ahead p.below_clear);
   less = omega (arith, le, v.less, turns.less);
 }
 

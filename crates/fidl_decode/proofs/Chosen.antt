@@ -1,5 +1,5 @@
 -- Unions in a message: the visit of a union, whose member is in the envelope behind its ordinal.
-use Rattle.std.proofs.Common.{◌≡◌, ◌≢◌, ℕ, ◌+◌, ◌-◌, ◌*◌, ◌<◌, ◌≤◌, Bool, true, false, List, length, get_or, Some, None, refl, sym, ap, subst, ◌∙◌, arith}
+use Rattle.std.proofs.Common.{◌≡◌, ◌≢◌, ℕ, ◌+◌, ◌-◌, ◌*◌, ◌<◌, ◌≤◌, Bool, true, false, List, length, get_or, Some, None, refl, sym, ap, subst, ◌∙◌, arith, ◌%◌}
 use Rattle.std.specs.Prelude.{Option, IsTrue, IsFalse, IfSome, IfNone}
 use Rattle.std.specs.Option.{option_map_or, is_some}
 use Rattle.std.specs.Int.{w64, to_le_bytes}
@@ -19,6 +19,8 @@ use Rattle.fidl_table_format.specs.declared.record.Entry.{Entry}
 use Rattle.fidl_table_format.specs.Kind.{kind_of}
 use Rattle.fidl_table_format.specs.Section.{header_of, entry_at}
 use Rattle.fidl_table_format.specs.Terms.{declarations_of, members_of, term_as, rows_from, is_optional, is_strict}
+use Rattle.fidl_decode_model.proofs.Moving.{moves_none, moves_more}
+use Rattle.fidl_decode_model.specs.Frontier.{IsAhead, CanRead, Moves}
 use Rattle.fidl_decode_model.specs.declared.fault.DecodeFault.{DecodeFault}
 use Rattle.fidl_decode_model.specs.declared.frame.Frame.{Frame}
 use Rattle.fidl_decode_model.specs.Invariants.{IsFine}
@@ -128,6 +130,7 @@ module _ (t : List ℕ) (fine : IsFine t) (m : Message) (held e place : ℕ) (fr
         least = λ to w y. subst (λ (s : Position). ValueWorth ds m held term place from s (w + spent + 1)) y
             (subst (λ (u : Term). ValueWorth ds m held u place from from (w + spent + 1)) (sym union_is) (let x = absent_union ds m held (is_optional d) (is_strict d) rows place from may all deep in let le = x.1 in (x.0, omega (arith, le))));
         state = state;
+        moves = λ ahead read even. moves_none t m place (place + (figure_of ds.figures (ty.named e)).size) from ahead;
         less = omega (arith, nothing);
       }
 
@@ -150,6 +153,9 @@ module _ (t : List ℕ) (fine : IsFine t) (m : Message) (held e place : ℕ) (fr
               (let x = chosen_union ds m held (is_optional d) (is_strict d) rows place from here small to some may (w + own + 1) (o.least to w y) in let le = x.1 in (x.0, omega (arith, le, some_steps)));
           breaks = λ fault b. member_breaks fault (o.breaks fault b);
           state = o.state;
+          moves = subst (λ (f : Figure). IsAhead m from → CanRead from place f.size → place % f.align ≡ 0 → Moves t m place (place + f.size) from new found None) (sym union_figure)
+              (λ ahead read even. moves_more t m (place + 8) (place + 8 + 8) place (place + 16) from new found (omega arith) (omega arith)
+              (o.moves ahead (record { before = omega (arith, read.before); free = λ k x y. read.free k (omega (arith, x)) (omega (arith, y)) }) (omega (arith, even))));
           less = subst (λ (f : Figure). byte_work * (length m.bytes - new.next) + frame_work_if found + spent ≤ byte_work * (length m.bytes - from.next) + inline_work f.nest * f.size + 1) (sym union_figure) (omega (arith, pays, few));
         }
 

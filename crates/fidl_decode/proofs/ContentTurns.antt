@@ -8,6 +8,7 @@ use Rattle.fidl_wire.specs.Encoding.{zeros}
 use Rattle.fidl_wire.specs.Standing.{Stands}
 use Rattle.fidl_table_format.specs.Section.{header_of, entry_at}
 use Rattle.fidl_table_format.specs.Terms.{declarations_of}
+use Rattle.fidl_decode_model.proofs.Moving.{moves_none, apart_as}
 use Rattle.fidl_decode_model.specs.declared.fault.DecodeFault.{DecodeFault}
 use Rattle.fidl_decode_model.specs.declared.fault.DecodeFault.TheVariants.{WrongCounts}
 use Rattle.fidl_decode_model.specs.declared.frame.Frame.{Frame}
@@ -63,6 +64,7 @@ module _ (t : List ℕ) (fine : IsFine t) (m : Message) (f : Frame) (e size coun
         breaks = λ fault b. elim b [ inl x ↦ absurd x | inr y ↦ absurd y.2 ];
         least = λ to mid a b y k. (raised t m s old to (a + b + (f.base + f.size - (f.base + f.done) + 1)) (a + b + n) (omega (arith, is)) (ended.least to mid a b y k), subst (λ (k : Position). IsUntil u k) (y ∙ k) own);
         state = state;
+        moves = λ ahead clear. moves_none t m (g.base + g.done) (g.base + g.size) old ahead;
         below_fine = tt;
         rest_fine = tt;
         less = (let less = ended.less in omega (arith, less, is));
@@ -135,6 +137,17 @@ module _ (t : List ℕ) (fine : IsFine t) (m : Message) (f : Frame) (e size coun
           ];
           least = λ to mid a b y k. (raised t m s old to (a + b + (1 + spent)) (a + b + n) (omega (arith, is)) (one_more.least to mid a b y k.0), k.1);
           state = one_more.state;
+          moves = λ ahead clear.
+              let p = one_more.moves ahead (record { before = clear.before; free = clear.free; even = clear.even }) in
+              record {
+                stays = p.stays;
+                ahead = p.ahead;
+                below_clear = p.below_clear;
+                rest_clear = record { before = p.rest_clear.before; free = p.rest_clear.free; even = p.rest_clear.even };
+                below_in = p.below_in;
+                rest_in = p.rest_in;
+                apart = apart_as (going_on f (Elements e size (count - 1)) (f.done + size)) (going_on f (Content e size (count - 1) u) (f.done + size)) below refl refl p.apart;
+              };
           below_fine = one_more.below_fine;
           rest_fine = (record { left = rest.left; slots = tt; room = rest.room; some = rest.some; nest = rest.nest; depth = rest.depth; in_envelope = rest.in_envelope; rise = rest.rise }, one_more.rest_fine.1);
           less = (let less = one_more.less in omega (arith, less, is));

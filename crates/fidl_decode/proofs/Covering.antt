@@ -70,7 +70,7 @@ module _ (l : Linked) where
           → Fits l (member_at b place s) (member_at b place s + size) (begun b place size s) r × (enclosed_at l b place ≡ member_at b place s)
       go true e k fit =
           let small = le_of_test size e in
-          let many = length-set s.records ((place + 4) / 4) s.handle in
+          let many = length-set s.records ((place + 4) / 4) (s.handle + 1) in
           let before = fit.before in
           let room = fit.objects in
           let room_records = fit.records in (
@@ -86,7 +86,7 @@ module _ (l : Linked) where
       go false e k fit =
           let mid = begun false place size s in
           let many = length-set s.objects (place / 8) s.next in
-          let many_records = length-set s.records ((place + 4) / 4) s.handle in
+          let many_records = length-set s.records ((place + 4) / 4) (s.handle + 1) in
           let before = fit.before in
           let room = fit.objects in
           let room_records = fit.records in
@@ -105,9 +105,10 @@ module _ (l : Linked) where
           )
 
   -- the links lead from an envelope to its first record
-  pub first_is : (place : ℕ) (s r : Position) → s.next ≤ r.next → r.records ≡ slice_set s.records ((place + 4) / 4) s.handle → Fits l place (place + 8) s r → first_record_at l place ≡ s.handle
+  pub first_is : (place : ℕ) (s r : Position) → s.next ≤ r.next → r.records ≡ slice_set s.records ((place + 4) / 4) (s.handle + 1) → Fits l place (place + 8) s r → first_record_at l place ≡ s.handle
   first_is place s r grows same fit =
       let before = fit.before in
       let room_records = fit.records in
       let in_range : (place + 4) / 4 < length s.records = omega arith in
-      fit.near.records (place + 4) (omega arith) (omega arith) ∙ ap (λ cells. get_or cells ((place + 4) / 4) 0) same ∙ get_or-set_same s.records ((place + 4) / 4) s.handle 0 in_range
+      let cell = fit.near.records (place + 4) (omega arith) (omega arith) ∙ ap (λ cells. get_or cells ((place + 4) / 4) 0) same ∙ get_or-set_same s.records ((place + 4) / 4) (s.handle + 1) 0 in_range in
+      omega (arith, cell)

@@ -1,5 +1,5 @@
 -- An envelope that holds a known member: what of it is left to read, in a table.
-use Rattle.std.proofs.Common.{◌≡◌, ℕ, ◌+◌, ◌-◌, ◌*◌, ◌<◌, ◌≤◌, Bool, false, List, length, get_or, Some, refl, sym, ap, subst, ◌∙◌, arith, inl, inr}
+use Rattle.std.proofs.Common.{None, ◌≡◌, ℕ, ◌+◌, ◌-◌, ◌*◌, ◌<◌, ◌≤◌, Bool, false, List, length, get_or, Some, refl, sym, ap, subst, ◌∙◌, arith, inl, inr, ◌%◌}
 use Rattle.std.specs.Prelude.{◌↔◌, ◌⊎◌, ◌≢◌}
 use Rattle.std.specs.Int.{next_multiple_of}
 use Rattle.std.proofs.Math.Nat.{mul-le-mul_right}
@@ -13,6 +13,9 @@ use Rattle.fidl_wire.proofs.Sizes.{le-next_multiple_of}
 use Rattle.fidl_table_format.specs.declared.record.Entry.{Entry}
 use Rattle.fidl_table_format.specs.Section.{header_of, entry_at}
 use Rattle.fidl_table_format.specs.Terms.{declarations_of}
+use Rattle.fidl_decode_model.proofs.Aligned.{even_eights, no_names}
+use Rattle.fidl_decode_model.proofs.Moving.{moves_opened, moves_begun}
+use Rattle.fidl_decode_model.specs.Frontier.{IsAhead, CanRead, IsEven, Moves}
 use Rattle.fidl_decode_model.specs.Invariants.{IsFine}
 use Rattle.fidl_decode_model.specs.Faults.{IsWithin}
 use Rattle.fidl_decode_model.specs.declared.fault.DecodeFault.{DecodeFault}
@@ -64,6 +67,7 @@ pub record Enters (t : List ℕ) (m : Message) (held e p : ℕ) (old new : Posit
   pub fine : FrameFine t m.bytes frame
   pub deeper : level held 1 most_nest ≤ height frame
   pub state : StateFine m new
+  pub moves : IsAhead m old → CanRead old p 8 → p % 8 ≡ 0 → Moves t m p (p + 8) old new (Some frame) None
   pub work : ((new.next ≡ old.next) × (frame_work frame ≤ inline_work most_nest * 4 + 1)) ⊎ (frame_work frame ≤ inline_work most_nest * (new.next - old.next) + 1)
 
 module _ (t : List ℕ) (fine : IsFine t) (m : Message) (within : IsWithin m.bytes m.handles) (held e p : ℕ) (from : Position) (lt : e < (header_of t).entries) (room : p + 8 ≤ length m.bytes) (small : (i : ℕ) → get_or m.bytes i 0 < 256) (state : StateFine m from) (deep : held ≤ MAX_DEPTH) where
@@ -139,6 +143,7 @@ module _ (t : List ℕ) (fine : IsFine t) (m : Message) (within : IsWithin m.byt
     };
     deeper = omega (arith, few);
     state = record { next = state.next; handle = state.handle; few = state.few };
+    moves = λ ahead read even. let none : p ≡ p + 0 = omega arith in moves_opened t m p (inside_frame m e size d.nest held p from) from ahead read even refl refl refl (subst (λ q. IsEven ds u q) none (even_eights ds fine.laid_out (no_names t) u p even), tt);
     work = inl (refl, omega (arith, few));
   }
 
@@ -188,6 +193,8 @@ module _ (t : List ℕ) (fine : IsFine t) (m : Message) (within : IsWithin m.byt
           };
           deeper = omega (arith, few);
           state = record { next = omega (arith, inner, fits); handle = state.handle; few = state.few };
+          moves = λ ahead read even. let none : from.next ≡ from.next + 0 = omega arith in
+              moves_begun t m p size (below_frame m e size d.nest held p from) from ahead read even fits inner refl refl refl (subst (λ q. IsEven ds u q) none (even_eights ds fine.laid_out (no_names t) u from.next ahead.even), tt);
           work = inr below_work;
         }
 

@@ -1,5 +1,5 @@
 -- Turns on the envelopes of a table: the next is zeros, or holds a member.
-use Rattle.std.proofs.Common.{◌≡◌, ℕ, suc, ◌+◌, ◌-◌, ◌*◌, ◌<◌, ◌≤◌, List, refl, sym, ap, subst, ◌∙◌, arith, inl, inr}
+use Rattle.std.proofs.Common.{◌≡◌, ℕ, suc, ◌+◌, ◌-◌, ◌*◌, ◌<◌, ◌≤◌, List, refl, sym, ap, subst, ◌∙◌, arith, inl, inr, ◌%◌}
 use Rattle.std.specs.Prelude.{Option, Some, None, IfSome, IfNone}
 use Rattle.fidl_wire.specs.Term.{Rows, find}
 use Rattle.fidl_wire.specs.Term as ty
@@ -8,6 +8,8 @@ use Rattle.fidl_wire.specs.Encoding.{zeros}
 use Rattle.fidl_wire.specs.Standing.{Stands}
 use Rattle.fidl_table_format.specs.declared.record.Row as raw
 use Rattle.fidl_table_format.specs.Terms.{declarations_of, members_of}
+use Rattle.fidl_decode_model.proofs.Moving.{moves_none, moves_part}
+use Rattle.fidl_decode_model.specs.Frontier.{CanRead}
 use Rattle.fidl_decode_model.specs.declared.fault.DecodeFault.{DecodeFault}
 use Rattle.fidl_decode_model.specs.declared.frame.Frame.{Frame}
 use Rattle.fidl_decode_model.specs.declared.frame.Remaining.TheVariants.{Envelopes}
@@ -57,6 +59,7 @@ module _ (t : List ℕ) (fine : IsFine t) (m : Message) (within : IsWithin m.byt
         breaks = λ fault b. elim b [ inl x ↦ absurd x | inr y ↦ absurd y.2 ];
         least = λ to mid a b y z. subst (λ k. SlotsWorth ds m f.depth rows read k f.base old to (a + b + n)) (sym all) (subst (λ (s : Position). SlotsWorth ds m f.depth rows read read f.base old s (a + b + n)) (y ∙ z) (worth_end ds fine.laid_out m f.depth rows read f.base old ff.depth (a + b + n)));
         state = state;
+        moves = λ ahead clear. moves_none t m (g.base + g.done) (g.base + g.size) old ahead;
         below_fine = tt;
         rest_fine = tt;
         less = omega (arith, is);
@@ -128,6 +131,7 @@ module _ (t : List ℕ) (fine : IsFine t) (m : Message) (within : IsWithin m.byt
           ];
           least = λ to mid a b y w. let x = worth_zeros ds fine.laid_out m f.depth rows (read + count) f.base read (omega (arith, more)) old to z' b (worth_rest old to b (subst (λ (s : Position). ReadsWorth t m rest s to b) (sym y) w)) in let le = x.1 in (x.0, omega (arith, le));
           state = state;
+          moves = λ ahead clear. moves_part t m g place (place + 8) rest old old None clear (moves_none t m place (place + 8) old ahead) (omega arith) (omega arith) (omega arith) (omega arith) (omega (arith, pays.2)) clear.even;
           below_fine = tt;
           rest_fine = (rest_fine, omega arith);
           less = omega (arith, is, pays.0, pays.1, pays.2);
@@ -156,6 +160,11 @@ module _ (t : List ℕ) (fine : IsFine t) (m : Message) (within : IsWithin m.byt
             let le = x.1 in
             (x.0, omega (arith, le, some_steps));
         state = o.state;
+        moves = λ ahead clear.
+            let done = ff.slots.0 in
+            let even : place % 8 ≡ 0 = omega (arith, clear.even, done) in
+            let read : CanRead old place 8 = record { before = omega (arith, clear.before, pays.2); free = λ k x y. clear.free k x (omega (arith, y, pays.2)) } in
+            moves_part t m g place (place + 8) rest old new found clear (o.moves ahead read even) (omega arith) (omega arith) (omega arith) (omega arith) (omega (arith, pays.2)) clear.even;
         below_fine = (let nest = ff.slots.2 in let out = ff.slots.3 in fine_from t m.bytes _ (height g + 1) found (omega (arith, nest, out)) o.fine);
         rest_fine = (rest_fine, omega arith);
         less = omega (arith, own, few, pays.0, pays.1, pays.2);

@@ -27,7 +27,7 @@ pub ended : (next size len : ℕ) → next ≤ len → size ≤ len - next → n
 ended next size len h fits = omega arith
 
 -- the number of a handle
-pub few_32 : (k n : ℕ) → k ≤ n → n ≤ MAX_MESSAGE_HANDLES → k < 2 ^ 32
+pub few_32 : (k n : ℕ) → k ≤ n → n ≤ MAX_MESSAGE_HANDLES → k < 2 ^ 32 - 1
 few_32 k n h few = omega arith
 
 pub deeper : (d : ℕ) → d ≤ MAX_DEPTH → d + 1 < 2 ^ 8

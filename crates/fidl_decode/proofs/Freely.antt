@@ -26,7 +26,8 @@ use Rattle.fidl_table_format.specs.Terms.{declarations_of}
 use Rattle.fidl_decode_model.specs.Machine.{StateFine, Visits, Turns, Passes, Opens, behind_rows}
 use Rattle.fidl_decode_model.specs.Worth.{ContainedWorth}
 use Rattle.fidl_decode_model.specs.Envelopes.{IsUntil}
-use Rattle.fidl_decode_model.proofs.Visiting.{size_as, struct_frame, struct_fine, visits_free, visits_bool, visits_struct}
+use Rattle.fidl_decode_model.proofs.Visiting.{size_as, visits_free, visits_bool}
+use Rattle.fidl_decode_model.proofs.Holding.{struct_frame, struct_fine, visits_struct}
 use Rattle.fidl_decode_columns.proofs.Leaves.{left_over, no_zeros, over_room, over_turns}
 use Rattle.fidl_decode.proofs.LeafContent.{leaf_over, leaf_worth}
 use Rattle.fidl_decode_columns.proofs.Wholly.{visits_over}
@@ -46,7 +47,7 @@ module _ (t : List ℕ) (fine : IsFine t) (m : Message) (within : IsWithin m.byt
   over : (mid : Position) (f : Frame) (size : ℕ) (u : Until) → f.left ≡ Content e size 1 u → old.next ≤ mid.next → Enters t m held e p old mid f → (spent n : ℕ) → spent ≤ n → Visits t m f.depth e (f.base + f.done) mid mid spent None
       → Stands m.bytes (f.base + (f.done + size)) (zeros (f.base + f.size - (f.base + (f.done + size)))) → IsUntil u mid → Opens t m held (Some (ty.named e)) p old mid n None
   over mid f size u is grows x spent n le v z own =
-      let o = opens_known t m held p old mid x.state 0 e f grows x.same x.breaks x.least x.fine x.deeper x.work in
+      let o = opens_known t m held p old mid x.state 0 e f grows x.same x.breaks x.least x.fine x.deeper x.work x.moves in
       let k = 1 + spent + (f.base + f.size - (f.base + (f.done + size)) + 1) in
       let opened = opens_on t m held (Some (ty.named e)) p old mid 0 f o mid k k None (omega arith) (leaf_over t fine m f e size 1 u is refl mid x.fine x.state mid spent v z own k refl) in
       opens_worth t m held (Some (ty.named e)) p old mid k n None opened

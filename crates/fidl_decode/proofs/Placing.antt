@@ -38,7 +38,8 @@ module _ (ds : Declarations) (laid : IsLaidOut ds) (m : Message) (l : Linked) wh
         let before = fit.before in
         let room = fit.records in
         let in_range : place / 4 < length s.records = omega arith in
-        let link = fit.near.records place (omega arith) (omega arith) ∙ get_or-set_same s.records (place / 4) s.handle 0 in_range in
+        let cell = fit.near.records place (omega arith) (omega arith) ∙ get_or-set_same s.records (place / 4) (s.handle + 1) 0 in_range in
+        let link : get_or l.records (place / 4) 0 - 1 ≡ s.handle = omega (arith, cell) in
         (st.inline, subst (λ k. slice_get m.handles k ≡ Some i) (sym link) st.carried.0)
     placed (ty.string optional bound) (text bytes) place s h st fit =
         let before = fit.before in

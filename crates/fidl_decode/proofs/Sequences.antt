@@ -21,7 +21,8 @@ use Rattle.fidl_decode_model.specs.declared.fault.DecodeFault.{DecodeFault}
 use Rattle.fidl_decode_model.specs.Breaks.{IsPadding}
 use Rattle.fidl_decode_model.specs.Machine.{StateFine, FrameFine, Visits, Turns, BreaksFrame}
 use Rattle.fidl_decode.proofs.Unchanged.{no_true}
-use Rattle.fidl_decode_model.proofs.Visiting.{size_is, figure_is, fine_as, array_frame, visits_array, array_fine}
+use Rattle.fidl_decode_model.proofs.Visiting.{size_is, figure_is, fine_as}
+use Rattle.fidl_decode_model.proofs.Holding.{array_frame, visits_array, array_fine}
 use Rattle.fidl_decode_columns.proofs.Leaves.{going_on, left_over, free_turns, over_turns, over_breaks, over_room, no_zeros}
 use Rattle.fidl_decode_columns.proofs.Wholly.{visits_over}
 

@@ -1,5 +1,5 @@
 -- Tables in a message: the visit of a table, whose envelopes are the next object.
-use Rattle.std.proofs.Common.{◌≡◌, ℕ, ◌+◌, ◌-◌, ◌*◌, ◌^◌, ◌<◌, ◌≤◌, List, length, get_or, Some, sym, ap, subst, ◌∙◌, arith}
+use Rattle.std.proofs.Common.{None, refl, ◌≡◌, ℕ, ◌+◌, ◌-◌, ◌*◌, ◌^◌, ◌<◌, ◌≤◌, List, length, get_or, Some, sym, ap, subst, ◌∙◌, arith, ◌%◌}
 use Rattle.std.specs.Prelude.{Option}
 use Rattle.std.specs.Option.{option_map_or}
 use Rattle.std.specs.Int.{next_multiple_of, w64, to_le_bytes}
@@ -7,7 +7,7 @@ use Rattle.fidl_limits.specs.declared.limits.TheConstants.{MAX_DEPTH}
 use Rattle.fidl_wire.specs.Value.{table}
 use Rattle.fidl_wire.specs.Term.{Term, Rows, uint64, resolve, rows_of, nothing}
 use Rattle.fidl_wire.specs.Term as ty
-use Rattle.fidl_wire.specs.Figure.{Declarations, IsLaidOut}
+use Rattle.fidl_wire.specs.Figure.{Declarations, IsLaidOut, Figure, figure, figure_of}
 use Rattle.fidl_wire.specs.Encoding.{zeros, present, pad8, envelopes}
 use Rattle.fidl_wire.specs.Standing.{Stands}
 use Rattle.fidl_wire.proofs.Stand.{stands_to, stands_both}
@@ -16,6 +16,9 @@ use Rattle.fidl_table_format.specs.declared.kind.EntryKind.{EntryKind}
 use Rattle.fidl_table_format.specs.Kind.{kind_of}
 use Rattle.fidl_table_format.specs.Section.{header_of, entry_at}
 use Rattle.fidl_table_format.specs.Terms.{declarations_of, members_of, term_as, rows_from}
+use Rattle.fidl_decode_model.proofs.Stated.{stated}
+use Rattle.fidl_decode_model.proofs.Moving.{moves_linked}
+use Rattle.fidl_decode_model.specs.Frontier.{IsAhead, CanRead, Moves}
 use Rattle.fidl_decode_model.specs.declared.frame.Frame.{Frame}
 use Rattle.fidl_decode_model.specs.declared.frame.Remaining.TheVariants.{Envelopes}
 use Rattle.fidl_decode_model.specs.Invariants.{IsFine}
@@ -29,7 +32,7 @@ use Rattle.fidl_decode_model.proofs.After.{length-table, length-pad8}
 use Rattle.fidl_decode_model.proofs.Scalars.{standing}
 use Rattle.fidl_decode_model.proofs.Rows.{stands_at}
 use Rattle.fidl_decode_model.proofs.Broken.{table_value, table_right}
-use Rattle.fidl_decode_model.proofs.Visiting.{term_is}
+use Rattle.fidl_decode_model.proofs.Visiting.{term_is, figure_is}
 
 pub whole_eights : (n : ℕ) → next_multiple_of (8 * n) 8 ≡ 8 * n
 whole_eights n = omega arith
@@ -87,6 +90,9 @@ module _ (t : List ℕ) (fine : IsFine t) (m : Message) (held e place : ℕ) (fr
       let own : members_of t e ≡ rows_from t (header_of t) (entry_at t e).first (entry_at t e).count = ap (λ (o : Option EntryKind). rows_of (option_map_or (λ (k : EntryKind). term_as k t (header_of t) (entry_at t e)) o nothing)) is in
       term_is t fine e Table lt is ∙ ap ty.table (sym own)
 
+  table_figure : figure_of ds.figures (ty.named e) ≡ figure 16 8 0
+  table_figure = stated t e lt ∙ sym (figure_is t fine e Table lt is)
+
   -- the envelopes are left to read
   pub visits_table : (spent : ℕ) → spent ≡ 0 → Stands m.bytes (place + 8) present → held < MAX_DEPTH → count < 2 ^ 64 → 8 * count ≤ length m.bytes - from.next → place + 8 ≤ length m.bytes → ((i : ℕ) → get_or m.bytes i 0 < 256)
       → Visits t m held e place from (linked (place + 8) (8 * count) from) spent (Some (table_frame e count held from))
@@ -105,5 +111,7 @@ module _ (t : List ℕ) (fine : IsFine t) (m : Message) (held e place : ℕ) (fr
         breaks = λ fault b. subst (λ (u : Term). Breaks ds m held u place from fault) (sym table_is)
             (broken.in_table rows place from fault ones (table_right ds fine.laid_out m held rows place from ones shallow few (omega (arith, room, whole))) (subst (λ k. BreaksEnvelopes ds m (held + 1) rows 1 k from.next own fault) all b));
         state = record { next = omega (arith, within, room, whole); handle = state.handle; few = state.few };
+        moves = subst (λ (f : Figure). IsAhead m from → CanRead from place f.size → place % f.align ≡ 0 → Moves t m place (place + f.size) from own (Some (table_frame e count held from)) None) (sym table_figure)
+            (λ ahead read even. moves_linked t m place (place + 16) (place + 8) (8 * count) (table_frame e count held from) from ahead read.before (omega (arith, even)) (omega arith) (omega arith) (omega (arith, room, whole)) within refl refl (sym whole) ahead.even);
         less = omega (arith, none, table_work (8 * count), within, room, whole);
       }

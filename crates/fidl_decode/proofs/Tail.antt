@@ -4,6 +4,7 @@ use Rattle.std.specs.Prelude.{Some}
 use Rattle.fidl_wire.specs.Figure.{Declarations}
 use Rattle.fidl_table_format.specs.Section.{header_of}
 use Rattle.fidl_table_format.specs.Terms.{declarations_of}
+use Rattle.fidl_decode_model.proofs.Moving.{moves_tail}
 use Rattle.fidl_decode_model.specs.declared.frame.Frame.{Frame}
 use Rattle.fidl_decode_model.specs.declared.frame.Remaining.{Remaining}
 use Rattle.fidl_decode_model.specs.declared.frame.Remaining.TheVariants.{Rows, Elements, Envelopes, Content}
@@ -57,6 +58,7 @@ module _ (t : List ℕ) (fine : IsFine t) (m : Message) (f g h : Frame) (old new
     breaks = λ fault b. elim b [ inl x ↦ absurd x | inr y ↦ one.breaks fault (inl (subst (λ (s : Position). BreaksFrame t m g s fault) (sym y.1) y.2)) ];
     least = λ to mid a b y z. raised t m f old to (b + 0 + steps) (a + b + steps) (omega arith) (one.least to to b 0 (subst (λ (s : Position). ReadsWorth t m g s to b) (sym y) z) (worth_at_end to));
     state = one.state;
+    moves = λ ahead clear. moves_tail t m (f.base + f.done) (f.base + f.size) g old new (Some h) (one.moves ahead clear);
     below_fine = tt;
     rest_fine = (one.below_fine.0, omega (arith, one.below_fine.1));
     less = omega (arith, one.less);

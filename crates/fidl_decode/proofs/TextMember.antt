@@ -95,7 +95,7 @@ module _ (t : List ℕ) (fine : IsFine t) (m : Message) (within : IsWithin m.byt
         let x = enters_below t fine m within held e p old lt room small state deep (omega (arith, sixteen)) flags much (omega (arith, shallow)) (omega (arith, up, fits)) in
         let f = below_frame m e d.size d.nest held p old in
         let u : Until = record { envelope = p; next = old.next + bytes_below m.bytes p; handle = old.handle + handles_below m.bytes p } in
-        let o = opens_known t m held p old mid x.state 0 e f (omega arith) x.same x.breaks x.least x.fine x.deeper x.work in
+        let o = opens_known t m held p old mid x.state 0 e f (omega arith) x.same x.breaks x.least x.fine x.deeper x.work x.moves in
         let none_behind = no_zeros m.bytes (old.next + (0 + d.size)) (old.next + next_multiple_of d.size 8 - (old.next + (0 + d.size))) (omega (arith, up, sixteen)) in
         let own : IsUntil u new = (omega (arith, up, counted), omega (arith, none)) in
         let k = 1 + size + (f.base + f.size - (f.base + (f.done + d.size)) + 1) in

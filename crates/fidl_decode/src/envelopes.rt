@@ -1,5 +1,5 @@
 //! Envelopes: the three numbers of one, and the member that it holds, in it or as the next object.
-ghost use Rattle.std.specs.Prelude.{◌≡◌, ◌⊎◌, ◌+◌, ◌-◌, ◌*◌, ◌<◌, ◌≤◌, ◌↔◌, IfOk, IfErr, OnOk};
+ghost use Rattle.std.specs.Prelude.{◌≡◌, ◌⊎◌, ◌+◌, ◌-◌, ◌*◌, ◌%◌, ◌<◌, ◌≤◌, ◌↔◌, IfOk, IfErr, OnOk};
 ghost use Rattle.std.specs.Prelude.{ℕ, Some, None, length, slice_get};
 ghost use Rattle.fidl_limits.specs.declared.limits.TheConstants.{MAX_DEPTH};
 ghost use Rattle.fidl_wire.specs.declared.handle.HandleInfo.{HandleInfo};
@@ -17,6 +17,7 @@ ghost use Rattle.fidl_decode_model.specs.Machine.{Reads, BreaksFrame, FrameFine,
 ghost use Rattle.fidl_decode_model.specs.Machine.{level, height, most_nest, inline_work};
 ghost use Rattle.fidl_decode_model.specs.Machine.{frame_work};
 ghost use Rattle.fidl_decode_model.specs.Worth.{ReadsWorth, ContainedWorth};
+ghost use Rattle.fidl_decode_model.specs.Frontier.{IsAhead, CanRead, Moves};
 ghost use Rattle.fidl_decode.specs.Reading.{came, message, Holds};
 
 use crate::decoder::Decoder;
@@ -108,6 +109,10 @@ impl<'t, 'm, 's> Decoder<'t, 'm, 's> {
             self.now.table.now (message self.now) frame (at_of state.new) to w → ContainedWorth
             (declarations_of self.now.table.now) (message self.now) depth (Some (ty.named entry))
             envelope (at_of state.old) to w) }
+        ensures moves { IfOk result (λ frame. IsAhead (message self.now) (at_of state.old)
+            → CanRead (at_of state.old) envelope 8 → envelope % 8 ≡ 0
+            → Moves self.now.table.now (message self.now) envelope (envelope + 8)
+            (at_of state.old) (at_of state.new) (Some frame) None) }
         ensures fine { IfOk result (λ frame. FrameFine self.now.table.now (came self.now) frame) }
         ensures deeper { IfOk result (λ frame. level depth 1 most_nest ≤ height frame) }
         ensures left { IfOk result (λ frame. (until : Until) × (frame.left ≡ left.Content entry

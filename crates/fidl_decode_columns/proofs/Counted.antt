@@ -1,7 +1,6 @@
 -- How many steps are counted where no struct is wrong.
 use Rattle.std.proofs.Common.{◌≡◌, ℕ, ◌+◌, ◌-◌, ◌*◌, ◌≤◌, sym, ap, subst, ◌∙◌, arith, refl}
 use Rattle.std.specs.Prelude.{Option, Some, None, IfNone}
-use Rattle.std.proofs.Math.Nat.{mul-le-mul_left}
 use Rattle.fidl_decode_columns.specs.declared.column.Wrong.{Wrong}
 use Rattle.fidl_decode_columns.specs.Columns.{right_before, first_of}
 

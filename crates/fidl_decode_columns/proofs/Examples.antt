@@ -1,5 +1,5 @@
 -- Worked facts of structs without members, and of the enums of the samples.
-use Rattle.std.proofs.Common.{◌≡◌, ℕ, zero, suc, ◌+◌, ◌-◌, ◌<◌, pos, negsuc, List, [], ◌∷◌, get_or, refl, sym, arith}
+use Rattle.std.proofs.Common.{◌≡◌, ℕ, zero, suc, ◌+◌, ◌-◌, ◌<◌, pos, negsuc, [], ◌∷◌, get_or, refl, sym, arith}
 use Rattle.std.specs.Prelude.{Contains, slice_index_or}
 use Rattle.fidl_wire.specs.Value.{Values, none, value}
 use Rattle.fidl_wire.specs.Encoding.{zeros}

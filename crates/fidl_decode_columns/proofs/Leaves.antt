@@ -26,6 +26,7 @@ use Rattle.fidl_wire.specs.Typed.{IsTyped}
 use Rattle.fidl_decode_model.proofs.Rows.{worth_more}
 use Rattle.fidl_decode_model.specs.Machine.{rows_left, Reads, ReadsIf, BreaksFrame, LeftFine, IsPlain, VisitFine, height, FrameFine, frame_work, probes, StateFine, Visits, Turns}
 use Rattle.fidl_decode_model.specs.Worth.{MembersWorth, ReadsWorth, WorthIf}
+use Rattle.fidl_decode_model.proofs.Moving.{moves_start, moves_then, moves_below}
 use Rattle.fidl_decode_model.proofs.Stated.{table_rows-more, element_rows-more}
 use Rattle.fidl_decode_model.proofs.Visiting.{size_is, positive, visits_free, light_free}
 use Rattle.fidl_decode_model.proofs.Turning.{raised, fine_from, done_fits, spends, spends_more, turns_end, row_fine, row_room, turns_more, end_breaks, gap_breaks, visit_breaks}
@@ -49,6 +50,7 @@ module _ (t : List ℕ) (m : Message) (f : Frame) (old : Position) where
     least = λ to mid a b y z. raised t m f old to b (a + b + 0) (omega arith) (subst (λ (s : Position). ReadsWorth t m f s to b) (sym y) z);
     breaks = λ fault b. elim b [ inl x ↦ absurd x | inr y ↦ subst (λ (s : Position). BreaksFrame t m f s fault) (sym y.1) y.2 ];
     state = state;
+    moves = λ ahead clear. moves_start t m f old ahead clear;
     below_fine = tt;
     rest_fine = (ff, omega arith);
     less = omega arith;
@@ -69,6 +71,7 @@ module _ (t : List ℕ) (m : Message) (f : Frame) (old : Position) where
         breaks = λ fault b. one.breaks fault (inr (mid, refl, two.breaks fault b));
         least = λ to last v w y z. raised t m f old to (0 + (v + w + b) + a) (v + w + n) (omega (arith, le)) (one.least to mid 0 (v + w + b) refl (two.least to last v w y z));
         state = two.state;
+        moves = λ ahead clear. let p = one.moves ahead clear in moves_then t m (f.base + f.done) (f.base + f.size) g old mid new x.below x.rest p (two.moves p.ahead p.rest_clear);
         below_fine = fine_from t m.bytes (height g + 1) (height f + 1) x.below (omega (arith, one.rest_fine.1)) two.below_fine;
         rest_fine = fine_from t m.bytes (height g) (height f) x.rest one.rest_fine.1 two.rest_fine;
         less = omega (arith, one.less, two.less);
@@ -93,6 +96,7 @@ module _ (t : List ℕ) (m : Message) (f : Frame) (old : Position) where
         ];
         least = λ to last v w y z. raised t m f old to ((0 + v + b) + w + a) (v + w + n) (omega (arith, le)) (one.least to last (0 + v + b) w (two.least last new 0 v refl y) z);
         state = two.state;
+        moves = λ ahead clear. let p = one.moves ahead clear in moves_below t m (f.base + f.done) (f.base + f.size) g old mid new o (Some h) p (two.moves p.ahead p.below_clear);
         below_fine = fine_from t m.bytes (height g) (height f + 1) o one.below_fine.1 two.rest_fine;
         rest_fine = one.rest_fine;
         less = omega (arith, one.less, two.less);
@@ -192,6 +196,7 @@ turns_worth t m f old new a n x le turns least = record {
   breaks = turns.breaks;
   least = least;
   state = turns.state;
+  moves = turns.moves;
   below_fine = turns.below_fine;
   rest_fine = turns.rest_fine;
   less = omega (arith, le, turns.less);

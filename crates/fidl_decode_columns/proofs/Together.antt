@@ -20,7 +20,8 @@ use Rattle.fidl_decode_model.specs.Invariants.{IsFine}
 use Rattle.fidl_decode_model.specs.Rows.{element_rows, RowsRise}
 use Rattle.fidl_decode_model.specs.State.{Message, Position}
 use Rattle.fidl_decode_model.specs.Machine.{IsInside, StateFine, FrameFine, Visits, Turns, BreaksFrame, inline_work, frame_work}
-use Rattle.fidl_decode_model.proofs.Visiting.{size_is, positive, visits_struct, struct_fine}
+use Rattle.fidl_decode_model.proofs.Visiting.{size_is, positive}
+use Rattle.fidl_decode_model.proofs.Holding.{visits_struct, struct_fine}
 use Rattle.fidl_decode_model.proofs.Turning.{raised}
 use Rattle.fidl_decode_columns.proofs.Leaves.{going_on, left_over, same_frame, turns_start}
 use Rattle.fidl_decode_columns.proofs.Items.{item_takes, item_breaks, items_over, items_break}
@@ -140,6 +141,7 @@ module _ (t : List ℕ) (fine : IsFine t) (m : Message) (f : Frame) (old : Posit
     breaks = turns.breaks;
     least = λ to mid v w y z. raised t m f old to (v + w + a) (v + w + n) (omega (arith, some)) (turns.least to mid v w y z);
     state = turns.state;
+    moves = turns.moves;
     below_fine = turns.below_fine;
     rest_fine = turns.rest_fine;
     less = omega (arith, le);

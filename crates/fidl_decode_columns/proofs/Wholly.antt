@@ -2,7 +2,11 @@
 use Rattle.std.proofs.Common.{◌≡◌, ℕ, ◌+◌, ◌-◌, ◌<◌, ◌≤◌, List, length, refl, sym, subst, arith}
 use Rattle.std.specs.Prelude.{Some, None}
 use Rattle.std.proofs.Math.Nat.{mul-le-mul_left}
+use Rattle.fidl_wire.specs.Term as ty
+use Rattle.fidl_wire.specs.Figure.{size_of}
 use Rattle.fidl_table_format.specs.Section.{header_of, entry_at}
+use Rattle.fidl_table_format.specs.Terms.{declarations_of}
+use Rattle.fidl_decode_model.proofs.Moving.{moves_below}
 use Rattle.fidl_decode_model.specs.declared.frame.Frame.{Frame}
 use Rattle.fidl_decode_model.specs.Invariants.{IsFine}
 use Rattle.fidl_decode_model.specs.State.{Message, Position}
@@ -30,5 +34,6 @@ module _ (t : List ℕ) (m : Message) (held e place : ℕ) (old mid : Position) 
     breaks = λ fault b. absurd b;
     least = λ to w y. let x = v.least to (0 + w + b) (turns.least to new 0 w refl y) in let worth = x.1 in (x.0, omega (arith, worth, le));
     state = turns.state;
+    moves = λ ahead read even. let p = v.moves ahead read even in moves_below t m place (place + size_of (declarations_of t) (ty.named e)) g old mid new None None p (turns.moves p.ahead p.below_clear);
     less = omega (arith, le, v.less, turns.less);
   }

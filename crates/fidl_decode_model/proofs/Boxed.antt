@@ -1,11 +1,11 @@
 -- Boxes: which values of a box stand at a place, and what a visit of one finds.
-use Rattle.std.proofs.Common.{◌≡◌, ℕ, ◌+◌, ◌-◌, ◌<◌, ◌≤◌, List, length, refl, sym, ap, subst, ◌∙◌, arith, inl, inr}
+use Rattle.std.proofs.Common.{◌≡◌, ℕ, ◌+◌, ◌-◌, ◌<◌, ◌≤◌, List, length, refl, sym, ap, subst, ◌∙◌, arith, inl, inr, ◌%◌}
 use Rattle.std.specs.Prelude.{◌⊎◌, Some, None}
 use Rattle.fidl_limits.specs.declared.limits.TheConstants.{MAX_DEPTH}
 use Rattle.fidl_wire.specs.Value.{Value, Values, absent, fields}
 use Rattle.fidl_wire.specs.Term.{Term, Fields, resolve, fields_of}
 use Rattle.fidl_wire.specs.Term as ty
-use Rattle.fidl_wire.specs.Figure.{Declarations, Figure, IsLaidOut, figure_of, size_of}
+use Rattle.fidl_wire.specs.Figure.{Declarations, Figure, IsLaidOut, figure_of, size_of, figure}
 use Rattle.fidl_wire.specs.Typed.{IsTyped, IsStruct, EachTyped}
 use Rattle.fidl_wire.specs.Encoding.{Encoding, zeros, present, object, pad8, members, encoding_of}
 use Rattle.fidl_wire.specs.Depth.{depth_of, fields_depth}
@@ -26,11 +26,13 @@ use Rattle.fidl_decode_model.specs.Rows.{Row, table_rows, RowsRise}
 use Rattle.fidl_decode_model.specs.State.{Message, Position, linked, after, after_fields, StandsAt, ValueAt}
 use Rattle.fidl_decode_model.specs.Breaks.{Part, Object, object_of, member_parts, BreaksBox, BreaksRule, Breaks, BreaksParts}
 use Rattle.fidl_decode_model.specs.Breaks as broken
+use Rattle.fidl_decode_model.proofs.Aligned.{even_eights_fields, no_names}
+use Rattle.fidl_decode_model.proofs.Evenly.{table_even}
 use Rattle.fidl_decode_model.specs.Machine.{row_parts, StateFine, Visits, VisitFine}
 use Rattle.fidl_decode_model.specs.Work.{values_work}
 use Rattle.fidl_decode_model.specs.Worth.{ValueWorth}
 use Rattle.fidl_decode_model.proofs.After.{length-pad8}
-use Rattle.fidl_decode_model.proofs.Stated.{typed_rows, rows_typed, enc_rows-table, depth_rows-table, after_rows-table, table_rise, table_parts}
+use Rattle.fidl_decode_model.proofs.Stated.{stated, typed_rows, rows_typed, enc_rows-table, depth_rows-table, after_rows-table, table_rise, table_parts}
 use Rattle.fidl_decode_model.proofs.Visiting.{fine_as, term_is, figure_is, size_as}
 use Rattle.fidl_decode_model.proofs.Objects.{padded_size, zeros_or_ones, stands_within, Opened, inline_is, object_room, stands_object, object_stands, object_carries, object_frame, visits_absent, visits_object, object_fine}
 
@@ -227,6 +229,10 @@ module _ (t : List ℕ) (fine : IsFine t) (m : Message) (held e place : ℕ) (fr
       (λ same. subst (λ (w : Term). ValueAt ds m held w place from to) (sym own) (subst (λ (s : Position). ValueAt ds m held (ty.box u) place from s) same (absent_box ds fine.laid_out m held u place from z deep).0)),
     )) (subst (λ (w : Term). ValueWorth ds m held w place from from 1) (sym own) (absent_box ds fine.laid_out m held u place from z deep))
 
+    -- a box has eight bytes, at a multiple of 8
+    box_figure : figure_of ds.figures (ty.named e) ≡ figure 8 8 0
+    box_figure = stated t e lt ∙ sym (figure_is t fine e Box lt is)
+
     pub visits_box : (spent : ℕ) → spent ≡ 0 → Stands m.bytes place present → held < MAX_DEPTH → padded_size inner.size ≤ length m.bytes - from.next
         → Visits t m held e place from (linked place inner.size from) spent (Some (object_frame (Rows inner.first inner.count) inner.size inner.nest held from))
     visits_box spent nothing ones shallow room =
@@ -244,7 +250,9 @@ module _ (t : List ℕ) (fine : IsFine t) (m : Message) (held e place : ℕ) (fr
         (broken.in_object (ty.box u) place from fault (let x : Object = record { marker = place; size = size_of ds (ty.struct (fields_of (resolve ds.terms u))); parts = member_parts ds 0 (fields_of (resolve ds.terms u)) } in x) refl ones
         (box_right ds fine.laid_out m held u place from ones shallow (omega (arith, room, ap padded_size rule_size)))
         (subst (λ (w : Term). BreaksParts ds m (held + 1) (padded_size (size_of ds (ty.struct (fields_of w)))) from.next 0 (member_parts ds 0 (fields_of w)) (linked place (size_of ds (ty.struct (fields_of w))) from) fault) (sym content_is)
-        (subst (λ (ps : List Part). BreaksParts ds m (held + 1) (padded_size size) from.next 0 ps (linked place size from) fault) (table_parts t inner.first inner.count 0 keys) b)))))
+        (subst (λ (ps : List Part). BreaksParts ds m (held + 1) (padded_size size) from.next 0 ps (linked place size from) fault) (table_parts t inner.first inner.count 0 keys) b))))
+        (λ even. let figure = box_figure in (subst (λ (f : Figure). place % f.align ≡ 0) figure even, omega arith, subst (λ (f : Figure). place + 8 ≤ place + f.size) (sym figure) (omega arith)))
+        (λ even. let none : from.next ≡ from.next + 0 = omega arith in table_even t fine inner.first inner.count 0 from.next keys (even_eights_fields ds fine.laid_out (no_names t) (fields_from t (header_of t) inner.first inner.count) from.next even)))
 
     pub box_fine : held < MAX_DEPTH → padded_size inner.size ≤ length m.bytes - from.next → (around : ℕ) → around ≤ 1 → VisitFine t m held around e (Some (object_frame (Rows inner.first inner.count) inner.size inner.nest held from))
     box_fine shallow room around few =

@@ -1,5 +1,5 @@
 -- What a value links lies in its own bytes, and in those of the objects behind it.
-use Rattle.std.proofs.Common.{◌≡◌, ◌≢◌, ℕ, suc, ◌+◌, ◌*◌, ◌/◌, ◌<◌, ◌≤◌, Bool, true, false, nat_le, Option, Some, None, length, get_or, refl, sym, ap, subst, ◌∙◌, arith, mul-suc, get_or-set_other, length-set, zero-add}
+use Rattle.std.proofs.Common.{◌≡◌, ◌≢◌, ℕ, ◌+◌, ◌*◌, ◌/◌, ◌<◌, ◌≤◌, Bool, true, false, nat_le, Option, Some, None, length, get_or, refl, sym, ap, subst, ◌∙◌, arith, mul-suc, get_or-set_other, length-set, zero-add}
 use Rattle.std.specs.Int.{next_multiple_of}
 use Rattle.fidl_wire.specs.Value.{Value, absent, bool, number, text, list, fields, handle, table, union, Values, none, value, count, Member, known, unknown, Members, empty, member}
 use Rattle.fidl_wire.specs.Term.{Term, Fields, no_fields, field, Rows, resolve, fields_of, find}
@@ -58,9 +58,9 @@ keeps_linked a b c d marker n s le room = record {
 keeps_taken : (place c d : ℕ) (s : Position) → Keeps place (place + 4) c d s (taken place s)
 keeps_taken place c d s = record {
   objects = λ k x y. refl;
-  records = λ k x y. get_or-set_other s.records (place / 4) (k / 4) (suc s.handle) 0 (other k x);
+  records = λ k x y. get_or-set_other s.records (place / 4) (k / 4) (s.handle + 1) 0 (other k x);
   as_many = refl;
-  as_many_records = length-set s.records (place / 4) (suc s.handle);
+  as_many_records = length-set s.records (place / 4) (s.handle + 1);
   grows = omega arith;
 }
   where
@@ -71,9 +71,9 @@ keeps_taken place c d s = record {
 keeps_opened : (place c d : ℕ) (s : Position) → Keeps place (place + 8) c d s (opened place s)
 keeps_opened place c d s = record {
   objects = λ k x y. refl;
-  records = λ k x y. get_or-set_other s.records ((place + 4) / 4) (k / 4) (suc s.handle) 0 (other k x);
+  records = λ k x y. get_or-set_other s.records ((place + 4) / 4) (k / 4) (s.handle + 1) 0 (other k x);
   as_many = refl;
-  as_many_records = length-set s.records ((place + 4) / 4) (suc s.handle);
+  as_many_records = length-set s.records ((place + 4) / 4) (s.handle + 1);
   grows = omega arith;
 }
   where

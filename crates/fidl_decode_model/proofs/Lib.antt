@@ -8,6 +8,7 @@ pub mod Written
 pub mod Stated
 pub mod Elements
 pub mod Visiting
+pub mod Holding
 pub mod Turning
 pub mod Objects
 pub mod Boxed
@@ -20,6 +21,10 @@ pub mod Handed
 pub mod Spelled
 pub mod Held
 pub mod Keeping
+pub mod Aligned
+pub mod Staying
+pub mod Moving
+pub mod Evenly
 pub mod Led
 pub mod Enveloped
 pub mod Enclosed

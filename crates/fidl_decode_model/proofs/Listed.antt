@@ -1,5 +1,5 @@
 -- Vectors: which values of a vector stand at a place, and what a visit of one finds.
-use Rattle.std.proofs.Common.{◌≡◌, ℕ, ◌+◌, ◌-◌, ◌*◌, ◌^◌, ◌<◌, ◌≤◌, List, length, get_or, refl, sym, ap, subst, ◌∙◌, arith, inl, inr, true, false}
+use Rattle.std.proofs.Common.{◌≡◌, ℕ, ◌+◌, ◌-◌, ◌*◌, ◌^◌, ◌<◌, ◌≤◌, List, length, get_or, refl, sym, ap, subst, ◌∙◌, arith, inl, inr, true, false, ◌%◌}
 use Rattle.std.specs.Prelude.{Bool, ◌⊎◌, Some, None, IsTrue}
 use Rattle.std.proofs.Math.Nat.{mul-le-mul_right}
 use Rattle.std.specs.Int.{w64, to_le_bytes}
@@ -7,7 +7,7 @@ use Rattle.fidl_limits.specs.declared.limits.TheConstants.{MAX_DEPTH}
 use Rattle.fidl_wire.specs.Value.{Value, Values, absent, list, count}
 use Rattle.fidl_wire.specs.Term.{Term, resolve, uint64}
 use Rattle.fidl_wire.specs.Term as ty
-use Rattle.fidl_wire.specs.Figure.{Declarations, IsLaidOut, size_of}
+use Rattle.fidl_wire.specs.Figure.{Declarations, IsLaidOut, size_of, figure_of, figure, Figure}
 use Rattle.fidl_wire.specs.Typed.{IsTyped, AllTyped}
 use Rattle.fidl_wire.specs.Encoding.{Encoding, zeros, present, object, pad8, elements, encoding_of}
 use Rattle.fidl_wire.specs.Depth.{depth_of, elements_depth}
@@ -28,6 +28,9 @@ use Rattle.fidl_decode_model.specs.Rows.{Row, element_rows, enc_rows, RowsRise}
 use Rattle.fidl_decode_model.specs.State.{Message, Position, linked, after, after_elements, StandsAt, ValueAt}
 use Rattle.fidl_decode_model.specs.Breaks.{Part, Object, object_of, count_at, element_parts, BreaksCounted, BreaksRule, Breaks, BreaksParts}
 use Rattle.fidl_decode_model.specs.Breaks as broken
+use Rattle.fidl_decode_model.specs.Frontier.{IsEven}
+use Rattle.fidl_decode_model.proofs.Aligned.{even_eights, no_names}
+use Rattle.fidl_decode_model.proofs.Evenly.{elements_even}
 use Rattle.fidl_decode_model.specs.Machine.{row_parts, StateFine, Visits, VisitFine}
 use Rattle.fidl_decode_model.specs.Work.{values_work}
 use Rattle.fidl_decode_model.specs.Worth.{ValueWorth}
@@ -35,7 +38,8 @@ use Rattle.fidl_decode_model.proofs.After.{length-pad8}
 use Rattle.fidl_decode_model.proofs.Numbers.{number_64}
 use Rattle.fidl_decode_model.proofs.Scalars.{standing}
 use Rattle.fidl_decode_model.proofs.Elements.{elements_rise, typed_elements, elements_typed, enc_rows-elements, depth_rows-elements, after_rows-elements, row_parts-elements}
-use Rattle.fidl_decode_model.proofs.Visiting.{fine_as, term_is, size_is, nest_is, positive}
+use Rattle.fidl_decode_model.proofs.Stated.{stated}
+use Rattle.fidl_decode_model.proofs.Visiting.{fine_as, term_is, figure_is, size_is, nest_is, positive}
 use Rattle.fidl_decode_model.proofs.Objects.{padded_size, zeros_or_ones, stands_within, Opened, inline_is, object_room, stands_object, object_stands, object_carries, object_frame, visits_absent, visits_object, object_fine}
 
 clash : true ≡ false → ⊥
@@ -287,6 +291,10 @@ module _ (t : List ℕ) (fine : IsFine t) (m : Message) (held e place : ℕ) (fr
       (λ same. subst (λ (w : Term). ValueAt ds m held w place from to) (sym own) (subst (λ (s : Position). ValueAt ds m held vector place from s) same (no_vector may z room small none).0)),
     )) (subst (λ (w : Term). ValueWorth ds m held w place from from 1) (sym own) (no_vector may z room small none))
 
+    -- a vector has sixteen bytes, at a multiple of 8
+    vector_figure : figure_of ds.figures (ty.named e) ≡ figure 16 8 0
+    vector_figure = stated t e lt ∙ sym (figure_is t fine e Vector lt is)
+
     pub visits_vector : (spent : ℕ) → spent ≡ 0 → Stands m.bytes (place + 8) present → held < MAX_DEPTH → n ≤ d.bound → padded_size (inner.size * n) ≤ length m.bytes - from.next → place + 8 ≤ length m.bytes → ((i : ℕ) → get_or m.bytes i 0 < 256)
         → Visits t m held e place from (linked (place + 8) (inner.size * n) from) spent (Some (object_frame (Elements d.first inner.size n) (inner.size * n) (inner.nest + 1) held from))
     visits_vector spent nothing ones shallow le room here small =
@@ -303,7 +311,9 @@ module _ (t : List ℕ) (fine : IsFine t) (m : Message) (held e place : ℕ) (fr
         (λ fault b. subst (λ (w : Term). Breaks ds m held w place from fault) (sym own)
         (broken.in_object vector place from fault (let x : Object = record { marker = place + 8; size = size * n; parts = element_parts ds (ty.named d.first) n 0 } in x) refl ones
         (vector_right ds fine.laid_out m held (is_optional d) d.bound few (ty.named d.first) place from ones shallow le room')
-        (subst (λ (ps : List Part). BreaksParts ds m (held + 1) (padded_size (size * n)) from.next 0 ps (linked (place + 8) (size * n) from) fault) (row_parts-elements ds d.first n 0) b))))
+        (subst (λ (ps : List Part). BreaksParts ds m (held + 1) (padded_size (size * n)) from.next 0 ps (linked (place + 8) (size * n) from) fault) (row_parts-elements ds d.first n 0) b)))
+        (λ even. let eight : place % 8 ≡ 0 = subst (λ (f : Figure). place % f.align ≡ 0) vector_figure even in (omega (arith, eight), omega arith, subst (λ (f : Figure). place + 8 + 8 ≤ place + f.size) (sym vector_figure) (omega arith)))
+        (λ even. let none : from.next ≡ from.next + 0 = omega arith in elements_even t fine d.first size n 0 from.next refl (subst (λ p. IsEven ds (ty.named d.first) p) none (even_eights ds fine.laid_out (no_names t) (ty.named d.first) from.next even))))
 
     pub vector_fine : held < MAX_DEPTH → padded_size (inner.size * n) ≤ length m.bytes - from.next → (around : ℕ) → around ≤ 1 → VisitFine t m held around e (Some (object_frame (Elements d.first inner.size n) (inner.size * n) (inner.nest + 1) held from))
     vector_fine shallow room around few =

@@ -1,5 +1,5 @@
 -- Objects out of line: the rows that one has, with its padding, and the visit of what points to one.
-use Rattle.std.proofs.Common.{◌≡◌, ℕ, ◌+◌, ◌-◌, ◌*◌, ◌<◌, ◌≤◌, List, [], ◌∷◌, ◌++◌, length, refl, sym, ap, subst, ◌∙◌, arith, length-append, append_assoc, inl}
+use Rattle.std.proofs.Common.{◌≡◌, ℕ, ◌+◌, ◌-◌, ◌*◌, ◌<◌, ◌≤◌, List, [], ◌∷◌, ◌++◌, length, refl, sym, ap, subst, ◌∙◌, arith, length-append, append_assoc, inl, ◌%◌}
 use Rattle.std.specs.Prelude.{◌↔◌, Some, None}
 use Rattle.std.specs.Int.{next_multiple_of}
 use Rattle.std.proofs.Math.ListN.{length-replicate}
@@ -10,7 +10,7 @@ use Rattle.fidl_limits.specs.declared.limits.TheConstants.{MAX_DEPTH}
 use Rattle.fidl_wire.specs.Value.{Values, none, value}
 use Rattle.fidl_wire.specs.Term.{resolve}
 use Rattle.fidl_wire.specs.Term as ty
-use Rattle.fidl_wire.specs.Figure.{Declarations, IsLaidOut, size_of}
+use Rattle.fidl_wire.specs.Figure.{Declarations, IsLaidOut, size_of, figure_of}
 use Rattle.fidl_wire.specs.Encoding.{Encoding, zeros, present, pad8, object, encoding_of}
 use Rattle.fidl_wire.specs.Standing.{Stands, Carries}
 use Rattle.fidl_wire.proofs.Sizes.{le-next_multiple_of}
@@ -24,12 +24,14 @@ use Rattle.fidl_decode_model.specs.declared.frame.Remaining.{Remaining}
 use Rattle.fidl_decode_model.specs.Rows.{Row, TypedRows, enc_rows, RowsRise}
 use Rattle.fidl_decode_model.specs.State.{Message, Position, linked, StandsAt, ValueAt, Members}
 use Rattle.fidl_decode_model.specs.Breaks.{Breaks, BreaksParts}
+use Rattle.fidl_decode_model.specs.Frontier.{IsEven, LeftEven}
+use Rattle.fidl_decode_model.proofs.Moving.{moves_none, moves_linked}
 use Rattle.fidl_decode_model.specs.Machine.{rows_left, row_parts, IsPlain, LeftFine, StateFine, Visits, VisitFine, most_nest, inline_work, byte_work}
 use Rattle.fidl_decode_model.specs.Worth.{ValueWorth, MembersWorth}
 use Rattle.fidl_decode_model.proofs.After.{length-pad8}
 use Rattle.fidl_decode_model.proofs.Rows.{rows_fit, length-entry}
 use Rattle.fidl_decode_model.proofs.Turning.{plain_reads, plain_worth, plain_breaks, plain_fits}
-use Rattle.fidl_decode_model.proofs.Visiting.{work_none}
+use Rattle.fidl_decode_model.proofs.Holding.{work_none}
 
 -- the size of an object with its padding
 abbrev pub padded_size : ℕ → ℕ
@@ -168,6 +170,7 @@ module _ (t : List ℕ) (fine : IsFine t) (m : Message) (held e place : ℕ) (fr
     breaks = λ fault b. absurd b;
     least = λ to w y. subst (λ (s : Position). ValueWorth ds m held (resolve ds.terms (ty.named e)) place from s (w + spent + 1)) y (let le = there.1 in (there.0, omega (arith, le)));
     state = state;
+    moves = λ ahead read even. moves_none t m place (place + (figure_of ds.figures (ty.named e)).size) from ahead;
     less = omega (arith, nothing);
   }
 
@@ -176,8 +179,9 @@ module _ (t : List ℕ) (fine : IsFine t) (m : Message) (held e place : ℕ) (fr
       → ((to : Position) → ValueAt ds m held (resolve ds.terms (ty.named e)) place from to ↔ Members ds m (held + 1) (padded_size size) from.next 0 (rows_left t 0 left) (linked marker size from) to)
       → ((to : Position) (w : ℕ) → MembersWorth ds m (held + 1) (padded_size size) from.next 0 (rows_left t 0 left) (linked marker size from) to w → ValueWorth ds m held (resolve ds.terms (ty.named e)) place from to (w + 1))
       → ((fault : DecodeFault) → BreaksParts ds m (held + 1) (padded_size size) from.next 0 (row_parts (rows_left t 0 left)) (linked marker size from) fault → Breaks ds m held (resolve ds.terms (ty.named e)) place from fault)
+      → (IsEven ds (ty.named e) place → (marker % 8 ≡ 0) × (place ≤ marker) × (marker + 8 ≤ place + (figure_of ds.figures (ty.named e)).size)) → (from.next % 8 ≡ 0 → LeftEven t (object_frame left size nest held from) left)
       → Visits t m held e place from (linked marker size from) spent (Some (object_frame left size nest held from))
-  visits_object marker size nest left spent nothing plain deep shallow room same least breaks =
+  visits_object marker size nest left spent nothing plain deep shallow room same least breaks near stands =
       let within = state.next in
       record {
         same = λ to. (
@@ -187,6 +191,7 @@ module _ (t : List ℕ) (fine : IsFine t) (m : Message) (held e place : ℕ) (fr
         least = λ to w y. let x = least to w ((plain_worth t m (object_frame left size nest held from) left plain (linked marker size from) to w).0 y) in let le = x.1 in (x.0, omega (arith, le));
         breaks = λ fault b. breaks fault ((plain_breaks t m (object_frame left size nest held from) left plain (linked marker size from) fault).0 b);
         state = record { next = omega (arith, within, room); handle = state.handle; few = state.few };
+        moves = λ ahead read even. let own = near even in moves_linked t m place (place + (figure_of ds.figures (ty.named e)).size) marker size (object_frame left size nest held from) from ahead read.before own.0 own.1 own.2 room within refl refl refl (stands ahead.even);
         less = omega (arith, nothing, object_work (length m.bytes) (padded_size size) nest deep, split_work (length m.bytes) from.next (padded_size size) room);
       }
 

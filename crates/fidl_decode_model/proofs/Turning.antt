@@ -21,6 +21,9 @@ use Rattle.fidl_decode_model.specs.Breaks.{IsPadding, Breaks, BreaksParts}
 use Rattle.fidl_decode_model.specs.Breaks as broken
 use Rattle.fidl_decode_model.specs.Machine.{rows_left, Reads, ReadsLeft, ReadsRows, row_parts, BreaksFrame, BreaksLeft, BreaksRows, LeftFine, EnvelopesFit, IsPlain, IsInside, VisitFine, level, height, FrameFine, FineIf, StateFine, Visits, Turns, inline_work, probes}
 use Rattle.fidl_decode_model.specs.Worth.{MembersWorth, LeftWorth, ReadsWorth, WorthIf}
+use Rattle.fidl_decode_model.specs.Frontier.{CanRead, RowsEven}
+use Rattle.fidl_decode_model.proofs.Moving.{moves_none, moves_part}
+use Rattle.fidl_decode_model.proofs.Evenly.{plain_even, even_plain}
 use Rattle.fidl_decode_model.proofs.Rows.{rows_fit, members_end, members_more, more_members, worth_none, worth_more}
 
 -- what holds anyway, at an error
@@ -149,6 +152,7 @@ module _ (t : List ℕ) (fine : IsFine t) (m : Message) (f : Frame) (old : Posit
           least = λ to mid a b y z. (plain_worth t m f f.left plain old to (a + b + n)).1
               (subst (λ (rs : List Row). MembersWorth ds m f.depth f.size f.base f.done rs old to (a + b + n)) (sym over) (worth_none ds fine.laid_out m f.depth f.size f.base f.done old to ff.depth (y ∙ z) z' (a + b + n)));
           state = state;
+          moves = λ ahead clear. moves_none t m (f.base + f.done) (f.base + f.size) old ahead;
           below_fine = tt;
           rest_fine = tt;
           less = omega (arith, few, zeros_left, spends f.nest (f.size - f.done) (f.size - f.done) (omega arith));
@@ -213,6 +217,11 @@ module _ (t : List ℕ) (fine : IsFine t) (m : Message) (f : Frame) (old : Posit
                 let le = more.1 in
                 (plain_worth t m f f.left plain old to all).1 (subst (λ (rs : List Row). MembersWorth ds m f.depth f.size f.base f.done rs old to all) (sym one) (more.0, omega (arith, le, some)));
             state = v.state;
+            moves = λ ahead clear.
+                let rows = subst (λ (rs : List Row). RowsEven ds f.base rs) one (plain_even t f f.left plain clear.even) in
+                let read : CanRead old (f.base + r.offset) s = record { before = omega (arith, clear.before, row_room); free = λ k x y. clear.free k (omega (arith, x, row_fine.1)) (omega (arith, y, row_room)) } in
+                moves_part t m f (f.base + r.offset) (f.base + r.offset + s) rest_frame old new below clear (v.moves ahead read rows.0) (omega arith) (omega (arith, row_fine.1)) (omega arith) (omega arith) (omega (arith, row_room))
+                (even_plain t rest_frame left left_plain rows.1);
             below_fine = fine_from t m.bytes (level f.depth f.in_envelope n) (height f + 1) below (omega (arith, row_fine.2, ff.nest)) vf;
             rest_fine = (record { left = left_fine; slots = plain_fits rest_frame left left_plain; room = ff.room; some = ff.some; nest = ff.nest; depth = ff.depth; in_envelope = ff.in_envelope; rise = row_fine.3 }, omega arith);
             less = omega (arith, v.less, falls, gap, few);

@@ -1,5 +1,5 @@
 -- What a visit of an entry finds, by kind.
-use Rattle.std.proofs.Common.{◌≡◌, ℕ, zero, suc, ◌+◌, ◌-◌, ◌*◌, ◌<◌, ◌≤◌, max, ℤ, List, length, get_or, refl, sym, ap, subst, ◌∙◌, arith}
+use Rattle.std.proofs.Common.{◌≡◌, ℕ, zero, suc, ◌+◌, ◌-◌, ◌*◌, ◌<◌, ◌≤◌, max, ℤ, List, length, get_or, refl, sym, ap, subst, ◌∙◌, arith, ◌%◌}
 use Rattle.fidl_limits.specs.declared.limits.TheConstants.{MAX_DEPTH}
 use Rattle.std.specs.Prelude.{◌↔◌, Bool, Option, Some, None, true, false, not, IfSome, Contains, if◌then◌else◌}
 use Rattle.std.specs.Option.{option_map_or}
@@ -8,9 +8,8 @@ use Rattle.std.specs.Int.{byte_len}
 use Rattle.fidl_wire.specs.Term.{Term, Kind, resolve, nothing, width, int8, int16, int32, int64, uint8, uint16, uint32, uint64}
 use Rattle.fidl_wire.specs.Term as ty
 use Rattle.fidl_wire.specs.Figure.{Declarations, Figure, figure_of, size_of, align_of, end_of}
-use Rattle.fidl_wire.proofs.Sizes.{end_of-le, le-next_multiple_of}
+use Rattle.fidl_wire.proofs.Sizes.{le-next_multiple_of}
 use Rattle.fidl_table_format.specs.declared.record.Header.{Header}
-use Rattle.fidl_table_format.specs.declared.record.Entry.{Entry}
 use Rattle.fidl_table_format.specs.declared.kind.EntryKind.{EntryKind}
 use Rattle.fidl_table_format.specs.declared.kind.EntryKind.TheVariants.{Bool as Boolean, Int8, Int16, Int32, Int64, Uint8, Uint16, Uint32, Uint64, Bits, Enum, String, Vector, Array, Box, Struct, Table, Union, Handle}
 use Rattle.fidl_table_format.specs.Kind.{kind_of, number_type}
@@ -21,19 +20,19 @@ use Rattle.fidl_wire.specs.Typed.{IsTyped, InMask}
 use Rattle.fidl_wire.specs.Value.{Value}
 use Rattle.fidl_decode_model.specs.Work.{Work}
 use Rattle.fidl_decode_model.specs.Invariants.{is_leaf, is_free, EntryFine, IsFine}
-use Rattle.fidl_decode_model.specs.declared.frame.Frame.{Frame}
-use Rattle.fidl_decode_model.specs.declared.frame.Remaining.TheVariants.{Rows, Elements}
-use Rattle.fidl_decode_model.specs.Rows.{table_rows, element_rows, RowsRise}
-use Rattle.fidl_decode_model.specs.State.{Message, Position, ValueAt, Members}
+use Rattle.fidl_decode_model.specs.State.{Message, Position, ValueAt}
 use Rattle.fidl_decode_model.specs.Breaks.{Part, member_parts, element_parts, BreaksField, BreaksRule, Breaks, BreaksParts}
 use Rattle.fidl_decode_model.specs.declared.fault.DecodeFault.{DecodeFault}
 use Rattle.fidl_decode_model.specs.Breaks as broken
 use Rattle.fidl_decode_model.specs.declared.fault.DecodeFault.TheVariants.{BadBool}
-use Rattle.fidl_decode_model.specs.Machine.{IsInside, VisitFine, Reads, StateFine, Leads, Visits, row_parts, byte_work, inline_work, probes}
-use Rattle.fidl_decode_model.specs.Worth.{ValueWorth, MembersWorth}
+use Rattle.fidl_decode_model.specs.Frontier.{Stays}
+use Rattle.fidl_decode_model.proofs.Aligned.{no_names}
+use Rattle.fidl_decode_model.proofs.Staying.{stays, ahead_still}
+use Rattle.fidl_decode_model.proofs.Moving.{moves_none}
+use Rattle.fidl_decode_model.specs.Machine.{StateFine, Leads, Visits, byte_work, inline_work, probes}
+use Rattle.fidl_decode_model.specs.Worth.{ValueWorth}
 use Rattle.fidl_decode_model.proofs.Scalars.{light_number, light_bool, Numeric, numeric_number, numeric_bits, numeric_enum, numeric_item, item_numeric, bool_item, item_bool}
-use Rattle.fidl_decode_model.proofs.Stated.{stated_term, stated, table_rise, struct_item, item_struct, worth_struct, table_parts}
-use Rattle.fidl_decode_model.proofs.Elements.{elements_rise, array_item, item_array, worth_array, row_parts-elements}
+use Rattle.fidl_decode_model.proofs.Stated.{stated_term, stated}
 
 unknown : false ≡ true → ⊥
 unknown e = cc
@@ -57,17 +56,6 @@ not_strict false e = refl
 
 pub same_some : {A : Type 0} (a b : A) → Some a ≡ Some b → a ≡ b
 same_some a b e = cc
-
--- the frame of a struct
-abbrev pub struct_frame : Entry → (place held inside : ℕ) → Frame
-struct_frame d place held inside = record { left = Rows d.first d.count; base = place; done = 0; size = d.size; nest = d.nest; depth = held; in_envelope = inside }
-
--- the frame of an array, whose elements have this size
-abbrev pub array_frame : Entry → (element place held inside : ℕ) → Frame
-array_frame d element place held inside = record { left = Elements d.first element d.count; base = place; done = 0; size = d.size; nest = d.nest; depth = held; in_envelope = inside }
-
-pub work_none : (n s : ℕ) → inline_work n * (s - 0) ≡ inline_work n * s
-work_none n s = let e : s - 0 ≡ s = omega arith in ap (λ k. inline_work n * k) e
 
 -- a search is within the work of a byte
 search_fits : (n s p : ℕ) → p ≤ probes → 0 < s → p ≤ inline_work n * s + 1
@@ -189,6 +177,7 @@ module _ (t : List ℕ) (fine : IsFine t) where
       breaks = λ fault b. absurd b;
       least = λ to w y. let x = (same to).1 y in (x, omega (arith, light x.value x.typed));
       state = state;
+      moves = λ ahead read even. moves_none t m place (place + (fig e).size) old ahead;
       less = omega (arith, search_fits (fig e).nest (fig e).size spent le (positive e lt));
     }
 
@@ -205,6 +194,14 @@ module _ (t : List ℕ) (fine : IsFine t) where
           breaks = λ fault b. absurd b;
           least = λ to w y. subst (λ (u : Term). ValueWorth ds m held u place old to (w + spent + 1)) (sym own) (let x = (leads to).1 y in (x, omega (arith, light to x)));
           state = there;
+          moves = λ ahead read even.
+              let u = term_as k t h (entry_at t e) in
+              let figure : figure_of ds.figures u ≡ fig e = figure_is e k lt is ∙ sym (stated t e lt) in
+              let x = (leads new).1 refl in
+              let stays = stays ds fine.laid_out (no_names t) u x.value place old x.typed ahead.even (subst (λ (f : Figure). place % f.align ≡ 0) (sym figure) even) in
+              let next = subst (λ (s : Position). s.next % 8 ≡ 0) (sym x.end) stays.1 in
+              let own = subst (λ (f : Figure). Stays place (place + f.size) old.next new.next old new) figure (subst (λ (s : Position). Stays place (place + size_of ds u) old.next s.next old s) (sym x.end) stays.0) in
+              record { stays = own; ahead = ahead_still m place (place + (fig e).size) old new own read.before next ahead; below_clear = tt; rest_clear = tt; below_in = tt; rest_in = tt; apart = tt };
           less = omega (arith, cost, search_fits (fig e).nest (fig e).size probes (omega arith) (positive e lt));
         }
 
@@ -320,106 +317,3 @@ module _ (t : List ℕ) (fine : IsFine t) where
     leaf_else Table is s a b v n u = absurd (n refl)
     leaf_else Union is s a b v n u = absurd (u refl)
     leaf_else k is s a b v n u = refl
-
-    -- a struct
-    pub visits_struct : (inside spent : ℕ) → spent ≡ 0 → kind_of (entry_at t e).kind ≡ Some Struct → place + (entry_at t e).size ≤ length m.bytes → Visits t m held e place old old spent (Some (struct_frame (entry_at t e) place held inside))
-    visits_struct inside spent nothing is room =
-        let d = entry_at t e in
-        let f = fine_as e Struct lt is in
-        let u = term_is e Struct lt is in
-        let g = figure_is e Struct lt is in
-        let size : size_of ds (ty.struct (fields_from t h d.first d.count)) ≡ d.size = ap (λ (f : Figure). f.size) g in
-        let nest : (figure_of ds.figures (ty.struct (fields_from t h d.first d.count))).nest ≡ d.nest = ap (λ (f : Figure). f.nest) g in
-        let k = f.content.1 in
-        let to_members : (to : Position) → ValueAt ds m held (term e) place old to → Reads t m (struct_frame d place held inside) old to = λ to x.
-        subst (λ (s : ℕ). Members ds m held s place 0 (table_rows t h d.first d.count) old to) size (struct_item t m held place d.first d.count old to k (subst (λ (u : Term). ValueAt ds m held u place old to) u x)) in
-        let to_item : (to : Position) → Reads t m (struct_frame d place held inside) old to → ValueAt ds m held (term e) place old to = λ to y.
-        subst (λ (u : Term). ValueAt ds m held u place old to) (sym u) (item_struct t m held place d.first d.count old to k (subst (λ (s : ℕ). Members ds m held s place 0 (table_rows t h d.first d.count) old to) (sym size) y)) in
-        record {
-          same = λ to. (to_members to, to_item to);
-          least = λ to w y. subst (λ (u : Term). ValueWorth ds m held u place old to (w + spent + 1)) (sym u)
-              (let x = worth_struct t m held place d.first d.count old to k w (subst (λ (s : ℕ). MembersWorth ds m held s place 0 (table_rows t h d.first d.count) old to w) (sym size) y) in let le = x.1 in (x.0, omega (arith, le)));
-          breaks = λ fault b. subst (λ (u : Term). Breaks ds m held u place old fault) (sym u)
-              (broken.in_parts (ty.struct (fields_from t h d.first d.count)) place old fault (member_parts ds 0 (fields_from t h d.first d.count)) refl
-              (subst (λ (ps : List Part). BreaksParts ds m held (size_of ds (ty.struct (fields_from t h d.first d.count))) place 0 ps old fault) (table_parts t d.first d.count 0 k)
-              (subst (λ (s : ℕ). BreaksParts ds m held s place 0 (row_parts (table_rows t h d.first d.count)) old fault) (sym size) b)));
-          state = state;
-          less = subst (λ (x : Figure). byte_work * (length m.bytes - old.next) + (inline_work d.nest * (d.size - 0) + 1) + spent ≤ byte_work * (length m.bytes - old.next) + inline_work x.nest * x.size + 1) (sym (stated t e lt)) (omega (arith, work_none d.nest d.size, nothing));
-        }
-
-    pub struct_fine : (inside : ℕ) → kind_of (entry_at t e).kind ≡ Some Struct → place + (entry_at t e).size ≤ length m.bytes → IsInside inside (entry_at t e).size → VisitFine t m held inside e (Some (struct_frame (entry_at t e) place held inside))
-    struct_fine inside is room within =
-        let d = entry_at t e in
-        let f = fine_as e Struct lt is in
-        let g = figure_is e Struct lt is in
-        let size : size_of ds (ty.struct (fields_from t h d.first d.count)) ≡ d.size = ap (λ (f : Figure). f.size) g in
-        let nest : (figure_of ds.figures (ty.struct (fields_from t h d.first d.count))).nest ≡ d.nest = ap (λ (f : Figure). f.nest) g in
-        let k = f.content.1 in (
-          record {
-            left = f.content.0;
-            slots = tt;
-            room = room;
-            some = omega (arith, nest);
-            nest = (let small = f.nest in omega arith);
-            depth = deep;
-            in_envelope = within;
-            rise = table_rise t d.first d.count d.nest d.size 0 k (omega (arith, size, end_of-le ds (fields_from t h d.first d.count))) (omega (arith, nest));
-          },
-          omega (arith, nest_is e lt),
-        )
-
-    -- an array
-    pub visits_array : (inside element spent : ℕ) → spent ≡ 0 → kind_of (entry_at t e).kind ≡ Some Array → element ≡ (entry_at t (entry_at t e).first).size → place + (entry_at t e).size ≤ length m.bytes → Visits t m held e place old old spent (Some (array_frame
-        (entry_at t e) element place held inside))
-    visits_array inside element spent nothing is element_is room =
-        let d = entry_at t e in
-        let f = fine_as e Array lt is in
-        let u = term_is e Array lt is in
-        let g = figure_is e Array lt is in
-        let one : (fig d.first).size ≡ element = size_is d.first f.content.0 ∙ sym element_is in
-        let size : (fig d.first).size * d.count ≡ d.size = ap (λ (f : Figure). f.size) g in
-        let nest : suc (fig d.first).nest ≡ d.nest = ap (λ (f : Figure). f.nest) g in
-        let both : (to : Position) → Members ds m held ((fig d.first).size * d.count) place 0 (element_rows d.first (fig d.first).size d.count 0) old to ≡ Members ds m held d.size place 0 (element_rows d.first element d.count 0) old to = λ to i. Members ds m held (size i) place 0
-        (element_rows d.first (one i) d.count 0) old to in
-        let both_worth : (to : Position) (w : ℕ) → MembersWorth ds m held ((fig d.first).size * d.count) place 0 (element_rows d.first (fig d.first).size d.count 0) old to w ≡ MembersWorth ds m held d.size place 0 (element_rows d.first element d.count 0) old to w = λ to w i. MembersWorth ds m held (size i) place 0
-        (element_rows d.first (one i) d.count 0) old to w in
-        record {
-          same = λ to. (
-            (λ x. subst (λ (X : Type 0). X) (both to) (array_item ds d.first m held place d.count old to (subst (λ (u : Term). ValueAt ds m held u place old to) u x))),
-            (λ y. subst (λ (u : Term). ValueAt ds m held u place old to) (sym u) (item_array ds d.first m held place d.count old to (subst (λ (X : Type 0). X) (sym (both to)) y))),
-          );
-          least = λ to w y. subst (λ (u : Term). ValueWorth ds m held u place old to (w + spent + 1)) (sym u)
-              (let x = worth_array ds d.first m held place d.count old to w (subst (λ (X : Type 0). X) (sym (both_worth to w)) y) in let le = x.1 in (x.0, omega (arith, le)));
-          breaks = λ fault b. subst (λ (u : Term). Breaks ds m held u place old fault) (sym u)
-              (broken.in_parts (ty.array (ty.named d.first) d.count) place old fault (element_parts ds (ty.named d.first) d.count 0) refl
-              (subst (λ (ps : List Part). BreaksParts ds m held ((fig d.first).size * d.count) place 0 ps old fault) (row_parts-elements ds d.first d.count 0)
-              (subst (λ (e : ℕ). BreaksParts ds m held ((fig d.first).size * d.count) place 0 (row_parts (element_rows d.first e d.count 0)) old fault) (sym one)
-              (subst (λ (s : ℕ). BreaksParts ds m held s place 0 (row_parts (element_rows d.first element d.count 0)) old fault) (sym size) b))));
-          state = state;
-          less = subst (λ (x : Figure). byte_work * (length m.bytes - old.next) + (inline_work d.nest * (d.size - 0) + 1) + spent ≤ byte_work * (length m.bytes - old.next) + inline_work x.nest * x.size + 1) (sym (stated t e lt)) (omega (arith, work_none d.nest d.size, nothing));
-        }
-
-    pub array_fine : (inside element : ℕ) → kind_of (entry_at t e).kind ≡ Some Array → element ≡ (entry_at t (entry_at t e).first).size → place + (entry_at t e).size ≤ length m.bytes → IsInside inside (entry_at t e).size → VisitFine t m held inside e (Some (array_frame
-        (entry_at t e) element place held inside))
-    array_fine inside element is element_is room within =
-        let d = entry_at t e in
-        let f = fine_as e Array lt is in
-        let g = figure_is e Array lt is in
-        let one : (fig d.first).size ≡ element = size_is d.first f.content.0 ∙ sym element_is in
-        let size : (fig d.first).size * d.count ≡ d.size = ap (λ (f : Figure). f.size) g in
-        let nest : suc (fig d.first).nest ≡ d.nest = ap (λ (f : Figure). f.nest) g in (
-          record {
-            left = one;
-            slots = tt;
-            room = room;
-            some = omega (arith, nest);
-            nest = (let small = f.nest in omega arith);
-            depth = deep;
-            in_envelope = within;
-            rise = (let rise = elements_rise ds d.first h.entries d.nest d.count 0 f.content.0 (omega (arith, nest)) in
-                let flat : 0 + (fig d.first).size * d.count ≡ d.size = omega (arith, size) in
-                let end : RowsRise ds h.entries d.nest d.size 0 (element_rows d.first (fig d.first).size d.count 0) = subst (λ k. RowsRise ds h.entries d.nest k 0 (element_rows d.first (fig d.first).size d.count 0)) flat rise in
-                subst (λ s. RowsRise ds h.entries d.nest d.size 0 (element_rows d.first s d.count 0)) one end);
-          },
-          omega (arith, nest_is e lt),
-        )

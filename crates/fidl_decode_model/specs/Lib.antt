@@ -12,6 +12,7 @@
 --   Rows, Machine  what frames and turns read, and what they cost
 --   Worth          what is read, where its values are of at most so much work
 --   Frontier       where links can stand while a message is read
+--   Samples        states and frames for examples
 --   Steps          how many steps a call counts
 pub mod State
 pub mod Envelopes
@@ -26,5 +27,6 @@ pub mod Fine
 pub mod Rows
 pub mod Worth
 pub mod Frontier
+pub mod Samples
 pub mod Machine
 pub mod Steps

@@ -1,5 +1,5 @@
 -- What a state of the decoder still has to read, said by values and never by a run.
-use Rattle.std.specs.Prelude.{◌≡◌, ℕ, suc, ◌+◌, ◌-◌, ◌*◌, ◌<◌, ◌≤◌, ◌⊎◌, ◌↔◌, List, [], ◌∷◌, length}
+use Rattle.std.specs.Prelude.{◌≡◌, ℕ, suc, ◌+◌, ◌-◌, ◌*◌, ◌%◌, ◌<◌, ◌≤◌, ◌⊎◌, ◌↔◌, List, [], ◌∷◌, length}
 use Rattle.std.specs.Prelude.{slice_index}
 use Rattle.std.specs.Prelude.{Option, Some, None}
 use Rattle.fidl_limits.specs.declared.limits.TheConstants.{MAX_DEPTH, MAX_NEST, MAX_MESSAGE_HANDLES}
@@ -27,6 +27,7 @@ use Rattle.fidl_decode_model.specs.Breaks.{BreaksMember}
 use Rattle.fidl_decode_model.specs.Envelopes.{Contained, IsUntil}
 use Rattle.fidl_decode_model.specs.State.{Message, Position, ValueAt, Members, Slots}
 use Rattle.fidl_decode_model.specs.Worth.{ValueWorth, ContainedWorth, ReadsWorth, WorthIf}
+use Rattle.fidl_decode_model.specs.Frontier.{IsAhead, CanRead, IsEven, IsClear, Moves}
 
 -- the rows that a frame has left; envelopes are no rows
 abbrev pub rows_left : List ℕ → (done : ℕ) → Remaining → List Row
@@ -238,6 +239,9 @@ pub record Visits (t : List ℕ) (m : Message) (held e place : ℕ) (old new : P
       → ValueWorth (declarations_of t) m held (resolve (declarations_of t).terms (ty.named e)) place
       old to (w + spent + 1)
   pub state : StateFine m new
+  pub moves : let f = figure_of (declarations_of t).figures (ty.named e) in
+      IsAhead m old → CanRead old place f.size → IsEven (declarations_of t) (ty.named e) place
+      → Moves t m place (place + f.size) old new found None
   pub less : let f = figure_of (declarations_of t).figures (ty.named e) in
       byte_work * (length m.bytes - new.next) + frame_work_if found + spent
       ≤ byte_work * (length m.bytes - old.next) + inline_work f.nest * f.size + 1
@@ -265,6 +269,8 @@ pub record Opens (t : List ℕ) (m : Message) (held : ℕ) (member : Option Term
       → ContainedWorth (declarations_of t) m held member envelope old to (w + spent + 1)
   pub state : StateFine m new
   pub fine : FineIf t m.bytes (level held 1 most_nest) found
+  pub moves : IsAhead m old → CanRead old envelope 8 → envelope % 8 ≡ 0
+      → Moves t m envelope (envelope + 8) old new found None
   pub less : byte_work * (length m.bytes - new.next) + frame_work_if found
       ≤ byte_work * (length m.bytes - old.next) + envelope_work
 
@@ -284,6 +290,8 @@ pub record Turns (t : List ℕ) (m : Message) (f : Frame) (old new : Position) (
   pub least : (to mid : Position) (a b : ℕ) → WorthIf t m x.below new mid a
       → WorthIf t m x.rest mid to b → ReadsWorth t m f old to (a + b + spent)
   pub state : StateFine m new
+  pub moves : IsAhead m old → IsClear t old f
+      → Moves t m (f.base + f.done) (f.base + f.size) old new x.below x.rest
   pub below_fine : FineIf t m.bytes (height f + 1) x.below
   pub rest_fine : FineIf t m.bytes (height f) x.rest
   pub less : byte_work * (length m.bytes - new.next) + frame_work_if x.below + frame_work_if x.rest

@@ -40,7 +40,7 @@ taken place s =
       handle = s.handle + 1;
       objects = s.objects;
       records =
-          slice_set s.records (place / 4) (suc s.handle);
+          slice_set s.records (place / 4) (s.handle + 1);
     }
 
 -- this many handles are read
@@ -56,7 +56,7 @@ opened place s =
       handle = s.handle;
       objects = s.objects;
       records =
-          slice_set s.records ((place + 4) / 4) (suc s.handle);
+          slice_set s.records ((place + 4) / 4) (s.handle + 1);
     }
 
 -- the object of a marker or envelope is the next one, of this size, padded to a multiple of 8

@@ -10,6 +10,7 @@ ghost use Rattle.fidl_decode_model.specs.Faults.{IsTold};
 ghost use Rattle.fidl_decode_model.specs.declared.fault.DecodeFault.TheVariants as fault;
 
 pub mod envelopes;
+pub mod frontiers;
 pub mod placed;
 pub mod tables;
 pub mod unions;

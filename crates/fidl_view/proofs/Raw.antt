@@ -5,7 +5,7 @@ use Rattle.std.specs.Int.{w16, w32, to_le_bytes}
 use Rattle.std.proofs.lemmas.Option.{slice_get_within, slice_get-get_or}
 use Rattle.fidl_limits.specs.declared.limits.TheConstants.{MAX_MESSAGE_BYTES, MAX_MESSAGE_HANDLES}
 use Rattle.fidl_wire.specs.declared.handle.HandleInfo.{HandleInfo}
-use Rattle.fidl_wire.specs.Value.{Member, unknown}
+use Rattle.fidl_wire.specs.Value.{Member, known, unknown}
 use Rattle.fidl_wire.specs.Term.{Term}
 use Rattle.fidl_wire.specs.Typed.{IsTypedMember}
 use Rattle.fidl_wire.specs.Encoding.{envelope_end, enveloped}
@@ -17,7 +17,7 @@ use Rattle.fidl_decode_model.specs.Model.{Shown}
 use Rattle.fidl_decode_model.specs.Faults.{message_of}
 use Rattle.fidl_decode_model.specs.Placed.{IsMemberPlaced, object_at, enclosed_at, first_record_at}
 use Rattle.fidl_decode_model.proofs.Numbers.{number_16, number_32, slice_is}
-use Rattle.fidl_view.specs.Parts.{known_of}
+use Rattle.fidl_view.specs.Parts.{known_of, unknown_in}
 use Rattle.fidl_view.specs.Members.{ShowMember, term_at}
 use Rattle.fidl_view.proofs.Content.{stands_short, nonzero}
 
@@ -60,6 +60,14 @@ module _ (d : Shown) (index ordinal place : ℕ) where
       go : (x : Member) → IsTypedMember (declarations_of d.table) false None x → known_of x ≡ None
       go (unknown inline bytes handles) h = refl
       go _ h = absurd h
+
+  -- a member of the layout is no unknown one
+  pub known_no_unknown : (u : Term) → term_at d index ordinal ≡ Some u → (x : Member) → ShowMember d index ordinal place x → unknown_in (Some x) ≡ None
+  known_no_unknown u is x s = go x (subst (λ (t : Option Term). IsTypedMember (declarations_of d.table) false t x) is s.typed)
+    where
+      go : (x : Member) → IsTypedMember (declarations_of d.table) false (Some u) x → unknown_in (Some x) ≡ None
+      go (known v) h = refl
+      go (unknown inline bytes handles) h = absurd h
 
   -- its numbers, its bytes and its handles
   pub record Raw (x : Member) : Type 0 where

@@ -1,4 +1,4 @@
-use Rattle.std.proofs.Common.{ℕ, refl, subst, arith}
+use Rattle.std.proofs.Common.{refl, subst, arith}
 use Rattle.std.specs.Prelude.{Contains}
 use Rattle.fidl_table_format.specs.Samples.{three_enums}
 use Rattle.fidl_table_format.specs.Section.{header_of, entry_at}

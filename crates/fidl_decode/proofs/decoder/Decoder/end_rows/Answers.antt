@@ -1,7 +1,7 @@
+use Rattle.fidl_decode.specs.Reading.{message}
 use Rattle.fidl_decode.proofs.Fitting.{spends_some}
 use Rattle.std.proofs.Common.{refl, arith}
 use Rattle.fidl_decode_model.specs.Machine.{at_of}
-use Rattle.fidl_decode_model.specs.Faults.{message_of}
 use Rattle.std.proofs.lemmas.Result.{IfErr-weaker}
 use Rattle.fidl_decode_model.proofs.Turning.{on_ok_from}
 use Rattle.fidl_decode_columns.proofs.Leaves.{turns_start, over_room, over_turns, over_breaks}
@@ -10,7 +10,7 @@ use Rattle.fidl_decode.proofs.decoder.Decoder.end_rows.Goals as goal
 pub overflow_add-over : goal.overflow_add-over
 overflow_add-over c =
     let t = c.args.self.now.table.now in
-    let m = message_of c.args.self.now.bytes.value.came c.args.self.now.handles.now in
+    let m = message c.args.self.now in
     let f = c.args.frame in
     let old = at_of c.args.state.now in
     let start = turns_start t m f old c.requires.frame c.requires.state f refl in
@@ -20,7 +20,7 @@ overflow_add-over c =
 pub overflow_add-stop : goal.overflow_add-stop
 overflow_add-stop c =
     let t = c.args.self.now.table.now in
-    let m = message_of c.args.self.now.bytes.value.came c.args.self.now.handles.now in
+    let m = message c.args.self.now in
     let f = c.args.frame in
     let old = at_of c.args.state.now in
     let start = turns_start t m f old c.requires.frame c.requires.state f refl in
@@ -30,7 +30,7 @@ overflow_add-stop c =
 pub overflow_sub-state : goal.overflow_sub-state
 overflow_sub-state c =
     let t = c.args.self.now.table.now in
-    let m = message_of c.args.self.now.bytes.value.came c.args.self.now.handles.now in
+    let m = message c.args.self.now in
     let f = c.args.frame in
     let old = at_of c.args.state.now in
     let start = turns_start t m f old c.requires.frame c.requires.state f refl in
@@ -40,7 +40,7 @@ overflow_sub-state c =
 pub overflow_add-state : goal.overflow_add-state
 overflow_add-state c =
     let t = c.args.self.now.table.now in
-    let m = message_of c.args.self.now.bytes.value.came c.args.self.now.handles.now in
+    let m = message c.args.self.now in
     let f = c.args.frame in
     let old = at_of c.args.state.now in
     let start = turns_start t m f old c.requires.frame c.requires.state f refl in
@@ -50,7 +50,7 @@ overflow_add-state c =
 pub overflow_add-state-2 : goal.overflow_add-state-2
 overflow_add-state-2 c =
     let t = c.args.self.now.table.now in
-    let m = message_of c.args.self.now.bytes.value.came c.args.self.now.handles.now in
+    let m = message c.args.self.now in
     let f = c.args.frame in
     let old = at_of c.args.state.now in
     let start = turns_start t m f old c.requires.frame c.requires.state f refl in
@@ -60,7 +60,7 @@ overflow_add-state-2 c =
 pub zeros_at-requires-clause-order : goal.zeros_at-requires-clause-order
 zeros_at-requires-clause-order c =
     let t = c.args.self.now.table.now in
-    let m = message_of c.args.self.now.bytes.value.came c.args.self.now.handles.now in
+    let m = message c.args.self.now in
     let f = c.args.frame in
     let old = at_of c.args.state.now in
     let start = turns_start t m f old c.requires.frame c.requires.state f refl in
@@ -70,7 +70,7 @@ zeros_at-requires-clause-order c =
 pub zeros_at-requires-clause-room : goal.zeros_at-requires-clause-room
 zeros_at-requires-clause-room c =
     let t = c.args.self.now.table.now in
-    let m = message_of c.args.self.now.bytes.value.came c.args.self.now.handles.now in
+    let m = message c.args.self.now in
     let f = c.args.frame in
     let old = at_of c.args.state.now in
     let start = turns_start t m f old c.requires.frame c.requires.state f refl in
@@ -80,7 +80,7 @@ zeros_at-requires-clause-room c =
 pub returns-clause-ok : goal.returns-clause-ok
 returns-clause-ok c =
     let t = c.args.self.now.table.now in
-    let m = message_of c.args.self.now.bytes.value.came c.args.self.now.handles.now in
+    let m = message c.args.self.now in
     let f = c.args.frame in
     let old = at_of c.args.state.now in
     let start = turns_start t m f old c.requires.frame c.requires.state f refl in
@@ -89,7 +89,7 @@ returns-clause-ok c =
 pub returns-clause-fault_is_true : goal.returns-clause-fault_is_true
 returns-clause-fault_is_true c =
     let t = c.args.self.now.table.now in
-    let m = message_of c.args.self.now.bytes.value.came c.args.self.now.handles.now in
+    let m = message c.args.self.now in
     let f = c.args.frame in
     let old = at_of c.args.state.now in
     let start = turns_start t m f old c.requires.frame c.requires.state f refl in
@@ -98,7 +98,7 @@ returns-clause-fault_is_true c =
 pub returns-clause-spends : goal.returns-clause-spends
 returns-clause-spends c =
     let t = c.args.self.now.table.now in
-    let m = message_of c.args.self.now.bytes.value.came c.args.self.now.handles.now in
+    let m = message c.args.self.now in
     let f = c.args.frame in
     let old = at_of c.args.state.now in
     let start = turns_start t m f old c.requires.frame c.requires.state f refl in

@@ -1,3 +1,4 @@
+use Rattle.fidl_decode.specs.Reading.{message}
 use Rattle.fidl_decode.proofs.Unchanged.{size_short, size_fits, size_room}
 use Rattle.fidl_decode.proofs.Fitting.{front, apart, inside, at_most, small, ended, few_32, deeper, some_8}
 use Rattle.std.specs.Prelude.{◌/◌, List, slice_set}
@@ -9,7 +10,6 @@ use Rattle.fidl_decode_model.specs.declared.fault.DecodeFault.TheVariants.{BadEn
 use Rattle.fidl_decode_model.specs.declared.frame.Frame.{Frame}
 use Rattle.fidl_decode_model.specs.declared.frame.Until.{Until}
 use Rattle.fidl_decode_model.specs.declared.frame.Remaining.TheVariants.{Content}
-use Rattle.fidl_decode_model.specs.Faults.{message_of}
 use Rattle.fidl_decode_model.specs.State.{Position, opened, linked}
 use Rattle.fidl_decode_model.specs.Machine.{at_of}
 use Rattle.fidl_decode.proofs.Entered.{Enters, enters_inside_as, enters_below_as, numbers_refuse, not_inside, not_below, cut_off}
@@ -31,16 +31,16 @@ content_frame-requires-2 c =
 pub returns-then-flags-ne1 : goal.returns-then-flags-ne1
 returns-then-flags-ne1 c =
     let t = c.args.self.now.table.now in
-    let m = message_of c.args.self.now.bytes.value.came c.args.self.now.handles.now in
+    let m = message c.args.self.now in
     let old = at_of c.args.state.now in
     let size = ap (λ (d : Entry). d.size) c.entry-content.ensures.value in
     let r = numbers_refuse t c.args.self.now.fine m (c.args.self.now.short, c.requires.state.few) c.args.depth c.args.entry c.args.envelope old c.requires.entry c.requires.room (λ i. omega (arith, c.args.self.now.octets i)) c.requires.state c.requires.depth (BadEnvelope c.args.envelope) (refl, not_inside t c.args.self.now.fine m (c.args.self.now.short, c.requires.state.few) c.args.depth c.args.entry c.args.envelope old c.requires.entry c.requires.room (λ i. omega (arith, c.args.self.now.octets i)) c.requires.state c.requires.depth (omega (arith, size, c.if-size-le4.true)) (λ f. c.if-flags-ne1.true (c.flags_at-flags.ensures ∙ f))) in
-    record { holds = c.requires.holds; ok = tt; breaks = tt; least = tt; fine = tt; deeper = tt; left = tt; state = c.requires.state; fault_is_true = r.0; steps = refl; grows = omega arith; work = tt }
+    record { holds = c.requires.holds; ok = tt; breaks = tt; least = tt; moves = tt; fine = tt; deeper = tt; left = tt; state = c.requires.state; fault_is_true = r.0; steps = refl; grows = omega arith; work = tt }
 
 pub returns-then-size-le4 : goal.returns-then-size-le4
 returns-then-size-le4 c =
     let t = c.args.self.now.table.now in
-    let m = message_of c.args.self.now.bytes.value.came c.args.self.now.handles.now in
+    let m = message c.args.self.now in
     let old = at_of c.args.state.now in
     let size = ap (λ (d : Entry). d.size) c.entry-content.ensures.value in
     let led : opened c.args.envelope old ≡ record { next = old.next; handle = old.handle; objects = c.record.new.self.objects; records = c.record.new.self.records }
@@ -49,12 +49,12 @@ returns-then-size-le4 c =
     let y = subst (λ (f : Frame). Enters t m c.args.depth c.args.entry c.args.envelope old (record { next = old.next; handle = old.handle; objects = c.record.new.self.objects; records = c.record.new.self.records }) f) (sym c.content_frame.ensures) x in
     let until : Until = record { envelope = c.args.envelope; next = old.next; handle = old.handle + c.handle_count_at-handles.result } in
     let left : c.content_frame.result.left ≡ Content c.args.entry (entry_at t c.args.entry).size 1 until = ap (λ (f : Frame). f.left) c.content_frame.ensures ∙ ap (λ n. Content c.args.entry n 1 until) size in
-    record { holds = c.record.ensures.came ∙ c.requires.holds; ok = y.same; breaks = y.breaks; least = y.least; fine = y.fine; deeper = y.deeper; left = (until, left); state = y.state; fault_is_true = tt; steps = refl; grows = omega arith; work = y.work }
+    record { holds = c.record.ensures.came ∙ c.requires.holds; ok = y.same; breaks = y.breaks; least = y.least; moves = y.moves; fine = y.fine; deeper = y.deeper; left = (until, left); state = y.state; fault_is_true = tt; steps = refl; grows = omega arith; work = y.work }
 
 pub returns-then-flags-ne0 : goal.returns-then-flags-ne0
 returns-then-flags-ne0 c =
     let t = c.args.self.now.table.now in
-    let m = message_of c.args.self.now.bytes.value.came c.args.self.now.handles.now in
+    let m = message c.args.self.now in
     let old = at_of c.args.state.now in
     let size = ap (λ (d : Entry). d.size) c.entry-content.ensures.value in
     let r = numbers_refuse t c.args.self.now.fine m (c.args.self.now.short, c.requires.state.few) c.args.depth c.args.entry c.args.envelope old c.requires.entry c.requires.room (λ i. omega (arith, c.args.self.now.octets i)) c.requires.state c.requires.depth (BadEnvelope c.args.envelope) (
@@ -65,32 +65,32 @@ returns-then-flags-ne0 c =
         | then-flags-ne0-via-else-flags-ne0+else-counted-eq0+then-counted-ne0 w ↦ omega (arith, w.if-counted-ne0.true, c.byte_count_at-counted.ensures, u.1)
       ]),
     ) in
-    record { holds = c.requires.holds; ok = tt; breaks = tt; least = tt; fine = tt; deeper = tt; left = tt; state = c.requires.state; fault_is_true = r.0; steps = refl; grows = omega arith; work = tt }
+    record { holds = c.requires.holds; ok = tt; breaks = tt; least = tt; moves = tt; fine = tt; deeper = tt; left = tt; state = c.requires.state; fault_is_true = r.0; steps = refl; grows = omega arith; work = tt }
 
 pub returns-then-depth-eq-MAX_DEPTH : goal.returns-then-depth-eq-MAX_DEPTH
 returns-then-depth-eq-MAX_DEPTH c =
     let t = c.args.self.now.table.now in
-    let m = message_of c.args.self.now.bytes.value.came c.args.self.now.handles.now in
+    let m = message c.args.self.now in
     let old = at_of c.args.state.now in
     let size = ap (λ (d : Entry). d.size) c.entry-content.ensures.value in
     let r = numbers_refuse t c.args.self.now.fine m (c.args.self.now.short, c.requires.state.few) c.args.depth c.args.entry c.args.envelope old c.requires.entry c.requires.room (λ i. omega (arith, c.args.self.now.octets i)) c.requires.state c.requires.depth (TooDeep c.args.envelope) (refl, sym c.flags_at-flags.ensures ∙ c.if-flags-ne0.false, omega (arith, c.if-depth-eq-MAX_DEPTH.true)) in
-    record { holds = c.requires.holds; ok = tt; breaks = tt; least = tt; fine = tt; deeper = tt; left = tt; state = c.requires.state; fault_is_true = r.0; steps = refl; grows = omega arith; work = tt }
+    record { holds = c.requires.holds; ok = tt; breaks = tt; least = tt; moves = tt; fine = tt; deeper = tt; left = tt; state = c.requires.state; fault_is_true = r.0; steps = refl; grows = omega arith; work = tt }
 
 pub returns-then-whole-self : goal.returns-then-whole-self
 returns-then-whole-self c =
     let t = c.args.self.now.table.now in
-    let m = message_of c.args.self.now.bytes.value.came c.args.self.now.handles.now in
+    let m = message c.args.self.now in
     let old = at_of c.args.state.now in
     let size = ap (λ (d : Entry). d.size) c.entry-content.ensures.value in
     let up = cut_off t c.args.self.now.fine m (c.args.self.now.short, c.requires.state.few) c.args.depth c.args.entry c.args.envelope old c.requires.entry c.requires.room (λ i. omega (arith, c.args.self.now.octets i)) c.requires.state c.requires.depth in
     let whole : c.next_multiple_of-whole.result ≡ next_multiple_of (entry_at t c.args.entry).size 8 = c.next_multiple_of-whole.ensures.value ∙ ap (λ k. next_multiple_of k 8) size in
     let r = numbers_refuse t c.args.self.now.fine m (c.args.self.now.short, c.requires.state.few) c.args.depth c.args.entry c.args.envelope old c.requires.entry c.requires.room (λ i. omega (arith, c.args.self.now.octets i)) c.requires.state c.requires.depth (Truncated old.next) (refl, sym c.flags_at-flags.ensures ∙ c.if-flags-ne0.false, omega (arith, (size_short c.args.self.now.sized _ _ c.if-whole-self.true), whole, up)) in
-    record { holds = c.requires.holds; ok = tt; breaks = tt; least = tt; fine = tt; deeper = tt; left = tt; state = c.requires.state; fault_is_true = r.0; steps = refl; grows = omega arith; work = tt }
+    record { holds = c.requires.holds; ok = tt; breaks = tt; least = tt; moves = tt; fine = tt; deeper = tt; left = tt; state = c.requires.state; fault_is_true = r.0; steps = refl; grows = omega arith; work = tt }
 
 pub returns : goal.returns
 returns c =
     let t = c.args.self.now.table.now in
-    let m = message_of c.args.self.now.bytes.value.came c.args.self.now.handles.now in
+    let m = message c.args.self.now in
     let old = at_of c.args.state.now in
     let size = ap (λ (d : Entry). d.size) c.entry-content.ensures.value in
     let whole : c.next_multiple_of-whole.result ≡ next_multiple_of c.entry-content.result.size 8 = c.next_multiple_of-whole.ensures.value in
@@ -106,7 +106,7 @@ returns c =
     let y = subst (λ (f : Frame). Enters t m c.args.depth c.args.entry c.args.envelope old new f) (sym c.content_frame-2.ensures) x in
     let until : Until = record { envelope = c.args.envelope; next = old.next + c.byte_count_at-counted.result; handle = old.handle + c.handle_count_at-handles.result } in
     let left : c.content_frame-2.result.left ≡ Content c.args.entry (entry_at t c.args.entry).size 1 until = ap (λ (f : Frame). f.left) c.content_frame-2.ensures ∙ ap (λ n. Content c.args.entry n 1 until) size in
-    record { holds = c.link.ensures.came ∙ c.record-2.ensures.came ∙ c.requires.holds; ok = y.same; breaks = y.breaks; least = y.least; fine = y.fine; deeper = y.deeper; left = (until, left); state = y.state; fault_is_true = tt; steps = refl; grows = omega arith; work = y.work }
+    record { holds = c.link.ensures.came ∙ c.record-2.ensures.came ∙ c.requires.holds; ok = y.same; breaks = y.breaks; least = y.least; moves = y.moves; fine = y.fine; deeper = y.deeper; left = (until, left); state = y.state; fault_is_true = tt; steps = refl; grows = omega arith; work = y.work }
 
 pub entry-content-requires : goal.entry-content-requires
 entry-content-requires c = c.requires.entry

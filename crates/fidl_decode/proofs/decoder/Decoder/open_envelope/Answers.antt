@@ -1,3 +1,4 @@
+use Rattle.fidl_decode.specs.Reading.{message}
 use Rattle.fidl_decode.proofs.Unchanged.{no_ok}
 use Rattle.std.proofs.Common.{◌≡◌, ◌-◌, sym, ap, subst, arith}
 use Rattle.std.specs.Prelude.{Option, Some, None}
@@ -7,15 +8,14 @@ use Rattle.fidl_wire.specs.Term as ty
 use Rattle.fidl_decode_model.specs.State.{Position}
 use Rattle.fidl_decode_model.specs.Breaks.{BreaksMember}
 use Rattle.fidl_decode_model.specs.Machine.{StateFine, Opens, member_term, at_of}
-use Rattle.fidl_decode_model.specs.Faults.{message_of}
 use Rattle.fidl_decode_model.proofs.Turning.{passed_on}
 use Rattle.fidl_decode.proofs.Opening.{opens_known, opens_unknown}
 use Rattle.fidl_decode.proofs.decoder.Decoder.open_envelope.Goals as goal
 
 pub returns-in_default-clause-ok : goal.returns-in_default-clause-ok
 returns-in_default-clause-ok c =
-    subst (λ (o : Option raw.Row). Opens c.args.self.now.table.now (message_of c.args.self.now.bytes.value.came c.args.self.now.handles.now) c.args.depth (member_term o) c.args.envelope (at_of c.args.state.now) (at_of c.skip_member.new.state) (c.skip_member.new.state.steps - c.args.state.now.steps) None) (sym c.in_default.is)
-    (opens_unknown c.args.self.now.table.now (message_of c.args.self.now.bytes.value.came c.args.self.now.handles.now) c.args.depth c.args.envelope (at_of c.args.state.now) (at_of c.skip_member.new.state) c.in_ok-skip_member.ensures.state _ c.in_ok-skip_member.ensures.grows c.in_ok-skip_member.ensures.ok)
+    subst (λ (o : Option raw.Row). Opens c.args.self.now.table.now (message c.args.self.now) c.args.depth (member_term o) c.args.envelope (at_of c.args.state.now) (at_of c.skip_member.new.state) (c.skip_member.new.state.steps - c.args.state.now.steps) None) (sym c.in_default.is)
+    (opens_unknown c.args.self.now.table.now (message c.args.self.now) c.args.depth c.args.envelope (at_of c.args.state.now) (at_of c.skip_member.new.state) c.in_ok-skip_member.ensures.state _ c.in_ok-skip_member.ensures.grows c.in_ok-skip_member.ensures.ok c.args.self.now.fine)
 
 pub skip_member-requires-clause-room : goal.skip_member-requires-clause-room
 skip_member-requires-clause-room c = c.requires.room
@@ -47,11 +47,11 @@ returns-clause-fault_is_true c = tt
 pub returns-in_default-clause-pays : goal.returns-in_default-clause-pays
 returns-in_default-clause-pays c =
     let t = c.args.self.now.table.now in
-    let m = message_of c.args.self.now.bytes.value.came c.args.self.now.handles.now in
+    let m = message c.args.self.now in
     let old = at_of c.args.state.now in
     let new = at_of c.skip_member.new.state in
     let x = c.in_ok-skip_member.ensures in
-    let o = opens_unknown t m c.args.depth c.args.envelope old new x.state 0 x.grows x.ok in
+    let o = opens_unknown t m c.args.depth c.args.envelope old new x.state 0 x.grows x.ok c.args.self.now.fine in
     omega (arith, o.less, x.steps)
 
 pub returns-in_default-clause-spends : goal.returns-in_default-clause-spends
@@ -87,7 +87,7 @@ pass_member-requires-clause-budget c =
 pub returns-then-pass_member-clause-ok : goal.returns-then-pass_member-clause-ok
 returns-then-pass_member-clause-ok c =
     let t = c.args.self.now.table.now in
-    let m = message_of c.args.self.now.bytes.value.came c.args.self.now.handles.now in
+    let m = message c.args.self.now in
     let old = at_of c.args.state.now in
     subst (λ (o : Option raw.Row). Opens t m c.args.depth (member_term o) c.args.envelope old (at_of c.pass_member.new.state) (c.pass_member.new.state.steps - c.args.state.now.steps) None) (sym c.in-Some.is) (c.pass_member.ensures.passed c.if-pass_member.true)
 
@@ -115,7 +115,7 @@ returns-then-pass_member-clause-fault_is_true c =
 pub enter_member-requires-clause-state : goal.enter_member-requires-clause-state
 enter_member-requires-clause-state c =
     let t = c.args.self.now.table.now in
-    let m = message_of c.args.self.now.bytes.value.came c.args.self.now.handles.now in
+    let m = message c.args.self.now in
     let old = at_of c.args.state.now in
     let kept : at_of c.pass_member.new.state ≡ old = c.pass_member.ensures.kept c.if-pass_member.false in
     let next : c.pass_member.new.state.next ≡ c.args.state.now.next = ap (λ (s : Position). s.next) kept in
@@ -129,7 +129,7 @@ returns-in_err-frame-clause-pays c =
 pub returns-in_err-frame-clause-spends : goal.returns-in_err-frame-clause-spends
 returns-in_err-frame-clause-spends c =
     let t = c.args.self.now.table.now in
-    let m = message_of c.args.self.now.bytes.value.came c.args.self.now.handles.now in
+    let m = message c.args.self.now in
     let old = at_of c.args.state.now in
     let kept : at_of c.pass_member.new.state ≡ old = c.pass_member.ensures.kept c.if-pass_member.false in
     let next : c.pass_member.new.state.next ≡ c.args.state.now.next = ap (λ (s : Position). s.next) kept in
@@ -140,7 +140,7 @@ returns-in_err-frame-clause-spends c =
 pub returns-in_err-frame-clause-fault_is_true : goal.returns-in_err-frame-clause-fault_is_true
 returns-in_err-frame-clause-fault_is_true c =
     let t = c.args.self.now.table.now in
-    let m = message_of c.args.self.now.bytes.value.came c.args.self.now.handles.now in
+    let m = message c.args.self.now in
     let old = at_of c.args.state.now in
     let kept : at_of c.pass_member.new.state ≡ old = c.pass_member.ensures.kept c.if-pass_member.false in
     let next : c.pass_member.new.state.next ≡ c.args.state.now.next = ap (λ (s : Position). s.next) kept in
@@ -152,28 +152,28 @@ returns-in_err-frame-clause-fault_is_true c =
 pub returns-clause-ok : goal.returns-clause-ok
 returns-clause-ok c =
     let t = c.args.self.now.table.now in
-    let m = message_of c.args.self.now.bytes.value.came c.args.self.now.handles.now in
+    let m = message c.args.self.now in
     let old = at_of c.args.state.now in
     let kept : at_of c.pass_member.new.state ≡ old = c.pass_member.ensures.kept c.if-pass_member.false in
     let next : c.pass_member.new.state.next ≡ c.args.state.now.next = ap (λ (s : Position). s.next) kept in
     let still : c.pass_member.new.state.steps ≡ c.args.state.now.steps = omega (arith, next, c.pass_member.ensures.grows, c.pass_member.ensures.pays) in
     let new = at_of c.enter_member.new.state in
     let x = c.in_ok-frame.ensures in
-    let o = opens_known t m c.args.depth c.args.envelope (at_of c.pass_member.new.state) new x.state (c.enter_member.new.state.steps - c.args.state.now.steps) c.in-Some.row.entry c.in_ok-frame.frame x.grows x.ok x.breaks x.least x.fine x.deeper x.work in
+    let o = opens_known t m c.args.depth c.args.envelope (at_of c.pass_member.new.state) new x.state (c.enter_member.new.state.steps - c.args.state.now.steps) c.in-Some.row.entry c.in_ok-frame.frame x.grows x.ok x.breaks x.least x.fine x.deeper x.work x.moves in
     subst (λ (o : Option raw.Row). Opens t m c.args.depth (member_term o) c.args.envelope old new (c.enter_member.new.state.steps - c.args.state.now.steps) (Some c.in_ok-frame.frame)) (sym c.in-Some.is)
     (subst (λ (s : Position). Opens t m c.args.depth (Some (ty.named c.in-Some.row.entry)) c.args.envelope s new (c.enter_member.new.state.steps - c.args.state.now.steps) (Some c.in_ok-frame.frame)) kept o)
 
 pub returns-clause-pays : goal.returns-clause-pays
 returns-clause-pays c =
     let t = c.args.self.now.table.now in
-    let m = message_of c.args.self.now.bytes.value.came c.args.self.now.handles.now in
+    let m = message c.args.self.now in
     let old = at_of c.args.state.now in
     let kept : at_of c.pass_member.new.state ≡ old = c.pass_member.ensures.kept c.if-pass_member.false in
     let next : c.pass_member.new.state.next ≡ c.args.state.now.next = ap (λ (s : Position). s.next) kept in
     let still : c.pass_member.new.state.steps ≡ c.args.state.now.steps = omega (arith, next, c.pass_member.ensures.grows, c.pass_member.ensures.pays) in
     let new = at_of c.enter_member.new.state in
     let x = c.in_ok-frame.ensures in
-    let o = opens_known t m c.args.depth c.args.envelope (at_of c.pass_member.new.state) new x.state (c.enter_member.new.state.steps - c.args.state.now.steps) c.in-Some.row.entry c.in_ok-frame.frame x.grows x.ok x.breaks x.least x.fine x.deeper x.work in
+    let o = opens_known t m c.args.depth c.args.envelope (at_of c.pass_member.new.state) new x.state (c.enter_member.new.state.steps - c.args.state.now.steps) c.in-Some.row.entry c.in_ok-frame.frame x.grows x.ok x.breaks x.least x.fine x.deeper x.work x.moves in
     let less = o.less in
     let steps = x.steps in
     omega (arith, less, next, still, steps)
@@ -181,7 +181,7 @@ returns-clause-pays c =
 pub returns-clause-spends : goal.returns-clause-spends
 returns-clause-spends c =
     let t = c.args.self.now.table.now in
-    let m = message_of c.args.self.now.bytes.value.came c.args.self.now.handles.now in
+    let m = message c.args.self.now in
     let old = at_of c.args.state.now in
     let kept : at_of c.pass_member.new.state ≡ old = c.pass_member.ensures.kept c.if-pass_member.false in
     let next : c.pass_member.new.state.next ≡ c.args.state.now.next = ap (λ (s : Position). s.next) kept in

@@ -1,8 +1,8 @@
+use Rattle.fidl_decode.specs.Reading.{message}
 use Rattle.std.proofs.Common.{refl, inl, inr, ◌≡◌, ◌+◌, ◌*◌, sym, ap, subst, ◌∙◌, arith}
 use Rattle.std.specs.Prelude.{Option, Some}
 use Rattle.std.specs.Int.{next_multiple_of}
 use Rattle.fidl_decode_model.specs.declared.frame.Frame.{Frame}
-use Rattle.fidl_decode_model.specs.Faults.{message_of}
 use Rattle.fidl_decode_model.specs.Breaks.{count_at}
 use Rattle.fidl_decode_model.specs.State.{Position, linked}
 use Rattle.fidl_decode_model.specs.Machine.{Visits, at_of}
@@ -12,7 +12,7 @@ use Rattle.fidl_decode.proofs.decoder.Decoder.open_table.Goals as goal
 pub returns-clause-ok : goal.returns-clause-ok
 returns-clause-ok c =
     let t = c.args.self.now.table.now in
-    let m = message_of c.args.self.now.bytes.value.came c.args.self.now.handles.now in
+    let m = message c.args.self.now in
     let old = at_of c.args.state.now in
     let n = count_at c.args.self.now.bytes.value.came c.args.place in
     let number : c.u64_at-count.result ≡ n = c.u64_at-count.ensures in

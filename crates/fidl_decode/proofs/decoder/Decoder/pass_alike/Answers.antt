@@ -1,3 +1,4 @@
+use Rattle.fidl_decode.specs.Reading.{message}
 use Rattle.fidl_decode.proofs.Fitting.{lt_le}
 use Rattle.fidl_decode.proofs.Unchanged.{same_le}
 use Rattle.std.proofs.Common.{◌≡◌, ◌<◌, ◌+◌, ◌-◌, arith, ℕ, List, refl, sym, ap, subst, ◌∙◌, inl, inr, add-one}
@@ -9,7 +10,6 @@ use Rattle.fidl_table_format.specs.Kind.{kind_of}
 use Rattle.fidl_table_format.specs.Section.{header_of, entry_at}
 use Rattle.fidl_table_format.specs.Terms.{members_of}
 use Rattle.fidl_decode.specs.Body.{BodyFine, rest_of}
-use Rattle.fidl_decode_model.specs.Faults.{message_of}
 use Rattle.fidl_decode_model.specs.Machine.{at_of}
 use Rattle.fidl_decode_columns.proofs.Leaves.{turns_stay}
 use Rattle.fidl_decode.proofs.BodyTurns.{body_found, free_of}
@@ -143,4 +143,4 @@ unreachable-requires c =
     c.in_default.not-Some fine.0 (c.from_number.ensures ∙ ap kind_of number ∙ fine.1.is)
 
 pub returns-then-row-from-clause-turns : goal.returns-then-row-from-clause-turns
-returns-then-row-from-clause-turns c = turns_stay c.args.self.now.table.now (message_of c.args.self.now.bytes.value.came c.args.self.now.handles.now) (rest_of c.args.body.now c.args.from) (at_of c.args.state.now) c.requires.frame c.requires.state _ (omega arith)
+returns-then-row-from-clause-turns c = turns_stay c.args.self.now.table.now (message c.args.self.now) (rest_of c.args.body.now c.args.from) (at_of c.args.state.now) c.requires.frame c.requires.state _ (omega arith)

@@ -1,9 +1,9 @@
+use Rattle.fidl_decode.specs.Reading.{message}
 use Rattle.fidl_decode.proofs.Unchanged.{no_true, same_le}
 use Rattle.std.proofs.Common.{◌≡◌, ◌+◌, ◌/◌, ◌<◌, ◌^◌, ℕ, List, get_or, slice_set, sym, ap, ◌∙◌, arith, refl}
 use Rattle.std.specs.Int.{next_multiple_of, w64}
 use Rattle.fidl_wire.specs.Field.{number_at}
 use Rattle.fidl_table_format.specs.Section.{entry_at}
-use Rattle.fidl_decode_model.specs.Faults.{message_of}
 use Rattle.fidl_decode_model.specs.State.{Position, opened, linked}
 use Rattle.fidl_decode_model.specs.Machine.{at_of}
 use Rattle.fidl_decode.proofs.Words.{counted_small, handles_none, flags_none}
@@ -14,7 +14,7 @@ pub returns-clause-passed : goal.returns-clause-passed
 returns-clause-passed c =
     λ so.
     let t = c.args.self.now.table.now in
-    let m = message_of c.args.self.now.bytes.value.came c.args.self.now.handles.now in
+    let m = message c.args.self.now in
     let old = at_of c.args.state.now in
     let wide : next_multiple_of (entry_at t c.args.entry).size 8 ≡ 8 = ap (λ k. next_multiple_of k 8) c.requires.size in
     let new : Position = record { next = old.next + 8; handle = old.handle; objects = c.link.new.self.objects; records = c.link.new.self.records } in

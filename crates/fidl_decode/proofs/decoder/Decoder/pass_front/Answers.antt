@@ -1,7 +1,7 @@
+use Rattle.fidl_decode.specs.Reading.{message}
 use Rattle.std.proofs.Common.{◌+◌, ◌-◌, sym, subst, arith}
 use Rattle.std.specs.Prelude.{Some}
 use Rattle.fidl_decode_model.specs.declared.frame.State.{State}
-use Rattle.fidl_decode_model.specs.Faults.{message_of}
 use Rattle.fidl_decode.specs.Body.{rest_of}
 use Rattle.fidl_decode_model.specs.Machine.{Turns, at_of}
 use Rattle.fidl_decode_columns.proofs.Leaves.{left_over, turns_then, turns_stay}
@@ -11,7 +11,7 @@ use Rattle.fidl_decode.proofs.decoder.Decoder.pass_front.Goals as goal
 pub loop-from-init : goal.loop-from-init
 loop-from-init c = record {
   holds = c.requires.holds;
-  turns = turns_stay c.args.self.now.table.now (message_of c.args.self.now.bytes.value.came c.args.self.now.handles.now) (rest_of c.args.body.now 0) (at_of c.args.state.now) c.requires.frame c.requires.state _ (omega arith);
+  turns = turns_stay c.args.self.now.table.now (message c.args.self.now) (rest_of c.args.body.now 0) (at_of c.args.state.now) c.requires.frame c.requires.state _ (omega arith);
   few = omega arith;
   grows = omega arith;
   pays = omega arith;
@@ -20,7 +20,7 @@ loop-from-init c = record {
 pub loop-from-preserved : goal.loop-from-preserved
 loop-from-preserved c =
     let t = c.args.self.now.table.now in
-    let m = message_of c.args.self.now.bytes.value.came c.args.self.now.handles.now in
+    let m = message c.args.self.now in
     let body = c.args.body.now in
     let i = c.loop-from.invariant in
     let begun = i.grows in
@@ -38,7 +38,7 @@ loop-from-preserved c =
 pub returns-clause-turns : goal.returns-clause-turns
 returns-clause-turns c =
     let t = c.args.self.now.table.now in
-    let m = message_of c.args.self.now.bytes.value.came c.args.self.now.handles.now in
+    let m = message c.args.self.now in
     let body = c.args.body.now in
     let old = c.args.state.now in
     let l = c.loop-from.state in

@@ -1,7 +1,7 @@
+use Rattle.fidl_decode.specs.Reading.{message}
 use Rattle.std.proofs.Common.{◌≡◌, ◌+◌, ◌-◌, ◌≤◌, sym, subst, ◌∙◌, arith}
 use Rattle.fidl_wire.specs.Encoding.{zeros}
 use Rattle.fidl_wire.specs.Standing.{Stands}
-use Rattle.fidl_decode_model.specs.Faults.{message_of}
 use Rattle.fidl_decode_model.specs.State.{Position, opened}
 use Rattle.fidl_decode_model.specs.Machine.{at_of}
 use Rattle.fidl_decode.proofs.Words.{inside_numbers}
@@ -12,7 +12,7 @@ pub returns-clause-passed : goal.returns-clause-passed
 returns-clause-passed c =
     λ so.
     let t = c.args.self.now.table.now in
-    let m = message_of c.args.self.now.bytes.value.came c.args.self.now.handles.now in
+    let m = message c.args.self.now in
     let old = at_of c.args.state.now in
     let new : Position = record { next = old.next; handle = old.handle; objects = c.record.new.self.objects; records = c.record.new.self.records } in
     let led : opened c.args.envelope old ≡ new = λ i. record { next = old.next; handle = old.handle; objects = sym c.record.ensures.objects i; records = sym c.record.ensures.records i } in

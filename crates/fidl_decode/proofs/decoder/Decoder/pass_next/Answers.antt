@@ -1,9 +1,9 @@
+use Rattle.fidl_decode.specs.Reading.{message}
 use Rattle.fidl_decode.proofs.Fitting.{eq_le, pays_same}
 use Rattle.fidl_decode.proofs.Unchanged.{no_true, same_le}
 use Rattle.std.proofs.Common.{◌+◌, ◌-◌, ◌*◌, sym, subst, arith, refl}
 use Rattle.std.specs.Prelude.{Some, None}
 use Rattle.fidl_wire.specs.Term as ty
-use Rattle.fidl_decode_model.specs.Faults.{message_of}
 use Rattle.fidl_decode.specs.Body.{BodyFine}
 use Rattle.fidl_decode_model.specs.Machine.{Opens, at_of}
 use Rattle.fidl_decode.proofs.BodyTurns.{body_found, next_passed}
@@ -16,7 +16,7 @@ pub returns-in-Inside-clause-passed : goal.returns-in-Inside-clause-passed
 returns-in-Inside-clause-passed c =
     λ so.
     let t = c.args.self.now.table.now in
-    let m = message_of c.args.self.now.bytes.value.came c.args.self.now.handles.now in
+    let m = message c.args.self.now in
     let old = at_of c.args.state.now in
     let found = body_found t c.args.body.now c.requires.body c.args.read c.requires.more c.row-row.result c.row-row.ensures.value c.if-row-read.false in
     let few = c.requires.body.few in
@@ -28,7 +28,7 @@ pub returns-in-Below-clause-passed : goal.returns-in-Below-clause-passed
 returns-in-Below-clause-passed c =
     λ so.
     let t = c.args.self.now.table.now in
-    let m = message_of c.args.self.now.bytes.value.came c.args.self.now.handles.now in
+    let m = message c.args.self.now in
     let old = at_of c.args.state.now in
     let found = body_found t c.args.body.now c.requires.body c.args.read c.requires.more c.row-row.result c.row-row.ensures.value c.if-row-read.false in
     let few = c.requires.body.few in

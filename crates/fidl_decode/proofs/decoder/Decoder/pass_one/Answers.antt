@@ -1,3 +1,4 @@
+use Rattle.fidl_decode.specs.Reading.{message}
 use Rattle.fidl_decode.proofs.Fitting.{le_more, budget_44}
 use Rattle.fidl_decode.proofs.Unchanged.{same_le}
 use Rattle.std.proofs.Common.{◌≡◌, ◌+◌, ◌-◌, sym, ap, subst, ◌∙◌, add-one, arith}
@@ -7,7 +8,6 @@ use Rattle.fidl_decode.specs.Body.{rest_of}
 use Rattle.fidl_decode_columns.proofs.Leaves.{left_over, turns_stay}
 use Rattle.fidl_wire.specs.Term.{find}
 use Rattle.fidl_table_format.specs.Terms.{members_of}
-use Rattle.fidl_decode_model.specs.Faults.{message_of}
 use Rattle.fidl_decode_model.specs.Machine.{at_of, Turns}
 use Rattle.fidl_decode.proofs.BodyTurns.{next_passed}
 use Rattle.fidl_decode.proofs.decoder.Decoder.pass_one.Goals as goal
@@ -15,7 +15,7 @@ use Rattle.fidl_decode.proofs.decoder.Decoder.pass_one.Goals as goal
 pub returns-then-pass_kind-clause-turns : goal.returns-then-pass_kind-clause-turns
 returns-then-pass_kind-clause-turns c =
     let t = c.args.self.now.table.now in
-    let m = message_of c.args.self.now.bytes.value.came c.args.self.now.handles.now in
+    let m = message c.args.self.now in
     let body = c.args.body.now in
     let old = c.args.state.now in
     let new = c.pass_kind.new.state in
@@ -57,7 +57,7 @@ pass_kind-requires-clause-budget c = budget_44 _ c.requires.budget
 pub returns-clause-turns : goal.returns-clause-turns
 returns-clause-turns c =
     let t = c.args.self.now.table.now in
-    let m = message_of c.args.self.now.bytes.value.came c.args.self.now.handles.now in
+    let m = message c.args.self.now in
     let f = rest_of c.args.body.now c.args.from in
     let kept : at_of c.pass_kind.new.state ≡ at_of c.args.state.now = c.pass_kind.ensures.kept c.if-pass_kind.false in
     let next : c.pass_kind.new.state.next ≡ c.args.state.now.next = ap (λ (s : Position). s.next) kept in

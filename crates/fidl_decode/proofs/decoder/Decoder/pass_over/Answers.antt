@@ -1,8 +1,8 @@
+use Rattle.fidl_decode.specs.Reading.{message}
 use Rattle.std.proofs.Common.{◌≡◌, ◌+◌, ◌-◌, refl, sym, subst, arith}
 use Rattle.std.specs.Prelude.{Some}
 use Rattle.fidl_decode_model.specs.declared.frame.Frame.{Frame}
 use Rattle.fidl_decode_model.specs.Machine.{Turns, at_of}
-use Rattle.fidl_decode_model.specs.Faults.{message_of}
 use Rattle.fidl_decode_columns.proofs.Leaves.{left_over, turns_start}
 use Rattle.fidl_decode.proofs.decoder.Decoder.pass_over.Goals as goal
 
@@ -12,7 +12,7 @@ is_good-requires c = record { holds = c.requires.holds; short = omega (arith, c.
 pub returns-then-not-is_good-clause-turns : goal.returns-then-not-is_good-clause-turns
 returns-then-not-is_good-clause-turns c =
     let t = c.args.self.now.table.now in
-    let m = message_of c.args.self.now.bytes.value.came c.args.self.now.handles.now in
+    let m = message c.args.self.now in
     let f = c.args.frame in
     let old = at_of c.args.state.now in
     let none : 0 ≡ c.args.state.now.steps - c.args.state.now.steps = omega arith in
@@ -26,7 +26,7 @@ overflow_add-state c =
 pub returns-clause-turns : goal.returns-clause-turns
 returns-clause-turns c =
     let t = c.args.self.now.table.now in
-    let m = message_of c.args.self.now.bytes.value.came c.args.self.now.handles.now in
+    let m = message c.args.self.now in
     let f = c.args.frame in
     let old = at_of c.args.state.now in
     let spent : c.args.plain.now.rows ≡ c.args.state.now.steps + c.from.result - c.args.state.now.steps = omega (arith, c.from.ensures) in

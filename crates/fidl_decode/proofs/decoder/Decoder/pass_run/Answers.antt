@@ -1,6 +1,6 @@
+use Rattle.fidl_decode.specs.Reading.{message}
 use Rattle.std.proofs.Common.{◌≡◌, ◌+◌, ◌-◌, sym, ap, subst, arith}
 use Rattle.std.specs.Prelude.{Some}
-use Rattle.fidl_decode_model.specs.Faults.{message_of}
 use Rattle.fidl_decode_model.specs.State.{Position}
 use Rattle.fidl_decode.specs.Body.{rest_of}
 use Rattle.fidl_decode_model.specs.Machine.{Turns, at_of}
@@ -10,7 +10,7 @@ use Rattle.fidl_decode.proofs.decoder.Decoder.pass_run.Goals as goal
 pub loop-read-init : goal.loop-read-init
 loop-read-init c = record {
   holds = c.requires.holds;
-  turns = turns_stay c.args.self.now.table.now (message_of c.args.self.now.bytes.value.came c.args.self.now.handles.now) (rest_of c.args.body.now c.args.from) (at_of c.args.state.now) c.requires.frame c.requires.state _ (omega arith);
+  turns = turns_stay c.args.self.now.table.now (message c.args.self.now) (rest_of c.args.body.now c.args.from) (at_of c.args.state.now) c.requires.frame c.requires.state _ (omega arith);
   order = omega arith;
   few = c.requires.more;
   grows = omega arith;
@@ -20,7 +20,7 @@ loop-read-init c = record {
 pub loop-read-preserved : goal.loop-read-preserved
 loop-read-preserved c =
     let t = c.args.self.now.table.now in
-    let m = message_of c.args.self.now.bytes.value.came c.args.self.now.handles.now in
+    let m = message c.args.self.now in
     let body = c.args.body.now in
     let i = c.loop-read.invariant in
     let new = c.pass_next.new.state in
@@ -42,7 +42,7 @@ loop-read-preserved c =
 pub returns-else-pass_next-clause-turns : goal.returns-else-pass_next-clause-turns
 returns-else-pass_next-clause-turns c =
     let t = c.args.self.now.table.now in
-    let m = message_of c.args.self.now.bytes.value.came c.args.self.now.handles.now in
+    let m = message c.args.self.now in
     let f = rest_of c.args.body.now c.args.from in
     let old = at_of c.args.state.now in
     let x = left_over (Some (rest_of c.args.body.now c.loop-read.read)) in

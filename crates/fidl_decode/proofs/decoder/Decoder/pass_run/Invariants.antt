@@ -1,8 +1,8 @@
+use Rattle.fidl_decode.specs.Reading.{message}
 use Rattle.std.proofs.Common.{◌≡◌, ◌+◌, ◌-◌, ◌≤◌}
 use Rattle.std.specs.Prelude.{Some}
 use Rattle.fidl_decode_model.specs.Machine.{at_of, Turns}
 use Rattle.fidl_decode.specs.Body.{rest_of}
-use Rattle.fidl_decode_model.specs.Faults.{message_of}
 use Rattle.fidl_decode_columns.proofs.Leaves.{left_over}
 use Rattle.fidl_decode.proofs.decoder.Decoder.pass_run.Given as goal
 
@@ -10,7 +10,7 @@ use Rattle.fidl_decode.proofs.decoder.Decoder.pass_run.Given as goal
 abbrev pub invariant-loop-read : goal.invariant-loop-read
 invariant-loop-read l = record {
   holds : l.state.links.came ≡ l.self.bytes.value.came;
-  turns : Turns l.self.table.now (message_of l.self.bytes.value.came l.self.handles.now) (rest_of l.body l.from) (at_of l.fn.state) (at_of l.state) (l.state.steps + (l.read - l.from) - l.fn.state.steps) (left_over (Some (rest_of l.body l.read)));
+  turns : Turns l.self.table.now (message l.self) (rest_of l.body l.from) (at_of l.fn.state) (at_of l.state) (l.state.steps + (l.read - l.from) - l.fn.state.steps) (left_over (Some (rest_of l.body l.read)));
   order : l.from ≤ l.read;
   few : l.read ≤ l.body.known;
   grows : l.fn.state.steps ≤ l.state.steps;

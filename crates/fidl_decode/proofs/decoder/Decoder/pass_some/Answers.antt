@@ -1,7 +1,7 @@
+use Rattle.fidl_decode.specs.Reading.{message}
 use Rattle.fidl_decode.proofs.Fitting.{le_more}
 use Rattle.std.proofs.Common.{◌+◌, ◌-◌, subst, arith, refl}
 use Rattle.std.specs.Prelude.{Some}
-use Rattle.fidl_decode_model.specs.Faults.{message_of}
 use Rattle.fidl_decode.specs.Body.{rest_of}
 use Rattle.fidl_decode_model.specs.Machine.{Turns, at_of}
 use Rattle.fidl_decode_columns.proofs.Leaves.{left_over, turns_then}
@@ -11,7 +11,7 @@ use Rattle.fidl_decode.proofs.decoder.Decoder.pass_some.Goals as goal
 pub returns-then-is_absent-clause-turns : goal.returns-then-is_absent-clause-turns
 returns-then-is_absent-clause-turns c =
     let t = c.args.self.now.table.now in
-    let m = message_of c.args.self.now.bytes.value.came c.args.self.now.handles.now in
+    let m = message c.args.self.now in
     let body = c.args.body.now in
     let old = c.args.state.now in
     let mid = c.pass_alike-read.new.state in

@@ -1,3 +1,4 @@
+use Rattle.fidl_decode.specs.Reading.{message}
 use Rattle.fidl_decode.proofs.Fitting.{front, apart, inside, at_most, small, ended, few_32, counted_on, some_8, size_in, le_more, pays_whole}
 use Rattle.fidl_decode.proofs.Unchanged.{no_true, same_le, size_fits, size_room}
 use Rattle.std.proofs.Common.{◌≡◌, ◌+◌, ◌-◌, ◌/◌, ◌<◌, ◌≤◌, ◌^◌, ℕ, List, get_or, slice_set, false, true, refl, sym, ap, subst, ◌∙◌, arith, length}
@@ -12,7 +13,6 @@ use Rattle.fidl_table_format.specs.declared.record.Entry.{Entry}
 use Rattle.fidl_wire.specs.Field.{number_at}
 use Rattle.fidl_table_format.specs.Section.{header_of, entry_at}
 use Rattle.fidl_decode_model.specs.declared.frame.Remaining.TheVariants.{Rows}
-use Rattle.fidl_decode_model.specs.Faults.{message_of}
 use Rattle.fidl_decode_model.specs.State.{Message, Position, opened, linked}
 use Rattle.fidl_decode_model.specs.Machine.{Passes, at_of}
 use Rattle.fidl_decode_model.proofs.Visiting.{fine_as}
@@ -43,7 +43,7 @@ plain_rows-plain-requires c =
 pub overflow_add-next : goal.overflow_add-next
 overflow_add-next c =
     let t = c.args.self.now.table.now in
-    let m = message_of c.args.self.now.bytes.value.came c.args.self.now.handles.now in
+    let m = message c.args.self.now in
     let old = at_of c.args.state.now in
     let d = entry_at t c.args.entry in
     let is : c.entry-e.result ≡ d = c.entry-e.ensures.value in
@@ -57,7 +57,7 @@ overflow_add-next c =
 pub zeros_at-requires-clause-order : goal.zeros_at-requires-clause-order
 zeros_at-requires-clause-order c =
     let t = c.args.self.now.table.now in
-    let m = message_of c.args.self.now.bytes.value.came c.args.self.now.handles.now in
+    let m = message c.args.self.now in
     let old = at_of c.args.state.now in
     let d = entry_at t c.args.entry in
     let is : c.entry-e.result ≡ d = c.entry-e.ensures.value in
@@ -72,7 +72,7 @@ pub returns-clause-passed : goal.returns-clause-passed
 returns-clause-passed c =
     λ so.
     let t = c.args.self.now.table.now in
-    let m = message_of c.args.self.now.bytes.value.came c.args.self.now.handles.now in
+    let m = message c.args.self.now in
     let old = at_of c.args.state.now in
     let d = entry_at t c.args.entry in
     let is : c.entry-e.result ≡ d = c.entry-e.ensures.value in

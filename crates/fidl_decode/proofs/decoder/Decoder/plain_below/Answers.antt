@@ -1,3 +1,4 @@
+use Rattle.fidl_decode.specs.Reading.{message}
 use Rattle.std.proofs.Common.{◌≡◌, ◌+◌, ◌<◌, ◌≤◌, sym, ap, subst, ◌∙◌}
 use Rattle.std.specs.Prelude.{Some}
 use Rattle.fidl_table_format.specs.declared.kind.EntryKind.{EntryKind}
@@ -5,14 +6,13 @@ use Rattle.fidl_table_format.specs.declared.kind.EntryKind.TheVariants.{Box}
 use Rattle.fidl_table_format.specs.declared.record.Entry.{Entry}
 use Rattle.fidl_table_format.specs.Kind.{kind_of}
 use Rattle.fidl_table_format.specs.Section.{header_of, entry_at}
-use Rattle.fidl_decode_model.specs.Faults.{message_of}
 use Rattle.fidl_decode.proofs.Known.{known_from, box_inside, box_rows}
 use Rattle.fidl_decode.proofs.decoder.Decoder.plain_below.Goals as goal
 
 pub returns-then-count-eq0 : goal.returns-then-count-eq0
 returns-then-count-eq0 c =
     let t = c.args.self.now.table.now in
-    let m = message_of c.args.self.now.bytes.value.came c.args.self.now.handles.now in
+    let m = message c.args.self.now in
     let r = c.plain_rows.result in
     let e = c.plain_rows.ensures in
     record { known = known_from t m c.args.first 0 r.rows r.first r.count r.done r.flag e.first e.count e.passes }
@@ -33,7 +33,7 @@ plain_rows-requires-in-Some-Box c =
 pub returns-in-Some-Box : goal.returns-in-Some-Box
 returns-in-Some-Box c =
     let t = c.args.self.now.table.now in
-    let m = message_of c.args.self.now.bytes.value.came c.args.self.now.handles.now in
+    let m = message c.args.self.now in
     let a = c.entry-content.result in
     let r = c.plain_rows-in-Some-Box.result in
     let e = c.plain_rows-in-Some-Box.ensures in
@@ -42,7 +42,7 @@ returns-in-Some-Box c =
 pub returns-in_default : goal.returns-in_default
 returns-in_default c =
     let t = c.args.self.now.table.now in
-    let m = message_of c.args.self.now.bytes.value.came c.args.self.now.handles.now in
+    let m = message c.args.self.now in
     let r = c.plain_rows-in_default.result in
     let e = c.plain_rows-in_default.ensures in
     record { known = known_from t m c.args.first 0 r.rows r.first r.count r.done r.flag e.first e.count e.passes }

@@ -1,3 +1,4 @@
+use Rattle.fidl_decode.specs.Reading.{message}
 use Rattle.std.proofs.Common.{◌≡◌, ◌+◌, ◌-◌, ◌<◌, ◌≤◌, ap, subst, ◌∙◌, arith}
 use Rattle.std.specs.Prelude.{Option, Some, None, IfSome, length, ℕ}
 use Rattle.fidl_limits.specs.declared.limits.TheConstants.{MAX_DEPTH}
@@ -10,7 +11,6 @@ use Rattle.fidl_table_format.specs.Terms.{declarations_of}
 use Rattle.fidl_decode_model.specs.declared.frame.Remaining.TheVariants.{Rows}
 use Rattle.fidl_decode_model.specs.Rows.{Row}
 use Rattle.fidl_decode_model.specs.Machine.{StateFine, IsGood, Visits, Turns}
-use Rattle.fidl_decode_model.specs.Faults.{message_of}
 use Rattle.fidl_decode_model.proofs.Visiting.{positive, size_is}
 use Rattle.fidl_decode_columns.proofs.Leaves.{going_on, left_over, same_frame, turns_start, next_room, next_turns, rows_next, no_zeros}
 use Rattle.fidl_decode.proofs.decoder.Decoder.plain_rows.Goals as goal
@@ -18,7 +18,7 @@ use Rattle.fidl_decode.proofs.decoder.Decoder.plain_rows.Goals as goal
 pub loop-i-init : goal.loop-i-init
 loop-i-init c =
     let t = c.args.self.now.table.now in
-    let m = message_of c.args.self.now.bytes.value.came c.args.self.now.handles.now in
+    let m = message c.args.self.now in
     let none : 0 ≡ c.args.first - c.args.first = omega arith in
     let all : c.args.count ≡ c.args.first + c.args.count - c.args.first = omega arith in
     let left = Rows c.args.first (c.args.first + c.args.count - c.args.first) in
@@ -33,7 +33,7 @@ loop-i-init c =
 pub loop-i-preserved : goal.loop-i-preserved
 loop-i-preserved c =
     let t = c.args.self.now.table.now in
-    let m = message_of c.args.self.now.bytes.value.came c.args.self.now.handles.now in
+    let m = message c.args.self.now in
     let end = c.args.first + c.args.count in
     let row = c.row-row.result in
     let before : c.loop-i.i < end = omega (arith, c.loop-i-test.true, c.few_rows-few.ensures.few) in
@@ -58,7 +58,7 @@ loop-i-preserved c =
 pub returns-clause-passes : goal.returns-clause-passes
 returns-clause-passes c =
     let t = c.args.self.now.table.now in
-    let m = message_of c.args.self.now.bytes.value.came c.args.self.now.handles.now in
+    let m = message c.args.self.now in
     let end = c.args.first + c.args.count in
     let few = c.few_rows-few.result in
     let over : c.loop-i.i ≡ c.args.first + few = omega (arith, c.loop-i-test.false, c.loop-i.auto.i, c.loop-i.auto.i-end) in

@@ -1,8 +1,8 @@
+use Rattle.fidl_decode.specs.Reading.{message}
 use Rattle.std.proofs.Common.{◌-◌, arith}
 use Rattle.std.specs.Prelude.{Some, IfNone, ◌<◌}
 use Rattle.std.proofs.lemmas.Result.{IfOk-weaker, IfErr-weaker, on_ok_weaker}
 use Rattle.fidl_decode_model.specs.Machine.{BreaksFrame, Turns, at_of}
-use Rattle.fidl_decode_model.specs.Faults.{message_of}
 use Rattle.fidl_decode_model.proofs.Turning.{if_ok_on, none_weaker}
 use Rattle.fidl_decode_columns.proofs.Leaves.{left_over, turns_then, turns_break}
 use Rattle.fidl_decode.proofs.decoder.Decoder.read_behind.Goals as goal
@@ -23,7 +23,7 @@ read_struct-requires-clause-budget c =
 pub returns : goal.returns
 returns c =
     let t = c.args.self.now.table.now in
-    let m = message_of c.args.self.now.bytes.value.came c.args.self.now.handles.now in
+    let m = message c.args.self.now in
     let f = c.args.frame in
     let g = c.pass_over-rest.result in
     let old = at_of c.args.state.now in

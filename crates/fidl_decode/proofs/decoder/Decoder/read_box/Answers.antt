@@ -1,3 +1,4 @@
+use Rattle.fidl_decode.specs.Reading.{message}
 use Rattle.fidl_decode.proofs.Unchanged.{size_short, size_fits, size_room}
 use Rattle.fidl_decode.proofs.Fitting.{inside, at_most, small, ended, deeper, some_8}
 use Rattle.std.proofs.Common.{◌≡◌, ℕ, ◌+◌, ◌-◌, ◌<◌, refl, Bool, true, false, sym, ap, subst, ◌∙◌, arith, length}
@@ -8,7 +9,6 @@ use Rattle.fidl_table_format.specs.declared.kind.EntryKind.TheVariants.{Box}
 use Rattle.fidl_table_format.specs.Section.{header_of, entry_at}
 use Rattle.fidl_decode_model.specs.declared.frame.Remaining.TheVariants.{Rows}
 use Rattle.fidl_decode_model.specs.declared.frame.Frame.{Frame}
-use Rattle.fidl_decode_model.specs.Faults.{message_of}
 use Rattle.fidl_decode_model.specs.State.{Position, linked}
 use Rattle.fidl_decode_model.specs.Machine.{Visits, VisitFine, at_of}
 use Rattle.fidl_decode_model.proofs.Visiting.{fine_as}
@@ -17,7 +17,7 @@ use Rattle.fidl_decode.proofs.decoder.Decoder.read_box.Goals as goal
 
 pub returns-then-is_absent-clause-ok : goal.returns-then-is_absent-clause-ok
 returns-then-is_absent-clause-ok c =
-    visits_absent_box c.args.self.now.table.now c.args.self.now.fine (message_of c.args.self.now.bytes.value.came c.args.self.now.handles.now) c.args.depth c.args.entry c.args.place (at_of c.args.state.now) c.requires.entry c.requires.kind c.requires.state c.requires.depth (c.args.state.now.steps - c.args.state.now.steps) (omega arith) (c.is_absent.ensures.0 c.if-is_absent.true)
+    visits_absent_box c.args.self.now.table.now c.args.self.now.fine (message c.args.self.now) c.args.depth c.args.entry c.args.place (at_of c.args.state.now) c.requires.entry c.requires.kind c.requires.state c.requires.depth (c.args.state.now.steps - c.args.state.now.steps) (omega arith) (c.is_absent.ensures.0 c.if-is_absent.true)
 
 pub entry-content-requires : goal.entry-content-requires
 entry-content-requires c =
@@ -34,7 +34,7 @@ returns-then-size-self-clause-fault_is_true c =
 pub returns-clause-ok : goal.returns-clause-ok
 returns-clause-ok c =
     let t = c.args.self.now.table.now in
-    let m = message_of c.args.self.now.bytes.value.came c.args.self.now.handles.now in
+    let m = message c.args.self.now in
     let old = at_of c.args.state.now in
     let inner = entry_at t (entry_at t c.args.entry).first in
     let content : c.entry-content.result ≡ inner = c.entry-content.ensures.value ∙ ap (λ (d : Entry). entry_at t d.first) c.entry.ensures.value in
@@ -50,7 +50,7 @@ returns-clause-ok c =
 pub returns-clause-fine : goal.returns-clause-fine
 returns-clause-fine c around few =
     let t = c.args.self.now.table.now in
-    let m = message_of c.args.self.now.bytes.value.came c.args.self.now.handles.now in
+    let m = message c.args.self.now in
     let old = at_of c.args.state.now in
     let inner = entry_at t (entry_at t c.args.entry).first in
     let content : c.entry-content.result ≡ inner = c.entry-content.ensures.value ∙ ap (λ (d : Entry). entry_at t d.first) c.entry.ensures.value in

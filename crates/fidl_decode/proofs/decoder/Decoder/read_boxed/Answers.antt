@@ -1,8 +1,8 @@
+use Rattle.fidl_decode.specs.Reading.{message}
 use Rattle.std.proofs.Common.{subst, ◌-◌, ◌+◌, ◌≤◌, arith}
 use Rattle.fidl_decode_model.specs.declared.frame.Remaining.{Remaining}
 use Rattle.fidl_decode_model.specs.Machine.{LeftFine, at_of}
 use Rattle.fidl_decode_columns.proofs.Leaves.{turns_stay}
-use Rattle.fidl_decode_model.specs.Faults.{message_of}
 use Rattle.fidl_decode.proofs.decoder.Decoder.read_boxed.Goals as goal
 
 pub plain_below-known-requires : goal.plain_below-known-requires
@@ -10,4 +10,4 @@ plain_below-known-requires c =
     record { within = subst (λ (l : Remaining). LeftFine c.args.self.now.table.now l) c.in-Rows.is c.requires.frame.left }
 
 pub returns-in_default : goal.returns-in_default
-returns-in_default c = record { holds = c.requires.holds; ok = turns_stay c.args.self.now.table.now (message_of c.args.self.now.bytes.value.came c.args.self.now.handles.now) c.args.frame (at_of c.args.state.now) c.requires.frame c.requires.state _ (omega arith); grows = omega arith; ended = tt; cost = omega arith; fault_is_true = tt }
+returns-in_default c = record { holds = c.requires.holds; ok = turns_stay c.args.self.now.table.now (message c.args.self.now) c.args.frame (at_of c.args.state.now) c.requires.frame c.requires.state _ (omega arith); grows = omega arith; ended = tt; cost = omega arith; fault_is_true = tt }

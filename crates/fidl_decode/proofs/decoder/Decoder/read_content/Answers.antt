@@ -1,3 +1,4 @@
+use Rattle.fidl_decode.specs.Reading.{message}
 use Rattle.fidl_decode.proofs.Fitting.{le_more, lt_le}
 use Rattle.fidl_decode.proofs.Unchanged.{no_ok, same_le}
 use Rattle.std.proofs.Common.{◌≡◌, sym, ap, ◌∙◌, ◌-◌, ◌+◌, ◌≤◌, arith}
@@ -7,7 +8,6 @@ use Rattle.fidl_table_format.specs.Kind.{kind_of}
 use Rattle.fidl_table_format.specs.Section.{entry_at}
 use Rattle.fidl_decode_model.specs.declared.frame.Remaining.TheVariants.{Content}
 use Rattle.fidl_decode_model.specs.Machine.{at_of}
-use Rattle.fidl_decode_model.specs.Faults.{message_of}
 use Rattle.fidl_decode_model.proofs.Turning.{passed_on}
 use Rattle.fidl_decode.proofs.LeafContent.{leaf_known}
 use Rattle.fidl_decode_columns.proofs.Leaves.{turns_stay}
@@ -19,27 +19,27 @@ no_some a e = cc
 pub entry-e-requires : goal.entry-e-requires
 entry-e-requires c =
     let t = c.args.self.now.table.now in
-    let m = message_of c.args.self.now.bytes.value.came c.args.self.now.handles.now in
+    let m = message c.args.self.now in
     leaf_known t c.args.self.now.fine m c.args.frame c.args.entry c.args.size c.args.count c.args.until c.requires.left c.if-count-ne1.false (at_of c.args.state.now) c.requires.frame c.requires.state
 
 pub unreachable-requires : goal.unreachable-requires
 unreachable-requires c =
     let t = c.args.self.now.table.now in
-    let m = message_of c.args.self.now.bytes.value.came c.args.self.now.handles.now in
+    let m = message c.args.self.now in
     let f = c.args.self.now.fine.each c.args.entry (leaf_known t c.args.self.now.fine m c.args.frame c.args.entry c.args.size c.args.count c.args.until c.requires.left c.if-count-ne1.false (at_of c.args.state.now) c.requires.frame c.requires.state) in
     let none : kind_of (entry_at t c.args.entry).kind ≡ None = ap (λ (e : Entry). kind_of e.kind) (sym c.entry-e.ensures.value) ∙ sym c.from_number.ensures ∙ c.in_default.is in
     no_some f.0 (sym f.1.is ∙ none)
 
 pub is_flat-requires : goal.is_flat-requires
 is_flat-requires c = record {
-  entry = leaf_known c.args.self.now.table.now c.args.self.now.fine (message_of c.args.self.now.bytes.value.came c.args.self.now.handles.now) c.args.frame c.args.entry c.args.size c.args.count c.args.until c.requires.left c.if-count-ne1.false (at_of c.args.state.now) c.requires.frame c.requires.state;
+  entry = leaf_known c.args.self.now.table.now c.args.self.now.fine (message c.args.self.now) c.args.frame c.args.entry c.args.size c.args.count c.args.until c.requires.left c.if-count-ne1.false (at_of c.args.state.now) c.requires.frame c.requires.state;
   kind = ap (λ (e : Entry). kind_of e.kind) (sym c.entry-e.ensures.value) ∙ sym c.from_number.ensures ∙ c.in-Some.is;
 }
 
 pub read_whole-requires-clause-kind : goal.read_whole-requires-clause-kind
 read_whole-requires-clause-kind c =
     let t = c.args.self.now.table.now in
-    let m = message_of c.args.self.now.bytes.value.came c.args.self.now.handles.now in
+    let m = message c.args.self.now in
     ap (λ (e : Entry). kind_of e.kind) (sym c.entry-e.ensures.value) ∙ sym c.from_number.ensures ∙ c.in-Some.is
 
 pub read_whole-requires-clause-flat : goal.read_whole-requires-clause-flat
@@ -115,7 +115,7 @@ pub returns-then-not-is_flat-clause-cost : goal.returns-then-not-is_flat-clause-
 returns-then-not-is_flat-clause-cost c = le_more _ _
 
 pub returns-then-count-ne1-clause-ok : goal.returns-then-count-ne1-clause-ok
-returns-then-count-ne1-clause-ok c = turns_stay c.args.self.now.table.now (message_of c.args.self.now.bytes.value.came c.args.self.now.handles.now) c.args.frame (at_of c.args.state.now) c.requires.frame c.requires.state _ (omega arith)
+returns-then-count-ne1-clause-ok c = turns_stay c.args.self.now.table.now (message c.args.self.now) c.args.frame (at_of c.args.state.now) c.requires.frame c.requires.state _ (omega arith)
 
 pub returns-then-not-is_flat-clause-ok : goal.returns-then-not-is_flat-clause-ok
-returns-then-not-is_flat-clause-ok c = turns_stay c.args.self.now.table.now (message_of c.args.self.now.bytes.value.came c.args.self.now.handles.now) c.args.frame (at_of c.args.state.now) c.requires.frame c.requires.state _ (omega arith)
+returns-then-not-is_flat-clause-ok c = turns_stay c.args.self.now.table.now (message c.args.self.now) c.args.frame (at_of c.args.state.now) c.requires.frame c.requires.state _ (omega arith)

@@ -1,8 +1,8 @@
+use Rattle.fidl_decode.specs.Reading.{message}
 use Rattle.std.proofs.Common.{◌≡◌, ◌-◌, ◌≤◌}
 use Rattle.std.specs.Prelude.{Some}
 use Rattle.fidl_decode_model.specs.declared.frame.Remaining.TheVariants.{Elements}
 use Rattle.fidl_decode_model.specs.Machine.{at_of, Turns}
-use Rattle.fidl_decode_model.specs.Faults.{message_of}
 use Rattle.fidl_decode_columns.proofs.Leaves.{going_on, left_over}
 use Rattle.fidl_decode.proofs.decoder.Decoder.read_each.Given as goal
 
@@ -10,6 +10,6 @@ use Rattle.fidl_decode.proofs.decoder.Decoder.read_each.Given as goal
 abbrev pub invariant-loop-i : goal.invariant-loop-i
 invariant-loop-i l = record {
   holds : l.state.links.came ≡ l.self.bytes.value.came;
-  turns : Turns l.self.table.now (message_of l.self.bytes.value.came l.self.handles.now) l.frame (at_of l.fn.state) (at_of l.state) (l.state.steps - l.fn.state.steps) (left_over (Some (going_on l.frame (Elements l.entry l.size (l.count - l.i)) l.done)));
+  turns : Turns l.self.table.now (message l.self) l.frame (at_of l.fn.state) (at_of l.state) (l.state.steps - l.fn.state.steps) (left_over (Some (going_on l.frame (Elements l.entry l.size (l.count - l.i)) l.done)));
   steps : l.fn.state.steps ≤ l.state.steps;
 }

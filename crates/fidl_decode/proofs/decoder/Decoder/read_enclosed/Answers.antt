@@ -1,3 +1,4 @@
+use Rattle.fidl_decode.specs.Reading.{message}
 use Rattle.fidl_decode.proofs.Unchanged.{no_ok}
 use Rattle.std.proofs.Common.{◌≡◌, ℕ, ◌-◌, arith}
 use Rattle.std.specs.Prelude.{Some, None}
@@ -7,7 +8,6 @@ use Rattle.fidl_decode_model.specs.declared.frame.Remaining.{Remaining}
 use Rattle.fidl_decode_model.specs.declared.frame.Remaining.TheVariants.{Content}
 use Rattle.fidl_decode_model.specs.declared.frame.Until.{Until}
 use Rattle.fidl_decode_model.specs.Machine.{at_of}
-use Rattle.fidl_decode_model.specs.Faults.{message_of}
 use Rattle.fidl_decode_model.proofs.Turning.{on_ok_from, passed_on}
 use Rattle.fidl_decode.proofs.Opening.{opens_known, opens_on, opens_pays, opens_work}
 use Rattle.fidl_decode.proofs.decoder.Decoder.read_enclosed.Goals as goal
@@ -22,12 +22,12 @@ unreachable-requires c =
 pub read_whole-requires-clause-frame : goal.read_whole-requires-clause-frame
 read_whole-requires-clause-frame c =
     let t = c.args.self.now.table.now in
-    let m = message_of c.args.self.now.bytes.value.came c.args.self.now.handles.now in
+    let m = message c.args.self.now in
     let old = at_of c.args.state.now in
     let mid = at_of c.enter_member.new.state in
     let frame = c.in_ok-frame.frame in
     let x = c.in_ok-frame.ensures in
-    let o = opens_known t m c.args.depth c.args.envelope old mid x.state 0 c.args.entry frame x.grows x.ok x.breaks x.least x.fine x.deeper x.work in
+    let o = opens_known t m c.args.depth c.args.envelope old mid x.state 0 c.args.entry frame x.grows x.ok x.breaks x.least x.fine x.deeper x.work x.moves in
     let work = opens_work t m c.args.depth (Some (ty.named c.args.entry)) c.args.envelope old mid 0 frame o in
     let still = x.steps in
     x.fine
@@ -35,7 +35,7 @@ read_whole-requires-clause-frame c =
 pub read_whole-requires-clause-left : goal.read_whole-requires-clause-left
 read_whole-requires-clause-left c =
     let t = c.args.self.now.table.now in
-    let m = message_of c.args.self.now.bytes.value.came c.args.self.now.handles.now in
+    let m = message c.args.self.now in
     let old = at_of c.args.state.now in
     let left = c.in_ok-frame.ensures.left in
     same_content c.in_ok-frame.frame.left _ c.in-Content.size _ c.args.entry _ 1 c.in-Content.until left.0 c.in-Content.is left.1
@@ -43,12 +43,12 @@ read_whole-requires-clause-left c =
 pub read_whole-requires-clause-budget : goal.read_whole-requires-clause-budget
 read_whole-requires-clause-budget c =
     let t = c.args.self.now.table.now in
-    let m = message_of c.args.self.now.bytes.value.came c.args.self.now.handles.now in
+    let m = message c.args.self.now in
     let old = at_of c.args.state.now in
     let mid = at_of c.enter_member.new.state in
     let frame = c.in_ok-frame.frame in
     let x = c.in_ok-frame.ensures in
-    let o = opens_known t m c.args.depth c.args.envelope old mid x.state 0 c.args.entry frame x.grows x.ok x.breaks x.least x.fine x.deeper x.work in
+    let o = opens_known t m c.args.depth c.args.envelope old mid x.state 0 c.args.entry frame x.grows x.ok x.breaks x.least x.fine x.deeper x.work x.moves in
     let work = opens_work t m c.args.depth (Some (ty.named c.args.entry)) c.args.envelope old mid 0 frame o in
     let still = x.steps in
     omega (arith, work, still, c.requires.budget)
@@ -56,12 +56,12 @@ read_whole-requires-clause-budget c =
 pub returns-clause-ok : goal.returns-clause-ok
 returns-clause-ok c =
     let t = c.args.self.now.table.now in
-    let m = message_of c.args.self.now.bytes.value.came c.args.self.now.handles.now in
+    let m = message c.args.self.now in
     let old = at_of c.args.state.now in
     let mid = at_of c.enter_member.new.state in
     let frame = c.in_ok-frame.frame in
     let x = c.in_ok-frame.ensures in
-    let o = opens_known t m c.args.depth c.args.envelope old mid x.state 0 c.args.entry frame x.grows x.ok x.breaks x.least x.fine x.deeper x.work in
+    let o = opens_known t m c.args.depth c.args.envelope old mid x.state 0 c.args.entry frame x.grows x.ok x.breaks x.least x.fine x.deeper x.work x.moves in
     let work = opens_work t m c.args.depth (Some (ty.named c.args.entry)) c.args.envelope old mid 0 frame o in
     let still = x.steps in
     let new = at_of c.read_whole.new.state in
@@ -72,12 +72,12 @@ returns-clause-ok c =
 pub returns-clause-pays : goal.returns-clause-pays
 returns-clause-pays c =
     let t = c.args.self.now.table.now in
-    let m = message_of c.args.self.now.bytes.value.came c.args.self.now.handles.now in
+    let m = message c.args.self.now in
     let old = at_of c.args.state.now in
     let mid = at_of c.enter_member.new.state in
     let frame = c.in_ok-frame.frame in
     let x = c.in_ok-frame.ensures in
-    let o = opens_known t m c.args.depth c.args.envelope old mid x.state 0 c.args.entry frame x.grows x.ok x.breaks x.least x.fine x.deeper x.work in
+    let o = opens_known t m c.args.depth c.args.envelope old mid x.state 0 c.args.entry frame x.grows x.ok x.breaks x.least x.fine x.deeper x.work x.moves in
     let work = opens_work t m c.args.depth (Some (ty.named c.args.entry)) c.args.envelope old mid 0 frame o in
     let still = x.steps in
     let new = at_of c.read_whole.new.state in
@@ -88,12 +88,12 @@ returns-clause-pays c =
 pub returns-clause-fault_is_true : goal.returns-clause-fault_is_true
 returns-clause-fault_is_true c =
     let t = c.args.self.now.table.now in
-    let m = message_of c.args.self.now.bytes.value.came c.args.self.now.handles.now in
+    let m = message c.args.self.now in
     let old = at_of c.args.state.now in
     let mid = at_of c.enter_member.new.state in
     let frame = c.in_ok-frame.frame in
     let x = c.in_ok-frame.ensures in
-    let o = opens_known t m c.args.depth c.args.envelope old mid x.state 0 c.args.entry frame x.grows x.ok x.breaks x.least x.fine x.deeper x.work in
+    let o = opens_known t m c.args.depth c.args.envelope old mid x.state 0 c.args.entry frame x.grows x.ok x.breaks x.least x.fine x.deeper x.work x.moves in
     let work = opens_work t m c.args.depth (Some (ty.named c.args.entry)) c.args.envelope old mid 0 frame o in
     let still = x.steps in
     IfErr-weaker c.read_whole.result _ _ (λ fault b. o.breaks fault b) c.read_whole.ensures.fault_is_true
@@ -101,12 +101,12 @@ returns-clause-fault_is_true c =
 pub returns-clause-grows : goal.returns-clause-grows
 returns-clause-grows c =
     let t = c.args.self.now.table.now in
-    let m = message_of c.args.self.now.bytes.value.came c.args.self.now.handles.now in
+    let m = message c.args.self.now in
     let old = at_of c.args.state.now in
     let mid = at_of c.enter_member.new.state in
     let frame = c.in_ok-frame.frame in
     let x = c.in_ok-frame.ensures in
-    let o = opens_known t m c.args.depth c.args.envelope old mid x.state 0 c.args.entry frame x.grows x.ok x.breaks x.least x.fine x.deeper x.work in
+    let o = opens_known t m c.args.depth c.args.envelope old mid x.state 0 c.args.entry frame x.grows x.ok x.breaks x.least x.fine x.deeper x.work x.moves in
     let work = opens_work t m c.args.depth (Some (ty.named c.args.entry)) c.args.envelope old mid 0 frame o in
     let still = x.steps in
     on_ok_from c.read_whole.result (λ rises. omega (arith, rises, still)) c.read_whole.ensures.rises
@@ -114,12 +114,12 @@ returns-clause-grows c =
 pub returns-clause-cost : goal.returns-clause-cost
 returns-clause-cost c =
     let t = c.args.self.now.table.now in
-    let m = message_of c.args.self.now.bytes.value.came c.args.self.now.handles.now in
+    let m = message c.args.self.now in
     let old = at_of c.args.state.now in
     let mid = at_of c.enter_member.new.state in
     let frame = c.in_ok-frame.frame in
     let x = c.in_ok-frame.ensures in
-    let o = opens_known t m c.args.depth c.args.envelope old mid x.state 0 c.args.entry frame x.grows x.ok x.breaks x.least x.fine x.deeper x.work in
+    let o = opens_known t m c.args.depth c.args.envelope old mid x.state 0 c.args.entry frame x.grows x.ok x.breaks x.least x.fine x.deeper x.work x.moves in
     let work = opens_work t m c.args.depth (Some (ty.named c.args.entry)) c.args.envelope old mid 0 frame o in
     let still = x.steps in
     omega (arith, work, still, c.read_whole.ensures.cost)

@@ -1,10 +1,10 @@
+use Rattle.fidl_decode.specs.Reading.{message}
 use Rattle.fidl_decode.proofs.Unchanged.{no_ok}
 use Rattle.std.proofs.Common.{◌≡◌, ◌+◌, ◌-◌, refl, sym, ap, subst, arith}
 use Rattle.std.specs.Prelude.{Option, Some, None}
 use Rattle.fidl_decode_model.specs.declared.frame.Frame.{Frame}
 use Rattle.fidl_decode_model.specs.declared.frame.Remaining.TheVariants.{Envelopes}
 use Rattle.fidl_decode_model.specs.Machine.{Turns, behind_envelopes, at_of}
-use Rattle.fidl_decode_model.specs.Faults.{message_of}
 use Rattle.fidl_decode_model.proofs.Turning.{passed_on}
 use Rattle.fidl_decode.proofs.EnvelopeTurns.{envelopes_over}
 use Rattle.fidl_decode_columns.proofs.Leaves.{left_over, same_frame, turns_start, turns_then, turns_break}
@@ -13,7 +13,7 @@ use Rattle.fidl_decode.proofs.decoder.Decoder.read_envelopes.Goals as goal
 pub loop-many-init : goal.loop-many-init
 loop-many-init c =
     let t = c.args.self.now.table.now in
-    let m = message_of c.args.self.now.bytes.value.came c.args.self.now.handles.now in
+    let m = message c.args.self.now in
     let f = c.args.frame in
     let old = at_of c.args.state.now in
     let none : 0 ≡ c.args.state.now.steps - c.args.state.now.steps = omega arith in
@@ -23,7 +23,7 @@ loop-many-init c =
 pub take_envelope-requires-clause-left : goal.take_envelope-requires-clause-left
 take_envelope-requires-clause-left c =
     let t = c.args.self.now.table.now in
-    let m = message_of c.args.self.now.bytes.value.came c.args.self.now.handles.now in
+    let m = message c.args.self.now in
     let f = c.args.frame in
     let old = at_of c.args.state.now in
     let now = at_of c.loop-many.state in
@@ -38,7 +38,7 @@ take_envelope-requires-clause-left c =
 pub take_envelope-requires-clause-frame : goal.take_envelope-requires-clause-frame
 take_envelope-requires-clause-frame c =
     let t = c.args.self.now.table.now in
-    let m = message_of c.args.self.now.bytes.value.came c.args.self.now.handles.now in
+    let m = message c.args.self.now in
     let f = c.args.frame in
     let old = at_of c.args.state.now in
     let now = at_of c.loop-many.state in
@@ -53,7 +53,7 @@ take_envelope-requires-clause-frame c =
 pub take_envelope-requires-clause-budget : goal.take_envelope-requires-clause-budget
 take_envelope-requires-clause-budget c =
     let t = c.args.self.now.table.now in
-    let m = message_of c.args.self.now.bytes.value.came c.args.self.now.handles.now in
+    let m = message c.args.self.now in
     let f = c.args.frame in
     let old = at_of c.args.state.now in
     let now = at_of c.loop-many.state in
@@ -68,7 +68,7 @@ take_envelope-requires-clause-budget c =
 pub returns-in_err-below-clause-cost : goal.returns-in_err-below-clause-cost
 returns-in_err-below-clause-cost c =
     let t = c.args.self.now.table.now in
-    let m = message_of c.args.self.now.bytes.value.came c.args.self.now.handles.now in
+    let m = message c.args.self.now in
     let f = c.args.frame in
     let old = at_of c.args.state.now in
     let now = at_of c.loop-many.state in
@@ -83,7 +83,7 @@ returns-in_err-below-clause-cost c =
 pub returns-in_err-below-clause-fault_is_true : goal.returns-in_err-below-clause-fault_is_true
 returns-in_err-below-clause-fault_is_true c =
     let t = c.args.self.now.table.now in
-    let m = message_of c.args.self.now.bytes.value.came c.args.self.now.handles.now in
+    let m = message c.args.self.now in
     let f = c.args.frame in
     let old = at_of c.args.state.now in
     let now = at_of c.loop-many.state in
@@ -98,7 +98,7 @@ returns-in_err-below-clause-fault_is_true c =
 pub returns-in-Some-clause-ok : goal.returns-in-Some-clause-ok
 returns-in-Some-clause-ok c =
     let t = c.args.self.now.table.now in
-    let m = message_of c.args.self.now.bytes.value.came c.args.self.now.handles.now in
+    let m = message c.args.self.now in
     let f = c.args.frame in
     let old = at_of c.args.state.now in
     let now = at_of c.loop-many.state in
@@ -118,7 +118,7 @@ returns-in-Some-clause-ok c =
 pub returns-in-Some-clause-cost : goal.returns-in-Some-clause-cost
 returns-in-Some-clause-cost c =
     let t = c.args.self.now.table.now in
-    let m = message_of c.args.self.now.bytes.value.came c.args.self.now.handles.now in
+    let m = message c.args.self.now in
     let f = c.args.frame in
     let old = at_of c.args.state.now in
     let now = at_of c.loop-many.state in
@@ -138,7 +138,7 @@ returns-in-Some-clause-cost c =
 pub loop-many-preserved : goal.loop-many-preserved
 loop-many-preserved c =
     let t = c.args.self.now.table.now in
-    let m = message_of c.args.self.now.bytes.value.came c.args.self.now.handles.now in
+    let m = message c.args.self.now in
     let f = c.args.frame in
     let old = at_of c.args.state.now in
     let now = at_of c.loop-many.state in
@@ -161,7 +161,7 @@ loop-many-preserved c =
 pub returns-clause-ok : goal.returns-clause-ok
 returns-clause-ok c =
     let t = c.args.self.now.table.now in
-    let m = message_of c.args.self.now.bytes.value.came c.args.self.now.handles.now in
+    let m = message c.args.self.now in
     let f = c.args.frame in
     let old = at_of c.args.state.now in
     let now = at_of c.loop-many.state in
@@ -176,7 +176,7 @@ returns-clause-ok c =
 pub returns-clause-cost : goal.returns-clause-cost
 returns-clause-cost c =
     let t = c.args.self.now.table.now in
-    let m = message_of c.args.self.now.bytes.value.came c.args.self.now.handles.now in
+    let m = message c.args.self.now in
     let f = c.args.frame in
     let old = at_of c.args.state.now in
     let now = at_of c.loop-many.state in

@@ -1,3 +1,4 @@
+use Rattle.fidl_decode.specs.Reading.{message}
 use Rattle.fidl_decode.proofs.Fitting.{budget_on, cost_on, rises_on, first_in, some_left, next_fits, spends_some, one_more}
 use Rattle.fidl_decode.proofs.Unchanged.{no_ok}
 use Rattle.std.proofs.Common.{◌≡◌, ◌+◌, ◌-◌, sym, ap, subst, ◌∙◌, arith, ◌≤◌, ◌<◌, ◌^◌}
@@ -12,7 +13,6 @@ use Rattle.fidl_decode_model.specs.Invariants.{is_leaf}
 use Rattle.fidl_decode_model.specs.declared.frame.Frame.{Frame}
 use Rattle.fidl_decode_model.specs.declared.frame.Remaining.TheVariants.{Rows}
 use Rattle.fidl_decode_model.specs.Machine.{Turns, at_of, turn_work, IsPlain}
-use Rattle.fidl_decode_model.specs.Faults.{message_of}
 use Rattle.fidl_decode_model.proofs.Turning.{on_ok_from, passed_on}
 use Rattle.fidl_decode_model.proofs.Visiting.{same_some}
 use Rattle.fidl_decode_columns.proofs.Leaves.{going_on, same_frame, left_over, turns_start, turns_then, turns_break}
@@ -24,7 +24,7 @@ no_some a e = cc
 pub loop-many-init : goal.loop-many-init
 loop-many-init c =
     let t = c.args.self.now.table.now in
-    let m = message_of c.args.self.now.bytes.value.came c.args.self.now.handles.now in
+    let m = message c.args.self.now in
     let f = c.args.frame in
     let old = at_of c.args.state.now in
     let none : 0 ≡ c.args.state.now.steps - c.args.state.now.steps = omega arith in
@@ -45,7 +45,7 @@ unreachable-requires c =
 pub read_row-requires-clause-frame : goal.read_row-requires-clause-frame
 read_row-requires-clause-frame c =
     let t = c.args.self.now.table.now in
-    let m = message_of c.args.self.now.bytes.value.came c.args.self.now.handles.now in
+    let m = message c.args.self.now in
     let f = c.args.frame in
     let old = at_of c.args.state.now in
     let now = at_of c.loop-many.state in
@@ -59,7 +59,7 @@ read_row-requires-clause-frame c =
 pub read_row-requires-clause-leaf : goal.read_row-requires-clause-leaf
 read_row-requires-clause-leaf c =
     let t = c.args.self.now.table.now in
-    let m = message_of c.args.self.now.bytes.value.came c.args.self.now.handles.now in
+    let m = message c.args.self.now in
     let f = c.args.frame in
     let old = at_of c.args.state.now in
     let now = at_of c.loop-many.state in
@@ -76,7 +76,7 @@ read_row-requires-clause-leaf c =
 pub returns-in_err-read_row-clause-fault_is_true : goal.returns-in_err-read_row-clause-fault_is_true
 returns-in_err-read_row-clause-fault_is_true c =
     let t = c.args.self.now.table.now in
-    let m = message_of c.args.self.now.bytes.value.came c.args.self.now.handles.now in
+    let m = message c.args.self.now in
     let f = c.args.frame in
     let old = at_of c.args.state.now in
     let now = at_of c.loop-many.state in
@@ -90,7 +90,7 @@ returns-in_err-read_row-clause-fault_is_true c =
 pub loop-many-preserved : goal.loop-many-preserved
 loop-many-preserved c =
     let t = c.args.self.now.table.now in
-    let m = message_of c.args.self.now.bytes.value.came c.args.self.now.handles.now in
+    let m = message c.args.self.now in
     let f = c.args.frame in
     let old = at_of c.args.state.now in
     let now = at_of c.loop-many.state in
@@ -119,7 +119,7 @@ loop-many-preserved c =
 pub end_rows-requires-clause-frame : goal.end_rows-requires-clause-frame
 end_rows-requires-clause-frame c =
     let t = c.args.self.now.table.now in
-    let m = message_of c.args.self.now.bytes.value.came c.args.self.now.handles.now in
+    let m = message c.args.self.now in
     let f = c.args.frame in
     let old = at_of c.args.state.now in
     let now = at_of c.loop-many.state in
@@ -135,7 +135,7 @@ end_rows-requires-clause-frame c =
 pub returns-clause-ok : goal.returns-clause-ok
 returns-clause-ok c =
     let t = c.args.self.now.table.now in
-    let m = message_of c.args.self.now.bytes.value.came c.args.self.now.handles.now in
+    let m = message c.args.self.now in
     let f = c.args.frame in
     let old = at_of c.args.state.now in
     let now = at_of c.loop-many.state in
@@ -155,7 +155,7 @@ returns-clause-ok c =
 pub returns-clause-fault_is_true : goal.returns-clause-fault_is_true
 returns-clause-fault_is_true c =
     let t = c.args.self.now.table.now in
-    let m = message_of c.args.self.now.bytes.value.came c.args.self.now.handles.now in
+    let m = message c.args.self.now in
     let f = c.args.frame in
     let old = at_of c.args.state.now in
     let now = at_of c.loop-many.state in

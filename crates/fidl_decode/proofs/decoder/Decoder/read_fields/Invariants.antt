@@ -1,9 +1,9 @@
+use Rattle.fidl_decode.specs.Reading.{message}
 use Rattle.std.proofs.Common.{◌≡◌, ◌-◌, ◌≤◌}
 use Rattle.std.specs.Prelude.{Some}
 use Rattle.fidl_decode_model.specs.declared.frame.Remaining.TheVariants.{Rows}
 use Rattle.fidl_decode_model.specs.Invariants.{AreLeaves}
 use Rattle.fidl_decode_model.specs.Machine.{at_of, Turns}
-use Rattle.fidl_decode_model.specs.Faults.{message_of}
 use Rattle.fidl_decode_columns.proofs.Leaves.{going_on, left_over}
 use Rattle.fidl_decode.proofs.decoder.Decoder.read_fields.Given as goal
 
@@ -11,7 +11,7 @@ use Rattle.fidl_decode.proofs.decoder.Decoder.read_fields.Given as goal
 abbrev pub invariant-loop-many : goal.invariant-loop-many
 invariant-loop-many l = record {
   holds : l.state.links.came ≡ l.self.bytes.value.came;
-  turns : Turns l.self.table.now (message_of l.self.bytes.value.came l.self.handles.now) l.frame (at_of l.fn.state) (at_of l.state) (l.state.steps - l.fn.state.steps) (left_over (Some (going_on l.frame (Rows l.next l.many) l.done)));
+  turns : Turns l.self.table.now (message l.self) l.frame (at_of l.fn.state) (at_of l.state) (l.state.steps - l.fn.state.steps) (left_over (Some (going_on l.frame (Rows l.next l.many) l.done)));
   leaves : AreLeaves l.self.table.now l.next l.many;
   steps : l.fn.state.steps ≤ l.state.steps;
 }

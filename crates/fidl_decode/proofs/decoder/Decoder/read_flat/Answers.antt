@@ -1,3 +1,4 @@
+use Rattle.fidl_decode.specs.Reading.{message}
 use Rattle.fidl_decode.proofs.Fitting.{spends_any, not_fewer, one_more}
 use Rattle.std.proofs.Common.{◌≡◌, ◌-◌, false, true, refl, sym, ap, subst, ◌∙◌, arith, inl, inr}
 use Rattle.std.specs.Prelude.{Some}
@@ -10,9 +11,8 @@ use Rattle.fidl_table_format.specs.Section.{entry_at}
 use Rattle.fidl_decode_model.specs.Invariants.{AreLeaves}
 use Rattle.fidl_decode_model.specs.declared.frame.Frame.{Frame}
 use Rattle.fidl_decode_model.specs.Machine.{FrameFine, Visits, value_work, at_of}
-use Rattle.fidl_decode_model.specs.Faults.{message_of}
 use Rattle.fidl_decode_model.proofs.Turning.{on_ok_from}
-use Rattle.fidl_decode_model.proofs.Visiting.{work_none, struct_frame, visits_struct, struct_fine}
+use Rattle.fidl_decode_model.proofs.Holding.{work_none, struct_frame, visits_struct, struct_fine}
 use Rattle.fidl_decode_columns.proofs.Wholly.{leaf_cost, visits_over}
 use Rattle.fidl_decode.proofs.decoder.Decoder.read_flat.Goals as goal
 
@@ -22,14 +22,14 @@ no_true e = cc
 pub returns-then-is_leaf-clause-spends : goal.returns-then-is_leaf-clause-spends
 returns-then-is_leaf-clause-spends c =
     let t = c.args.self.now.table.now in
-    let m = message_of c.args.self.now.bytes.value.came c.args.self.now.handles.now in
+    let m = message c.args.self.now in
     let old = at_of c.args.state.now in
     spends_any _ _ _ (omega (arith, (not_fewer _ _ _ c.read_leaf.ensures.spends))) (omega (arith, c.read_leaf.ensures.spends.most, leaf_cost t c.args.self.now.fine c.args.self.now.bytes.value.came c.args.state.now.next c.args.entry c.requires.entry))
 
 pub read_fields-requires-clause-frame : goal.read_fields-requires-clause-frame
 read_fields-requires-clause-frame c =
     let t = c.args.self.now.table.now in
-    let m = message_of c.args.self.now.bytes.value.came c.args.self.now.handles.now in
+    let m = message c.args.self.now in
     let old = at_of c.args.state.now in
     let d = entry_at t c.args.entry in
     let flat : (c.args.kind ≡ Struct) × AreLeaves t d.first d.count = elim c.requires.flat [ inl leaf ↦ absurd (no_true (sym c.if-is_leaf.false ∙ c.is_leaf.ensures ∙ leaf)) | inr s ↦ s ] in
@@ -40,7 +40,7 @@ read_fields-requires-clause-frame c =
 pub read_fields-requires-clause-leaves : goal.read_fields-requires-clause-leaves
 read_fields-requires-clause-leaves c =
     let t = c.args.self.now.table.now in
-    let m = message_of c.args.self.now.bytes.value.came c.args.self.now.handles.now in
+    let m = message c.args.self.now in
     let old = at_of c.args.state.now in
     let d = entry_at t c.args.entry in
     let flat : (c.args.kind ≡ Struct) × AreLeaves t d.first d.count = elim c.requires.flat [ inl leaf ↦ absurd (no_true (sym c.if-is_leaf.false ∙ c.is_leaf.ensures ∙ leaf)) | inr s ↦ s ] in
@@ -50,7 +50,7 @@ read_fields-requires-clause-leaves c =
 pub read_fields-requires-clause-budget : goal.read_fields-requires-clause-budget
 read_fields-requires-clause-budget c =
     let t = c.args.self.now.table.now in
-    let m = message_of c.args.self.now.bytes.value.came c.args.self.now.handles.now in
+    let m = message c.args.self.now in
     let old = at_of c.args.state.now in
     let work = ap (λ (d : Entry). value_work c.args.self.now.bytes.value.came c.args.state.now.next d) c.entry-e.ensures.value in
     omega (arith, c.requires.budget, work, work_none c.entry-e.result.nest c.entry-e.result.size)
@@ -58,7 +58,7 @@ read_fields-requires-clause-budget c =
 pub returns-clause-ok : goal.returns-clause-ok
 returns-clause-ok c =
     let t = c.args.self.now.table.now in
-    let m = message_of c.args.self.now.bytes.value.came c.args.self.now.handles.now in
+    let m = message c.args.self.now in
     let old = at_of c.args.state.now in
     let d = entry_at t c.args.entry in
     let flat : (c.args.kind ≡ Struct) × AreLeaves t d.first d.count = elim c.requires.flat [ inl leaf ↦ absurd (no_true (sym c.if-is_leaf.false ∙ c.is_leaf.ensures ∙ leaf)) | inr s ↦ s ] in
@@ -72,7 +72,7 @@ returns-clause-ok c =
 pub returns-clause-fault_is_true : goal.returns-clause-fault_is_true
 returns-clause-fault_is_true c =
     let t = c.args.self.now.table.now in
-    let m = message_of c.args.self.now.bytes.value.came c.args.self.now.handles.now in
+    let m = message c.args.self.now in
     let old = at_of c.args.state.now in
     let d = entry_at t c.args.entry in
     let flat : (c.args.kind ≡ Struct) × AreLeaves t d.first d.count = elim c.requires.flat [ inl leaf ↦ absurd (no_true (sym c.if-is_leaf.false ∙ c.is_leaf.ensures ∙ leaf)) | inr s ↦ s ] in
@@ -85,7 +85,7 @@ returns-clause-fault_is_true c =
 pub returns-clause-spends : goal.returns-clause-spends
 returns-clause-spends c =
     let t = c.args.self.now.table.now in
-    let m = message_of c.args.self.now.bytes.value.came c.args.self.now.handles.now in
+    let m = message c.args.self.now in
     let old = at_of c.args.state.now in
     let work = ap (λ (d : Entry). value_work c.args.self.now.bytes.value.came c.args.state.now.next d) c.entry-e.ensures.value in
     spends_any _ _ _ (omega (arith, (one_more _ _ _ c.read_fields.ensures.spends))) (omega (arith, c.read_fields.ensures.spends.most, work, work_none c.entry-e.result.nest c.entry-e.result.size))

@@ -1,9 +1,9 @@
+use Rattle.fidl_decode.specs.Reading.{message}
 use Rattle.std.proofs.Common.{◌≡◌, ◌+◌, ◌<◌, length, get_or, refl, sym, subst, ◌∙◌, arith}
 use Rattle.std.proofs.lemmas.Option.{slice_get-get_or}
 use Rattle.fidl_wire.specs.declared.handle.HandleInfo.{HandleInfo}
 use Rattle.fidl_wire.specs.Term as ty
 use Rattle.fidl_table_format.specs.Terms.{declarations_of, is_optional}
-use Rattle.fidl_decode_model.specs.Faults.{message_of}
 use Rattle.fidl_decode_model.specs.State.{Position, taken}
 use Rattle.fidl_decode_model.specs.Machine.{Leads, at_of}
 use Rattle.fidl_decode_model.proofs.Carried.{absent_leads, handle_leads}
@@ -20,15 +20,15 @@ returns-then-not-is_allowed-clause-fault_is_true c =
 
 pub returns-else-not-is_optional-clause-ok : goal.returns-else-not-is_optional-clause-ok
 returns-else-not-is_optional-clause-ok c =
-    absent_leads (declarations_of c.args.self.now.table.now) (message_of c.args.self.now.bytes.value.came c.args.self.now.handles.now) c.args.depth (is_optional c.args.entry.now) c.args.entry.now.subtype c.args.entry.now.rights c.args.place (at_of c.args.state.now) c.requires.depth (sym c.is_optional.ensures ∙ c.if-not-is_optional.false) c.in-Absent.ensures
+    absent_leads (declarations_of c.args.self.now.table.now) (message c.args.self.now) c.args.depth (is_optional c.args.entry.now) c.args.entry.now.subtype c.args.entry.now.rights c.args.place (at_of c.args.state.now) c.requires.depth (sym c.is_optional.ensures ∙ c.if-not-is_optional.false) c.in-Absent.ensures
 
 pub returns-else-not-is_allowed-clause-ok : goal.returns-else-not-is_allowed-clause-ok
 returns-else-not-is_allowed-clause-ok c =
     let within : c.args.state.now.handle < length c.args.self.now.handles.now = (let h = c.requires.state.handle in omega (arith, h, c.if-state-self.false)) in
     let same : taken c.args.place (at_of c.args.state.now) ≡ record { next = c.args.state.now.next; handle = c.args.state.now.handle + 1; objects = c.record.new.self.objects; records = c.record.new.self.records }
     = λ i. record { next = c.args.state.now.next; handle = c.args.state.now.handle + 1; objects = sym c.record.ensures.objects i; records = sym c.record.ensures.records i } in
-    subst (λ (s : Position). Leads (declarations_of c.args.self.now.table.now) (message_of c.args.self.now.bytes.value.came c.args.self.now.handles.now) c.args.depth (ty.handle (is_optional c.args.entry.now) c.args.entry.now.subtype c.args.entry.now.rights) c.args.place (at_of c.args.state.now) s) same
-    (handle_leads (declarations_of c.args.self.now.table.now) (message_of c.args.self.now.bytes.value.came c.args.self.now.handles.now) c.args.depth (is_optional c.args.entry.now) c.args.entry.now.subtype c.args.entry.now.rights c.args.place (at_of c.args.state.now) c.requires.depth c.in-Present.ensures (get_or c.args.self.now.handles.now c.args.state.now.handle nobody) (slice_get-get_or c.args.self.now.handles.now c.args.state.now.handle nobody within) c.is_allowed.ensures.handle (c.is_allowed.ensures.allowed.0 c.if-not-is_allowed.false))
+    subst (λ (s : Position). Leads (declarations_of c.args.self.now.table.now) (message c.args.self.now) c.args.depth (ty.handle (is_optional c.args.entry.now) c.args.entry.now.subtype c.args.entry.now.rights) c.args.place (at_of c.args.state.now) s) same
+    (handle_leads (declarations_of c.args.self.now.table.now) (message c.args.self.now) c.args.depth (is_optional c.args.entry.now) c.args.entry.now.subtype c.args.entry.now.rights c.args.place (at_of c.args.state.now) c.requires.depth c.in-Present.ensures (get_or c.args.self.now.handles.now c.args.state.now.handle nobody) (slice_get-get_or c.args.self.now.handles.now c.args.state.now.handle nobody within) c.is_allowed.ensures.handle (c.is_allowed.ensures.allowed.0 c.if-not-is_allowed.false))
 
 pub presence_at-requires-clause-room : goal.presence_at-requires-clause-room
 presence_at-requires-clause-room c = c.requires.room

@@ -1,8 +1,8 @@
+use Rattle.fidl_decode.specs.Reading.{message}
 use Rattle.std.proofs.Common.{◌-◌, subst, arith}
 use Rattle.std.specs.Prelude.{Option, Some}
 use Rattle.std.proofs.lemmas.Result.{IfOk-weaker, IfErr-weaker}
 use Rattle.fidl_decode_model.specs.declared.frame.Frame.{Frame}
-use Rattle.fidl_decode_model.specs.Faults.{message_of}
 use Rattle.fidl_decode_model.specs.Machine.{Turns, Visits, VisitFine, at_of, height}
 use Rattle.fidl_decode_model.proofs.Turning.{fine_from, if_ok_on, on_ok_from}
 use Rattle.fidl_decode_columns.proofs.Leaves.{left_over}
@@ -23,12 +23,12 @@ returns-in_default-clause-cost c =
 
 pub read_leaves-requires-clause-frame : goal.read_leaves-requires-clause-frame
 read_leaves-requires-clause-frame c =
-    (subst (λ (o : Option Frame). VisitFine c.args.self.now.table.now (message_of c.args.self.now.bytes.value.came c.args.self.now.handles.now) c.args.depth c.args.in_envelope c.args.entry o) c.in-Some.is c.in_ok-below.ensures.fine).0
+    (subst (λ (o : Option Frame). VisitFine c.args.self.now.table.now (message c.args.self.now) c.args.depth c.args.in_envelope c.args.entry o) c.in-Some.is c.in_ok-below.ensures.fine).0
 
 pub read_leaves-requires-clause-budget : goal.read_leaves-requires-clause-budget
 read_leaves-requires-clause-budget c =
     let t = c.args.self.now.table.now in
-    let m = message_of c.args.self.now.bytes.value.came c.args.self.now.handles.now in
+    let m = message c.args.self.now in
     let old = c.args.state.now in
     let mid = c.visit.new.state in
     let v = subst (λ (o : Option Frame). Visits t m c.args.depth c.args.entry c.args.place (at_of old) (at_of mid) (mid.steps - old.steps) o) c.in-Some.is c.in_ok-below.ensures.ok in
@@ -38,7 +38,7 @@ read_leaves-requires-clause-budget c =
 pub returns-clause-ok : goal.returns-clause-ok
 returns-clause-ok c =
     let t = c.args.self.now.table.now in
-    let m = message_of c.args.self.now.bytes.value.came c.args.self.now.handles.now in
+    let m = message c.args.self.now in
     let old = c.args.state.now in
     let mid = c.visit.new.state in
     let new = c.read_leaves.new.state in
@@ -50,7 +50,7 @@ returns-clause-ok c =
 pub returns-clause-fine : goal.returns-clause-fine
 returns-clause-fine c =
     let t = c.args.self.now.table.now in
-    let m = message_of c.args.self.now.bytes.value.came c.args.self.now.handles.now in
+    let m = message c.args.self.now in
     let fine = subst (λ (o : Option Frame). VisitFine t m c.args.depth c.args.in_envelope c.args.entry o) c.in-Some.is c.in_ok-below.ensures.fine in
     IfOk-weaker c.read_leaves.result _ _ (λ o turns. fine_from t m.bytes (height c.in-Some.below) _ o fine.1 turns.rest_fine) c.read_leaves.ensures.ok
 
@@ -60,7 +60,7 @@ returns-clause-grows c = on_ok_from c.read_leaves.result (λ grows. omega (arith
 pub returns-clause-cost : goal.returns-clause-cost
 returns-clause-cost c =
     let t = c.args.self.now.table.now in
-    let m = message_of c.args.self.now.bytes.value.came c.args.self.now.handles.now in
+    let m = message c.args.self.now in
     let old = c.args.state.now in
     let mid = c.visit.new.state in
     let v = subst (λ (o : Option Frame). Visits t m c.args.depth c.args.entry c.args.place (at_of old) (at_of mid) (mid.steps - old.steps) o) c.in-Some.is c.in_ok-below.ensures.ok in
@@ -70,7 +70,7 @@ returns-clause-cost c =
 pub returns-clause-fault_is_true : goal.returns-clause-fault_is_true
 returns-clause-fault_is_true c =
     let t = c.args.self.now.table.now in
-    let m = message_of c.args.self.now.bytes.value.came c.args.self.now.handles.now in
+    let m = message c.args.self.now in
     let old = c.args.state.now in
     let mid = c.visit.new.state in
     let v = subst (λ (o : Option Frame). Visits t m c.args.depth c.args.entry c.args.place (at_of old) (at_of mid) (mid.steps - old.steps) o) c.in-Some.is c.in_ok-below.ensures.ok in

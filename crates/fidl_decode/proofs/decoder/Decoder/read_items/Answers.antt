@@ -1,8 +1,8 @@
+use Rattle.fidl_decode.specs.Reading.{message}
 use Rattle.std.proofs.Common.{◌≡◌, ℕ, ◌+◌, ◌-◌, ap, subst, ◌∙◌, arith}
 use Rattle.std.specs.Prelude.{Option, Some, None}
 use Rattle.fidl_decode_model.specs.declared.frame.Frame.{Frame}
 use Rattle.fidl_decode_model.specs.declared.frame.Remaining.TheVariants.{Elements}
-use Rattle.fidl_decode_model.specs.Faults.{message_of}
 use Rattle.fidl_decode_model.specs.Machine.{Visits, VisitFine, Turns, at_of}
 use Rattle.fidl_decode_model.proofs.Turning.{passed_on}
 use Rattle.fidl_decode_columns.proofs.Leaves.{going_on, left_over, same_frame, turns_start}
@@ -12,7 +12,7 @@ use Rattle.fidl_decode.proofs.decoder.Decoder.read_items.Goals as goal
 pub loop-i-init : goal.loop-i-init
 loop-i-init c =
     let t = c.args.self.now.table.now in
-    let m = message_of c.args.self.now.bytes.value.came c.args.self.now.handles.now in
+    let m = message c.args.self.now in
     let f = c.args.frame in
     let old = at_of c.args.state.now in
     let none : 0 ≡ c.args.state.now.steps - c.args.state.now.steps = omega arith in
@@ -23,7 +23,7 @@ loop-i-init c =
 
 pub overflow_add-place : goal.overflow_add-place
 overflow_add-place c =
-    let room = items_room c.args.self.now.table.now c.args.self.now.fine (message_of c.args.self.now.bytes.value.came c.args.self.now.handles.now) c.args.frame (at_of c.args.state.now) (at_of c.loop-i.state)
+    let room = items_room c.args.self.now.table.now c.args.self.now.fine (message c.args.self.now) c.args.frame (at_of c.args.state.now) (at_of c.loop-i.state)
     (c.loop-i.state.steps - c.args.state.now.steps) c.args.entry c.args.size c.args.count c.loop-i.i c.loop-i.done c.loop-i.invariant.turns in
     let before = room.0 in
     let within = room.1 in
@@ -38,12 +38,12 @@ overflow_add-state c =
 
 pub read_item-requires-clause-entry : goal.read_item-requires-clause-entry
 read_item-requires-clause-entry c =
-    item_known c.args.self.now.table.now c.args.self.now.fine (message_of c.args.self.now.bytes.value.came c.args.self.now.handles.now) c.args.frame (at_of c.args.state.now) (at_of c.loop-i.state)
+    item_known c.args.self.now.table.now c.args.self.now.fine (message c.args.self.now) c.args.frame (at_of c.args.state.now) (at_of c.loop-i.state)
     (c.loop-i.state.steps - c.args.state.now.steps) c.args.entry c.args.size c.args.count c.loop-i.i c.loop-i.done c.loop-i.invariant.turns c.loop-i-test.true
 
 pub read_item-requires-clause-room : goal.read_item-requires-clause-room
 read_item-requires-clause-room c =
-    let room = item_room c.args.self.now.table.now c.args.self.now.fine (message_of c.args.self.now.bytes.value.came c.args.self.now.handles.now) c.args.frame (at_of c.args.state.now) (at_of c.loop-i.state)
+    let room = item_room c.args.self.now.table.now c.args.self.now.fine (message c.args.self.now) c.args.frame (at_of c.args.state.now) (at_of c.loop-i.state)
     (c.loop-i.state.steps - c.args.state.now.steps) c.args.entry c.args.size c.args.count c.loop-i.i c.loop-i.done c.loop-i.invariant.turns c.loop-i-test.true in
     let fits = room.0 in
     let within = room.1 in
@@ -55,12 +55,12 @@ read_item-requires-clause-state c =
 
 pub read_item-requires-clause-in_envelope : goal.read_item-requires-clause-in_envelope
 read_item-requires-clause-in_envelope c =
-    item_inside c.args.self.now.table.now c.args.self.now.fine (message_of c.args.self.now.bytes.value.came c.args.self.now.handles.now) c.args.frame (at_of c.args.state.now) (at_of c.loop-i.state)
+    item_inside c.args.self.now.table.now c.args.self.now.fine (message c.args.self.now) c.args.frame (at_of c.args.state.now) (at_of c.loop-i.state)
     (c.loop-i.state.steps - c.args.state.now.steps) c.args.entry c.args.size c.args.count c.loop-i.i c.loop-i.done c.loop-i.invariant.turns c.loop-i-test.true
 
 pub read_item-requires-clause-budget : goal.read_item-requires-clause-budget
 read_item-requires-clause-budget c =
-    let work = item_work c.args.self.now.table.now c.args.self.now.fine (message_of c.args.self.now.bytes.value.came c.args.self.now.handles.now) c.args.frame (at_of c.args.state.now) (at_of c.loop-i.state)
+    let work = item_work c.args.self.now.table.now c.args.self.now.fine (message c.args.self.now) c.args.frame (at_of c.args.state.now) (at_of c.loop-i.state)
     (c.loop-i.state.steps - c.args.state.now.steps) c.args.entry c.args.size c.args.count c.loop-i.i c.loop-i.done c.loop-i.invariant.turns c.loop-i-test.true in
     let less = c.loop-i.invariant.turns.less in
     let so_far = c.loop-i.invariant.steps in
@@ -68,7 +68,7 @@ read_item-requires-clause-budget c =
 
 pub returns-in_err-found-clause-cost : goal.returns-in_err-found-clause-cost
 returns-in_err-found-clause-cost c =
-    let work = item_work c.args.self.now.table.now c.args.self.now.fine (message_of c.args.self.now.bytes.value.came c.args.self.now.handles.now) c.args.frame (at_of c.args.state.now) (at_of c.loop-i.state)
+    let work = item_work c.args.self.now.table.now c.args.self.now.fine (message c.args.self.now) c.args.frame (at_of c.args.state.now) (at_of c.loop-i.state)
     (c.loop-i.state.steps - c.args.state.now.steps) c.args.entry c.args.size c.args.count c.loop-i.i c.loop-i.done c.loop-i.invariant.turns c.loop-i-test.true in
     let less = c.loop-i.invariant.turns.less in
     let so_far = c.loop-i.invariant.steps in
@@ -77,16 +77,16 @@ returns-in_err-found-clause-cost c =
 pub returns-in_err-found-clause-fault_is_true : goal.returns-in_err-found-clause-fault_is_true
 returns-in_err-found-clause-fault_is_true c =
     passed_on c.from_residual.result c.in_err-found.field-0.0 _ c.from_residual.ensures.1
-    (item_breaks c.args.self.now.table.now c.args.self.now.fine (message_of c.args.self.now.bytes.value.came c.args.self.now.handles.now) c.args.frame (at_of c.args.state.now) (at_of c.loop-i.state)
+    (item_breaks c.args.self.now.table.now c.args.self.now.fine (message c.args.self.now) c.args.frame (at_of c.args.state.now) (at_of c.loop-i.state)
     (c.loop-i.state.steps - c.args.state.now.steps) c.args.entry c.args.size c.args.count c.loop-i.i c.loop-i.done c.loop-i.invariant.turns c.loop-i-test.true _ c.in_err-found.ensures.fault_is_true)
 
 pub overflow_add-done : goal.overflow_add-done
 overflow_add-done c =
-    let room = item_room c.args.self.now.table.now c.args.self.now.fine (message_of c.args.self.now.bytes.value.came c.args.self.now.handles.now) c.args.frame (at_of c.args.state.now) (at_of c.loop-i.state)
+    let room = item_room c.args.self.now.table.now c.args.self.now.fine (message c.args.self.now) c.args.frame (at_of c.args.state.now) (at_of c.loop-i.state)
     (c.loop-i.state.steps - c.args.state.now.steps) c.args.entry c.args.size c.args.count c.loop-i.i c.loop-i.done c.loop-i.invariant.turns c.loop-i-test.true in
     let fits = room.0 in
     let within = room.1 in
-    let size = item_size c.args.self.now.table.now c.args.self.now.fine (message_of c.args.self.now.bytes.value.came c.args.self.now.handles.now) c.args.frame (at_of c.args.state.now) (at_of c.loop-i.state)
+    let size = item_size c.args.self.now.table.now c.args.self.now.fine (message c.args.self.now) c.args.frame (at_of c.args.state.now) (at_of c.loop-i.state)
     (c.loop-i.state.steps - c.args.state.now.steps) c.args.entry c.args.size c.args.count c.loop-i.i c.loop-i.done c.loop-i.invariant.turns c.loop-i-test.true in
     let base = c.args.frame.base in
     record { fits = omega (arith, within, size) }
@@ -95,10 +95,10 @@ pub returns-in-Some-clause-ok : goal.returns-in-Some-clause-ok
 returns-in-Some-clause-ok c =
     let less = c.loop-i.invariant.turns.less in
     let so_far = c.loop-i.invariant.steps in
-    let visits = subst (λ (o : Option Frame). Visits c.args.self.now.table.now (message_of c.args.self.now.bytes.value.came c.args.self.now.handles.now) c.args.frame.depth c.args.entry (c.args.frame.base + c.loop-i.done) (at_of c.loop-i.state) (at_of c.read_item.new.state)
+    let visits = subst (λ (o : Option Frame). Visits c.args.self.now.table.now (message c.args.self.now) c.args.frame.depth c.args.entry (c.args.frame.base + c.loop-i.done) (at_of c.loop-i.state) (at_of c.read_item.new.state)
     (c.read_item.new.state.steps - (c.loop-i.state.steps + 1)) o) c.in-Some.is c.in_ok-found.ensures.ok in
-    let vf = subst (λ (o : Option Frame). VisitFine c.args.self.now.table.now (message_of c.args.self.now.bytes.value.came c.args.self.now.handles.now) c.args.frame.depth c.args.frame.in_envelope c.args.entry o) c.in-Some.is c.in_ok-found.ensures.fine in
-    item_takes c.args.self.now.table.now c.args.self.now.fine (message_of c.args.self.now.bytes.value.came c.args.self.now.handles.now) c.args.frame (at_of c.args.state.now) (at_of c.loop-i.state)
+    let vf = subst (λ (o : Option Frame). VisitFine c.args.self.now.table.now (message c.args.self.now) c.args.frame.depth c.args.frame.in_envelope c.args.entry o) c.in-Some.is c.in_ok-found.ensures.fine in
+    item_takes c.args.self.now.table.now c.args.self.now.fine (message c.args.self.now) c.args.frame (at_of c.args.state.now) (at_of c.loop-i.state)
     (c.loop-i.state.steps - c.args.state.now.steps) c.args.entry c.args.size c.args.count c.loop-i.i c.loop-i.done c.loop-i.invariant.turns c.loop-i-test.true
     (Some c.in-Some.inner) (at_of c.read_item.new.state) _ _ (omega (arith, so_far, c.in_ok-found.ensures.grows)) visits vf
 
@@ -110,7 +110,7 @@ returns-in-Some-clause-rises c =
 
 pub returns-in-Some-clause-cost : goal.returns-in-Some-clause-cost
 returns-in-Some-clause-cost c =
-    let work = item_work c.args.self.now.table.now c.args.self.now.fine (message_of c.args.self.now.bytes.value.came c.args.self.now.handles.now) c.args.frame (at_of c.args.state.now) (at_of c.loop-i.state)
+    let work = item_work c.args.self.now.table.now c.args.self.now.fine (message c.args.self.now) c.args.frame (at_of c.args.state.now) (at_of c.loop-i.state)
     (c.loop-i.state.steps - c.args.state.now.steps) c.args.entry c.args.size c.args.count c.loop-i.i c.loop-i.done c.loop-i.invariant.turns c.loop-i-test.true in
     let less = c.loop-i.invariant.turns.less in
     let so_far = c.loop-i.invariant.steps in
@@ -120,18 +120,18 @@ pub loop-i-preserved : goal.loop-i-preserved
 loop-i-preserved c =
     let less = c.loop-i.invariant.turns.less in
     let so_far = c.loop-i.invariant.steps in
-    let visits = subst (λ (o : Option Frame). Visits c.args.self.now.table.now (message_of c.args.self.now.bytes.value.came c.args.self.now.handles.now) c.args.frame.depth c.args.entry (c.args.frame.base + c.loop-i.done) (at_of c.loop-i.state) (at_of c.read_item.new.state)
+    let visits = subst (λ (o : Option Frame). Visits c.args.self.now.table.now (message c.args.self.now) c.args.frame.depth c.args.entry (c.args.frame.base + c.loop-i.done) (at_of c.loop-i.state) (at_of c.read_item.new.state)
     (c.read_item.new.state.steps - (c.loop-i.state.steps + 1)) o) c.in_default.is c.in_ok-found.ensures.ok in
     record {
       holds = c.read_item.ensures.holds;
-      turns = item_takes c.args.self.now.table.now c.args.self.now.fine (message_of c.args.self.now.bytes.value.came c.args.self.now.handles.now) c.args.frame (at_of c.args.state.now) (at_of c.loop-i.state)
+      turns = item_takes c.args.self.now.table.now c.args.self.now.fine (message c.args.self.now) c.args.frame (at_of c.args.state.now) (at_of c.loop-i.state)
           (c.loop-i.state.steps - c.args.state.now.steps) c.args.entry c.args.size c.args.count c.loop-i.i c.loop-i.done c.loop-i.invariant.turns c.loop-i-test.true None (at_of c.read_item.new.state) _ _ (omega (arith, so_far, c.in_ok-found.ensures.grows)) visits tt;
       steps = omega (arith, so_far, c.in_ok-found.ensures.grows);
     }
 
 pub overflow_add-behind : goal.overflow_add-behind
 overflow_add-behind c =
-    let room = items_room c.args.self.now.table.now c.args.self.now.fine (message_of c.args.self.now.bytes.value.came c.args.self.now.handles.now) c.args.frame (at_of c.args.state.now) (at_of c.loop-i.state)
+    let room = items_room c.args.self.now.table.now c.args.self.now.fine (message c.args.self.now) c.args.frame (at_of c.args.state.now) (at_of c.loop-i.state)
     (c.loop-i.state.steps - c.args.state.now.steps) c.args.entry c.args.size c.args.count c.loop-i.i c.loop-i.done c.loop-i.invariant.turns in
     let before = room.0 in
     let within = room.1 in
@@ -140,7 +140,7 @@ overflow_add-behind c =
 
 pub overflow_sub-state : goal.overflow_sub-state
 overflow_sub-state c =
-    let room = items_room c.args.self.now.table.now c.args.self.now.fine (message_of c.args.self.now.bytes.value.came c.args.self.now.handles.now) c.args.frame (at_of c.args.state.now) (at_of c.loop-i.state)
+    let room = items_room c.args.self.now.table.now c.args.self.now.fine (message c.args.self.now) c.args.frame (at_of c.args.state.now) (at_of c.loop-i.state)
     (c.loop-i.state.steps - c.args.state.now.steps) c.args.entry c.args.size c.args.count c.loop-i.i c.loop-i.done c.loop-i.invariant.turns in
     let before = room.0 in
     let within = room.1 in
@@ -149,7 +149,7 @@ overflow_sub-state c =
 
 pub overflow_add-state-3 : goal.overflow_add-state-3
 overflow_add-state-3 c =
-    let room = items_room c.args.self.now.table.now c.args.self.now.fine (message_of c.args.self.now.bytes.value.came c.args.self.now.handles.now) c.args.frame (at_of c.args.state.now) (at_of c.loop-i.state)
+    let room = items_room c.args.self.now.table.now c.args.self.now.fine (message c.args.self.now) c.args.frame (at_of c.args.state.now) (at_of c.loop-i.state)
     (c.loop-i.state.steps - c.args.state.now.steps) c.args.entry c.args.size c.args.count c.loop-i.i c.loop-i.done c.loop-i.invariant.turns in
     let before = room.0 in
     let within = room.1 in
@@ -160,7 +160,7 @@ overflow_add-state-3 c =
 
 pub zeros_at-requires-clause-order : goal.zeros_at-requires-clause-order
 zeros_at-requires-clause-order c =
-    let room = items_room c.args.self.now.table.now c.args.self.now.fine (message_of c.args.self.now.bytes.value.came c.args.self.now.handles.now) c.args.frame (at_of c.args.state.now) (at_of c.loop-i.state)
+    let room = items_room c.args.self.now.table.now c.args.self.now.fine (message c.args.self.now) c.args.frame (at_of c.args.state.now) (at_of c.loop-i.state)
     (c.loop-i.state.steps - c.args.state.now.steps) c.args.entry c.args.size c.args.count c.loop-i.i c.loop-i.done c.loop-i.invariant.turns in
     let before = room.0 in
     let within = room.1 in
@@ -169,7 +169,7 @@ zeros_at-requires-clause-order c =
 
 pub returns-in_err-zeros_at-clause-cost : goal.returns-in_err-zeros_at-clause-cost
 returns-in_err-zeros_at-clause-cost c =
-    let room = items_room c.args.self.now.table.now c.args.self.now.fine (message_of c.args.self.now.bytes.value.came c.args.self.now.handles.now) c.args.frame (at_of c.args.state.now) (at_of c.loop-i.state)
+    let room = items_room c.args.self.now.table.now c.args.self.now.fine (message c.args.self.now) c.args.frame (at_of c.args.state.now) (at_of c.loop-i.state)
     (c.loop-i.state.steps - c.args.state.now.steps) c.args.entry c.args.size c.args.count c.loop-i.i c.loop-i.done c.loop-i.invariant.turns in
     let before = room.0 in
     let within = room.1 in
@@ -181,14 +181,14 @@ returns-in_err-zeros_at-clause-cost c =
 pub returns-in_err-zeros_at-clause-fault_is_true : goal.returns-in_err-zeros_at-clause-fault_is_true
 returns-in_err-zeros_at-clause-fault_is_true c =
     passed_on c.from_residual-in_err-zeros_at.result c.in_err-zeros_at.field-0.0 _ c.from_residual-in_err-zeros_at.ensures.1
-    (items_break c.args.self.now.table.now c.args.self.now.fine (message_of c.args.self.now.bytes.value.came c.args.self.now.handles.now) c.args.frame (at_of c.args.state.now) (at_of c.loop-i.state)
+    (items_break c.args.self.now.table.now c.args.self.now.fine (message c.args.self.now) c.args.frame (at_of c.args.state.now) (at_of c.loop-i.state)
     (c.loop-i.state.steps - c.args.state.now.steps) c.args.entry c.args.size c.args.count c.loop-i.i c.loop-i.done c.loop-i.invariant.turns (omega (arith, c.loop-i-test.false)) _ c.in_err-zeros_at.ensures.fault_is_true)
 
 pub returns-clause-ok : goal.returns-clause-ok
 returns-clause-ok c =
     let less = c.loop-i.invariant.turns.less in
     let so_far = c.loop-i.invariant.steps in
-    items_over c.args.self.now.table.now c.args.self.now.fine (message_of c.args.self.now.bytes.value.came c.args.self.now.handles.now) c.args.frame (at_of c.args.state.now) (at_of c.loop-i.state)
+    items_over c.args.self.now.table.now c.args.self.now.fine (message c.args.self.now) c.args.frame (at_of c.args.state.now) (at_of c.loop-i.state)
     (c.loop-i.state.steps - c.args.state.now.steps) c.args.entry c.args.size c.args.count c.loop-i.i c.loop-i.done c.loop-i.invariant.turns (omega (arith, c.loop-i-test.false)) _ (omega (arith, so_far)) (omega (arith, so_far)) c.in_ok-zeros_at.ensures.ok
 
 pub returns-clause-rises : goal.returns-clause-rises
@@ -199,7 +199,7 @@ returns-clause-rises c =
 
 pub returns-clause-cost : goal.returns-clause-cost
 returns-clause-cost c =
-    let room = items_room c.args.self.now.table.now c.args.self.now.fine (message_of c.args.self.now.bytes.value.came c.args.self.now.handles.now) c.args.frame (at_of c.args.state.now) (at_of c.loop-i.state)
+    let room = items_room c.args.self.now.table.now c.args.self.now.fine (message c.args.self.now) c.args.frame (at_of c.args.state.now) (at_of c.loop-i.state)
     (c.loop-i.state.steps - c.args.state.now.steps) c.args.entry c.args.size c.args.count c.loop-i.i c.loop-i.done c.loop-i.invariant.turns in
     let before = room.0 in
     let within = room.1 in

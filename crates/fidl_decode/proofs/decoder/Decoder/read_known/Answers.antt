@@ -1,3 +1,4 @@
+use Rattle.fidl_decode.specs.Reading.{message}
 use Rattle.fidl_decode.proofs.Unchanged.{no_ok}
 use Rattle.std.proofs.Common.{ℕ, ◌-◌, ◌≡◌, sym, ap, subst, ◌∙◌, arith}
 use Rattle.std.specs.Prelude.{Some, None}
@@ -9,7 +10,6 @@ use Rattle.fidl_table_format.specs.Terms.{declarations_of}
 use Rattle.fidl_decode_model.specs.State.{Position}
 use Rattle.fidl_decode_model.specs.Breaks.{BreaksMember}
 use Rattle.fidl_decode_model.specs.Machine.{StateFine, Opens, at_of}
-use Rattle.fidl_decode_model.specs.Faults.{message_of}
 use Rattle.fidl_decode_model.proofs.Turning.{passed_on}
 use Rattle.fidl_decode.proofs.Opening.{opens_known}
 use Rattle.fidl_decode.proofs.decoder.Decoder.read_known.Goals as goal
@@ -20,7 +20,7 @@ no_some a e = cc
 pub returns-then-pass_member-clause-pays : goal.returns-then-pass_member-clause-pays
 returns-then-pass_member-clause-pays c =
     let t = c.args.self.now.table.now in
-    let m = message_of c.args.self.now.bytes.value.came c.args.self.now.handles.now in
+    let m = message c.args.self.now in
     let old = at_of c.args.state.now in
     let less = (c.pass_member.ensures.passed c.if-pass_member.true).less in
     let within = (c.pass_member.ensures.passed c.if-pass_member.true).state.next in
@@ -31,7 +31,7 @@ returns-then-pass_member-clause-pays c =
 pub unreachable-requires : goal.unreachable-requires
 unreachable-requires c =
     let t = c.args.self.now.table.now in
-    let m = message_of c.args.self.now.bytes.value.came c.args.self.now.handles.now in
+    let m = message c.args.self.now in
     let old = at_of c.args.state.now in
     let f = c.args.self.now.fine.each c.args.entry c.requires.entry in
     let none : kind_of (entry_at t c.args.entry).kind ≡ None = ap (λ (e : Entry). kind_of e.kind) (sym c.entry-e.ensures.value) ∙ sym c.from_number.ensures ∙ c.in_default.is in
@@ -46,21 +46,21 @@ is_flat-requires c = record {
 pub read_enclosed-requires-clause-kind : goal.read_enclosed-requires-clause-kind
 read_enclosed-requires-clause-kind c =
     let t = c.args.self.now.table.now in
-    let m = message_of c.args.self.now.bytes.value.came c.args.self.now.handles.now in
+    let m = message c.args.self.now in
     let old = at_of c.args.state.now in
     ap (λ (e : Entry). kind_of e.kind) (sym c.entry-e.ensures.value) ∙ sym c.from_number.ensures ∙ c.in-Some.is
 
 pub read_enclosed-requires-clause-flat : goal.read_enclosed-requires-clause-flat
 read_enclosed-requires-clause-flat c =
     let t = c.args.self.now.table.now in
-    let m = message_of c.args.self.now.bytes.value.came c.args.self.now.handles.now in
+    let m = message c.args.self.now in
     let old = at_of c.args.state.now in
     c.is_flat.ensures c.if-is_flat.true
 
 pub read_enclosed-requires-clause-state : goal.read_enclosed-requires-clause-state
 read_enclosed-requires-clause-state c =
     let t = c.args.self.now.table.now in
-    let m = message_of c.args.self.now.bytes.value.came c.args.self.now.handles.now in
+    let m = message c.args.self.now in
     let old = at_of c.args.state.now in
     let kept : at_of c.pass_member.new.state ≡ old = c.pass_member.ensures.kept c.if-pass_member.false in
     let next : c.pass_member.new.state.next ≡ c.args.state.now.next = ap (λ (s : Position). s.next) kept in
@@ -70,7 +70,7 @@ read_enclosed-requires-clause-state c =
 pub read_enclosed-requires-clause-budget : goal.read_enclosed-requires-clause-budget
 read_enclosed-requires-clause-budget c =
     let t = c.args.self.now.table.now in
-    let m = message_of c.args.self.now.bytes.value.came c.args.self.now.handles.now in
+    let m = message c.args.self.now in
     let old = at_of c.args.state.now in
     let kept : at_of c.pass_member.new.state ≡ old = c.pass_member.ensures.kept c.if-pass_member.false in
     let next : c.pass_member.new.state.next ≡ c.args.state.now.next = ap (λ (s : Position). s.next) kept in
@@ -80,7 +80,7 @@ read_enclosed-requires-clause-budget c =
 pub returns-in_err-read_enclosed-clause-fault_is_true : goal.returns-in_err-read_enclosed-clause-fault_is_true
 returns-in_err-read_enclosed-clause-fault_is_true c =
     let t = c.args.self.now.table.now in
-    let m = message_of c.args.self.now.bytes.value.came c.args.self.now.handles.now in
+    let m = message c.args.self.now in
     let old = at_of c.args.state.now in
     let kept : at_of c.pass_member.new.state ≡ old = c.pass_member.ensures.kept c.if-pass_member.false in
     let next : c.pass_member.new.state.next ≡ c.args.state.now.next = ap (λ (s : Position). s.next) kept in
@@ -91,7 +91,7 @@ returns-in_err-read_enclosed-clause-fault_is_true c =
 pub returns-in_err-read_enclosed-clause-cost : goal.returns-in_err-read_enclosed-clause-cost
 returns-in_err-read_enclosed-clause-cost c =
     let t = c.args.self.now.table.now in
-    let m = message_of c.args.self.now.bytes.value.came c.args.self.now.handles.now in
+    let m = message c.args.self.now in
     let old = at_of c.args.state.now in
     let kept : at_of c.pass_member.new.state ≡ old = c.pass_member.ensures.kept c.if-pass_member.false in
     let next : c.pass_member.new.state.next ≡ c.args.state.now.next = ap (λ (s : Position). s.next) kept in
@@ -101,7 +101,7 @@ returns-in_err-read_enclosed-clause-cost c =
 pub returns-then-is_flat-clause-ok : goal.returns-then-is_flat-clause-ok
 returns-then-is_flat-clause-ok c =
     let t = c.args.self.now.table.now in
-    let m = message_of c.args.self.now.bytes.value.came c.args.self.now.handles.now in
+    let m = message c.args.self.now in
     let old = at_of c.args.state.now in
     let kept : at_of c.pass_member.new.state ≡ old = c.pass_member.ensures.kept c.if-pass_member.false in
     let next : c.pass_member.new.state.next ≡ c.args.state.now.next = ap (λ (s : Position). s.next) kept in
@@ -112,7 +112,7 @@ returns-then-is_flat-clause-ok c =
 pub returns-then-is_flat-clause-pays : goal.returns-then-is_flat-clause-pays
 returns-then-is_flat-clause-pays c =
     let t = c.args.self.now.table.now in
-    let m = message_of c.args.self.now.bytes.value.came c.args.self.now.handles.now in
+    let m = message c.args.self.now in
     let old = at_of c.args.state.now in
     let kept : at_of c.pass_member.new.state ≡ old = c.pass_member.ensures.kept c.if-pass_member.false in
     let next : c.pass_member.new.state.next ≡ c.args.state.now.next = ap (λ (s : Position). s.next) kept in
@@ -123,7 +123,7 @@ returns-then-is_flat-clause-pays c =
 pub returns-then-is_flat-clause-grows : goal.returns-then-is_flat-clause-grows
 returns-then-is_flat-clause-grows c =
     let t = c.args.self.now.table.now in
-    let m = message_of c.args.self.now.bytes.value.came c.args.self.now.handles.now in
+    let m = message c.args.self.now in
     let old = at_of c.args.state.now in
     let kept : at_of c.pass_member.new.state ≡ old = c.pass_member.ensures.kept c.if-pass_member.false in
     let next : c.pass_member.new.state.next ≡ c.args.state.now.next = ap (λ (s : Position). s.next) kept in
@@ -134,7 +134,7 @@ returns-then-is_flat-clause-grows c =
 pub returns-then-is_flat-clause-cost : goal.returns-then-is_flat-clause-cost
 returns-then-is_flat-clause-cost c =
     let t = c.args.self.now.table.now in
-    let m = message_of c.args.self.now.bytes.value.came c.args.self.now.handles.now in
+    let m = message c.args.self.now in
     let old = at_of c.args.state.now in
     let kept : at_of c.pass_member.new.state ≡ old = c.pass_member.ensures.kept c.if-pass_member.false in
     let next : c.pass_member.new.state.next ≡ c.args.state.now.next = ap (λ (s : Position). s.next) kept in
@@ -144,7 +144,7 @@ returns-then-is_flat-clause-cost c =
 pub enter_member-requires-clause-state : goal.enter_member-requires-clause-state
 enter_member-requires-clause-state c =
     let t = c.args.self.now.table.now in
-    let m = message_of c.args.self.now.bytes.value.came c.args.self.now.handles.now in
+    let m = message c.args.self.now in
     let old = at_of c.args.state.now in
     let kept : at_of c.pass_member.new.state ≡ old = c.pass_member.ensures.kept c.if-pass_member.false in
     let next : c.pass_member.new.state.next ≡ c.args.state.now.next = ap (λ (s : Position). s.next) kept in
@@ -154,7 +154,7 @@ enter_member-requires-clause-state c =
 pub returns-in_err-frame-clause-fault_is_true : goal.returns-in_err-frame-clause-fault_is_true
 returns-in_err-frame-clause-fault_is_true c =
     let t = c.args.self.now.table.now in
-    let m = message_of c.args.self.now.bytes.value.came c.args.self.now.handles.now in
+    let m = message c.args.self.now in
     let old = at_of c.args.state.now in
     let kept : at_of c.pass_member.new.state ≡ old = c.pass_member.ensures.kept c.if-pass_member.false in
     let next : c.pass_member.new.state.next ≡ c.args.state.now.next = ap (λ (s : Position). s.next) kept in
@@ -165,7 +165,7 @@ returns-in_err-frame-clause-fault_is_true c =
 pub returns-clause-ok : goal.returns-clause-ok
 returns-clause-ok c =
     let t = c.args.self.now.table.now in
-    let m = message_of c.args.self.now.bytes.value.came c.args.self.now.handles.now in
+    let m = message c.args.self.now in
     let old = at_of c.args.state.now in
     let kept : at_of c.pass_member.new.state ≡ old = c.pass_member.ensures.kept c.if-pass_member.false in
     let next : c.pass_member.new.state.next ≡ c.args.state.now.next = ap (λ (s : Position). s.next) kept in
@@ -174,13 +174,13 @@ returns-clause-ok c =
     let new = at_of c.enter_member.new.state in
     let x = c.in_ok-frame.ensures in
     let steps = x.steps in
-    let o = opens_known t m c.args.depth c.args.envelope mid new x.state (c.enter_member.new.state.steps - c.args.state.now.steps) c.args.entry c.in_ok-frame.frame x.grows x.ok x.breaks x.least x.fine x.deeper x.work in
+    let o = opens_known t m c.args.depth c.args.envelope mid new x.state (c.enter_member.new.state.steps - c.args.state.now.steps) c.args.entry c.in_ok-frame.frame x.grows x.ok x.breaks x.least x.fine x.deeper x.work x.moves in
     subst (λ (s : Position). Opens t m c.args.depth (Some (ty.named c.args.entry)) c.args.envelope s new (c.enter_member.new.state.steps - c.args.state.now.steps) (Some c.in_ok-frame.frame)) kept o
 
 pub returns-clause-pays : goal.returns-clause-pays
 returns-clause-pays c =
     let t = c.args.self.now.table.now in
-    let m = message_of c.args.self.now.bytes.value.came c.args.self.now.handles.now in
+    let m = message c.args.self.now in
     let old = at_of c.args.state.now in
     let kept : at_of c.pass_member.new.state ≡ old = c.pass_member.ensures.kept c.if-pass_member.false in
     let next : c.pass_member.new.state.next ≡ c.args.state.now.next = ap (λ (s : Position). s.next) kept in
@@ -189,7 +189,7 @@ returns-clause-pays c =
     let new = at_of c.enter_member.new.state in
     let x = c.in_ok-frame.ensures in
     let steps = x.steps in
-    let o = opens_known t m c.args.depth c.args.envelope mid new x.state (c.enter_member.new.state.steps - c.args.state.now.steps) c.args.entry c.in_ok-frame.frame x.grows x.ok x.breaks x.least x.fine x.deeper x.work in
+    let o = opens_known t m c.args.depth c.args.envelope mid new x.state (c.enter_member.new.state.steps - c.args.state.now.steps) c.args.entry c.in_ok-frame.frame x.grows x.ok x.breaks x.least x.fine x.deeper x.work x.moves in
     let less = o.less in
     omega (arith, less, next, still, steps)
 

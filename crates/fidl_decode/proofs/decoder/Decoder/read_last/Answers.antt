@@ -1,3 +1,4 @@
+use Rattle.fidl_decode.specs.Reading.{message}
 use Rattle.fidl_decode.proofs.Fitting.{not_fewer}
 use Rattle.std.proofs.Common.{◌≡◌, refl, ◌+◌, ◌-◌, ◌≤◌, ap, subst, ◌∙◌, arith}
 use Rattle.fidl_table_format.specs.declared.record.Entry.{Entry}
@@ -5,7 +6,6 @@ use Rattle.fidl_table_format.specs.Section.{header_of}
 use Rattle.fidl_decode_model.specs.declared.frame.Remaining.{Remaining}
 use Rattle.fidl_decode_model.specs.declared.frame.Remaining.TheVariants.{Rows}
 use Rattle.fidl_decode_model.specs.Machine.{LeftFine, Turns, at_of}
-use Rattle.fidl_decode_model.specs.Faults.{message_of}
 use Rattle.std.specs.Prelude.{Some}
 use Rattle.fidl_decode.proofs.Unchanged.{if_none}
 use Rattle.fidl_decode_columns.proofs.Leaves.{left_over, turns_start, turns_stay}
@@ -21,7 +21,7 @@ row-row-requires c =
 pub overflow_add-read : goal.overflow_add-read
 overflow_add-read c =
     let t = c.args.self.now.table.now in
-    let m = message_of c.args.self.now.bytes.value.came c.args.self.now.handles.now in
+    let m = message c.args.self.now in
     let last : c.args.frame.left ≡ Rows c.args.first 1 = c.requires.left ∙ ap (λ n. Rows c.args.first n) c.if-count-ne1.false in
     let room = last_room t c.args.self.now.fine m c.args.frame c.args.first c.row-row.result last c.row-row.ensures.value (at_of c.args.state.now) c.requires.frame c.requires.state in
     record { fits = omega (arith, room.0, room.1, room.2, c.args.self.now.short) }
@@ -29,7 +29,7 @@ overflow_add-read c =
 pub overflow_add-place : goal.overflow_add-place
 overflow_add-place c =
     let t = c.args.self.now.table.now in
-    let m = message_of c.args.self.now.bytes.value.came c.args.self.now.handles.now in
+    let m = message c.args.self.now in
     let last : c.args.frame.left ≡ Rows c.args.first 1 = c.requires.left ∙ ap (λ n. Rows c.args.first n) c.if-count-ne1.false in
     let room = last_room t c.args.self.now.fine m c.args.frame c.args.first c.row-row.result last c.row-row.ensures.value (at_of c.args.state.now) c.requires.frame c.requires.state in
     record { fits = omega (arith, room.1, room.2, c.args.self.now.short) }
@@ -37,7 +37,7 @@ overflow_add-place c =
 pub overflow_sub-state : goal.overflow_sub-state
 overflow_sub-state c =
     let t = c.args.self.now.table.now in
-    let m = message_of c.args.self.now.bytes.value.came c.args.self.now.handles.now in
+    let m = message c.args.self.now in
     let last : c.args.frame.left ≡ Rows c.args.first 1 = c.requires.left ∙ ap (λ n. Rows c.args.first n) c.if-count-ne1.false in
     let room = last_room t c.args.self.now.fine m c.args.frame c.args.first c.row-row.result last c.row-row.ensures.value (at_of c.args.state.now) c.requires.frame c.requires.state in
     omega (arith, room.0)
@@ -45,7 +45,7 @@ overflow_sub-state c =
 pub overflow_add-state : goal.overflow_add-state
 overflow_add-state c =
     let t = c.args.self.now.table.now in
-    let m = message_of c.args.self.now.bytes.value.came c.args.self.now.handles.now in
+    let m = message c.args.self.now in
     let last : c.args.frame.left ≡ Rows c.args.first 1 = c.requires.left ∙ ap (λ n. Rows c.args.first n) c.if-count-ne1.false in
     let room = last_room t c.args.self.now.fine m c.args.frame c.args.first c.row-row.result last c.row-row.ensures.value (at_of c.args.state.now) c.requires.frame c.requires.state in
     record { fits = omega (arith, room.1, room.2, c.args.self.now.short) }
@@ -53,7 +53,7 @@ overflow_add-state c =
 pub overflow_add-state-2 : goal.overflow_add-state-2
 overflow_add-state-2 c =
     let t = c.args.self.now.table.now in
-    let m = message_of c.args.self.now.bytes.value.came c.args.self.now.handles.now in
+    let m = message c.args.self.now in
     let last : c.args.frame.left ≡ Rows c.args.first 1 = c.requires.left ∙ ap (λ n. Rows c.args.first n) c.if-count-ne1.false in
     let room = last_room t c.args.self.now.fine m c.args.frame c.args.first c.row-row.result last c.row-row.ensures.value (at_of c.args.state.now) c.requires.frame c.requires.state in
     record { fits = omega (arith, room.1, room.2, c.args.self.now.short, c.requires.budget) }
@@ -61,7 +61,7 @@ overflow_add-state-2 c =
 pub zeros_at-requires-clause-order : goal.zeros_at-requires-clause-order
 zeros_at-requires-clause-order c =
     let t = c.args.self.now.table.now in
-    let m = message_of c.args.self.now.bytes.value.came c.args.self.now.handles.now in
+    let m = message c.args.self.now in
     let last : c.args.frame.left ≡ Rows c.args.first 1 = c.requires.left ∙ ap (λ n. Rows c.args.first n) c.if-count-ne1.false in
     let room = last_room t c.args.self.now.fine m c.args.frame c.args.first c.row-row.result last c.row-row.ensures.value (at_of c.args.state.now) c.requires.frame c.requires.state in
     omega (arith, room.0)
@@ -69,7 +69,7 @@ zeros_at-requires-clause-order c =
 pub zeros_at-requires-clause-room : goal.zeros_at-requires-clause-room
 zeros_at-requires-clause-room c =
     let t = c.args.self.now.table.now in
-    let m = message_of c.args.self.now.bytes.value.came c.args.self.now.handles.now in
+    let m = message c.args.self.now in
     let last : c.args.frame.left ≡ Rows c.args.first 1 = c.requires.left ∙ ap (λ n. Rows c.args.first n) c.if-count-ne1.false in
     let room = last_room t c.args.self.now.fine m c.args.frame c.args.first c.row-row.result last c.row-row.ensures.value (at_of c.args.state.now) c.requires.frame c.requires.state in
     omega (arith, room.1, room.2)
@@ -77,7 +77,7 @@ zeros_at-requires-clause-room c =
 pub returns-in_err-zeros_at-clause-cost : goal.returns-in_err-zeros_at-clause-cost
 returns-in_err-zeros_at-clause-cost c =
     let t = c.args.self.now.table.now in
-    let m = message_of c.args.self.now.bytes.value.came c.args.self.now.handles.now in
+    let m = message c.args.self.now in
     let last : c.args.frame.left ≡ Rows c.args.first 1 = c.requires.left ∙ ap (λ n. Rows c.args.first n) c.if-count-ne1.false in
     let room = last_room t c.args.self.now.fine m c.args.frame c.args.first c.row-row.result last c.row-row.ensures.value (at_of c.args.state.now) c.requires.frame c.requires.state in
     omega (arith, room.3, room.0)
@@ -85,14 +85,14 @@ returns-in_err-zeros_at-clause-cost c =
 pub returns-in_err-zeros_at-clause-fault_is_true : goal.returns-in_err-zeros_at-clause-fault_is_true
 returns-in_err-zeros_at-clause-fault_is_true c =
     let t = c.args.self.now.table.now in
-    let m = message_of c.args.self.now.bytes.value.came c.args.self.now.handles.now in
+    let m = message c.args.self.now in
     let last : c.args.frame.left ≡ Rows c.args.first 1 = c.requires.left ∙ ap (λ n. Rows c.args.first n) c.if-count-ne1.false in
     passed_on c.from_residual.result c.in_err-zeros_at.field-0.0 _ c.from_residual.ensures.1 (last_gap_breaks t c.args.self.now.fine m c.args.frame c.args.first c.row-row.result last c.row-row.ensures.value (at_of c.args.state.now) c.requires.frame c.requires.state c.in_err-zeros_at.field-0.0 c.in_err-zeros_at.ensures.fault_is_true)
 
 pub visit-requires-clause-room : goal.visit-requires-clause-room
 visit-requires-clause-room c =
     let t = c.args.self.now.table.now in
-    let m = message_of c.args.self.now.bytes.value.came c.args.self.now.handles.now in
+    let m = message c.args.self.now in
     let last : c.args.frame.left ≡ Rows c.args.first 1 = c.requires.left ∙ ap (λ n. Rows c.args.first n) c.if-count-ne1.false in
     let room = last_room t c.args.self.now.fine m c.args.frame c.args.first c.row-row.result last c.row-row.ensures.value (at_of c.args.state.now) c.requires.frame c.requires.state in
     omega (arith, room.1, room.2)
@@ -100,14 +100,14 @@ visit-requires-clause-room c =
 pub visit-requires-clause-in_envelope : goal.visit-requires-clause-in_envelope
 visit-requires-clause-in_envelope c =
     let t = c.args.self.now.table.now in
-    let m = message_of c.args.self.now.bytes.value.came c.args.self.now.handles.now in
+    let m = message c.args.self.now in
     let last : c.args.frame.left ≡ Rows c.args.first 1 = c.requires.left ∙ ap (λ n. Rows c.args.first n) c.if-count-ne1.false in
     last_inside t c.args.self.now.fine m c.args.frame c.args.first c.row-row.result last c.row-row.ensures.value (at_of c.args.state.now) c.requires.frame c.requires.state
 
 pub visit-requires-clause-budget : goal.visit-requires-clause-budget
 visit-requires-clause-budget c =
     let t = c.args.self.now.table.now in
-    let m = message_of c.args.self.now.bytes.value.came c.args.self.now.handles.now in
+    let m = message c.args.self.now in
     let last : c.args.frame.left ≡ Rows c.args.first 1 = c.requires.left ∙ ap (λ n. Rows c.args.first n) c.if-count-ne1.false in
     let room = last_room t c.args.self.now.fine m c.args.frame c.args.first c.row-row.result last c.row-row.ensures.value (at_of c.args.state.now) c.requires.frame c.requires.state in
     omega (arith, room.1, room.2, c.args.self.now.short, c.requires.budget)
@@ -115,7 +115,7 @@ visit-requires-clause-budget c =
 pub returns-in_err-below-clause-cost : goal.returns-in_err-below-clause-cost
 returns-in_err-below-clause-cost c =
     let t = c.args.self.now.table.now in
-    let m = message_of c.args.self.now.bytes.value.came c.args.self.now.handles.now in
+    let m = message c.args.self.now in
     let last : c.args.frame.left ≡ Rows c.args.first 1 = c.requires.left ∙ ap (λ n. Rows c.args.first n) c.if-count-ne1.false in
     let room = last_room t c.args.self.now.fine m c.args.frame c.args.first c.row-row.result last c.row-row.ensures.value (at_of c.args.state.now) c.requires.frame c.requires.state in
     let probed = c.in_err-below.ensures.spends.most in
@@ -124,14 +124,14 @@ returns-in_err-below-clause-cost c =
 pub returns-in_err-below-clause-fault_is_true : goal.returns-in_err-below-clause-fault_is_true
 returns-in_err-below-clause-fault_is_true c =
     let t = c.args.self.now.table.now in
-    let m = message_of c.args.self.now.bytes.value.came c.args.self.now.handles.now in
+    let m = message c.args.self.now in
     let last : c.args.frame.left ≡ Rows c.args.first 1 = c.requires.left ∙ ap (λ n. Rows c.args.first n) c.if-count-ne1.false in
     passed_on c.from_residual-in_err-below.result c.in_err-below.field-0.0 _ c.from_residual-in_err-below.ensures.1 (last_breaks t c.args.self.now.fine m c.args.frame c.args.first c.row-row.result last c.row-row.ensures.value (at_of c.args.state.now) c.requires.frame c.requires.state c.in_err-below.field-0.0 c.in_ok-zeros_at.ensures.ok c.in_err-below.ensures.fault_is_true)
 
 pub returns-clause-ok : goal.returns-clause-ok
 returns-clause-ok c =
     let t = c.args.self.now.table.now in
-    let m = message_of c.args.self.now.bytes.value.came c.args.self.now.handles.now in
+    let m = message c.args.self.now in
     let last : c.args.frame.left ≡ Rows c.args.first 1 = c.requires.left ∙ ap (λ n. Rows c.args.first n) c.if-count-ne1.false in
     let grows = (not_fewer _ _ _ c.in_ok-below.ensures.spends) in
     let size = ap (λ (d : Entry). d.size) c.entry-e.ensures.value in
@@ -140,7 +140,7 @@ returns-clause-ok c =
 pub returns-clause-grows : goal.returns-clause-grows
 returns-clause-grows c =
     let t = c.args.self.now.table.now in
-    let m = message_of c.args.self.now.bytes.value.came c.args.self.now.handles.now in
+    let m = message c.args.self.now in
     let last : c.args.frame.left ≡ Rows c.args.first 1 = c.requires.left ∙ ap (λ n. Rows c.args.first n) c.if-count-ne1.false in
     let grows = (not_fewer _ _ _ c.in_ok-below.ensures.spends) in
     omega (arith, grows)
@@ -148,7 +148,7 @@ returns-clause-grows c =
 pub returns-clause-cost : goal.returns-clause-cost
 returns-clause-cost c =
     let t = c.args.self.now.table.now in
-    let m = message_of c.args.self.now.bytes.value.came c.args.self.now.handles.now in
+    let m = message c.args.self.now in
     let last : c.args.frame.left ≡ Rows c.args.first 1 = c.requires.left ∙ ap (λ n. Rows c.args.first n) c.if-count-ne1.false in
     let room = last_room t c.args.self.now.fine m c.args.frame c.args.first c.row-row.result last c.row-row.ensures.value (at_of c.args.state.now) c.requires.frame c.requires.state in
     let probed = c.in_ok-below.ensures.spends.most in
@@ -157,7 +157,7 @@ returns-clause-cost c =
 pub returns-then-done-frame-clause-ok : goal.returns-then-done-frame-clause-ok
 returns-then-done-frame-clause-ok c =
     let t = c.args.self.now.table.now in
-    let m = message_of c.args.self.now.bytes.value.came c.args.self.now.handles.now in
+    let m = message c.args.self.now in
     let none : 0 ≡ c.args.state.now.steps - c.args.state.now.steps = omega arith in
     subst (λ n. Turns t m c.args.frame (at_of c.args.state.now) (at_of c.args.state.now) n (left_over (Some c.args.frame))) none (turns_start t m c.args.frame (at_of c.args.state.now) c.requires.frame c.requires.state c.args.frame refl)
 
@@ -167,4 +167,4 @@ returns-clause-ended c =
     if_none c.in_ok-below.below _ (omega (arith, grows))
 
 pub returns-then-count-ne1-clause-ok : goal.returns-then-count-ne1-clause-ok
-returns-then-count-ne1-clause-ok c = turns_stay c.args.self.now.table.now (message_of c.args.self.now.bytes.value.came c.args.self.now.handles.now) c.args.frame (at_of c.args.state.now) c.requires.frame c.requires.state _ (omega arith)
+returns-then-count-ne1-clause-ok c = turns_stay c.args.self.now.table.now (message c.args.self.now) c.args.frame (at_of c.args.state.now) c.requires.frame c.requires.state _ (omega arith)

@@ -1,8 +1,8 @@
+use Rattle.fidl_decode.specs.Reading.{message}
 use Rattle.fidl_decode.proofs.Fitting.{more_steps, spends_any, not_fewer}
 use Rattle.fidl_decode.proofs.Unchanged.{same_le}
 use Rattle.std.proofs.Common.{arith, inl, inr, ℕ, get_or, ◌<◌}
 use Rattle.fidl_decode_model.specs.Machine.{at_of, Visits, Leads}
-use Rattle.fidl_decode_model.specs.Faults.{message_of}
 use Rattle.std.proofs.Common.{◌-◌, ◌+◌, ◌≤◌, IsTrue, length, sym, subst, ap, ◌∙◌, ◌≡◌}
 use Rattle.std.specs.Prelude.{Some, None, IfSome}
 use Rattle.std.specs.Int.{byte_len}
@@ -38,14 +38,14 @@ byte_at-requires-clause-room c =
 pub returns-then-byte_at-gt1-clause-fault_is_true : goal.returns-then-byte_at-gt1-clause-fault_is_true
 returns-then-byte_at-gt1-clause-fault_is_true c =
     let is : kind_of (entry_at c.args.self.now.table.now c.args.entry).kind ≡ Some Boolean = c.requires.kind ∙ ap (λ (k : EntryKind). Some k) c.in-Bool.is in
-    bool_breaks c.args.self.now.table.now c.args.self.now.fine (message_of c.args.self.now.bytes.value.came c.args.self.now.handles.now) c.args.depth c.args.entry c.args.place (at_of c.args.state.now) c.requires.entry c.requires.state c.requires.depth is (omega (arith, c.if-byte_at-gt1.true, c.byte_at.ensures))
+    bool_breaks c.args.self.now.table.now c.args.self.now.fine (message c.args.self.now) c.args.depth c.args.entry c.args.place (at_of c.args.state.now) c.requires.entry c.requires.state c.requires.depth is (omega (arith, c.if-byte_at-gt1.true, c.byte_at.ensures))
 
 pub returns-else-byte_at-gt1-clause-ok : goal.returns-else-byte_at-gt1-clause-ok
 returns-else-byte_at-gt1-clause-ok c =
     let is : kind_of (entry_at c.args.self.now.table.now c.args.entry).kind ≡ Some Boolean = c.requires.kind ∙ ap (λ (k : EntryKind). Some k) c.in-Bool.is in
     let pos = positive c.args.self.now.table.now c.args.self.now.fine c.args.entry c.requires.entry in
     let size = size_is c.args.self.now.table.now c.args.self.now.fine c.args.entry c.requires.entry in
-    visits_bool c.args.self.now.table.now c.args.self.now.fine (message_of c.args.self.now.bytes.value.came c.args.self.now.handles.now) c.args.depth c.args.entry c.args.place (at_of c.args.state.now) c.requires.entry c.requires.state c.requires.depth _ (omega arith) is (omega (
+    visits_bool c.args.self.now.table.now c.args.self.now.fine (message c.args.self.now) c.args.depth c.args.entry c.args.place (at_of c.args.state.now) c.requires.entry c.requires.state c.requires.depth _ (omega arith) is (omega (
       arith,
       c.requires.room,
       pos,
@@ -55,7 +55,7 @@ returns-else-byte_at-gt1-clause-ok c =
 pub returns-in_default-clause-ok : goal.returns-in_default-clause-ok
 returns-in_default-clause-ok c =
     let t = c.args.self.now.table.now in
-    let m = message_of c.args.self.now.bytes.value.came c.args.self.now.handles.now in
+    let m = message c.args.self.now in
     let small : (i : ℕ) → get_or c.args.self.now.bytes.value.came i 0 < 256 = λ i. omega (arith, c.args.self.now.octets i) in
     elim (free_else t (entry_at t c.args.entry) c.args.kind c.requires.leaf c.in_default.not-Bool c.in_default.not-Bits c.in_default.not-Enum c.in_default.not-Handle c.in_default.not-String c.in_default.not-Vector) [
       | inl free ↦ visits_free t c.args.self.now.fine m c.args.depth c.args.entry c.args.place (at_of c.args.state.now) c.requires.entry c.requires.state c.requires.depth c.args.kind c.requires.kind free _ (omega arith) c.requires.room small
@@ -82,7 +82,7 @@ pub returns-in-Bits-clause-ok : goal.returns-in-Bits-clause-ok
 returns-in-Bits-clause-ok c =
     let is : kind_of (entry_at c.args.self.now.table.now c.args.entry).kind ≡ Some Bits = c.requires.kind ∙ ap (λ (k : EntryKind). Some k) c.in-Bits.is in
     let own : c.entry.result ≡ entry_at c.args.self.now.table.now c.args.entry = c.entry.ensures.value in
-    on_ok_from c.read_bits.result (λ p. (visits_bits c.args.self.now.table.now c.args.self.now.fine (message_of c.args.self.now.bytes.value.came c.args.self.now.handles.now) c.args.depth c.args.entry c.args.place (at_of c.args.state.now) c.requires.entry c.requires.state c.requires.depth is
+    on_ok_from c.read_bits.result (λ p. (visits_bits c.args.self.now.table.now c.args.self.now.fine (message c.args.self.now) c.args.depth c.args.entry c.args.place (at_of c.args.state.now) c.requires.entry c.requires.state c.requires.depth is
     (c.args.state.now.steps - c.args.state.now.steps) (omega (arith)) c.requires.room (λ i. omega (arith, c.args.self.now.octets i)) (subst (λ (d : Entry). IfSome (mask_of d) (λ mask. InMask mask (number_standing (underlying d) c.args.self.now.bytes.value.came c.args.place))) own p)))
     c.read_bits.ensures.ok
 
@@ -90,15 +90,15 @@ pub returns-in-Bits-clause-fault_is_true : goal.returns-in-Bits-clause-fault_is_
 returns-in-Bits-clause-fault_is_true c =
     let is : kind_of (entry_at c.args.self.now.table.now c.args.entry).kind ≡ Some Bits = c.requires.kind ∙ ap (λ (k : EntryKind). Some k) c.in-Bits.is in
     let own : c.entry.result ≡ entry_at c.args.self.now.table.now c.args.entry = c.entry.ensures.value in
-    IfErr-weaker c.read_bits.result _ _ (λ fault b. bits_break c.args.self.now.table.now c.args.self.now.fine (message_of c.args.self.now.bytes.value.came c.args.self.now.handles.now) c.args.depth c.args.entry c.args.place (at_of c.args.state.now) c.requires.entry c.requires.state
-    c.requires.depth is fault (subst (λ (d : Entry). BreaksField (message_of c.args.self.now.bytes.value.came c.args.self.now.handles.now) (ty.bits (underlying d) (mask_of d)) c.args.place fault) own b)) c.read_bits.ensures.fault_is_true
+    IfErr-weaker c.read_bits.result _ _ (λ fault b. bits_break c.args.self.now.table.now c.args.self.now.fine (message c.args.self.now) c.args.depth c.args.entry c.args.place (at_of c.args.state.now) c.requires.entry c.requires.state
+    c.requires.depth is fault (subst (λ (d : Entry). BreaksField (message c.args.self.now) (ty.bits (underlying d) (mask_of d)) c.args.place fault) own b)) c.read_bits.ensures.fault_is_true
 
 pub returns-in-Enum-clause-ok : goal.returns-in-Enum-clause-ok
 returns-in-Enum-clause-ok c =
     let is : kind_of (entry_at c.args.self.now.table.now c.args.entry).kind ≡ Some Enum = c.requires.kind ∙ ap (λ (k : EntryKind). Some k) c.in-Enum.is in
-    on_ok_from c.read_enum.result (λ p. subst (λ (s : Position). Visits c.args.self.now.table.now (message_of c.args.self.now.bytes.value.came c.args.self.now.handles.now) c.args.depth c.args.entry c.args.place (at_of c.args.state.now) s (c.read_enum.new.state.steps - c.args.state.now.steps) None) (sym
+    on_ok_from c.read_enum.result (λ p. subst (λ (s : Position). Visits c.args.self.now.table.now (message c.args.self.now) c.args.depth c.args.entry c.args.place (at_of c.args.state.now) s (c.read_enum.new.state.steps - c.args.state.now.steps) None) (sym
     c.read_enum.ensures.same)
-    (visits_enum c.args.self.now.table.now c.args.self.now.fine (message_of c.args.self.now.bytes.value.came c.args.self.now.handles.now) c.args.depth c.args.entry c.args.place (at_of c.args.state.now) c.requires.entry c.requires.state c.requires.depth is
+    (visits_enum c.args.self.now.table.now c.args.self.now.fine (message c.args.self.now) c.args.depth c.args.entry c.args.place (at_of c.args.state.now) c.requires.entry c.requires.state c.requires.depth is
     (c.read_enum.new.state.steps - c.args.state.now.steps) (omega (arith, c.read_enum.ensures.spends.most)) c.requires.room
     (λ i. omega (arith, c.args.self.now.octets i)) p)) c.read_enum.ensures.ok
 
@@ -106,7 +106,7 @@ pub returns-in-Enum-clause-fault_is_true : goal.returns-in-Enum-clause-fault_is_
 returns-in-Enum-clause-fault_is_true c =
     let is : kind_of (entry_at c.args.self.now.table.now c.args.entry).kind ≡ Some Enum = c.requires.kind ∙ ap (λ (k : EntryKind). Some k) c.in-Enum.is in
     IfErr-weaker c.read_enum.result _ _
-    (λ fault b. enum_breaks c.args.self.now.table.now c.args.self.now.fine (message_of c.args.self.now.bytes.value.came c.args.self.now.handles.now) c.args.depth c.args.entry c.args.place (at_of c.args.state.now) c.requires.entry c.requires.state c.requires.depth is fault b)
+    (λ fault b. enum_breaks c.args.self.now.table.now c.args.self.now.fine (message c.args.self.now) c.args.depth c.args.entry c.args.place (at_of c.args.state.now) c.requires.entry c.requires.state c.requires.depth is fault b)
     c.read_enum.ensures.fault_is_true
 
 pub read_enum-requires-clause-kind : goal.read_enum-requires-clause-kind
@@ -126,9 +126,9 @@ returns-in-Handle-clause-ok c =
     let is : kind_of (entry_at c.args.self.now.table.now c.args.entry).kind ≡ Some Handle = c.requires.kind ∙ ap (λ (k : EntryKind). Some k) c.in-Handle.is in
     let own : c.entry-in-Handle.result ≡ entry_at c.args.self.now.table.now c.args.entry = c.entry-in-Handle.ensures.value in
     on_ok_two c.read_handle.result
-    (λ leads there. visits_leaf c.args.self.now.table.now c.args.self.now.fine (message_of c.args.self.now.bytes.value.came c.args.self.now.handles.now) c.args.depth c.args.entry c.args.place (at_of c.args.state.now) c.requires.entry c.requires.state c.requires.depth Handle is (at_of
+    (λ leads there. visits_leaf c.args.self.now.table.now c.args.self.now.fine (message c.args.self.now) c.args.depth c.args.entry c.args.place (at_of c.args.state.now) c.requires.entry c.requires.state c.requires.depth Handle is (at_of
     c.read_handle.new.state) (c.read_handle.new.state.steps - c.args.state.now.steps) (omega (arith, c.read_handle.ensures.next, c.read_handle.ensures.steps)) there
-    (subst (λ (d : Entry). Leads (declarations_of c.args.self.now.table.now) (message_of c.args.self.now.bytes.value.came c.args.self.now.handles.now) c.args.depth (ty.handle (is_optional d) d.subtype d.rights) c.args.place (at_of c.args.state.now) (at_of c.read_handle.new.state)) own leads)
+    (subst (λ (d : Entry). Leads (declarations_of c.args.self.now.table.now) (message c.args.self.now) c.args.depth (ty.handle (is_optional d) d.subtype d.rights) c.args.place (at_of c.args.state.now) (at_of c.read_handle.new.state)) own leads)
     (λ to x. omega (arith, light_handle (declarations_of c.args.self.now.table.now) (is_optional (entry_at c.args.self.now.table.now c.args.entry)) (entry_at c.args.self.now.table.now c.args.entry).subtype (entry_at c.args.self.now.table.now c.args.entry).rights x.value x.typed)))
     c.read_handle.ensures.ok
     c.read_handle.ensures.state
@@ -137,8 +137,8 @@ pub returns-in-Handle-clause-fault_is_true : goal.returns-in-Handle-clause-fault
 returns-in-Handle-clause-fault_is_true c =
     let is : kind_of (entry_at c.args.self.now.table.now c.args.entry).kind ≡ Some Handle = c.requires.kind ∙ ap (λ (k : EntryKind). Some k) c.in-Handle.is in
     let own : c.entry-in-Handle.result ≡ entry_at c.args.self.now.table.now c.args.entry = c.entry-in-Handle.ensures.value in
-    IfErr-weaker c.read_handle.result _ _ (λ fault b. leaf_breaks c.args.self.now.table.now c.args.self.now.fine (message_of c.args.self.now.bytes.value.came c.args.self.now.handles.now) c.args.depth c.args.entry c.args.place (at_of c.args.state.now) c.requires.entry c.requires.state
-    c.requires.depth Handle is fault (subst (λ (d : Entry). BreaksHandle (message_of c.args.self.now.bytes.value.came c.args.self.now.handles.now) (is_optional d) d.subtype d.rights c.args.place c.args.state.now.handle fault) own b)) c.read_handle.ensures.fault_is_true
+    IfErr-weaker c.read_handle.result _ _ (λ fault b. leaf_breaks c.args.self.now.table.now c.args.self.now.fine (message c.args.self.now) c.args.depth c.args.entry c.args.place (at_of c.args.state.now) c.requires.entry c.requires.state
+    c.requires.depth Handle is fault (subst (λ (d : Entry). BreaksHandle (message c.args.self.now) (is_optional d) d.subtype d.rights c.args.place c.args.state.now.handle fault) own b)) c.read_handle.ensures.fault_is_true
 
 pub read_text-requires-clause-room : goal.read_text-requires-clause-room
 read_text-requires-clause-room c =
@@ -151,10 +151,10 @@ returns-in-String-clause-ok c =
     let is : kind_of (entry_at c.args.self.now.table.now c.args.entry).kind ≡ Some String = c.requires.kind ∙ ap (λ (k : EntryKind). Some k) c.in-String.is in
     let own : c.entry-in-String.result ≡ entry_at c.args.self.now.table.now c.args.entry = c.entry-in-String.ensures.value in
     on_ok_four c.read_text.result
-    (λ leads there spent least. visits_leaf c.args.self.now.table.now c.args.self.now.fine (message_of c.args.self.now.bytes.value.came c.args.self.now.handles.now) c.args.depth c.args.entry c.args.place (at_of c.args.state.now) c.requires.entry c.requires.state c.requires.depth String is (at_of
+    (λ leads there spent least. visits_leaf c.args.self.now.table.now c.args.self.now.fine (message c.args.self.now) c.args.depth c.args.entry c.args.place (at_of c.args.state.now) c.requires.entry c.requires.state c.requires.depth String is (at_of
     c.read_text.new.state) (c.read_text.new.state.steps - c.args.state.now.steps) (text_cost (length c.args.self.now.bytes.value.came) c.args.state.now.next c.read_text.new.state.next c.args.state.now.steps c.read_text.new.state.steps spent there.next (not_fewer _ _ _ c.read_text.ensures.spends)) there
-    (subst (λ (d : Entry). Leads (declarations_of c.args.self.now.table.now) (message_of c.args.self.now.bytes.value.came c.args.self.now.handles.now) c.args.depth (ty.string (is_optional d) d.bound) c.args.place (at_of c.args.state.now) (at_of c.read_text.new.state)) own leads)
-    (subst (λ (d : Entry). (to : Position) (x : ValueAt (declarations_of c.args.self.now.table.now) (message_of c.args.self.now.bytes.value.came c.args.self.now.handles.now) c.args.depth (ty.string (is_optional d) d.bound) c.args.place (at_of c.args.state.now) to) → Work x.value ≤ c.read_text.new.state.steps - c.args.state.now.steps + 1) own least))
+    (subst (λ (d : Entry). Leads (declarations_of c.args.self.now.table.now) (message c.args.self.now) c.args.depth (ty.string (is_optional d) d.bound) c.args.place (at_of c.args.state.now) (at_of c.read_text.new.state)) own leads)
+    (subst (λ (d : Entry). (to : Position) (x : ValueAt (declarations_of c.args.self.now.table.now) (message c.args.self.now) c.args.depth (ty.string (is_optional d) d.bound) c.args.place (at_of c.args.state.now) to) → Work x.value ≤ c.read_text.new.state.steps - c.args.state.now.steps + 1) own least))
     c.read_text.ensures.ok
     c.read_text.ensures.state
     c.read_text.ensures.spent
@@ -164,8 +164,8 @@ pub returns-in-String-clause-fault_is_true : goal.returns-in-String-clause-fault
 returns-in-String-clause-fault_is_true c =
     let is : kind_of (entry_at c.args.self.now.table.now c.args.entry).kind ≡ Some String = c.requires.kind ∙ ap (λ (k : EntryKind). Some k) c.in-String.is in
     let own : c.entry-in-String.result ≡ entry_at c.args.self.now.table.now c.args.entry = c.entry-in-String.ensures.value in
-    IfErr-weaker c.read_text.result _ _ (λ fault b. leaf_breaks c.args.self.now.table.now c.args.self.now.fine (message_of c.args.self.now.bytes.value.came c.args.self.now.handles.now) c.args.depth c.args.entry c.args.place (at_of c.args.state.now) c.requires.entry c.requires.state
-    c.requires.depth String is fault (subst (λ (d : Entry). BreaksText (message_of c.args.self.now.bytes.value.came c.args.self.now.handles.now) c.args.depth (is_optional d) d.bound c.args.place c.args.state.now.next fault) own b)) c.read_text.ensures.fault_is_true
+    IfErr-weaker c.read_text.result _ _ (λ fault b. leaf_breaks c.args.self.now.table.now c.args.self.now.fine (message c.args.self.now) c.args.depth c.args.entry c.args.place (at_of c.args.state.now) c.requires.entry c.requires.state
+    c.requires.depth String is fault (subst (λ (d : Entry). BreaksText (message c.args.self.now) c.args.depth (is_optional d) d.bound c.args.place c.args.state.now.next fault) own b)) c.read_text.ensures.fault_is_true
 
 pub read_bits-requires-clause-kind : goal.read_bits-requires-clause-kind
 read_bits-requires-clause-kind c =

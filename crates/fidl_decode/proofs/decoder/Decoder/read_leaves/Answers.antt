@@ -1,9 +1,9 @@
+use Rattle.fidl_decode.specs.Reading.{message}
 use Rattle.fidl_decode.proofs.Unchanged.{same_le}
 use Rattle.fidl_decode.proofs.Fitting.{le_more}
 use Rattle.std.proofs.Common.{◌-◌, ◌+◌, ◌≤◌, arith}
 use Rattle.fidl_decode_columns.proofs.Leaves.{turns_stay}
 use Rattle.fidl_decode_model.specs.Machine.{at_of}
-use Rattle.fidl_decode_model.specs.Faults.{message_of}
 use Rattle.fidl_decode.proofs.decoder.Decoder.read_leaves.Goals as goal
 
 pub read_boxed-requires-clause-frame : goal.read_boxed-requires-clause-frame
@@ -91,4 +91,4 @@ pub returns-in-Envelopes-clause-cost : goal.returns-in-Envelopes-clause-cost
 returns-in-Envelopes-clause-cost c = le_more _ _
 
 pub returns-in-Envelopes-clause-ok : goal.returns-in-Envelopes-clause-ok
-returns-in-Envelopes-clause-ok c = turns_stay c.args.self.now.table.now (message_of c.args.self.now.bytes.value.came c.args.self.now.handles.now) c.args.frame (at_of c.args.state.now) c.requires.frame c.requires.state _ (omega arith)
+returns-in-Envelopes-clause-ok c = turns_stay c.args.self.now.table.now (message c.args.self.now) c.args.frame (at_of c.args.state.now) c.requires.frame c.requires.state _ (omega arith)

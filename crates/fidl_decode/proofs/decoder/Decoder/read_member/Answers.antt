@@ -1,9 +1,9 @@
+use Rattle.fidl_decode.specs.Reading.{message}
 use Rattle.fidl_decode.proofs.Unchanged.{no_ok}
 use Rattle.std.proofs.Common.{◌-◌, sym, subst, arith}
 use Rattle.std.specs.Prelude.{Option, None, IfErr, IfOk}
 use Rattle.fidl_table_format.specs.declared.record.Row as raw
 use Rattle.fidl_table_format.specs.Terms.{declarations_of}
-use Rattle.fidl_decode_model.specs.Faults.{message_of}
 use Rattle.fidl_decode_model.specs.Breaks.{BreaksMember}
 use Rattle.fidl_decode_model.specs.Machine.{Opens, member_term, at_of}
 use Rattle.fidl_decode.proofs.Opening.{opens_unknown}
@@ -12,21 +12,21 @@ use Rattle.fidl_decode.proofs.decoder.Decoder.read_member.Goals as goal
 pub returns-in_default-clause-ok : goal.returns-in_default-clause-ok
 returns-in_default-clause-ok c =
     let t = c.args.self.now.table.now in
-    let m = message_of c.args.self.now.bytes.value.came c.args.self.now.handles.now in
+    let m = message c.args.self.now in
     let old = at_of c.args.state.now in
     let new = at_of c.skip_member.new.state in
     let x = c.in_ok-skip_member.ensures in
-    let o = opens_unknown t m c.args.depth c.args.envelope old new x.state (c.skip_member.new.state.steps - c.args.state.now.steps) x.grows x.ok in
+    let o = opens_unknown t m c.args.depth c.args.envelope old new x.state (c.skip_member.new.state.steps - c.args.state.now.steps) x.grows x.ok c.args.self.now.fine in
     subst (λ (r : Option raw.Row). Opens t m c.args.depth (member_term r) c.args.envelope old new (c.skip_member.new.state.steps - c.args.state.now.steps) None) (sym c.in_default.is) o
 
 pub returns-in_default-clause-pays : goal.returns-in_default-clause-pays
 returns-in_default-clause-pays c =
     let t = c.args.self.now.table.now in
-    let m = message_of c.args.self.now.bytes.value.came c.args.self.now.handles.now in
+    let m = message c.args.self.now in
     let old = at_of c.args.state.now in
     let new = at_of c.skip_member.new.state in
     let x = c.in_ok-skip_member.ensures in
-    let o = opens_unknown t m c.args.depth c.args.envelope old new x.state 0 x.grows x.ok in
+    let o = opens_unknown t m c.args.depth c.args.envelope old new x.state 0 x.grows x.ok c.args.self.now.fine in
     let less = o.less in
     let still = x.steps in
     omega (arith, less, still)
@@ -34,14 +34,14 @@ returns-in_default-clause-pays c =
 pub returns-clause-ok : goal.returns-clause-ok
 returns-clause-ok c =
     let t = c.args.self.now.table.now in
-    let m = message_of c.args.self.now.bytes.value.came c.args.self.now.handles.now in
+    let m = message c.args.self.now in
     let old = at_of c.args.state.now in
     subst (λ (r : Option raw.Row). IfOk c.read_known.result (Opens t m c.args.depth (member_term r) c.args.envelope old (at_of c.read_known.new.state) (c.read_known.new.state.steps - c.args.state.now.steps))) (sym c.in-Some.is) c.read_known.ensures.ok
 
 pub returns-clause-fault_is_true : goal.returns-clause-fault_is_true
 returns-clause-fault_is_true c =
     let t = c.args.self.now.table.now in
-    let m = message_of c.args.self.now.bytes.value.came c.args.self.now.handles.now in
+    let m = message c.args.self.now in
     let old = at_of c.args.state.now in
     subst (λ (r : Option raw.Row). IfErr c.read_known.result (BreaksMember (declarations_of t) m c.args.depth (member_term r) c.args.envelope old)) (sym c.in-Some.is) c.read_known.ensures.fault_is_true
 

@@ -1,3 +1,4 @@
+use Rattle.fidl_decode.specs.Reading.{message}
 use Rattle.fidl_decode.proofs.Unchanged.{no_ok}
 use Rattle.fidl_decode.proofs.Fitting.{budget_on, cost_on, cost_now, grows_on, rises_on, first_in, some_left, smaller_on, next_fits, one_more}
 use Rattle.std.proofs.Common.{◌≡◌, ◌+◌, ◌-◌, sym, ap, subst, ◌∙◌, arith, refl, ◌≤◌, ◌<◌, ◌^◌, []}
@@ -9,7 +10,6 @@ use Rattle.fidl_table_format.specs.Section.{header_of, entry_at, row_at}
 use Rattle.fidl_decode_model.specs.declared.frame.Frame.{Frame}
 use Rattle.fidl_decode_model.specs.declared.frame.Remaining.TheVariants.{Rows}
 use Rattle.fidl_decode_model.specs.Machine.{Turns, at_of, turn_work, IsPlain, rows_left}
-use Rattle.fidl_decode_model.specs.Faults.{message_of}
 use Rattle.fidl_decode_model.specs.Invariants.{is_leaf}
 use Rattle.fidl_decode_model.proofs.Turning.{passed_on}
 use Rattle.fidl_decode_columns.proofs.Leaves.{going_on, same_frame, left_over, turns_then, turns_break, turns_stay}
@@ -27,7 +27,7 @@ unreachable-requires c =
 pub read_row-requires-clause-frame : goal.read_row-requires-clause-frame
 read_row-requires-clause-frame c =
     let t = c.args.self.now.table.now in
-    let m = message_of c.args.self.now.bytes.value.came c.args.self.now.handles.now in
+    let m = message c.args.self.now in
     let f = c.args.frame in
     let old = at_of c.args.state.now in
     let now = at_of c.loop-many.state in
@@ -42,7 +42,7 @@ read_row-requires-clause-frame c =
 pub returns-in_err-read_row-clause-fault_is_true : goal.returns-in_err-read_row-clause-fault_is_true
 returns-in_err-read_row-clause-fault_is_true c =
     let t = c.args.self.now.table.now in
-    let m = message_of c.args.self.now.bytes.value.came c.args.self.now.handles.now in
+    let m = message c.args.self.now in
     let f = c.args.frame in
     let old = at_of c.args.state.now in
     let now = at_of c.loop-many.state in
@@ -57,7 +57,7 @@ returns-in_err-read_row-clause-fault_is_true c =
 pub loop-many-preserved-then-is_leaf : goal.loop-many-preserved-then-is_leaf
 loop-many-preserved-then-is_leaf c =
     let t = c.args.self.now.table.now in
-    let m = message_of c.args.self.now.bytes.value.came c.args.self.now.handles.now in
+    let m = message c.args.self.now in
     let f = c.args.frame in
     let old = at_of c.args.state.now in
     let now = at_of c.loop-many.state in
@@ -82,7 +82,7 @@ loop-many-preserved-then-is_leaf c =
 pub enter_box-requires-clause-frame : goal.enter_box-requires-clause-frame
 enter_box-requires-clause-frame c =
     let t = c.args.self.now.table.now in
-    let m = message_of c.args.self.now.bytes.value.came c.args.self.now.handles.now in
+    let m = message c.args.self.now in
     let f = c.args.frame in
     let old = at_of c.args.state.now in
     let now = at_of c.loop-many.state in
@@ -97,7 +97,7 @@ enter_box-requires-clause-frame c =
 pub enter_box-requires-clause-left : goal.enter_box-requires-clause-left
 enter_box-requires-clause-left c =
     let t = c.args.self.now.table.now in
-    let m = message_of c.args.self.now.bytes.value.came c.args.self.now.handles.now in
+    let m = message c.args.self.now in
     let f = c.args.frame in
     let old = at_of c.args.state.now in
     let now = at_of c.loop-many.state in
@@ -118,7 +118,7 @@ enter_box-requires-clause-kind c =
 pub enter_box-requires-clause-whole : goal.enter_box-requires-clause-whole
 enter_box-requires-clause-whole c =
     let t = c.args.self.now.table.now in
-    let m = message_of c.args.self.now.bytes.value.came c.args.self.now.handles.now in
+    let m = message c.args.self.now in
     let f = c.args.frame in
     let old = at_of c.args.state.now in
     let now = at_of c.loop-many.state in
@@ -134,7 +134,7 @@ enter_box-requires-clause-whole c =
 pub returns-in_err-below-clause-fault_is_true : goal.returns-in_err-below-clause-fault_is_true
 returns-in_err-below-clause-fault_is_true c =
     let t = c.args.self.now.table.now in
-    let m = message_of c.args.self.now.bytes.value.came c.args.self.now.handles.now in
+    let m = message c.args.self.now in
     let f = c.args.frame in
     let old = at_of c.args.state.now in
     let now = at_of c.loop-many.state in
@@ -149,7 +149,7 @@ returns-in_err-below-clause-fault_is_true c =
 pub returns-in_default-2-clause-ok : goal.returns-in_default-2-clause-ok
 returns-in_default-2-clause-ok c =
     let t = c.args.self.now.table.now in
-    let m = message_of c.args.self.now.bytes.value.came c.args.self.now.handles.now in
+    let m = message c.args.self.now in
     let f = c.args.frame in
     let old = at_of c.args.state.now in
     let now = at_of c.loop-many.state in
@@ -169,7 +169,7 @@ returns-in_default-2-clause-ok c =
 pub pass_known-content-requires-clause-frame : goal.pass_known-content-requires-clause-frame
 pass_known-content-requires-clause-frame c =
     let t = c.args.self.now.table.now in
-    let m = message_of c.args.self.now.bytes.value.came c.args.self.now.handles.now in
+    let m = message c.args.self.now in
     let f = c.args.frame in
     let old = at_of c.args.state.now in
     let now = at_of c.loop-many.state in
@@ -190,7 +190,7 @@ pass_known-content-requires-clause-frame c =
 pub pass_known-content-requires-clause-state : goal.pass_known-content-requires-clause-state
 pass_known-content-requires-clause-state c =
     let t = c.args.self.now.table.now in
-    let m = message_of c.args.self.now.bytes.value.came c.args.self.now.handles.now in
+    let m = message c.args.self.now in
     let f = c.args.frame in
     let old = at_of c.args.state.now in
     let now = at_of c.loop-many.state in
@@ -211,7 +211,7 @@ pass_known-content-requires-clause-state c =
 pub pass_known-content-requires-clause-budget : goal.pass_known-content-requires-clause-budget
 pass_known-content-requires-clause-budget c =
     let t = c.args.self.now.table.now in
-    let m = message_of c.args.self.now.bytes.value.came c.args.self.now.handles.now in
+    let m = message c.args.self.now in
     let f = c.args.frame in
     let old = at_of c.args.state.now in
     let now = at_of c.loop-many.state in
@@ -233,7 +233,7 @@ pass_known-content-requires-clause-budget c =
 pub returns-in_default-left : goal.returns-in_default-left
 returns-in_default-left c =
     let t = c.args.self.now.table.now in
-    let m = message_of c.args.self.now.bytes.value.came c.args.self.now.handles.now in
+    let m = message c.args.self.now in
     let f = c.args.frame in
     let old = at_of c.args.state.now in
     let now = at_of c.loop-many.state in
@@ -260,7 +260,7 @@ returns-in_default-left c =
 pub loop-many-smaller : goal.loop-many-smaller
 loop-many-smaller c =
     let t = c.args.self.now.table.now in
-    let m = message_of c.args.self.now.bytes.value.came c.args.self.now.handles.now in
+    let m = message c.args.self.now in
     let f = c.args.frame in
     let old = at_of c.args.state.now in
     let now = at_of c.loop-many.state in
@@ -285,7 +285,7 @@ loop-many-smaller c =
 pub loop-many-preserved : goal.loop-many-preserved
 loop-many-preserved c =
     let t = c.args.self.now.table.now in
-    let m = message_of c.args.self.now.bytes.value.came c.args.self.now.handles.now in
+    let m = message c.args.self.now in
     let f = c.args.frame in
     let old = at_of c.args.state.now in
     let now = at_of c.loop-many.state in
@@ -312,7 +312,7 @@ loop-many-preserved c =
 pub end_rows-requires-clause-frame : goal.end_rows-requires-clause-frame
 end_rows-requires-clause-frame c =
     let t = c.args.self.now.table.now in
-    let m = message_of c.args.self.now.bytes.value.came c.args.self.now.handles.now in
+    let m = message c.args.self.now in
     let f = c.args.frame in
     let old = at_of c.args.state.now in
     let now = at_of c.loop-many.state in
@@ -329,7 +329,7 @@ end_rows-requires-clause-frame c =
 pub returns-in_err-end_rows-clause-fault_is_true : goal.returns-in_err-end_rows-clause-fault_is_true
 returns-in_err-end_rows-clause-fault_is_true c =
     let t = c.args.self.now.table.now in
-    let m = message_of c.args.self.now.bytes.value.came c.args.self.now.handles.now in
+    let m = message c.args.self.now in
     let f = c.args.frame in
     let old = at_of c.args.state.now in
     let now = at_of c.loop-many.state in
@@ -345,7 +345,7 @@ returns-in_err-end_rows-clause-fault_is_true c =
 pub returns-clause-ok : goal.returns-clause-ok
 returns-clause-ok c =
     let t = c.args.self.now.table.now in
-    let m = message_of c.args.self.now.bytes.value.came c.args.self.now.handles.now in
+    let m = message c.args.self.now in
     let f = c.args.frame in
     let old = at_of c.args.state.now in
     let now = at_of c.loop-many.state in
@@ -403,7 +403,7 @@ pub ends_in_box-requires : goal.ends_in_box-requires
 ends_in_box-requires c = record { within = c.loop-many.invariant.turns.rest_fine.0.left }
 
 pub returns-then-not-ends_in_box-clause-ok : goal.returns-then-not-ends_in_box-clause-ok
-returns-then-not-ends_in_box-clause-ok c = subst (λ (x : Frame). Turns c.args.self.now.table.now (message_of c.args.self.now.bytes.value.came c.args.self.now.handles.now) c.args.frame (at_of c.args.state.now) (at_of c.loop-many.state) (c.loop-many.state.steps - c.args.state.now.steps) (left_over
+returns-then-not-ends_in_box-clause-ok c = subst (λ (x : Frame). Turns c.args.self.now.table.now (message c.args.self.now) c.args.frame (at_of c.args.state.now) (at_of c.loop-many.state) (c.loop-many.state.steps - c.args.state.now.steps) (left_over
     (Some x))) (sym c.rows_from-rest.ensures) c.loop-many.invariant.turns
 
 pub returns-then-not-ends_in_box-clause-grows : goal.returns-then-not-ends_in_box-clause-grows
@@ -515,7 +515,7 @@ overflow_add-next c = record { fits = next_fits c.loop-many.next c.loop-many.man
 pub loop-many-smaller-then-is_leaf : goal.loop-many-smaller-then-is_leaf
 loop-many-smaller-then-is_leaf c =
     let t = c.args.self.now.table.now in
-    let m = message_of c.args.self.now.bytes.value.came c.args.self.now.handles.now in
+    let m = message c.args.self.now in
     let f = c.args.frame in
     let old = at_of c.args.state.now in
     let now = at_of c.loop-many.state in
@@ -537,11 +537,11 @@ loop-many-smaller-then-is_leaf c =
     smaller_on _ _ _ c.loop-many.state.steps c.read_row.new.state.steps two.less rises
 
 pub returns-in_default : goal.returns-in_default
-returns-in_default c = record { holds = c.requires.holds; ok = turns_stay c.args.self.now.table.now (message_of c.args.self.now.bytes.value.came c.args.self.now.handles.now) c.args.frame (at_of c.args.state.now) c.requires.frame c.requires.state _ (omega arith); grows = omega arith; ended = tt; cost = omega arith; fault_is_true = tt }
+returns-in_default c = record { holds = c.requires.holds; ok = turns_stay c.args.self.now.table.now (message c.args.self.now) c.args.frame (at_of c.args.state.now) c.requires.frame c.requires.state _ (omega arith); grows = omega arith; ended = tt; cost = omega arith; fault_is_true = tt }
 
 pub loop-many-init : goal.loop-many-init
 loop-many-init c = record {
   holds = c.requires.holds;
-  turns = subst (λ (g : Frame). Turns c.args.self.now.table.now (message_of c.args.self.now.bytes.value.came c.args.self.now.handles.now) c.args.frame (at_of c.args.state.now) (at_of c.args.state.now) (c.args.state.now.steps - c.args.state.now.steps) (left_over (Some g))) (same_frame c.args.frame (Rows c.in-Rows.first c.in-Rows.count) c.in-Rows.is) (turns_stay c.args.self.now.table.now (message_of c.args.self.now.bytes.value.came c.args.self.now.handles.now) c.args.frame (at_of c.args.state.now) c.requires.frame c.requires.state _ (omega arith));
+  turns = subst (λ (g : Frame). Turns c.args.self.now.table.now (message c.args.self.now) c.args.frame (at_of c.args.state.now) (at_of c.args.state.now) (c.args.state.now.steps - c.args.state.now.steps) (left_over (Some g))) (same_frame c.args.frame (Rows c.in-Rows.first c.in-Rows.count) c.in-Rows.is) (turns_stay c.args.self.now.table.now (message c.args.self.now) c.args.frame (at_of c.args.state.now) c.requires.frame c.requires.state _ (omega arith));
   steps = omega arith;
 }

@@ -1,10 +1,10 @@
+use Rattle.fidl_decode.specs.Reading.{message}
 use Rattle.std.proofs.Common.{◌≡◌, ◌+◌, ◌-◌, ap, subst, arith}
 use Rattle.std.specs.Prelude.{Option, IfSome}
 use Rattle.std.proofs.lemmas.Result.{IfErr-weaker}
 use Rattle.fidl_decode_model.specs.declared.frame.Frame.{Frame}
 use Rattle.fidl_decode.specs.Body.{elements_of}
 use Rattle.fidl_decode_model.specs.Breaks.{count_at}
-use Rattle.fidl_decode_model.specs.Faults.{message_of}
 use Rattle.fidl_decode_model.specs.Machine.{Visits, VisitFine, at_of}
 use Rattle.fidl_decode.proofs.Fitting.{le_more, spends_any}
 use Rattle.fidl_decode_model.proofs.Turning.{on_ok_from, passed_on}
@@ -15,17 +15,17 @@ use Rattle.fidl_decode.proofs.decoder.Decoder.read_numbers.Goals as goal
 pub returns-in_err-frame-clause-fault_is_true : goal.returns-in_err-frame-clause-fault_is_true
 returns-in_err-frame-clause-fault_is_true c =
     passed_on c.from_residual.result c.in_err-frame.field-0.0 _ c.from_residual.ensures.1
-    (vector_breaks c.args.self.now.table.now c.args.self.now.fine (message_of c.args.self.now.bytes.value.came c.args.self.now.handles.now) c.args.depth c.args.entry c.args.place (at_of c.args.state.now)
+    (vector_breaks c.args.self.now.table.now c.args.self.now.fine (message c.args.self.now) c.args.depth c.args.entry c.args.place (at_of c.args.state.now)
     c.requires.entry c.requires.kind c.requires.state c.requires.depth _ c.in_err-frame.ensures.fault_is_true)
 
 pub pass_elements-requires-clause-frame : goal.pass_elements-requires-clause-frame
 pass_elements-requires-clause-frame c =
-    (subst (λ (o : Option Frame). VisitFine c.args.self.now.table.now (message_of c.args.self.now.bytes.value.came c.args.self.now.handles.now) c.args.depth 0 c.args.entry o) c.in-Some.is (c.in_ok-frame.ensures.fine 0 (le_more 0 1))).0
+    (subst (λ (o : Option Frame). VisitFine c.args.self.now.table.now (message c.args.self.now) c.args.depth 0 c.args.entry o) c.in-Some.is (c.in_ok-frame.ensures.fine 0 (le_more 0 1))).0
 
 pub returns-clause-ok : goal.returns-clause-ok
 returns-clause-ok c =
     let t = c.args.self.now.table.now in
-    let m = message_of c.args.self.now.bytes.value.came c.args.self.now.handles.now in
+    let m = message c.args.self.now in
     let old = c.args.state.now in
     let mid = c.read_vector.new.state in
     let new = c.pass_elements.new.state in
@@ -36,7 +36,7 @@ returns-clause-ok c =
 pub returns-clause-fault_is_true : goal.returns-clause-fault_is_true
 returns-clause-fault_is_true c =
     let t = c.args.self.now.table.now in
-    let m = message_of c.args.self.now.bytes.value.came c.args.self.now.handles.now in
+    let m = message c.args.self.now in
     let old = c.args.state.now in
     let mid = c.read_vector.new.state in
     let v = subst (λ (o : Option Frame). Visits t m c.args.depth c.args.entry c.args.place (at_of old) (at_of mid) (mid.steps - old.steps) o) c.in-Some.is c.in_ok-frame.ensures.ok in
@@ -45,7 +45,7 @@ returns-clause-fault_is_true c =
 pub returns-clause-spends : goal.returns-clause-spends
 returns-clause-spends c =
     let t = c.args.self.now.table.now in
-    let m = message_of c.args.self.now.bytes.value.came c.args.self.now.handles.now in
+    let m = message c.args.self.now in
     let still = c.in_ok-frame.ensures.steps in
     let whole = c.pass_elements.ensures.spends in
     let room = (subst (λ (o : Option Frame). VisitFine t m c.args.depth 0 c.args.entry o) c.in-Some.is (c.in_ok-frame.ensures.fine 0 (le_more 0 1))).0.room in

@@ -1,3 +1,4 @@
+use Rattle.fidl_decode.specs.Reading.{message}
 use Rattle.fidl_decode.proofs.Fitting.{spends_some, not_fewer}
 use Rattle.fidl_decode.proofs.Unchanged.{no_ok}
 use Rattle.std.proofs.Common.{◌≡◌, ◌+◌, ◌-◌, ◌≤◌, ap, subst, ◌∙◌, arith}
@@ -8,7 +9,6 @@ use Rattle.fidl_table_format.specs.Section.{header_of, entry_at}
 use Rattle.fidl_decode_model.specs.declared.frame.Remaining.{Remaining}
 use Rattle.fidl_decode_model.specs.declared.frame.Remaining.TheVariants.{Rows}
 use Rattle.fidl_decode_model.specs.Machine.{LeftFine, Turns, at_of}
-use Rattle.fidl_decode_model.specs.Faults.{message_of}
 use Rattle.fidl_decode_model.specs.Invariants.{is_leaf}
 use Rattle.fidl_decode_model.proofs.Turning.{passed_on}
 use Rattle.fidl_decode_columns.proofs.Leaves.{going_on, left_over}
@@ -23,98 +23,98 @@ row-row-requires c =
 pub overflow_add-front : goal.overflow_add-front
 overflow_add-front c =
     let t = c.args.self.now.table.now in
-    let m = message_of c.args.self.now.bytes.value.came c.args.self.now.handles.now in
+    let m = message c.args.self.now in
     let room = front_room t c.args.self.now.fine m c.args.frame c.args.first c.args.count c.row-row.result c.requires.left c.requires.some c.row-row.ensures.value (at_of c.args.state.now) c.requires.frame c.requires.state in
     record { fits = omega (arith, room.0, room.1, room.2, c.args.self.now.short) }
 
 pub overflow_add-place : goal.overflow_add-place
 overflow_add-place c =
     let t = c.args.self.now.table.now in
-    let m = message_of c.args.self.now.bytes.value.came c.args.self.now.handles.now in
+    let m = message c.args.self.now in
     let room = front_room t c.args.self.now.fine m c.args.frame c.args.first c.args.count c.row-row.result c.requires.left c.requires.some c.row-row.ensures.value (at_of c.args.state.now) c.requires.frame c.requires.state in
     record { fits = omega (arith, room.1, room.2, c.args.self.now.short) }
 
 pub overflow_sub-state : goal.overflow_sub-state
 overflow_sub-state c =
     let t = c.args.self.now.table.now in
-    let m = message_of c.args.self.now.bytes.value.came c.args.self.now.handles.now in
+    let m = message c.args.self.now in
     let room = front_room t c.args.self.now.fine m c.args.frame c.args.first c.args.count c.row-row.result c.requires.left c.requires.some c.row-row.ensures.value (at_of c.args.state.now) c.requires.frame c.requires.state in
     omega (arith, room.0)
 
 pub overflow_add-state : goal.overflow_add-state
 overflow_add-state c =
     let t = c.args.self.now.table.now in
-    let m = message_of c.args.self.now.bytes.value.came c.args.self.now.handles.now in
+    let m = message c.args.self.now in
     let room = front_room t c.args.self.now.fine m c.args.frame c.args.first c.args.count c.row-row.result c.requires.left c.requires.some c.row-row.ensures.value (at_of c.args.state.now) c.requires.frame c.requires.state in
     record { fits = omega (arith, room.1, room.2, c.args.self.now.short) }
 
 pub overflow_add-state-2 : goal.overflow_add-state-2
 overflow_add-state-2 c =
     let t = c.args.self.now.table.now in
-    let m = message_of c.args.self.now.bytes.value.came c.args.self.now.handles.now in
+    let m = message c.args.self.now in
     let room = front_room t c.args.self.now.fine m c.args.frame c.args.first c.args.count c.row-row.result c.requires.left c.requires.some c.row-row.ensures.value (at_of c.args.state.now) c.requires.frame c.requires.state in
     record { fits = omega (arith, room.1, room.2, c.args.self.now.short, c.requires.budget) }
 
 pub zeros_at-requires-clause-order : goal.zeros_at-requires-clause-order
 zeros_at-requires-clause-order c =
     let t = c.args.self.now.table.now in
-    let m = message_of c.args.self.now.bytes.value.came c.args.self.now.handles.now in
+    let m = message c.args.self.now in
     let room = front_room t c.args.self.now.fine m c.args.frame c.args.first c.args.count c.row-row.result c.requires.left c.requires.some c.row-row.ensures.value (at_of c.args.state.now) c.requires.frame c.requires.state in
     omega (arith, room.0)
 
 pub zeros_at-requires-clause-room : goal.zeros_at-requires-clause-room
 zeros_at-requires-clause-room c =
     let t = c.args.self.now.table.now in
-    let m = message_of c.args.self.now.bytes.value.came c.args.self.now.handles.now in
+    let m = message c.args.self.now in
     let room = front_room t c.args.self.now.fine m c.args.frame c.args.first c.args.count c.row-row.result c.requires.left c.requires.some c.row-row.ensures.value (at_of c.args.state.now) c.requires.frame c.requires.state in
     omega (arith, room.1, room.2)
 
 pub returns-in_err-zeros_at-clause-spends : goal.returns-in_err-zeros_at-clause-spends
 returns-in_err-zeros_at-clause-spends c =
     let t = c.args.self.now.table.now in
-    let m = message_of c.args.self.now.bytes.value.came c.args.self.now.handles.now in
+    let m = message c.args.self.now in
     let room = front_room t c.args.self.now.fine m c.args.frame c.args.first c.args.count c.row-row.result c.requires.left c.requires.some c.row-row.ensures.value (at_of c.args.state.now) c.requires.frame c.requires.state in
     spends_some _ _ _ (omega arith) (omega (arith, room.3, room.0))
 
 pub returns-in_err-zeros_at-clause-fault_is_true : goal.returns-in_err-zeros_at-clause-fault_is_true
 returns-in_err-zeros_at-clause-fault_is_true c =
     let t = c.args.self.now.table.now in
-    let m = message_of c.args.self.now.bytes.value.came c.args.self.now.handles.now in
+    let m = message c.args.self.now in
     passed_on c.from_residual.result c.in_err-zeros_at.field-0.0 _ c.from_residual.ensures.1 (front_gap_breaks t c.args.self.now.fine m c.args.frame c.args.first c.args.count c.row-row.result c.requires.left c.requires.some c.row-row.ensures.value (at_of c.args.state.now) c.requires.frame
     c.requires.state c.in_err-zeros_at.field-0.0 c.in_err-zeros_at.ensures.fault_is_true)
 
 pub read_leaf-requires-clause-kind : goal.read_leaf-requires-clause-kind
 read_leaf-requires-clause-kind c =
     let t = c.args.self.now.table.now in
-    let m = message_of c.args.self.now.bytes.value.came c.args.self.now.handles.now in
+    let m = message c.args.self.now in
     let is : kind_of (entry_at t c.row-row.result.entry).kind ≡ Some c.args.kind = ap (λ (w : raw.Row). kind_of (entry_at t w.entry).kind) c.row-row.ensures.value ∙ c.requires.kind in
     is
 
 pub read_leaf-requires-clause-room : goal.read_leaf-requires-clause-room
 read_leaf-requires-clause-room c =
     let t = c.args.self.now.table.now in
-    let m = message_of c.args.self.now.bytes.value.came c.args.self.now.handles.now in
+    let m = message c.args.self.now in
     let room = front_room t c.args.self.now.fine m c.args.frame c.args.first c.args.count c.row-row.result c.requires.left c.requires.some c.row-row.ensures.value (at_of c.args.state.now) c.requires.frame c.requires.state in
     omega (arith, room.1, room.2)
 
 pub returns-in_err-read_leaf-clause-spends : goal.returns-in_err-read_leaf-clause-spends
 returns-in_err-read_leaf-clause-spends c =
     let t = c.args.self.now.table.now in
-    let m = message_of c.args.self.now.bytes.value.came c.args.self.now.handles.now in
+    let m = message c.args.self.now in
     let room = front_room t c.args.self.now.fine m c.args.frame c.args.first c.args.count c.row-row.result c.requires.left c.requires.some c.row-row.ensures.value (at_of c.args.state.now) c.requires.frame c.requires.state in
     spends_some _ _ _ (omega (arith, (not_fewer _ _ _ c.in_err-read_leaf.ensures.spends))) (omega (arith, room.3, room.0, c.in_err-read_leaf.ensures.spends.most))
 
 pub returns-in_err-read_leaf-clause-fault_is_true : goal.returns-in_err-read_leaf-clause-fault_is_true
 returns-in_err-read_leaf-clause-fault_is_true c =
     let t = c.args.self.now.table.now in
-    let m = message_of c.args.self.now.bytes.value.came c.args.self.now.handles.now in
+    let m = message c.args.self.now in
     passed_on c.from_residual-in_err-read_leaf.result c.in_err-read_leaf.field-0.0 _ c.from_residual-in_err-read_leaf.ensures.1 (front_breaks t c.args.self.now.fine m c.args.frame c.args.first c.args.count c.row-row.result c.requires.left c.requires.some c.row-row.ensures.value (at_of
     c.args.state.now) c.requires.frame c.requires.state c.in_err-read_leaf.field-0.0 c.in_ok-zeros_at.ensures.ok c.in_err-read_leaf.ensures.fault_is_true)
 
 pub returns-clause-ok : goal.returns-clause-ok
 returns-clause-ok c =
     let t = c.args.self.now.table.now in
-    let m = message_of c.args.self.now.bytes.value.came c.args.self.now.handles.now in
+    let m = message c.args.self.now in
     let grows = (not_fewer _ _ _ c.in_ok-read_leaf.ensures.spends) in
     let two = front_turns t c.args.self.now.fine m c.args.frame c.args.first c.args.count c.row-row.result c.requires.left c.requires.some c.row-row.ensures.value (at_of c.args.state.now) c.requires.frame c.requires.state (at_of c.read_leaf.new.state)
     (c.read_leaf.new.state.steps - (c.args.state.now.steps + (c.args.frame.base + c.row-row.result.key - (c.args.frame.base + c.args.frame.done) + 1))) (c.read_leaf.new.state.steps - c.args.state.now.steps) (omega (arith, grows)) (omega (arith, grows)) c.in_ok-zeros_at.ensures.ok c.in_ok-read_leaf.ensures.ok in
@@ -124,7 +124,7 @@ returns-clause-ok c =
 pub returns-clause-spends : goal.returns-clause-spends
 returns-clause-spends c =
     let t = c.args.self.now.table.now in
-    let m = message_of c.args.self.now.bytes.value.came c.args.self.now.handles.now in
+    let m = message c.args.self.now in
     let room = front_room t c.args.self.now.fine m c.args.frame c.args.first c.args.count c.row-row.result c.requires.left c.requires.some c.row-row.ensures.value (at_of c.args.state.now) c.requires.frame c.requires.state in
     spends_some _ _ _ (omega (arith, (not_fewer _ _ _ c.in_ok-read_leaf.ensures.spends))) (omega (arith, room.3, room.0, c.in_ok-read_leaf.ensures.spends.most))
 

@@ -1,8 +1,8 @@
+use Rattle.fidl_decode.specs.Reading.{message}
 use Rattle.std.proofs.Common.{◌-◌, subst, arith}
 use Rattle.std.specs.Prelude.{Option, Some, None, IfNone, ◌<◌}
 use Rattle.fidl_decode_model.specs.declared.frame.Frame.{Frame}
 use Rattle.fidl_decode_model.specs.Machine.{Turns, at_of}
-use Rattle.fidl_decode_model.specs.Faults.{message_of}
 use Rattle.fidl_decode_model.proofs.Turning.{passed_on, none_weaker}
 use Rattle.fidl_decode_columns.proofs.Leaves.{left_over, turns_then, turns_break}
 use Rattle.fidl_decode.proofs.decoder.Decoder.read_struct.Goals as goal
@@ -10,20 +10,20 @@ use Rattle.fidl_decode.proofs.decoder.Decoder.read_struct.Goals as goal
 pub returns-in_default-clause-ok : goal.returns-in_default-clause-ok
 returns-in_default-clause-ok c =
     let t = c.args.self.now.table.now in
-    let m = message_of c.args.self.now.bytes.value.came c.args.self.now.handles.now in
+    let m = message c.args.self.now in
     let one : Turns t m c.args.frame (at_of c.args.state.now) (at_of c.read_nested.new.state) (c.read_nested.new.state.steps - c.args.state.now.steps) (left_over None) = subst (λ (o : Option Frame). Turns t m c.args.frame (at_of c.args.state.now) (at_of c.read_nested.new.state) (c.read_nested.new.state.steps - c.args.state.now.steps) (left_over o)) c.in_default.is c.in_ok-now.ensures.ok in
     one
 
 pub returns-in_default-clause-ended : goal.returns-in_default-clause-ended
 returns-in_default-clause-ended c =
     let t = c.args.self.now.table.now in
-    let m = message_of c.args.self.now.bytes.value.came c.args.self.now.handles.now in
+    let m = message c.args.self.now in
     subst (λ (o : Option Frame). IfNone o (c.args.state.now.steps < c.read_nested.new.state.steps)) c.in_default.is c.in_ok-now.ensures.ended
 
 pub returns-in_default-left : goal.returns-in_default-left
 returns-in_default-left c =
     let t = c.args.self.now.table.now in
-    let m = message_of c.args.self.now.bytes.value.came c.args.self.now.handles.now in
+    let m = message c.args.self.now in
     let one : Turns t m c.args.frame (at_of c.args.state.now) (at_of c.read_nested.new.state) (c.read_nested.new.state.steps - c.args.state.now.steps) (left_over (Some c.in-Some.now)) = subst (λ (o : Option Frame). Turns t m c.args.frame (at_of c.args.state.now) (at_of c.read_nested.new.state) (c.read_nested.new.state.steps - c.args.state.now.steps) (left_over o)) c.in-Some.is c.in_ok-now.ensures.ok in
     let rows_on = c.in_ok-now.ensures.grows in
     record { holds = c.read_nested.ensures.holds; ok = one; grows = rows_on; ended = tt; cost = c.in_ok-now.ensures.cost; fault_is_true = tt }
@@ -31,28 +31,28 @@ returns-in_default-left c =
 pub returns-then-left-ne1-clause-ok : goal.returns-then-left-ne1-clause-ok
 returns-then-left-ne1-clause-ok c =
     let t = c.args.self.now.table.now in
-    let m = message_of c.args.self.now.bytes.value.came c.args.self.now.handles.now in
+    let m = message c.args.self.now in
     let one : Turns t m c.args.frame (at_of c.args.state.now) (at_of c.read_nested.new.state) (c.read_nested.new.state.steps - c.args.state.now.steps) (left_over (Some c.in-Some.now)) = subst (λ (o : Option Frame). Turns t m c.args.frame (at_of c.args.state.now) (at_of c.read_nested.new.state) (c.read_nested.new.state.steps - c.args.state.now.steps) (left_over o)) c.in-Some.is c.in_ok-now.ensures.ok in
     one
 
 pub read_last-requires-clause-frame : goal.read_last-requires-clause-frame
 read_last-requires-clause-frame c =
     let t = c.args.self.now.table.now in
-    let m = message_of c.args.self.now.bytes.value.came c.args.self.now.handles.now in
+    let m = message c.args.self.now in
     let one : Turns t m c.args.frame (at_of c.args.state.now) (at_of c.read_nested.new.state) (c.read_nested.new.state.steps - c.args.state.now.steps) (left_over (Some c.in-Some.now)) = subst (λ (o : Option Frame). Turns t m c.args.frame (at_of c.args.state.now) (at_of c.read_nested.new.state) (c.read_nested.new.state.steps - c.args.state.now.steps) (left_over o)) c.in-Some.is c.in_ok-now.ensures.ok in
     one.rest_fine.0
 
 pub read_last-requires-clause-state : goal.read_last-requires-clause-state
 read_last-requires-clause-state c =
     let t = c.args.self.now.table.now in
-    let m = message_of c.args.self.now.bytes.value.came c.args.self.now.handles.now in
+    let m = message c.args.self.now in
     let one : Turns t m c.args.frame (at_of c.args.state.now) (at_of c.read_nested.new.state) (c.read_nested.new.state.steps - c.args.state.now.steps) (left_over (Some c.in-Some.now)) = subst (λ (o : Option Frame). Turns t m c.args.frame (at_of c.args.state.now) (at_of c.read_nested.new.state) (c.read_nested.new.state.steps - c.args.state.now.steps) (left_over o)) c.in-Some.is c.in_ok-now.ensures.ok in
     one.state
 
 pub read_last-requires-clause-budget : goal.read_last-requires-clause-budget
 read_last-requires-clause-budget c =
     let t = c.args.self.now.table.now in
-    let m = message_of c.args.self.now.bytes.value.came c.args.self.now.handles.now in
+    let m = message c.args.self.now in
     let one : Turns t m c.args.frame (at_of c.args.state.now) (at_of c.read_nested.new.state) (c.read_nested.new.state.steps - c.args.state.now.steps) (left_over (Some c.in-Some.now)) = subst (λ (o : Option Frame). Turns t m c.args.frame (at_of c.args.state.now) (at_of c.read_nested.new.state) (c.read_nested.new.state.steps - c.args.state.now.steps) (left_over o)) c.in-Some.is c.in_ok-now.ensures.ok in
     let less_one = one.less in
     let rows_on = c.in_ok-now.ensures.grows in
@@ -61,7 +61,7 @@ read_last-requires-clause-budget c =
 pub returns-in_err-below-clause-cost : goal.returns-in_err-below-clause-cost
 returns-in_err-below-clause-cost c =
     let t = c.args.self.now.table.now in
-    let m = message_of c.args.self.now.bytes.value.came c.args.self.now.handles.now in
+    let m = message c.args.self.now in
     let one : Turns t m c.args.frame (at_of c.args.state.now) (at_of c.read_nested.new.state) (c.read_nested.new.state.steps - c.args.state.now.steps) (left_over (Some c.in-Some.now)) = subst (λ (o : Option Frame). Turns t m c.args.frame (at_of c.args.state.now) (at_of c.read_nested.new.state) (c.read_nested.new.state.steps - c.args.state.now.steps) (left_over o)) c.in-Some.is c.in_ok-now.ensures.ok in
     let less_one = one.less in
     let rows_on = c.in_ok-now.ensures.grows in
@@ -70,14 +70,14 @@ returns-in_err-below-clause-cost c =
 pub returns-in_err-below-clause-fault_is_true : goal.returns-in_err-below-clause-fault_is_true
 returns-in_err-below-clause-fault_is_true c =
     let t = c.args.self.now.table.now in
-    let m = message_of c.args.self.now.bytes.value.came c.args.self.now.handles.now in
+    let m = message c.args.self.now in
     let one : Turns t m c.args.frame (at_of c.args.state.now) (at_of c.read_nested.new.state) (c.read_nested.new.state.steps - c.args.state.now.steps) (left_over (Some c.in-Some.now)) = subst (λ (o : Option Frame). Turns t m c.args.frame (at_of c.args.state.now) (at_of c.read_nested.new.state) (c.read_nested.new.state.steps - c.args.state.now.steps) (left_over o)) c.in-Some.is c.in_ok-now.ensures.ok in
     passed_on c.from_residual-in_err-below.result c.in_err-below.field-0.0 _ c.from_residual-in_err-below.ensures.1 (turns_break t m c.args.frame (at_of c.args.state.now) (at_of c.read_nested.new.state) (c.read_nested.new.state.steps - c.args.state.now.steps) c.in-Some.now one c.in_err-below.field-0.0 c.in_err-below.ensures.fault_is_true)
 
 pub returns-in_default-2-clause-ok : goal.returns-in_default-2-clause-ok
 returns-in_default-2-clause-ok c =
     let t = c.args.self.now.table.now in
-    let m = message_of c.args.self.now.bytes.value.came c.args.self.now.handles.now in
+    let m = message c.args.self.now in
     let one : Turns t m c.args.frame (at_of c.args.state.now) (at_of c.read_nested.new.state) (c.read_nested.new.state.steps - c.args.state.now.steps) (left_over (Some c.in-Some.now)) = subst (λ (o : Option Frame). Turns t m c.args.frame (at_of c.args.state.now) (at_of c.read_nested.new.state) (c.read_nested.new.state.steps - c.args.state.now.steps) (left_over o)) c.in-Some.is c.in_ok-now.ensures.ok in
     let rows_on = c.in_ok-now.ensures.grows in
     let last_on = c.in_ok-below.ensures.grows in
@@ -88,7 +88,7 @@ returns-in_default-2-clause-ok c =
 pub returns-in_default-2-clause-grows : goal.returns-in_default-2-clause-grows
 returns-in_default-2-clause-grows c =
     let t = c.args.self.now.table.now in
-    let m = message_of c.args.self.now.bytes.value.came c.args.self.now.handles.now in
+    let m = message c.args.self.now in
     let rows_on = c.in_ok-now.ensures.grows in
     let last_on = c.in_ok-below.ensures.grows in
     omega (arith, rows_on, last_on)
@@ -96,7 +96,7 @@ returns-in_default-2-clause-grows c =
 pub returns-in_default-2-clause-ended : goal.returns-in_default-2-clause-ended
 returns-in_default-2-clause-ended c =
     let t = c.args.self.now.table.now in
-    let m = message_of c.args.self.now.bytes.value.came c.args.self.now.handles.now in
+    let m = message c.args.self.now in
     let rows_on = c.in_ok-now.ensures.grows in
     let ended : c.read_nested.new.state.steps < c.read_last.new.state.steps = subst (λ (o : Option Frame). IfNone o (c.read_nested.new.state.steps < c.read_last.new.state.steps)) c.in_default-2.is c.in_ok-below.ensures.ended in
     omega (arith, rows_on, ended)
@@ -104,7 +104,7 @@ returns-in_default-2-clause-ended c =
 pub returns-in_default-2-clause-cost : goal.returns-in_default-2-clause-cost
 returns-in_default-2-clause-cost c =
     let t = c.args.self.now.table.now in
-    let m = message_of c.args.self.now.bytes.value.came c.args.self.now.handles.now in
+    let m = message c.args.self.now in
     let one : Turns t m c.args.frame (at_of c.args.state.now) (at_of c.read_nested.new.state) (c.read_nested.new.state.steps - c.args.state.now.steps) (left_over (Some c.in-Some.now)) = subst (λ (o : Option Frame). Turns t m c.args.frame (at_of c.args.state.now) (at_of c.read_nested.new.state) (c.read_nested.new.state.steps - c.args.state.now.steps) (left_over o)) c.in-Some.is c.in_ok-now.ensures.ok in
     let less_one = one.less in
     let rows_on = c.in_ok-now.ensures.grows in
@@ -113,7 +113,7 @@ returns-in_default-2-clause-cost c =
 pub read_leaves-requires-clause-frame : goal.read_leaves-requires-clause-frame
 read_leaves-requires-clause-frame c =
     let t = c.args.self.now.table.now in
-    let m = message_of c.args.self.now.bytes.value.came c.args.self.now.handles.now in
+    let m = message c.args.self.now in
     let one : Turns t m c.args.frame (at_of c.args.state.now) (at_of c.read_nested.new.state) (c.read_nested.new.state.steps - c.args.state.now.steps) (left_over (Some c.in-Some.now)) = subst (λ (o : Option Frame). Turns t m c.args.frame (at_of c.args.state.now) (at_of c.read_nested.new.state) (c.read_nested.new.state.steps - c.args.state.now.steps) (left_over o)) c.in-Some.is c.in_ok-now.ensures.ok in
     let rows_on = c.in_ok-now.ensures.grows in
     let last_on = c.in_ok-below.ensures.grows in
@@ -125,7 +125,7 @@ read_leaves-requires-clause-frame c =
 pub read_leaves-requires-clause-state : goal.read_leaves-requires-clause-state
 read_leaves-requires-clause-state c =
     let t = c.args.self.now.table.now in
-    let m = message_of c.args.self.now.bytes.value.came c.args.self.now.handles.now in
+    let m = message c.args.self.now in
     let one : Turns t m c.args.frame (at_of c.args.state.now) (at_of c.read_nested.new.state) (c.read_nested.new.state.steps - c.args.state.now.steps) (left_over (Some c.in-Some.now)) = subst (λ (o : Option Frame). Turns t m c.args.frame (at_of c.args.state.now) (at_of c.read_nested.new.state) (c.read_nested.new.state.steps - c.args.state.now.steps) (left_over o)) c.in-Some.is c.in_ok-now.ensures.ok in
     let rows_on = c.in_ok-now.ensures.grows in
     let last_on = c.in_ok-below.ensures.grows in
@@ -137,7 +137,7 @@ read_leaves-requires-clause-state c =
 pub read_leaves-requires-clause-budget : goal.read_leaves-requires-clause-budget
 read_leaves-requires-clause-budget c =
     let t = c.args.self.now.table.now in
-    let m = message_of c.args.self.now.bytes.value.came c.args.self.now.handles.now in
+    let m = message c.args.self.now in
     let one : Turns t m c.args.frame (at_of c.args.state.now) (at_of c.read_nested.new.state) (c.read_nested.new.state.steps - c.args.state.now.steps) (left_over (Some c.in-Some.now)) = subst (λ (o : Option Frame). Turns t m c.args.frame (at_of c.args.state.now) (at_of c.read_nested.new.state) (c.read_nested.new.state.steps - c.args.state.now.steps) (left_over o)) c.in-Some.is c.in_ok-now.ensures.ok in
     let rows_on = c.in_ok-now.ensures.grows in
     let last_on = c.in_ok-below.ensures.grows in
@@ -149,7 +149,7 @@ read_leaves-requires-clause-budget c =
 pub returns-in_err-inner-clause-cost : goal.returns-in_err-inner-clause-cost
 returns-in_err-inner-clause-cost c =
     let t = c.args.self.now.table.now in
-    let m = message_of c.args.self.now.bytes.value.came c.args.self.now.handles.now in
+    let m = message c.args.self.now in
     let one : Turns t m c.args.frame (at_of c.args.state.now) (at_of c.read_nested.new.state) (c.read_nested.new.state.steps - c.args.state.now.steps) (left_over (Some c.in-Some.now)) = subst (λ (o : Option Frame). Turns t m c.args.frame (at_of c.args.state.now) (at_of c.read_nested.new.state) (c.read_nested.new.state.steps - c.args.state.now.steps) (left_over o)) c.in-Some.is c.in_ok-now.ensures.ok in
     let rows_on = c.in_ok-now.ensures.grows in
     let last_on = c.in_ok-below.ensures.grows in
@@ -161,7 +161,7 @@ returns-in_err-inner-clause-cost c =
 pub returns-in_err-inner-clause-fault_is_true : goal.returns-in_err-inner-clause-fault_is_true
 returns-in_err-inner-clause-fault_is_true c =
     let t = c.args.self.now.table.now in
-    let m = message_of c.args.self.now.bytes.value.came c.args.self.now.handles.now in
+    let m = message c.args.self.now in
     let one : Turns t m c.args.frame (at_of c.args.state.now) (at_of c.read_nested.new.state) (c.read_nested.new.state.steps - c.args.state.now.steps) (left_over (Some c.in-Some.now)) = subst (λ (o : Option Frame). Turns t m c.args.frame (at_of c.args.state.now) (at_of c.read_nested.new.state) (c.read_nested.new.state.steps - c.args.state.now.steps) (left_over o)) c.in-Some.is c.in_ok-now.ensures.ok in
     let rows_on = c.in_ok-now.ensures.grows in
     let last_on = c.in_ok-below.ensures.grows in
@@ -173,7 +173,7 @@ returns-in_err-inner-clause-fault_is_true c =
 pub returns-clause-ok : goal.returns-clause-ok
 returns-clause-ok c =
     let t = c.args.self.now.table.now in
-    let m = message_of c.args.self.now.bytes.value.came c.args.self.now.handles.now in
+    let m = message c.args.self.now in
     let one : Turns t m c.args.frame (at_of c.args.state.now) (at_of c.read_nested.new.state) (c.read_nested.new.state.steps - c.args.state.now.steps) (left_over (Some c.in-Some.now)) = subst (λ (o : Option Frame). Turns t m c.args.frame (at_of c.args.state.now) (at_of c.read_nested.new.state) (c.read_nested.new.state.steps - c.args.state.now.steps) (left_over o)) c.in-Some.is c.in_ok-now.ensures.ok in
     let rows_on = c.in_ok-now.ensures.grows in
     let last_on = c.in_ok-below.ensures.grows in
@@ -186,7 +186,7 @@ returns-clause-ok c =
 pub returns-clause-grows : goal.returns-clause-grows
 returns-clause-grows c =
     let t = c.args.self.now.table.now in
-    let m = message_of c.args.self.now.bytes.value.came c.args.self.now.handles.now in
+    let m = message c.args.self.now in
     let rows_on = c.in_ok-now.ensures.grows in
     let last_on = c.in_ok-below.ensures.grows in
     let leaves_on = c.in_ok-inner.ensures.grows in
@@ -195,7 +195,7 @@ returns-clause-grows c =
 pub returns-clause-ended : goal.returns-clause-ended
 returns-clause-ended c =
     let t = c.args.self.now.table.now in
-    let m = message_of c.args.self.now.bytes.value.came c.args.self.now.handles.now in
+    let m = message c.args.self.now in
     let rows_on = c.in_ok-now.ensures.grows in
     let last_on = c.in_ok-below.ensures.grows in
     none_weaker c.in_ok-inner.inner _ _ (λ lt. omega (arith, rows_on, last_on, lt)) c.in_ok-inner.ensures.ended
@@ -203,7 +203,7 @@ returns-clause-ended c =
 pub returns-clause-cost : goal.returns-clause-cost
 returns-clause-cost c =
     let t = c.args.self.now.table.now in
-    let m = message_of c.args.self.now.bytes.value.came c.args.self.now.handles.now in
+    let m = message c.args.self.now in
     let one : Turns t m c.args.frame (at_of c.args.state.now) (at_of c.read_nested.new.state) (c.read_nested.new.state.steps - c.args.state.now.steps) (left_over (Some c.in-Some.now)) = subst (λ (o : Option Frame). Turns t m c.args.frame (at_of c.args.state.now) (at_of c.read_nested.new.state) (c.read_nested.new.state.steps - c.args.state.now.steps) (left_over o)) c.in-Some.is c.in_ok-now.ensures.ok in
     let rows_on = c.in_ok-now.ensures.grows in
     let last_on = c.in_ok-below.ensures.grows in

@@ -1,9 +1,9 @@
+use Rattle.fidl_decode.specs.Reading.{message}
 use Rattle.fidl_decode.proofs.Fitting.{le_more, eq_le, spends_any, not_fewer}
 use Rattle.fidl_decode.proofs.Unchanged.{no_ok}
 use Rattle.std.proofs.Common.{◌+◌, ◌-◌, subst, arith}
 use Rattle.std.specs.Prelude.{Some}
 use Rattle.fidl_decode_model.specs.declared.frame.Frame.{Frame}
-use Rattle.fidl_decode_model.specs.Faults.{message_of}
 use Rattle.fidl_decode.specs.Body.{rest_of}
 use Rattle.fidl_decode_model.specs.Machine.{Visits, VisitFine, at_of, height}
 use Rattle.fidl_decode_columns.proofs.Leaves.{left_over, turns_then}
@@ -14,7 +14,7 @@ use Rattle.fidl_decode.proofs.decoder.Decoder.read_table.Goals as goal
 pub returns-clause-ok : goal.returns-clause-ok
 returns-clause-ok c =
     let t = c.args.self.now.table.now in
-    let m = message_of c.args.self.now.bytes.value.came c.args.self.now.handles.now in
+    let m = message c.args.self.now in
     let old = c.args.state.now in
     let mid = c.open_table.new.state in
     let now = c.pass_front-read.new.state in
@@ -33,7 +33,7 @@ pub returns-clause-fine : goal.returns-clause-fine
 returns-clause-fine c =
     λ inside small.
     let t = c.args.self.now.table.now in
-    let m = message_of c.args.self.now.bytes.value.came c.args.self.now.handles.now in
+    let m = message c.args.self.now in
     let old = c.args.state.now in
     let mid = c.open_table.new.state in
     let now = c.pass_front-read.new.state in
@@ -105,7 +105,7 @@ pub left_of-requires-clause-body : goal.left_of-requires-clause-body
 left_of-requires-clause-body c = c.body_of-body.ensures.fine
 
 pub pass_front-read-requires-clause-frame : goal.pass_front-read-requires-clause-frame
-pass_front-read-requires-clause-frame c = (subst (λ (g : Frame). VisitFine c.args.self.now.table.now (message_of c.args.self.now.bytes.value.came c.args.self.now.handles.now) c.args.depth 0 c.args.entry (Some g)) (body_start c.body_of-body.result c.args.entry c.args.state.now.next c.in_ok-count.count (c.args.depth + 1) c.body_of-body.ensures.entry c.body_of-body.ensures.base c.body_of-body.ensures.count c.body_of-body.ensures.depth) (c.in_ok-count.ensures.fine 0 (le_more 0 1))).0
+pass_front-read-requires-clause-frame c = (subst (λ (g : Frame). VisitFine c.args.self.now.table.now (message c.args.self.now) c.args.depth 0 c.args.entry (Some g)) (body_start c.body_of-body.result c.args.entry c.args.state.now.next c.in_ok-count.count (c.args.depth + 1) c.body_of-body.ensures.entry c.body_of-body.ensures.base c.body_of-body.ensures.count c.body_of-body.ensures.depth) (c.in_ok-count.ensures.fine 0 (le_more 0 1))).0
 
 pub pass_front-read-requires-clause-state : goal.pass_front-read-requires-clause-state
 pass_front-read-requires-clause-state c = c.in_ok-count.ensures.ok.state

@@ -1,3 +1,4 @@
+use Rattle.fidl_decode.specs.Reading.{message}
 use Rattle.fidl_decode.proofs.Fitting.{front, apart, inside, at_most, small, ended, some_8, rounded_left, part_order, le_more, eq_le, spent_text, spends_any}
 use Rattle.fidl_decode.proofs.Unchanged.{same_le, no_ok, clash, size_short, size_fits, size_room}
 use Rattle.std.proofs.Common.{ℕ, ◌≡◌, ◌+◌, ◌-◌, sym, subst, ◌∙◌, arith, refl, ap, inl, inr, length, ◌<◌}
@@ -7,7 +8,6 @@ use Rattle.fidl_wire.specs.Encoding.{zeros}
 use Rattle.fidl_wire.specs.Standing.{Stands}
 use Rattle.fidl_wire.proofs.Sizes.{le-next_multiple_of}
 use Rattle.fidl_table_format.specs.Terms.{declarations_of, is_optional}
-use Rattle.fidl_decode_model.specs.Faults.{message_of}
 use Rattle.fidl_decode_model.specs.State.{Position, linked}
 use Rattle.fidl_decode_model.specs.Machine.{Leads, at_of}
 use Rattle.fidl_decode_model.specs.Breaks.{count_at}
@@ -17,7 +17,7 @@ use Rattle.fidl_decode.proofs.decoder.Decoder.read_text.Goals as goal
 pub returns-then-not-is_present-clause-ok : goal.returns-then-not-is_present-clause-ok
 returns-then-not-is_present-clause-ok c =
     let short = c.args.self.now.short in
-    absent_leads (declarations_of c.args.self.now.table.now) (message_of c.args.self.now.bytes.value.came c.args.self.now.handles.now) (omega (arith, short)) c.args.depth (is_optional c.args.entry.now) c.args.entry.now.bound c.args.place (at_of c.args.state.now) c.requires.depth (sym c.is_optional.ensures ∙ c.if-not-is_optional.false) (c.is_absent.ensures.0 c.if-not-is_absent.false) (omega (arith, c.requires.room)) (λ i. omega (arith, c.args.self.now.octets i)) (sym c.u64_at-count.ensures ∙ c.if-count-ne0.false)
+    absent_leads (declarations_of c.args.self.now.table.now) (message c.args.self.now) (omega (arith, short)) c.args.depth (is_optional c.args.entry.now) c.args.entry.now.bound c.args.place (at_of c.args.state.now) c.requires.depth (sym c.is_optional.ensures ∙ c.if-not-is_optional.false) (c.is_absent.ensures.0 c.if-not-is_absent.false) (omega (arith, c.requires.room)) (λ i. omega (arith, c.args.self.now.octets i)) (sym c.u64_at-count.ensures ∙ c.if-count-ne0.false)
 
 pub returns-clause-ok : goal.returns-clause-ok
 returns-clause-ok c =
@@ -29,8 +29,8 @@ returns-clause-ok c =
     let gap : from + c.next_multiple_of-size.result - (from + n) ≡ next_multiple_of n 8 - n = omega (arith, value) in
     let same : linked (c.args.place + 8) n (at_of c.args.state.now) ≡ record { next = from + c.next_multiple_of-size.result; handle = c.args.state.now.handle; objects = c.link.new.self.objects; records = c.link.new.self.records }
     = λ i. record { next = from + sym value i; handle = c.args.state.now.handle; objects = sym c.link.ensures.objects i; records = sym c.link.ensures.records i } in
-    subst (λ (s : Position). Leads (declarations_of c.args.self.now.table.now) (message_of c.args.self.now.bytes.value.came c.args.self.now.handles.now) c.args.depth (ty.string (is_optional c.args.entry.now) c.args.entry.now.bound) c.args.place (at_of c.args.state.now) s) same
-    (text_leads (declarations_of c.args.self.now.table.now) (message_of c.args.self.now.bytes.value.came c.args.self.now.handles.now) (omega (arith, short)) c.args.depth (is_optional c.args.entry.now) c.args.entry.now.bound c.args.place (at_of c.args.state.now) (omega (arith, c.requires.depth, c.if-depth-eq-MAX_DEPTH.false)) (c.is_present.ensures.0 c.if-not-is_present.false) (omega (arith, c.requires.room)) (λ i. omega (arith, c.args.self.now.octets i)) n (sym c.u64_at-count.ensures) (omega (arith, c.if-count-entry.false)) (omega (arith, value, within, (size_fits c.args.self.now.sized _ _ c.if-size-rest.false))) (le-next_multiple_of n 8)
+    subst (λ (s : Position). Leads (declarations_of c.args.self.now.table.now) (message c.args.self.now) c.args.depth (ty.string (is_optional c.args.entry.now) c.args.entry.now.bound) c.args.place (at_of c.args.state.now) s) same
+    (text_leads (declarations_of c.args.self.now.table.now) (message c.args.self.now) (omega (arith, short)) c.args.depth (is_optional c.args.entry.now) c.args.entry.now.bound c.args.place (at_of c.args.state.now) (omega (arith, c.requires.depth, c.if-depth-eq-MAX_DEPTH.false)) (c.is_present.ensures.0 c.if-not-is_present.false) (omega (arith, c.requires.room)) (λ i. omega (arith, c.args.self.now.octets i)) n (sym c.u64_at-count.ensures) (omega (arith, c.if-count-entry.false)) (omega (arith, value, within, (size_fits c.args.self.now.sized _ _ c.if-size-rest.false))) (le-next_multiple_of n 8)
     (c.is_text.ensures.0 c.if-not-is_text.false) (subst (λ k. Stands c.args.self.now.bytes.value.came (from + n) (zeros k)) gap c.in_ok-zeros_at.ensures.ok))
 
 pub returns-then-not-is_absent-clause-ok : goal.returns-then-not-is_absent-clause-ok
@@ -280,10 +280,10 @@ pub returns-then-not-is_present-clause-least : goal.returns-then-not-is_present-
 returns-then-not-is_present-clause-least c = λ to x.
     let short = c.args.self.now.short in
     let none : count_at c.args.self.now.bytes.value.came c.args.place ≡ 0 = sym c.u64_at-count.ensures ∙ c.if-count-ne0.false in
-    omega (arith, none, text_work (declarations_of c.args.self.now.table.now) (message_of c.args.self.now.bytes.value.came c.args.self.now.handles.now) (omega (arith, short)) c.args.depth (is_optional c.args.entry.now) c.args.entry.now.bound c.args.place (at_of c.args.state.now) to x)
+    omega (arith, none, text_work (declarations_of c.args.self.now.table.now) (message c.args.self.now) (omega (arith, short)) c.args.depth (is_optional c.args.entry.now) c.args.entry.now.bound c.args.place (at_of c.args.state.now) to x)
 
 pub returns-clause-least : goal.returns-clause-least
 returns-clause-least c = λ to x.
     let short = c.args.self.now.short in
     let counted : count_at c.args.self.now.bytes.value.came c.args.place ≡ c.u64_at-count.result = sym c.u64_at-count.ensures in
-    omega (arith, counted, c.next_multiple_of-size.ensures.lower_bound, text_work (declarations_of c.args.self.now.table.now) (message_of c.args.self.now.bytes.value.came c.args.self.now.handles.now) (omega (arith, short)) c.args.depth (is_optional c.args.entry.now) c.args.entry.now.bound c.args.place (at_of c.args.state.now) to x)
+    omega (arith, counted, c.next_multiple_of-size.ensures.lower_bound, text_work (declarations_of c.args.self.now.table.now) (message c.args.self.now) (omega (arith, short)) c.args.depth (is_optional c.args.entry.now) c.args.entry.now.bound c.args.place (at_of c.args.state.now) to x)

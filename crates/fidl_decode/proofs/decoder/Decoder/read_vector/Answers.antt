@@ -1,3 +1,4 @@
+use Rattle.fidl_decode.specs.Reading.{message}
 use Rattle.fidl_decode.proofs.Unchanged.{size_short, size_fits, size_room}
 use Rattle.fidl_decode.proofs.Fitting.{front, apart, inside, at_most, small, ended, deeper, some_8}
 use Rattle.std.proofs.Common.{◌≡◌, ℕ, ◌+◌, ◌-◌, ◌*◌, ◌<◌, refl, sym, ap, subst, ◌∙◌, arith, inl, inr, length}
@@ -9,7 +10,6 @@ use Rattle.fidl_table_format.specs.Section.{header_of, entry_at}
 use Rattle.fidl_table_format.specs.Terms.{is_optional}
 use Rattle.fidl_decode_model.specs.declared.frame.Remaining.TheVariants.{Elements}
 use Rattle.fidl_decode_model.specs.declared.frame.Frame.{Frame}
-use Rattle.fidl_decode_model.specs.Faults.{message_of}
 use Rattle.fidl_decode_model.specs.Breaks.{count_at}
 use Rattle.fidl_decode_model.specs.State.{Position, linked}
 use Rattle.fidl_decode_model.specs.Machine.{Visits, VisitFine, at_of}
@@ -20,7 +20,7 @@ use Rattle.fidl_decode.proofs.decoder.Decoder.read_vector.Goals as goal
 pub returns-in-Absent-clause-ok : goal.returns-in-Absent-clause-ok
 returns-in-Absent-clause-ok c =
     let own = ap is_optional c.entry-e.ensures.value in
-    visits_absent_vector c.args.self.now.table.now c.args.self.now.fine (message_of c.args.self.now.bytes.value.came c.args.self.now.handles.now) c.args.depth c.args.entry c.args.place (at_of c.args.state.now) c.requires.entry c.requires.kind c.requires.state c.requires.depth (c.args.state.now.steps - c.args.state.now.steps) (omega arith)
+    visits_absent_vector c.args.self.now.table.now c.args.self.now.fine (message c.args.self.now) c.args.depth c.args.entry c.args.place (at_of c.args.state.now) c.requires.entry c.requires.kind c.requires.state c.requires.depth (c.args.state.now.steps - c.args.state.now.steps) (omega arith)
     (sym own ∙ sym c.is_optional.ensures ∙ c.if-not-is_optional.false) c.in-Absent.ensures (omega (arith, c.requires.room)) (λ i. omega (arith, c.args.self.now.octets i)) (sym c.u64_at-count.ensures ∙ c.if-count-ne0.false)
 
 pub entry-element-requires : goal.entry-element-requires
@@ -30,7 +30,7 @@ entry-element-requires c =
 
 pub returns-then-count-rest-clause-fault_is_true : goal.returns-then-count-rest-clause-fault_is_true
 returns-then-count-rest-clause-fault_is_true c =
-    let many = count_fits c.args.self.now.table.now c.args.self.now.fine (message_of c.args.self.now.bytes.value.came c.args.self.now.handles.now) c.args.depth c.args.entry c.args.place (at_of c.args.state.now) c.requires.entry c.requires.kind in
+    let many = count_fits c.args.self.now.table.now c.args.self.now.fine (message c.args.self.now) c.args.depth c.args.entry c.args.place (at_of c.args.state.now) c.requires.entry c.requires.kind in
     (refl, inr (c.in-Present.ensures, omega (arith, many, c.u64_at-count.ensures, (size_short c.args.self.now.sized _ _ c.if-count-rest.true))))
 
 pub overflow_add-result-2 : goal.overflow_add-result-2
@@ -44,7 +44,7 @@ overflow_add-result-2 c =
 pub returns-clause-ok : goal.returns-clause-ok
 returns-clause-ok c =
     let t = c.args.self.now.table.now in
-    let m = message_of c.args.self.now.bytes.value.came c.args.self.now.handles.now in
+    let m = message c.args.self.now in
     let old = at_of c.args.state.now in
     let d = entry_at t c.args.entry in
     let inner = entry_at t d.first in
@@ -67,7 +67,7 @@ returns-clause-ok c =
 pub returns-clause-fine : goal.returns-clause-fine
 returns-clause-fine c around few =
     let t = c.args.self.now.table.now in
-    let m = message_of c.args.self.now.bytes.value.came c.args.self.now.handles.now in
+    let m = message c.args.self.now in
     let old = at_of c.args.state.now in
     let d = entry_at t c.args.entry in
     let inner = entry_at t d.first in

@@ -1,3 +1,4 @@
+use Rattle.fidl_decode.specs.Reading.{message}
 use Rattle.fidl_decode.proofs.Unchanged.{size_short, size_fits}
 use Rattle.std.proofs.Common.{◌≡◌, ◌+◌, ◌-◌, ◌≤◌, ℕ, List, length, refl, sym, ap, subst, ◌∙◌, arith}
 use Rattle.fidl_wire.specs.Typed.{IsUnknownLength}
@@ -5,7 +6,6 @@ use Rattle.std.specs.Prelude.{false, ◌/◌, ◌↔◌, slice_set, None}
 use Rattle.std.specs.Int.{next_multiple_of}
 use Rattle.fidl_table_format.specs.Terms.{declarations_of}
 use Rattle.fidl_decode_model.specs.declared.fault.DecodeFault.TheVariants.{BadEnvelope, TooDeep, Truncated, HandleMissing}
-use Rattle.fidl_decode_model.specs.Faults.{message_of}
 use Rattle.fidl_decode_model.specs.Envelopes.{Contained}
 use Rattle.fidl_wire.specs.Envelope.{bytes_below, handles_below}
 use Rattle.fidl_decode_model.specs.State.{Position, opened, linked, passed}
@@ -16,7 +16,7 @@ use Rattle.fidl_decode.proofs.decoder.Decoder.skip_member.Goals as goal
 
 pub returns-then-handles-self : goal.returns-then-handles-self
 returns-then-handles-self c =
-    let m = message_of c.args.self.now.bytes.value.came c.args.self.now.handles.now in
+    let m = message c.args.self.now in
     let ds = declarations_of c.args.self.now.table.now in
     let old = at_of c.args.state.now in
     let r = unknown_refuse ds c.args.self.now.fine.laid_out m (c.args.self.now.short, c.requires.state.few) c.args.depth c.args.envelope old (HandleMissing c.args.envelope) (refl, omega (arith, c.if-handles-self.true, c.handle_count_at-handles.ensures)) in
@@ -24,7 +24,7 @@ returns-then-handles-self c =
 
 pub returns-then-flags-eq1 : goal.returns-then-flags-eq1
 returns-then-flags-eq1 c =
-    let m = message_of c.args.self.now.bytes.value.came c.args.self.now.handles.now in
+    let m = message c.args.self.now in
     let ds = declarations_of c.args.self.now.table.now in
     let old = at_of c.args.state.now in
     let new : Position = record { next = old.next; handle = old.handle + c.handle_count_at-handles.result; objects = c.record.new.self.objects; records = c.record.new.self.records } in
@@ -40,7 +40,7 @@ returns-then-flags-eq1 c =
 
 pub returns-then-flags-ne0 : goal.returns-then-flags-ne0
 returns-then-flags-ne0 c =
-    let m = message_of c.args.self.now.bytes.value.came c.args.self.now.handles.now in
+    let m = message c.args.self.now in
     let ds = declarations_of c.args.self.now.table.now in
     let old = at_of c.args.state.now in
     let r = unknown_refuse ds c.args.self.now.fine.laid_out m (c.args.self.now.short, c.requires.state.few) c.args.depth c.args.envelope old (BadEnvelope c.args.envelope) (
@@ -55,7 +55,7 @@ returns-then-flags-ne0 c =
 
 pub returns-then-depth-eq-MAX_DEPTH : goal.returns-then-depth-eq-MAX_DEPTH
 returns-then-depth-eq-MAX_DEPTH c =
-    let m = message_of c.args.self.now.bytes.value.came c.args.self.now.handles.now in
+    let m = message c.args.self.now in
     let ds = declarations_of c.args.self.now.table.now in
     let old = at_of c.args.state.now in
     let r = unknown_refuse ds c.args.self.now.fine.laid_out m (c.args.self.now.short, c.requires.state.few) c.args.depth c.args.envelope old (TooDeep c.args.envelope) (refl, sym c.flags_at-flags.ensures ∙ c.if-flags-ne0.false, omega (arith, c.if-depth-eq-MAX_DEPTH.true)) in
@@ -63,7 +63,7 @@ returns-then-depth-eq-MAX_DEPTH c =
 
 pub returns-then-counted-self : goal.returns-then-counted-self
 returns-then-counted-self c =
-    let m = message_of c.args.self.now.bytes.value.came c.args.self.now.handles.now in
+    let m = message c.args.self.now in
     let ds = declarations_of c.args.self.now.table.now in
     let old = at_of c.args.state.now in
     let r = unknown_refuse ds c.args.self.now.fine.laid_out m (c.args.self.now.short, c.requires.state.few) c.args.depth c.args.envelope old (Truncated old.next) (refl, sym c.flags_at-flags.ensures ∙ c.if-flags-ne0.false, omega (arith, (size_short c.args.self.now.sized _ _ c.if-counted-self.true), c.byte_count_at-counted.ensures)) in
@@ -71,7 +71,7 @@ returns-then-counted-self c =
 
 pub returns-then-handles-self-2 : goal.returns-then-handles-self-2
 returns-then-handles-self-2 c =
-    let m = message_of c.args.self.now.bytes.value.came c.args.self.now.handles.now in
+    let m = message c.args.self.now in
     let ds = declarations_of c.args.self.now.table.now in
     let old = at_of c.args.state.now in
     let r = unknown_refuse ds c.args.self.now.fine.laid_out m (c.args.self.now.short, c.requires.state.few) c.args.depth c.args.envelope old (HandleMissing c.args.envelope) (refl, omega (arith, c.if-handles-self-2.true, c.handle_count_at-handles.ensures)) in
@@ -79,7 +79,7 @@ returns-then-handles-self-2 c =
 
 pub returns : goal.returns
 returns c =
-    let m = message_of c.args.self.now.bytes.value.came c.args.self.now.handles.now in
+    let m = message c.args.self.now in
     let ds = declarations_of c.args.self.now.table.now in
     let old = at_of c.args.state.now in
     let new : Position = record { next = old.next + c.byte_count_at-counted.result; handle = old.handle + c.handle_count_at-handles.result; objects = c.link.new.self.objects; records = c.link.new.self.records } in

@@ -1,3 +1,4 @@
+use Rattle.fidl_decode.specs.Reading.{message}
 use Rattle.fidl_decode.proofs.Fitting.{spends_some, not_fewer}
 use Rattle.fidl_decode.proofs.Unchanged.{no_ok}
 use Rattle.std.proofs.Common.{◌+◌, ◌-◌, sym, subst, arith}
@@ -7,7 +8,6 @@ use Rattle.fidl_decode_model.specs.declared.frame.Frame.{Frame}
 use Rattle.fidl_decode_model.specs.declared.frame.Remaining.TheVariants.{Content}
 use Rattle.fidl_decode_model.specs.Machine.{Turns, BreaksFrame, FrameFine, at_of}
 use Rattle.fidl_decode_model.specs.Envelopes.{IsUntil}
-use Rattle.fidl_decode_model.specs.Faults.{message_of}
 use Rattle.fidl_decode_columns.proofs.Leaves.{going_on, same_frame}
 use Rattle.fidl_decode_model.proofs.Turning.{passed_on}
 use Rattle.fidl_decode.proofs.ContentTurns.{content_end_room, content_over, content_miscounted, content_end_breaks, content_known, content_size, content_room, content_inside, content_breaks, content_turns}
@@ -17,7 +17,7 @@ use Rattle.fidl_decode.proofs.decoder.Decoder.take_content.Goals as goal
 pub overflow_add-at : goal.overflow_add-at
 overflow_add-at c =
     let t = c.args.self.now.table.now in
-    let m = message_of c.args.self.now.bytes.value.came c.args.self.now.handles.now in
+    let m = message c.args.self.now in
     let same = same_frame c.args.frame (Content c.args.entry c.args.size c.args.count c.args.until) c.requires.left in
     let own = subst (λ (f : Frame). FrameFine t m.bytes f) same c.requires.frame in
     let room = content_end_room t c.args.self.now.fine m c.args.frame c.args.entry c.args.size c.args.count c.args.until (at_of c.args.state.now) own c.requires.state in record { fits = omega (arith, room.0, room.1, c.args.self.now.short) }
@@ -25,7 +25,7 @@ overflow_add-at c =
 pub overflow_add-stop : goal.overflow_add-stop
 overflow_add-stop c =
     let t = c.args.self.now.table.now in
-    let m = message_of c.args.self.now.bytes.value.came c.args.self.now.handles.now in
+    let m = message c.args.self.now in
     let same = same_frame c.args.frame (Content c.args.entry c.args.size c.args.count c.args.until) c.requires.left in
     let own = subst (λ (f : Frame). FrameFine t m.bytes f) same c.requires.frame in
     let room = content_end_room t c.args.self.now.fine m c.args.frame c.args.entry c.args.size c.args.count c.args.until (at_of c.args.state.now) own c.requires.state in record { fits = omega (arith, room.1, c.args.self.now.short) }
@@ -33,7 +33,7 @@ overflow_add-stop c =
 pub overflow_sub-state : goal.overflow_sub-state
 overflow_sub-state c =
     let t = c.args.self.now.table.now in
-    let m = message_of c.args.self.now.bytes.value.came c.args.self.now.handles.now in
+    let m = message c.args.self.now in
     let same = same_frame c.args.frame (Content c.args.entry c.args.size c.args.count c.args.until) c.requires.left in
     let own = subst (λ (f : Frame). FrameFine t m.bytes f) same c.requires.frame in
     let room = content_end_room t c.args.self.now.fine m c.args.frame c.args.entry c.args.size c.args.count c.args.until (at_of c.args.state.now) own c.requires.state in omega (arith, room.0)
@@ -41,7 +41,7 @@ overflow_sub-state c =
 pub overflow_add-state : goal.overflow_add-state
 overflow_add-state c =
     let t = c.args.self.now.table.now in
-    let m = message_of c.args.self.now.bytes.value.came c.args.self.now.handles.now in
+    let m = message c.args.self.now in
     let same = same_frame c.args.frame (Content c.args.entry c.args.size c.args.count c.args.until) c.requires.left in
     let own = subst (λ (f : Frame). FrameFine t m.bytes f) same c.requires.frame in
     let room = content_end_room t c.args.self.now.fine m c.args.frame c.args.entry c.args.size c.args.count c.args.until (at_of c.args.state.now) own c.requires.state in record { fits = omega (arith, room.1, c.args.self.now.short) }
@@ -49,7 +49,7 @@ overflow_add-state c =
 pub overflow_add-state-then-count-eq0 : goal.overflow_add-state-then-count-eq0
 overflow_add-state-then-count-eq0 c =
     let t = c.args.self.now.table.now in
-    let m = message_of c.args.self.now.bytes.value.came c.args.self.now.handles.now in
+    let m = message c.args.self.now in
     let same = same_frame c.args.frame (Content c.args.entry c.args.size c.args.count c.args.until) c.requires.left in
     let own = subst (λ (f : Frame). FrameFine t m.bytes f) same c.requires.frame in
     let room = content_end_room t c.args.self.now.fine m c.args.frame c.args.entry c.args.size c.args.count c.args.until (at_of c.args.state.now) own c.requires.state in record { fits = omega (arith, room.1, c.args.self.now.short, c.requires.steps) }
@@ -57,7 +57,7 @@ overflow_add-state-then-count-eq0 c =
 pub zeros_at-requires-clause-order : goal.zeros_at-requires-clause-order
 zeros_at-requires-clause-order c =
     let t = c.args.self.now.table.now in
-    let m = message_of c.args.self.now.bytes.value.came c.args.self.now.handles.now in
+    let m = message c.args.self.now in
     let same = same_frame c.args.frame (Content c.args.entry c.args.size c.args.count c.args.until) c.requires.left in
     let own = subst (λ (f : Frame). FrameFine t m.bytes f) same c.requires.frame in
     let room = content_end_room t c.args.self.now.fine m c.args.frame c.args.entry c.args.size c.args.count c.args.until (at_of c.args.state.now) own c.requires.state in omega (arith, room.0)
@@ -65,7 +65,7 @@ zeros_at-requires-clause-order c =
 pub zeros_at-requires-clause-room : goal.zeros_at-requires-clause-room
 zeros_at-requires-clause-room c =
     let t = c.args.self.now.table.now in
-    let m = message_of c.args.self.now.bytes.value.came c.args.self.now.handles.now in
+    let m = message c.args.self.now in
     let same = same_frame c.args.frame (Content c.args.entry c.args.size c.args.count c.args.until) c.requires.left in
     let own = subst (λ (f : Frame). FrameFine t m.bytes f) same c.requires.frame in
     let room = content_end_room t c.args.self.now.fine m c.args.frame c.args.entry c.args.size c.args.count c.args.until (at_of c.args.state.now) own c.requires.state in room.1
@@ -73,7 +73,7 @@ zeros_at-requires-clause-room c =
 pub returns-in_err-zeros_at-clause-spends : goal.returns-in_err-zeros_at-clause-spends
 returns-in_err-zeros_at-clause-spends c =
     let t = c.args.self.now.table.now in
-    let m = message_of c.args.self.now.bytes.value.came c.args.self.now.handles.now in
+    let m = message c.args.self.now in
     let same = same_frame c.args.frame (Content c.args.entry c.args.size c.args.count c.args.until) c.requires.left in
     let own = subst (λ (f : Frame). FrameFine t m.bytes f) same c.requires.frame in
     spends_some _ _ _ (omega arith) (let room = content_end_room t c.args.self.now.fine m c.args.frame c.args.entry c.args.size c.args.count c.args.until (at_of c.args.state.now) own c.requires.state in omega (arith, room.2))
@@ -81,7 +81,7 @@ returns-in_err-zeros_at-clause-spends c =
 pub returns-in_err-zeros_at-clause-fault_is_true : goal.returns-in_err-zeros_at-clause-fault_is_true
 returns-in_err-zeros_at-clause-fault_is_true c =
     let t = c.args.self.now.table.now in
-    let m = message_of c.args.self.now.bytes.value.came c.args.self.now.handles.now in
+    let m = message c.args.self.now in
     let same = same_frame c.args.frame (Content c.args.entry c.args.size c.args.count c.args.until) c.requires.left in
     let own = subst (λ (f : Frame). FrameFine t m.bytes f) same c.requires.frame in
     passed_on c.from_residual.result c.in_err-zeros_at.field-0.0 _ c.from_residual.ensures.1 (subst (λ (f : Frame). BreaksFrame t m f (at_of c.args.state.now) c.in_err-zeros_at.field-0.0) (sym same) (content_end_breaks t c.args.self.now.fine m c.args.frame c.args.entry c.args.size c.args.count c.args.until (at_of c.args.state.now) own c.requires.state c.if-count-eq0.true c.in_err-zeros_at.field-0.0 c.in_err-zeros_at.ensures.fault_is_true))
@@ -89,7 +89,7 @@ returns-in_err-zeros_at-clause-fault_is_true c =
 pub returns-then-state-until-clause-spends : goal.returns-then-state-until-clause-spends
 returns-then-state-until-clause-spends c =
     let t = c.args.self.now.table.now in
-    let m = message_of c.args.self.now.bytes.value.came c.args.self.now.handles.now in
+    let m = message c.args.self.now in
     let same = same_frame c.args.frame (Content c.args.entry c.args.size c.args.count c.args.until) c.requires.left in
     let own = subst (λ (f : Frame). FrameFine t m.bytes f) same c.requires.frame in
     spends_some _ _ _ (omega arith) (let room = content_end_room t c.args.self.now.fine m c.args.frame c.args.entry c.args.size c.args.count c.args.until (at_of c.args.state.now) own c.requires.state in omega (arith, room.2))
@@ -97,7 +97,7 @@ returns-then-state-until-clause-spends c =
 pub returns-then-state-until-clause-fault_is_true : goal.returns-then-state-until-clause-fault_is_true
 returns-then-state-until-clause-fault_is_true c =
     let t = c.args.self.now.table.now in
-    let m = message_of c.args.self.now.bytes.value.came c.args.self.now.handles.now in
+    let m = message c.args.self.now in
     let same = same_frame c.args.frame (Content c.args.entry c.args.size c.args.count c.args.until) c.requires.left in
     let own = subst (λ (f : Frame). FrameFine t m.bytes f) same c.requires.frame in
     let other : IsUntil c.args.until (at_of c.args.state.now) → ⊥ = elim c.then-state-until.branch [
@@ -109,7 +109,7 @@ returns-then-state-until-clause-fault_is_true c =
 pub returns-then-count-eq0-clause-ok : goal.returns-then-count-eq0-clause-ok
 returns-then-count-eq0-clause-ok c =
     let t = c.args.self.now.table.now in
-    let m = message_of c.args.self.now.bytes.value.came c.args.self.now.handles.now in
+    let m = message c.args.self.now in
     let same = same_frame c.args.frame (Content c.args.entry c.args.size c.args.count c.args.until) c.requires.left in
     let own = subst (λ (f : Frame). FrameFine t m.bytes f) same c.requires.frame in
     subst (λ (f : Frame). Turns t m f (at_of c.args.state.now) (at_of c.args.state.now) (c.args.state.now.steps + (c.args.frame.base + c.args.frame.size - (c.args.frame.base + c.args.frame.done) + 1) - c.args.state.now.steps) (record { below = None; rest = None })) (sym same) (content_over t c.args.self.now.fine m c.args.frame c.args.entry c.args.size c.args.count c.args.until (at_of c.args.state.now) own c.requires.state c.if-count-eq0.true c.in_ok-zeros_at.ensures.ok (c.if-state-until.false, c.if-state-until-2.false) _ (omega arith))
@@ -117,7 +117,7 @@ returns-then-count-eq0-clause-ok c =
 pub returns-then-count-eq0-clause-spends : goal.returns-then-count-eq0-clause-spends
 returns-then-count-eq0-clause-spends c =
     let t = c.args.self.now.table.now in
-    let m = message_of c.args.self.now.bytes.value.came c.args.self.now.handles.now in
+    let m = message c.args.self.now in
     let same = same_frame c.args.frame (Content c.args.entry c.args.size c.args.count c.args.until) c.requires.left in
     let own = subst (λ (f : Frame). FrameFine t m.bytes f) same c.requires.frame in
     spends_some _ _ _ (omega arith) (let room = content_end_room t c.args.self.now.fine m c.args.frame c.args.entry c.args.size c.args.count c.args.until (at_of c.args.state.now) own c.requires.state in omega (arith, room.2))
@@ -125,7 +125,7 @@ returns-then-count-eq0-clause-spends c =
 pub visit-requires-clause-entry : goal.visit-requires-clause-entry
 visit-requires-clause-entry c =
     let t = c.args.self.now.table.now in
-    let m = message_of c.args.self.now.bytes.value.came c.args.self.now.handles.now in
+    let m = message c.args.self.now in
     let same = same_frame c.args.frame (Content c.args.entry c.args.size c.args.count c.args.until) c.requires.left in
     let own = subst (λ (f : Frame). FrameFine t m.bytes f) same c.requires.frame in
     content_known t c.args.self.now.fine m c.args.frame c.args.entry c.args.size c.args.count c.args.until (at_of c.args.state.now) own c.requires.state (omega (arith, c.if-count-eq0.false))
@@ -133,7 +133,7 @@ visit-requires-clause-entry c =
 pub visit-requires-clause-room : goal.visit-requires-clause-room
 visit-requires-clause-room c =
     let t = c.args.self.now.table.now in
-    let m = message_of c.args.self.now.bytes.value.came c.args.self.now.handles.now in
+    let m = message c.args.self.now in
     let same = same_frame c.args.frame (Content c.args.entry c.args.size c.args.count c.args.until) c.requires.left in
     let own = subst (λ (f : Frame). FrameFine t m.bytes f) same c.requires.frame in
     let fits = content_room t c.args.self.now.fine m c.args.frame c.args.entry c.args.size c.args.count c.args.until (at_of c.args.state.now) own c.requires.state (omega (arith, c.if-count-eq0.false)) in omega (arith, fits.0, fits.1)
@@ -141,7 +141,7 @@ visit-requires-clause-room c =
 pub visit-requires-clause-in_envelope : goal.visit-requires-clause-in_envelope
 visit-requires-clause-in_envelope c =
     let t = c.args.self.now.table.now in
-    let m = message_of c.args.self.now.bytes.value.came c.args.self.now.handles.now in
+    let m = message c.args.self.now in
     let same = same_frame c.args.frame (Content c.args.entry c.args.size c.args.count c.args.until) c.requires.left in
     let own = subst (λ (f : Frame). FrameFine t m.bytes f) same c.requires.frame in
     content_inside t c.args.self.now.fine m c.args.frame c.args.entry c.args.size c.args.count c.args.until (at_of c.args.state.now) own c.requires.state (omega (arith, c.if-count-eq0.false))
@@ -149,7 +149,7 @@ visit-requires-clause-in_envelope c =
 pub returns-in_err-below-clause-spends : goal.returns-in_err-below-clause-spends
 returns-in_err-below-clause-spends c =
     let t = c.args.self.now.table.now in
-    let m = message_of c.args.self.now.bytes.value.came c.args.self.now.handles.now in
+    let m = message c.args.self.now in
     let same = same_frame c.args.frame (Content c.args.entry c.args.size c.args.count c.args.until) c.requires.left in
     let own = subst (λ (f : Frame). FrameFine t m.bytes f) same c.requires.frame in
     spends_some _ _ _ (omega (arith, (not_fewer _ _ _ c.in_err-below.ensures.spends))) (let fits = content_room t c.args.self.now.fine m c.args.frame c.args.entry c.args.size c.args.count c.args.until (at_of c.args.state.now) own c.requires.state (omega (arith, c.if-count-eq0.false)) in let probed = c.in_err-below.ensures.spends.most in let work = fits.2 in omega (arith, probed, work))
@@ -157,7 +157,7 @@ returns-in_err-below-clause-spends c =
 pub returns-in_err-below-clause-fault_is_true : goal.returns-in_err-below-clause-fault_is_true
 returns-in_err-below-clause-fault_is_true c =
     let t = c.args.self.now.table.now in
-    let m = message_of c.args.self.now.bytes.value.came c.args.self.now.handles.now in
+    let m = message c.args.self.now in
     let same = same_frame c.args.frame (Content c.args.entry c.args.size c.args.count c.args.until) c.requires.left in
     let own = subst (λ (f : Frame). FrameFine t m.bytes f) same c.requires.frame in
     passed_on c.from_residual-in_err-below.result c.in_err-below.field-0.0 _ c.from_residual-in_err-below.ensures.1 (subst (λ (f : Frame). BreaksFrame t m f (at_of c.args.state.now) c.in_err-below.field-0.0) (sym same) (content_breaks t c.args.self.now.fine m c.args.frame c.args.entry c.args.size c.args.count c.args.until (at_of c.args.state.now) own c.requires.state (omega (arith, c.if-count-eq0.false)) c.in_err-below.field-0.0 c.in_err-below.ensures.fault_is_true))
@@ -165,7 +165,7 @@ returns-in_err-below-clause-fault_is_true c =
 pub overflow_add-rest : goal.overflow_add-rest
 overflow_add-rest c =
     let t = c.args.self.now.table.now in
-    let m = message_of c.args.self.now.bytes.value.came c.args.self.now.handles.now in
+    let m = message c.args.self.now in
     let same = same_frame c.args.frame (Content c.args.entry c.args.size c.args.count c.args.until) c.requires.left in
     let own = subst (λ (f : Frame). FrameFine t m.bytes f) same c.requires.frame in
     let fits = content_room t c.args.self.now.fine m c.args.frame c.args.entry c.args.size c.args.count c.args.until (at_of c.args.state.now) own c.requires.state (omega (arith, c.if-count-eq0.false)) in let size = content_size t c.args.self.now.fine m c.args.frame c.args.entry c.args.size c.args.count c.args.until (at_of c.args.state.now) own c.requires.state (omega (arith, c.if-count-eq0.false)) in record { fits = omega (arith, fits.0, fits.1, size, c.args.self.now.short) }
@@ -173,7 +173,7 @@ overflow_add-rest c =
 pub returns-clause-ok : goal.returns-clause-ok
 returns-clause-ok c =
     let t = c.args.self.now.table.now in
-    let m = message_of c.args.self.now.bytes.value.came c.args.self.now.handles.now in
+    let m = message c.args.self.now in
     let same = same_frame c.args.frame (Content c.args.entry c.args.size c.args.count c.args.until) c.requires.left in
     let own = subst (λ (f : Frame). FrameFine t m.bytes f) same c.requires.frame in
     let grows = (not_fewer _ _ _ c.in_ok-below.ensures.spends) in subst (λ (f : Frame). Turns t m f (at_of c.args.state.now) (at_of c.visit.new.state) (c.visit.new.state.steps - c.args.state.now.steps) (record { below = c.in_ok-below.below; rest = Some (going_on c.args.frame (Content c.args.entry c.args.size (c.args.count - 1) c.args.until) (c.args.frame.done + c.args.size)) })) (sym same) (content_turns t c.args.self.now.fine m c.args.frame c.args.entry c.args.size c.args.count c.args.until (at_of c.args.state.now) own c.requires.state (omega (arith, c.if-count-eq0.false)) c.in_ok-below.below (at_of c.visit.new.state) (c.visit.new.state.steps - (c.args.state.now.steps + 1)) (c.visit.new.state.steps - c.args.state.now.steps) (omega (arith, grows)) c.in_ok-below.ensures.ok c.in_ok-below.ensures.fine)
@@ -181,7 +181,7 @@ returns-clause-ok c =
 pub returns-clause-spends : goal.returns-clause-spends
 returns-clause-spends c =
     let t = c.args.self.now.table.now in
-    let m = message_of c.args.self.now.bytes.value.came c.args.self.now.handles.now in
+    let m = message c.args.self.now in
     let same = same_frame c.args.frame (Content c.args.entry c.args.size c.args.count c.args.until) c.requires.left in
     let own = subst (λ (f : Frame). FrameFine t m.bytes f) same c.requires.frame in
     spends_some _ _ _ (omega (arith, (not_fewer _ _ _ c.in_ok-below.ensures.spends))) (let fits = content_room t c.args.self.now.fine m c.args.frame c.args.entry c.args.size c.args.count c.args.until (at_of c.args.state.now) own c.requires.state (omega (arith, c.if-count-eq0.false)) in let probed = c.in_ok-below.ensures.spends.most in let work = fits.2 in omega (arith, probed, work))

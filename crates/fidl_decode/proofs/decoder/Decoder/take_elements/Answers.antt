@@ -1,11 +1,11 @@
+use Rattle.fidl_decode.specs.Reading.{message}
 use Rattle.fidl_decode_model.specs.Machine.{at_of}
-use Rattle.fidl_decode_model.specs.Faults.{message_of}
 use Rattle.fidl_decode_columns.proofs.Leaves.{element_known}
 use Rattle.fidl_decode.proofs.decoder.Decoder.take_elements.Goals as goal
 
 pub entry-e-requires : goal.entry-e-requires
-entry-e-requires c = element_known c.args.self.now.table.now c.args.self.now.fine (message_of c.args.self.now.bytes.value.came c.args.self.now.handles.now) c.args.frame (at_of c.args.state.now) c.requires.frame c.requires.state c.args.entry c.args.size c.args.count c.requires.left c.if-count-ne0.true
+entry-e-requires c = element_known c.args.self.now.table.now c.args.self.now.fine (message c.args.self.now) c.args.frame (at_of c.args.state.now) c.requires.frame c.requires.state c.args.entry c.args.size c.args.count c.requires.left c.if-count-ne0.true
 
 pub take_structs-requires-clause-entry : goal.take_structs-requires-clause-entry
-take_structs-requires-clause-entry c = element_known c.args.self.now.table.now c.args.self.now.fine (message_of c.args.self.now.bytes.value.came c.args.self.now.handles.now) c.args.frame (at_of c.args.state.now) c.requires.frame c.requires.state c.args.entry c.args.size c.args.count c.requires.left
+take_structs-requires-clause-entry c = element_known c.args.self.now.table.now c.args.self.now.fine (message c.args.self.now) c.args.frame (at_of c.args.state.now) c.requires.frame c.requires.state c.args.entry c.args.size c.args.count c.requires.left
     c.if-count-ne0.true

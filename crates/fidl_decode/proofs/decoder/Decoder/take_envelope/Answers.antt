@@ -1,3 +1,4 @@
+use Rattle.fidl_decode.specs.Reading.{message}
 use Rattle.std.proofs.Common.{◌≡◌, ◌+◌, ◌-◌, sym, ap, subst, ◌∙◌, arith, add-one, false, true}
 use Rattle.std.specs.Prelude.{Option, Some, None}
 use Rattle.fidl_wire.specs.Term.{Term, find}
@@ -8,7 +9,6 @@ use Rattle.fidl_decode_model.specs.declared.frame.Frame.{Frame}
 use Rattle.fidl_decode_model.specs.declared.frame.Remaining.TheVariants.{Envelopes}
 use Rattle.fidl_decode_model.specs.Breaks.{BreaksMember}
 use Rattle.fidl_decode_model.specs.Machine.{Turns, Opens, PaysEnvelope, BreaksFrame, FrameFine, member_term, at_of}
-use Rattle.fidl_decode_model.specs.Faults.{message_of}
 use Rattle.std.proofs.lemmas.Result.{IfErr-weaker}
 use Rattle.fidl_decode_columns.proofs.Leaves.{going_on, same_frame}
 use Rattle.fidl_decode_model.proofs.Turning.{if_ok_on, if_ok_two, on_ok_from}
@@ -21,7 +21,7 @@ no_true e = cc
 pub returns-then-is_absent-clause-ok : goal.returns-then-is_absent-clause-ok
 returns-then-is_absent-clause-ok c =
     let t = c.args.self.now.table.now in
-    let m = message_of c.args.self.now.bytes.value.came c.args.self.now.handles.now in
+    let m = message c.args.self.now in
     let same = same_frame c.args.frame (Envelopes c.args.entry c.args.read c.args.count) c.requires.left in
     let some = c.requires.some in
     let z : Stands c.args.self.now.bytes.value.came (c.args.frame.base + c.args.frame.done) (zeros 8) = c.is_absent.ensures.0 c.if-is_absent.true in
@@ -31,7 +31,7 @@ returns-then-is_absent-clause-ok c =
 pub read_member-requires-clause-budget : goal.read_member-requires-clause-budget
 read_member-requires-clause-budget c =
     let t = c.args.self.now.table.now in
-    let m = message_of c.args.self.now.bytes.value.came c.args.self.now.handles.now in
+    let m = message c.args.self.now in
     let f = c.args.frame in
     let old = at_of c.args.state.now in
     let same = same_frame f (Envelopes c.args.entry c.args.read c.args.count) c.requires.left in
@@ -45,7 +45,7 @@ read_member-requires-clause-budget c =
 pub returns-clause-ok : goal.returns-clause-ok
 returns-clause-ok c =
     let t = c.args.self.now.table.now in
-    let m = message_of c.args.self.now.bytes.value.came c.args.self.now.handles.now in
+    let m = message c.args.self.now in
     let f = c.args.frame in
     let old = at_of c.args.state.now in
     let same = same_frame f (Envelopes c.args.entry c.args.read c.args.count) c.requires.left in
@@ -71,7 +71,7 @@ returns-clause-ok c =
 pub returns-clause-rises : goal.returns-clause-rises
 returns-clause-rises c =
     let t = c.args.self.now.table.now in
-    let m = message_of c.args.self.now.bytes.value.came c.args.self.now.handles.now in
+    let m = message c.args.self.now in
     let f = c.args.frame in
     let old = at_of c.args.state.now in
     let same = same_frame f (Envelopes c.args.entry c.args.read c.args.count) c.requires.left in
@@ -85,7 +85,7 @@ returns-clause-rises c =
 pub returns-clause-cost : goal.returns-clause-cost
 returns-clause-cost c =
     let t = c.args.self.now.table.now in
-    let m = message_of c.args.self.now.bytes.value.came c.args.self.now.handles.now in
+    let m = message c.args.self.now in
     let f = c.args.frame in
     let old = at_of c.args.state.now in
     let same = same_frame f (Envelopes c.args.entry c.args.read c.args.count) c.requires.left in
@@ -99,7 +99,7 @@ returns-clause-cost c =
 pub returns-clause-fault_is_true : goal.returns-clause-fault_is_true
 returns-clause-fault_is_true c =
     let t = c.args.self.now.table.now in
-    let m = message_of c.args.self.now.bytes.value.came c.args.self.now.handles.now in
+    let m = message c.args.self.now in
     let f = c.args.frame in
     let old = at_of c.args.state.now in
     let same = same_frame f (Envelopes c.args.entry c.args.read c.args.count) c.requires.left in

@@ -1,3 +1,4 @@
+use Rattle.fidl_decode.specs.Reading.{message}
 use Rattle.std.proofs.Common.{◌≡◌, ◌+◌, ◌-◌, ◌≤◌, [], refl, sym, ap, subst, ◌∙◌, arith}
 use Rattle.std.specs.Prelude.{Some}
 use Rattle.fidl_table_format.specs.declared.record.Entry.{Entry}
@@ -5,7 +6,6 @@ use Rattle.fidl_table_format.specs.Section.{header_of, entry_at}
 use Rattle.fidl_decode_model.specs.declared.frame.Frame.{Frame}
 use Rattle.fidl_decode_model.specs.declared.frame.Remaining.{Remaining}
 use Rattle.fidl_decode_model.specs.declared.frame.Remaining.TheVariants.{Rows}
-use Rattle.fidl_decode_model.specs.Faults.{message_of}
 use Rattle.fidl_decode_model.specs.Machine.{LeftFine, IsPlain, Turns, rows_left, at_of}
 use Rattle.fidl_decode.proofs.Fitting.{next_fits, some_left, spends_some}
 use Rattle.fidl_decode_model.proofs.Turning.{passed_on}
@@ -28,7 +28,7 @@ row-row-requires c =
 
 pub overflow_add-front : goal.overflow_add-front
 overflow_add-front c =
-    let room = front_room c.args.self.now.table.now c.args.self.now.fine (message_of c.args.self.now.bytes.value.came c.args.self.now.handles.now) c.args.frame c.args.first c.args.count c.row-row.result
+    let room = front_room c.args.self.now.table.now c.args.self.now.fine (message c.args.self.now) c.args.frame c.args.first c.args.count c.row-row.result
     c.requires.left (some_left c.args.count c.if-count-eq0.false) c.row-row.ensures.value (at_of c.args.state.now) c.requires.frame c.requires.state in
     let before = room.0 in
     let fits = room.1 in
@@ -38,7 +38,7 @@ overflow_add-front c =
 
 pub overflow_add-place : goal.overflow_add-place
 overflow_add-place c =
-    let room = front_room c.args.self.now.table.now c.args.self.now.fine (message_of c.args.self.now.bytes.value.came c.args.self.now.handles.now) c.args.frame c.args.first c.args.count c.row-row.result
+    let room = front_room c.args.self.now.table.now c.args.self.now.fine (message c.args.self.now) c.args.frame c.args.first c.args.count c.row-row.result
     c.requires.left (some_left c.args.count c.if-count-eq0.false) c.row-row.ensures.value (at_of c.args.state.now) c.requires.frame c.requires.state in
     let before = room.0 in
     let fits = room.1 in
@@ -48,7 +48,7 @@ overflow_add-place c =
 
 pub overflow_sub-state : goal.overflow_sub-state
 overflow_sub-state c =
-    let room = front_room c.args.self.now.table.now c.args.self.now.fine (message_of c.args.self.now.bytes.value.came c.args.self.now.handles.now) c.args.frame c.args.first c.args.count c.row-row.result
+    let room = front_room c.args.self.now.table.now c.args.self.now.fine (message c.args.self.now) c.args.frame c.args.first c.args.count c.row-row.result
     c.requires.left (some_left c.args.count c.if-count-eq0.false) c.row-row.ensures.value (at_of c.args.state.now) c.requires.frame c.requires.state in
     let before = room.0 in
     let fits = room.1 in
@@ -58,7 +58,7 @@ overflow_sub-state c =
 
 pub overflow_add-state : goal.overflow_add-state
 overflow_add-state c =
-    let room = front_room c.args.self.now.table.now c.args.self.now.fine (message_of c.args.self.now.bytes.value.came c.args.self.now.handles.now) c.args.frame c.args.first c.args.count c.row-row.result
+    let room = front_room c.args.self.now.table.now c.args.self.now.fine (message c.args.self.now) c.args.frame c.args.first c.args.count c.row-row.result
     c.requires.left (some_left c.args.count c.if-count-eq0.false) c.row-row.ensures.value (at_of c.args.state.now) c.requires.frame c.requires.state in
     let before = room.0 in
     let fits = room.1 in
@@ -68,7 +68,7 @@ overflow_add-state c =
 
 pub overflow_add-state-2 : goal.overflow_add-state-2
 overflow_add-state-2 c =
-    let room = front_room c.args.self.now.table.now c.args.self.now.fine (message_of c.args.self.now.bytes.value.came c.args.self.now.handles.now) c.args.frame c.args.first c.args.count c.row-row.result
+    let room = front_room c.args.self.now.table.now c.args.self.now.fine (message c.args.self.now) c.args.frame c.args.first c.args.count c.row-row.result
     c.requires.left (some_left c.args.count c.if-count-eq0.false) c.row-row.ensures.value (at_of c.args.state.now) c.requires.frame c.requires.state in
     let before = room.0 in
     let fits = room.1 in
@@ -78,7 +78,7 @@ overflow_add-state-2 c =
 
 pub zeros_at-requires-clause-order : goal.zeros_at-requires-clause-order
 zeros_at-requires-clause-order c =
-    let room = front_room c.args.self.now.table.now c.args.self.now.fine (message_of c.args.self.now.bytes.value.came c.args.self.now.handles.now) c.args.frame c.args.first c.args.count c.row-row.result
+    let room = front_room c.args.self.now.table.now c.args.self.now.fine (message c.args.self.now) c.args.frame c.args.first c.args.count c.row-row.result
     c.requires.left (some_left c.args.count c.if-count-eq0.false) c.row-row.ensures.value (at_of c.args.state.now) c.requires.frame c.requires.state in
     let before = room.0 in
     let fits = room.1 in
@@ -88,7 +88,7 @@ zeros_at-requires-clause-order c =
 
 pub zeros_at-requires-clause-room : goal.zeros_at-requires-clause-room
 zeros_at-requires-clause-room c =
-    let room = front_room c.args.self.now.table.now c.args.self.now.fine (message_of c.args.self.now.bytes.value.came c.args.self.now.handles.now) c.args.frame c.args.first c.args.count c.row-row.result
+    let room = front_room c.args.self.now.table.now c.args.self.now.fine (message c.args.self.now) c.args.frame c.args.first c.args.count c.row-row.result
     c.requires.left (some_left c.args.count c.if-count-eq0.false) c.row-row.ensures.value (at_of c.args.state.now) c.requires.frame c.requires.state in
     let before = room.0 in
     let fits = room.1 in
@@ -98,7 +98,7 @@ zeros_at-requires-clause-room c =
 
 pub visit-requires-clause-room : goal.visit-requires-clause-room
 visit-requires-clause-room c =
-    let room = front_room c.args.self.now.table.now c.args.self.now.fine (message_of c.args.self.now.bytes.value.came c.args.self.now.handles.now) c.args.frame c.args.first c.args.count c.row-row.result
+    let room = front_room c.args.self.now.table.now c.args.self.now.fine (message c.args.self.now) c.args.frame c.args.first c.args.count c.row-row.result
     c.requires.left (some_left c.args.count c.if-count-eq0.false) c.row-row.ensures.value (at_of c.args.state.now) c.requires.frame c.requires.state in
     let before = room.0 in
     let fits = room.1 in
@@ -108,12 +108,12 @@ visit-requires-clause-room c =
 
 pub visit-requires-clause-in_envelope : goal.visit-requires-clause-in_envelope
 visit-requires-clause-in_envelope c =
-    front_inside c.args.self.now.table.now c.args.self.now.fine (message_of c.args.self.now.bytes.value.came c.args.self.now.handles.now) c.args.frame c.args.first c.args.count c.row-row.result
+    front_inside c.args.self.now.table.now c.args.self.now.fine (message c.args.self.now) c.args.frame c.args.first c.args.count c.row-row.result
     c.requires.left (some_left c.args.count c.if-count-eq0.false) c.row-row.ensures.value (at_of c.args.state.now) c.requires.frame c.requires.state
 
 pub visit-requires-clause-budget : goal.visit-requires-clause-budget
 visit-requires-clause-budget c =
-    let room = front_room c.args.self.now.table.now c.args.self.now.fine (message_of c.args.self.now.bytes.value.came c.args.self.now.handles.now) c.args.frame c.args.first c.args.count c.row-row.result
+    let room = front_room c.args.self.now.table.now c.args.self.now.fine (message c.args.self.now) c.args.frame c.args.first c.args.count c.row-row.result
     c.requires.left (some_left c.args.count c.if-count-eq0.false) c.row-row.ensures.value (at_of c.args.state.now) c.requires.frame c.requires.state in
     let before = room.0 in
     let fits = room.1 in
@@ -123,7 +123,7 @@ visit-requires-clause-budget c =
 
 pub returns-in_err-zeros_at-clause-spends : goal.returns-in_err-zeros_at-clause-spends
 returns-in_err-zeros_at-clause-spends c =
-    let room = front_room c.args.self.now.table.now c.args.self.now.fine (message_of c.args.self.now.bytes.value.came c.args.self.now.handles.now) c.args.frame c.args.first c.args.count c.row-row.result
+    let room = front_room c.args.self.now.table.now c.args.self.now.fine (message c.args.self.now) c.args.frame c.args.first c.args.count c.row-row.result
     c.requires.left (some_left c.args.count c.if-count-eq0.false) c.row-row.ensures.value (at_of c.args.state.now) c.requires.frame c.requires.state in
     let before = room.0 in
     let fits = room.1 in
@@ -134,12 +134,12 @@ returns-in_err-zeros_at-clause-spends c =
 pub returns-in_err-zeros_at-clause-fault_is_true : goal.returns-in_err-zeros_at-clause-fault_is_true
 returns-in_err-zeros_at-clause-fault_is_true c =
     passed_on c.from_residual-in_err-zeros_at.result c.in_err-zeros_at.field-0.0 _ c.from_residual-in_err-zeros_at.ensures.1
-    (front_gap_breaks c.args.self.now.table.now c.args.self.now.fine (message_of c.args.self.now.bytes.value.came c.args.self.now.handles.now) c.args.frame c.args.first c.args.count c.row-row.result
+    (front_gap_breaks c.args.self.now.table.now c.args.self.now.fine (message c.args.self.now) c.args.frame c.args.first c.args.count c.row-row.result
     c.requires.left (some_left c.args.count c.if-count-eq0.false) c.row-row.ensures.value (at_of c.args.state.now) c.requires.frame c.requires.state _ c.in_err-zeros_at.ensures.fault_is_true)
 
 pub returns-in_err-below-clause-spends : goal.returns-in_err-below-clause-spends
 returns-in_err-below-clause-spends c =
-    let room = front_room c.args.self.now.table.now c.args.self.now.fine (message_of c.args.self.now.bytes.value.came c.args.self.now.handles.now) c.args.frame c.args.first c.args.count c.row-row.result
+    let room = front_room c.args.self.now.table.now c.args.self.now.fine (message c.args.self.now) c.args.frame c.args.first c.args.count c.row-row.result
     c.requires.left (some_left c.args.count c.if-count-eq0.false) c.row-row.ensures.value (at_of c.args.state.now) c.requires.frame c.requires.state in
     let before = room.0 in
     let fits = room.1 in
@@ -151,12 +151,12 @@ returns-in_err-below-clause-spends c =
 pub returns-in_err-below-clause-fault_is_true : goal.returns-in_err-below-clause-fault_is_true
 returns-in_err-below-clause-fault_is_true c =
     passed_on c.from_residual-in_err-below.result c.in_err-below.field-0.0 _ c.from_residual-in_err-below.ensures.1
-    (front_breaks c.args.self.now.table.now c.args.self.now.fine (message_of c.args.self.now.bytes.value.came c.args.self.now.handles.now) c.args.frame c.args.first c.args.count c.row-row.result
+    (front_breaks c.args.self.now.table.now c.args.self.now.fine (message c.args.self.now) c.args.frame c.args.first c.args.count c.row-row.result
     c.requires.left (some_left c.args.count c.if-count-eq0.false) c.row-row.ensures.value (at_of c.args.state.now) c.requires.frame c.requires.state _ c.in_ok-zeros_at.ensures.ok c.in_err-below.ensures.fault_is_true)
 
 pub overflow_add-done : goal.overflow_add-done
 overflow_add-done c =
-    let room = front_room c.args.self.now.table.now c.args.self.now.fine (message_of c.args.self.now.bytes.value.came c.args.self.now.handles.now) c.args.frame c.args.first c.args.count c.row-row.result
+    let room = front_room c.args.self.now.table.now c.args.self.now.fine (message c.args.self.now) c.args.frame c.args.first c.args.count c.row-row.result
     c.requires.left (some_left c.args.count c.if-count-eq0.false) c.row-row.ensures.value (at_of c.args.state.now) c.requires.frame c.requires.state in
     let before = room.0 in
     let fits = room.1 in
@@ -178,16 +178,16 @@ returns-clause-ok c =
     let size : c.row-row.result.key + (entry_at c.args.self.now.table.now c.row-row.result.entry).size ≡ c.row-row.result.key + c.entry.result.size = ap (λ (d : Entry). c.row-row.result.key + d.size) (sym c.entry.ensures.value) in
     let more = c.in_ok-below.ensures.spends in
     let rest = going_on c.args.frame (Rows (c.args.first + 1) (c.args.count - 1)) in
-    let taken = front_takes c.args.self.now.table.now c.args.self.now.fine (message_of c.args.self.now.bytes.value.came c.args.self.now.handles.now) c.args.frame c.args.first c.args.count c.row-row.result
+    let taken = front_takes c.args.self.now.table.now c.args.self.now.fine (message c.args.self.now) c.args.frame c.args.first c.args.count c.row-row.result
     c.requires.left (some_left c.args.count c.if-count-eq0.false) c.row-row.ensures.value (at_of c.args.state.now) c.requires.frame c.requires.state
     c.in_ok-below.below (at_of c.visit.new.state) (c.visit.new.state.steps - (c.args.state.now.steps + (c.args.frame.base + c.row-row.result.key - (c.args.frame.base + c.args.frame.done) + 1))) (c.visit.new.state.steps - c.args.state.now.steps) (omega (arith, more.least)) (omega (arith, more.least))
     c.in_ok-zeros_at.ensures.ok c.in_ok-below.ensures.ok c.in_ok-below.ensures.fine in
-    subst (λ (g : Frame). Turns c.args.self.now.table.now (message_of c.args.self.now.bytes.value.came c.args.self.now.handles.now) c.args.frame (at_of c.args.state.now) (at_of c.visit.new.state) (c.visit.new.state.steps - c.args.state.now.steps) (record { below = c.in_ok-below.below; rest = Some g }))
+    subst (λ (g : Frame). Turns c.args.self.now.table.now (message c.args.self.now) c.args.frame (at_of c.args.state.now) (at_of c.visit.new.state) (c.visit.new.state.steps - c.args.state.now.steps) (record { below = c.in_ok-below.below; rest = Some g }))
     (ap (λ d. rest d) size ∙ sym c.rows_from.ensures) taken
 
 pub returns-clause-spends : goal.returns-clause-spends
 returns-clause-spends c =
-    let room = front_room c.args.self.now.table.now c.args.self.now.fine (message_of c.args.self.now.bytes.value.came c.args.self.now.handles.now) c.args.frame c.args.first c.args.count c.row-row.result
+    let room = front_room c.args.self.now.table.now c.args.self.now.fine (message c.args.self.now) c.args.frame c.args.first c.args.count c.row-row.result
     c.requires.left (some_left c.args.count c.if-count-eq0.false) c.row-row.ensures.value (at_of c.args.state.now) c.requires.frame c.requires.state in
     let before = room.0 in
     let fits = room.1 in

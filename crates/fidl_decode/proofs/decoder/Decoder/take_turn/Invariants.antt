@@ -1,7 +1,7 @@
+use Rattle.fidl_decode.specs.Reading.{message}
 use Rattle.std.proofs.Common.{◌≡◌, ◌-◌, ◌≤◌}
 use Rattle.std.specs.Prelude.{Some}
 use Rattle.fidl_decode_model.specs.Machine.{at_of, Turns, turn_work}
-use Rattle.fidl_decode_model.specs.Faults.{message_of}
 use Rattle.fidl_decode_columns.proofs.Leaves.{left_over}
 use Rattle.fidl_decode.proofs.decoder.Decoder.take_turn.Given as goal
 
@@ -9,7 +9,7 @@ use Rattle.fidl_decode.proofs.decoder.Decoder.take_turn.Given as goal
 abbrev pub invariant-loop-now : goal.invariant-loop-now
 invariant-loop-now l = record {
   holds : l.state.links.came ≡ l.self.bytes.value.came;
-  turns : Turns l.self.table.now (message_of l.self.bytes.value.came l.self.handles.now) l.fn.frame (at_of l.fn.state) (at_of l.state) (l.state.steps - l.fn.state.steps) (left_over (Some l.rest));
+  turns : Turns l.self.table.now (message l.self) l.fn.frame (at_of l.fn.state) (at_of l.state) (l.state.steps - l.fn.state.steps) (left_over (Some l.rest));
   steps : l.fn.state.steps ≤ l.state.steps;
 }
 

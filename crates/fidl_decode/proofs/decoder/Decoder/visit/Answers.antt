@@ -1,3 +1,4 @@
+use Rattle.fidl_decode.specs.Reading.{message}
 use Rattle.fidl_decode.proofs.Fitting.{no_steps, same_steps, more_steps, le_one}
 use Rattle.fidl_decode.proofs.Unchanged.{no_ok}
 use Rattle.std.proofs.Common.{◌-◌, arith, ◌≡◌, ◌<◌, sym, ap, subst, ◌∙◌, length, ◌+◌, ◌≤◌}
@@ -9,8 +10,8 @@ use Rattle.fidl_table_format.specs.declared.kind.EntryKind.TheVariants.{Vector, 
 use Rattle.fidl_table_format.specs.Kind.{kind_of}
 use Rattle.fidl_table_format.specs.Section.{header_of, entry_at}
 use Rattle.fidl_decode_model.specs.Machine.{at_of, Visits, VisitFine}
-use Rattle.fidl_decode_model.specs.Faults.{message_of}
-use Rattle.fidl_decode_model.proofs.Visiting.{fine_as, size_as, leaf_else, leaf_breaks, visits_struct, visits_array, struct_fine, array_fine, struct_frame, array_frame}
+use Rattle.fidl_decode_model.proofs.Visiting.{fine_as, size_as, leaf_else, leaf_breaks}
+use Rattle.fidl_decode_model.proofs.Holding.{visits_struct, visits_array, struct_fine, array_fine, struct_frame, array_frame}
 use Rattle.fidl_decode_model.proofs.Boxed.{box_breaks}
 use Rattle.fidl_decode_model.proofs.Listed.{vector_breaks}
 use Rattle.fidl_decode_model.proofs.Turning.{passed_on}
@@ -28,14 +29,14 @@ unreachable-requires c =
 pub returns-in-Struct-clause-ok : goal.returns-in-Struct-clause-ok
 returns-in-Struct-clause-ok c =
     let is : kind_of (entry_at c.args.self.now.table.now c.args.entry).kind ≡ Some Struct = ap (λ (e : Entry). kind_of e.kind) (sym c.entry-e.ensures.value) ∙ sym c.from_number.ensures ∙ c.in-Some.is ∙ ap (λ (k : EntryKind). Some k) c.in-Struct.is in
-    subst (λ (d : Entry). Visits c.args.self.now.table.now (message_of c.args.self.now.bytes.value.came c.args.self.now.handles.now) c.args.depth c.args.entry c.args.place (at_of c.args.state.now) (at_of c.args.state.now) (c.args.state.now.steps - c.args.state.now.steps) (Some (struct_frame d c.args.place c.args.depth c.args.in_envelope))) (sym c.entry-e.ensures.value)
-    (visits_struct c.args.self.now.table.now c.args.self.now.fine (message_of c.args.self.now.bytes.value.came c.args.self.now.handles.now) c.args.depth c.args.entry c.args.place (at_of c.args.state.now) c.requires.entry c.requires.state c.requires.depth c.args.in_envelope (c.args.state.now.steps - c.args.state.now.steps) (omega arith) is c.requires.room)
+    subst (λ (d : Entry). Visits c.args.self.now.table.now (message c.args.self.now) c.args.depth c.args.entry c.args.place (at_of c.args.state.now) (at_of c.args.state.now) (c.args.state.now.steps - c.args.state.now.steps) (Some (struct_frame d c.args.place c.args.depth c.args.in_envelope))) (sym c.entry-e.ensures.value)
+    (visits_struct c.args.self.now.table.now c.args.self.now.fine (message c.args.self.now) c.args.depth c.args.entry c.args.place (at_of c.args.state.now) c.requires.entry c.requires.state c.requires.depth c.args.in_envelope (c.args.state.now.steps - c.args.state.now.steps) (omega arith) is c.requires.room)
 
 pub returns-in-Struct-clause-fine : goal.returns-in-Struct-clause-fine
 returns-in-Struct-clause-fine c =
     let is : kind_of (entry_at c.args.self.now.table.now c.args.entry).kind ≡ Some Struct = ap (λ (e : Entry). kind_of e.kind) (sym c.entry-e.ensures.value) ∙ sym c.from_number.ensures ∙ c.in-Some.is ∙ ap (λ (k : EntryKind). Some k) c.in-Struct.is in
-    subst (λ (d : Entry). VisitFine c.args.self.now.table.now (message_of c.args.self.now.bytes.value.came c.args.self.now.handles.now) c.args.depth c.args.in_envelope c.args.entry (Some (struct_frame d c.args.place c.args.depth c.args.in_envelope))) (sym c.entry-e.ensures.value)
-    (struct_fine c.args.self.now.table.now c.args.self.now.fine (message_of c.args.self.now.bytes.value.came c.args.self.now.handles.now) c.args.depth c.args.entry c.args.place (at_of c.args.state.now) c.requires.entry c.requires.state c.requires.depth c.args.in_envelope is c.requires.room c.requires.in_envelope)
+    subst (λ (d : Entry). VisitFine c.args.self.now.table.now (message c.args.self.now) c.args.depth c.args.in_envelope c.args.entry (Some (struct_frame d c.args.place c.args.depth c.args.in_envelope))) (sym c.entry-e.ensures.value)
+    (struct_fine c.args.self.now.table.now c.args.self.now.fine (message c.args.self.now) c.args.depth c.args.entry c.args.place (at_of c.args.state.now) c.requires.entry c.requires.state c.requires.depth c.args.in_envelope is c.requires.room c.requires.in_envelope)
 
 pub entry-size-requires : goal.entry-size-requires
 entry-size-requires c =
@@ -47,15 +48,15 @@ pub returns-in-Array-clause-ok : goal.returns-in-Array-clause-ok
 returns-in-Array-clause-ok c =
     let is : kind_of (entry_at c.args.self.now.table.now c.args.entry).kind ≡ Some Array = ap (λ (e : Entry). kind_of e.kind) (sym c.entry-e.ensures.value) ∙ sym c.from_number.ensures ∙ c.in-Some.is ∙ ap (λ (k : EntryKind). Some k) c.in-Array.is in
     let element : c.entry-size.result.size ≡ (entry_at c.args.self.now.table.now (entry_at c.args.self.now.table.now c.args.entry).first).size = ap (λ (d : Entry). d.size) c.entry-size.ensures.value ∙ ap (λ (d : Entry). (entry_at c.args.self.now.table.now d.first).size) c.entry-e.ensures.value in
-    subst (λ (d : Entry). Visits c.args.self.now.table.now (message_of c.args.self.now.bytes.value.came c.args.self.now.handles.now) c.args.depth c.args.entry c.args.place (at_of c.args.state.now) (at_of c.args.state.now) (c.args.state.now.steps - c.args.state.now.steps) (Some (array_frame d c.entry-size.result.size c.args.place c.args.depth c.args.in_envelope))) (sym c.entry-e.ensures.value)
-    (visits_array c.args.self.now.table.now c.args.self.now.fine (message_of c.args.self.now.bytes.value.came c.args.self.now.handles.now) c.args.depth c.args.entry c.args.place (at_of c.args.state.now) c.requires.entry c.requires.state c.requires.depth c.args.in_envelope c.entry-size.result.size (c.args.state.now.steps - c.args.state.now.steps) (omega arith) is element c.requires.room)
+    subst (λ (d : Entry). Visits c.args.self.now.table.now (message c.args.self.now) c.args.depth c.args.entry c.args.place (at_of c.args.state.now) (at_of c.args.state.now) (c.args.state.now.steps - c.args.state.now.steps) (Some (array_frame d c.entry-size.result.size c.args.place c.args.depth c.args.in_envelope))) (sym c.entry-e.ensures.value)
+    (visits_array c.args.self.now.table.now c.args.self.now.fine (message c.args.self.now) c.args.depth c.args.entry c.args.place (at_of c.args.state.now) c.requires.entry c.requires.state c.requires.depth c.args.in_envelope c.entry-size.result.size (c.args.state.now.steps - c.args.state.now.steps) (omega arith) is element c.requires.room)
 
 pub returns-in-Array-clause-fine : goal.returns-in-Array-clause-fine
 returns-in-Array-clause-fine c =
     let is : kind_of (entry_at c.args.self.now.table.now c.args.entry).kind ≡ Some Array = ap (λ (e : Entry). kind_of e.kind) (sym c.entry-e.ensures.value) ∙ sym c.from_number.ensures ∙ c.in-Some.is ∙ ap (λ (k : EntryKind). Some k) c.in-Array.is in
     let element : c.entry-size.result.size ≡ (entry_at c.args.self.now.table.now (entry_at c.args.self.now.table.now c.args.entry).first).size = ap (λ (d : Entry). d.size) c.entry-size.ensures.value ∙ ap (λ (d : Entry). (entry_at c.args.self.now.table.now d.first).size) c.entry-e.ensures.value in
-    subst (λ (d : Entry). VisitFine c.args.self.now.table.now (message_of c.args.self.now.bytes.value.came c.args.self.now.handles.now) c.args.depth c.args.in_envelope c.args.entry (Some (array_frame d c.entry-size.result.size c.args.place c.args.depth c.args.in_envelope))) (sym c.entry-e.ensures.value)
-    (array_fine c.args.self.now.table.now c.args.self.now.fine (message_of c.args.self.now.bytes.value.came c.args.self.now.handles.now) c.args.depth c.args.entry c.args.place (at_of c.args.state.now) c.requires.entry c.requires.state c.requires.depth c.args.in_envelope c.entry-size.result.size is element c.requires.room c.requires.in_envelope)
+    subst (λ (d : Entry). VisitFine c.args.self.now.table.now (message c.args.self.now) c.args.depth c.args.in_envelope c.args.entry (Some (array_frame d c.entry-size.result.size c.args.place c.args.depth c.args.in_envelope))) (sym c.entry-e.ensures.value)
+    (array_fine c.args.self.now.table.now c.args.self.now.fine (message c.args.self.now) c.args.depth c.args.entry c.args.place (at_of c.args.state.now) c.requires.entry c.requires.state c.requires.depth c.args.in_envelope c.entry-size.result.size is element c.requires.room c.requires.in_envelope)
 
 pub returns-in_err-read_leaf-in_default-kind-clause-fault_is_true : goal.returns-in_err-read_leaf-in_default-kind-clause-fault_is_true
 returns-in_err-read_leaf-in_default-kind-clause-fault_is_true c =
@@ -73,7 +74,7 @@ read_box-requires-clause-room c =
 pub returns-in-Box-clause-fault_is_true : goal.returns-in-Box-clause-fault_is_true
 returns-in-Box-clause-fault_is_true c =
     let is : kind_of (entry_at c.args.self.now.table.now c.args.entry).kind ≡ Some Box = ap (λ (e : Entry). kind_of e.kind) (sym c.entry-e.ensures.value) ∙ sym c.from_number.ensures ∙ c.in-Some.is ∙ ap (λ (k : EntryKind). Some k) c.in-Box.is in
-    IfErr-weaker c.read_box.result _ _ (λ fault b. box_breaks c.args.self.now.table.now c.args.self.now.fine (message_of c.args.self.now.bytes.value.came c.args.self.now.handles.now) c.args.depth c.args.entry c.args.place (at_of c.args.state.now) c.requires.entry is c.requires.state c.requires.depth fault b) c.read_box.ensures.fault_is_true
+    IfErr-weaker c.read_box.result _ _ (λ fault b. box_breaks c.args.self.now.table.now c.args.self.now.fine (message c.args.self.now) c.args.depth c.args.entry c.args.place (at_of c.args.state.now) c.requires.entry is c.requires.state c.requires.depth fault b) c.read_box.ensures.fault_is_true
 
 pub read_vector-requires-clause-kind : goal.read_vector-requires-clause-kind
 read_vector-requires-clause-kind c = ap (λ (e : Entry). kind_of e.kind) (sym c.entry-e.ensures.value) ∙ sym c.from_number.ensures ∙ c.in-Some.is ∙ ap (λ (k : EntryKind). Some k) c.in-Vector.is
@@ -87,24 +88,24 @@ read_vector-requires-clause-room c =
 pub returns-in-Vector-clause-fault_is_true : goal.returns-in-Vector-clause-fault_is_true
 returns-in-Vector-clause-fault_is_true c =
     let is : kind_of (entry_at c.args.self.now.table.now c.args.entry).kind ≡ Some Vector = ap (λ (e : Entry). kind_of e.kind) (sym c.entry-e.ensures.value) ∙ sym c.from_number.ensures ∙ c.in-Some.is ∙ ap (λ (k : EntryKind). Some k) c.in-Vector.is in
-    IfErr-weaker c.read_vector.result _ _ (λ fault b. vector_breaks c.args.self.now.table.now c.args.self.now.fine (message_of c.args.self.now.bytes.value.came c.args.self.now.handles.now) c.args.depth c.args.entry c.args.place (at_of c.args.state.now) c.requires.entry is c.requires.state c.requires.depth fault b) c.read_vector.ensures.fault_is_true
+    IfErr-weaker c.read_vector.result _ _ (λ fault b. vector_breaks c.args.self.now.table.now c.args.self.now.fine (message c.args.self.now) c.args.depth c.args.entry c.args.place (at_of c.args.state.now) c.requires.entry is c.requires.state c.requires.depth fault b) c.read_vector.ensures.fault_is_true
 
 pub returns-in-Table-clause-fault_is_true : goal.returns-in-Table-clause-fault_is_true
 returns-in-Table-clause-fault_is_true c =
     let is : kind_of (entry_at c.args.self.now.table.now c.args.entry).kind ≡ Some Table = ap (λ (e : Entry). kind_of e.kind) (sym c.entry-e.ensures.value) ∙ sym c.from_number.ensures ∙ c.in-Some.is ∙ ap (λ (k : EntryKind). Some k) c.in-Table.is in
-    IfErr-weaker c.read_table.result _ _ (λ fault b. leaf_breaks c.args.self.now.table.now c.args.self.now.fine (message_of c.args.self.now.bytes.value.came c.args.self.now.handles.now) c.args.depth c.args.entry c.args.place (at_of c.args.state.now) c.requires.entry c.requires.state c.requires.depth Table is fault b) c.read_table.ensures.fault_is_true
+    IfErr-weaker c.read_table.result _ _ (λ fault b. leaf_breaks c.args.self.now.table.now c.args.self.now.fine (message c.args.self.now) c.args.depth c.args.entry c.args.place (at_of c.args.state.now) c.requires.entry c.requires.state c.requires.depth Table is fault b) c.read_table.ensures.fault_is_true
 
 pub read_leaf-requires-clause-leaf : goal.read_leaf-requires-clause-leaf
 read_leaf-requires-clause-leaf c =
     let is : kind_of (entry_at c.args.self.now.table.now c.args.entry).kind ≡ Some c.in-Some.kind = ap (λ (e : Entry). kind_of e.kind) (sym c.entry-e.ensures.value) ∙ sym c.from_number.ensures ∙ c.in-Some.is in
-    leaf_else c.args.self.now.table.now c.args.self.now.fine (message_of c.args.self.now.bytes.value.came c.args.self.now.handles.now) c.args.depth c.args.entry c.args.place (at_of c.args.state.now) c.requires.entry c.requires.state c.requires.depth c.in-Some.kind is c.in_default-kind.not-Struct c.in_default-kind.not-Array c.in_default-kind.not-Box c.in_default-kind.not-Vector c.in_default-kind.not-Table c.in_default-kind.not-Union
+    leaf_else c.args.self.now.table.now c.args.self.now.fine (message c.args.self.now) c.args.depth c.args.entry c.args.place (at_of c.args.state.now) c.requires.entry c.requires.state c.requires.depth c.in-Some.kind is c.in_default-kind.not-Struct c.in_default-kind.not-Array c.in_default-kind.not-Box c.in_default-kind.not-Vector c.in_default-kind.not-Table c.in_default-kind.not-Union
 
 pub returns-in-Union-clause-fine : goal.returns-in-Union-clause-fine
 returns-in-Union-clause-fine c =
     let is : kind_of (entry_at c.args.self.now.table.now c.args.entry).kind ≡ Some Union = ap (λ (e : Entry). kind_of e.kind) (sym c.entry-e.ensures.value) ∙ sym c.from_number.ensures ∙ c.in-Some.is ∙ ap (λ (k : EntryKind). Some k) c.in-Union.is in
     let size : 16 ≡ (entry_at c.args.self.now.table.now c.args.entry).size = size_as c.args.self.now.table.now c.args.self.now.fine c.args.entry Union c.requires.entry is in
     let outside : 0 ≡ c.args.in_envelope = search (arith, c.requires.in_envelope, size) in
-    subst (λ i. IfOk c.read_union.result (VisitFine c.args.self.now.table.now (message_of c.args.self.now.bytes.value.came c.args.self.now.handles.now) c.args.depth i c.args.entry)) outside c.read_union.ensures.fine
+    subst (λ i. IfOk c.read_union.result (VisitFine c.args.self.now.table.now (message c.args.self.now) c.args.depth i c.args.entry)) outside c.read_union.ensures.fine
 
 pub entry-e-requires : goal.entry-e-requires
 entry-e-requires c = c.requires.entry

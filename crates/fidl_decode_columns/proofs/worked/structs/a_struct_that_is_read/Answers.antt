@@ -1,6 +1,7 @@
 use Rattle.std.proofs.Common.{◌∷◌, [], refl, ◌∙◌, ◌+◌, arith, inl, inr}
 use Rattle.fidl_table_format.specs.Terms.{declarations_of}
 use Rattle.fidl_decode_model.specs.Faults.{message_of}
+use Rattle.fidl_decode_model.proofs.Moving.{moves_none}
 use Rattle.fidl_decode_columns.specs.Samples.{at_start}
 use Rattle.fidl_decode_columns.proofs.Examples.{zeros_only, only_zeros, fine_start, not_five}
 use Rattle.fidl_decode_columns.proofs.worked.structs.a_struct_that_is_read.Goals as goal
@@ -16,6 +17,7 @@ returns-clause-zero c = λ s state.
       least = λ to mid a b y z. only_zeros (declarations_of []) m 1 0 0 s to (y ∙ z) (omega arith, refl, tt) (a + b + 0);
       breaks = λ fault b. elim b [ inl x ↦ absurd x | inr y ↦ absurd y.2 ];
       state = state;
+      moves = λ ahead clear. moves_none [] m _ _ s ahead;
       below_fine = tt;
       rest_fine = tt;
       less = omega arith;

@@ -1,8 +1,9 @@
 use Rattle.std.proofs.Common.{◌≡◌, ℕ, ◌+◌, List, ap, sym, subst, ◌∙◌}
-use Rattle.std.specs.Prelude.{None, ◌==◌}
+use Rattle.std.specs.Prelude.{None, Some, ◌==◌}
 use Rattle.std.specs.Int.{w16}
 use Rattle.fidl_wire.specs.Value.{Member, unknown}
 use Rattle.fidl_wire.specs.Term.{find}
+use Rattle.fidl_wire.specs.Term as ty
 use Rattle.fidl_wire.specs.Field.{number_at}
 use Rattle.fidl_table_format.specs.Terms.{members_of}
 use Rattle.fidl_view.specs.Members.{ShowMember, term_at}
@@ -23,3 +24,11 @@ returns c x h =
     (raw.raw_flag d i o p x r c.raw_bytes.result.now c.raw_handles.result.now
     (c.raw_bytes.ensures r.inline r.bytes r.handles own ∙ sym (ap (λ (y : Member). raw.raw_bytes_of y) r.is))
     (c.raw_handles.ensures r.inline r.bytes r.handles own ∙ sym (ap (λ (y : Member). raw.raw_handles_of y) r.is)))
+
+pub returns-in-Some : goal.returns-in-Some
+returns-in-Some c =
+    let d = c.args.self.decoded.now in
+    let i = c.args.self.index in
+    let o = c.args.self.ordinal in
+    let row = c.in-Some._row in
+    raw.known_no_unknown d i o c.args.self.place (ty.named row.entry) (subst (λ (b : List ℕ). find (members_of b i) o ≡ Some (ty.named row.entry)) c.table.ensures c.in-Some.ensures.some)
