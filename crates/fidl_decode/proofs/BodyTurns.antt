@@ -46,7 +46,7 @@ module _ (t : List ℕ) (fine : IsFine t) (m : Message) (within : IsWithin m.byt
   next_absent z n is = subst (λ d. Turns t m (rest_of b read) old old n (behind d)) eight
       (envelope_absent t fine m within (rest_of b read) b.entry read (b.count - read) old ff state (read + 1) (b.count - (read + 1)) (add-one read) (omega (arith, more)) (omega (arith, more)) z n is)
 
-  pub next_passed : (e : ℕ) → find (members_of t b.entry) (suc read) ≡ Some (ty.named e) → (new : Position) (spent n : ℕ) → spent + 1 ≤ n → n ≤ 17 + spent → spent + old.next ≤ new.next → Opens t m b.depth (Some (ty.named e)) place old new spent None
+  pub next_passed : (e : ℕ) → find (members_of t b.entry) (suc read) ≡ Some (ty.named e) → (new : Position) (spent n : ℕ) → spent + 1 ≤ n → n ≤ 18 + spent → spent + old.next ≤ new.next → Opens t m b.depth (Some (ty.named e)) place old new spent None
       → Turns t m (rest_of b read) old new n (record { below = None; rest = Some (rest_of b (read + 1)) })
   next_passed e is new spent n some_steps few pays o =
       let own : Opens t m b.depth (find (members_of t b.entry) (suc read)) place old new spent None = subst (λ (o : Option Term). Opens t m b.depth o place old new spent None) (sym is) o in

@@ -110,7 +110,7 @@ module _ (t : List ℕ) (fine : IsFine t) (m : Message) (within : IsWithin m.byt
         (ap (λ k. inline_work k * (f.size - f.done) + 1) nest, ap (λ k. inline_work k * (f.size - (f.done + 8)) + 1) nest, omega (arith, done, size, more))
 
     -- there is work for a search, and for the envelope
-    pub envelope_room : envelope_work + 17 ≤ frame_work g
+    pub envelope_room : envelope_work + 18 ≤ frame_work g
     envelope_room = omega (arith, pays.0, pays.1, pays.2)
 
     pub envelope_absent : Stands m.bytes place (zeros 8) → (n : ℕ) → n ≡ 1 → Turns t m g old old n (record { below = None; rest = Some rest })
@@ -141,7 +141,7 @@ module _ (t : List ℕ) (fine : IsFine t) (m : Message) (within : IsWithin m.byt
       no_zeros_there : Stands m.bytes (envelope_place f.base (suc read)) (zeros 8) → ⊥
       no_zeros_there z = some (subst (λ p. Stands m.bytes p (zeros 8)) own_place z)
 
-      pub envelope_opened : (found : Option Frame) (new : Position) (spent n : ℕ) → spent + 1 ≤ n → n ≤ 17 + spent → PaysEnvelope m.bytes old.next new.next spent found → Opens t m f.depth (find rows (suc read)) place old new spent found → Turns t m g old new n (record { below = found; rest = Some rest })
+      pub envelope_opened : (found : Option Frame) (new : Position) (spent n : ℕ) → spent + 1 ≤ n → n ≤ 18 + spent → PaysEnvelope m.bytes old.next new.next spent found → Opens t m f.depth (find rows (suc read)) place old new spent found → Turns t m g old new n (record { below = found; rest = Some rest })
       envelope_opened found new spent n some_steps few own o = record {
         same = λ to. (
           (λ x. elim (slots_step ds fine.laid_out m f.depth rows (read + count) f.base read old to (omega (arith, more)) x) [

@@ -174,7 +174,7 @@ impl<'t, 'm, 's> Decoder<'t, 'm, 's> {
         ensures entry_below { IfSome result
             (λ row. row.entry < (header_of self.now.table.now).entries) }
         ensures grows { probes.old ≤ probes.new }
-        ensures few { probes.new ≤ probes.old + 16 }
+        ensures few { probes.new ≤ probes.old + 17 }
     {
         // Read, so that the number of rows, and with it each row's, is known to have 32 bits.
         let _rows = self.table.rows();

@@ -15,12 +15,12 @@ use Rattle.fidl_decode_model.proofs.Visiting.{size_is, positive}
 use Rattle.fidl_decode_columns.proofs.Leaves.{left_over}
 
 -- the work of a leaf is within that of a value
-pub leaf_cost : (t : List ℕ) → IsFine t → (m : List ℕ) (next e : ℕ) → e < (header_of t).entries → probes + (length m - next) ≤ value_work m next (entry_at t e)
+pub leaf_cost : (t : List ℕ) → IsFine t → (m : List ℕ) (next e : ℕ) → e < (header_of t).entries → 1 + probes + (length m - next) ≤ value_work m next (entry_at t e)
 leaf_cost t fine m next e lt =
     let size = size_is t fine e lt in
     let pos = positive t fine e lt in
     let some : 1 ≤ (entry_at t e).size = omega (arith, size, pos) in
-    let many : probes ≤ inline_work (entry_at t e).nest = omega arith in
+    let many : 1 + probes ≤ inline_work (entry_at t e).nest = omega arith in
     omega (arith, many, mul-le-mul_left (inline_work (entry_at t e).nest) some)
 
 module _ (t : List ℕ) (m : Message) (held e place : ℕ) (old mid : Position) (a : ℕ) (g : Frame) (v : Visits t m held e place old mid a (Some g)) where

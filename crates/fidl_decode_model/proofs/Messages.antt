@@ -33,13 +33,13 @@ pub stack_work_only : (o : Option Frame) → stack_work (option_to_list o) ≡ f
 stack_work_only None = refl
 stack_work_only (Some f) = omega arith
 
--- an entry read whole is within 88 steps a byte
-pub entry_work : (t : List ℕ) → IsFine t → (e : ℕ) → e < (header_of t).entries → inline_work (figure_of (declarations_of t).figures (ty.named e)).nest * size_of (declarations_of t) (ty.named e) ≤ 88 * (entry_at t e).size
+-- an entry read whole is within 89 steps a byte
+pub entry_work : (t : List ℕ) → IsFine t → (e : ℕ) → e < (header_of t).entries → inline_work (figure_of (declarations_of t).figures (ty.named e)).nest * size_of (declarations_of t) (ty.named e) ≤ 89 * (entry_at t e).size
 entry_work t fine e lt =
     let f = (fine.each e lt).1 in
     let n = nest_is t fine e lt in
     let s = size_is t fine e lt in
-    let small : inline_work (figure_of (declarations_of t).figures (ty.named e)).nest ≤ 88 = (let k = f.nest in omega arith) in
+    let small : inline_work (figure_of (declarations_of t).figures (ty.named e)).nest ≤ 89 = (let k = f.nest in omega arith) in
     let le = mul-le-mul_right (size_of (declarations_of t) (ty.named e)) small in
     omega (arith, le)
 

@@ -172,9 +172,9 @@ abbrev pub StackFine : List ℕ → List ℕ → ℕ → List Frame → Type 0
 StackFine t m k [] = Unit {0}
 StackFine t m k (f ∷ fs) = FrameFine t m f × (k ≤ height f) × StackFine t m (suc k) fs
 
--- the probes of a search among the values of an enum, at most 65,535 of them
+-- the probes of a search among at most 65,535 rows or values, with a look before it
 abbrev pub probes : ℕ
-probes = 16
+probes = 17
 
 -- the work that one byte inline may make at most, in a frame of this nest: two turns for each nest,
 -- two more, and a search; with six more, an envelope pays for the four bytes in it

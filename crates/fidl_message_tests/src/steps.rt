@@ -22,7 +22,18 @@ const NESTED: &str = "
     0000000003000000:4294967296,0000000001000000*32 61
 ";
 
-const SUITES: [Suite<'_>; 4] = [
+/// A struct of a vector of unions, which have 60,000 members: each a uint32.
+const UNIONS: &str = "
+    46435432 0100 0000 04000000 61ea0000 00000000 00000000 00000000 00000000 01000000 00000000
+    10 00 08 01 10000000 00000000 01000000 0000000000000000 00000000 00000000 00000000 00000000
+    0d 00 08 00 10000000 02000000 00000000 ffffffff00000000 00000000 00000000 00000000 00000000
+    12 00 08 00 10000000 01000000 60ea0000 0000000000000000 00000000 00000000 00000000 00000000
+    08 00 04 00 04000000 00000000 00000000 0000000000000000 00000000 00000000 00000000 00000000
+    00000000 01000000 00000000 01000000
+    0100000003000000:1,0000000001000000*60000 61
+";
+
+const SUITES: [Suite<'_>; 6] = [
     // Two bytes of text, and six of padding.
     Suite {
         asked: Asked::Steps(8),
@@ -56,6 +67,23 @@ const SUITES: [Suite<'_>; 4] = [
         count: 1,
         cases: "
             0 f0ff000000000000 ffffffffffffffff 01*65519 02 -> steps
+        ",
+    },
+    // Each of 4,095 unions holds the last member, which a search finds by some 16 probes.
+    Suite {
+        asked: Asked::Message,
+        table: UNIONS,
+        count: 1,
+        cases: "
+            0 ff0f000000000000 ffffffffffffffff 60ea000000000000,0100000000000100*4095 -> decoded
+        ",
+    },
+    Suite {
+        asked: Asked::Steps(57_330),
+        table: UNIONS,
+        count: 1,
+        cases: "
+            0 ff0f000000000000 ffffffffffffffff 60ea000000000000,0100000000000100*4095 -> steps
         ",
     },
 ];

@@ -18,7 +18,7 @@ pub returns-clause-some : goal.returns-clause-some
 returns-clause-some c = if_some c.args.self.now c.entry-parts.ensures.well_formed c.args.entry c.requires.entry c.requires.kind c.entry-parts.result c.entry-parts.ensures.value c.args.ordinal c.search.result c.search.ensures.row
 
 pub look-requires : goal.look-requires
-look-requires c = record { within = lies_within c.args.self.now c.entry-parts.ensures.well_formed c.args.entry c.requires.entry c.requires.kind c.entry-parts.result c.entry-parts.ensures.value }
+look-requires c = record { budget = c.requires.budget; within = lies_within c.args.self.now c.entry-parts.ensures.well_formed c.args.entry c.requires.entry c.requires.kind c.entry-parts.result c.entry-parts.ensures.value }
 
 pub returns-in-Some-clause-some : goal.returns-in-Some-clause-some
 returns-in-Some-clause-some c = if_some c.args.self.now c.entry-parts.ensures.well_formed c.args.entry c.requires.entry c.requires.kind c.entry-parts.result c.entry-parts.ensures.value c.args.ordinal (Some c.in-Some.row) c.in-Some.ensures.row
