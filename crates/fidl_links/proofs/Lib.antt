@@ -1,0 +1,14 @@
+pub mod BitMaps
+pub mod Numbers
+pub mod Parts
+pub mod Codes
+pub mod Steps
+pub mod Came
+pub mod TakenOut
+pub mod Seen
+pub mod Free
+pub mod FreeBytes
+pub mod ReadBack
+pub mod ReadAt
+pub mod Linking
+pub mod ByPlace

@@ -1,0 +1,162 @@
+-- A message whose links are taken out word by word, and one in which no link stands yet.
+use Rattle.std.proofs.Common.{◌≡◌, ℕ, zero, suc, ◌+◌, ◌-◌, ◌*◌, ◌/◌, ◌%◌, ◌^◌, ◌<◌, ◌≤◌, ◌⊎◌, inl, inr, nat_lt, cond, List, length, get_or, slice_index, slice_range, map, refl, sym, ap, subst, ◌∙◌, arith}
+use Rattle.std.specs.List.{range_with_len}
+use Rattle.std.specs.Int.{to_le_bytes, w64}
+use Rattle.std.proofs.lemmas.Bool.{lt-ltb, le-ltb}
+use Rattle.std.proofs.lemmas.Nat.{le_bytes_8}
+use Rattle.std.proofs.lemmas.List.{same_lists, get_or_default, get_or_past}
+use Rattle.std.proofs.lemmas.List.Edits.{get_or-between, length-between}
+use Rattle.std.proofs.lemmas.List.FromFn.{length-map-range_with_len, get_or-map-range_with_len}
+use Rattle.fidl_links.specs.Marks.{Marks}
+use Rattle.fidl_links.specs.Bits.{bit}
+use Rattle.fidl_links.specs.Words.{word, words_of}
+use Rattle.fidl_links.specs.Coding.{came_word, object_cell, record_cell, IsSound}
+use Rattle.fidl_links.specs.Links.{came_at, object_of, record_of, came_byte, written}
+use Rattle.fidl_links.specs.Links.{AreSound}
+use Rattle.fidl_links.proofs.Parts.{word_alike, part_alike}
+use Rattle.fidl_links.proofs.Steps.{IsFree, free_came}
+
+-- a byte of a word, and one behind all words
+pub byte_in : (b : List ℕ) (m : Marks) (i k : ℕ) → i < words_of b → 8 * i ≤ k → k < 8 * i + 8 → came_byte b m k ≡ slice_index (to_le_bytes w64 (came_at b m i)) (k - 8 * i)
+unfolding came_byte
+byte_in b m i k within from to =
+    let at : k / 8 ≡ i = omega (arith, from, to) in
+    let off : k % 8 ≡ k - 8 * i = omega (arith, from, to) in
+    ap (λ j. cond (nat_lt j (words_of b)) (slice_index (to_le_bytes w64 (came_at b m j)) (k % 8)) (slice_index b k)) at
+    ∙ ap (λ t. cond t (slice_index (to_le_bytes w64 (came_at b m i)) (k % 8)) (slice_index b k)) (lt-ltb i (words_of b) within)
+    ∙ ap (λ j. slice_index (to_le_bytes w64 (came_at b m i)) j) off
+
+pub byte_past : (b : List ℕ) (m : Marks) (k : ℕ) → 8 * words_of b ≤ k → came_byte b m k ≡ slice_index b k
+unfolding came_byte
+byte_past b m k past = ap (λ t. cond t (slice_index (to_le_bytes w64 (came_at b m (k / 8))) (k % 8)) (slice_index b k)) (le-ltb (k / 8) (words_of b) (omega (arith, past)))
+
+-- so many words are as they came, and the others as they stood
+pub record Restored (b : List ℕ) (m : Marks) (i : ℕ) (now : List ℕ) : Type 0 where
+  pub len : length now ≡ length b
+  pub done : (k : ℕ) → k < 8 * i → slice_index now k ≡ came_byte b m k
+  pub rest : (k : ℕ) → 8 * i ≤ k → slice_index now k ≡ slice_index b k
+
+pub same_came : (b : List ℕ) (m : Marks) (i : ℕ) (now : List ℕ) → Restored b m i now → i < words_of b → came_at now m i ≡ came_at b m i
+same_came b m i now r within =
+    let part = part_alike now b (8 * i) (8 * i + 8) r.len (omega (arith, within)) (λ k ge lt. r.rest k ge) in
+    ap (λ w. came_word (bit m.markers i) (bit m.envelopes i) (bit m.handles (2 * i)) (bit m.handles (2 * i + 1)) w) (word_alike now b i part)
+
+pub restored_more : (b : List ℕ) (m : Marks) (i : ℕ) (now new : List ℕ) (came : ℕ) → Restored b m i now → i < words_of b → came ≡ came_at now m i
+    → length new ≡ length now → slice_range new (8 * i) (8 * i + 8) ≡ to_le_bytes w64 came
+    → ((k : ℕ) → k < 8 * i → slice_index new k ≡ slice_index now k) → ((k : ℕ) → 8 * i + 8 ≤ k → slice_index new k ≡ slice_index now k) → Restored b m (i + 1) new
+restored_more b m i now new came r within is len here below above = record {
+  len = len ∙ r.len;
+  done = λ k lt. elim (split k lt) [
+    | inl x ↦ below k x ∙ r.done k x
+    | inr y ↦ in_word k y.0 y.1
+  ];
+  rest = λ k ge. above k (omega (arith, ge)) ∙ r.rest k (omega (arith, ge));
+}
+  where
+    split : (k : ℕ) → k < 8 * (i + 1) → (k < 8 * i) ⊎ ((8 * i ≤ k) × (k < 8 * i + 8))
+    split k lt = grind (arith, lt)
+
+    in_word : (k : ℕ) → 8 * i ≤ k → k < 8 * i + 8 → slice_index new k ≡ came_byte b m k
+    in_word k from to =
+        let at : 8 * i + (k - 8 * i) ≡ k = omega (arith, from) in
+        ap (λ n. get_or new n 0) (sym at)
+        ∙ sym (get_or-between new (8 * i) (8 * i + 8) (k - 8 * i) 0 (omega (arith, from, to)))
+        ∙ ap (λ l. get_or l (k - 8 * i) 0) here
+        ∙ ap (λ n. slice_index (to_le_bytes w64 n) (k - 8 * i)) (is ∙ same_came b m i now r within)
+        ∙ sym (byte_in b m i k within from to)
+
+pub restored_all : (b : List ℕ) (m : Marks) (i : ℕ) (now : List ℕ) → Restored b m i now → i ≡ words_of b → now ≡ (written b m).came
+unfolding written
+restored_all b m i now r all =
+    let long : length (map (came_byte b m) (range_with_len 0 (length b))) ≡ length b = length-map-range_with_len (came_byte b m) 0 (length b) in
+    same_lists _ _ (r.len ∙ sym long) (λ k d lt.
+    let below : k < length b = omega (arith, lt, r.len) in
+    get_or_default now k d 0 lt ∙ elim (split k) [ inl x ↦ r.done k x | inr y ↦ r.rest k y ∙ sym (byte_past b m k (omega (arith, y, all))) ]
+    ∙ sym (get_or-map-range_with_len (came_byte b m) 0 (length b) k k d below (omega arith)))
+  where
+    split : (k : ℕ) → (k < 8 * i) ⊎ (8 * i ≤ k)
+    split k = grind arith
+
+-- ---- a message in which no link stands
+
+octets_part : (b : List ℕ) (i : ℕ) → 8 * i + 8 ≤ length b → ((k : ℕ) → slice_index b k < 256) → (k : ℕ) → get_or (slice_range b (8 * i) (8 * i + 8)) k 0 < 256
+octets_part b i room each k = elim (split k) [
+  | inl x ↦ subst (λ n. n < 256) (sym (get_or-between b (8 * i) (8 * i + 8) k 0 (omega (arith, x)))) (each (8 * i + k))
+  | inr y ↦ subst (λ n. n < 256) (sym (get_or_past (slice_range b (8 * i) (8 * i + 8)) k 0 (omega (arith, y, length-between b (8 * i) (8 * i + 8) room)))) (omega arith)
+]
+  where
+    split : (k : ℕ) → (k < 8) ⊎ (8 ≤ k)
+    split k = grind arith
+
+pub word_bytes : (b : List ℕ) (i : ℕ) → 8 * i + 8 ≤ length b → ((k : ℕ) → slice_index b k < 256) → to_le_bytes w64 (word b i) ≡ slice_range b (8 * i) (8 * i + 8)
+unfolding word
+word_bytes b i room each = le_bytes_8 (slice_range b (8 * i) (8 * i + 8)) _ (length-between b (8 * i) (8 * i + 8) room ∙ omega arith) (octets_part b i room each) refl
+
+pub word_fits : (b : List ℕ) (i : ℕ) → 8 * i + 8 ≤ length b → ((k : ℕ) → slice_index b k < 256) → word b i < 2 ^ 64
+unfolding word
+word_fits b i room each =
+    let o = octets_part b i room each in
+    omega (arith, o 0, o 1, o 2, o 3, o 4, o 5, o 6, o 7)
+
+module _ (b : List ℕ) (m : Marks) (octets : (k : ℕ) → slice_index b k < 256)
+    (markers : (i : ℕ) → i < words_of b → bit m.markers i ≡ 0) (envelopes : (i : ℕ) → i < words_of b → bit m.envelopes i ≡ 0) (handles : (j : ℕ) → j < 2 * words_of b → bit m.handles j ≡ 0) where
+  pub clear_sound : AreSound b m
+  clear_sound i h = (
+    word_fits b i (omega (arith, h)) octets,
+    subst (λ n. IsSound n (bit m.envelopes i) (bit m.handles (2 * i)) (bit m.handles (2 * i + 1)) (word b i)) (sym (markers i h))
+        (subst (λ n. IsSound 0 n (bit m.handles (2 * i)) (bit m.handles (2 * i + 1)) (word b i)) (sym (envelopes i h))
+        (subst (λ n. IsSound 0 0 n (bit m.handles (2 * i + 1)) (word b i)) (sym (handles (2 * i) (omega (arith, h))))
+        (subst (λ n. IsSound 0 0 0 n (word b i)) (sym (handles (2 * i + 1) (omega (arith, h)))) (tt, tt)))),
+  )
+
+  pub clear_came : (written b m).came ≡ b
+  unfolding written
+  clear_came =
+      let long : length (map (came_byte b m) (range_with_len 0 (length b))) ≡ length b = length-map-range_with_len (came_byte b m) 0 (length b) in
+      same_lists _ _ long (λ k d lt.
+      let below : k < length b = omega (arith, lt, long) in
+      get_or-map-range_with_len (came_byte b m) 0 (length b) k k d below (omega arith) ∙ elim (split k) [ inl x ↦ in_word k x | inr y ↦ byte_past b m k y ] ∙ get_or_default b k 0 d below)
+    where
+      split : (k : ℕ) → (k < 8 * words_of b) ⊎ (8 * words_of b ≤ k)
+      split k = grind arith
+
+      in_word : (k : ℕ) → k < 8 * words_of b → came_byte b m k ≡ slice_index b k
+      in_word k lt =
+          let i = k / 8 in
+          let h : i < words_of b = omega (arith, lt) in
+          let room : 8 * i + 8 ≤ length b = omega (arith, h) in
+          let at : 8 * i + (k - 8 * i) ≡ k = omega arith in
+          let free : IsFree (bit m.markers i) (bit m.envelopes i) (bit m.handles (2 * i)) (bit m.handles (2 * i + 1)) = record { marker = markers i h; envelope = envelopes i h; lower = handles (2 * i) (omega (arith, h)); upper = handles (2 * i + 1) (omega (arith, h)) } in
+          byte_in b m i k h (omega arith) (omega arith)
+          ∙ ap (λ n. slice_index (to_le_bytes w64 n) (k - 8 * i)) (free_came _ _ _ _ (word b i) free)
+          ∙ ap (λ l. get_or l (k - 8 * i) 0) (word_bytes b i room octets)
+          ∙ get_or-between b (8 * i) (8 * i + 8) (k - 8 * i) 0 (omega arith)
+          ∙ ap (λ n. get_or b n 0) at
+
+  pub clear_objects : (i : ℕ) → slice_index (written b m).objects i ≡ 0
+  unfolding written
+  clear_objects i = elim (split i) [
+    | inl x ↦ get_or-map-range_with_len (object_of b m) 0 (words_of b) i i 0 x (omega arith) ∙ ap (λ n. object_cell n (bit m.envelopes i) (word b i)) (markers i x) ∙ ap (λ n. object_cell 0 n (word b i)) (envelopes i x)
+    | inr y ↦ get_or_past (map (object_of b m) (range_with_len 0 (words_of b))) i 0 (omega (arith, y, length-map-range_with_len (object_of b m) 0 (words_of b)))
+  ]
+    where
+      split : (i : ℕ) → (i < words_of b) ⊎ (words_of b ≤ i)
+      split i = grind arith
+
+  pub clear_records : (j : ℕ) → slice_index (written b m).records j ≡ 0
+  unfolding written
+  clear_records j = elim (split j) [
+    | inl x ↦ get_or-map-range_with_len (record_of b m) 0 (2 * words_of b) j j 0 x (omega arith)
+        ∙ ap (λ n. record_cell (j % 2) n (bit m.envelopes (j / 2)) (bit m.handles j) (word b (j / 2))) (markers (j / 2) (omega (arith, x)))
+        ∙ ap (λ n. record_cell (j % 2) 0 n (bit m.handles j) (word b (j / 2))) (envelopes (j / 2) (omega (arith, x)))
+        ∙ ap (λ n. record_cell (j % 2) 0 0 n (word b (j / 2))) (handles j x)
+        ∙ none (j % 2)
+    | inr y ↦ get_or_past (map (record_of b m) (range_with_len 0 (2 * words_of b))) j 0 (omega (arith, y, length-map-range_with_len (record_of b m) 0 (2 * words_of b)))
+  ]
+    where
+      split : (j : ℕ) → (j < 2 * words_of b) ⊎ (2 * words_of b ≤ j)
+      split j = grind arith
+
+      none : (u : ℕ) → record_cell u 0 0 0 (word b (j / 2)) ≡ 0
+      none zero = refl
+      none (suc u) = refl

@@ -1,0 +1,15 @@
+use Rattle.std.proofs.Common.{◌∙◌, arith}
+use Rattle.fidl_links.proofs.ReadAt.{marker_read_at}
+use Rattle.fidl_links.proofs.Seen.{Seen, as_long}
+use Rattle.fidl_links.proofs.links.Links.object_of_marker.Goals as goal
+
+pub u64_at-requires : goal.u64_at-requires
+u64_at-requires c =
+    let seen : Seen c.self.inside.bytes.now c.self.inside.room.now.marks c.args.self.now = record { is = c.self.view_is; sound = c.self.invariant.2 } in
+    let long = as_long _ _ _ seen in
+    omega (arith, long, c.requires.within)
+
+pub returns : goal.returns
+returns c =
+    let seen : Seen c.self.inside.bytes.now c.self.inside.room.now.marks c.args.self.now = record { is = c.self.view_is; sound = c.self.invariant.2 } in
+    c.u64_at.ensures ∙ marker_read_at _ _ _ seen c.args.marker c.requires.aligned c.requires.within c.requires.present c.requires.linked

@@ -1,0 +1,5 @@
+use Rattle.fidl_links.proofs.TakenOut.{Restored}
+use Rattle.fidl_links.proofs.restoring.take_links_out.Given as goal
+
+abbrev pub invariant-loop-i : goal.invariant-loop-i
+invariant-loop-i l = Restored l.fn.bytes l.room.marks l.i l.bytes

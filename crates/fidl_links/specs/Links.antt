@@ -1,0 +1,66 @@
+-- A message in whose bytes links stand, and what it is seen as.
+use Rattle.std.specs.Prelude.{◌≡◌, ℕ, ◌+◌, ◌*◌, ◌/◌, ◌%◌, ◌^◌, ◌<◌, List, map, length, cond, nat_lt}
+use Rattle.std.specs.Prelude.{slice_index}
+use Rattle.std.specs.List.{range_with_len}
+use Rattle.std.specs.Int.{to_le_bytes, w64}
+use Rattle.fidl_links.specs.Bits.{bit}
+use Rattle.fidl_links.specs.Words.{word, words_of}
+use Rattle.fidl_links.specs.Coding.{came_word, object_cell, record_cell, IsSound}
+use Rattle.fidl_links.specs.Marks.{Marks}
+
+-- what a message with links is seen as: the message as it came; for each eight bytes where the
+-- object of the marker or envelope there begins, 0 where none is linked; for each four one more
+-- than the record of the handle there, 0 where none is linked. The second half of an envelope has
+-- one more than the first record of its member
+pub record Written : Type 0 where
+  pub came : List ℕ
+  pub objects : List ℕ
+  pub records : List ℕ
+
+-- no link stands over the byte at a place
+abbrev pub IsFree : Written → (place : ℕ) → Type 0
+IsFree m place = (slice_index m.objects (place / 8) ≡ 0) × (slice_index m.records (place / 4) ≡ 0)
+
+-- nor over the eight bytes from a multiple of eight on
+abbrev pub IsFreeWord : Written → (place : ℕ) → Type 0
+IsFreeWord m place = IsFree m place × IsFree m (place + 4)
+
+-- the word with this number as it came, of the bytes that stand and the maps
+abbrev pub came_at : List ℕ → Marks → (i : ℕ) → ℕ
+came_at bytes m i =
+    came_word (bit m.markers i) (bit m.envelopes i) (bit m.handles (2 * i))
+    (bit m.handles (2 * i + 1)) (word bytes i)
+
+-- where its object begins
+abbrev pub object_of : List ℕ → Marks → (i : ℕ) → ℕ
+object_of bytes m i = object_cell (bit m.markers i) (bit m.envelopes i) (word bytes i)
+
+-- one more than the record of the half with this number
+abbrev pub record_of : List ℕ → Marks → (j : ℕ) → ℕ
+record_of bytes m j =
+    record_cell (j % 2) (bit m.markers (j / 2)) (bit m.envelopes (j / 2)) (bit m.handles j)
+    (word bytes (j / 2))
+
+-- a byte as it came: behind the last whole word it is the byte that stands
+unfoldable pub came_byte : List ℕ → Marks → (k : ℕ) → ℕ
+came_byte bytes m k =
+    cond (nat_lt (k / 8) (words_of bytes))
+    (slice_index (to_le_bytes w64 (came_at bytes m (k / 8))) (k % 8)) (slice_index bytes k)
+
+-- what bytes with links are seen as
+unfoldable pub written : List ℕ → Marks → Written
+written bytes m =
+    record {
+      came = map (came_byte bytes m) (range_with_len 0 (length bytes));
+      objects = map (object_of bytes m) (range_with_len 0 (words_of bytes));
+      records = map (record_of bytes m) (range_with_len 0 (2 * words_of bytes));
+    }
+
+-- the word with this number has 64 bits, and where it is marked it holds a link
+abbrev pub IsSoundAt : List ℕ → Marks → (i : ℕ) → Type 0
+IsSoundAt bytes m i = (word bytes i < 2 ^ 64)
+    × IsSound (bit m.markers i) (bit m.envelopes i) (bit m.handles (2 * i))
+    (bit m.handles (2 * i + 1)) (word bytes i)
+
+abbrev pub AreSound : List ℕ → Marks → Type 0
+AreSound bytes m = (i : ℕ) → i < words_of bytes → IsSoundAt bytes m i

@@ -1,0 +1,16 @@
+//! A message in whose bytes links stand while it is decoded: where the object of each marker
+//! begins, and which record each handle has.
+#![tactic(auto)]
+
+mod bits;
+mod envelopes;
+pub mod laws;
+mod links;
+mod reading;
+mod restoring;
+mod room;
+mod words;
+pub mod worked;
+
+pub use links::Links;
+pub use room::{MOST_BYTES, Room};
