@@ -25,10 +25,9 @@ use Rattle.fidl_decode_model.specs.declared.fault.DecodeFault.{DecodeFault}
 use Rattle.fidl_decode_model.specs.declared.frame.Frame.{Frame}
 use Rattle.fidl_decode_model.specs.Invariants.{IsFine}
 use Rattle.fidl_decode_model.specs.State.{Message, Position, StandsAt, ValueAt}
-use Rattle.fidl_decode_model.specs.Envelopes.{Contained}
 use Rattle.fidl_decode_model.specs.Breaks.{Breaks, BreaksUnion, BreaksMember, ordinal_at}
 use Rattle.fidl_decode_model.specs.Breaks as broken
-use Rattle.fidl_decode_model.specs.Work.{Work, member_work}
+use Rattle.fidl_decode_model.specs.Work.{member_work}
 use Rattle.fidl_decode_model.specs.Machine.{StateFine, Visits, VisitFine, Opens, PaysEnvelope, FineIf, member_term, level, most_nest, inline_work, byte_work, probes, frame_work_if}
 use Rattle.fidl_decode_model.specs.Worth.{ContainedWorth, ValueWorth}
 use Rattle.fidl_decode_model.proofs.Broken.{union_absent, absent_union, union_chosen, union_right}

@@ -13,12 +13,14 @@ use Rattle.fidl_decode_model.specs.declared.fault.DecodeFault.TheVariants.{Wrong
 use Rattle.fidl_decode_model.specs.declared.frame.Frame.{Frame}
 use Rattle.fidl_decode_model.specs.declared.frame.Until.{Until}
 use Rattle.fidl_decode_model.specs.declared.frame.Remaining.TheVariants.{Content}
+use Rattle.fidl_decode_model.specs.Frontier.{AreFree}
 use Rattle.fidl_decode_model.specs.Invariants.{IsFine}
 use Rattle.fidl_decode_model.specs.State.{Message, Position}
 use Rattle.fidl_decode_model.specs.Breaks.{IsPadding, Breaks}
 use Rattle.fidl_decode_model.specs.Machine.{BreaksFrame, StateFine, FrameFine, Visits, Turns, inline_work, frame_work, byte_work, probes}
 use Rattle.fidl_decode_model.specs.Worth.{ReadsWorth}
 use Rattle.fidl_decode_model.specs.Envelopes.{IsUntil}
+use Rattle.fidl_decode.specs.Ready.{FrameReady}
 use Rattle.fidl_decode.proofs.ContentTurns.{content_end_room, content_over, content_miscounted, content_end_breaks, content_known, content_size, content_room, content_pays, content_breaks, content_turns, content_worth}
 use Rattle.fidl_decode_columns.proofs.Leaves.{going_on, same_frame, left_over, turns_then, turns_break}
 
@@ -84,3 +86,7 @@ module _ (t : List ℕ) (fine : IsFine t) (m : Message) (f : Frame) (e size coun
 
     pub leaf_end_breaks : (fault : DecodeFault) → IsPadding m.bytes (f.base + (f.done + size)) (f.base + f.size) fault → BreaksFrame t m f old fault
     leaf_end_breaks fault p = turns_break t m f old new (1 + spent) h read fault (content_end_breaks t fine m h e size (count - 1) u new read.rest_fine.0 read.state none fault p)
+
+    -- what is behind it can be read
+    pub leaf_end_free : FrameReady t m old f → AreFree new (f.base + (f.done + size)) (f.base + f.size)
+    leaf_end_free ready = (read.moves ready.0 ready.1).rest_clear.free

@@ -1,4 +1,6 @@
 pub mod Marked
+pub mod ReadyStart
+pub mod ReadyStack
 pub mod Running
 pub mod Refusing
 pub mod Covering
@@ -24,3 +26,6 @@ pub mod Freely
 pub mod Sequences
 pub mod BodyTurns
 pub mod TextMember
+pub mod ReadyPlaces
+pub mod ReadyBelow
+pub mod ReadyRows

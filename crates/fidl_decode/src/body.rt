@@ -12,6 +12,7 @@ ghost use Rattle.fidl_decode.specs.Body.{BodyFine, IsPassing, rest_of};
 ghost use Rattle.fidl_decode_model.specs.Steps.{Spends};
 ghost use Rattle.fidl_decode_model.specs.Machine.{StateFine, FrameFine, Turns, at_of};
 ghost use Rattle.fidl_decode.specs.Reading.{came, message, Holds};
+ghost use Rattle.fidl_decode.specs.Ready.{CanReadFrame};
 
 use crate::decoder::Decoder;
 use fidl_decode_model::frame::{Frame, Remaining, State};
@@ -111,6 +112,7 @@ impl<'t, 'm, 's> Decoder<'t, 'm, 's> {
         requires frame { FrameFine self.now.table.now (came self.now) (rest_of body.now read) }
         requires holds { Holds self.now state.old }
         requires state { StateFine (message self.now) (at_of state.old) }
+        requires ready { CanReadFrame self.now state.old (rest_of body.now read) }
         requires budget { state.old.steps < 2 ^ 43 }
         ensures holds { Holds self.now state.new }
         ensures passed { IsTrue result → Turns self.now.table.now
@@ -150,6 +152,7 @@ impl<'t, 'm, 's> Decoder<'t, 'm, 's> {
         requires frame { FrameFine self.now.table.now (came self.now) (rest_of body.now from) }
         requires holds { Holds self.now state.old }
         requires state { StateFine (message self.now) (at_of state.old) }
+        requires ready { CanReadFrame self.now state.old (rest_of body.now from) }
         requires budget { state.old.steps < 2 ^ 42 }
         ensures holds { Holds self.now state.new }
         ensures turns { Turns self.now.table.now
@@ -189,6 +192,7 @@ impl<'t, 'm, 's> Decoder<'t, 'm, 's> {
         requires frame { FrameFine self.now.table.now (came self.now) (rest_of body.now from) }
         requires holds { Holds self.now state.old }
         requires state { StateFine (message self.now) (at_of state.old) }
+        requires ready { CanReadFrame self.now state.old (rest_of body.now from) }
         requires budget { state.old.steps < 2 ^ 42 }
         ensures holds { Holds self.now state.new }
         ensures turns { Turns self.now.table.now
@@ -217,6 +221,7 @@ impl<'t, 'm, 's> Decoder<'t, 'm, 's> {
         requires frame { FrameFine self.now.table.now (came self.now) (rest_of body.now from) }
         requires holds { Holds self.now state.old }
         requires state { StateFine (message self.now) (at_of state.old) }
+        requires ready { CanReadFrame self.now state.old (rest_of body.now from) }
         requires budget { state.old.steps < 2 ^ 42 }
         ensures holds { Holds self.now state.new }
         ensures turns { Turns self.now.table.now
@@ -257,6 +262,7 @@ impl<'t, 'm, 's> Decoder<'t, 'm, 's> {
         requires frame { FrameFine self.now.table.now (came self.now) (rest_of body.now from) }
         requires holds { Holds self.now state.old }
         requires state { StateFine (message self.now) (at_of state.old) }
+        requires ready { CanReadFrame self.now state.old (rest_of body.now from) }
         requires budget { state.old.steps < 2 ^ 42 }
         ensures holds { Holds self.now state.new }
         ensures turns { Turns self.now.table.now
@@ -283,6 +289,7 @@ impl<'t, 'm, 's> Decoder<'t, 'm, 's> {
         requires frame { FrameFine self.now.table.now (came self.now) (rest_of body.now 0) }
         requires holds { Holds self.now state.old }
         requires state { StateFine (message self.now) (at_of state.old) }
+        requires ready { CanReadFrame self.now state.old (rest_of body.now 0) }
         requires budget { state.old.steps < 2 ^ 41 }
         ensures holds { Holds self.now state.new }
         ensures turns { Turns self.now.table.now

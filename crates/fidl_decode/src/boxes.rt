@@ -7,6 +7,7 @@ ghost use Rattle.fidl_table_format.specs.Section.{header_of, entry_at};
 ghost use Rattle.fidl_decode_model.specs.Breaks.{BreaksBox};
 ghost use Rattle.fidl_decode_model.specs.Machine.{StateFine, Visits, VisitFine, at_of};
 ghost use Rattle.fidl_decode.specs.Reading.{came, message, Holds};
+ghost use Rattle.fidl_decode.specs.Ready.{CanReadPlace};
 
 use crate::decoder::Decoder;
 use fidl_decode_model::DecodeFault;
@@ -28,6 +29,7 @@ impl<'t, 'm, 's> Decoder<'t, 'm, 's> {
         requires room { place + 8 ≤ length (came self.now) }
         requires holds { Holds self.now state.old }
         requires state { StateFine (message self.now) (at_of state.old) }
+        requires ready { CanReadPlace self.now state.old place 8 8 }
         requires depth { depth ≤ MAX_DEPTH }
         ensures holds { Holds self.now state.new }
         ensures ok { IfOk result (λ found. Visits self.now.table.now (message self.now) depth entry

@@ -9,6 +9,7 @@ ghost use Rattle.fidl_decode_model.specs.Steps.{Spends};
 ghost use Rattle.fidl_decode_model.specs.Machine.{StateFine, FrameFine, Turns, BreaksFrame};
 ghost use Rattle.fidl_decode_model.specs.Machine.{turn_work, at_of};
 ghost use Rattle.fidl_decode.specs.Reading.{came, message, Holds};
+ghost use Rattle.fidl_decode.specs.Ready.{CanReadFrame};
 
 use crate::decoder::Decoder;
 use fidl_decode_model::DecodeFault;
@@ -32,6 +33,7 @@ impl<'t, 'm, 's> Decoder<'t, 'm, 's> {
         requires frame { FrameFine self.now.table.now (came self.now) frame }
         requires holds { Holds self.now state.old }
         requires state { StateFine (message self.now) (at_of state.old) }
+        requires ready { CanReadFrame self.now state.old frame }
         requires steps { state.old.steps < 2 ^ 40 }
         ensures holds { Holds self.now state.new }
         ensures ok { IfOk result (λ turn. Turns self.now.table.now (message self.now) frame
@@ -95,6 +97,7 @@ impl<'t, 'm, 's> Decoder<'t, 'm, 's> {
         requires flat { IsFlat self.now.table.now (entry_at self.now.table.now entry) kind }
         requires holds { Holds self.now state.old }
         requires state { StateFine (message self.now) (at_of state.old) }
+        requires ready { CanReadFrame self.now state.old frame }
         requires budget { state.old.steps + turn_work (came self.now) state.old.next frame < 2 ^ 40 }
         ensures holds { Holds self.now state.new }
         ensures ok { OnOk result
@@ -137,6 +140,7 @@ impl<'t, 'm, 's> Decoder<'t, 'm, 's> {
         requires left { frame.left ≡ left.Content entry size count until }
         requires holds { Holds self.now state.old }
         requires state { StateFine (message self.now) (at_of state.old) }
+        requires ready { CanReadFrame self.now state.old frame }
         requires budget { state.old.steps + turn_work (came self.now) state.old.next frame < 2 ^ 40 }
         ensures holds { Holds self.now state.new }
         ensures ok { IfOk result
@@ -174,6 +178,7 @@ impl<'t, 'm, 's> Decoder<'t, 'm, 's> {
         requires frame { FrameFine self.now.table.now (came self.now) frame }
         requires holds { Holds self.now state.old }
         requires state { StateFine (message self.now) (at_of state.old) }
+        requires ready { CanReadFrame self.now state.old frame }
         requires budget { state.old.steps + turn_work (came self.now) state.old.next frame < 2 ^ 40 }
         ensures holds { Holds self.now state.new }
         ensures ok { IfOk result (λ turn. Turns self.now.table.now (message self.now) frame

@@ -19,6 +19,7 @@ ghost use Rattle.fidl_decode_model.specs.Machine.{frame_work};
 ghost use Rattle.fidl_decode_model.specs.Worth.{ReadsWorth, ContainedWorth};
 ghost use Rattle.fidl_decode_model.specs.Frontier.{IsAhead, CanRead, Moves};
 ghost use Rattle.fidl_decode.specs.Reading.{came, message, Holds};
+ghost use Rattle.fidl_decode.specs.Ready.{CanReadPlace};
 
 use crate::decoder::Decoder;
 use fidl_decode_model::DecodeFault;
@@ -95,6 +96,7 @@ impl<'t, 'm, 's> Decoder<'t, 'm, 's> {
         requires room { envelope + 8 ≤ length (came self.now) }
         requires holds { Holds self.now state.old }
         requires state { StateFine (message self.now) (at_of state.old) }
+        requires ready { CanReadPlace self.now state.old envelope 8 8 }
         requires depth { depth ≤ MAX_DEPTH }
         ensures holds { Holds self.now state.new }
         ensures ok { IfOk result (λ frame. (to : Position) → Contained
@@ -178,6 +180,7 @@ impl<'t, 'm, 's> Decoder<'t, 'm, 's> {
         requires room { envelope + 8 ≤ length (came self.now) }
         requires holds { Holds self.now state.old }
         requires state { StateFine (message self.now) (at_of state.old) }
+        requires ready { CanReadPlace self.now state.old envelope 8 8 }
         requires depth { depth ≤ MAX_DEPTH }
         ensures holds { Holds self.now state.new }
         ensures ok { OnOk result ((to : Position) → Contained (declarations_of self.now.table.now)

@@ -10,6 +10,7 @@ ghost use Rattle.fidl_decode_model.specs.Steps.{Spends};
 ghost use Rattle.fidl_decode_model.specs.Machine.{StateFine, FrameFine, BreaksFrame, Turns};
 ghost use Rattle.fidl_decode_model.specs.Machine.{IsKnown, turn_work, at_of};
 ghost use Rattle.fidl_decode.specs.Reading.{came, message, Holds};
+ghost use Rattle.fidl_decode.specs.Ready.{CanReadFrame};
 
 use crate::decoder::Decoder;
 use crate::plain::Plain;
@@ -32,6 +33,7 @@ impl<'t, 'm, 's> Decoder<'t, 'm, 's> {
         requires left { frame.left ≡ left.Rows first count }
         requires holds { Holds self.now state.old }
         requires state { StateFine (message self.now) (at_of state.old) }
+        requires ready { CanReadFrame self.now state.old frame }
         requires budget { state.old.steps + turn_work (came self.now) state.old.next frame < 2 ^ 40 }
         ensures holds { Holds self.now state.new }
         ensures ok { IfOk result
@@ -75,6 +77,7 @@ impl<'t, 'm, 's> Decoder<'t, 'm, 's> {
             known.now.first known.now.count known.now.done known.now.flag }
         requires holds { Holds self.now state.old }
         requires state { StateFine (message self.now) (at_of state.old) }
+        requires ready { CanReadFrame self.now state.old frame }
         requires budget { state.old.steps + turn_work (came self.now) state.old.next frame < 2 ^ 40 }
         ensures holds { Holds self.now state.new }
         ensures ok { IfOk result
@@ -125,6 +128,7 @@ impl<'t, 'm, 's> Decoder<'t, 'm, 's> {
         requires leaf { is_leaf self.now.table.now (entry_at self.now.table.now entry) kind ≡ true }
         requires holds { Holds self.now state.old }
         requires state { StateFine (message self.now) (at_of state.old) }
+        requires ready { CanReadFrame self.now state.old frame }
         requires budget { state.old.steps + turn_work (came self.now) state.old.next frame < 2 ^ 40 }
         ensures holds { Holds self.now state.new }
         ensures ok { OnOk result
@@ -165,6 +169,7 @@ impl<'t, 'm, 's> Decoder<'t, 'm, 's> {
         requires free { is_free_at self.now.table.now entry ≡ true }
         requires holds { Holds self.now state.old }
         requires state { StateFine (message self.now) (at_of state.old) }
+        requires ready { CanReadFrame self.now state.old frame }
         requires budget { state.old.steps < 2 ^ 42 }
         ensures holds { Holds self.now state.new }
         ensures ok { OnOk result
@@ -195,6 +200,7 @@ impl<'t, 'm, 's> Decoder<'t, 'm, 's> {
         requires left { frame.left ≡ left.Elements entry size count }
         requires holds { Holds self.now state.old }
         requires state { StateFine (message self.now) (at_of state.old) }
+        requires ready { CanReadFrame self.now state.old frame }
         requires budget { state.old.steps + turn_work (came self.now) state.old.next frame < 2 ^ 40 }
         ensures holds { Holds self.now state.new }
         ensures ok { IfOk result
@@ -237,6 +243,7 @@ impl<'t, 'm, 's> Decoder<'t, 'm, 's> {
         requires frame { FrameFine self.now.table.now (came self.now) frame }
         requires holds { Holds self.now state.old }
         requires state { StateFine (message self.now) (at_of state.old) }
+        requires ready { CanReadFrame self.now state.old frame }
         requires budget { state.old.steps + turn_work (came self.now) state.old.next frame < 2 ^ 40 }
         ensures holds { Holds self.now state.new }
         ensures ok { IfOk result

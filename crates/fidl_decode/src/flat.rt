@@ -14,6 +14,7 @@ ghost use Rattle.fidl_decode_model.specs.Steps.{Spends};
 ghost use Rattle.fidl_decode_model.specs.Machine.{StateFine, FrameFine, BreaksFrame, Visits};
 ghost use Rattle.fidl_decode_model.specs.Machine.{Turns, turn_work, value_work, at_of};
 ghost use Rattle.fidl_decode.specs.Reading.{came, message, Holds};
+ghost use Rattle.fidl_decode.specs.Ready.{CanReadFrame, CanReadValue};
 
 use crate::decoder::Decoder;
 use crate::plain::rows_from;
@@ -79,6 +80,7 @@ impl<'t, 'm, 's> Decoder<'t, 'm, 's> {
         requires leaves { AreLeaves self.now.table.now first count }
         requires holds { Holds self.now state.old }
         requires state { StateFine (message self.now) (at_of state.old) }
+        requires ready { CanReadFrame self.now state.old frame }
         requires budget { state.old.steps + turn_work (came self.now) state.old.next frame < 2 ^ 40 }
         ensures holds { Holds self.now state.new }
         ensures ok { OnOk result
@@ -126,6 +128,7 @@ impl<'t, 'm, 's> Decoder<'t, 'm, 's> {
         requires room { place + (entry_at self.now.table.now entry).size ≤ length (came self.now) }
         requires holds { Holds self.now state.old }
         requires state { StateFine (message self.now) (at_of state.old) }
+        requires ready { CanReadValue self.now state.old entry place }
         requires depth { depth ≤ MAX_DEPTH }
         requires budget { state.old.steps + value_work (came self.now) state.old.next
             (entry_at self.now.table.now entry) < 2 ^ 40 }

@@ -8,6 +8,7 @@ ghost use Rattle.fidl_table_format.specs.Terms.{declarations_of, is_optional};
 ghost use Rattle.fidl_decode_model.specs.Breaks.{BreaksHandle};
 ghost use Rattle.fidl_decode_model.specs.Machine.{StateFine, Leads, at_of};
 ghost use Rattle.fidl_decode.specs.Reading.{came, message, Holds};
+ghost use Rattle.fidl_decode.specs.Ready.{CanReadPlace};
 
 use crate::decoder::Decoder;
 use fidl_decode_model::DecodeFault;
@@ -45,6 +46,7 @@ impl<'t, 'm, 's> Decoder<'t, 'm, 's> {
         requires depth { depth ≤ MAX_DEPTH }
         requires holds { Holds self.now state.old }
         requires state { StateFine (message self.now) (at_of state.old) }
+        requires ready { CanReadPlace self.now state.old place 4 4 }
         ensures holds { Holds self.now state.new }
         ensures ok { OnOk result (Leads (declarations_of self.now.table.now) (message self.now)
             depth (ty.handle (is_optional entry.now) entry.now.subtype entry.now.rights) place

@@ -19,6 +19,8 @@ ghost use Rattle.fidl_decode_model.specs.Breaks.{BreaksField, Breaks};
 ghost use Rattle.fidl_decode_model.specs.Steps.{Spends};
 ghost use Rattle.fidl_decode_model.specs.Machine.{StateFine, Visits, at_of, probes};
 ghost use Rattle.fidl_decode.specs.Reading.{came, message, Holds};
+ghost use Rattle.fidl_decode.specs.Ready.{CanReadValue};
+ghost use Rattle.fidl_decode_model.specs.Frontier.{AreFree};
 
 use crate::decoder::Decoder;
 use fidl_decode_columns::is_free;
@@ -62,6 +64,8 @@ impl<'t, 'm, 's> Decoder<'t, 'm, 's> {
         state: &State<'_, '_>,
     ) -> Result<(), DecodeFault>
         requires holds { Holds self.now state.now }
+        requires free { AreFree (at_of state.now) place
+            (place + byte_len (width (underlying entry.now))) }
         requires kind { IsTrue (subtype_is is_unsigned entry.now) }
         requires room { place + byte_len (width (underlying entry.now)) ≤ length (came self.now) }
         ensures ok { OnOk result (IfSome (mask_of entry.now) (λ mask. InMask mask (number_standing
@@ -92,6 +96,8 @@ impl<'t, 'm, 's> Decoder<'t, 'm, 's> {
             place + byte_len (width (underlying d)) ≤ length (came self.now) }
         requires budget { state.old.steps < 2 ^ 41 }
         requires holds { Holds self.now state.old }
+        requires free { let d = entry_at self.now.table.now entry in
+            AreFree (at_of state.old) place (place + byte_len (width (underlying d))) }
         ensures holds { Holds self.now state.new }
         ensures ok { let t = self.now.table.now in
             let d = entry_at t entry in
@@ -131,6 +137,7 @@ impl<'t, 'm, 's> Decoder<'t, 'm, 's> {
         requires room { place + (entry_at self.now.table.now entry).size ≤ length (came self.now) }
         requires holds { Holds self.now state.old }
         requires state { StateFine (message self.now) (at_of state.old) }
+        requires ready { CanReadValue self.now state.old entry place }
         requires depth { depth ≤ MAX_DEPTH }
         requires budget { state.old.steps < 2 ^ 41 }
         ensures holds { Holds self.now state.new }

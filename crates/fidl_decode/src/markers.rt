@@ -4,6 +4,8 @@ ghost use Rattle.fidl_wire.specs.Encoding.{zeros, present};
 ghost use Rattle.fidl_wire.specs.Marker.{Says};
 ghost use Rattle.fidl_wire.specs.Standing.{Stands};
 ghost use Rattle.fidl_decode.specs.Reading.{came, Holds};
+ghost use Rattle.fidl_decode_model.specs.Frontier.{AreFree};
+ghost use Rattle.fidl_decode_model.specs.Machine.{at_of};
 
 use crate::decoder::Decoder;
 use fidl_decode_model::frame::State;
@@ -14,6 +16,7 @@ impl<'t, 'm, 's> Decoder<'t, 'm, 's> {
     #[inline(always)]
     pub(crate) fn presence(&self, place: usize, state: &State<'_, '_>) -> Presence
         requires holds { Holds self.now state.now }
+        requires free { AreFree (at_of state.now) place (place + 8) }
         requires room { place + 8 ≤ length (came self.now) }
         ensures { Says (came self.now) place 8 result }
     {
@@ -28,6 +31,7 @@ impl<'t, 'm, 's> Decoder<'t, 'm, 's> {
     #[inline(always)]
     pub(crate) fn is_present(&self, place: usize, state: &State<'_, '_>) -> bool
         requires holds { Holds self.now state.now }
+        requires free { AreFree (at_of state.now) place (place + 8) }
         requires room { place + 8 ≤ length (came self.now) }
         ensures { IsTrue result ↔ Stands (came self.now) place present }
     {
@@ -38,6 +42,7 @@ impl<'t, 'm, 's> Decoder<'t, 'm, 's> {
     #[inline(always)]
     pub(crate) fn is_absent(&self, place: usize, state: &State<'_, '_>) -> bool
         requires holds { Holds self.now state.now }
+        requires free { AreFree (at_of state.now) place (place + 8) }
         requires room { place + 8 ≤ length (came self.now) }
         ensures { IsTrue result ↔ Stands (came self.now) place (zeros 8) }
     {

@@ -11,6 +11,7 @@ ghost use Rattle.fidl_decode_model.specs.Machine.{StateFine, FrameFine, BreaksFr
 ghost use Rattle.fidl_decode_model.specs.Machine.{IsPlain, IsKnown, rows_left, behind_rows};
 ghost use Rattle.fidl_decode_model.specs.Machine.{turn_work, at_of};
 ghost use Rattle.fidl_decode.specs.Reading.{came, message, Holds};
+ghost use Rattle.fidl_decode.specs.Ready.{CanReadFrame};
 
 use crate::decoder::Decoder;
 use crate::plain::{Plain, rows_from};
@@ -56,6 +57,7 @@ impl<'t, 'm, 's> Decoder<'t, 'm, 's> {
             row.key + (entry_at self.now.table.now row.entry).size ≡ frame.size }
         requires holds { Holds self.now state.old }
         requires state { StateFine (message self.now) (at_of state.old) }
+        requires ready { CanReadFrame self.now state.old frame }
         requires budget { state.old.steps + turn_work (came self.now) state.old.next frame < 2 ^ 40 }
         ensures holds { Holds self.now state.new }
         ensures ok { IfOk result
@@ -95,6 +97,7 @@ impl<'t, 'm, 's> Decoder<'t, 'm, 's> {
             is_leaf self.now.table.now (entry_at self.now.table.now row.entry) kind ≡ true }
         requires holds { Holds self.now state.old }
         requires state { StateFine (message self.now) (at_of state.old) }
+        requires ready { CanReadFrame self.now state.old frame }
         requires budget { state.old.steps + turn_work (came self.now) state.old.next frame < 2 ^ 40 }
         ensures holds { Holds self.now state.new }
         ensures ok { let row = row_at self.now.table.now (header_of self.now.table.now) first in
@@ -131,6 +134,7 @@ impl<'t, 'm, 's> Decoder<'t, 'm, 's> {
         requires over { rows_left self.now.table.now frame.done frame.left ≡ [] }
         requires holds { Holds self.now state.old }
         requires state { StateFine (message self.now) (at_of state.old) }
+        requires ready { CanReadFrame self.now state.old frame }
         requires budget { state.old.steps + turn_work (came self.now) state.old.next frame < 2 ^ 40 }
         ensures holds { Holds self.now state.new }
         ensures ok { OnOk result
@@ -162,6 +166,7 @@ impl<'t, 'm, 's> Decoder<'t, 'm, 's> {
             known.now.first known.now.count known.now.done known.now.flag }
         requires holds { Holds self.now state.old }
         requires state { StateFine (message self.now) (at_of state.old) }
+        requires ready { CanReadFrame self.now state.old frame }
         requires budget { state.old.steps + turn_work (came self.now) state.old.next frame < 2 ^ 40 }
         ensures holds { Holds self.now state.new }
         ensures ok { IfOk result
@@ -231,6 +236,7 @@ impl<'t, 'm, 's> Decoder<'t, 'm, 's> {
         requires frame { FrameFine self.now.table.now (came self.now) frame }
         requires holds { Holds self.now state.old }
         requires state { StateFine (message self.now) (at_of state.old) }
+        requires ready { CanReadFrame self.now state.old frame }
         requires budget { state.old.steps + turn_work (came self.now) state.old.next frame < 2 ^ 40 }
         ensures holds { Holds self.now state.new }
         ensures ok { IfOk result

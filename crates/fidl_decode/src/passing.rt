@@ -11,6 +11,7 @@ ghost use Rattle.fidl_table_format.specs.Section.{header_of, entry_at};
 ghost use Rattle.fidl_decode_model.specs.Invariants.{is_free};
 ghost use Rattle.fidl_decode_model.specs.Machine.{StateFine, Opens, at_of};
 ghost use Rattle.fidl_decode.specs.Reading.{came, message, Holds};
+ghost use Rattle.fidl_decode.specs.Ready.{CanReadPlace};
 
 use crate::decoder::Decoder;
 use fidl_decode_columns::is_free;
@@ -42,6 +43,7 @@ impl<'t, 'm, 's> Decoder<'t, 'm, 's> {
         requires room { envelope + 8 ≤ length (came self.now) }
         requires holds { Holds self.now state.old }
         requires state { StateFine (message self.now) (at_of state.old) }
+        requires ready { CanReadPlace self.now state.old envelope 8 8 }
         requires depth { depth ≤ MAX_DEPTH }
         ensures holds { Holds self.now state.new }
         ensures passed { IsTrue result → Opens self.now.table.now (message self.now) depth (Some
@@ -79,6 +81,7 @@ impl<'t, 'm, 's> Decoder<'t, 'm, 's> {
         requires room { envelope + 8 ≤ length (came self.now) }
         requires holds { Holds self.now state.old }
         requires state { StateFine (message self.now) (at_of state.old) }
+        requires ready { CanReadPlace self.now state.old envelope 8 8 }
         requires depth { depth ≤ MAX_DEPTH }
         ensures holds { Holds self.now state.new }
         ensures passed { IsTrue result → Opens self.now.table.now (message self.now) depth (Some
@@ -110,6 +113,7 @@ impl<'t, 'm, 's> Decoder<'t, 'm, 's> {
         requires room { envelope + 8 ≤ length (came self.now) }
         requires holds { Holds self.now state.old }
         requires state { StateFine (message self.now) (at_of state.old) }
+        requires ready { CanReadPlace self.now state.old envelope 8 8 }
         requires depth { depth ≤ MAX_DEPTH }
         requires budget { state.old.steps < 2 ^ 44 }
         ensures holds { Holds self.now state.new }
@@ -145,6 +149,7 @@ impl<'t, 'm, 's> Decoder<'t, 'm, 's> {
         requires room { envelope + 8 ≤ length (came self.now) }
         requires holds { Holds self.now state.old }
         requires state { StateFine (message self.now) (at_of state.old) }
+        requires ready { CanReadPlace self.now state.old envelope 8 8 }
         requires depth { depth ≤ MAX_DEPTH }
         ensures holds { Holds self.now state.new }
         ensures passed { IsTrue result → Opens self.now.table.now (message self.now) depth (Some
@@ -184,6 +189,7 @@ impl<'t, 'm, 's> Decoder<'t, 'm, 's> {
         requires room { envelope + 8 ≤ length (came self.now) }
         requires holds { Holds self.now state.old }
         requires state { StateFine (message self.now) (at_of state.old) }
+        requires ready { CanReadPlace self.now state.old envelope 8 8 }
         requires depth { depth ≤ MAX_DEPTH }
         requires budget { state.old.steps < 2 ^ 44 }
         ensures holds { Holds self.now state.new }
@@ -215,6 +221,7 @@ impl<'t, 'm, 's> Decoder<'t, 'm, 's> {
         requires room { envelope + 8 ≤ length (came self.now) }
         requires holds { Holds self.now state.old }
         requires state { StateFine (message self.now) (at_of state.old) }
+        requires ready { CanReadPlace self.now state.old envelope 8 8 }
         requires depth { depth ≤ MAX_DEPTH }
         requires budget { state.old.steps < 2 ^ 44 }
         ensures holds { Holds self.now state.new }

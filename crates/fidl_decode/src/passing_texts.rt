@@ -11,6 +11,7 @@ ghost use Rattle.fidl_table_format.specs.Kind.{kind_of};
 ghost use Rattle.fidl_table_format.specs.Section.{header_of, entry_at};
 ghost use Rattle.fidl_decode_model.specs.Machine.{StateFine, Opens, at_of};
 ghost use Rattle.fidl_decode.specs.Reading.{came, message, Holds};
+ghost use Rattle.fidl_decode.specs.Ready.{CanReadPlace};
 
 use crate::decoder::Decoder;
 use fidl_decode_model::frame::State;
@@ -69,6 +70,7 @@ impl<'t, 'm, 's> Decoder<'t, 'm, 's> {
         requires room { envelope + 8 ≤ length (came self.now) }
         requires holds { Holds self.now state.old }
         requires state { StateFine (message self.now) (at_of state.old) }
+        requires ready { CanReadPlace self.now state.old envelope 8 8 }
         requires depth { depth ≤ MAX_DEPTH }
         requires budget { state.old.steps < 2 ^ 44 }
         ensures holds { Holds self.now state.new }

@@ -2,6 +2,7 @@
 //! than a look at their rows, and at the byte of a bool.
 ghost use Rattle.std.specs.Prelude.{◌≡◌, ◌+◌, ◌-◌, ◌^◌, ◌<◌, ◌≤◌, OnOk, IfOk, IfErr, IfNone};
 ghost use Rattle.std.specs.Prelude.{ℕ, IfSome, IsTrue, Some, None, true, length};
+ghost use Rattle.std.proofs.Props.{props};
 ghost use Rattle.fidl_limits.specs.declared.limits.TheConstants.{MAX_DEPTH, MAX_MESSAGE_BYTES};
 ghost use Rattle.fidl_table_format.specs.declared.kind.EntryKind.{EntryKind};
 ghost use Rattle.fidl_table_format.specs.Kind.{kind_of};
@@ -10,9 +11,11 @@ ghost use Rattle.fidl_decode_model.specs.Invariants.{is_free};
 ghost use Rattle.fidl_decode_model.specs.declared.frame.Remaining.TheVariants as left;
 ghost use Rattle.fidl_decode_columns.specs.declared.kinds.TheConstants.{MOST_ROWS};
 ghost use Rattle.fidl_decode_model.specs.State.{Position};
+ghost use Rattle.fidl_decode_model.specs.Frontier.{AreFree};
 ghost use Rattle.fidl_decode_model.specs.Machine.{StateFine, FrameFine, Visits, Turns, BreaksFrame};
 ghost use Rattle.fidl_decode_model.specs.Machine.{IsGood, Passes, IsKnown, turn_work, at_of};
 ghost use Rattle.fidl_decode.specs.Reading.{came, message, Holds};
+ghost use Rattle.fidl_decode.specs.Ready.{CanReadFrame};
 
 use crate::decoder::Decoder;
 use fidl_decode_columns::{MOST_ROWS, is_free};
@@ -40,6 +43,7 @@ pub(crate) struct Plain {
     pub count: u32,
     /// How far behind the struct's start the bool among these stands, if there is one.
     pub flag: Option<u32>,
+    ghost inside: { IfSome flag (λ k. k < done) } by { Prim.hlevel props },
 }
 
 /// A frame with so many rows left, from the first on, and so many of its bytes read.
@@ -98,6 +102,8 @@ impl<'t, 'm, 's> Decoder<'t, 'm, 's> {
             self.now.table.now row.now.entry).size ≤ length (came self.now) → IsGood
             (came self.now) base next → Visits self.now.table.now (message self.now) depth
             row.now.entry (base + row.now.key) s s 0 None) }
+        ensures inside { IfSome result (λ next. (end : ℕ) → row.now.key < end →
+            IfSome flag (λ k. k < end) → IfSome next (λ k. k < end)) }
     {
         if self.takes_any(row, done) {
             return Some(flag);
@@ -182,6 +188,7 @@ impl<'t, 'm, 's> Decoder<'t, 'm, 's> {
     fn is_good(&self, base: usize, flag: Option<u32>, state: &State<'_, '_>) -> bool
         requires holds { Holds self.now state.now }
         requires short { base ≤ MAX_MESSAGE_BYTES }
+        requires free { IfSome flag (λ k. AreFree (at_of state.now) (base + k) (base + k + 1)) }
         ensures { IsTrue result → IsGood (came self.now) base flag }
     {
         let Some(offset) = flag else {
@@ -201,6 +208,7 @@ impl<'t, 'm, 's> Decoder<'t, 'm, 's> {
             plain.now.first plain.now.count plain.now.done plain.now.flag }
         requires holds { Holds self.now state.old }
         requires state { StateFine (message self.now) (at_of state.old) }
+        requires ready { CanReadFrame self.now state.old frame }
         requires budget { state.old.steps + turn_work (came self.now) state.old.next frame < 2 ^ 40 }
         ensures holds { Holds self.now state.new }
         ensures turns { Turns self.now.table.now
@@ -224,6 +232,7 @@ impl<'t, 'm, 's> Decoder<'t, 'm, 's> {
             known.now.first known.now.count known.now.done known.now.flag }
         requires holds { Holds self.now state.old }
         requires state { StateFine (message self.now) (at_of state.old) }
+        requires ready { CanReadFrame self.now state.old frame }
         requires budget { state.old.steps + turn_work (came self.now) state.old.next frame < 2 ^ 40 }
         ensures holds { Holds self.now state.new }
         ensures turns { Turns self.now.table.now
@@ -265,6 +274,7 @@ impl<'t, 'm, 's> Decoder<'t, 'm, 's> {
             known.now.first known.now.count known.now.done known.now.flag }
         requires holds { Holds self.now state.old }
         requires state { StateFine (message self.now) (at_of state.old) }
+        requires ready { CanReadFrame self.now state.old frame }
         requires budget { state.old.steps + turn_work (came self.now) state.old.next frame < 2 ^ 40 }
         ensures holds { Holds self.now state.new }
         ensures ok { IfOk result

@@ -12,6 +12,8 @@ ghost use Rattle.fidl_table_format.specs.Number.{number_standing};
 ghost use Rattle.fidl_table_format.specs.Terms.{as_number, value_number};
 ghost use Rattle.fidl_decode_model.specs.Breaks.{IsPadding};
 ghost use Rattle.fidl_decode.specs.Reading.{came, Holds};
+ghost use Rattle.fidl_decode_model.specs.Frontier.{AreFree};
+ghost use Rattle.fidl_decode_model.specs.Machine.{at_of};
 
 use crate::decoder::Decoder;
 use crate::passing_texts::{are_ascii, are_zeros};
@@ -36,6 +38,7 @@ impl<'t, 'm, 's> Decoder<'t, 'm, 's> {
     pub(crate) fn byte_at(&self, place: usize, state: &State<'_, '_>) -> u8
         requires holds { Holds self.now state.now }
         requires room { place < length (came self.now) }
+        requires free { AreFree (at_of state.now) place (place + 1) }
         ensures { result ≡ slice_index (came self.now) place }
     {
         self.bytes(state)[place]
@@ -46,6 +49,7 @@ impl<'t, 'm, 's> Decoder<'t, 'm, 's> {
     pub(crate) fn u32_at(&self, place: usize, state: &State<'_, '_>) -> u32
         requires holds { Holds self.now state.now }
         requires room { place + 4 ≤ length (came self.now) }
+        requires free { AreFree (at_of state.now) place (place + 4) }
         ensures { result ≡ number_at w32 (came self.now) place }
     {
         u32_at(self.bytes(state), place)
@@ -56,6 +60,7 @@ impl<'t, 'm, 's> Decoder<'t, 'm, 's> {
     pub(crate) fn u64_at(&self, place: usize, state: &State<'_, '_>) -> u64
         requires holds { Holds self.now state.now }
         requires room { place + 8 ≤ length (came self.now) }
+        requires free { AreFree (at_of state.now) place (place + 8) }
         ensures { result ≡ number_at w64 (came self.now) place }
     {
         u64_at(self.bytes(state), place)
@@ -66,6 +71,8 @@ impl<'t, 'm, 's> Decoder<'t, 'm, 's> {
     pub(crate) fn number_bits(&self, kind: EntryKind, place: usize, state: &State<'_, '_>) -> u64
         requires holds { Holds self.now state.now }
         requires room { place + byte_len (width (as_number kind)) ≤ length (came self.now) }
+        requires free { AreFree (at_of state.now) place
+            (place + byte_len (width (as_number kind))) }
         ensures { value_number (as_number kind) result ≡ number_standing (as_number kind)
             (came self.now) place }
     {
@@ -77,6 +84,7 @@ impl<'t, 'm, 's> Decoder<'t, 'm, 's> {
     pub(crate) fn byte_count_at(&self, envelope: usize, state: &State<'_, '_>) -> u32
         requires holds { Holds self.now state.now }
         requires room { envelope + 8 ≤ length (came self.now) }
+        requires free { AreFree (at_of state.now) envelope (envelope + 8) }
         ensures { result ≡ bytes_below (came self.now) envelope }
     {
         byte_count_at(self.bytes(state), envelope)
@@ -87,6 +95,7 @@ impl<'t, 'm, 's> Decoder<'t, 'm, 's> {
     pub(crate) fn handle_count_at(&self, envelope: usize, state: &State<'_, '_>) -> u16
         requires holds { Holds self.now state.now }
         requires room { envelope + 8 ≤ length (came self.now) }
+        requires free { AreFree (at_of state.now) envelope (envelope + 8) }
         ensures { result ≡ handles_below (came self.now) envelope }
     {
         handle_count_at(self.bytes(state), envelope)
@@ -97,6 +106,7 @@ impl<'t, 'm, 's> Decoder<'t, 'm, 's> {
     pub(crate) fn flags_at(&self, envelope: usize, state: &State<'_, '_>) -> u16
         requires holds { Holds self.now state.now }
         requires room { envelope + 8 ≤ length (came self.now) }
+        requires free { AreFree (at_of state.now) envelope (envelope + 8) }
         ensures { result ≡ flags_at (came self.now) envelope }
     {
         flags_at(self.bytes(state), envelope)
@@ -107,6 +117,7 @@ impl<'t, 'm, 's> Decoder<'t, 'm, 's> {
     pub(crate) fn presence_at(&self, place: usize, state: &State<'_, '_>) -> Presence
         requires holds { Holds self.now state.now }
         requires room { place + 4 ≤ length (came self.now) }
+        requires free { AreFree (at_of state.now) place (place + 4) }
         ensures { Says (came self.now) place 4 result }
     {
         presence_at(self.bytes(state), place, 4)
@@ -123,6 +134,7 @@ impl<'t, 'm, 's> Decoder<'t, 'm, 's> {
         requires holds { Holds self.now state.now }
         requires order { from ≤ to }
         requires room { to ≤ length (came self.now) }
+        requires free { AreFree (at_of state.now) from to }
         ensures ok { OnOk result (Stands (came self.now) from (zeros (to - from))) }
         ensures fault_is_true { IfErr result (IsPadding (came self.now) from to) }
     {
@@ -135,6 +147,7 @@ impl<'t, 'm, 's> Decoder<'t, 'm, 's> {
         requires holds { Holds self.now state.now }
         requires eights { size % 8 ≡ 0 }
         requires room { from + size ≤ length (came self.now) }
+        requires free { AreFree (at_of state.now) from (from + size) }
         ensures { IsTrue result → (k : ℕ) → k < size → slice_index (came self.now) (from + k) < 128 }
     {
         are_ascii(self.bytes(state), from, size)
@@ -146,6 +159,7 @@ impl<'t, 'm, 's> Decoder<'t, 'm, 's> {
         requires holds { Holds self.now state.now }
         requires order { from ≤ to }
         requires room { to ≤ length (came self.now) }
+        requires free { AreFree (at_of state.now) from to }
         ensures { IsTrue result → Stands (came self.now) from (zeros (to - from)) }
     {
         are_zeros(self.bytes(state), from, to)

@@ -17,6 +17,7 @@ ghost use Rattle.fidl_decode_model.specs.Machine.{Opens, PaysEnvelope, member_te
 ghost use Rattle.fidl_decode_model.specs.Machine.{behind_envelopes};
 ghost use Rattle.fidl_decode_model.specs.Machine.{byte_work, envelope_work, turn_work, at_of};
 ghost use Rattle.fidl_decode.specs.Reading.{came, message, Holds};
+ghost use Rattle.fidl_decode.specs.Ready.{CanReadFrame, CanReadPlace};
 
 use crate::decoder::Decoder;
 use fidl_decode_model::DecodeFault;
@@ -56,6 +57,7 @@ impl<'t, 'm, 's> Decoder<'t, 'm, 's> {
         requires room { envelope + 8 ≤ length (came self.now) }
         requires holds { Holds self.now state.old }
         requires state { StateFine (message self.now) (at_of state.old) }
+        requires ready { CanReadPlace self.now state.old envelope 8 8 }
         requires depth { depth ≤ MAX_DEPTH }
         requires budget { state.old.steps + byte_work * (length (came self.now) - state.old.next) +
             envelope_work < 2 ^ 40 }
@@ -92,6 +94,7 @@ impl<'t, 'm, 's> Decoder<'t, 'm, 's> {
         requires room { envelope + 8 ≤ length (came self.now) }
         requires holds { Holds self.now state.old }
         requires state { StateFine (message self.now) (at_of state.old) }
+        requires ready { CanReadPlace self.now state.old envelope 8 8 }
         requires depth { depth ≤ MAX_DEPTH }
         requires budget { state.old.steps + byte_work * (length (came self.now) - state.old.next) +
             envelope_work < 2 ^ 40 }
@@ -137,6 +140,7 @@ impl<'t, 'm, 's> Decoder<'t, 'm, 's> {
         requires room { envelope + 8 ≤ length (came self.now) }
         requires holds { Holds self.now state.old }
         requires state { StateFine (message self.now) (at_of state.old) }
+        requires ready { CanReadPlace self.now state.old envelope 8 8 }
         requires depth { depth ≤ MAX_DEPTH }
         requires budget { state.old.steps + byte_work * (length (came self.now) - state.old.next) +
             envelope_work < 2 ^ 40 }
@@ -205,6 +209,7 @@ impl<'t, 'm, 's> Decoder<'t, 'm, 's> {
         requires frame { FrameFine self.now.table.now (came self.now) frame }
         requires holds { Holds self.now state.old }
         requires state { StateFine (message self.now) (at_of state.old) }
+        requires ready { CanReadFrame self.now state.old frame }
         requires budget { state.old.steps + turn_work (came self.now) state.old.next frame < 2 ^ 40 }
         ensures holds { Holds self.now state.new }
         ensures ok { IfOk result
@@ -244,6 +249,7 @@ impl<'t, 'm, 's> Decoder<'t, 'm, 's> {
         requires frame { FrameFine self.now.table.now (came self.now) frame }
         requires holds { Holds self.now state.old }
         requires state { StateFine (message self.now) (at_of state.old) }
+        requires ready { CanReadFrame self.now state.old frame }
         requires budget { state.old.steps + turn_work (came self.now) state.old.next frame < 2 ^ 40 }
         ensures holds { Holds self.now state.new }
         ensures ok { IfOk result (λ turn. Turns self.now.table.now (message self.now) frame

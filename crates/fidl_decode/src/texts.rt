@@ -10,6 +10,8 @@ ghost use Rattle.fidl_decode_model.specs.State.{Position, ValueAt};
 ghost use Rattle.fidl_decode_model.specs.Work.{Work};
 ghost use Rattle.fidl_decode_model.specs.Machine.{StateFine, Leads, at_of};
 ghost use Rattle.fidl_decode.specs.Reading.{came, message, Holds};
+ghost use Rattle.fidl_decode.specs.Ready.{CanReadPlace};
+ghost use Rattle.fidl_decode_model.specs.Frontier.{AreFree};
 
 use crate::decoder::Decoder;
 use crate::handles::is_optional;
@@ -28,6 +30,7 @@ impl<'t, 'm, 's> Decoder<'t, 'm, 's> {
     #[inline(always)]
     fn is_text(&self, from: usize, count: usize, size: usize, state: &State<'_, '_>) -> bool
         requires holds { Holds self.now state.now }
+        requires free { AreFree (at_of state.now) from (from + size) }
         requires eights { size % 8 ≡ 0 }
         requires within { count ≤ size }
         requires room { from + size ≤ length (came self.now) }
@@ -52,6 +55,7 @@ impl<'t, 'm, 's> Decoder<'t, 'm, 's> {
         requires depth { depth ≤ MAX_DEPTH }
         requires holds { Holds self.now state.old }
         requires state { StateFine (message self.now) (at_of state.old) }
+        requires ready { CanReadPlace self.now state.old place 16 8 }
         requires budget { state.old.steps < 2 ^ 41 }
         ensures holds { Holds self.now state.new }
         ensures ok { OnOk result (Leads (declarations_of self.now.table.now) (message self.now)

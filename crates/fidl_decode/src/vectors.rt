@@ -14,6 +14,7 @@ ghost use Rattle.fidl_decode_model.specs.Steps.{Spends};
 ghost use Rattle.fidl_decode_model.specs.Breaks.{Breaks, BreaksCounted, count_at};
 ghost use Rattle.fidl_decode_model.specs.Machine.{StateFine, Visits, VisitFine, at_of, probes};
 ghost use Rattle.fidl_decode.specs.Reading.{came, message, Holds};
+ghost use Rattle.fidl_decode.specs.Ready.{CanReadPlace};
 
 use crate::decoder::Decoder;
 use crate::handles::is_optional;
@@ -36,6 +37,7 @@ impl<'t, 'm, 's> Decoder<'t, 'm, 's> {
         requires room { place + 16 ≤ length (came self.now) }
         requires holds { Holds self.now state.old }
         requires state { StateFine (message self.now) (at_of state.old) }
+        requires ready { CanReadPlace self.now state.old place 16 8 }
         requires depth { depth ≤ MAX_DEPTH }
         ensures holds { Holds self.now state.new }
         ensures ok { IfOk result (λ found. Visits self.now.table.now (message self.now) depth entry
@@ -122,6 +124,7 @@ impl<'t, 'm, 's> Decoder<'t, 'm, 's> {
         requires room { place + 16 ≤ length (came self.now) }
         requires holds { Holds self.now state.old }
         requires state { StateFine (message self.now) (at_of state.old) }
+        requires ready { CanReadPlace self.now state.old place 16 8 }
         requires depth { depth ≤ MAX_DEPTH }
         requires budget { state.old.steps < 2 ^ 41 }
         ensures holds { Holds self.now state.new }

@@ -13,6 +13,7 @@ ghost use Rattle.fidl_decode_model.specs.Steps.{Spends};
 ghost use Rattle.fidl_decode_model.specs.Machine.{BreaksFrame, Visits, Turns, turn_work, at_of};
 ghost use Rattle.fidl_decode_model.specs.Machine.{probes};
 ghost use Rattle.fidl_decode.specs.Reading.{came, message, Holds};
+ghost use Rattle.fidl_decode.specs.Ready.{CanReadFrame, CanReadValue};
 
 use crate::decoder::Decoder;
 use crate::plain::rows_from;
@@ -35,6 +36,7 @@ impl<'t, 'm, 's> Decoder<'t, 'm, 's> {
         requires room { place + (entry_at self.now.table.now entry).size ≤ length (came self.now) }
         requires holds { Holds self.now state.old }
         requires state { StateFine (message self.now) (at_of state.old) }
+        requires ready { CanReadValue self.now state.old entry place }
         requires depth { depth ≤ MAX_DEPTH }
         requires in_envelope { IsInside in_envelope (entry_at self.now.table.now entry).size }
         requires budget { state.old.steps < 2 ^ 41 }
@@ -110,6 +112,7 @@ impl<'t, 'm, 's> Decoder<'t, 'm, 's> {
         requires left { frame.left ≡ left.Rows first count }
         requires holds { Holds self.now state.old }
         requires state { StateFine (message self.now) (at_of state.old) }
+        requires ready { CanReadFrame self.now state.old frame }
         requires budget { state.old.steps + turn_work (came self.now) state.old.next frame < 2 ^ 40 }
         ensures holds { Holds self.now state.new }
         ensures ok { IfOk result (λ turn. Turns self.now.table.now (message self.now) frame

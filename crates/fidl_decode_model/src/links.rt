@@ -1,6 +1,7 @@
 //! A message and its links: where the object of each marker begins, and which record each handle
 //! has.
-ghost use Rattle.std.specs.Prelude.{◌≡◌, ◌+◌, ◌-◌, ◌/◌, ◌^◌, ◌<◌, ◌≤◌, length, slice_set};
+ghost use Rattle.std.specs.Prelude.{◌≡◌, ℕ, ◌+◌, ◌-◌, ◌/◌, ◌^◌, ◌<◌, ◌≤◌, length, slice_index};
+ghost use Rattle.std.specs.Prelude.{slice_set};
 ghost use Rattle.fidl_limits.specs.declared.limits.TheConstants.{MAX_MESSAGE_BYTES};
 ghost use Rattle.fidl_decode_model.specs.Links.{noted};
 ghost use Rattle.fidl_decode_model.specs.Placed.{object_at, record_at};
@@ -8,6 +9,15 @@ ghost use Rattle.fidl_decode_model.specs.Placed.{object_at, record_at};
 use fidl_wire::MAX_MESSAGE_BYTES;
 use std::alloc::{AllocError, Global};
 use std::marker::Model;
+
+/// Clears the first so many cells.
+fn clear_cells(cells: &mut [u32], count: usize)
+    requires { count ≤ length cells.old }
+    ensures len { length cells.new ≡ length cells.old }
+    ensures clear { (i : ℕ) → i < count → slice_index cells.new i ≡ 0 }
+{
+    cells[..count].fill(0);
+}
 
 /// Room for the links of one message at a time: a cell for each eight bytes, where a marker can
 /// stand, and one for each four, where a handle can. It keeps how many steps the last message took.
@@ -59,6 +69,16 @@ impl Room {
         ensures { self.new.steps ≡ steps }
     {
         self.steps = steps;
+    }
+
+    /// No link is noted at the first so many bytes.
+    fn clear(&mut self, size: usize)
+        requires { size ≤ MAX_MESSAGE_BYTES }
+        ensures objects { (k : ℕ) → k < size → slice_index self.new.links.objects (k / 8) ≡ 0 }
+        ensures records { (k : ℕ) → k < size → slice_index self.new.links.records (k / 4) ≡ 0 }
+    {
+        clear_cells(&mut self.objects, size.div_ceil(8));
+        clear_cells(&mut self.records, size.div_ceil(4));
     }
 
     /// How many bytes of a message have cells: as many as a message can have.
@@ -129,10 +149,14 @@ impl<'m, 's> Model for Links<'m, 's> {
 }
 
 impl<'m, 's> Links<'m, 's> {
-    /// A message, and room for its links.
+    /// A message of which no link is noted yet. Of the room, what the message needs is cleared.
     pub fn new(bytes: &'m [u8], room: &'s mut Room) -> Links<'m, 's>
-        ensures { result.came ≡ bytes.now }
+        requires { length bytes.now ≤ MAX_MESSAGE_BYTES }
+        ensures came { result.came ≡ bytes.now }
+        ensures objects { (k : ℕ) → k < length bytes.now → slice_index result.objects (k / 8) ≡ 0 }
+        ensures records { (k : ℕ) → k < length bytes.now → slice_index result.records (k / 4) ≡ 0 }
     {
+        room.clear(bytes.len());
         Links { bytes, room }
     }
 

@@ -1,4 +1,4 @@
-use Rattle.std.proofs.Common.{◌≡◌, ℕ, List, ◌+◌, ◌*◌, ◌≤◌, length, sym, ap, subst, ◌∙◌, arith}
+use Rattle.std.proofs.Common.{◌≡◌, ℕ, List, ◌+◌, ◌*◌, ◌<◌, ◌≤◌, length, sym, ap, subst, ◌∙◌, arith}
 use Rattle.fidl_limits.specs.declared.limits.TheConstants.{STEPS_PER_BYTE}
 use Rattle.fidl_wire.specs.Message.{Encodes}
 use Rattle.fidl_decode_model.specs.Links.{Written, noted}
@@ -31,10 +31,17 @@ invariant_of-result c =
       λ v h. omega (arith, x.2, ap (λ (v : Value). Work v) (one_value ds (sound t well) (ty.named c.args.entry) tt v x.0 c.of.result.value.came c.args.handles.now (subst (λ (b : List ℕ). Encodes ds (ty.named c.args.entry) v b c.args.handles.now) kept h) x.1)),
     )
 
+-- no link is noted in the cells of the message yet
+pub check-checked-requires-clause-free : goal.check-checked-requires-clause-free
+check-checked-requires-clause-free c =
+    let came : c.of.result.value.came ≡ c.args.bytes.now = ap (λ (w : Written). w.came) c.of.ensures ∙ c.new-links.ensures.came in
+    let as_long = ap length came in
+    λ k from to. let lt : k < length c.args.bytes.now = omega (arith, to, as_long) in (c.new-links.ensures.objects k lt, c.new-links.ensures.records k lt)
+
 pub returns-clause-err : goal.returns-clause-err
 returns-clause-err c =
     let t = c.args.table.now in
     let well = c.entries-accepted.ensures.well_formed in
-    let came : c.of.result.value.came ≡ c.args.bytes.now = ap (λ (w : Written). w.came) c.of.ensures ∙ c.new-links.ensures in
+    let came : c.of.result.value.came ≡ c.args.bytes.now = ap (λ (w : Written). w.came) c.of.ensures ∙ c.new-links.ensures.came in
     let told = subst (λ (b : List ℕ). IsTold (declarations_of t) (ty.named c.args.entry) b c.args.handles.now c.in-Err.fault) came c.in-Err.ensures.fault_is_true in
     λ y. told_excluded t (fine_of t well) (sound t well) c.args.entry c.requires c.args.bytes.now c.args.handles.now y c.in-Err.fault told

@@ -7,6 +7,8 @@ use Rattle.fidl_decode_model.specs.Machine.{at_of, BreaksFrame, BreaksStack, IsS
 use Rattle.fidl_decode_model.specs.Worth.{FinishesWorth}
 use Rattle.fidl_decode.proofs.Running.{finishes_raised, worth_all, turn_worth, read_all, stack_work_top, fine_top, room_if, length_if, turn_same, turn_fine, turn_less, top_breaks, turn_breaks}
 use Rattle.fidl_decode.proofs.Refusing.{broken_stopped}
+use Rattle.fidl_decode.specs.Ready.{StackReady}
+use Rattle.fidl_decode.proofs.ReadyStack.{top_ready, turn_ready}
 use Rattle.fidl_decode.proofs.run.run.Goals as goal
 
 no_false : false ≡ true → ⊥
@@ -16,6 +18,11 @@ pub take_turn-requires-clause-frame : goal.take_turn-requires-clause-frame
 take_turn-requires-clause-frame c =
     let top = fine_top c.args.decoder.now.table.now (message c.args.decoder.now) 0 c.pop.new.self.items c.in-Some.frame (subst (λ (l : List Frame). StackFine c.args.decoder.now.table.now c.args.decoder.now.bytes.value.came 0 l) c.in-Some.ensures.items c.loop-frame.invariant.fine) in
     top.1
+
+pub take_turn-requires-clause-ready : goal.take_turn-requires-clause-ready
+take_turn-requires-clause-ready c =
+    let ready = subst (λ (l : List Frame). StackReady c.args.decoder.now.table.now (message c.args.decoder.now) (at_of c.loop-frame.state) l) c.in-Some.ensures.items c.loop-frame.invariant.ready in
+    (ready.0, top_ready c.args.decoder.now.table.now (message c.args.decoder.now) c.pop.new.self.items c.in-Some.frame (at_of c.loop-frame.state) ready)
 
 pub push_if-requires : goal.push_if-requires
 push_if-requires c =
@@ -48,6 +55,7 @@ loop-frame-init c = record {
   fine = c.requires.stack;
   steps = omega arith;
   state = c.requires.state;
+  ready = c.requires.ready;
 }
 
 pub loop-frame-preserved : goal.loop-frame-preserved
@@ -77,6 +85,9 @@ loop-frame-preserved c =
           let so_far = c.loop-frame.invariant.steps in
           omega (arith, c.in_ok-turn.ensures.rises));
       state = c.in_ok-turn.ensures.ok.state;
+      ready = subst (λ (l : List Frame). StackReady c.args.decoder.now.table.now (message c.args.decoder.now) (at_of c.take_turn.new.state) l) (sym after)
+          (turn_ready c.args.decoder.now.table.now (message c.args.decoder.now) c.pop.new.self.items c.in-Some.frame (at_of c.loop-frame.state) (at_of c.take_turn.new.state) _ c.in_ok-turn.turn c.in_ok-turn.ensures.ok
+          (subst (λ (l : List Frame). StackReady c.args.decoder.now.table.now (message c.args.decoder.now) (at_of c.loop-frame.state) l) popped c.loop-frame.invariant.ready));
     }
 
 pub returns-in_err-turn-clause-cost : goal.returns-in_err-turn-clause-cost

@@ -1,4 +1,4 @@
-use Rattle.std.proofs.Common.{◌≡◌, ◌-◌, ℕ, List, subst}
+use Rattle.std.proofs.Common.{◌-◌, ℕ, List, subst}
 use Rattle.std.specs.Prelude.{IfOk, IsTrue, Bool, None}
 use Rattle.fidl_decode_model.specs.Faults.{message_of}
 use Rattle.fidl_decode_model.specs.Machine.{Turns, at_of}

@@ -13,6 +13,7 @@ use Rattle.fidl_decode_model.proofs.Boxed.{box_breaks}
 use Rattle.fidl_decode_model.proofs.Visiting.{size_as}
 use Rattle.fidl_decode_model.proofs.Turning.{passed_on}
 use Rattle.fidl_decode.proofs.Last.{last_room, last_gap_breaks, last_breaks, last_turns}
+use Rattle.fidl_decode.proofs.ReadyRows.{first_free, first_ready, box_ready}
 use Rattle.fidl_decode.proofs.decoder.Decoder.enter_box.Goals as goal
 
 pub row-row-requires : goal.row-row-requires
@@ -154,3 +155,16 @@ returns-in_err-below-clause-ok c = no_ok c.from_residual-in_err-below.result c.i
 
 pub returns-clause-fault_is_true : goal.returns-clause-fault_is_true
 returns-clause-fault_is_true c = tt
+
+pub zeros_at-requires-clause-free : goal.zeros_at-requires-clause-free
+zeros_at-requires-clause-free c =
+    let t = c.args.self.now.table.now in
+    let m = message c.args.self.now in
+    first_free t c.args.self.now.fine m c.args.frame c.args.first 1 c.row-row.result c.requires.left (omega arith) c.row-row.ensures.value (at_of c.args.state.now) c.requires.frame c.requires.state c.requires.ready
+
+pub read_box-requires-clause-ready : goal.read_box-requires-clause-ready
+read_box-requires-clause-ready c =
+    let t = c.args.self.now.table.now in
+    let m = message c.args.self.now in
+    let is : kind_of (entry_at t c.row-row.result.entry).kind ≡ Some Box = ap (λ (w : raw.Row). kind_of (entry_at t w.entry).kind) c.row-row.ensures.value ∙ c.requires.kind in
+    box_ready t c.args.self.now.fine m (at_of c.args.state.now) c.row-row.result.entry _ c.row-row.ensures.entry is (first_ready t c.args.self.now.fine m c.args.frame c.args.first 1 c.row-row.result c.requires.left (omega arith) c.row-row.ensures.value (at_of c.args.state.now) c.requires.frame c.requires.state c.requires.ready)

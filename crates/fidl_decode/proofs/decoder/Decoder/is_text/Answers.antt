@@ -1,4 +1,4 @@
-use Rattle.std.proofs.Common.{◌+◌, ◌<◌, ◌≤◌, refl, arith}
+use Rattle.std.proofs.Common.{refl, arith}
 use Rattle.fidl_decode.proofs.TextMember.{ascii_text}
 use Rattle.fidl_decode.proofs.decoder.Decoder.is_text.Goals as goal
 

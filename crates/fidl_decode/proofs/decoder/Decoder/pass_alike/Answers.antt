@@ -1,7 +1,7 @@
 use Rattle.fidl_decode.specs.Reading.{message}
 use Rattle.fidl_decode.proofs.Fitting.{lt_le}
 use Rattle.fidl_decode.proofs.Unchanged.{same_le}
-use Rattle.std.proofs.Common.{◌≡◌, ◌<◌, ◌+◌, ◌-◌, arith, ℕ, List, refl, sym, ap, subst, ◌∙◌, inl, inr, add-one}
+use Rattle.std.proofs.Common.{◌≡◌, ◌<◌, arith, ℕ, List, refl, sym, ap, subst, ◌∙◌, inl, inr, add-one}
 use Rattle.std.specs.Prelude.{Some}
 use Rattle.fidl_wire.specs.Term.{find}
 use Rattle.fidl_table_format.specs.declared.kind.EntryKind.{EntryKind}
@@ -56,6 +56,7 @@ pass_one-requires c =
       kind = is;
       frame = c.requires.frame;
       state = c.requires.state;
+      ready = c.requires.ready;
       budget = c.requires.budget;
     }
 

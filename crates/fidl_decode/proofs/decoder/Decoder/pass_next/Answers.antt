@@ -4,9 +4,10 @@ use Rattle.fidl_decode.proofs.Unchanged.{no_true, same_le}
 use Rattle.std.proofs.Common.{◌+◌, ◌-◌, ◌*◌, sym, subst, arith, refl}
 use Rattle.std.specs.Prelude.{Some, None}
 use Rattle.fidl_wire.specs.Term as ty
-use Rattle.fidl_decode.specs.Body.{BodyFine}
+use Rattle.fidl_decode.specs.Body.{BodyFine, rest_of}
 use Rattle.fidl_decode_model.specs.Machine.{Opens, at_of}
 use Rattle.fidl_decode.proofs.BodyTurns.{body_found, next_passed}
+use Rattle.fidl_decode.proofs.ReadyBelow.{slot_ready}
 use Rattle.fidl_decode.proofs.decoder.Decoder.pass_next.Goals as goal
 
 pub row-row-requires-clause-body : goal.row-row-requires-clause-body
@@ -80,3 +81,19 @@ returns-in-Below-clause-grows c = eq_le _ _ c.pass_below.ensures.steps
 
 pub returns-in-Below-clause-pays : goal.returns-in-Below-clause-pays
 returns-in-Below-clause-pays c = pays_same _ _ _ _ c.pass_below.ensures.steps c.pass_below.ensures.grows
+
+pub pass_inside-requires-clause-ready : goal.pass_inside-requires-clause-ready
+pass_inside-requires-clause-ready c =
+    let t = c.args.self.now.table.now in
+    let m = message c.args.self.now in
+    let old = at_of c.args.state.now in
+    let body = c.args.body.now in
+    slot_ready t m old (rest_of body c.args.read) body.entry c.args.read (body.count - c.args.read) refl (omega (arith, c.requires.body.few, c.requires.more)) c.requires.frame c.requires.ready
+
+pub pass_below-requires-clause-ready : goal.pass_below-requires-clause-ready
+pass_below-requires-clause-ready c =
+    let t = c.args.self.now.table.now in
+    let m = message c.args.self.now in
+    let old = at_of c.args.state.now in
+    let body = c.args.body.now in
+    slot_ready t m old (rest_of body c.args.read) body.entry c.args.read (body.count - c.args.read) refl (omega (arith, c.requires.body.few, c.requires.more)) c.requires.frame c.requires.ready

@@ -1,7 +1,7 @@
 use Rattle.fidl_decode.specs.Reading.{message}
 use Rattle.fidl_decode.proofs.Fitting.{le_more, budget_44}
 use Rattle.fidl_decode.proofs.Unchanged.{same_le}
-use Rattle.std.proofs.Common.{◌≡◌, ◌+◌, ◌-◌, sym, ap, subst, ◌∙◌, add-one, arith}
+use Rattle.std.proofs.Common.{◌≡◌, ◌+◌, ◌-◌, sym, ap, subst, ◌∙◌, add-one, arith, refl}
 use Rattle.std.specs.Prelude.{Some}
 use Rattle.fidl_decode_model.specs.State.{Position}
 use Rattle.fidl_decode.specs.Body.{rest_of}
@@ -10,6 +10,7 @@ use Rattle.fidl_wire.specs.Term.{find}
 use Rattle.fidl_table_format.specs.Terms.{members_of}
 use Rattle.fidl_decode_model.specs.Machine.{at_of, Turns}
 use Rattle.fidl_decode.proofs.BodyTurns.{next_passed}
+use Rattle.fidl_decode.proofs.ReadyBelow.{slot_ready}
 use Rattle.fidl_decode.proofs.decoder.Decoder.pass_one.Goals as goal
 
 pub returns-then-pass_kind-clause-turns : goal.returns-then-pass_kind-clause-turns
@@ -63,3 +64,11 @@ returns-clause-turns c =
     let next : c.pass_kind.new.state.next ≡ c.args.state.now.next = ap (λ (s : Position). s.next) kept in
     subst (λ (s : Position). Turns t m f (at_of c.args.state.now) s (c.pass_kind.new.state.steps + (c.args.from - c.args.from) - c.args.state.now.steps) (left_over (Some f))) (sym kept)
     (turns_stay t m f (at_of c.args.state.now) c.requires.frame c.requires.state _ (omega (arith, next, c.pass_kind.ensures.grows, c.pass_kind.ensures.pays)))
+
+pub pass_kind-requires-clause-ready : goal.pass_kind-requires-clause-ready
+pass_kind-requires-clause-ready c =
+    let t = c.args.self.now.table.now in
+    let m = message c.args.self.now in
+    let old = at_of c.args.state.now in
+    let body = c.args.body.now in
+    slot_ready t m old (rest_of body c.args.from) body.entry c.args.from (body.count - c.args.from) refl (omega (arith, c.requires.body.few, c.requires.more)) c.requires.frame c.requires.ready

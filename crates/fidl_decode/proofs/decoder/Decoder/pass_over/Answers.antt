@@ -4,10 +4,17 @@ use Rattle.std.specs.Prelude.{Some}
 use Rattle.fidl_decode_model.specs.declared.frame.Frame.{Frame}
 use Rattle.fidl_decode_model.specs.Machine.{Turns, at_of}
 use Rattle.fidl_decode_columns.proofs.Leaves.{left_over, turns_start}
+use Rattle.fidl_decode.proofs.ReadyRows.{flag_free}
 use Rattle.fidl_decode.proofs.decoder.Decoder.pass_over.Goals as goal
 
 pub is_good-requires : goal.is_good-requires
-is_good-requires c = record { holds = c.requires.holds; short = omega (arith, c.requires.frame.room, c.args.self.now.short) }
+is_good-requires c =
+    let p = c.args.plain.now in
+    record {
+      holds = c.requires.holds;
+      short = omega (arith, c.requires.frame.room, c.args.self.now.short);
+      free = flag_free c.args.self.now.table.now c.args.self.now.fine (message c.args.self.now) c.args.frame (at_of c.args.state.now) c.requires.frame c.requires.start c.requires.state p.rows p.first p.count p.done p.flag c.requires.passes p.inside c.requires.ready;
+    }
 
 pub returns-then-not-is_good-clause-turns : goal.returns-then-not-is_good-clause-turns
 returns-then-not-is_good-clause-turns c =

@@ -1,11 +1,13 @@
 use Rattle.fidl_decode.specs.Reading.{message}
 use Rattle.fidl_decode.proofs.Fitting.{le_more}
-use Rattle.std.proofs.Common.{◌+◌, ◌-◌, subst, arith, refl}
+use Rattle.std.proofs.Common.{◌+◌, ◌-◌, ◌*◌, subst, arith, refl}
 use Rattle.std.specs.Prelude.{Some}
 use Rattle.fidl_decode.specs.Body.{rest_of}
 use Rattle.fidl_decode_model.specs.Machine.{Turns, at_of}
 use Rattle.fidl_decode_columns.proofs.Leaves.{left_over, turns_then}
 use Rattle.fidl_decode.proofs.BodyTurns.{next_absent}
+use Rattle.fidl_decode.proofs.ReadyBelow.{slot_ready}
+use Rattle.fidl_decode_model.specs.Frontier.{AreFree}
 use Rattle.fidl_decode.proofs.decoder.Decoder.pass_some.Goals as goal
 
 pub returns-then-is_absent-clause-turns : goal.returns-then-is_absent-clause-turns
@@ -54,3 +56,17 @@ returns-clause-grows c = c.pass_alike-read.ensures.grows
 
 pub returns-clause-pays : goal.returns-clause-pays
 returns-clause-pays c = c.pass_alike-read.ensures.pays
+
+pub is_absent-requires-clause-free : goal.is_absent-requires-clause-free
+is_absent-requires-clause-free c =
+    let t = c.args.self.now.table.now in
+    let m = message c.args.self.now in
+    let body = c.args.body.now in
+    let read = c.pass_alike-read.result in
+    let mid = at_of c.pass_alike-read.new.state in
+    let few = c.requires.body.few in
+    let more = c.requires.more in
+    let same = c.if-read-from.true in
+    let p = c.pass_alike-read.ensures.turns.moves c.requires.ready.0 c.requires.ready.1 in
+    let slot = slot_ready t m mid (rest_of body read) body.entry read (body.count - read) refl (omega (arith, few, more, same)) c.pass_alike-read.ensures.turns.rest_fine.0 (p.ahead, p.rest_clear) in
+    subst (λ n. AreFree mid (body.base + 8 * n) (body.base + 8 * n + 8)) same slot.1.free

@@ -18,6 +18,7 @@ use Rattle.fidl_decode_model.specs.Machine.{Passes, at_of}
 use Rattle.fidl_decode_model.proofs.Visiting.{fine_as}
 use Rattle.fidl_decode.proofs.Freely.{rows_within, struct_passed}
 use Rattle.fidl_decode.proofs.Words.{counted_small, handles_none, flags_none}
+use Rattle.fidl_decode.proofs.ReadyPlaces.{ahead_part}
 use Rattle.fidl_decode.proofs.decoder.Decoder.pass_struct.Goals as goal
 
 no_false : true ≡ false → ⊥
@@ -161,7 +162,7 @@ pub next_multiple_of-whole-requires-clause-nonzero : goal.next_multiple_of-whole
 next_multiple_of-whole-requires-clause-nonzero c = some_8
 
 pub u64_at-requires : goal.u64_at-requires
-u64_at-requires c = record { holds = c.requires.holds; room = c.requires.room }
+u64_at-requires c = record { holds = c.requires.holds; room = c.requires.room; free = c.requires.ready.1.free }
 
 pub overflow_sub-self : goal.overflow_sub-self
 overflow_sub-self c = size_room c.args.self.now.sized _ c.requires.state.next
@@ -198,3 +199,9 @@ returns-clause-grows c = le_more _ _
 
 pub returns-clause-pays : goal.returns-clause-pays
 returns-clause-pays c = pays_whole c.args.state.now.steps c.args.state.now.next c.next_multiple_of-whole.result
+
+pub zeros_at-requires-clause-free : goal.zeros_at-requires-clause-free
+zeros_at-requires-clause-free c =
+    let m = message c.args.self.now in
+    ahead_part m (at_of c.args.state.now) _ _ c.requires.ready.0 (le_more _ _)
+    (ended c.args.state.now.next c.next_multiple_of-whole.result (length m.bytes) c.requires.state.next (size_fits c.args.self.now.sized _ _ c.if-whole-self.false))

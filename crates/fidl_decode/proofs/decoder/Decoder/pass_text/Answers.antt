@@ -15,6 +15,8 @@ use Rattle.fidl_decode_model.specs.Machine.{at_of}
 use Rattle.fidl_decode_model.proofs.Visiting.{size_as}
 use Rattle.fidl_decode.proofs.Words.{counted_small, handles_none, flags_none}
 use Rattle.fidl_decode.proofs.TextMember.{text_passed}
+use Rattle.fidl_decode.proofs.ReadyPlaces.{ahead_part, le_two}
+use Rattle.fidl_decode.specs.Reading.{message}
 use Rattle.fidl_decode.proofs.decoder.Decoder.pass_text.Goals as goal
 
 pub returns-clause-passed : goal.returns-clause-passed
@@ -112,7 +114,7 @@ pub returns-clause-kept : goal.returns-clause-kept
 returns-clause-kept c not = absurd (no_false not)
 
 pub u64_at-counted-requires : goal.u64_at-counted-requires
-u64_at-counted-requires c = record { holds = c.requires.holds; room = c.requires.room }
+u64_at-counted-requires c = record { holds = c.requires.holds; room = c.requires.room; free = c.requires.ready.1.free }
 
 pub overflow_sub-rest : goal.overflow_sub-rest
 overflow_sub-rest c = size_room c.args.self.now.sized _ c.requires.state.next
@@ -121,13 +123,27 @@ pub overflow_add-depth : goal.overflow_add-depth
 overflow_add-depth c = record { fits = deeper_64 c.args.depth c.requires.depth }
 
 pub u64_at-count-requires : goal.u64_at-count-requires
-u64_at-count-requires c = record { holds = c.requires.holds; room = front c.args.state.now.next 8 8 (length c.args.self.now.bytes.value.came) (counted_front c.args.state.now.next c.u64_at-counted.result (length c.args.self.now.bytes.value.came) c.if-counted-lt16.false (size_fits c.args.self.now.sized _ _ c.if-counted-rest.false)) }
+u64_at-count-requires c =
+    let m = message c.args.self.now in
+    record {
+      holds = c.requires.holds;
+      room = front c.args.state.now.next 8 8 (length m.bytes) (counted_front c.args.state.now.next c.u64_at-counted.result (length m.bytes) c.if-counted-lt16.false (size_fits c.args.self.now.sized _ _ c.if-counted-rest.false));
+      free = ahead_part m (at_of c.args.state.now) _ _ c.requires.ready.0 (same_le _)
+          (front c.args.state.now.next 8 8 (length m.bytes) (counted_front c.args.state.now.next c.u64_at-counted.result (length m.bytes) c.if-counted-lt16.false (size_fits c.args.self.now.sized _ _ c.if-counted-rest.false)));
+    }
 
 pub overflow_add-next : goal.overflow_add-next
 overflow_add-next c = record { fits = small _ (length c.args.self.now.bytes.value.came) (front c.args.state.now.next 8 8 (length c.args.self.now.bytes.value.came) (counted_front c.args.state.now.next c.u64_at-counted.result (length c.args.self.now.bytes.value.came) c.if-counted-lt16.false (size_fits c.args.self.now.sized _ _ c.if-counted-rest.false))) c.args.self.now.short }
 
 pub is_present-requires : goal.is_present-requires
-is_present-requires c = record { holds = c.requires.holds; room = apart c.args.state.now.next 8 8 (length c.args.self.now.bytes.value.came) (counted_front c.args.state.now.next c.u64_at-counted.result (length c.args.self.now.bytes.value.came) c.if-counted-lt16.false (size_fits c.args.self.now.sized _ _ c.if-counted-rest.false)) }
+is_present-requires c =
+    let m = message c.args.self.now in
+    record {
+      holds = c.requires.holds;
+      room = apart c.args.state.now.next 8 8 (length m.bytes) (counted_front c.args.state.now.next c.u64_at-counted.result (length m.bytes) c.if-counted-lt16.false (size_fits c.args.self.now.sized _ _ c.if-counted-rest.false));
+      free = ahead_part m (at_of c.args.state.now) _ _ c.requires.ready.0 (le_more _ _)
+          (apart c.args.state.now.next 8 8 (length m.bytes) (counted_front c.args.state.now.next c.u64_at-counted.result (length m.bytes) c.if-counted-lt16.false (size_fits c.args.self.now.sized _ _ c.if-counted-rest.false)));
+    }
 
 pub next_multiple_of-size-requires-clause-nonzero : goal.next_multiple_of-size-requires-clause-nonzero
 next_multiple_of-size-requires-clause-nonzero c = some_8
@@ -188,3 +204,15 @@ returns-clause-grows c = le_more _ _
 
 pub returns-clause-pays : goal.returns-clause-pays
 returns-clause-pays c = pays_text c.args.state.now.steps c.args.state.now.next c.next_multiple_of-size.result
+
+pub are_ascii-requires-clause-free : goal.are_ascii-requires-clause-free
+are_ascii-requires-clause-free c =
+    let m = message c.args.self.now in
+    ahead_part m (at_of c.args.state.now) _ _ c.requires.ready.0 (le_more _ _)
+    (counted_whole c.args.state.now.next c.u64_at-counted.result c.next_multiple_of-size.result (length m.bytes) (size_fits c.args.self.now.sized _ _ c.if-counted-rest.false) c.if-counted-size.false)
+
+pub are_zeros-requires-clause-free : goal.are_zeros-requires-clause-free
+are_zeros-requires-clause-free c =
+    let m = message c.args.self.now in
+    ahead_part m (at_of c.args.state.now) _ _ c.requires.ready.0 (le_two _ _ _)
+    (counted_whole c.args.state.now.next c.u64_at-counted.result c.next_multiple_of-size.result (length m.bytes) (size_fits c.args.self.now.sized _ _ c.if-counted-rest.false) c.if-counted-size.false)

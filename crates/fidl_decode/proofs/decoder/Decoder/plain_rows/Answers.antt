@@ -13,6 +13,7 @@ use Rattle.fidl_decode_model.specs.Rows.{Row}
 use Rattle.fidl_decode_model.specs.Machine.{StateFine, IsGood, Visits, Turns}
 use Rattle.fidl_decode_model.proofs.Visiting.{positive, size_is}
 use Rattle.fidl_decode_columns.proofs.Leaves.{going_on, left_over, same_frame, turns_start, next_room, next_turns, rows_next, no_zeros}
+use Rattle.std.proofs.lemmas.Option.{IfSome_then}
 use Rattle.fidl_decode.proofs.decoder.Decoder.plain_rows.Goals as goal
 
 pub loop-i-init : goal.loop-i-init
@@ -28,6 +29,7 @@ loop-i-init c =
           let zero = subst (λ d. Turns t m f s s 0 (left_over (Some (going_on f left d)))) start begun in
           subst (λ n. Turns t m f s s n (left_over (Some (going_on f left 0)))) none zero;
       wide = omega arith;
+      inside = tt;
     }
 
 pub loop-i-preserved : goal.loop-i-preserved
@@ -53,6 +55,11 @@ loop-i-preserved c =
           let none : f.base + row.key - (f.base + c.loop-i.done) ≡ 0 = omega (arith, there) in
           next_turns t c.args.self.now.fine m f s s (c.loop-i.i - c.args.first) g here member left one tt (omega (arith, c.requires.within, before)) tt s (row.key + c.entry.result.size) 0 (c.loop-i.i + 1 - c.args.first) (omega (arith, size)) (omega (arith, c.loop-i.auto.i)) (omega (arith, c.loop-i.auto.i)) (no_zeros m.bytes (f.base + c.loop-i.done) _ none) seen;
       wide = (let some = positive t c.args.self.now.fine row.entry c.row-row.ensures.entry in let own = size_is t c.args.self.now.fine row.entry c.row-row.ensures.entry in omega (arith, c.loop-i.invariant.wide, c.loop-i.auto.i, there, some, own, size));
+      inside =
+          let some = positive t c.args.self.now.fine row.entry c.row-row.ensures.entry in
+          let own = size_is t c.args.self.now.fine row.entry c.row-row.ensures.entry in
+          let stays = subst (λ (o : Option (Option ℕ)). IfSome o (λ next. (end : ℕ) → row.key < end → IfSome c.loop-i.flag (λ k. k < end) → IfSome next (λ k. k < end))) c.in-Some.is c.next_flag.ensures.inside in
+          stays (row.key + c.entry.result.size) (omega (arith, some, own, size)) (IfSome_then c.loop-i.flag c.loop-i.invariant.inside (λ k lt. omega (arith, lt, there)));
     }
 
 pub returns-clause-passes : goal.returns-clause-passes

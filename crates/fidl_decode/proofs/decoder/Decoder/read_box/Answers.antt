@@ -113,10 +113,10 @@ pub returns-clause-steps : goal.returns-clause-steps
 returns-clause-steps c = refl
 
 pub is_present-requires : goal.is_present-requires
-is_present-requires c = record { holds = c.requires.holds; room = c.requires.room }
+is_present-requires c = record { holds = c.requires.holds; room = c.requires.room; free = c.requires.ready.1.free }
 
 pub is_absent-requires : goal.is_absent-requires
-is_absent-requires c = record { holds = c.requires.holds; room = c.requires.room }
+is_absent-requires c = record { holds = c.requires.holds; room = c.requires.room; free = c.requires.ready.1.free }
 
 pub entry-requires : goal.entry-requires
 entry-requires c = c.requires.entry

@@ -1,5 +1,5 @@
 use Rattle.fidl_decode.specs.Reading.{message}
-use Rattle.std.proofs.Common.{subst, ◌-◌, ◌+◌, ◌≤◌, arith}
+use Rattle.std.proofs.Common.{subst, arith}
 use Rattle.fidl_decode_model.specs.declared.frame.Remaining.{Remaining}
 use Rattle.fidl_decode_model.specs.Machine.{LeftFine, at_of}
 use Rattle.fidl_decode_columns.proofs.Leaves.{turns_stay}

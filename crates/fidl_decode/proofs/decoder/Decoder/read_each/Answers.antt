@@ -1,7 +1,7 @@
 use Rattle.fidl_decode.specs.Reading.{message}
 use Rattle.fidl_decode.proofs.Fitting.{not_fewer}
 use Rattle.fidl_decode.proofs.Unchanged.{no_ok}
-use Rattle.std.proofs.Common.{◌≡◌, ◌+◌, ◌-◌, arith, ◌≤◌, ◌∙◌, ap, subst}
+use Rattle.std.proofs.Common.{◌≡◌, ◌+◌, ◌-◌, arith, ◌∙◌, ap, subst}
 use Rattle.fidl_decode_model.specs.declared.frame.Remaining.TheVariants.{Elements}
 use Rattle.fidl_decode_model.specs.Rows.{Row}
 use Rattle.fidl_decode_model.specs.Machine.{at_of, Turns}
@@ -10,6 +10,7 @@ use Rattle.std.proofs.lemmas.Result.{IfErr-weaker}
 use Rattle.fidl_decode_columns.proofs.Leaves.{going_on, next_size, next_room, next_leaf_breaks, next_turns, over_room, over_turns, over_breaks, elements_next, elements_over, no_zeros, turns_stay, left_over, same_frame}
 use Rattle.fidl_decode_model.specs.declared.frame.Frame.{Frame}
 use Rattle.std.specs.Prelude.{Some}
+use Rattle.fidl_decode.proofs.ReadyRows.{element_ready, over_free}
 use Rattle.fidl_decode.proofs.decoder.Decoder.read_each.Goals as goal
 
 pub overflow_add-place : goal.overflow_add-place
@@ -125,3 +126,15 @@ loop-i-init c =
           (turns_stay c.args.self.now.table.now (message c.args.self.now) c.args.frame (at_of c.args.state.now) c.requires.frame c.requires.state _ (omega arith));
       steps = omega arith;
     }
+
+pub read_leaf-requires-clause-ready : goal.read_leaf-requires-clause-ready
+read_leaf-requires-clause-ready c =
+    let t = c.args.self.now.table.now in
+    let m = message c.args.self.now in
+    element_ready t c.args.self.now.fine m c.args.frame (at_of c.args.state.now) (at_of c.loop-i.state) (c.loop-i.state.steps - c.args.state.now.steps) c.args.entry c.args.size c.args.count c.loop-i.i c.loop-i.done c.loop-i.invariant.turns c.requires.ready c.loop-i-test.true
+
+pub zeros_at-requires-clause-free : goal.zeros_at-requires-clause-free
+zeros_at-requires-clause-free c =
+    let t = c.args.self.now.table.now in
+    let m = message c.args.self.now in
+    over_free t c.args.self.now.fine m c.args.frame (at_of c.args.state.now) (at_of c.loop-i.state) (c.loop-i.state.steps - c.args.state.now.steps) (going_on c.args.frame (Elements c.args.entry c.args.size (c.args.count - c.loop-i.i)) c.loop-i.done) c.loop-i.invariant.turns c.requires.ready

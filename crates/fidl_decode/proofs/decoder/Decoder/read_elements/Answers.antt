@@ -1,7 +1,7 @@
 use Rattle.fidl_decode.specs.Reading.{message}
 use Rattle.fidl_decode.proofs.Fitting.{le_more}
 use Rattle.fidl_decode.proofs.Unchanged.{no_ok, same_le}
-use Rattle.std.proofs.Common.{rules, ◌≡◌, sym, ap, ◌∙◌, ◌-◌, ◌+◌, ◌≤◌, arith}
+use Rattle.std.proofs.Common.{rules, ◌≡◌, sym, ap, ◌∙◌, arith}
 use Rattle.std.specs.Prelude.{Some, None, true}
 use Rattle.fidl_decode_model.specs.Invariants.{is_free}
 use Rattle.fidl_table_format.specs.declared.record.Entry.{Entry}

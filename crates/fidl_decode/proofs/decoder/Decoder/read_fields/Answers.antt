@@ -16,6 +16,7 @@ use Rattle.fidl_decode_model.specs.Machine.{Turns, at_of, turn_work, IsPlain}
 use Rattle.fidl_decode_model.proofs.Turning.{on_ok_from, passed_on}
 use Rattle.fidl_decode_model.proofs.Visiting.{same_some}
 use Rattle.fidl_decode_columns.proofs.Leaves.{going_on, same_frame, left_over, turns_start, turns_then, turns_break}
+use Rattle.fidl_decode.proofs.ReadyRows.{rest_ready}
 use Rattle.fidl_decode.proofs.decoder.Decoder.read_fields.Goals as goal
 
 no_some : {A : Type 0} (a : A) → Some a ≡ None → ⊥
@@ -225,3 +226,33 @@ returns-clause-spends c = spends_some _ _ _ (rises_on _ _ _ c.loop-many.invarian
 pub end_rows-requires-clause-budget : goal.end_rows-requires-clause-budget
 end_rows-requires-clause-budget c = subst (λ (x : Frame). c.loop-many.state.steps + turn_work c.args.self.now.bytes.value.came c.loop-many.state.next x < 2 ^ 40) (sym c.rows_from.ensures) (budget_on _ _ _ c.args.state.now.steps c.loop-many.state.steps (2 ^ 40) c.loop-many.invariant.steps
     c.loop-many.invariant.turns.less c.requires.budget)
+
+pub read_row-requires-clause-ready : goal.read_row-requires-clause-ready
+read_row-requires-clause-ready c =
+    let t = c.args.self.now.table.now in
+    let m = message c.args.self.now in
+    let f = c.args.frame in
+    let old = at_of c.args.state.now in
+    let now = at_of c.loop-many.state in
+    let a = c.loop-many.state.steps - c.args.state.now.steps in
+    let begun = c.loop-many.invariant.steps in
+    let rest = c.rows_from-rest.result in
+    let same = c.rows_from-rest.ensures in
+    let so_far = subst (λ (x : Frame). Turns t m f old now a (left_over (Some x))) (sym same) c.loop-many.invariant.turns in
+    rest_ready t m f old now a rest so_far c.requires.ready
+
+pub end_rows-requires-clause-ready : goal.end_rows-requires-clause-ready
+end_rows-requires-clause-ready c =
+    let t = c.args.self.now.table.now in
+    let m = message c.args.self.now in
+    let f = c.args.frame in
+    let old = at_of c.args.state.now in
+    let now = at_of c.loop-many.state in
+    let a = c.loop-many.state.steps - c.args.state.now.steps in
+    let begun = c.loop-many.invariant.steps in
+    let rest = c.rows_from.result in
+    let same = c.rows_from.ensures in
+    let none : c.loop-many.many ≡ 0 = omega (arith, c.loop-many-test.false) in
+    let over = subst (λ n. Turns t m f old now a (left_over (Some (going_on c.args.frame (Rows c.loop-many.next n) c.loop-many.done)))) none c.loop-many.invariant.turns in
+    let so_far = subst (λ (x : Frame). Turns t m f old now a (left_over (Some x))) (sym same) over in
+    rest_ready t m f old now a rest so_far c.requires.ready

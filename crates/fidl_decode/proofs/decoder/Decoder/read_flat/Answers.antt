@@ -14,6 +14,8 @@ use Rattle.fidl_decode_model.specs.Machine.{FrameFine, Visits, value_work, at_of
 use Rattle.fidl_decode_model.proofs.Turning.{on_ok_from}
 use Rattle.fidl_decode_model.proofs.Holding.{work_none, struct_frame, visits_struct, struct_fine}
 use Rattle.fidl_decode_columns.proofs.Wholly.{leaf_cost, visits_over}
+use Rattle.fidl_decode.specs.Ready.{FrameReady}
+use Rattle.fidl_decode.proofs.ReadyRows.{struct_ready}
 use Rattle.fidl_decode.proofs.decoder.Decoder.read_flat.Goals as goal
 
 no_true : false ≡ true → ⊥
@@ -110,3 +112,14 @@ entry-e-requires c = c.requires.entry
 
 pub read_fields-requires-clause-state : goal.read_fields-requires-clause-state
 read_fields-requires-clause-state c = c.requires.state
+
+pub read_fields-requires-clause-ready : goal.read_fields-requires-clause-ready
+read_fields-requires-clause-ready c =
+    let t = c.args.self.now.table.now in
+    let m = message c.args.self.now in
+    let old = at_of c.args.state.now in
+    let d = entry_at t c.args.entry in
+    let flat : (c.args.kind ≡ Struct) × AreLeaves t d.first d.count = elim c.requires.flat [ inl leaf ↦ absurd (no_true (sym c.if-is_leaf.false ∙ c.is_leaf.ensures ∙ leaf)) | inr s ↦ s ] in
+    let is : kind_of d.kind ≡ Some Struct = c.requires.kind ∙ ap (λ (k : EntryKind). Some k) flat.0 in
+    subst (λ (d : Entry). FrameReady t m old (struct_frame d c.args.place c.args.depth 0)) (sym c.entry-e.ensures.value)
+    (struct_ready t c.args.self.now.fine m c.args.depth c.args.entry c.args.place old c.requires.entry c.requires.state c.requires.depth 0 is c.requires.room c.requires.ready)

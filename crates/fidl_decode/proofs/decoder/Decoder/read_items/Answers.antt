@@ -7,6 +7,7 @@ use Rattle.fidl_decode_model.specs.Machine.{Visits, VisitFine, Turns, at_of}
 use Rattle.fidl_decode_model.proofs.Turning.{passed_on}
 use Rattle.fidl_decode_columns.proofs.Leaves.{going_on, left_over, same_frame, turns_start}
 use Rattle.fidl_decode_columns.proofs.Items.{items_room, item_known, item_size, item_room, item_inside, item_work, item_takes, item_breaks, items_over, items_break}
+use Rattle.fidl_decode.proofs.ReadyRows.{element_ready, over_free}
 use Rattle.fidl_decode.proofs.decoder.Decoder.read_items.Goals as goal
 
 pub loop-i-init : goal.loop-i-init
@@ -207,3 +208,15 @@ returns-clause-cost c =
     let less = c.loop-i.invariant.turns.less in
     let so_far = c.loop-i.invariant.steps in
     omega (arith, before, spend, less, so_far)
+
+pub read_item-requires-clause-ready : goal.read_item-requires-clause-ready
+read_item-requires-clause-ready c =
+    let t = c.args.self.now.table.now in
+    let m = message c.args.self.now in
+    element_ready t c.args.self.now.fine m c.args.frame (at_of c.args.state.now) (at_of c.loop-i.state) (c.loop-i.state.steps - c.args.state.now.steps) c.args.entry c.args.size c.args.count c.loop-i.i c.loop-i.done c.loop-i.invariant.turns c.requires.ready c.loop-i-test.true
+
+pub zeros_at-requires-clause-free : goal.zeros_at-requires-clause-free
+zeros_at-requires-clause-free c =
+    let t = c.args.self.now.table.now in
+    let m = message c.args.self.now in
+    over_free t c.args.self.now.fine m c.args.frame (at_of c.args.state.now) (at_of c.loop-i.state) (c.loop-i.state.steps - c.args.state.now.steps) (going_on c.args.frame (Elements c.args.entry c.args.size (c.args.count - c.loop-i.i)) c.loop-i.done) c.loop-i.invariant.turns c.requires.ready

@@ -11,6 +11,7 @@ use Rattle.fidl_decode.proofs.Unchanged.{if_none}
 use Rattle.fidl_decode_columns.proofs.Leaves.{left_over, turns_start, turns_stay}
 use Rattle.fidl_decode_model.proofs.Turning.{passed_on}
 use Rattle.fidl_decode.proofs.Last.{last_room, last_inside, last_gap_breaks, last_breaks, last_turns}
+use Rattle.fidl_decode.proofs.ReadyRows.{first_free, first_ready}
 use Rattle.fidl_decode.proofs.decoder.Decoder.read_last.Goals as goal
 
 pub row-row-requires : goal.row-row-requires
@@ -168,3 +169,17 @@ returns-clause-ended c =
 
 pub returns-then-count-ne1-clause-ok : goal.returns-then-count-ne1-clause-ok
 returns-then-count-ne1-clause-ok c = turns_stay c.args.self.now.table.now (message c.args.self.now) c.args.frame (at_of c.args.state.now) c.requires.frame c.requires.state _ (omega arith)
+
+pub zeros_at-requires-clause-free : goal.zeros_at-requires-clause-free
+zeros_at-requires-clause-free c =
+    let t = c.args.self.now.table.now in
+    let m = message c.args.self.now in
+    let last : c.args.frame.left ≡ Rows c.args.first 1 = c.requires.left ∙ ap (λ n. Rows c.args.first n) c.if-count-ne1.false in
+    first_free t c.args.self.now.fine m c.args.frame c.args.first 1 c.row-row.result last (omega arith) c.row-row.ensures.value (at_of c.args.state.now) c.requires.frame c.requires.state c.requires.ready
+
+pub visit-requires-clause-ready : goal.visit-requires-clause-ready
+visit-requires-clause-ready c =
+    let t = c.args.self.now.table.now in
+    let m = message c.args.self.now in
+    let last : c.args.frame.left ≡ Rows c.args.first 1 = c.requires.left ∙ ap (λ n. Rows c.args.first n) c.if-count-ne1.false in
+    first_ready t c.args.self.now.fine m c.args.frame c.args.first 1 c.row-row.result last (omega arith) c.row-row.ensures.value (at_of c.args.state.now) c.requires.frame c.requires.state c.requires.ready

@@ -27,6 +27,8 @@ use Rattle.fidl_table_format.specs.Section.{entry_at}
 use Rattle.fidl_decode_model.proofs.Visiting.{size_is, size_as, visits_leaf, text_cost, leaf_breaks, fine_as, positive, bool_breaks, visits_bool, visits_free, visits_bits, bits_break, visits_enum, enum_breaks}
 use Rattle.fidl_decode_model.specs.Invariants.{is_leaf}
 use Rattle.fidl_decode.proofs.Sequences.{free_else, visits_numbers}
+use Rattle.fidl_decode.proofs.ReadyPlaces.{place_of}
+use Rattle.fidl_decode_model.specs.Frontier.{AreFree}
 use Rattle.fidl_decode.proofs.decoder.Decoder.read_leaf.Goals as goal
 
 pub byte_at-requires-clause-room : goal.byte_at-requires-clause-room
@@ -237,3 +239,34 @@ returns-in_default-clause-spends c = spends_any _ _ _ (same_le _) (omega arith)
 
 pub returns-in-Enum-clause-spends : goal.returns-in-Enum-clause-spends
 returns-in-Enum-clause-spends c = more_steps _ _ _ _ c.read_enum.ensures.spends (omega arith)
+
+pub byte_at-requires-clause-free : goal.byte_at-requires-clause-free
+byte_at-requires-clause-free c =
+    let is : kind_of (entry_at c.args.self.now.table.now c.args.entry).kind ≡ Some Boolean = c.requires.kind ∙ ap (λ (k : EntryKind). Some k) c.in-Bool.is in
+    (place_of c.args.self.now.table.now c.args.self.now.fine (message c.args.self.now) (at_of c.args.state.now) c.args.entry c.args.place Boolean c.requires.entry is c.requires.ready).1.free
+
+pub read_bits-requires-clause-free : goal.read_bits-requires-clause-free
+read_bits-requires-clause-free c =
+    let is : kind_of (entry_at c.args.self.now.table.now c.args.entry).kind ≡ Some Bits = c.requires.kind ∙ ap (λ (k : EntryKind). Some k) c.in-Bits.is in
+    subst (λ (d : Entry). AreFree (at_of c.args.state.now) c.args.place (c.args.place + byte_len (width (underlying d)))) (sym c.entry.ensures.value)
+    (place_of c.args.self.now.table.now c.args.self.now.fine (message c.args.self.now) (at_of c.args.state.now) c.args.entry c.args.place Bits c.requires.entry is c.requires.ready).1.free
+
+pub read_enum-requires-clause-free : goal.read_enum-requires-clause-free
+read_enum-requires-clause-free c =
+    let is : kind_of (entry_at c.args.self.now.table.now c.args.entry).kind ≡ Some Enum = c.requires.kind ∙ ap (λ (k : EntryKind). Some k) c.in-Enum.is in
+    (place_of c.args.self.now.table.now c.args.self.now.fine (message c.args.self.now) (at_of c.args.state.now) c.args.entry c.args.place Enum c.requires.entry is c.requires.ready).1.free
+
+pub read_handle-requires-clause-ready : goal.read_handle-requires-clause-ready
+read_handle-requires-clause-ready c =
+    let is : kind_of (entry_at c.args.self.now.table.now c.args.entry).kind ≡ Some Handle = c.requires.kind ∙ ap (λ (k : EntryKind). Some k) c.in-Handle.is in
+    place_of c.args.self.now.table.now c.args.self.now.fine (message c.args.self.now) (at_of c.args.state.now) c.args.entry c.args.place Handle c.requires.entry is c.requires.ready
+
+pub read_text-requires-clause-ready : goal.read_text-requires-clause-ready
+read_text-requires-clause-ready c =
+    let is : kind_of (entry_at c.args.self.now.table.now c.args.entry).kind ≡ Some String = c.requires.kind ∙ ap (λ (k : EntryKind). Some k) c.in-String.is in
+    place_of c.args.self.now.table.now c.args.self.now.fine (message c.args.self.now) (at_of c.args.state.now) c.args.entry c.args.place String c.requires.entry is c.requires.ready
+
+pub read_numbers-requires-clause-ready : goal.read_numbers-requires-clause-ready
+read_numbers-requires-clause-ready c =
+    let is : kind_of (entry_at c.args.self.now.table.now c.args.entry).kind ≡ Some Vector = c.requires.kind ∙ ap (λ (k : EntryKind). Some k) c.in-Vector.is in
+    place_of c.args.self.now.table.now c.args.self.now.fine (message c.args.self.now) (at_of c.args.state.now) c.args.entry c.args.place Vector c.requires.entry is c.requires.ready

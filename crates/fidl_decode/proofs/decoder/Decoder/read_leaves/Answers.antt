@@ -1,7 +1,7 @@
 use Rattle.fidl_decode.specs.Reading.{message}
 use Rattle.fidl_decode.proofs.Unchanged.{same_le}
 use Rattle.fidl_decode.proofs.Fitting.{le_more}
-use Rattle.std.proofs.Common.{◌-◌, ◌+◌, ◌≤◌, arith}
+use Rattle.std.proofs.Common.{arith}
 use Rattle.fidl_decode_columns.proofs.Leaves.{turns_stay}
 use Rattle.fidl_decode_model.specs.Machine.{at_of}
 use Rattle.fidl_decode.proofs.decoder.Decoder.read_leaves.Goals as goal

@@ -13,6 +13,7 @@ use Rattle.fidl_decode_model.specs.Machine.{Turns, at_of, turn_work, IsPlain, ro
 use Rattle.fidl_decode_model.specs.Invariants.{is_leaf}
 use Rattle.fidl_decode_model.proofs.Turning.{passed_on}
 use Rattle.fidl_decode_columns.proofs.Leaves.{going_on, same_frame, left_over, turns_then, turns_break, turns_stay}
+use Rattle.fidl_decode.proofs.ReadyRows.{rest_ready}
 use Rattle.fidl_decode.proofs.decoder.Decoder.read_nested.Goals as goal
 
 no_some : {A : Type 0} (a : A) → Some a ≡ None → ⊥
@@ -545,3 +546,71 @@ loop-many-init c = record {
   turns = subst (λ (g : Frame). Turns c.args.self.now.table.now (message c.args.self.now) c.args.frame (at_of c.args.state.now) (at_of c.args.state.now) (c.args.state.now.steps - c.args.state.now.steps) (left_over (Some g))) (same_frame c.args.frame (Rows c.in-Rows.first c.in-Rows.count) c.in-Rows.is) (turns_stay c.args.self.now.table.now (message c.args.self.now) c.args.frame (at_of c.args.state.now) c.requires.frame c.requires.state _ (omega arith));
   steps = omega arith;
 }
+
+pub read_row-requires-clause-ready : goal.read_row-requires-clause-ready
+read_row-requires-clause-ready c =
+    let t = c.args.self.now.table.now in
+    let m = message c.args.self.now in
+    let f = c.args.frame in
+    let old = at_of c.args.state.now in
+    let now = at_of c.loop-many.state in
+    let a = c.loop-many.state.steps - c.args.state.now.steps in
+    let begun = c.loop-many.invariant.steps in
+    let rest = c.rows_from-rest.result in
+    let same = c.rows_from-rest.ensures in
+    let so_far = subst (λ (x : Frame). Turns t m f old now a (left_over (Some x))) (sym same) c.loop-many.invariant.turns in
+    let less = so_far.less in
+    rest_ready t m f old now a rest so_far c.requires.ready
+
+pub enter_box-requires-clause-ready : goal.enter_box-requires-clause-ready
+enter_box-requires-clause-ready c =
+    let t = c.args.self.now.table.now in
+    let m = message c.args.self.now in
+    let f = c.args.frame in
+    let old = at_of c.args.state.now in
+    let now = at_of c.loop-many.state in
+    let a = c.loop-many.state.steps - c.args.state.now.steps in
+    let begun = c.loop-many.invariant.steps in
+    let rest = c.rows_from-rest.result in
+    let same = c.rows_from-rest.ensures in
+    let so_far = subst (λ (x : Frame). Turns t m f old now a (left_over (Some x))) (sym same) c.loop-many.invariant.turns in
+    let less = so_far.less in
+    rest_ready t m f old now a rest so_far c.requires.ready
+
+pub end_rows-requires-clause-ready : goal.end_rows-requires-clause-ready
+end_rows-requires-clause-ready c =
+    let t = c.args.self.now.table.now in
+    let m = message c.args.self.now in
+    let f = c.args.frame in
+    let old = at_of c.args.state.now in
+    let now = at_of c.loop-many.state in
+    let a = c.loop-many.state.steps - c.args.state.now.steps in
+    let begun = c.loop-many.invariant.steps in
+    let rest = c.rows_from.result in
+    let same = c.rows_from.ensures in
+    let none : c.loop-many.many ≡ 0 = omega (arith, c.loop-many-test.false) in
+    let over = subst (λ n. Turns t m f old now a (left_over (Some (going_on c.loop-many.holder (Rows c.loop-many.next n) c.loop-many.done)))) none c.loop-many.invariant.turns in
+    let so_far = subst (λ (x : Frame). Turns t m f old now a (left_over (Some x))) (sym same) over in
+    let less = so_far.less in
+    rest_ready t m f old now a rest so_far c.requires.ready
+
+pub pass_known-content-requires-clause-ready : goal.pass_known-content-requires-clause-ready
+pass_known-content-requires-clause-ready c =
+    let t = c.args.self.now.table.now in
+    let m = message c.args.self.now in
+    let f = c.args.frame in
+    let old = at_of c.args.state.now in
+    let now = at_of c.loop-many.state in
+    let a = c.loop-many.state.steps - c.args.state.now.steps in
+    let begun = c.loop-many.invariant.steps in
+    let rest = c.rows_from-rest.result in
+    let same = c.rows_from-rest.ensures in
+    let so_far = subst (λ (x : Frame). Turns t m f old now a (left_over (Some x))) (sym same) c.loop-many.invariant.turns in
+    let less = so_far.less in
+    let new = at_of c.enter_box.new.state in
+    let spent = c.enter_box.new.state.steps - c.loop-many.state.steps in
+    let all = c.enter_box.new.state.steps - c.args.state.now.steps in
+    let rises = (one_more _ _ _ c.in_ok-below.ensures.spends) in
+    let two = subst (λ (o : Option Frame). Turns t m rest now new spent (left_over o)) c.in-Some-2.is c.in_ok-below.ensures.ok in
+    let run = turns_then t m f old now a rest so_far new spent all (left_over (Some c.in-Some-2.below)) (omega (arith, begun, rises)) two in
+    rest_ready t m f old new all c.in-Some-2.below run c.requires.ready

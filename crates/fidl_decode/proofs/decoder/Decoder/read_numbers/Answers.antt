@@ -10,6 +10,8 @@ use Rattle.fidl_decode.proofs.Fitting.{le_more, spends_any}
 use Rattle.fidl_decode_model.proofs.Turning.{on_ok_from, passed_on}
 use Rattle.fidl_decode_model.proofs.Listed.{vector_breaks}
 use Rattle.fidl_decode_columns.proofs.Wholly.{visits_over}
+use Rattle.fidl_table_format.specs.declared.kind.EntryKind.TheVariants.{Vector}
+use Rattle.fidl_decode.proofs.ReadyPlaces.{value_of}
 use Rattle.fidl_decode.proofs.decoder.Decoder.read_numbers.Goals as goal
 
 pub returns-in_err-frame-clause-fault_is_true : goal.returns-in_err-frame-clause-fault_is_true
@@ -52,3 +54,14 @@ returns-clause-spends c =
     let found = subst (λ (o : Option Frame). IfSome o (λ f. f ≡ elements_of t c.args.entry c.args.state.now.next (count_at c.args.self.now.bytes.value.came c.args.place) (c.args.depth + 1))) c.in-Some.is c.in_ok-frame.ensures.frame in
     let base : c.in-Some.frame.base ≡ c.args.state.now.next = ap (λ (f : Frame). f.base) found in
     spends_any _ _ _ (omega (arith, still, whole.least)) (omega (arith, still, whole.most, room, base))
+
+pub pass_elements-requires-clause-ready : goal.pass_elements-requires-clause-ready
+pass_elements-requires-clause-ready c =
+    let t = c.args.self.now.table.now in
+    let m = message c.args.self.now in
+    let old = at_of c.args.state.now in
+    let mid = c.read_vector.new.state in
+    let v = subst (λ (o : Option Frame). Visits t m c.args.depth c.args.entry c.args.place old (at_of mid) (mid.steps - c.args.state.now.steps) o) c.in-Some.is c.in_ok-frame.ensures.ok in
+    let ready = value_of t c.args.self.now.fine m old c.args.entry c.args.place Vector c.requires.entry c.requires.kind c.requires.ready in
+    let moves = v.moves ready.0 ready.1 ready.2 in
+    (moves.ahead, moves.below_clear)

@@ -13,6 +13,7 @@ use Rattle.fidl_decode_model.specs.Invariants.{is_leaf}
 use Rattle.fidl_decode_model.proofs.Turning.{passed_on}
 use Rattle.fidl_decode_columns.proofs.Leaves.{going_on, left_over}
 use Rattle.fidl_decode.proofs.Front.{front_room, front_gap_breaks, front_breaks, front_turns}
+use Rattle.fidl_decode.proofs.ReadyRows.{first_free, first_ready}
 use Rattle.fidl_decode.proofs.decoder.Decoder.read_row.Goals as goal
 
 pub row-row-requires : goal.row-row-requires
@@ -142,3 +143,15 @@ returns-in_err-zeros_at-clause-ok c = no_ok c.from_residual.result c.in_err-zero
 
 pub returns-in_err-read_leaf-clause-ok : goal.returns-in_err-read_leaf-clause-ok
 returns-in_err-read_leaf-clause-ok c = no_ok c.from_residual-in_err-read_leaf.result c.in_err-read_leaf.field-0.0 _ c.from_residual-in_err-read_leaf.ensures.1
+
+pub zeros_at-requires-clause-free : goal.zeros_at-requires-clause-free
+zeros_at-requires-clause-free c =
+    let t = c.args.self.now.table.now in
+    let m = message c.args.self.now in
+    first_free t c.args.self.now.fine m c.args.frame c.args.first c.args.count c.row-row.result c.requires.left c.requires.some c.row-row.ensures.value (at_of c.args.state.now) c.requires.frame c.requires.state c.requires.ready
+
+pub read_leaf-requires-clause-ready : goal.read_leaf-requires-clause-ready
+read_leaf-requires-clause-ready c =
+    let t = c.args.self.now.table.now in
+    let m = message c.args.self.now in
+    first_ready t c.args.self.now.fine m c.args.frame c.args.first c.args.count c.row-row.result c.requires.left c.requires.some c.row-row.ensures.value (at_of c.args.state.now) c.requires.frame c.requires.state c.requires.ready

@@ -5,6 +5,7 @@ use Rattle.fidl_decode_model.specs.declared.frame.Frame.{Frame}
 use Rattle.fidl_decode_model.specs.Machine.{Turns, at_of}
 use Rattle.fidl_decode_model.proofs.Turning.{passed_on, none_weaker}
 use Rattle.fidl_decode_columns.proofs.Leaves.{left_over, turns_then, turns_break}
+use Rattle.fidl_decode.proofs.ReadyRows.{rest_ready}
 use Rattle.fidl_decode.proofs.decoder.Decoder.read_struct.Goals as goal
 
 pub returns-in_default-clause-ok : goal.returns-in_default-clause-ok
@@ -211,3 +212,15 @@ returns-clause-cost c =
     let held : Turns t m c.args.frame (at_of c.args.state.now) (at_of c.read_last.new.state) (c.read_last.new.state.steps - c.args.state.now.steps) (left_over (Some c.in-Some-2.below)) = turns_then t m c.args.frame (at_of c.args.state.now) (at_of c.read_nested.new.state) (c.read_nested.new.state.steps - c.args.state.now.steps) c.in-Some.now one (at_of c.read_last.new.state) (c.read_last.new.state.steps - c.read_nested.new.state.steps) (c.read_last.new.state.steps - c.args.state.now.steps) (left_over (Some c.in-Some-2.below)) (omega (arith, rows_on, last_on)) two in
     let less_held = held.less in
     omega (arith, less_held, rows_on, last_on, c.in_ok-inner.ensures.cost)
+
+pub read_leaves-requires-clause-ready : goal.read_leaves-requires-clause-ready
+read_leaves-requires-clause-ready c =
+    let t = c.args.self.now.table.now in
+    let m = message c.args.self.now in
+    let one : Turns t m c.args.frame (at_of c.args.state.now) (at_of c.read_nested.new.state) (c.read_nested.new.state.steps - c.args.state.now.steps) (left_over (Some c.in-Some.now)) = subst (λ (o : Option Frame). Turns t m c.args.frame (at_of c.args.state.now) (at_of c.read_nested.new.state) (c.read_nested.new.state.steps - c.args.state.now.steps) (left_over o)) c.in-Some.is c.in_ok-now.ensures.ok in
+    let rows_on = c.in_ok-now.ensures.grows in
+    let last_on = c.in_ok-below.ensures.grows in
+    let two : Turns t m c.in-Some.now (at_of c.read_nested.new.state) (at_of c.read_last.new.state) (c.read_last.new.state.steps - c.read_nested.new.state.steps) (left_over (Some c.in-Some-2.below)) = subst (λ (o : Option Frame). Turns t m c.in-Some.now (at_of c.read_nested.new.state) (at_of c.read_last.new.state) (c.read_last.new.state.steps - c.read_nested.new.state.steps) (left_over o)) c.in-Some-2.is c.in_ok-below.ensures.ok in
+    let held : Turns t m c.args.frame (at_of c.args.state.now) (at_of c.read_last.new.state) (c.read_last.new.state.steps - c.args.state.now.steps) (left_over (Some c.in-Some-2.below)) = turns_then t m c.args.frame (at_of c.args.state.now) (at_of c.read_nested.new.state) (c.read_nested.new.state.steps - c.args.state.now.steps) c.in-Some.now one (at_of c.read_last.new.state) (c.read_last.new.state.steps - c.read_nested.new.state.steps) (c.read_last.new.state.steps - c.args.state.now.steps) (left_over (Some c.in-Some-2.below)) (omega (arith, rows_on, last_on)) two in
+    let less_held = held.less in
+    rest_ready t m c.args.frame (at_of c.args.state.now) (at_of c.read_last.new.state) (c.read_last.new.state.steps - c.args.state.now.steps) c.in-Some-2.below held c.requires.ready

@@ -12,6 +12,7 @@ use Rattle.fidl_decode_model.proofs.Visiting.{fine_as}
 use Rattle.fidl_decode_model.proofs.Holding.{struct_frame, visits_struct, struct_fine}
 use Rattle.fidl_decode_model.proofs.Turning.{passed_on}
 use Rattle.fidl_decode_columns.proofs.Leaves.{going_on, left_over, same_frame, turns_start, next_size, next_room, next_takes, turns_below, turns_over, below_breaks, over_room, over_turns, over_breaks, elements_next, elements_over, no_zeros}
+use Rattle.fidl_decode.proofs.ReadyRows.{over_free}
 use Rattle.fidl_decode.proofs.decoder.Decoder.read_structs.Goals as goal
 
 pub overflow_add-place : goal.overflow_add-place
@@ -225,3 +226,27 @@ pub returns-in_err-zeros_at-clause-fault_is_true : goal.returns-in_err-zeros_at-
 returns-in_err-zeros_at-clause-fault_is_true c =
     let over = elements_over c.args.self.now.table.now c.args.entry c.args.size c.loop-i.i c.args.count c.loop-i.done (omega (arith, c.loop-i-test.false)) in
     passed_on c.from_residual-in_err-zeros_at.result c.in_err-zeros_at.field-0.0 _ c.from_residual-in_err-zeros_at.ensures.1 (over_breaks c.args.self.now.table.now c.args.self.now.fine (message c.args.self.now) c.args.frame (at_of c.args.state.now) (at_of c.loop-i.state) (c.loop-i.state.steps - c.args.state.now.steps) (going_on c.args.frame (Elements c.args.entry c.args.size (c.args.count - c.loop-i.i)) c.loop-i.done) c.loop-i.invariant.turns over tt _ c.in_err-zeros_at.ensures.fault_is_true)
+
+pub read_behind-requires-clause-ready : goal.read_behind-requires-clause-ready
+read_behind-requires-clause-ready c =
+    let is = c.loop-i.invariant.turns.rest_fine.0.left in
+    let one = elements_next c.args.self.now.table.now c.args.entry c.args.size c.loop-i.i c.args.count c.loop-i.done is c.loop-i-test.true in
+    let room = next_room c.args.self.now.table.now c.args.self.now.fine (message c.args.self.now) c.args.frame (at_of c.args.state.now) (at_of c.loop-i.state) (c.loop-i.state.steps - c.args.state.now.steps) (going_on c.args.frame (Elements c.args.entry c.args.size (c.args.count - c.loop-i.i)) c.loop-i.done) c.loop-i.invariant.turns (let x : Row = record { offset = c.loop-i.done; entry = c.args.entry } in x) (Elements c.args.entry c.args.size (c.args.count - (c.loop-i.i + 1))) one in
+    let before = room.0 in
+    let fits = room.1 in
+    let within = room.2 in
+    let own = next_size c.args.self.now.table.now c.args.self.now.fine (message c.args.self.now) c.args.frame (at_of c.args.state.now) (at_of c.loop-i.state) (c.loop-i.state.steps - c.args.state.now.steps) (going_on c.args.frame (Elements c.args.entry c.args.size (c.args.count - c.loop-i.i)) c.loop-i.done) c.loop-i.invariant.turns (let x : Row = record { offset = c.loop-i.done; entry = c.args.entry } in x) (Elements c.args.entry c.args.size (c.args.count - (c.loop-i.i + 1))) one in
+    let so_far = c.loop-i.invariant.steps in
+    let none : (c.args.frame.base + c.loop-i.done) - (c.args.frame.base + c.loop-i.done) ≡ 0 = omega arith in
+    let seen : Visits c.args.self.now.table.now (message c.args.self.now) c.args.frame.depth c.args.entry (c.args.frame.base + c.loop-i.done) (at_of c.loop-i.state) (at_of c.loop-i.state) 0 (Some (struct_frame c.entry-e.result (c.args.frame.base + c.loop-i.done) c.args.frame.depth c.args.frame.in_envelope)) = subst (λ (d : Entry). Visits c.args.self.now.table.now (message c.args.self.now) c.args.frame.depth c.args.entry (c.args.frame.base + c.loop-i.done) (at_of c.loop-i.state) (at_of c.loop-i.state) 0 (Some (struct_frame d (c.args.frame.base + c.loop-i.done) c.args.frame.depth c.args.frame.in_envelope))) (sym c.entry-e.ensures.value) (visits_struct c.args.self.now.table.now c.args.self.now.fine (message c.args.self.now) c.args.frame.depth c.args.entry (c.args.frame.base + c.loop-i.done) (at_of c.loop-i.state) c.requires.entry c.loop-i.invariant.turns.state c.requires.frame.depth c.args.frame.in_envelope 0 refl c.requires.kind (omega (arith, before, fits, within))) in
+    let seen_fine = subst (λ (d : Entry). VisitFine c.args.self.now.table.now (message c.args.self.now) c.args.frame.depth c.args.frame.in_envelope c.args.entry (Some (struct_frame d (c.args.frame.base + c.loop-i.done) c.args.frame.depth c.args.frame.in_envelope))) (sym c.entry-e.ensures.value) (struct_fine c.args.self.now.table.now c.args.self.now.fine (message c.args.self.now) c.args.frame.depth c.args.entry (c.args.frame.base + c.loop-i.done) (at_of c.loop-i.state) c.requires.entry c.loop-i.invariant.turns.state c.requires.frame.depth c.args.frame.in_envelope c.requires.kind (omega (arith, before, fits, within)) (elim c.requires.frame.in_envelope [ inl out ↦ inl out | inr own ↦ (let four = own.1 in inr (own.0, omega (arith, four, fits))) ])) in
+    let taken : Turns c.args.self.now.table.now (message c.args.self.now) c.args.frame (at_of c.args.state.now) (at_of c.loop-i.state) (c.loop-i.state.steps + 1 - c.args.state.now.steps) (record { below = Some (struct_frame c.entry-e.result (c.args.frame.base + c.loop-i.done) c.args.frame.depth c.args.frame.in_envelope); rest = Some (going_on (going_on c.args.frame (Elements c.args.entry c.args.size (c.args.count - c.loop-i.i)) c.loop-i.done) (Elements c.args.entry c.args.size (c.args.count - (c.loop-i.i + 1))) (c.loop-i.done + c.args.size)) }) = next_takes c.args.self.now.table.now c.args.self.now.fine (message c.args.self.now) c.args.frame (at_of c.args.state.now) (at_of c.loop-i.state) (c.loop-i.state.steps - c.args.state.now.steps) (going_on c.args.frame (Elements c.args.entry c.args.size (c.args.count - c.loop-i.i)) c.loop-i.done) c.loop-i.invariant.turns (let x : Row = record { offset = c.loop-i.done; entry = c.args.entry } in x) (Elements c.args.entry c.args.size (c.args.count - (c.loop-i.i + 1))) one tt is tt (Some (struct_frame c.entry-e.result (c.args.frame.base + c.loop-i.done) c.args.frame.depth c.args.frame.in_envelope)) (at_of c.loop-i.state) (c.loop-i.done + c.args.size) 0 (c.loop-i.state.steps + 1 - c.args.state.now.steps) (omega (arith, own, is)) (omega (arith, so_far)) (omega (arith, so_far)) (no_zeros c.args.self.now.bytes.value.came (c.args.frame.base + c.loop-i.done) _ none) seen seen_fine in
+    let less = taken.less in
+    let p = taken.moves c.requires.ready.0 c.requires.ready.1 in
+    (p.ahead, p.below_clear)
+
+pub zeros_at-requires-clause-free : goal.zeros_at-requires-clause-free
+zeros_at-requires-clause-free c =
+    let t = c.args.self.now.table.now in
+    let m = message c.args.self.now in
+    over_free t c.args.self.now.fine m c.args.frame (at_of c.args.state.now) (at_of c.loop-i.state) (c.loop-i.state.steps - c.args.state.now.steps) (going_on c.args.frame (Elements c.args.entry c.args.size (c.args.count - c.loop-i.i)) c.loop-i.done) c.loop-i.invariant.turns c.requires.ready

@@ -9,6 +9,7 @@ use Rattle.fidl_decode_model.specs.Machine.{Visits, VisitFine, at_of, height}
 use Rattle.fidl_decode_columns.proofs.Leaves.{left_over, turns_then}
 use Rattle.fidl_decode_model.proofs.Turning.{fine_from, passed_on}
 use Rattle.fidl_decode.proofs.BodyTurns.{body_start, visits_on}
+use Rattle.fidl_decode.proofs.ReadyBelow.{table_ready, visit_ready}
 use Rattle.fidl_decode.proofs.decoder.Decoder.read_table.Goals as goal
 
 pub returns-clause-ok : goal.returns-clause-ok
@@ -112,3 +113,15 @@ pass_front-read-requires-clause-state c = c.in_ok-count.ensures.ok.state
 
 pub left_of-requires-clause-frame : goal.left_of-requires-clause-frame
 left_of-requires-clause-frame c = c.pass_front-read.ensures.turns.rest_fine.0
+
+pub pass_front-read-requires-clause-ready : goal.pass_front-read-requires-clause-ready
+pass_front-read-requires-clause-ready c =
+    let t = c.args.self.now.table.now in
+    let m = message c.args.self.now in
+    let old = c.args.state.now in
+    let mid = c.open_table.new.state in
+    let body = c.body_of-body.result in
+    let is = c.body_of-body.ensures in
+    let start = body_start body c.args.entry old.next c.in_ok-count.count (c.args.depth + 1) is.entry is.base is.count is.depth in
+    let v = subst (λ (g : Frame). Visits t m c.args.depth c.args.entry c.args.place (at_of old) (at_of mid) 0 (Some g)) start c.in_ok-count.ensures.ok in
+    visit_ready t m c.args.depth c.args.entry c.args.place (at_of old) (at_of mid) 0 (rest_of body 0) v (table_ready t m (at_of old) c.args.self.now.fine c.args.entry c.args.place c.requires.entry c.requires.kind c.requires.ready)

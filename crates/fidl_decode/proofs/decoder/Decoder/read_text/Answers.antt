@@ -1,7 +1,7 @@
 use Rattle.fidl_decode.specs.Reading.{message}
 use Rattle.fidl_decode.proofs.Fitting.{front, apart, inside, at_most, small, ended, some_8, rounded_left, part_order, le_more, eq_le, spent_text, spends_any}
 use Rattle.fidl_decode.proofs.Unchanged.{same_le, no_ok, clash, size_short, size_fits, size_room}
-use Rattle.std.proofs.Common.{ℕ, ◌≡◌, ◌+◌, ◌-◌, sym, subst, ◌∙◌, arith, refl, ap, inl, inr, length, ◌<◌}
+use Rattle.std.proofs.Common.{◌≡◌, ◌+◌, ◌-◌, sym, subst, ◌∙◌, arith, refl, ap, inl, inr, length, ◌<◌}
 use Rattle.std.specs.Int.{next_multiple_of}
 use Rattle.fidl_wire.specs.Term as ty
 use Rattle.fidl_wire.specs.Encoding.{zeros}
@@ -12,6 +12,7 @@ use Rattle.fidl_decode_model.specs.State.{Position, linked}
 use Rattle.fidl_decode_model.specs.Machine.{Leads, at_of}
 use Rattle.fidl_decode_model.specs.Breaks.{count_at}
 use Rattle.fidl_decode_model.proofs.Written.{absent_leads, text_leads, text_work}
+use Rattle.fidl_decode.proofs.ReadyPlaces.{ahead_part, first_free, last_free}
 use Rattle.fidl_decode.proofs.decoder.Decoder.read_text.Goals as goal
 
 pub returns-then-not-is_present-clause-ok : goal.returns-then-not-is_present-clause-ok
@@ -202,7 +203,7 @@ pub returns-clause-spends : goal.returns-clause-spends
 returns-clause-spends c = spends_any _ _ _ (le_more _ _) (part_order _ _ _ (size_fits c.args.self.now.sized _ _ c.if-size-rest.false))
 
 pub u64_at-count-requires : goal.u64_at-count-requires
-u64_at-count-requires c = record { holds = c.requires.holds; room = front c.args.place 8 8 (length c.args.self.now.bytes.value.came) c.requires.room }
+u64_at-count-requires c = record { holds = c.requires.holds; room = front c.args.place 8 8 (length c.args.self.now.bytes.value.came) c.requires.room; free = first_free (message c.args.self.now) (at_of c.args.state.now) c.args.place c.requires.ready }
 
 pub overflow_add-place : goal.overflow_add-place
 overflow_add-place c = record { fits = small _ (length c.args.self.now.bytes.value.came) (front c.args.place 8 8 (length c.args.self.now.bytes.value.came) c.requires.room) c.args.self.now.short }
@@ -217,10 +218,10 @@ pub overflow_sub-rest : goal.overflow_sub-rest
 overflow_sub-rest c = size_room c.args.self.now.sized _ c.requires.state.next
 
 pub is_present-requires : goal.is_present-requires
-is_present-requires c = record { holds = c.requires.holds; room = apart c.args.place 8 8 (length c.args.self.now.bytes.value.came) c.requires.room }
+is_present-requires c = record { holds = c.requires.holds; room = apart c.args.place 8 8 (length c.args.self.now.bytes.value.came) c.requires.room; free = last_free (message c.args.self.now) (at_of c.args.state.now) c.args.place c.requires.ready }
 
 pub is_absent-requires : goal.is_absent-requires
-is_absent-requires c = record { holds = c.requires.holds; room = apart c.args.place 8 8 (length c.args.self.now.bytes.value.came) c.requires.room }
+is_absent-requires c = record { holds = c.requires.holds; room = apart c.args.place 8 8 (length c.args.self.now.bytes.value.came) c.requires.room; free = last_free (message c.args.self.now) (at_of c.args.state.now) c.args.place c.requires.ready }
 
 pub next_multiple_of-size-requires-clause-nonzero : goal.next_multiple_of-size-requires-clause-nonzero
 next_multiple_of-size-requires-clause-nonzero c = some_8
@@ -287,3 +288,15 @@ returns-clause-least c = λ to x.
     let short = c.args.self.now.short in
     let counted : count_at c.args.self.now.bytes.value.came c.args.place ≡ c.u64_at-count.result = sym c.u64_at-count.ensures in
     omega (arith, counted, c.next_multiple_of-size.ensures.lower_bound, text_work (declarations_of c.args.self.now.table.now) (message c.args.self.now) (omega (arith, short)) c.args.depth (is_optional c.args.entry.now) c.args.entry.now.bound c.args.place (at_of c.args.state.now) to x)
+
+pub is_text-requires-clause-free : goal.is_text-requires-clause-free
+is_text-requires-clause-free c =
+    let m = message c.args.self.now in
+    ahead_part m (at_of c.args.state.now) _ _ c.requires.ready.0 (same_le _)
+    (ended c.args.state.now.next c.next_multiple_of-size.result (length m.bytes) c.requires.state.next (size_fits c.args.self.now.sized _ _ c.if-size-rest.false))
+
+pub zeros_at-requires-clause-free : goal.zeros_at-requires-clause-free
+zeros_at-requires-clause-free c =
+    let m = message c.args.self.now in
+    ahead_part m (at_of c.args.state.now) _ _ c.requires.ready.0 (le_more _ _)
+    (ended c.args.state.now.next c.next_multiple_of-size.result (length m.bytes) c.requires.state.next (size_fits c.args.self.now.sized _ _ c.if-size-rest.false))

@@ -12,6 +12,7 @@ use Rattle.fidl_decode_model.specs.Breaks.{BreaksUnion, BreaksMember, ordinal_at
 use Rattle.fidl_decode_model.specs.Machine.{Opens, PaysEnvelope, Visits, member_term, at_of}
 use Rattle.fidl_decode_model.proofs.Turning.{if_ok_two}
 use Rattle.fidl_decode.proofs.Chosen.{member_is, no_member, one_member, union_breaks, visits_absent_union, visits_union, member_breaks, union_fine}
+use Rattle.fidl_decode.proofs.ReadyPlaces.{first_free, last_free, last_ready}
 use Rattle.fidl_decode.proofs.decoder.Decoder.read_union.Goals.{else-is_none-via-then-is_none+else-is_strict, else-is_none-via-else-is_none}
 use Rattle.fidl_decode.proofs.decoder.Decoder.read_union.Goals as goal
 
@@ -130,3 +131,12 @@ returns-clause-spends c = record {
   least = omega (arith, c.member-member.ensures.grows, c.open_envelope.ensures.spends.least);
   most = omega (arith, c.member-member.ensures.few, c.open_envelope.ensures.spends.most);
 }
+
+pub u64_at-ordinal-requires-clause-free : goal.u64_at-ordinal-requires-clause-free
+u64_at-ordinal-requires-clause-free c = first_free (message c.args.self.now) (at_of c.args.state.now) c.args.place c.requires.ready
+
+pub is_absent-requires-clause-free : goal.is_absent-requires-clause-free
+is_absent-requires-clause-free c = last_free (message c.args.self.now) (at_of c.args.state.now) c.args.place c.requires.ready
+
+pub open_envelope-requires-clause-ready : goal.open_envelope-requires-clause-ready
+open_envelope-requires-clause-ready c = last_ready (message c.args.self.now) (at_of c.args.state.now) c.args.place c.requires.ready

@@ -15,6 +15,7 @@ use Rattle.fidl_decode_model.specs.State.{Position, linked}
 use Rattle.fidl_decode_model.specs.Machine.{Visits, VisitFine, at_of}
 use Rattle.fidl_decode_model.proofs.Visiting.{fine_as}
 use Rattle.fidl_decode_model.proofs.Listed.{count_fits, visits_absent_vector, visits_vector, vector_fine}
+use Rattle.fidl_decode.proofs.ReadyPlaces.{first_free, last_free}
 use Rattle.fidl_decode.proofs.decoder.Decoder.read_vector.Goals as goal
 
 pub returns-in-Absent-clause-ok : goal.returns-in-Absent-clause-ok
@@ -207,13 +208,13 @@ pub entry-e-requires : goal.entry-e-requires
 entry-e-requires c = c.requires.entry
 
 pub u64_at-count-requires : goal.u64_at-count-requires
-u64_at-count-requires c = record { holds = c.requires.holds; room = front c.args.place 8 8 (length c.args.self.now.bytes.value.came) c.requires.room }
+u64_at-count-requires c = record { holds = c.requires.holds; room = front c.args.place 8 8 (length c.args.self.now.bytes.value.came) c.requires.room; free = first_free (message c.args.self.now) (at_of c.args.state.now) c.args.place c.requires.ready }
 
 pub overflow_add-place : goal.overflow_add-place
 overflow_add-place c = record { fits = small _ (length c.args.self.now.bytes.value.came) (front c.args.place 8 8 (length c.args.self.now.bytes.value.came) c.requires.room) c.args.self.now.short }
 
 pub presence-requires : goal.presence-requires
-presence-requires c = record { holds = c.requires.holds; room = apart c.args.place 8 8 (length c.args.self.now.bytes.value.came) c.requires.room }
+presence-requires c = record { holds = c.requires.holds; room = apart c.args.place 8 8 (length c.args.self.now.bytes.value.came) c.requires.room; free = last_free (message c.args.self.now) (at_of c.args.state.now) c.args.place c.requires.ready }
 
 pub overflow_add-result : goal.overflow_add-result
 overflow_add-result c = record { fits = small _ (length c.args.self.now.bytes.value.came) (front c.args.place 8 8 (length c.args.self.now.bytes.value.came) c.requires.room) c.args.self.now.short }

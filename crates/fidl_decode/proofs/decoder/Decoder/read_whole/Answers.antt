@@ -5,7 +5,8 @@ use Rattle.std.proofs.Common.{◌+◌, ◌-◌, refl, arith}
 use Rattle.fidl_decode_model.specs.Machine.{at_of}
 use Rattle.fidl_decode_model.specs.Envelopes.{IsUntil}
 use Rattle.fidl_decode_model.proofs.Turning.{passed_on}
-use Rattle.fidl_decode.proofs.LeafContent.{leaf_known, leaf_size, leaf_room, leaf_pays, leaf_breaks, end_room, end_less, leaf_over, leaf_miscounted, leaf_end_breaks}
+use Rattle.fidl_decode.proofs.LeafContent.{leaf_known, leaf_size, leaf_room, leaf_pays, leaf_breaks, end_room, end_less, leaf_over, leaf_miscounted, leaf_end_breaks, leaf_end_free}
+use Rattle.fidl_decode.proofs.ReadyBelow.{content_ready}
 use Rattle.fidl_decode.proofs.decoder.Decoder.read_whole.Goals.{then-state-until-via-then-state-until, then-state-until-via-else-state-until+then-state-until-2}
 use Rattle.fidl_decode.proofs.decoder.Decoder.read_whole.Goals as goal
 
@@ -197,3 +198,14 @@ returns-then-state-until-clause-rises c = tt
 
 pub returns-clause-fault_is_true : goal.returns-clause-fault_is_true
 returns-clause-fault_is_true c = tt
+
+pub read_flat-requires-clause-ready : goal.read_flat-requires-clause-ready
+read_flat-requires-clause-ready c = content_ready c.args.self.now.table.now (message c.args.self.now) (at_of c.args.state.now) c.args.self.now.fine c.args.frame c.args.entry c.args.size 1 c.args.until c.requires.left (omega arith) c.requires.frame c.requires.state c.requires.ready
+
+pub zeros_at-requires-clause-free : goal.zeros_at-requires-clause-free
+zeros_at-requires-clause-free c =
+    let t = c.args.self.now.table.now in
+    let m = message c.args.self.now in
+    let old = at_of c.args.state.now in
+    let new = c.read_flat.new.state in
+    leaf_end_free t c.args.self.now.fine m c.args.frame c.args.entry c.args.size 1 c.args.until c.requires.left refl old c.requires.frame c.requires.state (at_of new) (new.steps - (c.args.state.now.steps + 1)) c.in_ok-read_flat.ensures.ok c.requires.ready

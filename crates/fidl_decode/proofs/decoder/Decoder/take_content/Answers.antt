@@ -11,6 +11,7 @@ use Rattle.fidl_decode_model.specs.Envelopes.{IsUntil}
 use Rattle.fidl_decode_columns.proofs.Leaves.{going_on, same_frame}
 use Rattle.fidl_decode_model.proofs.Turning.{passed_on}
 use Rattle.fidl_decode.proofs.ContentTurns.{content_end_room, content_over, content_miscounted, content_end_breaks, content_known, content_size, content_room, content_inside, content_breaks, content_turns}
+use Rattle.fidl_decode.proofs.ReadyBelow.{content_ready}
 use Rattle.fidl_decode.proofs.decoder.Decoder.take_content.Goals.{then-state-until-via-then-state-until, then-state-until-via-else-state-until+then-state-until-2}
 use Rattle.fidl_decode.proofs.decoder.Decoder.take_content.Goals as goal
 
@@ -203,3 +204,7 @@ returns-in_err-below-clause-ok c = no_ok c.from_residual-in_err-below.result c.i
 
 pub returns-clause-fault_is_true : goal.returns-clause-fault_is_true
 returns-clause-fault_is_true c = tt
+
+pub visit-requires-clause-ready : goal.visit-requires-clause-ready
+visit-requires-clause-ready c =
+    content_ready c.args.self.now.table.now (message c.args.self.now) (at_of c.args.state.now) c.args.self.now.fine c.args.frame c.args.entry c.args.size c.args.count c.args.until c.requires.left (omega (arith, c.if-count-eq0.false)) c.requires.frame c.requires.state c.requires.ready

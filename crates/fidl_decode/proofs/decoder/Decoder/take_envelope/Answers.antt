@@ -13,6 +13,7 @@ use Rattle.std.proofs.lemmas.Result.{IfErr-weaker}
 use Rattle.fidl_decode_columns.proofs.Leaves.{going_on, same_frame}
 use Rattle.fidl_decode_model.proofs.Turning.{if_ok_on, if_ok_two, on_ok_from}
 use Rattle.fidl_decode.proofs.EnvelopeTurns.{member_found, envelope_room, envelope_absent, envelope_opened, envelope_breaks}
+use Rattle.fidl_decode.proofs.ReadyBelow.{slot_ready}
 use Rattle.fidl_decode.proofs.decoder.Decoder.take_envelope.Goals as goal
 
 no_true : false ≡ true → ⊥
@@ -127,3 +128,11 @@ row_of-member-requires-clause-parts c = c.requires.parts
 
 pub read_member-requires-clause-state : goal.read_member-requires-clause-state
 read_member-requires-clause-state c = c.requires.state
+
+pub is_absent-requires-clause-free : goal.is_absent-requires-clause-free
+is_absent-requires-clause-free c =
+    (slot_ready c.args.self.now.table.now (message c.args.self.now) (at_of c.args.state.now) c.args.frame c.args.entry c.args.read c.args.count c.requires.left c.requires.some c.requires.frame c.requires.ready).1.free
+
+pub read_member-requires-clause-ready : goal.read_member-requires-clause-ready
+read_member-requires-clause-ready c =
+    slot_ready c.args.self.now.table.now (message c.args.self.now) (at_of c.args.state.now) c.args.frame c.args.entry c.args.read c.args.count c.requires.left c.requires.some c.requires.frame c.requires.ready

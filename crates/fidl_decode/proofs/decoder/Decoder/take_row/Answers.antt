@@ -11,6 +11,7 @@ use Rattle.fidl_decode.proofs.Fitting.{next_fits, some_left, spends_some}
 use Rattle.fidl_decode_model.proofs.Turning.{passed_on}
 use Rattle.fidl_decode_columns.proofs.Leaves.{going_on}
 use Rattle.fidl_decode.proofs.Front.{front_room, front_inside, front_takes, front_gap_breaks, front_breaks}
+use Rattle.fidl_decode.proofs.ReadyRows.{first_free, first_ready}
 use Rattle.fidl_decode.proofs.decoder.Decoder.take_row.Goals as goal
 
 pub end_rows-requires-clause-plain : goal.end_rows-requires-clause-plain
@@ -195,3 +196,15 @@ returns-clause-spends c =
     let work = room.3 in
     let more = c.in_ok-below.ensures.spends in
     spends_some _ _ _ (omega (arith, more.least)) (omega (arith, work, before, more.most))
+
+pub zeros_at-requires-clause-free : goal.zeros_at-requires-clause-free
+zeros_at-requires-clause-free c =
+    let t = c.args.self.now.table.now in
+    let m = message c.args.self.now in
+    first_free t c.args.self.now.fine m c.args.frame c.args.first c.args.count c.row-row.result c.requires.left (some_left c.args.count c.if-count-eq0.false) c.row-row.ensures.value (at_of c.args.state.now) c.requires.frame c.requires.state c.requires.ready
+
+pub visit-requires-clause-ready : goal.visit-requires-clause-ready
+visit-requires-clause-ready c =
+    let t = c.args.self.now.table.now in
+    let m = message c.args.self.now in
+    first_ready t c.args.self.now.fine m c.args.frame c.args.first c.args.count c.row-row.result c.requires.left (some_left c.args.count c.if-count-eq0.false) c.row-row.ensures.value (at_of c.args.state.now) c.requires.frame c.requires.state c.requires.ready

@@ -281,3 +281,19 @@ returns-in_err-inner-clause-fault_is_true c =
     let less_both = both.less in
     passed_on c.from_residual-in_err-inner.result c.in_err-inner.field-0.0 _ c.from_residual-in_err-inner.ensures.1
     (below_breaks c.args.self.now.table.now (message c.args.self.now) c.args.frame (at_of c.args.state.now) (at_of c.take_member.new.state) (c.take_member.new.state.steps - c.args.state.now.steps) c.in-Some-below.below c.in-Some-rest.after both _ c.in_err-inner.ensures.fault_is_true)
+
+pub read_leaves-requires-in-loop-now-clause-ready : goal.read_leaves-requires-in-loop-now-clause-ready
+read_leaves-requires-in-loop-now-clause-ready c =
+    let so_far = c.loop-now.invariant.steps in
+    let less = c.loop-now.invariant.turns.less in
+    let grows = c.in_ok-now.ensures.grows in
+    let two = subst (λ (o : Option Frame). Turns c.args.self.now.table.now (message c.args.self.now) c.loop-now.rest (at_of c.loop-now.state) (at_of c.read_leaves.new.state) (c.read_leaves.new.state.steps - c.loop-now.state.steps) (left_over o)) c.in-Some.is c.in_ok-now.ensures.ok in
+    let held : Turns c.args.self.now.table.now (message c.args.self.now) c.args.frame (at_of c.args.state.now) (at_of c.read_leaves.new.state) (c.read_leaves.new.state.steps - c.args.state.now.steps) (left_over (Some c.in-Some.now)) = turns_then c.args.self.now.table.now (message c.args.self.now) c.args.frame (at_of c.args.state.now) (at_of c.loop-now.state) (c.loop-now.state.steps - c.args.state.now.steps) c.loop-now.rest c.loop-now.invariant.turns (at_of c.read_leaves.new.state) _ _ (left_over (Some c.in-Some.now)) (omega (arith, so_far, grows)) two in
+    let less_now = held.less in
+    let rises = c.in_ok-turn.ensures.rises in
+    let read : Turns c.args.self.now.table.now (message c.args.self.now) c.args.frame (at_of c.args.state.now) (at_of c.take_member.new.state) (c.take_member.new.state.steps - c.args.state.now.steps) c.in_ok-turn.turn = turns_then c.args.self.now.table.now (message c.args.self.now) c.args.frame (at_of c.args.state.now) (at_of c.read_leaves.new.state) (c.read_leaves.new.state.steps - c.args.state.now.steps) c.in-Some.now held (at_of c.take_member.new.state) _ _ c.in_ok-turn.turn (omega (arith, so_far, grows, rises)) c.in_ok-turn.ensures.ok in
+    let turn : c.in_ok-turn.turn ≡ record { below = Some c.in-Some-below.below; rest = Some c.in-Some-rest.after } = λ i. record { below = c.in-Some-below.is i; rest = c.in-Some-rest.is i } in
+    let both = subst (λ (x : Turn). Turns c.args.self.now.table.now (message c.args.self.now) c.args.frame (at_of c.args.state.now) (at_of c.take_member.new.state) (c.take_member.new.state.steps - c.args.state.now.steps) x) turn read in
+    let less_both = both.less in
+    let p = both.moves c.requires.ready.0 c.requires.ready.1 in
+    (p.ahead, p.below_clear)

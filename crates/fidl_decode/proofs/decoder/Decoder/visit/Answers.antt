@@ -15,6 +15,7 @@ use Rattle.fidl_decode_model.proofs.Holding.{visits_struct, visits_array, struct
 use Rattle.fidl_decode_model.proofs.Boxed.{box_breaks}
 use Rattle.fidl_decode_model.proofs.Listed.{vector_breaks}
 use Rattle.fidl_decode_model.proofs.Turning.{passed_on}
+use Rattle.fidl_decode.proofs.ReadyPlaces.{place_of}
 use Rattle.fidl_decode.proofs.decoder.Decoder.visit.Goals as goal
 
 no_some : {A : Type 0} (a : A) → Some a ≡ None → ⊥
@@ -250,3 +251,23 @@ returns-in-Union-clause-fault_is_true c = c.read_union.ensures.fault_is_true
 
 pub returns-in-Union-clause-spends : goal.returns-in-Union-clause-spends
 returns-in-Union-clause-spends c = more_steps _ _ _ _ c.read_union.ensures.spends (omega arith)
+
+pub read_box-requires-clause-ready : goal.read_box-requires-clause-ready
+read_box-requires-clause-ready c =
+    let is : kind_of (entry_at c.args.self.now.table.now c.args.entry).kind ≡ Some Box = ap (λ (e : Entry). kind_of e.kind) (sym c.entry-e.ensures.value) ∙ sym c.from_number.ensures ∙ c.in-Some.is ∙ ap (λ (k : EntryKind). Some k) c.in-Box.is in
+    place_of c.args.self.now.table.now c.args.self.now.fine (message c.args.self.now) (at_of c.args.state.now) c.args.entry c.args.place Box c.requires.entry is c.requires.ready
+
+pub read_vector-requires-clause-ready : goal.read_vector-requires-clause-ready
+read_vector-requires-clause-ready c =
+    let is : kind_of (entry_at c.args.self.now.table.now c.args.entry).kind ≡ Some Vector = ap (λ (e : Entry). kind_of e.kind) (sym c.entry-e.ensures.value) ∙ sym c.from_number.ensures ∙ c.in-Some.is ∙ ap (λ (k : EntryKind). Some k) c.in-Vector.is in
+    place_of c.args.self.now.table.now c.args.self.now.fine (message c.args.self.now) (at_of c.args.state.now) c.args.entry c.args.place Vector c.requires.entry is c.requires.ready
+
+pub read_table-requires-clause-ready : goal.read_table-requires-clause-ready
+read_table-requires-clause-ready c =
+    let is : kind_of (entry_at c.args.self.now.table.now c.args.entry).kind ≡ Some Table = ap (λ (e : Entry). kind_of e.kind) (sym c.entry-e.ensures.value) ∙ sym c.from_number.ensures ∙ c.in-Some.is ∙ ap (λ (k : EntryKind). Some k) c.in-Table.is in
+    place_of c.args.self.now.table.now c.args.self.now.fine (message c.args.self.now) (at_of c.args.state.now) c.args.entry c.args.place Table c.requires.entry is c.requires.ready
+
+pub read_union-requires-clause-ready : goal.read_union-requires-clause-ready
+read_union-requires-clause-ready c =
+    let is : kind_of (entry_at c.args.self.now.table.now c.args.entry).kind ≡ Some Union = ap (λ (e : Entry). kind_of e.kind) (sym c.entry-e.ensures.value) ∙ sym c.from_number.ensures ∙ c.in-Some.is ∙ ap (λ (k : EntryKind). Some k) c.in-Union.is in
+    place_of c.args.self.now.table.now c.args.self.now.fine (message c.args.self.now) (at_of c.args.state.now) c.args.entry c.args.place Union c.requires.entry is c.requires.ready
