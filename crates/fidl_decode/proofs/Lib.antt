@@ -4,6 +4,7 @@ pub mod ReadyStack
 pub mod Running
 pub mod Refusing
 pub mod Covering
+pub mod Unlinked
 pub mod Placing
 pub mod Opening
 pub mod Tabled

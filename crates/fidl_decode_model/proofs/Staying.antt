@@ -85,14 +85,14 @@ pub stays_begun : (inline : Bool) (place size c d : ℕ) (s : Position) → plac
 stays_begun true place size c d s even = stays_opened place c d s even
 stays_begun false place size c d s even = stays_both _ _ _ _ s (opened place s) (begun false place size s) (stays_opened place c d s even) (stays_linked place (place + 8) c d place size (opened place s) (omega arith) (omega arith) even)
 
-next_begun : (inline : Bool) (place size : ℕ) (s : Position) → s.next % 8 ≡ 0 → (begun inline place size s).next % 8 ≡ 0
+pub next_begun : (inline : Bool) (place size : ℕ) (s : Position) → s.next % 8 ≡ 0 → (begun inline place size s).next % 8 ≡ 0
 next_begun true place size s even = even
 next_begun false place size s even = omega arith
 
 stays_passed : (a b c d n : ℕ) (s r : Position) → Stays a b c d s r → Stays a b c d s (passed n r)
 stays_passed a b c d n s r h = record { objects = h.objects; records = h.records; grows = h.grows }
 
-even_member_at : (inline : Bool) (place : ℕ) (s : Position) → place % 8 ≡ 0 → s.next % 8 ≡ 0 → member_at inline place s % 8 ≡ 0
+pub even_member_at : (inline : Bool) (place : ℕ) (s : Position) → place % 8 ≡ 0 → s.next % 8 ≡ 0 → member_at inline place s % 8 ≡ 0
 even_member_at true place s h g = h
 even_member_at false place s h g = g
 

@@ -1,6 +1,6 @@
 -- Where links can stand while a message is read: nowhere in what is still to be read
 -- (docs/decoding.md, "Links").
-use Rattle.std.specs.Prelude.{◌≡◌, ◌⊎◌, ℕ, ◌+◌, ◌*◌, ◌/◌, ◌%◌, ◌<◌, ◌≤◌, List, [], ◌∷◌, length}
+use Rattle.std.specs.Prelude.{◌≡◌, ◌⊎◌, ℕ, ◌+◌, ◌*◌, ◌%◌, ◌≤◌, List, [], ◌∷◌, length}
 use Rattle.std.specs.Prelude.{slice_index, Option, Some, None}
 use Rattle.fidl_wire.specs.Term as ty
 use Rattle.fidl_wire.specs.Figure.{Declarations, figure_of}
@@ -12,14 +12,16 @@ use Rattle.fidl_decode_model.specs.declared.frame.Remaining.TheVariants.{Content
 use Rattle.fidl_table_format.specs.Section.{header_of}
 use Rattle.fidl_decode_model.specs.Rows.{Row, table_rows, element_rows}
 use Rattle.fidl_decode_model.specs.State.{Message, Position}
+use Rattle.fidl_decode_model.specs.Placed.{links_of}
+use Rattle.fidl_decode_model.specs.Readable.{IsUnlinked, AreUnlinked}
 
--- no link stands at a byte, neither in eight bytes nor in four
+-- no link stands at a byte
 abbrev pub IsFree : Position → (k : ℕ) → Type 0
-IsFree s k = (slice_index s.objects (k / 8) ≡ 0) × (slice_index s.records (k / 4) ≡ 0)
+IsFree s k = IsUnlinked (links_of s) k
 
 -- none stands at the bytes from one place up to another
 abbrev pub AreFree : Position → (from to : ℕ) → Type 0
-AreFree s from to = (k : ℕ) → from ≤ k → k < to → IsFree s k
+AreFree s from to = AreUnlinked (links_of s) from to
 
 -- n bytes at k are not all among those from one place up to another
 abbrev pub IsOutside : (k n from to : ℕ) → Type 0

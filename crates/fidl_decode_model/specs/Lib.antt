@@ -4,6 +4,7 @@
 --   Breaks         where a message breaks a rule of its type
 --   Faults         what each refusal says of a message
 --   Placed         where a value's bytes stand, found through the links
+--   Readable       that no link hides what is read there, and none is missing
 --   Links, Model   what links, and a decoded message, are seen as
 --   Work           the least steps that decoding a value takes
 -- What a decoder's loop rests on, which no reader of a contract needs:
@@ -19,6 +20,7 @@ pub mod Envelopes
 pub mod Breaks
 pub mod Faults
 pub mod Placed
+pub mod Readable
 pub mod Links
 pub mod Model
 pub mod Work

@@ -1,9 +1,8 @@
 -- Values that stand in a message, and what lies below them where the links say (docs/decoding.md,
 -- "Links").
-use Rattle.std.specs.Prelude.{◌≡◌, ℕ, ◌+◌, ◌-◌, ◌/◌, Bool, true, false, nat_le, List, Option, Some}
+use Rattle.std.specs.Prelude.{◌≡◌, ℕ, ◌+◌, ◌-◌, ◌/◌, Bool, true, false, nat_le, Option, Some}
 use Rattle.std.specs.Prelude.{slice_index, slice_get}
 use Rattle.std.specs.Int.{next_multiple_of}
-use Rattle.fidl_wire.specs.declared.handle.HandleInfo.{HandleInfo}
 use Rattle.fidl_wire.specs.Value.{Value, absent, bool, number, text, list, fields, handle, table}
 use Rattle.fidl_wire.specs.Value.{union, Values, none, value, Member, known, unknown, Members}
 use Rattle.fidl_wire.specs.Value.{empty, member}
@@ -12,10 +11,8 @@ use Rattle.fidl_wire.specs.Term as ty
 use Rattle.fidl_wire.specs.Figure.{Declarations, figure_of, size_of}
 use Rattle.fidl_wire.specs.Encoding.{encoding_of, element_of, content_of, term_or, envelopes}
 use Rattle.fidl_wire.specs.Standing.{Stands, Carries}
-use Rattle.fidl_wire.specs.Message.{Encodes}
 use Rattle.fidl_decode_model.specs.Links.{Linked}
 use Rattle.fidl_decode_model.specs.State.{Message, Position, element_size, envelope_place}
-use Rattle.fidl_decode_model.specs.Faults.{message_of}
 
 -- where the object of the marker or envelope at a place begins
 abbrev pub object_at : Linked → (marker : ℕ) → ℕ
@@ -109,9 +106,3 @@ abbrev mutual
 -- the links of a state
 abbrev pub links_of : Position → Linked
 links_of s = record { objects = s.objects; records = s.records }
-
--- some value of the term has this message, and stands in it from 0 on, with all below it where the
--- links say
-abbrev pub StandsIn : Declarations → Term → List ℕ → List HandleInfo → Linked → Type 0
-StandsIn ds t bytes handles l = (v : Value) × Encodes ds t v bytes handles
-    × Placed ds (message_of bytes handles) l (resolve ds.terms t) 0 v

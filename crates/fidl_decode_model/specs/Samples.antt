@@ -1,5 +1,5 @@
 -- States and frames for worked examples of what is still to be read.
-use Rattle.std.specs.Prelude.{ℕ, [], ◌∷◌}
+use Rattle.std.specs.Prelude.{ℕ, List, [], ◌∷◌}
 use Rattle.fidl_wire.specs.Term.{uint64}
 use Rattle.fidl_wire.specs.Term as ty
 use Rattle.fidl_wire.specs.Figure.{Declarations, figure}
@@ -7,6 +7,7 @@ use Rattle.fidl_decode_model.specs.declared.frame.Frame.{Frame}
 use Rattle.fidl_decode_model.specs.declared.frame.Remaining.TheVariants.{Envelopes}
 use Rattle.fidl_decode_model.specs.Rows.{Row}
 use Rattle.fidl_decode_model.specs.State.{Position}
+use Rattle.fidl_decode_model.specs.Links.{Linked}
 
 -- nothing is linked, and the next object begins here
 abbrev pub unlinked : (next : ℕ) → Position
@@ -35,3 +36,7 @@ numbers = record { terms = ty.number uint64 ∷ []; figures = figure 8 8 0 ∷ [
 
 abbrev pub number_at : (offset : ℕ) → Row
 number_at offset = record { offset = offset; entry = 0 }
+
+-- links by their cells
+abbrev pub links : (objects records : List ℕ) → Linked
+links objects records = record { objects = objects; records = records }

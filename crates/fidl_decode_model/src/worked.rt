@@ -12,6 +12,7 @@ ghost use Rattle.fidl_decode_model.specs.declared.fault.DecodeFault.TheVariants 
 pub mod envelopes;
 pub mod frontiers;
 pub mod placed;
+pub mod readable;
 pub mod tables;
 pub mod unions;
 pub mod works;

@@ -39,7 +39,8 @@ use Rattle.fidl_view.proofs.Finding.{inline_of}
 use Rattle.fidl_wire.proofs.Unique.{one_value}
 use Rattle.fidl_verify.proofs.Declared.{sound}
 use Rattle.fidl_decode_model.specs.Faults.{message_of}
-use Rattle.fidl_decode_model.specs.Placed.{object_at, Placed, StandsIn}
+use Rattle.fidl_decode_model.specs.Placed.{object_at, Placed}
+use Rattle.fidl_decode_model.specs.Readable.{StandsIn}
 use Rattle.fidl_view.proofs.Reading.{Stood, unsigned_is, signed_is}
 
 unknown_none : false ≡ true → ⊥

@@ -3,7 +3,7 @@ use Rattle.fidl_limits.specs.declared.limits.TheConstants.{STEPS_PER_BYTE}
 use Rattle.fidl_wire.specs.Message.{Encodes}
 use Rattle.fidl_decode_model.specs.Links.{Written, noted}
 use Rattle.fidl_decode_model.specs.Faults.{IsTold}
-use Rattle.fidl_decode_model.specs.Placed.{StandsIn}
+use Rattle.fidl_decode_model.specs.Readable.{StandsIn}
 use Rattle.fidl_wire.specs.Value.{Value}
 use Rattle.fidl_wire.specs.Term as ty
 use Rattle.fidl_wire.proofs.Unique.{one_value}
