@@ -19,11 +19,11 @@ use Rattle.fidl_decode_model.specs.Frontier.{IsAhead, CanRead, IsEven, Moves}
 use Rattle.fidl_decode_model.specs.Invariants.{IsFine}
 use Rattle.fidl_decode_model.specs.Faults.{IsWithin}
 use Rattle.fidl_decode_model.specs.declared.fault.DecodeFault.{DecodeFault}
-use Rattle.fidl_decode_model.specs.declared.fault.DecodeFault.TheVariants.{BadEnvelope, TooDeep, Truncated}
+use Rattle.fidl_decode_model.specs.declared.fault.DecodeFault.TheVariants.{BadEnvelope, TooDeep, Truncated, WrongCounts}
 use Rattle.fidl_decode_model.specs.declared.frame.Frame.{Frame}
 use Rattle.fidl_decode_model.specs.declared.frame.Remaining.TheVariants.{Content}
 use Rattle.fidl_decode_model.specs.State.{Message, Position, opened, linked, member_at, begun, ValueAt}
-use Rattle.fidl_decode_model.specs.Envelopes.{Contained, CanHold, BreaksEnvelope, depth_within, Miscounts}
+use Rattle.fidl_decode_model.specs.Envelopes.{Contained, CanHold, CountsTooMany, BreaksEnvelope, depth_within, Miscounts}
 use Rattle.fidl_wire.specs.Envelope.{bytes_below, handles_below, flags_at}
 use Rattle.fidl_decode_model.specs.Breaks.{BreaksMember}
 use Rattle.fidl_decode_model.specs.Breaks as broken
@@ -147,11 +147,12 @@ module _ (t : List ℕ) (fine : IsFine t) (m : Message) (within : IsWithin m.byt
     work = inl (refl, omega (arith, few));
   }
 
-  module _ (over : 4 < size) (flags : flags_at m.bytes p ≡ 0) (whole : IsUnknownLength false (bytes_below m.bytes p)) (shallow : held < MAX_DEPTH) (fits : next_multiple_of size 8 ≤ length m.bytes - from.next) where
+  module _ (over : 4 < size) (flags : flags_at m.bytes p ≡ 0) (whole : IsUnknownLength false (bytes_below m.bytes p)) (shallow : held < MAX_DEPTH) (fits : next_multiple_of size 8 ≤ length m.bytes - from.next) (counts : CountsTooMany m.bytes p → ⊥) where
     right : (other : DecodeFault) → BreaksEnvelope ds m held (Some u) p from.next from.handle other → ⊥
     right (BadEnvelope at) b = b.1 (inr (flags, whole, over))
     right (TooDeep at) b = omega (arith, shallow, b.2)
     right (Truncated at) b = omega (arith, fits, b.2)
+    right (WrongCounts at) b = counts b.1
     right other b = absurd b
 
     below_work : inline_work (d.nest + 1) * (next_multiple_of size 8 - 0) + 1 ≤ inline_work most_nest * (from.next + next_multiple_of size 8 - from.next) + 1
@@ -201,12 +202,12 @@ module _ (t : List ℕ) (fine : IsFine t) (m : Message) (within : IsWithin m.byt
   pub enters_inside : d.size ≤ 4 → flags_at m.bytes p ≡ 1 → Enters t m held e p from (opened p from) (inside_frame m e d.size d.nest held p from)
   enters_inside le flags = subst (λ s. Enters t m held e p from (opened p from) (inside_frame m e s d.nest held p from)) size_is (own_inside (omega (arith, le, size_is)) flags)
 
-  pub enters_below : 4 < d.size → flags_at m.bytes p ≡ 0 → IsUnknownLength false (bytes_below m.bytes p) → held < MAX_DEPTH → next_multiple_of d.size 8 ≤ length m.bytes - from.next
+  pub enters_below : 4 < d.size → flags_at m.bytes p ≡ 0 → IsUnknownLength false (bytes_below m.bytes p) → held < MAX_DEPTH → next_multiple_of d.size 8 ≤ length m.bytes - from.next → (CountsTooMany m.bytes p → ⊥)
       → Enters t m held e p from (linked p d.size (opened p from)) (below_frame m e d.size d.nest held p from)
-  enters_below over flags whole shallow fits =
+  enters_below over flags whole shallow fits counts =
       let up = ap (λ k. next_multiple_of k 8) size_is in
       subst (λ s. Enters t m held e p from (linked p s (opened p from)) (below_frame m e s d.nest held p from)) size_is
-      (own_below (omega (arith, over, size_is)) flags whole shallow (omega (arith, fits, up)))
+      (own_below (omega (arith, over, size_is)) flags whole shallow (omega (arith, fits, up)) counts)
 
   -- the same, of what stands for the entry, the numbers and the state
   pub enters_inside_as : (c : Entry) (k : ℕ) (new : Position) → c ≡ d → k ≡ handles_below m.bytes p → opened p from ≡ new → c.size ≤ 4 → flags_at m.bytes p ≡ 1
@@ -219,16 +220,16 @@ module _ (t : List ℕ) (fine : IsFine t) (m : Message) (within : IsWithin m.byt
       (subst (λ (f : Frame). Enters t m held e p from (opened p from) f) same (enters_inside (omega (arith, le, small_size)) flags))
 
   pub enters_below_as : (c : Entry) (n k whole : ℕ) (new : Position) → c ≡ d → n ≡ bytes_below m.bytes p → k ≡ handles_below m.bytes p → whole ≡ next_multiple_of c.size 8 → linked p d.size (opened p from) ≡ new
-      → 4 < c.size → flags_at m.bytes p ≡ 0 → IsUnknownLength false n → held < MAX_DEPTH → whole ≤ length m.bytes - from.next
+      → 4 < c.size → flags_at m.bytes p ≡ 0 → IsUnknownLength false n → held < MAX_DEPTH → whole ≤ length m.bytes - from.next → (CountsTooMany m.bytes p → ⊥)
       → Enters t m held e p from new (record { left = Content e c.size 1 (record { envelope = p; next = from.next + n; handle = from.handle + k }); base = from.next; done = 0; size = whole; nest = c.nest + 1; depth = held + 1; in_envelope = 0 })
-  enters_below_as c n k whole new is much many wide led over flags counted shallow fits =
+  enters_below_as c n k whole new is much many wide led over flags counted shallow fits counts =
       let frame : Entry → (n k whole : ℕ) → Frame = λ c n k whole. record { left = Content e c.size 1 (record { envelope = p; next = from.next + n; handle = from.handle + k }); base = from.next; done = 0; size = whole; nest = c.nest + 1; depth = held + 1; in_envelope = 0 } in
       let wide_is : whole ≡ next_multiple_of d.size 8 = wide ∙ ap (λ (c : Entry). next_multiple_of c.size 8) is in
       let same : frame d (bytes_below m.bytes p) (handles_below m.bytes p) (next_multiple_of d.size 8) ≡ frame c n k whole = λ i. frame (sym is i) (sym much i) (sym many i) (sym wide_is i) in
       let large_size = ap (λ (c : Entry). c.size) is in
       subst (λ (s : Position). Enters t m held e p from s (frame c n k whole)) led
       (subst (λ (f : Frame). Enters t m held e p from (linked p d.size (opened p from)) f) same
-      (enters_below (omega (arith, over, large_size)) flags (subst (λ n. IsUnknownLength false n) much counted) shallow (omega (arith, fits, wide_is))))
+      (enters_below (omega (arith, over, large_size)) flags (subst (λ n. IsUnknownLength false n) much counted) shallow (omega (arith, fits, wide_is)) counts))
 
   -- the numbers are refused
   pub numbers_refuse : (fault : DecodeFault) → BreaksEnvelope ds m held (Some u) p from.next from.handle fault

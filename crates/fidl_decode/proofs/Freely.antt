@@ -29,6 +29,7 @@ use Rattle.fidl_decode_model.specs.Envelopes.{IsUntil}
 use Rattle.fidl_decode_model.proofs.Visiting.{size_as, visits_free, visits_bool}
 use Rattle.fidl_decode_model.proofs.Holding.{struct_frame, struct_fine, visits_struct}
 use Rattle.fidl_decode_columns.proofs.Leaves.{left_over, no_zeros, over_room, over_turns}
+use Rattle.fidl_decode_model.proofs.Broken.{counts_within}
 use Rattle.fidl_decode.proofs.LeafContent.{leaf_over, leaf_worth}
 use Rattle.fidl_decode_columns.proofs.Wholly.{visits_over}
 use Rattle.fidl_decode.proofs.Words.{byte_below}
@@ -90,7 +91,7 @@ module _ (t : List ℕ) (fine : IsFine t) (m : Message) (within : IsWithin m.byt
         let some : 0 < next_multiple_of d.size 8 = omega (arith, big, more) in
         let eights : next_multiple_of d.size 8 % 8 ≡ 0 = omega arith in
         let much : IsUnknownLength false (bytes_below m.bytes p) = subst (λ n. IsUnknownLength false n) (sym counted) (some, eights) in
-        let x = enters_below t fine m within held e p old lt room small state deep big flags much shallow fits in
+        let x = enters_below t fine m within held e p old lt room small state deep big flags much shallow fits (counts_within m.bytes p (omega (arith, none)) (omega (arith, counted, fits, within.0))) in
         let mid = linked p d.size (opened p old) in
         let rows_in = rows_within in
         let inner = state.next in
@@ -120,7 +121,7 @@ module _ (t : List ℕ) (fine : IsFine t) (m : Message) (within : IsWithin m.byt
     below_passed eight flags counted none shallow fits new led k =
         let up : next_multiple_of d.size 8 ≡ 8 = ap (λ k. next_multiple_of k 8) eight in
         let much : IsUnknownLength false (bytes_below m.bytes p) = subst (λ n. IsUnknownLength false n) (sym counted) (omega arith, refl) in
-        let x = enters_below t fine m within held e p old lt room small state deep (omega (arith, eight)) flags much shallow (omega (arith, up, fits)) in
+        let x = enters_below t fine m within held e p old lt room small state deep (omega (arith, eight)) flags much shallow (omega (arith, up, fits)) (counts_within m.bytes p (omega (arith, none)) (omega (arith, counted))) in
         let inner = state.next in
         let v = visits_free t fine m (held + 1) e (old.next + 0) (linked p d.size (opened p old)) lt x.state (omega (arith, shallow)) free.0 free.1 free.2 0 (omega arith) (omega (arith, eight, fits, inner)) small in
         let z = no_zeros m.bytes (old.next + (0 + d.size)) (old.next + next_multiple_of d.size 8 - (old.next + (0 + d.size))) (omega (arith, up, eight)) in

@@ -28,6 +28,7 @@ use Rattle.fidl_decode_model.specs.Worth.{ContainedWorth}
 use Rattle.fidl_decode_model.specs.Envelopes.{IsUntil}
 use Rattle.fidl_decode_model.proofs.Visiting.{size_as, visits_leaf}
 use Rattle.fidl_decode_columns.proofs.Leaves.{no_zeros}
+use Rattle.fidl_decode_model.proofs.Broken.{counts_within}
 use Rattle.fidl_decode.proofs.LeafContent.{leaf_over, leaf_worth}
 use Rattle.fidl_decode.proofs.Opening.{opens_known, opens_on, opens_worth}
 use Rattle.fidl_decode.proofs.Entered.{below_frame, enters_below}
@@ -92,7 +93,7 @@ module _ (t : List ℕ) (fine : IsFine t) (m : Message) (within : IsWithin m.byt
         let size = next_multiple_of n 8 in
         let eights : next_multiple_of n 8 % 8 ≡ 0 = omega arith in
         let much : IsUnknownLength false (bytes_below m.bytes p) = subst (λ n. IsUnknownLength false n) (sym counted) (omega arith, omega (arith, eights)) in
-        let x = enters_below t fine m within held e p old lt room small state deep (omega (arith, sixteen)) flags much (omega (arith, shallow)) (omega (arith, up, fits)) in
+        let x = enters_below t fine m within held e p old lt room small state deep (omega (arith, sixteen)) flags much (omega (arith, shallow)) (omega (arith, up, fits)) (counts_within m.bytes p (omega (arith, none)) (omega (arith, counted, fits, within.0))) in
         let f = below_frame m e d.size d.nest held p old in
         let u : Until = record { envelope = p; next = old.next + bytes_below m.bytes p; handle = old.handle + handles_below m.bytes p } in
         let o = opens_known t m held p old mid x.state 0 e f (omega arith) x.same x.breaks x.least x.fine x.deeper x.work x.moves in

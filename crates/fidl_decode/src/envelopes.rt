@@ -25,7 +25,7 @@ use crate::decoder::Decoder;
 use fidl_decode_model::DecodeFault;
 use fidl_decode_model::frame::{Frame, Remaining, State, Until};
 use fidl_table_format::Entry;
-use fidl_wire::{HandleInfo, MAX_DEPTH};
+use fidl_wire::{HandleInfo, MAX_DEPTH, MAX_MESSAGE_BYTES, MAX_MESSAGE_HANDLES};
 
 /// The frame of the content of an envelope, which is one value of an entry, and zeros behind it.
 fn content_frame(
@@ -140,6 +140,9 @@ impl<'t, 'm, 's> Decoder<'t, 'm, 's> {
             if flags != 1 {
                 return Err(DecodeFault::BadEnvelope { at: envelope });
             }
+            if handles > MAX_MESSAGE_HANDLES {
+                return Err(DecodeFault::WrongCounts { at: envelope });
+            }
             state.links.record(envelope + 4, state.handle);
             let until = Until {
                 envelope,
@@ -157,6 +160,9 @@ impl<'t, 'm, 's> Decoder<'t, 'm, 's> {
         let whole = size.next_multiple_of(8);
         if whole > self.size - next {
             return Err(DecodeFault::Truncated { at: next });
+        }
+        if handles > MAX_MESSAGE_HANDLES || counted > MAX_MESSAGE_BYTES {
+            return Err(DecodeFault::WrongCounts { at: envelope });
         }
         state.links.record(envelope + 4, state.handle);
         state.links.link(envelope, next);

@@ -3,7 +3,7 @@
 use Rattle.std.proofs.Common.{◌≡◌, ◌≢◌, ℕ, suc, ◌+◌, ◌-◌, ◌*◌, ◌^◌, ◌<◌, ◌≤◌, Bool, true, false, List, length, Option, Some, None, refl, sym, ap, subst, ◌∙◌, arith, inl, inr}
 use Rattle.std.specs.Prelude.{◌⊎◌, IsTrue, IsFalse}
 use Rattle.std.specs.Int.{w64, to_le_bytes, next_multiple_of}
-use Rattle.fidl_limits.specs.declared.limits.TheConstants.{MAX_DEPTH}
+use Rattle.fidl_limits.specs.declared.limits.TheConstants.{MAX_DEPTH, MAX_MESSAGE_BYTES, MAX_MESSAGE_HANDLES}
 use Rattle.fidl_wire.specs.Value.{Value, absent, table, union, Member, known, unknown}
 use Rattle.fidl_wire.specs.Term.{Term, Rows, find}
 use Rattle.fidl_wire.specs.Term as ty
@@ -15,10 +15,11 @@ use Rattle.fidl_wire.specs.Standing.{Stands}
 use Rattle.fidl_wire.proofs.Sizes.{le-next_multiple_of}
 use Rattle.fidl_wire.proofs.Stand.{stands_front, stands_back}
 use Rattle.fidl_decode_model.specs.declared.fault.DecodeFault.{DecodeFault}
-use Rattle.fidl_decode_model.specs.declared.fault.DecodeFault.TheVariants.{BadMarker, AbsentRequired, BadCount, OverBound, TooDeep, Truncated, BadEnvelope, UnknownOrdinal}
+use Rattle.fidl_decode_model.specs.declared.fault.DecodeFault.TheVariants.{BadMarker, AbsentRequired, BadCount, OverBound, TooDeep, Truncated, BadEnvelope, WrongCounts, UnknownOrdinal}
 use Rattle.fidl_decode_model.specs.Worth.{ValueWorth}
 use Rattle.fidl_decode_model.specs.State.{Message, Position, linked, envelope_place, after, StandsAt, ValueAt, Slots}
-use Rattle.fidl_decode_model.specs.Envelopes.{Contained, CanHold, IsRightEnvelope}
+use Rattle.fidl_decode_model.specs.Envelopes.{Contained, CanHold, CountsTooMany, IsRightEnvelope}
+use Rattle.fidl_wire.specs.Envelope.{bytes_below, handles_below}
 use Rattle.fidl_decode_model.specs.Breaks.{count_at, ordinal_at, BreaksTable, BreaksUnion, IsRight, BreaksEnvelopes, BreaksMember, at_member, behind_none, behind_member}
 use Rattle.fidl_decode_model.proofs.Numbers.{number_64}
 use Rattle.fidl_decode_model.proofs.After.{length-pad8, length-table}
@@ -178,13 +179,18 @@ module _ (ds : Declarations) (laid : IsLaidOut ds) (m : Message) (held : ℕ) (r
 
 -- ---- envelopes
 
--- an envelope that can hold its known member, which is not too deep and fits out of line, breaks no rule by its numbers
-pub envelope_right : (ds : Declarations) (m : Message) (held : ℕ) (t : Term) (envelope : ℕ) (from : Position) → CanHold ds m.bytes (Some t) envelope → held < MAX_DEPTH → next_multiple_of (size_of ds t) 8 ≤ length m.bytes - from.next
+-- an envelope whose counts a message can have does not count too many
+pub counts_within : (bytes : List ℕ) (envelope : ℕ) → handles_below bytes envelope ≤ MAX_MESSAGE_HANDLES → bytes_below bytes envelope ≤ MAX_MESSAGE_BYTES → CountsTooMany bytes envelope → ⊥
+counts_within bytes envelope few short c = elim c [ inl h ↦ omega (arith, few, h) | inr n ↦ omega (arith, short, n.1) ]
+
+-- an envelope that can hold its known member, which is not too deep and fits out of line, and whose counts a message can have, breaks no rule by its numbers
+pub envelope_right : (ds : Declarations) (m : Message) (held : ℕ) (t : Term) (envelope : ℕ) (from : Position) → CanHold ds m.bytes (Some t) envelope → held < MAX_DEPTH → next_multiple_of (size_of ds t) 8 ≤ length m.bytes - from.next → (CountsTooMany m.bytes envelope → ⊥)
     → IsRightEnvelope ds m held (Some t) envelope from
-envelope_right ds m held t envelope from can shallow room (BadEnvelope at) b = b.1 can
-envelope_right ds m held t envelope from can shallow room (TooDeep at) b = omega (arith, b.2, shallow)
-envelope_right ds m held t envelope from can shallow room (Truncated at) b = omega (arith, b.2, room)
-envelope_right ds m held t envelope from can shallow room other b = absurd b
+envelope_right ds m held t envelope from can shallow room few (BadEnvelope at) b = b.1 can
+envelope_right ds m held t envelope from can shallow room few (TooDeep at) b = omega (arith, b.2, shallow)
+envelope_right ds m held t envelope from can shallow room few (Truncated at) b = omega (arith, b.2, room)
+envelope_right ds m held t envelope from can shallow room few (WrongCounts at) b = few b.1
+envelope_right ds m held t envelope from can shallow room few other b = absurd b
 
 -- ---- the envelopes of a table
 

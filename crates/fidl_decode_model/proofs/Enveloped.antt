@@ -16,7 +16,7 @@ use Rattle.fidl_wire.proofs.Sizes.{size_of-resolve, length-inline, length-padded
 use Rattle.fidl_wire.proofs.Stand.{stands_to, stands_front, stands_back}
 use Rattle.fidl_wire.proofs.Whole.{whole-message}
 use Rattle.fidl_decode_model.specs.declared.fault.DecodeFault.{DecodeFault}
-use Rattle.fidl_decode_model.specs.declared.fault.DecodeFault.TheVariants.{BadEnvelope, TooDeep, Truncated, HandleMissing}
+use Rattle.fidl_decode_model.specs.declared.fault.DecodeFault.TheVariants.{BadEnvelope, TooDeep, Truncated, WrongCounts, HandleMissing}
 use Rattle.fidl_decode_model.specs.State.{Message, Position, StandsAt}
 use Rattle.fidl_decode_model.specs.Faults.{IsWithin}
 use Rattle.fidl_decode_model.specs.Envelopes.{Contained, CanBeInline, CanBeOut, first_object, BreaksEnvelope}
@@ -43,7 +43,7 @@ module _ (ds : Declarations) (laid : IsLaidOut ds) (m : Message) (within : IsWit
 
   -- those of one whose member is out of line, which fits the message and does not lie too deep
   abbrev pub HoldsOut : Type 0
-  HoldsOut = (flags_at m.bytes p ≡ 0) × IsUnknownLength false (bytes_below m.bytes p) × CanBeOut ds t × (first_object ds m.bytes t p ≤ length m.bytes - from.next) × (held < MAX_DEPTH)
+  HoldsOut = (flags_at m.bytes p ≡ 0) × IsUnknownLength false (bytes_below m.bytes p) × CanBeOut ds t × (first_object ds m.bytes t p ≤ length m.bytes - from.next) × (held < MAX_DEPTH) × (bytes_below m.bytes p ≤ length m.bytes - from.next)
 
   abbrev pub Holds : Type 0
   Holds = (HoldsInline ⊎ HoldsOut) × (handles_below m.bytes p ≤ length m.handles - from.handle)
@@ -96,7 +96,7 @@ module _ (ds : Declarations) (laid : IsLaidOut ds) (m : Message) (within : IsWit
           let all = length-object a in
           let padding = ap (λ k. next_multiple_of k 8) long in
           let up = le-next_multiple_of (size_of ds t) 8 in
-          (inr (n.0, (omega (arith, same, all, padding, up, large), subst (λ k. k % 8 ≡ 0) (sym same) whole), large, omega (arith, fits, all, padding), omega (arith, deep)), n.2)
+          (inr (n.0, (omega (arith, same, all, padding, up, large), subst (λ k. k % 8 ≡ 0) (sym same) whole), large, omega (arith, fits, all, padding), omega (arith, deep), omega (arith, fits, same)), n.2)
   holds None (unknown true bytes handles) h deep st =
       let n = inline_numbers m within p from bytes handles h.2 st in
       (inl (n.0, tt), n.1)
@@ -104,12 +104,18 @@ module _ (ds : Declarations) (laid : IsLaidOut ds) (m : Message) (within : IsWit
       let n = out_numbers m within p from bytes handles st in
       let same = n.1 in
       let fits = bytes_room m.bytes from.next bytes st.out in
-      (inr (n.0, subst (λ k. IsUnknownLength false k) (sym same) h.2, tt, omega (arith, fits, same), omega (arith, deep)), n.2)
+      (inr (n.0, subst (λ k. IsUnknownLength false k) (sym same) h.2, tt, omega (arith, fits, same), omega (arith, deep), omega (arith, fits, same)), n.2)
   holds _ _ h deep st = absurd h
 
   pub envelope_excluded : (t : Option Term) (to : Position) (fault : DecodeFault) → BreaksEnvelope ds m held t p from.next from.handle fault → Contained ds m held t p from to → ⊥
   envelope_excluded t to (BadEnvelope at) b x = elim (holds t x.content x.typed x.shallow x.stands).0 [ inl i ↦ b.1 (inl i) | inr o ↦ b.1 (inr (o.0, o.1, o.2)) ]
   envelope_excluded t to (TooDeep at) b x = let flags = b.1 in let deep = b.2 in elim (holds t x.content x.typed x.shallow x.stands).0 [ inl i ↦ omega (arith, flags, i.0) | inr o ↦ omega (arith, deep, o.4) ]
   envelope_excluded t to (Truncated at) b x = let flags = b.1 in let less = b.2 in elim (holds t x.content x.typed x.shallow x.stands).0 [ inl i ↦ omega (arith, flags, i.0) | inr o ↦ omega (arith, less, o.3) ]
+  envelope_excluded (Some t) to (WrongCounts at) b x =
+      let n = holds (Some t) x.content x.typed x.shallow x.stands in
+      elim b.1 [
+        | inl h ↦ omega (arith, h, n.1, within.1)
+        | inr c ↦ elim n.0 [ inl i ↦ omega (arith, c.0, i.0) | inr o ↦ omega (arith, c.1, o.5, within.0) ]
+      ]
   envelope_excluded None to (HandleMissing at) b x = let less = b.1 in omega (arith, less, (holds None x.content x.typed x.shallow x.stands).1)
   envelope_excluded t to fault b x = absurd b

@@ -14,7 +14,7 @@ use Rattle.fidl_decode_model.specs.State.{Position, opened, linked, ValueAt}
 use Rattle.fidl_decode_model.specs.Envelopes.{CanHold, Contained}
 use Rattle.fidl_decode_model.specs.Breaks.{Part, element_parts, count_at, IsPadding, BreaksTable, IsRight, BreaksEnvelopes, in_field, in_parts, in_table, at_member, behind_none, behind_member, by_numbers, in_envelope, out_of_line, in_next, in_later}
 use Rattle.fidl_decode_model.specs.Faults.{IsWithin, IsTold, BreaksMessage, message_of, start_of}
-use Rattle.fidl_decode_model.proofs.Broken.{table_right, envelope_right, broken_next, none_broken}
+use Rattle.fidl_decode_model.proofs.Broken.{table_right, envelope_right, counts_within, broken_next, none_broken}
 use Rattle.fidl_decode_model.proofs.Enclosed.{contained_some}
 use Rattle.fidl_decode_model.proofs.Inverted.{of_field, of_parts, of_end, of_table, of_unknown, of_known}
 use Rattle.fidl_decode_model.proofs.UnionFacts.{number_breaks}
@@ -278,7 +278,7 @@ two_out_of_line =
       (omega arith, omega arith),
       envelopes_broken bools_row m.bytes [] fault (ones 1 eight) right
           (at_member bools_row 1 1 16 (inside 1) fault (omega arith) (λ z. let e : 8 ≡ 0 = z.1 in omega (arith, e))
-          (out_of_line bools 16 (inside 1) fault can (omega arith) (envelope_right no_declarations m 1 bools 16 (inside 1) can (omega arith) (omega arith))
+          (out_of_line bools 16 (inside 1) fault can (omega arith) (envelope_right no_declarations m 1 bools 16 (inside 1) can (omega arith) (omega arith) (counts_within m.bytes 16 (omega arith) (omega arith)))
           (in_next 8 24 0 (part 0 bools) [] s fault tt
           (in_parts bools 24 s fault (element_parts no_declarations ty.bool 8 0) refl
           (in_later 8 24 0 (part 0 ty.bool) (element_parts no_declarations ty.bool 7 1) s s fault tt there

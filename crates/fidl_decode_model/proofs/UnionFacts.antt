@@ -2,12 +2,12 @@
 use Rattle.std.proofs.Common.{◌≡◌, ◌≢◌, ℕ, ◌+◌, ◌-◌, ◌<◌, List, [], ◌∷◌, ◌++◌, pos, refl, sym, ap, arith, inl, inr, true, false}
 use Rattle.std.specs.Prelude.{Bool, ◌⊎◌, Some, None, codes, IsTrue}
 use Rattle.fidl_wire.specs.declared.handle.HandleInfo.{HandleInfo}
-use Rattle.fidl_wire.specs.Value.{Value, number}
+use Rattle.fidl_wire.specs.Value.{Value, bool, number}
 use Rattle.fidl_wire.specs.Term.{Term, Rows, find, no_rows, row, uint8, uint32, uint64}
 use Rattle.fidl_wire.specs.Term as ty
 use Rattle.fidl_wire.specs.Figure.{no_declarations}
 use Rattle.fidl_wire.specs.Typed.{IsTyped}
-use Rattle.fidl_wire.specs.Encoding.{zeros}
+use Rattle.fidl_wire.specs.Encoding.{zeros, encoding_of}
 use Rattle.fidl_wire.specs.Standing.{Stands}
 use Rattle.fidl_decode_model.specs.declared.fault.DecodeFault.{DecodeFault}
 use Rattle.fidl_decode_model.specs.declared.fault.DecodeFault.TheVariants.{Padding, AbsentRequired, BadEnvelope, WrongCounts, UnknownOrdinal, Truncated, HandleMissing}
@@ -15,7 +15,7 @@ use Rattle.fidl_decode_model.specs.State.{Message, Position, opened, linked, aft
 use Rattle.fidl_decode_model.specs.Envelopes.{CanHold, BreaksEnvelope, Miscounts}
 use Rattle.fidl_decode_model.specs.Breaks.{Part, ordinal_at, IsPadding, BreaksUnion, BreaksMember, BreaksParts, in_field, in_union, by_numbers, in_envelope, by_counts, in_later, in_end}
 use Rattle.fidl_decode_model.specs.Faults.{IsTold, BreaksMessage, message_of, start_of}
-use Rattle.fidl_decode_model.proofs.Broken.{union_right}
+use Rattle.fidl_decode_model.proofs.Broken.{union_right, counts_within}
 use Rattle.fidl_decode_model.proofs.Inverted.{of_field, of_parts, of_end, of_union, of_unknown, of_known}
 
 clash : true ≡ false → ⊥
@@ -173,7 +173,7 @@ no_handle_counted h =
     elim (only_union false false (only_row uint32) m.bytes [] (WrongCounts 8) (λ p. p) h.1) [
       | inl b ↦ b
       | inr c ↦ elim (number_breaks m uint32 0 8 (start_of 16) (WrongCounts 8) (λ a b x. x) c.1) [
-        | inl e ↦ e
+        | inl e ↦ counts_within m.bytes 8 (omega arith) (omega arith) e.1
         | inr w ↦ elim w.1.2 [
           | inl d ↦ d (ap (λ (s : Position). s.handle - 0) (sym (number_end m uint32 0 8 (opened 8 (start_of 16)) w.1.0 w.1.1)))
           | inr d ↦ clash d.0
@@ -212,10 +212,52 @@ eight_counted h =
     elim (only_union false false (only_row uint64) m.bytes [] (WrongCounts 8) (λ p. p) h.1) [
       | inl b ↦ b
       | inr c ↦ elim (number_breaks m uint64 0 8 (start_of 16) (WrongCounts 8) (λ a b x. x) c.1) [
-        | inl e ↦ e
+        | inl e ↦ counts_within m.bytes 8 (omega arith) (omega arith) e.1
         | inr w ↦ elim w.1.2 [
           | inl d ↦ d (ap (λ (s : Position). s.handle - 0) (sym (number_end m uint64 1 16 behind w.1.0 w.1.1)))
           | inr d ↦ d.1 (ap (λ (s : Position). s.next - 16) (sym (number_end m uint64 1 16 behind w.1.0 w.1.1)))
+        ]
+      ]
+    ]
+
+-- ---- counts that no message can have
+
+abbrev bool_row : Rows
+bool_row = row 1 (codes "b") ty.bool no_rows
+
+abbrev with_two : (handles : ℕ) → List ℕ
+with_two handles = 1 ∷ zeros 7 ++ 2 ∷ zeros 3 ++ handles ∷ 0 ∷ 1 ∷ 0 ∷ []
+
+pub over_handles : IsTold no_declarations (ty.union false false bool_row) (with_two 65) [] (WrongCounts 8)
+over_handles = (
+  (omega arith, omega arith),
+  member_broken false false bool_row (with_two 65) [] (WrongCounts 8) one_some (λ f e. clash (sym f)) (by_numbers (Some ty.bool) 8 (start_of 16) (WrongCounts 8) (refl, inl (omega arith))),
+)
+
+two_no_bool : (from to : Position) → ValueAt no_declarations (message_of (with_two 64) []) 0 ty.bool 8 from to → ⊥
+two_no_bool from to x = only x.value x.typed x.stands.inline
+  where
+    only : (v : Value) → IsTyped no_declarations ty.bool v → Stands (with_two 64) 8 (encoding_of no_declarations ty.bool v).inline → ⊥
+    only (bool true) h s = let e : 2 ≡ 1 = s.1 in omega (arith, e)
+    only (bool false) h s = let e : 2 ≡ 0 = s.1 in omega (arith, e)
+    only _ h s = absurd h
+
+pub most_handles : IsTold no_declarations (ty.union false false bool_row) (with_two 64) [] (WrongCounts 8) → ⊥
+most_handles h =
+    let m = message_of (with_two 64) [] in
+    elim (only_union false false bool_row m.bytes [] (WrongCounts 8) (λ p. p) h.1) [
+      | inl b ↦ b
+      | inr c ↦ elim (of_known no_declarations m 0 ty.bool 8 (start_of 16) (WrongCounts 8) c.1) [
+        | inl e ↦ counts_within m.bytes 8 (omega arith) (omega arith) e.1
+        | inr d ↦ elim d [
+          | inl y ↦ elim (of_parts no_declarations m 0 4 8 0 (part ty.bool) [] (opened 8 (start_of 16)) (WrongCounts 8) y.1) [
+            | inl p ↦ p
+            | inr q ↦ elim q [
+              | inl n ↦ of_field no_declarations m 0 ty.bool 8 (opened 8 (start_of 16)) (WrongCounts 8) (refl, refl, tt) n
+              | inr l ↦ of_end no_declarations m 0 4 8 1 l.0 (WrongCounts 8) l.1
+            ]
+          ]
+          | inr e ↦ elim e [ inl z ↦ (let lt : 4 < 1 = z.0 in omega (arith, lt)) | inr w ↦ two_no_bool (opened 8 (start_of 16)) w.1.0 w.1.1 ]
         ]
       ]
     ]

@@ -3,7 +3,8 @@
 use Rattle.std.specs.Prelude.{◌≡◌, ◌≢◌, ◌⊎◌, ℕ, ◌+◌, ◌-◌, ◌<◌, ◌≤◌, Bool, true, false, nat_le, List}
 use Rattle.std.specs.Prelude.{length, Option, Some, None}
 use Rattle.std.specs.Int.{next_multiple_of}
-use Rattle.fidl_limits.specs.declared.limits.TheConstants.{MAX_DEPTH}
+use Rattle.fidl_limits.specs.declared.limits.TheConstants.{MAX_DEPTH, MAX_MESSAGE_BYTES}
+use Rattle.fidl_limits.specs.declared.limits.TheConstants.{MAX_MESSAGE_HANDLES}
 use Rattle.fidl_wire.specs.Value.{Member}
 use Rattle.fidl_wire.specs.Term.{Term, resolve}
 use Rattle.fidl_wire.specs.Figure.{Declarations, size_of}
@@ -16,6 +17,7 @@ use Rattle.fidl_decode_model.specs.declared.fault.DecodeFault.{DecodeFault}
 use Rattle.fidl_decode_model.specs.declared.fault.DecodeFault.TheVariants.{BadEnvelope}
 use Rattle.fidl_decode_model.specs.declared.fault.DecodeFault.TheVariants.{TooDeep, Truncated}
 use Rattle.fidl_decode_model.specs.declared.fault.DecodeFault.TheVariants.{HandleMissing}
+use Rattle.fidl_decode_model.specs.declared.fault.DecodeFault.TheVariants.{WrongCounts}
 use Rattle.fidl_decode_model.specs.State.{Message, Position, StandsAt, ValueAt, member_at, begun}
 use Rattle.fidl_decode_model.specs.State.{after_member}
 
@@ -50,9 +52,14 @@ abbrev pub first_object : Declarations → List ℕ → Option Term → (envelop
 first_object ds bytes None envelope = bytes_below bytes envelope
 first_object ds bytes (Some t) envelope = next_multiple_of (size_of ds t) 8
 
+-- an envelope counts more handles than a message can have, or more bytes out of line
+abbrev pub CountsTooMany : List ℕ → (envelope : ℕ) → Type 0
+CountsTooMany bytes envelope = (MAX_MESSAGE_HANDLES < handles_below bytes envelope)
+    ⊎ ((flags_at bytes envelope ≡ 0) × (MAX_MESSAGE_BYTES < bytes_below bytes envelope))
+
 -- the rule that an envelope breaks by its numbers: they cannot be those of its member, or what is
--- out of line lies too deep or does not fit the message, or an unknown member has more handles than
--- are left
+-- out of line lies too deep or does not fit the message, or that of a known member counts more than
+-- a message can have, or an unknown member has more handles than are left
 abbrev pub BreaksEnvelope : Declarations → Message → (held : ℕ) → Option Term
     → (envelope next k : ℕ) → DecodeFault → Type 0
 BreaksEnvelope ds m held t envelope next k (BadEnvelope at) = (at ≡ envelope)
@@ -62,6 +69,8 @@ BreaksEnvelope ds m held t envelope next k (TooDeep at) = (at ≡ envelope)
 BreaksEnvelope ds m held t envelope next k (Truncated at) = (at ≡ next)
     × (flags_at m.bytes envelope ≡ 0)
     × (length m.bytes - next < first_object ds m.bytes t envelope)
+BreaksEnvelope ds m held (Some t) envelope next k (WrongCounts at) = (at ≡ envelope)
+    × CountsTooMany m.bytes envelope
 BreaksEnvelope ds m held None envelope next k (HandleMissing at) = (at ≡ envelope)
     × (length m.handles - k < handles_below m.bytes envelope)
 BreaksEnvelope ds m held t envelope next k fault = ⊥

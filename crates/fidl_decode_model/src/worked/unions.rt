@@ -92,6 +92,16 @@ pub fn counts_of_what_is_not_there()
         ¬ (IsTold no_declarations t bytes [] (fault.WrongCounts 8)) }
 {}
 
+/// A bool of 2 in an envelope that counts 65 handles: WrongCounts, and not with 64.
+pub fn handles_that_no_message_has()
+    ensures over { let t : Term = ty.union false false (row 1 (codes "b") ty.bool no_rows) in
+        let bytes = 1 ∷ zeros 7 ++ 2 ∷ zeros 3 ++ 65 ∷ 0 ∷ 1 ∷ 0 ∷ [] in
+        IsTold no_declarations t bytes [] (fault.WrongCounts 8) }
+    ensures most { let t : Term = ty.union false false (row 1 (codes "b") ty.bool no_rows) in
+        let bytes = 1 ∷ zeros 7 ++ 2 ∷ zeros 3 ++ 64 ∷ 0 ∷ 1 ∷ 0 ∷ [] in
+        ¬ (IsTold no_declarations t bytes [] (fault.WrongCounts 8)) }
+{}
+
 /// An unknown member with a handle: HandleMissing at its envelope, and not beside a record.
 pub fn an_unknown_member_without_its_handle()
     ensures missing { let t : Term =

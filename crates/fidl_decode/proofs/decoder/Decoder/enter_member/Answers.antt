@@ -2,18 +2,20 @@ use Rattle.fidl_decode.specs.Reading.{message}
 use Rattle.fidl_decode.proofs.Unchanged.{size_short, size_fits, size_room}
 use Rattle.fidl_decode.proofs.Fitting.{front, apart, inside, at_most, small, ended, few_32, deeper, some_8}
 use Rattle.std.specs.Prelude.{◌/◌, List, slice_set}
-use Rattle.std.proofs.Common.{subst, ◌≡◌, ◌+◌, ℕ, refl, sym, ap, ◌∙◌, arith, length}
+use Rattle.std.proofs.Common.{subst, ◌≡◌, ◌+◌, ℕ, refl, sym, ap, ◌∙◌, arith, length, inl, inr}
 use Rattle.std.specs.Int.{next_multiple_of}
 use Rattle.fidl_table_format.specs.declared.record.Entry.{Entry}
 use Rattle.fidl_table_format.specs.Section.{entry_at}
-use Rattle.fidl_decode_model.specs.declared.fault.DecodeFault.TheVariants.{BadEnvelope, TooDeep, Truncated}
+use Rattle.fidl_decode_model.specs.declared.fault.DecodeFault.TheVariants.{BadEnvelope, TooDeep, Truncated, WrongCounts}
 use Rattle.fidl_decode_model.specs.declared.frame.Frame.{Frame}
 use Rattle.fidl_decode_model.specs.declared.frame.Until.{Until}
 use Rattle.fidl_decode_model.specs.declared.frame.Remaining.TheVariants.{Content}
 use Rattle.fidl_decode_model.specs.State.{Position, opened, linked}
 use Rattle.fidl_decode_model.specs.Machine.{at_of}
+use Rattle.fidl_decode_model.proofs.Broken.{counts_within}
 use Rattle.fidl_decode.proofs.Entered.{Enters, enters_inside_as, enters_below_as, numbers_refuse, not_inside, not_below, cut_off}
 use Rattle.fidl_decode.proofs.decoder.Decoder.enter_member.Goals.{then-flags-ne0-via-then-flags-ne0, then-flags-ne0-via-else-flags-ne0+then-counted-eq0, then-flags-ne0-via-else-flags-ne0+else-counted-eq0+then-counted-ne0}
+use Rattle.fidl_decode.proofs.decoder.Decoder.enter_member.Goals.{then-handles-gt-MAX_MESSAGE_HANDLES-2-via-then-handles-gt-MAX_MESSAGE_HANDLES-2, then-handles-gt-MAX_MESSAGE_HANDLES-2-via-else-handles-gt-MAX_MESSAGE_HANDLES-2+then-counted-gt-MAX_MESSAGE_BYTES}
 use Rattle.fidl_decode.proofs.decoder.Decoder.enter_member.Goals as goal
 
 pub content_frame-requires : goal.content_frame-requires
@@ -87,6 +89,30 @@ returns-then-whole-self c =
     let r = numbers_refuse t c.args.self.now.fine m (c.args.self.now.short, c.requires.state.few) c.args.depth c.args.entry c.args.envelope old c.requires.entry c.requires.room (λ i. omega (arith, c.args.self.now.octets i)) c.requires.state c.requires.depth (Truncated old.next) (refl, sym c.flags_at-flags.ensures ∙ c.if-flags-ne0.false, omega (arith, (size_short c.args.self.now.sized _ _ c.if-whole-self.true), whole, up)) in
     record { holds = c.requires.holds; ok = tt; breaks = tt; least = tt; moves = tt; fine = tt; deeper = tt; left = tt; state = c.requires.state; fault_is_true = r.0; steps = refl; grows = omega arith; work = tt }
 
+pub returns-then-handles-gt-MAX_MESSAGE_HANDLES : goal.returns-then-handles-gt-MAX_MESSAGE_HANDLES
+returns-then-handles-gt-MAX_MESSAGE_HANDLES c =
+    let t = c.args.self.now.table.now in
+    let m = message c.args.self.now in
+    let old = at_of c.args.state.now in
+    let r = numbers_refuse t c.args.self.now.fine m (c.args.self.now.short, c.requires.state.few) c.args.depth c.args.entry c.args.envelope old c.requires.entry c.requires.room (λ i. omega (arith, c.args.self.now.octets i)) c.requires.state c.requires.depth (WrongCounts c.args.envelope)
+    (refl, inl (omega (arith, c.if-handles-gt-MAX_MESSAGE_HANDLES.true, c.handle_count_at-handles.ensures))) in
+    record { holds = c.requires.holds; ok = tt; breaks = tt; least = tt; moves = tt; fine = tt; deeper = tt; left = tt; state = c.requires.state; fault_is_true = r.0; steps = refl; grows = omega arith; work = tt }
+
+pub returns-then-handles-gt-MAX_MESSAGE_HANDLES-2 : goal.returns-then-handles-gt-MAX_MESSAGE_HANDLES-2
+returns-then-handles-gt-MAX_MESSAGE_HANDLES-2 c =
+    let t = c.args.self.now.table.now in
+    let m = message c.args.self.now in
+    let old = at_of c.args.state.now in
+    let flags = sym c.flags_at-flags.ensures ∙ c.if-flags-ne0.false in
+    let r = numbers_refuse t c.args.self.now.fine m (c.args.self.now.short, c.requires.state.few) c.args.depth c.args.entry c.args.envelope old c.requires.entry c.requires.room (λ i. omega (arith, c.args.self.now.octets i)) c.requires.state c.requires.depth (WrongCounts c.args.envelope) (
+      refl,
+      elim c.then-handles-gt-MAX_MESSAGE_HANDLES-2.branch [
+        | then-handles-gt-MAX_MESSAGE_HANDLES-2-via-then-handles-gt-MAX_MESSAGE_HANDLES-2 w ↦ inl (omega (arith, w.if-handles-gt-MAX_MESSAGE_HANDLES-2.true, c.handle_count_at-handles.ensures))
+        | then-handles-gt-MAX_MESSAGE_HANDLES-2-via-else-handles-gt-MAX_MESSAGE_HANDLES-2+then-counted-gt-MAX_MESSAGE_BYTES w ↦ inr (flags, omega (arith, w.if-counted-gt-MAX_MESSAGE_BYTES.true, c.byte_count_at-counted.ensures))
+      ],
+    ) in
+    record { holds = c.requires.holds; ok = tt; breaks = tt; least = tt; moves = tt; fine = tt; deeper = tt; left = tt; state = c.requires.state; fault_is_true = r.0; steps = refl; grows = omega arith; work = tt }
+
 pub returns : goal.returns
 returns c =
     let t = c.args.self.now.table.now in
@@ -102,7 +128,8 @@ returns c =
     = λ i. record { next = old.next + wide i; handle = old.handle; objects = sym objects i; records = sym records i } in
     let x = enters_below_as t c.args.self.now.fine m (c.args.self.now.short, c.requires.state.few) c.args.depth c.args.entry c.args.envelope old c.requires.entry c.requires.room (λ i. omega (arith, c.args.self.now.octets i)) c.requires.state c.requires.depth c.entry-content.result c.byte_count_at-counted.result c.handle_count_at-handles.result c.next_multiple_of-whole.result new
     c.entry-content.ensures.value c.byte_count_at-counted.ensures c.handle_count_at-handles.ensures whole led c.if-size-le4.false (sym c.flags_at-flags.ensures ∙ c.if-flags-ne0.false)
-    (omega (arith, c.if-counted-eq0.false), omega (arith, c.if-counted-ne0.false)) (omega (arith, c.requires.depth, c.if-depth-eq-MAX_DEPTH.false)) (omega (arith, (size_fits c.args.self.now.sized _ _ c.if-whole-self.false))) in
+    (omega (arith, c.if-counted-eq0.false), omega (arith, c.if-counted-ne0.false)) (omega (arith, c.requires.depth, c.if-depth-eq-MAX_DEPTH.false)) (omega (arith, (size_fits c.args.self.now.sized _ _ c.if-whole-self.false)))
+    (counts_within m.bytes c.args.envelope (omega (arith, c.if-handles-gt-MAX_MESSAGE_HANDLES-2.false, c.handle_count_at-handles.ensures)) (omega (arith, c.if-counted-gt-MAX_MESSAGE_BYTES.false, c.byte_count_at-counted.ensures))) in
     let y = subst (λ (f : Frame). Enters t m c.args.depth c.args.entry c.args.envelope old new f) (sym c.content_frame-2.ensures) x in
     let until : Until = record { envelope = c.args.envelope; next = old.next + c.byte_count_at-counted.result; handle = old.handle + c.handle_count_at-handles.result } in
     let left : c.content_frame-2.result.left ≡ Content c.args.entry (entry_at t c.args.entry).size 1 until = ap (λ (f : Frame). f.left) c.content_frame-2.ensures ∙ ap (λ n. Content c.args.entry n 1 until) size in
