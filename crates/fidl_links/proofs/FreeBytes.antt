@@ -1,14 +1,16 @@
 -- Bytes over which no link stands.
-use Rattle.std.proofs.Common.{◌≡◌, ℕ, zero, suc, ◌+◌, ◌-◌, ◌*◌, ◌/◌, ◌%◌, ◌^◌, ◌<◌, ◌≤◌, ◌⊎◌, inl, inr, List, length, get_or, slice_index, sym, ap, subst, ◌∙◌, arith}
-use Rattle.std.specs.Int.{to_le_bytes, from_le_bytes, w16, w32, w64}
+use Rattle.std.proofs.Common.{◌≡◌, ℕ, zero, suc, ◌+◌, ◌-◌, ◌*◌, ◌/◌, ◌%◌, ◌^◌, ◌<◌, ◌≤◌, ◌⊎◌, inl, inr, List, length, get_or, slice_index, slice_range, sym, ap, subst, ◌∙◌, arith}
+use Rattle.std.specs.Int.{Width, byte_len, to_le_bytes, from_le_bytes, w16, w32, w64}
 use Rattle.std.proofs.lemmas.List.Edits.{get_or-between}
+use Rattle.fidl_wire.specs.declared.marker.Presence.{Presence}
 use Rattle.fidl_wire.specs.Field.{number_at}
+use Rattle.fidl_wire.specs.Marker.{Says}
 use Rattle.fidl_links.specs.Bits.{bit}
 use Rattle.fidl_links.specs.Coding.{envelope_came, came_word}
-use Rattle.fidl_links.specs.Links.{Written, IsFree, IsFreeWord, came_at}
+use Rattle.fidl_links.specs.Links.{Written, IsFree, AreFree, IsFreeWord, came_at}
 use Rattle.fidl_links.specs.Marks.{Marks}
 use Rattle.fidl_links.specs.Words.{word, words_of}
-use Rattle.fidl_links.proofs.Free.{side, free_in, agreed_part}
+use Rattle.fidl_links.proofs.Free.{side, free_in, agreed_part, agreed_marker}
 use Rattle.fidl_links.proofs.Numbers.{low_bytes, high_bytes}
 use Rattle.fidl_links.proofs.Seen.{Seen, as_long, object_is, low_is, high_is, came_byte_is}
 use Rattle.fidl_links.proofs.Steps.{low_is_free, high_is_free}
@@ -77,10 +79,22 @@ module _ (b : List ℕ) (m : Marks) (s : Written) (v : Seen b m s) (octets : (k 
       split : (k : ℕ) → (k < 8 * words_of b) ⊎ (8 * words_of b ≤ k)
       split k = grind arith
 
-  -- numbers that stand in a free word, as they came
+  -- parts, numbers and markers over which no link stands, as they came
+  pub same_part : (p q : ℕ) → q ≤ length s.came → AreFree s p q → slice_range b p q ≡ slice_range s.came p q
+  same_part = agreed_part s b (sym (as_long b m s v)) free_byte
+
+  pub same_number : (w : Width) (p q at : ℕ) → q ≤ length s.came → AreFree s p q → p ≤ at → at + byte_len w ≤ q → number_at w b at ≡ number_at w s.came at
+  same_number w p q at room free from to =
+      ap (λ l. from_le_bytes w l) (same_part at (at + byte_len w) (omega (arith, room, to)) (λ k a z. free k (omega (arith, from, a)) (omega (arith, to, z))))
+
+  pub same_marker : (p n : ℕ) (r : Presence) → p + n ≤ length s.came → AreFree s p (p + n) → Says b p n r → Says s.came p n r
+  same_marker p n r room free =
+      agreed_marker b s.came p n (sym (as_long b m s v)) (λ k from to. free_byte k (omega (arith, to, room)) (free k from to)) r
+
+  -- numbers that stand in a free word
   module _ (p : ℕ) (aligned : p % 8 ≡ 0) (room : p + 8 ≤ length s.came) (free : IsFreeWord s p) where
     pub same_16 : (q : ℕ) → p ≤ q → q + 2 ≤ p + 8 → number_at w16 b q ≡ number_at w16 s.came q
-    same_16 q from to = ap (λ l. from_le_bytes w16 l) (agreed_part s b (sym (as_long b m s v)) free_byte q (q + 2) (omega (arith, to, room)) (λ k a z. free_in s p aligned free k (omega (arith, from, a)) (omega (arith, to, z))))
+    same_16 q = same_number w16 p (p + 8) q room (free_in s p aligned free)
 
     pub same_32 : (q : ℕ) → p ≤ q → q + 4 ≤ p + 8 → number_at w32 b q ≡ number_at w32 s.came q
-    same_32 q from to = ap (λ l. from_le_bytes w32 l) (agreed_part s b (sym (as_long b m s v)) free_byte q (q + 4) (omega (arith, to, room)) (λ k a z. free_in s p aligned free k (omega (arith, from, a)) (omega (arith, to, z))))
+    same_32 q = same_number w32 p (p + 8) q room (free_in s p aligned free)

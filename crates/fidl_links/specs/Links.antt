@@ -1,6 +1,6 @@
 -- A message in whose bytes links stand, and what it is seen as.
-use Rattle.std.specs.Prelude.{◌≡◌, ℕ, ◌+◌, ◌*◌, ◌/◌, ◌%◌, ◌^◌, ◌<◌, List, map, length, cond, nat_lt}
-use Rattle.std.specs.Prelude.{slice_index}
+use Rattle.std.specs.Prelude.{◌≡◌, ℕ, ◌+◌, ◌*◌, ◌/◌, ◌%◌, ◌^◌, ◌<◌, ◌≤◌, List, map, length, cond}
+use Rattle.std.specs.Prelude.{nat_lt, slice_index}
 use Rattle.std.specs.List.{range_with_len}
 use Rattle.std.specs.Int.{to_le_bytes, w64}
 use Rattle.fidl_links.specs.Bits.{bit}
@@ -20,6 +20,10 @@ pub record Written : Type 0 where
 -- no link stands over the byte at a place
 abbrev pub IsFree : Written → (place : ℕ) → Type 0
 IsFree m place = (slice_index m.objects (place / 8) ≡ 0) × (slice_index m.records (place / 4) ≡ 0)
+
+-- nor over any byte from one place up to another
+abbrev pub AreFree : Written → (from to : ℕ) → Type 0
+AreFree m from to = (k : ℕ) → from ≤ k → k < to → IsFree m k
 
 -- nor over the eight bytes from a multiple of eight on
 abbrev pub IsFreeWord : Written → (place : ℕ) → Type 0

@@ -7,6 +7,7 @@ mod envelopes;
 pub mod laws;
 mod links;
 mod reading;
+mod reads;
 mod restoring;
 mod room;
 mod words;

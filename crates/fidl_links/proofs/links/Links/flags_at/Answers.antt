@@ -1,0 +1,15 @@
+use Rattle.std.proofs.Common.{◌+◌, ◌∙◌, arith}
+use Rattle.std.specs.Int.{w16}
+use Rattle.fidl_links.proofs.FreeBytes.{same_number}
+use Rattle.fidl_links.proofs.Seen.{Seen, as_long}
+use Rattle.fidl_links.proofs.links.Links.flags_at.Goals as goal
+
+pub flags_at-requires : goal.flags_at-requires
+flags_at-requires c =
+    let seen : Seen c.self.inside.bytes.now c.self.inside.room.now.marks c.args.self.now = record { is = c.self.view_is; sound = c.self.invariant.2 } in
+    omega (arith, as_long _ _ _ seen, c.requires.room)
+
+pub returns : goal.returns
+returns c =
+    let seen : Seen c.self.inside.bytes.now c.self.inside.room.now.marks c.args.self.now = record { is = c.self.view_is; sound = c.self.invariant.2 } in
+    c.flags_at.ensures ∙ same_number _ _ _ seen c.self.invariant.1 w16 c.args.envelope (c.args.envelope + 8) (c.args.envelope + 6) c.requires.room c.requires.free (omega arith) (omega arith)
