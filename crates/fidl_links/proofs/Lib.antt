@@ -6,6 +6,7 @@ pub mod Steps
 pub mod Came
 pub mod TakenOut
 pub mod Seen
+pub mod Places
 pub mod Free
 pub mod FreeBytes
 pub mod ReadBack

@@ -10,8 +10,8 @@ use Rattle.std.proofs.lemmas.List.FromFn.{length-map-range_with_len, get_or-map-
 use Rattle.fidl_links.specs.Marks.{Marks}
 use Rattle.fidl_links.specs.Bits.{bit}
 use Rattle.fidl_links.specs.Words.{word, words_of}
-use Rattle.fidl_links.specs.Coding.{came_word, object_cell, record_cell, IsSound}
-use Rattle.fidl_links.specs.Links.{came_at, object_of, record_of, came_byte, written}
+use Rattle.fidl_links.specs.Coding.{came_word, word_links, object_cell, record_cell, IsSound}
+use Rattle.fidl_links.specs.Links.{came_at, links_at, object_of, record_of, came_byte, written}
 use Rattle.fidl_links.specs.Links.{AreSound}
 use Rattle.fidl_links.proofs.Parts.{word_alike, part_alike}
 use Rattle.fidl_links.proofs.Steps.{IsFree, free_came}
@@ -40,6 +40,11 @@ pub same_came : (b : List ℕ) (m : Marks) (i : ℕ) (now : List ℕ) → Restor
 same_came b m i now r within =
     let part = part_alike now b (8 * i) (8 * i + 8) r.len (omega (arith, within)) (λ k ge lt. r.rest k ge) in
     ap (λ w. came_word (bit m.markers i) (bit m.envelopes i) (bit m.handles (2 * i)) (bit m.handles (2 * i + 1)) w) (word_alike now b i part)
+
+pub same_links : (b : List ℕ) (m : Marks) (i : ℕ) (now : List ℕ) → Restored b m i now → i < words_of b → links_at now m i ≡ links_at b m i
+same_links b m i now r within =
+    let part = part_alike now b (8 * i) (8 * i + 8) r.len (omega (arith, within)) (λ k ge lt. r.rest k ge) in
+    ap (λ w. word_links (bit m.markers i) (bit m.envelopes i) (bit m.handles (2 * i)) (bit m.handles (2 * i + 1)) w) (word_alike now b i part)
 
 pub restored_more : (b : List ℕ) (m : Marks) (i : ℕ) (now new : List ℕ) (came : ℕ) → Restored b m i now → i < words_of b → came ≡ came_at now m i
     → length new ≡ length now → slice_range new (8 * i) (8 * i + 8) ≡ to_le_bytes w64 came

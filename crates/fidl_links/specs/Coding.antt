@@ -103,6 +103,24 @@ abbrev pub record_cell : (upper marker envelope h w : ℕ) → ℕ
 record_cell zero m e h w = low_cell m e h w
 record_cell (suc u) m e h w = high_cell m e h w
 
+-- ---- how many links a word holds
+
+-- 1 where a cell, or a bit, is not 0
+abbrev pub filled : ℕ → ℕ
+filled zero = 0
+filled (suc n) = 1
+
+-- in an envelope, by the top bit of its link: its own, and where its member stands in it, that of
+-- a handle in the lower half
+abbrev pub envelope_links : (top lower : ℕ) → ℕ
+envelope_links zero h = 1
+envelope_links (suc t) h = 1 + filled h
+
+abbrev pub word_links : (marker envelope lower upper w : ℕ) → ℕ
+word_links (suc m) e h k w = 1
+word_links zero (suc e) h k w = envelope_links (w / 2 ^ 63) h
+word_links zero zero h k w = filled h + filled k
+
 -- ---- words that hold links alone
 
 -- a handle's link is not 0

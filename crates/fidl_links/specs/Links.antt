@@ -1,11 +1,12 @@
 -- A message in whose bytes links stand, and what it is seen as.
 use Rattle.std.specs.Prelude.{◌≡◌, ℕ, ◌+◌, ◌*◌, ◌/◌, ◌%◌, ◌^◌, ◌<◌, ◌≤◌, List, map, length, cond}
 use Rattle.std.specs.Prelude.{nat_lt, slice_index}
-use Rattle.std.specs.List.{range_with_len}
+use Rattle.std.specs.List.{range_with_len, sum_by}
 use Rattle.std.specs.Int.{to_le_bytes, w64}
 use Rattle.fidl_links.specs.Bits.{bit}
 use Rattle.fidl_links.specs.Words.{word, words_of}
 use Rattle.fidl_links.specs.Coding.{came_word, object_cell, record_cell, IsSound}
+use Rattle.fidl_links.specs.Coding.{filled, word_links}
 use Rattle.fidl_links.specs.Marks.{Marks}
 
 -- what a message with links is seen as: the message as it came; for each eight bytes where the
@@ -29,10 +30,28 @@ AreFree m from to = (k : ℕ) → from ≤ k → k < to → IsFree m k
 abbrev pub IsFreeWord : Written → (place : ℕ) → Type 0
 IsFreeWord m place = IsFree m place × IsFree m (place + 4)
 
+-- how many places of the word with this number hold a link: one where its first half has a record,
+-- and one where the word has an object or its second half a record. So a marker is one place, and
+-- an envelope or a handle is one
+abbrev pub places_at : Written → (i : ℕ) → ℕ
+places_at m i =
+    filled (slice_index m.records (2 * i))
+    + filled (slice_index m.objects i + slice_index m.records (2 * i + 1))
+
+-- how many places of a message hold a link
+unfoldable pub places : Written → ℕ
+places m = sum_by (places_at m) (range_with_len 0 (length m.objects))
+
 -- the word with this number as it came, of the bytes that stand and the maps
 abbrev pub came_at : List ℕ → Marks → (i : ℕ) → ℕ
 came_at bytes m i =
     came_word (bit m.markers i) (bit m.envelopes i) (bit m.handles (2 * i))
+    (bit m.handles (2 * i + 1)) (word bytes i)
+
+-- how many links it holds
+abbrev pub links_at : List ℕ → Marks → (i : ℕ) → ℕ
+links_at bytes m i =
+    word_links (bit m.markers i) (bit m.envelopes i) (bit m.handles (2 * i))
     (bit m.handles (2 * i + 1)) (word bytes i)
 
 -- where its object begins

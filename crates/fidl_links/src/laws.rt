@@ -1,9 +1,9 @@
 //! Laws of the definitions. Each is the contract of a function with an empty body.
-ghost use Rattle.std.specs.Prelude.{◌≡◌, ℕ, ◌+◌, ◌%◌, ◌<◌, ◌≤◌, List, length, slice_index};
+ghost use Rattle.std.specs.Prelude.{◌≡◌, ℕ, ◌+◌, ◌*◌, ◌%◌, ◌<◌, ◌≤◌, List, length, slice_index};
 ghost use Rattle.std.specs.Prelude.{slice_range};
 ghost use Rattle.std.specs.Int.{Width, byte_len};
 ghost use Rattle.fidl_wire.specs.Field.{number_at};
-ghost use Rattle.fidl_links.specs.Links.{Written, IsFree, IsFreeWord};
+ghost use Rattle.fidl_links.specs.Links.{Written, places, IsFree, IsFreeWord};
 
 /// No link stands over any of the bytes of a free word.
 pub fn bytes_of_a_free_word_are_free()
@@ -27,4 +27,9 @@ pub fn free_numbers_are_as_they_came()
         → (width : Width) (place : ℕ) → place + byte_len width ≤ length m.came
         → ((k : ℕ) → place ≤ k → k < place + byte_len width → IsFree m k)
         → number_at width raw place ≡ number_at width m.came place }
+{}
+
+/// At most two places of each eight bytes hold a link.
+pub fn places_are_few()
+    ensures { (m : Written) → places m ≤ 2 * length m.objects }
 {}

@@ -1,8 +1,8 @@
 //! A message is given back as it came.
-ghost use Rattle.std.specs.Prelude.{◌≡◌, ◌<◌, ◌≤◌, ◌/◌, length};
+ghost use Rattle.std.specs.Prelude.{◌≡◌, ◌+◌, ◌^◌, ◌<◌, ◌≤◌, ◌/◌, length};
 ghost use Rattle.fidl_links.specs.Bits.{flag};
-ghost use Rattle.fidl_links.specs.Coding.{came_word};
-ghost use Rattle.fidl_links.specs.Links.{came_at, written};
+ghost use Rattle.fidl_links.specs.Coding.{came_word, word_links};
+ghost use Rattle.fidl_links.specs.Links.{came_at, links_at, places, written, AreSound};
 ghost use Rattle.fidl_links.specs.Words.{words_of};
 ghost use Rattle.fidl_links.specs.declared.room.TheConstants.{MOST_BYTES};
 
@@ -39,33 +39,58 @@ fn original(word: u64, marker: bool, envelope: bool, lower: bool, upper: bool) -
     low + high * 0x1_0000_0000
 }
 
-/// The word with this number as it came.
-#[tactic(auto, unfolding(crate::specs::Words::word))]
+/// How many links the word that stands holds, by the bits of the room at it.
 #[inline(always)]
-fn came_at(bytes: &[u8], room: &Room, i: usize) -> u64
-    requires few { length bytes.now ≤ MOST_BYTES }
-    requires within { i < words_of bytes.now }
-    ensures { result ≡ came_at bytes.now room.now.marks i }
+fn links_in(word: u64, marker: bool, envelope: bool, lower: bool, upper: bool) -> u64
+    ensures { result ≡ word_links (flag marker) (flag envelope) (flag lower) (flag upper) word }
 {
-    original(
-        u64_at(bytes, 8 * i),
-        room.has_marker(i),
-        room.has_envelope(i),
-        room.has_handle(2 * i),
-        room.has_handle(2 * i + 1),
-    )
+    if marker {
+        return 1;
+    }
+    if !envelope {
+        return u64::from(lower) + u64::from(upper);
+    }
+    if word / 0x8000_0000_0000_0000 == 0 {
+        return 1;
+    }
+    1 + u64::from(lower)
 }
 
-/// Takes all links out of a message.
-fn take_links_out(bytes: &mut [u8], room: &Room)
-    requires { length bytes.old ≤ MOST_BYTES }
-    ensures { bytes.new ≡ (written bytes.old room.now.marks).came }
+/// The word with this number as it came, and how many links it holds.
+#[tactic(auto, unfolding(crate::specs::Words::word))]
+#[inline(always)]
+fn came_at(bytes: &[u8], room: &Room, i: usize) -> (u64, u64)
+    requires few { length bytes.now ≤ MOST_BYTES }
+    requires within { i < words_of bytes.now }
+    ensures came { result.0 ≡ came_at bytes.now room.now.marks i }
+    ensures links { result.1 ≡ links_at bytes.now room.now.marks i }
+{
+    let word = u64_at(bytes, 8 * i);
+    let marker = room.has_marker(i);
+    let envelope = room.has_envelope(i);
+    let lower = room.has_handle(2 * i);
+    let upper = room.has_handle(2 * i + 1);
+    let came = original(word, marker, envelope, lower, upper);
+    let links = links_in(word, marker, envelope, lower, upper);
+    (came, links)
+}
+
+/// Takes all links out of a message, and counts them.
+fn take_links_out(bytes: &mut [u8], room: &Room) -> u64
+    requires few { length bytes.old ≤ MOST_BYTES }
+    requires sound { AreSound bytes.old room.now.marks }
+    ensures came { bytes.new ≡ (written bytes.old room.now.marks).came }
+    ensures places { result ≡ places (written bytes.old room.now.marks) }
+    ensures small { result < 2 ^ 63 }
 {
     let words = bytes.len() / 8;
+    let mut places = 0;
     for i in 0..words {
-        let came = came_at(bytes, room, i);
+        let (came, links) = came_at(bytes, room, i);
         put_word(bytes, i, came);
+        places += links;
     }
+    places
 }
 
 impl<'m, 's> Links<'m, 's> {
@@ -74,18 +99,20 @@ impl<'m, 's> Links<'m, 's> {
         ensures { result.now ≡ self.entry.came }
     {
         let Links { bytes, room } = self;
-        take_links_out(bytes, room);
+        let _ = take_links_out(bytes, room);
         bytes
     }
 
-    /// The message as it came, and the room, which keeps that the message took so many steps.
+    /// The message as it came, and the room, which keeps that the message took so many steps, and
+    /// one more for each place that held a link.
     pub fn restore(self, steps: u64) -> (&'m mut [u8], &'s mut Room)
+        requires budget { steps < 2 ^ 63 }
         ensures came { result.0.now ≡ self.entry.came }
-        ensures steps { result.1.now.steps ≡ steps }
+        ensures steps { result.1.now.steps ≡ steps + places self.entry }
     {
         let Links { bytes, room } = self;
-        take_links_out(bytes, room);
-        room.set_steps(steps);
+        let places = take_links_out(bytes, room);
+        room.set_steps(steps + places);
         (bytes, room)
     }
 }

@@ -1,11 +1,11 @@
 //! Worked facts: words that hold links, and what came in their place, computed by the definitions.
-#![tactic(auto, unfolding(crate::specs::Links::written, crate::specs::Links::came_byte, crate::specs::Words::word))]
+#![tactic(auto, unfolding(crate::specs::Links::written, crate::specs::Links::came_byte, crate::specs::Links::places, crate::specs::Words::word))]
 
 ghost use Rattle.std.specs.Prelude.{◌≡◌, ◌+◌, ◌-◌, ◌^◌, [], ◌∷◌, ◌++◌, replicate};
 ghost use Rattle.fidl_wire.specs.Encoding.{zeros, present};
 ghost use Rattle.fidl_links.specs.Bits.{bit};
 ghost use Rattle.fidl_links.specs.Coding.{came_word, object_cell, out_of_line, inline, IsSound};
-ghost use Rattle.fidl_links.specs.Links.{written, IsFree, IsFreeWord, AreSound};
+ghost use Rattle.fidl_links.specs.Links.{written, places, IsFree, IsFreeWord, AreSound};
 ghost use Rattle.fidl_links.specs.Samples.{marks, seen};
 ghost use Rattle.fidl_links.specs.Words.{AreOctets, word, words_of, Put};
 
@@ -97,4 +97,18 @@ pub fn free_bytes()
     ensures before { IsFree (seen present (0 ∷ []) (0 ∷ 4 ∷ [])) 3 }
     ensures handle { ¬ (IsFree (seen present (0 ∷ []) (0 ∷ 4 ∷ [])) 4) }
     ensures word { ¬ (IsFreeWord (seen present (0 ∷ []) (0 ∷ 4 ∷ [])) 0) }
+{}
+
+/// A marker's link is one place, and an envelope's is one, whether its member lies out of line or in
+/// it. A handle in the first half of an envelope is one more. Two handles are two.
+pub fn places_of_a_word()
+    ensures marker { places (seen present (16 ∷ []) (0 ∷ 0 ∷ [])) ≡ 1 }
+    ensures out_of_line { places (seen (zeros 8) (56 ∷ []) (0 ∷ 4 ∷ [])) ≡ 1 }
+    ensures member { places (seen (zeros 8) (0 ∷ []) (0 ∷ 1 ∷ [])) ≡ 1 }
+    ensures handle_in_envelope { places (seen (zeros 8) (0 ∷ []) (4 ∷ 4 ∷ [])) ≡ 2 }
+    ensures lower { places (seen (zeros 8) (0 ∷ []) (4 ∷ 0 ∷ [])) ≡ 1 }
+    ensures upper { places (seen (zeros 8) (0 ∷ []) (0 ∷ 4 ∷ [])) ≡ 1 }
+    ensures free { places (seen (zeros 8) (0 ∷ []) (0 ∷ 0 ∷ [])) ≡ 0 }
+    ensures words { places (seen (zeros 16) (16 ∷ 0 ∷ []) (0 ∷ 0 ∷ 4 ∷ 5 ∷ [])) ≡ 3 }
+    ensures not_two { ¬ (places (seen (zeros 8) (56 ∷ []) (0 ∷ 4 ∷ [])) ≡ 2) }
 {}
