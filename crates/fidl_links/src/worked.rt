@@ -1,5 +1,5 @@
 //! Worked facts: words that hold links, and what came in their place, computed by the definitions.
-#![tactic(auto, unfolding(crate::specs::Links::written, crate::specs::Links::came_byte, crate::specs::Links::places, crate::specs::Words::word))]
+#![tactic(auto, unfolding(crate::specs::Links::written, crate::specs::Links::came_byte, crate::specs::Words::word))]
 
 ghost use Rattle.std.specs.Prelude.{◌≡◌, ◌+◌, ◌-◌, ◌^◌, [], ◌∷◌, ◌++◌, replicate};
 ghost use Rattle.fidl_wire.specs.Encoding.{zeros, present};
@@ -101,6 +101,7 @@ pub fn free_bytes()
 
 /// A marker's link is one place, and an envelope's is one, whether its member lies out of line or in
 /// it. A handle in the first half of an envelope is one more. Two handles are two.
+#[tactic(auto, unfolding(crate::specs::Links::places))]
 pub fn places_of_a_word()
     ensures marker { places (seen present (16 ∷ []) (0 ∷ 0 ∷ [])) ≡ 1 }
     ensures out_of_line { places (seen (zeros 8) (56 ∷ []) (0 ∷ 4 ∷ [])) ≡ 1 }
