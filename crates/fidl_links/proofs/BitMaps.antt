@@ -1,7 +1,7 @@
--- One bit of a map is set.
-use Rattle.std.proofs.Common.{◌≡◌, ◌≢◌, ℕ, ◌*◌, ◌/◌, ◌%◌, ◌^◌, ◌<◌, ◌⊎◌, inl, inr, List, length, get_or, slice_set, bit_or, w64, sym, ap, ◌∙◌, arith, get_or-set_same, get_or-set_other}
+-- One bit of a map is set, and the bits of a number that is 0.
+use Rattle.std.proofs.Common.{◌≡◌, ◌≢◌, ℕ, ◌+◌, ◌*◌, ◌/◌, ◌%◌, ◌^◌, ◌<◌, ◌⊎◌, inl, inr, List, length, get_or, slice_set, bit_or, w64, sym, ap, ◌∙◌, arith, get_or-set_same, get_or-set_other}
 use Rattle.std.specs.Int.{bit_at}
-use Rattle.std.proofs.lemmas.Nat.Bits.{bit_at_set_same, bit_at_set_other}
+use Rattle.std.proofs.lemmas.Nat.Bits.{bit_at-zero, bit_at_set_same, bit_at_set_other}
 use Rattle.std.proofs.lemmas.Bool.{cases_eq}
 use Rattle.fidl_links.specs.Bits.{bit}
 
@@ -28,3 +28,13 @@ bit_elsewhere map k h j ne =
           ∙ bit_at_set_other w64 n (k % 64) (omega arith) (j % 64) near.1
           ∙ ap (λ i. bit_at (get_or map i 0) (j % 64)) (sym near.0)
     ]
+
+-- of a number that is 0 no bit is set
+pub zero_bit : (map : List ℕ) (n k : ℕ) → get_or map n 0 ≡ 0 → k / 64 ≡ n → bit map k ≡ 0
+zero_bit map n k z at = ap (λ j. bit_at (get_or map j 0) (k % 64)) at ∙ ap (λ x. bit_at x (k % 64)) z ∙ bit_at-zero (k % 64)
+
+pub zero_bits : (map : List ℕ) (n k : ℕ) → get_or map (2 * n) 0 ≡ 0 → get_or map (2 * n + 1) 0 ≡ 0 → k / 128 ≡ n → bit map k ≡ 0
+zero_bits map n k a b at = elim (half at) [ inl x ↦ zero_bit map (2 * n) k a x | inr y ↦ zero_bit map (2 * n + 1) k b y ]
+  where
+    half : k / 128 ≡ n → (k / 64 ≡ 2 * n) ⊎ (k / 64 ≡ 2 * n + 1)
+    half at = grind (arith, at)

@@ -40,19 +40,19 @@ module _ (b c : List ℕ) (m r : Marks) (p x : ℕ) (s : Written) (v : Seen b m 
       marker_linked b c m r (p / 8) x s v within put fits here elsewhere envelopes handles some few (word_came ∙ ones_64 s.came p ones) cells.object cells.lower cells.upper
 
   module _ (here : bit r.envelopes (p / 8) ≡ 1) (elsewhere : (j : ℕ) → j ≢ p / 8 → bit r.envelopes j ≡ bit m.envelopes j) (markers : r.markers ≡ m.markers) (handles : r.handles ≡ m.handles) where
-    half : (n : ℕ) → slice_set s.records (2 * (p / 8) + 1) n ≡ slice_set s.records (p / 4 + 1) n
-    half n = let e : 2 * (p / 8) + 1 ≡ p / 4 + 1 = omega (arith, aligned) in ap (λ j. slice_set s.records j n) e
+    half : (n : ℕ) → slice_set s.records (2 * (p / 8) + 1) n ≡ slice_set s.records ((p + 4) / 4) n
+    half n = let e : 2 * (p / 8) + 1 ≡ (p + 4) / 4 = omega (arith, aligned) in ap (λ j. slice_set s.records j n) e
 
     pub outside_at : (object count below first : ℕ) → x ≡ out_of_line object count below first → object % 8 ≡ 0 → 0 < object → object ≤ 2 ^ 24
         → bytes_below s.came p ≡ count → handles_below s.came p ≡ below → flags_at s.came p ≡ 0 → count % 8 ≡ 0 → count ≤ 2 ^ 24 → below < 2 ^ 7 → first < 2 ^ 7
-        → Linkage c r s (slice_set s.objects (p / 8) object) (slice_set s.records (p / 4 + 1) (first + 1))
+        → Linkage c r s (slice_set s.objects (p / 8) object) (slice_set s.records ((p + 4) / 4) (first + 1))
     outside_at object count below first is o some few bytes number flags n long t f =
         let counts : word s.came (p / 8) ≡ count + below * 2 ^ 32 = omega (arith, word_came, envelope_word s.came p, bytes, number, flags) in
         subst (λ l. Linkage c r s (slice_set s.objects (p / 8) object) l) (half (first + 1))
         (outside_linked b c m r (p / 8) x s v within put fits here elsewhere markers handles object count below first is o some few n long t f counts cells.object cells.lower cells.upper)
 
     pub inside_at : (below first : ℕ) → x ≡ inline (word b (p / 8)) below first → handles_below s.came p ≡ below → flags_at s.came p ≡ 1 → below < 2 ^ 7 → first < 2 ^ 7
-        → Linkage c r s s.objects (slice_set s.records (p / 4 + 1) (first + 1))
+        → Linkage c r s s.objects (slice_set s.records ((p + 4) / 4) (first + 1))
     inside_at below first is number flags t f =
         let small = small_32 s.came p (λ k from to. came_small b m s v k (omega (arith, to, room, aligned, as_long b m s v))) in
         let counts : word s.came (p / 8) / 2 ^ 32 ≡ below + 2 ^ 16 = omega (arith, word_came, envelope_word s.came p, number, flags, small) in

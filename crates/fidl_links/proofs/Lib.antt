@@ -13,3 +13,5 @@ pub mod ReadBack
 pub mod ReadAt
 pub mod Linking
 pub mod ByPlace
+pub mod Counted
+pub mod Blank

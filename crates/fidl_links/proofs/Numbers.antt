@@ -9,7 +9,7 @@ use Rattle.fidl_wire.proofs.Stand.{copies_stand, copies_are, stands_both}
 use Rattle.fidl_links.specs.Words.{word}
 
 -- a byte of a part of a message
-byte_of : (m : List ℕ) (p q k n : ℕ) → p + k < q → p + k ≡ n → get_or (slice_range m p q) k 0 ≡ get_or m n 0
+pub byte_of : (m : List ℕ) (p q k n : ℕ) → p + k < q → p + k ≡ n → get_or (slice_range m p q) k 0 ≡ get_or m n 0
 byte_of m p q k n lt e = get_or-between m p q k 0 lt ∙ ap (λ j. get_or m j 0) e
 
 module _ (m : List ℕ) (p : ℕ) where

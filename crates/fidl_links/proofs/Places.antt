@@ -1,5 +1,5 @@
 -- How many places of a message hold a link: counted by the maps, and by its cells.
-use Rattle.std.proofs.Common.{◌≡◌, ℕ, zero, suc, ◌+◌, ◌*◌, ◌/◌, ◌%◌, ◌^◌, ◌<◌, ◌≤◌, List, length, slice_index, sum_by, refl, sym, ap, ◌∙◌, arith}
+use Rattle.std.proofs.Common.{◌≡◌, ℕ, zero, suc, ◌+◌, ◌-◌, ◌*◌, ◌/◌, ◌%◌, ◌^◌, ◌<◌, ◌≤◌, List, length, slice_index, sum_by, refl, sym, ap, ◌∙◌, arith}
 use Rattle.std.specs.List.{range_with_len}
 use Rattle.std.proofs.lemmas.List.Sums.{sum-map}
 use Rattle.std.proofs.lemmas.List.FromFn.{sum_by-map-range_with_len_more}
@@ -9,6 +9,8 @@ use Rattle.fidl_links.specs.Words.{word, words_of}
 use Rattle.fidl_links.specs.Coding.{envelope_object, envelope_low, first_of, object_cell, low_handle, high_handle, low_cell, high_cell, IsMarked, EnvelopeSound, IsSound, filled, envelope_links, word_links}
 use Rattle.fidl_links.specs.Links.{Written, places_at, places, links_at, written, AreSound}
 use Rattle.fidl_links.proofs.Seen.{Seen, object_is, low_is, high_is, objects_long}
+use Rattle.fidl_links.proofs.Steps.{IsFree}
+use Rattle.fidl_links.proofs.TakenOut.{Restored, same_links}
 
 -- ---- a word
 
@@ -82,3 +84,77 @@ few_places s = few_before s (length s.objects)
 pub all_places : (b : List ℕ) (m : Marks) (n : ℕ) → n ≡ words_of b → places_before (written b m) n ≡ places (written b m)
 unfolding places
 all_places b m n all = ap (places_before (written b m)) (all ∙ sym (objects_long b m))
+
+-- ---- sums over words
+
+module _ (f : ℕ → ℕ) (a : ℕ) where
+  pub sum_more : (n : ℕ) → sum_by f (range_with_len a (n + 1)) ≡ sum_by f (range_with_len a n) + f (a + n)
+  sum_more n = sym (sum-map f (range_with_len a (n + 1))) ∙ sum_by-map-range_with_len_more (λ x. x) f a n (a + n) refl ∙ ap (λ x. x + f (a + n)) (sum-map f (range_with_len a n))
+
+  -- by the word that comes next
+  pub sum_next : (i : ℕ) → a ≤ i → sum_by f (range_with_len a (i + 1 - a)) ≡ sum_by f (range_with_len a (i - a)) + f i
+  sum_next i le =
+      let size : i + 1 - a ≡ i - a + 1 = omega (arith, le) in
+      let at : a + (i - a) ≡ i = omega (arith, le) in
+      ap (λ n. sum_by f (range_with_len a n)) size ∙ sum_more (i - a) ∙ ap (λ j. sum_by f (range_with_len a (i - a)) + f j) at
+
+  pub sum_small : (n : ℕ) → ((k : ℕ) → k < n → f (a + k) ≤ 2) → sum_by f (range_with_len a n) ≤ 2 * n
+  sum_small zero each = omega arith
+  sum_small (suc n) each =
+      let next : suc n ≡ n + 1 = omega arith in
+      let more = ap (λ i. sum_by f (range_with_len a i)) next ∙ sum_more n in
+      omega (arith, more, sum_small n (λ k lt. each k (omega (arith, lt))), each n (omega arith))
+
+word_few : (m e h k w : ℕ) → word_links m e h k w ≤ 2
+word_few (suc m) e h k w = omega arith
+word_few zero (suc e) h k w = go (w / 2 ^ 63)
+  where
+    go : (t : ℕ) → envelope_links t h ≤ 2
+    go zero = omega arith
+    go (suc t) = omega (arith, filled_small h)
+word_few zero zero h k w = omega (arith, filled_small h, filled_small k)
+
+pub few_links_at : (b : List ℕ) (m : Marks) (i : ℕ) → links_at b m i ≤ 2
+few_links_at b m i = word_few _ _ _ _ (word b i)
+
+pub few_links : (b : List ℕ) (m : Marks) (a n : ℕ) → sum_by (links_at b m) (range_with_len a n) ≤ 2 * n
+few_links b m a n = sum_small (links_at b m) a n (λ k lt. few_links_at b m (a + k))
+
+module _ (b : List ℕ) (m : Marks) (sound : AreSound b m) (i : ℕ) where
+  before_next : (n : ℕ) → places_before (written b m) (i + suc n) ≡ places_before (written b m) (i + n) + places_at (written b m) (i + n)
+  before_next n = let next : i + suc n ≡ i + n + 1 = omega arith in ap (places_before (written b m)) next ∙ places_more (written b m) (i + n)
+
+  -- the places of more words, by the links that are taken out of them
+  places_up : (now : List ℕ) → Restored b m 0 i now → (n : ℕ) → i + n ≤ words_of b → places_before (written b m) (i + n) ≡ places_before (written b m) i + sum_by (links_at now m) (range_with_len i n)
+  places_up now r zero le = let none : i + 0 ≡ i = omega arith in omega (arith, ap (places_before (written b m)) none)
+  places_up now r (suc n) le =
+      let next : suc n ≡ n + 1 = omega arith in
+      let more = ap (λ n. sum_by (links_at now m) (range_with_len i n)) next ∙ sum_more (links_at now m) i n in
+      let same = same_links b m 0 i now r (i + n) (omega arith) (omega (arith, le)) ∙ links_at_are b m sound (i + n) (omega (arith, le)) in
+      omega (arith, before_next n, places_up now r n (omega (arith, le)), more, same)
+
+  pub places_then : (now : List ℕ) → Restored b m 0 i now → (j : ℕ) → i ≤ j → j ≤ words_of b → places_before (written b m) j ≡ places_before (written b m) i + sum_by (links_at now m) (range_with_len i (j - i))
+  places_then now r j from le =
+      let at : i + (j - i) ≡ j = omega (arith, from) in
+      ap (places_before (written b m)) (sym at) ∙ places_up now r (j - i) (omega (arith, from, le))
+
+  -- words that are not marked hold none
+  none_up : (n : ℕ) → i + n ≤ words_of b → ((k : ℕ) → k < n → links_at b m (i + k) ≡ 0) → places_before (written b m) (i + n) ≡ places_before (written b m) i
+  none_up zero le none = let same : i + 0 ≡ i = omega arith in ap (places_before (written b m)) same
+  none_up (suc n) le none =
+      let zero_here = sym (links_at_are b m sound (i + n) (omega (arith, le))) ∙ none n (omega arith) in
+      omega (arith, before_next n, none_up n (omega (arith, le)) (λ k lt. none k (omega (arith, lt))), zero_here)
+
+  pub places_past : (j : ℕ) → i ≤ j → j ≤ words_of b → ((q : ℕ) → i ≤ q → q < j → IsFree (bit m.markers q) (bit m.envelopes q) (bit m.handles (2 * q)) (bit m.handles (2 * q + 1)))
+      → places_before (written b m) j ≡ places_before (written b m) i
+  places_past j from le free =
+      let at : i + (j - i) ≡ j = omega (arith, from) in
+      ap (places_before (written b m)) (sym at)
+      ∙ none_up (j - i) (omega (arith, from, le)) (λ k lt. free_links _ _ _ _ (word b (i + k)) (free (i + k) (omega arith) (omega (arith, lt, from))))
+    where
+      free_links : (m e h k w : ℕ) → IsFree m e h k → word_links m e h k w ≡ 0
+      free_links zero zero zero zero w f = refl
+      free_links (suc m) e h k w f = absurd (omega (arith, f.marker))
+      free_links zero (suc e) h k w f = absurd (omega (arith, f.envelope))
+      free_links zero zero (suc h) k w f = absurd (omega (arith, f.lower))
+      free_links zero zero zero (suc k) w f = absurd (omega (arith, f.upper))

@@ -30,53 +30,71 @@ pub byte_past : (b : List ℕ) (m : Marks) (k : ℕ) → 8 * words_of b ≤ k �
 unfolding came_byte
 byte_past b m k past = ap (λ t. cond t (slice_index (to_le_bytes w64 (came_at b m (k / 8))) (k % 8)) (slice_index b k)) (le-ltb (k / 8) (words_of b) (omega (arith, past)))
 
--- so many words are as they came, and the others as they stood
-pub record Restored (b : List ℕ) (m : Marks) (i : ℕ) (now : List ℕ) : Type 0 where
+-- the words from one up to another are as they came, and all else is as it stood
+pub record Restored (b : List ℕ) (m : Marks) (from to : ℕ) (now : List ℕ) : Type 0 where
   pub len : length now ≡ length b
-  pub done : (k : ℕ) → k < 8 * i → slice_index now k ≡ came_byte b m k
-  pub rest : (k : ℕ) → 8 * i ≤ k → slice_index now k ≡ slice_index b k
+  pub came : (k : ℕ) → 8 * from ≤ k → k < 8 * to → slice_index now k ≡ came_byte b m k
+  pub before : (k : ℕ) → k < 8 * from → slice_index now k ≡ slice_index b k
+  pub behind : (k : ℕ) → 8 * to ≤ k → slice_index now k ≡ slice_index b k
 
-pub same_came : (b : List ℕ) (m : Marks) (i : ℕ) (now : List ℕ) → Restored b m i now → i < words_of b → came_at now m i ≡ came_at b m i
-same_came b m i now r within =
-    let part = part_alike now b (8 * i) (8 * i + 8) r.len (omega (arith, within)) (λ k ge lt. r.rest k ge) in
-    ap (λ w. came_word (bit m.markers i) (bit m.envelopes i) (bit m.handles (2 * i)) (bit m.handles (2 * i + 1)) w) (word_alike now b i part)
+pub none_restored : (b : List ℕ) (m : Marks) (i : ℕ) → Restored b m i i b
+none_restored b m i = record { len = refl; came = λ k ge lt. absurd (omega (arith, ge, lt)); before = λ k lt. refl; behind = λ k ge. refl }
 
-pub same_links : (b : List ℕ) (m : Marks) (i : ℕ) (now : List ℕ) → Restored b m i now → i < words_of b → links_at now m i ≡ links_at b m i
-same_links b m i now r within =
-    let part = part_alike now b (8 * i) (8 * i + 8) r.len (omega (arith, within)) (λ k ge lt. r.rest k ge) in
-    ap (λ w. word_links (bit m.markers i) (bit m.envelopes i) (bit m.handles (2 * i)) (bit m.handles (2 * i + 1)) w) (word_alike now b i part)
-
-pub restored_more : (b : List ℕ) (m : Marks) (i : ℕ) (now new : List ℕ) (came : ℕ) → Restored b m i now → i < words_of b → came ≡ came_at now m i
-    → length new ≡ length now → slice_range new (8 * i) (8 * i + 8) ≡ to_le_bytes w64 came
-    → ((k : ℕ) → k < 8 * i → slice_index new k ≡ slice_index now k) → ((k : ℕ) → 8 * i + 8 ≤ k → slice_index new k ≡ slice_index now k) → Restored b m (i + 1) new
-restored_more b m i now new came r within is len here below above = record {
-  len = len ∙ r.len;
-  done = λ k lt. elim (split k lt) [
-    | inl x ↦ below k x ∙ r.done k x
-    | inr y ↦ in_word k y.0 y.1
-  ];
-  rest = λ k ge. above k (omega (arith, ge)) ∙ r.rest k (omega (arith, ge));
+-- the word that was written is as it came
+pub one_restored : (b : List ℕ) (m : Marks) (i : ℕ) (now : List ℕ) (came : ℕ) → i < words_of b → came ≡ came_at b m i → length now ≡ length b → slice_range now (8 * i) (8 * i + 8) ≡ to_le_bytes w64 came
+    → ((k : ℕ) → k < 8 * i → slice_index now k ≡ slice_index b k) → ((k : ℕ) → 8 * i + 8 ≤ k → slice_index now k ≡ slice_index b k) → Restored b m i (i + 1) now
+one_restored b m i now came within is len here before behind = record {
+  len = len;
+  came = λ k from to.
+      let at : 8 * i + (k - 8 * i) ≡ k = omega (arith, from) in
+      ap (λ n. get_or now n 0) (sym at)
+      ∙ sym (get_or-between now (8 * i) (8 * i + 8) (k - 8 * i) 0 (omega (arith, from, to)))
+      ∙ ap (λ l. get_or l (k - 8 * i) 0) here
+      ∙ ap (λ n. slice_index (to_le_bytes w64 n) (k - 8 * i)) is
+      ∙ sym (byte_in b m i k within from (omega (arith, to)));
+  before = before;
+  behind = λ k ge. behind k (omega (arith, ge));
 }
-  where
-    split : (k : ℕ) → k < 8 * (i + 1) → (k < 8 * i) ⊎ ((8 * i ≤ k) × (k < 8 * i + 8))
-    split k lt = grind (arith, lt)
 
-    in_word : (k : ℕ) → 8 * i ≤ k → k < 8 * i + 8 → slice_index new k ≡ came_byte b m k
-    in_word k from to =
-        let at : 8 * i + (k - 8 * i) ≡ k = omega (arith, from) in
-        ap (λ n. get_or new n 0) (sym at)
-        ∙ sym (get_or-between new (8 * i) (8 * i + 8) (k - 8 * i) 0 (omega (arith, from, to)))
-        ∙ ap (λ l. get_or l (k - 8 * i) 0) here
-        ∙ ap (λ n. slice_index (to_le_bytes w64 n) (k - 8 * i)) (is ∙ same_came b m i now r within)
-        ∙ sym (byte_in b m i k within from to)
+module _ (b : List ℕ) (m : Marks) (from i : ℕ) (now : List ℕ) (r : Restored b m from i now) where
+  -- the words behind are as they stood
+  same_word : (j : ℕ) → i ≤ j → j < words_of b → word now j ≡ word b j
+  same_word j le within = word_alike now b j (part_alike now b (8 * j) (8 * j + 8) r.len (omega (arith, within)) (λ k ge lt. r.behind k (omega (arith, ge, le))))
 
-pub restored_all : (b : List ℕ) (m : Marks) (i : ℕ) (now : List ℕ) → Restored b m i now → i ≡ words_of b → now ≡ (written b m).came
+  pub same_came : (j : ℕ) → i ≤ j → j < words_of b → came_at now m j ≡ came_at b m j
+  same_came j le within = ap (λ w. came_word (bit m.markers j) (bit m.envelopes j) (bit m.handles (2 * j)) (bit m.handles (2 * j + 1)) w) (same_word j le within)
+
+  pub same_links : (j : ℕ) → i ≤ j → j < words_of b → links_at now m j ≡ links_at b m j
+  same_links j le within = ap (λ w. word_links (bit m.markers j) (bit m.envelopes j) (bit m.handles (2 * j)) (bit m.handles (2 * j + 1)) w) (same_word j le within)
+
+  split : (j k : ℕ) → k < 8 * j → (k < 8 * i) ⊎ ((8 * i ≤ k) × (k < 8 * j))
+  split j k lt = grind (arith, lt)
+
+  -- and then those up to another word are as they came
+  pub restored_then : (j : ℕ) (new : List ℕ) → from ≤ i → i ≤ j → j ≤ words_of b → Restored now m i j new → Restored b m from j new
+  restored_then j new first le within more = record {
+    len = more.len ∙ r.len;
+    came = λ k ge lt. elim (split j k lt) [
+      | inl x ↦ more.before k x ∙ r.came k ge x
+      | inr y ↦ more.came k y.0 y.1 ∙ in_word k y.0 y.1
+    ];
+    before = λ k lt. more.before k (omega (arith, lt, first)) ∙ r.before k lt;
+    behind = λ k ge. more.behind k ge ∙ r.behind k (omega (arith, ge, le));
+  }
+    where
+      in_word : (k : ℕ) → 8 * i ≤ k → k < 8 * j → came_byte now m k ≡ came_byte b m k
+      in_word k ge lt =
+          byte_in now m (k / 8) k (omega (arith, lt, within, r.len)) (omega arith) (omega arith)
+          ∙ ap (λ n. slice_index (to_le_bytes w64 n) (k - 8 * (k / 8))) (same_came (k / 8) (omega (arith, ge)) (omega (arith, lt, within)))
+          ∙ sym (byte_in b m (k / 8) k (omega (arith, lt, within)) (omega arith) (omega arith))
+
+pub restored_all : (b : List ℕ) (m : Marks) (i : ℕ) (now : List ℕ) → Restored b m 0 i now → i ≡ words_of b → now ≡ (written b m).came
 unfolding written
 restored_all b m i now r all =
     let long : length (map (came_byte b m) (range_with_len 0 (length b))) ≡ length b = length-map-range_with_len (came_byte b m) 0 (length b) in
     same_lists _ _ (r.len ∙ sym long) (λ k d lt.
     let below : k < length b = omega (arith, lt, r.len) in
-    get_or_default now k d 0 lt ∙ elim (split k) [ inl x ↦ r.done k x | inr y ↦ r.rest k y ∙ sym (byte_past b m k (omega (arith, y, all))) ]
+    get_or_default now k d 0 lt ∙ elim (split k) [ inl x ↦ r.came k (omega arith) x | inr y ↦ r.behind k y ∙ sym (byte_past b m k (omega (arith, y, all))) ]
     ∙ sym (get_or-map-range_with_len (came_byte b m) 0 (length b) k k d below (omega arith)))
   where
     split : (k : ℕ) → (k < 8 * i) ⊎ (8 * i ≤ k)
@@ -102,6 +120,36 @@ unfolding word
 word_fits b i room each =
     let o = octets_part b i room each in
     omega (arith, o 0, o 1, o 2, o 3, o 4, o 5, o 6, o 7)
+
+-- a byte of a word that is not marked came as it stands
+free_word_byte : (b : List ℕ) (m : Marks) (octets : (k : ℕ) → slice_index b k < 256) (k : ℕ) → k < 8 * words_of b
+    → IsFree (bit m.markers (k / 8)) (bit m.envelopes (k / 8)) (bit m.handles (2 * (k / 8))) (bit m.handles (2 * (k / 8) + 1)) → came_byte b m k ≡ slice_index b k
+free_word_byte b m octets k lt free =
+    let i = k / 8 in
+    let h : i < words_of b = omega (arith, lt) in
+    let room : 8 * i + 8 ≤ length b = omega (arith, h) in
+    let at : 8 * i + (k - 8 * i) ≡ k = omega arith in
+    byte_in b m i k h (omega arith) (omega arith)
+    ∙ ap (λ n. slice_index (to_le_bytes w64 n) (k - 8 * i)) (free_came _ _ _ _ (word b i) free)
+    ∙ ap (λ l. get_or l (k - 8 * i) 0) (word_bytes b i room octets)
+    ∙ get_or-between b (8 * i) (8 * i + 8) (k - 8 * i) 0 (omega arith)
+    ∙ ap (λ n. get_or b n 0) at
+
+-- words that are not marked are passed
+pub restored_past : (b : List ℕ) (m : Marks) (octets : (k : ℕ) → slice_index b k < 256) (from i j : ℕ) (now : List ℕ) → Restored b m from i now → i ≤ j → j ≤ words_of b
+    → ((q : ℕ) → i ≤ q → q < j → IsFree (bit m.markers q) (bit m.envelopes q) (bit m.handles (2 * q)) (bit m.handles (2 * q + 1))) → Restored b m from j now
+restored_past b m octets from i j now r le within free = record {
+  len = r.len;
+  came = λ k ge lt. elim (split k lt) [
+    | inl x ↦ r.came k ge x
+    | inr y ↦ r.behind k y.0 ∙ sym (free_word_byte b m octets k (omega (arith, lt, within)) (free (k / 8) (omega (arith, y.0)) (omega (arith, lt))))
+  ];
+  before = r.before;
+  behind = λ k ge. r.behind k (omega (arith, ge, le));
+}
+  where
+    split : (k : ℕ) → k < 8 * j → (k < 8 * i) ⊎ ((8 * i ≤ k) × (k < 8 * j))
+    split k lt = grind (arith, lt)
 
 module _ (b : List ℕ) (m : Marks) (octets : (k : ℕ) → slice_index b k < 256)
     (markers : (i : ℕ) → i < words_of b → bit m.markers i ≡ 0) (envelopes : (i : ℕ) → i < words_of b → bit m.envelopes i ≡ 0) (handles : (j : ℕ) → j < 2 * words_of b → bit m.handles j ≡ 0) where
@@ -129,14 +177,7 @@ module _ (b : List ℕ) (m : Marks) (octets : (k : ℕ) → slice_index b k < 25
       in_word k lt =
           let i = k / 8 in
           let h : i < words_of b = omega (arith, lt) in
-          let room : 8 * i + 8 ≤ length b = omega (arith, h) in
-          let at : 8 * i + (k - 8 * i) ≡ k = omega arith in
-          let free : IsFree (bit m.markers i) (bit m.envelopes i) (bit m.handles (2 * i)) (bit m.handles (2 * i + 1)) = record { marker = markers i h; envelope = envelopes i h; lower = handles (2 * i) (omega (arith, h)); upper = handles (2 * i + 1) (omega (arith, h)) } in
-          byte_in b m i k h (omega arith) (omega arith)
-          ∙ ap (λ n. slice_index (to_le_bytes w64 n) (k - 8 * i)) (free_came _ _ _ _ (word b i) free)
-          ∙ ap (λ l. get_or l (k - 8 * i) 0) (word_bytes b i room octets)
-          ∙ get_or-between b (8 * i) (8 * i + 8) (k - 8 * i) 0 (omega arith)
-          ∙ ap (λ n. get_or b n 0) at
+          free_word_byte b m octets k lt (record { marker = markers i h; envelope = envelopes i h; lower = handles (2 * i) (omega (arith, h)); upper = handles (2 * i + 1) (omega (arith, h)) })
 
   pub clear_objects : (i : ℕ) → slice_index (written b m).objects i ≡ 0
   unfolding written

@@ -3,6 +3,7 @@
 #![tactic(auto)]
 
 mod bits;
+mod counts;
 mod envelopes;
 pub mod laws;
 mod links;

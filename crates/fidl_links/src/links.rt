@@ -104,7 +104,7 @@ impl<'m, 's> Links<'m, 's> {
         ensures came { self.new.came ≡ self.old.came }
         ensures objects { self.new.objects ≡ slice_set self.old.objects (envelope / 8) object }
         ensures records { self.new.records
-            ≡ slice_set self.old.records (envelope / 4 + 1) (first + 1) }
+            ≡ slice_set self.old.records ((envelope + 4) / 4) (first + 1) }
     {
         put_outside(self.bytes, envelope, object, first);
         self.room.mark_envelope(envelope / 8);
@@ -123,7 +123,7 @@ impl<'m, 's> Links<'m, 's> {
         ensures came { self.new.came ≡ self.old.came }
         ensures objects { self.new.objects ≡ self.old.objects }
         ensures records { self.new.records
-            ≡ slice_set self.old.records (envelope / 4 + 1) (first + 1) }
+            ≡ slice_set self.old.records ((envelope + 4) / 4) (first + 1) }
     {
         put_inside(self.bytes, envelope, first);
         self.room.mark_envelope(envelope / 8);

@@ -1,9 +1,9 @@
 //! What is read of a message with links: bytes where no link stands, and the links.
 ghost use Rattle.std.specs.Prelude.{◌≡◌, ℕ, ◌+◌, ◌-◌, ◌*◌, ◌/◌, ◌%◌, ◌<◌, ◌≤◌, length};
-ghost use Rattle.std.specs.Prelude.{slice_index, replicate};
-ghost use Rattle.fidl_wire.specs.Encoding.{present};
+ghost use Rattle.std.specs.Prelude.{◌↔◌, slice_index, replicate, IsTrue, IsFalse};
+ghost use Rattle.fidl_wire.specs.Encoding.{present, zeros};
 ghost use Rattle.fidl_wire.specs.Standing.{Stands};
-ghost use Rattle.fidl_links.specs.Links.{IsFree};
+ghost use Rattle.fidl_links.specs.Links.{IsFree, IsFreeWord};
 ghost use Rattle.fidl_links.specs.Words.{AreOctets};
 
 use crate::links::Links;
@@ -52,7 +52,7 @@ impl<'m, 's> Links<'m, 's> {
     #[inline(always)]
     pub fn record_of(&self, place: usize) -> usize
         requires aligned { place % 4 ≡ 0 }
-        requires within { place / 8 < length self.now.came / 8 }
+        requires room { place + 4 ≤ length self.now.came }
         requires present { place % 8 ≡ 4 → Stands self.now.came place (replicate 4 255) }
         requires linked { 0 < slice_index self.now.records (place / 4) }
         ensures { result ≡ slice_index self.now.records (place / 4) - 1 }
@@ -66,9 +66,34 @@ impl<'m, 's> Links<'m, 's> {
         requires aligned { envelope % 8 ≡ 0 }
         requires within { envelope + 8 ≤ length self.now.came }
         requires no_handle { ¬ (Stands self.now.came (envelope + 4) (replicate 4 255)) }
-        requires linked { 0 < slice_index self.now.records (envelope / 4 + 1) }
-        ensures { result ≡ slice_index self.now.records (envelope / 4 + 1) - 1 }
+        requires linked { 0 < slice_index self.now.records ((envelope + 4) / 4) }
+        ensures { result ≡ slice_index self.now.records ((envelope + 4) / 4) - 1 }
     {
         (u64_at(self.bytes, envelope) / 0x80_0000_0000_0000 % 0x80) as usize
+    }
+
+    /// Whether zeros stand in the eight bytes of a marker, an envelope or an ordinal at a place: no
+    /// link stands there, and zeros came.
+    #[inline(always)]
+    pub fn is_blank(&self, place: usize) -> bool
+        requires aligned { place % 8 ≡ 0 }
+        requires within { place + 8 ≤ length self.now.came }
+        ensures { IsTrue result ↔ IsFreeWord self.now place × Stands self.now.came place (zeros 8) }
+    {
+        u64_at(self.bytes, place) == 0
+    }
+
+    /// Whether zeros stand in the four bytes of a handle at a place: of one that is absent they do,
+    /// and over one that is present its link stands.
+    #[inline(always)]
+    pub fn is_blank_handle(&self, place: usize) -> bool
+        requires aligned { place % 4 ≡ 0 }
+        requires room { place + 4 ≤ length self.now.came }
+        ensures absent { IsFree self.now place → Stands self.now.came place (zeros 4)
+            → IsTrue result }
+        ensures linked { Stands self.now.came place (replicate 4 255)
+            → 0 < slice_index self.now.records (place / 4) → IsFalse result }
+    {
+        u32_at(self.bytes, place) == 0
     }
 }

@@ -1,14 +1,16 @@
 //! A message is given back as it came.
-ghost use Rattle.std.specs.Prelude.{◌≡◌, ◌+◌, ◌^◌, ◌<◌, ◌≤◌, ◌/◌, length};
+ghost use Rattle.std.specs.Prelude.{◌≡◌, ℕ, ◌+◌, ◌-◌, ◌*◌, ◌/◌, ◌^◌, ◌<◌, ◌≤◌, length};
+ghost use Rattle.std.specs.Prelude.{slice_index};
+ghost use Rattle.std.specs.List.{range_with_len, sum_by};
 ghost use Rattle.fidl_links.specs.Bits.{flag};
 ghost use Rattle.fidl_links.specs.Coding.{came_word, word_links};
-ghost use Rattle.fidl_links.specs.Links.{came_at, links_at, places, written, AreSound};
+ghost use Rattle.fidl_links.specs.Links.{came_at, links_at, came_byte, places, written, AreSound};
 ghost use Rattle.fidl_links.specs.Words.{words_of};
 ghost use Rattle.fidl_links.specs.declared.room.TheConstants.{MOST_BYTES};
 
 use crate::links::Links;
 use crate::room::Room;
-use crate::words::put_word;
+use crate::words::{are_octets, put_word};
 use fidl_wire::u64_at;
 
 /// The word that came, from the one that stands and the bits of the room at it.
@@ -59,7 +61,7 @@ fn links_in(word: u64, marker: bool, envelope: bool, lower: bool, upper: bool) -
 /// The word with this number as it came, and how many links it holds.
 #[tactic(auto, unfolding(crate::specs::Words::word))]
 #[inline(always)]
-fn came_at(bytes: &[u8], room: &Room, i: usize) -> (u64, u64)
+pub(crate) fn came_at(bytes: &[u8], room: &Room, i: usize) -> (u64, u64)
     requires few { length bytes.now ≤ MOST_BYTES }
     requires within { i < words_of bytes.now }
     ensures came { result.0 ≡ came_at bytes.now room.now.marks i }
@@ -75,7 +77,30 @@ fn came_at(bytes: &[u8], room: &Room, i: usize) -> (u64, u64)
     (came, links)
 }
 
-/// Takes all links out of a message, and counts them.
+/// Takes the links out of the words from one up to another, and counts them.
+fn take_out_of(bytes: &mut [u8], room: &Room, from: usize, to: usize) -> u64
+    requires few { length bytes.old ≤ MOST_BYTES }
+    requires order { from ≤ to }
+    requires within { to ≤ words_of bytes.old }
+    ensures len { length bytes.new ≡ length bytes.old }
+    ensures came { (k : ℕ) → 8 * from ≤ k → k < 8 * to
+        → slice_index bytes.new k ≡ came_byte bytes.old room.now.marks k }
+    ensures before { (k : ℕ) → k < 8 * from → slice_index bytes.new k ≡ slice_index bytes.old k }
+    ensures behind { (k : ℕ) → 8 * to ≤ k → slice_index bytes.new k ≡ slice_index bytes.old k }
+    ensures links { result
+        ≡ sum_by (links_at bytes.old room.now.marks) (range_with_len from (to - from)) }
+{
+    let mut links = 0;
+    for i in from..to {
+        let (came, more) = came_at(bytes, room, i);
+        put_word(bytes, i, came);
+        links += more;
+    }
+    links
+}
+
+/// Takes all links out of a message, and counts them. Where no word of 64 is marked, all of them
+/// are passed at once.
 fn take_links_out(bytes: &mut [u8], room: &Room) -> u64
     requires few { length bytes.old ≤ MOST_BYTES }
     requires sound { AreSound bytes.old room.now.marks }
@@ -83,12 +108,15 @@ fn take_links_out(bytes: &mut [u8], room: &Room) -> u64
     ensures places { result ≡ places (written bytes.old room.now.marks) }
     ensures small { result < 2 ^ 63 }
 {
+    are_octets(bytes);
     let words = bytes.len() / 8;
     let mut places = 0;
-    for i in 0..words {
-        let (came, links) = came_at(bytes, room, i);
-        put_word(bytes, i, came);
-        places += links;
+    for n in 0..words.div_ceil(64) {
+        if room.is_unmarked(n) {
+            continue;
+        }
+        let from = 64 * n;
+        places += take_out_of(bytes, room, from, words.min(from + 64));
     }
     places
 }

@@ -1,5 +1,6 @@
 //! Room for the links of a message: at which places links stand.
-ghost use Rattle.std.specs.Prelude.{◌≡◌, ◌≢◌, ℕ, ◌*◌, ◌/◌, ◌<◌, ◌≤◌, IfOk};
+ghost use Rattle.std.specs.Prelude.{◌≡◌, ◌≢◌, ℕ, ◌+◌, ◌*◌, ◌/◌, ◌<◌, ◌≤◌, ◌↔◌, slice_index};
+ghost use Rattle.std.specs.Prelude.{IfOk, IsTrue};
 ghost use Rattle.fidl_links.specs.Bits.{bit, flag};
 ghost use Rattle.fidl_links.specs.declared.room.TheConstants.{MOST_BYTES};
 
@@ -98,6 +99,20 @@ impl Room {
         ensures { flag result ≡ bit self.now.marks.handles j }
     {
         has_bit(&self.handles, j)
+    }
+
+    /// Whether no link stands in the 64 words whose bits are the numbers with this index: one of
+    /// markers, one of envelopes and two of handles.
+    #[inline(always)]
+    pub(crate) fn is_unmarked(&self, n: usize) -> bool
+        requires { 512 * n < MOST_BYTES }
+        ensures { IsTrue result ↔ (slice_index self.now.marks.markers n ≡ 0)
+            × (slice_index self.now.marks.envelopes n ≡ 0)
+            × (slice_index self.now.marks.handles (2 * n) ≡ 0)
+            × (slice_index self.now.marks.handles (2 * n + 1) ≡ 0) }
+    {
+        let no_words = self.markers[n] == 0 && self.envelopes[n] == 0;
+        no_words && self.handles[2 * n] == 0 && self.handles[2 * n + 1] == 0
     }
 
     /// A word holds a marker's link.

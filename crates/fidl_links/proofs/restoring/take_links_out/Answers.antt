@@ -1,36 +1,73 @@
-use Rattle.std.proofs.Common.{◌+◌, arith, refl, ◌∙◌}
+use Rattle.std.proofs.Common.{◌≡◌, ℕ, ◌+◌, ◌*◌, ◌/◌, ◌<◌, ◌≤◌, min, length, refl, sym, ap, subst, ◌∙◌, arith}
+use Rattle.fidl_links.specs.Bits.{bit}
 use Rattle.fidl_links.specs.Links.{written}
-use Rattle.fidl_links.proofs.Places.{links_at_are, places_more, few_before, all_places}
-use Rattle.fidl_links.proofs.TakenOut.{restored_more, restored_all, same_links}
+use Rattle.fidl_links.proofs.BitMaps.{zero_bit, zero_bits}
+use Rattle.fidl_links.proofs.Places.{places_before, places_then, places_past, few_before, all_places}
+use Rattle.fidl_links.proofs.Steps.{IsFree}
+use Rattle.fidl_links.proofs.TakenOut.{Restored, none_restored, restored_then, restored_past, restored_all}
 use Rattle.fidl_links.proofs.restoring.take_links_out.Goals as goal
 
-pub loop-i-init : goal.loop-i-init
-loop-i-init c = (record { len = refl; done = λ k lt. absurd (omega (arith, lt)); rest = λ k ge. refl }, refl)
-
-pub loop-i-preserved : goal.loop-i-preserved
-loop-i-preserved c =
+pub loop-n-init : goal.loop-n-init
+loop-n-init c =
     let b = c.args.bytes.now in
     let m = c.args.room.now.marks in
-    let i = c.loop-i.i in
-    let links = c.came_at-came.ensures.links ∙ same_links b m i c.loop-i.bytes c.loop-i.invariant.0 (omega arith) ∙ links_at_are b m c.requires.sound i (omega arith) in (
-      restored_more b m i c.loop-i.bytes c.put_word.new.bytes c.came_at-came.result.0 c.loop-i.invariant.0 (omega arith) c.came_at-came.ensures.came c.put_word.ensures.len c.put_word.ensures.here c.put_word.ensures.before
-          c.put_word.ensures.behind,
-      omega (arith, c.loop-i.invariant.1, links, places_more (written b m) i),
+    let none : 0 ≡ min (length b / 8) 0 = omega arith in
+    (subst (λ i. Restored b m 0 i b) none (none_restored b m 0), ap (places_before (written b m)) none)
+
+pub loop-n-preserved-then-is_unmarked : goal.loop-n-preserved-then-is_unmarked
+loop-n-preserved-then-is_unmarked c =
+    let b = c.args.bytes.now in
+    let m = c.args.room.now.marks in
+    let n = c.loop-n.n in
+    let i = min (length b / 8) (64 * n) in
+    let j = min (length b / 8) (64 * (n + 1)) in
+    let zero = c.if-is_unmarked.ensures.0 refl in
+    let free : (q : ℕ) → i ≤ q → q < j → IsFree (bit m.markers q) (bit m.envelopes q) (bit m.handles (2 * q)) (bit m.handles (2 * q + 1)) = λ q from to.
+    let at : q / 64 ≡ n = omega (arith, from, to) in
+    record {
+      marker = zero_bit m.markers n q zero.0 at;
+      envelope = zero_bit m.envelopes n q zero.1 at;
+      lower = zero_bits m.handles n (2 * q) zero.2 zero.3 (omega (arith, at));
+      upper = zero_bits m.handles n (2 * q + 1) zero.2 zero.3 (omega (arith, at));
+    } in (
+      restored_past b m c.are_octets.ensures 0 i j c.loop-n.bytes c.loop-n.invariant.0 (omega arith) (omega arith) free,
+      c.loop-n.invariant.1 ∙ sym (places_past b m c.requires.sound i j (omega arith) (omega arith) free),
     )
 
 pub overflow_add-places : goal.overflow_add-places
 overflow_add-places c =
     let b = c.args.bytes.now in
     let m = c.args.room.now.marks in
-    let i = c.loop-i.i in
-    let links = c.came_at-came.ensures.links ∙ same_links b m i c.loop-i.bytes c.loop-i.invariant.0 (omega arith) ∙ links_at_are b m c.requires.sound i (omega arith) in
-    omega (arith, c.loop-i.invariant.1, links, places_more (written b m) i, few_before (written b m) (i + 1), c.requires.few)
+    let i = 64 * c.loop-n.n in
+    let j = c.min.result in
+    let at : min (length b / 8) i ≡ i = omega arith in
+    let r : Restored b m 0 i c.loop-n.bytes = subst (λ i. Restored b m 0 i c.loop-n.bytes) at c.loop-n.invariant.0 in
+    let same = ap (places_before (written b m)) at in
+    let more = places_then b m c.requires.sound i c.loop-n.bytes r j (omega arith) (omega arith) in
+    omega (arith, c.loop-n.invariant.1, same, more, c.take_out_of-places.ensures.links, few_before (written b m) j, c.requires.few)
+
+pub loop-n-preserved : goal.loop-n-preserved
+loop-n-preserved c =
+    let b = c.args.bytes.now in
+    let m = c.args.room.now.marks in
+    let i = 64 * c.loop-n.n in
+    let j = c.min.result in
+    let at : min (length b / 8) i ≡ i = omega arith in
+    let up : j ≡ min (length b / 8) (64 * (c.loop-n.n + 1)) = omega arith in
+    let r : Restored b m 0 i c.loop-n.bytes = subst (λ i. Restored b m 0 i c.loop-n.bytes) at c.loop-n.invariant.0 in
+    let out = c.take_out_of-places.ensures in
+    let new = c.take_out_of-places.new.bytes in
+    let done : Restored c.loop-n.bytes m i j new = record { len = out.len; came = out.came; before = out.before; behind = out.behind } in
+    let more = places_then b m c.requires.sound i c.loop-n.bytes r j (omega arith) (omega arith) in (
+      subst (λ j. Restored b m 0 j new) up (restored_then b m 0 i c.loop-n.bytes r j new (omega arith) (omega arith) (omega arith) done),
+      omega (arith, c.loop-n.invariant.1, ap (places_before (written b m)) at, more, out.links, ap (places_before (written b m)) up),
+    )
 
 pub returns-clause-came : goal.returns-clause-came
-returns-clause-came c = restored_all c.args.bytes.now c.args.room.now.marks _ c.loop-i.bytes c.loop-i.invariant.0 (omega arith)
+returns-clause-came c = restored_all c.args.bytes.now c.args.room.now.marks _ c.loop-n.bytes c.loop-n.invariant.0 (omega arith)
 
 pub returns-clause-places : goal.returns-clause-places
-returns-clause-places c = c.loop-i.invariant.1 ∙ all_places c.args.bytes.now c.args.room.now.marks c.loop-i.i (omega arith)
+returns-clause-places c = c.loop-n.invariant.1 ∙ all_places c.args.bytes.now c.args.room.now.marks (min (length c.args.bytes.now / 8) (64 * c.loop-n.n)) (omega arith)
 
 pub returns-clause-small : goal.returns-clause-small
-returns-clause-small c = omega (arith, c.loop-i.invariant.1, few_before (written c.args.bytes.now c.args.room.now.marks) c.loop-i.i, c.requires.few)
+returns-clause-small c = omega (arith, c.loop-n.invariant.1, few_before (written c.args.bytes.now c.args.room.now.marks) (min (length c.args.bytes.now / 8) (64 * c.loop-n.n)), c.requires.few)
