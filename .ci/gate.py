@@ -6,10 +6,9 @@ It proves every crate from nothing and runs every test and program by `rt ci`, a
 changes (.ci/wrong_bodies.py), which takes seconds where a check of the crate takes a minute.
 
     .ci/run             the gate
-    .ci/run --record    the gate; where all passes it adds to .ci/tried what it tried
+    .ci/run --record    the gate; it adds to .ci/tried each crate whose wrong bodies were all refused, as soon as they were
     .ci/run --record NAME..
-                        `rt ci` of these crates and those below them alone, which is not the gate; where all passes, it adds
-                        to .ci/tried what it tried of them
+                        `rt ci` of these crates and those below them alone, which is not the gate; it adds to .ci/tried as above
     .ci/run --whole     `rt ci` as it is, with every wrong body over its whole crate; where all passes it writes .ci/tried anew
 
 It prints first which wrong bodies it does not try again. After rt ci it runs the examples of the documents (.ci/examples.py) and
@@ -30,6 +29,7 @@ import shutil
 import subprocess
 import sys
 import tempfile
+import threading
 import time
 
 sys.dont_write_bytecode = True
@@ -153,6 +153,12 @@ class Repository:
             it.writelines(f"{name} {key} {kit}\n" for name, key, kit in sorted([*others, *((*it, self.name) for it in entries.items())]))
         os.replace(f"{tried}.new", tried)
 
+    def add(self, name, key):
+        """Adds to the record that the wrong bodies of a crate were refused at this key, if its files are still those."""
+        if Repository(self.root, self.kit).keys().get(name) == key:
+            held = {it[0]: it[1] for it in self.lines_tried() if it[2] == self.name}
+            self.record({**held, name: key})
+
     def files(self):
         """Returns the files of the repository, as git lists them: what is committed or would be, and no out/."""
         words = ["git", "-C", self.root, "ls-files", "-z", "--cached", "--others", "--exclude-standard"]
@@ -252,10 +258,11 @@ class Times:
 
 class ByFunction:
     """The wrong bodies of some crates in a room, tried by their functions: those of a crate as soon as `rt ci` has proved it, beside
-    the proofs of others."""
+    the proofs of others. `refused` is called with the name of each crate whose wrong bodies are all refused."""
 
-    def __init__(self, repository, room, names):
+    def __init__(self, repository, room, names, refused=lambda name: None):
         self.repository, self.room, self.left = repository, room, set(names)
+        self.refused, self.telling = refused, threading.Lock()
         self.tries = wrong_bodies.Tries(wrong_bodies.load(shutil.which("rt")), room, lanes())
 
     def begin(self, name):
@@ -263,7 +270,13 @@ class ByFunction:
         if name in self.left:
             self.left.remove(name)
             self.repository.copy_edits(self.room, [name])
-            self.tries.begin(name)
+            self.tries.begin(name).add_done_callback(lambda done: self.tell(name, done))
+
+    def tell(self, name, done):
+        """Tells of a crate whose tries are done, if each of its wrong bodies was refused. Tries of several crates end side by side."""
+        if not done.cancelled() and not done.exception() and all(well for well, _ in done.result()):
+            with self.telling:
+                self.refused(name)
 
     def ended(self, last):
         """Tries what is left, and returns the status and the last line with all of them. What was not refused is told once more at the
@@ -303,10 +316,11 @@ def run(repository, mode, names=()):
     asked = repository.up_to(names) if names else set(repository.lines)
     wanted = asked & set(now) - set(kept)
     by_function = mode != "--whole" and wrong_bodies.can_try(shutil.which("rt"))
+    add = (lambda name: repository.add(name, now[name])) if mode == "--record" else (lambda name: None)
     # In a copy, so that a run neither reads nor moves what checks keep in out/.
     with tempfile.TemporaryDirectory(prefix="gate-") as room, contextlib.ExitStack() as ends:
         repository.copy(room, now if by_function else kept, asked)
-        tries = ends.enter_context(contextlib.closing(ByFunction(repository, room, wanted))) if by_function else None
+        tries = ends.enter_context(contextlib.closing(ByFunction(repository, room, wanted, add))) if by_function else None
         status, last = rt_ci(room, tries.begin) if tries else rt_ci(room)
         times.ended("rt ci")
         if not status and not names and not tells_right(room):

@@ -391,7 +391,21 @@ echo made > out.fct; echo entries $#, roots 0, protocols 0, methods 0, bytes 40"
         status, lines = self.run_by_function({"first", "BoxHeld::second"}, names=["low"], script=f"{script}    sys.exit(sys.argv[1] == 'ci')\n")
         self.assertEqual((status, lines[-1]), (1, "0 passed, 1 failed"))
         self.assertFalse(any("refused" in it for it in lines))
+        self.assertGreaterEqual(self.tried_again(), {"high", "aside"})
+
+    def test_what_was_refused_is_recorded_though_another_crate_fails(self):
+        self.write("crates/aside/src/lib.rt", "pub fn third() {\n    three\n}\n")
+        self.write("crates/aside/must-fail/one.edit", "file: src/lib.rt\nold: three\nnew: other\n")
+        status, _ = self.run_by_function({"first", "BoxHeld::second"}, names=["low", "aside"])
+        self.assertEqual((status, self.tried_again()), (1, {"high", "aside"}))
+
+    def test_what_was_refused_at_other_sources_is_not_recorded(self):
+        key = self.repository().keys()["low"]
+        self.write("crates/low/src/lib.rt", "other\n")
+        self.repository().add("low", key)
         self.assertEqual(self.tried_again(), ALL)
+        self.repository().add("low", self.repository().keys()["low"])
+        self.assertEqual(self.tried_again(), {"high", "aside"})
 
     def test_a_rt_whose_parts_are_others_tries_whole_crates(self):
         self.write("crates/low/must-fail/two.edit", "file: src/lib.rt\n")

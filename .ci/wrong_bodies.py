@@ -285,9 +285,10 @@ class Tries:
         self.begun = {}
 
     def begin(self, name):
-        """Has the wrong bodies of a crate tried that is proved."""
+        """Has the wrong bodies of a crate tried that is proved, and returns what will hold the answers."""
         if name not in self.begun:
             self.begun[name] = self.pool.submit(self.tried, name)
+        return self.begun[name]
 
     def tried(self, name):
         with self.turn:
