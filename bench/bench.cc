@@ -108,16 +108,19 @@ FLAT_LINES(Records) FLAT_LINES(Chain) FLAT_LINES(Wide) FLAT_LINES(Tables) FLAT_L
 template <class Shape>
 static void capn_lines(const Printer& printer, const char* shape, uint64_t want) {
   const std::string message = Shape::make();
-  must(Shape::read(message) == want, "Cap'n Proto reads another sum");
-  printer.line(shape, "capnproto", "read", message.size(), each([&] { return Shape::read(message); }));
+  Fresh fresh(message);
+  must(Shape::read(fresh.copied()) == want, "Cap'n Proto reads another sum");
+  printer.line(shape, "capnproto", "read", message.size(), each([&] { return Shape::read(fresh.copied()); }));
 }
 
 template <class Shape>
 static void proto_lines(const Printer& printer, const char* shape, uint64_t want) {
   const std::string message = Shape::make();
   typename Shape::Message parsed;
+  Fresh fresh(message);
   auto parse = [&] {
-    must(parsed.ParseFromArray(message.data(), int(message.size())), "protobuf refuses a message");
+    const std::string& copy = fresh.copied();
+    must(parsed.ParseFromArray(copy.data(), int(copy.size())), "protobuf refuses a message");
     return 1;
   };
   must(parse() && Shape::read(parsed) == want, "protobuf reads another sum");

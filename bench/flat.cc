@@ -8,13 +8,15 @@ namespace {
 
 template <class Shape>
 void reading_lines(const Printer& printer, const char* shape, const std::string& message, uint64_t want) {
-  auto verify = [&] {
-    must(flat::verifies<typename Shape::Root>(message), "FlatBuffers refuses a message");
-    return 1;
+  Fresh fresh(message);
+  auto verified = [&]() -> const std::string& {
+    const std::string& copy = fresh.copied();
+    must(flat::verifies<typename Shape::Root>(copy), "FlatBuffers refuses a message");
+    return copy;
   };
-  must(verify() && Shape::read(message) == want, "FlatBuffers reads another sum");
-  printer.line(shape, "flatbuffers", "verify", message.size(), each(verify));
-  printer.line(shape, "flatbuffers", "verify + read", message.size(), each([&] { return verify() + Shape::read(message); }));
+  must(Shape::read(verified()) == want, "FlatBuffers reads another sum");
+  printer.line(shape, "flatbuffers", "verify", message.size(), each([&] { return verified().size(); }));
+  printer.line(shape, "flatbuffers", "verify + read", message.size(), each([&] { return Shape::read(verified()); }));
 }
 
 template <class Shape>

@@ -30,6 +30,21 @@ Operation each(Work work) {
   };
 }
 
+// A message that each pass reads as a fresh copy, as the decoder has to, which writes into its own.
+class Fresh {
+ public:
+  explicit Fresh(const std::string& from) : from_(from), copy_(from) {}
+  const std::string& copied() {
+    std::copy(from_.begin(), from_.end(), copy_.begin());
+    asm volatile("" : : "r"(copy_.data()) : "memory");
+    return copy_;
+  }
+
+ private:
+  const std::string& from_;
+  std::string copy_;
+};
+
 inline volatile uint64_t sink;
 
 inline double nanoseconds(const Operation& operation, uint64_t times) {

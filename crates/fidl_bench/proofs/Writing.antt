@@ -30,6 +30,11 @@ pub of_equal : (table : List ℕ) (entry : ℕ) (v w : Value) (bytes : List ℕ)
     → Encodes (declarations_of table) (ty.named entry) v bytes [] → Encodes (declarations_of table) (ty.named entry) w bytes []
 of_equal table entry v w bytes is h = subst (λ (x : Value). Encodes (declarations_of table) (ty.named entry) x bytes []) (sym is) h
 
+-- what a copy of a message encodes, the message does
+pub of_copy : (table : List ℕ) (entry : ℕ) (copy message : List ℕ) → copy ≡ message
+    → IsEncoding (declarations_of table) (ty.named entry) copy [] → IsEncoding (declarations_of table) (ty.named entry) message []
+of_copy table entry copy message is h = subst (λ (b : List ℕ). IsEncoding (declarations_of table) (ty.named entry) b []) is h
+
 -- what is written behind nothing is all there is
 pub all_written : (before after text want : List ℕ) → before ≡ [] → Appends (Some before) (Some after) text → text ≡ want → after ≡ want
 all_written before after text want e h same = h ∙ ap (λ (l : List ℕ). l ++ text) e ∙ same

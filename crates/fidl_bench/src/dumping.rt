@@ -10,6 +10,7 @@ ghost use Rattle.fidl_bench.specs.declared.failure.Failure.TheVariants.{NoRoom};
 ghost use Rattle.fidl_bench.specs.Failures.{IsWhy, IsWhyUnread};
 ghost use Rattle.fidl_bench.specs.Texts.{contents_of, IsText, IsTextOf};
 
+use crate::desk::Desk;
 use crate::failure::Failure;
 use crate::room::Room;
 use fidl_decode::{Decoded, Scratch, decode};
@@ -37,16 +38,16 @@ fn dump_once(decoded: &Decoded<'_, '_, '_>, room: &mut Room) -> Result<(), Failu
 fn dump_again(
     table: &Table<'_>,
     entry: u32,
-    message: &[u8],
-    again: u64,
+    message: &mut [u8],
     scratch: &mut Scratch,
+    again: u64,
     room: &mut Room,
 ) -> Result<(), Failure>
     requires { entry < (header_of table.now).entries }
-    ensures ok { OnOk result (IsText (declarations_of table.now) (ty.named entry) message.now
+    ensures ok { OnOk result (IsText (declarations_of table.now) (ty.named entry) message.old
         (contents_of room.new)) }
     ensures err { IfErr result
-        (IsWhyUnread (declarations_of table.now) (ty.named entry) message.now) }
+        (IsWhyUnread (declarations_of table.now) (ty.named entry) message.old) }
 {
     let Ok(decoded) = decode(table, entry, message, &[], scratch) else {
         return Err(Failure::Refused);
@@ -76,13 +77,14 @@ pub(crate) fn dump_root(
     let Some(entry) = table.root(root) else {
         return Err(Failure::NoRoot);
     };
-    let Ok(mut scratch) = Scratch::new(alloc) else {
+    let Ok(mut desk) = Desk::new(alloc, message) else {
         return Err(Failure::NoMemory);
     };
     let Ok(mut room) = Room::new(alloc, size) else {
         return Err(Failure::NoMemory);
     };
-    match dump_again(&table, entry, message, again, &mut scratch, &mut room) {
+    let Desk { copy, scratch } = &mut desk;
+    match dump_again(&table, entry, copy, scratch, again, &mut room) {
         Ok(()) => Ok(room),
         Err(failure) => Err(failure),
     }

@@ -7,8 +7,9 @@ ghost use Rattle.fidl_table_format.specs.Section.{header_of};
 ghost use Rattle.fidl_table_format.specs.Terms.{declarations_of};
 ghost use Rattle.fidl_bench.specs.Failures.{IsMessageOf, IsWhy, IsWhyUnread};
 
+use crate::desk::Desk;
 use crate::failure::Failure;
-use fidl_decode::{Scratch, decode};
+use fidl_decode::decode;
 use fidl_encode::{EncodeFault, Message, encode};
 use fidl_verify::{Table, verify};
 use fidl_view::Views;
@@ -23,10 +24,10 @@ fn value_of(alloc: Global, table: &Table<'_>, entry: u32, message: &[u8]) -> Res
     ensures err { IfErr result
         (IsWhyUnread (declarations_of table.now) (ty.named entry) message.now) }
 {
-    let Ok(mut scratch) = Scratch::new(alloc) else {
+    let Ok(mut desk) = Desk::new(alloc, message) else {
         return Err(Failure::NoMemory);
     };
-    let Ok(decoded) = decode(table, entry, message, &[], &mut scratch) else {
+    let Ok(decoded) = decode(table, entry, &mut desk.copy, &[], &mut desk.scratch) else {
         return Err(Failure::Refused);
     };
     match decoded.view().to_value(alloc) {

@@ -7,6 +7,7 @@
 
 mod chain;
 mod decoding;
+mod desk;
 mod dumping;
 mod encoding;
 mod exports;

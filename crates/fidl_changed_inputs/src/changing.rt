@@ -14,7 +14,7 @@ pub(crate) fn try_cuts(desk: &mut Desk<'_, '_>, kind: Kind, input: &[u8]) -> Res
     Ok(())
 }
 
-/// Gives an input with the byte at a place changed to each value.
+/// Gives an input with the byte at a place changed to each value that inputs of its kind get.
 fn try_values(
     desk: &mut Desk<'_, '_>,
     kind: Kind,
@@ -26,10 +26,12 @@ fn try_values(
     }
     let kept = input[place];
     for value in 0..=255u8 {
-        if place < input.len() {
-            input[place] = value;
+        if kind.gets(kept, value) {
+            if place < input.len() {
+                input[place] = value;
+            }
+            let _accepted = give(desk, kind, input)?;
         }
-        let _accepted = give(desk, kind, input)?;
     }
     if place < input.len() {
         input[place] = kept;
@@ -37,7 +39,7 @@ fn try_values(
     Ok(())
 }
 
-/// Gives an input with each of its bytes changed to each value.
+/// Gives an input with each of its bytes changed.
 pub(crate) fn try_changes(desk: &mut Desk<'_, '_>, kind: Kind, input: &[u8]) -> Result<(), Stop> {
     let Ok(mut copy) = Vec::from_slice(desk.alloc, input) else {
         return Err(Stop);

@@ -33,6 +33,12 @@ impl Kind {
         matches!(self, Kind::Table | Kind::Message)
     }
 
+    /// Whether a byte of such an input is changed to this value. A stream gets each bit turned
+    /// alone, since a service takes room for the greatest frame each time.
+    pub(crate) fn gets(self, kept: u8, value: u8) -> bool {
+        self != Kind::Stream || (kept ^ value).count_ones() == 1
+    }
+
     /// The name of inputs of this kind.
     pub(crate) fn name(self) -> &'static str {
         match self {
@@ -68,31 +74,83 @@ fn give_source(alloc: Global, source: &[u8]) -> Result<bool, Stop> {
     }
 }
 
-/// Decodes a message by an entry of a table.
-fn decode_by(
-    table: &Table<'_>,
-    entry: u32,
-    bytes: &[u8],
-    handles: &[HandleInfo],
-    scratch: &mut Scratch,
-) -> bool
-    requires { entry < (header_of table.now).entries }
-{
-    decode(table, entry, bytes, handles, scratch).is_ok()
+/// A message and its handles.
+#[derive(Clone, Copy, Drop)]
+struct Given<'g> {
+    bytes: &'g [u8],
+    handles: &'g [HandleInfo],
 }
 
-/// Decodes three messages by each entry of a table, and says how many are accepted.
-fn decode_all(table: &Table<'_>, scratch: &mut Scratch) -> u64 {
+/// Decodes a copy of a message by an entry of a table. A refusal has to leave the copy as it came,
+/// and so has a release.
+fn decode_by(
+    alloc: Global,
+    table: &Table<'_>,
+    entry: u32,
+    given: Given<'_>,
+    scratch: &mut Scratch,
+) -> Result<bool, Stop>
+    requires { entry < (header_of table.now).entries }
+{
+    let Ok(mut copy) = Vec::from_slice(alloc, given.bytes) else {
+        return Err(Stop);
+    };
+    let accepted = match decode(table, entry, &mut copy, given.handles, scratch) {
+        Ok(decoded) => {
+            let _ = decoded.release();
+            true
+        }
+        Err(_) => false,
+    };
+    if copy.as_slice() == given.bytes {
+        Ok(accepted)
+    } else {
+        Err(Stop)
+    }
+}
+
+/// The messages that each entry of a table is to decode: nothing, zeros, and one that was worked
+/// out.
+const GIVEN: [Given<'_>; 3] = [
+    Given {
+        bytes: &[],
+        handles: &[],
+    },
+    Given {
+        bytes: &[0; 8],
+        handles: &[],
+    },
+    Given {
+        bytes: MESSAGE,
+        handles: &HANDLES,
+    },
+];
+
+/// Decodes three messages by an entry of a table, and says whether one is accepted.
+fn decode_each(
+    alloc: Global,
+    table: &Table<'_>,
+    entry: u32,
+    scratch: &mut Scratch,
+) -> Result<bool, Stop>
+    requires { entry < (header_of table.now).entries }
+{
+    let mut accepted = false;
+    for given in GIVEN {
+        accepted |= decode_by(alloc, table, entry, given, scratch)?;
+    }
+    Ok(accepted)
+}
+
+/// Decodes three messages by each entry of a table, and says how many entries accept one.
+fn decode_all(alloc: Global, table: &Table<'_>, scratch: &mut Scratch) -> Result<u64, Stop> {
     let mut accepted = 0u64;
     for entry in 0..table.entries() {
-        let nothing = decode_by(table, entry, &[], &[], scratch);
-        let zeros = decode_by(table, entry, &[0; 8], &[], scratch);
-        let worked = decode_by(table, entry, MESSAGE, &HANDLES, scratch);
-        if nothing || zeros || worked {
+        if decode_each(alloc, table, entry, scratch)? {
             accepted = accepted.saturating_add(1);
         }
     }
-    accepted
+    Ok(accepted)
 }
 
 /// Migrates a table. What comes of it has to be accepted.
@@ -110,7 +168,7 @@ fn migrate_whole(alloc: Global, table: &Table<'_>) -> Result<(), Stop> {
 fn give_table(alloc: Global, scratch: &mut Scratch, bytes: &[u8]) -> Result<bool, Stop> {
     match verify(bytes) {
         Ok(table) => {
-            let _accepted = decode_all(&table, scratch);
+            let _accepted = decode_all(alloc, &table, scratch)?;
             migrate_whole(alloc, &table)?;
             Ok(true)
         }
@@ -123,8 +181,11 @@ fn give_message(desk: &mut Desk<'_, '_>, bytes: &[u8]) -> Result<bool, Stop> {
     let worked = desk.worked;
     match desk.table.root(worked.root) {
         Some(entry) => {
-            let scratch = &mut desk.scratch;
-            Ok(decode_by(desk.table, entry, bytes, worked.handles, scratch))
+            let given = Given {
+                bytes,
+                handles: worked.handles,
+            };
+            decode_by(desk.alloc, desk.table, entry, given, &mut desk.scratch)
         }
         None => Err(Stop),
     }

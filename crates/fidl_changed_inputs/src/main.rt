@@ -1,9 +1,9 @@
 //! Gives cut and changed inputs to the calls of the library, and prints which kinds are done
 //! (docs/checking.md, "The gate").
 //!
-//! A source, coding tables, a message, a text, a script and a stream are cut at each length, and
-//! all but the source get each of their bytes changed to each value. Each call has to return.
-//! Its contract says what it answers. A cut table or message has to be refused.
+//! A source, coding tables, a message, a text, a script and a stream are cut at each length. All
+//! but the source get each of their bytes changed to each value, and a stream each bit turned. Each
+//! call has to return. Its contract says what it answers. A cut table or message has to be refused.
 #![tactic(auto)]
 
 mod changing;

@@ -13,7 +13,7 @@ struct Ran {
     errors: Vec<u8>,
 }
 
-fn run_decode(alloc: Global, table: &[u8], message: &TypedMessage<'_>) -> Ran {
+fn run_decode(alloc: Global, table: &[u8], message: TypedMessage<'_>) -> Ran {
     let file = File {
         name: "a.fct",
         bytes: table,
@@ -55,10 +55,10 @@ fn tables_are_refused_before_roots(rt: HostRuntime) -> Result<(), Fail> {
     for (table, root, outcome, errors) in cases {
         let message = TypedMessage {
             root,
-            bytes: &[],
+            bytes: &mut [],
             handles: &[],
         };
-        let ran = run_decode(alloc, table, &message);
+        let ran = run_decode(alloc, table, message);
         assert_eq!(rt; ran.outcome, outcome, "for {errors}");
         assert!(rt; ran.out.is_empty(), "for {errors}");
         assert!(rt; ran.errors.as_slice() == errors.as_bytes(), "for {errors}");

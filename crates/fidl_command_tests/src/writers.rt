@@ -43,7 +43,7 @@ const FILE: File<'static> = File {
     bytes: &POINT,
 };
 
-fn message_of<'m>(bytes: &'m [u8]) -> TypedMessage<'m> {
+fn message_of<'m>(bytes: &'m mut [u8]) -> TypedMessage<'m> {
     TypedMessage {
         root: "Point",
         bytes,
@@ -59,8 +59,9 @@ fn an_output_that_fails_at_each_write(rt: HostRuntime) -> Result<(), Fail> {
     for writes in 0..14 {
         let mut out = Output::new(Brief::new(alloc, writes));
         let mut errors = Output::new(Vec::new(alloc));
-        let message = message_of(&[1, 0, 0, 0, 2, 0, 0, 0]);
-        let outcome = decode(alloc, &FILE, &message, &mut out, &mut errors);
+        let mut bytes = [1, 0, 0, 0, 2, 0, 0, 0];
+        let message = message_of(&mut bytes);
+        let outcome = decode(alloc, &FILE, message, &mut out, &mut errors);
         let failed = out.failure().is_some();
         let held = out.into_writer().held;
         let told: &[u8] = if failed {
@@ -91,7 +92,7 @@ fn errors_that_fail_at_each_write(rt: HostRuntime) -> Result<(), Fail> {
     for writes in 0..10 {
         let mut out = Output::new(Vec::new(alloc));
         let mut errors = Output::new(Brief::new(alloc, writes));
-        let outcome = decode(alloc, &FILE, &message_of(&[]), &mut out, &mut errors);
+        let outcome = decode(alloc, &FILE, message_of(&mut []), &mut out, &mut errors);
         let failed = errors.failure().is_some();
         assert_eq!(rt; outcome == Outcome::Unwritten, failed, "at {writes}");
         assert!(rt;
@@ -111,8 +112,9 @@ fn an_output_that_is_full(rt: HostRuntime) -> Result<(), Fail> {
     let mut room = [0u8; 6];
     let mut out = Output::new(room.as_mut_slice());
     let mut errors = Output::new(Vec::new(alloc));
-    let message = message_of(&[1, 0, 0, 0, 2, 0, 0, 0]);
-    let outcome = decode(alloc, &FILE, &message, &mut out, &mut errors);
+    let mut bytes = [1, 0, 0, 0, 2, 0, 0, 0];
+    let message = message_of(&mut bytes);
+    let outcome = decode(alloc, &FILE, message, &mut out, &mut errors);
     assert_eq!(rt; outcome.status().number(), 3);
     assert!(rt; out.failure().is_some() && errors.failure().is_none());
     let told = b"error: the output: write zero\n".as_slice();

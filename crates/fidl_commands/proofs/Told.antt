@@ -1,6 +1,6 @@
 -- What a status says of the line that goes with it, and of the roots of a table.
 use Rattle.std.proofs.Common.{◌≡◌, ◌≢◌, ◌↔◌, ℕ, List, ◌++◌, refl, sym, ap, subst, ◌∙◌, inl, inr}
-use Rattle.std.specs.Prelude.{Result, Ok, Err, OnOk, OnErr, is_ok, true, false, if◌then◌else◌, Option, Some, None, IsSome, ◌⊎◌, codes}
+use Rattle.std.specs.Prelude.{Result, Ok, Err, OnOk, OnErr, is_ok, true, false, if◌then◌else◌, Option, None, IsSome, ◌⊎◌, codes}
 use Rattle.fidl_wire.specs.declared.handle.HandleInfo.{HandleInfo}
 use Rattle.fidl_wire.specs.Value.{Value}
 use Rattle.fidl_wire.specs.Term as ty

@@ -1,5 +1,5 @@
 -- What the command `explain` answers (docs/program.md, "explain").
-use Rattle.std.specs.Prelude.{⊤, ℕ, List, ◌++◌, Option, Some, codes, decimal}
+use Rattle.std.specs.Prelude.{⊤, ℕ, List, Option, Some, codes, decimal}
 use Rattle.std.specs.Fmt.{option_append, debug_str}
 use Rattle.fidl_hints.specs.declared.explaining.Faults.{Faults}
 use Rattle.fidl_hints.specs.declared.explaining.Faults.TheVariants.{Named, Numbered}

@@ -20,11 +20,11 @@ use fidl_wire::HandleInfo;
 use std::alloc::Global;
 use std::io::Write;
 
-/// A message, and the root of a table whose type it is to be decoded by.
-#[derive(Clone, Copy, Debug, Drop)]
+/// A message, and the root of a table whose type it is to be decoded by, in its own bytes.
+#[derive(Drop)]
 pub struct TypedMessage<'m> {
     pub root: &'m str,
-    pub bytes: &'m [u8],
+    pub bytes: &'m mut [u8],
     pub handles: &'m [HandleInfo],
 }
 
@@ -33,34 +33,39 @@ fn decode_as<W: Write, E: Write>(
     alloc: Global,
     table: &Table<'_>,
     entry: u32,
-    message: &TypedMessage<'_>,
+    message: TypedMessage<'_>,
     out: &mut Output<W>,
     errors: &mut Output<E>,
 ) -> Outcome
-    requires root { IsRootOf table.now message.now.root.now entry }
+    requires root { IsRootOf table.now message.root.now entry }
     requires entry { entry < (header_of table.now).entries }
     ensures ends { CanEndDecodeAs result }
-    ensures done { result ≡ outcome.Done → AppendsOne (IsTextOf table.now message.now)
+    ensures done { result ≡ outcome.Done → AppendsOne (IsTextOf table.now message.entry)
         (W.contents out.old.writer) (W.contents out.new.writer) }
-    ensures refused { result ≡ outcome.Refused → AppendsOne (IsRefusalOf table.now message.now)
+    ensures refused { result ≡ outcome.Refused → AppendsOne (IsRefusalOf table.now message.entry)
         (E.contents errors.old.writer) (E.contents errors.new.writer) }
     ensures memory_line { result ≡ outcome.NoMemory
         → Appends (E.contents errors.old.writer) (E.contents errors.new.writer) no_memory_line }
     ensures unwritten { ReportsFailures result out.old.failure out.new.failure
         errors.old.failure errors.new.failure }
     ensures front { result ≡ outcome.Unwritten
-        → AppendsFrontOfOne (IsTextOf table.now message.now)
+        → AppendsFrontOfOne (IsTextOf table.now message.entry)
         (W.contents out.old.writer) (W.contents out.new.writer) }
     ensures out { result ≢ outcome.Done → result ≢ outcome.Unwritten
         → W.contents out.new.writer ≡ W.contents out.old.writer }
     ensures errors { result ≡ outcome.Done
         → E.contents errors.new.writer ≡ E.contents errors.old.writer }
 {
-    let Ok(mut scratch) = Scratch::new(alloc) else {
-        return Outcome::NoMemory.where_written(&write_no_memory(errors));
+    let mut scratch = match Scratch::new(alloc) {
+        Ok(scratch) => scratch,
+        Err(_) => return Outcome::NoMemory.where_written(&write_no_memory(errors)),
     };
-    let decoded = fidl_decode::decode(table, entry, message.bytes, message.handles, &mut scratch);
-    let decoded = match decoded {
+    let TypedMessage {
+        root: _root,
+        bytes,
+        handles,
+    } = message;
+    let decoded = match fidl_decode::decode(table, entry, bytes, handles, &mut scratch) {
         Ok(decoded) => decoded,
         Err(fault) => {
             let written = write_refusal(errors, "decode", fault.number(), fault.name(), fault.at());
@@ -82,29 +87,29 @@ fn decode_as<W: Write, E: Write>(
 pub fn decode<W: Write, E: Write>(
     alloc: Global,
     file: &File<'_>,
-    message: &TypedMessage<'_>,
+    message: TypedMessage<'_>,
     out: &mut Output<W>,
     errors: &mut Output<E>,
 ) -> Outcome
     ensures ends { CanEndDecode result }
-    ensures done { result ≡ outcome.Done → AppendsOne (IsTextOf file.now.bytes.now message.now)
+    ensures done { result ≡ outcome.Done → AppendsOne (IsTextOf file.now.bytes.now message.entry)
         (W.contents out.old.writer) (W.contents out.new.writer) }
     ensures refused { result ≡ outcome.Refused
-        → AppendsOne (IsRefusalOf file.now.bytes.now message.now)
+        → AppendsOne (IsRefusalOf file.now.bytes.now message.entry)
         (E.contents errors.old.writer) (E.contents errors.new.writer) }
     ensures no_root { result ≡ outcome.NoRoot
-        → LacksRoot file.now.bytes.now message.now.root.now }
+        → LacksRoot file.now.bytes.now message.entry.root.now }
     ensures no_root_line { result ≡ outcome.NoRoot
-        → TellsNoRoot file.now.bytes.now file.now.name.now message.now.root.now
+        → TellsNoRoot file.now.bytes.now file.now.name.now message.entry.root.now
         (E.contents errors.old.writer) (E.contents errors.new.writer) }
     ensures memory { result ≡ outcome.NoMemory
-        → HasRoot file.now.bytes.now message.now.root.now }
+        → HasRoot file.now.bytes.now message.entry.root.now }
     ensures memory_line { result ≡ outcome.NoMemory
         → Appends (E.contents errors.old.writer) (E.contents errors.new.writer) no_memory_line }
     ensures unwritten { ReportsFailures result out.old.failure out.new.failure
         errors.old.failure errors.new.failure }
     ensures front { result ≡ outcome.Unwritten
-        → AppendsFrontOfOne (IsTextOf file.now.bytes.now message.now)
+        → AppendsFrontOfOne (IsTextOf file.now.bytes.now message.entry)
         (W.contents out.old.writer) (W.contents out.new.writer) }
     ensures out { result ≢ outcome.Done → result ≢ outcome.Unwritten
         → W.contents out.new.writer ≡ W.contents out.old.writer }

@@ -78,7 +78,7 @@ pub fn run_decode<F: Files, W: Write, E: Write>(
         Ok(table) => table,
         Err(error) => return tell_no_file(alloc, name, &error, errors),
     };
-    let bytes = match given_bytes(alloc, &arguments.message, files, errors) {
+    let mut bytes = match given_bytes(alloc, &arguments.message, files, errors) {
         Ok(bytes) => bytes,
         Err(ended) => return ended,
     };
@@ -88,10 +88,10 @@ pub fn run_decode<F: Files, W: Write, E: Write>(
     };
     let message = TypedMessage {
         root: arguments.root,
-        bytes: bytes.as_slice(),
+        bytes: bytes.as_mut_slice(),
         handles: arguments.handles.as_slice(),
     };
-    decode(alloc, &file, &message, out, errors)
+    decode(alloc, &file, message, out, errors)
 }
 
 /// Reads the table's file and the text, and encodes the value of the text by the table.

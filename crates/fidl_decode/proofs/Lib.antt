@@ -20,6 +20,7 @@ pub mod Fitting
 pub mod LeafContent
 pub mod Tail
 pub mod Last
+pub mod Linking
 pub mod Front
 pub mod Known
 pub mod Words

@@ -28,6 +28,7 @@ use Rattle.fidl_decode_model.proofs.After.{past, length-table, after_past, membe
 use Rattle.fidl_decode_model.proofs.Rows.{stands_joined, stands_at, past_inline}
 use Rattle.fidl_decode_model.specs.Frontier.{AreFree}
 use Rattle.fidl_decode_model.proofs.Aligned.{even_eights, even_next, even_resolve, no_names}
+use Rattle.fidl_decode_model.proofs.Staying.{stays}
 use Rattle.fidl_decode.proofs.Unlinked.{Agrees, readable}
 use Rattle.fidl_decode.proofs.Covering.{Covers, covers_within, covers_before, Fits, object_stands, envelope_stands, member_fits, first_is}
 use Rattle.fidl_decode_model.proofs.Keeping.{Keeps, ends_behind, keeps, keeps_elements, keeps_fields, keeps_member, keeps_envelopes}
@@ -327,7 +328,7 @@ module _ (t : List ℕ) (fine : IsFine t) (m : Message) (e : ℕ) (lt : e < (hea
   term = resolve ds.terms (ty.named e)
 
   -- a message's value is found through the links that reading it leaves, and can be read
-  pub item_stands : AreFree (begins objects records (entry_at t e).size) 0 (length m.bytes) → length objects ≡ MAX_MESSAGE_BYTES / 8 → length records ≡ MAX_MESSAGE_BYTES / 4 → length m.bytes ≤ MAX_MESSAGE_BYTES → length m.handles ≤ MAX_MESSAGE_HANDLES
+  pub item_stands : AreFree (begins objects records (entry_at t e).size) 0 (length m.bytes) → length objects ≡ length m.bytes / 8 → length records ≡ 2 * (length m.bytes / 8) → length m.bytes ≤ MAX_MESSAGE_BYTES → length m.handles ≤ MAX_MESSAGE_HANDLES
       → Stands m.bytes (entry_at t e).size (zeros (next_multiple_of (entry_at t e).size 8 - (entry_at t e).size)) → (to : Position) → IsWhole m to
       → ValueAt ds m 0 term 0 (begins objects records (entry_at t e).size) to → StandsIn ds (ty.named e) m.bytes m.handles (links_of to)
   item_stands free cells cells_of_handles short few z to is x =
@@ -341,7 +342,10 @@ module _ (t : List ℕ) (fine : IsFine t) (m : Message) (e : ℕ) (lt : e < (hea
       let agrees : (a b : ℕ) → Agrees (links_of to) r a b = λ a b. record { objects = λ k p q. ap (λ (s : Position). get_or s.objects (k / 8) 0) x.end; records = λ k p q. ap (λ (s : Position). get_or s.records (k / 4) 0) x.end } in
       let led = after_past ds fine.laid_out term x.value 0 from x.typed in
       let reach : (entry_at t e).size ≤ length m.bytes = omega (arith, up, ends, whole, led.0) in
-      let even : from.next % 8 ≡ 0 = even_next 8 (entry_at t e).size (inr (inr (inr refl))) in (
+      let even : from.next % 8 ≡ 0 = even_next 8 (entry_at t e).size (inr (inr (inr refl))) in
+      let first = even_resolve ds fine.laid_out (no_names t) (ty.named e) 0 (even_eights ds fine.laid_out (no_names t) (ty.named e) 0 refl) in
+      let last = (stays ds fine.laid_out (no_names t) term x.value 0 from x.typed even first).1 in
+      let eights : length m.bytes % 8 ≡ 0 = omega (arith, last, ends, whole) in (
         x.value,
         item_encodes t fine m e lt objects records short few z to is x,
         placed ds fine.laid_out m (links_of to) term x.value 0 from x.typed x.stands (record {
@@ -351,12 +355,12 @@ module _ (t : List ℕ) (fine : IsFine t) (m : Message) (e : ℕ) (lt : e < (hea
           near = agree 0 (0 + size_of ds term);
           far = agree from.next r.next;
         }),
-        readable ds fine.laid_out (no_names t) m (links_of to) term x.value 0 from x.typed (even_resolve ds fine.laid_out (no_names t) (ty.named e) 0 (even_eights ds fine.laid_out (no_names t) (ty.named e) 0 refl)) (λ k p q. free k p (omega (arith, q, size, reach))) (record {
+        readable ds fine.laid_out (no_names t) m (links_of to) term x.value 0 from x.typed first (λ k p q. free k p (omega (arith, q, size, reach))) (record {
           ahead = record { even = even; free = λ k p q. free k (omega arith) q };
           before = omega arith;
           within = omega (arith, ends, whole);
-          objects = omega (arith, cells, short);
-          records = omega (arith, cells_of_handles, short);
+          objects = omega (arith, cells, eights);
+          records = omega (arith, cells_of_handles, eights);
           near = agrees 0 (0 + size_of ds term);
           far = agrees from.next r.next;
         }),

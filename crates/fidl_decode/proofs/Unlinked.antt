@@ -147,7 +147,7 @@ module _ (l : Linked) (m : Message) where
       let ahead_even = h.ahead.even in
       let own = stays_linked marker (marker + 8) s.next mid.next marker n s (omega arith) (omega arith) even in record {
         link = link;
-        has = omega (arith, link, room, before);
+        has = (even, omega (arith, link, room, before), ap (λ n. n % 8) link ∙ ahead_even);
         inside = record {
           ahead = ahead_still m marker (marker + 8) s mid own (omega (arith, room, before)) (omega (arith, ahead_even)) h.ahead;
           before = omega (arith, short);
@@ -191,7 +191,7 @@ module _ (l : Linked) (m : Message) where
         },
         (λ k x y. free_still (place + 4) (place + 8) 0 0 s mid (stays_half place 0 0 s even) k (inl (omega (arith, y, small))) (inr (omega arith)) (free k x (omega (arith, y, small)))),
         refl,
-        omega (arith, cell),
+        (even, (omega (arith, even), omega (arith, cell))),
       )
   sees_member false size place s r few even g free h =
       let mid = opened place s in
@@ -212,7 +212,7 @@ module _ (l : Linked) (m : Message) where
         near = h.near;
         far = h.far;
       }) in
-      (low.inside, low.free, low.link, (omega (arith, cell), low.has))
+      (low.inside, low.free, low.link, ((omega (arith, even), omega (arith, cell)), low.has))
 
 -- the bytes of an unknown member that is in its envelope are four
 short_inline : (inline : Bool) (n : ℕ) → IsUnknownLength inline n → inline ≡ true → n ≤ 4
@@ -226,7 +226,7 @@ module _ (ds : Declarations) (laid : IsLaidOut ds) (named : (i : ℕ) → IsNoNa
   mutual
     -- a value at a place
     pub readable : (t : Term) (v : Value) (place : ℕ) (s : Position) → IsTyped ds t v → IsEven ds t place → AreFree s place (place + size_of ds t) → Sees l m place (place + size_of ds t) s (after ds t v place s) → Readable ds l t place v
-    readable t absent place s h even free see = clear_all l m place (place + size_of ds t) s s (stays_all _ _ _ _ s) free see
+    readable t absent place s h even free see = (clear_all l m place (place + size_of ds t) s s (stays_all _ _ _ _ s) free see, even)
     readable t (bool b) place s h even free see = clear_all l m place (place + size_of ds t) s s (stays_all _ _ _ _ s) free see
     readable t (number z) place s h even free see = clear_all l m place (place + size_of ds t) s s (stays_all _ _ _ _ s) free see
     readable (ty.handle optional subtype rights) (handle i) place s h even free see =
@@ -235,7 +235,7 @@ module _ (ds : Declarations) (laid : IsLaidOut ds) (named : (i : ℕ) → IsNoNa
         let cells = see.records in
         let in_range : place / 4 < length s.records = omega (arith, before, within, cells) in
         let cell : get_or l.records (place / 4) 0 ≡ s.handle + 1 = see.near.records place (omega arith) (omega arith) ∙ get_or-set_same s.records (place / 4) (s.handle + 1) 0 in_range in
-        omega (arith, cell)
+        (even, omega (arith, cell))
     readable (ty.string optional bound) (text bytes) place s h even free see =
         let n = length bytes in
         let r = linked (place + 8) n s in

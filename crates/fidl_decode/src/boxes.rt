@@ -57,7 +57,7 @@ impl<'t, 'm, 's> Decoder<'t, 'm, 's> {
         if size > self.size - from {
             return Err(DecodeFault::Truncated { at: from });
         }
-        state.links.link(place, from);
+        state.links.link_marker(place, from);
         state.next = from + size;
         let left = Remaining::Rows {
             first: content.first,

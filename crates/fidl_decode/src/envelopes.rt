@@ -143,7 +143,7 @@ impl<'t, 'm, 's> Decoder<'t, 'm, 's> {
             if handles > MAX_MESSAGE_HANDLES {
                 return Err(DecodeFault::WrongCounts { at: envelope });
             }
-            state.links.record(envelope + 4, state.handle);
+            state.links.link_inside(envelope, state.handle);
             let until = Until {
                 envelope,
                 next,
@@ -164,8 +164,7 @@ impl<'t, 'm, 's> Decoder<'t, 'm, 's> {
         if handles > MAX_MESSAGE_HANDLES || counted > MAX_MESSAGE_BYTES {
             return Err(DecodeFault::WrongCounts { at: envelope });
         }
-        state.links.record(envelope + 4, state.handle);
-        state.links.link(envelope, next);
+        state.links.link_outside(envelope, next, state.handle);
         state.next = next + whole;
         let until = Until {
             envelope,
@@ -205,7 +204,7 @@ impl<'t, 'm, 's> Decoder<'t, 'm, 's> {
                 return Err(DecodeFault::HandleMissing { at: envelope });
             }
             are_handles(self.handles, state.handle, handles);
-            state.links.record(envelope + 4, state.handle);
+            state.links.link_inside(envelope, state.handle);
             state.handle += handles;
             return Ok(());
         }
@@ -223,8 +222,7 @@ impl<'t, 'm, 's> Decoder<'t, 'm, 's> {
             return Err(DecodeFault::HandleMissing { at: envelope });
         }
         are_handles(self.handles, state.handle, handles);
-        state.links.record(envelope + 4, state.handle);
-        state.links.link(envelope, next);
+        state.links.link_outside(envelope, next, state.handle);
         state.next = next + counted;
         state.handle += handles;
         Ok(())

@@ -73,7 +73,7 @@ impl<'t, 'm, 's> Decoder<'t, 'm, 's> {
                 if !is_allowed(entry.subtype, entry.rights, info) {
                     return Err(DecodeFault::WrongHandle { at: place });
                 }
-                state.links.record(place, state.handle);
+                state.links.link_handle(place, state.handle);
                 state.handle += 1;
                 Ok(())
             }

@@ -59,7 +59,7 @@ impl<'t, 'm, 's> Decoder<'t, 'm, 's> {
         if !self.are_zeros(envelope + size, envelope + 4, state) {
             return false;
         }
-        state.links.record(envelope + 4, state.handle);
+        state.links.link_inside(envelope, state.handle);
         true
     }
 
@@ -98,8 +98,7 @@ impl<'t, 'm, 's> Decoder<'t, 'm, 's> {
         if depth as usize == MAX_DEPTH || self.size - next < 8 {
             return false;
         }
-        state.links.record(envelope + 4, state.handle);
-        state.links.link(envelope, next);
+        state.links.link_outside(envelope, next, state.handle);
         state.next = next + 8;
         true
     }
@@ -129,7 +128,7 @@ impl<'t, 'm, 's> Decoder<'t, 'm, 's> {
         if flags != 1 || handles != 0 || self.byte_count_at(envelope, state) > 1 {
             return false;
         }
-        state.links.record(envelope + 4, state.handle);
+        state.links.link_inside(envelope, state.handle);
         true
     }
 

@@ -62,8 +62,7 @@ impl<'t, 'm, 's> Decoder<'t, 'm, 's> {
             return false;
         }
         state.steps += whole as u64;
-        state.links.record(envelope + 4, state.handle);
-        state.links.link(envelope, next);
+        state.links.link_outside(envelope, next, state.handle);
         state.next = next + whole;
         true
     }

@@ -104,9 +104,8 @@ impl<'t, 'm, 's> Decoder<'t, 'm, 's> {
             return false;
         }
         state.steps += size as u64;
-        state.links.record(envelope + 4, state.handle);
-        state.links.link(envelope, next);
-        state.links.link(next + 8, from);
+        state.links.link_outside(envelope, next, state.handle);
+        state.links.link_marker(next + 8, from);
         state.next = from + size;
         true
     }

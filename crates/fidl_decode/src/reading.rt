@@ -21,18 +21,9 @@ use fidl_decode_columns::zeros_at;
 use fidl_decode_model::DecodeFault;
 use fidl_decode_model::frame::State;
 use fidl_table_format::{EntryKind, number_bits};
-use fidl_wire::{Presence, byte_count_at, flags_at, handle_count_at, presence_at, u32_at, u64_at};
+use fidl_wire::Presence;
 
 impl<'t, 'm, 's> Decoder<'t, 'm, 's> {
-    /// The message.
-    #[inline(always)]
-    pub(crate) fn bytes<'a>(&self, state: &State<'a, '_>) -> &'a [u8]
-        requires holds { Holds self.now state.now }
-        ensures { result.now ≡ came self.now }
-    {
-        state.links.bytes()
-    }
-
     /// The byte at a place.
     #[inline(always)]
     pub(crate) fn byte_at(&self, place: usize, state: &State<'_, '_>) -> u8
@@ -41,7 +32,7 @@ impl<'t, 'm, 's> Decoder<'t, 'm, 's> {
         requires free { AreFree (at_of state.now) place (place + 1) }
         ensures { result ≡ slice_index (came self.now) place }
     {
-        self.bytes(state)[place]
+        state.links.byte_at(place)
     }
 
     /// The number of four bytes at a place.
@@ -52,7 +43,7 @@ impl<'t, 'm, 's> Decoder<'t, 'm, 's> {
         requires free { AreFree (at_of state.now) place (place + 4) }
         ensures { result ≡ number_at w32 (came self.now) place }
     {
-        u32_at(self.bytes(state), place)
+        state.links.u32_at(place)
     }
 
     /// The number of eight bytes at a place.
@@ -63,7 +54,7 @@ impl<'t, 'm, 's> Decoder<'t, 'm, 's> {
         requires free { AreFree (at_of state.now) place (place + 8) }
         ensures { result ≡ number_at w64 (came self.now) place }
     {
-        u64_at(self.bytes(state), place)
+        state.links.u64_at(place)
     }
 
     /// The number of a kind of numbers at a place, in 64 bits.
@@ -76,7 +67,7 @@ impl<'t, 'm, 's> Decoder<'t, 'm, 's> {
         ensures { value_number (as_number kind) result ≡ number_standing (as_number kind)
             (came self.now) place }
     {
-        number_bits(kind, self.bytes(state), place)
+        number_bits(kind, state.links.raw(), place)
     }
 
     /// How many bytes lie out of line below the envelope at a place, or the four bytes in it.
@@ -87,7 +78,7 @@ impl<'t, 'm, 's> Decoder<'t, 'm, 's> {
         requires free { AreFree (at_of state.now) envelope (envelope + 8) }
         ensures { result ≡ bytes_below (came self.now) envelope }
     {
-        byte_count_at(self.bytes(state), envelope)
+        state.links.byte_count_at(envelope)
     }
 
     /// How many handles lie below the envelope at a place.
@@ -98,7 +89,7 @@ impl<'t, 'm, 's> Decoder<'t, 'm, 's> {
         requires free { AreFree (at_of state.now) envelope (envelope + 8) }
         ensures { result ≡ handles_below (came self.now) envelope }
     {
-        handle_count_at(self.bytes(state), envelope)
+        state.links.handle_count_at(envelope)
     }
 
     /// The flags of the envelope at a place.
@@ -109,7 +100,7 @@ impl<'t, 'm, 's> Decoder<'t, 'm, 's> {
         requires free { AreFree (at_of state.now) envelope (envelope + 8) }
         ensures { result ≡ flags_at (came self.now) envelope }
     {
-        flags_at(self.bytes(state), envelope)
+        state.links.flags_at(envelope)
     }
 
     /// What the four bytes of a handle at a place say.
@@ -120,7 +111,7 @@ impl<'t, 'm, 's> Decoder<'t, 'm, 's> {
         requires free { AreFree (at_of state.now) place (place + 4) }
         ensures { Says (came self.now) place 4 result }
     {
-        presence_at(self.bytes(state), place, 4)
+        state.links.presence_at(place, 4)
     }
 
     /// Zeros from one place to another.
@@ -138,7 +129,7 @@ impl<'t, 'm, 's> Decoder<'t, 'm, 's> {
         ensures ok { OnOk result (Stands (came self.now) from (zeros (to - from))) }
         ensures fault_is_true { IfErr result (IsPadding (came self.now) from to) }
     {
-        zeros_at(self.bytes(state), from, to)
+        zeros_at(state.links.raw(), from, to)
     }
 
     /// Whether so many bytes from a place on, whose number is a multiple of eight, are ASCII.
@@ -150,7 +141,7 @@ impl<'t, 'm, 's> Decoder<'t, 'm, 's> {
         requires free { AreFree (at_of state.now) from (from + size) }
         ensures { IsTrue result → (k : ℕ) → k < size → slice_index (came self.now) (from + k) < 128 }
     {
-        are_ascii(self.bytes(state), from, size)
+        are_ascii(state.links.raw(), from, size)
     }
 
     /// Whether the bytes from one place to another are zeros.
@@ -162,6 +153,6 @@ impl<'t, 'm, 's> Decoder<'t, 'm, 's> {
         requires free { AreFree (at_of state.now) from to }
         ensures { IsTrue result → Stands (came self.now) from (zeros (to - from)) }
     {
-        are_zeros(self.bytes(state), from, to)
+        are_zeros(state.links.raw(), from, to)
     }
 }

@@ -67,7 +67,7 @@ impl<'t, 'm, 's> Decoder<'t, 'm, 's> {
         if depth as usize == MAX_DEPTH {
             return Err(DecodeFault::TooDeep { at: place });
         }
-        state.links.link(place + 8, from);
+        state.links.link_marker(place + 8, from);
         state.next = from + 8 * count as usize;
         Ok(count as u32)
     }

@@ -39,7 +39,7 @@ impl<'t, 'm, 's> Decoder<'t, 'm, 's> {
         if size <= SHORT && self.are_ascii(from, size, state) {
             return true;
         }
-        is_utf8(&self.bytes(state)[from..from + count])
+        is_utf8(state.links.part(from, from + count))
     }
 
     /// Reads a string at a place: its count and marker, and its text, which is linked.
@@ -107,7 +107,7 @@ impl<'t, 'm, 's> Decoder<'t, 'm, 's> {
             return Err(DecodeFault::NotUtf8 { at: from });
         }
         self.zeros_at(from + behind, from + size, state)?;
-        state.links.link(place + 8, from);
+        state.links.link_marker(place + 8, from);
         state.next = from + size;
         Ok(())
     }

@@ -151,10 +151,10 @@ impl<'t, 'm, 's> Decoder<'t, 'm, 's> {
         }
         let columns = Columns {
             table: self.table,
-            bytes: self.bytes(state),
+            links: &state.links,
             handles: self.handles,
         };
-        columns.check_structs(frame, entry, size, count, state)
+        columns.check_structs(frame, entry, size, count, &mut state.steps)
     }
 
     /// Reads structs of an array or vector in place: member by member where these are numbers alone,

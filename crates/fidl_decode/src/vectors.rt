@@ -91,7 +91,7 @@ impl<'t, 'm, 's> Decoder<'t, 'm, 's> {
         if size > rest {
             return Err(DecodeFault::Truncated { at: from });
         }
-        state.links.link(place + 8, from);
+        state.links.link_marker(place + 8, from);
         state.next = from + size;
         let left = Remaining::Elements {
             entry: e.first,

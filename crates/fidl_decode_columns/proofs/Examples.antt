@@ -58,3 +58,9 @@ two_is_none y = go y.0 y.1 y.2
     go zero lt e = cc
     go (suc zero) lt e = cc
     go (suc (suc k)) lt e = absurd (omega (arith, lt))
+
+-- each of some zeros
+pub zeros_read : (n i : ℕ) → get_or (zeros n) i 0 ≡ 0
+zeros_read zero i = refl
+zeros_read (suc n) zero = refl
+zeros_read (suc n) (suc i) = zeros_read n i

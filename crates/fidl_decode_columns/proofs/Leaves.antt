@@ -227,8 +227,10 @@ module _ (t : List ℕ) (fine : IsFine t) (m : Message) (e size : ℕ) (f : Fram
       let step = next_turns t fine m g at at 0 g start r left one tt is tt at (done + size) 0 1 (omega (arith, is, own)) (omega arith) (omega arith) (no_zeros m.bytes (f.base + done) _ none) here in
       let gone : (to mid : Position) (v w : ℕ) → at ≡ mid → ReadsWorth t m (at_element n (done + size)) mid to w → ReadsWorth t m g at to (v + w + 0) = λ to mid v w y z.
       let item = (here.same mid).1 y in
-      let rest : MembersWorth (declarations_of t) m f.depth f.size f.base (done + size_of (declarations_of t) (ty.named e)) (element_rows e size n (done + size_of (declarations_of t) (ty.named e))) mid to w = subst (λ s. MembersWorth (declarations_of t) m f.depth f.size f.base (done + s) (element_rows e size n (done + s)) mid to w) (sym is) z in
-      let more = worth_more (declarations_of t) fine.laid_out m f.depth (header_of t).entries f.nest f.size f.base done r (rows_left t (done + size_of (declarations_of t) (ty.named e)) left) at mid to (row_fine t fine m g at ff state r left one) (no_zeros m.bytes (f.base + done) _ (let gap : done - done ≡ 0 = omega arith in gap)) 0 w (item, omega (arith, light item.value item.typed)) rest in
+      let rest : MembersWorth (declarations_of t) m f.depth f.size f.base (done + size_of (declarations_of t) (ty.named e)) (element_rows e size n (done + size_of (declarations_of t) (ty.named e))) mid to w =
+      subst (λ s. MembersWorth (declarations_of t) m f.depth f.size f.base (done + s) (element_rows e size n (done + s)) mid to w) (sym is) z in
+      let more = worth_more (declarations_of t) fine.laid_out m f.depth (header_of t).entries f.nest f.size f.base done r (rows_left t (done + size_of (declarations_of t) (ty.named e)) left) at mid to (row_fine t fine m g at ff state r left one)
+      (no_zeros m.bytes (f.base + done) _ (let gap : done - done ≡ 0 = omega arith in gap)) 0 w (item, omega (arith, light item.value item.typed)) rest in
       let le = more.1 in
       subst (λ (rs : List Row). MembersWorth (declarations_of t) m f.depth f.size f.base done rs at to (v + w + 0)) (sym one) (more.0, omega (arith, le)) in
       let free = turns_worth t m g at at 1 0 (left_over (Some (at_element n (done + size)))) (omega arith) step gone in

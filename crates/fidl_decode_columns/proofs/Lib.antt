@@ -2,6 +2,7 @@ pub mod Leaves
 pub mod Items
 pub mod Wholly
 pub mod Sizes
+pub mod Raw
 pub mod Narrowed
 pub mod Numbers
 pub mod Reading

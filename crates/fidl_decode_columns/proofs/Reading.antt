@@ -165,7 +165,8 @@ module _ (t : List ℕ) (fine : IsFine t) (m : Message) (x : Structs) where
   abbrev GapFails : (from to k : ℕ) → DecodeFault → Type 0
   GapFails from to k = IsPadding m.bytes (x.base + x.entry.size * k + from) (x.base + x.entry.size * k + from + (to - from))
 
-  module _ (index done : ℕ) (from_first : x.entry.first ≤ index) (below : index < end) (rise : Rise index done) (known front : Option Wrong) (all : IsFirstWrong (IsReadTo t m x index done) (IsBroken t m x) x.count known) (gaps : Narrows (Gap done (row index).key) (GapFails done (row index).key) x.count known front) where
+  module _ (index done : ℕ) (from_first : x.entry.first ≤ index) (below : index < end) (rise : Rise index done) (known front : Option Wrong)
+      (all : IsFirstWrong (IsReadTo t m x index done) (IsBroken t m x) x.count known) (gaps : Narrows (Gap done (row index).key) (GapFails done (row index).key) x.count known front) where
     middle : IsFirstWrong (λ k. IsReadTo t m x index done k × Gap done (row index).key k) (IsBroken t m x) x.count front
     middle = narrowed (IsReadTo t m x index done) (Gap done (row index).key) (λ k. IsReadTo t m x index done k × Gap done (row index).key k) (IsBroken t m x) (GapFails done (row index).key) x.count (λ k lt r z. (r, z)) (λ k lt r fault p. gap_broken index done from_first below rise k r fault p)
         known front all gaps

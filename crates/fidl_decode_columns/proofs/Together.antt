@@ -1,5 +1,5 @@
 -- Structs that stand behind one another in a frame, read together.
-use Rattle.std.proofs.Common.{◌≡◌, ℕ, zero, suc, ◌+◌, ◌-◌, ◌*◌, ◌<◌, ◌≤◌, List, length, refl, sym, ap, subst, ◌∙◌, arith, mul-suc, inl, inr}
+use Rattle.std.proofs.Common.{◌≡◌, ℕ, zero, suc, ◌+◌, ◌-◌, ◌*◌, ◌<◌, ◌≤◌, List, [], length, refl, sym, ap, subst, ◌∙◌, arith, mul-suc, inl, inr}
 use Rattle.std.proofs.Math.Nat.{mul-le-mul_left}
 use Rattle.std.specs.Prelude.{Some, None}
 use Rattle.fidl_wire.specs.Term as ty
@@ -17,6 +17,7 @@ use Rattle.fidl_decode_model.specs.declared.frame.Frame.{Frame}
 use Rattle.fidl_decode_model.specs.declared.frame.Remaining.TheVariants.{Elements}
 use Rattle.fidl_decode_model.specs.Breaks.{IsPadding, Breaks}
 use Rattle.fidl_decode_model.specs.Invariants.{IsFine}
+use Rattle.fidl_decode_model.specs.Faults.{message_of}
 use Rattle.fidl_decode_model.specs.Rows.{element_rows, RowsRise}
 use Rattle.fidl_decode_model.specs.State.{Message, Position}
 use Rattle.fidl_decode_model.specs.Machine.{IsInside, StateFine, FrameFine, Visits, Turns, BreaksFrame, inline_work, frame_work}
@@ -50,7 +51,7 @@ pays nest all size done count zs n fits le =
 abbrev pub structs_of : Frame → (count : ℕ) → Entry → Structs
 structs_of f count d = record { entry = d; count = count; base = f.base + f.done; depth = f.depth; in_envelope = f.in_envelope }
 
-module _ (t : List ℕ) (fine : IsFine t) (m : Message) (f : Frame) (old : Position) (ff : FrameFine t m.bytes f) (state : StateFine m old) (e size count : ℕ) (is : f.left ≡ Elements e size count) (lt : e < (header_of t).entries) (kind : kind_of (entry_at t e).kind ≡ Some Struct) where
+module _ (t : List ℕ) (fine : IsFine t) (m : Message) (f : Frame) (ff : FrameFine t m.bytes f) (e size count : ℕ) (is : f.left ≡ Elements e size count) (lt : e < (header_of t).entries) (kind : kind_of (entry_at t e).kind ≡ Some Struct) where
   abbrev d : Entry
   d = entry_at t e
 
@@ -102,67 +103,78 @@ module _ (t : List ℕ) (fine : IsFine t) (m : Message) (f : Frame) (old : Posit
   inside : 0 < count → IsInside f.in_envelope d.size
   inside some = let one = struct_there 0 some in elim ff.in_envelope [ inl out ↦ inl out | inr own ↦ (let four = own.1 in inr (own.0, omega (arith, four, one))) ]
 
+  -- what a frame may read says nothing of handles
+  abbrev at_first : Position
+  at_first = record { next = 0; handle = 0; objects = []; records = [] }
+
+  first_fine : StateFine (message_of m.bytes []) at_first
+  first_fine = record { next = omega arith; handle = omega arith; few = omega arith }
+
   pub fine_structs : 0 < count → StructsFine t m.bytes x
   fine_structs some = record {
     some = some;
     within = (let room = ff.room in omega (arith, together, room));
-    frames = λ k before. (struct_fine t fine m f.depth e (f.base + f.done + d.size * k) old lt state ff.depth f.in_envelope kind (struct_within k before) (inside some)).0;
+    frames = λ k before. (struct_fine t fine (message_of m.bytes []) f.depth e (f.base + f.done + d.size * k) at_first lt first_fine ff.depth f.in_envelope kind (struct_within k before) (inside some)).0;
   }
 
-  begun : (k : ℕ) → k < count → Visits t m f.depth e (f.base + f.done + d.size * k) old old 0 (Some (struct_at x k))
-  begun k before = visits_struct t fine m f.depth e (f.base + f.done + d.size * k) old lt state ff.depth f.in_envelope 0 refl kind (struct_within k before)
+  -- from each position the structs are read in the same way: numbers lead to nothing below
+  module _ (old : Position) (state : StateFine m old) where
+    begun : (k : ℕ) → k < count → Visits t m f.depth e (f.base + f.done + d.size * k) old old 0 (Some (struct_at x k))
+    begun k before = visits_struct t fine m f.depth e (f.base + f.done + d.size * k) old lt state ff.depth f.in_envelope 0 refl kind (struct_within k before)
 
-  visited : (k : ℕ) → k < count → IsRead t m x k → Visits t m f.depth e (f.base + (f.done + size * k)) old old d.count None
-  visited k before read = subst (λ p. Visits t m f.depth e p old old d.count None) (sym (place k)) (visits_over t m f.depth e (f.base + f.done + d.size * k) old old 0 (struct_at x k) (begun k before) old d.count d.count (omega arith) (read old state))
+    visited : (k : ℕ) → k < count → IsRead t m x k → Visits t m f.depth e (f.base + (f.done + size * k)) old old d.count None
+    visited k before read = subst (λ p. Visits t m f.depth e p old old d.count None) (sym (place k)) (visits_over t m f.depth e (f.base + f.done + d.size * k) old old 0 (struct_at x k) (begun k before) old d.count d.count (omega arith) (read old state))
 
-  -- the first n are read, a step for each and one for each of its rows
-  read_up_to : (n : ℕ) → n ≤ count → ((k : ℕ) → k < n → IsRead t m x k) → Turns t m f old old (n * (1 + d.count)) (left_over (Some (going_on f (Elements e size (count - n)) (f.done + size * n))))
-  read_up_to zero le reads =
-      let all : count ≡ count - 0 = omega arith in
-      let none : f.done ≡ f.done + size * 0 = omega arith in
-      let nothing : 0 ≡ 0 * (1 + d.count) = omega arith in
-      subst (λ k. Turns t m f old old k (left_over (Some (going_on f (Elements e size (count - 0)) (f.done + size * 0))))) nothing
-      (turns_start t m f old ff state (going_on f (Elements e size (count - 0)) (f.done + size * 0)) (same ∙ (λ i. going_on f (Elements e size (all i)) (none i))))
-  read_up_to (suc n) le reads =
-      let before = read_up_to n (omega (arith, le)) (λ k less. reads k (omega (arith, less))) in
-      let next = item_takes t fine m f old old (n * (1 + d.count)) e size count n (f.done + size * n) before (omega (arith, le)) None old d.count (n * (1 + d.count) + 1 + d.count) refl (visited n (omega (arith, le)) (reads n (omega arith))) tt in
-      let fewer : count - (n + 1) ≡ count - suc n = omega arith in
-      let more : size * suc n ≡ size * n + size = mul-suc size n in
-      let there : f.done + size * n + size ≡ f.done + size * suc n = omega (arith, more) in
-      let steps : n * (1 + d.count) + 1 + d.count ≡ suc n * (1 + d.count) = omega arith in
-      let whole : Turns t m f old old (n * (1 + d.count) + 1 + d.count) (left_over (Some (going_on f (Elements e size (count - (n + 1))) (f.done + size * n + size)))) ≡ Turns t m f old old (suc n * (1 + d.count)) (left_over (Some (going_on f (Elements e size (count - suc n)) (f.done + size * suc n))))
-      = λ i. Turns t m f old old (steps i) (left_over (Some (going_on f (Elements e size (fewer i)) (there i)))) in
-      subst (λ (X : Type 0). X) whole next
+    -- the first n are read, a step for each and one for each of its rows
+    read_up_to : (n : ℕ) → n ≤ count → ((k : ℕ) → k < n → IsRead t m x k) → Turns t m f old old (n * (1 + d.count)) (left_over (Some (going_on f (Elements e size (count - n)) (f.done + size * n))))
+    read_up_to zero le reads =
+        let all : count ≡ count - 0 = omega arith in
+        let none : f.done ≡ f.done + size * 0 = omega arith in
+        let nothing : 0 ≡ 0 * (1 + d.count) = omega arith in
+        subst (λ k. Turns t m f old old k (left_over (Some (going_on f (Elements e size (count - 0)) (f.done + size * 0))))) nothing
+        (turns_start t m f old ff state (going_on f (Elements e size (count - 0)) (f.done + size * 0)) (same ∙ (λ i. going_on f (Elements e size (all i)) (none i))))
+    read_up_to (suc n) le reads =
+        let before = read_up_to n (omega (arith, le)) (λ k less. reads k (omega (arith, less))) in
+        let next = item_takes t fine m f old old (n * (1 + d.count)) e size count n (f.done + size * n) before (omega (arith, le)) None old d.count (n * (1 + d.count) + 1 + d.count) refl (visited n (omega (arith, le)) (reads n (omega arith))) tt in
+        let fewer : count - (n + 1) ≡ count - suc n = omega arith in
+        let more : size * suc n ≡ size * n + size = mul-suc size n in
+        let there : f.done + size * n + size ≡ f.done + size * suc n = omega (arith, more) in
+        let steps : n * (1 + d.count) + 1 + d.count ≡ suc n * (1 + d.count) = omega arith in
+        let whole : Turns t m f old old (n * (1 + d.count) + 1 + d.count) (left_over (Some (going_on f (Elements e size (count - (n + 1))) (f.done + size * n + size))))
+        ≡ Turns t m f old old (suc n * (1 + d.count)) (left_over (Some (going_on f (Elements e size (count - suc n)) (f.done + size * suc n))))
+        = λ i. Turns t m f old old (steps i) (left_over (Some (going_on f (Elements e size (fewer i)) (there i)))) in
+        subst (λ (X : Type 0). X) whole next
 
-  -- steps for which the frame pays
-  spent : (a n : ℕ) → a ≤ n → n ≤ frame_work f → Turns t m f old old a (left_over None) → Turns t m f old old n (left_over None)
-  spent a n some le turns = record {
-    same = turns.same;
-    breaks = turns.breaks;
-    least = λ to mid v w y z. raised t m f old to (v + w + a) (v + w + n) (omega (arith, some)) (turns.least to mid v w y z);
-    state = turns.state;
-    moves = turns.moves;
-    below_fine = turns.below_fine;
-    rest_fine = turns.rest_fine;
-    less = omega (arith, le);
-  }
+    -- steps for which the frame pays
+    spent : (a n : ℕ) → a ≤ n → n ≤ frame_work f → Turns t m f old old a (left_over None) → Turns t m f old old n (left_over None)
+    spent a n some le turns = record {
+      same = turns.same;
+      breaks = turns.breaks;
+      least = λ to mid v w y z. raised t m f old to (v + w + a) (v + w + n) (omega (arith, some)) (turns.least to mid v w y z);
+      state = turns.state;
+      moves = turns.moves;
+      below_fine = turns.below_fine;
+      rest_fine = turns.rest_fine;
+      less = omega (arith, le);
+    }
 
-  module _ (reads : (k : ℕ) → k < count → IsRead t m x k) where
-    all_turns : Turns t m f old old (count * (1 + d.count)) (left_over (Some (going_on f (Elements e size (count - count)) (f.done + size * count))))
-    all_turns = read_up_to count (omega arith) reads
+    module _ (reads : (k : ℕ) → k < count → IsRead t m x k) where
+      all_turns : Turns t m f old old (count * (1 + d.count)) (left_over (Some (going_on f (Elements e size (count - count)) (f.done + size * count))))
+      all_turns = read_up_to count (omega arith) reads
 
-    there_end : f.base + f.done + size * count ≡ f.base + (f.done + size * count)
-    there_end = omega arith
+      there_end : f.base + f.done + size * count ≡ f.base + (f.done + size * count)
+      there_end = omega arith
 
-    -- all are read, and zeros to the end
-    pub all_read : (n : ℕ) → count * (1 + d.count) ≤ n → n ≤ frame_work f → Stands m.bytes (f.base + f.done + size * count) (zeros (f.base + f.size - (f.base + f.done + size * count))) → Turns t m f old old n (left_over None)
-    all_read n some le z = spent (count * (1 + d.count)) n some le (items_over t fine m f old old (count * (1 + d.count)) e size count count (f.done + size * count) all_turns (omega arith) (count * (1 + d.count)) (omega arith) (omega arith) (subst (λ p. Stands m.bytes p (zeros (f.base + f.size - p))) there_end z))
+      -- all are read, and zeros to the end
+      pub all_read : (n : ℕ) → count * (1 + d.count) ≤ n → n ≤ frame_work f → Stands m.bytes (f.base + f.done + size * count) (zeros (f.base + f.size - (f.base + f.done + size * count))) → Turns t m f old old n (left_over None)
+      all_read n some le z =
+          spent (count * (1 + d.count)) n some le (items_over t fine m f old old (count * (1 + d.count)) e size count count (f.done + size * count) all_turns (omega arith) (count * (1 + d.count)) (omega arith) (omega arith) (subst (λ p. Stands m.bytes p (zeros (f.base + f.size - p))) there_end z))
 
-    pub end_breaks : (fault : DecodeFault) → IsPadding m.bytes (f.base + f.done + size * count) (f.base + f.size) fault → BreaksFrame t m f old fault
-    end_breaks fault p = items_break t fine m f old old (count * (1 + d.count)) e size count count (f.done + size * count) all_turns (omega arith) fault (subst (λ q. IsPadding m.bytes q (f.base + f.size) fault) there_end p)
+      pub end_breaks : (fault : DecodeFault) → IsPadding m.bytes (f.base + f.done + size * count) (f.base + f.size) fault → BreaksFrame t m f old fault
+      end_breaks fault p = items_break t fine m f old old (count * (1 + d.count)) e size count count (f.done + size * count) all_turns (omega arith) fault (subst (λ q. IsPadding m.bytes q (f.base + f.size) fault) there_end p)
 
-  -- the first that is wrong breaks the frame
-  pub one_breaks : (n : ℕ) → n < count → ((k : ℕ) → k < n → IsRead t m x k) → (fault : DecodeFault) → IsBroken t m x n fault → BreaksFrame t m f old fault
-  one_breaks n before reads fault broken =
-      item_breaks t fine m f old old (n * (1 + d.count)) e size count n (f.done + size * n) (read_up_to n (omega (arith, before)) reads) before fault
-      (subst (λ p. Breaks (declarations_of t) m f.depth (resolve (declarations_of t).terms (ty.named e)) p old fault) (sym (place n)) ((begun n before).breaks fault (broken old state)))
+    -- the first that is wrong breaks the frame
+    pub one_breaks : (n : ℕ) → n < count → ((k : ℕ) → k < n → IsRead t m x k) → (fault : DecodeFault) → IsBroken t m x n fault → BreaksFrame t m f old fault
+    one_breaks n before reads fault broken =
+        item_breaks t fine m f old old (n * (1 + d.count)) e size count n (f.done + size * n) (read_up_to n (omega (arith, before)) reads) before fault
+        (subst (λ p. Breaks (declarations_of t) m f.depth (resolve (declarations_of t).terms (ty.named e)) p old fault) (sym (place n)) ((begun n before).breaks fault (broken old state)))

@@ -4,6 +4,7 @@ use Rattle.std.specs.Prelude.{◌≡◌, ℕ, ◌+◌, ◌-◌, ◌*◌, ◌<◌
 use Rattle.std.specs.Prelude.{true, Option, Some, None, IfSome, Contains, pos}
 use Rattle.fidl_wire.specs.Term as ty
 use Rattle.fidl_wire.specs.Typed.{InMask}
+use Rattle.fidl_links.specs.Links.{Written, AreFree}
 use Rattle.fidl_table_format.specs.declared.kind.EntryKind.{EntryKind}
 use Rattle.fidl_table_format.specs.declared.kind.EntryKind.TheVariants.{Bool as Boolean, Bits, Enum}
 use Rattle.fidl_table_format.specs.declared.record.Entry.{Entry}
@@ -64,9 +65,11 @@ AreValues t i noted =
 abbrev pub place_of : Column → (k : ℕ) → ℕ
 place_of c k = c.base + c.size * k + c.offset
 
--- the first n structs lie in the message, and so many bytes of the member in each
-pub record HasRoom (m : List ℕ) (c : Column) (width n : ℕ) : Type 0 where
-  pub within : c.base + c.size * n ≤ length m
+-- the first n structs lie in the message, no link stands there, and so many bytes of the member lie
+-- in each
+pub record HasRoom (m : Written) (c : Column) (width n : ℕ) : Type 0 where
+  pub within : c.base + c.size * n ≤ length m.came
+  pub free : AreFree m c.base (c.base + c.size * n)
   pub member : c.offset + width ≤ c.size
 
 -- of n things the first of which something does not hold; n where it holds for all

@@ -51,16 +51,17 @@ fn is_within(kind: EntryKind, number: u64, range: ValueRange) -> bool
     is_at_most(kind, range.lowest, number) && is_at_most(kind, number, range.highest)
 }
 
-impl<'t, 'm> Columns<'t, 'm> {
+impl<'t, 'a, 'm, 's> Columns<'t, 'a, 'm, 's> {
     /// The first of so many bools that is neither 0 nor 1.
     pub(crate) fn first_no_bool(&self, column: Column, limit: u32) -> u32
-        requires room { HasRoom self.now.bytes.now column 1 limit }
-        ensures { IsFirstNot (λ k. slice_index self.now.bytes.now (place_of column k) ≤ 1)
+        requires room { HasRoom self.now.links.now column 1 limit }
+        ensures { IsFirstNot (λ k. slice_index self.now.links.now.came (place_of column k) ≤ 1)
             limit result }
     {
+        let bytes = self.links.raw();
         let mut start = column.base;
         for i in 0..limit {
-            if self.bytes[start + column.offset] > 1 {
+            if bytes[start + column.offset] > 1 {
                 return i;
             }
             start += column.size;
@@ -74,14 +75,15 @@ impl<'t, 'm> Columns<'t, 'm> {
     fn first_outside_mask(&self, column: Column, kind: EntryKind, mask: u64, limit: u32) -> u32
         requires kind { HasNoSign (as_number kind) }
         requires room { let size = byte_len (width (as_number kind)) in
-            HasRoom self.now.bytes.now column size limit }
+            HasRoom self.now.links.now column size limit }
         ensures { IsFirstNot (λ k. InMask mask
-            (number_standing (as_number kind) self.now.bytes.now (place_of column k)))
+            (number_standing (as_number kind) self.now.links.now.came (place_of column k)))
             limit result }
     {
+        let bytes = self.links.raw();
         let mut start = column.base;
         for i in 0..limit {
-            let number = number_bits(kind, self.bytes, start + column.offset);
+            let number = number_bits(kind, bytes, start + column.offset);
             if number | mask != mask {
                 return i;
             }
@@ -101,16 +103,17 @@ impl<'t, 'm> Columns<'t, 'm> {
         limit: u32,
     ) -> u32
         requires room { let size = byte_len (width (as_number kind)) in
-            HasRoom self.now.bytes.now column size limit }
+            HasRoom self.now.links.now column size limit }
         ensures { let value = value_number (as_number kind) in
-            let at = λ (k : ℕ). number_standing (as_number kind) self.now.bytes.now
+            let at = λ (k : ℕ). number_standing (as_number kind) self.now.links.now.came
             (place_of column k) in
             IsFirstNot (λ k. (value range.lowest ≤ℤ at k) × (at k ≤ℤ value range.highest))
             limit result }
     {
+        let bytes = self.links.raw();
         let mut start = column.base;
         for i in 0..limit {
-            let number = number_bits(kind, self.bytes, start + column.offset);
+            let number = number_bits(kind, bytes, start + column.offset);
             if !is_within(kind, number, range) {
                 return i;
             }
@@ -129,9 +132,9 @@ impl<'t, 'm> Columns<'t, 'm> {
     ) -> u32
         requires kind { HasNoSign (as_number kind) }
         requires room { let size = byte_len (width (as_number kind)) in
-            HasRoom self.now.bytes.now column size limit }
+            HasRoom self.now.links.now column size limit }
         ensures { IsFirstNot (λ k. InMask mask
-            (number_standing (as_number kind) self.now.bytes.now (place_of column k)))
+            (number_standing (as_number kind) self.now.links.now.came (place_of column k)))
             limit result }
     {
         match kind {
@@ -151,9 +154,9 @@ impl<'t, 'm> Columns<'t, 'm> {
         limit: u32,
     ) -> u32
         requires room { let size = byte_len (width (as_number kind)) in
-            HasRoom self.now.bytes.now column size limit }
+            HasRoom self.now.links.now column size limit }
         ensures { let value = value_number (as_number kind) in
-            let at = λ (k : ℕ). number_standing (as_number kind) self.now.bytes.now
+            let at = λ (k : ℕ). number_standing (as_number kind) self.now.links.now.came
             (place_of column k) in
             IsFirstNot (λ k. (value range.lowest ≤ℤ at k) × (at k ≤ℤ value range.highest))
             limit result }

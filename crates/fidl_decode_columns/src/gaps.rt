@@ -9,18 +9,19 @@ use crate::column::{Column, Wrong};
 use crate::columns::Columns;
 use crate::zeros::{are_zeros, zeros_at};
 
-impl<'t, 'm> Columns<'t, 'm> {
+impl<'t, 'a, 'm, 's> Columns<'t, 'a, 'm, 's> {
     /// The first of so many structs whose bytes in a gap are not all zeros. Where a caller names
     /// the width, no struct has a loop over its bytes.
     #[inline(always)]
     fn first_no_zeros(&self, column: Column, width: usize, limit: u32) -> u32
-        requires room { HasRoom self.now.bytes.now column width limit }
+        requires room { HasRoom self.now.links.now column width limit }
         ensures { IsFirstNot
-            (λ k. Stands self.now.bytes.now (place_of column k) (zeros width)) limit result }
+            (λ k. Stands self.now.links.now.came (place_of column k) (zeros width)) limit result }
     {
+        let bytes = self.links.raw();
         let mut start = column.base;
         for i in 0..limit {
-            if !are_zeros(self.bytes, start + column.offset, width) {
+            if !are_zeros(bytes, start + column.offset, width) {
                 return i;
             }
             start += column.size;
@@ -31,9 +32,9 @@ impl<'t, 'm> Columns<'t, 'm> {
     /// The first of so many structs whose bytes in a gap are not all zeros. Each width that
     /// alignment leaves has a loop of its own.
     fn first_no_zeros_by_width(&self, column: Column, width: usize, limit: u32) -> u32
-        requires room { HasRoom self.now.bytes.now column width limit }
+        requires room { HasRoom self.now.links.now column width limit }
         ensures { IsFirstNot
-            (λ k. Stands self.now.bytes.now (place_of column k) (zeros width)) limit result }
+            (λ k. Stands self.now.links.now.came (place_of column k) (zeros width)) limit result }
     {
         match width {
             0 => limit,
@@ -50,10 +51,10 @@ impl<'t, 'm> Columns<'t, 'm> {
 
     /// The first of so many structs with a byte that is not zero among those before a member.
     pub(crate) fn first_gap(&self, column: Column, width: usize, limit: u32) -> Option<Wrong>
-        requires room { HasRoom self.now.bytes.now column width limit }
+        requires room { HasRoom self.now.links.now column width limit }
         ensures { IsFirstWrong
-            (λ k. Stands self.now.bytes.now (place_of column k) (zeros width))
-            (λ k. IsPadding self.now.bytes.now (place_of column k) (place_of column k + width))
+            (λ k. Stands self.now.links.now.came (place_of column k) (zeros width))
+            (λ k. IsPadding self.now.links.now.came (place_of column k) (place_of column k + width))
             limit result }
     {
         let element = self.first_no_zeros_by_width(column, width, limit);
@@ -61,7 +62,7 @@ impl<'t, 'm> Columns<'t, 'm> {
             return None;
         }
         let from = column.base + column.size * element as usize + column.offset;
-        match zeros_at(self.bytes, from, from + width) {
+        match zeros_at(self.links.raw(), from, from + width) {
             Ok(()) => None,
             Err(fault) => Some(Wrong { element, fault }),
         }

@@ -49,7 +49,7 @@ fn has_numbers(kind: EntryKind) -> bool
     }
 }
 
-impl<'t, 'm> Columns<'t, 'm> {
+impl<'t, 'a, 'm, 's> Columns<'t, 'a, 'm, 's> {
     /// Whether so many rows, from the first on, are no more than are looked at, and their members
     /// are numbers.
     pub(crate) fn are_numbers(&self, first: u32, count: u32) -> bool

@@ -18,7 +18,7 @@ use fidl_table_format::{EntryKind, number_bits};
 /// How many numbers, from 0 on, are searched once alone.
 const NOTED: usize = 256;
 
-impl<'t, 'm> Columns<'t, 'm> {
+impl<'t, 'a, 'm, 's> Columns<'t, 'a, 'm, 's> {
     /// Whether a number is a value of an enum. One that is noted as such is not searched, and a
     /// small one that is found is noted. A search's probes are steps.
     #[inline(always)]
@@ -63,20 +63,22 @@ impl<'t, 'm> Columns<'t, 'm> {
         requires entry { entry < (header_of self.now.table.now).entries }
         requires kind { kind_of (entry_at self.now.table.now entry).kind ≡ Some kinds.Enum }
         requires underlying { as_number kind ≡ underlying (entry_at self.now.table.now entry) }
-        requires room { HasRoom self.now.bytes.now column
+        requires room { HasRoom self.now.links.now column
             (byte_len (width (underlying (entry_at self.now.table.now entry)))) limit }
         requires budget { steps.old < 2 ^ 42 }
         ensures value { let t = self.now.table.now in
             let e = entry_at t entry in
             IsFirstNot (λ k. Contains (values_from t (header_of t) (underlying e) e.first e.count)
-            (number_standing (underlying e) self.now.bytes.now (place_of column k))) limit result }
+            (number_standing (underlying e) self.now.links.now.came (place_of column k)))
+            limit result }
         ensures grows { steps.old ≤ steps.new }
         ensures cost { steps.new ≤ steps.old + 16 * limit }
     {
+        let bytes = self.links.raw();
         let mut noted = [0; NOTED];
         let mut start = column.base;
         for i in 0..limit {
-            let number = number_bits(kind, self.bytes, start + column.offset);
+            let number = number_bits(kind, bytes, start + column.offset);
             if !self.is_value(entry, number, &mut noted, steps) {
                 return i;
             }
@@ -95,13 +97,14 @@ impl<'t, 'm> Columns<'t, 'm> {
     ) -> u32
         requires entry { entry < (header_of self.now.table.now).entries }
         requires kind { kind_of (entry_at self.now.table.now entry).kind ≡ Some kinds.Enum }
-        requires room { HasRoom self.now.bytes.now column
+        requires room { HasRoom self.now.links.now column
             (byte_len (width (underlying (entry_at self.now.table.now entry)))) limit }
         requires budget { steps.old < 2 ^ 42 }
         ensures value { let t = self.now.table.now in
             let e = entry_at t entry in
             IsFirstNot (λ k. Contains (values_from t (header_of t) (underlying e) e.first e.count)
-            (number_standing (underlying e) self.now.bytes.now (place_of column k))) limit result }
+            (number_standing (underlying e) self.now.links.now.came (place_of column k)))
+            limit result }
         ensures grows { steps.old ≤ steps.new }
         ensures cost { steps.new ≤ steps.old + 16 * limit }
     {

@@ -10,6 +10,7 @@ ghost use Rattle.fidl_table_format.specs.Terms.{declarations_of, term_as};
 ghost use Rattle.fidl_decode_model.specs.Breaks.{IsPadding, BreaksField};
 ghost use Rattle.fidl_decode_model.specs.Rows.{table_rows, RowsRise};
 ghost use Rattle.fidl_decode_model.specs.Faults.{message_of};
+ghost use Rattle.fidl_links.specs.Links.{AreFree};
 ghost use Rattle.fidl_decode_columns.specs.Columns.{IsNumericAt, AreNumbers, StructsFine};
 ghost use Rattle.fidl_decode_columns.specs.Columns.{IsFirstWrong, IsReadTo, IsRead, IsBroken};
 ghost use Rattle.fidl_decode_columns.specs.Columns.{right_before, first_of, Narrows, IsGoodAt};
@@ -49,7 +50,7 @@ fn first_of(known: Option<Wrong>, found: Option<Wrong>) -> Option<Wrong>
     }
 }
 
-impl<'t, 'm> Columns<'t, 'm> {
+impl<'t, 'a, 'm, 's> Columns<'t, 'a, 'm, 's> {
     /// Checks the zeros between two places of each struct before the one that is known to be wrong.
     fn check_gap(
         &self,
@@ -62,13 +63,15 @@ impl<'t, 'm> Columns<'t, 'm> {
         requires order { from ≤ to }
         requires end { to ≤ structs.now.entry.size }
         requires within { structs.now.base + structs.now.entry.size * structs.now.count
-            ≤ length self.now.bytes.now }
+            ≤ length self.now.links.now.came }
+        requires free { AreFree self.now.links.now structs.now.base
+            (structs.now.base + structs.now.entry.size * structs.now.count) }
         requires known { right_before structs.now.count known ≤ structs.now.count }
         requires budget { steps.old < 2 ^ 43 }
         ensures value { let at = λ (k : ℕ). structs.now.base + structs.now.entry.size * k + from in
-            Narrows (λ k. Stands self.now.bytes.now (at k) (zeros (to - from)))
-            (λ k. IsPadding self.now.bytes.now (at k) (at k + (to - from))) structs.now.count known
-            result }
+            Narrows (λ k. Stands self.now.links.now.came (at k) (zeros (to - from)))
+            (λ k. IsPadding self.now.links.now.came (at k) (at k + (to - from)))
+            structs.now.count known result }
         ensures grows { steps.old ≤ steps.new }
         ensures cost { steps.new ≤ steps.old + structs.now.count * (to - from) }
     {
@@ -96,7 +99,9 @@ impl<'t, 'm> Columns<'t, 'm> {
         requires end { row.now.key + (entry_at self.now.table.now row.now.entry).size
             ≤ structs.now.entry.size }
         requires within { structs.now.base + structs.now.entry.size * structs.now.count
-            ≤ length self.now.bytes.now }
+            ≤ length self.now.links.now.came }
+        requires free { AreFree self.now.links.now structs.now.base
+            (structs.now.base + structs.now.entry.size * structs.now.count) }
         requires known { right_before structs.now.count known ≤ structs.now.count }
         requires budget { steps.old < 2 ^ 41 }
         ensures value { let at = λ (k : ℕ). structs.now.base + structs.now.entry.size * k
@@ -104,8 +109,8 @@ impl<'t, 'm> Columns<'t, 'm> {
             let t = self.now.table.now in
             let e = entry_at t row.now.entry in
             (kind : EntryKind) × (kind_of e.kind ≡ Some kind)
-            × Narrows (λ k. IsGoodAt t self.now.bytes.now e kind (at k))
-            (λ k. BreaksField (message_of self.now.bytes.now self.now.handles.now)
+            × Narrows (λ k. IsGoodAt t self.now.links.now.came e kind (at k))
+            (λ k. BreaksField (message_of self.now.links.now.came self.now.handles.now)
             (term_as kind t (header_of t) e) (at k)) structs.now.count known result }
         ensures least { IfNone result (steps.old + structs.now.count ≤ steps.new) }
         ensures grows { steps.old ≤ steps.new }
@@ -137,7 +142,9 @@ impl<'t, 'm> Columns<'t, 'm> {
         known: Option<Wrong>,
         steps: &mut u64,
     ) -> Option<Wrong>
-        requires structs { StructsFine self.now.table.now self.now.bytes.now structs.now }
+        requires structs { StructsFine self.now.table.now self.now.links.now.came structs.now }
+        requires free { AreFree self.now.links.now structs.now.base
+            (structs.now.base + structs.now.entry.size * structs.now.count) }
         requires index { structs.now.entry.first ≤ index }
         requires below { index < structs.now.entry.first + structs.now.entry.count }
         requires rise { let t = self.now.table.now in
@@ -147,12 +154,12 @@ impl<'t, 'm> Columns<'t, 'm> {
             (structs.now.entry.first + structs.now.entry.count - index)) }
         requires numeric { let t = self.now.table.now in
             IsNumericAt t (row_at t (header_of t) index).entry }
-        requires known { let m = message_of self.now.bytes.now self.now.handles.now in
+        requires known { let m = message_of self.now.links.now.came self.now.handles.now in
             IsFirstWrong (IsReadTo self.now.table.now m structs.now index done)
             (IsBroken self.now.table.now m structs.now) structs.now.count known }
         requires budget { steps.old < 2 ^ 40 + 2 ^ 39 }
         ensures value { let t = self.now.table.now in
-            let m = message_of self.now.bytes.now self.now.handles.now in
+            let m = message_of self.now.links.now.came self.now.handles.now in
             let r = row_at t (header_of t) index in
             IsFirstWrong (IsReadTo t m structs.now (index + 1)
             (r.key + (entry_at t r.entry).size))
@@ -172,13 +179,15 @@ impl<'t, 'm> Columns<'t, 'm> {
     /// Checks each row of structs. The first struct that is wrong has the fault of its first wrong
     /// row.
     pub(crate) fn check_rows(&self, structs: &Structs, steps: &mut u64) -> Option<Wrong>
-        requires structs { StructsFine self.now.table.now self.now.bytes.now structs.now }
+        requires structs { StructsFine self.now.table.now self.now.links.now.came structs.now }
+        requires free { AreFree self.now.links.now structs.now.base
+            (structs.now.base + structs.now.entry.size * structs.now.count) }
         requires rows { structs.now.entry.first + structs.now.entry.count
             ≤ (header_of self.now.table.now).rows }
         requires numbers { AreNumbers self.now.table.now structs.now.entry.first
             structs.now.entry.count }
         requires budget { steps.old < 2 ^ 40 }
-        ensures value { let m = message_of self.now.bytes.now self.now.handles.now in
+        ensures value { let m = message_of self.now.links.now.came self.now.handles.now in
             IsFirstWrong (IsRead self.now.table.now m structs.now)
             (IsBroken self.now.table.now m structs.now) structs.now.count result }
         ensures least { IfNone result

@@ -35,14 +35,14 @@ fn fault_of(kind: EntryKind, at: usize) -> DecodeFault
     }
 }
 
-impl<'t, 'm> Columns<'t, 'm> {
+impl<'t, 'a, 'm, 's> Columns<'t, 'a, 'm, 's> {
     /// The first of so many bits with a bit outside the mask, where they are strict.
     fn first_bad_bits(&self, column: Column, entry: &Entry, limit: u32) -> u32
         requires kind { IsTrue (subtype_is is_unsigned entry.now) }
-        requires room { HasRoom self.now.bytes.now column
+        requires room { HasRoom self.now.links.now column
             (byte_len (width (underlying entry.now))) limit }
         ensures { IsFirstNot (λ k. IfSome (mask_of entry.now)
-            (λ mask. InMask mask (number_standing (underlying entry.now) self.now.bytes.now
+            (λ mask. InMask mask (number_standing (underlying entry.now) self.now.links.now.came
             (place_of column k)))) limit result }
     {
         if !entry.is_strict() {
@@ -56,13 +56,13 @@ impl<'t, 'm> Columns<'t, 'm> {
     fn first_bad_enum(&self, column: Column, entry: u32, limit: u32, steps: &mut u64) -> u32
         requires entry { entry < (header_of self.now.table.now).entries }
         requires kind { kind_of (entry_at self.now.table.now entry).kind ≡ Some kinds.Enum }
-        requires room { HasRoom self.now.bytes.now column
+        requires room { HasRoom self.now.links.now column
             (byte_len (width (underlying (entry_at self.now.table.now entry)))) limit }
         requires budget { steps.old < 2 ^ 42 }
         ensures value { let t = self.now.table.now in
             let e = entry_at t entry in
             IsFirstNot (λ k. IfSome (strict_values t (header_of t) e)
-            (λ values. Contains values (number_standing (underlying e) self.now.bytes.now
+            (λ values. Contains values (number_standing (underlying e) self.now.links.now.came
             (place_of column k)))) limit result }
         ensures grows { steps.old ≤ steps.new }
         ensures cost { steps.new ≤ steps.old + 16 * limit }
@@ -91,10 +91,10 @@ impl<'t, 'm> Columns<'t, 'm> {
     ) -> u32
         requires entry { entry < (header_of self.now.table.now).entries }
         requires kind { kind_of (entry_at self.now.table.now entry).kind ≡ Some kind }
-        requires room { HasRoom self.now.bytes.now column (entry_at self.now.table.now entry).size
+        requires room { HasRoom self.now.links.now column (entry_at self.now.table.now entry).size
             limit }
         requires budget { steps.old < 2 ^ 42 }
-        ensures value { IsFirstNot (λ k. IsGoodAt self.now.table.now self.now.bytes.now
+        ensures value { IsFirstNot (λ k. IsGoodAt self.now.table.now self.now.links.now.came
             (entry_at self.now.table.now entry) kind (place_of column k)) limit result }
         ensures grows { steps.old ≤ steps.new }
         ensures cost { steps.new ≤ steps.old + 16 * limit }
@@ -119,13 +119,13 @@ impl<'t, 'm> Columns<'t, 'm> {
         requires entry { entry < (header_of self.now.table.now).entries }
         requires kind { kind_of (entry_at self.now.table.now entry).kind ≡ Some kind }
         requires numbers { has_numbers kind ≡ true }
-        requires room { HasRoom self.now.bytes.now column (entry_at self.now.table.now entry).size
+        requires room { HasRoom self.now.links.now column (entry_at self.now.table.now entry).size
             limit }
         requires budget { steps.old < 2 ^ 42 }
         ensures value { let t = self.now.table.now in
             let e = entry_at t entry in
-            IsFirstWrong (λ k. IsGoodAt t self.now.bytes.now e kind (place_of column k))
-            (λ k. BreaksField (message_of self.now.bytes.now self.now.handles.now)
+            IsFirstWrong (λ k. IsGoodAt t self.now.links.now.came e kind (place_of column k))
+            (λ k. BreaksField (message_of self.now.links.now.came self.now.handles.now)
             (term_as kind t (header_of t) e) (place_of column k)) limit result }
         ensures grows { steps.old ≤ steps.new }
         ensures cost { steps.new ≤ steps.old + 16 * limit }

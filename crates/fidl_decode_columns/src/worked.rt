@@ -8,6 +8,7 @@ ghost use Rattle.fidl_table_format.specs.Samples.{an_entry, number_and_vector, t
 ghost use Rattle.fidl_table_format.specs.Section.{entry_at};
 ghost use Rattle.fidl_decode_columns.specs.Samples.{column_at, box_and_number};
 ghost use Rattle.fidl_decode_columns.specs.Columns.{has_numbers, IsNumericAt, AreNumbers, IsGoodAt};
+ghost use Rattle.fidl_links.specs.Samples.{seen};
 ghost use Rattle.fidl_decode_columns.specs.Columns.{HasNoSign, AreValues, place_of, HasRoom};
 
 pub mod first;
@@ -73,11 +74,16 @@ pub fn places_of_a_member()
     ensures third { place_of (column_at 3 2) 2 ≡ 21 }
 {}
 
-/// Sixteen bytes have two structs of eight bytes, and no third; nor have they two behind the first
-/// byte. Behind four bytes of a struct there are four more, and not five.
+/// Sixteen bytes in which no link stands have two structs of eight bytes, and no third; nor have
+/// they two behind the first byte. Behind four bytes of a struct there are four more, and not five.
+/// Over a link nothing can be read.
 pub fn members_that_have_room()
-    ensures two { HasRoom (zeros 16) (column_at 0 4) 4 2 }
-    ensures three { ¬ (HasRoom (zeros 16) (column_at 0 4) 4 3) }
-    ensures later { ¬ (HasRoom (zeros 16) (column_at 1 4) 4 2) }
-    ensures wider { ¬ (HasRoom (zeros 16) (column_at 0 4) 5 2) }
+    ensures two { HasRoom (seen (zeros 16) (zeros 2) (zeros 4)) (column_at 0 4) 4 2 }
+    ensures three { ¬ (HasRoom (seen (zeros 16) (zeros 2) (zeros 4)) (column_at 0 4) 4 3) }
+    ensures later { ¬ (HasRoom (seen (zeros 16) (zeros 2) (zeros 4)) (column_at 1 4) 4 2) }
+    ensures wider { ¬ (HasRoom (seen (zeros 16) (zeros 2) (zeros 4)) (column_at 0 4) 5 2) }
+    ensures object { ¬ (HasRoom (seen (zeros 16) (0 ∷ 8 ∷ []) (zeros 4)) (column_at 0 4) 4 2) }
+    ensures record { let m = seen (zeros 16) (zeros 2) (0 ∷ 0 ∷ 0 ∷ 1 ∷ []) in
+        ¬ (HasRoom m (column_at 0 4) 4 2) }
+    ensures before { HasRoom (seen (zeros 16) (0 ∷ 8 ∷ []) (zeros 4)) (column_at 0 4) 4 1 }
 {}

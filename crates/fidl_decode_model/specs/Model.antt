@@ -3,12 +3,6 @@ use Rattle.std.specs.Prelude.{ℕ, List}
 use Rattle.fidl_wire.specs.declared.handle.HandleInfo.{HandleInfo}
 use Rattle.fidl_decode_model.specs.Links.{Linked}
 
--- what a call leaves in the room that it worked in: how many steps it counted, and the links of
--- its message
-pub record Noted : Type 0 where
-  pub steps : ℕ
-  pub links : Linked
-
 -- the table's bytes, the entry, the message as it came, how many steps it took, and its links
 pub record Shown : Type 0 where
   pub table : List ℕ

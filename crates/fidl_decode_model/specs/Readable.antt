@@ -1,6 +1,6 @@
 -- Where the bytes of a placed value stand as they came, and each link to what lies below it is
 -- written (docs/decoding.md, "Links").
-use Rattle.std.specs.Prelude.{◌≡◌, ℕ, ◌+◌, ◌/◌, ◌*◌, ◌<◌, ◌≤◌, Bool, true, false, nat_le, List}
+use Rattle.std.specs.Prelude.{◌≡◌, ℕ, ◌+◌, ◌/◌, ◌%◌, ◌*◌, ◌<◌, ◌≤◌, Bool, true, false, nat_le, List}
 use Rattle.std.specs.Prelude.{length, Option, slice_index}
 use Rattle.std.specs.Int.{next_multiple_of}
 use Rattle.fidl_wire.specs.declared.handle.HandleInfo.{HandleInfo}
@@ -25,13 +25,14 @@ IsUnlinked l k = (slice_index l.objects (k / 8) ≡ 0) × (slice_index l.records
 abbrev pub AreUnlinked : Linked → (from to : ℕ) → Type 0
 AreUnlinked l from to = (k : ℕ) → from ≤ k → k < to → IsUnlinked l k
 
--- the link of the marker or envelope at a place to its object is written
+-- the link of the marker or envelope at a place to its object is written: both begin at multiples
+-- of 8
 abbrev pub HasObject : Linked → (marker : ℕ) → Type 0
-HasObject l marker = 0 < object_at l marker
+HasObject l marker = (marker % 8 ≡ 0) × (0 < object_at l marker) × (object_at l marker % 8 ≡ 0)
 
--- the link of the handle at a place to its record is written
+-- the link of the handle at a place, a multiple of 4, to its record is written
 abbrev pub HasRecord : Linked → (place : ℕ) → Type 0
-HasRecord l place = 0 < slice_index l.records (place / 4)
+HasRecord l place = (place % 4 ≡ 0) × (0 < slice_index l.records (place / 4))
 
 -- what stands in front of the content of a value at a place can be read: the count, and the marker
 abbrev pub IsHeadReadable : Linked → Term → (place : ℕ) → Type 0
@@ -42,7 +43,7 @@ IsHeadReadable l _ place = Unit {0}
 
 -- the envelope at a place leads to its first record, and to its member if that is out of line
 abbrev pub IsEnvelopeReadable : Linked → (inline : Bool) → (envelope : ℕ) → Type 0
-IsEnvelopeReadable l true envelope = HasRecord l (envelope + 4)
+IsEnvelopeReadable l true envelope = (envelope % 8 ≡ 0) × HasRecord l (envelope + 4)
 IsEnvelopeReadable l false envelope = HasRecord l (envelope + 4) × HasObject l envelope
 
 abbrev mutual
@@ -50,6 +51,7 @@ abbrev mutual
   -- there as they came, and each marker, envelope and handle has its link
   pub Readable : Declarations → Linked → Term → (place : ℕ) → Value → Type 0
   Readable ds l t place absent = AreUnlinked l place (place + size_of ds t)
+      × (place % (figure_of ds.figures t).align ≡ 0)
   Readable ds l t place (bool b) = AreUnlinked l place (place + size_of ds t)
   Readable ds l t place (number z) = AreUnlinked l place (place + size_of ds t)
   Readable ds l t place (handle h) = HasRecord l place

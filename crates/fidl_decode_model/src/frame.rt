@@ -1,6 +1,6 @@
 //! What the decoder still has to read of a struct, an array, a vector, a table or an envelope.
 
-use crate::links::Links;
+use fidl_links::Links;
 
 /// Where the next object and the next handle have to be at the end of an envelope's content, as the
 /// envelope counts them.
@@ -79,6 +79,7 @@ pub struct State<'m, 's> {
     pub handle: usize,
     /// The turns that were taken, the probes, and the bytes that were checked as text or padding.
     pub steps: u64,
-    /// The message, and where the objects of its markers begin and which records its handles have.
+    /// The message, in which links stand: where the objects of its markers begin, and which records
+    /// its handles have.
     pub links: Links<'m, 's>,
 }

@@ -5,7 +5,6 @@
 mod fault;
 pub mod frame;
 pub mod laws;
-pub mod links;
 pub mod worked;
 
 pub use fault::DecodeFault;

@@ -1,9 +1,9 @@
 -- How far an input is printed, after each frame and at each end.
-use Rattle.std.proofs.Common.{◌≡◌, ℕ, ◌+◌, ◌-◌, ◌≤◌, List, [], ◌∷◌, ◌++◌, length, take, drop, arith, refl, sym, ap, subst, ◌∙◌, append_assoc, append-nil}
+use Rattle.std.proofs.Common.{◌≡◌, ℕ, ◌+◌, ◌-◌, List, [], ◌∷◌, ◌++◌, length, take, drop, arith, refl, sym, ap, subst, ◌∙◌, append_assoc, append-nil}
 use Rattle.std.specs.Prelude.{Option, Result, Err}
 use Rattle.std.specs.Io.KnownBytes.{Appends}
 use Rattle.std.proofs.KnownBytes.{Appends-nil}
-use Rattle.std.proofs.lemmas.List.{take-append-drop, length-append, length-take, length-drop}
+use Rattle.std.proofs.lemmas.List.{take-append-drop, length-append}
 use Rattle.std.proofs.Math.Seq.{take-append_seam}
 use Rattle.fidl_frames.specs.Frames.{Cut, between, frames_of, IsFrame}
 use Rattle.fidl_frames.proofs.Cuts.{cut_whole, cut_nothing}
@@ -22,10 +22,6 @@ use Rattle.fidl_dump.specs.Printed.{PrintsLines, PrintsFront, first_frames}
 none_left : (l : List ℕ) → length l ≡ 0 → l ≡ []
 none_left [] e = refl
 none_left (b ∷ bs) e = absurd (omega (arith, e))
-
--- what is left behind a whole frame is shorter
-pub less_left : (rest left : List ℕ) (size : ℕ) → IsFrame (take size rest) → left ≡ drop size rest → 8 + length left ≤ length rest
-less_left rest left size is e = let h = is.head in omega (arith, h, ap length e, length-take size rest, length-drop size rest)
 
 -- the refusal that is answered is the one of this frame
 pub told : (P : ℕ → FrameFault → Type 0) (k n : ℕ) (f g : FrameFault) → ◌≡◌ {A = Result Unit DumpFault} (Err (Frame k f)) (Err (Frame n g)) → P k f → P n g

@@ -4,6 +4,7 @@ pub mod Printing
 pub mod Named
 pub mod Values
 pub mod Cutting
+pub mod Parts
 pub mod Dumping
 pub mod One
 pub mod Refused

@@ -1,5 +1,6 @@
--- A value that a body encodes, and a refusal of a body.
-use Rattle.std.proofs.Common.{◌≡◌, ℕ, List, sym, ap, subst, ◌∙◌}
+-- A value that a body encodes, a refusal of a body, and a body of nothing.
+use Rattle.std.proofs.Common.{◌≡◌, ℕ, List, length, drop, arith, sym, ap, subst, ◌∙◌}
+use Rattle.std.proofs.lemmas.List.{drop_all, nil_from_length}
 use Rattle.fidl_wire.specs.declared.handle.HandleInfo.{HandleInfo}
 use Rattle.fidl_wire.specs.Term as ty
 use Rattle.fidl_wire.specs.Value.{Value}
@@ -9,8 +10,8 @@ use Rattle.fidl_header.specs.declared.header.Header.{Header}
 use Rattle.fidl_decode_model.specs.Faults.{IsTold}
 use Rattle.fidl_decode_model.specs.Model.{Shown}
 use Rattle.fidl_decode_model.specs.declared.fault.DecodeFault.{DecodeFault}
-use Rattle.fidl_requests.specs.Frame.{handles_of}
-use Rattle.fidl_dump.specs.Lines.{body_of, Holds, value_text, value_line}
+use Rattle.fidl_requests.specs.Frame.{message_of, handles_of}
+use Rattle.fidl_dump.specs.Lines.{body_of, IsBare, Holds, value_text, value_line}
 use Rattle.fidl_dump.specs.Faults.{IsBodyFault}
 
 module _ (table : List ℕ) (entry : ℕ) (frame body : List ℕ) (handles : List HandleInfo) (b : body ≡ body_of frame) (h : handles ≡ handles_of frame) where
@@ -44,3 +45,7 @@ module _ (table : List ℕ) (entry : ℕ) (frame body : List ℕ) (handles : Lis
       (y.0, holds y.0 y.1, ap (λ (l : List ℕ). value_line header name l) (same_text y.0)),
       w y.0 (encodes y.0 y.1),
     )
+
+-- a message of no more than its header, and no handles
+pub is_bare : (frame message : List ℕ) (handles : List HandleInfo) → message ≡ message_of frame → handles ≡ handles_of frame → length message ≡ 16 → length handles ≡ 0 → IsBare frame
+is_bare frame message handles m h long none = (ap (λ (l : List ℕ). drop 16 l) (sym m) ∙ drop_all 16 message (omega (arith, long)), sym h ∙ nil_from_length handles none)

@@ -41,42 +41,43 @@ fn whole_frame(bytes: &[u8]) -> Option<usize>
 /// refused, or the bytes behind all whole ones. The lines of the frames before it are written, and
 /// nothing of it. `Write` comes where a write failed; a front of the lines is then written.
 /// Each line is handed on before the next frame is read. Transaction ids and flexible bits are not
-/// judged. It takes no memory.
+/// judged. It takes no memory. Messages are decoded where they stand, so the decoder's links can be
+/// left in the bytes.
 pub fn dump_frames<W: Write>(
     stream: &Stream<'_, '_>,
-    bytes: &[u8],
+    bytes: &mut [u8],
     scratch: &mut Scratch,
     out: &mut Output<W>,
 ) -> Result<(), DumpFault>
-    ensures whole { OnOk result ((frames_of bytes.now).tail ≡ between) }
+    ensures whole { OnOk result ((frames_of bytes.old).tail ≡ between) }
     ensures ok { OnOk result (PrintsLines stream.now.protocol.now stream.now.direction
-        (frames_of bytes.now).frames (W.contents out.old.writer) (W.contents out.new.writer)) }
+        (frames_of bytes.old).frames (W.contents out.old.writer) (W.contents out.new.writer)) }
     ensures fault_is_true { (number : ℕ) → (fault : FrameFault)
         → result ≡ Err (DumpFault.Frame number fault)
-        → IsFaultAt stream.now.protocol.now stream.now.direction bytes.now number fault }
+        → IsFaultAt stream.now.protocol.now stream.now.direction bytes.old number fault }
     ensures before { (number : ℕ) → (fault : FrameFault)
         → result ≡ Err (DumpFault.Frame number fault)
         → PrintsLines stream.now.protocol.now stream.now.direction
-        (first_frames (number - 1) bytes.now)
+        (first_frames (number - 1) bytes.old)
         (W.contents out.old.writer) (W.contents out.new.writer) }
     ensures front { result ≡ Err DumpFault.Write → (count : ℕ)
-        × PrintsFront stream.now.protocol.now stream.now.direction (first_frames count bytes.now)
+        × PrintsFront stream.now.protocol.now stream.now.direction (first_frames count bytes.old)
         (W.contents out.old.writer) (W.contents out.new.writer) }
     ensures kept { result ≢ Err DumpFault.Write → out.old.failure ≡ None
         → out.new.failure ≡ None }
     ensures failed { result ≡ Err DumpFault.Write → IsSome out.new.failure }
 {
-    let mut rest = bytes;
+    let mut at = 0;
     let mut number = 0;
-    while !rest.is_empty() {
+    while at < bytes.len() {
         number += 1;
-        let Some(end) = whole_frame(rest) else {
+        let Some(size) = whole_frame(&bytes[at..]) else {
             let fault = FrameFault::BadFrame;
             return Err(DumpFault::Frame { number, fault });
         };
-        let frame = Frame::new(&rest[..end]);
-        match print_frame(stream, &frame, scratch, out) {
-            Ok(()) => rest = &rest[end..],
+        let frame = Frame::new(&mut bytes[at..at + size]);
+        match print_frame(stream, frame, scratch, out) {
+            Ok(()) => at += size,
             Err(Unprinted::Refused(fault)) => return Err(DumpFault::Frame { number, fault }),
             Err(Unprinted::Write) => return Err(DumpFault::Write),
         }

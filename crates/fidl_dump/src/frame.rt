@@ -32,18 +32,19 @@ pub(crate) enum Unprinted {
 
 /// A frame whose header has the ordinal of a method, and that method's name.
 #[derive(Drop)]
-struct Named<'n> {
-    frame: &'n Frame<'n>,
+struct Named<'f, 'n> {
+    frame: Frame<'f>,
     header: Header,
     name: &'n [u8],
 }
 
-/// The bytes after the header of a frame's message.
-fn body_of<'f>(frame: &Frame<'f>) -> &'f [u8]
-    requires { IsHeader (message_of frame.now) }
-    ensures { result.now ≡ body_of frame.now }
+/// The bytes after the header of a frame's message, to be decoded in place.
+fn body_of<'f>(frame: Frame<'f>) -> &'f mut [u8]
+    requires { IsHeader (message_of frame) }
+    ensures { result.now ≡ body_of frame.entry }
 {
-    &frame.message()[HEADER_BYTES..]
+    let message = frame.into_message();
+    &mut message[HEADER_BYTES..]
 }
 
 /// Prints the line of a message of an unknown ordinal.
@@ -59,19 +60,18 @@ fn print_unknown<W: Write>(header: &Header, out: &mut Output<W>) -> Result<(), U
 }
 
 /// Prints the line of a message whose method lets it carry nothing.
-fn print_bare<W: Write>(named: &Named<'_>, out: &mut Output<W>) -> Result<(), Unprinted>
-    requires { IsHeader (message_of named.now.frame.now) }
+fn print_bare<W: Write>(named: &Named<'_, '_>, out: &mut Output<W>) -> Result<(), Unprinted>
+    requires { IsHeader (message_of named.now.frame) }
     ensures prints { Prints
-        (λ line. IsBare named.now.frame.now
+        (λ line. IsBare named.now.frame
         × (line ≡ bare_line named.now.header named.now.name.now))
-        (λ fault. (fault ≡ FrameFault.BadMessage) × ¬ (IsBare named.now.frame.now))
+        (λ fault. (fault ≡ FrameFault.BadMessage) × ¬ (IsBare named.now.frame))
         (W.contents out.old.writer) (W.contents out.new.writer) result }
     ensures error { KeepsError out.old.failure out.new.failure result }
 {
     let mut room = HANDLE_ROOM;
-    let body = body_of(named.frame);
     let handles = named.frame.handles(&mut room);
-    if !body.is_empty() || !handles.is_empty() {
+    if named.frame.message().len() != HEADER_BYTES || !handles.is_empty() {
         return Err(Unprinted::Refused(FrameFault::BadMessage));
     }
     match write_bare(&named.header, named.name, out) {
@@ -84,42 +84,48 @@ fn print_bare<W: Write>(named: &Named<'_>, out: &mut Output<W>) -> Result<(), Un
 fn print_value<W: Write>(
     table: &Table<'_>,
     entry: u32,
-    named: &Named<'_>,
+    named: Named<'_, '_>,
     scratch: &mut Scratch,
     out: &mut Output<W>,
 ) -> Result<(), Unprinted>
     requires entry { entry < (header_of table.now).entries }
-    requires header { IsHeader (message_of named.now.frame.now) }
-    ensures prints { Prints
-        (λ line. (v : Value) × Holds table.now entry named.now.frame.now v
-        × (line ≡ value_line named.now.header named.now.name.now (value_text table.now entry v)))
+    requires header { IsHeader (message_of named.frame) }
+    ensures prints { let n = named.entry in Prints
+        (λ line. (v : Value) × Holds table.now entry n.frame v
+        × (line ≡ value_line n.header n.name.now (value_text table.now entry v)))
         (λ fault. (refused : DecodeFault) × (fault ≡ FrameFault.Body refused)
-        × IsBodyFault table.now entry named.now.frame.now refused)
+        × IsBodyFault table.now entry n.frame refused)
         (W.contents out.old.writer) (W.contents out.new.writer) result }
     ensures error { KeepsError out.old.failure out.new.failure result }
 {
     let mut room = HANDLE_ROOM;
-    let body = body_of(named.frame);
-    let handles = named.frame.handles(&mut room);
+    let Named {
+        frame,
+        header,
+        name,
+    } = named;
+    let handles = frame.handles(&mut room);
+    let body = body_of(frame);
     let decoded = match decode(table, entry, body, handles, scratch) {
         Ok(decoded) => decoded,
         Err(fault) => return Err(Unprinted::Refused(FrameFault::Body(fault))),
     };
-    match write_value(&named.header, named.name, &decoded, out) {
+    match write_value(&header, name, &decoded, out) {
         Ok(()) => Ok(()),
         Err(Failed) => Err(Unprinted::Write),
     }
 }
 
-/// Prints the line of a frame. Nothing is printed of a frame that has none.
+/// Prints the line of a frame, whose message is decoded where it stands. Nothing is printed of a
+/// frame that has none.
 pub(crate) fn print_frame<W: Write>(
     stream: &Stream<'_, '_>,
-    frame: &Frame<'_>,
+    frame: Frame<'_>,
     scratch: &mut Scratch,
     out: &mut Output<W>,
 ) -> Result<(), Unprinted>
-    ensures prints { Prints (IsLine stream.now.protocol.now stream.now.direction frame.now)
-        (IsFrameFault stream.now.protocol.now stream.now.direction frame.now)
+    ensures prints { Prints (IsLine stream.now.protocol.now stream.now.direction frame.entry)
+        (IsFrameFault stream.now.protocol.now stream.now.direction frame.entry)
         (W.contents out.old.writer) (W.contents out.new.writer) result }
     ensures error { KeepsError out.old.failure out.new.failure result }
 {
@@ -140,6 +146,6 @@ pub(crate) fn print_frame<W: Write>(
     match payload {
         Payload::Missing => print_unknown(&header, out),
         Payload::Empty => print_bare(&named, out),
-        Payload::Entry(entry) => print_value(stream.table, entry, &named, scratch, out),
+        Payload::Entry(entry) => print_value(stream.table, entry, named, scratch, out),
     }
 }

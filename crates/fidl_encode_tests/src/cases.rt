@@ -45,10 +45,10 @@ const CASES: &str = "
     5 boxes 2000 -> 6 TooDeep
     7 handles 64 -> 272 bytes 64
     7 handles 65 -> 8 TooManyHandles
-    4 long 65520 -> 65536 bytes 0
-    4 long 65521 -> 7 TooLong
-    2 table 8190 1=1 -> 65536 bytes 0
-    2 table 8191 1=1 -> 7 TooLong
+    4 long 16777200 -> 16777216 bytes 0
+    4 long 16777201 -> 7 TooLong
+    2 table 2097150 1=1 -> 16777216 bytes 0
+    2 table 2097151 1=1 -> 7 TooLong
     2 table 18446744073709551615 1=1 -> 7 TooLong
 ";
 

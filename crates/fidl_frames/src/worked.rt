@@ -23,9 +23,9 @@ pub fn four_bytes_end_inside()
     ensures { frames_of (16 ∷ 0 ∷ 0 ∷ 0 ∷ []) ≡ record { frames = []; tail = inside } }
 {}
 
-/// A message of 65,537 bytes, and one with 65 handles, are past a limit.
+/// A message of 16,777,217 bytes, and one with 65 handles, are past a limit.
 pub fn frames_past_a_limit()
-    ensures bytes { frames_of (1 ∷ 0 ∷ 1 ∷ 0 ∷ 0 ∷ 0 ∷ 0 ∷ 0 ∷ [])
+    ensures bytes { frames_of (1 ∷ 0 ∷ 0 ∷ 1 ∷ 0 ∷ 0 ∷ 0 ∷ 0 ∷ [])
         ≡ record { frames = []; tail = past_limit } }
     ensures handles { frames_of (0 ∷ 0 ∷ 0 ∷ 0 ∷ 65 ∷ 0 ∷ 0 ∷ 0 ∷ 7 ∷ [])
         ≡ record { frames = []; tail = past_limit } }

@@ -1,7 +1,7 @@
 //! The limits of messages and types (docs/wire.md, "Limits").
 
 /// The greatest length of a message, in bytes.
-pub const MAX_MESSAGE_BYTES: usize = 65_536;
+pub const MAX_MESSAGE_BYTES: usize = 16_777_216;
 
 /// The greatest number of handles beside a message.
 pub const MAX_MESSAGE_HANDLES: usize = 64;

@@ -15,4 +15,4 @@ mod words;
 pub mod worked;
 
 pub use links::Links;
-pub use room::{MOST_BYTES, Room};
+pub use room::Room;

@@ -1,12 +1,11 @@
 //! A message in which links are written.
 ghost use Rattle.std.specs.Prelude.{◌≡◌, ℕ, ◌+◌, ◌*◌, ◌/◌, ◌%◌, ◌<◌, ◌≤◌, length, slice_index};
 ghost use Rattle.std.specs.Prelude.{slice_set, replicate};
-ghost use Rattle.fidl_limits.specs.declared.limits.TheConstants.{MAX_MESSAGE_HANDLES};
+ghost use Rattle.fidl_limits.specs.declared.limits.TheConstants.{MAX_MESSAGE_BYTES, MAX_MESSAGE_HANDLES};
 ghost use Rattle.fidl_wire.specs.Encoding.{present};
 ghost use Rattle.fidl_wire.specs.Envelope.{bytes_below, handles_below, flags_at};
 ghost use Rattle.fidl_wire.specs.Standing.{Stands};
 ghost use Rattle.fidl_links.specs.Links.{IsFree, IsFreeWord};
-ghost use Rattle.fidl_links.specs.declared.room.TheConstants.{MOST_BYTES};
 
 use crate::envelopes::{put_inside, put_outside};
 use crate::room::Room;
@@ -26,13 +25,13 @@ impl<'m, 's> Model for Links<'m, 's> {
     ghost use Rattle.std.specs.Prelude.{◌≤◌, length};
     ghost use Rattle.fidl_links.specs.Links.{Written, written, AreSound};
     ghost use Rattle.fidl_links.specs.Words.{AreOctets};
-    ghost use Rattle.fidl_links.specs.declared.room.TheConstants.{MOST_BYTES};
+    ghost use Rattle.fidl_limits.specs.declared.limits.TheConstants.{MAX_MESSAGE_BYTES};
 
     ghost Value = { Written };
 
     ghost view = { λ l. written l.bytes.now l.room.now.marks };
 
-    ghost invariant = { λ l. (length l.bytes.now ≤ MOST_BYTES)
+    ghost invariant = { λ l. (length l.bytes.now ≤ MAX_MESSAGE_BYTES)
         × AreOctets l.bytes.now × AreSound l.bytes.now l.room.now.marks };
 }
 
@@ -40,7 +39,7 @@ impl<'m, 's> Links<'m, 's> {
     /// The message that these bytes are, in which no link stands yet. Of the room only what the
     /// message needs is cleared.
     pub fn new(bytes: &'m mut [u8], room: &'s mut Room) -> Links<'m, 's>
-        requires { length bytes.old ≤ MOST_BYTES }
+        requires { length bytes.old ≤ MAX_MESSAGE_BYTES }
         ensures came { result.came ≡ bytes.old }
         ensures objects { (i : ℕ) → slice_index result.objects i ≡ 0 }
         ensures records { (j : ℕ) → slice_index result.records j ≡ 0 }
@@ -59,7 +58,7 @@ impl<'m, 's> Links<'m, 's> {
         requires within { marker + 8 ≤ length self.old.came }
         requires present { Stands self.old.came marker present }
         requires some { 0 < object }
-        requires few { object ≤ MOST_BYTES }
+        requires few { object ≤ MAX_MESSAGE_BYTES }
         requires free { IsFreeWord self.old marker }
         ensures came { self.new.came ≡ self.old.came }
         ensures objects { self.new.objects ≡ slice_set self.old.objects (marker / 8) object }
@@ -94,11 +93,11 @@ impl<'m, 's> Links<'m, 's> {
         requires within { envelope + 8 ≤ length self.old.came }
         requires flags { flags_at self.old.came envelope ≡ 0 }
         requires eights { bytes_below self.old.came envelope % 8 ≡ 0 }
-        requires short { bytes_below self.old.came envelope ≤ MOST_BYTES }
+        requires short { bytes_below self.old.came envelope ≤ MAX_MESSAGE_BYTES }
         requires handles { handles_below self.old.came envelope < 128 }
         requires object { object % 8 ≡ 0 }
         requires some { 0 < object }
-        requires few { object ≤ MOST_BYTES }
+        requires few { object ≤ MAX_MESSAGE_BYTES }
         requires first { first < 128 }
         requires free { IsFreeWord self.old envelope }
         ensures came { self.new.came ≡ self.old.came }

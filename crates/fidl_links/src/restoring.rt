@@ -6,7 +6,7 @@ ghost use Rattle.fidl_links.specs.Bits.{flag};
 ghost use Rattle.fidl_links.specs.Coding.{came_word, word_links};
 ghost use Rattle.fidl_links.specs.Links.{came_at, links_at, came_byte, places, written, AreSound};
 ghost use Rattle.fidl_links.specs.Words.{words_of};
-ghost use Rattle.fidl_links.specs.declared.room.TheConstants.{MOST_BYTES};
+ghost use Rattle.fidl_limits.specs.declared.limits.TheConstants.{MAX_MESSAGE_BYTES};
 
 use crate::links::Links;
 use crate::room::Room;
@@ -62,7 +62,7 @@ fn links_in(word: u64, marker: bool, envelope: bool, lower: bool, upper: bool) -
 #[tactic(auto, unfolding(crate::specs::Words::word))]
 #[inline(always)]
 pub(crate) fn came_at(bytes: &[u8], room: &Room, i: usize) -> (u64, u64)
-    requires few { length bytes.now ≤ MOST_BYTES }
+    requires few { length bytes.now ≤ MAX_MESSAGE_BYTES }
     requires within { i < words_of bytes.now }
     ensures came { result.0 ≡ came_at bytes.now room.now.marks i }
     ensures links { result.1 ≡ links_at bytes.now room.now.marks i }
@@ -79,7 +79,7 @@ pub(crate) fn came_at(bytes: &[u8], room: &Room, i: usize) -> (u64, u64)
 
 /// Takes the links out of the words from one up to another, and counts them.
 fn take_out_of(bytes: &mut [u8], room: &Room, from: usize, to: usize) -> u64
-    requires few { length bytes.old ≤ MOST_BYTES }
+    requires few { length bytes.old ≤ MAX_MESSAGE_BYTES }
     requires order { from ≤ to }
     requires within { to ≤ words_of bytes.old }
     ensures len { length bytes.new ≡ length bytes.old }
@@ -102,7 +102,7 @@ fn take_out_of(bytes: &mut [u8], room: &Room, from: usize, to: usize) -> u64
 /// Takes all links out of a message, and counts them. Where no word of 64 is marked, all of them
 /// are passed at once.
 fn take_links_out(bytes: &mut [u8], room: &Room) -> u64
-    requires few { length bytes.old ≤ MOST_BYTES }
+    requires few { length bytes.old ≤ MAX_MESSAGE_BYTES }
     requires sound { AreSound bytes.old room.now.marks }
     ensures came { bytes.new ≡ (written bytes.old room.now.marks).came }
     ensures places { result ≡ places (written bytes.old room.now.marks) }

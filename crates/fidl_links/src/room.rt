@@ -2,14 +2,12 @@
 ghost use Rattle.std.specs.Prelude.{◌≡◌, ◌≢◌, ℕ, ◌+◌, ◌*◌, ◌/◌, ◌<◌, ◌≤◌, ◌↔◌, slice_index};
 ghost use Rattle.std.specs.Prelude.{IfOk, IsTrue};
 ghost use Rattle.fidl_links.specs.Bits.{bit, flag};
-ghost use Rattle.fidl_links.specs.declared.room.TheConstants.{MOST_BYTES};
+ghost use Rattle.fidl_limits.specs.declared.limits.TheConstants.{MAX_MESSAGE_BYTES};
 
 use crate::bits::{clear, has_bit, set_bit};
+use fidl_limits::MAX_MESSAGE_BYTES;
 use std::alloc::{AllocError, Global};
 use std::marker::Model;
-
-/// The greatest length of a message that links can stand in, in bytes.
-pub const MOST_BYTES: usize = 16_777_216;
 
 /// Room for the links of one message at a time. For each eight bytes a bit says whether a marker's
 /// link stands there, and another whether an envelope's does. For each four bytes a bit says
@@ -25,7 +23,7 @@ pub struct Room {
 impl Model for Room {
     ghost use Rattle.std.specs.Prelude.{◌≡◌, ◌/◌, length};
     ghost use Rattle.fidl_links.specs.Marks.{Kept};
-    ghost use Rattle.fidl_links.specs.declared.room.TheConstants.{MOST_BYTES};
+    ghost use Rattle.fidl_limits.specs.declared.limits.TheConstants.{MAX_MESSAGE_BYTES};
 
     ghost Value = { Kept };
 
@@ -38,9 +36,9 @@ impl Model for Room {
       steps = r.steps;
     } };
 
-    ghost invariant = { λ r. (length r.markers.items ≡ MOST_BYTES / 512)
-        × (length r.envelopes.items ≡ MOST_BYTES / 512)
-        × (length r.handles.items ≡ MOST_BYTES / 256) };
+    ghost invariant = { λ r. (length r.markers.items ≡ MAX_MESSAGE_BYTES / 512)
+        × (length r.envelopes.items ≡ MAX_MESSAGE_BYTES / 512)
+        × (length r.handles.items ≡ MAX_MESSAGE_BYTES / 256) };
 }
 
 impl Room {
@@ -48,9 +46,9 @@ impl Room {
     pub fn new(alloc: Global) -> Result<Room, AllocError>
         ensures { IfOk result (λ r. r.steps ≡ 0) }
     {
-        let markers = vec![in alloc; 0; MOST_BYTES / 512]?;
-        let envelopes = vec![in alloc; 0; MOST_BYTES / 512]?;
-        let handles = vec![in alloc; 0; MOST_BYTES / 256]?;
+        let markers = vec![in alloc; 0; MAX_MESSAGE_BYTES / 512]?;
+        let envelopes = vec![in alloc; 0; MAX_MESSAGE_BYTES / 512]?;
+        let handles = vec![in alloc; 0; MAX_MESSAGE_BYTES / 256]?;
         Ok(Room {
             markers,
             envelopes,
@@ -77,7 +75,7 @@ impl Room {
     /// Whether the word with this number holds a marker's link.
     #[inline(always)]
     pub(crate) fn has_marker(&self, i: usize) -> bool
-        requires { 8 * i < MOST_BYTES }
+        requires { 8 * i < MAX_MESSAGE_BYTES }
         ensures { flag result ≡ bit self.now.marks.markers i }
     {
         has_bit(&self.markers, i)
@@ -86,7 +84,7 @@ impl Room {
     /// Whether it holds an envelope's link.
     #[inline(always)]
     pub(crate) fn has_envelope(&self, i: usize) -> bool
-        requires { 8 * i < MOST_BYTES }
+        requires { 8 * i < MAX_MESSAGE_BYTES }
         ensures { flag result ≡ bit self.now.marks.envelopes i }
     {
         has_bit(&self.envelopes, i)
@@ -95,7 +93,7 @@ impl Room {
     /// Whether the half of a word with this number holds a handle's link.
     #[inline(always)]
     pub(crate) fn has_handle(&self, j: usize) -> bool
-        requires { 4 * j < MOST_BYTES }
+        requires { 4 * j < MAX_MESSAGE_BYTES }
         ensures { flag result ≡ bit self.now.marks.handles j }
     {
         has_bit(&self.handles, j)
@@ -105,7 +103,7 @@ impl Room {
     /// markers, one of envelopes and two of handles.
     #[inline(always)]
     pub(crate) fn is_unmarked(&self, n: usize) -> bool
-        requires { 512 * n < MOST_BYTES }
+        requires { 512 * n < MAX_MESSAGE_BYTES }
         ensures { IsTrue result ↔ (slice_index self.now.marks.markers n ≡ 0)
             × (slice_index self.now.marks.envelopes n ≡ 0)
             × (slice_index self.now.marks.handles (2 * n) ≡ 0)
@@ -118,7 +116,7 @@ impl Room {
     /// A word holds a marker's link.
     #[inline(always)]
     pub(crate) fn mark_marker(&mut self, i: usize)
-        requires { 8 * i < MOST_BYTES }
+        requires { 8 * i < MAX_MESSAGE_BYTES }
         ensures here { bit self.new.marks.markers i ≡ 1 }
         ensures elsewhere { (j : ℕ) → j ≢ i
             → bit self.new.marks.markers j ≡ bit self.old.marks.markers j }
@@ -131,7 +129,7 @@ impl Room {
     /// A word holds an envelope's link.
     #[inline(always)]
     pub(crate) fn mark_envelope(&mut self, i: usize)
-        requires { 8 * i < MOST_BYTES }
+        requires { 8 * i < MAX_MESSAGE_BYTES }
         ensures here { bit self.new.marks.envelopes i ≡ 1 }
         ensures elsewhere { (j : ℕ) → j ≢ i
             → bit self.new.marks.envelopes j ≡ bit self.old.marks.envelopes j }
@@ -144,7 +142,7 @@ impl Room {
     /// A half of a word holds a handle's link.
     #[inline(always)]
     pub(crate) fn mark_handle(&mut self, j: usize)
-        requires { 4 * j < MOST_BYTES }
+        requires { 4 * j < MAX_MESSAGE_BYTES }
         ensures here { bit self.new.marks.handles j ≡ 1 }
         ensures elsewhere { (k : ℕ) → k ≢ j
             → bit self.new.marks.handles k ≡ bit self.old.marks.handles k }
@@ -156,7 +154,7 @@ impl Room {
 
     /// Clears what so many words of a message need of the bits.
     pub(crate) fn clear(&mut self, words: usize)
-        requires { 8 * words ≤ MOST_BYTES }
+        requires { 8 * words ≤ MAX_MESSAGE_BYTES }
         ensures markers { (i : ℕ) → i < words → bit self.new.marks.markers i ≡ 0 }
         ensures envelopes { (i : ℕ) → i < words → bit self.new.marks.envelopes i ≡ 0 }
         ensures handles { (j : ℕ) → j < 2 * words → bit self.new.marks.handles j ≡ 0 }

@@ -1,12 +1,9 @@
-//! What a view gives out borrows the message: a text outlives its view and the links, and never its
-//! message. The cases in
+//! What a view gives out borrows what was decoded: a text outlives its view, and never the `Decoded`. The cases in
 //! `.ci/must-not-compile` edit these tests so that they break this, and the compiler has to refuse
 //! each.
-ghost use Rattle.std.specs.Prelude.{◌<◌};
-ghost use Rattle.fidl_table_format.specs.Section.{header_of};
 
-use fidl_decode::{Scratch, decode};
-use fidl_verify::{Table, verify};
+use fidl_decode::{Decoded, Scratch, decode};
+use fidl_verify::verify;
 use fidl_view::Views;
 use std::test::Fail;
 
@@ -22,18 +19,10 @@ const TEXT: [u8; 24] = [
     1, 0, 0, 0, 0, 0, 0, 0, 255, 255, 255, 255, 255, 255, 255, 255, 0x41, 0, 0, 0, 0, 0, 0, 0,
 ];
 
-/// The text that a message encodes. The view and what was decoded are gone when it is answered.
-fn text_in<'m>(
-    table: &Table<'_>,
-    message: &'m [u8],
-    scratch: &mut Scratch,
-) -> Result<Option<&'m str>, Fail>
-    requires { 0 < (header_of table.now).entries }
-{
-    let decoded = decode(table, 0, message, &[], scratch)?;
+/// The text that a message encodes: it borrows what was decoded, and outlives its view.
+fn text_of<'v>(decoded: &'v Decoded<'v, 'v, 'v>) -> Option<&'v str> {
     let view = decoded.view();
-    let text = view.as_str();
-    Ok(text)
+    view.as_str()
 }
 
 #[test]
@@ -42,12 +31,12 @@ fn a_text_outlives_its_view(rt: HostRuntime) -> Result<(), Fail> {
     assert!(rt; table.entries() == 1);
     let mut scratch = Scratch::new(rt.alloc())?;
     let mut message = TEXT;
-    let text = text_in(&table, &message, &mut scratch)?;
-    let again = text_in(&table, &message, &mut scratch)?;
-    assert_eq!(rt; text, Some("A"));
-    assert_eq!(rt; again, Some("A"));
-    message[16] = 0x42;
-    let other = text_in(&table, &message, &mut scratch)?;
-    assert_eq!(rt; other, Some("B"));
+    let decoded = decode(&table, 0, &mut message, &[], &mut scratch)?;
+    assert_eq!(rt; text_of(&decoded), Some("A"));
+    let released = decoded.release();
+    assert!(rt; &*released == TEXT.as_slice());
+    released[16] = 0x42;
+    let other = decode(&table, 0, &mut message, &[], &mut scratch)?;
+    assert_eq!(rt; text_of(&other), Some("B"));
     Ok(())
 }

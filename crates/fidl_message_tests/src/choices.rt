@@ -37,7 +37,7 @@ const MANY: &str = "
 ";
 
 /// Whether a message of an entry is decoded.
-fn is_decoded(table: &Table<'_>, entry: u32, bytes: &[u8], scratch: &mut Scratch) -> bool {
+fn is_decoded(table: &Table<'_>, entry: u32, bytes: &mut [u8], scratch: &mut Scratch) -> bool {
     entry < table.entries() && decode(table, entry, bytes, &[], scratch).is_ok()
 }
 
@@ -51,8 +51,8 @@ pub(crate) fn any_bytes(
     let entry = given.parse::<u32>().ok()?;
     let mut found = 0u32;
     for byte in 0..=255u8 {
-        let bytes = [byte, 255, 0, byte, 0, 0, 0, 0];
-        if is_decoded(&*table, entry, &bytes, scratch) {
+        let mut bytes = [byte, 255, 0, byte, 0, 0, 0, 0];
+        if is_decoded(&*table, entry, &mut bytes, scratch) {
             found = found.saturating_add(1);
         }
     }
@@ -80,7 +80,8 @@ fn agreeing(table: &Table<'_>, entry: u32, fill: u8, place: usize, scratch: &mut
         if let Some(own) = bytes.get_mut(place) {
             *own = byte;
         }
-        if is_decoded(&*table, entry, &bytes, scratch) == is_encoded(entry, bytes) {
+        let is_one = is_encoded(entry, bytes);
+        if is_decoded(&*table, entry, &mut bytes, scratch) == is_one {
             found = found.saturating_add(1);
         }
     }

@@ -13,12 +13,12 @@ use std::alloc::Global;
 fn steps_of(
     table: &Table<'_>,
     entry: u32,
-    bytes: &[u8],
+    bytes: &mut [u8],
     handles: &[HandleInfo],
     scratch: &mut Scratch,
 ) -> u64
     requires { entry < (header_of table.now).entries }
-    ensures { result ≤ STEPS_PER_BYTE * (length bytes.now + 1) }
+    ensures { result ≤ STEPS_PER_BYTE * (length bytes.old + 1) }
 {
     match attempt(table, entry, bytes, handles, scratch) {
         Ok(decoded) => decoded.steps(),
@@ -34,11 +34,11 @@ pub(crate) fn counted(
     least: u64,
     scratch: &mut Scratch,
 ) -> Option<String> {
-    let message = message_of(alloc, case.given)?;
+    let mut message = message_of(alloc, case.given)?;
     if table.entries() <= message.entry {
         return None;
     }
-    let (bytes, handles) = (message.bytes.as_slice(), message.handles.as_slice());
+    let (bytes, handles) = (message.bytes.as_mut_slice(), message.handles.as_slice());
     let steps = steps_of(table, message.entry, bytes, handles, scratch);
     let told = if steps == 0 {
         "no steps"

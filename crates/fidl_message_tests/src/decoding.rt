@@ -16,11 +16,11 @@ fn refusal(alloc: Global, fault: DecodeFault) -> Option<String> {
 fn is_as_it_came(decoded: &Decoded<'_, '_, '_>, entries: u32, message: &Message) -> bool {
     decoded.entry() == message.entry
         && decoded.table().entries() == entries
-        && decoded.bytes() == message.bytes.as_slice()
         && decoded.handles() == message.handles.as_slice()
 }
 
-/// What is answered to a message. Nothing where one is decoded that is not the one that came.
+/// What is answered to a message. Nothing where one is decoded that is not the one that came, or
+/// where the buffer is not as it came after a refusal, or after a release.
 pub(crate) fn decoded(
     alloc: Global,
     table: &Table<'_>,
@@ -32,15 +32,25 @@ pub(crate) fn decoded(
     if entries <= message.entry {
         return None;
     }
-    let (bytes, handles) = (message.bytes.as_slice(), message.handles.as_slice());
-    match decode(table, message.entry, bytes, handles, scratch) {
+    let (came, handles) = (message.bytes.as_slice(), message.handles.as_slice());
+    let mut bytes = Vec::from_slice(alloc, came).ok()?;
+    let answer = match decode(table, message.entry, &mut bytes, handles, scratch) {
         Ok(decoded) => {
             if !is_as_it_came(&decoded, entries, &message) {
                 return None;
             }
-            let view = views_read_as_the_one_value(table, message.entry, bytes, handles, &decoded);
-            claims(alloc, view, case.want)
+            let view = views_read_as_the_one_value(table, message.entry, came, handles, &decoded);
+            let answer = claims(alloc, view, case.want);
+            if &*decoded.release() != came {
+                return None;
+            }
+            answer
         }
         Err(fault) => refusal(alloc, fault),
+    };
+    if bytes.as_slice() == came {
+        answer
+    } else {
+        None
     }
 }

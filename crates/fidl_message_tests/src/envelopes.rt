@@ -97,10 +97,10 @@ const SUITES: [Suite<'_>; 5] = [
             0 0200000000000000 ffffffffffffffff 0000000000000000 1000000000000000 0200000000000000 ffffffffffffffff 6869000000000000 -> 14 WrongCounts 24
             0 0200000000000000 ffffffffffffffff 0000000000000000 2000000000000000 0200000000000000 ffffffffffffffff 6869000000000000 -> 14 WrongCounts 24
             0 0200000000000000 ffffffffffffffff 0000000000000000 1400000000000000 0200000000000000 ffffffffffffffff 6869000000000000 -> 13 BadEnvelope 24
-            # No UTF-8, below an envelope that counts 65 handles, 64, and 65,544 bytes.
+            # No UTF-8, below an envelope that counts 65 handles, 64, and 16,777,224 bytes.
             0 0200000000000000 ffffffffffffffff 0000000000000000 1800000041000000 0200000000000000 ffffffffffffffff ff69000000000000 -> 14 WrongCounts 24
             0 0200000000000000 ffffffffffffffff 0000000000000000 1800000040000000 0200000000000000 ffffffffffffffff ff69000000000000 -> 12 NotUtf8 48
-            0 0200000000000000 ffffffffffffffff 0000000000000000 0800010000000000 0200000000000000 ffffffffffffffff ff69000000000000 -> 14 WrongCounts 24
+            0 0200000000000000 ffffffffffffffff 0000000000000000 0800000100000000 0200000000000000 ffffffffffffffff ff69000000000000 -> 14 WrongCounts 24
             # An unknown member behind the envelopes, with a handle. Its envelope is at 48.
             0 0500000000000000 ffffffffffffffff 0000000000000000 0000000000000000 0000000000000000 0000000000000000 0800000001000000 1122334455667788 with 9:3:1 -> decoded
             0 0500000000000000 ffffffffffffffff 0000000000000000 0000000000000000 0000000000000000 0000000000000000 0800000001000000 1122334455667788 -> 17 HandleMissing 48
@@ -115,7 +115,7 @@ const SUITES: [Suite<'_>; 5] = [
             -> accepted 4
         ",
     },
-    // A message of the greatest length, 65,536 bytes, in which the last of many members is searched
+    // A message of 65,536 bytes, in which the last of many members is searched
     // for each time.
     Suite {
         asked: Asked::Message,

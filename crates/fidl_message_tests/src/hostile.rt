@@ -9,26 +9,35 @@ use fidl_wire::HandleInfo;
 use std::alloc::Global;
 use std::test::Fail;
 
-/// Whether a message of the first entry is refused.
+/// Whether a message of the first entry is refused. The buffer is left as it came.
 fn is_refused(
     table: &Table<'_>,
-    bytes: &[u8],
+    bytes: &mut [u8],
     handles: &[HandleInfo],
     scratch: &mut Scratch,
 ) -> bool {
-    0 < table.entries() && decode(table, 0, bytes, handles, scratch).is_err()
+    if table.entries() == 0 {
+        return false;
+    }
+    match decode(table, 0, bytes, handles, scratch) {
+        Ok(decoded) => {
+            let _ = decoded.release();
+            false
+        }
+        Err(_) => true,
+    }
 }
 
 /// How many fronts of a message are refused.
 fn refused_fronts(
     table: &Table<'_>,
-    bytes: &[u8],
+    bytes: &mut [u8],
     handles: &[HandleInfo],
     scratch: &mut Scratch,
 ) -> u32 {
     let mut refused = 0u32;
     for length in 0..bytes.len() {
-        if is_refused(table, &bytes[..length], handles, scratch) {
+        if is_refused(table, &mut bytes[..length], handles, scratch) {
             refused = refused.saturating_add(1);
         }
     }
@@ -38,7 +47,7 @@ fn refused_fronts(
 /// Whether a message is refused with no handle or one, if that is another number than it has.
 fn others_are_refused(
     table: &Table<'_>,
-    bytes: &[u8],
+    bytes: &mut [u8],
     count: usize,
     scratch: &mut Scratch,
 ) -> bool {
@@ -59,8 +68,8 @@ pub(crate) fn fronts(
     given: &str,
     scratch: &mut Scratch,
 ) -> Option<String> {
-    let message = message_of(alloc, given)?;
-    let (bytes, handles) = (message.bytes.as_slice(), message.handles.as_slice());
+    let mut message = message_of(alloc, given)?;
+    let (bytes, handles) = (message.bytes.as_mut_slice(), message.handles.as_slice());
     if message.entry != 0 || is_refused(table, bytes, handles, scratch) {
         return None;
     }

@@ -23,7 +23,11 @@ mod depths;
 #[cfg(test)]
 mod envelopes;
 #[cfg(test)]
+mod greatest;
+#[cfg(test)]
 mod hostile;
+#[cfg(test)]
+mod in_place;
 #[cfg(test)]
 mod judging;
 #[cfg(test)]

@@ -51,7 +51,7 @@ fn is_told(table: &Table<'_>, count: u64, number: u64, scratch: &mut Scratch) ->
     if table.entries() != 1 {
         return false;
     }
-    let refused = decode(table, 0, &number.to_le_bytes(), &[], scratch).err();
+    let refused = decode(table, 0, &mut number.to_le_bytes(), &[], scratch).err();
     if number % 2 == 1 && number / 2 < count {
         refused.is_none()
     } else {
@@ -137,7 +137,7 @@ const SUITES: [Suite<'_>; 9] = [
         cases: "
             0 01*65535 00 -> decoded
             0 01*65534 0200 -> 5 BadBool 65534
-            0 00*65537 -> 1 TooLong 0
+            0 00*65537 -> 19 BytesLeft 65536
         ",
     },
     Suite {
@@ -157,7 +157,7 @@ const SUITES: [Suite<'_>; 9] = [
         count: 5,
         cases: "
             0 01*65535 00 -> steps
-            0 00*65537 -> no steps
+            0 01*65534 0200 with 1:3:0*65 -> no steps
             0 01*65534 0200 -> steps
             0 01*65535 00 with 1:3:0*65 -> no steps
             0 01*65535 00 with 1:3:0*64 -> steps

@@ -3,7 +3,7 @@ use crate::judging::{Asked, Suite, judge_all};
 use std::test::Fail;
 
 /// `struct {s string;}`.
-const TEXT: &str = "
+pub(crate) const TEXT: &str = "
     46435432 0100 0000 02000000 01000000 00000000 00000000 00000000 00000000 01000000 00000000
     10 00 08 01 10000000 00000000 01000000 0000000000000000 00000000 00000000 00000000 00000000
     0c 00 08 00 10000000 00000000 00000000 ffffffff00000000 00000000 00000000 00000000 00000000
@@ -73,9 +73,11 @@ const SUITES: [Suite<'_>; 6] = [
     Suite {
         asked: Asked::Message,
         table: UNIONS,
-        count: 1,
+        count: 2,
         cases: "
             0 ff0f000000000000 ffffffffffffffff 60ea000000000000,0100000000000100*4095 -> decoded
+            # The last envelope is wrong, and the links of 4,094 others are taken out.
+            0 ff0f000000000000 ffffffffffffffff 60ea000000000000,0100000000000100*4094 60ea000000000000 0100000000000200 -> 13 BadEnvelope 65528
         ",
     },
     Suite {

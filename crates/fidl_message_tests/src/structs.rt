@@ -114,7 +114,7 @@ const SUITES: [Suite<'_>; 7] = [
     Suite {
         asked: Asked::Message,
         table: BOOLS,
-        count: 19,
+        count: 20,
         cases: "
             0 0100000002000000 -> decoded
             0 0100010002000000 -> 4 Padding 2
@@ -135,7 +135,8 @@ const SUITES: [Suite<'_>; 7] = [
             # Limits, and handles; and a scratch is good after each refusal.
             0 0100000002000000 with 1:3:0 -> 20 HandlesLeft 8
             0 0100000002000000 with 1:3:0*65 -> 2 TooManyHandles 0
-            0 00*65537 with 1:3:0*65 -> 1 TooLong 0
+            0 00*65537 with 1:3:0*65 -> 2 TooManyHandles 0
+            0 00*65537 -> 19 BytesLeft 8
             0 0100000002000000 -> decoded
         ",
     },

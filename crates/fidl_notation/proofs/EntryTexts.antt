@@ -1,35 +1,22 @@
 -- What is written of an entry's value, by the entry's kind and members.
-use Rattle.std.proofs.Common.{◌≡◌, ℕ, zero, suc, ◌+◌, ◌-◌, ◌*◌, ◌<◌, ◌≤◌, List, ◌++◌, sym, ap, subst, ◌∙◌, arith, mul-suc}
-use Rattle.std.specs.Prelude.{Some, None, nat_lt, codes, pos, ℤ, ◌⊎◌, false}
+use Rattle.std.proofs.Common.{◌≡◌, ℕ, suc, ◌+◌, ◌-◌, ◌<◌, List, ◌++◌, sym, ap, subst, ◌∙◌, arith}
+use Rattle.std.specs.Prelude.{Some, nat_lt, codes, false}
 use mathlib.Core.List.{append_assoc}
-use Rattle.fidl_wire.specs.Value.{Value, Values, number, fields, none, value}
+use Rattle.fidl_wire.specs.Value.{Value, Values, fields}
 use Rattle.fidl_wire.specs.Term.{Term, Kind, Fields, fields_of, resolve, int8, int16, int32, int64, uint8, uint16, uint32, uint64}
 use Rattle.fidl_wire.specs.Term as ty
-use Rattle.fidl_wire.specs.Typed.{IsTyped, EachTyped}
-use Rattle.fidl_limits.specs.declared.limits.TheConstants.{MAX_INLINE_SIZE, MAX_NEST}
 use Rattle.fidl_wire.specs.Encoding as encoding
-use Rattle.fidl_wire.specs.Depth.{depth_of, fields_depth}
 use Rattle.fidl_wire.specs.Text.{text_of, fields_text, comma_if}
 use Rattle.fidl_table_format.specs.declared.record.Row.{Row}
-use Rattle.fidl_table_format.specs.declared.kind.EntryKind.{EntryKind}
-use Rattle.fidl_table_format.specs.declared.kind.EntryKind.TheVariants.{Vector, Array, Box, Struct}
 use Rattle.fidl_table_format.specs.Section.{header_of, entry_at, row_at, name_at}
-use Rattle.fidl_table_format.specs.Terms.{declarations_of, fields_from, term_as}
-use Rattle.fidl_table_format.specs.Uses.{uses_entry, uses_rows}
-use Rattle.fidl_table_format.specs.Entry.{IsOf}
+use Rattle.fidl_table_format.specs.Terms.{declarations_of, fields_from}
 use Rattle.fidl_table_format.specs.WellFormed.{WellFormed}
-use Rattle.fidl_wire.specs.Figure.{Figure, size_of}
-use Rattle.fidl_verify.proofs.Known.{test_of}
-use Rattle.fidl_verify.proofs.Standing.{members_stand}
-use Rattle.fidl_verify.proofs.Declared.{element_nests, member_nests}
-use Rattle.fidl_decode_model.proofs.Bridge.{fine_of}
-use Rattle.fidl_decode_model.proofs.Visiting.{term_is, figure_is, size_is}
 use Rattle.fidl_view.specs.declared.view.View.{View}
-use Rattle.fidl_view.specs.Within.{IsPart, IsMembers}
+use Rattle.fidl_view.specs.Within.{IsMembers}
 use Rattle.fidl_notation.specs.Slots.{named_text}
-use Rattle.fidl_view.specs.Parts.{absence_of, nth, unsigned_of, signed_of}
+use Rattle.fidl_view.specs.Parts.{nth}
 use Rattle.fidl_notation.proofs.Printing.{fields_at, fields_end}
-use Rattle.fidl_view.proofs.Listed.{box_is, by_term, each_nth, each_typed, number_kind, struct_is, values_after}
+use Rattle.fidl_view.proofs.Listed.{values_after}
 
 module _ (b : List ℕ) (w : WellFormed b) (i : ℕ) (lt : i < (header_of b).entries) where
   -- the members of a struct, as its view answers them

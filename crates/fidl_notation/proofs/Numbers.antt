@@ -1,5 +1,5 @@
 -- The text of a number that a view answers.
-use Rattle.std.proofs.Common.{◌≡◌, ℕ, ◌<◌, List, sym, ap, subst}
+use Rattle.std.proofs.Common.{◌≡◌, ℕ, ◌<◌, List, ap, subst}
 use Rattle.std.specs.Prelude.{Option, Some, None, Result, ℤ, IsSome, decimal}
 use Rattle.std.specs.Fmt.{signed_decimal}
 use Rattle.fidl_wire.specs.Value.{Value}

@@ -1,5 +1,5 @@
 -- The text of a table's members, one by one.
-use Rattle.std.proofs.Common.{◌≡◌, ℕ, suc, ◌≤◌, List, [], ◌++◌, Bool, refl, ap, ◌∙◌}
+use Rattle.std.proofs.Common.{◌≡◌, ℕ, suc, ◌≤◌, [], ◌++◌, Bool, refl, ap, ◌∙◌}
 use Rattle.std.specs.Prelude.{Option, Some, None}
 use Rattle.fidl_wire.specs.Value.{Member, Members}
 use Rattle.fidl_wire.specs.Term.{Rows}

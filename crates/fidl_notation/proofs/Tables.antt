@@ -1,41 +1,31 @@
 -- What is written of a table's or a union's value, and what is left to be written of a table.
 use Rattle.std.proofs.Common.{◌≡◌, ◌≢◌, ℕ, zero, suc, ◌+◌, ◌<◌, ◌≤◌, List, ◌++◌, Bool, true, false, IsTrue, refl, sym, ap, subst, ◌∙◌, arith}
-use Rattle.std.specs.Prelude.{Option, Some, None, IfSome, IfNone, IsSome, MatchOption, if◌then◌else◌, ◌==◌, nat_le, codes, decimal}
-use Rattle.std.specs.Option.{option_map_or}
+use Rattle.std.specs.Prelude.{Option, Some, None, if◌then◌else◌, ◌==◌, codes, decimal}
 use Rattle.std.proofs.lemmas.Bool.{eq-eqb, eqb-true}
 use mathlib.Core.List.{append_assoc}
-use Rattle.fidl_wire.specs.Value.{Value, absent, table, union, Member, known, unknown, Members}
+use Rattle.fidl_wire.specs.Value.{Value, absent, table, union, Member, known, Members}
 use Rattle.fidl_wire.specs.Term.{Term, Rows, rows_of, find, resolve, nothing}
 use Rattle.fidl_wire.specs.Term as ty
-use Rattle.fidl_wire.specs.Figure.{Figure, Declarations, size_of}
-use Rattle.fidl_wire.proofs.Sizes.{size_of-resolve, le_of_test}
+use Rattle.fidl_wire.specs.Figure.{Declarations}
 use Rattle.fidl_wire.specs.Encoding.{term_or}
-use Rattle.fidl_wire.specs.Typed.{IsTyped, IsTypedMember, RiseTyped}
-use Rattle.fidl_wire.specs.Depth.{depth_of, member_depth, members_depth}
+use Rattle.fidl_wire.specs.Typed.{IsTyped}
 use Rattle.fidl_wire.specs.Text as text
 use Rattle.fidl_wire.specs.Text.{text_of, member_text, members_text}
 use Rattle.fidl_table_format.specs.declared.record.Row.{Row}
 use Rattle.fidl_table_format.specs.declared.record.Header.{Header}
-use Rattle.fidl_table_format.specs.declared.kind.EntryKind.{EntryKind}
 use Rattle.fidl_table_format.specs.declared.kind.EntryKind.TheVariants.{Table, Union}
 use Rattle.fidl_table_format.specs.Section.{header_of, entry_at, row_at, name_at}
-use Rattle.fidl_table_format.specs.Terms.{declarations_of, members_of, term_as, rows_from, is_optional, is_strict}
+use Rattle.fidl_table_format.specs.Terms.{declarations_of, members_of, rows_from, is_optional, is_strict}
 use Rattle.fidl_table_format.specs.Uses.{uses_ordinals}
 use Rattle.fidl_table_format.specs.Entry.{IsOf, kind_is}
 use Rattle.fidl_table_format.specs.WellFormed.{WellFormed}
 use Rattle.fidl_verify.proofs.Ordered.{rows_declared, rising_keys}
-use Rattle.fidl_decode_model.proofs.Bridge.{fine_of}
-use Rattle.fidl_decode_model.proofs.Visiting.{figure_is, size_is}
-use Rattle.fidl_decode_model.proofs.Shallow.{no_depth}
-use Rattle.fidl_view.specs.Parts.{at_ordinal, known_of, unknown_in, variant_of, member_of, held_of, unknown_of, length_of}
-use Rattle.fidl_view.specs.declared.envelope.Unknown.{Unknown}
-use Rattle.fidl_view.proofs.Keyed.{held_variant}
+use Rattle.fidl_view.specs.Parts.{at_ordinal, variant_of, held_of, length_of}
 use Rattle.fidl_view.specs.declared.view.View.{View}
 use Rattle.fidl_streams.specs.Written.{Taken, Takes, TakesPart}
 use Rattle.fidl_notation.specs.Slots.{named_text, slot_text, later_behind}
 use Rattle.fidl_streams.proofs.Taking.{IsSoFar, so_far_begin, so_far_more, so_far_failed, so_far_as, begin_failed}
 use Rattle.fidl_view.proofs.Listed.{some_same}
-use Rattle.fidl_view.proofs.Entered as entries
 use Rattle.fidl_notation.proofs.Slots as slots
 use Rattle.fidl_view.specs.Within.{IsValueOf}
 use Rattle.fidl_view.proofs.Held as held

@@ -1,16 +1,11 @@
 -- What the printer writes: the text of the value that a view shows.
-use Rattle.std.specs.Prelude.{◌≡◌, ◌≤◌, ℕ, List, Result}
+use Rattle.std.specs.Prelude.{ℕ, List, Result}
 use Rattle.fidl_wire.specs.Value.{Value, Values, list, fields}
 use Rattle.fidl_wire.specs.Term.{Term, resolve}
 use Rattle.fidl_wire.specs.Term as ty
 use Rattle.fidl_wire.specs.Figure.{Declarations}
 use Rattle.fidl_wire.specs.Text.{text_of}
-use Rattle.fidl_wire.specs.Typed.{IsTyped}
-use Rattle.fidl_wire.specs.Encoding.{element_of, content_of}
-use Rattle.fidl_wire.specs.Depth.{depth_of, elements_depth, fields_depth}
-use Rattle.fidl_table_format.specs.Section.{header_of, entry_at}
-use Rattle.fidl_table_format.specs.Terms.{declarations_of, fields_from}
-use Rattle.fidl_view.specs.Shows.{Shows}
+use Rattle.fidl_table_format.specs.Terms.{declarations_of}
 use Rattle.fidl_view.specs.declared.view.View.{View}
 use Rattle.fidl_streams.specs.Written.{Taken, Writes}
 use Rattle.fidl_view.specs.Within.{IsPart, IsElements, IsMembers}

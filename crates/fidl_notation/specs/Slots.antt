@@ -1,17 +1,14 @@
 -- What the printer is given of tables and unions, and what it writes of their members.
-use Rattle.std.specs.Prelude.{◌≤◌, ℕ, List, [], ◌++◌, Bool, true, false, Option, Some, None, Result, codes}
+use Rattle.std.specs.Prelude.{ℕ, List, [], ◌++◌, Bool, true, Option, Some, None, Result, codes}
 use Rattle.fidl_wire.specs.Value.{Value, Member, known}
 use Rattle.fidl_wire.specs.Term.{Rows, resolve, find}
 use Rattle.fidl_wire.specs.Term as ty
 use Rattle.fidl_wire.specs.Figure.{Declarations}
 use Rattle.fidl_wire.specs.Text.{text_of, comma_if, member_text}
-use Rattle.fidl_wire.specs.Typed.{IsTypedMember}
-use Rattle.fidl_wire.specs.Depth.{member_depth}
 use Rattle.fidl_table_format.specs.declared.record.Row.{Row}
 use Rattle.fidl_table_format.specs.Section.{header_of, name_at}
 use Rattle.fidl_table_format.specs.Terms.{declarations_of, members_of}
 use Rattle.fidl_view.specs.Parts.{held_of}
-use Rattle.fidl_view.specs.Shows.{Shows}
 use Rattle.fidl_view.specs.declared.view.View.{View}
 use Rattle.fidl_notation.specs.declared.printer.Slot.{Slot}
 use Rattle.fidl_streams.specs.Written.{Taken, Writes}

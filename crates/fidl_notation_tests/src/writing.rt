@@ -42,7 +42,8 @@ fn each_write_fails_in_turn(rt: HostRuntime) -> Result<(), Fail> {
     let table = verify(&STRING)?;
     assert!(rt; table.entries() == 1);
     let mut scratch = Scratch::new(rt.alloc())?;
-    let decoded = decode(&table, 0, &MESSAGE, &[], &mut scratch)?;
+    let mut message = MESSAGE;
+    let decoded = decode(&table, 0, &mut message, &[], &mut scratch)?;
     let view = decoded.view();
     for front in 0..4usize {
         let call = Some(front as u64);
@@ -60,7 +61,8 @@ fn a_tree_owns_its_text(rt: HostRuntime) -> Result<(), Fail> {
     let table = verify(&STRING)?;
     assert!(rt; table.entries() == 1);
     let mut scratch = Scratch::new(rt.alloc())?;
-    let decoded = decode(&table, 0, &MESSAGE, &[], &mut scratch)?;
+    let mut message = MESSAGE;
+    let decoded = decode(&table, 0, &mut message, &[], &mut scratch)?;
     let tree = decoded.view().to_value(rt.alloc())?;
     let is_text = match &tree {
         Value::Text(bytes) => bytes.as_slice() == b"A".as_slice(),

@@ -64,13 +64,19 @@ pub(crate) fn round_trip<W: Write>(
     let Some(entry) = table.root(b"s/T") else {
         return Err(refused(out, "root", "none"));
     };
-    let message = message_of(alloc, table, entry, out)?;
+    let mut message = message_of(alloc, table, entry, out)?;
     let mut scratch = match Scratch::new(alloc) {
         Ok(scratch) => scratch,
         Err(_) => return Err(refused(out, "Scratch::new", "Memory")),
     };
     done(out, "Scratch::new")?;
-    match decode(table, entry, &message.bytes, &message.handles, &mut scratch) {
+    match decode(
+        table,
+        entry,
+        &mut message.bytes,
+        &message.handles,
+        &mut scratch,
+    ) {
         Ok(decoded) => {
             done(out, "decode")?;
             send_on(alloc, &decoded, out)

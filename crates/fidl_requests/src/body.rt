@@ -10,16 +10,17 @@ use fidl_wire::HandleInfo;
 /// Whether bytes and handles are a message of what a method carries.
 ///
 /// Where the method has no such message, none is. Where it has one without a payload, it is that of
-/// no bytes and no handles. Else they encode a value of the payload's type.
+/// no bytes and no handles. Else they encode a value of the payload's type, and the decoder's links
+/// are left in them.
 pub fn is_carried(
     table: &Table<'_>,
     payload: Payload,
-    bytes: &[u8],
+    bytes: &mut [u8],
     handles: &[HandleInfo],
     scratch: &mut Scratch,
 ) -> bool
     requires { EntryHolds table.now payload }
-    ensures { IsTrue result ↔ IsCarried table.now payload bytes.now handles.now }
+    ensures { IsTrue result ↔ IsCarried table.now payload bytes.old handles.now }
 {
     match payload {
         Payload::Missing => false,

@@ -18,10 +18,10 @@ pub const HANDLE_ROOM: [HandleInfo; MAX_MESSAGE_HANDLES] = [HandleInfo {
     rights: 0,
 }; MAX_MESSAGE_HANDLES];
 
-/// A whole frame. Contracts see its bytes.
+/// A whole frame, whose message is decoded where it stands. Contracts see its bytes.
 #[derive(Drop)]
 pub struct Frame<'f> {
-    bytes: &'f [u8],
+    bytes: &'f mut [u8],
 }
 
 impl<'f> Model for Frame<'f> {
@@ -65,9 +65,9 @@ fn read_handles<'r>(
 
 impl<'f> Frame<'f> {
     /// The frame of these bytes, which are one whole frame and no more.
-    pub fn new(bytes: &'f [u8]) -> Frame<'f>
-        requires { IsFrame bytes.now }
-        ensures { result ≡ bytes.now }
+    pub fn new(bytes: &'f mut [u8]) -> Frame<'f>
+        requires { IsFrame bytes.old }
+        ensures { result ≡ bytes.old }
     {
         Frame { bytes }
     }
@@ -91,7 +91,7 @@ impl<'f> Frame<'f> {
     }
 
     /// Its message.
-    pub fn message(&self) -> &'f [u8]
+    pub fn message(&self) -> &[u8]
         ensures value { result.now ≡ message_of self.now }
         ensures short { length result.now ≤ MAX_MESSAGE_BYTES }
     {
@@ -104,5 +104,15 @@ impl<'f> Frame<'f> {
     {
         let bytes = &self.bytes[FRAME_HEAD + self.message_length()..];
         read_handles(bytes, self.handle_count(), room)
+    }
+
+    /// Its message, to be decoded in place.
+    pub fn into_message(self) -> &'f mut [u8]
+        ensures value { result.now ≡ message_of self.entry }
+        ensures short { length result.now ≤ MAX_MESSAGE_BYTES }
+    {
+        let end = FRAME_HEAD + self.message_length();
+        let Frame { bytes } = self;
+        &mut bytes[FRAME_HEAD..end]
     }
 }

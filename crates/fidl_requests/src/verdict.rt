@@ -45,18 +45,20 @@ fn is_called_right(two_way: bool, txid: u32) -> bool
 }
 
 /// Whether the body of a frame is what the request of a method carries.
-fn is_body(table: &Table<'_>, method: &Method<'_>, frame: &Frame<'_>, scratch: &mut Scratch) -> bool
+fn is_body(table: &Table<'_>, method: &Method<'_>, frame: Frame<'_>, scratch: &mut Scratch) -> bool
     requires table { method.now.table ≡ table.now }
-    requires header { IsHeader (message_of frame.now) }
-    ensures { IsTrue result ↔ IsBody table.now method.now.number frame.now }
+    requires header { IsHeader (message_of frame) }
+    ensures { IsTrue result ↔ IsBody table.now method.now.number frame.entry }
 {
     let mut room = HANDLE_ROOM;
-    let body = &frame.message()[HEADER_BYTES..];
     let handles = frame.handles(&mut room);
+    let message = frame.into_message();
+    let body = &mut message[HEADER_BYTES..];
     is_carried(table, method.request(), body, handles, scratch)
 }
 
-/// What the frame asks of a service of this protocol.
+/// What the frame asks of a service of this protocol. Its message is decoded where it stands, so the
+/// decoder's links can be left in it.
 ///
 /// BadMessage comes where it has no header, the transaction id is not one of the method's calls, or
 /// the body is not what the method's request carries. StrictUnknown comes where no method with a
@@ -64,11 +66,11 @@ fn is_body(table: &Table<'_>, method: &Method<'_>, frame: &Frame<'_>, scratch: &
 pub fn judge(
     table: &Table<'_>,
     protocol: &Protocol<'_>,
-    frame: &Frame<'_>,
+    frame: Frame<'_>,
     scratch: &mut Scratch,
 ) -> Verdict
     requires { protocol.now.table ≡ table.now }
-    ensures { IsVerdict protocol.now frame.now result }
+    ensures { IsVerdict protocol.now frame.entry result }
 {
     let header = match Header::read(frame.message()) {
         Ok(header) => header,

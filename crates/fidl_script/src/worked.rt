@@ -58,10 +58,10 @@ pub fn bodies_of_lines()
         → ¬ (GivesBody table (Entry entry) None body) }
 {}
 
-/// A header has 16 of the 65,536 bytes of a message.
+/// A header has 16 of the 16,777,216 bytes of a message.
 pub fn bodies_behind_headers()
-    ensures longest { (body : Body) → length body.bytes ≡ 65520 → FitsBehindHeader body }
-    ensures longer { (body : Body) → length body.bytes ≡ 65521 → ¬ (FitsBehindHeader body) }
+    ensures longest { (body : Body) → length body.bytes ≡ 16777200 → FitsBehindHeader body }
+    ensures longer { (body : Body) → length body.bytes ≡ 16777201 → ¬ (FitsBehindHeader body) }
 {}
 
 /// The replies of a method are those of its ordinal, in their order.

@@ -92,7 +92,7 @@ pub(crate) fn answer(
         (left_of service.now.script.now places.new) (take count buffer.old) buffer.new result }
     ensures within { reply_length result ≤ length buffer.new }
 {
-    let frame = Frame::new(&buffer[..count]);
-    let verdict = judge(service.table, service.protocol, &frame, scratch);
+    let frame = Frame::new(&mut buffer[..count]);
+    let verdict = judge(service.table, service.protocol, frame, scratch);
     react(service.script, places, buffer, verdict)
 }

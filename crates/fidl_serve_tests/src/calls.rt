@@ -26,6 +26,8 @@ fn frames_end_the_service(rt: HostRuntime) -> Result<(), Fail> {
         " -> EndOfInput",
         "10000000 -> BadFrame",
         "0100010000000000 -> BadFrame",
+        // 16,777,217 bytes.
+        "0100000100000000 -> BadFrame",
         // 65 handles.
         "1000000041000000 -> BadFrame",
         "1000000000000000 0700000002008001 ba7816bf8f01cf -> BadFrame",

@@ -68,7 +68,7 @@ pub fn run_dump<F: Files, W: Write, E: Write>(
         Ok(table) => table,
         Err(ended) => return ended,
     };
-    let frames = match file_bytes(alloc, arguments.file, files, errors) {
+    let mut frames = match file_bytes(alloc, arguments.file, files, errors) {
         Ok(frames) => frames,
         Err(ended) => return ended,
     };
@@ -79,7 +79,7 @@ pub fn run_dump<F: Files, W: Write, E: Write>(
     let recorded = Recorded {
         protocol: arguments.protocol,
         direction: direction_of(arguments.response),
-        frames: frames.as_slice(),
+        frames: frames.as_mut_slice(),
     };
-    dump(alloc, &file, &recorded, out, errors)
+    dump(alloc, &file, recorded, out, errors)
 }

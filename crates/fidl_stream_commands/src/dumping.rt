@@ -23,12 +23,12 @@ use std::alloc::Global;
 use std::io::Write;
 
 /// Frames that were recorded: the name of their protocol, which of its messages they hold, and their
-/// bytes.
-#[derive(Clone, Copy, Drop)]
+/// bytes, in which their messages are decoded.
+#[derive(Drop)]
 pub struct Recorded<'f> {
     pub protocol: &'f str,
     pub direction: Direction,
-    pub frames: &'f [u8],
+    pub frames: &'f mut [u8],
 }
 
 /// The line of the fault of the frame of this number, from 1.
@@ -54,16 +54,16 @@ fn write_frame_refusal<E: Write>(
 fn dump_by<W: Write, E: Write>(
     alloc: Global,
     stream: &Stream<'_, '_>,
-    frames: &[u8],
+    frames: &mut [u8],
     out: &mut Output<W>,
     errors: &mut Output<E>,
 ) -> Outcome
     ensures ends { CanEndDumpBy result }
-    ensures whole { result ≡ outcome.Done → (frames_of frames.now).tail ≡ between }
+    ensures whole { result ≡ outcome.Done → (frames_of frames.old).tail ≡ between }
     ensures done { result ≡ outcome.Done → PrintsLines stream.now.protocol.now stream.now.direction
-        (frames_of frames.now).frames (W.contents out.old.writer) (W.contents out.new.writer) }
+        (frames_of frames.old).frames (W.contents out.old.writer) (W.contents out.new.writer) }
     ensures refused { result ≡ outcome.Refused → (number : ℕ) × (fault : FrameFault)
-        × IsStoppedAt stream.now.protocol.now stream.now.direction frames.now
+        × IsStoppedAt stream.now.protocol.now stream.now.direction frames.old
         (W.contents out.old.writer) (W.contents out.new.writer) number fault
         × Appends (E.contents errors.old.writer) (E.contents errors.new.writer)
         (frame_line number fault) }
@@ -74,7 +74,7 @@ fn dump_by<W: Write, E: Write>(
     ensures front { result ≡ outcome.Unwritten
         → W.contents out.new.writer ≡ W.contents out.old.writer
         ⊎ ((count : ℕ) × PrintsFront stream.now.protocol.now stream.now.direction
-        (first_frames count frames.now) (W.contents out.old.writer) (W.contents out.new.writer)) }
+        (first_frames count frames.old) (W.contents out.old.writer) (W.contents out.new.writer)) }
     ensures out { result ≡ outcome.NoMemory → out.new ≡ out.old }
     ensures errors { result ≡ outcome.Done
         → E.contents errors.new.writer ≡ E.contents errors.old.writer }
@@ -102,21 +102,21 @@ fn dump_by<W: Write, E: Write>(
 pub fn dump<W: Write, E: Write>(
     alloc: Global,
     file: &File<'_>,
-    recorded: &Recorded<'_>,
+    recorded: Recorded<'_>,
     out: &mut Output<W>,
     errors: &mut Output<E>,
 ) -> Outcome
     ensures ends { CanEndDump result }
-    ensures done { result ≡ outcome.Done → IsDumpedOf file.now.bytes.now recorded.now
+    ensures done { result ≡ outcome.Done → IsDumpedOf file.now.bytes.now recorded.entry
         (W.contents out.old.writer) (W.contents out.new.writer) }
     ensures refused { result ≡ outcome.Refused
-        → AppendsOne (IsDumpRefusalOf file.now.bytes.now recorded.now
+        → AppendsOne (IsDumpRefusalOf file.now.bytes.now recorded.entry
         (W.contents out.old.writer) (W.contents out.new.writer))
         (E.contents errors.old.writer) (E.contents errors.new.writer) }
     ensures no_protocol { result ≡ outcome.NoProtocol
-        → LacksProtocol file.now.bytes.now recorded.now.protocol.now }
+        → LacksProtocol file.now.bytes.now recorded.entry.protocol.now }
     ensures no_protocol_line { result ≡ outcome.NoProtocol
-        → TellsNoProtocol file.now.bytes.now file.now.name.now recorded.now.protocol.now
+        → TellsNoProtocol file.now.bytes.now file.now.name.now recorded.entry.protocol.now
         (E.contents errors.old.writer) (E.contents errors.new.writer) }
     ensures accepted { result ≡ outcome.NoMemory → WellFormed file.now.bytes.now }
     ensures memory_line { result ≡ outcome.NoMemory
@@ -125,7 +125,7 @@ pub fn dump<W: Write, E: Write>(
         errors.old.failure errors.new.failure }
     ensures front { result ≡ outcome.Unwritten
         → W.contents out.new.writer ≡ W.contents out.old.writer
-        ⊎ IsDumpedInPartOf file.now.bytes.now recorded.now
+        ⊎ IsDumpedInPartOf file.now.bytes.now recorded.entry
         (W.contents out.old.writer) (W.contents out.new.writer) }
     ensures out { result ≡ outcome.NoProtocol ⊎ result ≡ outcome.NoMemory → out.new ≡ out.old }
     ensures errors { result ≡ outcome.Done

@@ -1,8 +1,6 @@
 -- What an output has taken as a sink, as a writer's bytes.
-use Rattle.std.proofs.Common.{◌≡◌, ℕ, List, ◌++◌, subst}
-use Rattle.std.specs.Prelude.{Option}
-use Rattle.std.specs.Io.KnownBytes.{Appends}
-use Rattle.fidl_streams.specs.Written.{Taken, Takes, TakesPart}
+use Rattle.std.proofs.Common.{ℕ, List}
+use Rattle.fidl_streams.specs.Written.{Taken, TakesPart}
 use Rattle.fidl_text.specs.Outputs.{AppendsFront}
 
 -- a part is a front

@@ -1,6 +1,6 @@
 -- What a well-formed table says of an entry, its elements and its members.
-use Rattle.std.proofs.Common.{◌≡◌, ℕ, zero, suc, ◌+◌, ◌-◌, ◌*◌, ◌<◌, ◌≤◌, List, ◌++◌, sym, ap, subst, ◌∙◌, arith, mul-suc}
-use Rattle.std.specs.Prelude.{Some, None, nat_lt, codes, pos, ℤ, ◌⊎◌, false}
+use Rattle.std.proofs.Common.{◌≡◌, ℕ, zero, suc, ◌+◌, ◌*◌, ◌<◌, ◌≤◌, List, sym, ap, subst, ◌∙◌, arith, mul-suc}
+use Rattle.std.specs.Prelude.{Some, None, pos, ℤ, ◌⊎◌, false}
 use Rattle.fidl_wire.specs.Value.{Value, Values, number, fields, none, value}
 use Rattle.fidl_wire.specs.Term.{Term, Kind, Fields, fields_of, resolve, int8, int16, int32, int64, uint8, uint16, uint32, uint64}
 use Rattle.fidl_wire.specs.Term as ty
@@ -11,7 +11,7 @@ use Rattle.fidl_wire.specs.Depth.{depth_of, fields_depth}
 use Rattle.fidl_table_format.specs.declared.record.Row.{Row}
 use Rattle.fidl_table_format.specs.declared.kind.EntryKind.{EntryKind}
 use Rattle.fidl_table_format.specs.declared.kind.EntryKind.TheVariants.{Vector, Array, Box, Struct}
-use Rattle.fidl_table_format.specs.Section.{header_of, entry_at, row_at, name_at}
+use Rattle.fidl_table_format.specs.Section.{header_of, entry_at, row_at}
 use Rattle.fidl_table_format.specs.Terms.{declarations_of, fields_from, term_as}
 use Rattle.fidl_table_format.specs.Uses.{uses_entry, uses_rows}
 use Rattle.fidl_table_format.specs.Entry.{IsOf}
@@ -25,7 +25,7 @@ use Rattle.fidl_decode_model.proofs.Visiting.{term_is, figure_is, size_is}
 use Rattle.fidl_view.specs.declared.view.View.{View}
 use Rattle.fidl_view.specs.Within.{IsPart, IsMembers}
 use Rattle.fidl_view.specs.Parts.{absence_of, nth, unsigned_of, signed_of}
-use Rattle.fidl_view.proofs.Listed.{box_is, by_term, each_nth, each_typed, number_kind, struct_is, values_after}
+use Rattle.fidl_view.proofs.Listed.{box_is, by_term, each_nth, each_typed, number_kind, struct_is}
 
 le_product : (a n own whole : ℕ) → own ≡ a → 0 < n → a * n ≡ whole → own ≤ whole
 le_product a (suc n) own whole e some is = let more : a * n + a ≡ whole = sym (mul-suc a n) ∙ is in omega (arith, e, more)

@@ -1,16 +1,15 @@
 -- The members of tables and unions, as the parts that show them.
-use Rattle.std.proofs.Common.{◌≡◌, ℕ, ◌+◌, ◌*◌, ◌<◌, ◌≤◌, Bool, true, false, cond, nat_le, List, [], length, refl, sym, ap, subst, ◌∙◌, arith, inl, inr, length-append}
+use Rattle.std.proofs.Common.{rules, ◌≡◌, ℕ, ◌+◌, ◌*◌, ◌%◌, ◌<◌, ◌≤◌, Bool, true, false, cond, nat_le, List, [], length, get_or, refl, sym, ap, subst, ◌∙◌, arith, inl, inr, length-append}
 use Rattle.std.specs.Prelude.{Option, Some, None, if◌then◌else◌, IsTrue, MatchOption}
 use Rattle.std.specs.Option.{option_map_or}
-use Rattle.std.specs.Int.{w64, to_le_bytes}
+use Rattle.std.specs.Int.{w16, w32, w64, to_le_bytes}
 use Rattle.std.proofs.lemmas.Bool.Decides.{eqb_tells}
-use Rattle.fidl_limits.specs.declared.limits.TheConstants.{MAX_MESSAGE_BYTES}
 use Rattle.fidl_wire.specs.Value.{Value, absent, table, union, Member, known, unknown, Members}
 use Rattle.fidl_wire.specs.Term.{Term, Rows, resolve, rows_of, find, nothing}
 use Rattle.fidl_wire.specs.Term as ty
 use Rattle.fidl_wire.specs.Figure.{Figure, Declarations, size_of}
 use Rattle.fidl_wire.specs.Typed.{IsTyped, IsTypedMember, RiseTyped}
-use Rattle.fidl_wire.specs.Encoding.{Encoding, zeros, present, padded, pad8, object, inline_envelope, out_envelope, encoding_of, enveloped, envelopes}
+use Rattle.fidl_wire.specs.Encoding.{Encoding, zeros, present, padded, pad8, object, inline_envelope, out_envelope, envelope_end, encoding_of, enveloped, envelopes, term_or}
 use Rattle.fidl_wire.specs.Standing.{Stands}
 use Rattle.fidl_wire.proofs.Stand.{stands_to, stands_front, stands_back}
 use Rattle.fidl_wire.proofs.Sizes.{size_of-resolve, le_of_test}
@@ -29,6 +28,7 @@ use Rattle.fidl_decode_model.specs.Model.{Shown}
 use Rattle.fidl_decode_model.specs.Faults.{message_of}
 use Rattle.fidl_decode_model.specs.State.{Message, envelope_place}
 use Rattle.fidl_decode_model.specs.Placed.{Placed, IsMemberPlaced, AreMembersPlaced, object_at, enclosed_at}
+use Rattle.fidl_decode_model.specs.Readable.{Readable, IsMemberReadable, AreMembersReadable, IsEnvelopeReadable}
 use Rattle.fidl_decode_model.specs.Invariants.{IsFine}
 use Rattle.fidl_decode_model.proofs.Bridge.{fine_of}
 use Rattle.fidl_decode_model.proofs.Numbers.{number_64}
@@ -39,11 +39,8 @@ use Rattle.fidl_view.specs.Shows.{Shows}
 use Rattle.fidl_view.specs.declared.view.View.{View}
 use Rattle.fidl_view.specs.declared.envelope.Unknown.{Unknown}
 use Rattle.fidl_view.specs.Views.{IsShownBy, ShowsKnown}
-use Rattle.fidl_wire.specs.Marker.{Says}
-use Rattle.fidl_wire.specs.declared.marker.Presence.{Presence}
-use Rattle.fidl_wire.specs.declared.marker.Presence.TheVariants.{Absent, Present, Neither}
 use Rattle.fidl_view.specs.Members.{ShowMember, term_at}
-use Rattle.fidl_view.proofs.Content.{stands_short}
+use Rattle.fidl_view.proofs.Content.{stands_short, IsUnlinkedWord}
 use Rattle.fidl_view.proofs.Envelopes as slots
 use Rattle.fidl_view.proofs.Viewing as viewing
 
@@ -52,6 +49,13 @@ weaker : (ds : Declarations) (strict : Bool) (t : Option Term) (x : Member) → 
 weaker ds strict (Some t) (known v) h = h
 weaker ds strict None (unknown inline bytes handles) h = (refl, h.1, h.2, h.3)
 weaker ds strict _ _ h = absurd h
+
+-- the test of four bytes
+pub few_bytes : (n : ℕ) → n ≤ 4 → nat_le n 4 ≡ true
+few_bytes n h = search (rules, h)
+
+pub more_bytes : (n : ℕ) → 4 < n → nat_le n 4 ≡ false
+more_bytes n h = search (rules, h)
 
 -- only unions have a variant
 pub no_variant : (ds : Declarations) (t : List ℕ) (h : Header) (e : Entry) (k : EntryKind) → (k ≡ Union → ⊥) → (v : Value) → IsTyped ds (term_as k t h e) v → variant_of v ≡ None
@@ -153,12 +157,6 @@ no_held ds t h e k a b (union key y) x ordinal = absurd (go k b x)
     go Handle b x = x
 no_held ds t h e k a b _ x ordinal = refl
 
--- a marker that says other than absent is no zeros
-pub some_bytes : (b : List ℕ) (q : ℕ) (r : Presence) → Says b q 8 r → (r ≡ Absent → ⊥) → Stands b q (zeros 8) → ⊥
-some_bytes b q Absent s other z = other refl
-some_bytes b q Present s other z = let one = s.1 in let no = z.1 in omega (arith, one, no)
-some_bytes b q Neither s other z = s.0 z
-
 -- the view of a member's value, where it is known
 pub shown_member : (r : Option View) (v : Value) (ordinal : ℕ) (x : Member) → member_of v ordinal ≡ known_of x → ShowsKnown r x
     → MatchOption r (member_of v ordinal ≡ None) (λ part. (y : Value) × (member_of v ordinal ≡ Some y) × IsShownBy part y)
@@ -235,26 +233,28 @@ module _ (d : Shown) (w : WellFormed d.table) where
     abbrev base : ℕ
     base = object_at d.links (place + 8)
 
-    -- a table has as many envelopes as its count says, in its object
+    -- a table has as many envelopes as its count says, in its object, which begins at a multiple of 8
     pub record TableThere (v : Value) : Type 0 where
       pub n : ℕ
       pub ms : Members
       pub is : v ≡ table n ms
       pub counted : number_at w64 d.bytes place ≡ n
+      pub aligned : base % 8 ≡ 0
       pub typed : RiseTyped ds rows 0 n ms
       pub stands : Stands d.bytes base (envelopes ds rows 1 n ms).inline
       pub placed : AreMembersPlaced ds m d.links rows base ms
+      pub readable : AreMembersReadable ds d.links rows 0 n base ms
       pub within : length (envelopes ds rows 1 n ms).out ≤ length d.bytes
 
     pub table_shown : IsOf Table (entry_at d.table index) → (v : Value) → Shows d index place v → TableThere v
     table_shown is v s =
         let own : term_as Table d.table (header_of d.table) (entry_at d.table index) ≡ ty.table rows = ap ty.table (sym (rows_are index Table is)) in
         let x = viewing.lies d w index place lt Table is v s in
-        go v (subst (λ (t : Term). IsTyped ds t v) own x.0) (subst (λ (t : Term). Placed ds m d.links t place v) own x.1)
+        go v (subst (λ (t : Term). IsTyped ds t v) own x.0) (subst (λ (t : Term). Placed ds m d.links t place v) own x.1) (subst (λ (t : Term). Readable ds d.links t place v) own x.2)
         (subst (λ (t : Term). length (encoding_of ds t v).out ≤ length d.bytes) own (viewing.lies_within d w index place lt Table is v s))
       where
-        go : (v : Value) → IsTyped ds (ty.table rows) v → Placed ds m d.links (ty.table rows) place v → length (encoding_of ds (ty.table rows) v).out ≤ length d.bytes → TableThere v
-        go (table n ms) h p within =
+        go : (v : Value) → IsTyped ds (ty.table rows) v → Placed ds m d.links (ty.table rows) place v → Readable ds d.links (ty.table rows) place v → length (encoding_of ds (ty.table rows) v).out ≤ length d.bytes → TableThere v
+        go (table n ms) h p r within =
             let e = envelopes ds rows 1 n ms in
             record {
               n = n;
@@ -263,10 +263,12 @@ module _ (d : Shown) (w : WellFormed d.table) where
               counted = number_64 d.bytes place n h.0 (stands_front d.bytes place (to_le_bytes w64 n) present p.0);
               typed = h.1;
               stands = p.1;
+              aligned = r.1.2;
               placed = p.2;
+              readable = r.2;
               within = omega (arith, within, length-append (pad8 e.inline) e.out);
             }
-        go _ h p within = absurd h
+        go _ h p r within = absurd h
 
     pub table_room : (v : Value) → TableThere v → 0 < number_at w64 d.bytes place → base + 8 * number_at w64 d.bytes place ≤ length d.bytes
     table_room v x some =
@@ -285,21 +287,30 @@ module _ (d : Shown) (w : WellFormed d.table) where
     slot : (v : Value) (x : TableThere v) (ordinal : ℕ) → 0 < ordinal → ordinal ≤ number_at w64 d.bytes place → slots.Found ds fine.laid_out m d.links rows x.n base (length d.bytes) x.ms ordinal
     slot v x ordinal some le =
         let counted = x.counted in
-        slots.found ds fine.laid_out m d.links rows x.n base (length d.bytes) x.ms 0 ordinal x.typed (stands_to d.bytes base (base + 8 * 0) (envelopes ds rows 1 x.n x.ms).inline (omega arith) x.stands) x.placed x.within some (omega (arith, le, counted))
+        slots.found ds fine.laid_out m d.links rows x.n base (length d.bytes) x.ms 0 ordinal x.typed (stands_to d.bytes base (base + 8 * 0) (envelopes ds rows 1 x.n x.ms).inline (omega arith) x.stands) x.placed x.readable x.within some (omega (arith, le, counted))
 
-    pub none_in_zeros : length d.bytes ≤ MAX_MESSAGE_BYTES → (v : Value) → TableThere v → (ordinal : ℕ) → 0 < ordinal → ordinal ≤ number_at w64 d.bytes place → Stands d.bytes (envelope_place base ordinal) (zeros 8) → held_of v ordinal ≡ None
-    none_in_zeros short v x ordinal some le none = elim (slot v x ordinal some le) [
+    -- the envelope of a member has a link
+    some_link : (t : Option Term) (p : ℕ) (x : Member) → IsMemberReadable ds d.links t p x → IsUnlinkedWord d.links p → ⊥
+    some_link t p (known v) r free = go (nat_le (size_of ds (term_or t)) 4) r.0 free
+      where
+        go : (inline : Bool) → IsEnvelopeReadable d.links inline p → IsUnlinkedWord d.links p → ⊥
+        go true e free = let some = e.1.1 in let none = free.1.1 in omega (arith, some, none)
+        go false e free = let some = e.0.1 in let none = free.1.1 in omega (arith, some, none)
+    some_link t p (unknown true bytes handles) r free = let some = r.0.1.1 in let none = free.1.1 in omega (arith, some, none)
+    some_link t p (unknown false bytes handles) r free = let some = r.0.0.1 in let none = free.1.1 in omega (arith, some, none)
+
+    pub none_in_blank : (v : Value) → TableThere v → (ordinal : ℕ) → 0 < ordinal → ordinal ≤ number_at w64 d.bytes place → IsUnlinkedWord d.links (envelope_place base ordinal) → held_of v ordinal ≡ None
+    none_in_blank v x ordinal some le blank = elim (slot v x ordinal some le) [
       | inl lacks ↦ ap (λ (u : Value). held_of u ordinal) x.is ∙ lacks.0
-      | inr there ↦
-          let within = there.2.within in
-          absurd (slots.member_there d.bytes (envelope_place base ordinal) ds fine.laid_out (find rows ordinal) there.0 there.2.typed there.2.stands (omega (arith, within, short)) none)
+      | inr there ↦ absurd (some_link (find rows ordinal) (envelope_place base ordinal) there.0 there.2.readable blank)
     ]
 
-    pub held_there : (v : Value) → TableThere v → (ordinal : ℕ) → 0 < ordinal → ordinal ≤ number_at w64 d.bytes place → (Stands d.bytes (envelope_place base ordinal) (zeros 8) → ⊥)
+    pub held_there : (v : Value) → TableThere v → (ordinal : ℕ) → 0 < ordinal → ordinal ≤ number_at w64 d.bytes place
+        → (IsUnlinkedWord d.links (envelope_place base ordinal) × Stands d.bytes (envelope_place base ordinal) (zeros 8) → ⊥)
         → (x : Member) × (held_of v ordinal ≡ Some x) × ShowMember d index ordinal (envelope_place base ordinal) x
     held_there v x ordinal some le other = elim (slot v x ordinal some le) [
-      | inl lacks ↦ absurd (other lacks.1)
-      | inr there ↦ (there.0, ap (λ (u : Value). held_of u ordinal) x.is ∙ there.1, record { typed = there.2.typed; stands = there.2.stands; placed = there.2.placed; within = there.2.within })
+      | inl lacks ↦ let free = lacks.2 in absurd (other ((free (envelope_place base ordinal) (omega arith) (omega arith), free (envelope_place base ordinal + 4) (omega arith) (omega arith)), lacks.1))
+      | inr there ↦ (there.0, ap (λ (u : Value). held_of u ordinal) x.is ∙ there.1, record { typed = there.2.typed; stands = there.2.stands; placed = there.2.placed; readable = there.2.readable; within = there.2.within })
     ]
 
     -- ---- unions
@@ -311,14 +322,16 @@ module _ (d : Shown) (w : WellFormed d.table) where
         let own : term_as Union d.table (header_of d.table) (entry_at d.table index) ≡ ty.union (is_optional (entry_at d.table index)) (is_strict (entry_at d.table index)) rows
         = ap (λ (r : Rows). ty.union (is_optional (entry_at d.table index)) (is_strict (entry_at d.table index)) r) (sym (rows_are index Union is)) in
         let x = viewing.lies d w index place lt Union is v s in
-        go (is_optional (entry_at d.table index)) (is_strict (entry_at d.table index)) v (subst (λ (t : Term). IsTyped ds t v) own x.0) (subst (λ (t : Term). Placed ds m d.links t place v) own x.1)
+        go (is_optional (entry_at d.table index)) (is_strict (entry_at d.table index)) v
+        (subst (λ (t : Term). IsTyped ds t v) own x.0) (subst (λ (t : Term). Placed ds m d.links t place v) own x.1) (subst (λ (t : Term). Readable ds d.links t place v) own x.2)
         (subst (λ (t : Term). length (encoding_of ds t v).out ≤ length d.bytes) own (viewing.lies_within d w index place lt Union is v s))
       where
-        go : (optional strict : Bool) (v : Value) → IsTyped ds (ty.union optional strict rows) v → Placed ds m d.links (ty.union optional strict rows) place v → length (encoding_of ds (ty.union optional strict rows) v).out ≤ length d.bytes
+        go : (optional strict : Bool) (v : Value) → IsTyped ds (ty.union optional strict rows) v → Placed ds m d.links (ty.union optional strict rows) place v → Readable ds d.links (ty.union optional strict rows) place v
+            → length (encoding_of ds (ty.union optional strict rows) v).out ≤ length d.bytes
             → (number_at w64 d.bytes place ≡ 0 → variant_of v ≡ None)
             × ((number_at w64 d.bytes place ≡ 0 → ⊥) → (x : Member) × (variant_of v ≡ Some (number_at w64 d.bytes place, x)) × ShowMember d index (number_at w64 d.bytes place) (place + 8) x)
-        go optional strict absent h p within = ((λ e. refl), (λ some. absurd (some (number_64 d.bytes place 0 (omega arith) (stands_front d.bytes place (zeros 8) (zeros 8) p)))))
-        go optional strict (union ordinal x) h p within =
+        go optional strict absent h p r within = ((λ e. refl), (λ some. absurd (some (number_64 d.bytes place 0 (omega arith) (stands_front d.bytes place (zeros 8) (zeros 8) p)))))
+        go optional strict (union ordinal x) h p r within =
             let e = enveloped ds (find rows ordinal) x in
             let is = number_64 d.bytes place ordinal h.1 (stands_front d.bytes place (to_le_bytes w64 ordinal) e.inline p.0) in
             let some = h.0 in
@@ -326,21 +339,46 @@ module _ (d : Shown) (w : WellFormed d.table) where
               typed = weaker ds strict (find rows ordinal) x h.2;
               stands = stands_back d.bytes place (to_le_bytes w64 ordinal) e.inline p.0;
               placed = p.1;
+              readable = r.1;
               within = within;
             } in (
               (λ none. absurd (omega (arith, none, is, some))),
               (λ there. (x, ap (λ k. Some (k, x)) (sym is), subst (λ k. ShowMember d index k (place + 8) x) (sym is) mine)),
             )
-        go optional strict _ h p within = absurd h
+        go optional strict _ h p r within = absurd h
 
   -- ---- what an envelope holds
 
   module _ (index ordinal place : ℕ) where
+    -- the envelope of a known member of more than four bytes has the link of its object, and flags 0
+    pub known_out : (e : ℕ) → e < (header_of d.table).entries → term_at d index ordinal ≡ Some (ty.named e) → 4 < (entry_at d.table e).size → (x : Member) → ShowMember d index ordinal place x
+        → (place % 8 ≡ 0) × (0 < object_at d.links place) × (get_or d.bytes (place + 6) 0 ≡ 0)
+    known_out e lt is more x s =
+        go x (subst (λ (t : Option Term). IsTypedMember ds false t x) is s.typed) (subst (λ (t : Option Term). Stands d.bytes place (enveloped ds t x).inline) is s.stands)
+        (subst (λ (t : Option Term). IsMemberReadable ds d.links t place x) is s.readable)
+      where
+        size : size_of ds (ty.named e) ≡ (entry_at d.table e).size
+        size = size_is d.table fine e lt
+
+        by : (b : Bool) (a : Encoding) → nat_le (size_of ds (ty.named e)) 4 ≡ b → Stands d.bytes place (cond b (inline_envelope (padded 4 a.inline) a.handles) (out_envelope (object a) a.handles)).inline → IsEnvelopeReadable d.links b place
+            → (place % 8 ≡ 0) × (0 < object_at d.links place) × (get_or d.bytes (place + 6) 0 ≡ 0)
+        by true a small st r = let few = le_of_test (size_of ds (ty.named e)) small in absurd (omega (arith, few, size, more))
+        by false a large st r =
+            let end = stands_back d.bytes place (to_le_bytes w32 (length (object a))) (envelope_end 0 a.handles) st in
+            let flags = stands_to d.bytes (place + 4 + 2) (place + 6) (to_le_bytes w16 0) (omega arith) (stands_back d.bytes (place + 4) (to_le_bytes w16 (length a.handles)) (to_le_bytes w16 0) end) in
+            (r.1.0, r.1.1, flags.1)
+
+        go : (x : Member) → IsTypedMember ds false (Some (ty.named e)) x → Stands d.bytes place (enveloped ds (Some (ty.named e)) x).inline → IsMemberReadable ds d.links (Some (ty.named e)) place x
+            → (place % 8 ≡ 0) × (0 < object_at d.links place) × (get_or d.bytes (place + 6) 0 ≡ 0)
+        go (known v) h st r = by (nat_le (size_of ds (ty.named e)) 4) (encoding_of ds (resolve ds.terms (ty.named e)) v) refl st r.0
+        go _ h st r = absurd h
+
     -- a known member
     pub known_shown : (e : ℕ) → e < (header_of d.table).entries → term_at d index ordinal ≡ Some (ty.named e) → (x : Member) → ShowMember d index ordinal place x
         → (u : Value) × (known_of x ≡ Some u) × Shows d e (enclosed_at d.links (nat_le (entry_at d.table e).size 4) place) u
     known_shown e lt is x s =
-        go x (subst (λ (t : Option Term). IsTypedMember ds false t x) is s.typed) (subst (λ (t : Option Term). IsMemberPlaced ds m d.links t place x) is s.placed) (subst (λ (t : Option Term). length (enveloped ds t x).out ≤ length d.bytes) is s.within)
+        go x (subst (λ (t : Option Term). IsTypedMember ds false t x) is s.typed) (subst (λ (t : Option Term). IsMemberPlaced ds m d.links t place x) is s.placed)
+        (subst (λ (t : Option Term). IsMemberReadable ds d.links t place x) is s.readable) (subst (λ (t : Option Term). length (enveloped ds t x).out ≤ length d.bytes) is s.within)
       where
         size : size_of ds (ty.named e) ≡ (entry_at d.table e).size
         size = size_is d.table fine e lt
@@ -349,15 +387,17 @@ module _ (d : Shown) (w : WellFormed d.table) where
         own_out true n a e none within = subst (λ (o : List ℕ). length o ≤ length d.bytes) (sym (none (le_of_test n e))) (omega arith)
         own_out false n a e none within = let all = length-append (pad8 a.inline) a.out in omega (arith, within, all)
 
-        go : (x : Member) → IsTypedMember ds false (Some (ty.named e)) x → IsMemberPlaced ds m d.links (Some (ty.named e)) place x → length (enveloped ds (Some (ty.named e)) x).out ≤ length d.bytes
+        go : (x : Member) → IsTypedMember ds false (Some (ty.named e)) x → IsMemberPlaced ds m d.links (Some (ty.named e)) place x → IsMemberReadable ds d.links (Some (ty.named e)) place x
+            → length (enveloped ds (Some (ty.named e)) x).out ≤ length d.bytes
             → (u : Value) × (known_of x ≡ Some u) × Shows d e (enclosed_at d.links (nat_le (entry_at d.table e).size 4) place) u
-        go (known v) h p within =
+        go (known v) h p r within =
             let term = resolve ds.terms (ty.named e) in
             let same = size_of-resolve ds fine.laid_out (ty.named e) in
             let mine : Shows d e (enclosed_at d.links (nat_le (size_of ds (ty.named e)) 4) place) v = record {
               typed = h;
               placed = p;
+              readable = r.1;
               within = own_out (nat_le (size_of ds (ty.named e)) 4) (size_of ds (ty.named e)) (encoding_of ds term v) refl (λ small. no_out ds fine.laid_out term v h (omega (arith, same, small))) within;
             } in
             (v, refl, subst (λ k. Shows d e (enclosed_at d.links (nat_le k 4) place) v) size mine)
-        go _ h p within = absurd h
+        go _ h p r within = absurd h

@@ -2,8 +2,10 @@ pub mod Sorts
 pub mod Reading
 pub mod Finding
 pub mod Content
+pub mod Unlinked
 pub mod Viewing
 pub mod Parts
+pub mod Blank
 pub mod Lists
 pub mod MemberPlaces
 pub mod Envelopes

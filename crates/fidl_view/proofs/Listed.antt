@@ -1,9 +1,7 @@
 -- The values of a list, and the parts that show them.
-use Rattle.std.proofs.Common.{◌≡◌, ℕ, zero, suc, ◌+◌, ◌-◌, ◌<◌, ◌≤◌, List, ◌++◌, refl, sym, ap, subst, ◌∙◌, inl, inr, arith}
-use Rattle.std.specs.Prelude.{Option, Some, None, nat_lt, codes, Bool, pos, negsuc, ℤ, ◌⊎◌, true, false, IsSome, IfSome, MatchOption}
-use Rattle.std.proofs.lemmas.Bool.{lt-ltb}
-use Rattle.fidl_wire.specs.declared.handle.HandleInfo.{HandleInfo}
-use Rattle.fidl_wire.specs.Value.{Value, Values, absent, bool, number, text, list, fields, handle, none, value, count}
+use Rattle.std.proofs.Common.{◌≡◌, ℕ, zero, suc, ◌+◌, ◌<◌, ◌≤◌, List, refl, sym, ap, subst, ◌∙◌, inl, inr, arith}
+use Rattle.std.specs.Prelude.{Option, Some, None, Bool, pos, negsuc, ℤ, ◌⊎◌, true, false, IsSome, IfSome, MatchOption}
+use Rattle.fidl_wire.specs.Value.{Value, Values, absent, bool, number, list, fields, none, value, count}
 use Rattle.fidl_wire.specs.Term.{Term, Kind, Fields, fields_of, resolve, int8, int16, int32, int64, uint8, uint16, uint32, uint64}
 use Rattle.fidl_wire.specs.Term as ty
 use Rattle.fidl_wire.specs.Figure.{Declarations}
@@ -14,15 +12,15 @@ use Rattle.fidl_table_format.specs.declared.record.Header.{Header}
 use Rattle.fidl_table_format.specs.declared.record.Entry.{Entry}
 use Rattle.fidl_table_format.specs.declared.kind.EntryKind.{EntryKind}
 use Rattle.fidl_table_format.specs.declared.kind.EntryKind.TheVariants.{Bool as Boolean, Int8, Int16, Int32, Int64, Uint8, Uint16, Uint32, Uint64, Bits, Enum, String, Vector, Array, Box, Struct, Table, Union, Handle}
-use Rattle.fidl_table_format.specs.Section.{header_of, entry_at, row_at, name_at}
+use Rattle.fidl_table_format.specs.Section.{row_at}
 use Rattle.fidl_table_format.specs.Terms.{declarations_of, fields_from, term_as}
 use Rattle.fidl_decode_model.specs.Model.{Shown}
 use Rattle.fidl_view.specs.Shows.{Shows}
 use Rattle.fidl_view.specs.declared.view.View.{View}
 use Rattle.fidl_decode_model.proofs.Scalars.{numeric_number, numeric_bits, numeric_enum}
 use Rattle.fidl_view.specs.Numbers.{unsigned_in, signed_in}
-use Rattle.fidl_view.specs.Parts.{absence_of, bool_of, nth, numbers_of, unsigned_of, signed_of, string_of, handle_of}
-use Rattle.fidl_view.specs.Within.{IsPart, IsElements, IsMembers}
+use Rattle.fidl_view.specs.Parts.{absence_of, bool_of, nth, numbers_of, unsigned_of, signed_of}
+use Rattle.fidl_view.specs.Within.{IsPart, IsElements}
 
 -- the values from a place on
 abbrev pub values_after : ℕ → Values → Values

@@ -1,8 +1,9 @@
 -- The elements of arrays and vectors, as the parts that show them.
-use Rattle.std.proofs.Common.{◌≡◌, ℕ, zero, suc, ◌+◌, ◌-◌, ◌*◌, ◌^◌, ◌<◌, ◌≤◌, ◌%◌, List, [], ◌∷◌, length, get_or, refl, sym, ap, subst, ◌∙◌, arith, suc-mul, mul_comm, mul-suc, pos, negsuc, length-append}
+use Rattle.std.proofs.Common.{◌≡◌, ℕ, true, false, zero, suc, ◌+◌, ◌-◌, ◌*◌, ◌^◌, ◌<◌, ◌≤◌, ◌%◌, List, [], ◌∷◌, length, refl, sym, ap, subst, ◌∙◌, arith, suc-mul, mul_comm, mul-suc, pos, negsuc, length-append, inl, inr}
 use Rattle.std.specs.Prelude.{Bool, Some, None, take, drop, slice_range}
 use Rattle.std.specs.Int.{w64, to_le_bytes}
 use Rattle.std.proofs.Math.Nat.{mul-le-mul_right}
+use Rattle.std.proofs.lemmas.Bool.{cases_lt}
 use Rattle.fidl_wire.specs.Value.{Value, Values, absent, number, text, list, table, Members, none, value, count}
 use Rattle.fidl_wire.specs.Term.{Term, resolve, uint8}
 use Rattle.fidl_wire.specs.Term as ty
@@ -11,7 +12,7 @@ use Rattle.fidl_wire.specs.Typed.{IsTyped, AllTyped}
 use Rattle.fidl_wire.specs.Encoding as encoding
 use Rattle.fidl_wire.specs.Encoding.{encoding_of, present, zeros}
 use Rattle.fidl_wire.specs.Standing.{Stands}
-use Rattle.fidl_wire.proofs.Stand.{stands_front, stands_back, copies_are}
+use Rattle.fidl_wire.proofs.Stand.{stands_front}
 use Rattle.fidl_wire.proofs.Sizes.{length-inline, size_of-resolve}
 use Rattle.fidl_table_format.specs.declared.record.Header.{Header}
 use Rattle.fidl_table_format.specs.declared.record.Entry.{Entry}
@@ -27,15 +28,16 @@ use Rattle.fidl_decode_model.specs.Faults.{message_of}
 use Rattle.fidl_decode_model.specs.State.{Message}
 use Rattle.fidl_decode_model.specs.Links.{Linked}
 use Rattle.fidl_decode_model.specs.Placed.{ArePlaced, object_at, content_at}
+use Rattle.fidl_decode_model.specs.Readable.{IsUnlinked, AreUnlinked, AreReadable}
 use Rattle.fidl_decode_model.specs.Invariants.{IsFine}
 use Rattle.fidl_decode_model.proofs.Bridge.{fine_of}
 use Rattle.fidl_decode_model.proofs.Numbers.{slice_is, number_64}
 use Rattle.fidl_decode_model.proofs.Visiting.{fine_as, term_is, figure_is, size_is}
-use Rattle.fidl_view.specs.Parts.{nth, octet, octets, bytes_if, bytes_of, length_of, element_of, elements_of, string_of, IsNoList}
+use Rattle.fidl_view.specs.Parts.{absence_of, nth, octet, octets, bytes_if, bytes_of, length_of, element_of, elements_of, string_of, IsNoList}
 use Rattle.fidl_view.specs.Shows.{Shows, type_of}
 use Rattle.fidl_view.specs.Elements.{parts_from, ShowEach}
 use Rattle.fidl_view.specs.Views.{count_at}
-use Rattle.fidl_view.proofs.Content.{Held, stands_short}
+use Rattle.fidl_view.proofs.Content.{Held, not_both, stands_short}
 use Rattle.fidl_view.proofs.Finding.{inline_of}
 use Rattle.fidl_view.proofs.Viewing as viewing
 
@@ -162,33 +164,34 @@ same_slice m p q (suc n) k e same = λ j. slice_range m (same (omega arith) j) (
 absent_no_list : IsNoList absent
 absent_no_list vs e = cc
 
+pub no_vector : (v : Value) → true ≡ absence_of v → IsNoList v
+no_vector absent e = absent_no_list
+no_vector _ e = absurd (not_both (sym e))
+
 -- ---- what a vector's marker and count say
 
 module _ (ds : Declarations) (m : Message) (l : Linked) (place : ℕ) where
-  -- a vector that is there has as many elements as its count says, in its object
+  -- a vector that is there has as many elements as its count says, in its object, and they can be read there
   pub record ListThere (t : Term) (v : Value) : Type 0 where
     pub vs : Values
     pub is : v ≡ list vs
     pub counted : number_at w64 m.bytes place ≡ count vs
     pub typed : AllTyped ds (resolve ds.terms t) vs
     pub placed : ArePlaced ds m l (resolve ds.terms t) (size_of ds t) (object_at l (place + 8)) vs
+    pub readable : AreReadable ds l (resolve ds.terms t) (size_of ds t) (object_at l (place + 8)) vs
 
-  pub vector_found : (optional : Bool) (bound : ℕ) (t : Term) → bound < 2 ^ 32 → (v : Value) → Held ds m l place (ty.vector optional bound t) v
-      → (get_or m.bytes (place + 8) 0 ≡ 0 → IsNoList v) × ((get_or m.bytes (place + 8) 0 ≡ 0 → ⊥) → ListThere t v)
-  vector_found optional bound t few absent h = ((λ e. absent_no_list), (λ some. absurd (some (copies_are m.bytes 0 16 place h.1 (place + 8) (omega arith) (omega arith)))))
-  vector_found optional bound t few (list vs) h =
-      let n = to_le_bytes w64 (count vs) in
-      let ones : get_or m.bytes (place + 8) 0 ≡ 255 = (stands_back m.bytes place n present h.1.0).1 in (
-        (λ e. absurd (omega (arith, e, ones))),
-        (λ some. record {
-          vs = vs;
-          is = refl;
-          counted = number_64 m.bytes place (count vs) (omega (arith, h.0.0, few)) (stands_front m.bytes place n present h.1.0);
-          typed = h.0.1;
-          placed = h.1.1;
-        }),
-      )
-  vector_found optional bound t few _ h = absurd h.0
+  pub vector_found : (optional : Bool) (bound : ℕ) (t : Term) → bound < 2 ^ 32 → (v : Value) → false ≡ absence_of v → Held ds m l place (ty.vector optional bound t) v → ListThere t v
+  vector_found optional bound t few absent there h = absurd (not_both there)
+  vector_found optional bound t few (list vs) there h =
+      record {
+        vs = vs;
+        is = refl;
+        counted = number_64 m.bytes place (count vs) (omega (arith, h.0.0, few)) (stands_front m.bytes place (to_le_bytes w64 (count vs)) present h.1.0);
+        typed = h.0.1;
+        placed = h.1.1;
+        readable = h.2.1;
+      }
+  vector_found optional bound t few _ there h = absurd h.0
 
 -- ---- parts that show elements
 
@@ -201,11 +204,12 @@ one_room k n size less = omega (arith, mul-le-mul_right size less)
 
 module _ (d : Shown) where
   pub shown_each : (i size p : ℕ) (vs : Values) → AllTyped (declarations_of d.table) (type_of d i) vs → ArePlaced (declarations_of d.table) (message_of d.bytes d.handles) d.links (type_of d i) size p vs
+      → AreReadable (declarations_of d.table) d.links (type_of d i) size p vs
       → length (encoding.elements (declarations_of d.table) (type_of d i) vs).out ≤ length d.bytes → ShowEach (parts_from d i size p (count vs)) vs
-  shown_each i size p none x h within = tt
-  shown_each i size p (value v vs) x h within =
+  shown_each i size p none x h r within = tt
+  shown_each i size p (value v vs) x h r within =
       let both = length-append (encoding_of (declarations_of d.table) (type_of d i) v).out (encoding.elements (declarations_of d.table) (type_of d i) vs).out in
-      (record { typed = x.0; placed = h.0; within = omega (arith, both, within) }, shown_each i size (p + size) vs x.1 h.1 (omega (arith, both, within)))
+      (record { typed = x.0; placed = h.0; readable = r.0; within = omega (arith, both, within) }, shown_each i size (p + size) vs x.1 h.1 r.1 (omega (arith, both, within)))
 
   -- as many parts as elements
   pub shown_count : (i size p n : ℕ) (vs : Values) → ShowEach (parts_from d i size p n) vs → n ≡ count vs
@@ -269,6 +273,19 @@ module _ (d : Shown) where
         go (number (negsuc k)) more s = absurd s.0
         go _ more s = absurd s.0
 
+    -- no link stands over them
+    pub octets_free : (i p n : ℕ) (vs : Values) → i < (header_of d.table).entries → IsOf Uint8 (entry_at d.table i) → ShowEach (parts_from d i 1 p n) vs → AreUnlinked d.links p (p + n)
+    octets_free i p zero vs lt of h k from to = absurd (omega (arith, from, to))
+    octets_free i p (suc n) none lt of h k from to = absurd h
+    octets_free i p (suc n) (value v vs) lt of h k from to = elim (cases_lt p k) [
+      | inl past ↦ octets_free i (p + 1) n vs lt of h.1 k (omega (arith, past)) (omega (arith, to))
+      | inr le ↦ go v (viewing.lies d w i p lt Uint8 of v h.0) le
+    ]
+      where
+        go : (v : Value) → viewing.Lies d w i p lt Uint8 v → k ≤ p → IsUnlinked d.links k
+        go (number z) s le = s.2 k from (omega (arith, le))
+        go _ s le = absurd s.0
+
     pub octets_shown : (i p n : ℕ) (vs : Values) → i < (header_of d.table).entries → IsOf Uint8 (entry_at d.table i) → ShowEach (parts_from d i 1 p n) vs → slice_range d.bytes p (p + n) ≡ octets vs
     octets_shown i p n vs lt of h = slice_is d.bytes p n (octets vs) (octets_count vs ∙ sym (shown_count i 1 p n vs h)) (octets_stand i p n vs lt of h)
 
@@ -301,50 +318,51 @@ module _ (d : Shown) where
           c : ℕ
           c = (entry_at d.table index).first
 
-          go : (v : Value) → viewing.Lies d w index place lt Array v → length (encoding_of (declarations_of d.table) (ty.array (ty.named c) (entry_at d.table index).count) v).out ≤ length d.bytes → (vs : Values) × (v ≡ list vs) × ShowEach (parts_from d c (entry_at d.table c).size place (entry_at d.table index).count) vs
+          go : (v : Value) → viewing.Lies d w index place lt Array v → length (encoding_of (declarations_of d.table) (ty.array (ty.named c) (entry_at d.table index).count) v).out ≤ length d.bytes
+              → (vs : Values) × (v ≡ list vs) × ShowEach (parts_from d c (entry_at d.table c).size place (entry_at d.table index).count) vs
           go (list vs) s within =
               let size = size_is d.table fine c (array_element is) in (
                 vs,
                 refl,
                 subst (λ n. ShowEach (parts_from d c (entry_at d.table c).size place n) vs) s.0.0
-                    (subst (λ k. ShowEach (parts_from d c k place (count vs)) vs) size (shown_each c (size_of (declarations_of d.table) (ty.named c)) place vs s.0.1 s.1.1 within)),
+                    (subst (λ k. ShowEach (parts_from d c k place (count vs)) vs) size (shown_each c (size_of (declarations_of d.table) (ty.named c)) place vs s.0.1 s.1.1 s.2.1 within)),
               )
           go _ s within = absurd s.0
 
       -- the elements of a vector, as parts in its object
-      pub vector_shown : IsOf Vector (entry_at d.table index) → (get_or d.bytes (place + 8) 0 ≡ 0 → ⊥) → (v : Value) → Shows d index place v
+      pub vector_shown : IsOf Vector (entry_at d.table index) → (v : Value) → false ≡ absence_of v → Shows d index place v
           → (vs : Values) × (v ≡ list vs) × ShowEach (parts_from d (entry_at d.table index).first (entry_at d.table (entry_at d.table index).first).size (object_at d.links (place + 8)) (number_at w64 d.bytes place)) vs
-      vector_shown is some v s =
+      vector_shown is v there s =
           let e = entry_at d.table index in
           let c = e.first in
           let size = size_is d.table fine c (vector_element is) in
-          let x = (vector_found (declarations_of d.table) (message_of d.bytes d.handles) d.links place (is_optional e) e.bound (ty.named c) (fine_as d.table fine index Vector lt is).content.1 v (viewing.lies d w index place lt Vector is v s)).1 some in
+          let x = (vector_found (declarations_of d.table) (message_of d.bytes d.handles) d.links place (is_optional e) e.bound (ty.named c) (fine_as d.table fine index Vector lt is).content.1 v there (viewing.lies d w index place lt Vector is v s)) in
           let out = subst (λ (u : Value). length (encoding_of (declarations_of d.table) (ty.vector (is_optional e) e.bound (ty.named c)) u).out ≤ length d.bytes) x.is (viewing.lies_within d w index place lt Vector is v s) in
           let own = encoding.elements (declarations_of d.table) (type_of d c) x.vs in
-          let parts = shown_each c (size_of (declarations_of d.table) (ty.named c)) (object_at d.links (place + 8)) x.vs x.typed x.placed (omega (arith, out, length-append (encoding.pad8 own.inline) own.out)) in (
+          let parts = shown_each c (size_of (declarations_of d.table) (ty.named c)) (object_at d.links (place + 8)) x.vs x.typed x.placed x.readable (omega (arith, out, length-append (encoding.pad8 own.inline) own.out)) in (
             x.vs,
             x.is,
             subst (λ n. ShowEach (parts_from d c (entry_at d.table c).size (object_at d.links (place + 8)) n) x.vs) (sym x.counted)
                 (subst (λ k. ShowEach (parts_from d c k (object_at d.links (place + 8)) (count x.vs)) x.vs) size parts),
           )
 
-      pub no_vector : IsOf Vector (entry_at d.table index) → get_or d.bytes (place + 8) 0 ≡ 0 → (v : Value) → Shows d index place v → IsNoList v
-      no_vector is zeros v s =
-          let e = entry_at d.table index in
-          (vector_found (declarations_of d.table) (message_of d.bytes d.handles) d.links place (is_optional e) e.bound (ty.named e.first) (fine_as d.table fine index Vector lt is).content.1 v (viewing.lies d w index place lt Vector is v s)).0 zeros
-
       -- the same, by what was read of the entries and the message
       pub array_read : IsOf Array (entry_at d.table index) → (f size n : ℕ) → f ≡ (entry_at d.table index).first → size ≡ (entry_at d.table f).size → n ≡ (entry_at d.table index).count → (v : Value) → Shows d index place v
           → (vs : Values) × (v ≡ list vs) × ShowEach (parts_from d f size place n) vs
       array_read is f size n begun sized counted v s =
           let x = array_shown is v s in
-          let measured : size ≡ (entry_at d.table (entry_at d.table index).first).size = sized ∙ ap (λ k. (entry_at d.table k).size) begun in
-          (x.0, x.1, subst (λ k. ShowEach (parts_from d k size place n) x.0) (sym begun) (subst (λ k. ShowEach (parts_from d (entry_at d.table index).first k place n) x.0) (sym measured) (subst (λ k. ShowEach (parts_from d (entry_at d.table index).first (entry_at d.table (entry_at d.table index).first).size place k) x.0) (sym counted) x.2)))
+          let measured : size ≡ (entry_at d.table (entry_at d.table index).first).size = sized ∙ ap (λ k. (entry_at d.table k).size) begun in (
+            x.0,
+            x.1,
+            subst (λ k. ShowEach (parts_from d k size place n) x.0) (sym begun)
+                (subst (λ k. ShowEach (parts_from d (entry_at d.table index).first k place n) x.0) (sym measured)
+                (subst (λ k. ShowEach (parts_from d (entry_at d.table index).first (entry_at d.table (entry_at d.table index).first).size place k) x.0) (sym counted) x.2)),
+          )
 
       pub vector_read : IsOf Vector (entry_at d.table index) → (f size q n : ℕ) → f ≡ (entry_at d.table index).first → size ≡ (entry_at d.table f).size → q ≡ object_at d.links (place + 8) → n ≡ number_at w64 d.bytes place
-          → (get_or d.bytes (place + 8) 0 ≡ 0 → ⊥) → (v : Value) → Shows d index place v → (vs : Values) × (v ≡ list vs) × ShowEach (parts_from d f size q n) vs
-      vector_read is f size q n begun sized from counted some v s =
-          let x = vector_shown is some v s in
+          → (v : Value) → false ≡ absence_of v → Shows d index place v → (vs : Values) × (v ≡ list vs) × ShowEach (parts_from d f size q n) vs
+      vector_read is f size q n begun sized from counted v there s =
+          let x = vector_shown is v there s in
           let measured : size ≡ (entry_at d.table (entry_at d.table index).first).size = sized ∙ ap (λ k. (entry_at d.table k).size) begun in (
             x.0,
             x.1,

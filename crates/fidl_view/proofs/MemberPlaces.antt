@@ -1,5 +1,5 @@
 -- The members of structs and of the structs in boxes.
-use Rattle.std.proofs.Common.{◌≡◌, ℕ, zero, suc, ◌+◌, ◌<◌, ◌≤◌, List, length, get_or, refl, ap, subst, arith, length-append}
+use Rattle.std.proofs.Common.{◌≡◌, ℕ, zero, suc, ◌+◌, ◌<◌, ◌≤◌, true, false, List, length, refl, sym, ap, subst, arith, length-append}
 use Rattle.std.specs.Prelude.{Some, None}
 use Rattle.fidl_wire.specs.Value.{Value, Values, absent, fields, none, value}
 use Rattle.fidl_wire.specs.Term.{Term, Fields, resolve, fields_of}
@@ -18,15 +18,17 @@ use Rattle.fidl_table_format.specs.WellFormed.{WellFormed}
 use Rattle.fidl_decode_model.specs.Model.{Shown}
 use Rattle.fidl_decode_model.specs.Faults.{message_of}
 use Rattle.fidl_decode_model.specs.Placed.{AreFieldsPlaced, object_at}
+use Rattle.fidl_decode_model.specs.Readable.{AreFieldsReadable}
 use Rattle.fidl_decode_model.specs.Invariants.{IsFine, EntryFine}
 use Rattle.fidl_decode_model.specs.Rows.{table_rows, TypedRows}
 use Rattle.fidl_decode_model.proofs.Bridge.{fine_of}
 use Rattle.fidl_decode_model.proofs.Visiting.{fine_as, term_is}
 use Rattle.fidl_decode_model.proofs.Stated.{typed_rows}
-use Rattle.fidl_view.specs.Parts.{nth, field_of, IsNoStruct}
+use Rattle.fidl_view.specs.Parts.{absence_of, nth, field_of, IsNoStruct}
 use Rattle.fidl_view.specs.Shows.{Shows, type_of}
 use Rattle.fidl_view.specs.Members.{ShowMembers, fields_at}
 use Rattle.fidl_view.proofs.Finding.{nth_field}
+use Rattle.fidl_view.proofs.Content.{not_both}
 use Rattle.fidl_view.proofs.Viewing as viewing
 
 -- ---- values that have no members
@@ -37,6 +39,10 @@ no_field _ lacks i = refl
 
 absent_no_struct : IsNoStruct absent
 absent_no_struct vs e = cc
+
+pub no_box : (v : Value) → true ≡ absence_of v → IsNoStruct v
+no_box absent e = absent_no_struct
+no_box _ e = absurd (not_both (sym e))
 
 -- only structs and boxes have members
 pub no_struct_of : (ds : Declarations) (t : List ℕ) (h : Header) (e : Entry) (k : EntryKind) → (k ≡ Struct → ⊥) → (k ≡ Box → ⊥) → (v : Value) → IsTyped ds (term_as k t h e) v → IsNoStruct v
@@ -77,11 +83,11 @@ module _ (d : Shown) (w : WellFormed d.table) where
     struct_shown is v s = go v (viewing.lies d w index place lt Struct is v s) (viewing.lies_within d w index place lt Struct is v s)
       where
         go : (v : Value) → viewing.Lies d w index place lt Struct v → length (encoding_of (declarations_of d.table) (ty.struct (fields_at d index)) v).out ≤ length d.bytes → (vs : Values) × (v ≡ fields vs) × ShowMembers d index place vs
-        go (fields vs) s within = (vs, refl, record { typed = s.0; placed = s.1.1; within = within })
+        go (fields vs) s within = (vs, refl, record { typed = s.0; placed = s.1.1; readable = s.2.1; within = within })
         go _ s within = absurd s.0
 
-    pub box_shown : IsOf Box (entry_at d.table index) → (get_or d.bytes place 0 ≡ 0 → ⊥) → (v : Value) → Shows d index place v → (vs : Values) × (v ≡ fields vs) × ShowMembers d (entry_at d.table index).first (object_at d.links place) vs
-    box_shown is some v s = go v (viewing.lies d w index place lt Box is v s) (viewing.lies_within d w index place lt Box is v s)
+    pub box_shown : IsOf Box (entry_at d.table index) → (v : Value) → false ≡ absence_of v → Shows d index place v → (vs : Values) × (v ≡ fields vs) × ShowMembers d (entry_at d.table index).first (object_at d.links place) vs
+    box_shown is v there s = go v there (viewing.lies d w index place lt Box is v s) (viewing.lies_within d w index place lt Box is v s)
       where
         c : ℕ
         c = (entry_at d.table index).first
@@ -89,27 +95,20 @@ module _ (d : Shown) (w : WellFormed d.table) where
         own : fields_of (resolve (declarations_of d.table).terms (ty.named c)) ≡ fields_at d c
         own = let b = box_struct is in ap (λ (t : Term). fields_of t) (term_is d.table fine c Struct b.0 b.1)
 
-        go : (v : Value) → viewing.Lies d w index place lt Box v → length (encoding_of (declarations_of d.table) (ty.box (ty.named c)) v).out ≤ length d.bytes → (vs : Values) × (v ≡ fields vs) × ShowMembers d c (object_at d.links place) vs
-        go absent s within = absurd (some s.1.1)
-        go (fields vs) s within = (
+        go : (v : Value) → false ≡ absence_of v → viewing.Lies d w index place lt Box v → length (encoding_of (declarations_of d.table) (ty.box (ty.named c)) v).out ≤ length d.bytes → (vs : Values) × (v ≡ fields vs) × ShowMembers d c (object_at d.links place) vs
+        go absent there s within = absurd (not_both there)
+        go (fields vs) there s within = (
           vs,
           refl,
           record {
             typed = subst (λ (fs : Fields). EachTyped (declarations_of d.table) fs vs) own s.0.1;
             placed = subst (λ (fs : Fields). AreFieldsPlaced (declarations_of d.table) (message_of d.bytes d.handles) d.links fs 0 (object_at d.links place) vs) own s.1.1;
+            readable = subst (λ (fs : Fields). AreFieldsReadable (declarations_of d.table) d.links fs 0 (object_at d.links place) vs) own s.2.1;
             within = subst (λ (fs : Fields). length (members (declarations_of d.table) (size_of (declarations_of d.table) (ty.struct fs)) 0 fs vs).out ≤ length d.bytes) own
                 (let e = members (declarations_of d.table) (size_of (declarations_of d.table) (ty.struct (fields_of (type_of d c)))) 0 (fields_of (type_of d c)) vs in omega (arith, within, length-append (pad8 e.inline) e.out));
           },
         )
-        go _ s within = absurd s.0
-
-    pub no_box : IsOf Box (entry_at d.table index) → get_or d.bytes place 0 ≡ 0 → (v : Value) → Shows d index place v → IsNoStruct v
-    no_box is zeros v s = go v (viewing.lies d w index place lt Box is v s)
-      where
-        go : (v : Value) → viewing.Lies d w index place lt Box v → IsNoStruct v
-        go absent s = absent_no_struct
-        go (fields vs) s = let ones : get_or d.bytes place 0 ≡ 255 = s.1.0.1 in absurd (omega (arith, zeros, ones))
-        go _ s = absurd s.0
+        go _ there s within = absurd s.0
 
   -- ---- one of them
 
@@ -124,8 +123,8 @@ module _ (d : Shown) (w : WellFormed d.table) where
         → let r = row_at d.table (header_of d.table) ((entry_at d.table index).first + i) in (x : Value) × (nth vs i ≡ Some x) × Shows d r.entry (place + r.key) x
     member_shown i less vs s =
         let e = entry_at d.table index in
-        let r = nth_field d.table (message_of d.bytes d.handles) d.links e.first e.count (size_of (declarations_of d.table) (ty.struct (fields_at d index))) 0 place vs i less struct_fine.content.1 s.typed s.placed s.within in
-        (r.0, r.1, record { typed = r.2.0; placed = r.2.1; within = r.2.2 })
+        let r = nth_field d.table (message_of d.bytes d.handles) d.links e.first e.count (size_of (declarations_of d.table) (ty.struct (fields_at d index))) 0 place vs i less struct_fine.content.1 s.typed s.placed s.within s.readable in
+        (r.0, r.1, record { typed = r.2.0; placed = r.2.1; readable = r.2.3; within = r.2.2 })
 
     pub no_member : (i : ℕ) → (entry_at d.table index).count ≤ i → (vs : Values) → ShowMembers d index place vs → nth vs i ≡ None
     no_member i le vs s = none_past (entry_at d.table index).count (entry_at d.table index).first vs i (typed_rows d.table (entry_at d.table index).first (entry_at d.table index).count vs s.typed) le

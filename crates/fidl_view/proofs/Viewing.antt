@@ -1,11 +1,11 @@
 -- What a view of a well-formed table rests on.
 use Rattle.std.specs.Int.{w64, byte_len}
 use Rattle.std.specs.Option.{option_map_or}
-use Rattle.std.proofs.Common.{◌≡◌, ℕ, List, ◌+◌, ◌-◌, ◌<◌, ◌≤◌, true, length, refl, sym, ap, subst, ◌∙◌, arith, inl, inr, get_or, length-append}
+use Rattle.std.proofs.Common.{◌≡◌, ℕ, List, ◌+◌, ◌-◌, ◌<◌, ◌≤◌, true, length, refl, sym, ap, subst, ◌∙◌, arith, inl, inr, length-append}
 use Rattle.std.specs.Prelude.{◌⊎◌, Option, Some, None, false, IsTrue, is_some, unwrap_or, [], slice_range, take, drop}
 use Rattle.fidl_limits.specs.declared.limits.TheConstants.{MAX_MESSAGE_BYTES}
 use Rattle.fidl_wire.specs.declared.handle.HandleInfo.{HandleInfo}
-use Rattle.fidl_wire.specs.Value.{Value}
+use Rattle.fidl_wire.specs.Value.{Value, bool, table as a_table}
 use Rattle.fidl_wire.specs.Term.{Term, Kind, width, int8, int16, int32, int64, uint8, uint16, uint32, uint64}
 use Rattle.fidl_wire.specs.Term as ty
 use Rattle.fidl_wire.specs.Figure.{Figure, size_of}
@@ -14,11 +14,11 @@ use Rattle.fidl_wire.specs.Encoding.{encoding_of, object, pad8}
 use Rattle.fidl_wire.specs.Standing.{Stands}
 use Rattle.fidl_wire.proofs.Sizes.{le-next_multiple_of}
 use Rattle.fidl_table_format.specs.declared.kind.EntryKind.{EntryKind}
-use Rattle.fidl_table_format.specs.declared.kind.EntryKind.TheVariants.{String, Vector, Union, Int8, Int16, Int32, Int64, Uint8, Uint16, Uint32, Uint64, Bits, Enum}
+use Rattle.fidl_table_format.specs.declared.kind.EntryKind.TheVariants.{Bool as Boolean, String, Vector, Box, Table, Handle, Union, Int8, Int16, Int32, Int64, Uint8, Uint16, Uint32, Uint64, Bits, Enum}
 use Rattle.fidl_table_format.specs.Section.{header_of, entry_at}
 use Rattle.fidl_wire.specs.Field.{number_at}
 use Rattle.fidl_table_format.specs.Kind.{kind_of, number_type}
-use Rattle.fidl_table_format.specs.Terms.{is_optional, declarations_of, term_as, as_number, underlying}
+use Rattle.fidl_table_format.specs.Terms.{is_optional, is_strict, rows_from, declarations_of, term_as, as_number, underlying}
 use Rattle.fidl_table_format.specs.Uses.{is_number, is_unsigned}
 use Rattle.fidl_table_format.specs.Entry.{IsOf, subtype_is}
 use Rattle.fidl_table_format.specs.WellFormed.{WellFormed}
@@ -30,17 +30,19 @@ use Rattle.fidl_wire.specs.Message.{IsEncoding, Encodes}
 use Rattle.fidl_decode_model.specs.State.{Message}
 use Rattle.fidl_decode_model.proofs.Messages.{message_item}
 use Rattle.fidl_view.specs.Numbers.{unsigned_at, signed_at}
-use Rattle.fidl_view.specs.Parts.{numbers_of, unsigned_of, signed_of, string_of, handle_of, rights_of, granted_of}
+use Rattle.fidl_view.specs.Parts.{absence_of, numbers_of, unsigned_of, signed_of, handle_of, rights_of, granted_of}
 use Rattle.fidl_view.specs.Views.{IsEncoded, IsOnly, elements_at, bytes_at}
 use Rattle.fidl_view.specs.Shows.{Shows, type_of}
 use Rattle.fidl_view.proofs.Sorts.{by_sort}
 use Rattle.fidl_view.proofs.Content.{TextThere, text_found, granted_is}
+use Rattle.fidl_view.proofs.Content as content
+use Rattle.fidl_view.proofs.Unlinked.{number_free}
 use Rattle.fidl_view.proofs.Finding.{inline_of}
 use Rattle.fidl_wire.proofs.Unique.{one_value}
 use Rattle.fidl_verify.proofs.Declared.{sound}
 use Rattle.fidl_decode_model.specs.Faults.{message_of}
 use Rattle.fidl_decode_model.specs.Placed.{object_at, Placed}
-use Rattle.fidl_decode_model.specs.Readable.{StandsIn}
+use Rattle.fidl_decode_model.specs.Readable.{Readable, AreUnlinked, StandsIn}
 use Rattle.fidl_view.proofs.Reading.{Stood, unsigned_is, signed_is}
 
 unknown_none : false ≡ true → ⊥
@@ -64,7 +66,8 @@ message_shown d w index same x v y =
     let placed = subst (λ (u : Value). Placed ds (message_of d.bytes d.handles) d.links (type_of d d.entry) 0 u) one x.2 in
     let e = encoding_of ds (type_of d d.entry) v in
     let long : length (object e) ≡ length d.bytes = ap (λ (m : List ℕ × List HandleInfo). length m.0) y.message in
-    let whole : Shows d d.entry 0 v = record { typed = y.typed; placed = placed; within = omega (arith, long, length-append (pad8 e.inline) e.out) } in
+    let readable = subst (λ (u : Value). Readable ds d.links (type_of d d.entry) 0 u) one x.3 in
+    let whole : Shows d d.entry 0 v = record { typed = y.typed; placed = placed; readable = readable; within = omega (arith, long, length-append (pad8 e.inline) e.out) } in
     subst (λ k. Shows d k 0 v) (sym same) whole
 
 -- which is the only one
@@ -97,18 +100,83 @@ module _ (d : Shown) (w : WellFormed d.table) (index place : ℕ) (lt : index < 
       let own = inline_of ds (message_of d.bytes d.handles) d.links (type_of d index) place v s.placed in
       (subst (λ (u : Term). IsTyped ds u v) e s.typed, subst (λ (u : Term). Stands d.bytes place (encoding_of ds u v).inline) e own)
 
-  -- with all below it where the links say
+  -- with all below it where the links say, and can be read there
   abbrev pub Lies : EntryKind → Value → Type 0
   Lies k v =
       let ds = declarations_of d.table in
       let t = term_as k d.table (header_of d.table) (entry_at d.table index) in
-      IsTyped ds t v × Placed ds (message_of d.bytes d.handles) d.links t place v
+      IsTyped ds t v × Placed ds (message_of d.bytes d.handles) d.links t place v × Readable ds d.links t place v
 
   pub lies : (k : EntryKind) → IsOf k (entry_at d.table index) → (v : Value) → Shows d index place v → Lies k v
   lies k is v s =
       let ds = declarations_of d.table in
-      let e = term_is d.table fine index k lt is in
-      (subst (λ (u : Term). IsTyped ds u v) e s.typed, subst (λ (u : Term). Placed ds (message_of d.bytes d.handles) d.links u place v) e s.placed)
+      let e = term_is d.table fine index k lt is in (
+        subst (λ (u : Term). IsTyped ds u v) e s.typed,
+        subst (λ (u : Term). Placed ds (message_of d.bytes d.handles) d.links u place v) e s.placed,
+        subst (λ (u : Term). Readable ds d.links u place v) e s.readable,
+      )
+
+  -- its marker, of a box at its place, of a string, a vector and a table behind the count
+  abbrev pub Marks : (q : ℕ) → Value → Type 0
+  Marks q v = content.Marked (declarations_of d.table) (message_of d.bytes d.handles) d.links place q v
+
+  pub box_marks : IsOf Box (entry_at d.table index) → (v : Value) → Shows d index place v → Marks place v
+  box_marks is v s = content.box_marked (declarations_of d.table) (message_of d.bytes d.handles) d.links place (ty.named (entry_at d.table index).first) v (lies Box is v s)
+
+  pub string_marks : IsOf String (entry_at d.table index) → (v : Value) → Shows d index place v → Marks (place + 8) v
+  string_marks is v s = let e = entry_at d.table index in content.string_marked (declarations_of d.table) (message_of d.bytes d.handles) d.links place (is_optional e) e.bound v (lies String is v s)
+
+  pub vector_marks : IsOf Vector (entry_at d.table index) → (v : Value) → Shows d index place v → Marks (place + 8) v
+  vector_marks is v s = let e = entry_at d.table index in content.vector_marked (declarations_of d.table) (message_of d.bytes d.handles) d.links place (is_optional e) e.bound (ty.named e.first) v (lies Vector is v s)
+
+  pub table_marks : IsOf Table (entry_at d.table index) → (v : Value) → Shows d index place v → Marks (place + 8) v
+  table_marks is v s =
+      let e = entry_at d.table index in
+      content.table_marked (declarations_of d.table) (message_of d.bytes d.handles) d.links place (rows_from d.table (header_of d.table) e.first e.count) v (lies Table is v s)
+
+  pub table_there : IsOf Table (entry_at d.table index) → (v : Value) → Shows d index place v → false ≡ absence_of v
+  table_there is v s = go v (lies Table is v s).0
+    where
+      go : (v : Value) → IsTyped (declarations_of d.table) (term_as Table d.table (header_of d.table) (entry_at d.table index)) v → false ≡ absence_of v
+      go (a_table n ms) x = refl
+      go _ x = absurd x
+
+  pub handle_shown : IsOf Handle (entry_at d.table index) → (v : Value) → Shows d index place v → content.HandleThere (declarations_of d.table) (message_of d.bytes d.handles) d.links place v
+  handle_shown is v s =
+      let e = entry_at d.table index in
+      content.handle_there (declarations_of d.table) (message_of d.bytes d.handles) d.links place (is_optional e) e.subtype e.rights v (lies Handle is v s)
+
+  -- no link stands over a bool, a count and an ordinal
+  pub bool_free : IsOf Boolean (entry_at d.table index) → (v : Value) → Shows d index place v → AreUnlinked d.links place (place + 1)
+  bool_free is v s = go v (lies Boolean is v s)
+    where
+      go : (v : Value) → Lies Boolean v → AreUnlinked d.links place (place + 1)
+      go (bool b) x = x.2
+      go _ x = absurd x.0
+
+  pub string_count_free : IsOf String (entry_at d.table index) → (v : Value) → Shows d index place v → AreUnlinked d.links place (place + 8)
+  string_count_free is v s =
+      let e = entry_at d.table index in
+      content.string_count_free (declarations_of d.table) (message_of d.bytes d.handles) d.links place (is_optional e) e.bound v (lies String is v s)
+
+  pub vector_count_free : IsOf Vector (entry_at d.table index) → (v : Value) → Shows d index place v → AreUnlinked d.links place (place + 8)
+  vector_count_free is v s =
+      let e = entry_at d.table index in
+      content.vector_count_free (declarations_of d.table) (message_of d.bytes d.handles) d.links place (is_optional e) e.bound (ty.named e.first) v (lies Vector is v s)
+
+  pub table_count_free : IsOf Table (entry_at d.table index) → (v : Value) → Shows d index place v → AreUnlinked d.links place (place + 8)
+  table_count_free is v s =
+      let e = entry_at d.table index in
+      content.table_count_free (declarations_of d.table) (message_of d.bytes d.handles) d.links place (rows_from d.table (header_of d.table) e.first e.count) v (lies Table is v s)
+
+  pub ordinal_free : IsOf Union (entry_at d.table index) → (v : Value) → Shows d index place v → AreUnlinked d.links place (place + 8)
+  ordinal_free is v s =
+      let e = entry_at d.table index in
+      content.ordinal_free (declarations_of d.table) (message_of d.bytes d.handles) d.links place (is_optional e) (is_strict e) (rows_from d.table (header_of d.table) e.first e.count) v (lies Union is v s)
+
+  -- nor over a number
+  pub number_unlinked : (kind : Kind) → numbers_of (type_of d index) ≡ Some kind → (v : Value) → Shows d index place v → AreUnlinked d.links place (place + byte_len (width kind))
+  number_unlinked kind is v s = number_free (declarations_of d.table) d.links (type_of d index) place kind is v s.typed s.readable
 
   -- and what it has out of line is no longer than the message
   pub lies_within : (k : EntryKind) → IsOf k (entry_at d.table index) → (v : Value) → Shows d index place v → length (encoding_of (declarations_of d.table) (term_as k d.table (header_of d.table) (entry_at d.table index)) v).out ≤ length d.bytes
@@ -141,7 +209,14 @@ module _ (d : Shown) (w : WellFormed d.table) (index place : ℕ) (lt : index < 
   pub string_size : IsOf String (entry_at d.table index) → 16 ≡ (entry_at d.table index).size
   string_size is = ap (λ (f : Figure). f.size) (figure_is d.table fine index String lt is)
 
-  -- so has a vector; a union has an ordinal and an envelope
+  -- a box has a marker, and a handle its four bytes
+  pub box_size : IsOf Box (entry_at d.table index) → 8 ≡ (entry_at d.table index).size
+  box_size is = ap (λ (f : Figure). f.size) (figure_is d.table fine index Box lt is)
+
+  pub handle_size : IsOf Handle (entry_at d.table index) → 4 ≡ (entry_at d.table index).size
+  handle_size is = ap (λ (f : Figure). f.size) (figure_is d.table fine index Handle lt is)
+
+  -- a vector has a count and a marker too; a union has an ordinal and an envelope
   pub vector_size : IsOf Vector (entry_at d.table index) → 16 ≡ (entry_at d.table index).size
   vector_size is = ap (λ (f : Figure). f.size) (figure_is d.table fine index Vector lt is)
 
@@ -152,15 +227,10 @@ module _ (d : Shown) (w : WellFormed d.table) (index place : ℕ) (lt : index < 
   abbrev pub text_part : Value → Type 0
   text_part v = TextThere (declarations_of d.table) (message_of d.bytes d.handles) d.links place v (number_at w64 d.bytes place) (object_at d.links (place + 8))
 
-  pub text_shown : length d.bytes ≤ MAX_MESSAGE_BYTES → IsOf String (entry_at d.table index) → (get_or d.bytes (place + 8) 0 ≡ 0 → ⊥) → (v : Value) → Shows d index place v → text_part v
-  text_shown short is some v s =
+  pub text_shown : length d.bytes ≤ MAX_MESSAGE_BYTES → IsOf String (entry_at d.table index) → (v : Value) → false ≡ absence_of v → Shows d index place v → text_part v
+  text_shown short is v there s =
       let e = entry_at d.table index in
-      (text_found (declarations_of d.table) (message_of d.bytes d.handles) d.links place short (is_optional e) e.bound v (lies String is v s)).1 some
-
-  pub no_text : length d.bytes ≤ MAX_MESSAGE_BYTES → IsOf String (entry_at d.table index) → get_or d.bytes (place + 8) 0 ≡ 0 → (v : Value) → Shows d index place v → None ≡ string_of v
-  no_text short is zeros v s =
-      let e = entry_at d.table index in
-      ((text_found (declarations_of d.table) (message_of d.bytes d.handles) d.links place short (is_optional e) e.bound v (lies String is v s)).0 zeros).1
+      text_found (declarations_of d.table) (message_of d.bytes d.handles) d.links place short (is_optional e) e.bound v there (lies String is v s)
 
   -- its bytes are those of its object
   pub bytes_of_string : IsOf String (entry_at d.table index) → slice_range d.bytes (object_at d.links (place + 8)) (object_at d.links (place + 8) + number_at w64 d.bytes place) ≡ bytes_at d (type_of d index) place
@@ -236,7 +306,8 @@ module _ (d : Shown) (w : WellFormed d.table) (index place : ℕ) (lt : index < 
   pub fits_else : (k : EntryKind) → IsOf k (entry_at d.table index) → (k ≡ Bits → ⊥) → (k ≡ Enum → ⊥) → byte_len (width (as_number k)) ≤ (entry_at d.table index).size
   fits_else k is b e = by_sort (λ k. IsOf k (entry_at d.table index) → (k ≡ Bits → ⊥) → (k ≡ Enum → ⊥) → byte_len (width (as_number k)) ≤ (entry_at d.table index).size)
       (λ is b e. omega (arith, has_byte)) (λ is b e. omega (arith, has_byte)) (λ is b e. omega (arith, has_byte)) (λ is b e. absurd (b refl)) (λ is b e. absurd (e refl))
-      (number Int8 int8 refl) (number Int16 int16 refl) (number Int32 int32 refl) (number Int64 int64 refl) (number Uint8 uint8 refl) (number Uint16 uint16 refl) (number Uint32 uint32 refl) (number Uint64 uint64 refl) (λ is b e. omega (arith, has_byte)) (λ is b e. omega (arith, has_byte)) (λ is b e. omega (arith, has_byte)) (λ is b e. omega (arith, has_byte)) (λ is b e. omega (arith, has_byte)) (λ is b e. omega (arith, has_byte)) k is b e
+      (number Int8 int8 refl) (number Int16 int16 refl) (number Int32 int32 refl) (number Int64 int64 refl) (number Uint8 uint8 refl) (number Uint16 uint16 refl) (number Uint32 uint32 refl) (number Uint64 uint64 refl)
+      (λ is b e. omega (arith, has_byte)) (λ is b e. omega (arith, has_byte)) (λ is b e. omega (arith, has_byte)) (λ is b e. omega (arith, has_byte)) (λ is b e. omega (arith, has_byte)) (λ is b e. omega (arith, has_byte)) k is b e
     where
       number : (k : EntryKind) (kind : Kind) → term_as k d.table (header_of d.table) (entry_at d.table index) ≡ ty.number kind → IsOf k (entry_at d.table index) → (k ≡ Bits → ⊥) → (k ≡ Enum → ⊥) → byte_len (width kind) ≤ (entry_at d.table index).size
       number k kind own is b e =

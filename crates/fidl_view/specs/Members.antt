@@ -12,6 +12,7 @@ use Rattle.fidl_table_format.specs.Section.{header_of, entry_at}
 use Rattle.fidl_table_format.specs.Terms.{declarations_of, fields_from, members_of}
 use Rattle.fidl_decode_model.specs.Faults.{message_of}
 use Rattle.fidl_decode_model.specs.Placed.{AreFieldsPlaced, IsMemberPlaced}
+use Rattle.fidl_decode_model.specs.Readable.{AreFieldsReadable, IsMemberReadable}
 use Rattle.fidl_decode_model.specs.Model.{Shown}
 
 -- the members that a struct's entry declares
@@ -20,11 +21,13 @@ fields_at d index = let e = entry_at d.table index in
     fields_from d.table (header_of d.table) e.first e.count
 
 -- the values are those of the members of a struct of this entry, and stand at their offsets in a
--- struct at this place, and what they have out of line is no longer than the message
+-- struct at this place, where they can be read; what they have out of line is no longer than the
+-- message
 pub record ShowMembers (d : Shown) (index place : ℕ) (vs : Values) : Type 0 where
   pub typed : EachTyped (declarations_of d.table) (fields_at d index) vs
   pub placed : AreFieldsPlaced (declarations_of d.table) (message_of d.bytes d.handles) d.links
       (fields_at d index) 0 place vs
+  pub readable : AreFieldsReadable (declarations_of d.table) d.links (fields_at d index) 0 place vs
   pub within : length (members (declarations_of d.table)
       (size_of (declarations_of d.table) (ty.struct (fields_at d index))) 0 (fields_at d index)
       vs).out ≤ length d.bytes
@@ -39,14 +42,15 @@ abbrev pub term_at : Shown → (index ordinal : ℕ) → Option Term
 term_at d index ordinal = find (members_of d.table index) ordinal
 
 -- the member is one of this ordinal in the layout of an entry, its envelope stands at the place,
--- and it stands in the envelope or where the links say; what it has out of line is no longer than
--- the message
+-- and it stands in the envelope or where the links say, and can be read there; what it has out of
+-- line is no longer than the message
 pub record ShowMember (d : Shown) (index ordinal place : ℕ) (x : Member) : Type 0 where
   pub typed : IsTypedMember (declarations_of d.table) false (term_at d index ordinal) x
   pub stands : Stands d.bytes place
       (enveloped (declarations_of d.table) (term_at d index ordinal) x).inline
   pub placed : IsMemberPlaced (declarations_of d.table) (message_of d.bytes d.handles) d.links
       (term_at d index ordinal) place x
+  pub readable : IsMemberReadable (declarations_of d.table) d.links (term_at d index ordinal) place x
   pub within : length (enveloped (declarations_of d.table) (term_at d index ordinal) x).out
       ≤ length d.bytes
 

@@ -1,5 +1,5 @@
 -- When an owned tree is the value that a view shows (docs/views.md, "to_value").
-use Rattle.std.specs.Prelude.{◌≡◌, ◌++◌, ℕ, List, [], ◌∷◌, Option, Some, None, Result, IfOk}
+use Rattle.std.specs.Prelude.{◌≡◌, ℕ, List, [], ◌∷◌, Option, Some, None, Result, IfOk}
 use Rattle.std.specs.Option.{option_map}
 use Rattle.fidl_wire.specs.Value as data_of
 use Rattle.fidl_wire.specs.Value.{known, values_of, list, fields}

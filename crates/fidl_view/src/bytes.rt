@@ -14,7 +14,7 @@ impl<'v, 'm> View<'v, 'm> {
     /// The bytes of an array or a vector of uint8; none where it is absent, and of another type. A
     /// string is of another type here.
     #[inline(always)]
-    fn octets(self) -> Option<&'m [u8]>
+    fn octets(self) -> Option<&'v [u8]>
         ensures value { (v : Value) → IsShownBy self.entry v → string_of v ≡ None
             → option_copied result ≡ bytes_of (types_shown self.entry) (type_shown self.entry) v }
         ensures slice { IfSome result (λ bytes. bytes.now ≡ elements_shown self.entry) }
@@ -24,7 +24,10 @@ impl<'v, 'm> View<'v, 'm> {
         };
         match entry_kind(elements.decoded, elements.index) {
             EntryKind::Uint8 => Some(
-                &elements.decoded.bytes()[elements.place..elements.place + elements.left],
+                elements
+                    .decoded
+                    .links()
+                    .part(elements.place, elements.place + elements.left),
             ),
             _ => None,
         }
@@ -33,7 +36,7 @@ impl<'v, 'm> View<'v, 'm> {
     /// The bytes of a string, or of an array or a vector of uint8, as a slice of the message
     /// itself; none where it is absent, and of another type.
     #[inline(always)]
-    pub fn as_bytes(self) -> Option<&'m [u8]>
+    pub fn as_bytes(self) -> Option<&'v [u8]>
         ensures value { (v : Value) → IsShownBy self.entry v
             → option_copied result ≡ bytes_of (types_shown self.entry) (type_shown self.entry) v }
         ensures slice { IfSome result (λ bytes. bytes.now ≡ bytes_shown self.entry) }

@@ -8,25 +8,27 @@ ghost use Rattle.fidl_limits.specs.declared.limits.TheConstants.{MAX_MESSAGE_BYT
 ghost use Rattle.fidl_limits.specs.declared.limits.TheConstants.{MAX_MESSAGE_HANDLES};
 ghost use Rattle.fidl_wire.specs.declared.handle.HandleInfo.{HandleInfo};
 ghost use Rattle.fidl_wire.specs.Value.{Value, Member, unknown};
+ghost use Rattle.fidl_wire.specs.Term as ty;
 ghost use Rattle.fidl_table_format.specs.Section.{header_of, entry_at};
 ghost use Rattle.fidl_table_format.specs.Entry.{kind_is};
 ghost use Rattle.fidl_table_format.specs.Uses.{uses_ordinals};
+ghost use Rattle.fidl_table_format.specs.WellFormed.{WellFormed};
 ghost use Rattle.fidl_decode_model.specs.Placed.{enclosed_at};
 ghost use Rattle.fidl_view.specs.Members.{HaveMember, term_at};
 
 use crate::view::View;
 use fidl_decode::Decoded;
-use fidl_wire::{HandleInfo, byte_count_at, flags_at, handle_count_at};
+use fidl_wire::HandleInfo;
 
-/// A member of a table or a union that the layout does not know, borrowed from the message.
+/// A member of a table or a union that the layout does not know, borrowed from the `Decoded`.
 #[derive(Clone, Copy)]
-pub struct Unknown<'m> {
+pub struct Unknown<'v> {
     /// Whether its bytes stand in its envelope.
     pub inline: bool,
     /// Its bytes: the four in its envelope, or those out of line.
-    pub bytes: &'m [u8],
+    pub bytes: &'v [u8],
     /// Its handles.
-    pub handles: &'m [HandleInfo],
+    pub handles: &'v [HandleInfo],
 }
 
 /// An envelope that holds a member of a value of a table's or union's entry: the member's ordinal,
@@ -50,16 +52,19 @@ impl<'v, 'm> Envelope<'v, 'm> {
     ghost use Rattle.fidl_view.specs.Views.{part_of, message_in, IsHeldBy, IsShownBy, ShowsKnown};
     ghost use Rattle.fidl_view.specs.Views.{type_shown, type_held};
 
-    /// Where a known member of this size stands: in the envelope, or as its object.
+    /// Where a known member of this entry stands: in the envelope, or as its object.
     #[inline(always)]
-    fn content_place(self, size: u32) -> usize
-        ensures { result ≡ enclosed_at self.entry.decoded.now.links (nat_le size 4)
-            self.entry.place }
+    fn content_place(self, entry: u32) -> usize
+        requires below { entry < (header_of self.decoded.now.table).entries }
+        requires known { term_at self.decoded.now self.index self.ordinal ≡ Some (ty.named entry) }
+        ensures place { result ≡ enclosed_at self.entry.decoded.now.links
+            (nat_le (entry_at self.entry.decoded.now.table entry).size 4) self.entry.place }
+        ensures well_formed { WellFormed self.entry.decoded.now.table }
     {
-        if size <= 4 {
+        if self.decoded.table().entry(entry).size <= 4 {
             self.place
         } else {
-            self.decoded.object_at(self.place)
+            self.decoded.links().object_of_envelope(self.place)
         }
     }
 
@@ -78,45 +83,45 @@ impl<'v, 'm> Envelope<'v, 'm> {
         else {
             return None;
         };
-        let entry = self.decoded.table().entry(row.entry);
         Some(View {
             decoded: self.decoded,
             index: row.entry,
-            place: self.content_place(entry.size),
+            place: self.content_place(row.entry),
         })
     }
 
     /// The bytes of an unknown member.
-    fn raw_bytes(self) -> &'m [u8]
+    fn raw_bytes(self) -> &'v [u8]
         requires { term_at self.decoded.now self.index self.ordinal ≡ None }
         ensures { (inline : Bool) (bytes : List ℕ) (handles : List HandleInfo)
             → IsHeldBy self.entry (unknown inline bytes handles) → result.now ≡ bytes }
     {
-        let bytes = self.decoded.bytes();
-        if flags_at(bytes, self.place) == 1 {
-            return &bytes[self.place..self.place + 4];
+        let links = self.decoded.links();
+        if links.came_flags(self.place) == 1 {
+            return links.part(self.place, self.place + 4);
         }
-        let count = byte_count_at(bytes, self.place) as usize;
-        let from = self.decoded.object_at(self.place);
-        &bytes[from..from + count]
+        let count = links.counted_bytes(self.place) as usize;
+        let from = links.object_of_envelope(self.place);
+        links.part(from, from + count)
     }
 
     /// The handles of an unknown member.
-    fn raw_handles(self) -> &'m [HandleInfo]
+    fn raw_handles(self) -> &'v [HandleInfo]
         requires { term_at self.decoded.now self.index self.ordinal ≡ None }
         ensures { (inline : Bool) (bytes : List ℕ) (handles : List HandleInfo)
             → IsHeldBy self.entry (unknown inline bytes handles) → result.now ≡ handles }
     {
-        let count = handle_count_at(self.decoded.bytes(), self.place) as usize;
+        let links = self.decoded.links();
+        let count = links.counted_handles(self.place) as usize;
         if count == 0 {
             return &[];
         }
-        let first = self.decoded.record_at(self.place + 4);
+        let first = links.first_record(self.place);
         &self.decoded.handles()[first..first + count]
     }
 
     /// The member, where it is unknown.
-    pub(crate) fn unknown(self) -> Option<Unknown<'m>>
+    pub(crate) fn unknown(self) -> Option<Unknown<'v>>
         ensures { (x : Member) → IsHeldBy self.entry x
             → MatchOption result (unknown_in (Some x) ≡ None)
             (λ u. x ≡ unknown u.inline u.bytes.now u.handles.now) }
@@ -130,7 +135,7 @@ impl<'v, 'm> Envelope<'v, 'm> {
             return None;
         }
         Some(Unknown {
-            inline: flags_at(self.decoded.bytes(), self.place) == 1,
+            inline: self.decoded.links().came_flags(self.place) == 1,
             bytes: self.raw_bytes(),
             handles: self.raw_handles(),
         })

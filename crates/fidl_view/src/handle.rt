@@ -15,12 +15,12 @@ impl<'v, 'm> View<'v, 'm> {
     {
         match self.kind() {
             EntryKind::Handle => {
-                if self.decoded.bytes()[self.place] == 0 {
+                if self.decoded.links().is_blank_handle(self.place) {
                     return None;
                 }
                 self.decoded
                     .handles()
-                    .get(self.decoded.record_at(self.place))
+                    .get(self.decoded.links().record_of(self.place))
                     .copied()
             }
             _ => None,

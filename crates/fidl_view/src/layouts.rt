@@ -11,7 +11,6 @@ ghost use Rattle.fidl_view.specs.Views.{type_shown, type_held, member_type};
 use crate::envelope::{Envelope, Unknown};
 use crate::view::View;
 use fidl_table_format::EntryKind;
-use fidl_wire::{Presence, presence_at, u64_at};
 
 impl<'v, 'm> View<'v, 'm> {
     /// The envelope of a table's member at this ordinal; none where it is absent.
@@ -27,17 +26,17 @@ impl<'v, 'm> View<'v, 'm> {
         // Read, so that the table is known to be well-formed, and the message within its limits.
         let _rows = self.decoded.table().rows();
         let _entry = self.decoded.entry();
-        let bytes = self.decoded.bytes();
-        let count = u64_at(bytes, self.place);
+        let links = self.decoded.links();
+        let count = links.u64_at(self.place);
         if ordinal == 0 {
             return None;
         }
         if ordinal > count {
             return None;
         }
-        let first = self.decoded.object_at(self.place + 8);
+        let first = links.object_of_marker(self.place + 8);
         let place = first + 8 * (ordinal as usize - 1);
-        if let Presence::Absent = presence_at(bytes, place, 8) {
+        if links.is_blank(place) {
             return None;
         }
         Some(Envelope {
@@ -61,7 +60,7 @@ impl<'v, 'm> View<'v, 'm> {
         // Read, so that the table is known to be well-formed, and the message within its limits.
         let _rows = self.decoded.table().rows();
         let _entry = self.decoded.entry();
-        let ordinal = u64_at(self.decoded.bytes(), self.place);
+        let ordinal = self.decoded.links().u64_at(self.place);
         if ordinal == 0 {
             return None;
         }
@@ -144,7 +143,7 @@ impl<'v, 'm> View<'v, 'm> {
 
     /// The unknown member of a table or a union at this ordinal; none where it is absent or known,
     /// and of another kind.
-    pub fn unknown(self, ordinal: u64) -> Option<Unknown<'m>>
+    pub fn unknown(self, ordinal: u64) -> Option<Unknown<'v>>
         ensures { (v : Value) → IsShownBy self.entry v
             → MatchOption result (unknown_of v ordinal ≡ None)
             (λ u. unknown_of v ordinal ≡ Some (unknown u.inline u.bytes.now u.handles.now)) }

@@ -12,7 +12,6 @@ ghost use Rattle.fidl_view.specs.Views.{ShowsListOf, type_shown, element_type, A
 use crate::elements::Elements;
 use crate::view::View;
 use fidl_table_format::EntryKind;
-use fidl_wire::u64_at;
 
 impl<'v, 'm> View<'v, 'm> {
     /// The elements of an array.
@@ -43,11 +42,11 @@ impl<'v, 'm> View<'v, 'm> {
     {
         let vector = self.decoded.table().entry(self.index);
         let element = self.decoded.table().entry(vector.first);
-        let bytes = self.decoded.bytes();
-        if bytes[self.place + 8] == 0 {
+        let links = self.decoded.links();
+        if links.is_blank(self.place + 8) {
             return None;
         }
-        let count = u64_at(bytes, self.place) as usize;
+        let count = links.u64_at(self.place) as usize;
         // No element stands in the object of an empty vector.
         if count == 0 {
             return Some(Elements {
@@ -62,7 +61,7 @@ impl<'v, 'm> View<'v, 'm> {
             decoded: self.decoded,
             index: vector.first,
             size: element.size as usize,
-            place: self.decoded.object_at(self.place + 8),
+            place: links.object_of_marker(self.place + 8),
             left: count,
         })
     }
@@ -93,7 +92,7 @@ impl<'v, 'm> View<'v, 'm> {
             return Some(text.len());
         }
         match self.kind() {
-            EntryKind::Table => Some(u64_at(self.decoded.bytes(), self.place) as usize),
+            EntryKind::Table => Some(self.decoded.links().u64_at(self.place) as usize),
             _ => None,
         }
     }

@@ -46,13 +46,13 @@ impl<'v, 'm> View<'v, 'm> {
                 place: self.place,
             }),
             EntryKind::Box => {
-                if self.decoded.bytes()[self.place] == 0 {
+                if self.decoded.links().is_blank(self.place) {
                     return None;
                 }
                 Some(Members {
                     decoded: self.decoded,
                     index: self.decoded.table().entry(self.index).first,
-                    place: self.decoded.object_at(self.place),
+                    place: self.decoded.links().object_of_marker(self.place),
                 })
             }
             _ => None,

@@ -10,13 +10,12 @@ ghost use Rattle.fidl_view.specs.Views.{IsShownBy, bytes_shown};
 
 use crate::view::View;
 use fidl_table_format::EntryKind;
-use fidl_wire::u64_at;
 use std::str::from_utf8_unchecked;
 
 impl<'v, 'm> View<'v, 'm> {
     /// The bytes of a string, a slice of the message itself; none where it is absent.
     #[inline(always)]
-    pub(crate) fn string_bytes(self) -> Option<&'m [u8]>
+    pub(crate) fn string_bytes(self) -> Option<&'v [u8]>
         requires { IsOf EntryKind.String (entry_at self.decoded.now.table self.index) }
         ensures value { (v : Value) → IsShownBy self.entry v → option_copied result ≡ string_of v }
         ensures slice { IfSome result (λ bytes. bytes.now ≡ bytes_shown self.entry) }
@@ -24,23 +23,23 @@ impl<'v, 'm> View<'v, 'm> {
     {
         // Read, so that the table is known to be well-formed.
         let _rows = self.decoded.table().rows();
-        let bytes = self.decoded.bytes();
-        if bytes[self.place + 8] == 0 {
+        let links = self.decoded.links();
+        if links.is_blank(self.place + 8) {
             return None;
         }
-        let count = u64_at(bytes, self.place) as usize;
+        let count = links.u64_at(self.place) as usize;
         // No byte stands in the object of an empty string.
         if count == 0 {
-            return Some(&bytes[..0]);
+            return Some(links.part(0, 0));
         }
-        let from = self.decoded.object_at(self.place + 8);
-        Some(&bytes[from..from + count])
+        let from = links.object_of_marker(self.place + 8);
+        Some(links.part(from, from + count))
     }
 
     /// The text of a string, a slice of the message itself; none where it is absent, and of another
     /// kind. The decoder checked it as UTF-8.
     #[inline(always)]
-    pub fn as_str(self) -> Option<&'m str>
+    pub fn as_str(self) -> Option<&'v str>
         ensures { (v : Value) → IsShownBy self.entry v → option_copied result ≡ string_of v }
     {
         match self.kind() {

@@ -14,9 +14,8 @@ use crate::number::{signed, unsigned};
 use fidl_decode::Decoded;
 use fidl_table_format::EntryKind;
 use fidl_verify::Table;
-use fidl_wire::u64_at;
 
-/// A part of a decoded message. It borrows the message, and every answer is a part of the value
+/// A part of a decoded message. It borrows the `Decoded`, and every answer is a part of the value
 /// that the message encodes.
 #[derive(Clone, Copy)]
 pub struct View<'v, 'm> {
@@ -89,11 +88,11 @@ impl<'v, 'm> View<'v, 'm> {
         ensures { (v : Value) → IsShownBy self.entry v → result ≡ absence_of v }
     {
         match self.kind() {
-            EntryKind::Box => self.decoded.bytes()[self.place] == 0,
-            EntryKind::Handle => self.decoded.bytes()[self.place] == 0,
-            EntryKind::String => self.decoded.bytes()[self.place + 8] == 0,
-            EntryKind::Vector => self.decoded.bytes()[self.place + 8] == 0,
-            EntryKind::Union => u64_at(self.decoded.bytes(), self.place) == 0,
+            EntryKind::Box => self.decoded.links().is_blank(self.place),
+            EntryKind::Handle => self.decoded.links().is_blank_handle(self.place),
+            EntryKind::String => self.decoded.links().is_blank(self.place + 8),
+            EntryKind::Vector => self.decoded.links().is_blank(self.place + 8),
+            EntryKind::Union => self.decoded.links().u64_at(self.place) == 0,
             _ => false,
         }
     }
@@ -104,7 +103,7 @@ impl<'v, 'm> View<'v, 'm> {
         ensures { (v : Value) → IsShownBy self.entry v → result ≡ bool_of v }
     {
         match self.kind() {
-            EntryKind::Bool => Some(self.decoded.bytes()[self.place] == 1),
+            EntryKind::Bool => Some(self.decoded.links().byte_at(self.place) == 1),
             _ => None,
         }
     }
@@ -116,7 +115,7 @@ impl<'v, 'm> View<'v, 'm> {
         ensures { (v : Value) → IsShownBy self.entry v → result
             ≡ unsigned_of (type_shown self.entry) v }
     {
-        unsigned(self.number_kind(), self.decoded.bytes(), self.place)
+        unsigned(self.number_kind(), self.decoded.links().raw(), self.place)
     }
 
     /// The number of int8, int16, int32 or int64, and of an enum of one of these; none of another
@@ -126,6 +125,6 @@ impl<'v, 'm> View<'v, 'm> {
         ensures { (v : Value) → IsShownBy self.entry v → result
             ≡ signed_of (type_shown self.entry) v }
     {
-        signed(self.number_kind(), self.decoded.bytes(), self.place)
+        signed(self.number_kind(), self.decoded.links().raw(), self.place)
     }
 }

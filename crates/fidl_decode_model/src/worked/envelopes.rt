@@ -55,8 +55,8 @@ pub fn a_known_member_that_is_cut_off()
         ¬ (BreaksEnvelope no_declarations m 0 (Some t) 0 8 0 (fault.Truncated 8)) }
 {}
 
-/// A count of 65 handles, or of 65,544 bytes out of line: WrongCounts for a known member, and not
-/// 64, nor 65,536, nor a number of 65,544 in its envelope.
+/// A count of 65 handles, or of 16,777,224 bytes out of line: WrongCounts for a known member, and
+/// not 64, nor 16,777,216, nor a number of 16,777,224 in its envelope.
 pub fn counts_that_no_message_has()
     ensures handles { let m = message_of (zeros 4 ++ 65 ∷ 0 ∷ 1 ∷ 0 ∷ []) [] in
         let t = ty.number uint32 in
@@ -64,13 +64,13 @@ pub fn counts_that_no_message_has()
     ensures fewer { let m = message_of (zeros 4 ++ 64 ∷ 0 ∷ 1 ∷ 0 ∷ []) [] in
         let t = ty.number uint32 in
         ¬ (BreaksEnvelope no_declarations m 0 (Some t) 0 8 0 (fault.WrongCounts 0)) }
-    ensures bytes { let m = message_of (8 ∷ 0 ∷ 1 ∷ zeros 5) [] in
+    ensures bytes { let m = message_of (8 ∷ 0 ∷ 0 ∷ 1 ∷ zeros 4) [] in
         let t = ty.number uint64 in
         BreaksEnvelope no_declarations m 0 (Some t) 0 8 0 (fault.WrongCounts 0) }
-    ensures less { let m = message_of (0 ∷ 0 ∷ 1 ∷ zeros 5) [] in
+    ensures less { let m = message_of (0 ∷ 0 ∷ 0 ∷ 1 ∷ zeros 4) [] in
         let t = ty.number uint64 in
         ¬ (BreaksEnvelope no_declarations m 0 (Some t) 0 8 0 (fault.WrongCounts 0)) }
-    ensures inline { let m = message_of (8 ∷ 0 ∷ 1 ∷ zeros 3 ++ 1 ∷ 0 ∷ []) [] in
+    ensures inline { let m = message_of (8 ∷ 0 ∷ 0 ∷ 1 ∷ zeros 2 ++ 1 ∷ 0 ∷ []) [] in
         let t = ty.number uint32 in
         ¬ (BreaksEnvelope no_declarations m 0 (Some t) 0 8 0 (fault.WrongCounts 0)) }
 {}

@@ -32,7 +32,10 @@ pub fn handles_and_links()
         Readable no_declarations (links [] (0 ∷ 1 ∷ [])) (ty.handle true 0 0) 4 (handle h) }
     ensures unlinked { let h : HandleInfo = record { id = 1; object_type = 3; rights = 0 } in
         ¬ (Readable no_declarations (links [] (1 ∷ [])) (ty.handle true 0 0) 4 (handle h)) }
+    ensures uneven { let h : HandleInfo = record { id = 1; object_type = 3; rights = 0 } in
+        ¬ (Readable no_declarations (links [] (0 ∷ 1 ∷ [])) (ty.handle true 0 0) 5 (handle h)) }
     ensures none { Readable no_declarations (links [] (1 ∷ [])) (ty.handle true 0 0) 4 absent }
+    ensures uneven_none { ¬ (Readable no_declarations (links [] []) (ty.handle true 0 0) 6 absent) }
     ensures linked { ¬ (Readable no_declarations (links [] (0 ∷ 1 ∷ [])) (ty.handle true 0 0) 4
         absent) }
 {}
@@ -47,6 +50,10 @@ pub fn a_text_and_links()
     ensures count { ¬ (Readable no_declarations (links (16 ∷ 16 ∷ []) []) (ty.string false 3) 0
         (text (97 ∷ 98 ∷ 99 ∷ []))) }
     ensures inside { ¬ (Readable no_declarations (links (0 ∷ 16 ∷ 24 ∷ []) []) (ty.string false 3) 0
+        (text (97 ∷ 98 ∷ 99 ∷ []))) }
+    ensures uneven { ¬ (Readable no_declarations (links (0 ∷ 18 ∷ []) []) (ty.string false 3) 0
+        (text (97 ∷ 98 ∷ 99 ∷ []))) }
+    ensures aside { ¬ (Readable no_declarations (links (0 ∷ 24 ∷ []) []) (ty.string false 3) 4
         (text (97 ∷ 98 ∷ 99 ∷ []))) }
 {}
 

@@ -6,7 +6,7 @@ const ALL: [Explanation<'static>; 20] = [
         stage: "decode",
         number: 1,
         name: "TooLong",
-        lines: "    The message has over 65,536 bytes.
+        lines: "    The message has over 16,777,216 bytes.
     Rules: docs/decoding.md, \"Refusals\"
 ",
     },

@@ -160,7 +160,7 @@ const ALL: [Explanation<'static>; 14] = [
         stage: "encode",
         number: 7,
         name: "TooLong",
-        lines: "    The message would have over 65,536 bytes.
+        lines: "    The message would have over 16,777,216 bytes.
     Rules: docs/encoding.md, \"Refusals\"
 ",
     },

@@ -7,9 +7,9 @@ ghost use Rattle.fidl_wire.specs.Figure.{Declarations};
 ghost use Rattle.fidl_wire.specs.Depth.{Depth};
 ghost use Rattle.fidl_wire.specs.Message.{Encodes, IsEncoding};
 
-/// More than 65,536 bytes, of any type.
-pub fn more_than_65536_bytes()
-    ensures { (ds : Declarations) (t : Term) (bytes : List ℕ) (handles : List HandleInfo) → 65536 <
+/// More than 16,777,216 bytes, of any type.
+pub fn more_than_16777216_bytes()
+    ensures { (ds : Declarations) (t : Term) (bytes : List ℕ) (handles : List HandleInfo) → 16777216 <
         length bytes → ¬ (IsEncoding ds t bytes handles) }
 {}
 

@@ -16,9 +16,9 @@ pub fn sixty_four_handles()
         (list (values_of (replicate 64 (handle h)))) (replicate 256 255) (replicate 64 h) }
 {}
 
-/// `array<uint8, n>` of zeros is a message of n bytes, up to 65,536 of them.
-pub fn arrays_of_up_to_65536_bytes()
-    ensures { (n : ℕ) → n % 8 ≡ 0 → n ≤ 65536 → Encodes no_declarations
+/// `array<uint8, n>` of zeros is a message of n bytes, up to 16,777,216 of them.
+pub fn arrays_of_up_to_16777216_bytes()
+    ensures { (n : ℕ) → n % 8 ≡ 0 → n ≤ 16777216 → Encodes no_declarations
         (ty.array (ty.number uint8) n) (list (values_of (replicate n (number (pos 0))))) (zeros n)
         [] }
 {}

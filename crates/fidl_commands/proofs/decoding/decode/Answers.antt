@@ -40,34 +40,34 @@ returns-in-Err-clause-out g c a b = refl
 
 pub returns-in-Err-clause-refused : goal.returns-in-Err-clause-refused
 returns-in-Err-clause-refused g c q =
-    let message = c.args.message.now in
+    let message = c.args.message in
     let told = c.in-Err.ensures.refused (ap (λ o. Err o) q) in
     (told.0, table_refused c.args.file.now.bytes.now message.root.now message.bytes.now message.handles.now told.0 told.1, told.2)
 
 pub returns-in-Some-clause-memory : goal.returns-in-Some-clause-memory
 returns-in-Some-clause-memory g c q =
-    (c.in-Some.entry, root_of c.args.file.now.bytes.now c.in-Ok.table c.args.message.now.root.now c.as_bytes.result.now c.in-Some.entry c.in-Ok.ensures.value c.as_bytes.ensures.value c.in-Ok.ensures.well_formed c.in-Some.ensures.found)
+    (c.in-Some.entry, root_of c.args.file.now.bytes.now c.in-Ok.table c.args.message.root.now c.as_bytes.result.now c.in-Some.entry c.in-Ok.ensures.value c.as_bytes.ensures.value c.in-Ok.ensures.well_formed c.in-Some.ensures.found)
 
 pub returns-in-Some-clause-unwritten : goal.returns-in-Some-clause-unwritten
 returns-in-Some-clause-unwritten g c o e = c.decode_as.ensures.unwritten o (ap (λ x. x.failure) c.in-Ok.ensures.kept ∙ e)
 
 pub returns-in-Some-clause-front : goal.returns-in-Some-clause-front
 returns-in-Some-clause-front g c q =
-    subst (λ (b : List ℕ). AppendsFrontOfOne (IsTextOf b c.args.message.now) (g.W.Write.contents c.args.out.now.writer) (g.W.Write.contents c.decode_as.new.out.writer)) c.in-Ok.ensures.value (c.decode_as.ensures.front q)
+    subst (λ (b : List ℕ). AppendsFrontOfOne (IsTextOf b c.args.message) (g.W.Write.contents c.args.out.now.writer) (g.W.Write.contents c.decode_as.new.out.writer)) c.in-Ok.ensures.value (c.decode_as.ensures.front q)
 
 pub returns-in-Some-clause-ends : goal.returns-in-Some-clause-ends
 returns-in-Some-clause-ends g c = decoded_ends c.decode_as.result c.decode_as.ensures.ends
 
 pub returns-in-Some-clause-done : goal.returns-in-Some-clause-done
 returns-in-Some-clause-done g c q =
-    subst (λ (b : List ℕ). AppendsOne (IsTextOf b c.args.message.now) (g.W.Write.contents c.args.out.now.writer) (g.W.Write.contents c.decode_as.new.out.writer)) c.in-Ok.ensures.value (c.decode_as.ensures.done q)
+    subst (λ (b : List ℕ). AppendsOne (IsTextOf b c.args.message) (g.W.Write.contents c.args.out.now.writer) (g.W.Write.contents c.decode_as.new.out.writer)) c.in-Ok.ensures.value (c.decode_as.ensures.done q)
 
 pub returns-in-Some-clause-refused : goal.returns-in-Some-clause-refused
 returns-in-Some-clause-refused g c q =
     let quiet = ap (λ x. g.E.Write.contents x.writer) c.in-Ok.ensures.kept in
     let after = g.E.Write.contents c.decode_as.new.errors.writer in
-    let told = subst (λ (b : List ℕ). AppendsOne (IsRefusalOf b c.args.message.now) (g.E.Write.contents c.verified.new.errors.writer) after) c.in-Ok.ensures.value (c.decode_as.ensures.refused q) in
-    subst (λ (old : Option (List ℕ)). AppendsOne (IsRefusalOf c.args.file.now.bytes.now c.args.message.now) old after) quiet told
+    let told = subst (λ (b : List ℕ). AppendsOne (IsRefusalOf b c.args.message) (g.E.Write.contents c.verified.new.errors.writer) after) c.in-Ok.ensures.value (c.decode_as.ensures.refused q) in
+    subst (λ (old : Option (List ℕ)). AppendsOne (IsRefusalOf c.args.file.now.bytes.now c.args.message) old after) quiet told
 
 pub returns-in-Some-clause-no_root : goal.returns-in-Some-clause-no_root
 returns-in-Some-clause-no_root g c q = absurd (subst CanEndDecodeAs q c.decode_as.ensures.ends)
@@ -112,7 +112,7 @@ returns-in-None-clause-out g c a b = refl
 
 pub returns-in-None-clause-no_root : goal.returns-in-None-clause-no_root
 returns-in-None-clause-no_root g c q =
-    no_root_of c.args.file.now.bytes.now c.in-Ok.table c.args.message.now.root.now c.as_bytes.result.now c.in-Ok.ensures.value c.as_bytes.ensures.value c.in-Ok.ensures.well_formed c.in-None.ensures.none
+    no_root_of c.args.file.now.bytes.now c.in-Ok.table c.args.message.root.now c.as_bytes.result.now c.in-Ok.ensures.value c.as_bytes.ensures.value c.in-Ok.ensures.well_formed c.in-None.ensures.none
 
 pub returns-in-None-clause-unwritten : goal.returns-in-None-clause-unwritten
 returns-in-None-clause-unwritten g c o e =

@@ -1,8 +1,6 @@
-use Rattle.std.proofs.Common.{◌≡◌, ◌∙◌, ℕ, List, ◌++◌, refl, ap}
+use Rattle.std.proofs.Common.{ℕ, List, ◌++◌, refl}
 use Rattle.std.specs.Prelude.{codes, decimal}
 use Rattle.std.specs.Fmt.{digits}
-use Rattle.fidl_table_format.specs.declared.record.Header.{Header}
-use Rattle.fidl_commands.specs.Summary.{summary_text}
 use Rattle.fidl_commands.proofs.worked.the_line_of_a_table.Goals as goal
 
 -- the line of four counts

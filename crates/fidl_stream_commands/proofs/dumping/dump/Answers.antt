@@ -20,14 +20,14 @@ pub returns-in-Some-clause-done : goal.returns-in-Some-clause-done
 returns-in-Some-clause-done g c q =
     let formed = c.in-Ok.ensures in
     let p = c.in-Some.protocol in
-    let named = protocol_named c.args.file.now.bytes.now c.in-Ok.table c.args.recorded.now.protocol.now c.as_bytes.result.now p formed.value c.in-Some.ensures.table c.as_bytes.ensures.value formed.well_formed c.in-Some.ensures.found in
+    let named = protocol_named c.args.file.now.bytes.now c.in-Ok.table c.args.recorded.protocol.now c.as_bytes.result.now p formed.value c.in-Some.ensures.table c.as_bytes.ensures.value formed.well_formed c.in-Some.ensures.found in
     record { protocol = p; named = named; whole = c.dump_by.ensures.whole q; lines = c.dump_by.ensures.done q }
 
 pub returns-in-Some-clause-refused : goal.returns-in-Some-clause-refused
 returns-in-Some-clause-refused g c q =
     let formed = c.in-Ok.ensures in
     let p = c.in-Some.protocol in
-    let named = protocol_named c.args.file.now.bytes.now c.in-Ok.table c.args.recorded.now.protocol.now c.as_bytes.result.now p formed.value c.in-Some.ensures.table c.as_bytes.ensures.value formed.well_formed c.in-Some.ensures.found in
+    let named = protocol_named c.args.file.now.bytes.now c.in-Ok.table c.args.recorded.protocol.now c.as_bytes.result.now p formed.value c.in-Some.ensures.table c.as_bytes.ensures.value formed.well_formed c.in-Some.ensures.found in
     let quiet = ap (λ x. g.E.Write.contents x.writer) formed.kept in
     let r = c.dump_by.ensures.refused q in
     (frame_line r.0 r.1, of_frame p r.0 r.1 named r.2, line_from _ _ _ (frame_line r.0 r.1) quiet r.3)
@@ -44,7 +44,7 @@ pub returns-in-Some-clause-front : goal.returns-in-Some-clause-front
 returns-in-Some-clause-front g c q =
     let formed = c.in-Ok.ensures in
     let p = c.in-Some.protocol in
-    let named = protocol_named c.args.file.now.bytes.now c.in-Ok.table c.args.recorded.now.protocol.now c.as_bytes.result.now p formed.value c.in-Some.ensures.table c.as_bytes.ensures.value formed.well_formed c.in-Some.ensures.found in
+    let named = protocol_named c.args.file.now.bytes.now c.in-Ok.table c.args.recorded.protocol.now c.as_bytes.result.now p formed.value c.in-Some.ensures.table c.as_bytes.ensures.value formed.well_formed c.in-Some.ensures.found in
     elim (c.dump_by.ensures.front q) [
       | inl e ↦ inl e
       | inr h ↦ inr (record { protocol = p; named = named; count = h.0; front = h.1 })
@@ -60,7 +60,7 @@ pub returns-in-Some-clause-errors : goal.returns-in-Some-clause-errors
 returns-in-Some-clause-errors g c q = c.dump_by.ensures.errors q ∙ ap (λ x. g.E.Write.contents x.writer) c.in-Ok.ensures.kept
 
 pub returns-in-None-clause-no_protocol : goal.returns-in-None-clause-no_protocol
-returns-in-None-clause-no_protocol g c q = no_protocol_of c.args.file.now.bytes.now c.in-Ok.table c.args.recorded.now.protocol.now c.as_bytes.result.now c.in-Ok.ensures.value c.as_bytes.ensures.value c.in-Ok.ensures.well_formed c.in-None.ensures.none
+returns-in-None-clause-no_protocol g c q = no_protocol_of c.args.file.now.bytes.now c.in-Ok.table c.args.recorded.protocol.now c.as_bytes.result.now c.in-Ok.ensures.value c.as_bytes.ensures.value c.in-Ok.ensures.well_formed c.in-None.ensures.none
 
 pub returns-in-None-clause-unwritten : goal.returns-in-None-clause-unwritten
 returns-in-None-clause-unwritten g c o p =

@@ -1,12 +1,11 @@
-use Rattle.std.proofs.Common.{◌≡◌, ℕ, suc, ◌+◌, ◌<◌, ◌≤◌, List, refl, sym, ap, subst, ◌∙◌, arith}
-use Rattle.std.specs.Prelude.{Option, Some, IsSome, IfSome, IfOk, ◌++◌, [], ◌∷◌}
-use Rattle.std.specs.Option.{option_map}
+use Rattle.std.proofs.Common.{◌≡◌, ℕ, ◌+◌, ◌<◌, ◌≤◌, List, refl, sym, ap, subst, ◌∙◌, arith}
+use Rattle.std.specs.Prelude.{Option, Some, IsSome, IfSome}
 use Rattle.std.proofs.Math.Logic.{∥∥₁_map, ∥∥₁_elim}
 use Rattle.std.proofs.Math.Bridge.{le_prop}
 use Rattle.fidl_wire.specs.Term.{Term, resolve, find}
 use Rattle.fidl_wire.specs.Term as ty
-use Rattle.fidl_wire.specs.Value.{Value, Values, value, list, fields, table, union, Member, Members, known, unknown}
-use Rattle.fidl_wire.specs.Views.{value_view, values_view, member_view, members_view}
+use Rattle.fidl_wire.specs.Value.{Value, Values, list, fields, table, Member, Members, known, unknown}
+use Rattle.fidl_wire.specs.Views.{members_view}
 use Rattle.fidl_wire.specs.Typed.{IsTyped}
 use Rattle.fidl_wire.specs.Depth.{depth_of, fields_depth, member_depth}
 use Rattle.fidl_table_format.specs.declared.record.Entry.{Entry}
@@ -20,7 +19,7 @@ use Rattle.fidl_table_format.specs.Entry.{IsOf}
 use Rattle.fidl_table_format.specs.WellFormed.{WellFormed}
 use Rattle.fidl_decode_model.specs.Model.{Shown}
 use Rattle.fidl_view.specs.declared.view.View.{View}
-use Rattle.fidl_view.specs.Parts.{element_of, field_of, held_of, length_of, at_ordinal}
+use Rattle.fidl_view.specs.Parts.{element_of, field_of, held_of, length_of}
 use Rattle.fidl_view.specs.Views.{ShowsKnown}
 use Rattle.fidl_view.specs.Within.{IsValueOf}
 use Rattle.fidl_view.proofs.Truncated.{is_some_prop}

@@ -1,4 +1,4 @@
-use Rattle.std.proofs.Common.{◌≡◌, ◌+◌, ◌*◌}
+use Rattle.std.proofs.Common.{◌+◌, ◌*◌}
 use Rattle.fidl_table_format.specs.Section.{entry_at}
 use Rattle.fidl_wire.specs.Views.{values_view, members_view}
 use Rattle.fidl_view.proofs.Growing.{AreElements, AreMembers, AreHeld}

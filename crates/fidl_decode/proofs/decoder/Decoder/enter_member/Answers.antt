@@ -16,6 +16,8 @@ use Rattle.fidl_decode_model.proofs.Broken.{counts_within}
 use Rattle.fidl_decode.proofs.Entered.{Enters, enters_inside_as, enters_below_as, numbers_refuse, not_inside, not_below, cut_off}
 use Rattle.fidl_decode.proofs.decoder.Decoder.enter_member.Goals.{then-flags-ne0-via-then-flags-ne0, then-flags-ne0-via-else-flags-ne0+then-counted-eq0, then-flags-ne0-via-else-flags-ne0+else-counted-eq0+then-counted-ne0}
 use Rattle.fidl_decode.proofs.decoder.Decoder.enter_member.Goals.{then-handles-gt-MAX_MESSAGE_HANDLES-2-via-then-handles-gt-MAX_MESSAGE_HANDLES-2, then-handles-gt-MAX_MESSAGE_HANDLES-2-via-else-handles-gt-MAX_MESSAGE_HANDLES-2+then-counted-gt-MAX_MESSAGE_BYTES}
+use Rattle.fidl_decode.proofs.Linking.{inside_at}
+use Rattle.fidl_decode.proofs.Linking.{outside_at}
 use Rattle.fidl_decode.proofs.decoder.Decoder.enter_member.Goals as goal
 
 pub content_frame-requires : goal.content_frame-requires
@@ -45,13 +47,13 @@ returns-then-size-le4 c =
     let m = message c.args.self.now in
     let old = at_of c.args.state.now in
     let size = ap (λ (d : Entry). d.size) c.entry-content.ensures.value in
-    let led : opened c.args.envelope old ≡ record { next = old.next; handle = old.handle; objects = c.record.new.self.objects; records = c.record.new.self.records }
-    = λ i. record { next = old.next; handle = old.handle; objects = sym c.record.ensures.objects i; records = sym c.record.ensures.records i } in
-    let x = enters_inside_as t c.args.self.now.fine m (c.args.self.now.short, c.requires.state.few) c.args.depth c.args.entry c.args.envelope old c.requires.entry c.requires.room (λ i. omega (arith, c.args.self.now.octets i)) c.requires.state c.requires.depth c.entry-content.result c.handle_count_at-handles.result (record { next = old.next; handle = old.handle; objects = c.record.new.self.objects; records = c.record.new.self.records }) c.entry-content.ensures.value c.handle_count_at-handles.ensures led c.if-size-le4.true (sym c.flags_at-flags.ensures ∙ c.if-flags-ne1.false) in
-    let y = subst (λ (f : Frame). Enters t m c.args.depth c.args.entry c.args.envelope old (record { next = old.next; handle = old.handle; objects = c.record.new.self.objects; records = c.record.new.self.records }) f) (sym c.content_frame.ensures) x in
+    let led : opened c.args.envelope old ≡ record { next = old.next; handle = old.handle; objects = c.link_inside.new.self.objects; records = c.link_inside.new.self.records }
+    = λ i. record { next = old.next; handle = old.handle; objects = sym c.link_inside.ensures.objects i; records = sym c.link_inside.ensures.records i } in
+    let x = enters_inside_as t c.args.self.now.fine m (c.args.self.now.short, c.requires.state.few) c.args.depth c.args.entry c.args.envelope old c.requires.entry c.requires.room (λ i. omega (arith, c.args.self.now.octets i)) c.requires.state c.requires.depth c.entry-content.result c.handle_count_at-handles.result (record { next = old.next; handle = old.handle; objects = c.link_inside.new.self.objects; records = c.link_inside.new.self.records }) c.entry-content.ensures.value c.handle_count_at-handles.ensures led c.if-size-le4.true (sym c.flags_at-flags.ensures ∙ c.if-flags-ne1.false) in
+    let y = subst (λ (f : Frame). Enters t m c.args.depth c.args.entry c.args.envelope old (record { next = old.next; handle = old.handle; objects = c.link_inside.new.self.objects; records = c.link_inside.new.self.records }) f) (sym c.content_frame.ensures) x in
     let until : Until = record { envelope = c.args.envelope; next = old.next; handle = old.handle + c.handle_count_at-handles.result } in
     let left : c.content_frame.result.left ≡ Content c.args.entry (entry_at t c.args.entry).size 1 until = ap (λ (f : Frame). f.left) c.content_frame.ensures ∙ ap (λ n. Content c.args.entry n 1 until) size in
-    record { holds = c.record.ensures.came ∙ c.requires.holds; ok = y.same; breaks = y.breaks; least = y.least; moves = y.moves; fine = y.fine; deeper = y.deeper; left = (until, left); state = y.state; fault_is_true = tt; steps = refl; grows = omega arith; work = y.work }
+    record { holds = c.link_inside.ensures.came ∙ c.requires.holds; ok = y.same; breaks = y.breaks; least = y.least; moves = y.moves; fine = y.fine; deeper = y.deeper; left = (until, left); state = y.state; fault_is_true = tt; steps = refl; grows = omega arith; work = y.work }
 
 pub returns-then-flags-ne0 : goal.returns-then-flags-ne0
 returns-then-flags-ne0 c =
@@ -121,9 +123,9 @@ returns c =
     let size = ap (λ (d : Entry). d.size) c.entry-content.ensures.value in
     let whole : c.next_multiple_of-whole.result ≡ next_multiple_of c.entry-content.result.size 8 = c.next_multiple_of-whole.ensures.value in
     let wide : next_multiple_of (entry_at t c.args.entry).size 8 ≡ c.next_multiple_of-whole.result = sym (whole ∙ ap (λ k. next_multiple_of k 8) size) in
-    let new : Position = record { next = old.next + c.next_multiple_of-whole.result; handle = old.handle; objects = c.link.new.self.objects; records = c.link.new.self.records } in
-    let objects = c.link.ensures.objects ∙ ap (λ (l : List ℕ). slice_set l (c.args.envelope / 8) old.next) c.record-2.ensures.objects in
-    let records = c.link.ensures.records ∙ c.record-2.ensures.records in
+    let new : Position = record { next = old.next + c.next_multiple_of-whole.result; handle = old.handle; objects = c.link_outside.new.self.objects; records = c.link_outside.new.self.records } in
+    let objects = c.link_outside.ensures.objects in
+    let records = c.link_outside.ensures.records in
     let led : linked c.args.envelope (entry_at t c.args.entry).size (opened c.args.envelope old) ≡ new
     = λ i. record { next = old.next + wide i; handle = old.handle; objects = sym objects i; records = sym records i } in
     let x = enters_below_as t c.args.self.now.fine m (c.args.self.now.short, c.requires.state.few) c.args.depth c.args.entry c.args.envelope old c.requires.entry c.requires.room (λ i. omega (arith, c.args.self.now.octets i)) c.requires.state c.requires.depth c.entry-content.result c.byte_count_at-counted.result c.handle_count_at-handles.result c.next_multiple_of-whole.result new
@@ -133,28 +135,10 @@ returns c =
     let y = subst (λ (f : Frame). Enters t m c.args.depth c.args.entry c.args.envelope old new f) (sym c.content_frame-2.ensures) x in
     let until : Until = record { envelope = c.args.envelope; next = old.next + c.byte_count_at-counted.result; handle = old.handle + c.handle_count_at-handles.result } in
     let left : c.content_frame-2.result.left ≡ Content c.args.entry (entry_at t c.args.entry).size 1 until = ap (λ (f : Frame). f.left) c.content_frame-2.ensures ∙ ap (λ n. Content c.args.entry n 1 until) size in
-    record { holds = c.link.ensures.came ∙ c.record-2.ensures.came ∙ c.requires.holds; ok = y.same; breaks = y.breaks; least = y.least; moves = y.moves; fine = y.fine; deeper = y.deeper; left = (until, left); state = y.state; fault_is_true = tt; steps = refl; grows = omega arith; work = y.work }
+    record { holds = c.link_outside.ensures.came ∙ c.requires.holds; ok = y.same; breaks = y.breaks; least = y.least; moves = y.moves; fine = y.fine; deeper = y.deeper; left = (until, left); state = y.state; fault_is_true = tt; steps = refl; grows = omega arith; work = y.work }
 
 pub entry-content-requires : goal.entry-content-requires
 entry-content-requires c = c.requires.entry
-
-pub overflow_add-envelope : goal.overflow_add-envelope
-overflow_add-envelope c = record { fits = small _ (length c.args.self.now.bytes.value.came) (front c.args.envelope 4 4 (length c.args.self.now.bytes.value.came) c.requires.room) c.args.self.now.short }
-
-pub overflow_add-envelope-2 : goal.overflow_add-envelope-2
-overflow_add-envelope-2 c = record { fits = small _ (length c.args.self.now.bytes.value.came) (front c.args.envelope 4 4 (length c.args.self.now.bytes.value.came) c.requires.room) c.args.self.now.short }
-
-pub record-requires-clause-place : goal.record-requires-clause-place
-record-requires-clause-place c = inside (c.args.envelope + 4) 3 (length c.args.self.now.bytes.value.came) (apart c.args.envelope 4 4 (length c.args.self.now.bytes.value.came) c.requires.room) c.args.self.now.short
-
-pub record-requires-clause-index : goal.record-requires-clause-index
-record-requires-clause-index c = few_32 c.args.state.now.handle _ c.requires.state.handle c.requires.state.few
-
-pub record-requires-2-clause-place : goal.record-requires-2-clause-place
-record-requires-2-clause-place c = inside (c.args.envelope + 4) 3 (length c.args.self.now.bytes.value.came) (apart c.args.envelope 4 4 (length c.args.self.now.bytes.value.came) c.requires.room) c.args.self.now.short
-
-pub record-requires-2-clause-index : goal.record-requires-2-clause-index
-record-requires-2-clause-index c = few_32 c.args.state.now.handle _ c.requires.state.handle c.requires.state.few
 
 pub next_multiple_of-whole-requires-clause-nonzero : goal.next_multiple_of-whole-requires-clause-nonzero
 next_multiple_of-whole-requires-clause-nonzero c = some_8
@@ -162,14 +146,25 @@ next_multiple_of-whole-requires-clause-nonzero c = some_8
 pub overflow_sub-self : goal.overflow_sub-self
 overflow_sub-self c = size_room c.args.self.now.sized _ c.requires.state.next
 
-pub link-requires-clause-marker : goal.link-requires-clause-marker
-link-requires-clause-marker c = inside c.args.envelope 7 (length c.args.self.now.bytes.value.came) c.requires.room c.args.self.now.short
-
-pub link-requires-clause-object : goal.link-requires-clause-object
-link-requires-clause-object c = at_most c.args.state.now.next (length c.args.self.now.bytes.value.came) c.requires.state.next c.args.self.now.short
-
 pub overflow_add-state : goal.overflow_add-state
 overflow_add-state c = record { fits = small _ (length c.args.self.now.bytes.value.came) (ended c.args.state.now.next c.next_multiple_of-whole.result (length c.args.self.now.bytes.value.came) c.requires.state.next (size_fits c.args.self.now.sized _ _ c.if-whole-self.false)) c.args.self.now.short }
 
 pub overflow_add-depth : goal.overflow_add-depth
 overflow_add-depth c = record { fits = deeper c.args.depth c.requires.depth }
+
+pub link_inside-requires : goal.link_inside-requires
+link_inside-requires c =
+    let x = inside_at c.args.state.now.links (message c.args.self.now) c.requires.holds c.args.state.now.next c.args.state.now.handle c.requires.state.next c.args.self.now.short
+    c.args.envelope c.requires.ready.0 c.requires.ready.1 c.requires.ready.2 c.requires.state.handle c.requires.state.few
+    (sym c.flags_at-flags.ensures ∙ c.if-flags-ne1.false) (omega (arith, c.handle_count_at-handles.ensures, c.if-handles-gt-MAX_MESSAGE_HANDLES.false)) in
+    record { aligned = x.aligned; within = x.within; flags = x.flags; handles = x.handles; first = x.first; free = x.free }
+
+pub link_outside-requires : goal.link_outside-requires
+link_outside-requires c =
+    let x = outside_at c.args.state.now.links (message c.args.self.now) c.requires.holds c.args.state.now.next c.args.state.now.handle c.requires.state.next c.args.self.now.short
+    c.args.envelope c.requires.ready.0 c.requires.ready.1 c.requires.ready.2 c.requires.state.handle c.requires.state.few
+    (sym c.flags_at-flags.ensures ∙ c.if-flags-ne0.false)
+    (omega (arith, c.byte_count_at-counted.ensures, c.if-counted-ne0.false))
+    (omega (arith, c.byte_count_at-counted.ensures, c.if-counted-gt-MAX_MESSAGE_BYTES.false))
+    (omega (arith, c.handle_count_at-handles.ensures, c.if-handles-gt-MAX_MESSAGE_HANDLES-2.false)) in
+    record { aligned = x.aligned; within = x.within; flags = x.flags; eights = x.eights; short = x.short; handles = x.handles; object = x.object; some = x.some; few = x.few; first = x.first; free = x.free }

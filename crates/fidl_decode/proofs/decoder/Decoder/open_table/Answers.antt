@@ -7,6 +7,7 @@ use Rattle.fidl_decode_model.specs.Breaks.{count_at}
 use Rattle.fidl_decode_model.specs.State.{Position, linked}
 use Rattle.fidl_decode_model.specs.Machine.{Visits, at_of}
 use Rattle.fidl_decode.proofs.Tabled.{whole_eights, table_frame, visits_table}
+use Rattle.fidl_decode.proofs.Linking.{marker_at}
 use Rattle.fidl_decode.proofs.decoder.Decoder.open_table.Goals as goal
 
 pub returns-clause-ok : goal.returns-clause-ok
@@ -18,9 +19,9 @@ returns-clause-ok c =
     let number : c.u64_at-count.result ≡ n = c.u64_at-count.ensures in
     let value : next_multiple_of (8 * n) 8 ≡ 8 * c.u64_at-count.result = whole_eights n ∙ ap (λ k. 8 * k) (sym number) in
     let found : Some (table_frame c.args.entry n c.args.depth old) ≡ Some (table_frame c.args.entry c.u64_at-count.result c.args.depth old) = ap (λ k. Some (table_frame c.args.entry k c.args.depth old)) (sym number) in
-    let objects = c.link.ensures.objects in
-    let same : linked (c.args.place + 8) (8 * n) old ≡ record { next = old.next + 8 * c.u64_at-count.result; handle = old.handle; objects = c.link.new.self.objects; records = c.link.new.self.records }
-    = λ i. record { next = old.next + value i; handle = old.handle; objects = sym objects i; records = sym c.link.ensures.records i } in
+    let objects = c.link_marker.ensures.objects in
+    let same : linked (c.args.place + 8) (8 * n) old ≡ record { next = old.next + 8 * c.u64_at-count.result; handle = old.handle; objects = c.link_marker.new.self.objects; records = c.link_marker.new.self.records }
+    = λ i. record { next = old.next + value i; handle = old.handle; objects = sym objects i; records = sym c.link_marker.ensures.records i } in
     let opened = visits_table t c.args.self.now.fine m c.args.depth c.args.entry c.args.place old c.requires.entry c.requires.kind c.requires.state 0 refl c.in-Present.ensures (omega (arith, c.requires.depth, c.if-depth-eq-MAX_DEPTH.false)) (omega (arith, number, c.if-count-rest.false, c.args.self.now.sized, c.args.self.now.short)) (omega (arith, number, c.if-count-rest.false, c.args.self.now.sized)) (omega (arith, c.requires.room)) (λ i. omega (arith, c.args.self.now.octets i)) in
     subst (λ (s : Position). Visits t m c.args.depth c.args.entry c.args.place old s 0 (Some (table_frame c.args.entry c.u64_at-count.result c.args.depth old))) same
     (subst (λ (o : Option Frame). Visits t m c.args.depth c.args.entry c.args.place old (linked (c.args.place + 8) (8 * n) old) 0 o) found opened)
@@ -126,3 +127,9 @@ returns-clause-fault_is_true c = tt
 
 pub returns-clause-steps : goal.returns-clause-steps
 returns-clause-steps c = refl
+
+pub link_marker-requires : goal.link_marker-requires
+link_marker-requires c =
+    let x = marker_at c.args.state.now.links (message c.args.self.now) c.requires.holds c.args.state.now.next c.args.state.now.handle c.requires.state.next c.args.self.now.short
+    c.args.place 16 (c.args.place + 8) c.requires.ready.1 (omega (arith, c.requires.ready.2)) (omega arith) (omega arith) c.in-Present.ensures in
+    record { aligned = x.aligned; within = x.within; present = x.present; some = x.some; few = x.few; free = x.free }

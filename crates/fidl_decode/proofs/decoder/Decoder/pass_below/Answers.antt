@@ -8,6 +8,7 @@ use Rattle.fidl_decode_model.specs.State.{Position, opened, linked}
 use Rattle.fidl_decode_model.specs.Machine.{at_of}
 use Rattle.fidl_decode.proofs.Words.{counted_small, handles_none, flags_none}
 use Rattle.fidl_decode.proofs.Freely.{below_passed}
+use Rattle.fidl_decode.proofs.Linking.{outside_at}
 use Rattle.fidl_decode.proofs.decoder.Decoder.pass_below.Goals as goal
 
 pub returns-clause-passed : goal.returns-clause-passed
@@ -17,9 +18,9 @@ returns-clause-passed c =
     let m = message c.args.self.now in
     let old = at_of c.args.state.now in
     let wide : next_multiple_of (entry_at t c.args.entry).size 8 ≡ 8 = ap (λ k. next_multiple_of k 8) c.requires.size in
-    let new : Position = record { next = old.next + 8; handle = old.handle; objects = c.link.new.self.objects; records = c.link.new.self.records } in
-    let objects = c.link.ensures.objects ∙ ap (λ (l : List ℕ). slice_set l (c.args.envelope / 8) old.next) c.record.ensures.objects in
-    let records = c.link.ensures.records ∙ c.record.ensures.records in
+    let new : Position = record { next = old.next + 8; handle = old.handle; objects = c.link_outside.new.self.objects; records = c.link_outside.new.self.records } in
+    let objects = c.link_outside.ensures.objects in
+    let records = c.link_outside.ensures.records in
     let led : linked c.args.envelope (entry_at t c.args.entry).size (opened c.args.envelope old) ≡ new
     = λ i. record { next = old.next + wide i; handle = old.handle; objects = sym objects i; records = sym records i } in
     let bytes = c.args.self.now.bytes.value.came in
@@ -56,3 +57,19 @@ returns-then-depth-eq-MAX_DEPTH-clause-grows c = same_le _
 
 pub returns-clause-steps : goal.returns-clause-steps
 returns-clause-steps c = refl
+
+pub link_outside-requires : goal.link_outside-requires
+link_outside-requires c =
+    let bytes = c.args.self.now.bytes.value.came in
+    let p = c.args.envelope in
+    let small : (i : ℕ) → get_or bytes i 0 < 256 = λ i. omega (arith, c.args.self.now.octets i) in
+    let eight : number_at w64 bytes p ≡ 8 = sym c.u64_at.ensures ∙ c.if-u64_at-ne8.false in
+    let few : number_at w64 bytes p < 2 ^ 32 = omega (arith, eight) in
+    let counted = counted_small bytes p c.requires.room small few in
+    let x = outside_at c.args.state.now.links (message c.args.self.now) c.requires.holds c.args.state.now.next c.args.state.now.handle c.requires.state.next c.args.self.now.short
+    c.args.envelope c.requires.ready.0 c.requires.ready.1 c.requires.ready.2 c.requires.state.handle c.requires.state.few
+    (flags_none bytes p c.requires.room small few)
+    (omega (arith, counted, eight))
+    (omega (arith, counted, eight))
+    (omega (arith, handles_none bytes p c.requires.room small few)) in
+    record { aligned = x.aligned; within = x.within; flags = x.flags; eights = x.eights; short = x.short; handles = x.handles; object = x.object; some = x.some; few = x.few; first = x.first; free = x.free }

@@ -19,6 +19,7 @@ use Rattle.fidl_decode_model.proofs.Visiting.{fine_as}
 use Rattle.fidl_decode.proofs.Freely.{rows_within, struct_passed}
 use Rattle.fidl_decode.proofs.Words.{counted_small, handles_none, flags_none}
 use Rattle.fidl_decode.proofs.ReadyPlaces.{ahead_part}
+use Rattle.fidl_decode.proofs.Linking.{outside_at}
 use Rattle.fidl_decode.proofs.decoder.Decoder.pass_struct.Goals as goal
 
 no_false : true ≡ false → ⊥
@@ -89,9 +90,9 @@ returns-clause-passed c =
     let octets : (i : ℕ) → get_or m.bytes i 0 < 256 = λ i. omega (arith, c.args.self.now.octets i) in
     let z = not_err c.zeros_at.result (sym c.is_err.ensures.value ∙ c.if-is_err.false) c.zeros_at.ensures.ok in
     let z' = subst (λ n. Stands m.bytes (old.next + plain.done) (zeros (old.next + n - (old.next + plain.done)))) whole z in
-    let new : Position = record { next = old.next + small; handle = old.handle; objects = c.link.new.self.objects; records = c.link.new.self.records } in
-    let objects = c.link.ensures.objects ∙ ap (λ (l : List ℕ). slice_set l (c.args.envelope / 8) old.next) c.record.ensures.objects in
-    let records = c.link.ensures.records ∙ c.record.ensures.records in
+    let new : Position = record { next = old.next + small; handle = old.handle; objects = c.link_outside.new.self.objects; records = c.link_outside.new.self.records } in
+    let objects = c.link_outside.ensures.objects in
+    let records = c.link_outside.ensures.records in
     let led : linked c.args.envelope d.size (opened c.args.envelope old) ≡ new
     = λ i. record { next = old.next + sym whole i; handle = old.handle; objects = sym objects i; records = sym records i } in
     struct_passed t c.args.self.now.fine m (c.args.self.now.short, c.requires.state.few) c.args.depth c.args.entry c.args.envelope old c.requires.entry c.requires.room (λ i. omega (arith, c.args.self.now.octets i)) c.requires.state c.requires.depth c.requires.kind
@@ -176,21 +177,6 @@ zeros_at-requires-clause-room c = (ended c.args.state.now.next c.next_multiple_o
 pub overflow_add-state : goal.overflow_add-state
 overflow_add-state c = record { fits = counted_on c.args.state.now.steps c.next_multiple_of-whole.result (length c.args.self.now.bytes.value.came) c.requires.budget (size_in c.args.state.now.next c.next_multiple_of-whole.result (length c.args.self.now.bytes.value.came) (ended c.args.state.now.next c.next_multiple_of-whole.result (length c.args.self.now.bytes.value.came) c.requires.state.next (size_fits c.args.self.now.sized _ _ c.if-whole-self.false))) c.args.self.now.short }
 
-pub overflow_add-envelope : goal.overflow_add-envelope
-overflow_add-envelope c = record { fits = small _ (length c.args.self.now.bytes.value.came) (front c.args.envelope 4 4 (length c.args.self.now.bytes.value.came) c.requires.room) c.args.self.now.short }
-
-pub record-requires-clause-place : goal.record-requires-clause-place
-record-requires-clause-place c = inside (c.args.envelope + 4) 3 (length c.args.self.now.bytes.value.came) (apart c.args.envelope 4 4 (length c.args.self.now.bytes.value.came) c.requires.room) c.args.self.now.short
-
-pub record-requires-clause-index : goal.record-requires-clause-index
-record-requires-clause-index c = few_32 c.args.state.now.handle _ c.requires.state.handle c.requires.state.few
-
-pub link-requires-clause-marker : goal.link-requires-clause-marker
-link-requires-clause-marker c = inside c.args.envelope 7 (length c.args.self.now.bytes.value.came) c.requires.room c.args.self.now.short
-
-pub link-requires-clause-object : goal.link-requires-clause-object
-link-requires-clause-object c = at_most c.args.state.now.next (length c.args.self.now.bytes.value.came) c.requires.state.next c.args.self.now.short
-
 pub overflow_add-state-2 : goal.overflow_add-state-2
 overflow_add-state-2 c = record { fits = small _ (length c.args.self.now.bytes.value.came) (ended c.args.state.now.next c.next_multiple_of-whole.result (length c.args.self.now.bytes.value.came) c.requires.state.next (size_fits c.args.self.now.sized _ _ c.if-whole-self.false)) c.args.self.now.short }
 
@@ -205,3 +191,20 @@ zeros_at-requires-clause-free c =
     let m = message c.args.self.now in
     ahead_part m (at_of c.args.state.now) _ _ c.requires.ready.0 (le_more _ _)
     (ended c.args.state.now.next c.next_multiple_of-whole.result (length m.bytes) c.requires.state.next (size_fits c.args.self.now.sized _ _ c.if-whole-self.false))
+
+pub link_outside-requires : goal.link_outside-requires
+link_outside-requires c =
+    let bytes = c.args.self.now.bytes.value.came in
+    let p = c.args.envelope in
+    let small : (i : ℕ) → get_or bytes i 0 < 256 = λ i. omega (arith, c.args.self.now.octets i) in
+    let is_small = sym c.u64_at.ensures ∙ c.if-u64_at-whole.false in
+    let fits = size_fits c.args.self.now.sized _ _ c.if-whole-self.false in
+    let few : number_at w64 bytes p < 2 ^ 32 = omega (arith, is_small, fits, c.args.self.now.short) in
+    let counted = counted_small bytes p c.requires.room small few in
+    let x = outside_at c.args.state.now.links (message c.args.self.now) c.requires.holds c.args.state.now.next c.args.state.now.handle c.requires.state.next c.args.self.now.short
+    c.args.envelope c.requires.ready.0 c.requires.ready.1 c.requires.ready.2 c.requires.state.handle c.requires.state.few
+    (flags_none bytes p c.requires.room small few)
+    (omega (arith, counted, is_small, c.next_multiple_of-whole.ensures.value))
+    (omega (arith, counted, is_small, fits, c.args.self.now.short))
+    (omega (arith, handles_none bytes p c.requires.room small few)) in
+    record { aligned = x.aligned; within = x.within; flags = x.flags; eights = x.eights; short = x.short; handles = x.handles; object = x.object; some = x.some; few = x.few; first = x.first; free = x.free }

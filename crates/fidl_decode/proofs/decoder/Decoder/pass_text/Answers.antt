@@ -17,6 +17,7 @@ use Rattle.fidl_decode.proofs.Words.{counted_small, handles_none, flags_none}
 use Rattle.fidl_decode.proofs.TextMember.{text_passed}
 use Rattle.fidl_decode.proofs.ReadyPlaces.{ahead_part, le_two}
 use Rattle.fidl_decode.specs.Reading.{message}
+use Rattle.fidl_decode.proofs.Linking.{outside_at, word_behind}
 use Rattle.fidl_decode.proofs.decoder.Decoder.pass_text.Goals as goal
 
 pub returns-clause-passed : goal.returns-clause-passed
@@ -43,10 +44,10 @@ returns-clause-passed c =
     let room : from + 16 + next_multiple_of n 8 ≤ length bytes = omega (arith, fits, value) in
     let gap : from + 16 + size - (from + 16 + n) ≡ next_multiple_of n 8 - n = omega (arith, value) in
     let le = le-next_multiple_of n 8 in
-    let objects = c.link-2.ensures.objects ∙ ap (λ (l : List ℕ). slice_set l ((from + 8) / 8) (from + 16)) (c.link.ensures.objects ∙ ap (λ (l : List ℕ). slice_set l (p / 8) from) c.record.ensures.objects)
+    let objects = c.link_marker.ensures.objects ∙ ap (λ (l : List ℕ). slice_set l ((from + 8) / 8) (from + 16)) c.link_outside.ensures.objects
     ∙ ap (λ k. slice_set (slice_set old.objects (p / 8) from) ((from + 8) / 8) (from + k)) (sym wide) in
-    let records = c.link-2.ensures.records ∙ c.link.ensures.records ∙ c.record.ensures.records in
-    let new : Position = record { next = from + 16 + size; handle = old.handle; objects = c.link-2.new.self.objects; records = c.link-2.new.self.records } in
+    let records = c.link_marker.ensures.records ∙ c.link_outside.ensures.records in
+    let new : Position = record { next = from + 16 + size; handle = old.handle; objects = c.link_marker.new.self.objects; records = c.link_marker.new.self.records } in
     let led : linked (from + 8) n (linked p (entry_at t e).size (opened p old)) ≡ new = λ i. record { next = from + wide i + sym value i; handle = old.handle; objects = sym objects i; records = sym records i } in
     text_passed t c.args.self.now.fine m (c.args.self.now.short, c.requires.state.few) c.args.depth e p old c.requires.entry c.requires.room small c.requires.state c.requires.depth c.requires.kind
     (omega (arith, c.if-depth-ge-MAX_DEPTH.false)) n room (sym c.u64_at-count.ensures) bound (c.is_present.ensures.0 c.if-not-is_present.false)
@@ -172,29 +173,8 @@ are_zeros-requires-clause-room c = (counted_whole c.args.state.now.next c.u64_at
 pub overflow_add-state : goal.overflow_add-state
 overflow_add-state c = record { fits = counted_on c.args.state.now.steps c.next_multiple_of-size.result (length c.args.self.now.bytes.value.came) c.requires.budget (size_in (c.args.state.now.next + 16) c.next_multiple_of-size.result (length c.args.self.now.bytes.value.came) (counted_whole c.args.state.now.next c.u64_at-counted.result c.next_multiple_of-size.result (length c.args.self.now.bytes.value.came) (size_fits c.args.self.now.sized _ _ c.if-counted-rest.false) c.if-counted-size.false)) c.args.self.now.short }
 
-pub overflow_add-envelope : goal.overflow_add-envelope
-overflow_add-envelope c = record { fits = small _ (length c.args.self.now.bytes.value.came) (front c.args.envelope 4 4 (length c.args.self.now.bytes.value.came) c.requires.room) c.args.self.now.short }
-
-pub record-requires-clause-place : goal.record-requires-clause-place
-record-requires-clause-place c = inside (c.args.envelope + 4) 3 (length c.args.self.now.bytes.value.came) (apart c.args.envelope 4 4 (length c.args.self.now.bytes.value.came) c.requires.room) c.args.self.now.short
-
-pub record-requires-clause-index : goal.record-requires-clause-index
-record-requires-clause-index c = few_32 c.args.state.now.handle _ c.requires.state.handle c.requires.state.few
-
-pub link-requires-clause-marker : goal.link-requires-clause-marker
-link-requires-clause-marker c = inside c.args.envelope 7 (length c.args.self.now.bytes.value.came) c.requires.room c.args.self.now.short
-
-pub link-requires-clause-object : goal.link-requires-clause-object
-link-requires-clause-object c = at_most c.args.state.now.next (length c.args.self.now.bytes.value.came) c.requires.state.next c.args.self.now.short
-
 pub overflow_add-next-2 : goal.overflow_add-next-2
 overflow_add-next-2 c = record { fits = small _ (length c.args.self.now.bytes.value.came) (front c.args.state.now.next 8 8 (length c.args.self.now.bytes.value.came) (counted_front c.args.state.now.next c.u64_at-counted.result (length c.args.self.now.bytes.value.came) c.if-counted-lt16.false (size_fits c.args.self.now.sized _ _ c.if-counted-rest.false))) c.args.self.now.short }
-
-pub link-requires-2-clause-marker : goal.link-requires-2-clause-marker
-link-requires-2-clause-marker c = inside (c.args.state.now.next + 8) 7 (length c.args.self.now.bytes.value.came) (apart c.args.state.now.next 8 8 (length c.args.self.now.bytes.value.came) (counted_front c.args.state.now.next c.u64_at-counted.result (length c.args.self.now.bytes.value.came) c.if-counted-lt16.false (size_fits c.args.self.now.sized _ _ c.if-counted-rest.false))) c.args.self.now.short
-
-pub link-requires-2-clause-object : goal.link-requires-2-clause-object
-link-requires-2-clause-object c = at_most _ (length c.args.self.now.bytes.value.came) (counted_front c.args.state.now.next c.u64_at-counted.result (length c.args.self.now.bytes.value.came) c.if-counted-lt16.false (size_fits c.args.self.now.sized _ _ c.if-counted-rest.false)) c.args.self.now.short
 
 pub overflow_add-state-2 : goal.overflow_add-state-2
 overflow_add-state-2 c = record { fits = small _ (length c.args.self.now.bytes.value.came) (counted_whole c.args.state.now.next c.u64_at-counted.result c.next_multiple_of-size.result (length c.args.self.now.bytes.value.came) (size_fits c.args.self.now.sized _ _ c.if-counted-rest.false) c.if-counted-size.false) c.args.self.now.short }
@@ -216,3 +196,29 @@ are_zeros-requires-clause-free c =
     let m = message c.args.self.now in
     ahead_part m (at_of c.args.state.now) _ _ c.requires.ready.0 (le_two _ _ _)
     (counted_whole c.args.state.now.next c.u64_at-counted.result c.next_multiple_of-size.result (length m.bytes) (size_fits c.args.self.now.sized _ _ c.if-counted-rest.false) c.if-counted-size.false)
+
+pub link_outside-requires : goal.link_outside-requires
+link_outside-requires c =
+    let bytes = c.args.self.now.bytes.value.came in
+    let p = c.args.envelope in
+    let small : (i : ℕ) → get_or bytes i 0 < 256 = λ i. omega (arith, c.args.self.now.octets i) in
+    let counted : c.u64_at-counted.result ≡ 16 + c.next_multiple_of-size.result = omega (arith, c.if-counted-size.false) in
+    let fits = size_fits c.args.self.now.sized _ _ c.if-counted-rest.false in
+    let few : number_at w64 bytes p < 2 ^ 32 = omega (arith, c.u64_at-counted.ensures, fits, c.args.self.now.short) in
+    let is = counted_small bytes p c.requires.room small few in
+    let x = outside_at c.args.state.now.links (message c.args.self.now) c.requires.holds c.args.state.now.next c.args.state.now.handle c.requires.state.next c.args.self.now.short
+    c.args.envelope c.requires.ready.0 c.requires.ready.1 c.requires.ready.2 c.requires.state.handle c.requires.state.few
+    (flags_none bytes p c.requires.room small few)
+    (omega (arith, is, c.u64_at-counted.ensures, counted, c.next_multiple_of-size.ensures.value))
+    (omega (arith, is, c.u64_at-counted.ensures, fits, c.args.self.now.short))
+    (omega (arith, handles_none bytes p c.requires.room small few)) in
+    record { aligned = x.aligned; within = x.within; flags = x.flags; eights = x.eights; short = x.short; handles = x.handles; object = x.object; some = x.some; few = x.few; first = x.first; free = x.free }
+
+pub link_marker-requires-clause-free : goal.link_marker-requires-clause-free
+link_marker-requires-clause-free c =
+    let next = c.args.state.now.next in
+    let front = c.requires.ready.1.before in
+    let reach = size_fits c.args.self.now.sized _ _ c.if-counted-rest.false in
+    let free = c.requires.ready.0.free in
+    word_behind c.args.state.now.links c.link_outside.new.self c.args.envelope next _ (next + 8) c.link_outside.ensures.objects c.link_outside.ensures.records c.requires.ready.2 (omega (arith, front))
+    (free (next + 8) (omega arith) (omega (arith, reach, c.if-counted-lt16.false)), free (next + 8 + 4) (omega arith) (omega (arith, reach, c.if-counted-lt16.false)))

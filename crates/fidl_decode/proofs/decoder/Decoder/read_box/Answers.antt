@@ -13,6 +13,7 @@ use Rattle.fidl_decode_model.specs.State.{Position, linked}
 use Rattle.fidl_decode_model.specs.Machine.{Visits, VisitFine, at_of}
 use Rattle.fidl_decode_model.proofs.Visiting.{fine_as}
 use Rattle.fidl_decode_model.proofs.Boxed.{visits_absent_box, visits_box, box_fine}
+use Rattle.fidl_decode.proofs.Linking.{marker_at}
 use Rattle.fidl_decode.proofs.decoder.Decoder.read_box.Goals as goal
 
 pub returns-then-is_absent-clause-ok : goal.returns-then-is_absent-clause-ok
@@ -40,11 +41,11 @@ returns-clause-ok c =
     let content : c.entry-content.result ≡ inner = c.entry-content.ensures.value ∙ ap (λ (d : Entry). entry_at t d.first) c.entry.ensures.value in
     let value : c.next_multiple_of-size.result ≡ next_multiple_of inner.size 8 = c.next_multiple_of-size.ensures.value ∙ ap (λ (d : Entry). next_multiple_of d.size 8) content in
     let frame : ℕ → Entry → Frame = λ size d. record { left = Rows d.first d.count; base = old.next; done = 0; size = size; nest = d.nest; depth = c.args.depth + 1; in_envelope = 0 } in
-    let same : linked c.args.place inner.size old ≡ record { next = old.next + c.next_multiple_of-size.result; handle = old.handle; objects = c.link.new.self.objects; records = c.link.new.self.records }
-    = λ i. record { next = old.next + sym value i; handle = old.handle; objects = sym c.link.ensures.objects i; records = sym c.link.ensures.records i } in
+    let same : linked c.args.place inner.size old ≡ record { next = old.next + c.next_multiple_of-size.result; handle = old.handle; objects = c.link_marker.new.self.objects; records = c.link_marker.new.self.records }
+    = λ i. record { next = old.next + sym value i; handle = old.handle; objects = sym c.link_marker.ensures.objects i; records = sym c.link_marker.ensures.records i } in
     let opened = visits_box t c.args.self.now.fine m c.args.depth c.args.entry c.args.place old c.requires.entry c.requires.kind c.requires.state c.requires.depth (c.args.state.now.steps - c.args.state.now.steps) (omega arith) (c.is_present.ensures.0 c.if-not-is_present.false) (omega (arith, c.requires.depth, c.if-depth-eq-MAX_DEPTH.false)) (omega (arith, value, (size_fits c.args.self.now.sized _ _ c.if-size-self.false))) in
-    subst (λ (d : Entry). Visits t m c.args.depth c.args.entry c.args.place old (at_of (record { next = old.next + c.next_multiple_of-size.result; handle = c.args.state.now.handle; steps = c.args.state.now.steps; links = c.link.new.self })) (c.args.state.now.steps - c.args.state.now.steps) (Some (frame c.next_multiple_of-size.result d))) (sym content)
-    (subst (λ (n : ℕ). Visits t m c.args.depth c.args.entry c.args.place old (at_of (record { next = old.next + c.next_multiple_of-size.result; handle = c.args.state.now.handle; steps = c.args.state.now.steps; links = c.link.new.self })) (c.args.state.now.steps - c.args.state.now.steps) (Some (frame n inner))) (sym value)
+    subst (λ (d : Entry). Visits t m c.args.depth c.args.entry c.args.place old (at_of (record { next = old.next + c.next_multiple_of-size.result; handle = c.args.state.now.handle; steps = c.args.state.now.steps; links = c.link_marker.new.self })) (c.args.state.now.steps - c.args.state.now.steps) (Some (frame c.next_multiple_of-size.result d))) (sym content)
+    (subst (λ (n : ℕ). Visits t m c.args.depth c.args.entry c.args.place old (at_of (record { next = old.next + c.next_multiple_of-size.result; handle = c.args.state.now.handle; steps = c.args.state.now.steps; links = c.link_marker.new.self })) (c.args.state.now.steps - c.args.state.now.steps) (Some (frame n inner))) (sym value)
     (subst (λ (s : Position). Visits t m c.args.depth c.args.entry c.args.place old s (c.args.state.now.steps - c.args.state.now.steps) (Some (frame (next_multiple_of inner.size 8) inner))) same opened))
 
 pub returns-clause-fine : goal.returns-clause-fine
@@ -127,14 +128,14 @@ next_multiple_of-size-requires-clause-nonzero c = some_8
 pub overflow_sub-self : goal.overflow_sub-self
 overflow_sub-self c = size_room c.args.self.now.sized _ c.requires.state.next
 
-pub link-requires-clause-marker : goal.link-requires-clause-marker
-link-requires-clause-marker c = inside c.args.place 7 (length c.args.self.now.bytes.value.came) c.requires.room c.args.self.now.short
-
-pub link-requires-clause-object : goal.link-requires-clause-object
-link-requires-clause-object c = at_most c.args.state.now.next (length c.args.self.now.bytes.value.came) c.requires.state.next c.args.self.now.short
-
 pub overflow_add-state : goal.overflow_add-state
 overflow_add-state c = record { fits = small _ (length c.args.self.now.bytes.value.came) (ended c.args.state.now.next c.next_multiple_of-size.result (length c.args.self.now.bytes.value.came) c.requires.state.next (size_fits c.args.self.now.sized _ _ c.if-size-self.false)) c.args.self.now.short }
 
 pub overflow_add-result : goal.overflow_add-result
 overflow_add-result c = record { fits = deeper c.args.depth c.requires.depth }
+
+pub link_marker-requires : goal.link_marker-requires
+link_marker-requires c =
+    let x = marker_at c.args.state.now.links (message c.args.self.now) c.requires.holds c.args.state.now.next c.args.state.now.handle c.requires.state.next c.args.self.now.short
+    c.args.place 8 c.args.place c.requires.ready.1 c.requires.ready.2 (omega arith) (omega arith) (c.is_present.ensures.0 c.if-not-is_present.false) in
+    record { aligned = x.aligned; within = x.within; present = x.present; some = x.some; few = x.few; free = x.free }

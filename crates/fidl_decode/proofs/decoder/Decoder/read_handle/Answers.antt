@@ -7,6 +7,7 @@ use Rattle.fidl_table_format.specs.Terms.{declarations_of, is_optional}
 use Rattle.fidl_decode_model.specs.State.{Position, taken}
 use Rattle.fidl_decode_model.specs.Machine.{Leads, at_of}
 use Rattle.fidl_decode_model.proofs.Carried.{absent_leads, handle_leads}
+use Rattle.fidl_decode.proofs.Linking.{handle_at}
 use Rattle.fidl_decode.proofs.decoder.Decoder.read_handle.Goals as goal
 
 abbrev nobody : HandleInfo
@@ -25,8 +26,8 @@ returns-else-not-is_optional-clause-ok c =
 pub returns-else-not-is_allowed-clause-ok : goal.returns-else-not-is_allowed-clause-ok
 returns-else-not-is_allowed-clause-ok c =
     let within : c.args.state.now.handle < length c.args.self.now.handles.now = (let h = c.requires.state.handle in omega (arith, h, c.if-state-self.false)) in
-    let same : taken c.args.place (at_of c.args.state.now) ≡ record { next = c.args.state.now.next; handle = c.args.state.now.handle + 1; objects = c.record.new.self.objects; records = c.record.new.self.records }
-    = λ i. record { next = c.args.state.now.next; handle = c.args.state.now.handle + 1; objects = sym c.record.ensures.objects i; records = sym c.record.ensures.records i } in
+    let same : taken c.args.place (at_of c.args.state.now) ≡ record { next = c.args.state.now.next; handle = c.args.state.now.handle + 1; objects = c.link_handle.new.self.objects; records = c.link_handle.new.self.records }
+    = λ i. record { next = c.args.state.now.next; handle = c.args.state.now.handle + 1; objects = sym c.link_handle.ensures.objects i; records = sym c.link_handle.ensures.records i } in
     subst (λ (s : Position). Leads (declarations_of c.args.self.now.table.now) (message c.args.self.now) c.args.depth (ty.handle (is_optional c.args.entry.now) c.args.entry.now.subtype c.args.entry.now.rights) c.args.place (at_of c.args.state.now) s) same
     (handle_leads (declarations_of c.args.self.now.table.now) (message c.args.self.now) c.args.depth (is_optional c.args.entry.now) c.args.entry.now.subtype c.args.entry.now.rights c.args.place (at_of c.args.state.now) c.requires.depth c.in-Present.ensures (get_or c.args.self.now.handles.now c.args.state.now.handle nobody) (slice_get-get_or c.args.self.now.handles.now c.args.state.now.handle nobody within) c.is_allowed.ensures.handle (c.is_allowed.ensures.allowed.0 c.if-not-is_allowed.false))
 
@@ -98,3 +99,9 @@ returns-else-not-is_allowed-clause-next c = refl
 
 pub returns-else-not-is_allowed-clause-steps : goal.returns-else-not-is_allowed-clause-steps
 returns-else-not-is_allowed-clause-steps c = refl
+
+pub link_handle-requires : goal.link_handle-requires
+link_handle-requires c =
+    let x = handle_at c.args.state.now.links (message c.args.self.now) c.requires.holds c.args.state.now.next c.args.state.now.handle c.requires.state.next c.args.self.now.short
+    c.args.place c.requires.ready.0 c.requires.ready.1 c.requires.ready.2 c.in-Present.ensures (omega (arith, c.requires.state.handle, c.if-state-self.false)) c.requires.state.few in
+    record { aligned = x.aligned; within = x.within; present = x.present; few = x.few; free = x.free }

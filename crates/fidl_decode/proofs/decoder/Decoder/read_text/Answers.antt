@@ -13,6 +13,7 @@ use Rattle.fidl_decode_model.specs.Machine.{Leads, at_of}
 use Rattle.fidl_decode_model.specs.Breaks.{count_at}
 use Rattle.fidl_decode_model.proofs.Written.{absent_leads, text_leads, text_work}
 use Rattle.fidl_decode.proofs.ReadyPlaces.{ahead_part, first_free, last_free}
+use Rattle.fidl_decode.proofs.Linking.{marker_at}
 use Rattle.fidl_decode.proofs.decoder.Decoder.read_text.Goals as goal
 
 pub returns-then-not-is_present-clause-ok : goal.returns-then-not-is_present-clause-ok
@@ -28,8 +29,8 @@ returns-clause-ok c =
     let value : c.next_multiple_of-size.result ≡ next_multiple_of n 8 = c.next_multiple_of-size.ensures.value in
     let within = c.requires.state.next in
     let gap : from + c.next_multiple_of-size.result - (from + n) ≡ next_multiple_of n 8 - n = omega (arith, value) in
-    let same : linked (c.args.place + 8) n (at_of c.args.state.now) ≡ record { next = from + c.next_multiple_of-size.result; handle = c.args.state.now.handle; objects = c.link.new.self.objects; records = c.link.new.self.records }
-    = λ i. record { next = from + sym value i; handle = c.args.state.now.handle; objects = sym c.link.ensures.objects i; records = sym c.link.ensures.records i } in
+    let same : linked (c.args.place + 8) n (at_of c.args.state.now) ≡ record { next = from + c.next_multiple_of-size.result; handle = c.args.state.now.handle; objects = c.link_marker.new.self.objects; records = c.link_marker.new.self.records }
+    = λ i. record { next = from + sym value i; handle = c.args.state.now.handle; objects = sym c.link_marker.ensures.objects i; records = sym c.link_marker.ensures.records i } in
     subst (λ (s : Position). Leads (declarations_of c.args.self.now.table.now) (message c.args.self.now) c.args.depth (ty.string (is_optional c.args.entry.now) c.args.entry.now.bound) c.args.place (at_of c.args.state.now) s) same
     (text_leads (declarations_of c.args.self.now.table.now) (message c.args.self.now) (omega (arith, short)) c.args.depth (is_optional c.args.entry.now) c.args.entry.now.bound c.args.place (at_of c.args.state.now) (omega (arith, c.requires.depth, c.if-depth-eq-MAX_DEPTH.false)) (c.is_present.ensures.0 c.if-not-is_present.false) (omega (arith, c.requires.room)) (λ i. omega (arith, c.args.self.now.octets i)) n (sym c.u64_at-count.ensures) (omega (arith, c.if-count-entry.false)) (omega (arith, value, within, (size_fits c.args.self.now.sized _ _ c.if-size-rest.false))) (le-next_multiple_of n 8)
     (c.is_text.ensures.0 c.if-not-is_text.false) (subst (λ k. Stands c.args.self.now.bytes.value.came (from + n) (zeros k)) gap c.in_ok-zeros_at.ensures.ok))
@@ -244,12 +245,6 @@ zeros_at-requires-clause-order c = part_order c.args.state.now.next c.u64_at-cou
 pub zeros_at-requires-clause-room : goal.zeros_at-requires-clause-room
 zeros_at-requires-clause-room c = (ended c.args.state.now.next c.next_multiple_of-size.result (length c.args.self.now.bytes.value.came) c.requires.state.next (size_fits c.args.self.now.sized _ _ c.if-size-rest.false))
 
-pub link-requires-clause-marker : goal.link-requires-clause-marker
-link-requires-clause-marker c = inside (c.args.place + 8) 7 (length c.args.self.now.bytes.value.came) (apart c.args.place 8 8 (length c.args.self.now.bytes.value.came) c.requires.room) c.args.self.now.short
-
-pub link-requires-clause-object : goal.link-requires-clause-object
-link-requires-clause-object c = at_most c.args.state.now.next (length c.args.self.now.bytes.value.came) c.requires.state.next c.args.self.now.short
-
 pub returns-then-not-is_absent-clause-least : goal.returns-then-not-is_absent-clause-least
 returns-then-not-is_absent-clause-least c = tt
 
@@ -300,3 +295,9 @@ zeros_at-requires-clause-free c =
     let m = message c.args.self.now in
     ahead_part m (at_of c.args.state.now) _ _ c.requires.ready.0 (le_more _ _)
     (ended c.args.state.now.next c.next_multiple_of-size.result (length m.bytes) c.requires.state.next (size_fits c.args.self.now.sized _ _ c.if-size-rest.false))
+
+pub link_marker-requires : goal.link_marker-requires
+link_marker-requires c =
+    let x = marker_at c.args.state.now.links (message c.args.self.now) c.requires.holds c.args.state.now.next c.args.state.now.handle c.requires.state.next c.args.self.now.short
+    c.args.place 16 (c.args.place + 8) c.requires.ready.1 (omega (arith, c.requires.ready.2)) (omega arith) (omega arith) (c.is_present.ensures.0 c.if-not-is_present.false) in
+    record { aligned = x.aligned; within = x.within; present = x.present; some = x.some; few = x.few; free = x.free }

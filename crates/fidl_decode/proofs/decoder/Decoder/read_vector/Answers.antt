@@ -16,6 +16,7 @@ use Rattle.fidl_decode_model.specs.Machine.{Visits, VisitFine, at_of}
 use Rattle.fidl_decode_model.proofs.Visiting.{fine_as}
 use Rattle.fidl_decode_model.proofs.Listed.{count_fits, visits_absent_vector, visits_vector, vector_fine}
 use Rattle.fidl_decode.proofs.ReadyPlaces.{first_free, last_free}
+use Rattle.fidl_decode.proofs.Linking.{marker_at}
 use Rattle.fidl_decode.proofs.decoder.Decoder.read_vector.Goals as goal
 
 pub returns-in-Absent-clause-ok : goal.returns-in-Absent-clause-ok
@@ -58,8 +59,8 @@ returns-clause-ok c =
     let frame : Entry → Entry → (k size : ℕ) → Option Frame = λ h e k size. Some (record { left = Elements h.first e.size k; base = old.next; done = 0; size = size; nest = e.nest + 1; depth = c.args.depth + 1; in_envelope = 0 }) in
     let found : frame d inner n (next_multiple_of (inner.size * n) 8) ≡ frame c.entry-e.result c.entry-element.result c.u64_at-count.result c.next_multiple_of-size.result
     = λ i. frame (sym holder i) (sym element i) (sym number i) (sym value i) in
-    let same : linked (c.args.place + 8) (inner.size * n) old ≡ record { next = old.next + c.next_multiple_of-size.result; handle = old.handle; objects = c.link.new.self.objects; records = c.link.new.self.records }
-    = λ i. record { next = old.next + sym value i; handle = old.handle; objects = sym c.link.ensures.objects i; records = sym c.link.ensures.records i } in
+    let same : linked (c.args.place + 8) (inner.size * n) old ≡ record { next = old.next + c.next_multiple_of-size.result; handle = old.handle; objects = c.link_marker.new.self.objects; records = c.link_marker.new.self.records }
+    = λ i. record { next = old.next + sym value i; handle = old.handle; objects = sym c.link_marker.ensures.objects i; records = sym c.link_marker.ensures.records i } in
     let opened = visits_vector t c.args.self.now.fine m c.args.depth c.args.entry c.args.place old c.requires.entry c.requires.kind c.requires.state c.requires.depth (c.args.state.now.steps - c.args.state.now.steps) (omega arith) c.in-Present.ensures (omega (arith, c.requires.depth, c.if-depth-eq-MAX_DEPTH.false)) (omega (arith, number, bound, c.if-count-e.false))
     (omega (arith, value, (size_fits c.args.self.now.sized _ _ c.if-size-rest.false))) (omega (arith, c.requires.room)) (λ i. omega (arith, c.args.self.now.octets i)) in
     subst (λ (s : Position). Visits t m c.args.depth c.args.entry c.args.place old s (c.args.state.now.steps - c.args.state.now.steps) (frame c.entry-e.result c.entry-element.result c.u64_at-count.result c.next_multiple_of-size.result)) same
@@ -231,14 +232,14 @@ next_multiple_of-size-requires-clause-nonzero c = some_8
 pub overflow_add-place-2 : goal.overflow_add-place-2
 overflow_add-place-2 c = record { fits = small _ (length c.args.self.now.bytes.value.came) (front c.args.place 8 8 (length c.args.self.now.bytes.value.came) c.requires.room) c.args.self.now.short }
 
-pub link-requires-clause-marker : goal.link-requires-clause-marker
-link-requires-clause-marker c = inside (c.args.place + 8) 7 (length c.args.self.now.bytes.value.came) (apart c.args.place 8 8 (length c.args.self.now.bytes.value.came) c.requires.room) c.args.self.now.short
-
-pub link-requires-clause-object : goal.link-requires-clause-object
-link-requires-clause-object c = at_most c.args.state.now.next (length c.args.self.now.bytes.value.came) c.requires.state.next c.args.self.now.short
-
 pub overflow_add-state : goal.overflow_add-state
 overflow_add-state c = record { fits = small _ (length c.args.self.now.bytes.value.came) (ended c.args.state.now.next c.next_multiple_of-size.result (length c.args.self.now.bytes.value.came) c.requires.state.next (size_fits c.args.self.now.sized _ _ c.if-size-rest.false)) c.args.self.now.short }
 
 pub overflow_add-result-3 : goal.overflow_add-result-3
 overflow_add-result-3 c = record { fits = deeper c.args.depth c.requires.depth }
+
+pub link_marker-requires : goal.link_marker-requires
+link_marker-requires c =
+    let x = marker_at c.args.state.now.links (message c.args.self.now) c.requires.holds c.args.state.now.next c.args.state.now.handle c.requires.state.next c.args.self.now.short
+    c.args.place 16 (c.args.place + 8) c.requires.ready.1 (omega (arith, c.requires.ready.2)) (omega arith) (omega arith) c.in-Present.ensures in
+    record { aligned = x.aligned; within = x.within; present = x.present; some = x.some; few = x.few; free = x.free }

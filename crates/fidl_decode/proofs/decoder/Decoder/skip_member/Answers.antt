@@ -12,6 +12,8 @@ use Rattle.fidl_decode_model.specs.State.{Position, opened, linked, passed}
 use Rattle.fidl_decode_model.specs.Machine.{at_of}
 use Rattle.fidl_decode.proofs.Skipped.{AreHandles, skips_inside, skips_below, unknown_refuse, not_held, whole_eights}
 use Rattle.fidl_decode.proofs.decoder.Decoder.skip_member.Goals.{then-flags-ne0-via-then-flags-ne0, then-flags-ne0-via-else-flags-ne0+then-counted-eq0, then-flags-ne0-via-else-flags-ne0+else-counted-eq0+then-counted-ne0}
+use Rattle.fidl_decode.proofs.Linking.{inside_at}
+use Rattle.fidl_decode.proofs.Linking.{outside_at}
 use Rattle.fidl_decode.proofs.decoder.Decoder.skip_member.Goals as goal
 
 pub returns-then-handles-self : goal.returns-then-handles-self
@@ -27,16 +29,16 @@ returns-then-flags-eq1 c =
     let m = message c.args.self.now in
     let ds = declarations_of c.args.self.now.table.now in
     let old = at_of c.args.state.now in
-    let new : Position = record { next = old.next; handle = old.handle + c.handle_count_at-handles.result; objects = c.record.new.self.objects; records = c.record.new.self.records } in
+    let new : Position = record { next = old.next; handle = old.handle + c.handle_count_at-handles.result; objects = c.link_inside.new.self.objects; records = c.link_inside.new.self.records } in
     let many : c.handle_count_at-handles.result ≡ handles_below m.bytes c.args.envelope = c.handle_count_at-handles.ensures in
     let led : passed (handles_below m.bytes c.args.envelope) (opened c.args.envelope old) ≡ new
-    = λ i. record { next = old.next; handle = old.handle + sym many i; objects = sym c.record.ensures.objects i; records = sym c.record.ensures.records i } in
+    = λ i. record { next = old.next; handle = old.handle + sym many i; objects = sym c.link_inside.ensures.objects i; records = sym c.link_inside.ensures.records i } in
     let some : handles_below m.bytes c.args.envelope ≤ length m.handles - old.handle = omega (arith, c.if-handles-self.false, many) in
     let are : AreHandles m.handles old.handle (handles_below m.bytes c.args.envelope) = subst (λ k. AreHandles m.handles old.handle k) many c.are_handles.ensures in
     let x = skips_inside ds c.args.self.now.fine.laid_out m (c.args.self.now.short, c.requires.state.few) c.args.depth c.args.envelope old c.requires.room (λ i. omega (arith, c.args.self.now.octets i)) are some (sym c.flags_at-flags.ensures ∙ c.if-flags-eq1.true) c.requires.depth in
     let inner = c.requires.state.handle in
     let ok : (to : Position) → Contained ds m c.args.depth None c.args.envelope old to ↔ (new ≡ to) = subst (λ (s : Position). (to : Position) → Contained ds m c.args.depth None c.args.envelope old to ↔ (s ≡ to)) led x in
-    record { holds = c.record.ensures.came ∙ c.requires.holds; ok = ok; state = record { next = c.requires.state.next; handle = omega (arith, inner, c.if-handles-self.false); few = c.requires.state.few }; fault_is_true = tt; steps = refl; grows = omega arith }
+    record { holds = c.link_inside.ensures.came ∙ c.requires.holds; ok = ok; state = record { next = c.requires.state.next; handle = omega (arith, inner, c.if-handles-self.false); few = c.requires.state.few }; fault_is_true = tt; steps = refl; grows = omega arith }
 
 pub returns-then-flags-ne0 : goal.returns-then-flags-ne0
 returns-then-flags-ne0 c =
@@ -82,13 +84,13 @@ returns c =
     let m = message c.args.self.now in
     let ds = declarations_of c.args.self.now.table.now in
     let old = at_of c.args.state.now in
-    let new : Position = record { next = old.next + c.byte_count_at-counted.result; handle = old.handle + c.handle_count_at-handles.result; objects = c.link.new.self.objects; records = c.link.new.self.records } in
+    let new : Position = record { next = old.next + c.byte_count_at-counted.result; handle = old.handle + c.handle_count_at-handles.result; objects = c.link_outside.new.self.objects; records = c.link_outside.new.self.records } in
     let many : c.handle_count_at-handles.result ≡ handles_below m.bytes c.args.envelope = c.handle_count_at-handles.ensures in
     let much : c.byte_count_at-counted.result ≡ bytes_below m.bytes c.args.envelope = c.byte_count_at-counted.ensures in
     let whole : IsUnknownLength false (bytes_below m.bytes c.args.envelope) = (omega (arith, c.if-counted-eq0.false, much), omega (arith, c.if-counted-ne0.false, much)) in
     let wide : next_multiple_of (bytes_below m.bytes c.args.envelope) 8 ≡ c.byte_count_at-counted.result = whole_eights (bytes_below m.bytes c.args.envelope) whole ∙ sym much in
-    let objects = c.link.ensures.objects ∙ ap (λ (l : List ℕ). slice_set l (c.args.envelope / 8) old.next) c.record-2.ensures.objects in
-    let records = c.link.ensures.records ∙ c.record-2.ensures.records in
+    let objects = c.link_outside.ensures.objects in
+    let records = c.link_outside.ensures.records in
     let led : passed (handles_below m.bytes c.args.envelope) (linked c.args.envelope (bytes_below m.bytes c.args.envelope) (opened c.args.envelope old)) ≡ new
     = λ i. record { next = old.next + wide i; handle = old.handle + sym many i; objects = sym objects i; records = sym records i } in
     let some : handles_below m.bytes c.args.envelope ≤ length m.handles - old.handle = omega (arith, c.if-handles-self-2.false, many) in
@@ -98,4 +100,21 @@ returns c =
     let inner = c.requires.state.handle in
     let bytes = c.requires.state.next in
     let ok : (to : Position) → Contained ds m c.args.depth None c.args.envelope old to ↔ (new ≡ to) = subst (λ (s : Position). (to : Position) → Contained ds m c.args.depth None c.args.envelope old to ↔ (s ≡ to)) led x in
-    record { holds = c.link.ensures.came ∙ c.record-2.ensures.came ∙ c.requires.holds; ok = ok; state = record { next = omega (arith, bytes, (size_fits c.args.self.now.sized _ _ c.if-counted-self.false)); handle = omega (arith, inner, c.if-handles-self-2.false); few = c.requires.state.few }; fault_is_true = tt; steps = refl; grows = omega arith }
+    record { holds = c.link_outside.ensures.came ∙ c.requires.holds; ok = ok; state = record { next = omega (arith, bytes, (size_fits c.args.self.now.sized _ _ c.if-counted-self.false)); handle = omega (arith, inner, c.if-handles-self-2.false); few = c.requires.state.few }; fault_is_true = tt; steps = refl; grows = omega arith }
+
+pub link_inside-requires : goal.link_inside-requires
+link_inside-requires c =
+    let x = inside_at c.args.state.now.links (message c.args.self.now) c.requires.holds c.args.state.now.next c.args.state.now.handle c.requires.state.next c.args.self.now.short
+    c.args.envelope c.requires.ready.0 c.requires.ready.1 c.requires.ready.2 c.requires.state.handle c.requires.state.few
+    (sym c.flags_at-flags.ensures ∙ c.if-flags-eq1.true) (omega (arith, c.handle_count_at-handles.ensures, c.if-handles-self.false, c.requires.state.few)) in
+    record { aligned = x.aligned; within = x.within; flags = x.flags; handles = x.handles; first = x.first; free = x.free }
+
+pub link_outside-requires : goal.link_outside-requires
+link_outside-requires c =
+    let x = outside_at c.args.state.now.links (message c.args.self.now) c.requires.holds c.args.state.now.next c.args.state.now.handle c.requires.state.next c.args.self.now.short
+    c.args.envelope c.requires.ready.0 c.requires.ready.1 c.requires.ready.2 c.requires.state.handle c.requires.state.few
+    (sym c.flags_at-flags.ensures ∙ c.if-flags-ne0.false)
+    (omega (arith, c.byte_count_at-counted.ensures, c.if-counted-ne0.false))
+    (omega (arith, c.byte_count_at-counted.ensures, size_fits c.args.self.now.sized _ _ c.if-counted-self.false, c.args.self.now.short))
+    (omega (arith, c.handle_count_at-handles.ensures, c.if-handles-self-2.false, c.requires.state.few)) in
+    record { aligned = x.aligned; within = x.within; flags = x.flags; eights = x.eights; short = x.short; handles = x.handles; object = x.object; some = x.some; few = x.few; first = x.first; free = x.free }

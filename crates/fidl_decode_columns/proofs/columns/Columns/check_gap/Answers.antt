@@ -3,6 +3,7 @@ use Rattle.fidl_wire.specs.Encoding.{zeros}
 use Rattle.fidl_wire.specs.Standing.{Stands}
 use Rattle.fidl_decode_model.specs.Breaks.{IsPadding}
 use Rattle.fidl_decode_columns.specs.Columns.{right_before, IsFirstWrong}
+use Rattle.fidl_decode_columns.proofs.Raw.{fewer_free}
 use Rattle.fidl_decode_columns.proofs.Sizes.{fewer_room, gaps_cost}
 use Rattle.fidl_decode_columns.proofs.columns.Columns.check_gap.Goals as goal
 
@@ -15,13 +16,14 @@ first_gap-requires c =
     record {
       room = record {
         within = fewer_room c.args.structs.now.base c.args.structs.now.entry.size c.right_before-limit.result c.args.structs.now.count _ le c.requires.within;
+        free = fewer_free c.args.self.now.links.now c.args.structs.now.base c.args.structs.now.entry.size c.right_before-limit.result c.args.structs.now.count le c.requires.free;
         member = omega (arith, c.requires.order, c.requires.end);
       };
     }
 
 pub returns-clause-value : goal.returns-clause-value
 returns-clause-value c =
-    let bytes = c.args.self.now.bytes.now in
+    let bytes = c.args.self.now.links.now.came in
     let at : ℕ → ℕ = λ k. c.args.structs.now.base + c.args.structs.now.entry.size * k + c.args.from in
     (c.first_gap.result, c.first_of.ensures, subst (λ n. IsFirstWrong (λ k. Stands bytes (at k) (zeros (c.args.to - c.args.from))) (λ k. IsPadding bytes (at k) (at k + (c.args.to - c.args.from))) n c.first_gap.result) c.right_before-limit.ensures c.first_gap.ensures)
 

@@ -10,6 +10,7 @@ use Rattle.fidl_decode_model.specs.Faults.{message_of}
 use Rattle.fidl_decode_model.proofs.Visiting.{same_some}
 use Rattle.fidl_decode_columns.specs.Columns.{has_numbers, right_before, IsFirstWrong, IsGoodAt}
 use Rattle.fidl_decode_columns.proofs.Counted.{if_none, none_known, all_counted}
+use Rattle.fidl_decode_columns.proofs.Raw.{fewer_free}
 use Rattle.fidl_decode_columns.proofs.Sizes.{fewer_room}
 use Rattle.fidl_decode_columns.proofs.columns.Columns.check_member.Goals as goal
 
@@ -31,13 +32,14 @@ first_wrong-requires-clause-room c =
     let le = few c.right_before-limit.result (right_before c.args.structs.now.count c.args.known) c.args.structs.now.count c.right_before-limit.ensures c.requires.known in
     record {
       within = fewer_room c.args.structs.now.base c.args.structs.now.entry.size c.right_before-limit.result c.args.structs.now.count _ le c.requires.within;
+      free = fewer_free c.args.self.now.links.now c.args.structs.now.base c.args.structs.now.entry.size c.right_before-limit.result c.args.structs.now.count le c.requires.free;
       member = c.requires.end;
     }
 
 pub returns-clause-value : goal.returns-clause-value
 returns-clause-value c =
     let t = c.args.self.now.table.now in
-    let bytes = c.args.self.now.bytes.now in
+    let bytes = c.args.self.now.links.now.came in
     let m = message_of bytes c.args.self.now.handles.now in
     let d = entry_at t c.args.row.now.entry in
     let is : kind_of d.kind ≡ Some c.in-Some.kind = ap (λ (e : Entry). kind_of e.kind) (sym c.entry.ensures.value) ∙ sym c.from_number.ensures ∙ c.in-Some.is in

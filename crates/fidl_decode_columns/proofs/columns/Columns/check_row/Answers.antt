@@ -19,17 +19,17 @@ use Rattle.fidl_decode_columns.proofs.columns.Columns.check_row.Goals as goal
 
 pub row-row-requires : goal.row-row-requires
 row-row-requires c =
-    let rows = rows_within c.args.self.now.table.now c.args.self.now.fine (message_of c.args.self.now.bytes.now c.args.self.now.handles.now) c.args.structs.now c.requires.structs in
+    let rows = rows_within c.args.self.now.table.now c.args.self.now.fine (message_of c.args.self.now.links.now.came c.args.self.now.handles.now) c.args.structs.now c.requires.structs in
     omega (arith, rows, c.requires.below)
 
 pub check_gap-front-requires-clause-order : goal.check_gap-front-requires-clause-order
 check_gap-front-requires-clause-order c =
-    let before = row_behind c.args.self.now.table.now c.args.self.now.fine (message_of c.args.self.now.bytes.now c.args.self.now.handles.now) c.args.structs.now c.args.index c.args.done c.requires.index c.requires.below c.requires.rise in
+    let before = row_behind c.args.self.now.table.now c.args.self.now.fine (message_of c.args.self.now.links.now.came c.args.self.now.handles.now) c.args.structs.now c.args.index c.args.done c.requires.index c.requires.below c.requires.rise in
     subst (λ (w : raw.Row). c.args.done ≤ w.key) (sym c.row-row.ensures.value) before
 
 pub check_gap-front-requires-clause-end : goal.check_gap-front-requires-clause-end
 check_gap-front-requires-clause-end c =
-    let fits = row_fits c.args.self.now.table.now c.args.self.now.fine (message_of c.args.self.now.bytes.now c.args.self.now.handles.now) c.args.structs.now c.args.index c.args.done c.requires.index c.requires.below c.requires.rise in
+    let fits = row_fits c.args.self.now.table.now c.args.self.now.fine (message_of c.args.self.now.links.now.came c.args.self.now.handles.now) c.args.structs.now c.args.index c.args.done c.requires.index c.requires.below c.requires.rise in
     subst (λ (w : raw.Row). w.key ≤ c.args.structs.now.entry.size) (sym c.row-row.ensures.value) (omega (arith, fits))
 
 pub check_gap-front-requires-clause-within : goal.check_gap-front-requires-clause-within
@@ -38,7 +38,7 @@ check_gap-front-requires-clause-within c = c.requires.structs.within
 pub check_gap-front-requires-clause-known : goal.check_gap-front-requires-clause-known
 check_gap-front-requires-clause-known c =
     let t = c.args.self.now.table.now in
-    let m = message_of c.args.self.now.bytes.now c.args.self.now.handles.now in
+    let m = message_of c.args.self.now.links.now.came c.args.self.now.handles.now in
     right_le (IsReadTo t m c.args.structs.now c.args.index c.args.done) (IsBroken t m c.args.structs.now) c.args.structs.now.count c.args.known c.requires.known
 
 pub check_member-requires-clause-entry : goal.check_member-requires-clause-entry
@@ -50,7 +50,7 @@ check_member-requires-clause-numeric c = subst (λ (w : raw.Row). IsNumericAt c.
 pub check_member-requires-clause-end : goal.check_member-requires-clause-end
 check_member-requires-clause-end c =
     let t = c.args.self.now.table.now in
-    let fits = row_fits t c.args.self.now.fine (message_of c.args.self.now.bytes.now c.args.self.now.handles.now) c.args.structs.now c.args.index c.args.done c.requires.index c.requires.below c.requires.rise in
+    let fits = row_fits t c.args.self.now.fine (message_of c.args.self.now.links.now.came c.args.self.now.handles.now) c.args.structs.now c.args.index c.args.done c.requires.index c.requires.below c.requires.rise in
     subst (λ (w : raw.Row). w.key + (entry_at t w.entry).size ≤ c.args.structs.now.entry.size) (sym c.row-row.ensures.value) fits
 
 pub check_member-requires-clause-within : goal.check_member-requires-clause-within
@@ -59,7 +59,7 @@ check_member-requires-clause-within c = c.requires.structs.within
 pub check_member-requires-clause-known : goal.check_member-requires-clause-known
 check_member-requires-clause-known c =
     let t = c.args.self.now.table.now in
-    let bytes = c.args.self.now.bytes.now in
+    let bytes = c.args.self.now.links.now.came in
     let m = message_of bytes c.args.self.now.handles.now in
     let x = c.args.structs.now in
     let at : ℕ → ℕ = λ k. c.args.structs.now.base + c.args.structs.now.entry.size * k + c.args.done in
@@ -68,7 +68,7 @@ check_member-requires-clause-known c =
 
 pub check_member-requires-clause-budget : goal.check_member-requires-clause-budget
 check_member-requires-clause-budget c =
-    let fits = row_fits c.args.self.now.table.now c.args.self.now.fine (message_of c.args.self.now.bytes.now c.args.self.now.handles.now) c.args.structs.now c.args.index c.args.done c.requires.index c.requires.below c.requires.rise in
+    let fits = row_fits c.args.self.now.table.now c.args.self.now.fine (message_of c.args.self.now.links.now.came c.args.self.now.handles.now) c.args.structs.now c.args.index c.args.done c.requires.index c.requires.below c.requires.rise in
     let key : c.row-row.result.key ≡ (row_at c.args.self.now.table.now (header_of c.args.self.now.table.now) c.args.index).key = ap (λ (w : raw.Row). w.key) c.row-row.ensures.value in
     let few = gaps_fit c.args.structs.now.count c.args.structs.now.count (c.row-row.result.key - c.args.done) c.args.structs.now.entry.size c.args.structs.now.base _ (omega arith) (omega (arith, fits, key)) c.requires.structs.within in
     omega (arith, few, c.requires.budget, c.check_gap-front.ensures.cost, c.args.self.now.short)
@@ -76,7 +76,7 @@ check_member-requires-clause-budget c =
 pub returns-clause-value : goal.returns-clause-value
 returns-clause-value c =
     let t = c.args.self.now.table.now in
-    let bytes = c.args.self.now.bytes.now in
+    let bytes = c.args.self.now.links.now.came in
     let m = message_of bytes c.args.self.now.handles.now in
     let own = c.row-row.ensures.value in
     let front = c.check_gap-front.result in
@@ -87,7 +87,8 @@ returns-clause-value c =
     c.args.structs.now.count c.check_gap-front.result c.check_member.result) own c.check_member.ensures.value in
     let numeric = c.requires.numeric in
     let numbers = subst (λ (k : EntryKind). has_numbers k ≡ true) (same_some numeric.0 new.0 (sym numeric.1 ∙ new.1)) numeric.2 in
-    row_checked t c.args.self.now.fine m c.args.structs.now c.args.index c.args.done c.requires.index c.requires.below c.requires.rise c.args.known c.check_gap-front.result c.requires.known gaps c.requires.structs (λ i. omega (arith, c.args.self.now.octets i)) new.0 new.1 numbers c.check_member.result new.2
+    row_checked t c.args.self.now.fine m c.args.structs.now c.args.index c.args.done c.requires.index c.requires.below c.requires.rise c.args.known c.check_gap-front.result c.requires.known gaps c.requires.structs
+    (λ i. omega (arith, c.args.self.now.octets i)) new.0 new.1 numbers c.check_member.result new.2
 
 pub returns-clause-cost : goal.returns-clause-cost
 returns-clause-cost c =

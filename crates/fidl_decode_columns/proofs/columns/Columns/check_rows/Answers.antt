@@ -14,7 +14,7 @@ use Rattle.fidl_decode_columns.proofs.columns.Columns.check_rows.Goals as goal
 pub loop-i-init : goal.loop-i-init
 loop-i-init c =
     let t = c.args.self.now.table.now in
-    let m = message_of c.args.self.now.bytes.now c.args.self.now.handles.now in
+    let m = message_of c.args.self.now.links.now.came c.args.self.now.handles.now in
     record {
       rise = first_rise t c.args.self.now.fine m c.args.structs.now c.requires.structs;
       wrong = none_read t c.args.self.now.fine m c.args.structs.now c.requires.structs;
@@ -30,7 +30,7 @@ check_row-wrong-requires-clause-numeric c = c.requires.numbers c.loop-i.i c.loop
 pub check_row-wrong-requires-clause-budget : goal.check_row-wrong-requires-clause-budget
 check_row-wrong-requires-clause-budget c =
     let t = c.args.self.now.table.now in
-    let m = message_of c.args.self.now.bytes.now c.args.self.now.handles.now in
+    let m = message_of c.args.self.now.links.now.came c.args.self.now.handles.now in
     let fits = rise_fits t c.args.self.now.fine m c.args.structs.now c.loop-i.i c.loop-i.done c.loop-i.invariant.rise in
     let few = gaps_fit c.args.structs.now.count c.args.structs.now.count c.loop-i.done c.args.structs.now.entry.size c.args.structs.now.base _ (omega arith) fits c.requires.structs.within in
     omega (arith, few, c.requires.budget, c.loop-i.invariant.cost, c.args.self.now.short)
@@ -38,7 +38,7 @@ check_row-wrong-requires-clause-budget c =
 pub loop-i-preserved : goal.loop-i-preserved
 loop-i-preserved c =
     let t = c.args.self.now.table.now in
-    let m = message_of c.args.self.now.bytes.now c.args.self.now.handles.now in
+    let m = message_of c.args.self.now.links.now.came c.args.self.now.handles.now in
     let r = row_at t (header_of t) c.loop-i.i in
     let before = row_behind t c.args.self.now.fine m c.args.structs.now c.loop-i.i c.loop-i.done c.loop-i.auto.i c.loop-i-test.true c.loop-i.invariant.rise in
     let some = row_some t c.args.self.now.fine m c.args.structs.now c.loop-i.i c.loop-i.done c.loop-i.auto.i c.loop-i-test.true c.loop-i.invariant.rise in
@@ -58,12 +58,12 @@ loop-i-preserved c =
     }
 
 pub check_gap-requires-clause-order : goal.check_gap-requires-clause-order
-check_gap-requires-clause-order c = rise_fits c.args.self.now.table.now c.args.self.now.fine (message_of c.args.self.now.bytes.now c.args.self.now.handles.now) c.args.structs.now c.loop-i.i c.loop-i.done c.loop-i.invariant.rise
+check_gap-requires-clause-order c = rise_fits c.args.self.now.table.now c.args.self.now.fine (message_of c.args.self.now.links.now.came c.args.self.now.handles.now) c.args.structs.now c.loop-i.i c.loop-i.done c.loop-i.invariant.rise
 
 pub check_gap-requires-clause-budget : goal.check_gap-requires-clause-budget
 check_gap-requires-clause-budget c =
     let t = c.args.self.now.table.now in
-    let m = message_of c.args.self.now.bytes.now c.args.self.now.handles.now in
+    let m = message_of c.args.self.now.links.now.came c.args.self.now.handles.now in
     let fits = rise_fits t c.args.self.now.fine m c.args.structs.now c.loop-i.i c.loop-i.done c.loop-i.invariant.rise in
     let few = gaps_fit c.args.structs.now.count c.args.structs.now.count c.loop-i.done c.args.structs.now.entry.size c.args.structs.now.base _ (omega arith) fits c.requires.structs.within in
     omega (arith, few, c.requires.budget, c.loop-i.invariant.cost, c.args.self.now.short)
@@ -71,14 +71,14 @@ check_gap-requires-clause-budget c =
 pub returns-clause-value : goal.returns-clause-value
 returns-clause-value c =
     let t = c.args.self.now.table.now in
-    let m = message_of c.args.self.now.bytes.now c.args.self.now.handles.now in
+    let m = message_of c.args.self.now.links.now.came c.args.self.now.handles.now in
     let fits = rise_fits t c.args.self.now.fine m c.args.structs.now c.loop-i.i c.loop-i.done c.loop-i.invariant.rise in
     end_checked t c.args.self.now.fine m c.args.structs.now c.loop-i.i c.loop-i.done (omega (arith, c.loop-i-test.false, c.loop-i.invariant.below)) fits c.loop-i.wrong c.check_gap.result c.loop-i.invariant.wrong c.check_gap.ensures.value
 
 pub returns-clause-cost : goal.returns-clause-cost
 returns-clause-cost c =
     let t = c.args.self.now.table.now in
-    let m = message_of c.args.self.now.bytes.now c.args.self.now.handles.now in
+    let m = message_of c.args.self.now.links.now.came c.args.self.now.handles.now in
     let fits = rise_fits t c.args.self.now.fine m c.args.structs.now c.loop-i.i c.loop-i.done c.loop-i.invariant.rise in
     end_cost c.args.structs.now.count c.loop-i.done c.args.structs.now.entry.size c.args.steps.now c.loop-i.steps c.check_gap.new.steps fits c.loop-i.invariant.cost c.check_gap.ensures.cost
 
@@ -86,4 +86,5 @@ pub returns-clause-least : goal.returns-clause-least
 returns-clause-least c =
     let gap = c.check_gap.ensures.value in
     let grows = c.check_gap.ensures.grows in
-    all_rows c.args.structs.now.count c.args.structs.now.entry.first c.args.structs.now.entry.count c.loop-i.i c.args.steps.now c.loop-i.steps c.check_gap.new.steps (omega (arith, c.loop-i-test.false, c.loop-i.invariant.below)) grows c.loop-i.wrong c.check_gap.result (none_known c.loop-i.wrong gap.0 c.check_gap.result gap.1) c.loop-i.invariant.least
+    all_rows c.args.structs.now.count c.args.structs.now.entry.first c.args.structs.now.entry.count c.loop-i.i c.args.steps.now c.loop-i.steps c.check_gap.new.steps (omega (arith, c.loop-i-test.false, c.loop-i.invariant.below)) grows
+    c.loop-i.wrong c.check_gap.result (none_known c.loop-i.wrong gap.0 c.check_gap.result gap.1) c.loop-i.invariant.least

@@ -21,7 +21,7 @@ returns-then-e-ne1-clause-value c =
     let own = c.entry-e.ensures.value in
     let strict : is_strict d ≡ true = (let r = sym c.is_strict.ensures in search (rules, r, own, c.if-not-is_strict.false)) in
     let is : strict_values t (header_of t) d ≡ Some (values_from t (header_of t) (underlying d) d.first d.count) = ap (λ (b : Bool). if b then Some (values_from t (header_of t) (underlying d) d.first d.count) else None) strict in
-    subst (λ (o : Option (List ℤ)). IsFirstNot (λ k. IfSome o (λ values. Contains values (number_standing (underlying d) c.args.self.now.bytes.now (place_of c.args.column k)))) c.args.limit c.first_no_value.result) (sym is) c.first_no_value.ensures.value
+    subst (λ (o : Option (List ℤ)). IsFirstNot (λ k. IfSome o (λ values. Contains values (number_standing (underlying d) c.args.self.now.links.now.came (place_of c.args.column k)))) c.args.limit c.first_no_value.result) (sym is) c.first_no_value.ensures.value
 
 pub range-range-requires : goal.range-range-requires
 range-range-requires c =
@@ -34,7 +34,7 @@ pub returns-clause-value : goal.returns-clause-value
 returns-clause-value c =
     let t = c.args.self.now.table.now in
     let d = entry_at t c.args.entry in
-    let bytes = c.args.self.now.bytes.now in
+    let bytes = c.args.self.now.links.now.came in
     let own = c.entry-e.ensures.value in
     let one : d.count ≡ 1 = ap (λ (e : Entry). e.count) (sym own) ∙ c.if-e-ne1.false in
     let strict : is_strict d ≡ true = (let r = sym c.is_strict.ensures in search (rules, r, own, c.if-not-is_strict.false)) in

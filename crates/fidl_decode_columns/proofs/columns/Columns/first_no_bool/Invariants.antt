@@ -6,5 +6,5 @@ use Rattle.fidl_decode_columns.proofs.columns.Columns.first_no_bool.Given as goa
 abbrev pub invariant-loop-i : goal.invariant-loop-i
 invariant-loop-i l = record {
   start : l.start ≡ l.column.base + l.column.size * l.i;
-  before : (k : ℕ) → k < l.i → get_or l.self.bytes.now (place_of l.column k) 0 ≤ 1;
+  before : (k : ℕ) → k < l.i → get_or l.self.links.now.came (place_of l.column k) 0 ≤ 1;
 }

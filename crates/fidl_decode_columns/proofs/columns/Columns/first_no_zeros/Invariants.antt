@@ -8,5 +8,5 @@ use Rattle.fidl_decode_columns.proofs.columns.Columns.first_no_zeros.Given as go
 abbrev pub invariant-loop-i : goal.invariant-loop-i
 invariant-loop-i l = record {
   start : l.start ≡ l.column.base + l.column.size * l.i;
-  before : (k : ℕ) → k < l.i → Stands l.self.bytes.now (place_of l.column k) (zeros l.width);
+  before : (k : ℕ) → k < l.i → Stands l.self.links.now.came (place_of l.column k) (zeros l.width);
 }

@@ -11,7 +11,7 @@ abbrev pub invariant-loop-i : goal.invariant-loop-i
 invariant-loop-i l = record {
   start : l.start ≡ l.column.base + l.column.size * l.i;
   before : (k : ℕ) → k < l.i → Contains (values_from l.self.table.now (header_of l.self.table.now) (underlying (entry_at l.self.table.now l.entry)) (entry_at l.self.table.now l.entry).first (entry_at l.self.table.now l.entry).count) (number_standing (underlying (entry_at
-      l.self.table.now l.entry)) l.self.bytes.now (place_of l.column k));
+      l.self.table.now l.entry)) l.self.links.now.came (place_of l.column k));
   noted : AreValues l.self.table.now l.entry l.noted;
   grows : l.fn.steps ≤ l.steps;
   cost : l.steps ≤ l.fn.steps + 16 * l.i;

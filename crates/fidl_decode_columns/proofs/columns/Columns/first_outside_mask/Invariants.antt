@@ -9,5 +9,5 @@ use Rattle.fidl_decode_columns.proofs.columns.Columns.first_outside_mask.Given a
 abbrev pub invariant-loop-i : goal.invariant-loop-i
 invariant-loop-i l = record {
   start : l.start ≡ l.column.base + l.column.size * l.i;
-  before : (k : ℕ) → k < l.i → InMask l.mask (number_standing (as_number l.kind) l.self.bytes.now (place_of l.column k));
+  before : (k : ℕ) → k < l.i → InMask l.mask (number_standing (as_number l.kind) l.self.links.now.came (place_of l.column k));
 }

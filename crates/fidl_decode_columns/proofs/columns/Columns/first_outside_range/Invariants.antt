@@ -9,5 +9,5 @@ use Rattle.fidl_decode_columns.proofs.columns.Columns.first_outside_range.Given 
 abbrev pub invariant-loop-i : goal.invariant-loop-i
 invariant-loop-i l = record {
   start : l.start ≡ l.column.base + l.column.size * l.i;
-  before : (k : ℕ) → k < l.i → (value_number (as_number l.kind) l.range.lowest ≤ℤ number_standing (as_number l.kind) l.self.bytes.now (place_of l.column k)) × (number_standing (as_number l.kind) l.self.bytes.now (place_of l.column k) ≤ℤ value_number (as_number l.kind) l.range.highest);
+  before : (k : ℕ) → k < l.i → (value_number (as_number l.kind) l.range.lowest ≤ℤ number_standing (as_number l.kind) l.self.links.now.came (place_of l.column k)) × (number_standing (as_number l.kind) l.self.links.now.came (place_of l.column k) ≤ℤ value_number (as_number l.kind) l.range.highest);
 }

@@ -12,14 +12,14 @@ pub returns-then-element-limit-clause-value : goal.returns-then-element-limit-cl
 returns-then-element-limit-clause-value c =
     let t = c.args.self.now.table.now in
     let d = entry_at t c.args.entry in
-    none_wrong (λ k. IsGoodAt t c.args.self.now.bytes.now d c.args.kind (place_of c.args.column k)) (λ k. BreaksField (message_of c.args.self.now.bytes.now c.args.self.now.handles.now) (term_as c.args.kind t (header_of t) d) (place_of c.args.column k)) c.args.limit
+    none_wrong (λ k. IsGoodAt t c.args.self.now.links.now.came d c.args.kind (place_of c.args.column k)) (λ k. BreaksField (message_of c.args.self.now.links.now.came c.args.self.now.handles.now) (term_as c.args.kind t (header_of t) d) (place_of c.args.column k)) c.args.limit
     c.first_bad-element.result c.if-element-limit.true c.first_bad-element.ensures.value
 
 pub returns-clause-value : goal.returns-clause-value
 returns-clause-value c =
     let t = c.args.self.now.table.now in
     let d = entry_at t c.args.entry in
-    let m = message_of c.args.self.now.bytes.now c.args.self.now.handles.now in
+    let m = message_of c.args.self.now.links.now.came c.args.self.now.handles.now in
     let w : Wrong = record { element = c.first_bad-element.result; fault = c.fault_of.result } in
-    one_wrong (λ k. IsGoodAt t c.args.self.now.bytes.now d c.args.kind (place_of c.args.column k)) (λ k. BreaksField m (term_as c.args.kind t (header_of t) d) (place_of c.args.column k)) c.args.limit w c.if-element-limit.false c.first_bad-element.ensures.value
+    one_wrong (λ k. IsGoodAt t c.args.self.now.links.now.came d c.args.kind (place_of c.args.column k)) (λ k. BreaksField m (term_as c.args.kind t (header_of t) d) (place_of c.args.column k)) c.args.limit w c.if-element-limit.false c.first_bad-element.ensures.value
     (number_fails t m c.args.entry (place_of c.args.column c.first_bad-element.result) c.args.kind c.fault_of.result c.fault_of.ensures.flag c.fault_of.ensures.mask c.fault_of.ensures.value)

@@ -13,7 +13,7 @@ pub returns-clause-bytes : goal.returns-clause-bytes
 returns-clause-bytes c = (refl, inr (refl, omega arith))
 
 pub returns-clause-less : goal.returns-clause-less
-returns-clause-less c h = counts_within (0 ∷ 0 ∷ 1 ∷ zeros 5) 0 (omega arith) (omega arith) h.1
+returns-clause-less c h = counts_within (0 ∷ 0 ∷ 0 ∷ 1 ∷ zeros 4) 0 (omega arith) (omega arith) h.1
 
 pub returns-clause-inline : goal.returns-clause-inline
 returns-clause-inline c h = elim h.1 [ inl n ↦ omega (arith, n) | inr o ↦ omega (arith, o.0) ]

@@ -1,15 +1,33 @@
-use Rattle.std.proofs.Common.{◌≡◌, ℕ, List, ap, ◌∙◌}
-use Rattle.std.specs.Prelude.{Option}
-use Rattle.fidl_wire.specs.Term.{Kind}
-use Rattle.fidl_table_format.specs.Kind.{number_type}
+use Rattle.std.proofs.Common.{◌≡◌, ◌+◌, ◌≤◌, ap, ◌∙◌, length, arith}
+use Rattle.std.specs.Prelude.{Option, Some, unwrap_or}
+use Rattle.std.specs.Int.{byte_len}
+use Rattle.fidl_wire.specs.Term.{Kind, width, uint8}
 use Rattle.fidl_view.specs.Numbers.{unsigned_at}
+use Rattle.fidl_view.specs.Parts.{numbers_of}
+use Rattle.fidl_view.specs.Shows.{type_of}
 use Rattle.fidl_view.proofs.Viewing as viewing
+use Rattle.fidl_view.proofs.Unlinked as unlinked
 use Rattle.fidl_view.proofs.view.View.as_u64.Goals as goal
+
+pub unsigned-requires : goal.unsigned-requires
+unsigned-requires c =
+    let long = ap length c.links.ensures.came in
+    omega (arith, c.number_kind.ensures.room, c.raw.ensures.same_length, long)
 
 pub returns : goal.returns
 returns c v s =
     let d = c.args.self.decoded.now in
     let i = c.args.self.index in
     let p = c.args.self.place in
-    let read : c.unsigned.result ≡ unsigned_at (number_type c.number_kind.result) d.bytes p = c.unsigned.ensures ∙ ap (λ (b : List ℕ). unsigned_at (number_type c.number_kind.result) b p) c.bytes.ensures in
-    read ∙ ap (λ (o : Option Kind). unsigned_at o d.bytes p) c.number_kind.ensures.numbers ∙ viewing.unsigned_shown d c.number_kind.ensures.well_formed i p c.args.self.in_range v s
+    let lt = c.args.self.in_range in
+    let w = c.number_kind.ensures.well_formed in
+    let own = numbers_of (type_of d i) in
+    let raw = c.raw.result.now in
+    let room : (kind : Kind) → own ≡ Some kind → p + byte_len (width kind) ≤ length d.bytes = λ kind is. (
+    let same = ap (λ (o : Option Kind). byte_len (width (unwrap_or o uint8))) (c.number_kind.ensures.numbers ∙ is) in
+    omega (arith, same, c.number_kind.ensures.room)
+    ) in
+    c.unsigned.ensures
+    ∙ ap (λ (o : Option Kind). unsigned_at o raw p) c.number_kind.ensures.numbers
+    ∙ unlinked.unsigned_same c.links.result.now d.bytes d.links c.links.ensures.came c.links.ensures.noted raw c.raw.ensures.same_length c.raw.ensures.agree own p room (λ kind is. viewing.number_unlinked d w i p lt kind is v s)
+    ∙ viewing.unsigned_shown d w i p lt v s

@@ -8,7 +8,7 @@ use Rattle.fidl_wire.specs.Figure.{no_declarations}
 use Rattle.fidl_wire.specs.Typed.{AllTyped}
 use Rattle.fidl_wire.specs.Encoding.{elements, inline_only, pad8, zeros}
 use Rattle.fidl_wire.specs.Depth.{elements_depth}
-use Rattle.fidl_wire.proofs.worked.limits.arrays_of_up_to_65536_bytes.Goals as goal
+use Rattle.fidl_wire.proofs.worked.limits.arrays_of_up_to_16777216_bytes.Goals as goal
 
 -- n numbers 0
 abbrev of_zeros : ℕ → Values
