@@ -1,7 +1,6 @@
 //! The decoder of one message.
 ghost use Rattle.std.specs.Prelude.{◌≡◌, ℕ, ◌<◌, ◌≤◌, length, slice_index};
-ghost use Rattle.fidl_limits.specs.declared.limits.TheConstants.{MAX_MESSAGE_BYTES};
-ghost use Rattle.fidl_limits.specs.declared.limits.TheConstants.{MAX_MESSAGE_HANDLES};
+ghost use Rattle.fidl_limits.specs.declared.limits.TheConstants.{MAX_MESSAGE_BYTES, MAX_MESSAGE_HANDLES};
 ghost use Rattle.fidl_decode_model.specs.Invariants.{IsFine};
 ghost use Rattle.fidl_decode_model.specs.Fine.{fine_prop};
 
@@ -10,8 +9,8 @@ use fidl_verify::Table;
 use fidl_wire::HandleInfo;
 use std::snapshot::Snapshot;
 
-/// What never changes: a verified table, and a message within the limits of bytes and of handles. The bytes stand in
-/// the state, with the links; here clauses alone know them, as they came.
+/// What never changes: a verified table, and a message within the limits of bytes and of handles.
+/// The bytes stand in the state, with the links. Here clauses alone know them, as they came.
 #[derive(Drop)]
 pub(crate) struct Decoder<'t, 'm, 's> {
     pub table: &'t Table<'t>,

@@ -1,9 +1,7 @@
-use Rattle.fidl_decode.specs.Reading.{message}
 use Rattle.std.proofs.Common.{◌-◌, ℕ, List, subst}
 use Rattle.std.specs.Prelude.{None}
 use Rattle.std.proofs.lemmas.Result.{IfOk-weaker, IfErr-weaker}
 use Rattle.fidl_decode_model.specs.Faults.{message_of}
-use Rattle.fidl_decode_model.specs.State.{Message}
 use Rattle.fidl_decode_model.specs.Machine.{StateFine, Turns, BreaksFrame, at_of}
 use Rattle.fidl_decode.proofs.decoder.Decoder.check_columns.Goals as goal
 

@@ -1,8 +1,7 @@
 use Rattle.fidl_decode.specs.Reading.{message}
 use Rattle.fidl_decode.proofs.Unchanged.{size_short, size_fits, size_room}
-use Rattle.fidl_decode.proofs.Fitting.{front, apart, inside, at_most, small, ended, few_32, deeper, some_8}
-use Rattle.std.specs.Prelude.{◌/◌, List, slice_set}
-use Rattle.std.proofs.Common.{subst, ◌≡◌, ◌+◌, ℕ, refl, sym, ap, ◌∙◌, arith, length, inl, inr}
+use Rattle.fidl_decode.proofs.Fitting.{small, ended, deeper, some_8}
+use Rattle.std.proofs.Common.{subst, ◌≡◌, ◌+◌, refl, sym, ap, ◌∙◌, arith, length, inl, inr}
 use Rattle.std.specs.Int.{next_multiple_of}
 use Rattle.fidl_table_format.specs.declared.record.Entry.{Entry}
 use Rattle.fidl_table_format.specs.Section.{entry_at}

@@ -1,5 +1,4 @@
-use Rattle.fidl_decode.specs.Reading.{came}
-use Rattle.std.proofs.Common.{◌≡◌, ℕ, ◌+◌, ◌-◌, ◌≤◌, List, length, sym, ap, subst, ◌∙◌, arith}
+use Rattle.std.proofs.Common.{ℕ, List, length, ap, ◌∙◌, arith}
 use Rattle.fidl_table_format.specs.Number.{number_standing}
 use Rattle.fidl_table_format.specs.Terms.{as_number}
 use Rattle.fidl_decode_columns.proofs.Raw.{Agrees, number_came}

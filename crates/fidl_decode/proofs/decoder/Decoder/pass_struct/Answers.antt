@@ -1,7 +1,7 @@
 use Rattle.fidl_decode.specs.Reading.{message}
-use Rattle.fidl_decode.proofs.Fitting.{front, apart, inside, at_most, small, ended, few_32, counted_on, some_8, size_in, le_more, pays_whole}
+use Rattle.fidl_decode.proofs.Fitting.{small, ended, counted_on, some_8, size_in, le_more, pays_whole}
 use Rattle.fidl_decode.proofs.Unchanged.{no_true, same_le, size_fits, size_room}
-use Rattle.std.proofs.Common.{◌≡◌, ◌+◌, ◌-◌, ◌/◌, ◌<◌, ◌≤◌, ◌^◌, ℕ, List, get_or, slice_set, false, true, refl, sym, ap, subst, ◌∙◌, arith, length}
+use Rattle.std.proofs.Common.{◌≡◌, ◌+◌, ◌-◌, ◌<◌, ◌≤◌, ◌^◌, ℕ, List, get_or, false, true, refl, sym, ap, subst, ◌∙◌, arith, length}
 use Rattle.std.specs.Prelude.{Option, Some, None, Result, Ok, Err, OnOk}
 use Rattle.std.specs.Option.{is_some}
 use Rattle.std.specs.Result.{is_err}

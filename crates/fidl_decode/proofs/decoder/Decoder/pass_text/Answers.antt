@@ -1,4 +1,4 @@
-use Rattle.fidl_decode.proofs.Fitting.{front, apart, inside, at_most, small, few_32, deeper_64, counted_on, some_8, rounded_left, counted_front, counted_whole, part_room, part_order, size_in, le_more, pays_text}
+use Rattle.fidl_decode.proofs.Fitting.{front, apart, small, deeper_64, counted_on, some_8, rounded_left, counted_front, counted_whole, part_room, part_order, size_in, le_more, pays_text}
 use Rattle.fidl_decode.proofs.Unchanged.{no_true, no_false, same_le, size_fits, size_room}
 use Rattle.std.proofs.Common.{◌≡◌, ◌+◌, ◌-◌, ◌/◌, ◌<◌, ◌≤◌, ◌^◌, ℕ, List, length, get_or, slice_set, sym, ap, subst, ◌∙◌, arith, refl}
 use Rattle.std.specs.Int.{next_multiple_of, w64}

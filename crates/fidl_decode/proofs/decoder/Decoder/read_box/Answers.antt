@@ -1,6 +1,6 @@
 use Rattle.fidl_decode.specs.Reading.{message}
 use Rattle.fidl_decode.proofs.Unchanged.{size_short, size_fits, size_room}
-use Rattle.fidl_decode.proofs.Fitting.{inside, at_most, small, ended, deeper, some_8}
+use Rattle.fidl_decode.proofs.Fitting.{inside, small, ended, deeper, some_8}
 use Rattle.std.proofs.Common.{◌≡◌, ℕ, ◌+◌, ◌-◌, ◌<◌, refl, Bool, true, false, sym, ap, subst, ◌∙◌, arith, length}
 use Rattle.std.specs.Prelude.{Some}
 use Rattle.std.specs.Int.{next_multiple_of}

@@ -1,5 +1,5 @@
 use Rattle.fidl_decode.specs.Reading.{message}
-use Rattle.fidl_decode.proofs.Fitting.{front, apart, inside, at_most, small, ended, some_8, rounded_left, part_order, le_more, eq_le, spent_text, spends_any}
+use Rattle.fidl_decode.proofs.Fitting.{front, apart, small, ended, some_8, rounded_left, part_order, le_more, eq_le, spent_text, spends_any}
 use Rattle.fidl_decode.proofs.Unchanged.{same_le, no_ok, clash, size_short, size_fits, size_room}
 use Rattle.std.proofs.Common.{◌≡◌, ◌+◌, ◌-◌, sym, subst, ◌∙◌, arith, refl, ap, inl, inr, length, ◌<◌}
 use Rattle.std.specs.Int.{next_multiple_of}

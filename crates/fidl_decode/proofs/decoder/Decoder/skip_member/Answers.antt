@@ -1,8 +1,8 @@
 use Rattle.fidl_decode.specs.Reading.{message}
 use Rattle.fidl_decode.proofs.Unchanged.{size_short, size_fits}
-use Rattle.std.proofs.Common.{◌≡◌, ◌+◌, ◌-◌, ◌≤◌, ℕ, List, length, refl, sym, ap, subst, ◌∙◌, arith}
+use Rattle.std.proofs.Common.{◌≡◌, ◌+◌, ◌-◌, ◌≤◌, length, refl, sym, subst, ◌∙◌, arith}
 use Rattle.fidl_wire.specs.Typed.{IsUnknownLength}
-use Rattle.std.specs.Prelude.{false, ◌/◌, ◌↔◌, slice_set, None}
+use Rattle.std.specs.Prelude.{false, ◌↔◌, None}
 use Rattle.std.specs.Int.{next_multiple_of}
 use Rattle.fidl_table_format.specs.Terms.{declarations_of}
 use Rattle.fidl_decode_model.specs.declared.fault.DecodeFault.TheVariants.{BadEnvelope, TooDeep, Truncated, HandleMissing}
