@@ -141,7 +141,9 @@ module _ (t : List ℕ) (fine : IsFine t) (m : Message) (held e place : ℕ) (fr
         (broken.in_union (is_optional d) (is_strict d) rows place from fault some (union_right ds m held (is_optional d) (is_strict d) rows place from some (λ strict none. clash (sym strict ∙ may none))) b)
 
     -- one whose member is in the envelope, which is opened
-    pub visits_union : (new : Position) (own spent : ℕ) (found : Option Frame) → own + 1 ≤ spent → spent ≤ own + probes + 1 → PaysEnvelope m.bytes from.next new.next own found → place + 8 ≤ length m.bytes → ((i : ℕ) → get_or m.bytes i 0 < 256) → Opens t m held (find rows own_ordinal) (place + 8) from new own found → Visits t m held e place from new spent found
+    pub visits_union : (new : Position) (own spent : ℕ) (found : Option Frame) → own + 1 ≤ spent → spent ≤ own + probes + 1 → PaysEnvelope m.bytes
+        from.next new.next own found → place + 8 ≤ length m.bytes → ((i : ℕ) → get_or m.bytes i 0 < 256) → Opens t m held (find rows own_ordinal)
+        (place + 8) from new own found → Visits t m held e place from new spent found
     visits_union new own spent found some_steps few pays here small o =
         record {
           same = λ to. (

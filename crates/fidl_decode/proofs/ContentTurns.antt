@@ -173,6 +173,8 @@ module _ (t : List ℕ) (fine : IsFine t) (m : Message) (f : Frame) (e size coun
         let at : f.base + (f.done + size) ≡ f.base + next = omega (arith, there) in
         let end = subst (λ p. Stands m.bytes p (zeros (f.size - next))) at (subst (λ n. Stands m.bytes (f.base + (f.done + size)) (zeros n)) wide z) in
         let none = no_zeros m.bytes (f.base + f.done) (f.done - f.done) (omega arith) in
-        let more = worth_more ds fine.laid_out m f.depth (header_of t).entries f.nest f.size f.base f.done row [] old new new rises none (spent + 1) 0 (let x = v.least new 0 refl in let le = x.1 in (x.0, omega (arith, le))) (worth_none ds fine.laid_out m f.depth f.size f.base next new new ff.depth refl end 0) in
+        let more = worth_more ds fine.laid_out m f.depth (header_of t).entries f.nest f.size f.base f.done row [] old new new rises none (spent + 1) 0
+        (let x = v.least new 0 refl in let le = x.1 in (x.0, omega (arith, le)))
+        (worth_none ds fine.laid_out m f.depth f.size f.base next new new ff.depth refl end 0) in
         let le = more.1 in
         (subst (λ (rs : List Row). MembersWorth ds m f.depth f.size f.base f.done rs old new (spent + 1)) (sym only) (more.0, omega (arith, le)), own)

@@ -141,7 +141,9 @@ module _ (t : List ℕ) (fine : IsFine t) (m : Message) (within : IsWithin m.byt
       no_zeros_there : Stands m.bytes (envelope_place f.base (suc read)) (zeros 8) → ⊥
       no_zeros_there z = some (subst (λ p. Stands m.bytes p (zeros 8)) own_place z)
 
-      pub envelope_opened : (found : Option Frame) (new : Position) (spent n : ℕ) → spent + 1 ≤ n → n ≤ 18 + spent → PaysEnvelope m.bytes old.next new.next spent found → Opens t m f.depth (find rows (suc read)) place old new spent found → Turns t m g old new n (record { below = found; rest = Some rest })
+      pub envelope_opened : (found : Option Frame) (new : Position) (spent n : ℕ) → spent + 1 ≤ n → n ≤ 18 + spent → PaysEnvelope m.bytes old.next
+          new.next spent found → Opens t m f.depth (find rows (suc read)) place old new spent found → Turns t m g old new n
+          (record { below = found; rest = Some rest })
       envelope_opened found new spent n some_steps few own o = record {
         same = λ to. (
           (λ x. elim (slots_step ds fine.laid_out m f.depth rows (read + count) f.base read old to (omega (arith, more)) x) [

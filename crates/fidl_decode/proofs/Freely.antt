@@ -52,7 +52,9 @@ module _ (t : List ℕ) (fine : IsFine t) (m : Message) (within : IsWithin m.byt
       let k = 1 + spent + (f.base + f.size - (f.base + (f.done + size)) + 1) in
       let opened = opens_on t m held (Some (ty.named e)) p old mid 0 f o mid k k None (omega arith) (leaf_over t fine m f e size 1 u is refl mid x.fine x.state mid spent v z own k refl) in
       opens_worth t m held (Some (ty.named e)) p old mid k n None opened
-      (λ to w y. let worth = x.least mid (spent + 1) (leaf_worth t fine m f e size 1 u is refl mid x.fine x.state mid spent v z own) in let few = worth.1 in subst (λ (s : Position). ContainedWorth (declarations_of t) m held (Some (ty.named e)) p old s (w + n + 1)) y (worth.0, omega (arith, few, le)))
+      (λ to w y. let worth = x.least mid (spent + 1) (leaf_worth t fine m f e size 1 u is refl mid x.fine x.state mid spent v z own) in let few =
+      worth.1 in subst (λ (s : Position). ContainedWorth (declarations_of t) m held (Some (ty.named e)) p old s (w + n + 1)) y
+      (worth.0, omega (arith, few, le)))
 
   -- a bool in the envelope
   pub bool_passed : kind_of d.kind ≡ Some Boolean → flags_at m.bytes p ≡ 1 → handles_below m.bytes p ≡ 0 → bytes_below m.bytes p ≤ 1 → (new : Position) → opened p old ≡ new → (k : ℕ) → Opens t m held (Some (ty.named e)) p old new k None
@@ -97,7 +99,9 @@ module _ (t : List ℕ) (fine : IsFine t) (m : Message) (within : IsWithin m.byt
         let inner = state.next in
         let behind = old.next + next_multiple_of d.size 8 - (old.next + done) in
         let front : Stands m.bytes (old.next + done) (zeros (old.next + d.size - (old.next + done))) = zeros_within m.bytes (old.next + done) behind (old.next + done) _ z (omega arith) (omega (arith, rows_in, more)) (omega (arith, rows_in, place_fits)) in
-        let back : Stands m.bytes (old.next + (0 + d.size)) (zeros (old.next + next_multiple_of d.size 8 - (old.next + (0 + d.size)))) = zeros_within m.bytes (old.next + done) behind (old.next + (0 + d.size)) _ z (omega (arith, rows_in)) (omega (arith, rows_in, more)) (omega (arith, inner, fits, more)) in
+        let back : Stands m.bytes (old.next + (0 + d.size)) (zeros (old.next + next_multiple_of d.size 8 - (old.next + (0 + d.size)))) = zeros_within
+        m.bytes (old.next + done) behind (old.next + (0 + d.size)) _ z (omega (arith, rows_in)) (omega (arith, rows_in, more))
+        (omega (arith, inner, fits, more)) in
         let turns = over_turns t fine m f mid mid rows (behind_rows f first 0 done) (passed mid x.state) refl tt rows (omega arith) (omega arith) front in
         let start = visits_struct t fine m (held + 1) e old.next mid lt x.state (omega (arith, shallow)) 0 0 refl is place_fits in
         let here : old.next ≡ old.next + 0 = omega arith in
@@ -126,4 +130,6 @@ module _ (t : List ℕ) (fine : IsFine t) (m : Message) (within : IsWithin m.byt
         let v = visits_free t fine m (held + 1) e (old.next + 0) (linked p d.size (opened p old)) lt x.state (omega (arith, shallow)) free.0 free.1 free.2 0 (omega arith) (omega (arith, eight, fits, inner)) small in
         let z = no_zeros m.bytes (old.next + (0 + d.size)) (old.next + next_multiple_of d.size 8 - (old.next + (0 + d.size))) (omega (arith, up, eight)) in
         subst (λ (s : Position). Opens t m held (Some (ty.named e)) p old s k None) led
-        (over (linked p d.size (opened p old)) (below_frame m e d.size d.nest held p old) d.size (record { envelope = p; next = old.next + bytes_below m.bytes p; handle = old.handle + handles_below m.bytes p }) refl (omega arith) x 0 k (omega arith) v z (omega (arith, up, counted), omega (arith, none)))
+        (over (linked p d.size (opened p old)) (below_frame m e d.size d.nest held p old) d.size
+        (record { envelope = p; next = old.next + bytes_below m.bytes p; handle = old.handle + handles_below m.bytes p }) refl (omega arith) x 0 k
+        (omega arith) v z (omega (arith, up, counted), omega (arith, none)))

@@ -42,7 +42,9 @@ module _ (ds : Declarations) (laid : IsLaidOut ds) (m : Message) (held : ℕ) (r
   abbrev n : ℕ
   n = count_at m.bytes place
 
-  pub item_table : (to : Position) → place + 8 ≤ length m.bytes → ((i : ℕ) → get_or m.bytes i 0 < 256) → n < 2 ^ 64 → Stands m.bytes (place + 8) present → (w : ℕ) → SlotsWorth ds m (held + 1) rows 0 n from.next (linked (place + 8) (8 * n) from) to w → ValueWorth ds m held (ty.table rows) place from to (w + 1)
+  pub item_table : (to : Position) → place + 8 ≤ length m.bytes → ((i : ℕ) → get_or m.bytes i 0 < 256) → n < 2 ^ 64 → Stands m.bytes (place + 8)
+      present → (w : ℕ) → SlotsWorth ds m (held + 1) rows 0 n from.next (linked (place + 8) (8 * n) from) to w → ValueWorth ds m held (ty.table rows)
+      place from to (w + 1)
   item_table to here small few ones w (y, le) =
       let a = envelopes ds rows 1 n y.members in
       let own = linked (place + 8) (8 * n) from in
@@ -104,7 +106,10 @@ module _ (t : List ℕ) (fine : IsFine t) (m : Message) (held e place : ℕ) (fr
       record {
         same = λ to. (
           (λ x. subst (λ k. Slots ds m (held + 1) rows 0 k from.next own to) (sym all) (table_value ds fine.laid_out m held rows place from to (subst (λ (u : Term). ValueAt ds m held u place from to) table_is x)).slots),
-          (λ y. subst (λ (u : Term). ValueAt ds m held u place from to) (sym table_is) (item_table ds fine.laid_out m held rows place from to here small few ones (members_work y.members) (subst (λ k. (x : Slots ds m (held + 1) rows 0 k from.next own to) × (members_work x.members ≤ members_work y.members)) all (y, omega arith))).0),
+          (λ y. subst (λ (u : Term). ValueAt ds m held u place from to) (sym table_is)
+              (item_table ds fine.laid_out m held rows place from to here small few ones (members_work y.members)
+              (subst (λ k. (x : Slots ds m (held + 1) rows 0 k from.next own to) × (members_work x.members ≤ members_work y.members)) all
+              (y, omega arith))).0),
         );
         least = λ to w y. subst (λ (u : Term). ValueWorth ds m held u place from to (w + spent + 1)) (sym table_is)
             (let x = item_table ds fine.laid_out m held rows place from to here small few ones w (subst (λ k. SlotsWorth ds m (held + 1) rows 0 k from.next own to w) all y) in let less = x.1 in (x.0, omega (arith, less)));

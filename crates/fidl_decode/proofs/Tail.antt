@@ -44,10 +44,14 @@ module _ (t : List ℕ) (fine : IsFine t) (m : Message) (f g h : Frame) (old new
   nothing_more x to r = ((members_end ds fine.laid_out m h.depth h.size h.base h.done x to one.rest_fine.0.depth).0 (subst (λ (rs : List Row). Members ds m h.depth h.size h.base h.done rs x to) none ((plain_reads t m h h.left plain x to).0 r))).0
 
   worth_at_end : (to : Position) → ReadsWorth t m h to to 0
-  worth_at_end to = (plain_worth t m h h.left plain to to 0).1 (subst (λ (rs : List Row). MembersWorth ds m h.depth h.size h.base h.done rs to to 0) (sym none) (worth_none ds fine.laid_out m h.depth h.size h.base h.done to to one.rest_fine.0.depth refl (no_zeros m.bytes (h.base + h.done) (h.size - h.done) (omega (arith, over.1))) 0))
+  worth_at_end to = (plain_worth t m h h.left plain to to 0).1 (subst (λ (rs : List Row). MembersWorth ds m h.depth h.size h.base h.done rs to to 0)
+      (sym none) (worth_none ds fine.laid_out m h.depth h.size h.base h.done to to one.rest_fine.0.depth refl
+      (no_zeros m.bytes (h.base + h.done) (h.size - h.done) (omega (arith, over.1))) 0))
 
   at_the_end : (to : Position) → Reads t m h to to
-  at_the_end to = (plain_reads t m h h.left plain to to).1 (subst (λ (rs : List Row). Members ds m h.depth h.size h.base h.done rs to to) (sym none) ((members_end ds fine.laid_out m h.depth h.size h.base h.done to to one.rest_fine.0.depth).1 (refl, no_zeros m.bytes (h.base + h.done) (h.size - h.done) (omega (arith, over.1)))))
+  at_the_end to = (plain_reads t m h h.left plain to to).1 (subst (λ (rs : List Row). Members ds m h.depth h.size h.base h.done rs to to) (sym none)
+      ((members_end ds fine.laid_out m h.depth h.size h.base h.done to to one.rest_fine.0.depth).1
+      (refl, no_zeros m.bytes (h.base + h.done) (h.size - h.done) (omega (arith, over.1)))))
 
   pub turns_tail : Turns t m f old new steps (left_over (Some g))
   turns_tail = record {

@@ -103,4 +103,6 @@ module _ (t : List ℕ) (fine : IsFine t) (m : Message) (within : IsWithin m.byt
         let opened = opens_on t m held (Some (ty.named e)) p old mid 0 f o new k k None (omega arith) (leaf_over t fine m f e d.size 1 u refl refl mid x.fine x.state new size (visited x.state) none_behind own k refl) in
         subst (λ (s : Position). Opens t m held (Some (ty.named e)) p old s most None) led
         (opens_worth t m held (Some (ty.named e)) p old new k most None opened
-        (λ to w y. let worth = x.least new (size + 1) (leaf_worth t fine m f e d.size 1 u refl refl mid x.fine x.state new size (visited x.state) none_behind own) in let le = worth.1 in subst (λ (s : Position). ContainedWorth (declarations_of t) m held (Some (ty.named e)) p old s (w + most + 1)) y (worth.0, omega (arith, le, few))))
+        (λ to w y. let worth = x.least new (size + 1) (leaf_worth t fine m f e d.size 1 u refl refl mid x.fine x.state new size (visited x.state)
+        none_behind own) in let le = worth.1 in subst (λ (s : Position). ContainedWorth (declarations_of t) m held (Some (ty.named e)) p old s
+        (w + most + 1)) y (worth.0, omega (arith, le, few))))

@@ -335,7 +335,10 @@ module _ (t : List ℕ) (fine : IsFine t) (sound : IsSound (declarations_of t)) 
       let a = (message_item t fine part e lt [] [] z).2 in
       let b = (message_item t fine whole e lt [] [] y).2 in
       let bounded = bounded-resolve (declarations_of t).terms (ty.named e) sound.bounded tt in
-      let same = item_unique (declarations_of t) sound whole (short_message whole within) (few_handles whole within) 0 0 (resolve (declarations_of t).terms (ty.named e)) bounded 0 (start_of (entry_at t e).size) a.0 b.0 (item_wider (declarations_of t) part whole 0 (resolve (declarations_of t).terms (ty.named e)) 0 (start_of (entry_at t e).size) a.0 f g a.2) b.2 in
+      let same = item_unique (declarations_of t) sound whole (short_message whole within) (few_handles whole within) 0 0
+      (resolve (declarations_of t).terms (ty.named e)) bounded 0 (start_of (entry_at t e).size) a.0 b.0
+      (item_wider (declarations_of t) part whole 0 (resolve (declarations_of t).terms (ty.named e)) 0 (start_of (entry_at t e).size) a.0 f g a.2)
+      b.2 in
       (sym a.1.bytes ∙ ap (λ (s : Position). s.next) same ∙ b.1.bytes, sym a.1.handles ∙ ap (λ (s : Position). s.handle) same ∙ b.1.handles)
 
   part_excluded : (fault : DecodeFault) → BreaksMessage (declarations_of t) (ty.named e) whole fault → ⊥
@@ -344,7 +347,9 @@ module _ (t : List ℕ) (fine : IsFine t) (sound : IsSound (declarations_of t)) 
       elim b [
         | inl p ↦ let far = le-next_multiple_of (entry_at t e).size 8 in
             padding_excluded bytes (entry_at t e).size (next_multiple_of (entry_at t e).size 8) (next_multiple_of (entry_at t e).size 8 - (entry_at t e).size) fault (omega (arith, far)) r.1 (subst (λ (s : ℕ). IsPadding bytes s (next_multiple_of s 8) fault) size p)
-        | inr i ↦ item_excluded t fine sound whole within 0 e 0 (start_of (entry_at t e).size) r.2.0 fault (resolve (declarations_of t).terms (ty.named e)) lt refl (subst (λ (s : ℕ). Breaks (declarations_of t) whole 0 (resolve (declarations_of t).terms (ty.named e)) 0 (start_of s) fault) size i) r.2.2
+        | inr i ↦ item_excluded t fine sound whole within 0 e 0 (start_of (entry_at t e).size) r.2.0 fault
+            (resolve (declarations_of t).terms (ty.named e)) lt refl (subst
+            (λ (s : ℕ). Breaks (declarations_of t) whole 0 (resolve (declarations_of t).terms (ty.named e)) 0 (start_of s) fault) size i) r.2.2
       ]
 
   pub told_excluded : (fault : DecodeFault) → IsTold (declarations_of t) (ty.named e) bytes handles fault → ⊥

@@ -38,7 +38,9 @@ module _ (optional : Bool) (subtype rights : ℕ) (bytes : List ℕ) (handles : 
       (in_field (ty.handle optional subtype rights) 0 (start_of 4) fault b)))
 
   -- and nowhere else, but for padding
-  only_handle : (BreaksField (message_of bytes handles) (holder optional subtype rights) 0 fault → ⊥) → (IsPadding bytes 4 8 fault → ⊥) → (IsPadding bytes 0 0 fault → ⊥) → (IsPadding bytes 4 4 fault → ⊥) → BreaksMessage no_declarations (holder optional subtype rights) (message_of bytes handles) fault → BreaksHandle (message_of bytes handles) optional subtype rights 0 0 fault
+  only_handle : (BreaksField (message_of bytes handles) (holder optional subtype rights) 0 fault → ⊥) → (IsPadding bytes 4 8 fault → ⊥) →
+      (IsPadding bytes 0 0 fault → ⊥) → (IsPadding bytes 4 4 fault → ⊥) → BreaksMessage no_declarations (holder optional subtype rights)
+      (message_of bytes handles) fault → BreaksHandle (message_of bytes handles) optional subtype rights 0 0 fault
   only_handle none behind before between h =
       let m = message_of bytes handles in
       let t = ty.handle optional subtype rights in

@@ -178,7 +178,9 @@ module _ (bound : ℕ) (t : Term) (bytes : List ℕ) (fault : DecodeFault) where
   vector_broken b = inr (in_parts (listing bound t) 0 (start_of 16) fault (part 0 (ty.vector false bound t) ∷ []) refl (in_next 16 0 0 (part 0 (ty.vector false bound t)) [] (start_of 16) fault tt b))
 
   -- and nowhere else, but for padding
-  only_vector : (BreaksField (message_of bytes []) (listing bound t) 0 fault → ⊥) → (IsPadding bytes 16 16 fault → ⊥) → (IsPadding bytes 0 0 fault → ⊥) → BreaksMessage no_declarations (listing bound t) (message_of bytes []) fault → Breaks no_declarations (message_of bytes []) 0 (ty.vector false bound t) 0 (start_of 16) fault
+  only_vector : (BreaksField (message_of bytes []) (listing bound t) 0 fault → ⊥) → (IsPadding bytes 16 16 fault → ⊥) →
+      (IsPadding bytes 0 0 fault → ⊥) → BreaksMessage no_declarations (listing bound t) (message_of bytes []) fault → Breaks no_declarations
+      (message_of bytes []) 0 (ty.vector false bound t) 0 (start_of 16) fault
   only_vector none behind before h =
       let m = message_of bytes [] in
       let v = part 0 (ty.vector false bound t) in

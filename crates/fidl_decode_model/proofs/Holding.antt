@@ -118,7 +118,9 @@ module _ (t : List ℕ) (fine : IsFine t) (m : Message) (held e place : ℕ) (ol
       let nest : suc (fig d.first).nest ≡ d.nest = ap (λ (f : Figure). f.nest) g in
       let both : (to : Position) → Members ds m held ((fig d.first).size * d.count) place 0 (element_rows d.first (fig d.first).size d.count 0) old to ≡ Members ds m held d.size place 0 (element_rows d.first element d.count 0) old to = λ to i. Members ds m held (size i) place 0
       (element_rows d.first (one i) d.count 0) old to in
-      let both_worth : (to : Position) (w : ℕ) → MembersWorth ds m held ((fig d.first).size * d.count) place 0 (element_rows d.first (fig d.first).size d.count 0) old to w ≡ MembersWorth ds m held d.size place 0 (element_rows d.first element d.count 0) old to w = λ to w i. MembersWorth ds m held (size i) place 0
+      let both_worth : (to : Position) (w : ℕ) → MembersWorth ds m held ((fig d.first).size * d.count) place 0
+      (element_rows d.first (fig d.first).size d.count 0) old to w ≡ MembersWorth ds m held d.size place 0
+      (element_rows d.first element d.count 0) old to w = λ to w i. MembersWorth ds m held (size i) place 0
       (element_rows d.first (one i) d.count 0) old to w in
       record {
         same = λ to. (

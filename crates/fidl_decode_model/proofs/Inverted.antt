@@ -43,7 +43,9 @@ module _ (ds : Declarations) (m : Message) (held : ℕ) where
   of_field t place from fault none (in_union optional strict rows place' from' fault' some right b) = absurd none.2
 
   -- an object with parts breaks a rule in one of them, or in a gap
-  pub of_object : (t : Term) (place : ℕ) (from : Position) (fault : DecodeFault) (ps : List Part) → (BreaksRule ds m held t place from.next from.handle fault → ⊥) → (parts_of ds t ≡ Some ps) × (object_of ds m.bytes t place ≡ None) → Breaks ds m held t place from fault → BreaksParts ds m held (size_of ds t) place 0 ps from fault
+  pub of_object : (t : Term) (place : ℕ) (from : Position) (fault : DecodeFault) (ps : List Part) →
+      (BreaksRule ds m held t place from.next from.handle fault → ⊥) → (parts_of ds t ≡ Some ps) × (object_of ds m.bytes t place ≡ None) → Breaks ds m
+      held t place from fault → BreaksParts ds m held (size_of ds t) place 0 ps from fault
   of_object t place from fault ps none is (in_field t' place' from' fault' b) = absurd (none b)
   of_object t place from fault ps none is (in_parts t' place' from' fault' qs has b) = subst (λ (l : List Part). BreaksParts ds m held (size_of ds t) place 0 l from fault) (only_parts qs ps (sym has ∙ is.0)) b
   of_object t place from fault ps none is (in_object t' place' from' fault' o has ones right b) = absurd (no_object o (sym is.1 ∙ has))

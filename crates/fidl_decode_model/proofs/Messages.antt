@@ -64,7 +64,9 @@ module _ (t : List ℕ) (fine : IsFine t) (m : Message) (e : ℕ) (lt : e < (hea
     abbrev start : Position
     start = begins objects records (entry_at t e).size
 
-    pub item_encodes : length m.bytes ≤ MAX_MESSAGE_BYTES → length m.handles ≤ MAX_MESSAGE_HANDLES → Stands m.bytes (entry_at t e).size (zeros (next_multiple_of (entry_at t e).size 8 - (entry_at t e).size)) → (to : Position) → IsWhole m to → (x : ValueAt ds m 0 term 0 start to) → Encodes ds (ty.named e) x.value m.bytes m.handles
+    pub item_encodes : length m.bytes ≤ MAX_MESSAGE_BYTES → length m.handles ≤ MAX_MESSAGE_HANDLES → Stands m.bytes (entry_at t e).size
+        (zeros (next_multiple_of (entry_at t e).size 8 - (entry_at t e).size)) → (to : Position) → IsWhole m to → (x : ValueAt ds m 0 term 0 start to)
+        → Encodes ds (ty.named e) x.value m.bytes m.handles
     item_encodes short few z to is x =
         let p = encoding_of ds term x.value in
         let len : length p.inline ≡ (entry_at t e).size = inline_size x.value x.typed in
@@ -88,10 +90,14 @@ module _ (t : List ℕ) (fine : IsFine t) (m : Message) (e : ℕ) (lt : e < (hea
           few = few;
         }
 
-    pub item_message : length m.bytes ≤ MAX_MESSAGE_BYTES → length m.handles ≤ MAX_MESSAGE_HANDLES → Stands m.bytes (entry_at t e).size (zeros (next_multiple_of (entry_at t e).size 8 - (entry_at t e).size)) → (to : Position) → IsWhole m to → ValueAt ds m 0 term 0 start to → IsEncoding ds (ty.named e) m.bytes m.handles
+    pub item_message : length m.bytes ≤ MAX_MESSAGE_BYTES → length m.handles ≤ MAX_MESSAGE_HANDLES → Stands m.bytes (entry_at t e).size
+        (zeros (next_multiple_of (entry_at t e).size 8 - (entry_at t e).size)) → (to : Position) → IsWhole m to → ValueAt ds m 0 term 0 start to →
+        IsEncoding ds (ty.named e) m.bytes m.handles
     item_message short few z to is x = (x.value, item_encodes short few z to is x)
 
-    pub message_item : IsEncoding ds (ty.named e) m.bytes m.handles → (next_multiple_of (entry_at t e).size 8 ≤ length m.bytes) × Stands m.bytes (entry_at t e).size (zeros (next_multiple_of (entry_at t e).size 8 - (entry_at t e).size)) × ((to : Position) × IsWhole m to × ValueAt ds m 0 term 0 start to)
+    pub message_item : IsEncoding ds (ty.named e) m.bytes m.handles → (next_multiple_of (entry_at t e).size 8 ≤ length m.bytes) × Stands m.bytes
+        (entry_at t e).size (zeros (next_multiple_of (entry_at t e).size 8 - (entry_at t e).size)) ×
+        ((to : Position) × IsWhole m to × ValueAt ds m 0 term 0 start to)
     message_item y =
         let v = y.0 in
         let r = y.1 in

@@ -138,12 +138,20 @@ module _ (t : List ℕ) (m : Message) where
       apart (Some g) (inr x) = inr (omega (arith, x.0, clear.before, end))
 
   -- the object of a marker is the next one, and left to read
-  pub moves_linked : (a b marker n : ℕ) (f : Frame) (old : Position) → IsAhead m old → b ≤ old.next → marker % 8 ≡ 0 → a ≤ marker → marker + 8 ≤ b → next_multiple_of n 8 ≤ length m.bytes - old.next → old.next ≤ length m.bytes → f.base ≡ old.next → f.done ≡ 0 → f.size ≡ next_multiple_of n 8 → LeftEven t f f.left
+  pub moves_linked : (a b marker n : ℕ) (f : Frame) (old : Position) → IsAhead m old → b ≤ old.next → marker % 8 ≡ 0 → a ≤ marker → marker + 8 ≤ b →
+      next_multiple_of n 8 ≤ length m.bytes - old.next → old.next ≤ length m.bytes → f.base ≡ old.next → f.done ≡ 0 → f.size ≡ next_multiple_of n 8 →
+      LeftEven t f f.left
       → Moves t m a b old (linked marker n old) (Some f) None
   moves_linked a b marker n f old ahead before even from to room short here none whole stands = record {
     stays = stays;
     ahead = ahead_still m a b old (linked marker n old) stays before (omega (arith, ahead.even)) ahead;
-    below_clear = record { before = omega (arith, here, whole); free = λ k x y. free_still a b 0 0 old (linked marker n old) (stays_linked a b 0 0 marker n old from to even) k (inr (omega (arith, x, here, none, before))) (inr (omega arith)) (ahead.free k (omega (arith, x, here, none)) (omega (arith, y, here, whole, room, short))); even = stands };
+    below_clear = record {
+      before = omega (arith, here, whole);
+      free = λ k x y. free_still a b 0 0 old (linked marker n old)
+          (stays_linked a b 0 0 marker n old from to even) k (inr (omega (arith, x, here, none, before))) (inr (omega arith))
+          (ahead.free k (omega (arith, x, here, none)) (omega (arith, y, here, whole, room, short)));
+      even = stands;
+    };
     rest_clear = tt;
     below_in = inr (omega (arith, here, none), omega (arith, here, whole));
     rest_in = tt;
@@ -189,7 +197,13 @@ module _ (t : List ℕ) (m : Message) where
   moves_begun p n f old ahead read even room short here none whole stands = record {
     stays = stays_begun false p n old.next (begun false p n old).next old even;
     ahead = ahead_still m p (p + 8) old (begun false p n old) (stays_begun false p n old.next (begun false p n old).next old even) read.before (omega (arith, ahead.even)) ahead;
-    below_clear = record { before = omega (arith, here, whole); free = λ k x y. free_still p (p + 8) 0 0 old (begun false p n old) (stays_begun false p n 0 0 old even) k (inr (omega (arith, x, here, none, read.before))) (inr (omega arith)) (ahead.free k (omega (arith, x, here, none)) (omega (arith, y, here, whole, room, short))); even = stands };
+    below_clear = record {
+      before = omega (arith, here, whole);
+      free = λ k x y. free_still p (p + 8) 0 0 old (begun false p n old)
+          (stays_begun false p n 0 0 old even) k (inr (omega (arith, x, here, none, read.before))) (inr (omega arith))
+          (ahead.free k (omega (arith, x, here, none)) (omega (arith, y, here, whole, room, short)));
+      even = stands;
+    };
     rest_clear = tt;
     below_in = inr (omega (arith, here, none), omega (arith, here, whole));
     rest_in = tt;

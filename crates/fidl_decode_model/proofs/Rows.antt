@@ -75,7 +75,9 @@ module _ (ds : Declarations) (laid : IsLaidOut ds) where
     worth_apart n nest size base done r rs from to f w (x, le) = apart x.values x.typed x.shallow x.stands x.end le
       where
         apart : (vs : Values) → TypedRows ds (r ∷ rs) vs → depth_rows ds (r ∷ rs) vs + held ≤ MAX_DEPTH → StandsAt m (enc_rows ds size done (r ∷ rs) vs) (base + done) from → to ≡ after_rows ds (r ∷ rs) vs base from → values_work vs ≤ w
-            → Stands m.bytes (base + done) (zeros (r.offset - done)) × ((mid : Position) × (a : ℕ) × (b : ℕ) × ValueWorth ds m held (resolve ds.terms (ty.named r.entry)) (base + r.offset) from mid a × MembersWorth ds m held size base (r.offset + size_of ds (ty.named r.entry)) rs mid to b × (a + b ≤ w))
+            → Stands m.bytes (base + done) (zeros (r.offset - done)) × ((mid : Position) × (a : ℕ) × (b : ℕ) × ValueWorth ds m held
+            (resolve ds.terms (ty.named r.entry)) (base + r.offset) from mid a × MembersWorth ds m held size base
+            (r.offset + size_of ds (ty.named r.entry)) rs mid to b × (a + b ≤ w))
         apart none h d s e less = absurd h
         apart (value v vs) h d s e less =
             let next = r.offset + size_of ds (ty.named r.entry) in
@@ -117,7 +119,9 @@ module _ (ds : Declarations) (laid : IsLaidOut ds) where
 
     -- they are worth together what each is
     pub worth_more : (n nest size base done : ℕ) (r : Row) (rs : List Row) (from mid to : Position) → RowsRise ds n nest size done (r ∷ rs)
-        → Stands m.bytes (base + done) (zeros (r.offset - done)) → (a b : ℕ) → ValueWorth ds m held (resolve ds.terms (ty.named r.entry)) (base + r.offset) from mid a → MembersWorth ds m held size base (r.offset + size_of ds (ty.named r.entry)) rs mid to b → MembersWorth ds m held size base done (r ∷ rs) from to (a + b)
+        → Stands m.bytes (base + done) (zeros (r.offset - done)) → (a b : ℕ) → ValueWorth ds m held (resolve ds.terms (ty.named r.entry))
+        (base + r.offset) from mid a → MembersWorth ds m held size base (r.offset + size_of ds (ty.named r.entry)) rs mid to b → MembersWorth ds m
+        held size base done (r ∷ rs) from to (a + b)
     worth_more n nest size base done r rs from mid to f z a_work b_work (x, x_le) (y, y_le) =
         let next = r.offset + size_of ds (ty.named r.entry) in
         let g = inline_only (zeros (r.offset - done)) in

@@ -31,7 +31,9 @@ module _ (optional : Bool) (bound : ℕ) (bytes : List ℕ) (fault : DecodeFault
       (in_field (ty.string optional bound) 0 (start_of 16) fault b)))
 
   -- and nowhere else, but for padding
-  only_text : (BreaksField (message_of bytes []) (holder optional bound) 0 fault → ⊥) → (IsPadding bytes 16 16 fault → ⊥) → (IsPadding bytes 0 0 fault → ⊥) → BreaksMessage no_declarations (holder optional bound) (message_of bytes []) fault → BreaksText (message_of bytes []) 0 optional bound 0 16 fault
+  only_text : (BreaksField (message_of bytes []) (holder optional bound) 0 fault → ⊥) → (IsPadding bytes 16 16 fault → ⊥) →
+      (IsPadding bytes 0 0 fault → ⊥) → BreaksMessage no_declarations (holder optional bound) (message_of bytes []) fault → BreaksText
+      (message_of bytes []) 0 optional bound 0 16 fault
   only_text none behind before h =
       let m = message_of bytes [] in
       let t = ty.string optional bound in

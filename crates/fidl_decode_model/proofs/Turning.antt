@@ -176,7 +176,9 @@ module _ (t : List ℕ) (fine : IsFine t) (m : Message) (f : Frame) (old : Posit
     gap = let h = row_fine.1 in omega arith
 
     module _ (plain : IsPlain f.left) where
-      apart : (to : Position) → Reads t m f old to → Stands m.bytes (f.base + f.done) (zeros (r.offset - f.done)) × ((mid : Position) × ValueAt ds m f.depth (resolve ds.terms (ty.named r.entry)) (f.base + r.offset) old mid × Members ds m f.depth f.size f.base (r.offset + size_of ds (ty.named r.entry)) rest mid to)
+      apart : (to : Position) → Reads t m f old to → Stands m.bytes (f.base + f.done) (zeros (r.offset - f.done)) ×
+          ((mid : Position) × ValueAt ds m f.depth (resolve ds.terms (ty.named r.entry)) (f.base + r.offset) old mid × Members ds m f.depth f.size
+          f.base (r.offset + size_of ds (ty.named r.entry)) rest mid to)
       apart to x = members_more ds fine.laid_out m f.depth (header_of t).entries f.nest f.size f.base f.done r rest old to row_fine (subst (λ (rs : List Row). Members ds m f.depth f.size f.base f.done rs old to) one ((plain_reads t m f f.left plain old to).0 x))
 
       -- the frame breaks a rule where the parts that are left do
@@ -193,7 +195,10 @@ module _ (t : List ℕ) (fine : IsFine t) (m : Message) (f : Frame) (old : Posit
           → BreaksParts ds m f.depth f.size f.base (r.offset + size_of ds (ty.named r.entry)) (row_parts rest) mid fault → BreaksFrame t m f old fault
       rest_breaks fault mid z i b = parts_break fault (broken.in_later f.size f.base f.done _ _ old mid fault (subst (λ n. Stands m.bytes (f.base + f.done) (zeros n)) gap z) i b)
 
-      pub turns_more : 0 < size_of ds (ty.named r.entry) → LeftFine t left → IsPlain left → (below : Option Frame) (new : Position) (done spent n : ℕ) → done ≡ r.offset + size_of ds (ty.named r.entry) → spent + 1 ≤ n → n ≤ f.base + r.offset - (f.base + f.done) + 1 + spent → Stands m.bytes (f.base + f.done) (zeros (f.base + r.offset - (f.base + f.done))) → Visits t m f.depth r.entry (f.base + r.offset) old new spent below → VisitFine t m f.depth f.in_envelope r.entry below
+      pub turns_more : 0 < size_of ds (ty.named r.entry) → LeftFine t left → IsPlain left → (below : Option Frame) (new : Position) (done spent n : ℕ)
+          → done ≡ r.offset + size_of ds (ty.named r.entry) → spent + 1 ≤ n → n ≤ f.base + r.offset - (f.base + f.done) + 1 + spent → Stands m.bytes
+          (f.base + f.done) (zeros (f.base + r.offset - (f.base + f.done))) → Visits t m f.depth r.entry (f.base + r.offset) old new spent below →
+          VisitFine t m f.depth f.in_envelope r.entry below
           → Turns t m f old new n (record { below = below; rest = Some (record { left = left; base = f.base; done = done; size = f.size; nest = f.nest; depth = f.depth; in_envelope = f.in_envelope }) })
       turns_more pos left_fine left_plain below new done spent k done-is some few z v vf =
           let s = size_of ds (ty.named r.entry) in
@@ -205,7 +210,9 @@ module _ (t : List ℕ) (fine : IsFine t) (m : Message) (f : Frame) (old : Posit
           let main : Turns t m f old new k (record { below = below; rest = Some (record { left = left; base = f.base; done = d; size = f.size; nest = f.nest; depth = f.depth; in_envelope = f.in_envelope }) }) = record {
             same = λ to. (
               (λ x. let a = (apart to x).1 in (a.0, (v.same a.0).0 a.1, (plain_reads t m rest_frame left left_plain a.0 to).1 a.2)),
-              (λ y. (plain_reads t m f f.left plain old to).1 (subst (λ (rs : List Row). Members ds m f.depth f.size f.base f.done rs old to) (sym one) (more_members ds fine.laid_out m f.depth (header_of t).entries f.nest f.size f.base f.done r rest old y.0 to row_fine z' ((v.same y.0).1 y.1) ((plain_reads t m rest_frame left left_plain y.0 to).0 y.2)))),
+              (λ y. (plain_reads t m f f.left plain old to).1 (subst (λ (rs : List Row). Members ds m f.depth f.size f.base f.done rs old to)
+                  (sym one) (more_members ds fine.laid_out m f.depth (header_of t).entries f.nest f.size f.base f.done r rest old y.0 to row_fine z'
+                  ((v.same y.0).1 y.1) ((plain_reads t m rest_frame left left_plain y.0 to).0 y.2)))),
             );
             breaks = λ fault b. elim b [
               | inl x ↦ visit_breaks fault z (v.breaks fault x)

@@ -62,7 +62,7 @@ fn a_byte_more_is_too_long(rt: HostRuntime) -> Result<(), Fail> {
     let mut scratch = Scratch::new(rt.alloc())?;
     let mut message = bytes_of(rt.alloc(), LONGEST, "00").ok_or("memory")?;
     assert_eq!(rt; message.len(), 16_777_217);
-    // It is told before the handles are counted, and takes no step.
+    // It is reported before the handles are counted, and takes no step.
     match attempt(&table, 0, &mut message, &[HANDLE; 65], &mut scratch) {
         Ok(_) => return Err("decoded".into()),
         Err(refused) => {

@@ -33,7 +33,14 @@ pub push_if-requires-in-Some : goal.push_if-requires-in-Some
 push_if-requires-in-Some c =
     let top = fine_top c.args.decoder.now.table.now (message c.args.decoder.now) 0 c.pop.new.self.items c.in-Some.frame (subst (λ (l : List Frame). StackFine c.args.decoder.now.table.now c.args.decoder.now.bytes.value.came 0 l) c.in-Some.ensures.items c.loop-frame.invariant.fine) in
     let one = ap length c.push_if.ensures in
-    room_if c.args.decoder.now.table.now (message c.args.decoder.now) (height c.in-Some.frame + 1) (length c.push_if.new.stack.items) c.in_ok-turn.turn.below c.in_ok-turn.ensures.ok.below_fine (omega (arith, top.2, one, length_if c.args.decoder.now.table.now (message c.args.decoder.now) c.pop.new.self.items c.in_ok-turn.turn.rest))
+    room_if c.args.decoder.now.table.now (message c.args.decoder.now) (height c.in-Some.frame + 1) (length c.push_if.new.stack.items)
+    c.in_ok-turn.turn.below c.in_ok-turn.ensures.ok.below_fine (omega (
+      arith,
+      top.2,
+      one,
+      length_if c.args.decoder.now.table.now
+          (message c.args.decoder.now) c.pop.new.self.items c.in_ok-turn.turn.rest,
+    ))
 
 pub loop-frame-smaller : goal.loop-frame-smaller
 loop-frame-smaller c =
@@ -66,11 +73,21 @@ loop-frame-preserved c =
     record {
       holds = c.take_turn.ensures.holds;
       same = λ to. (
-        (λ h. subst (λ (l : List Frame). Finishes c.args.decoder.now.table.now (message c.args.decoder.now) l (at_of c.take_turn.new.state) to) (sym after) ((turn_same c.args.decoder.now.table.now (message c.args.decoder.now) c.pop.new.self.items c.in-Some.frame (at_of c.loop-frame.state) _ _ c.in_ok-turn.turn c.in_ok-turn.ensures.ok to).0 (subst (λ (l : List Frame). Finishes c.args.decoder.now.table.now (message c.args.decoder.now) l (at_of c.loop-frame.state) to) popped ((before to).0 h)))),
-        (λ h. (before to).1 (subst (λ (l : List Frame). Finishes c.args.decoder.now.table.now (message c.args.decoder.now) l (at_of c.loop-frame.state) to) (sym popped) ((turn_same c.args.decoder.now.table.now (message c.args.decoder.now) c.pop.new.self.items c.in-Some.frame (at_of c.loop-frame.state) _ _ c.in_ok-turn.turn c.in_ok-turn.ensures.ok to).1 (subst (λ (l : List Frame). Finishes c.args.decoder.now.table.now (message c.args.decoder.now) l (at_of c.take_turn.new.state) to) after h)))),
+        (λ h. subst (λ (l : List Frame). Finishes c.args.decoder.now.table.now (message c.args.decoder.now) l (at_of c.take_turn.new.state) to)
+            (sym after) ((turn_same c.args.decoder.now.table.now (message c.args.decoder.now) c.pop.new.self.items c.in-Some.frame
+            (at_of c.loop-frame.state) _ _ c.in_ok-turn.turn c.in_ok-turn.ensures.ok to).0
+            (subst (λ (l : List Frame). Finishes c.args.decoder.now.table.now (message c.args.decoder.now) l (at_of c.loop-frame.state) to) popped
+            ((before to).0 h)))),
+        (λ h. (before to).1 (subst (λ (l : List Frame). Finishes c.args.decoder.now.table.now (message c.args.decoder.now) l
+            (at_of c.loop-frame.state) to) (sym popped) ((turn_same c.args.decoder.now.table.now (message c.args.decoder.now) c.pop.new.self.items
+            c.in-Some.frame (at_of c.loop-frame.state) _ _ c.in_ok-turn.turn c.in_ok-turn.ensures.ok to).1
+            (subst (λ (l : List Frame). Finishes c.args.decoder.now.table.now (message c.args.decoder.now) l (at_of c.take_turn.new.state) to) after
+            h)))),
       );
       breaks = λ fault b. c.loop-frame.invariant.breaks fault (subst (λ (l : List Frame). BreaksStack c.args.decoder.now.table.now (message c.args.decoder.now) l (at_of c.loop-frame.state) fault) (sym popped)
-          (turn_breaks c.args.decoder.now.table.now (message c.args.decoder.now) c.pop.new.self.items c.in-Some.frame (at_of c.loop-frame.state) _ _ c.in_ok-turn.turn c.in_ok-turn.ensures.ok fault (subst (λ (l : List Frame). BreaksStack c.args.decoder.now.table.now (message c.args.decoder.now) l (at_of c.take_turn.new.state) fault) after b)));
+          (turn_breaks c.args.decoder.now.table.now (message c.args.decoder.now) c.pop.new.self.items c.in-Some.frame (at_of c.loop-frame.state) _ _
+          c.in_ok-turn.turn c.in_ok-turn.ensures.ok fault (subst (λ (l : List Frame). BreaksStack c.args.decoder.now.table.now
+          (message c.args.decoder.now) l (at_of c.take_turn.new.state) fault) after b)));
       grows = omega (arith, c.loop-frame.invariant.grows, c.in_ok-turn.ensures.rises);
       least = λ to w h.
           let spent = c.take_turn.new.state.steps - c.loop-frame.state.steps in
@@ -78,7 +95,10 @@ loop-frame-preserved c =
           let one = turn_worth c.args.decoder.now.table.now (message c.args.decoder.now) c.pop.new.self.items c.in-Some.frame (at_of c.loop-frame.state) (at_of c.take_turn.new.state) spent c.in_ok-turn.turn c.in_ok-turn.ensures.ok to w now in
           let all = c.loop-frame.invariant.least to (w + spent) (subst (λ (l : List Frame). FinishesWorth c.args.decoder.now.table.now (message c.args.decoder.now) l (at_of c.loop-frame.state) to (w + spent)) (sym popped) one) in
           finishes_raised c.args.decoder.now.table.now (message c.args.decoder.now) c.args.stack.now.items (at_of c.args.state.now) to _ _ (omega (arith, c.loop-frame.invariant.grows, c.in_ok-turn.ensures.rises)) all;
-      fine = subst (λ (l : List Frame). StackFine c.args.decoder.now.table.now c.args.decoder.now.bytes.value.came 0 l) (sym after) (turn_fine c.args.decoder.now.table.now (message c.args.decoder.now) c.pop.new.self.items c.in-Some.frame (at_of c.loop-frame.state) _ _ c.in_ok-turn.turn c.in_ok-turn.ensures.ok (subst (λ (l : List Frame). StackFine c.args.decoder.now.table.now c.args.decoder.now.bytes.value.came 0 l) popped c.loop-frame.invariant.fine));
+      fine = subst (λ (l : List Frame). StackFine c.args.decoder.now.table.now c.args.decoder.now.bytes.value.came 0 l) (sym after)
+          (turn_fine c.args.decoder.now.table.now (message c.args.decoder.now) c.pop.new.self.items c.in-Some.frame (at_of c.loop-frame.state) _ _
+          c.in_ok-turn.turn c.in_ok-turn.ensures.ok (subst (λ (l : List Frame). StackFine c.args.decoder.now.table.now
+          c.args.decoder.now.bytes.value.came 0 l) popped c.loop-frame.invariant.fine));
       steps = (let less = turn_less c.args.decoder.now.table.now (message c.args.decoder.now) c.pop.new.self.items c.in-Some.frame (at_of c.loop-frame.state) _ _ c.in_ok-turn.turn c.in_ok-turn.ensures.ok in
           let new = ap (λ (l : List Frame). work c.args.decoder.now.bytes.value.came l c.take_turn.new.state.next) after in
           let old = ap (λ (l : List Frame). work c.args.decoder.now.bytes.value.came l c.loop-frame.state.next) popped in

@@ -90,7 +90,9 @@ returns-in_err-zeros_at-clause-fault_is_true c =
     let t = c.args.self.now.table.now in
     let m = message c.args.self.now in
     let last = c.requires.left in
-    passed_on c.from_residual.result c.in_err-zeros_at.field-0.0 _ c.from_residual.ensures.1 (last_gap_breaks t c.args.self.now.fine m c.args.frame c.args.first c.row-row.result last c.row-row.ensures.value (at_of c.args.state.now) c.requires.frame c.requires.state c.in_err-zeros_at.field-0.0 c.in_err-zeros_at.ensures.fault_is_true)
+    passed_on c.from_residual.result c.in_err-zeros_at.field-0.0 _ c.from_residual.ensures.1
+    (last_gap_breaks t c.args.self.now.fine m c.args.frame c.args.first c.row-row.result last c.row-row.ensures.value (at_of c.args.state.now)
+    c.requires.frame c.requires.state c.in_err-zeros_at.field-0.0 c.in_err-zeros_at.ensures.fault_is_true)
 
 pub read_box-requires-clause-room : goal.read_box-requires-clause-room
 read_box-requires-clause-room c =
@@ -117,7 +119,12 @@ returns-in_err-below-clause-fault_is_true c =
     let m = message c.args.self.now in
     let last = c.requires.left in
     let is : kind_of (entry_at t c.row-row.result.entry).kind ≡ Some Box = ap (λ (w : raw.Row). kind_of (entry_at t w.entry).kind) c.row-row.ensures.value ∙ c.requires.kind in
-    passed_on c.from_residual-in_err-below.result c.in_err-below.field-0.0 _ c.from_residual-in_err-below.ensures.1 (last_breaks t c.args.self.now.fine m c.args.frame c.args.first c.row-row.result last c.row-row.ensures.value (at_of c.args.state.now) c.requires.frame c.requires.state c.in_err-below.field-0.0 c.in_ok-zeros_at.ensures.ok (box_breaks t c.args.self.now.fine m c.args.frame.depth c.row-row.result.entry (c.args.frame.base + c.row-row.result.key) (at_of c.args.state.now) c.row-row.ensures.entry is c.requires.state c.requires.frame.depth c.in_err-below.field-0.0 c.in_err-below.ensures.fault_is_true))
+    passed_on c.from_residual-in_err-below.result c.in_err-below.field-0.0 _ c.from_residual-in_err-below.ensures.1
+    (last_breaks t c.args.self.now.fine m c.args.frame c.args.first c.row-row.result last c.row-row.ensures.value (at_of c.args.state.now)
+    c.requires.frame c.requires.state c.in_err-below.field-0.0 c.in_ok-zeros_at.ensures.ok
+    (box_breaks t c.args.self.now.fine m c.args.frame.depth c.row-row.result.entry (c.args.frame.base + c.row-row.result.key)
+    (at_of c.args.state.now) c.row-row.ensures.entry is c.requires.state c.requires.frame.depth c.in_err-below.field-0.0
+    c.in_err-below.ensures.fault_is_true))
 
 pub returns-clause-ok : goal.returns-clause-ok
 returns-clause-ok c =
@@ -127,7 +134,11 @@ returns-clause-ok c =
     let still = c.in_ok-below.ensures.steps in
     let whole : c.row-row.result.key + (entry_at t c.row-row.result.entry).size ≡ c.args.frame.size = ap (λ (w : raw.Row). w.key + (entry_at t w.entry).size) c.row-row.ensures.value ∙ c.requires.whole in
     let few : c.args.frame.in_envelope ≤ 1 = elim c.requires.frame.in_envelope [ inl out ↦ omega (arith, out) | inr own ↦ (let one = own.0 in omega (arith, one)) ] in
-    last_turns t c.args.self.now.fine m c.args.frame c.args.first c.row-row.result last c.row-row.ensures.value (at_of c.args.state.now) c.requires.frame c.requires.state (at_of c.read_box.new.state) (c.read_box.new.state.steps - (c.args.state.now.steps + (c.args.frame.base + c.row-row.result.key - (c.args.frame.base + c.args.frame.done) + 1))) (c.read_box.new.state.steps - c.args.state.now.steps) whole (omega (arith, still)) (omega (arith, still)) c.in_ok-zeros_at.ensures.ok c.in_ok-below.below c.in_ok-below.ensures.ok (c.in_ok-below.ensures.fine c.args.frame.in_envelope few)
+    last_turns t c.args.self.now.fine m c.args.frame c.args.first c.row-row.result last c.row-row.ensures.value (at_of c.args.state.now)
+    c.requires.frame c.requires.state (at_of c.read_box.new.state) (c.read_box.new.state.steps -
+    (c.args.state.now.steps + (c.args.frame.base + c.row-row.result.key - (c.args.frame.base + c.args.frame.done) + 1)))
+    (c.read_box.new.state.steps - c.args.state.now.steps) whole (omega (arith, still)) (omega (arith, still)) c.in_ok-zeros_at.ensures.ok
+    c.in_ok-below.below c.in_ok-below.ensures.ok (c.in_ok-below.ensures.fine c.args.frame.in_envelope few)
 
 pub returns-clause-spends : goal.returns-clause-spends
 returns-clause-spends c =
@@ -167,4 +178,6 @@ read_box-requires-clause-ready c =
     let t = c.args.self.now.table.now in
     let m = message c.args.self.now in
     let is : kind_of (entry_at t c.row-row.result.entry).kind ≡ Some Box = ap (λ (w : raw.Row). kind_of (entry_at t w.entry).kind) c.row-row.ensures.value ∙ c.requires.kind in
-    box_ready t c.args.self.now.fine m (at_of c.args.state.now) c.row-row.result.entry _ c.row-row.ensures.entry is (first_ready t c.args.self.now.fine m c.args.frame c.args.first 1 c.row-row.result c.requires.left (omega arith) c.row-row.ensures.value (at_of c.args.state.now) c.requires.frame c.requires.state c.requires.ready)
+    box_ready t c.args.self.now.fine m (at_of c.args.state.now) c.row-row.result.entry _ c.row-row.ensures.entry is
+    (first_ready t c.args.self.now.fine m c.args.frame c.args.first 1 c.row-row.result c.requires.left (omega arith) c.row-row.ensures.value
+    (at_of c.args.state.now) c.requires.frame c.requires.state c.requires.ready)

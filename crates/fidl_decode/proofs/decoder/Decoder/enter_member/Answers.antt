@@ -37,7 +37,14 @@ returns-then-flags-ne1 c =
     let m = message c.args.self.now in
     let old = at_of c.args.state.now in
     let size = ap (λ (d : Entry). d.size) c.entry-content.ensures.value in
-    let r = numbers_refuse t c.args.self.now.fine m (c.args.self.now.short, c.requires.state.few) c.args.depth c.args.entry c.args.envelope old c.requires.entry c.requires.room (λ i. omega (arith, c.args.self.now.octets i)) c.requires.state c.requires.depth (BadEnvelope c.args.envelope) (refl, not_inside t c.args.self.now.fine m (c.args.self.now.short, c.requires.state.few) c.args.depth c.args.entry c.args.envelope old c.requires.entry c.requires.room (λ i. omega (arith, c.args.self.now.octets i)) c.requires.state c.requires.depth (omega (arith, size, c.if-size-le4.true)) (λ f. c.if-flags-ne1.true (c.flags_at-flags.ensures ∙ f))) in
+    let r = numbers_refuse t c.args.self.now.fine m (c.args.self.now.short, c.requires.state.few) c.args.depth c.args.entry c.args.envelope old
+    c.requires.entry c.requires.room (λ i. omega (arith, c.args.self.now.octets i)) c.requires.state c.requires.depth
+    (BadEnvelope c.args.envelope) (
+      refl,
+      not_inside t c.args.self.now.fine m (c.args.self.now.short, c.requires.state.few) c.args.depth
+          c.args.entry c.args.envelope old c.requires.entry c.requires.room (λ i. omega (arith, c.args.self.now.octets i)) c.requires.state
+          c.requires.depth (omega (arith, size, c.if-size-le4.true)) (λ f. c.if-flags-ne1.true (c.flags_at-flags.ensures ∙ f)),
+    ) in
     record { holds = c.requires.holds; ok = tt; breaks = tt; least = tt; moves = tt; fine = tt; deeper = tt; left = tt; state = c.requires.state; fault_is_true = r.0; steps = refl; grows = omega arith; work = tt }
 
 pub returns-then-size-le4 : goal.returns-then-size-le4
@@ -48,7 +55,16 @@ returns-then-size-le4 c =
     let size = ap (λ (d : Entry). d.size) c.entry-content.ensures.value in
     let led : opened c.args.envelope old ≡ record { next = old.next; handle = old.handle; objects = c.link_inside.new.self.objects; records = c.link_inside.new.self.records }
     = λ i. record { next = old.next; handle = old.handle; objects = sym c.link_inside.ensures.objects i; records = sym c.link_inside.ensures.records i } in
-    let x = enters_inside_as t c.args.self.now.fine m (c.args.self.now.short, c.requires.state.few) c.args.depth c.args.entry c.args.envelope old c.requires.entry c.requires.room (λ i. omega (arith, c.args.self.now.octets i)) c.requires.state c.requires.depth c.entry-content.result c.handle_count_at-handles.result (record { next = old.next; handle = old.handle; objects = c.link_inside.new.self.objects; records = c.link_inside.new.self.records }) c.entry-content.ensures.value c.handle_count_at-handles.ensures led c.if-size-le4.true (sym c.flags_at-flags.ensures ∙ c.if-flags-ne1.false) in
+    let x = enters_inside_as t c.args.self.now.fine m (c.args.self.now.short, c.requires.state.few) c.args.depth c.args.entry c.args.envelope old
+    c.requires.entry c.requires.room (λ i. omega (arith, c.args.self.now.octets i)) c.requires.state c.requires.depth c.entry-content.result
+    c.handle_count_at-handles.result (record {
+      next = old.next;
+      handle = old.handle;
+      objects = c.link_inside.new.self.objects;
+      records =
+          c.link_inside.new.self.records;
+    }) c.entry-content.ensures.value c.handle_count_at-handles.ensures led c.if-size-le4.true
+    (sym c.flags_at-flags.ensures ∙ c.if-flags-ne1.false) in
     let y = subst (λ (f : Frame). Enters t m c.args.depth c.args.entry c.args.envelope old (record { next = old.next; handle = old.handle; objects = c.link_inside.new.self.objects; records = c.link_inside.new.self.records }) f) (sym c.content_frame.ensures) x in
     let until : Until = record { envelope = c.args.envelope; next = old.next; handle = old.handle + c.handle_count_at-handles.result } in
     let left : c.content_frame.result.left ≡ Content c.args.entry (entry_at t c.args.entry).size 1 until = ap (λ (f : Frame). f.left) c.content_frame.ensures ∙ ap (λ n. Content c.args.entry n 1 until) size in
@@ -62,11 +78,13 @@ returns-then-flags-ne0 c =
     let size = ap (λ (d : Entry). d.size) c.entry-content.ensures.value in
     let r = numbers_refuse t c.args.self.now.fine m (c.args.self.now.short, c.requires.state.few) c.args.depth c.args.entry c.args.envelope old c.requires.entry c.requires.room (λ i. omega (arith, c.args.self.now.octets i)) c.requires.state c.requires.depth (BadEnvelope c.args.envelope) (
       refl,
-      not_below t c.args.self.now.fine m (c.args.self.now.short, c.requires.state.few) c.args.depth c.args.entry c.args.envelope old c.requires.entry c.requires.room (λ i. omega (arith, c.args.self.now.octets i)) c.requires.state c.requires.depth (omega (arith, size, c.if-size-le4.false)) (λ f u. elim c.then-flags-ne0.branch [
-        | then-flags-ne0-via-then-flags-ne0 w ↦ w.if-flags-ne0.true (c.flags_at-flags.ensures ∙ f)
-        | then-flags-ne0-via-else-flags-ne0+then-counted-eq0 w ↦ omega (arith, w.if-counted-eq0.true, c.byte_count_at-counted.ensures, u.0)
-        | then-flags-ne0-via-else-flags-ne0+else-counted-eq0+then-counted-ne0 w ↦ omega (arith, w.if-counted-ne0.true, c.byte_count_at-counted.ensures, u.1)
-      ]),
+      not_below t c.args.self.now.fine m (c.args.self.now.short, c.requires.state.few) c.args.depth c.args.entry c.args.envelope old c.requires.entry
+          c.requires.room (λ i. omega (arith, c.args.self.now.octets i)) c.requires.state c.requires.depth (omega (arith, size, c.if-size-le4.false))
+          (λ f u. elim c.then-flags-ne0.branch [
+            | then-flags-ne0-via-then-flags-ne0 w ↦ w.if-flags-ne0.true (c.flags_at-flags.ensures ∙ f)
+            | then-flags-ne0-via-else-flags-ne0+then-counted-eq0 w ↦ omega (arith, w.if-counted-eq0.true, c.byte_count_at-counted.ensures, u.0)
+            | then-flags-ne0-via-else-flags-ne0+else-counted-eq0+then-counted-ne0 w ↦ omega (arith, w.if-counted-ne0.true, c.byte_count_at-counted.ensures, u.1)
+          ]),
     ) in
     record { holds = c.requires.holds; ok = tt; breaks = tt; least = tt; moves = tt; fine = tt; deeper = tt; left = tt; state = c.requires.state; fault_is_true = r.0; steps = refl; grows = omega arith; work = tt }
 
@@ -76,7 +94,9 @@ returns-then-depth-eq-MAX_DEPTH c =
     let m = message c.args.self.now in
     let old = at_of c.args.state.now in
     let size = ap (λ (d : Entry). d.size) c.entry-content.ensures.value in
-    let r = numbers_refuse t c.args.self.now.fine m (c.args.self.now.short, c.requires.state.few) c.args.depth c.args.entry c.args.envelope old c.requires.entry c.requires.room (λ i. omega (arith, c.args.self.now.octets i)) c.requires.state c.requires.depth (TooDeep c.args.envelope) (refl, sym c.flags_at-flags.ensures ∙ c.if-flags-ne0.false, omega (arith, c.if-depth-eq-MAX_DEPTH.true)) in
+    let r = numbers_refuse t c.args.self.now.fine m (c.args.self.now.short, c.requires.state.few) c.args.depth c.args.entry c.args.envelope old
+    c.requires.entry c.requires.room (λ i. omega (arith, c.args.self.now.octets i)) c.requires.state c.requires.depth (TooDeep c.args.envelope)
+    (refl, sym c.flags_at-flags.ensures ∙ c.if-flags-ne0.false, omega (arith, c.if-depth-eq-MAX_DEPTH.true)) in
     record { holds = c.requires.holds; ok = tt; breaks = tt; least = tt; moves = tt; fine = tt; deeper = tt; left = tt; state = c.requires.state; fault_is_true = r.0; steps = refl; grows = omega arith; work = tt }
 
 pub returns-then-whole-self : goal.returns-then-whole-self
@@ -87,7 +107,17 @@ returns-then-whole-self c =
     let size = ap (λ (d : Entry). d.size) c.entry-content.ensures.value in
     let up = cut_off t c.args.self.now.fine m (c.args.self.now.short, c.requires.state.few) c.args.depth c.args.entry c.args.envelope old c.requires.entry c.requires.room (λ i. omega (arith, c.args.self.now.octets i)) c.requires.state c.requires.depth in
     let whole : c.next_multiple_of-whole.result ≡ next_multiple_of (entry_at t c.args.entry).size 8 = c.next_multiple_of-whole.ensures.value ∙ ap (λ k. next_multiple_of k 8) size in
-    let r = numbers_refuse t c.args.self.now.fine m (c.args.self.now.short, c.requires.state.few) c.args.depth c.args.entry c.args.envelope old c.requires.entry c.requires.room (λ i. omega (arith, c.args.self.now.octets i)) c.requires.state c.requires.depth (Truncated old.next) (refl, sym c.flags_at-flags.ensures ∙ c.if-flags-ne0.false, omega (arith, (size_short c.args.self.now.sized _ _ c.if-whole-self.true), whole, up)) in
+    let r = numbers_refuse t c.args.self.now.fine m (c.args.self.now.short, c.requires.state.few) c.args.depth c.args.entry c.args.envelope old
+    c.requires.entry c.requires.room (λ i. omega (arith, c.args.self.now.octets i)) c.requires.state c.requires.depth (Truncated old.next) (
+      refl,
+      sym c.flags_at-flags.ensures ∙ c.if-flags-ne0.false,
+      omega (
+        arith,
+        (size_short c.args.self.now.sized _ _ c.if-whole-self.true),
+        whole,
+        up,
+      ),
+    ) in
     record { holds = c.requires.holds; ok = tt; breaks = tt; least = tt; moves = tt; fine = tt; deeper = tt; left = tt; state = c.requires.state; fault_is_true = r.0; steps = refl; grows = omega arith; work = tt }
 
 pub returns-then-handles-gt-MAX_MESSAGE_HANDLES : goal.returns-then-handles-gt-MAX_MESSAGE_HANDLES
@@ -127,7 +157,9 @@ returns c =
     let records = c.link_outside.ensures.records in
     let led : linked c.args.envelope (entry_at t c.args.entry).size (opened c.args.envelope old) ≡ new
     = λ i. record { next = old.next + wide i; handle = old.handle; objects = sym objects i; records = sym records i } in
-    let x = enters_below_as t c.args.self.now.fine m (c.args.self.now.short, c.requires.state.few) c.args.depth c.args.entry c.args.envelope old c.requires.entry c.requires.room (λ i. omega (arith, c.args.self.now.octets i)) c.requires.state c.requires.depth c.entry-content.result c.byte_count_at-counted.result c.handle_count_at-handles.result c.next_multiple_of-whole.result new
+    let x = enters_below_as t c.args.self.now.fine m (c.args.self.now.short, c.requires.state.few) c.args.depth c.args.entry c.args.envelope old
+    c.requires.entry c.requires.room (λ i. omega (arith, c.args.self.now.octets i)) c.requires.state c.requires.depth c.entry-content.result
+    c.byte_count_at-counted.result c.handle_count_at-handles.result c.next_multiple_of-whole.result new
     c.entry-content.ensures.value c.byte_count_at-counted.ensures c.handle_count_at-handles.ensures whole led c.if-size-le4.false (sym c.flags_at-flags.ensures ∙ c.if-flags-ne0.false)
     (omega (arith, c.if-counted-eq0.false), omega (arith, c.if-counted-ne0.false)) (omega (arith, c.requires.depth, c.if-depth-eq-MAX_DEPTH.false)) (omega (arith, (size_fits c.args.self.now.sized _ _ c.if-whole-self.false)))
     (counts_within m.bytes c.args.envelope (omega (arith, c.if-handles-gt-MAX_MESSAGE_HANDLES-2.false, c.handle_count_at-handles.ensures)) (omega (arith, c.if-counted-gt-MAX_MESSAGE_BYTES.false, c.byte_count_at-counted.ensures))) in

@@ -11,7 +11,9 @@ returns-then-read-body-clause-turns c =
     let t = c.args.self.now.table.now in
     let m = message c.args.self.now in
     let body = c.args.body.now in
-    envelopes_over t c.args.self.now.fine m (c.args.self.now.short, c.requires.state.few) (rest_of body c.args.read) body.entry c.args.read (body.count - c.args.read) (at_of c.args.state.now) c.requires.frame c.requires.state (omega (arith, c.if-read-body.true)) (c.args.state.now.steps + 1 - c.args.state.now.steps) (omega arith)
+    envelopes_over t c.args.self.now.fine m (c.args.self.now.short, c.requires.state.few) (rest_of body c.args.read) body.entry c.args.read
+    (body.count - c.args.read) (at_of c.args.state.now) c.requires.frame c.requires.state (omega (arith, c.if-read-body.true))
+    (c.args.state.now.steps + 1 - c.args.state.now.steps) (omega arith)
 
 pub returns-clause-turns : goal.returns-clause-turns
 returns-clause-turns c = turns_stay c.args.self.now.table.now (message c.args.self.now) (rest_of c.args.body.now c.args.read) (at_of c.args.state.now) c.requires.frame c.requires.state _ (omega arith)

@@ -22,7 +22,11 @@ returns-clause-ok c =
     let objects = c.link_marker.ensures.objects in
     let same : linked (c.args.place + 8) (8 * n) old ≡ record { next = old.next + 8 * c.u64_at-count.result; handle = old.handle; objects = c.link_marker.new.self.objects; records = c.link_marker.new.self.records }
     = λ i. record { next = old.next + value i; handle = old.handle; objects = sym objects i; records = sym c.link_marker.ensures.records i } in
-    let opened = visits_table t c.args.self.now.fine m c.args.depth c.args.entry c.args.place old c.requires.entry c.requires.kind c.requires.state 0 refl c.in-Present.ensures (omega (arith, c.requires.depth, c.if-depth-eq-MAX_DEPTH.false)) (omega (arith, number, c.if-count-rest.false, c.args.self.now.sized, c.args.self.now.short)) (omega (arith, number, c.if-count-rest.false, c.args.self.now.sized)) (omega (arith, c.requires.room)) (λ i. omega (arith, c.args.self.now.octets i)) in
+    let opened = visits_table t c.args.self.now.fine m c.args.depth c.args.entry c.args.place old c.requires.entry c.requires.kind c.requires.state 0
+    refl c.in-Present.ensures (omega (arith, c.requires.depth, c.if-depth-eq-MAX_DEPTH.false))
+    (omega (arith, number, c.if-count-rest.false, c.args.self.now.sized, c.args.self.now.short))
+    (omega (arith, number, c.if-count-rest.false, c.args.self.now.sized)) (omega (arith, c.requires.room))
+    (λ i. omega (arith, c.args.self.now.octets i)) in
     subst (λ (s : Position). Visits t m c.args.depth c.args.entry c.args.place old s 0 (Some (table_frame c.args.entry c.u64_at-count.result c.args.depth old))) same
     (subst (λ (o : Option Frame). Visits t m c.args.depth c.args.entry c.args.place old (linked (c.args.place + 8) (8 * n) old) 0 o) found opened)
 

@@ -28,7 +28,10 @@ returns-clause-passed c =
     let small : (i : ℕ) → get_or bytes i 0 < 256 = λ i. omega (arith, c.args.self.now.octets i) in
     let eight : number_at w64 bytes p ≡ 8 = sym c.u64_at.ensures ∙ c.if-u64_at-ne8.false in
     let few : number_at w64 bytes p < 2 ^ 32 = omega (arith, eight) in
-    below_passed t c.args.self.now.fine m (c.args.self.now.short, c.requires.state.few) c.args.depth c.args.entry c.args.envelope old c.requires.entry c.requires.room (λ i. omega (arith, c.args.self.now.octets i)) c.requires.state c.requires.depth c.requires.free c.requires.size (flags_none bytes p c.requires.room small few) (counted_small bytes p c.requires.room small few ∙ eight) (handles_none bytes p c.requires.room small few)
+    below_passed t c.args.self.now.fine m (c.args.self.now.short, c.requires.state.few) c.args.depth c.args.entry c.args.envelope old c.requires.entry
+    c.requires.room (λ i. omega (arith, c.args.self.now.octets i)) c.requires.state c.requires.depth c.requires.free c.requires.size
+    (flags_none bytes p c.requires.room small few) (counted_small bytes p c.requires.room small few ∙ eight)
+    (handles_none bytes p c.requires.room small few)
     (omega (arith, c.requires.depth, c.if-depth-eq-MAX_DEPTH.false)) (omega (arith, c.if-self-next-lt8.false)) new led _
 
 pub returns-then-u64_at-ne8-clause-passed : goal.returns-then-u64_at-ne8-clause-passed

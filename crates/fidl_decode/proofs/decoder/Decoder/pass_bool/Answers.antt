@@ -14,7 +14,10 @@ returns-clause-passed c =
     let old = at_of c.args.state.now in
     let new : Position = record { next = old.next; handle = old.handle; objects = c.link_inside.new.self.objects; records = c.link_inside.new.self.records } in
     let led : opened c.args.envelope old ≡ new = λ i. record { next = old.next; handle = old.handle; objects = sym c.link_inside.ensures.objects i; records = sym c.link_inside.ensures.records i } in
-    bool_passed t c.args.self.now.fine m (c.args.self.now.short, c.requires.state.few) c.args.depth c.args.entry c.args.envelope old c.requires.entry c.requires.room (λ i. omega (arith, c.args.self.now.octets i)) c.requires.state c.requires.depth c.requires.kind (sym c.flags_at-flags.ensures ∙ c.if-flags-ne1.false) (sym c.handle_count_at-handles.ensures ∙ c.if-handles-ne0.false) (omega (arith, c.byte_count_at.ensures, c.if-byte_count_at-gt1.false)) new led _
+    bool_passed t c.args.self.now.fine m (c.args.self.now.short, c.requires.state.few) c.args.depth c.args.entry c.args.envelope old c.requires.entry
+    c.requires.room (λ i. omega (arith, c.args.self.now.octets i)) c.requires.state c.requires.depth c.requires.kind
+    (sym c.flags_at-flags.ensures ∙ c.if-flags-ne1.false) (sym c.handle_count_at-handles.ensures ∙ c.if-handles-ne0.false)
+    (omega (arith, c.byte_count_at.ensures, c.if-byte_count_at-gt1.false)) new led _
 
 pub link_inside-requires : goal.link_inside-requires
 link_inside-requires c =

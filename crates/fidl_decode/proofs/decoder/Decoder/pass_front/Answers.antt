@@ -29,7 +29,11 @@ loop-from-preserved c =
     let order = c.pass_some-read.ensures.order in
     record {
       holds = c.pass_some-read.ensures.holds;
-      turns = turns_then t m (rest_of body 0) (at_of c.args.state.now) (at_of c.loop-from.state) (c.loop-from.state.steps + c.loop-from.from - c.args.state.now.steps) (rest_of body c.loop-from.from) i.turns (at_of new) (new.steps + (c.pass_some-read.result - c.loop-from.from) - c.loop-from.state.steps) (new.steps + c.pass_some-read.result - c.args.state.now.steps) (left_over (Some (rest_of body c.pass_some-read.result))) (omega (arith, begun, grows, order)) c.pass_some-read.ensures.turns;
+      turns = turns_then t m (rest_of body 0) (at_of c.args.state.now) (at_of c.loop-from.state)
+          (c.loop-from.state.steps + c.loop-from.from - c.args.state.now.steps) (rest_of body c.loop-from.from) i.turns (at_of new)
+          (new.steps + (c.pass_some-read.result - c.loop-from.from) - c.loop-from.state.steps)
+          (new.steps + c.pass_some-read.result - c.args.state.now.steps) (left_over (Some (rest_of body c.pass_some-read.result)))
+          (omega (arith, begun, grows, order)) c.pass_some-read.ensures.turns;
       few = c.pass_some-read.ensures.few;
       grows = omega (arith, begun, grows);
       pays = omega (arith, c.pass_some-read.ensures.pays, i.pays, order);
@@ -52,7 +56,9 @@ returns-clause-turns c =
           let grows = w.pass_some-read.ensures.grows in
           let same = w.if-read-from.true in
           let two = subst (λ n. Turns t m (rest_of body c.loop-from.from) (at_of l) (at_of new) (new.steps + (n - c.loop-from.from) - l.steps) (left_over (Some (rest_of body n)))) same w.pass_some-read.ensures.turns in
-          let run = turns_then t m (rest_of body 0) (at_of old) (at_of l) (l.steps + c.loop-from.from - old.steps) (rest_of body c.loop-from.from) i.turns (at_of new) (new.steps + (c.loop-from.from - c.loop-from.from) - l.steps) (new.steps + c.loop-from.from - old.steps) x (omega (arith, begun, grows)) two in
+          let run = turns_then t m (rest_of body 0) (at_of old) (at_of l) (l.steps + c.loop-from.from - old.steps) (rest_of body c.loop-from.from)
+          i.turns (at_of new) (new.steps + (c.loop-from.from - c.loop-from.from) - l.steps) (new.steps + c.loop-from.from - old.steps) x
+          (omega (arith, begun, grows)) two in
           subst (λ (s : State). Turns t m (rest_of body 0) (at_of old) (at_of s) (s.steps + c.loop-from.from - old.steps) x) (sym w.state-is) run
     ] in
     subst (λ n. Turns t m (rest_of body 0) (at_of old) (at_of c.loop-from-test.state) (c.loop-from-test.state.steps + n - old.steps) x) (sym c.from.ensures) so_far

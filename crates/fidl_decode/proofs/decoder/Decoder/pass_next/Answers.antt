@@ -22,7 +22,10 @@ returns-in-Inside-clause-passed c =
     let found = body_found t c.args.body.now c.requires.body c.args.read c.requires.more c.row-row.result c.row-row.ensures.value c.if-row-read.false in
     let few = c.requires.body.few in
     let more = c.requires.more in
-    next_passed t c.args.self.now.fine m (c.args.self.now.short, c.requires.state.few) c.args.body.now c.args.read old c.requires.frame c.requires.state (omega (arith, few, more)) c.row-row.result.entry found (at_of c.pass_inside.new.state) (c.pass_inside.new.state.steps - c.args.state.now.steps) (c.pass_inside.new.state.steps + 1 - c.args.state.now.steps) (omega (arith, c.pass_inside.ensures.steps)) (omega arith) (omega (arith, c.pass_inside.ensures.steps, c.pass_inside.ensures.grows))
+    next_passed t c.args.self.now.fine m (c.args.self.now.short, c.requires.state.few) c.args.body.now c.args.read old c.requires.frame
+    c.requires.state (omega (arith, few, more)) c.row-row.result.entry found (at_of c.pass_inside.new.state)
+    (c.pass_inside.new.state.steps - c.args.state.now.steps) (c.pass_inside.new.state.steps + 1 - c.args.state.now.steps)
+    (omega (arith, c.pass_inside.ensures.steps)) (omega arith) (omega (arith, c.pass_inside.ensures.steps, c.pass_inside.ensures.grows))
     (subst (λ e. Opens t m c.args.body.now.depth (Some (ty.named e)) (c.args.body.now.base + 8 * c.args.read) old (at_of c.pass_inside.new.state) (c.pass_inside.new.state.steps - c.args.state.now.steps) None) (sym c.if-row-entry.false) (c.pass_inside.ensures.passed so))
 
 pub returns-in-Below-clause-passed : goal.returns-in-Below-clause-passed
@@ -34,7 +37,10 @@ returns-in-Below-clause-passed c =
     let found = body_found t c.args.body.now c.requires.body c.args.read c.requires.more c.row-row.result c.row-row.ensures.value c.if-row-read.false in
     let few = c.requires.body.few in
     let more = c.requires.more in
-    next_passed t c.args.self.now.fine m (c.args.self.now.short, c.requires.state.few) c.args.body.now c.args.read old c.requires.frame c.requires.state (omega (arith, few, more)) c.row-row.result.entry found (at_of c.pass_below.new.state) (c.pass_below.new.state.steps - c.args.state.now.steps) (c.pass_below.new.state.steps + 1 - c.args.state.now.steps) (omega (arith, c.pass_below.ensures.steps)) (omega arith) (omega (arith, c.pass_below.ensures.steps, c.pass_below.ensures.grows))
+    next_passed t c.args.self.now.fine m (c.args.self.now.short, c.requires.state.few) c.args.body.now c.args.read old c.requires.frame
+    c.requires.state (omega (arith, few, more)) c.row-row.result.entry found (at_of c.pass_below.new.state)
+    (c.pass_below.new.state.steps - c.args.state.now.steps) (c.pass_below.new.state.steps + 1 - c.args.state.now.steps)
+    (omega (arith, c.pass_below.ensures.steps)) (omega arith) (omega (arith, c.pass_below.ensures.steps, c.pass_below.ensures.grows))
     (subst (λ e. Opens t m c.args.body.now.depth (Some (ty.named e)) (c.args.body.now.base + 8 * c.args.read) old (at_of c.pass_below.new.state) (c.pass_below.new.state.steps - c.args.state.now.steps) None) (sym c.if-row-entry.false) (c.pass_below.ensures.passed so))
 
 pub row-row-requires-clause-more : goal.row-row-requires-clause-more

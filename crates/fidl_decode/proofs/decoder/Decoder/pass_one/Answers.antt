@@ -23,7 +23,10 @@ returns-then-pass_kind-clause-turns c =
     let few = c.requires.body.few in
     let more = c.requires.more in
     let found = ap (λ n. find (members_of t body.entry) n) (sym (add-one c.args.from)) ∙ c.requires.found in
-    next_passed t c.args.self.now.fine m (c.args.self.now.short, c.requires.state.few) body c.args.from (at_of old) c.requires.frame c.requires.state (omega (arith, few, more)) c.args.entry found (at_of new) (new.steps - old.steps) (new.steps + (c.args.from + 1 - c.args.from) - old.steps) (omega (arith, c.pass_kind.ensures.grows)) (omega arith) (omega (arith, c.pass_kind.ensures.pays, c.pass_kind.ensures.grows)) (c.pass_kind.ensures.passed c.if-pass_kind.true)
+    next_passed t c.args.self.now.fine m (c.args.self.now.short, c.requires.state.few) body c.args.from (at_of old) c.requires.frame c.requires.state
+    (omega (arith, few, more)) c.args.entry found (at_of new) (new.steps - old.steps) (new.steps + (c.args.from + 1 - c.args.from) - old.steps)
+    (omega (arith, c.pass_kind.ensures.grows)) (omega arith) (omega (arith, c.pass_kind.ensures.pays, c.pass_kind.ensures.grows))
+    (c.pass_kind.ensures.passed c.if-pass_kind.true)
 
 pub pass_kind-requires-clause-entry : goal.pass_kind-requires-clause-entry
 pass_kind-requires-clause-entry c = c.requires.entry

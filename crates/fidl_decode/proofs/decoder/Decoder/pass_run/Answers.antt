@@ -32,7 +32,10 @@ loop-read-preserved c =
     let few = i.few in
     record {
       holds = c.pass_next.ensures.holds;
-      turns = turns_then t m (rest_of body c.args.from) (at_of c.args.state.now) (at_of c.loop-read.state) _ (rest_of body c.loop-read.read) one (at_of new) (new.steps + 1 - c.loop-read.state.steps) (new.steps + (c.loop-read.read + 1 - c.args.from) - c.args.state.now.steps) (left_over (Some (rest_of body (c.loop-read.read + 1)))) (omega (arith, order, begun, grows)) (c.pass_next.ensures.passed c.if-pass_next.true);
+      turns = turns_then t m (rest_of body c.args.from) (at_of c.args.state.now) (at_of c.loop-read.state) _ (rest_of body c.loop-read.read) one
+          (at_of new) (new.steps + 1 - c.loop-read.state.steps) (new.steps + (c.loop-read.read + 1 - c.args.from) - c.args.state.now.steps)
+          (left_over (Some (rest_of body (c.loop-read.read + 1)))) (omega (arith, order, begun, grows))
+          (c.pass_next.ensures.passed c.if-pass_next.true);
       order = omega (arith, order);
       few = omega (arith, few, c.loop-read-test.true);
       grows = omega (arith, begun, grows);

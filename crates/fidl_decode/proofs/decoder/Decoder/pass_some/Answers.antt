@@ -22,7 +22,9 @@ returns-then-is_absent-clause-turns c =
     let grows = c.pass_alike-read.ensures.grows in
     let one = subst (λ n. Turns t m (rest_of body c.args.from) (at_of old) (at_of mid) (mid.steps + (n - c.args.from) - old.steps) (left_over (Some (rest_of body n)))) c.if-read-from.true c.pass_alike-read.ensures.turns in
     let two = next_absent t c.args.self.now.fine m (c.args.self.now.short, c.requires.state.few) body c.args.from (at_of mid) one.rest_fine.0 one.state (omega (arith, few, more)) (c.is_absent.ensures.0 c.if-is_absent.true) 1 refl in
-    turns_then t m (rest_of body c.args.from) (at_of old) (at_of mid) (mid.steps + (c.args.from - c.args.from) - old.steps) (rest_of body c.args.from) one (at_of mid) 1 (mid.steps + (c.args.from + 1 - c.args.from) - old.steps) (left_over (Some (rest_of body (c.args.from + 1)))) (omega (arith, grows)) two
+    turns_then t m (rest_of body c.args.from) (at_of old) (at_of mid) (mid.steps + (c.args.from - c.args.from) - old.steps) (rest_of body c.args.from)
+    one (at_of mid) 1 (mid.steps + (c.args.from + 1 - c.args.from) - old.steps) (left_over (Some (rest_of body (c.args.from + 1))))
+    (omega (arith, grows)) two
 
 pub pass_alike-read-requires-clause-body : goal.pass_alike-read-requires-clause-body
 pass_alike-read-requires-clause-body c = c.requires.body

@@ -97,7 +97,10 @@ returns-clause-passed c =
     = λ i. record { next = old.next + sym whole i; handle = old.handle; objects = sym objects i; records = sym records i } in
     struct_passed t c.args.self.now.fine m (c.args.self.now.short, c.requires.state.few) c.args.depth c.args.entry c.args.envelope old c.requires.entry c.requires.room (λ i. omega (arith, c.args.self.now.octets i)) c.requires.state c.requires.depth c.requires.kind
     (omega (arith, c.requires.depth, c.if-depth-eq-MAX_DEPTH.false)) (omega (arith, (size_fits c.args.self.now.sized _ _ c.if-whole-self.false), whole)) plain.rows plain.first plain.done passes
-    (omega (arith, c.if-size-le4.false, ap (λ (d : Entry). d.size) is)) (flags_none m.bytes c.args.envelope c.requires.room octets few) (counted_small m.bytes c.args.envelope c.requires.room octets few ∙ is_small ∙ whole) (handles_none m.bytes c.args.envelope c.requires.room octets few) z' new led _ (omega (arith, wide, within, c.next_multiple_of-whole.ensures.lower_bound, ap (λ (d : Entry). d.size) is))
+    (omega (arith, c.if-size-le4.false, ap (λ (d : Entry). d.size) is)) (flags_none m.bytes c.args.envelope c.requires.room octets few)
+    (counted_small m.bytes c.args.envelope c.requires.room octets few ∙ is_small ∙ whole)
+    (handles_none m.bytes c.args.envelope c.requires.room octets few) z' new led _
+    (omega (arith, wide, within, c.next_multiple_of-whole.ensures.lower_bound, ap (λ (d : Entry). d.size) is))
 
 pub entry-e-requires : goal.entry-e-requires
 entry-e-requires c = c.requires.entry
@@ -175,7 +178,12 @@ pub zeros_at-requires-clause-room : goal.zeros_at-requires-clause-room
 zeros_at-requires-clause-room c = (ended c.args.state.now.next c.next_multiple_of-whole.result (length c.args.self.now.bytes.value.came) c.requires.state.next (size_fits c.args.self.now.sized _ _ c.if-whole-self.false))
 
 pub overflow_add-state : goal.overflow_add-state
-overflow_add-state c = record { fits = counted_on c.args.state.now.steps c.next_multiple_of-whole.result (length c.args.self.now.bytes.value.came) c.requires.budget (size_in c.args.state.now.next c.next_multiple_of-whole.result (length c.args.self.now.bytes.value.came) (ended c.args.state.now.next c.next_multiple_of-whole.result (length c.args.self.now.bytes.value.came) c.requires.state.next (size_fits c.args.self.now.sized _ _ c.if-whole-self.false))) c.args.self.now.short }
+overflow_add-state c = record {
+  fits = counted_on c.args.state.now.steps c.next_multiple_of-whole.result (length c.args.self.now.bytes.value.came)
+      c.requires.budget (size_in c.args.state.now.next c.next_multiple_of-whole.result (length c.args.self.now.bytes.value.came)
+      (ended c.args.state.now.next c.next_multiple_of-whole.result (length c.args.self.now.bytes.value.came) c.requires.state.next
+      (size_fits c.args.self.now.sized _ _ c.if-whole-self.false))) c.args.self.now.short;
+}
 
 pub overflow_add-state-2 : goal.overflow_add-state-2
 overflow_add-state-2 c = record { fits = small _ (length c.args.self.now.bytes.value.came) (ended c.args.state.now.next c.next_multiple_of-whole.result (length c.args.self.now.bytes.value.came) c.requires.state.next (size_fits c.args.self.now.sized _ _ c.if-whole-self.false)) c.args.self.now.short }

@@ -134,7 +134,12 @@ u64_at-count-requires c =
     }
 
 pub overflow_add-next : goal.overflow_add-next
-overflow_add-next c = record { fits = small _ (length c.args.self.now.bytes.value.came) (front c.args.state.now.next 8 8 (length c.args.self.now.bytes.value.came) (counted_front c.args.state.now.next c.u64_at-counted.result (length c.args.self.now.bytes.value.came) c.if-counted-lt16.false (size_fits c.args.self.now.sized _ _ c.if-counted-rest.false))) c.args.self.now.short }
+overflow_add-next c = record {
+  fits = small _ (length c.args.self.now.bytes.value.came)
+      (front c.args.state.now.next 8 8 (length c.args.self.now.bytes.value.came)
+      (counted_front c.args.state.now.next c.u64_at-counted.result (length c.args.self.now.bytes.value.came) c.if-counted-lt16.false
+      (size_fits c.args.self.now.sized _ _ c.if-counted-rest.false))) c.args.self.now.short;
+}
 
 pub is_present-requires : goal.is_present-requires
 is_present-requires c =
@@ -153,16 +158,30 @@ pub next_multiple_of-size-requires-clause-fits : goal.next_multiple_of-size-requ
 next_multiple_of-size-requires-clause-fits c = rounded_left c.u64_at-count.result c.args.state.now.next (length c.args.self.now.bytes.value.came) (size_fits c.args.self.now.sized _ _ c.if-count-rest.false) c.args.self.now.short
 
 pub overflow_add-from : goal.overflow_add-from
-overflow_add-from c = record { fits = small _ (length c.args.self.now.bytes.value.came) (counted_front c.args.state.now.next c.u64_at-counted.result (length c.args.self.now.bytes.value.came) c.if-counted-lt16.false (size_fits c.args.self.now.sized _ _ c.if-counted-rest.false)) c.args.self.now.short }
+overflow_add-from c = record {
+  fits = small _ (length c.args.self.now.bytes.value.came)
+      (counted_front c.args.state.now.next c.u64_at-counted.result (length c.args.self.now.bytes.value.came) c.if-counted-lt16.false
+      (size_fits c.args.self.now.sized _ _ c.if-counted-rest.false)) c.args.self.now.short;
+}
 
 pub are_ascii-requires-clause-room : goal.are_ascii-requires-clause-room
 are_ascii-requires-clause-room c = (counted_whole c.args.state.now.next c.u64_at-counted.result c.next_multiple_of-size.result (length c.args.self.now.bytes.value.came) (size_fits c.args.self.now.sized _ _ c.if-counted-rest.false) c.if-counted-size.false)
 
 pub overflow_add-from-else-not-are_ascii : goal.overflow_add-from-else-not-are_ascii
-overflow_add-from-else-not-are_ascii c = record { fits = small _ (length c.args.self.now.bytes.value.came) (part_room (c.args.state.now.next + 16) c.u64_at-count.result c.next_multiple_of-size.result (length c.args.self.now.bytes.value.came) c.next_multiple_of-size.ensures.lower_bound (counted_whole c.args.state.now.next c.u64_at-counted.result c.next_multiple_of-size.result (length c.args.self.now.bytes.value.came) (size_fits c.args.self.now.sized _ _ c.if-counted-rest.false) c.if-counted-size.false)) c.args.self.now.short }
+overflow_add-from-else-not-are_ascii c = record {
+  fits = small _ (length c.args.self.now.bytes.value.came)
+      (part_room (c.args.state.now.next + 16) c.u64_at-count.result c.next_multiple_of-size.result (length c.args.self.now.bytes.value.came)
+      c.next_multiple_of-size.ensures.lower_bound (counted_whole c.args.state.now.next c.u64_at-counted.result c.next_multiple_of-size.result
+      (length c.args.self.now.bytes.value.came) (size_fits c.args.self.now.sized _ _ c.if-counted-rest.false) c.if-counted-size.false))
+      c.args.self.now.short;
+}
 
 pub overflow_add-from-else-not-are_ascii-2 : goal.overflow_add-from-else-not-are_ascii-2
-overflow_add-from-else-not-are_ascii-2 c = record { fits = small _ (length c.args.self.now.bytes.value.came) (counted_whole c.args.state.now.next c.u64_at-counted.result c.next_multiple_of-size.result (length c.args.self.now.bytes.value.came) (size_fits c.args.self.now.sized _ _ c.if-counted-rest.false) c.if-counted-size.false) c.args.self.now.short }
+overflow_add-from-else-not-are_ascii-2 c = record {
+  fits = small _ (length c.args.self.now.bytes.value.came)
+      (counted_whole c.args.state.now.next c.u64_at-counted.result c.next_multiple_of-size.result (length c.args.self.now.bytes.value.came)
+      (size_fits c.args.self.now.sized _ _ c.if-counted-rest.false) c.if-counted-size.false) c.args.self.now.short;
+}
 
 pub are_zeros-requires-clause-order : goal.are_zeros-requires-clause-order
 are_zeros-requires-clause-order c = part_order (c.args.state.now.next + 16) c.u64_at-count.result c.next_multiple_of-size.result c.next_multiple_of-size.ensures.lower_bound
@@ -171,13 +190,27 @@ pub are_zeros-requires-clause-room : goal.are_zeros-requires-clause-room
 are_zeros-requires-clause-room c = (counted_whole c.args.state.now.next c.u64_at-counted.result c.next_multiple_of-size.result (length c.args.self.now.bytes.value.came) (size_fits c.args.self.now.sized _ _ c.if-counted-rest.false) c.if-counted-size.false)
 
 pub overflow_add-state : goal.overflow_add-state
-overflow_add-state c = record { fits = counted_on c.args.state.now.steps c.next_multiple_of-size.result (length c.args.self.now.bytes.value.came) c.requires.budget (size_in (c.args.state.now.next + 16) c.next_multiple_of-size.result (length c.args.self.now.bytes.value.came) (counted_whole c.args.state.now.next c.u64_at-counted.result c.next_multiple_of-size.result (length c.args.self.now.bytes.value.came) (size_fits c.args.self.now.sized _ _ c.if-counted-rest.false) c.if-counted-size.false)) c.args.self.now.short }
+overflow_add-state c = record {
+  fits = counted_on c.args.state.now.steps c.next_multiple_of-size.result (length c.args.self.now.bytes.value.came)
+      c.requires.budget (size_in (c.args.state.now.next + 16) c.next_multiple_of-size.result (length c.args.self.now.bytes.value.came)
+      (counted_whole c.args.state.now.next c.u64_at-counted.result c.next_multiple_of-size.result (length c.args.self.now.bytes.value.came)
+      (size_fits c.args.self.now.sized _ _ c.if-counted-rest.false) c.if-counted-size.false)) c.args.self.now.short;
+}
 
 pub overflow_add-next-2 : goal.overflow_add-next-2
-overflow_add-next-2 c = record { fits = small _ (length c.args.self.now.bytes.value.came) (front c.args.state.now.next 8 8 (length c.args.self.now.bytes.value.came) (counted_front c.args.state.now.next c.u64_at-counted.result (length c.args.self.now.bytes.value.came) c.if-counted-lt16.false (size_fits c.args.self.now.sized _ _ c.if-counted-rest.false))) c.args.self.now.short }
+overflow_add-next-2 c = record {
+  fits = small _ (length c.args.self.now.bytes.value.came)
+      (front c.args.state.now.next 8 8 (length c.args.self.now.bytes.value.came)
+      (counted_front c.args.state.now.next c.u64_at-counted.result (length c.args.self.now.bytes.value.came) c.if-counted-lt16.false
+      (size_fits c.args.self.now.sized _ _ c.if-counted-rest.false))) c.args.self.now.short;
+}
 
 pub overflow_add-state-2 : goal.overflow_add-state-2
-overflow_add-state-2 c = record { fits = small _ (length c.args.self.now.bytes.value.came) (counted_whole c.args.state.now.next c.u64_at-counted.result c.next_multiple_of-size.result (length c.args.self.now.bytes.value.came) (size_fits c.args.self.now.sized _ _ c.if-counted-rest.false) c.if-counted-size.false) c.args.self.now.short }
+overflow_add-state-2 c = record {
+  fits = small _ (length c.args.self.now.bytes.value.came)
+      (counted_whole c.args.state.now.next c.u64_at-counted.result c.next_multiple_of-size.result (length c.args.self.now.bytes.value.came)
+      (size_fits c.args.self.now.sized _ _ c.if-counted-rest.false) c.if-counted-size.false) c.args.self.now.short;
+}
 
 pub returns-clause-grows : goal.returns-clause-grows
 returns-clause-grows c = le_more _ _

@@ -42,7 +42,9 @@ loop-i-preserved c =
     let one = rows_next t c.loop-i.i end c.loop-i.done (row.key + size_of (declarations_of t) (ty.named row.entry)) row c.row-row.ensures.value before in
     let there = subst (λ (o : Option (Option ℕ)). IfSome o (λ next. row.key ≡ c.loop-i.done)) c.in-Some.is c.next_flag.ensures.stands in
     let keeps = subst (λ (o : Option (Option ℕ)). IfSome o (λ next. (base : ℕ) → IsGood m.bytes base next → IsGood m.bytes base c.loop-i.flag)) c.in-Some.is c.next_flag.ensures.keeps in
-    let visits = subst (λ (o : Option (Option ℕ)). IfSome o (λ next. (base depth : ℕ) → (s : Position) → depth ≤ MAX_DEPTH → StateFine m s → base + row.key + (entry_at t row.entry).size ≤ length m.bytes → IsGood m.bytes base next → Visits t m depth row.entry (base + row.key) s s 0 None)) c.in-Some.is c.next_flag.ensures.visits in
+    let visits = subst (λ (o : Option (Option ℕ)). IfSome o (λ next. (base depth : ℕ) → (s : Position) → depth ≤ MAX_DEPTH → StateFine m s → base +
+    row.key + (entry_at t row.entry).size ≤ length m.bytes → IsGood m.bytes base next → Visits t m depth row.entry (base + row.key) s s 0 None))
+    c.in-Some.is c.next_flag.ensures.visits in
     let size = ap (λ (d : Entry). d.size) c.entry.ensures.value in
     record {
       passes = λ f s ff is start state good.
@@ -53,7 +55,9 @@ loop-i-preserved c =
           let room = next_room t c.args.self.now.fine m f s s (c.loop-i.i - c.args.first) g here member left one in
           let seen : Visits t m f.depth row.entry (f.base + row.key) s s 0 None = visits f.base f.depth s ff.depth state (omega (arith, room.1, room.2)) good in
           let none : f.base + row.key - (f.base + c.loop-i.done) ≡ 0 = omega (arith, there) in
-          next_turns t c.args.self.now.fine m f s s (c.loop-i.i - c.args.first) g here member left one tt (omega (arith, c.requires.within, before)) tt s (row.key + c.entry.result.size) 0 (c.loop-i.i + 1 - c.args.first) (omega (arith, size)) (omega (arith, c.loop-i.auto.i)) (omega (arith, c.loop-i.auto.i)) (no_zeros m.bytes (f.base + c.loop-i.done) _ none) seen;
+          next_turns t c.args.self.now.fine m f s s (c.loop-i.i - c.args.first) g here member left one tt (omega (arith, c.requires.within, before))
+          tt s (row.key + c.entry.result.size) 0 (c.loop-i.i + 1 - c.args.first) (omega (arith, size)) (omega (arith, c.loop-i.auto.i))
+          (omega (arith, c.loop-i.auto.i)) (no_zeros m.bytes (f.base + c.loop-i.done) _ none) seen;
       wide = (let some = positive t c.args.self.now.fine row.entry c.row-row.ensures.entry in let own = size_is t c.args.self.now.fine row.entry c.row-row.ensures.entry in omega (arith, c.loop-i.invariant.wide, c.loop-i.auto.i, there, some, own, size));
       inside =
           let some = positive t c.args.self.now.fine row.entry c.row-row.ensures.entry in

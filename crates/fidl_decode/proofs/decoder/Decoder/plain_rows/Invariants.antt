@@ -11,7 +11,9 @@ use Rattle.fidl_decode.proofs.decoder.Decoder.plain_rows.Given as goal
 -- wherever the struct stands with its bool, if any, right, the rows before this one are a turn that leaves it from this row on
 abbrev pub invariant-loop-i : goal.invariant-loop-i
 invariant-loop-i l = record {
-  passes : (f : Frame) → (s : Position) → FrameFine l.self.table.now l.self.bytes.value.came f → f.left ≡ Rows l.first l.count → f.done ≡ 0 → StateFine (message l.self) s → IsGood l.self.bytes.value.came f.base l.flag → Turns l.self.table.now (message l.self) f s s (l.i - l.first) (left_over (Some (going_on f (Rows l.i (l.end - l.i)) l.done)));
+  passes : (f : Frame) → (s : Position) → FrameFine l.self.table.now l.self.bytes.value.came f → f.left ≡ Rows l.first l.count → f.done ≡ 0 →
+      StateFine (message l.self) s → IsGood l.self.bytes.value.came f.base l.flag → Turns l.self.table.now (message l.self) f s s (l.i - l.first)
+      (left_over (Some (going_on f (Rows l.i (l.end - l.i)) l.done)));
   wide : l.i - l.first ≤ l.done;
   inside : IfSome l.flag (λ k. k < l.done);
 }

@@ -18,7 +18,9 @@ use Rattle.fidl_decode.proofs.decoder.Decoder.read_box.Goals as goal
 
 pub returns-then-is_absent-clause-ok : goal.returns-then-is_absent-clause-ok
 returns-then-is_absent-clause-ok c =
-    visits_absent_box c.args.self.now.table.now c.args.self.now.fine (message c.args.self.now) c.args.depth c.args.entry c.args.place (at_of c.args.state.now) c.requires.entry c.requires.kind c.requires.state c.requires.depth (c.args.state.now.steps - c.args.state.now.steps) (omega arith) (c.is_absent.ensures.0 c.if-is_absent.true)
+    visits_absent_box c.args.self.now.table.now c.args.self.now.fine (message c.args.self.now) c.args.depth c.args.entry c.args.place
+    (at_of c.args.state.now) c.requires.entry c.requires.kind c.requires.state c.requires.depth (c.args.state.now.steps - c.args.state.now.steps)
+    (omega arith) (c.is_absent.ensures.0 c.if-is_absent.true)
 
 pub entry-content-requires : goal.entry-content-requires
 entry-content-requires c =
@@ -43,9 +45,26 @@ returns-clause-ok c =
     let frame : ℕ → Entry → Frame = λ size d. record { left = Rows d.first d.count; base = old.next; done = 0; size = size; nest = d.nest; depth = c.args.depth + 1; in_envelope = 0 } in
     let same : linked c.args.place inner.size old ≡ record { next = old.next + c.next_multiple_of-size.result; handle = old.handle; objects = c.link_marker.new.self.objects; records = c.link_marker.new.self.records }
     = λ i. record { next = old.next + sym value i; handle = old.handle; objects = sym c.link_marker.ensures.objects i; records = sym c.link_marker.ensures.records i } in
-    let opened = visits_box t c.args.self.now.fine m c.args.depth c.args.entry c.args.place old c.requires.entry c.requires.kind c.requires.state c.requires.depth (c.args.state.now.steps - c.args.state.now.steps) (omega arith) (c.is_present.ensures.0 c.if-not-is_present.false) (omega (arith, c.requires.depth, c.if-depth-eq-MAX_DEPTH.false)) (omega (arith, value, (size_fits c.args.self.now.sized _ _ c.if-size-self.false))) in
-    subst (λ (d : Entry). Visits t m c.args.depth c.args.entry c.args.place old (at_of (record { next = old.next + c.next_multiple_of-size.result; handle = c.args.state.now.handle; steps = c.args.state.now.steps; links = c.link_marker.new.self })) (c.args.state.now.steps - c.args.state.now.steps) (Some (frame c.next_multiple_of-size.result d))) (sym content)
-    (subst (λ (n : ℕ). Visits t m c.args.depth c.args.entry c.args.place old (at_of (record { next = old.next + c.next_multiple_of-size.result; handle = c.args.state.now.handle; steps = c.args.state.now.steps; links = c.link_marker.new.self })) (c.args.state.now.steps - c.args.state.now.steps) (Some (frame n inner))) (sym value)
+    let opened = visits_box t c.args.self.now.fine m c.args.depth c.args.entry c.args.place old c.requires.entry c.requires.kind c.requires.state
+    c.requires.depth (c.args.state.now.steps - c.args.state.now.steps) (omega arith) (c.is_present.ensures.0 c.if-not-is_present.false)
+    (omega (arith, c.requires.depth, c.if-depth-eq-MAX_DEPTH.false)) (omega
+    (arith, value, (size_fits c.args.self.now.sized _ _ c.if-size-self.false))) in
+    subst (λ (d : Entry). Visits t m c.args.depth c.args.entry c.args.place old
+    (at_of (record {
+      next = old.next + c.next_multiple_of-size.result;
+      handle = c.args.state.now.handle;
+      steps = c.args.state.now.steps;
+      links =
+          c.link_marker.new.self;
+    })) (c.args.state.now.steps - c.args.state.now.steps) (Some (frame c.next_multiple_of-size.result d))) (sym content)
+    (subst (λ (n : ℕ). Visits t m c.args.depth c.args.entry c.args.place old
+    (at_of (record {
+      next = old.next + c.next_multiple_of-size.result;
+      handle = c.args.state.now.handle;
+      steps = c.args.state.now.steps;
+      links =
+          c.link_marker.new.self;
+    })) (c.args.state.now.steps - c.args.state.now.steps) (Some (frame n inner))) (sym value)
     (subst (λ (s : Position). Visits t m c.args.depth c.args.entry c.args.place old s (c.args.state.now.steps - c.args.state.now.steps) (Some (frame (next_multiple_of inner.size 8) inner))) same opened))
 
 pub returns-clause-fine : goal.returns-clause-fine
@@ -57,7 +76,9 @@ returns-clause-fine c around few =
     let content : c.entry-content.result ≡ inner = c.entry-content.ensures.value ∙ ap (λ (d : Entry). entry_at t d.first) c.entry.ensures.value in
     let value : c.next_multiple_of-size.result ≡ next_multiple_of inner.size 8 = c.next_multiple_of-size.ensures.value ∙ ap (λ (d : Entry). next_multiple_of d.size 8) content in
     let frame : ℕ → Entry → Frame = λ size d. record { left = Rows d.first d.count; base = old.next; done = 0; size = size; nest = d.nest; depth = c.args.depth + 1; in_envelope = 0 } in
-    let opened = box_fine t c.args.self.now.fine m c.args.depth c.args.entry c.args.place old c.requires.entry c.requires.kind c.requires.state c.requires.depth (omega (arith, c.requires.depth, c.if-depth-eq-MAX_DEPTH.false)) (omega (arith, value, (size_fits c.args.self.now.sized _ _ c.if-size-self.false))) around few in
+    let opened = box_fine t c.args.self.now.fine m c.args.depth c.args.entry c.args.place old c.requires.entry c.requires.kind c.requires.state
+    c.requires.depth (omega (arith, c.requires.depth, c.if-depth-eq-MAX_DEPTH.false))
+    (omega (arith, value, (size_fits c.args.self.now.sized _ _ c.if-size-self.false))) around few in
     subst (λ (d : Entry). VisitFine t m c.args.depth around c.args.entry (Some (frame c.next_multiple_of-size.result d))) (sym content)
     (subst (λ (n : ℕ). VisitFine t m c.args.depth around c.args.entry (Some (frame n inner))) (sym value) opened)
 

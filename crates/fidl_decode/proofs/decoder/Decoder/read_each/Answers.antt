@@ -17,7 +17,11 @@ pub overflow_add-place : goal.overflow_add-place
 overflow_add-place c =
     let is = c.loop-i.invariant.turns.rest_fine.0.left in
     let one = elements_next c.args.self.now.table.now c.args.entry c.args.size c.loop-i.i c.args.count c.loop-i.done is c.loop-i-test.true in
-    let room = next_room c.args.self.now.table.now c.args.self.now.fine (message c.args.self.now) c.args.frame (at_of c.args.state.now) (at_of c.loop-i.state) (c.loop-i.state.steps - c.args.state.now.steps) (going_on c.args.frame (Elements c.args.entry c.args.size (c.args.count - c.loop-i.i)) c.loop-i.done) c.loop-i.invariant.turns (let x : Row = record { offset = c.loop-i.done; entry = c.args.entry } in x) (Elements c.args.entry c.args.size (c.args.count - (c.loop-i.i + 1))) one in
+    let room = next_room c.args.self.now.table.now c.args.self.now.fine (message c.args.self.now) c.args.frame (at_of c.args.state.now)
+    (at_of c.loop-i.state) (c.loop-i.state.steps - c.args.state.now.steps)
+    (going_on c.args.frame (Elements c.args.entry c.args.size (c.args.count - c.loop-i.i)) c.loop-i.done) c.loop-i.invariant.turns
+    (let x : Row = record { offset = c.loop-i.done; entry = c.args.entry } in x)
+    (Elements c.args.entry c.args.size (c.args.count - (c.loop-i.i + 1))) one in
     let before = room.0 in
     let fits = room.1 in
     let within = room.2 in
@@ -27,7 +31,11 @@ pub read_leaf-requires-clause-room : goal.read_leaf-requires-clause-room
 read_leaf-requires-clause-room c =
     let is = c.loop-i.invariant.turns.rest_fine.0.left in
     let one = elements_next c.args.self.now.table.now c.args.entry c.args.size c.loop-i.i c.args.count c.loop-i.done is c.loop-i-test.true in
-    let room = next_room c.args.self.now.table.now c.args.self.now.fine (message c.args.self.now) c.args.frame (at_of c.args.state.now) (at_of c.loop-i.state) (c.loop-i.state.steps - c.args.state.now.steps) (going_on c.args.frame (Elements c.args.entry c.args.size (c.args.count - c.loop-i.i)) c.loop-i.done) c.loop-i.invariant.turns (let x : Row = record { offset = c.loop-i.done; entry = c.args.entry } in x) (Elements c.args.entry c.args.size (c.args.count - (c.loop-i.i + 1))) one in
+    let room = next_room c.args.self.now.table.now c.args.self.now.fine (message c.args.self.now) c.args.frame (at_of c.args.state.now)
+    (at_of c.loop-i.state) (c.loop-i.state.steps - c.args.state.now.steps)
+    (going_on c.args.frame (Elements c.args.entry c.args.size (c.args.count - c.loop-i.i)) c.loop-i.done) c.loop-i.invariant.turns
+    (let x : Row = record { offset = c.loop-i.done; entry = c.args.entry } in x)
+    (Elements c.args.entry c.args.size (c.args.count - (c.loop-i.i + 1))) one in
     let before = room.0 in
     let fits = room.1 in
     let within = room.2 in
@@ -37,39 +45,70 @@ pub overflow_add-done : goal.overflow_add-done
 overflow_add-done c =
     let is = c.loop-i.invariant.turns.rest_fine.0.left in
     let one = elements_next c.args.self.now.table.now c.args.entry c.args.size c.loop-i.i c.args.count c.loop-i.done is c.loop-i-test.true in
-    let room = next_room c.args.self.now.table.now c.args.self.now.fine (message c.args.self.now) c.args.frame (at_of c.args.state.now) (at_of c.loop-i.state) (c.loop-i.state.steps - c.args.state.now.steps) (going_on c.args.frame (Elements c.args.entry c.args.size (c.args.count - c.loop-i.i)) c.loop-i.done) c.loop-i.invariant.turns (let x : Row = record { offset = c.loop-i.done; entry = c.args.entry } in x) (Elements c.args.entry c.args.size (c.args.count - (c.loop-i.i + 1))) one in
+    let room = next_room c.args.self.now.table.now c.args.self.now.fine (message c.args.self.now) c.args.frame (at_of c.args.state.now)
+    (at_of c.loop-i.state) (c.loop-i.state.steps - c.args.state.now.steps)
+    (going_on c.args.frame (Elements c.args.entry c.args.size (c.args.count - c.loop-i.i)) c.loop-i.done) c.loop-i.invariant.turns
+    (let x : Row = record { offset = c.loop-i.done; entry = c.args.entry } in x)
+    (Elements c.args.entry c.args.size (c.args.count - (c.loop-i.i + 1))) one in
     let before = room.0 in
     let fits = room.1 in
     let within = room.2 in
-    let own = next_size c.args.self.now.table.now c.args.self.now.fine (message c.args.self.now) c.args.frame (at_of c.args.state.now) (at_of c.loop-i.state) (c.loop-i.state.steps - c.args.state.now.steps) (going_on c.args.frame (Elements c.args.entry c.args.size (c.args.count - c.loop-i.i)) c.loop-i.done) c.loop-i.invariant.turns (let x : Row = record { offset = c.loop-i.done; entry = c.args.entry } in x) (Elements c.args.entry c.args.size (c.args.count - (c.loop-i.i + 1))) one in
+    let own = next_size c.args.self.now.table.now c.args.self.now.fine (message c.args.self.now) c.args.frame (at_of c.args.state.now)
+    (at_of c.loop-i.state) (c.loop-i.state.steps - c.args.state.now.steps)
+    (going_on c.args.frame (Elements c.args.entry c.args.size (c.args.count - c.loop-i.i)) c.loop-i.done) c.loop-i.invariant.turns
+    (let x : Row = record { offset = c.loop-i.done; entry = c.args.entry } in x)
+    (Elements c.args.entry c.args.size (c.args.count - (c.loop-i.i + 1))) one in
     record { fits = omega (arith, before, fits, within, own, is) }
 
 pub loop-i-preserved : goal.loop-i-preserved
 loop-i-preserved c =
     let is = c.loop-i.invariant.turns.rest_fine.0.left in
     let one = elements_next c.args.self.now.table.now c.args.entry c.args.size c.loop-i.i c.args.count c.loop-i.done is c.loop-i-test.true in
-    let own = next_size c.args.self.now.table.now c.args.self.now.fine (message c.args.self.now) c.args.frame (at_of c.args.state.now) (at_of c.loop-i.state) (c.loop-i.state.steps - c.args.state.now.steps) (going_on c.args.frame (Elements c.args.entry c.args.size (c.args.count - c.loop-i.i)) c.loop-i.done) c.loop-i.invariant.turns (let x : Row = record { offset = c.loop-i.done; entry = c.args.entry } in x) (Elements c.args.entry c.args.size (c.args.count - (c.loop-i.i + 1))) one in
+    let own = next_size c.args.self.now.table.now c.args.self.now.fine (message c.args.self.now) c.args.frame (at_of c.args.state.now)
+    (at_of c.loop-i.state) (c.loop-i.state.steps - c.args.state.now.steps)
+    (going_on c.args.frame (Elements c.args.entry c.args.size (c.args.count - c.loop-i.i)) c.loop-i.done) c.loop-i.invariant.turns
+    (let x : Row = record { offset = c.loop-i.done; entry = c.args.entry } in x)
+    (Elements c.args.entry c.args.size (c.args.count - (c.loop-i.i + 1))) one in
     let none : c.args.frame.base + c.loop-i.done - (c.args.frame.base + c.loop-i.done) ≡ 0 = omega arith in
     let so_far = c.loop-i.invariant.steps in
-    record { holds = c.read_leaf.ensures.holds; turns = next_turns c.args.self.now.table.now c.args.self.now.fine (message c.args.self.now) c.args.frame (at_of c.args.state.now) (at_of c.loop-i.state) (c.loop-i.state.steps - c.args.state.now.steps) (going_on c.args.frame (Elements c.args.entry c.args.size (c.args.count - c.loop-i.i)) c.loop-i.done) c.loop-i.invariant.turns (let x : Row = record { offset = c.loop-i.done; entry = c.args.entry } in x) (Elements c.args.entry c.args.size (c.args.count - (c.loop-i.i + 1))) one tt is tt (at_of c.read_leaf.new.state) (c.loop-i.done + c.args.size) _ (c.read_leaf.new.state.steps - c.args.state.now.steps) (omega (arith, own, is)) (omega (arith, (not_fewer _ _ _ c.in_ok-read_leaf.ensures.spends), so_far)) (omega (arith, (not_fewer _ _ _ c.in_ok-read_leaf.ensures.spends), so_far)) (no_zeros c.args.self.now.bytes.value.came (c.args.frame.base + c.loop-i.done) _ none) c.in_ok-read_leaf.ensures.ok; steps = omega (arith, (not_fewer _ _ _ c.in_ok-read_leaf.ensures.spends), so_far) }
+    record {
+      holds = c.read_leaf.ensures.holds;
+      turns = next_turns c.args.self.now.table.now c.args.self.now.fine (message c.args.self.now)
+          c.args.frame (at_of c.args.state.now) (at_of c.loop-i.state) (c.loop-i.state.steps - c.args.state.now.steps)
+          (going_on c.args.frame (Elements c.args.entry c.args.size (c.args.count - c.loop-i.i)) c.loop-i.done) c.loop-i.invariant.turns
+          (let x : Row = record { offset = c.loop-i.done; entry = c.args.entry } in x)
+          (Elements c.args.entry c.args.size (c.args.count - (c.loop-i.i + 1))) one tt is tt (at_of c.read_leaf.new.state) (c.loop-i.done + c.args.size)
+          _ (c.read_leaf.new.state.steps - c.args.state.now.steps) (omega (arith, own, is))
+          (omega (arith, (not_fewer _ _ _ c.in_ok-read_leaf.ensures.spends), so_far))
+          (omega (arith, (not_fewer _ _ _ c.in_ok-read_leaf.ensures.spends), so_far))
+          (no_zeros c.args.self.now.bytes.value.came (c.args.frame.base + c.loop-i.done) _ none) c.in_ok-read_leaf.ensures.ok;
+      steps = omega
+          (arith, (not_fewer _ _ _ c.in_ok-read_leaf.ensures.spends), so_far);
+    }
 
 pub overflow_add-at : goal.overflow_add-at
 overflow_add-at c =
-    let room = over_room c.args.self.now.table.now c.args.self.now.fine (message c.args.self.now) c.args.frame (at_of c.args.state.now) (at_of c.loop-i.state) (c.loop-i.state.steps - c.args.state.now.steps) (going_on c.args.frame (Elements c.args.entry c.args.size (c.args.count - c.loop-i.i)) c.loop-i.done) c.loop-i.invariant.turns in
+    let room = over_room c.args.self.now.table.now c.args.self.now.fine (message c.args.self.now) c.args.frame (at_of c.args.state.now)
+    (at_of c.loop-i.state) (c.loop-i.state.steps - c.args.state.now.steps)
+    (going_on c.args.frame (Elements c.args.entry c.args.size (c.args.count - c.loop-i.i)) c.loop-i.done) c.loop-i.invariant.turns in
     let before = room.0 in
     let within = room.1 in
     record { fits = omega (arith, before, within) }
 
 pub overflow_sub-state : goal.overflow_sub-state
 overflow_sub-state c =
-    let room = over_room c.args.self.now.table.now c.args.self.now.fine (message c.args.self.now) c.args.frame (at_of c.args.state.now) (at_of c.loop-i.state) (c.loop-i.state.steps - c.args.state.now.steps) (going_on c.args.frame (Elements c.args.entry c.args.size (c.args.count - c.loop-i.i)) c.loop-i.done) c.loop-i.invariant.turns in
+    let room = over_room c.args.self.now.table.now c.args.self.now.fine (message c.args.self.now) c.args.frame (at_of c.args.state.now)
+    (at_of c.loop-i.state) (c.loop-i.state.steps - c.args.state.now.steps)
+    (going_on c.args.frame (Elements c.args.entry c.args.size (c.args.count - c.loop-i.i)) c.loop-i.done) c.loop-i.invariant.turns in
     let before = room.0 in
     let within = room.1 in
     omega (arith, before, within)
 
 pub zeros_at-requires-clause-order : goal.zeros_at-requires-clause-order
 zeros_at-requires-clause-order c =
-    let room = over_room c.args.self.now.table.now c.args.self.now.fine (message c.args.self.now) c.args.frame (at_of c.args.state.now) (at_of c.loop-i.state) (c.loop-i.state.steps - c.args.state.now.steps) (going_on c.args.frame (Elements c.args.entry c.args.size (c.args.count - c.loop-i.i)) c.loop-i.done) c.loop-i.invariant.turns in
+    let room = over_room c.args.self.now.table.now c.args.self.now.fine (message c.args.self.now) c.args.frame (at_of c.args.state.now)
+    (at_of c.loop-i.state) (c.loop-i.state.steps - c.args.state.now.steps)
+    (going_on c.args.frame (Elements c.args.entry c.args.size (c.args.count - c.loop-i.i)) c.loop-i.done) c.loop-i.invariant.turns in
     let before = room.0 in
     let within = room.1 in
     omega (arith, before, within)
@@ -78,24 +117,42 @@ pub returns-clause-ok : goal.returns-clause-ok
 returns-clause-ok c =
     let over = elements_over c.args.self.now.table.now c.args.entry c.args.size c.loop-i.i c.args.count c.loop-i.done (omega (arith, c.loop-i-test.false)) in
     let so_far = c.loop-i.invariant.steps in
-    on_ok_from c.zeros_at.result (λ z. over_turns c.args.self.now.table.now c.args.self.now.fine (message c.args.self.now) c.args.frame (at_of c.args.state.now) (at_of c.loop-i.state) (c.loop-i.state.steps - c.args.state.now.steps) (going_on c.args.frame (Elements c.args.entry c.args.size (c.args.count - c.loop-i.i)) c.loop-i.done) c.loop-i.invariant.turns over tt _ (omega (arith, so_far)) (omega (arith, so_far)) z) c.zeros_at.ensures.ok
+    on_ok_from c.zeros_at.result (λ z. over_turns c.args.self.now.table.now c.args.self.now.fine (message c.args.self.now) c.args.frame
+    (at_of c.args.state.now) (at_of c.loop-i.state) (c.loop-i.state.steps - c.args.state.now.steps)
+    (going_on c.args.frame (Elements c.args.entry c.args.size (c.args.count - c.loop-i.i)) c.loop-i.done) c.loop-i.invariant.turns over tt _
+    (omega (arith, so_far)) (omega (arith, so_far)) z) c.zeros_at.ensures.ok
 
 pub returns-in_err-read_leaf-clause-fault_is_true : goal.returns-in_err-read_leaf-clause-fault_is_true
 returns-in_err-read_leaf-clause-fault_is_true c =
     let is = c.loop-i.invariant.turns.rest_fine.0.left in
     let one = elements_next c.args.self.now.table.now c.args.entry c.args.size c.loop-i.i c.args.count c.loop-i.done is c.loop-i-test.true in
-    passed_on c.from_residual.result c.in_err-read_leaf.field-0.0 _ c.from_residual.ensures.1 (next_leaf_breaks c.args.self.now.table.now c.args.self.now.fine (message c.args.self.now) c.args.frame (at_of c.args.state.now) (at_of c.loop-i.state) (c.loop-i.state.steps - c.args.state.now.steps) (going_on c.args.frame (Elements c.args.entry c.args.size (c.args.count - c.loop-i.i)) c.loop-i.done) c.loop-i.invariant.turns (let x : Row = record { offset = c.loop-i.done; entry = c.args.entry } in x) (Elements c.args.entry c.args.size (c.args.count - (c.loop-i.i + 1))) one tt _ (no_zeros c.args.self.now.bytes.value.came (c.args.frame.base + c.loop-i.done) _ (let none : (c.args.frame.base + c.loop-i.done) - (c.args.frame.base + c.loop-i.done) ≡ 0 = omega arith in none)) c.in_err-read_leaf.ensures.fault_is_true)
+    passed_on c.from_residual.result c.in_err-read_leaf.field-0.0 _ c.from_residual.ensures.1
+    (next_leaf_breaks c.args.self.now.table.now c.args.self.now.fine (message c.args.self.now) c.args.frame (at_of c.args.state.now)
+    (at_of c.loop-i.state) (c.loop-i.state.steps - c.args.state.now.steps)
+    (going_on c.args.frame (Elements c.args.entry c.args.size (c.args.count - c.loop-i.i)) c.loop-i.done) c.loop-i.invariant.turns
+    (let x : Row = record { offset = c.loop-i.done; entry = c.args.entry } in x)
+    (Elements c.args.entry c.args.size (c.args.count - (c.loop-i.i + 1))) one tt _
+    (no_zeros c.args.self.now.bytes.value.came (c.args.frame.base + c.loop-i.done) _
+    (let none : (c.args.frame.base + c.loop-i.done) - (c.args.frame.base + c.loop-i.done) ≡ 0 = omega arith in none))
+    c.in_err-read_leaf.ensures.fault_is_true)
 
 pub returns-clause-fault_is_true : goal.returns-clause-fault_is_true
 returns-clause-fault_is_true c =
     let over = elements_over c.args.self.now.table.now c.args.entry c.args.size c.loop-i.i c.args.count c.loop-i.done (omega (arith, c.loop-i-test.false)) in
-    IfErr-weaker c.zeros_at.result _ _ (λ fault bad. over_breaks c.args.self.now.table.now c.args.self.now.fine (message c.args.self.now) c.args.frame (at_of c.args.state.now) (at_of c.loop-i.state) (c.loop-i.state.steps - c.args.state.now.steps) (going_on c.args.frame (Elements c.args.entry c.args.size (c.args.count - c.loop-i.i)) c.loop-i.done) c.loop-i.invariant.turns over tt fault bad) c.zeros_at.ensures.fault_is_true
+    IfErr-weaker c.zeros_at.result _ _ (λ fault bad. over_breaks c.args.self.now.table.now c.args.self.now.fine (message c.args.self.now) c.args.frame
+    (at_of c.args.state.now) (at_of c.loop-i.state) (c.loop-i.state.steps - c.args.state.now.steps)
+    (going_on c.args.frame (Elements c.args.entry c.args.size (c.args.count - c.loop-i.i)) c.loop-i.done) c.loop-i.invariant.turns over tt fault
+    bad) c.zeros_at.ensures.fault_is_true
 
 pub returns-in_err-read_leaf-clause-cost : goal.returns-in_err-read_leaf-clause-cost
 returns-in_err-read_leaf-clause-cost c =
     let is = c.loop-i.invariant.turns.rest_fine.0.left in
     let one = elements_next c.args.self.now.table.now c.args.entry c.args.size c.loop-i.i c.args.count c.loop-i.done is c.loop-i-test.true in
-    let room = next_room c.args.self.now.table.now c.args.self.now.fine (message c.args.self.now) c.args.frame (at_of c.args.state.now) (at_of c.loop-i.state) (c.loop-i.state.steps - c.args.state.now.steps) (going_on c.args.frame (Elements c.args.entry c.args.size (c.args.count - c.loop-i.i)) c.loop-i.done) c.loop-i.invariant.turns (let x : Row = record { offset = c.loop-i.done; entry = c.args.entry } in x) (Elements c.args.entry c.args.size (c.args.count - (c.loop-i.i + 1))) one in
+    let room = next_room c.args.self.now.table.now c.args.self.now.fine (message c.args.self.now) c.args.frame (at_of c.args.state.now)
+    (at_of c.loop-i.state) (c.loop-i.state.steps - c.args.state.now.steps)
+    (going_on c.args.frame (Elements c.args.entry c.args.size (c.args.count - c.loop-i.i)) c.loop-i.done) c.loop-i.invariant.turns
+    (let x : Row = record { offset = c.loop-i.done; entry = c.args.entry } in x)
+    (Elements c.args.entry c.args.size (c.args.count - (c.loop-i.i + 1))) one in
     let spend = room.3 in
     let less = c.loop-i.invariant.turns.less in
     let so_far = c.loop-i.invariant.steps in

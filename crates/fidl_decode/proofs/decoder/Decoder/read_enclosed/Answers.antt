@@ -67,7 +67,9 @@ returns-clause-ok c =
     let new = at_of c.read_whole.new.state in
     let spent = c.read_whole.new.state.steps - c.args.state.now.steps in
     let same : c.read_whole.new.state.steps - c.enter_member.new.state.steps ≡ spent = omega (arith, still) in
-    on_ok_from c.read_whole.result (λ turns. opens_on t m c.args.depth (Some (ty.named c.args.entry)) c.args.envelope old mid 0 frame o new (c.read_whole.new.state.steps - c.enter_member.new.state.steps) (c.read_whole.new.state.steps - c.args.state.now.steps) None (omega (arith, x.steps)) turns) c.read_whole.ensures.ok
+    on_ok_from c.read_whole.result (λ turns. opens_on t m c.args.depth (Some (ty.named c.args.entry)) c.args.envelope old mid 0 frame o new
+    (c.read_whole.new.state.steps - c.enter_member.new.state.steps) (c.read_whole.new.state.steps - c.args.state.now.steps) None
+    (omega (arith, x.steps)) turns) c.read_whole.ensures.ok
 
 pub returns-clause-pays : goal.returns-clause-pays
 returns-clause-pays c =

@@ -69,7 +69,9 @@ returns-clause-ok c =
     let visit = subst (λ (d : Entry). Visits t m c.args.depth c.args.entry c.args.place old old 0 (Some (frame d))) (sym c.entry-e.ensures.value)
     (visits_struct t c.args.self.now.fine m c.args.depth c.args.entry c.args.place old c.requires.entry c.requires.state c.requires.depth 0 0 refl is c.requires.room) in
     let rises = (one_more _ _ _ c.read_fields.ensures.spends) in
-    on_ok_from c.read_fields.result (λ turns. visits_over t m c.args.depth c.args.entry c.args.place old old 0 (frame c.entry-e.result) visit (at_of c.read_fields.new.state) (c.read_fields.new.state.steps - c.args.state.now.steps) (c.read_fields.new.state.steps - c.args.state.now.steps) (omega arith) turns) c.read_fields.ensures.ok
+    on_ok_from c.read_fields.result (λ turns. visits_over t m c.args.depth c.args.entry c.args.place old old 0 (frame c.entry-e.result) visit
+    (at_of c.read_fields.new.state) (c.read_fields.new.state.steps - c.args.state.now.steps)
+    (c.read_fields.new.state.steps - c.args.state.now.steps) (omega arith) turns) c.read_fields.ensures.ok
 
 pub returns-clause-fault_is_true : goal.returns-clause-fault_is_true
 returns-clause-fault_is_true c =

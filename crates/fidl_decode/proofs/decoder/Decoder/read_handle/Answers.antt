@@ -21,7 +21,9 @@ returns-then-not-is_allowed-clause-fault_is_true c =
 
 pub returns-else-not-is_optional-clause-ok : goal.returns-else-not-is_optional-clause-ok
 returns-else-not-is_optional-clause-ok c =
-    absent_leads (declarations_of c.args.self.now.table.now) (message c.args.self.now) c.args.depth (is_optional c.args.entry.now) c.args.entry.now.subtype c.args.entry.now.rights c.args.place (at_of c.args.state.now) c.requires.depth (sym c.is_optional.ensures ∙ c.if-not-is_optional.false) c.in-Absent.ensures
+    absent_leads (declarations_of c.args.self.now.table.now) (message c.args.self.now) c.args.depth (is_optional c.args.entry.now)
+    c.args.entry.now.subtype c.args.entry.now.rights c.args.place (at_of c.args.state.now) c.requires.depth
+    (sym c.is_optional.ensures ∙ c.if-not-is_optional.false) c.in-Absent.ensures
 
 pub returns-else-not-is_allowed-clause-ok : goal.returns-else-not-is_allowed-clause-ok
 returns-else-not-is_allowed-clause-ok c =
@@ -29,7 +31,11 @@ returns-else-not-is_allowed-clause-ok c =
     let same : taken c.args.place (at_of c.args.state.now) ≡ record { next = c.args.state.now.next; handle = c.args.state.now.handle + 1; objects = c.link_handle.new.self.objects; records = c.link_handle.new.self.records }
     = λ i. record { next = c.args.state.now.next; handle = c.args.state.now.handle + 1; objects = sym c.link_handle.ensures.objects i; records = sym c.link_handle.ensures.records i } in
     subst (λ (s : Position). Leads (declarations_of c.args.self.now.table.now) (message c.args.self.now) c.args.depth (ty.handle (is_optional c.args.entry.now) c.args.entry.now.subtype c.args.entry.now.rights) c.args.place (at_of c.args.state.now) s) same
-    (handle_leads (declarations_of c.args.self.now.table.now) (message c.args.self.now) c.args.depth (is_optional c.args.entry.now) c.args.entry.now.subtype c.args.entry.now.rights c.args.place (at_of c.args.state.now) c.requires.depth c.in-Present.ensures (get_or c.args.self.now.handles.now c.args.state.now.handle nobody) (slice_get-get_or c.args.self.now.handles.now c.args.state.now.handle nobody within) c.is_allowed.ensures.handle (c.is_allowed.ensures.allowed.0 c.if-not-is_allowed.false))
+    (handle_leads (declarations_of c.args.self.now.table.now) (message c.args.self.now) c.args.depth (is_optional c.args.entry.now)
+    c.args.entry.now.subtype c.args.entry.now.rights c.args.place (at_of c.args.state.now) c.requires.depth c.in-Present.ensures
+    (get_or c.args.self.now.handles.now c.args.state.now.handle nobody)
+    (slice_get-get_or c.args.self.now.handles.now c.args.state.now.handle nobody within) c.is_allowed.ensures.handle
+    (c.is_allowed.ensures.allowed.0 c.if-not-is_allowed.false))
 
 pub presence_at-requires-clause-room : goal.presence_at-requires-clause-room
 presence_at-requires-clause-room c = c.requires.room

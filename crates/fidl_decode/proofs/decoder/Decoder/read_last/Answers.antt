@@ -88,7 +88,9 @@ returns-in_err-zeros_at-clause-fault_is_true c =
     let t = c.args.self.now.table.now in
     let m = message c.args.self.now in
     let last : c.args.frame.left ≡ Rows c.args.first 1 = c.requires.left ∙ ap (λ n. Rows c.args.first n) c.if-count-ne1.false in
-    passed_on c.from_residual.result c.in_err-zeros_at.field-0.0 _ c.from_residual.ensures.1 (last_gap_breaks t c.args.self.now.fine m c.args.frame c.args.first c.row-row.result last c.row-row.ensures.value (at_of c.args.state.now) c.requires.frame c.requires.state c.in_err-zeros_at.field-0.0 c.in_err-zeros_at.ensures.fault_is_true)
+    passed_on c.from_residual.result c.in_err-zeros_at.field-0.0 _ c.from_residual.ensures.1
+    (last_gap_breaks t c.args.self.now.fine m c.args.frame c.args.first c.row-row.result last c.row-row.ensures.value (at_of c.args.state.now)
+    c.requires.frame c.requires.state c.in_err-zeros_at.field-0.0 c.in_err-zeros_at.ensures.fault_is_true)
 
 pub visit-requires-clause-room : goal.visit-requires-clause-room
 visit-requires-clause-room c =
@@ -127,7 +129,9 @@ returns-in_err-below-clause-fault_is_true c =
     let t = c.args.self.now.table.now in
     let m = message c.args.self.now in
     let last : c.args.frame.left ≡ Rows c.args.first 1 = c.requires.left ∙ ap (λ n. Rows c.args.first n) c.if-count-ne1.false in
-    passed_on c.from_residual-in_err-below.result c.in_err-below.field-0.0 _ c.from_residual-in_err-below.ensures.1 (last_breaks t c.args.self.now.fine m c.args.frame c.args.first c.row-row.result last c.row-row.ensures.value (at_of c.args.state.now) c.requires.frame c.requires.state c.in_err-below.field-0.0 c.in_ok-zeros_at.ensures.ok c.in_err-below.ensures.fault_is_true)
+    passed_on c.from_residual-in_err-below.result c.in_err-below.field-0.0 _ c.from_residual-in_err-below.ensures.1
+    (last_breaks t c.args.self.now.fine m c.args.frame c.args.first c.row-row.result last c.row-row.ensures.value (at_of c.args.state.now)
+    c.requires.frame c.requires.state c.in_err-below.field-0.0 c.in_ok-zeros_at.ensures.ok c.in_err-below.ensures.fault_is_true)
 
 pub returns-clause-ok : goal.returns-clause-ok
 returns-clause-ok c =
@@ -136,7 +140,11 @@ returns-clause-ok c =
     let last : c.args.frame.left ≡ Rows c.args.first 1 = c.requires.left ∙ ap (λ n. Rows c.args.first n) c.if-count-ne1.false in
     let grows = (not_fewer _ _ _ c.in_ok-below.ensures.spends) in
     let size = ap (λ (d : Entry). d.size) c.entry-e.ensures.value in
-    last_turns t c.args.self.now.fine m c.args.frame c.args.first c.row-row.result last c.row-row.ensures.value (at_of c.args.state.now) c.requires.frame c.requires.state (at_of c.visit.new.state) (c.visit.new.state.steps - (c.args.state.now.steps + (c.args.frame.base + c.row-row.result.key - (c.args.frame.base + c.args.frame.done) + 1))) (c.visit.new.state.steps - c.args.state.now.steps) (omega (arith, size, c.if-done-frame.false)) (omega (arith, grows)) (omega (arith, grows)) c.in_ok-zeros_at.ensures.ok c.in_ok-below.below c.in_ok-below.ensures.ok c.in_ok-below.ensures.fine
+    last_turns t c.args.self.now.fine m c.args.frame c.args.first c.row-row.result last c.row-row.ensures.value (at_of c.args.state.now)
+    c.requires.frame c.requires.state (at_of c.visit.new.state) (c.visit.new.state.steps -
+    (c.args.state.now.steps + (c.args.frame.base + c.row-row.result.key - (c.args.frame.base + c.args.frame.done) + 1)))
+    (c.visit.new.state.steps - c.args.state.now.steps) (omega (arith, size, c.if-done-frame.false)) (omega (arith, grows)) (omega (arith, grows))
+    c.in_ok-zeros_at.ensures.ok c.in_ok-below.below c.in_ok-below.ensures.ok c.in_ok-below.ensures.fine
 
 pub returns-clause-grows : goal.returns-clause-grows
 returns-clause-grows c =

@@ -154,9 +154,13 @@ returns-in-String-clause-ok c =
     let own : c.entry-in-String.result ≡ entry_at c.args.self.now.table.now c.args.entry = c.entry-in-String.ensures.value in
     on_ok_four c.read_text.result
     (λ leads there spent least. visits_leaf c.args.self.now.table.now c.args.self.now.fine (message c.args.self.now) c.args.depth c.args.entry c.args.place (at_of c.args.state.now) c.requires.entry c.requires.state c.requires.depth String is (at_of
-    c.read_text.new.state) (c.read_text.new.state.steps - c.args.state.now.steps) (text_cost (length c.args.self.now.bytes.value.came) c.args.state.now.next c.read_text.new.state.next c.args.state.now.steps c.read_text.new.state.steps spent there.next (not_fewer _ _ _ c.read_text.ensures.spends)) there
+    c.read_text.new.state) (c.read_text.new.state.steps - c.args.state.now.steps)
+    (text_cost (length c.args.self.now.bytes.value.came) c.args.state.now.next c.read_text.new.state.next c.args.state.now.steps
+    c.read_text.new.state.steps spent there.next (not_fewer _ _ _ c.read_text.ensures.spends)) there
     (subst (λ (d : Entry). Leads (declarations_of c.args.self.now.table.now) (message c.args.self.now) c.args.depth (ty.string (is_optional d) d.bound) c.args.place (at_of c.args.state.now) (at_of c.read_text.new.state)) own leads)
-    (subst (λ (d : Entry). (to : Position) (x : ValueAt (declarations_of c.args.self.now.table.now) (message c.args.self.now) c.args.depth (ty.string (is_optional d) d.bound) c.args.place (at_of c.args.state.now) to) → Work x.value ≤ c.read_text.new.state.steps - c.args.state.now.steps + 1) own least))
+    (subst (λ (d : Entry). (to : Position) (x : ValueAt (declarations_of c.args.self.now.table.now) (message c.args.self.now) c.args.depth
+    (ty.string (is_optional d) d.bound) c.args.place (at_of c.args.state.now) to) → Work x.value ≤ c.read_text.new.state.steps -
+    c.args.state.now.steps + 1) own least))
     c.read_text.ensures.ok
     c.read_text.ensures.state
     c.read_text.ensures.spent

@@ -78,7 +78,13 @@ loop-many-preserved-then-is_leaf c =
     let two = subst (λ d. Turns t m g now new spent (left_over (Some (going_on c.loop-many.holder rows d)))) size one in
     let rises = (one_more _ _ _ c.in_ok-read_row.ensures.spends) in
     let done = c.row-row.result.key + c.entry-e.result.size in
-    record { holds = c.read_row.ensures.holds; turns = turns_then t m f old now a g c.loop-many.invariant.turns new spent (c.read_row.new.state.steps - c.args.state.now.steps) (left_over (Some (going_on c.loop-many.holder rows done))) (omega (arith, begun, rises)) two; steps = omega (arith, begun, rises) }
+    record {
+      holds = c.read_row.ensures.holds;
+      turns = turns_then t m f old now a g c.loop-many.invariant.turns new spent
+          (c.read_row.new.state.steps - c.args.state.now.steps) (left_over (Some (going_on c.loop-many.holder rows done))) (omega (arith, begun, rises))
+          two;
+      steps = omega (arith, begun, rises);
+    }
 
 pub enter_box-requires-clause-frame : goal.enter_box-requires-clause-frame
 enter_box-requires-clause-frame c =
@@ -543,7 +549,11 @@ returns-in_default c = record { holds = c.requires.holds; ok = turns_stay c.args
 pub loop-many-init : goal.loop-many-init
 loop-many-init c = record {
   holds = c.requires.holds;
-  turns = subst (λ (g : Frame). Turns c.args.self.now.table.now (message c.args.self.now) c.args.frame (at_of c.args.state.now) (at_of c.args.state.now) (c.args.state.now.steps - c.args.state.now.steps) (left_over (Some g))) (same_frame c.args.frame (Rows c.in-Rows.first c.in-Rows.count) c.in-Rows.is) (turns_stay c.args.self.now.table.now (message c.args.self.now) c.args.frame (at_of c.args.state.now) c.requires.frame c.requires.state _ (omega arith));
+  turns = subst (λ (g : Frame). Turns c.args.self.now.table.now (message c.args.self.now) c.args.frame (at_of c.args.state.now)
+      (at_of c.args.state.now) (c.args.state.now.steps - c.args.state.now.steps) (left_over (Some g)))
+      (same_frame c.args.frame (Rows c.in-Rows.first c.in-Rows.count) c.in-Rows.is)
+      (turns_stay c.args.self.now.table.now (message c.args.self.now) c.args.frame (at_of c.args.state.now) c.requires.frame c.requires.state _
+      (omega arith));
   steps = omega arith;
 }
 

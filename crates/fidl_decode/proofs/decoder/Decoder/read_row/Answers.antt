@@ -118,7 +118,9 @@ returns-clause-ok c =
     let m = message c.args.self.now in
     let grows = (not_fewer _ _ _ c.in_ok-read_leaf.ensures.spends) in
     let two = front_turns t c.args.self.now.fine m c.args.frame c.args.first c.args.count c.row-row.result c.requires.left c.requires.some c.row-row.ensures.value (at_of c.args.state.now) c.requires.frame c.requires.state (at_of c.read_leaf.new.state)
-    (c.read_leaf.new.state.steps - (c.args.state.now.steps + (c.args.frame.base + c.row-row.result.key - (c.args.frame.base + c.args.frame.done) + 1))) (c.read_leaf.new.state.steps - c.args.state.now.steps) (omega (arith, grows)) (omega (arith, grows)) c.in_ok-zeros_at.ensures.ok c.in_ok-read_leaf.ensures.ok in
+    (c.read_leaf.new.state.steps - (c.args.state.now.steps + (c.args.frame.base + c.row-row.result.key - (c.args.frame.base + c.args.frame.done) +
+    1))) (c.read_leaf.new.state.steps - c.args.state.now.steps) (omega (arith, grows)) (omega (arith, grows)) c.in_ok-zeros_at.ensures.ok
+    c.in_ok-read_leaf.ensures.ok in
     subst (λ (w : raw.Row). Turns t m c.args.frame (at_of c.args.state.now) (at_of c.read_leaf.new.state) (c.read_leaf.new.state.steps - c.args.state.now.steps) (left_over (Some (going_on c.args.frame (Rows (c.args.first + 1) (c.args.count - 1)) (w.key + (entry_at t w.entry).size)))))
     c.row-row.ensures.value two
 

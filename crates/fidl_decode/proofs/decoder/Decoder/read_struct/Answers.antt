@@ -12,7 +12,9 @@ pub returns-in_default-clause-ok : goal.returns-in_default-clause-ok
 returns-in_default-clause-ok c =
     let t = c.args.self.now.table.now in
     let m = message c.args.self.now in
-    let one : Turns t m c.args.frame (at_of c.args.state.now) (at_of c.read_nested.new.state) (c.read_nested.new.state.steps - c.args.state.now.steps) (left_over None) = subst (λ (o : Option Frame). Turns t m c.args.frame (at_of c.args.state.now) (at_of c.read_nested.new.state) (c.read_nested.new.state.steps - c.args.state.now.steps) (left_over o)) c.in_default.is c.in_ok-now.ensures.ok in
+    let one : Turns t m c.args.frame (at_of c.args.state.now) (at_of c.read_nested.new.state) (c.read_nested.new.state.steps - c.args.state.now.steps)
+    (left_over None) = subst (λ (o : Option Frame). Turns t m c.args.frame (at_of c.args.state.now) (at_of c.read_nested.new.state)
+    (c.read_nested.new.state.steps - c.args.state.now.steps) (left_over o)) c.in_default.is c.in_ok-now.ensures.ok in
     one
 
 pub returns-in_default-clause-ended : goal.returns-in_default-clause-ended
@@ -25,7 +27,9 @@ pub returns-in_default-left : goal.returns-in_default-left
 returns-in_default-left c =
     let t = c.args.self.now.table.now in
     let m = message c.args.self.now in
-    let one : Turns t m c.args.frame (at_of c.args.state.now) (at_of c.read_nested.new.state) (c.read_nested.new.state.steps - c.args.state.now.steps) (left_over (Some c.in-Some.now)) = subst (λ (o : Option Frame). Turns t m c.args.frame (at_of c.args.state.now) (at_of c.read_nested.new.state) (c.read_nested.new.state.steps - c.args.state.now.steps) (left_over o)) c.in-Some.is c.in_ok-now.ensures.ok in
+    let one : Turns t m c.args.frame (at_of c.args.state.now) (at_of c.read_nested.new.state) (c.read_nested.new.state.steps - c.args.state.now.steps)
+    (left_over (Some c.in-Some.now)) = subst (λ (o : Option Frame). Turns t m c.args.frame (at_of c.args.state.now)
+    (at_of c.read_nested.new.state) (c.read_nested.new.state.steps - c.args.state.now.steps) (left_over o)) c.in-Some.is c.in_ok-now.ensures.ok in
     let rows_on = c.in_ok-now.ensures.grows in
     record { holds = c.read_nested.ensures.holds; ok = one; grows = rows_on; ended = tt; cost = c.in_ok-now.ensures.cost; fault_is_true = tt }
 
@@ -33,28 +37,36 @@ pub returns-then-left-ne1-clause-ok : goal.returns-then-left-ne1-clause-ok
 returns-then-left-ne1-clause-ok c =
     let t = c.args.self.now.table.now in
     let m = message c.args.self.now in
-    let one : Turns t m c.args.frame (at_of c.args.state.now) (at_of c.read_nested.new.state) (c.read_nested.new.state.steps - c.args.state.now.steps) (left_over (Some c.in-Some.now)) = subst (λ (o : Option Frame). Turns t m c.args.frame (at_of c.args.state.now) (at_of c.read_nested.new.state) (c.read_nested.new.state.steps - c.args.state.now.steps) (left_over o)) c.in-Some.is c.in_ok-now.ensures.ok in
+    let one : Turns t m c.args.frame (at_of c.args.state.now) (at_of c.read_nested.new.state) (c.read_nested.new.state.steps - c.args.state.now.steps)
+    (left_over (Some c.in-Some.now)) = subst (λ (o : Option Frame). Turns t m c.args.frame (at_of c.args.state.now)
+    (at_of c.read_nested.new.state) (c.read_nested.new.state.steps - c.args.state.now.steps) (left_over o)) c.in-Some.is c.in_ok-now.ensures.ok in
     one
 
 pub read_last-requires-clause-frame : goal.read_last-requires-clause-frame
 read_last-requires-clause-frame c =
     let t = c.args.self.now.table.now in
     let m = message c.args.self.now in
-    let one : Turns t m c.args.frame (at_of c.args.state.now) (at_of c.read_nested.new.state) (c.read_nested.new.state.steps - c.args.state.now.steps) (left_over (Some c.in-Some.now)) = subst (λ (o : Option Frame). Turns t m c.args.frame (at_of c.args.state.now) (at_of c.read_nested.new.state) (c.read_nested.new.state.steps - c.args.state.now.steps) (left_over o)) c.in-Some.is c.in_ok-now.ensures.ok in
+    let one : Turns t m c.args.frame (at_of c.args.state.now) (at_of c.read_nested.new.state) (c.read_nested.new.state.steps - c.args.state.now.steps)
+    (left_over (Some c.in-Some.now)) = subst (λ (o : Option Frame). Turns t m c.args.frame (at_of c.args.state.now)
+    (at_of c.read_nested.new.state) (c.read_nested.new.state.steps - c.args.state.now.steps) (left_over o)) c.in-Some.is c.in_ok-now.ensures.ok in
     one.rest_fine.0
 
 pub read_last-requires-clause-state : goal.read_last-requires-clause-state
 read_last-requires-clause-state c =
     let t = c.args.self.now.table.now in
     let m = message c.args.self.now in
-    let one : Turns t m c.args.frame (at_of c.args.state.now) (at_of c.read_nested.new.state) (c.read_nested.new.state.steps - c.args.state.now.steps) (left_over (Some c.in-Some.now)) = subst (λ (o : Option Frame). Turns t m c.args.frame (at_of c.args.state.now) (at_of c.read_nested.new.state) (c.read_nested.new.state.steps - c.args.state.now.steps) (left_over o)) c.in-Some.is c.in_ok-now.ensures.ok in
+    let one : Turns t m c.args.frame (at_of c.args.state.now) (at_of c.read_nested.new.state) (c.read_nested.new.state.steps - c.args.state.now.steps)
+    (left_over (Some c.in-Some.now)) = subst (λ (o : Option Frame). Turns t m c.args.frame (at_of c.args.state.now)
+    (at_of c.read_nested.new.state) (c.read_nested.new.state.steps - c.args.state.now.steps) (left_over o)) c.in-Some.is c.in_ok-now.ensures.ok in
     one.state
 
 pub read_last-requires-clause-budget : goal.read_last-requires-clause-budget
 read_last-requires-clause-budget c =
     let t = c.args.self.now.table.now in
     let m = message c.args.self.now in
-    let one : Turns t m c.args.frame (at_of c.args.state.now) (at_of c.read_nested.new.state) (c.read_nested.new.state.steps - c.args.state.now.steps) (left_over (Some c.in-Some.now)) = subst (λ (o : Option Frame). Turns t m c.args.frame (at_of c.args.state.now) (at_of c.read_nested.new.state) (c.read_nested.new.state.steps - c.args.state.now.steps) (left_over o)) c.in-Some.is c.in_ok-now.ensures.ok in
+    let one : Turns t m c.args.frame (at_of c.args.state.now) (at_of c.read_nested.new.state) (c.read_nested.new.state.steps - c.args.state.now.steps)
+    (left_over (Some c.in-Some.now)) = subst (λ (o : Option Frame). Turns t m c.args.frame (at_of c.args.state.now)
+    (at_of c.read_nested.new.state) (c.read_nested.new.state.steps - c.args.state.now.steps) (left_over o)) c.in-Some.is c.in_ok-now.ensures.ok in
     let less_one = one.less in
     let rows_on = c.in_ok-now.ensures.grows in
     omega (arith, less_one, rows_on, c.requires.budget)
@@ -63,7 +75,9 @@ pub returns-in_err-below-clause-cost : goal.returns-in_err-below-clause-cost
 returns-in_err-below-clause-cost c =
     let t = c.args.self.now.table.now in
     let m = message c.args.self.now in
-    let one : Turns t m c.args.frame (at_of c.args.state.now) (at_of c.read_nested.new.state) (c.read_nested.new.state.steps - c.args.state.now.steps) (left_over (Some c.in-Some.now)) = subst (λ (o : Option Frame). Turns t m c.args.frame (at_of c.args.state.now) (at_of c.read_nested.new.state) (c.read_nested.new.state.steps - c.args.state.now.steps) (left_over o)) c.in-Some.is c.in_ok-now.ensures.ok in
+    let one : Turns t m c.args.frame (at_of c.args.state.now) (at_of c.read_nested.new.state) (c.read_nested.new.state.steps - c.args.state.now.steps)
+    (left_over (Some c.in-Some.now)) = subst (λ (o : Option Frame). Turns t m c.args.frame (at_of c.args.state.now)
+    (at_of c.read_nested.new.state) (c.read_nested.new.state.steps - c.args.state.now.steps) (left_over o)) c.in-Some.is c.in_ok-now.ensures.ok in
     let less_one = one.less in
     let rows_on = c.in_ok-now.ensures.grows in
     omega (arith, less_one, rows_on, c.in_err-below.ensures.cost)
@@ -72,18 +86,31 @@ pub returns-in_err-below-clause-fault_is_true : goal.returns-in_err-below-clause
 returns-in_err-below-clause-fault_is_true c =
     let t = c.args.self.now.table.now in
     let m = message c.args.self.now in
-    let one : Turns t m c.args.frame (at_of c.args.state.now) (at_of c.read_nested.new.state) (c.read_nested.new.state.steps - c.args.state.now.steps) (left_over (Some c.in-Some.now)) = subst (λ (o : Option Frame). Turns t m c.args.frame (at_of c.args.state.now) (at_of c.read_nested.new.state) (c.read_nested.new.state.steps - c.args.state.now.steps) (left_over o)) c.in-Some.is c.in_ok-now.ensures.ok in
-    passed_on c.from_residual-in_err-below.result c.in_err-below.field-0.0 _ c.from_residual-in_err-below.ensures.1 (turns_break t m c.args.frame (at_of c.args.state.now) (at_of c.read_nested.new.state) (c.read_nested.new.state.steps - c.args.state.now.steps) c.in-Some.now one c.in_err-below.field-0.0 c.in_err-below.ensures.fault_is_true)
+    let one : Turns t m c.args.frame (at_of c.args.state.now) (at_of c.read_nested.new.state) (c.read_nested.new.state.steps - c.args.state.now.steps)
+    (left_over (Some c.in-Some.now)) = subst (λ (o : Option Frame). Turns t m c.args.frame (at_of c.args.state.now)
+    (at_of c.read_nested.new.state) (c.read_nested.new.state.steps - c.args.state.now.steps) (left_over o)) c.in-Some.is c.in_ok-now.ensures.ok in
+    passed_on c.from_residual-in_err-below.result c.in_err-below.field-0.0 _ c.from_residual-in_err-below.ensures.1
+    (turns_break t m c.args.frame (at_of c.args.state.now) (at_of c.read_nested.new.state)
+    (c.read_nested.new.state.steps - c.args.state.now.steps) c.in-Some.now one c.in_err-below.field-0.0 c.in_err-below.ensures.fault_is_true)
 
 pub returns-in_default-2-clause-ok : goal.returns-in_default-2-clause-ok
 returns-in_default-2-clause-ok c =
     let t = c.args.self.now.table.now in
     let m = message c.args.self.now in
-    let one : Turns t m c.args.frame (at_of c.args.state.now) (at_of c.read_nested.new.state) (c.read_nested.new.state.steps - c.args.state.now.steps) (left_over (Some c.in-Some.now)) = subst (λ (o : Option Frame). Turns t m c.args.frame (at_of c.args.state.now) (at_of c.read_nested.new.state) (c.read_nested.new.state.steps - c.args.state.now.steps) (left_over o)) c.in-Some.is c.in_ok-now.ensures.ok in
+    let one : Turns t m c.args.frame (at_of c.args.state.now) (at_of c.read_nested.new.state) (c.read_nested.new.state.steps - c.args.state.now.steps)
+    (left_over (Some c.in-Some.now)) = subst (λ (o : Option Frame). Turns t m c.args.frame (at_of c.args.state.now)
+    (at_of c.read_nested.new.state) (c.read_nested.new.state.steps - c.args.state.now.steps) (left_over o)) c.in-Some.is c.in_ok-now.ensures.ok in
     let rows_on = c.in_ok-now.ensures.grows in
     let last_on = c.in_ok-below.ensures.grows in
-    let two : Turns t m c.in-Some.now (at_of c.read_nested.new.state) (at_of c.read_last.new.state) (c.read_last.new.state.steps - c.read_nested.new.state.steps) (left_over None) = subst (λ (o : Option Frame). Turns t m c.in-Some.now (at_of c.read_nested.new.state) (at_of c.read_last.new.state) (c.read_last.new.state.steps - c.read_nested.new.state.steps) (left_over o)) c.in_default-2.is c.in_ok-below.ensures.ok in
-    let held : Turns t m c.args.frame (at_of c.args.state.now) (at_of c.read_last.new.state) (c.read_last.new.state.steps - c.args.state.now.steps) (left_over None) = turns_then t m c.args.frame (at_of c.args.state.now) (at_of c.read_nested.new.state) (c.read_nested.new.state.steps - c.args.state.now.steps) c.in-Some.now one (at_of c.read_last.new.state) (c.read_last.new.state.steps - c.read_nested.new.state.steps) (c.read_last.new.state.steps - c.args.state.now.steps) (left_over None) (omega (arith, rows_on, last_on)) two in
+    let two : Turns t m c.in-Some.now (at_of c.read_nested.new.state) (at_of c.read_last.new.state)
+    (c.read_last.new.state.steps - c.read_nested.new.state.steps) (left_over None) = subst
+    (λ (o : Option Frame). Turns t m c.in-Some.now (at_of c.read_nested.new.state) (at_of c.read_last.new.state)
+    (c.read_last.new.state.steps - c.read_nested.new.state.steps) (left_over o)) c.in_default-2.is c.in_ok-below.ensures.ok in
+    let held : Turns t m c.args.frame (at_of c.args.state.now) (at_of c.read_last.new.state) (c.read_last.new.state.steps - c.args.state.now.steps)
+    (left_over None) = turns_then t m c.args.frame (at_of c.args.state.now) (at_of c.read_nested.new.state)
+    (c.read_nested.new.state.steps - c.args.state.now.steps) c.in-Some.now one (at_of c.read_last.new.state)
+    (c.read_last.new.state.steps - c.read_nested.new.state.steps) (c.read_last.new.state.steps - c.args.state.now.steps) (left_over None)
+    (omega (arith, rows_on, last_on)) two in
     held
 
 pub returns-in_default-2-clause-grows : goal.returns-in_default-2-clause-grows
@@ -106,7 +133,9 @@ pub returns-in_default-2-clause-cost : goal.returns-in_default-2-clause-cost
 returns-in_default-2-clause-cost c =
     let t = c.args.self.now.table.now in
     let m = message c.args.self.now in
-    let one : Turns t m c.args.frame (at_of c.args.state.now) (at_of c.read_nested.new.state) (c.read_nested.new.state.steps - c.args.state.now.steps) (left_over (Some c.in-Some.now)) = subst (λ (o : Option Frame). Turns t m c.args.frame (at_of c.args.state.now) (at_of c.read_nested.new.state) (c.read_nested.new.state.steps - c.args.state.now.steps) (left_over o)) c.in-Some.is c.in_ok-now.ensures.ok in
+    let one : Turns t m c.args.frame (at_of c.args.state.now) (at_of c.read_nested.new.state) (c.read_nested.new.state.steps - c.args.state.now.steps)
+    (left_over (Some c.in-Some.now)) = subst (λ (o : Option Frame). Turns t m c.args.frame (at_of c.args.state.now)
+    (at_of c.read_nested.new.state) (c.read_nested.new.state.steps - c.args.state.now.steps) (left_over o)) c.in-Some.is c.in_ok-now.ensures.ok in
     let less_one = one.less in
     let rows_on = c.in_ok-now.ensures.grows in
     omega (arith, less_one, rows_on, c.in_ok-below.ensures.cost)
@@ -115,11 +144,20 @@ pub read_leaves-requires-clause-frame : goal.read_leaves-requires-clause-frame
 read_leaves-requires-clause-frame c =
     let t = c.args.self.now.table.now in
     let m = message c.args.self.now in
-    let one : Turns t m c.args.frame (at_of c.args.state.now) (at_of c.read_nested.new.state) (c.read_nested.new.state.steps - c.args.state.now.steps) (left_over (Some c.in-Some.now)) = subst (λ (o : Option Frame). Turns t m c.args.frame (at_of c.args.state.now) (at_of c.read_nested.new.state) (c.read_nested.new.state.steps - c.args.state.now.steps) (left_over o)) c.in-Some.is c.in_ok-now.ensures.ok in
+    let one : Turns t m c.args.frame (at_of c.args.state.now) (at_of c.read_nested.new.state) (c.read_nested.new.state.steps - c.args.state.now.steps)
+    (left_over (Some c.in-Some.now)) = subst (λ (o : Option Frame). Turns t m c.args.frame (at_of c.args.state.now)
+    (at_of c.read_nested.new.state) (c.read_nested.new.state.steps - c.args.state.now.steps) (left_over o)) c.in-Some.is c.in_ok-now.ensures.ok in
     let rows_on = c.in_ok-now.ensures.grows in
     let last_on = c.in_ok-below.ensures.grows in
-    let two : Turns t m c.in-Some.now (at_of c.read_nested.new.state) (at_of c.read_last.new.state) (c.read_last.new.state.steps - c.read_nested.new.state.steps) (left_over (Some c.in-Some-2.below)) = subst (λ (o : Option Frame). Turns t m c.in-Some.now (at_of c.read_nested.new.state) (at_of c.read_last.new.state) (c.read_last.new.state.steps - c.read_nested.new.state.steps) (left_over o)) c.in-Some-2.is c.in_ok-below.ensures.ok in
-    let held : Turns t m c.args.frame (at_of c.args.state.now) (at_of c.read_last.new.state) (c.read_last.new.state.steps - c.args.state.now.steps) (left_over (Some c.in-Some-2.below)) = turns_then t m c.args.frame (at_of c.args.state.now) (at_of c.read_nested.new.state) (c.read_nested.new.state.steps - c.args.state.now.steps) c.in-Some.now one (at_of c.read_last.new.state) (c.read_last.new.state.steps - c.read_nested.new.state.steps) (c.read_last.new.state.steps - c.args.state.now.steps) (left_over (Some c.in-Some-2.below)) (omega (arith, rows_on, last_on)) two in
+    let two : Turns t m c.in-Some.now (at_of c.read_nested.new.state) (at_of c.read_last.new.state)
+    (c.read_last.new.state.steps - c.read_nested.new.state.steps) (left_over (Some c.in-Some-2.below)) = subst
+    (λ (o : Option Frame). Turns t m c.in-Some.now (at_of c.read_nested.new.state) (at_of c.read_last.new.state)
+    (c.read_last.new.state.steps - c.read_nested.new.state.steps) (left_over o)) c.in-Some-2.is c.in_ok-below.ensures.ok in
+    let held : Turns t m c.args.frame (at_of c.args.state.now) (at_of c.read_last.new.state) (c.read_last.new.state.steps - c.args.state.now.steps)
+    (left_over (Some c.in-Some-2.below)) = turns_then t m c.args.frame (at_of c.args.state.now) (at_of c.read_nested.new.state)
+    (c.read_nested.new.state.steps - c.args.state.now.steps) c.in-Some.now one (at_of c.read_last.new.state)
+    (c.read_last.new.state.steps - c.read_nested.new.state.steps) (c.read_last.new.state.steps - c.args.state.now.steps)
+    (left_over (Some c.in-Some-2.below)) (omega (arith, rows_on, last_on)) two in
     let less_held = held.less in
     held.rest_fine.0
 
@@ -127,11 +165,20 @@ pub read_leaves-requires-clause-state : goal.read_leaves-requires-clause-state
 read_leaves-requires-clause-state c =
     let t = c.args.self.now.table.now in
     let m = message c.args.self.now in
-    let one : Turns t m c.args.frame (at_of c.args.state.now) (at_of c.read_nested.new.state) (c.read_nested.new.state.steps - c.args.state.now.steps) (left_over (Some c.in-Some.now)) = subst (λ (o : Option Frame). Turns t m c.args.frame (at_of c.args.state.now) (at_of c.read_nested.new.state) (c.read_nested.new.state.steps - c.args.state.now.steps) (left_over o)) c.in-Some.is c.in_ok-now.ensures.ok in
+    let one : Turns t m c.args.frame (at_of c.args.state.now) (at_of c.read_nested.new.state) (c.read_nested.new.state.steps - c.args.state.now.steps)
+    (left_over (Some c.in-Some.now)) = subst (λ (o : Option Frame). Turns t m c.args.frame (at_of c.args.state.now)
+    (at_of c.read_nested.new.state) (c.read_nested.new.state.steps - c.args.state.now.steps) (left_over o)) c.in-Some.is c.in_ok-now.ensures.ok in
     let rows_on = c.in_ok-now.ensures.grows in
     let last_on = c.in_ok-below.ensures.grows in
-    let two : Turns t m c.in-Some.now (at_of c.read_nested.new.state) (at_of c.read_last.new.state) (c.read_last.new.state.steps - c.read_nested.new.state.steps) (left_over (Some c.in-Some-2.below)) = subst (λ (o : Option Frame). Turns t m c.in-Some.now (at_of c.read_nested.new.state) (at_of c.read_last.new.state) (c.read_last.new.state.steps - c.read_nested.new.state.steps) (left_over o)) c.in-Some-2.is c.in_ok-below.ensures.ok in
-    let held : Turns t m c.args.frame (at_of c.args.state.now) (at_of c.read_last.new.state) (c.read_last.new.state.steps - c.args.state.now.steps) (left_over (Some c.in-Some-2.below)) = turns_then t m c.args.frame (at_of c.args.state.now) (at_of c.read_nested.new.state) (c.read_nested.new.state.steps - c.args.state.now.steps) c.in-Some.now one (at_of c.read_last.new.state) (c.read_last.new.state.steps - c.read_nested.new.state.steps) (c.read_last.new.state.steps - c.args.state.now.steps) (left_over (Some c.in-Some-2.below)) (omega (arith, rows_on, last_on)) two in
+    let two : Turns t m c.in-Some.now (at_of c.read_nested.new.state) (at_of c.read_last.new.state)
+    (c.read_last.new.state.steps - c.read_nested.new.state.steps) (left_over (Some c.in-Some-2.below)) = subst
+    (λ (o : Option Frame). Turns t m c.in-Some.now (at_of c.read_nested.new.state) (at_of c.read_last.new.state)
+    (c.read_last.new.state.steps - c.read_nested.new.state.steps) (left_over o)) c.in-Some-2.is c.in_ok-below.ensures.ok in
+    let held : Turns t m c.args.frame (at_of c.args.state.now) (at_of c.read_last.new.state) (c.read_last.new.state.steps - c.args.state.now.steps)
+    (left_over (Some c.in-Some-2.below)) = turns_then t m c.args.frame (at_of c.args.state.now) (at_of c.read_nested.new.state)
+    (c.read_nested.new.state.steps - c.args.state.now.steps) c.in-Some.now one (at_of c.read_last.new.state)
+    (c.read_last.new.state.steps - c.read_nested.new.state.steps) (c.read_last.new.state.steps - c.args.state.now.steps)
+    (left_over (Some c.in-Some-2.below)) (omega (arith, rows_on, last_on)) two in
     let less_held = held.less in
     held.state
 
@@ -139,11 +186,20 @@ pub read_leaves-requires-clause-budget : goal.read_leaves-requires-clause-budget
 read_leaves-requires-clause-budget c =
     let t = c.args.self.now.table.now in
     let m = message c.args.self.now in
-    let one : Turns t m c.args.frame (at_of c.args.state.now) (at_of c.read_nested.new.state) (c.read_nested.new.state.steps - c.args.state.now.steps) (left_over (Some c.in-Some.now)) = subst (λ (o : Option Frame). Turns t m c.args.frame (at_of c.args.state.now) (at_of c.read_nested.new.state) (c.read_nested.new.state.steps - c.args.state.now.steps) (left_over o)) c.in-Some.is c.in_ok-now.ensures.ok in
+    let one : Turns t m c.args.frame (at_of c.args.state.now) (at_of c.read_nested.new.state) (c.read_nested.new.state.steps - c.args.state.now.steps)
+    (left_over (Some c.in-Some.now)) = subst (λ (o : Option Frame). Turns t m c.args.frame (at_of c.args.state.now)
+    (at_of c.read_nested.new.state) (c.read_nested.new.state.steps - c.args.state.now.steps) (left_over o)) c.in-Some.is c.in_ok-now.ensures.ok in
     let rows_on = c.in_ok-now.ensures.grows in
     let last_on = c.in_ok-below.ensures.grows in
-    let two : Turns t m c.in-Some.now (at_of c.read_nested.new.state) (at_of c.read_last.new.state) (c.read_last.new.state.steps - c.read_nested.new.state.steps) (left_over (Some c.in-Some-2.below)) = subst (λ (o : Option Frame). Turns t m c.in-Some.now (at_of c.read_nested.new.state) (at_of c.read_last.new.state) (c.read_last.new.state.steps - c.read_nested.new.state.steps) (left_over o)) c.in-Some-2.is c.in_ok-below.ensures.ok in
-    let held : Turns t m c.args.frame (at_of c.args.state.now) (at_of c.read_last.new.state) (c.read_last.new.state.steps - c.args.state.now.steps) (left_over (Some c.in-Some-2.below)) = turns_then t m c.args.frame (at_of c.args.state.now) (at_of c.read_nested.new.state) (c.read_nested.new.state.steps - c.args.state.now.steps) c.in-Some.now one (at_of c.read_last.new.state) (c.read_last.new.state.steps - c.read_nested.new.state.steps) (c.read_last.new.state.steps - c.args.state.now.steps) (left_over (Some c.in-Some-2.below)) (omega (arith, rows_on, last_on)) two in
+    let two : Turns t m c.in-Some.now (at_of c.read_nested.new.state) (at_of c.read_last.new.state)
+    (c.read_last.new.state.steps - c.read_nested.new.state.steps) (left_over (Some c.in-Some-2.below)) = subst
+    (λ (o : Option Frame). Turns t m c.in-Some.now (at_of c.read_nested.new.state) (at_of c.read_last.new.state)
+    (c.read_last.new.state.steps - c.read_nested.new.state.steps) (left_over o)) c.in-Some-2.is c.in_ok-below.ensures.ok in
+    let held : Turns t m c.args.frame (at_of c.args.state.now) (at_of c.read_last.new.state) (c.read_last.new.state.steps - c.args.state.now.steps)
+    (left_over (Some c.in-Some-2.below)) = turns_then t m c.args.frame (at_of c.args.state.now) (at_of c.read_nested.new.state)
+    (c.read_nested.new.state.steps - c.args.state.now.steps) c.in-Some.now one (at_of c.read_last.new.state)
+    (c.read_last.new.state.steps - c.read_nested.new.state.steps) (c.read_last.new.state.steps - c.args.state.now.steps)
+    (left_over (Some c.in-Some-2.below)) (omega (arith, rows_on, last_on)) two in
     let less_held = held.less in
     omega (arith, less_held, rows_on, last_on, c.requires.budget)
 
@@ -151,11 +207,20 @@ pub returns-in_err-inner-clause-cost : goal.returns-in_err-inner-clause-cost
 returns-in_err-inner-clause-cost c =
     let t = c.args.self.now.table.now in
     let m = message c.args.self.now in
-    let one : Turns t m c.args.frame (at_of c.args.state.now) (at_of c.read_nested.new.state) (c.read_nested.new.state.steps - c.args.state.now.steps) (left_over (Some c.in-Some.now)) = subst (λ (o : Option Frame). Turns t m c.args.frame (at_of c.args.state.now) (at_of c.read_nested.new.state) (c.read_nested.new.state.steps - c.args.state.now.steps) (left_over o)) c.in-Some.is c.in_ok-now.ensures.ok in
+    let one : Turns t m c.args.frame (at_of c.args.state.now) (at_of c.read_nested.new.state) (c.read_nested.new.state.steps - c.args.state.now.steps)
+    (left_over (Some c.in-Some.now)) = subst (λ (o : Option Frame). Turns t m c.args.frame (at_of c.args.state.now)
+    (at_of c.read_nested.new.state) (c.read_nested.new.state.steps - c.args.state.now.steps) (left_over o)) c.in-Some.is c.in_ok-now.ensures.ok in
     let rows_on = c.in_ok-now.ensures.grows in
     let last_on = c.in_ok-below.ensures.grows in
-    let two : Turns t m c.in-Some.now (at_of c.read_nested.new.state) (at_of c.read_last.new.state) (c.read_last.new.state.steps - c.read_nested.new.state.steps) (left_over (Some c.in-Some-2.below)) = subst (λ (o : Option Frame). Turns t m c.in-Some.now (at_of c.read_nested.new.state) (at_of c.read_last.new.state) (c.read_last.new.state.steps - c.read_nested.new.state.steps) (left_over o)) c.in-Some-2.is c.in_ok-below.ensures.ok in
-    let held : Turns t m c.args.frame (at_of c.args.state.now) (at_of c.read_last.new.state) (c.read_last.new.state.steps - c.args.state.now.steps) (left_over (Some c.in-Some-2.below)) = turns_then t m c.args.frame (at_of c.args.state.now) (at_of c.read_nested.new.state) (c.read_nested.new.state.steps - c.args.state.now.steps) c.in-Some.now one (at_of c.read_last.new.state) (c.read_last.new.state.steps - c.read_nested.new.state.steps) (c.read_last.new.state.steps - c.args.state.now.steps) (left_over (Some c.in-Some-2.below)) (omega (arith, rows_on, last_on)) two in
+    let two : Turns t m c.in-Some.now (at_of c.read_nested.new.state) (at_of c.read_last.new.state)
+    (c.read_last.new.state.steps - c.read_nested.new.state.steps) (left_over (Some c.in-Some-2.below)) = subst
+    (λ (o : Option Frame). Turns t m c.in-Some.now (at_of c.read_nested.new.state) (at_of c.read_last.new.state)
+    (c.read_last.new.state.steps - c.read_nested.new.state.steps) (left_over o)) c.in-Some-2.is c.in_ok-below.ensures.ok in
+    let held : Turns t m c.args.frame (at_of c.args.state.now) (at_of c.read_last.new.state) (c.read_last.new.state.steps - c.args.state.now.steps)
+    (left_over (Some c.in-Some-2.below)) = turns_then t m c.args.frame (at_of c.args.state.now) (at_of c.read_nested.new.state)
+    (c.read_nested.new.state.steps - c.args.state.now.steps) c.in-Some.now one (at_of c.read_last.new.state)
+    (c.read_last.new.state.steps - c.read_nested.new.state.steps) (c.read_last.new.state.steps - c.args.state.now.steps)
+    (left_over (Some c.in-Some-2.below)) (omega (arith, rows_on, last_on)) two in
     let less_held = held.less in
     omega (arith, less_held, rows_on, last_on, c.in_err-inner.ensures.cost)
 
@@ -163,26 +228,49 @@ pub returns-in_err-inner-clause-fault_is_true : goal.returns-in_err-inner-clause
 returns-in_err-inner-clause-fault_is_true c =
     let t = c.args.self.now.table.now in
     let m = message c.args.self.now in
-    let one : Turns t m c.args.frame (at_of c.args.state.now) (at_of c.read_nested.new.state) (c.read_nested.new.state.steps - c.args.state.now.steps) (left_over (Some c.in-Some.now)) = subst (λ (o : Option Frame). Turns t m c.args.frame (at_of c.args.state.now) (at_of c.read_nested.new.state) (c.read_nested.new.state.steps - c.args.state.now.steps) (left_over o)) c.in-Some.is c.in_ok-now.ensures.ok in
+    let one : Turns t m c.args.frame (at_of c.args.state.now) (at_of c.read_nested.new.state) (c.read_nested.new.state.steps - c.args.state.now.steps)
+    (left_over (Some c.in-Some.now)) = subst (λ (o : Option Frame). Turns t m c.args.frame (at_of c.args.state.now)
+    (at_of c.read_nested.new.state) (c.read_nested.new.state.steps - c.args.state.now.steps) (left_over o)) c.in-Some.is c.in_ok-now.ensures.ok in
     let rows_on = c.in_ok-now.ensures.grows in
     let last_on = c.in_ok-below.ensures.grows in
-    let two : Turns t m c.in-Some.now (at_of c.read_nested.new.state) (at_of c.read_last.new.state) (c.read_last.new.state.steps - c.read_nested.new.state.steps) (left_over (Some c.in-Some-2.below)) = subst (λ (o : Option Frame). Turns t m c.in-Some.now (at_of c.read_nested.new.state) (at_of c.read_last.new.state) (c.read_last.new.state.steps - c.read_nested.new.state.steps) (left_over o)) c.in-Some-2.is c.in_ok-below.ensures.ok in
-    let held : Turns t m c.args.frame (at_of c.args.state.now) (at_of c.read_last.new.state) (c.read_last.new.state.steps - c.args.state.now.steps) (left_over (Some c.in-Some-2.below)) = turns_then t m c.args.frame (at_of c.args.state.now) (at_of c.read_nested.new.state) (c.read_nested.new.state.steps - c.args.state.now.steps) c.in-Some.now one (at_of c.read_last.new.state) (c.read_last.new.state.steps - c.read_nested.new.state.steps) (c.read_last.new.state.steps - c.args.state.now.steps) (left_over (Some c.in-Some-2.below)) (omega (arith, rows_on, last_on)) two in
+    let two : Turns t m c.in-Some.now (at_of c.read_nested.new.state) (at_of c.read_last.new.state)
+    (c.read_last.new.state.steps - c.read_nested.new.state.steps) (left_over (Some c.in-Some-2.below)) = subst
+    (λ (o : Option Frame). Turns t m c.in-Some.now (at_of c.read_nested.new.state) (at_of c.read_last.new.state)
+    (c.read_last.new.state.steps - c.read_nested.new.state.steps) (left_over o)) c.in-Some-2.is c.in_ok-below.ensures.ok in
+    let held : Turns t m c.args.frame (at_of c.args.state.now) (at_of c.read_last.new.state) (c.read_last.new.state.steps - c.args.state.now.steps)
+    (left_over (Some c.in-Some-2.below)) = turns_then t m c.args.frame (at_of c.args.state.now) (at_of c.read_nested.new.state)
+    (c.read_nested.new.state.steps - c.args.state.now.steps) c.in-Some.now one (at_of c.read_last.new.state)
+    (c.read_last.new.state.steps - c.read_nested.new.state.steps) (c.read_last.new.state.steps - c.args.state.now.steps)
+    (left_over (Some c.in-Some-2.below)) (omega (arith, rows_on, last_on)) two in
     let less_held = held.less in
-    passed_on c.from_residual-in_err-inner.result c.in_err-inner.field-0.0 _ c.from_residual-in_err-inner.ensures.1 (turns_break t m c.args.frame (at_of c.args.state.now) (at_of c.read_last.new.state) (c.read_last.new.state.steps - c.args.state.now.steps) c.in-Some-2.below held c.in_err-inner.field-0.0 c.in_err-inner.ensures.fault_is_true)
+    passed_on c.from_residual-in_err-inner.result c.in_err-inner.field-0.0 _ c.from_residual-in_err-inner.ensures.1
+    (turns_break t m c.args.frame (at_of c.args.state.now) (at_of c.read_last.new.state) (c.read_last.new.state.steps - c.args.state.now.steps)
+    c.in-Some-2.below held c.in_err-inner.field-0.0 c.in_err-inner.ensures.fault_is_true)
 
 pub returns-clause-ok : goal.returns-clause-ok
 returns-clause-ok c =
     let t = c.args.self.now.table.now in
     let m = message c.args.self.now in
-    let one : Turns t m c.args.frame (at_of c.args.state.now) (at_of c.read_nested.new.state) (c.read_nested.new.state.steps - c.args.state.now.steps) (left_over (Some c.in-Some.now)) = subst (λ (o : Option Frame). Turns t m c.args.frame (at_of c.args.state.now) (at_of c.read_nested.new.state) (c.read_nested.new.state.steps - c.args.state.now.steps) (left_over o)) c.in-Some.is c.in_ok-now.ensures.ok in
+    let one : Turns t m c.args.frame (at_of c.args.state.now) (at_of c.read_nested.new.state) (c.read_nested.new.state.steps - c.args.state.now.steps)
+    (left_over (Some c.in-Some.now)) = subst (λ (o : Option Frame). Turns t m c.args.frame (at_of c.args.state.now)
+    (at_of c.read_nested.new.state) (c.read_nested.new.state.steps - c.args.state.now.steps) (left_over o)) c.in-Some.is c.in_ok-now.ensures.ok in
     let rows_on = c.in_ok-now.ensures.grows in
     let last_on = c.in_ok-below.ensures.grows in
-    let two : Turns t m c.in-Some.now (at_of c.read_nested.new.state) (at_of c.read_last.new.state) (c.read_last.new.state.steps - c.read_nested.new.state.steps) (left_over (Some c.in-Some-2.below)) = subst (λ (o : Option Frame). Turns t m c.in-Some.now (at_of c.read_nested.new.state) (at_of c.read_last.new.state) (c.read_last.new.state.steps - c.read_nested.new.state.steps) (left_over o)) c.in-Some-2.is c.in_ok-below.ensures.ok in
-    let held : Turns t m c.args.frame (at_of c.args.state.now) (at_of c.read_last.new.state) (c.read_last.new.state.steps - c.args.state.now.steps) (left_over (Some c.in-Some-2.below)) = turns_then t m c.args.frame (at_of c.args.state.now) (at_of c.read_nested.new.state) (c.read_nested.new.state.steps - c.args.state.now.steps) c.in-Some.now one (at_of c.read_last.new.state) (c.read_last.new.state.steps - c.read_nested.new.state.steps) (c.read_last.new.state.steps - c.args.state.now.steps) (left_over (Some c.in-Some-2.below)) (omega (arith, rows_on, last_on)) two in
+    let two : Turns t m c.in-Some.now (at_of c.read_nested.new.state) (at_of c.read_last.new.state)
+    (c.read_last.new.state.steps - c.read_nested.new.state.steps) (left_over (Some c.in-Some-2.below)) = subst
+    (λ (o : Option Frame). Turns t m c.in-Some.now (at_of c.read_nested.new.state) (at_of c.read_last.new.state)
+    (c.read_last.new.state.steps - c.read_nested.new.state.steps) (left_over o)) c.in-Some-2.is c.in_ok-below.ensures.ok in
+    let held : Turns t m c.args.frame (at_of c.args.state.now) (at_of c.read_last.new.state) (c.read_last.new.state.steps - c.args.state.now.steps)
+    (left_over (Some c.in-Some-2.below)) = turns_then t m c.args.frame (at_of c.args.state.now) (at_of c.read_nested.new.state)
+    (c.read_nested.new.state.steps - c.args.state.now.steps) c.in-Some.now one (at_of c.read_last.new.state)
+    (c.read_last.new.state.steps - c.read_nested.new.state.steps) (c.read_last.new.state.steps - c.args.state.now.steps)
+    (left_over (Some c.in-Some-2.below)) (omega (arith, rows_on, last_on)) two in
     let less_held = held.less in
     let leaves_on = c.in_ok-inner.ensures.grows in
-    turns_then t m c.args.frame (at_of c.args.state.now) (at_of c.read_last.new.state) (c.read_last.new.state.steps - c.args.state.now.steps) c.in-Some-2.below held (at_of c.read_leaves.new.state) (c.read_leaves.new.state.steps - c.read_last.new.state.steps) (c.read_leaves.new.state.steps - c.args.state.now.steps) (left_over c.in_ok-inner.inner) (omega (arith, rows_on, last_on, leaves_on)) c.in_ok-inner.ensures.ok
+    turns_then t m c.args.frame (at_of c.args.state.now) (at_of c.read_last.new.state) (c.read_last.new.state.steps - c.args.state.now.steps)
+    c.in-Some-2.below held (at_of c.read_leaves.new.state) (c.read_leaves.new.state.steps - c.read_last.new.state.steps)
+    (c.read_leaves.new.state.steps - c.args.state.now.steps) (left_over c.in_ok-inner.inner) (omega (arith, rows_on, last_on, leaves_on))
+    c.in_ok-inner.ensures.ok
 
 pub returns-clause-grows : goal.returns-clause-grows
 returns-clause-grows c =
@@ -205,11 +293,20 @@ pub returns-clause-cost : goal.returns-clause-cost
 returns-clause-cost c =
     let t = c.args.self.now.table.now in
     let m = message c.args.self.now in
-    let one : Turns t m c.args.frame (at_of c.args.state.now) (at_of c.read_nested.new.state) (c.read_nested.new.state.steps - c.args.state.now.steps) (left_over (Some c.in-Some.now)) = subst (λ (o : Option Frame). Turns t m c.args.frame (at_of c.args.state.now) (at_of c.read_nested.new.state) (c.read_nested.new.state.steps - c.args.state.now.steps) (left_over o)) c.in-Some.is c.in_ok-now.ensures.ok in
+    let one : Turns t m c.args.frame (at_of c.args.state.now) (at_of c.read_nested.new.state) (c.read_nested.new.state.steps - c.args.state.now.steps)
+    (left_over (Some c.in-Some.now)) = subst (λ (o : Option Frame). Turns t m c.args.frame (at_of c.args.state.now)
+    (at_of c.read_nested.new.state) (c.read_nested.new.state.steps - c.args.state.now.steps) (left_over o)) c.in-Some.is c.in_ok-now.ensures.ok in
     let rows_on = c.in_ok-now.ensures.grows in
     let last_on = c.in_ok-below.ensures.grows in
-    let two : Turns t m c.in-Some.now (at_of c.read_nested.new.state) (at_of c.read_last.new.state) (c.read_last.new.state.steps - c.read_nested.new.state.steps) (left_over (Some c.in-Some-2.below)) = subst (λ (o : Option Frame). Turns t m c.in-Some.now (at_of c.read_nested.new.state) (at_of c.read_last.new.state) (c.read_last.new.state.steps - c.read_nested.new.state.steps) (left_over o)) c.in-Some-2.is c.in_ok-below.ensures.ok in
-    let held : Turns t m c.args.frame (at_of c.args.state.now) (at_of c.read_last.new.state) (c.read_last.new.state.steps - c.args.state.now.steps) (left_over (Some c.in-Some-2.below)) = turns_then t m c.args.frame (at_of c.args.state.now) (at_of c.read_nested.new.state) (c.read_nested.new.state.steps - c.args.state.now.steps) c.in-Some.now one (at_of c.read_last.new.state) (c.read_last.new.state.steps - c.read_nested.new.state.steps) (c.read_last.new.state.steps - c.args.state.now.steps) (left_over (Some c.in-Some-2.below)) (omega (arith, rows_on, last_on)) two in
+    let two : Turns t m c.in-Some.now (at_of c.read_nested.new.state) (at_of c.read_last.new.state)
+    (c.read_last.new.state.steps - c.read_nested.new.state.steps) (left_over (Some c.in-Some-2.below)) = subst
+    (λ (o : Option Frame). Turns t m c.in-Some.now (at_of c.read_nested.new.state) (at_of c.read_last.new.state)
+    (c.read_last.new.state.steps - c.read_nested.new.state.steps) (left_over o)) c.in-Some-2.is c.in_ok-below.ensures.ok in
+    let held : Turns t m c.args.frame (at_of c.args.state.now) (at_of c.read_last.new.state) (c.read_last.new.state.steps - c.args.state.now.steps)
+    (left_over (Some c.in-Some-2.below)) = turns_then t m c.args.frame (at_of c.args.state.now) (at_of c.read_nested.new.state)
+    (c.read_nested.new.state.steps - c.args.state.now.steps) c.in-Some.now one (at_of c.read_last.new.state)
+    (c.read_last.new.state.steps - c.read_nested.new.state.steps) (c.read_last.new.state.steps - c.args.state.now.steps)
+    (left_over (Some c.in-Some-2.below)) (omega (arith, rows_on, last_on)) two in
     let less_held = held.less in
     omega (arith, less_held, rows_on, last_on, c.in_ok-inner.ensures.cost)
 
@@ -217,10 +314,19 @@ pub read_leaves-requires-clause-ready : goal.read_leaves-requires-clause-ready
 read_leaves-requires-clause-ready c =
     let t = c.args.self.now.table.now in
     let m = message c.args.self.now in
-    let one : Turns t m c.args.frame (at_of c.args.state.now) (at_of c.read_nested.new.state) (c.read_nested.new.state.steps - c.args.state.now.steps) (left_over (Some c.in-Some.now)) = subst (λ (o : Option Frame). Turns t m c.args.frame (at_of c.args.state.now) (at_of c.read_nested.new.state) (c.read_nested.new.state.steps - c.args.state.now.steps) (left_over o)) c.in-Some.is c.in_ok-now.ensures.ok in
+    let one : Turns t m c.args.frame (at_of c.args.state.now) (at_of c.read_nested.new.state) (c.read_nested.new.state.steps - c.args.state.now.steps)
+    (left_over (Some c.in-Some.now)) = subst (λ (o : Option Frame). Turns t m c.args.frame (at_of c.args.state.now)
+    (at_of c.read_nested.new.state) (c.read_nested.new.state.steps - c.args.state.now.steps) (left_over o)) c.in-Some.is c.in_ok-now.ensures.ok in
     let rows_on = c.in_ok-now.ensures.grows in
     let last_on = c.in_ok-below.ensures.grows in
-    let two : Turns t m c.in-Some.now (at_of c.read_nested.new.state) (at_of c.read_last.new.state) (c.read_last.new.state.steps - c.read_nested.new.state.steps) (left_over (Some c.in-Some-2.below)) = subst (λ (o : Option Frame). Turns t m c.in-Some.now (at_of c.read_nested.new.state) (at_of c.read_last.new.state) (c.read_last.new.state.steps - c.read_nested.new.state.steps) (left_over o)) c.in-Some-2.is c.in_ok-below.ensures.ok in
-    let held : Turns t m c.args.frame (at_of c.args.state.now) (at_of c.read_last.new.state) (c.read_last.new.state.steps - c.args.state.now.steps) (left_over (Some c.in-Some-2.below)) = turns_then t m c.args.frame (at_of c.args.state.now) (at_of c.read_nested.new.state) (c.read_nested.new.state.steps - c.args.state.now.steps) c.in-Some.now one (at_of c.read_last.new.state) (c.read_last.new.state.steps - c.read_nested.new.state.steps) (c.read_last.new.state.steps - c.args.state.now.steps) (left_over (Some c.in-Some-2.below)) (omega (arith, rows_on, last_on)) two in
+    let two : Turns t m c.in-Some.now (at_of c.read_nested.new.state) (at_of c.read_last.new.state)
+    (c.read_last.new.state.steps - c.read_nested.new.state.steps) (left_over (Some c.in-Some-2.below)) = subst
+    (λ (o : Option Frame). Turns t m c.in-Some.now (at_of c.read_nested.new.state) (at_of c.read_last.new.state)
+    (c.read_last.new.state.steps - c.read_nested.new.state.steps) (left_over o)) c.in-Some-2.is c.in_ok-below.ensures.ok in
+    let held : Turns t m c.args.frame (at_of c.args.state.now) (at_of c.read_last.new.state) (c.read_last.new.state.steps - c.args.state.now.steps)
+    (left_over (Some c.in-Some-2.below)) = turns_then t m c.args.frame (at_of c.args.state.now) (at_of c.read_nested.new.state)
+    (c.read_nested.new.state.steps - c.args.state.now.steps) c.in-Some.now one (at_of c.read_last.new.state)
+    (c.read_last.new.state.steps - c.read_nested.new.state.steps) (c.read_last.new.state.steps - c.args.state.now.steps)
+    (left_over (Some c.in-Some-2.below)) (omega (arith, rows_on, last_on)) two in
     let less_held = held.less in
     rest_ready t m c.args.frame (at_of c.args.state.now) (at_of c.read_last.new.state) (c.read_last.new.state.steps - c.args.state.now.steps) c.in-Some-2.below held c.requires.ready

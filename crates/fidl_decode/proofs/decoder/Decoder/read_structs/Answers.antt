@@ -19,7 +19,11 @@ pub overflow_add-place : goal.overflow_add-place
 overflow_add-place c =
     let is = c.loop-i.invariant.turns.rest_fine.0.left in
     let one = elements_next c.args.self.now.table.now c.args.entry c.args.size c.loop-i.i c.args.count c.loop-i.done is c.loop-i-test.true in
-    let room = next_room c.args.self.now.table.now c.args.self.now.fine (message c.args.self.now) c.args.frame (at_of c.args.state.now) (at_of c.loop-i.state) (c.loop-i.state.steps - c.args.state.now.steps) (going_on c.args.frame (Elements c.args.entry c.args.size (c.args.count - c.loop-i.i)) c.loop-i.done) c.loop-i.invariant.turns (let x : Row = record { offset = c.loop-i.done; entry = c.args.entry } in x) (Elements c.args.entry c.args.size (c.args.count - (c.loop-i.i + 1))) one in
+    let room = next_room c.args.self.now.table.now c.args.self.now.fine (message c.args.self.now) c.args.frame (at_of c.args.state.now)
+    (at_of c.loop-i.state) (c.loop-i.state.steps - c.args.state.now.steps)
+    (going_on c.args.frame (Elements c.args.entry c.args.size (c.args.count - c.loop-i.i)) c.loop-i.done) c.loop-i.invariant.turns
+    (let x : Row = record { offset = c.loop-i.done; entry = c.args.entry } in x)
+    (Elements c.args.entry c.args.size (c.args.count - (c.loop-i.i + 1))) one in
     let before = room.0 in
     let fits = room.1 in
     let within = room.2 in
@@ -41,16 +45,50 @@ pub read_behind-requires-clause-frame : goal.read_behind-requires-clause-frame
 read_behind-requires-clause-frame c =
     let is = c.loop-i.invariant.turns.rest_fine.0.left in
     let one = elements_next c.args.self.now.table.now c.args.entry c.args.size c.loop-i.i c.args.count c.loop-i.done is c.loop-i-test.true in
-    let room = next_room c.args.self.now.table.now c.args.self.now.fine (message c.args.self.now) c.args.frame (at_of c.args.state.now) (at_of c.loop-i.state) (c.loop-i.state.steps - c.args.state.now.steps) (going_on c.args.frame (Elements c.args.entry c.args.size (c.args.count - c.loop-i.i)) c.loop-i.done) c.loop-i.invariant.turns (let x : Row = record { offset = c.loop-i.done; entry = c.args.entry } in x) (Elements c.args.entry c.args.size (c.args.count - (c.loop-i.i + 1))) one in
+    let room = next_room c.args.self.now.table.now c.args.self.now.fine (message c.args.self.now) c.args.frame (at_of c.args.state.now)
+    (at_of c.loop-i.state) (c.loop-i.state.steps - c.args.state.now.steps)
+    (going_on c.args.frame (Elements c.args.entry c.args.size (c.args.count - c.loop-i.i)) c.loop-i.done) c.loop-i.invariant.turns
+    (let x : Row = record { offset = c.loop-i.done; entry = c.args.entry } in x)
+    (Elements c.args.entry c.args.size (c.args.count - (c.loop-i.i + 1))) one in
     let before = room.0 in
     let fits = room.1 in
     let within = room.2 in
-    let own = next_size c.args.self.now.table.now c.args.self.now.fine (message c.args.self.now) c.args.frame (at_of c.args.state.now) (at_of c.loop-i.state) (c.loop-i.state.steps - c.args.state.now.steps) (going_on c.args.frame (Elements c.args.entry c.args.size (c.args.count - c.loop-i.i)) c.loop-i.done) c.loop-i.invariant.turns (let x : Row = record { offset = c.loop-i.done; entry = c.args.entry } in x) (Elements c.args.entry c.args.size (c.args.count - (c.loop-i.i + 1))) one in
+    let own = next_size c.args.self.now.table.now c.args.self.now.fine (message c.args.self.now) c.args.frame (at_of c.args.state.now)
+    (at_of c.loop-i.state) (c.loop-i.state.steps - c.args.state.now.steps)
+    (going_on c.args.frame (Elements c.args.entry c.args.size (c.args.count - c.loop-i.i)) c.loop-i.done) c.loop-i.invariant.turns
+    (let x : Row = record { offset = c.loop-i.done; entry = c.args.entry } in x)
+    (Elements c.args.entry c.args.size (c.args.count - (c.loop-i.i + 1))) one in
     let so_far = c.loop-i.invariant.steps in
     let none : (c.args.frame.base + c.loop-i.done) - (c.args.frame.base + c.loop-i.done) ≡ 0 = omega arith in
-    let seen : Visits c.args.self.now.table.now (message c.args.self.now) c.args.frame.depth c.args.entry (c.args.frame.base + c.loop-i.done) (at_of c.loop-i.state) (at_of c.loop-i.state) 0 (Some (struct_frame c.entry-e.result (c.args.frame.base + c.loop-i.done) c.args.frame.depth c.args.frame.in_envelope)) = subst (λ (d : Entry). Visits c.args.self.now.table.now (message c.args.self.now) c.args.frame.depth c.args.entry (c.args.frame.base + c.loop-i.done) (at_of c.loop-i.state) (at_of c.loop-i.state) 0 (Some (struct_frame d (c.args.frame.base + c.loop-i.done) c.args.frame.depth c.args.frame.in_envelope))) (sym c.entry-e.ensures.value) (visits_struct c.args.self.now.table.now c.args.self.now.fine (message c.args.self.now) c.args.frame.depth c.args.entry (c.args.frame.base + c.loop-i.done) (at_of c.loop-i.state) c.requires.entry c.loop-i.invariant.turns.state c.requires.frame.depth c.args.frame.in_envelope 0 refl c.requires.kind (omega (arith, before, fits, within))) in
-    let seen_fine = subst (λ (d : Entry). VisitFine c.args.self.now.table.now (message c.args.self.now) c.args.frame.depth c.args.frame.in_envelope c.args.entry (Some (struct_frame d (c.args.frame.base + c.loop-i.done) c.args.frame.depth c.args.frame.in_envelope))) (sym c.entry-e.ensures.value) (struct_fine c.args.self.now.table.now c.args.self.now.fine (message c.args.self.now) c.args.frame.depth c.args.entry (c.args.frame.base + c.loop-i.done) (at_of c.loop-i.state) c.requires.entry c.loop-i.invariant.turns.state c.requires.frame.depth c.args.frame.in_envelope c.requires.kind (omega (arith, before, fits, within)) (elim c.requires.frame.in_envelope [ inl out ↦ inl out | inr own ↦ (let four = own.1 in inr (own.0, omega (arith, four, fits))) ])) in
-    let taken : Turns c.args.self.now.table.now (message c.args.self.now) c.args.frame (at_of c.args.state.now) (at_of c.loop-i.state) (c.loop-i.state.steps + 1 - c.args.state.now.steps) (record { below = Some (struct_frame c.entry-e.result (c.args.frame.base + c.loop-i.done) c.args.frame.depth c.args.frame.in_envelope); rest = Some (going_on (going_on c.args.frame (Elements c.args.entry c.args.size (c.args.count - c.loop-i.i)) c.loop-i.done) (Elements c.args.entry c.args.size (c.args.count - (c.loop-i.i + 1))) (c.loop-i.done + c.args.size)) }) = next_takes c.args.self.now.table.now c.args.self.now.fine (message c.args.self.now) c.args.frame (at_of c.args.state.now) (at_of c.loop-i.state) (c.loop-i.state.steps - c.args.state.now.steps) (going_on c.args.frame (Elements c.args.entry c.args.size (c.args.count - c.loop-i.i)) c.loop-i.done) c.loop-i.invariant.turns (let x : Row = record { offset = c.loop-i.done; entry = c.args.entry } in x) (Elements c.args.entry c.args.size (c.args.count - (c.loop-i.i + 1))) one tt is tt (Some (struct_frame c.entry-e.result (c.args.frame.base + c.loop-i.done) c.args.frame.depth c.args.frame.in_envelope)) (at_of c.loop-i.state) (c.loop-i.done + c.args.size) 0 (c.loop-i.state.steps + 1 - c.args.state.now.steps) (omega (arith, own, is)) (omega (arith, so_far)) (omega (arith, so_far)) (no_zeros c.args.self.now.bytes.value.came (c.args.frame.base + c.loop-i.done) _ none) seen seen_fine in
+    let seen : Visits c.args.self.now.table.now (message c.args.self.now) c.args.frame.depth c.args.entry (c.args.frame.base + c.loop-i.done)
+    (at_of c.loop-i.state) (at_of c.loop-i.state) 0 (Some (struct_frame c.entry-e.result (c.args.frame.base + c.loop-i.done) c.args.frame.depth
+    c.args.frame.in_envelope)) = subst (λ (d : Entry). Visits c.args.self.now.table.now (message c.args.self.now) c.args.frame.depth c.args.entry
+    (c.args.frame.base + c.loop-i.done) (at_of c.loop-i.state) (at_of c.loop-i.state) 0
+    (Some (struct_frame d (c.args.frame.base + c.loop-i.done) c.args.frame.depth c.args.frame.in_envelope))) (sym c.entry-e.ensures.value)
+    (visits_struct c.args.self.now.table.now c.args.self.now.fine (message c.args.self.now) c.args.frame.depth c.args.entry
+    (c.args.frame.base + c.loop-i.done) (at_of c.loop-i.state) c.requires.entry c.loop-i.invariant.turns.state c.requires.frame.depth
+    c.args.frame.in_envelope 0 refl c.requires.kind (omega (arith, before, fits, within))) in
+    let seen_fine = subst (λ (d : Entry). VisitFine c.args.self.now.table.now (message c.args.self.now) c.args.frame.depth c.args.frame.in_envelope
+    c.args.entry (Some (struct_frame d (c.args.frame.base + c.loop-i.done) c.args.frame.depth c.args.frame.in_envelope)))
+    (sym c.entry-e.ensures.value) (struct_fine c.args.self.now.table.now c.args.self.now.fine (message c.args.self.now) c.args.frame.depth
+    c.args.entry (c.args.frame.base + c.loop-i.done) (at_of c.loop-i.state) c.requires.entry c.loop-i.invariant.turns.state c.requires.frame.depth
+    c.args.frame.in_envelope c.requires.kind (omega (arith, before, fits, within))
+    (elim c.requires.frame.in_envelope [ inl out ↦ inl out | inr own ↦ (let four = own.1 in inr (own.0, omega (arith, four, fits))) ])) in
+    let taken : Turns c.args.self.now.table.now (message c.args.self.now) c.args.frame (at_of c.args.state.now) (at_of c.loop-i.state)
+    (c.loop-i.state.steps + 1 - c.args.state.now.steps) (record {
+      below = Some
+          (struct_frame c.entry-e.result (c.args.frame.base + c.loop-i.done) c.args.frame.depth c.args.frame.in_envelope);
+      rest = Some
+          (going_on (going_on c.args.frame (Elements c.args.entry c.args.size (c.args.count - c.loop-i.i)) c.loop-i.done)
+          (Elements c.args.entry c.args.size (c.args.count - (c.loop-i.i + 1))) (c.loop-i.done + c.args.size));
+    }) = next_takes c.args.self.now.table.now
+    c.args.self.now.fine (message c.args.self.now) c.args.frame (at_of c.args.state.now) (at_of c.loop-i.state)
+    (c.loop-i.state.steps - c.args.state.now.steps) (going_on c.args.frame (Elements c.args.entry c.args.size (c.args.count - c.loop-i.i))
+    c.loop-i.done) c.loop-i.invariant.turns (let x : Row = record { offset = c.loop-i.done; entry = c.args.entry } in x)
+    (Elements c.args.entry c.args.size (c.args.count - (c.loop-i.i + 1))) one tt is tt
+    (Some (struct_frame c.entry-e.result (c.args.frame.base + c.loop-i.done) c.args.frame.depth c.args.frame.in_envelope)) (at_of c.loop-i.state)
+    (c.loop-i.done + c.args.size) 0 (c.loop-i.state.steps + 1 - c.args.state.now.steps) (omega (arith, own, is)) (omega (arith, so_far))
+    (omega (arith, so_far)) (no_zeros c.args.self.now.bytes.value.came (c.args.frame.base + c.loop-i.done) _ none) seen seen_fine in
     let less = taken.less in
     taken.below_fine.0
 
@@ -58,16 +96,50 @@ pub read_behind-requires-clause-state : goal.read_behind-requires-clause-state
 read_behind-requires-clause-state c =
     let is = c.loop-i.invariant.turns.rest_fine.0.left in
     let one = elements_next c.args.self.now.table.now c.args.entry c.args.size c.loop-i.i c.args.count c.loop-i.done is c.loop-i-test.true in
-    let room = next_room c.args.self.now.table.now c.args.self.now.fine (message c.args.self.now) c.args.frame (at_of c.args.state.now) (at_of c.loop-i.state) (c.loop-i.state.steps - c.args.state.now.steps) (going_on c.args.frame (Elements c.args.entry c.args.size (c.args.count - c.loop-i.i)) c.loop-i.done) c.loop-i.invariant.turns (let x : Row = record { offset = c.loop-i.done; entry = c.args.entry } in x) (Elements c.args.entry c.args.size (c.args.count - (c.loop-i.i + 1))) one in
+    let room = next_room c.args.self.now.table.now c.args.self.now.fine (message c.args.self.now) c.args.frame (at_of c.args.state.now)
+    (at_of c.loop-i.state) (c.loop-i.state.steps - c.args.state.now.steps)
+    (going_on c.args.frame (Elements c.args.entry c.args.size (c.args.count - c.loop-i.i)) c.loop-i.done) c.loop-i.invariant.turns
+    (let x : Row = record { offset = c.loop-i.done; entry = c.args.entry } in x)
+    (Elements c.args.entry c.args.size (c.args.count - (c.loop-i.i + 1))) one in
     let before = room.0 in
     let fits = room.1 in
     let within = room.2 in
-    let own = next_size c.args.self.now.table.now c.args.self.now.fine (message c.args.self.now) c.args.frame (at_of c.args.state.now) (at_of c.loop-i.state) (c.loop-i.state.steps - c.args.state.now.steps) (going_on c.args.frame (Elements c.args.entry c.args.size (c.args.count - c.loop-i.i)) c.loop-i.done) c.loop-i.invariant.turns (let x : Row = record { offset = c.loop-i.done; entry = c.args.entry } in x) (Elements c.args.entry c.args.size (c.args.count - (c.loop-i.i + 1))) one in
+    let own = next_size c.args.self.now.table.now c.args.self.now.fine (message c.args.self.now) c.args.frame (at_of c.args.state.now)
+    (at_of c.loop-i.state) (c.loop-i.state.steps - c.args.state.now.steps)
+    (going_on c.args.frame (Elements c.args.entry c.args.size (c.args.count - c.loop-i.i)) c.loop-i.done) c.loop-i.invariant.turns
+    (let x : Row = record { offset = c.loop-i.done; entry = c.args.entry } in x)
+    (Elements c.args.entry c.args.size (c.args.count - (c.loop-i.i + 1))) one in
     let so_far = c.loop-i.invariant.steps in
     let none : (c.args.frame.base + c.loop-i.done) - (c.args.frame.base + c.loop-i.done) ≡ 0 = omega arith in
-    let seen : Visits c.args.self.now.table.now (message c.args.self.now) c.args.frame.depth c.args.entry (c.args.frame.base + c.loop-i.done) (at_of c.loop-i.state) (at_of c.loop-i.state) 0 (Some (struct_frame c.entry-e.result (c.args.frame.base + c.loop-i.done) c.args.frame.depth c.args.frame.in_envelope)) = subst (λ (d : Entry). Visits c.args.self.now.table.now (message c.args.self.now) c.args.frame.depth c.args.entry (c.args.frame.base + c.loop-i.done) (at_of c.loop-i.state) (at_of c.loop-i.state) 0 (Some (struct_frame d (c.args.frame.base + c.loop-i.done) c.args.frame.depth c.args.frame.in_envelope))) (sym c.entry-e.ensures.value) (visits_struct c.args.self.now.table.now c.args.self.now.fine (message c.args.self.now) c.args.frame.depth c.args.entry (c.args.frame.base + c.loop-i.done) (at_of c.loop-i.state) c.requires.entry c.loop-i.invariant.turns.state c.requires.frame.depth c.args.frame.in_envelope 0 refl c.requires.kind (omega (arith, before, fits, within))) in
-    let seen_fine = subst (λ (d : Entry). VisitFine c.args.self.now.table.now (message c.args.self.now) c.args.frame.depth c.args.frame.in_envelope c.args.entry (Some (struct_frame d (c.args.frame.base + c.loop-i.done) c.args.frame.depth c.args.frame.in_envelope))) (sym c.entry-e.ensures.value) (struct_fine c.args.self.now.table.now c.args.self.now.fine (message c.args.self.now) c.args.frame.depth c.args.entry (c.args.frame.base + c.loop-i.done) (at_of c.loop-i.state) c.requires.entry c.loop-i.invariant.turns.state c.requires.frame.depth c.args.frame.in_envelope c.requires.kind (omega (arith, before, fits, within)) (elim c.requires.frame.in_envelope [ inl out ↦ inl out | inr own ↦ (let four = own.1 in inr (own.0, omega (arith, four, fits))) ])) in
-    let taken : Turns c.args.self.now.table.now (message c.args.self.now) c.args.frame (at_of c.args.state.now) (at_of c.loop-i.state) (c.loop-i.state.steps + 1 - c.args.state.now.steps) (record { below = Some (struct_frame c.entry-e.result (c.args.frame.base + c.loop-i.done) c.args.frame.depth c.args.frame.in_envelope); rest = Some (going_on (going_on c.args.frame (Elements c.args.entry c.args.size (c.args.count - c.loop-i.i)) c.loop-i.done) (Elements c.args.entry c.args.size (c.args.count - (c.loop-i.i + 1))) (c.loop-i.done + c.args.size)) }) = next_takes c.args.self.now.table.now c.args.self.now.fine (message c.args.self.now) c.args.frame (at_of c.args.state.now) (at_of c.loop-i.state) (c.loop-i.state.steps - c.args.state.now.steps) (going_on c.args.frame (Elements c.args.entry c.args.size (c.args.count - c.loop-i.i)) c.loop-i.done) c.loop-i.invariant.turns (let x : Row = record { offset = c.loop-i.done; entry = c.args.entry } in x) (Elements c.args.entry c.args.size (c.args.count - (c.loop-i.i + 1))) one tt is tt (Some (struct_frame c.entry-e.result (c.args.frame.base + c.loop-i.done) c.args.frame.depth c.args.frame.in_envelope)) (at_of c.loop-i.state) (c.loop-i.done + c.args.size) 0 (c.loop-i.state.steps + 1 - c.args.state.now.steps) (omega (arith, own, is)) (omega (arith, so_far)) (omega (arith, so_far)) (no_zeros c.args.self.now.bytes.value.came (c.args.frame.base + c.loop-i.done) _ none) seen seen_fine in
+    let seen : Visits c.args.self.now.table.now (message c.args.self.now) c.args.frame.depth c.args.entry (c.args.frame.base + c.loop-i.done)
+    (at_of c.loop-i.state) (at_of c.loop-i.state) 0 (Some (struct_frame c.entry-e.result (c.args.frame.base + c.loop-i.done) c.args.frame.depth
+    c.args.frame.in_envelope)) = subst (λ (d : Entry). Visits c.args.self.now.table.now (message c.args.self.now) c.args.frame.depth c.args.entry
+    (c.args.frame.base + c.loop-i.done) (at_of c.loop-i.state) (at_of c.loop-i.state) 0
+    (Some (struct_frame d (c.args.frame.base + c.loop-i.done) c.args.frame.depth c.args.frame.in_envelope))) (sym c.entry-e.ensures.value)
+    (visits_struct c.args.self.now.table.now c.args.self.now.fine (message c.args.self.now) c.args.frame.depth c.args.entry
+    (c.args.frame.base + c.loop-i.done) (at_of c.loop-i.state) c.requires.entry c.loop-i.invariant.turns.state c.requires.frame.depth
+    c.args.frame.in_envelope 0 refl c.requires.kind (omega (arith, before, fits, within))) in
+    let seen_fine = subst (λ (d : Entry). VisitFine c.args.self.now.table.now (message c.args.self.now) c.args.frame.depth c.args.frame.in_envelope
+    c.args.entry (Some (struct_frame d (c.args.frame.base + c.loop-i.done) c.args.frame.depth c.args.frame.in_envelope)))
+    (sym c.entry-e.ensures.value) (struct_fine c.args.self.now.table.now c.args.self.now.fine (message c.args.self.now) c.args.frame.depth
+    c.args.entry (c.args.frame.base + c.loop-i.done) (at_of c.loop-i.state) c.requires.entry c.loop-i.invariant.turns.state c.requires.frame.depth
+    c.args.frame.in_envelope c.requires.kind (omega (arith, before, fits, within))
+    (elim c.requires.frame.in_envelope [ inl out ↦ inl out | inr own ↦ (let four = own.1 in inr (own.0, omega (arith, four, fits))) ])) in
+    let taken : Turns c.args.self.now.table.now (message c.args.self.now) c.args.frame (at_of c.args.state.now) (at_of c.loop-i.state)
+    (c.loop-i.state.steps + 1 - c.args.state.now.steps) (record {
+      below = Some
+          (struct_frame c.entry-e.result (c.args.frame.base + c.loop-i.done) c.args.frame.depth c.args.frame.in_envelope);
+      rest = Some
+          (going_on (going_on c.args.frame (Elements c.args.entry c.args.size (c.args.count - c.loop-i.i)) c.loop-i.done)
+          (Elements c.args.entry c.args.size (c.args.count - (c.loop-i.i + 1))) (c.loop-i.done + c.args.size));
+    }) = next_takes c.args.self.now.table.now
+    c.args.self.now.fine (message c.args.self.now) c.args.frame (at_of c.args.state.now) (at_of c.loop-i.state)
+    (c.loop-i.state.steps - c.args.state.now.steps) (going_on c.args.frame (Elements c.args.entry c.args.size (c.args.count - c.loop-i.i))
+    c.loop-i.done) c.loop-i.invariant.turns (let x : Row = record { offset = c.loop-i.done; entry = c.args.entry } in x)
+    (Elements c.args.entry c.args.size (c.args.count - (c.loop-i.i + 1))) one tt is tt
+    (Some (struct_frame c.entry-e.result (c.args.frame.base + c.loop-i.done) c.args.frame.depth c.args.frame.in_envelope)) (at_of c.loop-i.state)
+    (c.loop-i.done + c.args.size) 0 (c.loop-i.state.steps + 1 - c.args.state.now.steps) (omega (arith, own, is)) (omega (arith, so_far))
+    (omega (arith, so_far)) (no_zeros c.args.self.now.bytes.value.came (c.args.frame.base + c.loop-i.done) _ none) seen seen_fine in
     let less = taken.less in
     taken.state
 
@@ -75,16 +147,50 @@ pub read_behind-requires-clause-budget : goal.read_behind-requires-clause-budget
 read_behind-requires-clause-budget c =
     let is = c.loop-i.invariant.turns.rest_fine.0.left in
     let one = elements_next c.args.self.now.table.now c.args.entry c.args.size c.loop-i.i c.args.count c.loop-i.done is c.loop-i-test.true in
-    let room = next_room c.args.self.now.table.now c.args.self.now.fine (message c.args.self.now) c.args.frame (at_of c.args.state.now) (at_of c.loop-i.state) (c.loop-i.state.steps - c.args.state.now.steps) (going_on c.args.frame (Elements c.args.entry c.args.size (c.args.count - c.loop-i.i)) c.loop-i.done) c.loop-i.invariant.turns (let x : Row = record { offset = c.loop-i.done; entry = c.args.entry } in x) (Elements c.args.entry c.args.size (c.args.count - (c.loop-i.i + 1))) one in
+    let room = next_room c.args.self.now.table.now c.args.self.now.fine (message c.args.self.now) c.args.frame (at_of c.args.state.now)
+    (at_of c.loop-i.state) (c.loop-i.state.steps - c.args.state.now.steps)
+    (going_on c.args.frame (Elements c.args.entry c.args.size (c.args.count - c.loop-i.i)) c.loop-i.done) c.loop-i.invariant.turns
+    (let x : Row = record { offset = c.loop-i.done; entry = c.args.entry } in x)
+    (Elements c.args.entry c.args.size (c.args.count - (c.loop-i.i + 1))) one in
     let before = room.0 in
     let fits = room.1 in
     let within = room.2 in
-    let own = next_size c.args.self.now.table.now c.args.self.now.fine (message c.args.self.now) c.args.frame (at_of c.args.state.now) (at_of c.loop-i.state) (c.loop-i.state.steps - c.args.state.now.steps) (going_on c.args.frame (Elements c.args.entry c.args.size (c.args.count - c.loop-i.i)) c.loop-i.done) c.loop-i.invariant.turns (let x : Row = record { offset = c.loop-i.done; entry = c.args.entry } in x) (Elements c.args.entry c.args.size (c.args.count - (c.loop-i.i + 1))) one in
+    let own = next_size c.args.self.now.table.now c.args.self.now.fine (message c.args.self.now) c.args.frame (at_of c.args.state.now)
+    (at_of c.loop-i.state) (c.loop-i.state.steps - c.args.state.now.steps)
+    (going_on c.args.frame (Elements c.args.entry c.args.size (c.args.count - c.loop-i.i)) c.loop-i.done) c.loop-i.invariant.turns
+    (let x : Row = record { offset = c.loop-i.done; entry = c.args.entry } in x)
+    (Elements c.args.entry c.args.size (c.args.count - (c.loop-i.i + 1))) one in
     let so_far = c.loop-i.invariant.steps in
     let none : (c.args.frame.base + c.loop-i.done) - (c.args.frame.base + c.loop-i.done) ≡ 0 = omega arith in
-    let seen : Visits c.args.self.now.table.now (message c.args.self.now) c.args.frame.depth c.args.entry (c.args.frame.base + c.loop-i.done) (at_of c.loop-i.state) (at_of c.loop-i.state) 0 (Some (struct_frame c.entry-e.result (c.args.frame.base + c.loop-i.done) c.args.frame.depth c.args.frame.in_envelope)) = subst (λ (d : Entry). Visits c.args.self.now.table.now (message c.args.self.now) c.args.frame.depth c.args.entry (c.args.frame.base + c.loop-i.done) (at_of c.loop-i.state) (at_of c.loop-i.state) 0 (Some (struct_frame d (c.args.frame.base + c.loop-i.done) c.args.frame.depth c.args.frame.in_envelope))) (sym c.entry-e.ensures.value) (visits_struct c.args.self.now.table.now c.args.self.now.fine (message c.args.self.now) c.args.frame.depth c.args.entry (c.args.frame.base + c.loop-i.done) (at_of c.loop-i.state) c.requires.entry c.loop-i.invariant.turns.state c.requires.frame.depth c.args.frame.in_envelope 0 refl c.requires.kind (omega (arith, before, fits, within))) in
-    let seen_fine = subst (λ (d : Entry). VisitFine c.args.self.now.table.now (message c.args.self.now) c.args.frame.depth c.args.frame.in_envelope c.args.entry (Some (struct_frame d (c.args.frame.base + c.loop-i.done) c.args.frame.depth c.args.frame.in_envelope))) (sym c.entry-e.ensures.value) (struct_fine c.args.self.now.table.now c.args.self.now.fine (message c.args.self.now) c.args.frame.depth c.args.entry (c.args.frame.base + c.loop-i.done) (at_of c.loop-i.state) c.requires.entry c.loop-i.invariant.turns.state c.requires.frame.depth c.args.frame.in_envelope c.requires.kind (omega (arith, before, fits, within)) (elim c.requires.frame.in_envelope [ inl out ↦ inl out | inr own ↦ (let four = own.1 in inr (own.0, omega (arith, four, fits))) ])) in
-    let taken : Turns c.args.self.now.table.now (message c.args.self.now) c.args.frame (at_of c.args.state.now) (at_of c.loop-i.state) (c.loop-i.state.steps + 1 - c.args.state.now.steps) (record { below = Some (struct_frame c.entry-e.result (c.args.frame.base + c.loop-i.done) c.args.frame.depth c.args.frame.in_envelope); rest = Some (going_on (going_on c.args.frame (Elements c.args.entry c.args.size (c.args.count - c.loop-i.i)) c.loop-i.done) (Elements c.args.entry c.args.size (c.args.count - (c.loop-i.i + 1))) (c.loop-i.done + c.args.size)) }) = next_takes c.args.self.now.table.now c.args.self.now.fine (message c.args.self.now) c.args.frame (at_of c.args.state.now) (at_of c.loop-i.state) (c.loop-i.state.steps - c.args.state.now.steps) (going_on c.args.frame (Elements c.args.entry c.args.size (c.args.count - c.loop-i.i)) c.loop-i.done) c.loop-i.invariant.turns (let x : Row = record { offset = c.loop-i.done; entry = c.args.entry } in x) (Elements c.args.entry c.args.size (c.args.count - (c.loop-i.i + 1))) one tt is tt (Some (struct_frame c.entry-e.result (c.args.frame.base + c.loop-i.done) c.args.frame.depth c.args.frame.in_envelope)) (at_of c.loop-i.state) (c.loop-i.done + c.args.size) 0 (c.loop-i.state.steps + 1 - c.args.state.now.steps) (omega (arith, own, is)) (omega (arith, so_far)) (omega (arith, so_far)) (no_zeros c.args.self.now.bytes.value.came (c.args.frame.base + c.loop-i.done) _ none) seen seen_fine in
+    let seen : Visits c.args.self.now.table.now (message c.args.self.now) c.args.frame.depth c.args.entry (c.args.frame.base + c.loop-i.done)
+    (at_of c.loop-i.state) (at_of c.loop-i.state) 0 (Some (struct_frame c.entry-e.result (c.args.frame.base + c.loop-i.done) c.args.frame.depth
+    c.args.frame.in_envelope)) = subst (λ (d : Entry). Visits c.args.self.now.table.now (message c.args.self.now) c.args.frame.depth c.args.entry
+    (c.args.frame.base + c.loop-i.done) (at_of c.loop-i.state) (at_of c.loop-i.state) 0
+    (Some (struct_frame d (c.args.frame.base + c.loop-i.done) c.args.frame.depth c.args.frame.in_envelope))) (sym c.entry-e.ensures.value)
+    (visits_struct c.args.self.now.table.now c.args.self.now.fine (message c.args.self.now) c.args.frame.depth c.args.entry
+    (c.args.frame.base + c.loop-i.done) (at_of c.loop-i.state) c.requires.entry c.loop-i.invariant.turns.state c.requires.frame.depth
+    c.args.frame.in_envelope 0 refl c.requires.kind (omega (arith, before, fits, within))) in
+    let seen_fine = subst (λ (d : Entry). VisitFine c.args.self.now.table.now (message c.args.self.now) c.args.frame.depth c.args.frame.in_envelope
+    c.args.entry (Some (struct_frame d (c.args.frame.base + c.loop-i.done) c.args.frame.depth c.args.frame.in_envelope)))
+    (sym c.entry-e.ensures.value) (struct_fine c.args.self.now.table.now c.args.self.now.fine (message c.args.self.now) c.args.frame.depth
+    c.args.entry (c.args.frame.base + c.loop-i.done) (at_of c.loop-i.state) c.requires.entry c.loop-i.invariant.turns.state c.requires.frame.depth
+    c.args.frame.in_envelope c.requires.kind (omega (arith, before, fits, within))
+    (elim c.requires.frame.in_envelope [ inl out ↦ inl out | inr own ↦ (let four = own.1 in inr (own.0, omega (arith, four, fits))) ])) in
+    let taken : Turns c.args.self.now.table.now (message c.args.self.now) c.args.frame (at_of c.args.state.now) (at_of c.loop-i.state)
+    (c.loop-i.state.steps + 1 - c.args.state.now.steps) (record {
+      below = Some
+          (struct_frame c.entry-e.result (c.args.frame.base + c.loop-i.done) c.args.frame.depth c.args.frame.in_envelope);
+      rest = Some
+          (going_on (going_on c.args.frame (Elements c.args.entry c.args.size (c.args.count - c.loop-i.i)) c.loop-i.done)
+          (Elements c.args.entry c.args.size (c.args.count - (c.loop-i.i + 1))) (c.loop-i.done + c.args.size));
+    }) = next_takes c.args.self.now.table.now
+    c.args.self.now.fine (message c.args.self.now) c.args.frame (at_of c.args.state.now) (at_of c.loop-i.state)
+    (c.loop-i.state.steps - c.args.state.now.steps) (going_on c.args.frame (Elements c.args.entry c.args.size (c.args.count - c.loop-i.i))
+    c.loop-i.done) c.loop-i.invariant.turns (let x : Row = record { offset = c.loop-i.done; entry = c.args.entry } in x)
+    (Elements c.args.entry c.args.size (c.args.count - (c.loop-i.i + 1))) one tt is tt
+    (Some (struct_frame c.entry-e.result (c.args.frame.base + c.loop-i.done) c.args.frame.depth c.args.frame.in_envelope)) (at_of c.loop-i.state)
+    (c.loop-i.done + c.args.size) 0 (c.loop-i.state.steps + 1 - c.args.state.now.steps) (omega (arith, own, is)) (omega (arith, so_far))
+    (omega (arith, so_far)) (no_zeros c.args.self.now.bytes.value.came (c.args.frame.base + c.loop-i.done) _ none) seen seen_fine in
     let less = taken.less in
     omega (arith, less, so_far, c.requires.budget)
 
@@ -92,16 +198,50 @@ pub returns-in_err-found-clause-cost : goal.returns-in_err-found-clause-cost
 returns-in_err-found-clause-cost c =
     let is = c.loop-i.invariant.turns.rest_fine.0.left in
     let one = elements_next c.args.self.now.table.now c.args.entry c.args.size c.loop-i.i c.args.count c.loop-i.done is c.loop-i-test.true in
-    let room = next_room c.args.self.now.table.now c.args.self.now.fine (message c.args.self.now) c.args.frame (at_of c.args.state.now) (at_of c.loop-i.state) (c.loop-i.state.steps - c.args.state.now.steps) (going_on c.args.frame (Elements c.args.entry c.args.size (c.args.count - c.loop-i.i)) c.loop-i.done) c.loop-i.invariant.turns (let x : Row = record { offset = c.loop-i.done; entry = c.args.entry } in x) (Elements c.args.entry c.args.size (c.args.count - (c.loop-i.i + 1))) one in
+    let room = next_room c.args.self.now.table.now c.args.self.now.fine (message c.args.self.now) c.args.frame (at_of c.args.state.now)
+    (at_of c.loop-i.state) (c.loop-i.state.steps - c.args.state.now.steps)
+    (going_on c.args.frame (Elements c.args.entry c.args.size (c.args.count - c.loop-i.i)) c.loop-i.done) c.loop-i.invariant.turns
+    (let x : Row = record { offset = c.loop-i.done; entry = c.args.entry } in x)
+    (Elements c.args.entry c.args.size (c.args.count - (c.loop-i.i + 1))) one in
     let before = room.0 in
     let fits = room.1 in
     let within = room.2 in
-    let own = next_size c.args.self.now.table.now c.args.self.now.fine (message c.args.self.now) c.args.frame (at_of c.args.state.now) (at_of c.loop-i.state) (c.loop-i.state.steps - c.args.state.now.steps) (going_on c.args.frame (Elements c.args.entry c.args.size (c.args.count - c.loop-i.i)) c.loop-i.done) c.loop-i.invariant.turns (let x : Row = record { offset = c.loop-i.done; entry = c.args.entry } in x) (Elements c.args.entry c.args.size (c.args.count - (c.loop-i.i + 1))) one in
+    let own = next_size c.args.self.now.table.now c.args.self.now.fine (message c.args.self.now) c.args.frame (at_of c.args.state.now)
+    (at_of c.loop-i.state) (c.loop-i.state.steps - c.args.state.now.steps)
+    (going_on c.args.frame (Elements c.args.entry c.args.size (c.args.count - c.loop-i.i)) c.loop-i.done) c.loop-i.invariant.turns
+    (let x : Row = record { offset = c.loop-i.done; entry = c.args.entry } in x)
+    (Elements c.args.entry c.args.size (c.args.count - (c.loop-i.i + 1))) one in
     let so_far = c.loop-i.invariant.steps in
     let none : (c.args.frame.base + c.loop-i.done) - (c.args.frame.base + c.loop-i.done) ≡ 0 = omega arith in
-    let seen : Visits c.args.self.now.table.now (message c.args.self.now) c.args.frame.depth c.args.entry (c.args.frame.base + c.loop-i.done) (at_of c.loop-i.state) (at_of c.loop-i.state) 0 (Some (struct_frame c.entry-e.result (c.args.frame.base + c.loop-i.done) c.args.frame.depth c.args.frame.in_envelope)) = subst (λ (d : Entry). Visits c.args.self.now.table.now (message c.args.self.now) c.args.frame.depth c.args.entry (c.args.frame.base + c.loop-i.done) (at_of c.loop-i.state) (at_of c.loop-i.state) 0 (Some (struct_frame d (c.args.frame.base + c.loop-i.done) c.args.frame.depth c.args.frame.in_envelope))) (sym c.entry-e.ensures.value) (visits_struct c.args.self.now.table.now c.args.self.now.fine (message c.args.self.now) c.args.frame.depth c.args.entry (c.args.frame.base + c.loop-i.done) (at_of c.loop-i.state) c.requires.entry c.loop-i.invariant.turns.state c.requires.frame.depth c.args.frame.in_envelope 0 refl c.requires.kind (omega (arith, before, fits, within))) in
-    let seen_fine = subst (λ (d : Entry). VisitFine c.args.self.now.table.now (message c.args.self.now) c.args.frame.depth c.args.frame.in_envelope c.args.entry (Some (struct_frame d (c.args.frame.base + c.loop-i.done) c.args.frame.depth c.args.frame.in_envelope))) (sym c.entry-e.ensures.value) (struct_fine c.args.self.now.table.now c.args.self.now.fine (message c.args.self.now) c.args.frame.depth c.args.entry (c.args.frame.base + c.loop-i.done) (at_of c.loop-i.state) c.requires.entry c.loop-i.invariant.turns.state c.requires.frame.depth c.args.frame.in_envelope c.requires.kind (omega (arith, before, fits, within)) (elim c.requires.frame.in_envelope [ inl out ↦ inl out | inr own ↦ (let four = own.1 in inr (own.0, omega (arith, four, fits))) ])) in
-    let taken : Turns c.args.self.now.table.now (message c.args.self.now) c.args.frame (at_of c.args.state.now) (at_of c.loop-i.state) (c.loop-i.state.steps + 1 - c.args.state.now.steps) (record { below = Some (struct_frame c.entry-e.result (c.args.frame.base + c.loop-i.done) c.args.frame.depth c.args.frame.in_envelope); rest = Some (going_on (going_on c.args.frame (Elements c.args.entry c.args.size (c.args.count - c.loop-i.i)) c.loop-i.done) (Elements c.args.entry c.args.size (c.args.count - (c.loop-i.i + 1))) (c.loop-i.done + c.args.size)) }) = next_takes c.args.self.now.table.now c.args.self.now.fine (message c.args.self.now) c.args.frame (at_of c.args.state.now) (at_of c.loop-i.state) (c.loop-i.state.steps - c.args.state.now.steps) (going_on c.args.frame (Elements c.args.entry c.args.size (c.args.count - c.loop-i.i)) c.loop-i.done) c.loop-i.invariant.turns (let x : Row = record { offset = c.loop-i.done; entry = c.args.entry } in x) (Elements c.args.entry c.args.size (c.args.count - (c.loop-i.i + 1))) one tt is tt (Some (struct_frame c.entry-e.result (c.args.frame.base + c.loop-i.done) c.args.frame.depth c.args.frame.in_envelope)) (at_of c.loop-i.state) (c.loop-i.done + c.args.size) 0 (c.loop-i.state.steps + 1 - c.args.state.now.steps) (omega (arith, own, is)) (omega (arith, so_far)) (omega (arith, so_far)) (no_zeros c.args.self.now.bytes.value.came (c.args.frame.base + c.loop-i.done) _ none) seen seen_fine in
+    let seen : Visits c.args.self.now.table.now (message c.args.self.now) c.args.frame.depth c.args.entry (c.args.frame.base + c.loop-i.done)
+    (at_of c.loop-i.state) (at_of c.loop-i.state) 0 (Some (struct_frame c.entry-e.result (c.args.frame.base + c.loop-i.done) c.args.frame.depth
+    c.args.frame.in_envelope)) = subst (λ (d : Entry). Visits c.args.self.now.table.now (message c.args.self.now) c.args.frame.depth c.args.entry
+    (c.args.frame.base + c.loop-i.done) (at_of c.loop-i.state) (at_of c.loop-i.state) 0
+    (Some (struct_frame d (c.args.frame.base + c.loop-i.done) c.args.frame.depth c.args.frame.in_envelope))) (sym c.entry-e.ensures.value)
+    (visits_struct c.args.self.now.table.now c.args.self.now.fine (message c.args.self.now) c.args.frame.depth c.args.entry
+    (c.args.frame.base + c.loop-i.done) (at_of c.loop-i.state) c.requires.entry c.loop-i.invariant.turns.state c.requires.frame.depth
+    c.args.frame.in_envelope 0 refl c.requires.kind (omega (arith, before, fits, within))) in
+    let seen_fine = subst (λ (d : Entry). VisitFine c.args.self.now.table.now (message c.args.self.now) c.args.frame.depth c.args.frame.in_envelope
+    c.args.entry (Some (struct_frame d (c.args.frame.base + c.loop-i.done) c.args.frame.depth c.args.frame.in_envelope)))
+    (sym c.entry-e.ensures.value) (struct_fine c.args.self.now.table.now c.args.self.now.fine (message c.args.self.now) c.args.frame.depth
+    c.args.entry (c.args.frame.base + c.loop-i.done) (at_of c.loop-i.state) c.requires.entry c.loop-i.invariant.turns.state c.requires.frame.depth
+    c.args.frame.in_envelope c.requires.kind (omega (arith, before, fits, within))
+    (elim c.requires.frame.in_envelope [ inl out ↦ inl out | inr own ↦ (let four = own.1 in inr (own.0, omega (arith, four, fits))) ])) in
+    let taken : Turns c.args.self.now.table.now (message c.args.self.now) c.args.frame (at_of c.args.state.now) (at_of c.loop-i.state)
+    (c.loop-i.state.steps + 1 - c.args.state.now.steps) (record {
+      below = Some
+          (struct_frame c.entry-e.result (c.args.frame.base + c.loop-i.done) c.args.frame.depth c.args.frame.in_envelope);
+      rest = Some
+          (going_on (going_on c.args.frame (Elements c.args.entry c.args.size (c.args.count - c.loop-i.i)) c.loop-i.done)
+          (Elements c.args.entry c.args.size (c.args.count - (c.loop-i.i + 1))) (c.loop-i.done + c.args.size));
+    }) = next_takes c.args.self.now.table.now
+    c.args.self.now.fine (message c.args.self.now) c.args.frame (at_of c.args.state.now) (at_of c.loop-i.state)
+    (c.loop-i.state.steps - c.args.state.now.steps) (going_on c.args.frame (Elements c.args.entry c.args.size (c.args.count - c.loop-i.i))
+    c.loop-i.done) c.loop-i.invariant.turns (let x : Row = record { offset = c.loop-i.done; entry = c.args.entry } in x)
+    (Elements c.args.entry c.args.size (c.args.count - (c.loop-i.i + 1))) one tt is tt
+    (Some (struct_frame c.entry-e.result (c.args.frame.base + c.loop-i.done) c.args.frame.depth c.args.frame.in_envelope)) (at_of c.loop-i.state)
+    (c.loop-i.done + c.args.size) 0 (c.loop-i.state.steps + 1 - c.args.state.now.steps) (omega (arith, own, is)) (omega (arith, so_far))
+    (omega (arith, so_far)) (no_zeros c.args.self.now.bytes.value.came (c.args.frame.base + c.loop-i.done) _ none) seen seen_fine in
     let less = taken.less in
     omega (arith, less, so_far, c.in_err-found.ensures.cost)
 
@@ -109,68 +249,169 @@ pub overflow_add-done : goal.overflow_add-done
 overflow_add-done c =
     let is = c.loop-i.invariant.turns.rest_fine.0.left in
     let one = elements_next c.args.self.now.table.now c.args.entry c.args.size c.loop-i.i c.args.count c.loop-i.done is c.loop-i-test.true in
-    let room = next_room c.args.self.now.table.now c.args.self.now.fine (message c.args.self.now) c.args.frame (at_of c.args.state.now) (at_of c.loop-i.state) (c.loop-i.state.steps - c.args.state.now.steps) (going_on c.args.frame (Elements c.args.entry c.args.size (c.args.count - c.loop-i.i)) c.loop-i.done) c.loop-i.invariant.turns (let x : Row = record { offset = c.loop-i.done; entry = c.args.entry } in x) (Elements c.args.entry c.args.size (c.args.count - (c.loop-i.i + 1))) one in
+    let room = next_room c.args.self.now.table.now c.args.self.now.fine (message c.args.self.now) c.args.frame (at_of c.args.state.now)
+    (at_of c.loop-i.state) (c.loop-i.state.steps - c.args.state.now.steps)
+    (going_on c.args.frame (Elements c.args.entry c.args.size (c.args.count - c.loop-i.i)) c.loop-i.done) c.loop-i.invariant.turns
+    (let x : Row = record { offset = c.loop-i.done; entry = c.args.entry } in x)
+    (Elements c.args.entry c.args.size (c.args.count - (c.loop-i.i + 1))) one in
     let before = room.0 in
     let fits = room.1 in
     let within = room.2 in
-    let own = next_size c.args.self.now.table.now c.args.self.now.fine (message c.args.self.now) c.args.frame (at_of c.args.state.now) (at_of c.loop-i.state) (c.loop-i.state.steps - c.args.state.now.steps) (going_on c.args.frame (Elements c.args.entry c.args.size (c.args.count - c.loop-i.i)) c.loop-i.done) c.loop-i.invariant.turns (let x : Row = record { offset = c.loop-i.done; entry = c.args.entry } in x) (Elements c.args.entry c.args.size (c.args.count - (c.loop-i.i + 1))) one in
+    let own = next_size c.args.self.now.table.now c.args.self.now.fine (message c.args.self.now) c.args.frame (at_of c.args.state.now)
+    (at_of c.loop-i.state) (c.loop-i.state.steps - c.args.state.now.steps)
+    (going_on c.args.frame (Elements c.args.entry c.args.size (c.args.count - c.loop-i.i)) c.loop-i.done) c.loop-i.invariant.turns
+    (let x : Row = record { offset = c.loop-i.done; entry = c.args.entry } in x)
+    (Elements c.args.entry c.args.size (c.args.count - (c.loop-i.i + 1))) one in
     record { fits = omega (arith, before, fits, within, own, is) }
 
 pub returns-in-Some-clause-ok : goal.returns-in-Some-clause-ok
 returns-in-Some-clause-ok c =
     let is = c.loop-i.invariant.turns.rest_fine.0.left in
     let one = elements_next c.args.self.now.table.now c.args.entry c.args.size c.loop-i.i c.args.count c.loop-i.done is c.loop-i-test.true in
-    let room = next_room c.args.self.now.table.now c.args.self.now.fine (message c.args.self.now) c.args.frame (at_of c.args.state.now) (at_of c.loop-i.state) (c.loop-i.state.steps - c.args.state.now.steps) (going_on c.args.frame (Elements c.args.entry c.args.size (c.args.count - c.loop-i.i)) c.loop-i.done) c.loop-i.invariant.turns (let x : Row = record { offset = c.loop-i.done; entry = c.args.entry } in x) (Elements c.args.entry c.args.size (c.args.count - (c.loop-i.i + 1))) one in
+    let room = next_room c.args.self.now.table.now c.args.self.now.fine (message c.args.self.now) c.args.frame (at_of c.args.state.now)
+    (at_of c.loop-i.state) (c.loop-i.state.steps - c.args.state.now.steps)
+    (going_on c.args.frame (Elements c.args.entry c.args.size (c.args.count - c.loop-i.i)) c.loop-i.done) c.loop-i.invariant.turns
+    (let x : Row = record { offset = c.loop-i.done; entry = c.args.entry } in x)
+    (Elements c.args.entry c.args.size (c.args.count - (c.loop-i.i + 1))) one in
     let before = room.0 in
     let fits = room.1 in
     let within = room.2 in
-    let own = next_size c.args.self.now.table.now c.args.self.now.fine (message c.args.self.now) c.args.frame (at_of c.args.state.now) (at_of c.loop-i.state) (c.loop-i.state.steps - c.args.state.now.steps) (going_on c.args.frame (Elements c.args.entry c.args.size (c.args.count - c.loop-i.i)) c.loop-i.done) c.loop-i.invariant.turns (let x : Row = record { offset = c.loop-i.done; entry = c.args.entry } in x) (Elements c.args.entry c.args.size (c.args.count - (c.loop-i.i + 1))) one in
+    let own = next_size c.args.self.now.table.now c.args.self.now.fine (message c.args.self.now) c.args.frame (at_of c.args.state.now)
+    (at_of c.loop-i.state) (c.loop-i.state.steps - c.args.state.now.steps)
+    (going_on c.args.frame (Elements c.args.entry c.args.size (c.args.count - c.loop-i.i)) c.loop-i.done) c.loop-i.invariant.turns
+    (let x : Row = record { offset = c.loop-i.done; entry = c.args.entry } in x)
+    (Elements c.args.entry c.args.size (c.args.count - (c.loop-i.i + 1))) one in
     let so_far = c.loop-i.invariant.steps in
     let none : (c.args.frame.base + c.loop-i.done) - (c.args.frame.base + c.loop-i.done) ≡ 0 = omega arith in
-    let seen : Visits c.args.self.now.table.now (message c.args.self.now) c.args.frame.depth c.args.entry (c.args.frame.base + c.loop-i.done) (at_of c.loop-i.state) (at_of c.loop-i.state) 0 (Some (struct_frame c.entry-e.result (c.args.frame.base + c.loop-i.done) c.args.frame.depth c.args.frame.in_envelope)) = subst (λ (d : Entry). Visits c.args.self.now.table.now (message c.args.self.now) c.args.frame.depth c.args.entry (c.args.frame.base + c.loop-i.done) (at_of c.loop-i.state) (at_of c.loop-i.state) 0 (Some (struct_frame d (c.args.frame.base + c.loop-i.done) c.args.frame.depth c.args.frame.in_envelope))) (sym c.entry-e.ensures.value) (visits_struct c.args.self.now.table.now c.args.self.now.fine (message c.args.self.now) c.args.frame.depth c.args.entry (c.args.frame.base + c.loop-i.done) (at_of c.loop-i.state) c.requires.entry c.loop-i.invariant.turns.state c.requires.frame.depth c.args.frame.in_envelope 0 refl c.requires.kind (omega (arith, before, fits, within))) in
-    let seen_fine = subst (λ (d : Entry). VisitFine c.args.self.now.table.now (message c.args.self.now) c.args.frame.depth c.args.frame.in_envelope c.args.entry (Some (struct_frame d (c.args.frame.base + c.loop-i.done) c.args.frame.depth c.args.frame.in_envelope))) (sym c.entry-e.ensures.value) (struct_fine c.args.self.now.table.now c.args.self.now.fine (message c.args.self.now) c.args.frame.depth c.args.entry (c.args.frame.base + c.loop-i.done) (at_of c.loop-i.state) c.requires.entry c.loop-i.invariant.turns.state c.requires.frame.depth c.args.frame.in_envelope c.requires.kind (omega (arith, before, fits, within)) (elim c.requires.frame.in_envelope [ inl out ↦ inl out | inr own ↦ (let four = own.1 in inr (own.0, omega (arith, four, fits))) ])) in
-    let taken : Turns c.args.self.now.table.now (message c.args.self.now) c.args.frame (at_of c.args.state.now) (at_of c.loop-i.state) (c.loop-i.state.steps + 1 - c.args.state.now.steps) (record { below = Some (struct_frame c.entry-e.result (c.args.frame.base + c.loop-i.done) c.args.frame.depth c.args.frame.in_envelope); rest = Some (going_on (going_on c.args.frame (Elements c.args.entry c.args.size (c.args.count - c.loop-i.i)) c.loop-i.done) (Elements c.args.entry c.args.size (c.args.count - (c.loop-i.i + 1))) (c.loop-i.done + c.args.size)) }) = next_takes c.args.self.now.table.now c.args.self.now.fine (message c.args.self.now) c.args.frame (at_of c.args.state.now) (at_of c.loop-i.state) (c.loop-i.state.steps - c.args.state.now.steps) (going_on c.args.frame (Elements c.args.entry c.args.size (c.args.count - c.loop-i.i)) c.loop-i.done) c.loop-i.invariant.turns (let x : Row = record { offset = c.loop-i.done; entry = c.args.entry } in x) (Elements c.args.entry c.args.size (c.args.count - (c.loop-i.i + 1))) one tt is tt (Some (struct_frame c.entry-e.result (c.args.frame.base + c.loop-i.done) c.args.frame.depth c.args.frame.in_envelope)) (at_of c.loop-i.state) (c.loop-i.done + c.args.size) 0 (c.loop-i.state.steps + 1 - c.args.state.now.steps) (omega (arith, own, is)) (omega (arith, so_far)) (omega (arith, so_far)) (no_zeros c.args.self.now.bytes.value.came (c.args.frame.base + c.loop-i.done) _ none) seen seen_fine in
+    let seen : Visits c.args.self.now.table.now (message c.args.self.now) c.args.frame.depth c.args.entry (c.args.frame.base + c.loop-i.done)
+    (at_of c.loop-i.state) (at_of c.loop-i.state) 0 (Some (struct_frame c.entry-e.result (c.args.frame.base + c.loop-i.done) c.args.frame.depth
+    c.args.frame.in_envelope)) = subst (λ (d : Entry). Visits c.args.self.now.table.now (message c.args.self.now) c.args.frame.depth c.args.entry
+    (c.args.frame.base + c.loop-i.done) (at_of c.loop-i.state) (at_of c.loop-i.state) 0
+    (Some (struct_frame d (c.args.frame.base + c.loop-i.done) c.args.frame.depth c.args.frame.in_envelope))) (sym c.entry-e.ensures.value)
+    (visits_struct c.args.self.now.table.now c.args.self.now.fine (message c.args.self.now) c.args.frame.depth c.args.entry
+    (c.args.frame.base + c.loop-i.done) (at_of c.loop-i.state) c.requires.entry c.loop-i.invariant.turns.state c.requires.frame.depth
+    c.args.frame.in_envelope 0 refl c.requires.kind (omega (arith, before, fits, within))) in
+    let seen_fine = subst (λ (d : Entry). VisitFine c.args.self.now.table.now (message c.args.self.now) c.args.frame.depth c.args.frame.in_envelope
+    c.args.entry (Some (struct_frame d (c.args.frame.base + c.loop-i.done) c.args.frame.depth c.args.frame.in_envelope)))
+    (sym c.entry-e.ensures.value) (struct_fine c.args.self.now.table.now c.args.self.now.fine (message c.args.self.now) c.args.frame.depth
+    c.args.entry (c.args.frame.base + c.loop-i.done) (at_of c.loop-i.state) c.requires.entry c.loop-i.invariant.turns.state c.requires.frame.depth
+    c.args.frame.in_envelope c.requires.kind (omega (arith, before, fits, within))
+    (elim c.requires.frame.in_envelope [ inl out ↦ inl out | inr own ↦ (let four = own.1 in inr (own.0, omega (arith, four, fits))) ])) in
+    let taken : Turns c.args.self.now.table.now (message c.args.self.now) c.args.frame (at_of c.args.state.now) (at_of c.loop-i.state)
+    (c.loop-i.state.steps + 1 - c.args.state.now.steps) (record {
+      below = Some
+          (struct_frame c.entry-e.result (c.args.frame.base + c.loop-i.done) c.args.frame.depth c.args.frame.in_envelope);
+      rest = Some
+          (going_on (going_on c.args.frame (Elements c.args.entry c.args.size (c.args.count - c.loop-i.i)) c.loop-i.done)
+          (Elements c.args.entry c.args.size (c.args.count - (c.loop-i.i + 1))) (c.loop-i.done + c.args.size));
+    }) = next_takes c.args.self.now.table.now
+    c.args.self.now.fine (message c.args.self.now) c.args.frame (at_of c.args.state.now) (at_of c.loop-i.state)
+    (c.loop-i.state.steps - c.args.state.now.steps) (going_on c.args.frame (Elements c.args.entry c.args.size (c.args.count - c.loop-i.i))
+    c.loop-i.done) c.loop-i.invariant.turns (let x : Row = record { offset = c.loop-i.done; entry = c.args.entry } in x)
+    (Elements c.args.entry c.args.size (c.args.count - (c.loop-i.i + 1))) one tt is tt
+    (Some (struct_frame c.entry-e.result (c.args.frame.base + c.loop-i.done) c.args.frame.depth c.args.frame.in_envelope)) (at_of c.loop-i.state)
+    (c.loop-i.done + c.args.size) 0 (c.loop-i.state.steps + 1 - c.args.state.now.steps) (omega (arith, own, is)) (omega (arith, so_far))
+    (omega (arith, so_far)) (no_zeros c.args.self.now.bytes.value.came (c.args.frame.base + c.loop-i.done) _ none) seen seen_fine in
     let less = taken.less in
     let on = c.in_ok-found.ensures.grows in
-    let read = subst (λ (o : Option Frame). Turns c.args.self.now.table.now (message c.args.self.now) (struct_frame c.entry-e.result (c.args.frame.base + c.loop-i.done) c.args.frame.depth c.args.frame.in_envelope) (at_of c.loop-i.state) (at_of c.read_behind.new.state) (c.read_behind.new.state.steps - (c.loop-i.state.steps + 1)) (left_over o)) c.in-Some.is c.in_ok-found.ensures.ok in
-    turns_below c.args.self.now.table.now (message c.args.self.now) c.args.frame (at_of c.args.state.now) (at_of c.loop-i.state) (c.loop-i.state.steps + 1 - c.args.state.now.steps) (struct_frame c.entry-e.result (c.args.frame.base + c.loop-i.done) c.args.frame.depth c.args.frame.in_envelope) (going_on (going_on c.args.frame (Elements c.args.entry c.args.size (c.args.count - c.loop-i.i)) c.loop-i.done) (Elements c.args.entry c.args.size (c.args.count - (c.loop-i.i + 1))) (c.loop-i.done + c.args.size)) taken (at_of c.read_behind.new.state) _ _ (Some c.in-Some.inner) (omega (arith, so_far, on)) read
+    let read = subst (λ (o : Option Frame). Turns c.args.self.now.table.now (message c.args.self.now)
+    (struct_frame c.entry-e.result (c.args.frame.base + c.loop-i.done) c.args.frame.depth c.args.frame.in_envelope) (at_of c.loop-i.state)
+    (at_of c.read_behind.new.state) (c.read_behind.new.state.steps - (c.loop-i.state.steps + 1)) (left_over o)) c.in-Some.is
+    c.in_ok-found.ensures.ok in
+    turns_below c.args.self.now.table.now (message c.args.self.now) c.args.frame (at_of c.args.state.now) (at_of c.loop-i.state)
+    (c.loop-i.state.steps + 1 - c.args.state.now.steps) (struct_frame c.entry-e.result (c.args.frame.base + c.loop-i.done) c.args.frame.depth
+    c.args.frame.in_envelope) (going_on (going_on c.args.frame (Elements c.args.entry c.args.size (c.args.count - c.loop-i.i)) c.loop-i.done)
+    (Elements c.args.entry c.args.size (c.args.count - (c.loop-i.i + 1))) (c.loop-i.done + c.args.size)) taken (at_of c.read_behind.new.state) _ _
+    (Some c.in-Some.inner) (omega (arith, so_far, on)) read
 
 pub loop-i-preserved : goal.loop-i-preserved
 loop-i-preserved c =
     let is = c.loop-i.invariant.turns.rest_fine.0.left in
     let one = elements_next c.args.self.now.table.now c.args.entry c.args.size c.loop-i.i c.args.count c.loop-i.done is c.loop-i-test.true in
-    let room = next_room c.args.self.now.table.now c.args.self.now.fine (message c.args.self.now) c.args.frame (at_of c.args.state.now) (at_of c.loop-i.state) (c.loop-i.state.steps - c.args.state.now.steps) (going_on c.args.frame (Elements c.args.entry c.args.size (c.args.count - c.loop-i.i)) c.loop-i.done) c.loop-i.invariant.turns (let x : Row = record { offset = c.loop-i.done; entry = c.args.entry } in x) (Elements c.args.entry c.args.size (c.args.count - (c.loop-i.i + 1))) one in
+    let room = next_room c.args.self.now.table.now c.args.self.now.fine (message c.args.self.now) c.args.frame (at_of c.args.state.now)
+    (at_of c.loop-i.state) (c.loop-i.state.steps - c.args.state.now.steps)
+    (going_on c.args.frame (Elements c.args.entry c.args.size (c.args.count - c.loop-i.i)) c.loop-i.done) c.loop-i.invariant.turns
+    (let x : Row = record { offset = c.loop-i.done; entry = c.args.entry } in x)
+    (Elements c.args.entry c.args.size (c.args.count - (c.loop-i.i + 1))) one in
     let before = room.0 in
     let fits = room.1 in
     let within = room.2 in
-    let own = next_size c.args.self.now.table.now c.args.self.now.fine (message c.args.self.now) c.args.frame (at_of c.args.state.now) (at_of c.loop-i.state) (c.loop-i.state.steps - c.args.state.now.steps) (going_on c.args.frame (Elements c.args.entry c.args.size (c.args.count - c.loop-i.i)) c.loop-i.done) c.loop-i.invariant.turns (let x : Row = record { offset = c.loop-i.done; entry = c.args.entry } in x) (Elements c.args.entry c.args.size (c.args.count - (c.loop-i.i + 1))) one in
+    let own = next_size c.args.self.now.table.now c.args.self.now.fine (message c.args.self.now) c.args.frame (at_of c.args.state.now)
+    (at_of c.loop-i.state) (c.loop-i.state.steps - c.args.state.now.steps)
+    (going_on c.args.frame (Elements c.args.entry c.args.size (c.args.count - c.loop-i.i)) c.loop-i.done) c.loop-i.invariant.turns
+    (let x : Row = record { offset = c.loop-i.done; entry = c.args.entry } in x)
+    (Elements c.args.entry c.args.size (c.args.count - (c.loop-i.i + 1))) one in
     let so_far = c.loop-i.invariant.steps in
     let none : (c.args.frame.base + c.loop-i.done) - (c.args.frame.base + c.loop-i.done) ≡ 0 = omega arith in
-    let seen : Visits c.args.self.now.table.now (message c.args.self.now) c.args.frame.depth c.args.entry (c.args.frame.base + c.loop-i.done) (at_of c.loop-i.state) (at_of c.loop-i.state) 0 (Some (struct_frame c.entry-e.result (c.args.frame.base + c.loop-i.done) c.args.frame.depth c.args.frame.in_envelope)) = subst (λ (d : Entry). Visits c.args.self.now.table.now (message c.args.self.now) c.args.frame.depth c.args.entry (c.args.frame.base + c.loop-i.done) (at_of c.loop-i.state) (at_of c.loop-i.state) 0 (Some (struct_frame d (c.args.frame.base + c.loop-i.done) c.args.frame.depth c.args.frame.in_envelope))) (sym c.entry-e.ensures.value) (visits_struct c.args.self.now.table.now c.args.self.now.fine (message c.args.self.now) c.args.frame.depth c.args.entry (c.args.frame.base + c.loop-i.done) (at_of c.loop-i.state) c.requires.entry c.loop-i.invariant.turns.state c.requires.frame.depth c.args.frame.in_envelope 0 refl c.requires.kind (omega (arith, before, fits, within))) in
-    let seen_fine = subst (λ (d : Entry). VisitFine c.args.self.now.table.now (message c.args.self.now) c.args.frame.depth c.args.frame.in_envelope c.args.entry (Some (struct_frame d (c.args.frame.base + c.loop-i.done) c.args.frame.depth c.args.frame.in_envelope))) (sym c.entry-e.ensures.value) (struct_fine c.args.self.now.table.now c.args.self.now.fine (message c.args.self.now) c.args.frame.depth c.args.entry (c.args.frame.base + c.loop-i.done) (at_of c.loop-i.state) c.requires.entry c.loop-i.invariant.turns.state c.requires.frame.depth c.args.frame.in_envelope c.requires.kind (omega (arith, before, fits, within)) (elim c.requires.frame.in_envelope [ inl out ↦ inl out | inr own ↦ (let four = own.1 in inr (own.0, omega (arith, four, fits))) ])) in
-    let taken : Turns c.args.self.now.table.now (message c.args.self.now) c.args.frame (at_of c.args.state.now) (at_of c.loop-i.state) (c.loop-i.state.steps + 1 - c.args.state.now.steps) (record { below = Some (struct_frame c.entry-e.result (c.args.frame.base + c.loop-i.done) c.args.frame.depth c.args.frame.in_envelope); rest = Some (going_on (going_on c.args.frame (Elements c.args.entry c.args.size (c.args.count - c.loop-i.i)) c.loop-i.done) (Elements c.args.entry c.args.size (c.args.count - (c.loop-i.i + 1))) (c.loop-i.done + c.args.size)) }) = next_takes c.args.self.now.table.now c.args.self.now.fine (message c.args.self.now) c.args.frame (at_of c.args.state.now) (at_of c.loop-i.state) (c.loop-i.state.steps - c.args.state.now.steps) (going_on c.args.frame (Elements c.args.entry c.args.size (c.args.count - c.loop-i.i)) c.loop-i.done) c.loop-i.invariant.turns (let x : Row = record { offset = c.loop-i.done; entry = c.args.entry } in x) (Elements c.args.entry c.args.size (c.args.count - (c.loop-i.i + 1))) one tt is tt (Some (struct_frame c.entry-e.result (c.args.frame.base + c.loop-i.done) c.args.frame.depth c.args.frame.in_envelope)) (at_of c.loop-i.state) (c.loop-i.done + c.args.size) 0 (c.loop-i.state.steps + 1 - c.args.state.now.steps) (omega (arith, own, is)) (omega (arith, so_far)) (omega (arith, so_far)) (no_zeros c.args.self.now.bytes.value.came (c.args.frame.base + c.loop-i.done) _ none) seen seen_fine in
+    let seen : Visits c.args.self.now.table.now (message c.args.self.now) c.args.frame.depth c.args.entry (c.args.frame.base + c.loop-i.done)
+    (at_of c.loop-i.state) (at_of c.loop-i.state) 0 (Some (struct_frame c.entry-e.result (c.args.frame.base + c.loop-i.done) c.args.frame.depth
+    c.args.frame.in_envelope)) = subst (λ (d : Entry). Visits c.args.self.now.table.now (message c.args.self.now) c.args.frame.depth c.args.entry
+    (c.args.frame.base + c.loop-i.done) (at_of c.loop-i.state) (at_of c.loop-i.state) 0
+    (Some (struct_frame d (c.args.frame.base + c.loop-i.done) c.args.frame.depth c.args.frame.in_envelope))) (sym c.entry-e.ensures.value)
+    (visits_struct c.args.self.now.table.now c.args.self.now.fine (message c.args.self.now) c.args.frame.depth c.args.entry
+    (c.args.frame.base + c.loop-i.done) (at_of c.loop-i.state) c.requires.entry c.loop-i.invariant.turns.state c.requires.frame.depth
+    c.args.frame.in_envelope 0 refl c.requires.kind (omega (arith, before, fits, within))) in
+    let seen_fine = subst (λ (d : Entry). VisitFine c.args.self.now.table.now (message c.args.self.now) c.args.frame.depth c.args.frame.in_envelope
+    c.args.entry (Some (struct_frame d (c.args.frame.base + c.loop-i.done) c.args.frame.depth c.args.frame.in_envelope)))
+    (sym c.entry-e.ensures.value) (struct_fine c.args.self.now.table.now c.args.self.now.fine (message c.args.self.now) c.args.frame.depth
+    c.args.entry (c.args.frame.base + c.loop-i.done) (at_of c.loop-i.state) c.requires.entry c.loop-i.invariant.turns.state c.requires.frame.depth
+    c.args.frame.in_envelope c.requires.kind (omega (arith, before, fits, within))
+    (elim c.requires.frame.in_envelope [ inl out ↦ inl out | inr own ↦ (let four = own.1 in inr (own.0, omega (arith, four, fits))) ])) in
+    let taken : Turns c.args.self.now.table.now (message c.args.self.now) c.args.frame (at_of c.args.state.now) (at_of c.loop-i.state)
+    (c.loop-i.state.steps + 1 - c.args.state.now.steps) (record {
+      below = Some
+          (struct_frame c.entry-e.result (c.args.frame.base + c.loop-i.done) c.args.frame.depth c.args.frame.in_envelope);
+      rest = Some
+          (going_on (going_on c.args.frame (Elements c.args.entry c.args.size (c.args.count - c.loop-i.i)) c.loop-i.done)
+          (Elements c.args.entry c.args.size (c.args.count - (c.loop-i.i + 1))) (c.loop-i.done + c.args.size));
+    }) = next_takes c.args.self.now.table.now
+    c.args.self.now.fine (message c.args.self.now) c.args.frame (at_of c.args.state.now) (at_of c.loop-i.state)
+    (c.loop-i.state.steps - c.args.state.now.steps) (going_on c.args.frame (Elements c.args.entry c.args.size (c.args.count - c.loop-i.i))
+    c.loop-i.done) c.loop-i.invariant.turns (let x : Row = record { offset = c.loop-i.done; entry = c.args.entry } in x)
+    (Elements c.args.entry c.args.size (c.args.count - (c.loop-i.i + 1))) one tt is tt
+    (Some (struct_frame c.entry-e.result (c.args.frame.base + c.loop-i.done) c.args.frame.depth c.args.frame.in_envelope)) (at_of c.loop-i.state)
+    (c.loop-i.done + c.args.size) 0 (c.loop-i.state.steps + 1 - c.args.state.now.steps) (omega (arith, own, is)) (omega (arith, so_far))
+    (omega (arith, so_far)) (no_zeros c.args.self.now.bytes.value.came (c.args.frame.base + c.loop-i.done) _ none) seen seen_fine in
     let less = taken.less in
     let on = c.in_ok-found.ensures.grows in
-    let read = subst (λ (o : Option Frame). Turns c.args.self.now.table.now (message c.args.self.now) (struct_frame c.entry-e.result (c.args.frame.base + c.loop-i.done) c.args.frame.depth c.args.frame.in_envelope) (at_of c.loop-i.state) (at_of c.read_behind.new.state) (c.read_behind.new.state.steps - (c.loop-i.state.steps + 1)) (left_over o)) c.in_default.is c.in_ok-found.ensures.ok in
-    record { holds = c.read_behind.ensures.holds; turns = turns_over c.args.self.now.table.now (message c.args.self.now) c.args.frame (at_of c.args.state.now) (at_of c.loop-i.state) (c.loop-i.state.steps + 1 - c.args.state.now.steps) (struct_frame c.entry-e.result (c.args.frame.base + c.loop-i.done) c.args.frame.depth c.args.frame.in_envelope) (going_on (going_on c.args.frame (Elements c.args.entry c.args.size (c.args.count - c.loop-i.i)) c.loop-i.done) (Elements c.args.entry c.args.size (c.args.count - (c.loop-i.i + 1))) (c.loop-i.done + c.args.size)) taken (at_of c.read_behind.new.state) _ _ (omega (arith, so_far, on)) read; steps = omega (arith, so_far, on) }
+    let read = subst (λ (o : Option Frame). Turns c.args.self.now.table.now (message c.args.self.now)
+    (struct_frame c.entry-e.result (c.args.frame.base + c.loop-i.done) c.args.frame.depth c.args.frame.in_envelope) (at_of c.loop-i.state)
+    (at_of c.read_behind.new.state) (c.read_behind.new.state.steps - (c.loop-i.state.steps + 1)) (left_over o)) c.in_default.is
+    c.in_ok-found.ensures.ok in
+    record {
+      holds = c.read_behind.ensures.holds;
+      turns = turns_over c.args.self.now.table.now (message c.args.self.now) c.args.frame
+          (at_of c.args.state.now) (at_of c.loop-i.state) (c.loop-i.state.steps + 1 - c.args.state.now.steps)
+          (struct_frame c.entry-e.result (c.args.frame.base + c.loop-i.done) c.args.frame.depth c.args.frame.in_envelope)
+          (going_on (going_on c.args.frame (Elements c.args.entry c.args.size (c.args.count - c.loop-i.i)) c.loop-i.done)
+          (Elements c.args.entry c.args.size (c.args.count - (c.loop-i.i + 1))) (c.loop-i.done + c.args.size)) taken (at_of c.read_behind.new.state) _ _
+          (omega (arith, so_far, on)) read;
+      steps = omega (arith, so_far, on);
+    }
 
 pub overflow_add-behind : goal.overflow_add-behind
 overflow_add-behind c =
-    let room = over_room c.args.self.now.table.now c.args.self.now.fine (message c.args.self.now) c.args.frame (at_of c.args.state.now) (at_of c.loop-i.state) (c.loop-i.state.steps - c.args.state.now.steps) (going_on c.args.frame (Elements c.args.entry c.args.size (c.args.count - c.loop-i.i)) c.loop-i.done) c.loop-i.invariant.turns in
+    let room = over_room c.args.self.now.table.now c.args.self.now.fine (message c.args.self.now) c.args.frame (at_of c.args.state.now)
+    (at_of c.loop-i.state) (c.loop-i.state.steps - c.args.state.now.steps)
+    (going_on c.args.frame (Elements c.args.entry c.args.size (c.args.count - c.loop-i.i)) c.loop-i.done) c.loop-i.invariant.turns in
     let before = room.0 in
     let within = room.1 in
     record { fits = omega (arith, before, within) }
 
 pub overflow_sub-state : goal.overflow_sub-state
 overflow_sub-state c =
-    let room = over_room c.args.self.now.table.now c.args.self.now.fine (message c.args.self.now) c.args.frame (at_of c.args.state.now) (at_of c.loop-i.state) (c.loop-i.state.steps - c.args.state.now.steps) (going_on c.args.frame (Elements c.args.entry c.args.size (c.args.count - c.loop-i.i)) c.loop-i.done) c.loop-i.invariant.turns in
+    let room = over_room c.args.self.now.table.now c.args.self.now.fine (message c.args.self.now) c.args.frame (at_of c.args.state.now)
+    (at_of c.loop-i.state) (c.loop-i.state.steps - c.args.state.now.steps)
+    (going_on c.args.frame (Elements c.args.entry c.args.size (c.args.count - c.loop-i.i)) c.loop-i.done) c.loop-i.invariant.turns in
     let before = room.0 in
     let within = room.1 in
     omega (arith, before, within)
 
 pub zeros_at-requires-clause-order : goal.zeros_at-requires-clause-order
 zeros_at-requires-clause-order c =
-    let room = over_room c.args.self.now.table.now c.args.self.now.fine (message c.args.self.now) c.args.frame (at_of c.args.state.now) (at_of c.loop-i.state) (c.loop-i.state.steps - c.args.state.now.steps) (going_on c.args.frame (Elements c.args.entry c.args.size (c.args.count - c.loop-i.i)) c.loop-i.done) c.loop-i.invariant.turns in
+    let room = over_room c.args.self.now.table.now c.args.self.now.fine (message c.args.self.now) c.args.frame (at_of c.args.state.now)
+    (at_of c.loop-i.state) (c.loop-i.state.steps - c.args.state.now.steps)
+    (going_on c.args.frame (Elements c.args.entry c.args.size (c.args.count - c.loop-i.i)) c.loop-i.done) c.loop-i.invariant.turns in
     let before = room.0 in
     let within = room.1 in
     omega (arith, before, within)
@@ -179,22 +420,58 @@ pub returns-clause-ok : goal.returns-clause-ok
 returns-clause-ok c =
     let over = elements_over c.args.self.now.table.now c.args.entry c.args.size c.loop-i.i c.args.count c.loop-i.done (omega (arith, c.loop-i-test.false)) in
     let so_far = c.loop-i.invariant.steps in
-    over_turns c.args.self.now.table.now c.args.self.now.fine (message c.args.self.now) c.args.frame (at_of c.args.state.now) (at_of c.loop-i.state) (c.loop-i.state.steps - c.args.state.now.steps) (going_on c.args.frame (Elements c.args.entry c.args.size (c.args.count - c.loop-i.i)) c.loop-i.done) c.loop-i.invariant.turns over tt _ (omega (arith, so_far)) (omega (arith, so_far)) c.in_ok-zeros_at.ensures.ok
+    over_turns c.args.self.now.table.now c.args.self.now.fine (message c.args.self.now) c.args.frame (at_of c.args.state.now) (at_of c.loop-i.state)
+    (c.loop-i.state.steps - c.args.state.now.steps) (going_on c.args.frame (Elements c.args.entry c.args.size (c.args.count - c.loop-i.i))
+    c.loop-i.done) c.loop-i.invariant.turns over tt _ (omega (arith, so_far)) (omega (arith, so_far)) c.in_ok-zeros_at.ensures.ok
 
 pub returns-in-Some-clause-cost : goal.returns-in-Some-clause-cost
 returns-in-Some-clause-cost c =
     let is = c.loop-i.invariant.turns.rest_fine.0.left in
     let one = elements_next c.args.self.now.table.now c.args.entry c.args.size c.loop-i.i c.args.count c.loop-i.done is c.loop-i-test.true in
-    let room = next_room c.args.self.now.table.now c.args.self.now.fine (message c.args.self.now) c.args.frame (at_of c.args.state.now) (at_of c.loop-i.state) (c.loop-i.state.steps - c.args.state.now.steps) (going_on c.args.frame (Elements c.args.entry c.args.size (c.args.count - c.loop-i.i)) c.loop-i.done) c.loop-i.invariant.turns (let x : Row = record { offset = c.loop-i.done; entry = c.args.entry } in x) (Elements c.args.entry c.args.size (c.args.count - (c.loop-i.i + 1))) one in
+    let room = next_room c.args.self.now.table.now c.args.self.now.fine (message c.args.self.now) c.args.frame (at_of c.args.state.now)
+    (at_of c.loop-i.state) (c.loop-i.state.steps - c.args.state.now.steps)
+    (going_on c.args.frame (Elements c.args.entry c.args.size (c.args.count - c.loop-i.i)) c.loop-i.done) c.loop-i.invariant.turns
+    (let x : Row = record { offset = c.loop-i.done; entry = c.args.entry } in x)
+    (Elements c.args.entry c.args.size (c.args.count - (c.loop-i.i + 1))) one in
     let before = room.0 in
     let fits = room.1 in
     let within = room.2 in
-    let own = next_size c.args.self.now.table.now c.args.self.now.fine (message c.args.self.now) c.args.frame (at_of c.args.state.now) (at_of c.loop-i.state) (c.loop-i.state.steps - c.args.state.now.steps) (going_on c.args.frame (Elements c.args.entry c.args.size (c.args.count - c.loop-i.i)) c.loop-i.done) c.loop-i.invariant.turns (let x : Row = record { offset = c.loop-i.done; entry = c.args.entry } in x) (Elements c.args.entry c.args.size (c.args.count - (c.loop-i.i + 1))) one in
+    let own = next_size c.args.self.now.table.now c.args.self.now.fine (message c.args.self.now) c.args.frame (at_of c.args.state.now)
+    (at_of c.loop-i.state) (c.loop-i.state.steps - c.args.state.now.steps)
+    (going_on c.args.frame (Elements c.args.entry c.args.size (c.args.count - c.loop-i.i)) c.loop-i.done) c.loop-i.invariant.turns
+    (let x : Row = record { offset = c.loop-i.done; entry = c.args.entry } in x)
+    (Elements c.args.entry c.args.size (c.args.count - (c.loop-i.i + 1))) one in
     let so_far = c.loop-i.invariant.steps in
     let none : (c.args.frame.base + c.loop-i.done) - (c.args.frame.base + c.loop-i.done) ≡ 0 = omega arith in
-    let seen : Visits c.args.self.now.table.now (message c.args.self.now) c.args.frame.depth c.args.entry (c.args.frame.base + c.loop-i.done) (at_of c.loop-i.state) (at_of c.loop-i.state) 0 (Some (struct_frame c.entry-e.result (c.args.frame.base + c.loop-i.done) c.args.frame.depth c.args.frame.in_envelope)) = subst (λ (d : Entry). Visits c.args.self.now.table.now (message c.args.self.now) c.args.frame.depth c.args.entry (c.args.frame.base + c.loop-i.done) (at_of c.loop-i.state) (at_of c.loop-i.state) 0 (Some (struct_frame d (c.args.frame.base + c.loop-i.done) c.args.frame.depth c.args.frame.in_envelope))) (sym c.entry-e.ensures.value) (visits_struct c.args.self.now.table.now c.args.self.now.fine (message c.args.self.now) c.args.frame.depth c.args.entry (c.args.frame.base + c.loop-i.done) (at_of c.loop-i.state) c.requires.entry c.loop-i.invariant.turns.state c.requires.frame.depth c.args.frame.in_envelope 0 refl c.requires.kind (omega (arith, before, fits, within))) in
-    let seen_fine = subst (λ (d : Entry). VisitFine c.args.self.now.table.now (message c.args.self.now) c.args.frame.depth c.args.frame.in_envelope c.args.entry (Some (struct_frame d (c.args.frame.base + c.loop-i.done) c.args.frame.depth c.args.frame.in_envelope))) (sym c.entry-e.ensures.value) (struct_fine c.args.self.now.table.now c.args.self.now.fine (message c.args.self.now) c.args.frame.depth c.args.entry (c.args.frame.base + c.loop-i.done) (at_of c.loop-i.state) c.requires.entry c.loop-i.invariant.turns.state c.requires.frame.depth c.args.frame.in_envelope c.requires.kind (omega (arith, before, fits, within)) (elim c.requires.frame.in_envelope [ inl out ↦ inl out | inr own ↦ (let four = own.1 in inr (own.0, omega (arith, four, fits))) ])) in
-    let taken : Turns c.args.self.now.table.now (message c.args.self.now) c.args.frame (at_of c.args.state.now) (at_of c.loop-i.state) (c.loop-i.state.steps + 1 - c.args.state.now.steps) (record { below = Some (struct_frame c.entry-e.result (c.args.frame.base + c.loop-i.done) c.args.frame.depth c.args.frame.in_envelope); rest = Some (going_on (going_on c.args.frame (Elements c.args.entry c.args.size (c.args.count - c.loop-i.i)) c.loop-i.done) (Elements c.args.entry c.args.size (c.args.count - (c.loop-i.i + 1))) (c.loop-i.done + c.args.size)) }) = next_takes c.args.self.now.table.now c.args.self.now.fine (message c.args.self.now) c.args.frame (at_of c.args.state.now) (at_of c.loop-i.state) (c.loop-i.state.steps - c.args.state.now.steps) (going_on c.args.frame (Elements c.args.entry c.args.size (c.args.count - c.loop-i.i)) c.loop-i.done) c.loop-i.invariant.turns (let x : Row = record { offset = c.loop-i.done; entry = c.args.entry } in x) (Elements c.args.entry c.args.size (c.args.count - (c.loop-i.i + 1))) one tt is tt (Some (struct_frame c.entry-e.result (c.args.frame.base + c.loop-i.done) c.args.frame.depth c.args.frame.in_envelope)) (at_of c.loop-i.state) (c.loop-i.done + c.args.size) 0 (c.loop-i.state.steps + 1 - c.args.state.now.steps) (omega (arith, own, is)) (omega (arith, so_far)) (omega (arith, so_far)) (no_zeros c.args.self.now.bytes.value.came (c.args.frame.base + c.loop-i.done) _ none) seen seen_fine in
+    let seen : Visits c.args.self.now.table.now (message c.args.self.now) c.args.frame.depth c.args.entry (c.args.frame.base + c.loop-i.done)
+    (at_of c.loop-i.state) (at_of c.loop-i.state) 0 (Some (struct_frame c.entry-e.result (c.args.frame.base + c.loop-i.done) c.args.frame.depth
+    c.args.frame.in_envelope)) = subst (λ (d : Entry). Visits c.args.self.now.table.now (message c.args.self.now) c.args.frame.depth c.args.entry
+    (c.args.frame.base + c.loop-i.done) (at_of c.loop-i.state) (at_of c.loop-i.state) 0
+    (Some (struct_frame d (c.args.frame.base + c.loop-i.done) c.args.frame.depth c.args.frame.in_envelope))) (sym c.entry-e.ensures.value)
+    (visits_struct c.args.self.now.table.now c.args.self.now.fine (message c.args.self.now) c.args.frame.depth c.args.entry
+    (c.args.frame.base + c.loop-i.done) (at_of c.loop-i.state) c.requires.entry c.loop-i.invariant.turns.state c.requires.frame.depth
+    c.args.frame.in_envelope 0 refl c.requires.kind (omega (arith, before, fits, within))) in
+    let seen_fine = subst (λ (d : Entry). VisitFine c.args.self.now.table.now (message c.args.self.now) c.args.frame.depth c.args.frame.in_envelope
+    c.args.entry (Some (struct_frame d (c.args.frame.base + c.loop-i.done) c.args.frame.depth c.args.frame.in_envelope)))
+    (sym c.entry-e.ensures.value) (struct_fine c.args.self.now.table.now c.args.self.now.fine (message c.args.self.now) c.args.frame.depth
+    c.args.entry (c.args.frame.base + c.loop-i.done) (at_of c.loop-i.state) c.requires.entry c.loop-i.invariant.turns.state c.requires.frame.depth
+    c.args.frame.in_envelope c.requires.kind (omega (arith, before, fits, within))
+    (elim c.requires.frame.in_envelope [ inl out ↦ inl out | inr own ↦ (let four = own.1 in inr (own.0, omega (arith, four, fits))) ])) in
+    let taken : Turns c.args.self.now.table.now (message c.args.self.now) c.args.frame (at_of c.args.state.now) (at_of c.loop-i.state)
+    (c.loop-i.state.steps + 1 - c.args.state.now.steps) (record {
+      below = Some
+          (struct_frame c.entry-e.result (c.args.frame.base + c.loop-i.done) c.args.frame.depth c.args.frame.in_envelope);
+      rest = Some
+          (going_on (going_on c.args.frame (Elements c.args.entry c.args.size (c.args.count - c.loop-i.i)) c.loop-i.done)
+          (Elements c.args.entry c.args.size (c.args.count - (c.loop-i.i + 1))) (c.loop-i.done + c.args.size));
+    }) = next_takes c.args.self.now.table.now
+    c.args.self.now.fine (message c.args.self.now) c.args.frame (at_of c.args.state.now) (at_of c.loop-i.state)
+    (c.loop-i.state.steps - c.args.state.now.steps) (going_on c.args.frame (Elements c.args.entry c.args.size (c.args.count - c.loop-i.i))
+    c.loop-i.done) c.loop-i.invariant.turns (let x : Row = record { offset = c.loop-i.done; entry = c.args.entry } in x)
+    (Elements c.args.entry c.args.size (c.args.count - (c.loop-i.i + 1))) one tt is tt
+    (Some (struct_frame c.entry-e.result (c.args.frame.base + c.loop-i.done) c.args.frame.depth c.args.frame.in_envelope)) (at_of c.loop-i.state)
+    (c.loop-i.done + c.args.size) 0 (c.loop-i.state.steps + 1 - c.args.state.now.steps) (omega (arith, own, is)) (omega (arith, so_far))
+    (omega (arith, so_far)) (no_zeros c.args.self.now.bytes.value.came (c.args.frame.base + c.loop-i.done) _ none) seen seen_fine in
     let less = taken.less in
     omega (arith, less, so_far, c.in_ok-found.ensures.cost)
 
@@ -202,45 +479,131 @@ pub loop-i-init : goal.loop-i-init
 loop-i-init c =
     let none : 0 ≡ c.args.state.now.steps - c.args.state.now.steps = omega arith in
     let all : c.args.count ≡ c.args.count - 0 = omega arith in
-    record { holds = c.requires.holds; turns = subst (λ (n : ℕ). Turns c.args.self.now.table.now (message c.args.self.now) c.args.frame (at_of c.args.state.now) (at_of c.args.state.now) n (left_over (Some (going_on c.args.frame (Elements c.args.entry c.args.size (c.args.count - 0)) c.args.frame.done)))) none (turns_start c.args.self.now.table.now (message c.args.self.now) c.args.frame (at_of c.args.state.now) c.requires.frame c.requires.state (going_on c.args.frame (Elements c.args.entry c.args.size (c.args.count - 0)) c.args.frame.done) (same_frame c.args.frame (Elements c.args.entry c.args.size (c.args.count - 0)) (c.requires.left ∙ ap (λ n. Elements c.args.entry c.args.size n) all))); steps = omega arith }
+    record {
+      holds = c.requires.holds;
+      turns = subst (λ (n : ℕ). Turns c.args.self.now.table.now (message c.args.self.now) c.args.frame
+          (at_of c.args.state.now) (at_of c.args.state.now) n (left_over (Some
+          (going_on c.args.frame (Elements c.args.entry c.args.size (c.args.count - 0)) c.args.frame.done)))) none
+          (turns_start c.args.self.now.table.now (message c.args.self.now) c.args.frame (at_of c.args.state.now) c.requires.frame c.requires.state
+          (going_on c.args.frame (Elements c.args.entry c.args.size (c.args.count - 0)) c.args.frame.done)
+          (same_frame c.args.frame (Elements c.args.entry c.args.size (c.args.count - 0))
+          (c.requires.left ∙ ap (λ n. Elements c.args.entry c.args.size n) all)));
+      steps = omega arith;
+    }
 
 pub returns-in_err-found-clause-fault_is_true : goal.returns-in_err-found-clause-fault_is_true
 returns-in_err-found-clause-fault_is_true c =
     let is = c.loop-i.invariant.turns.rest_fine.0.left in
     let one = elements_next c.args.self.now.table.now c.args.entry c.args.size c.loop-i.i c.args.count c.loop-i.done is c.loop-i-test.true in
-    let room = next_room c.args.self.now.table.now c.args.self.now.fine (message c.args.self.now) c.args.frame (at_of c.args.state.now) (at_of c.loop-i.state) (c.loop-i.state.steps - c.args.state.now.steps) (going_on c.args.frame (Elements c.args.entry c.args.size (c.args.count - c.loop-i.i)) c.loop-i.done) c.loop-i.invariant.turns (let x : Row = record { offset = c.loop-i.done; entry = c.args.entry } in x) (Elements c.args.entry c.args.size (c.args.count - (c.loop-i.i + 1))) one in
+    let room = next_room c.args.self.now.table.now c.args.self.now.fine (message c.args.self.now) c.args.frame (at_of c.args.state.now)
+    (at_of c.loop-i.state) (c.loop-i.state.steps - c.args.state.now.steps)
+    (going_on c.args.frame (Elements c.args.entry c.args.size (c.args.count - c.loop-i.i)) c.loop-i.done) c.loop-i.invariant.turns
+    (let x : Row = record { offset = c.loop-i.done; entry = c.args.entry } in x)
+    (Elements c.args.entry c.args.size (c.args.count - (c.loop-i.i + 1))) one in
     let before = room.0 in
     let fits = room.1 in
     let within = room.2 in
-    let own = next_size c.args.self.now.table.now c.args.self.now.fine (message c.args.self.now) c.args.frame (at_of c.args.state.now) (at_of c.loop-i.state) (c.loop-i.state.steps - c.args.state.now.steps) (going_on c.args.frame (Elements c.args.entry c.args.size (c.args.count - c.loop-i.i)) c.loop-i.done) c.loop-i.invariant.turns (let x : Row = record { offset = c.loop-i.done; entry = c.args.entry } in x) (Elements c.args.entry c.args.size (c.args.count - (c.loop-i.i + 1))) one in
+    let own = next_size c.args.self.now.table.now c.args.self.now.fine (message c.args.self.now) c.args.frame (at_of c.args.state.now)
+    (at_of c.loop-i.state) (c.loop-i.state.steps - c.args.state.now.steps)
+    (going_on c.args.frame (Elements c.args.entry c.args.size (c.args.count - c.loop-i.i)) c.loop-i.done) c.loop-i.invariant.turns
+    (let x : Row = record { offset = c.loop-i.done; entry = c.args.entry } in x)
+    (Elements c.args.entry c.args.size (c.args.count - (c.loop-i.i + 1))) one in
     let so_far = c.loop-i.invariant.steps in
     let none : (c.args.frame.base + c.loop-i.done) - (c.args.frame.base + c.loop-i.done) ≡ 0 = omega arith in
-    let seen : Visits c.args.self.now.table.now (message c.args.self.now) c.args.frame.depth c.args.entry (c.args.frame.base + c.loop-i.done) (at_of c.loop-i.state) (at_of c.loop-i.state) 0 (Some (struct_frame c.entry-e.result (c.args.frame.base + c.loop-i.done) c.args.frame.depth c.args.frame.in_envelope)) = subst (λ (d : Entry). Visits c.args.self.now.table.now (message c.args.self.now) c.args.frame.depth c.args.entry (c.args.frame.base + c.loop-i.done) (at_of c.loop-i.state) (at_of c.loop-i.state) 0 (Some (struct_frame d (c.args.frame.base + c.loop-i.done) c.args.frame.depth c.args.frame.in_envelope))) (sym c.entry-e.ensures.value) (visits_struct c.args.self.now.table.now c.args.self.now.fine (message c.args.self.now) c.args.frame.depth c.args.entry (c.args.frame.base + c.loop-i.done) (at_of c.loop-i.state) c.requires.entry c.loop-i.invariant.turns.state c.requires.frame.depth c.args.frame.in_envelope 0 refl c.requires.kind (omega (arith, before, fits, within))) in
-    let seen_fine = subst (λ (d : Entry). VisitFine c.args.self.now.table.now (message c.args.self.now) c.args.frame.depth c.args.frame.in_envelope c.args.entry (Some (struct_frame d (c.args.frame.base + c.loop-i.done) c.args.frame.depth c.args.frame.in_envelope))) (sym c.entry-e.ensures.value) (struct_fine c.args.self.now.table.now c.args.self.now.fine (message c.args.self.now) c.args.frame.depth c.args.entry (c.args.frame.base + c.loop-i.done) (at_of c.loop-i.state) c.requires.entry c.loop-i.invariant.turns.state c.requires.frame.depth c.args.frame.in_envelope c.requires.kind (omega (arith, before, fits, within)) (elim c.requires.frame.in_envelope [ inl out ↦ inl out | inr own ↦ (let four = own.1 in inr (own.0, omega (arith, four, fits))) ])) in
-    let taken : Turns c.args.self.now.table.now (message c.args.self.now) c.args.frame (at_of c.args.state.now) (at_of c.loop-i.state) (c.loop-i.state.steps + 1 - c.args.state.now.steps) (record { below = Some (struct_frame c.entry-e.result (c.args.frame.base + c.loop-i.done) c.args.frame.depth c.args.frame.in_envelope); rest = Some (going_on (going_on c.args.frame (Elements c.args.entry c.args.size (c.args.count - c.loop-i.i)) c.loop-i.done) (Elements c.args.entry c.args.size (c.args.count - (c.loop-i.i + 1))) (c.loop-i.done + c.args.size)) }) = next_takes c.args.self.now.table.now c.args.self.now.fine (message c.args.self.now) c.args.frame (at_of c.args.state.now) (at_of c.loop-i.state) (c.loop-i.state.steps - c.args.state.now.steps) (going_on c.args.frame (Elements c.args.entry c.args.size (c.args.count - c.loop-i.i)) c.loop-i.done) c.loop-i.invariant.turns (let x : Row = record { offset = c.loop-i.done; entry = c.args.entry } in x) (Elements c.args.entry c.args.size (c.args.count - (c.loop-i.i + 1))) one tt is tt (Some (struct_frame c.entry-e.result (c.args.frame.base + c.loop-i.done) c.args.frame.depth c.args.frame.in_envelope)) (at_of c.loop-i.state) (c.loop-i.done + c.args.size) 0 (c.loop-i.state.steps + 1 - c.args.state.now.steps) (omega (arith, own, is)) (omega (arith, so_far)) (omega (arith, so_far)) (no_zeros c.args.self.now.bytes.value.came (c.args.frame.base + c.loop-i.done) _ none) seen seen_fine in
+    let seen : Visits c.args.self.now.table.now (message c.args.self.now) c.args.frame.depth c.args.entry (c.args.frame.base + c.loop-i.done)
+    (at_of c.loop-i.state) (at_of c.loop-i.state) 0 (Some (struct_frame c.entry-e.result (c.args.frame.base + c.loop-i.done) c.args.frame.depth
+    c.args.frame.in_envelope)) = subst (λ (d : Entry). Visits c.args.self.now.table.now (message c.args.self.now) c.args.frame.depth c.args.entry
+    (c.args.frame.base + c.loop-i.done) (at_of c.loop-i.state) (at_of c.loop-i.state) 0
+    (Some (struct_frame d (c.args.frame.base + c.loop-i.done) c.args.frame.depth c.args.frame.in_envelope))) (sym c.entry-e.ensures.value)
+    (visits_struct c.args.self.now.table.now c.args.self.now.fine (message c.args.self.now) c.args.frame.depth c.args.entry
+    (c.args.frame.base + c.loop-i.done) (at_of c.loop-i.state) c.requires.entry c.loop-i.invariant.turns.state c.requires.frame.depth
+    c.args.frame.in_envelope 0 refl c.requires.kind (omega (arith, before, fits, within))) in
+    let seen_fine = subst (λ (d : Entry). VisitFine c.args.self.now.table.now (message c.args.self.now) c.args.frame.depth c.args.frame.in_envelope
+    c.args.entry (Some (struct_frame d (c.args.frame.base + c.loop-i.done) c.args.frame.depth c.args.frame.in_envelope)))
+    (sym c.entry-e.ensures.value) (struct_fine c.args.self.now.table.now c.args.self.now.fine (message c.args.self.now) c.args.frame.depth
+    c.args.entry (c.args.frame.base + c.loop-i.done) (at_of c.loop-i.state) c.requires.entry c.loop-i.invariant.turns.state c.requires.frame.depth
+    c.args.frame.in_envelope c.requires.kind (omega (arith, before, fits, within))
+    (elim c.requires.frame.in_envelope [ inl out ↦ inl out | inr own ↦ (let four = own.1 in inr (own.0, omega (arith, four, fits))) ])) in
+    let taken : Turns c.args.self.now.table.now (message c.args.self.now) c.args.frame (at_of c.args.state.now) (at_of c.loop-i.state)
+    (c.loop-i.state.steps + 1 - c.args.state.now.steps) (record {
+      below = Some
+          (struct_frame c.entry-e.result (c.args.frame.base + c.loop-i.done) c.args.frame.depth c.args.frame.in_envelope);
+      rest = Some
+          (going_on (going_on c.args.frame (Elements c.args.entry c.args.size (c.args.count - c.loop-i.i)) c.loop-i.done)
+          (Elements c.args.entry c.args.size (c.args.count - (c.loop-i.i + 1))) (c.loop-i.done + c.args.size));
+    }) = next_takes c.args.self.now.table.now
+    c.args.self.now.fine (message c.args.self.now) c.args.frame (at_of c.args.state.now) (at_of c.loop-i.state)
+    (c.loop-i.state.steps - c.args.state.now.steps) (going_on c.args.frame (Elements c.args.entry c.args.size (c.args.count - c.loop-i.i))
+    c.loop-i.done) c.loop-i.invariant.turns (let x : Row = record { offset = c.loop-i.done; entry = c.args.entry } in x)
+    (Elements c.args.entry c.args.size (c.args.count - (c.loop-i.i + 1))) one tt is tt
+    (Some (struct_frame c.entry-e.result (c.args.frame.base + c.loop-i.done) c.args.frame.depth c.args.frame.in_envelope)) (at_of c.loop-i.state)
+    (c.loop-i.done + c.args.size) 0 (c.loop-i.state.steps + 1 - c.args.state.now.steps) (omega (arith, own, is)) (omega (arith, so_far))
+    (omega (arith, so_far)) (no_zeros c.args.self.now.bytes.value.came (c.args.frame.base + c.loop-i.done) _ none) seen seen_fine in
     let less = taken.less in
     passed_on c.from_residual.result c.in_err-found.field-0.0 _ c.from_residual.ensures.1
-    (below_breaks c.args.self.now.table.now (message c.args.self.now) c.args.frame (at_of c.args.state.now) (at_of c.loop-i.state) (c.loop-i.state.steps + 1 - c.args.state.now.steps) (struct_frame c.entry-e.result (c.args.frame.base + c.loop-i.done) c.args.frame.depth c.args.frame.in_envelope) (going_on (going_on c.args.frame (Elements c.args.entry c.args.size (c.args.count - c.loop-i.i)) c.loop-i.done) (Elements c.args.entry c.args.size (c.args.count - (c.loop-i.i + 1))) (c.loop-i.done + c.args.size)) taken _ c.in_err-found.ensures.fault_is_true)
+    (below_breaks c.args.self.now.table.now (message c.args.self.now) c.args.frame (at_of c.args.state.now) (at_of c.loop-i.state)
+    (c.loop-i.state.steps + 1 - c.args.state.now.steps) (struct_frame c.entry-e.result (c.args.frame.base + c.loop-i.done) c.args.frame.depth
+    c.args.frame.in_envelope) (going_on (going_on c.args.frame (Elements c.args.entry c.args.size (c.args.count - c.loop-i.i)) c.loop-i.done)
+    (Elements c.args.entry c.args.size (c.args.count - (c.loop-i.i + 1))) (c.loop-i.done + c.args.size)) taken _
+    c.in_err-found.ensures.fault_is_true)
 
 pub returns-in_err-zeros_at-clause-fault_is_true : goal.returns-in_err-zeros_at-clause-fault_is_true
 returns-in_err-zeros_at-clause-fault_is_true c =
     let over = elements_over c.args.self.now.table.now c.args.entry c.args.size c.loop-i.i c.args.count c.loop-i.done (omega (arith, c.loop-i-test.false)) in
-    passed_on c.from_residual-in_err-zeros_at.result c.in_err-zeros_at.field-0.0 _ c.from_residual-in_err-zeros_at.ensures.1 (over_breaks c.args.self.now.table.now c.args.self.now.fine (message c.args.self.now) c.args.frame (at_of c.args.state.now) (at_of c.loop-i.state) (c.loop-i.state.steps - c.args.state.now.steps) (going_on c.args.frame (Elements c.args.entry c.args.size (c.args.count - c.loop-i.i)) c.loop-i.done) c.loop-i.invariant.turns over tt _ c.in_err-zeros_at.ensures.fault_is_true)
+    passed_on c.from_residual-in_err-zeros_at.result c.in_err-zeros_at.field-0.0 _ c.from_residual-in_err-zeros_at.ensures.1
+    (over_breaks c.args.self.now.table.now c.args.self.now.fine (message c.args.self.now) c.args.frame (at_of c.args.state.now)
+    (at_of c.loop-i.state) (c.loop-i.state.steps - c.args.state.now.steps)
+    (going_on c.args.frame (Elements c.args.entry c.args.size (c.args.count - c.loop-i.i)) c.loop-i.done) c.loop-i.invariant.turns over tt _
+    c.in_err-zeros_at.ensures.fault_is_true)
 
 pub read_behind-requires-clause-ready : goal.read_behind-requires-clause-ready
 read_behind-requires-clause-ready c =
     let is = c.loop-i.invariant.turns.rest_fine.0.left in
     let one = elements_next c.args.self.now.table.now c.args.entry c.args.size c.loop-i.i c.args.count c.loop-i.done is c.loop-i-test.true in
-    let room = next_room c.args.self.now.table.now c.args.self.now.fine (message c.args.self.now) c.args.frame (at_of c.args.state.now) (at_of c.loop-i.state) (c.loop-i.state.steps - c.args.state.now.steps) (going_on c.args.frame (Elements c.args.entry c.args.size (c.args.count - c.loop-i.i)) c.loop-i.done) c.loop-i.invariant.turns (let x : Row = record { offset = c.loop-i.done; entry = c.args.entry } in x) (Elements c.args.entry c.args.size (c.args.count - (c.loop-i.i + 1))) one in
+    let room = next_room c.args.self.now.table.now c.args.self.now.fine (message c.args.self.now) c.args.frame (at_of c.args.state.now)
+    (at_of c.loop-i.state) (c.loop-i.state.steps - c.args.state.now.steps)
+    (going_on c.args.frame (Elements c.args.entry c.args.size (c.args.count - c.loop-i.i)) c.loop-i.done) c.loop-i.invariant.turns
+    (let x : Row = record { offset = c.loop-i.done; entry = c.args.entry } in x)
+    (Elements c.args.entry c.args.size (c.args.count - (c.loop-i.i + 1))) one in
     let before = room.0 in
     let fits = room.1 in
     let within = room.2 in
-    let own = next_size c.args.self.now.table.now c.args.self.now.fine (message c.args.self.now) c.args.frame (at_of c.args.state.now) (at_of c.loop-i.state) (c.loop-i.state.steps - c.args.state.now.steps) (going_on c.args.frame (Elements c.args.entry c.args.size (c.args.count - c.loop-i.i)) c.loop-i.done) c.loop-i.invariant.turns (let x : Row = record { offset = c.loop-i.done; entry = c.args.entry } in x) (Elements c.args.entry c.args.size (c.args.count - (c.loop-i.i + 1))) one in
+    let own = next_size c.args.self.now.table.now c.args.self.now.fine (message c.args.self.now) c.args.frame (at_of c.args.state.now)
+    (at_of c.loop-i.state) (c.loop-i.state.steps - c.args.state.now.steps)
+    (going_on c.args.frame (Elements c.args.entry c.args.size (c.args.count - c.loop-i.i)) c.loop-i.done) c.loop-i.invariant.turns
+    (let x : Row = record { offset = c.loop-i.done; entry = c.args.entry } in x)
+    (Elements c.args.entry c.args.size (c.args.count - (c.loop-i.i + 1))) one in
     let so_far = c.loop-i.invariant.steps in
     let none : (c.args.frame.base + c.loop-i.done) - (c.args.frame.base + c.loop-i.done) ≡ 0 = omega arith in
-    let seen : Visits c.args.self.now.table.now (message c.args.self.now) c.args.frame.depth c.args.entry (c.args.frame.base + c.loop-i.done) (at_of c.loop-i.state) (at_of c.loop-i.state) 0 (Some (struct_frame c.entry-e.result (c.args.frame.base + c.loop-i.done) c.args.frame.depth c.args.frame.in_envelope)) = subst (λ (d : Entry). Visits c.args.self.now.table.now (message c.args.self.now) c.args.frame.depth c.args.entry (c.args.frame.base + c.loop-i.done) (at_of c.loop-i.state) (at_of c.loop-i.state) 0 (Some (struct_frame d (c.args.frame.base + c.loop-i.done) c.args.frame.depth c.args.frame.in_envelope))) (sym c.entry-e.ensures.value) (visits_struct c.args.self.now.table.now c.args.self.now.fine (message c.args.self.now) c.args.frame.depth c.args.entry (c.args.frame.base + c.loop-i.done) (at_of c.loop-i.state) c.requires.entry c.loop-i.invariant.turns.state c.requires.frame.depth c.args.frame.in_envelope 0 refl c.requires.kind (omega (arith, before, fits, within))) in
-    let seen_fine = subst (λ (d : Entry). VisitFine c.args.self.now.table.now (message c.args.self.now) c.args.frame.depth c.args.frame.in_envelope c.args.entry (Some (struct_frame d (c.args.frame.base + c.loop-i.done) c.args.frame.depth c.args.frame.in_envelope))) (sym c.entry-e.ensures.value) (struct_fine c.args.self.now.table.now c.args.self.now.fine (message c.args.self.now) c.args.frame.depth c.args.entry (c.args.frame.base + c.loop-i.done) (at_of c.loop-i.state) c.requires.entry c.loop-i.invariant.turns.state c.requires.frame.depth c.args.frame.in_envelope c.requires.kind (omega (arith, before, fits, within)) (elim c.requires.frame.in_envelope [ inl out ↦ inl out | inr own ↦ (let four = own.1 in inr (own.0, omega (arith, four, fits))) ])) in
-    let taken : Turns c.args.self.now.table.now (message c.args.self.now) c.args.frame (at_of c.args.state.now) (at_of c.loop-i.state) (c.loop-i.state.steps + 1 - c.args.state.now.steps) (record { below = Some (struct_frame c.entry-e.result (c.args.frame.base + c.loop-i.done) c.args.frame.depth c.args.frame.in_envelope); rest = Some (going_on (going_on c.args.frame (Elements c.args.entry c.args.size (c.args.count - c.loop-i.i)) c.loop-i.done) (Elements c.args.entry c.args.size (c.args.count - (c.loop-i.i + 1))) (c.loop-i.done + c.args.size)) }) = next_takes c.args.self.now.table.now c.args.self.now.fine (message c.args.self.now) c.args.frame (at_of c.args.state.now) (at_of c.loop-i.state) (c.loop-i.state.steps - c.args.state.now.steps) (going_on c.args.frame (Elements c.args.entry c.args.size (c.args.count - c.loop-i.i)) c.loop-i.done) c.loop-i.invariant.turns (let x : Row = record { offset = c.loop-i.done; entry = c.args.entry } in x) (Elements c.args.entry c.args.size (c.args.count - (c.loop-i.i + 1))) one tt is tt (Some (struct_frame c.entry-e.result (c.args.frame.base + c.loop-i.done) c.args.frame.depth c.args.frame.in_envelope)) (at_of c.loop-i.state) (c.loop-i.done + c.args.size) 0 (c.loop-i.state.steps + 1 - c.args.state.now.steps) (omega (arith, own, is)) (omega (arith, so_far)) (omega (arith, so_far)) (no_zeros c.args.self.now.bytes.value.came (c.args.frame.base + c.loop-i.done) _ none) seen seen_fine in
+    let seen : Visits c.args.self.now.table.now (message c.args.self.now) c.args.frame.depth c.args.entry (c.args.frame.base + c.loop-i.done)
+    (at_of c.loop-i.state) (at_of c.loop-i.state) 0 (Some (struct_frame c.entry-e.result (c.args.frame.base + c.loop-i.done) c.args.frame.depth
+    c.args.frame.in_envelope)) = subst (λ (d : Entry). Visits c.args.self.now.table.now (message c.args.self.now) c.args.frame.depth c.args.entry
+    (c.args.frame.base + c.loop-i.done) (at_of c.loop-i.state) (at_of c.loop-i.state) 0
+    (Some (struct_frame d (c.args.frame.base + c.loop-i.done) c.args.frame.depth c.args.frame.in_envelope))) (sym c.entry-e.ensures.value)
+    (visits_struct c.args.self.now.table.now c.args.self.now.fine (message c.args.self.now) c.args.frame.depth c.args.entry
+    (c.args.frame.base + c.loop-i.done) (at_of c.loop-i.state) c.requires.entry c.loop-i.invariant.turns.state c.requires.frame.depth
+    c.args.frame.in_envelope 0 refl c.requires.kind (omega (arith, before, fits, within))) in
+    let seen_fine = subst (λ (d : Entry). VisitFine c.args.self.now.table.now (message c.args.self.now) c.args.frame.depth c.args.frame.in_envelope
+    c.args.entry (Some (struct_frame d (c.args.frame.base + c.loop-i.done) c.args.frame.depth c.args.frame.in_envelope)))
+    (sym c.entry-e.ensures.value) (struct_fine c.args.self.now.table.now c.args.self.now.fine (message c.args.self.now) c.args.frame.depth
+    c.args.entry (c.args.frame.base + c.loop-i.done) (at_of c.loop-i.state) c.requires.entry c.loop-i.invariant.turns.state c.requires.frame.depth
+    c.args.frame.in_envelope c.requires.kind (omega (arith, before, fits, within))
+    (elim c.requires.frame.in_envelope [ inl out ↦ inl out | inr own ↦ (let four = own.1 in inr (own.0, omega (arith, four, fits))) ])) in
+    let taken : Turns c.args.self.now.table.now (message c.args.self.now) c.args.frame (at_of c.args.state.now) (at_of c.loop-i.state)
+    (c.loop-i.state.steps + 1 - c.args.state.now.steps) (record {
+      below = Some
+          (struct_frame c.entry-e.result (c.args.frame.base + c.loop-i.done) c.args.frame.depth c.args.frame.in_envelope);
+      rest = Some
+          (going_on (going_on c.args.frame (Elements c.args.entry c.args.size (c.args.count - c.loop-i.i)) c.loop-i.done)
+          (Elements c.args.entry c.args.size (c.args.count - (c.loop-i.i + 1))) (c.loop-i.done + c.args.size));
+    }) = next_takes c.args.self.now.table.now
+    c.args.self.now.fine (message c.args.self.now) c.args.frame (at_of c.args.state.now) (at_of c.loop-i.state)
+    (c.loop-i.state.steps - c.args.state.now.steps) (going_on c.args.frame (Elements c.args.entry c.args.size (c.args.count - c.loop-i.i))
+    c.loop-i.done) c.loop-i.invariant.turns (let x : Row = record { offset = c.loop-i.done; entry = c.args.entry } in x)
+    (Elements c.args.entry c.args.size (c.args.count - (c.loop-i.i + 1))) one tt is tt
+    (Some (struct_frame c.entry-e.result (c.args.frame.base + c.loop-i.done) c.args.frame.depth c.args.frame.in_envelope)) (at_of c.loop-i.state)
+    (c.loop-i.done + c.args.size) 0 (c.loop-i.state.steps + 1 - c.args.state.now.steps) (omega (arith, own, is)) (omega (arith, so_far))
+    (omega (arith, so_far)) (no_zeros c.args.self.now.bytes.value.came (c.args.frame.base + c.loop-i.done) _ none) seen seen_fine in
     let less = taken.less in
     let p = taken.moves c.requires.ready.0 c.requires.ready.1 in
     (p.ahead, p.below_clear)

@@ -27,7 +27,9 @@ returns-clause-ok c =
     let still = c.open_table.ensures.steps in
     let grows = c.pass_front-read.ensures.grows in
     let more = (not_fewer _ _ _ c.left_of.ensures.spends) in
-    let run = turns_then t m (rest_of body 0) (at_of mid) (at_of now) (now.steps - mid.steps) (rest_of body c.pass_front-read.result) c.pass_front-read.ensures.turns (at_of new) (new.steps - now.steps) (new.steps - mid.steps) (left_over c.left_of.result) (omega (arith, grows, more)) c.left_of.ensures.turns in
+    let run = turns_then t m (rest_of body 0) (at_of mid) (at_of now) (now.steps - mid.steps) (rest_of body c.pass_front-read.result)
+    c.pass_front-read.ensures.turns (at_of new) (new.steps - now.steps) (new.steps - mid.steps) (left_over c.left_of.result)
+    (omega (arith, grows, more)) c.left_of.ensures.turns in
     visits_on t m c.args.depth c.args.entry c.args.place (at_of old) (at_of mid) 0 (rest_of body 0) v (at_of new) (new.steps - mid.steps) (new.steps - old.steps) c.left_of.result (omega (arith, still)) run
 
 pub returns-clause-fine : goal.returns-clause-fine
@@ -45,7 +47,9 @@ returns-clause-fine c =
     let fine = subst (λ (g : Frame). VisitFine t m c.args.depth inside c.args.entry (Some g)) start (c.in_ok-count.ensures.fine inside small) in
     let grows = c.pass_front-read.ensures.grows in
     let more = (not_fewer _ _ _ c.left_of.ensures.spends) in
-    let run = turns_then t m (rest_of body 0) (at_of mid) (at_of now) (now.steps - mid.steps) (rest_of body c.pass_front-read.result) c.pass_front-read.ensures.turns (at_of new) (new.steps - now.steps) (new.steps - mid.steps) (left_over c.left_of.result) (omega (arith, grows, more)) c.left_of.ensures.turns in
+    let run = turns_then t m (rest_of body 0) (at_of mid) (at_of now) (now.steps - mid.steps) (rest_of body c.pass_front-read.result)
+    c.pass_front-read.ensures.turns (at_of new) (new.steps - now.steps) (new.steps - mid.steps) (left_over c.left_of.result)
+    (omega (arith, grows, more)) c.left_of.ensures.turns in
     fine_from t m.bytes (height (rest_of body 0)) _ c.left_of.result fine.1 run.rest_fine
 
 pub open_table-requires-clause-entry : goal.open_table-requires-clause-entry
@@ -106,7 +110,10 @@ pub left_of-requires-clause-body : goal.left_of-requires-clause-body
 left_of-requires-clause-body c = c.body_of-body.ensures.fine
 
 pub pass_front-read-requires-clause-frame : goal.pass_front-read-requires-clause-frame
-pass_front-read-requires-clause-frame c = (subst (λ (g : Frame). VisitFine c.args.self.now.table.now (message c.args.self.now) c.args.depth 0 c.args.entry (Some g)) (body_start c.body_of-body.result c.args.entry c.args.state.now.next c.in_ok-count.count (c.args.depth + 1) c.body_of-body.ensures.entry c.body_of-body.ensures.base c.body_of-body.ensures.count c.body_of-body.ensures.depth) (c.in_ok-count.ensures.fine 0 (le_more 0 1))).0
+pass_front-read-requires-clause-frame c = (subst (λ (g : Frame). VisitFine c.args.self.now.table.now (message c.args.self.now) c.args.depth 0
+    c.args.entry (Some g)) (body_start c.body_of-body.result c.args.entry c.args.state.now.next c.in_ok-count.count (c.args.depth + 1)
+    c.body_of-body.ensures.entry c.body_of-body.ensures.base c.body_of-body.ensures.count c.body_of-body.ensures.depth)
+    (c.in_ok-count.ensures.fine 0 (le_more 0 1))).0
 
 pub pass_front-read-requires-clause-state : goal.pass_front-read-requires-clause-state
 pass_front-read-requires-clause-state c = c.in_ok-count.ensures.ok.state

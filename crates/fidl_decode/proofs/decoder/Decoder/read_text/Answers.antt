@@ -19,7 +19,10 @@ use Rattle.fidl_decode.proofs.decoder.Decoder.read_text.Goals as goal
 pub returns-then-not-is_present-clause-ok : goal.returns-then-not-is_present-clause-ok
 returns-then-not-is_present-clause-ok c =
     let short = c.args.self.now.short in
-    absent_leads (declarations_of c.args.self.now.table.now) (message c.args.self.now) (omega (arith, short)) c.args.depth (is_optional c.args.entry.now) c.args.entry.now.bound c.args.place (at_of c.args.state.now) c.requires.depth (sym c.is_optional.ensures ∙ c.if-not-is_optional.false) (c.is_absent.ensures.0 c.if-not-is_absent.false) (omega (arith, c.requires.room)) (λ i. omega (arith, c.args.self.now.octets i)) (sym c.u64_at-count.ensures ∙ c.if-count-ne0.false)
+    absent_leads (declarations_of c.args.self.now.table.now) (message c.args.self.now) (omega (arith, short)) c.args.depth
+    (is_optional c.args.entry.now) c.args.entry.now.bound c.args.place (at_of c.args.state.now) c.requires.depth
+    (sym c.is_optional.ensures ∙ c.if-not-is_optional.false) (c.is_absent.ensures.0 c.if-not-is_absent.false) (omega (arith, c.requires.room))
+    (λ i. omega (arith, c.args.self.now.octets i)) (sym c.u64_at-count.ensures ∙ c.if-count-ne0.false)
 
 pub returns-clause-ok : goal.returns-clause-ok
 returns-clause-ok c =
@@ -32,7 +35,12 @@ returns-clause-ok c =
     let same : linked (c.args.place + 8) n (at_of c.args.state.now) ≡ record { next = from + c.next_multiple_of-size.result; handle = c.args.state.now.handle; objects = c.link_marker.new.self.objects; records = c.link_marker.new.self.records }
     = λ i. record { next = from + sym value i; handle = c.args.state.now.handle; objects = sym c.link_marker.ensures.objects i; records = sym c.link_marker.ensures.records i } in
     subst (λ (s : Position). Leads (declarations_of c.args.self.now.table.now) (message c.args.self.now) c.args.depth (ty.string (is_optional c.args.entry.now) c.args.entry.now.bound) c.args.place (at_of c.args.state.now) s) same
-    (text_leads (declarations_of c.args.self.now.table.now) (message c.args.self.now) (omega (arith, short)) c.args.depth (is_optional c.args.entry.now) c.args.entry.now.bound c.args.place (at_of c.args.state.now) (omega (arith, c.requires.depth, c.if-depth-eq-MAX_DEPTH.false)) (c.is_present.ensures.0 c.if-not-is_present.false) (omega (arith, c.requires.room)) (λ i. omega (arith, c.args.self.now.octets i)) n (sym c.u64_at-count.ensures) (omega (arith, c.if-count-entry.false)) (omega (arith, value, within, (size_fits c.args.self.now.sized _ _ c.if-size-rest.false))) (le-next_multiple_of n 8)
+    (text_leads (declarations_of c.args.self.now.table.now) (message c.args.self.now) (omega (arith, short)) c.args.depth
+    (is_optional c.args.entry.now) c.args.entry.now.bound c.args.place (at_of c.args.state.now)
+    (omega (arith, c.requires.depth, c.if-depth-eq-MAX_DEPTH.false)) (c.is_present.ensures.0 c.if-not-is_present.false)
+    (omega (arith, c.requires.room)) (λ i. omega (arith, c.args.self.now.octets i)) n (sym c.u64_at-count.ensures)
+    (omega (arith, c.if-count-entry.false)) (omega (arith, value, within, (size_fits c.args.self.now.sized _ _ c.if-size-rest.false)))
+    (le-next_multiple_of n 8)
     (c.is_text.ensures.0 c.if-not-is_text.false) (subst (λ k. Stands c.args.self.now.bytes.value.came (from + n) (zeros k)) gap c.in_ok-zeros_at.ensures.ok))
 
 pub returns-then-not-is_absent-clause-ok : goal.returns-then-not-is_absent-clause-ok
@@ -189,7 +197,14 @@ pub returns-then-depth-eq-MAX_DEPTH-clause-fault_is_true : goal.returns-then-dep
 returns-then-depth-eq-MAX_DEPTH-clause-fault_is_true c = (refl, c.is_present.ensures.0 c.if-not-is_present.false, eq_le _ _ c.if-depth-eq-MAX_DEPTH.true)
 
 pub returns-then-size-rest-clause-fault_is_true : goal.returns-then-size-rest-clause-fault_is_true
-returns-then-size-rest-clause-fault_is_true c = (refl, c.is_present.ensures.0 c.if-not-is_present.false, subst (λ n. length c.args.self.now.bytes.value.came - c.args.state.now.next < n) (c.next_multiple_of-size.ensures.value ∙ ap (λ k. next_multiple_of k 8) c.u64_at-count.ensures) (size_short c.args.self.now.sized _ _ c.if-size-rest.true))
+returns-then-size-rest-clause-fault_is_true c = (
+  refl,
+  c.is_present.ensures.0 c.if-not-is_present.false,
+  subst
+      (λ n. length c.args.self.now.bytes.value.came - c.args.state.now.next < n)
+      (c.next_multiple_of-size.ensures.value ∙ ap (λ k. next_multiple_of k 8) c.u64_at-count.ensures)
+      (size_short c.args.self.now.sized _ _ c.if-size-rest.true),
+)
 
 pub returns-then-not-is_text-clause-spends : goal.returns-then-not-is_text-clause-spends
 returns-then-not-is_text-clause-spends c = spends_any _ _ _ (le_more _ _) (part_order _ _ _ (size_fits c.args.self.now.sized _ _ c.if-size-rest.false))

@@ -21,17 +21,35 @@ no_true e = cc
 
 pub returns-then-not-is_absent-clause-fault_is_true : goal.returns-then-not-is_absent-clause-fault_is_true
 returns-then-not-is_absent-clause-fault_is_true c =
-    let b : BreaksUnion (message c.args.self.now) (is_optional (entry_at c.args.self.now.table.now c.args.entry)) (is_strict (entry_at c.args.self.now.table.now c.args.entry)) (members_of c.args.self.now.table.now c.args.entry) c.args.place (BadEnvelope (c.args.place + 8)) = (refl, sym c.u64_at-ordinal.ensures ∙ c.if-ordinal-eq0.true, λ z. no_true (sym c.if-not-is_absent.true ∙ c.is_absent.ensures.1 z)) in
+    let b : BreaksUnion (message c.args.self.now) (is_optional (entry_at c.args.self.now.table.now c.args.entry))
+    (is_strict (entry_at c.args.self.now.table.now c.args.entry)) (members_of c.args.self.now.table.now c.args.entry) c.args.place
+    (BadEnvelope (c.args.place + 8)) = (
+      refl,
+      sym c.u64_at-ordinal.ensures ∙ c.if-ordinal-eq0.true,
+      λ z. no_true
+          (sym c.if-not-is_absent.true ∙ c.is_absent.ensures.1 z),
+    ) in
     union_breaks c.args.self.now.table.now c.args.self.now.fine (message c.args.self.now) c.args.depth c.args.entry c.args.place (at_of c.args.state.now) c.requires.entry c.requires.kind (BadEnvelope (c.args.place + 8)) b
 
 pub returns-then-not-is_optional-clause-fault_is_true : goal.returns-then-not-is_optional-clause-fault_is_true
 returns-then-not-is_optional-clause-fault_is_true c =
-    let b : BreaksUnion (message c.args.self.now) (is_optional (entry_at c.args.self.now.table.now c.args.entry)) (is_strict (entry_at c.args.self.now.table.now c.args.entry)) (members_of c.args.self.now.table.now c.args.entry) c.args.place (AbsentRequired c.args.place) = (refl, sym (ap is_optional c.entry-e.ensures.value) ∙ sym c.is_optional.ensures ∙ c.if-not-is_optional.true, sym c.u64_at-ordinal.ensures ∙ c.if-ordinal-eq0.true, (c.is_absent.ensures.0 c.if-not-is_absent.false)) in
+    let b : BreaksUnion (message c.args.self.now) (is_optional (entry_at c.args.self.now.table.now c.args.entry))
+    (is_strict (entry_at c.args.self.now.table.now c.args.entry)) (members_of c.args.self.now.table.now c.args.entry) c.args.place
+    (AbsentRequired c.args.place) = (
+      refl,
+      sym (ap is_optional c.entry-e.ensures.value) ∙ sym c.is_optional.ensures ∙ c.if-not-is_optional.true,
+      sym c.u64_at-ordinal.ensures ∙ c.if-ordinal-eq0.true,
+      (c.is_absent.ensures.0 c.if-not-is_absent.false),
+    ) in
     union_breaks c.args.self.now.table.now c.args.self.now.fine (message c.args.self.now) c.args.depth c.args.entry c.args.place (at_of c.args.state.now) c.requires.entry c.requires.kind (AbsentRequired c.args.place) b
 
 pub returns-then-ordinal-eq0-clause-ok : goal.returns-then-ordinal-eq0-clause-ok
 returns-then-ordinal-eq0-clause-ok c =
-    visits_absent_union c.args.self.now.table.now c.args.self.now.fine (message c.args.self.now) c.args.depth c.args.entry c.args.place (at_of c.args.state.now) c.requires.entry c.requires.kind c.requires.state c.requires.depth (c.args.state.now.steps - c.args.state.now.steps) (omega arith) (sym (ap is_optional c.entry-e.ensures.value) ∙ sym c.is_optional.ensures ∙ c.if-not-is_optional.false) (c.is_absent.ensures.0 c.if-not-is_absent.false) (omega (arith, c.requires.room)) (λ i. omega (arith, c.args.self.now.octets i)) (sym c.u64_at-ordinal.ensures ∙ c.if-ordinal-eq0.true)
+    visits_absent_union c.args.self.now.table.now c.args.self.now.fine (message c.args.self.now) c.args.depth c.args.entry c.args.place
+    (at_of c.args.state.now) c.requires.entry c.requires.kind c.requires.state c.requires.depth (c.args.state.now.steps - c.args.state.now.steps)
+    (omega arith) (sym (ap is_optional c.entry-e.ensures.value) ∙ sym c.is_optional.ensures ∙ c.if-not-is_optional.false)
+    (c.is_absent.ensures.0 c.if-not-is_absent.false) (omega (arith, c.requires.room)) (λ i. omega (arith, c.args.self.now.octets i))
+    (sym c.u64_at-ordinal.ensures ∙ c.if-ordinal-eq0.true)
 
 pub returns-then-is_strict-clause-fault_is_true : goal.returns-then-is_strict-clause-fault_is_true
 returns-then-is_strict-clause-fault_is_true c =
@@ -39,7 +57,15 @@ returns-then-is_strict-clause-fault_is_true c =
     let some : (ordinal_at c.args.self.now.bytes.value.came c.args.place) ≢ 0 = (λ none. omega (arith, c.if-ordinal-eq0.false, number, none)) in
     let same : find (members_of c.args.self.now.table.now c.args.entry) c.u64_at-ordinal.result ≡ find (members_of c.args.self.now.table.now c.args.entry) (ordinal_at c.args.self.now.bytes.value.came c.args.place) = ap (λ k. find (members_of c.args.self.now.table.now c.args.entry) k) number in
     let none = no_member c.member-member.result (find (members_of c.args.self.now.table.now c.args.entry) c.u64_at-ordinal.result) c.member-member.ensures.none (c.is_none.ensures ∙ ap not c.if-is_none.true) in
-    let b : BreaksUnion (message c.args.self.now) (is_optional (entry_at c.args.self.now.table.now c.args.entry)) (is_strict (entry_at c.args.self.now.table.now c.args.entry)) (members_of c.args.self.now.table.now c.args.entry) c.args.place (UnknownOrdinal c.args.place) = (refl, sym (ap is_strict c.entry-e.ensures.value) ∙ sym c.is_strict.ensures ∙ c.if-is_strict.true, some, sym same ∙ none) in
+    let b : BreaksUnion (message c.args.self.now) (is_optional (entry_at c.args.self.now.table.now c.args.entry))
+    (is_strict (entry_at c.args.self.now.table.now c.args.entry)) (members_of c.args.self.now.table.now c.args.entry) c.args.place
+    (UnknownOrdinal c.args.place) = (
+      refl,
+      sym (ap is_strict c.entry-e.ensures.value) ∙ sym c.is_strict.ensures ∙ c.if-is_strict.true,
+      some,
+      sym
+          same ∙ none,
+    ) in
     union_breaks c.args.self.now.table.now c.args.self.now.fine (message c.args.self.now) c.args.depth c.args.entry c.args.place (at_of c.args.state.now) c.requires.entry c.requires.kind (UnknownOrdinal c.args.place) b
 
 pub returns-clause-ok : goal.returns-clause-ok
@@ -47,7 +73,10 @@ returns-clause-ok c =
     let number : c.u64_at-ordinal.result ≡ ordinal_at c.args.self.now.bytes.value.came c.args.place = c.u64_at-ordinal.ensures in
     let some : (ordinal_at c.args.self.now.bytes.value.came c.args.place) ≢ 0 = (λ none. omega (arith, c.if-ordinal-eq0.false, number, none)) in
     let same : find (members_of c.args.self.now.table.now c.args.entry) c.u64_at-ordinal.result ≡ find (members_of c.args.self.now.table.now c.args.entry) (ordinal_at c.args.self.now.bytes.value.came c.args.place) = ap (λ k. find (members_of c.args.self.now.table.now c.args.entry) k) number in
-    let tie : member_term c.member-member.result ≡ find (members_of c.args.self.now.table.now c.args.entry) (ordinal_at c.args.self.now.bytes.value.came c.args.place) = sym (member_is c.member-member.result (find (members_of c.args.self.now.table.now c.args.entry) c.u64_at-ordinal.result) c.member-member.ensures.none c.member-member.ensures.some) ∙ same in
+    let tie : member_term c.member-member.result ≡ find (members_of c.args.self.now.table.now c.args.entry)
+    (ordinal_at c.args.self.now.bytes.value.came c.args.place) = sym (member_is c.member-member.result
+    (find (members_of c.args.self.now.table.now c.args.entry) c.u64_at-ordinal.result) c.member-member.ensures.none c.member-member.ensures.some)
+    ∙ same in
     let may : find (members_of c.args.self.now.table.now c.args.entry) (ordinal_at c.args.self.now.bytes.value.came c.args.place) ≡ None → IsFalse (is_strict (entry_at c.args.self.now.table.now c.args.entry)) = elim c.else-is_none.branch [
       | else-is_none-via-then-is_none+else-is_strict w ↦ (λ none. sym (ap is_strict c.entry-e.ensures.value) ∙ sym w.is_strict.ensures ∙ w.if-is_strict.false)
       | else-is_none-via-else-is_none w ↦ (λ none. absurd (one_member c.member-member.result (find (members_of c.args.self.now.table.now c.args.entry) c.u64_at-ordinal.result) c.member-member.ensures.some (c.is_none.ensures ∙ ap not w.if-is_none.false) (same ∙ none)))
@@ -59,7 +88,10 @@ returns-clause-ok c =
     let all = c.open_envelope.new.state.steps - c.args.state.now.steps in
     if_ok_two c.open_envelope.result (Opens c.args.self.now.table.now (message c.args.self.now) c.args.depth (member_term c.member-member.result) (c.args.place + 8) (at_of c.args.state.now) new own) (PaysEnvelope c.args.self.now.bytes.value.came c.args.state.now.next new.next own)
     (Visits c.args.self.now.table.now (message c.args.self.now) c.args.depth c.args.entry c.args.place (at_of c.args.state.now) new all)
-    (λ found o pays. visits_union c.args.self.now.table.now c.args.self.now.fine (message c.args.self.now) c.args.depth c.args.entry c.args.place (at_of c.args.state.now) c.requires.entry c.requires.kind some may new own all found (omega (arith, grows, c.open_envelope.ensures.spends.least)) (omega (arith, few, grows)) pays (omega (arith, c.requires.room)) (λ i. omega (arith, c.args.self.now.octets i))
+    (λ found o pays. visits_union c.args.self.now.table.now c.args.self.now.fine (message c.args.self.now) c.args.depth c.args.entry c.args.place
+    (at_of c.args.state.now) c.requires.entry c.requires.kind some may new own all found
+    (omega (arith, grows, c.open_envelope.ensures.spends.least)) (omega (arith, few, grows)) pays (omega (arith, c.requires.room))
+    (λ i. omega (arith, c.args.self.now.octets i))
     (subst (λ (u : Option Term). Opens c.args.self.now.table.now (message c.args.self.now) c.args.depth u (c.args.place + 8) (at_of c.args.state.now) new own found) tie o)) c.open_envelope.ensures.ok c.open_envelope.ensures.pays
 
 pub returns-clause-fine : goal.returns-clause-fine
@@ -71,12 +103,18 @@ returns-clause-fault_is_true c =
     let number : c.u64_at-ordinal.result ≡ ordinal_at c.args.self.now.bytes.value.came c.args.place = c.u64_at-ordinal.ensures in
     let some : (ordinal_at c.args.self.now.bytes.value.came c.args.place) ≢ 0 = (λ none. omega (arith, c.if-ordinal-eq0.false, number, none)) in
     let same : find (members_of c.args.self.now.table.now c.args.entry) c.u64_at-ordinal.result ≡ find (members_of c.args.self.now.table.now c.args.entry) (ordinal_at c.args.self.now.bytes.value.came c.args.place) = ap (λ k. find (members_of c.args.self.now.table.now c.args.entry) k) number in
-    let tie : member_term c.member-member.result ≡ find (members_of c.args.self.now.table.now c.args.entry) (ordinal_at c.args.self.now.bytes.value.came c.args.place) = sym (member_is c.member-member.result (find (members_of c.args.self.now.table.now c.args.entry) c.u64_at-ordinal.result) c.member-member.ensures.none c.member-member.ensures.some) ∙ same in
+    let tie : member_term c.member-member.result ≡ find (members_of c.args.self.now.table.now c.args.entry)
+    (ordinal_at c.args.self.now.bytes.value.came c.args.place) = sym (member_is c.member-member.result
+    (find (members_of c.args.self.now.table.now c.args.entry) c.u64_at-ordinal.result) c.member-member.ensures.none c.member-member.ensures.some)
+    ∙ same in
     let may : find (members_of c.args.self.now.table.now c.args.entry) (ordinal_at c.args.self.now.bytes.value.came c.args.place) ≡ None → IsFalse (is_strict (entry_at c.args.self.now.table.now c.args.entry)) = elim c.else-is_none.branch [
       | else-is_none-via-then-is_none+else-is_strict w ↦ (λ none. sym (ap is_strict c.entry-e.ensures.value) ∙ sym w.is_strict.ensures ∙ w.if-is_strict.false)
       | else-is_none-via-else-is_none w ↦ (λ none. absurd (one_member c.member-member.result (find (members_of c.args.self.now.table.now c.args.entry) c.u64_at-ordinal.result) c.member-member.ensures.some (c.is_none.ensures ∙ ap not w.if-is_none.false) (same ∙ none)))
     ] in
-    IfErr-weaker c.open_envelope.result _ _ (λ fault b. member_breaks c.args.self.now.table.now c.args.self.now.fine (message c.args.self.now) c.args.depth c.args.entry c.args.place (at_of c.args.state.now) c.requires.entry c.requires.kind some may fault (subst (λ (u : Option Term). BreaksMember (declarations_of c.args.self.now.table.now) (message c.args.self.now) c.args.depth u (c.args.place + 8) (at_of c.args.state.now) fault) tie b)) c.open_envelope.ensures.fault_is_true
+    IfErr-weaker c.open_envelope.result _ _ (λ fault b. member_breaks c.args.self.now.table.now c.args.self.now.fine (message c.args.self.now)
+    c.args.depth c.args.entry c.args.place (at_of c.args.state.now) c.requires.entry c.requires.kind some may fault
+    (subst (λ (u : Option Term). BreaksMember (declarations_of c.args.self.now.table.now) (message c.args.self.now) c.args.depth u
+    (c.args.place + 8) (at_of c.args.state.now) fault) tie b)) c.open_envelope.ensures.fault_is_true
 
 pub entry-e-requires : goal.entry-e-requires
 entry-e-requires c = c.requires.entry

@@ -61,7 +61,9 @@ returns-clause-ok c =
     = λ i. frame (sym holder i) (sym element i) (sym number i) (sym value i) in
     let same : linked (c.args.place + 8) (inner.size * n) old ≡ record { next = old.next + c.next_multiple_of-size.result; handle = old.handle; objects = c.link_marker.new.self.objects; records = c.link_marker.new.self.records }
     = λ i. record { next = old.next + sym value i; handle = old.handle; objects = sym c.link_marker.ensures.objects i; records = sym c.link_marker.ensures.records i } in
-    let opened = visits_vector t c.args.self.now.fine m c.args.depth c.args.entry c.args.place old c.requires.entry c.requires.kind c.requires.state c.requires.depth (c.args.state.now.steps - c.args.state.now.steps) (omega arith) c.in-Present.ensures (omega (arith, c.requires.depth, c.if-depth-eq-MAX_DEPTH.false)) (omega (arith, number, bound, c.if-count-e.false))
+    let opened = visits_vector t c.args.self.now.fine m c.args.depth c.args.entry c.args.place old c.requires.entry c.requires.kind c.requires.state
+    c.requires.depth (c.args.state.now.steps - c.args.state.now.steps) (omega arith) c.in-Present.ensures
+    (omega (arith, c.requires.depth, c.if-depth-eq-MAX_DEPTH.false)) (omega (arith, number, bound, c.if-count-e.false))
     (omega (arith, value, (size_fits c.args.self.now.sized _ _ c.if-size-rest.false))) (omega (arith, c.requires.room)) (λ i. omega (arith, c.args.self.now.octets i)) in
     subst (λ (s : Position). Visits t m c.args.depth c.args.entry c.args.place old s (c.args.state.now.steps - c.args.state.now.steps) (frame c.entry-e.result c.entry-element.result c.u64_at-count.result c.next_multiple_of-size.result)) same
     (subst (λ (o : Option Frame). Visits t m c.args.depth c.args.entry c.args.place old (linked (c.args.place + 8) (inner.size * n) old) (c.args.state.now.steps - c.args.state.now.steps) o) found opened)
@@ -81,7 +83,9 @@ returns-clause-fine c around few =
     let frame : Entry → Entry → (k size : ℕ) → Option Frame = λ h e k size. Some (record { left = Elements h.first e.size k; base = old.next; done = 0; size = size; nest = e.nest + 1; depth = c.args.depth + 1; in_envelope = 0 }) in
     let found : frame d inner n (next_multiple_of (inner.size * n) 8) ≡ frame c.entry-e.result c.entry-element.result c.u64_at-count.result c.next_multiple_of-size.result
     = λ i. frame (sym holder i) (sym element i) (sym number i) (sym value i) in
-    let opened = vector_fine t c.args.self.now.fine m c.args.depth c.args.entry c.args.place old c.requires.entry c.requires.kind c.requires.state c.requires.depth (omega (arith, c.requires.depth, c.if-depth-eq-MAX_DEPTH.false)) (omega (arith, value, (size_fits c.args.self.now.sized _ _ c.if-size-rest.false))) around few in
+    let opened = vector_fine t c.args.self.now.fine m c.args.depth c.args.entry c.args.place old c.requires.entry c.requires.kind c.requires.state
+    c.requires.depth (omega (arith, c.requires.depth, c.if-depth-eq-MAX_DEPTH.false))
+    (omega (arith, value, (size_fits c.args.self.now.sized _ _ c.if-size-rest.false))) around few in
     subst (λ (o : Option Frame). VisitFine t m c.args.depth around c.args.entry o) found opened
 
 pub returns-in-Neither-clause-ok : goal.returns-in-Neither-clause-ok

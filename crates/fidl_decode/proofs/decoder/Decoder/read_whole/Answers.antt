@@ -49,7 +49,9 @@ pub returns-in_err-read_flat-clause-fault_is_true : goal.returns-in_err-read_fla
 returns-in_err-read_flat-clause-fault_is_true c =
     let t = c.args.self.now.table.now in
     let m = message c.args.self.now in
-    passed_on c.from_residual.result c.in_err-read_flat.field-0.0 _ c.from_residual.ensures.1 (leaf_breaks t c.args.self.now.fine m c.args.frame c.args.entry c.args.size 1 c.args.until c.requires.left refl (at_of c.args.state.now) c.requires.frame c.requires.state c.in_err-read_flat.field-0.0 c.in_err-read_flat.ensures.fault_is_true)
+    passed_on c.from_residual.result c.in_err-read_flat.field-0.0 _ c.from_residual.ensures.1
+    (leaf_breaks t c.args.self.now.fine m c.args.frame c.args.entry c.args.size 1 c.args.until c.requires.left refl (at_of c.args.state.now)
+    c.requires.frame c.requires.state c.in_err-read_flat.field-0.0 c.in_err-read_flat.ensures.fault_is_true)
 
 pub overflow_add-done : goal.overflow_add-done
 overflow_add-done c =
@@ -78,7 +80,9 @@ pub overflow_sub-state : goal.overflow_sub-state
 overflow_sub-state c =
     let t = c.args.self.now.table.now in
     let m = message c.args.self.now in
-    let end = end_room t c.args.self.now.fine m c.args.frame c.args.entry c.args.size 1 c.args.until c.requires.left refl (at_of c.args.state.now) c.requires.frame c.requires.state (at_of c.read_flat.new.state) (c.read_flat.new.state.steps - (c.args.state.now.steps + 1)) c.in_ok-read_flat.ensures.ok in
+    let end = end_room t c.args.self.now.fine m c.args.frame c.args.entry c.args.size 1 c.args.until c.requires.left refl (at_of c.args.state.now)
+    c.requires.frame c.requires.state (at_of c.read_flat.new.state) (c.read_flat.new.state.steps - (c.args.state.now.steps + 1))
+    c.in_ok-read_flat.ensures.ok in
     omega (arith, end.0)
 
 pub overflow_add-state-2 : goal.overflow_add-state-2
@@ -93,8 +97,12 @@ overflow_add-state-3 c =
     let t = c.args.self.now.table.now in
     let m = message c.args.self.now in
     let room = leaf_room t c.args.self.now.fine m c.args.frame c.args.entry c.args.size 1 c.args.until c.requires.left refl (at_of c.args.state.now) c.requires.frame c.requires.state in
-    let end = end_room t c.args.self.now.fine m c.args.frame c.args.entry c.args.size 1 c.args.until c.requires.left refl (at_of c.args.state.now) c.requires.frame c.requires.state (at_of c.read_flat.new.state) (c.read_flat.new.state.steps - (c.args.state.now.steps + 1)) c.in_ok-read_flat.ensures.ok in
-    let less = end_less t c.args.self.now.fine m c.args.frame c.args.entry c.args.size 1 c.args.until c.requires.left refl (at_of c.args.state.now) c.requires.frame c.requires.state (at_of c.read_flat.new.state) (c.read_flat.new.state.steps - (c.args.state.now.steps + 1)) c.in_ok-read_flat.ensures.ok in
+    let end = end_room t c.args.self.now.fine m c.args.frame c.args.entry c.args.size 1 c.args.until c.requires.left refl (at_of c.args.state.now)
+    c.requires.frame c.requires.state (at_of c.read_flat.new.state) (c.read_flat.new.state.steps - (c.args.state.now.steps + 1))
+    c.in_ok-read_flat.ensures.ok in
+    let less = end_less t c.args.self.now.fine m c.args.frame c.args.entry c.args.size 1 c.args.until c.requires.left refl (at_of c.args.state.now)
+    c.requires.frame c.requires.state (at_of c.read_flat.new.state) (c.read_flat.new.state.steps - (c.args.state.now.steps + 1))
+    c.in_ok-read_flat.ensures.ok in
     let grows = (not_fewer _ _ _ c.in_ok-read_flat.ensures.spends) in
     record { fits = omega (arith, room.1, c.args.self.now.short, c.requires.budget, less, end.1, grows) }
 
@@ -102,7 +110,9 @@ pub zeros_at-requires-clause-order : goal.zeros_at-requires-clause-order
 zeros_at-requires-clause-order c =
     let t = c.args.self.now.table.now in
     let m = message c.args.self.now in
-    let end = end_room t c.args.self.now.fine m c.args.frame c.args.entry c.args.size 1 c.args.until c.requires.left refl (at_of c.args.state.now) c.requires.frame c.requires.state (at_of c.read_flat.new.state) (c.read_flat.new.state.steps - (c.args.state.now.steps + 1)) c.in_ok-read_flat.ensures.ok in
+    let end = end_room t c.args.self.now.fine m c.args.frame c.args.entry c.args.size 1 c.args.until c.requires.left refl (at_of c.args.state.now)
+    c.requires.frame c.requires.state (at_of c.read_flat.new.state) (c.read_flat.new.state.steps - (c.args.state.now.steps + 1))
+    c.in_ok-read_flat.ensures.ok in
     omega (arith, end.0)
 
 pub zeros_at-requires-clause-room : goal.zeros_at-requires-clause-room
@@ -116,8 +126,12 @@ pub returns-in_err-zeros_at-clause-cost : goal.returns-in_err-zeros_at-clause-co
 returns-in_err-zeros_at-clause-cost c =
     let t = c.args.self.now.table.now in
     let m = message c.args.self.now in
-    let end = end_room t c.args.self.now.fine m c.args.frame c.args.entry c.args.size 1 c.args.until c.requires.left refl (at_of c.args.state.now) c.requires.frame c.requires.state (at_of c.read_flat.new.state) (c.read_flat.new.state.steps - (c.args.state.now.steps + 1)) c.in_ok-read_flat.ensures.ok in
-    let less = end_less t c.args.self.now.fine m c.args.frame c.args.entry c.args.size 1 c.args.until c.requires.left refl (at_of c.args.state.now) c.requires.frame c.requires.state (at_of c.read_flat.new.state) (c.read_flat.new.state.steps - (c.args.state.now.steps + 1)) c.in_ok-read_flat.ensures.ok in
+    let end = end_room t c.args.self.now.fine m c.args.frame c.args.entry c.args.size 1 c.args.until c.requires.left refl (at_of c.args.state.now)
+    c.requires.frame c.requires.state (at_of c.read_flat.new.state) (c.read_flat.new.state.steps - (c.args.state.now.steps + 1))
+    c.in_ok-read_flat.ensures.ok in
+    let less = end_less t c.args.self.now.fine m c.args.frame c.args.entry c.args.size 1 c.args.until c.requires.left refl (at_of c.args.state.now)
+    c.requires.frame c.requires.state (at_of c.read_flat.new.state) (c.read_flat.new.state.steps - (c.args.state.now.steps + 1))
+    c.in_ok-read_flat.ensures.ok in
     let grows = (not_fewer _ _ _ c.in_ok-read_flat.ensures.spends) in
     omega (arith, less, end.1, end.0, grows)
 
@@ -125,14 +139,21 @@ pub returns-in_err-zeros_at-clause-fault_is_true : goal.returns-in_err-zeros_at-
 returns-in_err-zeros_at-clause-fault_is_true c =
     let t = c.args.self.now.table.now in
     let m = message c.args.self.now in
-    passed_on c.from_residual-in_err-zeros_at.result c.in_err-zeros_at.field-0.0 _ c.from_residual-in_err-zeros_at.ensures.1 (leaf_end_breaks t c.args.self.now.fine m c.args.frame c.args.entry c.args.size 1 c.args.until c.requires.left refl (at_of c.args.state.now) c.requires.frame c.requires.state (at_of c.read_flat.new.state) (c.read_flat.new.state.steps - (c.args.state.now.steps + 1)) c.in_ok-read_flat.ensures.ok c.in_err-zeros_at.field-0.0 c.in_err-zeros_at.ensures.fault_is_true)
+    passed_on c.from_residual-in_err-zeros_at.result c.in_err-zeros_at.field-0.0 _ c.from_residual-in_err-zeros_at.ensures.1
+    (leaf_end_breaks t c.args.self.now.fine m c.args.frame c.args.entry c.args.size 1 c.args.until c.requires.left refl (at_of c.args.state.now)
+    c.requires.frame c.requires.state (at_of c.read_flat.new.state) (c.read_flat.new.state.steps - (c.args.state.now.steps + 1))
+    c.in_ok-read_flat.ensures.ok c.in_err-zeros_at.field-0.0 c.in_err-zeros_at.ensures.fault_is_true)
 
 pub returns-then-state-until-clause-cost : goal.returns-then-state-until-clause-cost
 returns-then-state-until-clause-cost c =
     let t = c.args.self.now.table.now in
     let m = message c.args.self.now in
-    let end = end_room t c.args.self.now.fine m c.args.frame c.args.entry c.args.size 1 c.args.until c.requires.left refl (at_of c.args.state.now) c.requires.frame c.requires.state (at_of c.read_flat.new.state) (c.read_flat.new.state.steps - (c.args.state.now.steps + 1)) c.in_ok-read_flat.ensures.ok in
-    let less = end_less t c.args.self.now.fine m c.args.frame c.args.entry c.args.size 1 c.args.until c.requires.left refl (at_of c.args.state.now) c.requires.frame c.requires.state (at_of c.read_flat.new.state) (c.read_flat.new.state.steps - (c.args.state.now.steps + 1)) c.in_ok-read_flat.ensures.ok in
+    let end = end_room t c.args.self.now.fine m c.args.frame c.args.entry c.args.size 1 c.args.until c.requires.left refl (at_of c.args.state.now)
+    c.requires.frame c.requires.state (at_of c.read_flat.new.state) (c.read_flat.new.state.steps - (c.args.state.now.steps + 1))
+    c.in_ok-read_flat.ensures.ok in
+    let less = end_less t c.args.self.now.fine m c.args.frame c.args.entry c.args.size 1 c.args.until c.requires.left refl (at_of c.args.state.now)
+    c.requires.frame c.requires.state (at_of c.read_flat.new.state) (c.read_flat.new.state.steps - (c.args.state.now.steps + 1))
+    c.in_ok-read_flat.ensures.ok in
     let grows = (not_fewer _ _ _ c.in_ok-read_flat.ensures.spends) in
     omega (arith, less, end.1, end.0, grows)
 
@@ -144,14 +165,18 @@ returns-then-state-until-clause-fault_is_true c =
       | then-state-until-via-then-state-until w ↦ (λ u. w.if-state-until.true u.0)
       | then-state-until-via-else-state-until+then-state-until-2 w ↦ (λ u. w.if-state-until-2.true u.1)
     ] in
-    leaf_miscounted t c.args.self.now.fine m c.args.frame c.args.entry c.args.size 1 c.args.until c.requires.left refl (at_of c.args.state.now) c.requires.frame c.requires.state (at_of c.read_flat.new.state) (c.read_flat.new.state.steps - (c.args.state.now.steps + 1)) c.in_ok-read_flat.ensures.ok c.in_ok-zeros_at.ensures.ok other
+    leaf_miscounted t c.args.self.now.fine m c.args.frame c.args.entry c.args.size 1 c.args.until c.requires.left refl (at_of c.args.state.now)
+    c.requires.frame c.requires.state (at_of c.read_flat.new.state) (c.read_flat.new.state.steps - (c.args.state.now.steps + 1))
+    c.in_ok-read_flat.ensures.ok c.in_ok-zeros_at.ensures.ok other
 
 pub returns-clause-ok : goal.returns-clause-ok
 returns-clause-ok c =
     let t = c.args.self.now.table.now in
     let m = message c.args.self.now in
     let grows = (not_fewer _ _ _ c.in_ok-read_flat.ensures.spends) in
-    leaf_over t c.args.self.now.fine m c.args.frame c.args.entry c.args.size 1 c.args.until c.requires.left refl (at_of c.args.state.now) c.requires.frame c.requires.state (at_of c.read_flat.new.state) (c.read_flat.new.state.steps - (c.args.state.now.steps + 1)) c.in_ok-read_flat.ensures.ok c.in_ok-zeros_at.ensures.ok (c.if-state-until.false, c.if-state-until-2.false) _ (omega (arith, grows))
+    leaf_over t c.args.self.now.fine m c.args.frame c.args.entry c.args.size 1 c.args.until c.requires.left refl (at_of c.args.state.now)
+    c.requires.frame c.requires.state (at_of c.read_flat.new.state) (c.read_flat.new.state.steps - (c.args.state.now.steps + 1))
+    c.in_ok-read_flat.ensures.ok c.in_ok-zeros_at.ensures.ok (c.if-state-until.false, c.if-state-until-2.false) _ (omega (arith, grows))
 
 pub returns-clause-rises : goal.returns-clause-rises
 returns-clause-rises c =
@@ -164,8 +189,12 @@ pub returns-clause-cost : goal.returns-clause-cost
 returns-clause-cost c =
     let t = c.args.self.now.table.now in
     let m = message c.args.self.now in
-    let end = end_room t c.args.self.now.fine m c.args.frame c.args.entry c.args.size 1 c.args.until c.requires.left refl (at_of c.args.state.now) c.requires.frame c.requires.state (at_of c.read_flat.new.state) (c.read_flat.new.state.steps - (c.args.state.now.steps + 1)) c.in_ok-read_flat.ensures.ok in
-    let less = end_less t c.args.self.now.fine m c.args.frame c.args.entry c.args.size 1 c.args.until c.requires.left refl (at_of c.args.state.now) c.requires.frame c.requires.state (at_of c.read_flat.new.state) (c.read_flat.new.state.steps - (c.args.state.now.steps + 1)) c.in_ok-read_flat.ensures.ok in
+    let end = end_room t c.args.self.now.fine m c.args.frame c.args.entry c.args.size 1 c.args.until c.requires.left refl (at_of c.args.state.now)
+    c.requires.frame c.requires.state (at_of c.read_flat.new.state) (c.read_flat.new.state.steps - (c.args.state.now.steps + 1))
+    c.in_ok-read_flat.ensures.ok in
+    let less = end_less t c.args.self.now.fine m c.args.frame c.args.entry c.args.size 1 c.args.until c.requires.left refl (at_of c.args.state.now)
+    c.requires.frame c.requires.state (at_of c.read_flat.new.state) (c.read_flat.new.state.steps - (c.args.state.now.steps + 1))
+    c.in_ok-read_flat.ensures.ok in
     let grows = (not_fewer _ _ _ c.in_ok-read_flat.ensures.spends) in
     omega (arith, less, end.1, end.0, grows)
 

@@ -68,7 +68,13 @@ returns-then-counted-self c =
     let m = message c.args.self.now in
     let ds = declarations_of c.args.self.now.table.now in
     let old = at_of c.args.state.now in
-    let r = unknown_refuse ds c.args.self.now.fine.laid_out m (c.args.self.now.short, c.requires.state.few) c.args.depth c.args.envelope old (Truncated old.next) (refl, sym c.flags_at-flags.ensures ∙ c.if-flags-ne0.false, omega (arith, (size_short c.args.self.now.sized _ _ c.if-counted-self.true), c.byte_count_at-counted.ensures)) in
+    let r = unknown_refuse ds c.args.self.now.fine.laid_out m (c.args.self.now.short, c.requires.state.few) c.args.depth c.args.envelope old
+    (Truncated old.next) (
+      refl,
+      sym c.flags_at-flags.ensures ∙ c.if-flags-ne0.false,
+      omega
+          (arith, (size_short c.args.self.now.sized _ _ c.if-counted-self.true), c.byte_count_at-counted.ensures),
+    ) in
     record { holds = c.requires.holds; ok = tt; state = c.requires.state; fault_is_true = r.0; steps = refl; grows = omega arith }
 
 pub returns-then-handles-self-2 : goal.returns-then-handles-self-2
@@ -96,11 +102,25 @@ returns c =
     let some : handles_below m.bytes c.args.envelope ≤ length m.handles - old.handle = omega (arith, c.if-handles-self-2.false, many) in
     let fits : bytes_below m.bytes c.args.envelope ≤ length m.bytes - old.next = omega (arith, (size_fits c.args.self.now.sized _ _ c.if-counted-self.false), much) in
     let are : AreHandles m.handles old.handle (handles_below m.bytes c.args.envelope) = subst (λ k. AreHandles m.handles old.handle k) many c.are_handles-2.ensures in
-    let x = skips_below ds c.args.self.now.fine.laid_out m (c.args.self.now.short, c.requires.state.few) c.args.depth c.args.envelope old c.requires.room (λ i. omega (arith, c.args.self.now.octets i)) are some (sym c.flags_at-flags.ensures ∙ c.if-flags-ne0.false) whole (omega (arith, c.requires.depth, c.if-depth-eq-MAX_DEPTH.false)) fits in
+    let x = skips_below ds c.args.self.now.fine.laid_out m (c.args.self.now.short, c.requires.state.few) c.args.depth c.args.envelope old
+    c.requires.room (λ i. omega (arith, c.args.self.now.octets i)) are some (sym c.flags_at-flags.ensures ∙ c.if-flags-ne0.false) whole
+    (omega (arith, c.requires.depth, c.if-depth-eq-MAX_DEPTH.false)) fits in
     let inner = c.requires.state.handle in
     let bytes = c.requires.state.next in
     let ok : (to : Position) → Contained ds m c.args.depth None c.args.envelope old to ↔ (new ≡ to) = subst (λ (s : Position). (to : Position) → Contained ds m c.args.depth None c.args.envelope old to ↔ (s ≡ to)) led x in
-    record { holds = c.link_outside.ensures.came ∙ c.requires.holds; ok = ok; state = record { next = omega (arith, bytes, (size_fits c.args.self.now.sized _ _ c.if-counted-self.false)); handle = omega (arith, inner, c.if-handles-self-2.false); few = c.requires.state.few }; fault_is_true = tt; steps = refl; grows = omega arith }
+    record {
+      holds = c.link_outside.ensures.came ∙ c.requires.holds;
+      ok = ok;
+      state = record {
+        next = omega (arith, bytes, (size_fits c.args.self.now.sized _ _ c.if-counted-self.false));
+        handle = omega
+            (arith, inner, c.if-handles-self-2.false);
+        few = c.requires.state.few;
+      };
+      fault_is_true = tt;
+      steps = refl;
+      grows = omega arith;
+    }
 
 pub link_inside-requires : goal.link_inside-requires
 link_inside-requires c =

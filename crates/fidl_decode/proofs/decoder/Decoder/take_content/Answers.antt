@@ -85,7 +85,10 @@ returns-in_err-zeros_at-clause-fault_is_true c =
     let m = message c.args.self.now in
     let same = same_frame c.args.frame (Content c.args.entry c.args.size c.args.count c.args.until) c.requires.left in
     let own = subst (λ (f : Frame). FrameFine t m.bytes f) same c.requires.frame in
-    passed_on c.from_residual.result c.in_err-zeros_at.field-0.0 _ c.from_residual.ensures.1 (subst (λ (f : Frame). BreaksFrame t m f (at_of c.args.state.now) c.in_err-zeros_at.field-0.0) (sym same) (content_end_breaks t c.args.self.now.fine m c.args.frame c.args.entry c.args.size c.args.count c.args.until (at_of c.args.state.now) own c.requires.state c.if-count-eq0.true c.in_err-zeros_at.field-0.0 c.in_err-zeros_at.ensures.fault_is_true))
+    passed_on c.from_residual.result c.in_err-zeros_at.field-0.0 _ c.from_residual.ensures.1
+    (subst (λ (f : Frame). BreaksFrame t m f (at_of c.args.state.now) c.in_err-zeros_at.field-0.0) (sym same)
+    (content_end_breaks t c.args.self.now.fine m c.args.frame c.args.entry c.args.size c.args.count c.args.until (at_of c.args.state.now) own
+    c.requires.state c.if-count-eq0.true c.in_err-zeros_at.field-0.0 c.in_err-zeros_at.ensures.fault_is_true))
 
 pub returns-then-state-until-clause-spends : goal.returns-then-state-until-clause-spends
 returns-then-state-until-clause-spends c =
@@ -105,7 +108,9 @@ returns-then-state-until-clause-fault_is_true c =
       | then-state-until-via-then-state-until w ↦ (λ u. w.if-state-until.true u.0)
       | then-state-until-via-else-state-until+then-state-until-2 w ↦ (λ u. w.if-state-until-2.true u.1)
     ] in
-    subst (λ (f : Frame). BreaksFrame t m f (at_of c.args.state.now) (WrongCounts c.args.until.envelope)) (sym same) (content_miscounted t c.args.self.now.fine m c.args.frame c.args.entry c.args.size c.args.count c.args.until (at_of c.args.state.now) own c.requires.state c.if-count-eq0.true c.in_ok-zeros_at.ensures.ok other)
+    subst (λ (f : Frame). BreaksFrame t m f (at_of c.args.state.now) (WrongCounts c.args.until.envelope)) (sym same)
+    (content_miscounted t c.args.self.now.fine m c.args.frame c.args.entry c.args.size c.args.count c.args.until (at_of c.args.state.now) own
+    c.requires.state c.if-count-eq0.true c.in_ok-zeros_at.ensures.ok other)
 
 pub returns-then-count-eq0-clause-ok : goal.returns-then-count-eq0-clause-ok
 returns-then-count-eq0-clause-ok c =
@@ -113,7 +118,11 @@ returns-then-count-eq0-clause-ok c =
     let m = message c.args.self.now in
     let same = same_frame c.args.frame (Content c.args.entry c.args.size c.args.count c.args.until) c.requires.left in
     let own = subst (λ (f : Frame). FrameFine t m.bytes f) same c.requires.frame in
-    subst (λ (f : Frame). Turns t m f (at_of c.args.state.now) (at_of c.args.state.now) (c.args.state.now.steps + (c.args.frame.base + c.args.frame.size - (c.args.frame.base + c.args.frame.done) + 1) - c.args.state.now.steps) (record { below = None; rest = None })) (sym same) (content_over t c.args.self.now.fine m c.args.frame c.args.entry c.args.size c.args.count c.args.until (at_of c.args.state.now) own c.requires.state c.if-count-eq0.true c.in_ok-zeros_at.ensures.ok (c.if-state-until.false, c.if-state-until-2.false) _ (omega arith))
+    subst (λ (f : Frame). Turns t m f (at_of c.args.state.now) (at_of c.args.state.now)
+    (c.args.state.now.steps + (c.args.frame.base + c.args.frame.size - (c.args.frame.base + c.args.frame.done) + 1) - c.args.state.now.steps)
+    (record { below = None; rest = None })) (sym same) (content_over t c.args.self.now.fine m c.args.frame c.args.entry c.args.size c.args.count
+    c.args.until (at_of c.args.state.now) own c.requires.state c.if-count-eq0.true c.in_ok-zeros_at.ensures.ok
+    (c.if-state-until.false, c.if-state-until-2.false) _ (omega arith))
 
 pub returns-then-count-eq0-clause-spends : goal.returns-then-count-eq0-clause-spends
 returns-then-count-eq0-clause-spends c =
@@ -153,7 +162,10 @@ returns-in_err-below-clause-spends c =
     let m = message c.args.self.now in
     let same = same_frame c.args.frame (Content c.args.entry c.args.size c.args.count c.args.until) c.requires.left in
     let own = subst (λ (f : Frame). FrameFine t m.bytes f) same c.requires.frame in
-    spends_some _ _ _ (omega (arith, (not_fewer _ _ _ c.in_err-below.ensures.spends))) (let fits = content_room t c.args.self.now.fine m c.args.frame c.args.entry c.args.size c.args.count c.args.until (at_of c.args.state.now) own c.requires.state (omega (arith, c.if-count-eq0.false)) in let probed = c.in_err-below.ensures.spends.most in let work = fits.2 in omega (arith, probed, work))
+    spends_some _ _ _ (omega (arith, (not_fewer _ _ _ c.in_err-below.ensures.spends)))
+    (let fits = content_room t c.args.self.now.fine m c.args.frame c.args.entry c.args.size c.args.count c.args.until (at_of c.args.state.now) own
+    c.requires.state (omega (arith, c.if-count-eq0.false)) in let probed = c.in_err-below.ensures.spends.most in let work = fits.2 in omega
+    (arith, probed, work))
 
 pub returns-in_err-below-clause-fault_is_true : goal.returns-in_err-below-clause-fault_is_true
 returns-in_err-below-clause-fault_is_true c =
@@ -161,7 +173,10 @@ returns-in_err-below-clause-fault_is_true c =
     let m = message c.args.self.now in
     let same = same_frame c.args.frame (Content c.args.entry c.args.size c.args.count c.args.until) c.requires.left in
     let own = subst (λ (f : Frame). FrameFine t m.bytes f) same c.requires.frame in
-    passed_on c.from_residual-in_err-below.result c.in_err-below.field-0.0 _ c.from_residual-in_err-below.ensures.1 (subst (λ (f : Frame). BreaksFrame t m f (at_of c.args.state.now) c.in_err-below.field-0.0) (sym same) (content_breaks t c.args.self.now.fine m c.args.frame c.args.entry c.args.size c.args.count c.args.until (at_of c.args.state.now) own c.requires.state (omega (arith, c.if-count-eq0.false)) c.in_err-below.field-0.0 c.in_err-below.ensures.fault_is_true))
+    passed_on c.from_residual-in_err-below.result c.in_err-below.field-0.0 _ c.from_residual-in_err-below.ensures.1
+    (subst (λ (f : Frame). BreaksFrame t m f (at_of c.args.state.now) c.in_err-below.field-0.0) (sym same)
+    (content_breaks t c.args.self.now.fine m c.args.frame c.args.entry c.args.size c.args.count c.args.until (at_of c.args.state.now) own
+    c.requires.state (omega (arith, c.if-count-eq0.false)) c.in_err-below.field-0.0 c.in_err-below.ensures.fault_is_true))
 
 pub overflow_add-rest : goal.overflow_add-rest
 overflow_add-rest c =
@@ -169,7 +184,10 @@ overflow_add-rest c =
     let m = message c.args.self.now in
     let same = same_frame c.args.frame (Content c.args.entry c.args.size c.args.count c.args.until) c.requires.left in
     let own = subst (λ (f : Frame). FrameFine t m.bytes f) same c.requires.frame in
-    let fits = content_room t c.args.self.now.fine m c.args.frame c.args.entry c.args.size c.args.count c.args.until (at_of c.args.state.now) own c.requires.state (omega (arith, c.if-count-eq0.false)) in let size = content_size t c.args.self.now.fine m c.args.frame c.args.entry c.args.size c.args.count c.args.until (at_of c.args.state.now) own c.requires.state (omega (arith, c.if-count-eq0.false)) in record { fits = omega (arith, fits.0, fits.1, size, c.args.self.now.short) }
+    let fits = content_room t c.args.self.now.fine m c.args.frame c.args.entry c.args.size c.args.count c.args.until (at_of c.args.state.now) own
+    c.requires.state (omega (arith, c.if-count-eq0.false)) in let size = content_size t c.args.self.now.fine m c.args.frame c.args.entry
+    c.args.size c.args.count c.args.until (at_of c.args.state.now) own c.requires.state (omega (arith, c.if-count-eq0.false)) in record
+    { fits = omega (arith, fits.0, fits.1, size, c.args.self.now.short) }
 
 pub returns-clause-ok : goal.returns-clause-ok
 returns-clause-ok c =
@@ -177,7 +195,16 @@ returns-clause-ok c =
     let m = message c.args.self.now in
     let same = same_frame c.args.frame (Content c.args.entry c.args.size c.args.count c.args.until) c.requires.left in
     let own = subst (λ (f : Frame). FrameFine t m.bytes f) same c.requires.frame in
-    let grows = (not_fewer _ _ _ c.in_ok-below.ensures.spends) in subst (λ (f : Frame). Turns t m f (at_of c.args.state.now) (at_of c.visit.new.state) (c.visit.new.state.steps - c.args.state.now.steps) (record { below = c.in_ok-below.below; rest = Some (going_on c.args.frame (Content c.args.entry c.args.size (c.args.count - 1) c.args.until) (c.args.frame.done + c.args.size)) })) (sym same) (content_turns t c.args.self.now.fine m c.args.frame c.args.entry c.args.size c.args.count c.args.until (at_of c.args.state.now) own c.requires.state (omega (arith, c.if-count-eq0.false)) c.in_ok-below.below (at_of c.visit.new.state) (c.visit.new.state.steps - (c.args.state.now.steps + 1)) (c.visit.new.state.steps - c.args.state.now.steps) (omega (arith, grows)) c.in_ok-below.ensures.ok c.in_ok-below.ensures.fine)
+    let grows = (not_fewer _ _ _ c.in_ok-below.ensures.spends) in subst (λ (f : Frame). Turns t m f (at_of c.args.state.now) (at_of c.visit.new.state)
+    (c.visit.new.state.steps - c.args.state.now.steps) (record {
+      below = c.in_ok-below.below;
+      rest = Some
+          (going_on c.args.frame (Content c.args.entry c.args.size (c.args.count - 1) c.args.until) (c.args.frame.done + c.args.size));
+    })) (sym same)
+    (content_turns t c.args.self.now.fine m c.args.frame c.args.entry c.args.size c.args.count c.args.until (at_of c.args.state.now) own
+    c.requires.state (omega (arith, c.if-count-eq0.false)) c.in_ok-below.below (at_of c.visit.new.state)
+    (c.visit.new.state.steps - (c.args.state.now.steps + 1)) (c.visit.new.state.steps - c.args.state.now.steps) (omega (arith, grows))
+    c.in_ok-below.ensures.ok c.in_ok-below.ensures.fine)
 
 pub returns-clause-spends : goal.returns-clause-spends
 returns-clause-spends c =
@@ -185,7 +212,10 @@ returns-clause-spends c =
     let m = message c.args.self.now in
     let same = same_frame c.args.frame (Content c.args.entry c.args.size c.args.count c.args.until) c.requires.left in
     let own = subst (λ (f : Frame). FrameFine t m.bytes f) same c.requires.frame in
-    spends_some _ _ _ (omega (arith, (not_fewer _ _ _ c.in_ok-below.ensures.spends))) (let fits = content_room t c.args.self.now.fine m c.args.frame c.args.entry c.args.size c.args.count c.args.until (at_of c.args.state.now) own c.requires.state (omega (arith, c.if-count-eq0.false)) in let probed = c.in_ok-below.ensures.spends.most in let work = fits.2 in omega (arith, probed, work))
+    spends_some _ _ _ (omega (arith, (not_fewer _ _ _ c.in_ok-below.ensures.spends)))
+    (let fits = content_room t c.args.self.now.fine m c.args.frame c.args.entry c.args.size c.args.count c.args.until (at_of c.args.state.now) own
+    c.requires.state (omega (arith, c.if-count-eq0.false)) in let probed = c.in_ok-below.ensures.spends.most in let work = fits.2 in omega
+    (arith, probed, work))
 
 pub returns-in_err-zeros_at-clause-ok : goal.returns-in_err-zeros_at-clause-ok
 returns-in_err-zeros_at-clause-ok c = no_ok c.from_residual.result c.in_err-zeros_at.field-0.0 _ c.from_residual.ensures.1

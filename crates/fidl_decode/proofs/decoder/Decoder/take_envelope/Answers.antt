@@ -26,8 +26,15 @@ returns-then-is_absent-clause-ok c =
     let same = same_frame c.args.frame (Envelopes c.args.entry c.args.read c.args.count) c.requires.left in
     let some = c.requires.some in
     let z : Stands c.args.self.now.bytes.value.came (c.args.frame.base + c.args.frame.done) (zeros 8) = c.is_absent.ensures.0 c.if-is_absent.true in
-    subst (λ (f : Frame). Turns t m f (at_of c.args.state.now) (at_of c.args.state.now) (c.args.state.now.steps + 1 - c.args.state.now.steps) (record { below = None; rest = Some (going_on c.args.frame (Envelopes c.args.entry (c.args.read + 1) (c.args.count - 1)) (c.args.frame.done + 8)) })) (sym same)
-    (envelope_absent t c.args.self.now.fine m (c.args.self.now.short, c.requires.state.few) c.args.frame c.args.entry c.args.read c.args.count (at_of c.args.state.now) (subst (λ (f : Frame). FrameFine t m.bytes f) same c.requires.frame) c.requires.state (c.args.read + 1) (c.args.count - 1) (add-one c.args.read) (omega (arith, some)) some z (c.args.state.now.steps + 1 - c.args.state.now.steps) (omega arith))
+    subst (λ (f : Frame). Turns t m f (at_of c.args.state.now) (at_of c.args.state.now) (c.args.state.now.steps + 1 - c.args.state.now.steps)
+    (record {
+      below = None;
+      rest = Some (going_on c.args.frame (Envelopes c.args.entry (c.args.read + 1) (c.args.count - 1))
+          (c.args.frame.done + 8));
+    })) (sym same)
+    (envelope_absent t c.args.self.now.fine m (c.args.self.now.short, c.requires.state.few) c.args.frame c.args.entry c.args.read c.args.count
+    (at_of c.args.state.now) (subst (λ (f : Frame). FrameFine t m.bytes f) same c.requires.frame) c.requires.state (c.args.read + 1)
+    (c.args.count - 1) (add-one c.args.read) (omega (arith, some)) some z (c.args.state.now.steps + 1 - c.args.state.now.steps) (omega arith))
 
 pub read_member-requires-clause-budget : goal.read_member-requires-clause-budget
 read_member-requires-clause-budget c =
@@ -65,7 +72,10 @@ returns-clause-ok c =
     let R : Option Frame → Type 0 = λ below. Turns t m f old new all (record { below = below; rest = Some (going_on f (Envelopes c.args.entry (c.args.read + 1) (c.args.count - 1)) (f.done + 8)) }) in
     if_ok_on c.read_member.result P R
     (λ below o more. subst (λ (g : Frame). Turns t m g old new all (record { below = below; rest = Some (going_on f (Envelopes c.args.entry (c.args.read + 1) (c.args.count - 1)) (f.done + 8)) })) (sym same)
-    (envelope_opened t c.args.self.now.fine m (c.args.self.now.short, c.requires.state.few) f c.args.entry c.args.read c.args.count old gf c.requires.state (c.args.read + 1) (c.args.count - 1) (add-one c.args.read) (omega (arith, some)) some there below new spent all (omega (arith, grows, more)) (omega (arith, few, grows)) o.1 (subst (λ (o : Option Term). Opens t m f.depth o place old new spent below) (sym is) o.0)))
+    (envelope_opened t c.args.self.now.fine m (c.args.self.now.short, c.requires.state.few) f c.args.entry c.args.read c.args.count old gf
+    c.requires.state (c.args.read + 1) (c.args.count - 1) (add-one c.args.read) (omega (arith, some)) some there below new spent all
+    (omega (arith, grows, more)) (omega (arith, few, grows)) o.1 (subst (λ (o : Option Term). Opens t m f.depth o place old new spent below)
+    (sym is) o.0)))
     (if_ok_two c.read_member.result (Opens t m f.depth (member_term c.row_of-member.result) place old new spent) (PaysEnvelope m.bytes old.next new.next spent) P (λ below o pays. (o, pays)) c.read_member.ensures.ok c.read_member.ensures.pays)
     c.read_member.ensures.grows
 
@@ -117,7 +127,9 @@ returns-clause-fault_is_true c =
     let all = c.read_member.new.state.steps - c.args.state.now.steps in
     IfErr-weaker c.read_member.result _ _
     (λ fault b. subst (λ (g : Frame). BreaksFrame t m g old fault) (sym same)
-    (envelope_breaks t c.args.self.now.fine m (c.args.self.now.short, c.requires.state.few) f c.args.entry c.args.read c.args.count old gf c.requires.state (c.args.read + 1) (c.args.count - 1) (add-one c.args.read) (omega (arith, some)) some there fault (subst (λ (o : Option Term). BreaksMember (declarations_of t) m f.depth o place old fault) (sym is) b)))
+    (envelope_breaks t c.args.self.now.fine m (c.args.self.now.short, c.requires.state.few) f c.args.entry c.args.read c.args.count old gf
+    c.requires.state (c.args.read + 1) (c.args.count - 1) (add-one c.args.read) (omega (arith, some)) some there fault
+    (subst (λ (o : Option Term). BreaksMember (declarations_of t) m f.depth o place old fault) (sym is) b)))
     c.read_member.ensures.fault_is_true
 
 pub returns-then-is_absent-clause-fault_is_true : goal.returns-then-is_absent-clause-fault_is_true

@@ -13,7 +13,14 @@ use Rattle.fidl_decode.proofs.decoder.Decoder.take_turn.Goals as goal
 pub loop-now-init : goal.loop-now-init
 loop-now-init c =
     let none : 0 ≡ c.args.state.now.steps - c.args.state.now.steps = omega arith in
-    record { holds = c.requires.holds; turns = subst (λ (n : ℕ). Turns c.args.self.now.table.now (message c.args.self.now) c.args.frame (at_of c.args.state.now) (at_of c.args.state.now) n (left_over (Some c.args.frame))) none (turns_start c.args.self.now.table.now (message c.args.self.now) c.args.frame (at_of c.args.state.now) c.requires.frame c.requires.state c.args.frame refl); steps = omega arith }
+    record {
+      holds = c.requires.holds;
+      turns = subst (λ (n : ℕ). Turns c.args.self.now.table.now (message c.args.self.now) c.args.frame
+          (at_of c.args.state.now) (at_of c.args.state.now) n (left_over (Some c.args.frame))) none
+          (turns_start c.args.self.now.table.now (message c.args.self.now) c.args.frame (at_of c.args.state.now) c.requires.frame c.requires.state
+          c.args.frame refl);
+      steps = omega arith;
+    }
 
 pub read_leaves-requires-clause-frame : goal.read_leaves-requires-clause-frame
 read_leaves-requires-clause-frame c =
@@ -41,7 +48,10 @@ returns-in_default-clause-ok c =
     let less = c.loop-now.invariant.turns.less in
     let grows = c.in_ok-now.ensures.grows in
     let two = subst (λ (o : Option Frame). Turns c.args.self.now.table.now (message c.args.self.now) c.loop-now.rest (at_of c.loop-now.state) (at_of c.read_leaves.new.state) (c.read_leaves.new.state.steps - c.loop-now.state.steps) (left_over o)) c.in_default.is c.in_ok-now.ensures.ok in
-    let held : Turns c.args.self.now.table.now (message c.args.self.now) c.args.frame (at_of c.args.state.now) (at_of c.read_leaves.new.state) (c.read_leaves.new.state.steps - c.args.state.now.steps) (left_over None) = turns_then c.args.self.now.table.now (message c.args.self.now) c.args.frame (at_of c.args.state.now) (at_of c.loop-now.state) (c.loop-now.state.steps - c.args.state.now.steps) c.loop-now.rest c.loop-now.invariant.turns (at_of c.read_leaves.new.state) _ _ (left_over None) (omega (arith, so_far, grows)) two in
+    let held : Turns c.args.self.now.table.now (message c.args.self.now) c.args.frame (at_of c.args.state.now) (at_of c.read_leaves.new.state)
+    (c.read_leaves.new.state.steps - c.args.state.now.steps) (left_over None) = turns_then c.args.self.now.table.now (message c.args.self.now)
+    c.args.frame (at_of c.args.state.now) (at_of c.loop-now.state) (c.loop-now.state.steps - c.args.state.now.steps) c.loop-now.rest
+    c.loop-now.invariant.turns (at_of c.read_leaves.new.state) _ _ (left_over None) (omega (arith, so_far, grows)) two in
     let less_now = held.less in
     held
 
@@ -64,7 +74,11 @@ take_member-requires-clause-frame c =
     let less = c.loop-now.invariant.turns.less in
     let grows = c.in_ok-now.ensures.grows in
     let two = subst (λ (o : Option Frame). Turns c.args.self.now.table.now (message c.args.self.now) c.loop-now.rest (at_of c.loop-now.state) (at_of c.read_leaves.new.state) (c.read_leaves.new.state.steps - c.loop-now.state.steps) (left_over o)) c.in-Some.is c.in_ok-now.ensures.ok in
-    let held : Turns c.args.self.now.table.now (message c.args.self.now) c.args.frame (at_of c.args.state.now) (at_of c.read_leaves.new.state) (c.read_leaves.new.state.steps - c.args.state.now.steps) (left_over (Some c.in-Some.now)) = turns_then c.args.self.now.table.now (message c.args.self.now) c.args.frame (at_of c.args.state.now) (at_of c.loop-now.state) (c.loop-now.state.steps - c.args.state.now.steps) c.loop-now.rest c.loop-now.invariant.turns (at_of c.read_leaves.new.state) _ _ (left_over (Some c.in-Some.now)) (omega (arith, so_far, grows)) two in
+    let held : Turns c.args.self.now.table.now (message c.args.self.now) c.args.frame (at_of c.args.state.now) (at_of c.read_leaves.new.state)
+    (c.read_leaves.new.state.steps - c.args.state.now.steps) (left_over (Some c.in-Some.now)) = turns_then c.args.self.now.table.now
+    (message c.args.self.now) c.args.frame (at_of c.args.state.now) (at_of c.loop-now.state) (c.loop-now.state.steps - c.args.state.now.steps)
+    c.loop-now.rest c.loop-now.invariant.turns (at_of c.read_leaves.new.state) _ _ (left_over (Some c.in-Some.now)) (omega (arith, so_far, grows))
+    two in
     let less_now = held.less in
     held.rest_fine.0
 
@@ -74,7 +88,11 @@ take_member-requires-clause-state c =
     let less = c.loop-now.invariant.turns.less in
     let grows = c.in_ok-now.ensures.grows in
     let two = subst (λ (o : Option Frame). Turns c.args.self.now.table.now (message c.args.self.now) c.loop-now.rest (at_of c.loop-now.state) (at_of c.read_leaves.new.state) (c.read_leaves.new.state.steps - c.loop-now.state.steps) (left_over o)) c.in-Some.is c.in_ok-now.ensures.ok in
-    let held : Turns c.args.self.now.table.now (message c.args.self.now) c.args.frame (at_of c.args.state.now) (at_of c.read_leaves.new.state) (c.read_leaves.new.state.steps - c.args.state.now.steps) (left_over (Some c.in-Some.now)) = turns_then c.args.self.now.table.now (message c.args.self.now) c.args.frame (at_of c.args.state.now) (at_of c.loop-now.state) (c.loop-now.state.steps - c.args.state.now.steps) c.loop-now.rest c.loop-now.invariant.turns (at_of c.read_leaves.new.state) _ _ (left_over (Some c.in-Some.now)) (omega (arith, so_far, grows)) two in
+    let held : Turns c.args.self.now.table.now (message c.args.self.now) c.args.frame (at_of c.args.state.now) (at_of c.read_leaves.new.state)
+    (c.read_leaves.new.state.steps - c.args.state.now.steps) (left_over (Some c.in-Some.now)) = turns_then c.args.self.now.table.now
+    (message c.args.self.now) c.args.frame (at_of c.args.state.now) (at_of c.loop-now.state) (c.loop-now.state.steps - c.args.state.now.steps)
+    c.loop-now.rest c.loop-now.invariant.turns (at_of c.read_leaves.new.state) _ _ (left_over (Some c.in-Some.now)) (omega (arith, so_far, grows))
+    two in
     let less_now = held.less in
     held.state
 
@@ -84,7 +102,11 @@ take_member-requires-clause-budget c =
     let less = c.loop-now.invariant.turns.less in
     let grows = c.in_ok-now.ensures.grows in
     let two = subst (λ (o : Option Frame). Turns c.args.self.now.table.now (message c.args.self.now) c.loop-now.rest (at_of c.loop-now.state) (at_of c.read_leaves.new.state) (c.read_leaves.new.state.steps - c.loop-now.state.steps) (left_over o)) c.in-Some.is c.in_ok-now.ensures.ok in
-    let held : Turns c.args.self.now.table.now (message c.args.self.now) c.args.frame (at_of c.args.state.now) (at_of c.read_leaves.new.state) (c.read_leaves.new.state.steps - c.args.state.now.steps) (left_over (Some c.in-Some.now)) = turns_then c.args.self.now.table.now (message c.args.self.now) c.args.frame (at_of c.args.state.now) (at_of c.loop-now.state) (c.loop-now.state.steps - c.args.state.now.steps) c.loop-now.rest c.loop-now.invariant.turns (at_of c.read_leaves.new.state) _ _ (left_over (Some c.in-Some.now)) (omega (arith, so_far, grows)) two in
+    let held : Turns c.args.self.now.table.now (message c.args.self.now) c.args.frame (at_of c.args.state.now) (at_of c.read_leaves.new.state)
+    (c.read_leaves.new.state.steps - c.args.state.now.steps) (left_over (Some c.in-Some.now)) = turns_then c.args.self.now.table.now
+    (message c.args.self.now) c.args.frame (at_of c.args.state.now) (at_of c.loop-now.state) (c.loop-now.state.steps - c.args.state.now.steps)
+    c.loop-now.rest c.loop-now.invariant.turns (at_of c.read_leaves.new.state) _ _ (left_over (Some c.in-Some.now)) (omega (arith, so_far, grows))
+    two in
     let less_now = held.less in
     omega (arith, less_now, so_far, grows, c.requires.budget)
 
@@ -94,7 +116,11 @@ returns-in_err-turn-clause-cost c =
     let less = c.loop-now.invariant.turns.less in
     let grows = c.in_ok-now.ensures.grows in
     let two = subst (λ (o : Option Frame). Turns c.args.self.now.table.now (message c.args.self.now) c.loop-now.rest (at_of c.loop-now.state) (at_of c.read_leaves.new.state) (c.read_leaves.new.state.steps - c.loop-now.state.steps) (left_over o)) c.in-Some.is c.in_ok-now.ensures.ok in
-    let held : Turns c.args.self.now.table.now (message c.args.self.now) c.args.frame (at_of c.args.state.now) (at_of c.read_leaves.new.state) (c.read_leaves.new.state.steps - c.args.state.now.steps) (left_over (Some c.in-Some.now)) = turns_then c.args.self.now.table.now (message c.args.self.now) c.args.frame (at_of c.args.state.now) (at_of c.loop-now.state) (c.loop-now.state.steps - c.args.state.now.steps) c.loop-now.rest c.loop-now.invariant.turns (at_of c.read_leaves.new.state) _ _ (left_over (Some c.in-Some.now)) (omega (arith, so_far, grows)) two in
+    let held : Turns c.args.self.now.table.now (message c.args.self.now) c.args.frame (at_of c.args.state.now) (at_of c.read_leaves.new.state)
+    (c.read_leaves.new.state.steps - c.args.state.now.steps) (left_over (Some c.in-Some.now)) = turns_then c.args.self.now.table.now
+    (message c.args.self.now) c.args.frame (at_of c.args.state.now) (at_of c.loop-now.state) (c.loop-now.state.steps - c.args.state.now.steps)
+    c.loop-now.rest c.loop-now.invariant.turns (at_of c.read_leaves.new.state) _ _ (left_over (Some c.in-Some.now)) (omega (arith, so_far, grows))
+    two in
     let less_now = held.less in
     omega (arith, less_now, so_far, grows, c.in_err-turn.ensures.cost)
 
@@ -104,10 +130,17 @@ returns-in_default-rest-clause-ok c =
     let less = c.loop-now.invariant.turns.less in
     let grows = c.in_ok-now.ensures.grows in
     let two = subst (λ (o : Option Frame). Turns c.args.self.now.table.now (message c.args.self.now) c.loop-now.rest (at_of c.loop-now.state) (at_of c.read_leaves.new.state) (c.read_leaves.new.state.steps - c.loop-now.state.steps) (left_over o)) c.in-Some.is c.in_ok-now.ensures.ok in
-    let held : Turns c.args.self.now.table.now (message c.args.self.now) c.args.frame (at_of c.args.state.now) (at_of c.read_leaves.new.state) (c.read_leaves.new.state.steps - c.args.state.now.steps) (left_over (Some c.in-Some.now)) = turns_then c.args.self.now.table.now (message c.args.self.now) c.args.frame (at_of c.args.state.now) (at_of c.loop-now.state) (c.loop-now.state.steps - c.args.state.now.steps) c.loop-now.rest c.loop-now.invariant.turns (at_of c.read_leaves.new.state) _ _ (left_over (Some c.in-Some.now)) (omega (arith, so_far, grows)) two in
+    let held : Turns c.args.self.now.table.now (message c.args.self.now) c.args.frame (at_of c.args.state.now) (at_of c.read_leaves.new.state)
+    (c.read_leaves.new.state.steps - c.args.state.now.steps) (left_over (Some c.in-Some.now)) = turns_then c.args.self.now.table.now
+    (message c.args.self.now) c.args.frame (at_of c.args.state.now) (at_of c.loop-now.state) (c.loop-now.state.steps - c.args.state.now.steps)
+    c.loop-now.rest c.loop-now.invariant.turns (at_of c.read_leaves.new.state) _ _ (left_over (Some c.in-Some.now)) (omega (arith, so_far, grows))
+    two in
     let less_now = held.less in
     let rises = c.in_ok-turn.ensures.rises in
-    let read : Turns c.args.self.now.table.now (message c.args.self.now) c.args.frame (at_of c.args.state.now) (at_of c.take_member.new.state) (c.take_member.new.state.steps - c.args.state.now.steps) c.in_ok-turn.turn = turns_then c.args.self.now.table.now (message c.args.self.now) c.args.frame (at_of c.args.state.now) (at_of c.read_leaves.new.state) (c.read_leaves.new.state.steps - c.args.state.now.steps) c.in-Some.now held (at_of c.take_member.new.state) _ _ c.in_ok-turn.turn (omega (arith, so_far, grows, rises)) c.in_ok-turn.ensures.ok in
+    let read : Turns c.args.self.now.table.now (message c.args.self.now) c.args.frame (at_of c.args.state.now) (at_of c.take_member.new.state)
+    (c.take_member.new.state.steps - c.args.state.now.steps) c.in_ok-turn.turn = turns_then c.args.self.now.table.now (message c.args.self.now)
+    c.args.frame (at_of c.args.state.now) (at_of c.read_leaves.new.state) (c.read_leaves.new.state.steps - c.args.state.now.steps) c.in-Some.now
+    held (at_of c.take_member.new.state) _ _ c.in_ok-turn.turn (omega (arith, so_far, grows, rises)) c.in_ok-turn.ensures.ok in
     read
 
 pub returns-in_default-rest-clause-rises : goal.returns-in_default-rest-clause-rises
@@ -122,7 +155,11 @@ returns-in_default-rest-clause-cost c =
     let less = c.loop-now.invariant.turns.less in
     let grows = c.in_ok-now.ensures.grows in
     let two = subst (λ (o : Option Frame). Turns c.args.self.now.table.now (message c.args.self.now) c.loop-now.rest (at_of c.loop-now.state) (at_of c.read_leaves.new.state) (c.read_leaves.new.state.steps - c.loop-now.state.steps) (left_over o)) c.in-Some.is c.in_ok-now.ensures.ok in
-    let held : Turns c.args.self.now.table.now (message c.args.self.now) c.args.frame (at_of c.args.state.now) (at_of c.read_leaves.new.state) (c.read_leaves.new.state.steps - c.args.state.now.steps) (left_over (Some c.in-Some.now)) = turns_then c.args.self.now.table.now (message c.args.self.now) c.args.frame (at_of c.args.state.now) (at_of c.loop-now.state) (c.loop-now.state.steps - c.args.state.now.steps) c.loop-now.rest c.loop-now.invariant.turns (at_of c.read_leaves.new.state) _ _ (left_over (Some c.in-Some.now)) (omega (arith, so_far, grows)) two in
+    let held : Turns c.args.self.now.table.now (message c.args.self.now) c.args.frame (at_of c.args.state.now) (at_of c.read_leaves.new.state)
+    (c.read_leaves.new.state.steps - c.args.state.now.steps) (left_over (Some c.in-Some.now)) = turns_then c.args.self.now.table.now
+    (message c.args.self.now) c.args.frame (at_of c.args.state.now) (at_of c.loop-now.state) (c.loop-now.state.steps - c.args.state.now.steps)
+    c.loop-now.rest c.loop-now.invariant.turns (at_of c.read_leaves.new.state) _ _ (left_over (Some c.in-Some.now)) (omega (arith, so_far, grows))
+    two in
     let less_now = held.less in
     omega (arith, less_now, so_far, grows, c.in_ok-turn.ensures.cost)
 
@@ -132,10 +169,17 @@ read_leaves-requires-in-loop-now-clause-frame c =
     let less = c.loop-now.invariant.turns.less in
     let grows = c.in_ok-now.ensures.grows in
     let two = subst (λ (o : Option Frame). Turns c.args.self.now.table.now (message c.args.self.now) c.loop-now.rest (at_of c.loop-now.state) (at_of c.read_leaves.new.state) (c.read_leaves.new.state.steps - c.loop-now.state.steps) (left_over o)) c.in-Some.is c.in_ok-now.ensures.ok in
-    let held : Turns c.args.self.now.table.now (message c.args.self.now) c.args.frame (at_of c.args.state.now) (at_of c.read_leaves.new.state) (c.read_leaves.new.state.steps - c.args.state.now.steps) (left_over (Some c.in-Some.now)) = turns_then c.args.self.now.table.now (message c.args.self.now) c.args.frame (at_of c.args.state.now) (at_of c.loop-now.state) (c.loop-now.state.steps - c.args.state.now.steps) c.loop-now.rest c.loop-now.invariant.turns (at_of c.read_leaves.new.state) _ _ (left_over (Some c.in-Some.now)) (omega (arith, so_far, grows)) two in
+    let held : Turns c.args.self.now.table.now (message c.args.self.now) c.args.frame (at_of c.args.state.now) (at_of c.read_leaves.new.state)
+    (c.read_leaves.new.state.steps - c.args.state.now.steps) (left_over (Some c.in-Some.now)) = turns_then c.args.self.now.table.now
+    (message c.args.self.now) c.args.frame (at_of c.args.state.now) (at_of c.loop-now.state) (c.loop-now.state.steps - c.args.state.now.steps)
+    c.loop-now.rest c.loop-now.invariant.turns (at_of c.read_leaves.new.state) _ _ (left_over (Some c.in-Some.now)) (omega (arith, so_far, grows))
+    two in
     let less_now = held.less in
     let rises = c.in_ok-turn.ensures.rises in
-    let read : Turns c.args.self.now.table.now (message c.args.self.now) c.args.frame (at_of c.args.state.now) (at_of c.take_member.new.state) (c.take_member.new.state.steps - c.args.state.now.steps) c.in_ok-turn.turn = turns_then c.args.self.now.table.now (message c.args.self.now) c.args.frame (at_of c.args.state.now) (at_of c.read_leaves.new.state) (c.read_leaves.new.state.steps - c.args.state.now.steps) c.in-Some.now held (at_of c.take_member.new.state) _ _ c.in_ok-turn.turn (omega (arith, so_far, grows, rises)) c.in_ok-turn.ensures.ok in
+    let read : Turns c.args.self.now.table.now (message c.args.self.now) c.args.frame (at_of c.args.state.now) (at_of c.take_member.new.state)
+    (c.take_member.new.state.steps - c.args.state.now.steps) c.in_ok-turn.turn = turns_then c.args.self.now.table.now (message c.args.self.now)
+    c.args.frame (at_of c.args.state.now) (at_of c.read_leaves.new.state) (c.read_leaves.new.state.steps - c.args.state.now.steps) c.in-Some.now
+    held (at_of c.take_member.new.state) _ _ c.in_ok-turn.turn (omega (arith, so_far, grows, rises)) c.in_ok-turn.ensures.ok in
     let turn : c.in_ok-turn.turn ≡ record { below = Some c.in-Some-below.below; rest = Some c.in-Some-rest.after } = λ i. record { below = c.in-Some-below.is i; rest = c.in-Some-rest.is i } in
     let both = subst (λ (x : Turn). Turns c.args.self.now.table.now (message c.args.self.now) c.args.frame (at_of c.args.state.now) (at_of c.take_member.new.state) (c.take_member.new.state.steps - c.args.state.now.steps) x) turn read in
     let less_both = both.less in
@@ -147,10 +191,17 @@ read_leaves-requires-in-loop-now-clause-state c =
     let less = c.loop-now.invariant.turns.less in
     let grows = c.in_ok-now.ensures.grows in
     let two = subst (λ (o : Option Frame). Turns c.args.self.now.table.now (message c.args.self.now) c.loop-now.rest (at_of c.loop-now.state) (at_of c.read_leaves.new.state) (c.read_leaves.new.state.steps - c.loop-now.state.steps) (left_over o)) c.in-Some.is c.in_ok-now.ensures.ok in
-    let held : Turns c.args.self.now.table.now (message c.args.self.now) c.args.frame (at_of c.args.state.now) (at_of c.read_leaves.new.state) (c.read_leaves.new.state.steps - c.args.state.now.steps) (left_over (Some c.in-Some.now)) = turns_then c.args.self.now.table.now (message c.args.self.now) c.args.frame (at_of c.args.state.now) (at_of c.loop-now.state) (c.loop-now.state.steps - c.args.state.now.steps) c.loop-now.rest c.loop-now.invariant.turns (at_of c.read_leaves.new.state) _ _ (left_over (Some c.in-Some.now)) (omega (arith, so_far, grows)) two in
+    let held : Turns c.args.self.now.table.now (message c.args.self.now) c.args.frame (at_of c.args.state.now) (at_of c.read_leaves.new.state)
+    (c.read_leaves.new.state.steps - c.args.state.now.steps) (left_over (Some c.in-Some.now)) = turns_then c.args.self.now.table.now
+    (message c.args.self.now) c.args.frame (at_of c.args.state.now) (at_of c.loop-now.state) (c.loop-now.state.steps - c.args.state.now.steps)
+    c.loop-now.rest c.loop-now.invariant.turns (at_of c.read_leaves.new.state) _ _ (left_over (Some c.in-Some.now)) (omega (arith, so_far, grows))
+    two in
     let less_now = held.less in
     let rises = c.in_ok-turn.ensures.rises in
-    let read : Turns c.args.self.now.table.now (message c.args.self.now) c.args.frame (at_of c.args.state.now) (at_of c.take_member.new.state) (c.take_member.new.state.steps - c.args.state.now.steps) c.in_ok-turn.turn = turns_then c.args.self.now.table.now (message c.args.self.now) c.args.frame (at_of c.args.state.now) (at_of c.read_leaves.new.state) (c.read_leaves.new.state.steps - c.args.state.now.steps) c.in-Some.now held (at_of c.take_member.new.state) _ _ c.in_ok-turn.turn (omega (arith, so_far, grows, rises)) c.in_ok-turn.ensures.ok in
+    let read : Turns c.args.self.now.table.now (message c.args.self.now) c.args.frame (at_of c.args.state.now) (at_of c.take_member.new.state)
+    (c.take_member.new.state.steps - c.args.state.now.steps) c.in_ok-turn.turn = turns_then c.args.self.now.table.now (message c.args.self.now)
+    c.args.frame (at_of c.args.state.now) (at_of c.read_leaves.new.state) (c.read_leaves.new.state.steps - c.args.state.now.steps) c.in-Some.now
+    held (at_of c.take_member.new.state) _ _ c.in_ok-turn.turn (omega (arith, so_far, grows, rises)) c.in_ok-turn.ensures.ok in
     let turn : c.in_ok-turn.turn ≡ record { below = Some c.in-Some-below.below; rest = Some c.in-Some-rest.after } = λ i. record { below = c.in-Some-below.is i; rest = c.in-Some-rest.is i } in
     let both = subst (λ (x : Turn). Turns c.args.self.now.table.now (message c.args.self.now) c.args.frame (at_of c.args.state.now) (at_of c.take_member.new.state) (c.take_member.new.state.steps - c.args.state.now.steps) x) turn read in
     let less_both = both.less in
@@ -162,10 +213,17 @@ read_leaves-requires-in-loop-now-clause-budget c =
     let less = c.loop-now.invariant.turns.less in
     let grows = c.in_ok-now.ensures.grows in
     let two = subst (λ (o : Option Frame). Turns c.args.self.now.table.now (message c.args.self.now) c.loop-now.rest (at_of c.loop-now.state) (at_of c.read_leaves.new.state) (c.read_leaves.new.state.steps - c.loop-now.state.steps) (left_over o)) c.in-Some.is c.in_ok-now.ensures.ok in
-    let held : Turns c.args.self.now.table.now (message c.args.self.now) c.args.frame (at_of c.args.state.now) (at_of c.read_leaves.new.state) (c.read_leaves.new.state.steps - c.args.state.now.steps) (left_over (Some c.in-Some.now)) = turns_then c.args.self.now.table.now (message c.args.self.now) c.args.frame (at_of c.args.state.now) (at_of c.loop-now.state) (c.loop-now.state.steps - c.args.state.now.steps) c.loop-now.rest c.loop-now.invariant.turns (at_of c.read_leaves.new.state) _ _ (left_over (Some c.in-Some.now)) (omega (arith, so_far, grows)) two in
+    let held : Turns c.args.self.now.table.now (message c.args.self.now) c.args.frame (at_of c.args.state.now) (at_of c.read_leaves.new.state)
+    (c.read_leaves.new.state.steps - c.args.state.now.steps) (left_over (Some c.in-Some.now)) = turns_then c.args.self.now.table.now
+    (message c.args.self.now) c.args.frame (at_of c.args.state.now) (at_of c.loop-now.state) (c.loop-now.state.steps - c.args.state.now.steps)
+    c.loop-now.rest c.loop-now.invariant.turns (at_of c.read_leaves.new.state) _ _ (left_over (Some c.in-Some.now)) (omega (arith, so_far, grows))
+    two in
     let less_now = held.less in
     let rises = c.in_ok-turn.ensures.rises in
-    let read : Turns c.args.self.now.table.now (message c.args.self.now) c.args.frame (at_of c.args.state.now) (at_of c.take_member.new.state) (c.take_member.new.state.steps - c.args.state.now.steps) c.in_ok-turn.turn = turns_then c.args.self.now.table.now (message c.args.self.now) c.args.frame (at_of c.args.state.now) (at_of c.read_leaves.new.state) (c.read_leaves.new.state.steps - c.args.state.now.steps) c.in-Some.now held (at_of c.take_member.new.state) _ _ c.in_ok-turn.turn (omega (arith, so_far, grows, rises)) c.in_ok-turn.ensures.ok in
+    let read : Turns c.args.self.now.table.now (message c.args.self.now) c.args.frame (at_of c.args.state.now) (at_of c.take_member.new.state)
+    (c.take_member.new.state.steps - c.args.state.now.steps) c.in_ok-turn.turn = turns_then c.args.self.now.table.now (message c.args.self.now)
+    c.args.frame (at_of c.args.state.now) (at_of c.read_leaves.new.state) (c.read_leaves.new.state.steps - c.args.state.now.steps) c.in-Some.now
+    held (at_of c.take_member.new.state) _ _ c.in_ok-turn.turn (omega (arith, so_far, grows, rises)) c.in_ok-turn.ensures.ok in
     let turn : c.in_ok-turn.turn ≡ record { below = Some c.in-Some-below.below; rest = Some c.in-Some-rest.after } = λ i. record { below = c.in-Some-below.is i; rest = c.in-Some-rest.is i } in
     let both = subst (λ (x : Turn). Turns c.args.self.now.table.now (message c.args.self.now) c.args.frame (at_of c.args.state.now) (at_of c.take_member.new.state) (c.take_member.new.state.steps - c.args.state.now.steps) x) turn read in
     let less_both = both.less in
@@ -177,10 +235,17 @@ returns-in_err-inner-clause-cost c =
     let less = c.loop-now.invariant.turns.less in
     let grows = c.in_ok-now.ensures.grows in
     let two = subst (λ (o : Option Frame). Turns c.args.self.now.table.now (message c.args.self.now) c.loop-now.rest (at_of c.loop-now.state) (at_of c.read_leaves.new.state) (c.read_leaves.new.state.steps - c.loop-now.state.steps) (left_over o)) c.in-Some.is c.in_ok-now.ensures.ok in
-    let held : Turns c.args.self.now.table.now (message c.args.self.now) c.args.frame (at_of c.args.state.now) (at_of c.read_leaves.new.state) (c.read_leaves.new.state.steps - c.args.state.now.steps) (left_over (Some c.in-Some.now)) = turns_then c.args.self.now.table.now (message c.args.self.now) c.args.frame (at_of c.args.state.now) (at_of c.loop-now.state) (c.loop-now.state.steps - c.args.state.now.steps) c.loop-now.rest c.loop-now.invariant.turns (at_of c.read_leaves.new.state) _ _ (left_over (Some c.in-Some.now)) (omega (arith, so_far, grows)) two in
+    let held : Turns c.args.self.now.table.now (message c.args.self.now) c.args.frame (at_of c.args.state.now) (at_of c.read_leaves.new.state)
+    (c.read_leaves.new.state.steps - c.args.state.now.steps) (left_over (Some c.in-Some.now)) = turns_then c.args.self.now.table.now
+    (message c.args.self.now) c.args.frame (at_of c.args.state.now) (at_of c.loop-now.state) (c.loop-now.state.steps - c.args.state.now.steps)
+    c.loop-now.rest c.loop-now.invariant.turns (at_of c.read_leaves.new.state) _ _ (left_over (Some c.in-Some.now)) (omega (arith, so_far, grows))
+    two in
     let less_now = held.less in
     let rises = c.in_ok-turn.ensures.rises in
-    let read : Turns c.args.self.now.table.now (message c.args.self.now) c.args.frame (at_of c.args.state.now) (at_of c.take_member.new.state) (c.take_member.new.state.steps - c.args.state.now.steps) c.in_ok-turn.turn = turns_then c.args.self.now.table.now (message c.args.self.now) c.args.frame (at_of c.args.state.now) (at_of c.read_leaves.new.state) (c.read_leaves.new.state.steps - c.args.state.now.steps) c.in-Some.now held (at_of c.take_member.new.state) _ _ c.in_ok-turn.turn (omega (arith, so_far, grows, rises)) c.in_ok-turn.ensures.ok in
+    let read : Turns c.args.self.now.table.now (message c.args.self.now) c.args.frame (at_of c.args.state.now) (at_of c.take_member.new.state)
+    (c.take_member.new.state.steps - c.args.state.now.steps) c.in_ok-turn.turn = turns_then c.args.self.now.table.now (message c.args.self.now)
+    c.args.frame (at_of c.args.state.now) (at_of c.read_leaves.new.state) (c.read_leaves.new.state.steps - c.args.state.now.steps) c.in-Some.now
+    held (at_of c.take_member.new.state) _ _ c.in_ok-turn.turn (omega (arith, so_far, grows, rises)) c.in_ok-turn.ensures.ok in
     let turn : c.in_ok-turn.turn ≡ record { below = Some c.in-Some-below.below; rest = Some c.in-Some-rest.after } = λ i. record { below = c.in-Some-below.is i; rest = c.in-Some-rest.is i } in
     let both = subst (λ (x : Turn). Turns c.args.self.now.table.now (message c.args.self.now) c.args.frame (at_of c.args.state.now) (at_of c.take_member.new.state) (c.take_member.new.state.steps - c.args.state.now.steps) x) turn read in
     let less_both = both.less in
@@ -192,16 +257,27 @@ returns-in-loop-now-clause-ok c =
     let less = c.loop-now.invariant.turns.less in
     let grows = c.in_ok-now.ensures.grows in
     let two = subst (λ (o : Option Frame). Turns c.args.self.now.table.now (message c.args.self.now) c.loop-now.rest (at_of c.loop-now.state) (at_of c.read_leaves.new.state) (c.read_leaves.new.state.steps - c.loop-now.state.steps) (left_over o)) c.in-Some.is c.in_ok-now.ensures.ok in
-    let held : Turns c.args.self.now.table.now (message c.args.self.now) c.args.frame (at_of c.args.state.now) (at_of c.read_leaves.new.state) (c.read_leaves.new.state.steps - c.args.state.now.steps) (left_over (Some c.in-Some.now)) = turns_then c.args.self.now.table.now (message c.args.self.now) c.args.frame (at_of c.args.state.now) (at_of c.loop-now.state) (c.loop-now.state.steps - c.args.state.now.steps) c.loop-now.rest c.loop-now.invariant.turns (at_of c.read_leaves.new.state) _ _ (left_over (Some c.in-Some.now)) (omega (arith, so_far, grows)) two in
+    let held : Turns c.args.self.now.table.now (message c.args.self.now) c.args.frame (at_of c.args.state.now) (at_of c.read_leaves.new.state)
+    (c.read_leaves.new.state.steps - c.args.state.now.steps) (left_over (Some c.in-Some.now)) = turns_then c.args.self.now.table.now
+    (message c.args.self.now) c.args.frame (at_of c.args.state.now) (at_of c.loop-now.state) (c.loop-now.state.steps - c.args.state.now.steps)
+    c.loop-now.rest c.loop-now.invariant.turns (at_of c.read_leaves.new.state) _ _ (left_over (Some c.in-Some.now)) (omega (arith, so_far, grows))
+    two in
     let less_now = held.less in
     let rises = c.in_ok-turn.ensures.rises in
-    let read : Turns c.args.self.now.table.now (message c.args.self.now) c.args.frame (at_of c.args.state.now) (at_of c.take_member.new.state) (c.take_member.new.state.steps - c.args.state.now.steps) c.in_ok-turn.turn = turns_then c.args.self.now.table.now (message c.args.self.now) c.args.frame (at_of c.args.state.now) (at_of c.read_leaves.new.state) (c.read_leaves.new.state.steps - c.args.state.now.steps) c.in-Some.now held (at_of c.take_member.new.state) _ _ c.in_ok-turn.turn (omega (arith, so_far, grows, rises)) c.in_ok-turn.ensures.ok in
+    let read : Turns c.args.self.now.table.now (message c.args.self.now) c.args.frame (at_of c.args.state.now) (at_of c.take_member.new.state)
+    (c.take_member.new.state.steps - c.args.state.now.steps) c.in_ok-turn.turn = turns_then c.args.self.now.table.now (message c.args.self.now)
+    c.args.frame (at_of c.args.state.now) (at_of c.read_leaves.new.state) (c.read_leaves.new.state.steps - c.args.state.now.steps) c.in-Some.now
+    held (at_of c.take_member.new.state) _ _ c.in_ok-turn.turn (omega (arith, so_far, grows, rises)) c.in_ok-turn.ensures.ok in
     let turn : c.in_ok-turn.turn ≡ record { below = Some c.in-Some-below.below; rest = Some c.in-Some-rest.after } = λ i. record { below = c.in-Some-below.is i; rest = c.in-Some-rest.is i } in
     let both = subst (λ (x : Turn). Turns c.args.self.now.table.now (message c.args.self.now) c.args.frame (at_of c.args.state.now) (at_of c.take_member.new.state) (c.take_member.new.state.steps - c.args.state.now.steps) x) turn read in
     let less_both = both.less in
     let on = c.in_ok-inner.ensures.grows in
-    let three = subst (λ (o : Option Frame). Turns c.args.self.now.table.now (message c.args.self.now) c.in-Some-below.below (at_of c.take_member.new.state) (at_of c.read_leaves-in-loop-now.new.state) (c.read_leaves-in-loop-now.new.state.steps - c.take_member.new.state.steps) (left_over o)) c.in-Some-2.is c.in_ok-inner.ensures.ok in
-    turns_below c.args.self.now.table.now (message c.args.self.now) c.args.frame (at_of c.args.state.now) (at_of c.take_member.new.state) (c.take_member.new.state.steps - c.args.state.now.steps) c.in-Some-below.below c.in-Some-rest.after both (at_of c.read_leaves-in-loop-now.new.state) _ _ (Some c.in-Some-2.inner) (omega (arith, so_far, grows, rises, on)) three
+    let three = subst (λ (o : Option Frame). Turns c.args.self.now.table.now (message c.args.self.now) c.in-Some-below.below
+    (at_of c.take_member.new.state) (at_of c.read_leaves-in-loop-now.new.state)
+    (c.read_leaves-in-loop-now.new.state.steps - c.take_member.new.state.steps) (left_over o)) c.in-Some-2.is c.in_ok-inner.ensures.ok in
+    turns_below c.args.self.now.table.now (message c.args.self.now) c.args.frame (at_of c.args.state.now) (at_of c.take_member.new.state)
+    (c.take_member.new.state.steps - c.args.state.now.steps) c.in-Some-below.below c.in-Some-rest.after both
+    (at_of c.read_leaves-in-loop-now.new.state) _ _ (Some c.in-Some-2.inner) (omega (arith, so_far, grows, rises, on)) three
 
 pub loop-now-preserved-in_default-below : goal.loop-now-preserved-in_default-below
 loop-now-preserved-in_default-below c =
@@ -209,10 +285,17 @@ loop-now-preserved-in_default-below c =
     let less = c.loop-now.invariant.turns.less in
     let grows = c.in_ok-now.ensures.grows in
     let two = subst (λ (o : Option Frame). Turns c.args.self.now.table.now (message c.args.self.now) c.loop-now.rest (at_of c.loop-now.state) (at_of c.read_leaves.new.state) (c.read_leaves.new.state.steps - c.loop-now.state.steps) (left_over o)) c.in-Some.is c.in_ok-now.ensures.ok in
-    let held : Turns c.args.self.now.table.now (message c.args.self.now) c.args.frame (at_of c.args.state.now) (at_of c.read_leaves.new.state) (c.read_leaves.new.state.steps - c.args.state.now.steps) (left_over (Some c.in-Some.now)) = turns_then c.args.self.now.table.now (message c.args.self.now) c.args.frame (at_of c.args.state.now) (at_of c.loop-now.state) (c.loop-now.state.steps - c.args.state.now.steps) c.loop-now.rest c.loop-now.invariant.turns (at_of c.read_leaves.new.state) _ _ (left_over (Some c.in-Some.now)) (omega (arith, so_far, grows)) two in
+    let held : Turns c.args.self.now.table.now (message c.args.self.now) c.args.frame (at_of c.args.state.now) (at_of c.read_leaves.new.state)
+    (c.read_leaves.new.state.steps - c.args.state.now.steps) (left_over (Some c.in-Some.now)) = turns_then c.args.self.now.table.now
+    (message c.args.self.now) c.args.frame (at_of c.args.state.now) (at_of c.loop-now.state) (c.loop-now.state.steps - c.args.state.now.steps)
+    c.loop-now.rest c.loop-now.invariant.turns (at_of c.read_leaves.new.state) _ _ (left_over (Some c.in-Some.now)) (omega (arith, so_far, grows))
+    two in
     let less_now = held.less in
     let rises = c.in_ok-turn.ensures.rises in
-    let read : Turns c.args.self.now.table.now (message c.args.self.now) c.args.frame (at_of c.args.state.now) (at_of c.take_member.new.state) (c.take_member.new.state.steps - c.args.state.now.steps) c.in_ok-turn.turn = turns_then c.args.self.now.table.now (message c.args.self.now) c.args.frame (at_of c.args.state.now) (at_of c.read_leaves.new.state) (c.read_leaves.new.state.steps - c.args.state.now.steps) c.in-Some.now held (at_of c.take_member.new.state) _ _ c.in_ok-turn.turn (omega (arith, so_far, grows, rises)) c.in_ok-turn.ensures.ok in
+    let read : Turns c.args.self.now.table.now (message c.args.self.now) c.args.frame (at_of c.args.state.now) (at_of c.take_member.new.state)
+    (c.take_member.new.state.steps - c.args.state.now.steps) c.in_ok-turn.turn = turns_then c.args.self.now.table.now (message c.args.self.now)
+    c.args.frame (at_of c.args.state.now) (at_of c.read_leaves.new.state) (c.read_leaves.new.state.steps - c.args.state.now.steps) c.in-Some.now
+    held (at_of c.take_member.new.state) _ _ c.in_ok-turn.turn (omega (arith, so_far, grows, rises)) c.in_ok-turn.ensures.ok in
     let turn : c.in_ok-turn.turn ≡ left_over (Some c.in-Some-rest.after) = λ i. record { below = c.in_default-below.is i; rest = c.in-Some-rest.is i } in
     let alone = subst (λ (x : Turn). Turns c.args.self.now.table.now (message c.args.self.now) c.args.frame (at_of c.args.state.now) (at_of c.take_member.new.state) (c.take_member.new.state.steps - c.args.state.now.steps) x) turn read in
     let less_alone = alone.less in
@@ -224,15 +307,28 @@ loop-now-preserved-then-is_over c =
     let less = c.loop-now.invariant.turns.less in
     let grows = c.in_ok-now.ensures.grows in
     let two = subst (λ (o : Option Frame). Turns c.args.self.now.table.now (message c.args.self.now) c.loop-now.rest (at_of c.loop-now.state) (at_of c.read_leaves.new.state) (c.read_leaves.new.state.steps - c.loop-now.state.steps) (left_over o)) c.in-Some.is c.in_ok-now.ensures.ok in
-    let held : Turns c.args.self.now.table.now (message c.args.self.now) c.args.frame (at_of c.args.state.now) (at_of c.read_leaves.new.state) (c.read_leaves.new.state.steps - c.args.state.now.steps) (left_over (Some c.in-Some.now)) = turns_then c.args.self.now.table.now (message c.args.self.now) c.args.frame (at_of c.args.state.now) (at_of c.loop-now.state) (c.loop-now.state.steps - c.args.state.now.steps) c.loop-now.rest c.loop-now.invariant.turns (at_of c.read_leaves.new.state) _ _ (left_over (Some c.in-Some.now)) (omega (arith, so_far, grows)) two in
+    let held : Turns c.args.self.now.table.now (message c.args.self.now) c.args.frame (at_of c.args.state.now) (at_of c.read_leaves.new.state)
+    (c.read_leaves.new.state.steps - c.args.state.now.steps) (left_over (Some c.in-Some.now)) = turns_then c.args.self.now.table.now
+    (message c.args.self.now) c.args.frame (at_of c.args.state.now) (at_of c.loop-now.state) (c.loop-now.state.steps - c.args.state.now.steps)
+    c.loop-now.rest c.loop-now.invariant.turns (at_of c.read_leaves.new.state) _ _ (left_over (Some c.in-Some.now)) (omega (arith, so_far, grows))
+    two in
     let less_now = held.less in
     let rises = c.in_ok-turn.ensures.rises in
-    let read : Turns c.args.self.now.table.now (message c.args.self.now) c.args.frame (at_of c.args.state.now) (at_of c.take_member.new.state) (c.take_member.new.state.steps - c.args.state.now.steps) c.in_ok-turn.turn = turns_then c.args.self.now.table.now (message c.args.self.now) c.args.frame (at_of c.args.state.now) (at_of c.read_leaves.new.state) (c.read_leaves.new.state.steps - c.args.state.now.steps) c.in-Some.now held (at_of c.take_member.new.state) _ _ c.in_ok-turn.turn (omega (arith, so_far, grows, rises)) c.in_ok-turn.ensures.ok in
+    let read : Turns c.args.self.now.table.now (message c.args.self.now) c.args.frame (at_of c.args.state.now) (at_of c.take_member.new.state)
+    (c.take_member.new.state.steps - c.args.state.now.steps) c.in_ok-turn.turn = turns_then c.args.self.now.table.now (message c.args.self.now)
+    c.args.frame (at_of c.args.state.now) (at_of c.read_leaves.new.state) (c.read_leaves.new.state.steps - c.args.state.now.steps) c.in-Some.now
+    held (at_of c.take_member.new.state) _ _ c.in_ok-turn.turn (omega (arith, so_far, grows, rises)) c.in_ok-turn.ensures.ok in
     let turn : c.in_ok-turn.turn ≡ record { below = Some c.in-Some-below.below; rest = Some c.in-Some-rest.after } = λ i. record { below = c.in-Some-below.is i; rest = c.in-Some-rest.is i } in
     let both = subst (λ (x : Turn). Turns c.args.self.now.table.now (message c.args.self.now) c.args.frame (at_of c.args.state.now) (at_of c.take_member.new.state) (c.take_member.new.state.steps - c.args.state.now.steps) x) turn read in
     let less_both = both.less in
     let over = c.is_over.ensures.0 c.if-is_over.true in
-    record { holds = c.take_member.ensures.holds; turns = turns_tail c.args.self.now.table.now c.args.self.now.fine (message c.args.self.now) c.args.frame c.in-Some-below.below c.in-Some-rest.after (at_of c.args.state.now) (at_of c.take_member.new.state) (c.take_member.new.state.steps - c.args.state.now.steps) both over; steps = omega (arith, so_far, grows, rises) }
+    record {
+      holds = c.take_member.ensures.holds;
+      turns = turns_tail c.args.self.now.table.now c.args.self.now.fine (message c.args.self.now)
+          c.args.frame c.in-Some-below.below c.in-Some-rest.after (at_of c.args.state.now) (at_of c.take_member.new.state)
+          (c.take_member.new.state.steps - c.args.state.now.steps) both over;
+      steps = omega (arith, so_far, grows, rises);
+    }
 
 pub loop-now-preserved : goal.loop-now-preserved
 loop-now-preserved c =
@@ -240,16 +336,32 @@ loop-now-preserved c =
     let less = c.loop-now.invariant.turns.less in
     let grows = c.in_ok-now.ensures.grows in
     let two = subst (λ (o : Option Frame). Turns c.args.self.now.table.now (message c.args.self.now) c.loop-now.rest (at_of c.loop-now.state) (at_of c.read_leaves.new.state) (c.read_leaves.new.state.steps - c.loop-now.state.steps) (left_over o)) c.in-Some.is c.in_ok-now.ensures.ok in
-    let held : Turns c.args.self.now.table.now (message c.args.self.now) c.args.frame (at_of c.args.state.now) (at_of c.read_leaves.new.state) (c.read_leaves.new.state.steps - c.args.state.now.steps) (left_over (Some c.in-Some.now)) = turns_then c.args.self.now.table.now (message c.args.self.now) c.args.frame (at_of c.args.state.now) (at_of c.loop-now.state) (c.loop-now.state.steps - c.args.state.now.steps) c.loop-now.rest c.loop-now.invariant.turns (at_of c.read_leaves.new.state) _ _ (left_over (Some c.in-Some.now)) (omega (arith, so_far, grows)) two in
+    let held : Turns c.args.self.now.table.now (message c.args.self.now) c.args.frame (at_of c.args.state.now) (at_of c.read_leaves.new.state)
+    (c.read_leaves.new.state.steps - c.args.state.now.steps) (left_over (Some c.in-Some.now)) = turns_then c.args.self.now.table.now
+    (message c.args.self.now) c.args.frame (at_of c.args.state.now) (at_of c.loop-now.state) (c.loop-now.state.steps - c.args.state.now.steps)
+    c.loop-now.rest c.loop-now.invariant.turns (at_of c.read_leaves.new.state) _ _ (left_over (Some c.in-Some.now)) (omega (arith, so_far, grows))
+    two in
     let less_now = held.less in
     let rises = c.in_ok-turn.ensures.rises in
-    let read : Turns c.args.self.now.table.now (message c.args.self.now) c.args.frame (at_of c.args.state.now) (at_of c.take_member.new.state) (c.take_member.new.state.steps - c.args.state.now.steps) c.in_ok-turn.turn = turns_then c.args.self.now.table.now (message c.args.self.now) c.args.frame (at_of c.args.state.now) (at_of c.read_leaves.new.state) (c.read_leaves.new.state.steps - c.args.state.now.steps) c.in-Some.now held (at_of c.take_member.new.state) _ _ c.in_ok-turn.turn (omega (arith, so_far, grows, rises)) c.in_ok-turn.ensures.ok in
+    let read : Turns c.args.self.now.table.now (message c.args.self.now) c.args.frame (at_of c.args.state.now) (at_of c.take_member.new.state)
+    (c.take_member.new.state.steps - c.args.state.now.steps) c.in_ok-turn.turn = turns_then c.args.self.now.table.now (message c.args.self.now)
+    c.args.frame (at_of c.args.state.now) (at_of c.read_leaves.new.state) (c.read_leaves.new.state.steps - c.args.state.now.steps) c.in-Some.now
+    held (at_of c.take_member.new.state) _ _ c.in_ok-turn.turn (omega (arith, so_far, grows, rises)) c.in_ok-turn.ensures.ok in
     let turn : c.in_ok-turn.turn ≡ record { below = Some c.in-Some-below.below; rest = Some c.in-Some-rest.after } = λ i. record { below = c.in-Some-below.is i; rest = c.in-Some-rest.is i } in
     let both = subst (λ (x : Turn). Turns c.args.self.now.table.now (message c.args.self.now) c.args.frame (at_of c.args.state.now) (at_of c.take_member.new.state) (c.take_member.new.state.steps - c.args.state.now.steps) x) turn read in
     let less_both = both.less in
     let on = c.in_ok-inner.ensures.grows in
-    let three = subst (λ (o : Option Frame). Turns c.args.self.now.table.now (message c.args.self.now) c.in-Some-below.below (at_of c.take_member.new.state) (at_of c.read_leaves-in-loop-now.new.state) (c.read_leaves-in-loop-now.new.state.steps - c.take_member.new.state.steps) (left_over o)) c.in_default-2.is c.in_ok-inner.ensures.ok in
-    record { holds = c.read_leaves-in-loop-now.ensures.holds; turns = turns_over c.args.self.now.table.now (message c.args.self.now) c.args.frame (at_of c.args.state.now) (at_of c.take_member.new.state) (c.take_member.new.state.steps - c.args.state.now.steps) c.in-Some-below.below c.in-Some-rest.after both (at_of c.read_leaves-in-loop-now.new.state) _ _ (omega (arith, so_far, grows, rises, on)) three; steps = omega (arith, so_far, grows, rises, on) }
+    let three = subst (λ (o : Option Frame). Turns c.args.self.now.table.now (message c.args.self.now) c.in-Some-below.below
+    (at_of c.take_member.new.state) (at_of c.read_leaves-in-loop-now.new.state)
+    (c.read_leaves-in-loop-now.new.state.steps - c.take_member.new.state.steps) (left_over o)) c.in_default-2.is c.in_ok-inner.ensures.ok in
+    record {
+      holds = c.read_leaves-in-loop-now.ensures.holds;
+      turns = turns_over c.args.self.now.table.now (message c.args.self.now) c.args.frame
+          (at_of c.args.state.now) (at_of c.take_member.new.state) (c.take_member.new.state.steps - c.args.state.now.steps) c.in-Some-below.below
+          c.in-Some-rest.after both (at_of c.read_leaves-in-loop-now.new.state) _ _ (omega (arith, so_far, grows, rises, on)) three;
+      steps = omega
+          (arith, so_far, grows, rises, on);
+    }
 
 pub returns-in_err-now-clause-fault_is_true : goal.returns-in_err-now-clause-fault_is_true
 returns-in_err-now-clause-fault_is_true c =
@@ -261,7 +373,11 @@ returns-in_err-turn-clause-fault_is_true c =
     let less = c.loop-now.invariant.turns.less in
     let grows = c.in_ok-now.ensures.grows in
     let two = subst (λ (o : Option Frame). Turns c.args.self.now.table.now (message c.args.self.now) c.loop-now.rest (at_of c.loop-now.state) (at_of c.read_leaves.new.state) (c.read_leaves.new.state.steps - c.loop-now.state.steps) (left_over o)) c.in-Some.is c.in_ok-now.ensures.ok in
-    let held : Turns c.args.self.now.table.now (message c.args.self.now) c.args.frame (at_of c.args.state.now) (at_of c.read_leaves.new.state) (c.read_leaves.new.state.steps - c.args.state.now.steps) (left_over (Some c.in-Some.now)) = turns_then c.args.self.now.table.now (message c.args.self.now) c.args.frame (at_of c.args.state.now) (at_of c.loop-now.state) (c.loop-now.state.steps - c.args.state.now.steps) c.loop-now.rest c.loop-now.invariant.turns (at_of c.read_leaves.new.state) _ _ (left_over (Some c.in-Some.now)) (omega (arith, so_far, grows)) two in
+    let held : Turns c.args.self.now.table.now (message c.args.self.now) c.args.frame (at_of c.args.state.now) (at_of c.read_leaves.new.state)
+    (c.read_leaves.new.state.steps - c.args.state.now.steps) (left_over (Some c.in-Some.now)) = turns_then c.args.self.now.table.now
+    (message c.args.self.now) c.args.frame (at_of c.args.state.now) (at_of c.loop-now.state) (c.loop-now.state.steps - c.args.state.now.steps)
+    c.loop-now.rest c.loop-now.invariant.turns (at_of c.read_leaves.new.state) _ _ (left_over (Some c.in-Some.now)) (omega (arith, so_far, grows))
+    two in
     let less_now = held.less in
     passed_on c.from_residual-in_err-turn.result c.in_err-turn.field-0.0 _ c.from_residual-in_err-turn.ensures.1
     (turns_break c.args.self.now.table.now (message c.args.self.now) c.args.frame (at_of c.args.state.now) (at_of c.read_leaves.new.state) (c.read_leaves.new.state.steps - c.args.state.now.steps) c.in-Some.now held _ c.in_err-turn.ensures.fault_is_true)
@@ -272,10 +388,17 @@ returns-in_err-inner-clause-fault_is_true c =
     let less = c.loop-now.invariant.turns.less in
     let grows = c.in_ok-now.ensures.grows in
     let two = subst (λ (o : Option Frame). Turns c.args.self.now.table.now (message c.args.self.now) c.loop-now.rest (at_of c.loop-now.state) (at_of c.read_leaves.new.state) (c.read_leaves.new.state.steps - c.loop-now.state.steps) (left_over o)) c.in-Some.is c.in_ok-now.ensures.ok in
-    let held : Turns c.args.self.now.table.now (message c.args.self.now) c.args.frame (at_of c.args.state.now) (at_of c.read_leaves.new.state) (c.read_leaves.new.state.steps - c.args.state.now.steps) (left_over (Some c.in-Some.now)) = turns_then c.args.self.now.table.now (message c.args.self.now) c.args.frame (at_of c.args.state.now) (at_of c.loop-now.state) (c.loop-now.state.steps - c.args.state.now.steps) c.loop-now.rest c.loop-now.invariant.turns (at_of c.read_leaves.new.state) _ _ (left_over (Some c.in-Some.now)) (omega (arith, so_far, grows)) two in
+    let held : Turns c.args.self.now.table.now (message c.args.self.now) c.args.frame (at_of c.args.state.now) (at_of c.read_leaves.new.state)
+    (c.read_leaves.new.state.steps - c.args.state.now.steps) (left_over (Some c.in-Some.now)) = turns_then c.args.self.now.table.now
+    (message c.args.self.now) c.args.frame (at_of c.args.state.now) (at_of c.loop-now.state) (c.loop-now.state.steps - c.args.state.now.steps)
+    c.loop-now.rest c.loop-now.invariant.turns (at_of c.read_leaves.new.state) _ _ (left_over (Some c.in-Some.now)) (omega (arith, so_far, grows))
+    two in
     let less_now = held.less in
     let rises = c.in_ok-turn.ensures.rises in
-    let read : Turns c.args.self.now.table.now (message c.args.self.now) c.args.frame (at_of c.args.state.now) (at_of c.take_member.new.state) (c.take_member.new.state.steps - c.args.state.now.steps) c.in_ok-turn.turn = turns_then c.args.self.now.table.now (message c.args.self.now) c.args.frame (at_of c.args.state.now) (at_of c.read_leaves.new.state) (c.read_leaves.new.state.steps - c.args.state.now.steps) c.in-Some.now held (at_of c.take_member.new.state) _ _ c.in_ok-turn.turn (omega (arith, so_far, grows, rises)) c.in_ok-turn.ensures.ok in
+    let read : Turns c.args.self.now.table.now (message c.args.self.now) c.args.frame (at_of c.args.state.now) (at_of c.take_member.new.state)
+    (c.take_member.new.state.steps - c.args.state.now.steps) c.in_ok-turn.turn = turns_then c.args.self.now.table.now (message c.args.self.now)
+    c.args.frame (at_of c.args.state.now) (at_of c.read_leaves.new.state) (c.read_leaves.new.state.steps - c.args.state.now.steps) c.in-Some.now
+    held (at_of c.take_member.new.state) _ _ c.in_ok-turn.turn (omega (arith, so_far, grows, rises)) c.in_ok-turn.ensures.ok in
     let turn : c.in_ok-turn.turn ≡ record { below = Some c.in-Some-below.below; rest = Some c.in-Some-rest.after } = λ i. record { below = c.in-Some-below.is i; rest = c.in-Some-rest.is i } in
     let both = subst (λ (x : Turn). Turns c.args.self.now.table.now (message c.args.self.now) c.args.frame (at_of c.args.state.now) (at_of c.take_member.new.state) (c.take_member.new.state.steps - c.args.state.now.steps) x) turn read in
     let less_both = both.less in
@@ -288,10 +411,17 @@ read_leaves-requires-in-loop-now-clause-ready c =
     let less = c.loop-now.invariant.turns.less in
     let grows = c.in_ok-now.ensures.grows in
     let two = subst (λ (o : Option Frame). Turns c.args.self.now.table.now (message c.args.self.now) c.loop-now.rest (at_of c.loop-now.state) (at_of c.read_leaves.new.state) (c.read_leaves.new.state.steps - c.loop-now.state.steps) (left_over o)) c.in-Some.is c.in_ok-now.ensures.ok in
-    let held : Turns c.args.self.now.table.now (message c.args.self.now) c.args.frame (at_of c.args.state.now) (at_of c.read_leaves.new.state) (c.read_leaves.new.state.steps - c.args.state.now.steps) (left_over (Some c.in-Some.now)) = turns_then c.args.self.now.table.now (message c.args.self.now) c.args.frame (at_of c.args.state.now) (at_of c.loop-now.state) (c.loop-now.state.steps - c.args.state.now.steps) c.loop-now.rest c.loop-now.invariant.turns (at_of c.read_leaves.new.state) _ _ (left_over (Some c.in-Some.now)) (omega (arith, so_far, grows)) two in
+    let held : Turns c.args.self.now.table.now (message c.args.self.now) c.args.frame (at_of c.args.state.now) (at_of c.read_leaves.new.state)
+    (c.read_leaves.new.state.steps - c.args.state.now.steps) (left_over (Some c.in-Some.now)) = turns_then c.args.self.now.table.now
+    (message c.args.self.now) c.args.frame (at_of c.args.state.now) (at_of c.loop-now.state) (c.loop-now.state.steps - c.args.state.now.steps)
+    c.loop-now.rest c.loop-now.invariant.turns (at_of c.read_leaves.new.state) _ _ (left_over (Some c.in-Some.now)) (omega (arith, so_far, grows))
+    two in
     let less_now = held.less in
     let rises = c.in_ok-turn.ensures.rises in
-    let read : Turns c.args.self.now.table.now (message c.args.self.now) c.args.frame (at_of c.args.state.now) (at_of c.take_member.new.state) (c.take_member.new.state.steps - c.args.state.now.steps) c.in_ok-turn.turn = turns_then c.args.self.now.table.now (message c.args.self.now) c.args.frame (at_of c.args.state.now) (at_of c.read_leaves.new.state) (c.read_leaves.new.state.steps - c.args.state.now.steps) c.in-Some.now held (at_of c.take_member.new.state) _ _ c.in_ok-turn.turn (omega (arith, so_far, grows, rises)) c.in_ok-turn.ensures.ok in
+    let read : Turns c.args.self.now.table.now (message c.args.self.now) c.args.frame (at_of c.args.state.now) (at_of c.take_member.new.state)
+    (c.take_member.new.state.steps - c.args.state.now.steps) c.in_ok-turn.turn = turns_then c.args.self.now.table.now (message c.args.self.now)
+    c.args.frame (at_of c.args.state.now) (at_of c.read_leaves.new.state) (c.read_leaves.new.state.steps - c.args.state.now.steps) c.in-Some.now
+    held (at_of c.take_member.new.state) _ _ c.in_ok-turn.turn (omega (arith, so_far, grows, rises)) c.in_ok-turn.ensures.ok in
     let turn : c.in_ok-turn.turn ≡ record { below = Some c.in-Some-below.below; rest = Some c.in-Some-rest.after } = λ i. record { below = c.in-Some-below.is i; rest = c.in-Some-rest.is i } in
     let both = subst (λ (x : Turn). Turns c.args.self.now.table.now (message c.args.self.now) c.args.frame (at_of c.args.state.now) (at_of c.take_member.new.state) (c.take_member.new.state.steps - c.args.state.now.steps) x) turn read in
     let less_both = both.less in

@@ -30,8 +30,12 @@ unreachable-requires c =
 pub returns-in-Struct-clause-ok : goal.returns-in-Struct-clause-ok
 returns-in-Struct-clause-ok c =
     let is : kind_of (entry_at c.args.self.now.table.now c.args.entry).kind ≡ Some Struct = ap (λ (e : Entry). kind_of e.kind) (sym c.entry-e.ensures.value) ∙ sym c.from_number.ensures ∙ c.in-Some.is ∙ ap (λ (k : EntryKind). Some k) c.in-Struct.is in
-    subst (λ (d : Entry). Visits c.args.self.now.table.now (message c.args.self.now) c.args.depth c.args.entry c.args.place (at_of c.args.state.now) (at_of c.args.state.now) (c.args.state.now.steps - c.args.state.now.steps) (Some (struct_frame d c.args.place c.args.depth c.args.in_envelope))) (sym c.entry-e.ensures.value)
-    (visits_struct c.args.self.now.table.now c.args.self.now.fine (message c.args.self.now) c.args.depth c.args.entry c.args.place (at_of c.args.state.now) c.requires.entry c.requires.state c.requires.depth c.args.in_envelope (c.args.state.now.steps - c.args.state.now.steps) (omega arith) is c.requires.room)
+    subst (λ (d : Entry). Visits c.args.self.now.table.now (message c.args.self.now) c.args.depth c.args.entry c.args.place (at_of c.args.state.now)
+    (at_of c.args.state.now) (c.args.state.now.steps - c.args.state.now.steps)
+    (Some (struct_frame d c.args.place c.args.depth c.args.in_envelope))) (sym c.entry-e.ensures.value)
+    (visits_struct c.args.self.now.table.now c.args.self.now.fine (message c.args.self.now) c.args.depth c.args.entry c.args.place
+    (at_of c.args.state.now) c.requires.entry c.requires.state c.requires.depth c.args.in_envelope
+    (c.args.state.now.steps - c.args.state.now.steps) (omega arith) is c.requires.room)
 
 pub returns-in-Struct-clause-fine : goal.returns-in-Struct-clause-fine
 returns-in-Struct-clause-fine c =
@@ -49,8 +53,12 @@ pub returns-in-Array-clause-ok : goal.returns-in-Array-clause-ok
 returns-in-Array-clause-ok c =
     let is : kind_of (entry_at c.args.self.now.table.now c.args.entry).kind ≡ Some Array = ap (λ (e : Entry). kind_of e.kind) (sym c.entry-e.ensures.value) ∙ sym c.from_number.ensures ∙ c.in-Some.is ∙ ap (λ (k : EntryKind). Some k) c.in-Array.is in
     let element : c.entry-size.result.size ≡ (entry_at c.args.self.now.table.now (entry_at c.args.self.now.table.now c.args.entry).first).size = ap (λ (d : Entry). d.size) c.entry-size.ensures.value ∙ ap (λ (d : Entry). (entry_at c.args.self.now.table.now d.first).size) c.entry-e.ensures.value in
-    subst (λ (d : Entry). Visits c.args.self.now.table.now (message c.args.self.now) c.args.depth c.args.entry c.args.place (at_of c.args.state.now) (at_of c.args.state.now) (c.args.state.now.steps - c.args.state.now.steps) (Some (array_frame d c.entry-size.result.size c.args.place c.args.depth c.args.in_envelope))) (sym c.entry-e.ensures.value)
-    (visits_array c.args.self.now.table.now c.args.self.now.fine (message c.args.self.now) c.args.depth c.args.entry c.args.place (at_of c.args.state.now) c.requires.entry c.requires.state c.requires.depth c.args.in_envelope c.entry-size.result.size (c.args.state.now.steps - c.args.state.now.steps) (omega arith) is element c.requires.room)
+    subst (λ (d : Entry). Visits c.args.self.now.table.now (message c.args.self.now) c.args.depth c.args.entry c.args.place (at_of c.args.state.now)
+    (at_of c.args.state.now) (c.args.state.now.steps - c.args.state.now.steps)
+    (Some (array_frame d c.entry-size.result.size c.args.place c.args.depth c.args.in_envelope))) (sym c.entry-e.ensures.value)
+    (visits_array c.args.self.now.table.now c.args.self.now.fine (message c.args.self.now) c.args.depth c.args.entry c.args.place
+    (at_of c.args.state.now) c.requires.entry c.requires.state c.requires.depth c.args.in_envelope c.entry-size.result.size
+    (c.args.state.now.steps - c.args.state.now.steps) (omega arith) is element c.requires.room)
 
 pub returns-in-Array-clause-fine : goal.returns-in-Array-clause-fine
 returns-in-Array-clause-fine c =
@@ -89,17 +97,23 @@ read_vector-requires-clause-room c =
 pub returns-in-Vector-clause-fault_is_true : goal.returns-in-Vector-clause-fault_is_true
 returns-in-Vector-clause-fault_is_true c =
     let is : kind_of (entry_at c.args.self.now.table.now c.args.entry).kind ≡ Some Vector = ap (λ (e : Entry). kind_of e.kind) (sym c.entry-e.ensures.value) ∙ sym c.from_number.ensures ∙ c.in-Some.is ∙ ap (λ (k : EntryKind). Some k) c.in-Vector.is in
-    IfErr-weaker c.read_vector.result _ _ (λ fault b. vector_breaks c.args.self.now.table.now c.args.self.now.fine (message c.args.self.now) c.args.depth c.args.entry c.args.place (at_of c.args.state.now) c.requires.entry is c.requires.state c.requires.depth fault b) c.read_vector.ensures.fault_is_true
+    IfErr-weaker c.read_vector.result _ _ (λ fault b. vector_breaks c.args.self.now.table.now c.args.self.now.fine (message c.args.self.now)
+    c.args.depth c.args.entry c.args.place (at_of c.args.state.now) c.requires.entry is c.requires.state c.requires.depth fault b)
+    c.read_vector.ensures.fault_is_true
 
 pub returns-in-Table-clause-fault_is_true : goal.returns-in-Table-clause-fault_is_true
 returns-in-Table-clause-fault_is_true c =
     let is : kind_of (entry_at c.args.self.now.table.now c.args.entry).kind ≡ Some Table = ap (λ (e : Entry). kind_of e.kind) (sym c.entry-e.ensures.value) ∙ sym c.from_number.ensures ∙ c.in-Some.is ∙ ap (λ (k : EntryKind). Some k) c.in-Table.is in
-    IfErr-weaker c.read_table.result _ _ (λ fault b. leaf_breaks c.args.self.now.table.now c.args.self.now.fine (message c.args.self.now) c.args.depth c.args.entry c.args.place (at_of c.args.state.now) c.requires.entry c.requires.state c.requires.depth Table is fault b) c.read_table.ensures.fault_is_true
+    IfErr-weaker c.read_table.result _ _ (λ fault b. leaf_breaks c.args.self.now.table.now c.args.self.now.fine (message c.args.self.now) c.args.depth
+    c.args.entry c.args.place (at_of c.args.state.now) c.requires.entry c.requires.state c.requires.depth Table is fault b)
+    c.read_table.ensures.fault_is_true
 
 pub read_leaf-requires-clause-leaf : goal.read_leaf-requires-clause-leaf
 read_leaf-requires-clause-leaf c =
     let is : kind_of (entry_at c.args.self.now.table.now c.args.entry).kind ≡ Some c.in-Some.kind = ap (λ (e : Entry). kind_of e.kind) (sym c.entry-e.ensures.value) ∙ sym c.from_number.ensures ∙ c.in-Some.is in
-    leaf_else c.args.self.now.table.now c.args.self.now.fine (message c.args.self.now) c.args.depth c.args.entry c.args.place (at_of c.args.state.now) c.requires.entry c.requires.state c.requires.depth c.in-Some.kind is c.in_default-kind.not-Struct c.in_default-kind.not-Array c.in_default-kind.not-Box c.in_default-kind.not-Vector c.in_default-kind.not-Table c.in_default-kind.not-Union
+    leaf_else c.args.self.now.table.now c.args.self.now.fine (message c.args.self.now) c.args.depth c.args.entry c.args.place (at_of c.args.state.now)
+    c.requires.entry c.requires.state c.requires.depth c.in-Some.kind is c.in_default-kind.not-Struct c.in_default-kind.not-Array
+    c.in_default-kind.not-Box c.in_default-kind.not-Vector c.in_default-kind.not-Table c.in_default-kind.not-Union
 
 pub returns-in-Union-clause-fine : goal.returns-in-Union-clause-fine
 returns-in-Union-clause-fine c =
@@ -211,10 +225,16 @@ pub read_leaf-requires-clause-kind : goal.read_leaf-requires-clause-kind
 read_leaf-requires-clause-kind c = ap (λ (e : Entry). kind_of e.kind) (sym c.entry-e.ensures.value) ∙ sym c.from_number.ensures ∙ c.in-Some.is
 
 pub read_table-requires-clause-room : goal.read_table-requires-clause-room
-read_table-requires-clause-room c = subst (λ n. c.args.place + n ≤ (length c.args.self.now.bytes.value.came)) (sym (size_as c.args.self.now.table.now c.args.self.now.fine c.args.entry Table c.requires.entry (ap (λ (e : Entry). kind_of e.kind) (sym c.entry-e.ensures.value) ∙ sym c.from_number.ensures ∙ c.in-Some.is ∙ ap (λ (k : EntryKind). Some k) c.in-Table.is))) c.requires.room
+read_table-requires-clause-room c = subst (λ n. c.args.place + n ≤ (length c.args.self.now.bytes.value.came))
+    (sym (size_as c.args.self.now.table.now c.args.self.now.fine c.args.entry Table c.requires.entry
+    (ap (λ (e : Entry). kind_of e.kind) (sym c.entry-e.ensures.value) ∙ sym c.from_number.ensures ∙ c.in-Some.is ∙ ap (λ (k : EntryKind). Some k)
+    c.in-Table.is))) c.requires.room
 
 pub read_union-requires-clause-room : goal.read_union-requires-clause-room
-read_union-requires-clause-room c = subst (λ n. c.args.place + n ≤ (length c.args.self.now.bytes.value.came)) (sym (size_as c.args.self.now.table.now c.args.self.now.fine c.args.entry Union c.requires.entry (ap (λ (e : Entry). kind_of e.kind) (sym c.entry-e.ensures.value) ∙ sym c.from_number.ensures ∙ c.in-Some.is ∙ ap (λ (k : EntryKind). Some k) c.in-Union.is))) c.requires.room
+read_union-requires-clause-room c = subst (λ n. c.args.place + n ≤ (length c.args.self.now.bytes.value.came))
+    (sym (size_as c.args.self.now.table.now c.args.self.now.fine c.args.entry Union c.requires.entry
+    (ap (λ (e : Entry). kind_of e.kind) (sym c.entry-e.ensures.value) ∙ sym c.from_number.ensures ∙ c.in-Some.is ∙ ap (λ (k : EntryKind). Some k)
+    c.in-Union.is))) c.requires.room
 
 pub returns-in-Box-clause-ok : goal.returns-in-Box-clause-ok
 returns-in-Box-clause-ok c = c.read_box.ensures.ok
