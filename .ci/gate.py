@@ -96,8 +96,9 @@ class Repository:
         return total.hexdigest()
 
     def edits(self, name):
+        """Returns the files of a crate's wrong bodies."""
         folder = f"{self.root}/crates/{name}/must-fail"
-        return [it for it in os.listdir(folder) if it.endswith(".edit")] if os.path.isdir(folder) else []
+        return [f"{folder}/{it}" for it in sorted(os.listdir(folder)) if it.endswith(".edit")] if os.path.isdir(folder) else []
 
     def keys(self):
         """Returns the key of each crate that has wrong bodies."""
@@ -266,11 +267,10 @@ class ByFunction:
         self.tries = wrong_bodies.Tries(wrong_bodies.load(shutil.which("rt")), room, lanes())
 
     def begin(self, name):
-        """Has those of a crate tried that is proved. Only now do they stand in the room, where `rt ci` has looked for them already."""
+        """Has those of a crate tried that is proved. They never stand in the room, where `rt ci` would try them over the whole crate."""
         if name in self.left:
             self.left.remove(name)
-            self.repository.copy_edits(self.room, [name])
-            self.tries.begin(name).add_done_callback(lambda done: self.tell(name, done))
+            self.tries.begin(name, self.repository.edits(name)).add_done_callback(lambda done: self.tell(name, done))
 
     def tell(self, name, done):
         """Tells of a crate whose tries are done, if each of its wrong bodies was refused. Tries of several crates end side by side."""
@@ -291,6 +291,7 @@ class ByFunction:
             failed = len(others)
         except (Exception, SystemExit) as error:  # the parts of another rt may be other than they seem
             print(f"gate: wrong bodies can't be tried by their functions here ({type(error).__name__}: {error}), so rt must-fail tries them", flush=True)
+            self.repository.copy_edits(self.room, names)
             refused, failed = tried_by_crate(self.room, names)
         return bool(failed), f"{int(last.split()[0]) + refused} passed, {failed} failed"
 

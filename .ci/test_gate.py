@@ -53,9 +53,6 @@ class Crate:
         return 1
 rtlib.crates_below = lambda root: [Crate(it) for it in sorted(os.listdir("crates"))]
 processors, free, unread = lambda: 2, lambda: 8_000_000_000, lambda line, texts: False
-def edits_of(crate):
-    at = f"{crate.folder}/must-fail"
-    return [f"{at}/{it}" for it in sorted(os.listdir(at))] if os.path.isdir(at) else [], []
 def read_edit(file, folder):
     lines = dict(it.rstrip("\\n").split(": ", 1) for it in open(file))
     text = open(f"{folder}/{lines['file']}").read()
@@ -376,14 +373,14 @@ echo made > out.fct; echo entries $#, roots 0, protocols 0, methods 0, bytes 40"
         self.assertEqual((status, lines[-1]), (1, "1 passed, 2 failed"))
 
     def test_wrong_bodies_are_tried_once_their_crate_is_proved(self):
-        proves = 'has = os.path.isdir("crates/low/must-fail"); print("rt: low proved\\nrt: low: its tests are proved", flush=True)'
-        waits = 'import time; made = lambda: os.path.isdir("crates/low/must-fail"); [time.sleep(0.01) for _ in range(500) if not made()]'
-        says = 'print(f"{has} {made()} {os.path.isdir(\'crates/high/must-fail\')}\\n3 passed, 0 failed")'
-        script = RT_BY_FUNCTION.replace('else "1 passed, 0 failed"', 'else ""')
+        proves = 'print("rt: low proved\\nrt: low: its tests are proved", flush=True)'
+        waits = 'import time; tried = lambda: os.path.isfile("tried"); [time.sleep(0.01) for _ in range(500) if not tried()]'
+        says = 'print(f"{tried()} {os.path.isdir(\'crates/low/must-fail\')}\\n3 passed, 0 failed")'
+        script = RT_BY_FUNCTION.replace('else "1 passed, 0 failed"', 'else ""').replace("    asked =", '    open("tried", "w").close()\n    asked =')
         script += f'    if sys.argv[1] == "ci":\n        {proves}\n        {waits}\n        {says}\n'
         status, lines = self.run_by_function({"first", "BoxHeld::second"}, names=["low"], script=script)
         self.assertEqual((status, lines[-1]), (0, "5 passed, 0 failed"))
-        self.assertIn("False True False", lines)
+        self.assertIn("True False", lines)
         self.assertEqual(sum("refused, as it must be" in it for it in lines), 2)
 
     def test_wrong_bodies_of_a_run_that_fails_are_not_told(self):
@@ -441,7 +438,7 @@ echo made > out.fct; echo entries $#, roots 0, protocols 0, methods 0, bytes 40"
 
         names = {"low": f"{self.root}/crates/low"}
         rt = types.SimpleNamespace(rtlib=types.SimpleNamespace(STALE=re.compile("stale")), unread=lambda line, texts: "unread" in line, checked=checked)
-        rt.edits_of = lambda crate: ([f"{crate.folder}/must-fail/{it}.edit" for it in edits], [])
+        files = [f"{names['low']}/must-fail/{it}.edit" for it in edits]
 
         def read_edit(file, folder):
             old, new = edits[os.path.basename(file).removesuffix(".edit")]
@@ -449,7 +446,7 @@ echo made > out.fct; echo entries $#, roots 0, protocols 0, methods 0, bytes 40"
 
         rt.read_edit = read_edit
         rt.must_fail = lambda crate, file, flags: (False, f"NOT REFUSED {os.path.basename(file)}")
-        return wrong_bodies.Trial(rt, types.SimpleNamespace(name="low", folder=names["low"])), asked
+        return wrong_bodies.Trial(rt, types.SimpleNamespace(name="low", folder=names["low"]), files), asked
 
     NO_PROOF = "no proof: expected answers in ./proofs/x/Answers.antt; `search` did not prove `returns`"
     CALLS = "no proof: it calls `low::first`, which is not proved"

@@ -30,7 +30,7 @@ from concurrent.futures import ThreadPoolExecutor
 
 # What an error of a proof says that names what an edit took away; it says little of the contract.
 NAMES = r"has no field|is not in scope|has no `|was not admitted"
-NEEDS = ("edits_of", "read_edit", "checked", "unread", "must_fail", "free", "processors", "rtlib")
+NEEDS = ("read_edit", "checked", "unread", "must_fail", "free", "processors", "rtlib")
 
 
 def load(rt):
@@ -177,11 +177,11 @@ def put_together(bodies):
 
 
 class Trial:
-    """The wrong bodies of one crate, tried in one folder of kept work."""
+    """The wrong bodies of one crate, which these files say, tried in one folder of kept work."""
 
-    def __init__(self, rt, crate):
+    def __init__(self, rt, crate, files):
         self.rt, self.crate = rt, crate
-        self.bodies = [WrongBody(rt, crate, it) for it in rt.edits_of(crate)[0]]
+        self.bodies = [WrongBody(rt, crate, it) for it in files]
 
     def ask(self, texts, paths, kept):
         flags = ["--jobs", "1"]
@@ -284,17 +284,17 @@ class Tries:
         self.pool = ThreadPoolExecutor(lanes)
         self.begun = {}
 
-    def begin(self, name):
+    def begin(self, name, files):
         """Has the wrong bodies of a crate tried that is proved, and returns what will hold the answers."""
         if name not in self.begun:
-            self.begun[name] = self.pool.submit(self.tried, name)
+            self.begun[name] = self.pool.submit(self.tried, name, files)
         return self.begun[name]
 
-    def tried(self, name):
+    def tried(self, name, files):
         with self.turn:
             os.setpriority(os.PRIO_PROCESS, threading.get_native_id(), 19)  # of this thread, and of the checks that it starts
             crate = next(it for it in self.rt.rtlib.crates_below(self.root) if it.name == name)
-            return Trial(self.rt, crate).run()
+            return Trial(self.rt, crate, files).run()
 
     def hurry(self):
         """Gives the tries all lanes."""
