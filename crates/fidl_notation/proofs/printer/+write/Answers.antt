@@ -431,7 +431,9 @@ write_value-returns-in-Handle g t c v p =
     let i = c.args.index in
     let is : IsOf Handle (entry_at b i) = sym (c.from_number.ensures ∙ ap (λ (e : Entry). kind_of e.kind) c.entry-entry.ensures.value) ∙ c.unwrap-kind.ensures ∙ ap (λ (k : EntryKind). Some k) c.in-Handle.is in
     let e = facts.term_at b c.entry-entry.ensures.well_formed i c.requires.index Handle is in
-    subst (λ (u : Term). Writes (g.W.Sink.taken c.args.out.now) (g.W.Sink.taken c.write_handle_or_absent.new.out) (text_of (declarations_of b) u v) c.write_handle_or_absent.result) (sym e) (c.write_handle_or_absent.ensures (declarations_of b) (is_optional (entry_at b i)) (entry_at b i).subtype (entry_at b i).rights v (part_as _ _ _ _ _ e p))
+    subst (λ (u : Term). Writes (g.W.Sink.taken c.args.out.now) (g.W.Sink.taken c.write_handle_or_absent.new.out) (text_of (declarations_of b) u v)
+    c.write_handle_or_absent.result) (sym e) (c.write_handle_or_absent.ensures (declarations_of b) (is_optional (entry_at b i))
+    (entry_at b i).subtype (entry_at b i).rights v (part_as _ _ _ _ _ e p))
 
 pub write_value-returns-in-Array : goal.write_value-returns-in-Array
 write_value-returns-in-Array g t c v p =
@@ -444,7 +446,9 @@ write_value-returns-in-Array g t c v p =
     let e = facts.term_at b w i lt Array is ∙ ap (λ k. ty.array (ty.named k) (entry_at b i).count) (sym begun) in
     let x = listed.elements_of_array b c.entry-entry.result.first (entry_at b i).count (resolve (declarations_of b).terms (ty.named i)) c.args.view v e p in
     subst (λ (u : Term). Writes (g.W.Sink.taken c.args.out.now) (g.W.Sink.taken c.write_elements.new.out) (text_of (declarations_of b) u v) c.write_elements.result) (sym e)
-    (subst (λ (u : Value). Writes (g.W.Sink.taken c.args.out.now) (g.W.Sink.taken c.write_elements.new.out) (text_of (declarations_of b) (ty.array (ty.named c.entry-entry.result.first) (entry_at b i).count) u) c.write_elements.result) (sym x.1) (c.write_elements.ensures (ty.array (ty.named c.entry-entry.result.first) (entry_at b i).count) x.0 x.2))
+    (subst (λ (u : Value). Writes (g.W.Sink.taken c.args.out.now) (g.W.Sink.taken c.write_elements.new.out)
+    (text_of (declarations_of b) (ty.array (ty.named c.entry-entry.result.first) (entry_at b i).count) u) c.write_elements.result) (sym x.1)
+    (c.write_elements.ensures (ty.array (ty.named c.entry-entry.result.first) (entry_at b i).count) x.0 x.2))
 
 pub write_value-returns-in-Vector : goal.write_value-returns-in-Vector
 write_value-returns-in-Vector g t c v p =
@@ -465,7 +469,9 @@ write_value-returns-in-Struct g t c v p =
     let lt = c.requires.index in
     let is : IsOf Struct (entry_at b i) = sym (c.from_number.ensures ∙ ap (λ (e : Entry). kind_of e.kind) c.entry-entry.ensures.value) ∙ c.unwrap-kind.ensures ∙ ap (λ (k : EntryKind). Some k) c.in-Struct.is in
     let x = facts.members_of_struct b w i lt is c.args.view v p in
-    subst (λ (u : Value). Writes (g.W.Sink.taken c.args.out.now) (g.W.Sink.taken c.write_members.new.out) (text_of (declarations_of b) (resolve (declarations_of b).terms (ty.named i)) u) c.write_members.result) (sym x.1) (c.write_members.ensures (resolve (declarations_of b).terms (ty.named i)) x.0 x.2)
+    subst (λ (u : Value). Writes (g.W.Sink.taken c.args.out.now) (g.W.Sink.taken c.write_members.new.out)
+    (text_of (declarations_of b) (resolve (declarations_of b).terms (ty.named i)) u) c.write_members.result) (sym x.1)
+    (c.write_members.ensures (resolve (declarations_of b).terms (ty.named i)) x.0 x.2)
 
 pub write_value-returns-in-Box : goal.write_value-returns-in-Box
 write_value-returns-in-Box g t c v p =
@@ -487,7 +493,9 @@ write_value-returns-in_default g t c v p =
     let is : IsOf c.unwrap-kind.result (entry_at b i) = sym (c.from_number.ensures ∙ ap (λ (e : Entry). kind_of e.kind) c.entry-entry.ensures.value) ∙ c.unwrap-kind.ensures in
     let number = listed.number_kind b (header_of b) (entry_at b i) c.unwrap-kind.result c.in_default.not-Bool c.in_default.not-Array c.in_default.not-Struct c.in_default.not-String c.in_default.not-Handle c.in_default.not-Vector c.in_default.not-Box c.in_default.not-Table c.in_default.not-Union in
     let e = facts.term_at b w i lt c.unwrap-kind.result is in
-    subst (λ (u : Term). Writes (g.W.Sink.taken c.args.out.now) (g.W.Sink.taken c.write_number.new.out) (text_of (declarations_of b) u v) c.write_number.result) (sym e) (c.write_number.ensures (declarations_of b) (term_as c.unwrap-kind.result b (header_of b) (entry_at b i)) number v (part_as _ _ _ _ _ e p))
+    subst (λ (u : Term). Writes (g.W.Sink.taken c.args.out.now) (g.W.Sink.taken c.write_number.new.out) (text_of (declarations_of b) u v)
+    c.write_number.result) (sym e) (c.write_number.ensures (declarations_of b) (term_as c.unwrap-kind.result b (header_of b) (entry_at b i))
+    number v (part_as _ _ _ _ _ e p))
 
 pub write_vector-returns-then-is_absent : goal.write_vector-returns-then-is_absent
 write_vector-returns-then-is_absent g t c optional bound v p =
@@ -799,7 +807,9 @@ write_slot-returns-in_err-write_comma-2-clause-text g t c v p =
     let u = c.in-Some-unknown.member in
     let held = held.unknown_held (held_of v c.args.slot.ordinal) (unknown u.inline u.bytes.now u.handles.now) (c.in-Some-unknown.ensures v p.shown) in
     failed_as _ _ _ c.from_residual-in_err-write_comma-2.result c.from_residual-in_err-write_comma-2.ensures.0
-    (front_as _ _ _ _ (ap (λ (o : Option Member). slot_text (declarations_of b) (members_of b i) c.args.later c.args.slot.ordinal o) (sym held)) (more_left _ _ _ (member_text (declarations_of b) (members_of b i) c.args.slot.ordinal (unknown u.inline u.bytes.now u.handles.now)) c.in_err-write_comma-2.ensures))
+    (front_as _ _ _ _ (ap (λ (o : Option Member). slot_text (declarations_of b) (members_of b i) c.args.later c.args.slot.ordinal o) (sym held))
+    (more_left _ _ _ (member_text (declarations_of b) (members_of b i) c.args.slot.ordinal (unknown u.inline u.bytes.now u.handles.now))
+    c.in_err-write_comma-2.ensures))
 
 pub write_slot-returns-in_err-write_unknown-clause-text : goal.write_slot-returns-in_err-write_unknown-clause-text
 write_slot-returns-in_err-write_unknown-clause-text g t c v p =
@@ -850,21 +860,29 @@ write_table-unwrap-count-requires g t c = ∥∥₁_elim c.requires.part (is_som
 pub write_table-returns-in_err-write_all : goal.write_table-returns-in_err-write_all
 write_table-returns-in_err-write_all g t c v p =
     failed_as _ _ _ c.from_residual.result c.from_residual.ensures.0
-    (tables.head_failed c.args.table.now c.requires.well_formed c.args.index c.requires.index c.requires.of_table c.args.view (g.W.Sink.taken c.args.out.now) _ c.unwrap-count.result (λ v p. sym c.unwrap-count.ensures ∙ c.len.ensures v p.shown) (more_left _ _ _ (codes ") {") (more_left _ _ _ (decimal c.unwrap-count.result) c.in_err-write_all.ensures)) v p)
+    (tables.head_failed c.args.table.now c.requires.well_formed c.args.index c.requires.index c.requires.of_table c.args.view
+    (g.W.Sink.taken c.args.out.now) _ c.unwrap-count.result (λ v p. sym c.unwrap-count.ensures ∙ c.len.ensures v p.shown)
+    (more_left _ _ _ (codes ") {") (more_left _ _ _ (decimal c.unwrap-count.result) c.in_err-write_all.ensures)) v p)
 
 pub write_table-returns-in_err-write_decimal : goal.write_table-returns-in_err-write_decimal
 write_table-returns-in_err-write_decimal g t c v p =
     failed_as _ _ _ c.from_residual-in_err-write_decimal.result c.from_residual-in_err-write_decimal.ensures.0
-    (tables.head_failed c.args.table.now c.requires.well_formed c.args.index c.requires.index c.requires.of_table c.args.view (g.W.Sink.taken c.args.out.now) _ c.unwrap-count.result (λ v p. sym c.unwrap-count.ensures ∙ c.len.ensures v p.shown) (more_left _ _ _ (codes ") {") (failed_then _ _ _ _ _ c.in_ok-write_all.ensures c.in_err-write_decimal.ensures)) v p)
+    (tables.head_failed c.args.table.now c.requires.well_formed c.args.index c.requires.index c.requires.of_table c.args.view
+    (g.W.Sink.taken c.args.out.now) _ c.unwrap-count.result (λ v p. sym c.unwrap-count.ensures ∙ c.len.ensures v p.shown)
+    (more_left _ _ _ (codes ") {") (failed_then _ _ _ _ _ c.in_ok-write_all.ensures c.in_err-write_decimal.ensures)) v p)
 
 pub write_table-returns-in_err-write_all-2 : goal.write_table-returns-in_err-write_all-2
 write_table-returns-in_err-write_all-2 g t c v p =
     failed_as _ _ _ c.from_residual-in_err-write_all-2.result c.from_residual-in_err-write_all-2.ensures.0
-    (tables.head_failed c.args.table.now c.requires.well_formed c.args.index c.requires.index c.requires.of_table c.args.view (g.W.Sink.taken c.args.out.now) _ c.unwrap-count.result (λ v p. sym c.unwrap-count.ensures ∙ c.len.ensures v p.shown) (failed_then _ _ _ _ _ (takes_then _ _ _ _ _ c.in_ok-write_all.ensures c.in_ok-write_decimal.ensures) c.in_err-write_all-2.ensures) v p)
+    (tables.head_failed c.args.table.now c.requires.well_formed c.args.index c.requires.index c.requires.of_table c.args.view
+    (g.W.Sink.taken c.args.out.now) _ c.unwrap-count.result (λ v p. sym c.unwrap-count.ensures ∙ c.len.ensures v p.shown)
+    (failed_then _ _ _ _ _ (takes_then _ _ _ _ _ c.in_ok-write_all.ensures c.in_ok-write_decimal.ensures) c.in_err-write_all-2.ensures) v p)
 
 pub write_table-loop-at-init : goal.write_table-loop-at-init
 write_table-loop-at-init g t c =
-    tables.table_begin c.args.table.now c.requires.well_formed c.args.index c.requires.index c.requires.of_table c.args.view (g.W.Sink.taken c.args.out.now) _ c.unwrap-count.result (λ v p. sym c.unwrap-count.ensures ∙ c.len.ensures v p.shown) (takes_then _ _ _ _ _ (takes_then _ _ _ _ _ c.in_ok-write_all.ensures c.in_ok-write_decimal.ensures) c.in_ok-write_all-2.ensures)
+    tables.table_begin c.args.table.now c.requires.well_formed c.args.index c.requires.index c.requires.of_table c.args.view
+    (g.W.Sink.taken c.args.out.now) _ c.unwrap-count.result (λ v p. sym c.unwrap-count.ensures ∙ c.len.ensures v p.shown)
+    (takes_then _ _ _ _ _ (takes_then _ _ _ _ _ c.in_ok-write_all.ensures c.in_ok-write_decimal.ensures) c.in_ok-write_all-2.ensures)
 
 pub write_table-overflow_sub-slot : goal.write_table-overflow_sub-slot
 write_table-overflow_sub-slot g t c = ∥∥₁_elim c.requires.part le_prop (λ q.
@@ -975,7 +993,9 @@ write_union-returns-in_err-write_member g t c v p =
     let k = subst (λ (o : Option View). ShowsKnown o f.0) c.in-Some-known.is f.2 in
     let same = tabled.known_is f.0 k.0 k.1 in
     failed_as _ _ _ c.from_residual-in_err-write_member.result c.from_residual-in_err-write_member.ensures.0
-    (front_as _ _ _ _ (sym whole) (more_left _ _ _ (codes ")") (failed_then _ _ _ _ _ c.in_ok-write_all.ensures (front_as _ _ _ _ (ap (λ (x : Member). member_text (declarations_of c.args.table.now) (members_of c.args.table.now c.args.index) c.in-Some.ordinal x) (sym same)) (c.in_err-write_member.ensures k.0 (record { shown = k.2; typed = own.typed k.0 same }))))))
+    (front_as _ _ _ _ (sym whole) (more_left _ _ _ (codes ")") (failed_then _ _ _ _ _ c.in_ok-write_all.ensures
+    (front_as _ _ _ _ (ap (λ (x : Member). member_text (declarations_of c.args.table.now) (members_of c.args.table.now c.args.index)
+    c.in-Some.ordinal x) (sym same)) (c.in_err-write_member.ensures k.0 (record { shown = k.2; typed = own.typed k.0 same }))))))
 
 pub write_union-returns-in-Some-known : goal.write_union-returns-in-Some-known
 write_union-returns-in-Some-known g t c v p =
@@ -985,7 +1005,10 @@ write_union-returns-in-Some-known g t c v p =
     let k = subst (λ (o : Option View). ShowsKnown o f.0) c.in-Some-known.is f.2 in
     let same = tabled.known_is f.0 k.0 k.1 in
     writes_as _ _ _ _ c.write_all-in-Some-known.result (sym whole)
-    (writes_then _ _ _ _ _ c.write_all-in-Some-known.result (takes_then _ _ _ _ _ c.in_ok-write_all.ensures (takes_as _ _ _ _ (ap (λ (x : Member). member_text (declarations_of c.args.table.now) (members_of c.args.table.now c.args.index) c.in-Some.ordinal x) (sym same)) (c.in_ok-write_member.ensures k.0 (record { shown = k.2; typed = own.typed k.0 same })))) c.write_all-in-Some-known.ensures)
+    (writes_then _ _ _ _ _ c.write_all-in-Some-known.result (takes_then _ _ _ _ _ c.in_ok-write_all.ensures
+    (takes_as _ _ _ _ (ap (λ (x : Member). member_text (declarations_of c.args.table.now) (members_of c.args.table.now c.args.index)
+    c.in-Some.ordinal x) (sym same)) (c.in_ok-write_member.ensures k.0 (record { shown = k.2; typed = own.typed k.0 same }))))
+    c.write_all-in-Some-known.ensures)
 
 pub write_union-unwrap-member-requires : goal.write_union-unwrap-member-requires
 write_union-unwrap-member-requires g t c = ∥∥₁_elim c.requires.part (is_some_prop _) (λ q.
@@ -1004,7 +1027,10 @@ write_union-returns-in_err-write_unknown g t c v p =
     let u = c.unwrap-member.result in
     let same = tabled.unknown_same c.unknown.result u v c.in-Some.ordinal f.0 f.1 none c.unwrap-member.ensures (c.unknown.ensures v p.shown) in
     failed_as _ _ _ c.from_residual-in_err-write_unknown.result c.from_residual-in_err-write_unknown.ensures.0
-    (front_as _ _ _ _ (sym whole) (more_left _ _ _ (codes ")") (failed_then _ _ _ _ _ c.in_ok-write_all.ensures (front_as _ _ _ _ (ap (λ (x : Member). member_text (declarations_of c.args.table.now) (members_of c.args.table.now c.args.index) c.in-Some.ordinal x) (sym same)) (c.in_err-write_unknown.ensures (declarations_of c.args.table.now) (members_of c.args.table.now c.args.index))))))
+    (front_as _ _ _ _ (sym whole) (more_left _ _ _ (codes ")") (failed_then _ _ _ _ _ c.in_ok-write_all.ensures
+    (front_as _ _ _ _ (ap (λ (x : Member). member_text (declarations_of c.args.table.now) (members_of c.args.table.now c.args.index)
+    c.in-Some.ordinal x) (sym same)) (c.in_err-write_unknown.ensures (declarations_of c.args.table.now)
+    (members_of c.args.table.now c.args.index))))))
 
 pub write_union-returns : goal.write_union-returns
 write_union-returns g t c v p =
@@ -1015,7 +1041,10 @@ write_union-returns g t c v p =
     let u = c.unwrap-member.result in
     let same = tabled.unknown_same c.unknown.result u v c.in-Some.ordinal f.0 f.1 none c.unwrap-member.ensures (c.unknown.ensures v p.shown) in
     writes_as _ _ _ _ c.write_all-3.result (sym whole)
-    (writes_then _ _ _ _ _ c.write_all-3.result (takes_then _ _ _ _ _ c.in_ok-write_all.ensures (takes_as _ _ _ _ (ap (λ (x : Member). member_text (declarations_of c.args.table.now) (members_of c.args.table.now c.args.index) c.in-Some.ordinal x) (sym same)) (c.in_ok-write_unknown.ensures (declarations_of c.args.table.now) (members_of c.args.table.now c.args.index)))) c.write_all-3.ensures)
+    (writes_then _ _ _ _ _ c.write_all-3.result (takes_then _ _ _ _ _ c.in_ok-write_all.ensures
+    (takes_as _ _ _ _ (ap (λ (x : Member). member_text (declarations_of c.args.table.now) (members_of c.args.table.now c.args.index)
+    c.in-Some.ordinal x) (sym same)) (c.in_ok-write_unknown.ensures (declarations_of c.args.table.now)
+    (members_of c.args.table.now c.args.index)))) c.write_all-3.ensures)
 
 pub write_value-write_table-requires : goal.write_value-write_table-requires
 write_value-write_table-requires g t c κs within =

@@ -20,11 +20,17 @@ returns-in_err-write_decimal-2 g c = failed_as _ _ _ c.from_residual-in_err-writ
 
 pub returns-in_err-write_all-3 : goal.returns-in_err-write_all-3
 returns-in_err-write_all-3 g c = failed_as _ _ _ c.from_residual-in_err-write_all-3.result c.from_residual-in_err-write_all-3.ensures.0
-    (more_left _ _ _ (codes ")") (more_left _ _ _ (decimal c.args.handle.rights) (failed_then _ _ _ _ _ (takes_then _ _ _ _ _ (takes_then _ _ _ _ _ (takes_then _ _ _ _ _ c.in_ok-write_all.ensures c.in_ok-write_decimal.ensures) c.in_ok-write_all-2.ensures) c.in_ok-write_decimal-2.ensures) c.in_err-write_all-3.ensures)))
+    (more_left _ _ _ (codes ")") (more_left _ _ _ (decimal c.args.handle.rights)
+    (failed_then _ _ _ _ _ (takes_then _ _ _ _ _ (takes_then _ _ _ _ _ (takes_then _ _ _ _ _ c.in_ok-write_all.ensures
+    c.in_ok-write_decimal.ensures) c.in_ok-write_all-2.ensures) c.in_ok-write_decimal-2.ensures) c.in_err-write_all-3.ensures)))
 
 pub returns-in_err-write_decimal-3 : goal.returns-in_err-write_decimal-3
 returns-in_err-write_decimal-3 g c = failed_as _ _ _ c.from_residual-in_err-write_decimal-3.result c.from_residual-in_err-write_decimal-3.ensures.0
-    (more_left _ _ _ (codes ")") (failed_then _ _ _ _ _ (takes_then _ _ _ _ _ (takes_then _ _ _ _ _ (takes_then _ _ _ _ _ (takes_then _ _ _ _ _ c.in_ok-write_all.ensures c.in_ok-write_decimal.ensures) c.in_ok-write_all-2.ensures) c.in_ok-write_decimal-2.ensures) c.in_ok-write_all-3.ensures) c.in_err-write_decimal-3.ensures))
+    (more_left _ _ _ (codes ")") (failed_then _ _ _ _ _ (takes_then _ _ _ _ _
+    (takes_then _ _ _ _ _ (takes_then _ _ _ _ _ (takes_then _ _ _ _ _ c.in_ok-write_all.ensures c.in_ok-write_decimal.ensures)
+    c.in_ok-write_all-2.ensures) c.in_ok-write_decimal-2.ensures) c.in_ok-write_all-3.ensures) c.in_err-write_decimal-3.ensures))
 
 pub returns : goal.returns
-returns g c = writes_then _ _ _ _ _ c.write_all-4.result (takes_then _ _ _ _ _ (takes_then _ _ _ _ _ (takes_then _ _ _ _ _ (takes_then _ _ _ _ _ (takes_then _ _ _ _ _ c.in_ok-write_all.ensures c.in_ok-write_decimal.ensures) c.in_ok-write_all-2.ensures) c.in_ok-write_decimal-2.ensures) c.in_ok-write_all-3.ensures) c.in_ok-write_decimal-3.ensures) c.write_all-4.ensures
+returns g c = writes_then _ _ _ _ _ c.write_all-4.result (takes_then _ _ _ _ _
+    (takes_then _ _ _ _ _ (takes_then _ _ _ _ _ (takes_then _ _ _ _ _ (takes_then _ _ _ _ _ c.in_ok-write_all.ensures c.in_ok-write_decimal.ensures)
+    c.in_ok-write_all-2.ensures) c.in_ok-write_decimal-2.ensures) c.in_ok-write_all-3.ensures) c.in_ok-write_decimal-3.ensures) c.write_all-4.ensures
