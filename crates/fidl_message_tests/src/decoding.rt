@@ -33,7 +33,9 @@ pub(crate) fn decoded(
         return None;
     }
     let (came, handles) = (message.bytes.as_slice(), message.handles.as_slice());
-    let mut bytes = Vec::from_slice(alloc, came).ok()?;
+    let Ok(mut bytes) = Vec::from_slice(alloc, came) else {
+        return None;
+    };
     let answer = match decode(table, message.entry, &mut bytes, handles, scratch) {
         Ok(decoded) => {
             if !is_as_it_came(&decoded, entries, &message) {
