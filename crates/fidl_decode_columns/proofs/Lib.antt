@@ -9,3 +9,4 @@ pub mod Reading
 pub mod Together
 pub mod Examples
 pub mod Counted
+pub mod Words
