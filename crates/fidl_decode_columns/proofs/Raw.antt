@@ -22,6 +22,12 @@ pub record Agrees (m : Written) (raw : List ℕ) : Type 0 where
   pub len : length raw ≡ length m.came
   pub byte : (k : ℕ) → k < length m.came → IsFree m k → slice_index raw k ≡ slice_index m.came k
 
+-- the member of one of some structs lies in the message
+pub member_within_came : (m : Written) (c : Column) (wide n i : ℕ) → HasRoom m c wide n → i < n → place_of c i + wide ≤ length m.came
+member_within_came m c wide n i room lt =
+    let inside : c.base + c.size * i + c.size ≤ c.base + c.size * n = struct_room (c.base + c.size * i) c.base c.size i n (c.base + c.size * n) refl lt (omega arith) in
+    omega (arith, inside, room.member, room.within)
+
 module _ (m : Written) (raw : List ℕ) (a : Agrees m raw) where
   -- zeros where no link stands
   pub zeros_came : (p n : ℕ) → p + n ≤ length m.came → AreFree m p (p + n) → Stands raw p (zeros n) → Stands m.came p (zeros n)
@@ -61,7 +67,7 @@ module _ (m : Written) (raw : List ℕ) (a : Agrees m raw) where
     inside = struct_room (c.base + c.size * i) c.base c.size i n (c.base + c.size * n) refl lt (omega arith)
 
     pub member_within : place_of c i + wide ≤ length m.came
-    member_within = omega (arith, inside, room.member, room.within)
+    member_within = member_within_came m c wide n i room lt
 
     pub member_free : AreFree m (place_of c i) (place_of c i + wide)
     member_free k from to = room.free k (omega (arith, from)) (omega (arith, to, inside, room.member))

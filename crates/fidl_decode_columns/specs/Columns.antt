@@ -1,6 +1,7 @@
 -- Structs that stand behind one another, whose members are numbers alone: what a column of their
 -- members is, and what it means that the first of them are read up to a member.
-use Rattle.std.specs.Prelude.{◌≡◌, ℕ, ◌+◌, ◌-◌, ◌*◌, ◌<◌, ◌≤◌, List, length, slice_index, Bool}
+use Rattle.std.specs.Prelude.{◌≡◌, ℕ, zero, suc, ◌+◌, ◌-◌, ◌*◌, ◌/◌, ◌%◌, ◌^◌, ◌<◌, ◌≤◌, List}
+use Rattle.std.specs.Prelude.{length, slice_index, Bool, bit_or}
 use Rattle.std.specs.Prelude.{true, Option, Some, None, IfSome, Contains, pos}
 use Rattle.fidl_wire.specs.Term as ty
 use Rattle.fidl_wire.specs.Typed.{InMask}
@@ -22,6 +23,7 @@ use Rattle.fidl_decode_model.specs.Machine.{StateFine, FrameFine, BreaksFrame, T
 use Rattle.fidl_decode_columns.specs.declared.column.Column.{Column}
 use Rattle.fidl_decode_columns.specs.declared.column.Wrong.{Wrong}
 use Rattle.fidl_decode_columns.specs.declared.structs.Structs.{Structs}
+use Rattle.fidl_decode_columns.specs.declared.window.Window.{Window}
 
 -- values of the kind are numbers
 abbrev pub has_numbers : EntryKind → Bool
@@ -71,6 +73,19 @@ pub record HasRoom (m : Written) (c : Column) (width n : ℕ) : Type 0 where
   pub within : c.base + c.size * n ≤ length m.came
   pub free : AreFree m c.base (c.base + c.size * n)
   pub member : c.offset + width ≤ c.size
+
+-- the number of so many bytes at a place, the lowest first
+abbrev pub bits_at : List ℕ → (place n : ℕ) → ℕ
+bits_at m place zero = 0
+bits_at m place (suc n) = slice_index m place + bits_at m (place + 1) n * 256
+
+-- Of structs of a size, the first of which begins at a base, eight bytes were gathered of each of
+-- so many. Each bit of such a byte is set in what was gathered, where the byte is the struct's own.
+abbrev pub IsWindow : List ℕ → (base size : ℕ) → Window → Type 0
+IsWindow m base size w = (k i : ℕ) → k < w.count → i < 8 → base ≤ w.start + i
+    → w.start + i < base + size
+    → bit_or (slice_index m (w.start + i + size * k)) (w.seen / 2 ^ (8 * i) % 2 ^ 8)
+    ≡ w.seen / 2 ^ (8 * i) % 2 ^ 8
 
 -- of n things the first of which something does not hold; n where it holds for all
 pub record IsFirstNot (Holds : ℕ → Type 0) (n first : ℕ) : Type 0 where

@@ -7,10 +7,15 @@ use Rattle.fidl_decode_model.specs.State.{Position}
 use Rattle.fidl_decode_columns.specs.declared.column.Column.{Column}
 use Rattle.fidl_decode_columns.specs.declared.column.Wrong.{Wrong}
 use Rattle.fidl_decode_columns.specs.declared.structs.Structs.{Structs}
+use Rattle.fidl_decode_columns.specs.declared.window.Window.{Window}
 
 -- a member so far behind the start of structs of eight bytes, the first of which begins at a place
 abbrev pub column_at : (base offset : ℕ) → Column
 column_at base offset = record { base = base; size = 8; offset = offset }
+
+-- bits that were seen in eight bytes from a place on, and in the bytes as far in so many structs
+abbrev pub window_of : (start seen count : ℕ) → Window
+window_of start seen count = record { start = start; seen = seen; count = count }
 
 -- the struct with this number is wrong, by a bool at a place
 abbrev pub bool_wrong : (element at : ℕ) → Wrong

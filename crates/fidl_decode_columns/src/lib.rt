@@ -9,6 +9,7 @@ mod kinds;
 mod searched;
 mod structs;
 mod values;
+mod window;
 pub mod worked;
 mod zeros;
 

@@ -14,9 +14,11 @@ ghost use Rattle.fidl_links.specs.Links.{AreFree};
 ghost use Rattle.fidl_decode_columns.specs.Columns.{IsNumericAt, AreNumbers, StructsFine};
 ghost use Rattle.fidl_decode_columns.specs.Columns.{IsFirstWrong, IsReadTo, IsRead, IsBroken};
 ghost use Rattle.fidl_decode_columns.specs.Columns.{right_before, first_of, Narrows, IsGoodAt};
+ghost use Rattle.fidl_decode_columns.specs.Columns.{IsWindow};
 
 use crate::column::{Column, Wrong};
 use crate::columns::Columns;
+use crate::window::Window;
 use fidl_table_format::{Entry, EntryKind, Row};
 
 /// Structs of one entry that stand behind one another in a frame.
@@ -58,6 +60,7 @@ impl<'t, 'a, 'm, 's> Columns<'t, 'a, 'm, 's> {
         from: usize,
         to: usize,
         known: Option<Wrong>,
+        window: &mut Window,
         steps: &mut u64,
     ) -> Option<Wrong>
         requires order { from ≤ to }
@@ -67,7 +70,11 @@ impl<'t, 'a, 'm, 's> Columns<'t, 'a, 'm, 's> {
         requires free { AreFree self.now.links.now structs.now.base
             (structs.now.base + structs.now.entry.size * structs.now.count) }
         requires known { right_before structs.now.count known ≤ structs.now.count }
+        requires window { IsWindow self.now.links.now.came structs.now.base
+            structs.now.entry.size window.old }
         requires budget { steps.old < 2 ^ 43 }
+        ensures window { IsWindow self.now.links.now.came structs.now.base
+            structs.now.entry.size window.new }
         ensures value { let at = λ (k : ℕ). structs.now.base + structs.now.entry.size * k + from in
             Narrows (λ k. Stands self.now.links.now.came (at k) (zeros (to - from)))
             (λ k. IsPadding self.now.links.now.came (at k) (at k + (to - from)))
@@ -83,6 +90,9 @@ impl<'t, 'a, 'm, 's> Columns<'t, 'a, 'm, 's> {
             size: structs.entry.size as usize,
             offset: from,
         };
+        if self.are_seen_zeros(column, width, limit, window) {
+            return known;
+        }
         first_of(known, self.first_gap(column, width, limit))
     }
 
@@ -92,6 +102,7 @@ impl<'t, 'a, 'm, 's> Columns<'t, 'a, 'm, 's> {
         structs: &Structs,
         row: &Row,
         known: Option<Wrong>,
+        window: &mut Window,
         steps: &mut u64,
     ) -> Option<Wrong>
         requires entry { row.now.entry < (header_of self.now.table.now).entries }
@@ -103,7 +114,11 @@ impl<'t, 'a, 'm, 's> Columns<'t, 'a, 'm, 's> {
         requires free { AreFree self.now.links.now structs.now.base
             (structs.now.base + structs.now.entry.size * structs.now.count) }
         requires known { right_before structs.now.count known ≤ structs.now.count }
+        requires window { IsWindow self.now.links.now.came structs.now.base
+            structs.now.entry.size window.old }
         requires budget { steps.old < 2 ^ 41 }
+        ensures window { IsWindow self.now.links.now.came structs.now.base
+            structs.now.entry.size window.new }
         ensures value { let at = λ (k : ℕ). structs.now.base + structs.now.entry.size * k
             + row.now.key in
             let t = self.now.table.now in
@@ -126,6 +141,9 @@ impl<'t, 'a, 'm, 's> Columns<'t, 'a, 'm, 's> {
             size: structs.entry.size as usize,
             offset: row.key as usize,
         };
+        if self.are_seen_good(column, row.entry, kind, limit, window) {
+            return known;
+        }
         first_of(
             known,
             self.first_wrong(column, row.entry, kind, limit, steps),
@@ -140,6 +158,7 @@ impl<'t, 'a, 'm, 's> Columns<'t, 'a, 'm, 's> {
         index: u32,
         done: usize,
         known: Option<Wrong>,
+        window: &mut Window,
         steps: &mut u64,
     ) -> Option<Wrong>
         requires structs { StructsFine self.now.table.now self.now.links.now.came structs.now }
@@ -157,7 +176,11 @@ impl<'t, 'a, 'm, 's> Columns<'t, 'a, 'm, 's> {
         requires known { let m = message_of self.now.links.now.came self.now.handles.now in
             IsFirstWrong (IsReadTo self.now.table.now m structs.now index done)
             (IsBroken self.now.table.now m structs.now) structs.now.count known }
+        requires window { IsWindow self.now.links.now.came structs.now.base
+            structs.now.entry.size window.old }
         requires budget { steps.old < 2 ^ 40 + 2 ^ 39 }
+        ensures window { IsWindow self.now.links.now.came structs.now.base
+            structs.now.entry.size window.new }
         ensures value { let t = self.now.table.now in
             let m = message_of self.now.links.now.came self.now.handles.now in
             let r = row_at t (header_of t) index in
@@ -172,8 +195,8 @@ impl<'t, 'a, 'm, 's> Columns<'t, 'a, 'm, 's> {
             * ((row_at t (header_of t) index).key - done) + 17 * structs.now.count }
     {
         let row = self.table.row(index);
-        let front = self.check_gap(structs, done, row.key as usize, known, steps);
-        self.check_member(structs, &row, front, steps)
+        let front = self.check_gap(structs, done, row.key as usize, known, window, steps);
+        self.check_member(structs, &row, front, window, steps)
     }
 
     /// Checks each row of structs. The first struct that is wrong has the fault of its first wrong
@@ -202,11 +225,23 @@ impl<'t, 'a, 'm, 's> Columns<'t, 'a, 'm, 's> {
         let end = first + structs.entry.count;
         let mut done = 0;
         let mut wrong = None;
+        let mut window = Window {
+            start: 0,
+            seen: 0,
+            count: 0,
+        };
         for i in first..end {
-            wrong = self.check_row(structs, i, done, wrong, steps);
+            wrong = self.check_row(structs, i, done, wrong, &mut window, steps);
             let row = self.table.row(i);
             done = row.key as usize + self.table.entry(row.entry).size as usize;
         }
-        self.check_gap(structs, done, structs.entry.size as usize, wrong, steps)
+        self.check_gap(
+            structs,
+            done,
+            structs.entry.size as usize,
+            wrong,
+            &mut window,
+            steps,
+        )
     }
 }

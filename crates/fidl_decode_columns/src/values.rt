@@ -1,5 +1,5 @@
 //! One member of each of some structs, by the entry of its type.
-ghost use Rattle.std.specs.Prelude.{◌≡◌, ◌+◌, ◌*◌, ◌^◌, ◌<◌, ◌≤◌, IsTrue, Some, IfSome};
+ghost use Rattle.std.specs.Prelude.{◌≡◌, ℕ, ◌+◌, ◌*◌, ◌^◌, ◌<◌, ◌≤◌, IsTrue, Some, IfSome};
 ghost use Rattle.std.specs.Prelude.{Contains, true};
 ghost use Rattle.std.specs.Int.{byte_len};
 ghost use Rattle.fidl_wire.specs.Term.{width};
@@ -15,10 +15,11 @@ ghost use Rattle.fidl_decode_model.specs.declared.fault.DecodeFault.TheVariants 
 ghost use Rattle.fidl_decode_model.specs.Faults.{message_of};
 ghost use Rattle.fidl_decode_model.specs.Breaks.{BreaksField};
 ghost use Rattle.fidl_decode_columns.specs.Columns.{place_of, HasRoom, IsFirstNot, IsFirstWrong};
-ghost use Rattle.fidl_decode_columns.specs.Columns.{IsGoodAt, has_numbers};
+ghost use Rattle.fidl_decode_columns.specs.Columns.{IsGoodAt, IsWindow, has_numbers};
 
 use crate::column::{Column, Wrong};
 use crate::columns::Columns;
+use crate::window::Window;
 use fidl_decode_model::DecodeFault;
 use fidl_table_format::{Entry, EntryKind};
 
@@ -36,6 +37,38 @@ fn fault_of(kind: EntryKind, at: usize) -> DecodeFault
 }
 
 impl<'t, 'a, 'm, 's> Columns<'t, 'a, 'm, 's> {
+    /// Whether all bools or strict bits of an entry, which is of this kind, are values, as far as a
+    /// window shows. Of other kinds it shows nothing.
+    pub(crate) fn are_seen_good(
+        &self,
+        column: Column,
+        entry: u32,
+        kind: EntryKind,
+        limit: u32,
+        window: &mut Window,
+    ) -> bool
+        requires entry { entry < (header_of self.now.table.now).entries }
+        requires kind { kind_of (entry_at self.now.table.now entry).kind ≡ Some kind }
+        requires room { HasRoom self.now.links.now column (entry_at self.now.table.now entry).size
+            limit }
+        requires window { IsWindow self.now.links.now.came column.base column.size window.old }
+        ensures window { IsWindow self.now.links.now.came column.base column.size window.new }
+        ensures value { IsTrue result → (k : ℕ) → k < limit → IsGoodAt self.now.table.now
+            self.now.links.now.came (entry_at self.now.table.now entry) kind (place_of column k) }
+    {
+        if limit == 0 {
+            return true;
+        }
+        match kind {
+            EntryKind::Bool => self.are_within(column, 1, 1, limit, window),
+            EntryKind::Bits => {
+                let e = self.table.entry(entry);
+                e.is_strict() && self.are_within(column, e.size as usize, e.bound, limit, window)
+            }
+            _ => false,
+        }
+    }
+
     /// The first of so many bits with a bit outside the mask, where they are strict.
     fn first_bad_bits(&self, column: Column, entry: &Entry, limit: u32) -> u32
         requires kind { IsTrue (subtype_is is_unsigned entry.now) }

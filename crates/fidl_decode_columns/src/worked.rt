@@ -6,10 +6,11 @@ ghost use Rattle.fidl_wire.specs.Encoding.{zeros};
 ghost use Rattle.fidl_table_format.specs.declared.kind.EntryKind.TheVariants as kinds;
 ghost use Rattle.fidl_table_format.specs.Samples.{an_entry, number_and_vector, three_enums};
 ghost use Rattle.fidl_table_format.specs.Section.{entry_at};
-ghost use Rattle.fidl_decode_columns.specs.Samples.{column_at, box_and_number};
+ghost use Rattle.fidl_decode_columns.specs.Samples.{column_at, window_of, box_and_number};
 ghost use Rattle.fidl_decode_columns.specs.Columns.{has_numbers, IsNumericAt, AreNumbers, IsGoodAt};
 ghost use Rattle.fidl_links.specs.Samples.{seen};
 ghost use Rattle.fidl_decode_columns.specs.Columns.{HasNoSign, AreValues, place_of, HasRoom};
+ghost use Rattle.fidl_decode_columns.specs.Columns.{bits_at, IsWindow};
 
 pub mod first;
 pub mod structs;
@@ -86,4 +87,19 @@ pub fn members_that_have_room()
     ensures record { let m = seen (zeros 16) (zeros 2) (0 ∷ 0 ∷ 0 ∷ 1 ∷ []) in
         ¬ (HasRoom m (column_at 0 4) 4 2) }
     ensures before { HasRoom (seen (zeros 16) (0 ∷ 8 ∷ []) (zeros 4)) (column_at 0 4) 4 1 }
+{}
+
+/// Bytes stand for a number, the lowest first; none stand for 0.
+pub fn bytes_as_a_number()
+    ensures two { bits_at (9 ∷ 2 ∷ 1 ∷ []) 1 2 ≡ 258 }
+    ensures none { bits_at (9 ∷ []) 0 0 ≡ 0 }
+{}
+
+/// Of two structs of one byte, 1 and 2, the bits 3 are seen. They are not seen where only those of
+/// the first are gathered, but by who looks at no more than the first. What stands behind the
+/// structs is not gathered.
+pub fn bits_that_are_seen()
+    ensures both { IsWindow (1 ∷ 2 ∷ 4 ∷ []) 0 1 (window_of 0 3 2) }
+    ensures missed { ¬ (IsWindow (1 ∷ 2 ∷ 4 ∷ []) 0 1 (window_of 0 1 2)) }
+    ensures first { IsWindow (1 ∷ 2 ∷ 4 ∷ []) 0 1 (window_of 0 1 1) }
 {}

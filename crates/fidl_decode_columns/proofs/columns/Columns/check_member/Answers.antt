@@ -1,5 +1,5 @@
-use Rattle.std.proofs.Common.{◌≡◌, ℕ, ◌+◌, ◌*◌, ◌≤◌, sym, ap, subst, ◌∙◌, arith}
-use Rattle.std.specs.Prelude.{Some, true}
+use Rattle.std.proofs.Common.{◌≡◌, ℕ, ◌+◌, ◌*◌, ◌≤◌, refl, sym, ap, subst, ◌∙◌, arith}
+use Rattle.std.specs.Prelude.{Some, None, true}
 use Rattle.fidl_table_format.specs.declared.kind.EntryKind.{EntryKind}
 use Rattle.fidl_table_format.specs.declared.record.Entry.{Entry}
 use Rattle.fidl_table_format.specs.Kind.{kind_of}
@@ -50,3 +50,19 @@ pub returns-clause-least : goal.returns-clause-least
 returns-clause-least c =
     if_none c.first_of.result (λ none. all_counted c.args.structs.now.count c.right_before-limit.result c.args.steps.now c.first_wrong.new.steps c.args.known c.right_before-limit.ensures none (omega (arith, c.first_wrong.ensures.grows, c.from.ensures)))
     (none_known c.args.known c.first_wrong.result c.first_of.result c.first_of.ensures)
+
+pub are_seen_good-requires-clause-room : goal.are_seen_good-requires-clause-room
+are_seen_good-requires-clause-room c =
+    let le = few c.right_before-limit.result (right_before c.args.structs.now.count c.args.known) c.args.structs.now.count c.right_before-limit.ensures c.requires.known in
+    record {
+      within = fewer_room c.args.structs.now.base c.args.structs.now.entry.size c.right_before-limit.result c.args.structs.now.count _ le c.requires.within;
+      free = fewer_free c.args.self.now.links.now c.args.structs.now.base c.args.structs.now.entry.size c.right_before-limit.result c.args.structs.now.count le c.requires.free;
+      member = c.requires.end;
+    }
+
+pub returns-then-are_seen_good-clause-value : goal.returns-then-are_seen_good-clause-value
+returns-then-are_seen_good-clause-value c =
+    let t = c.args.self.now.table.now in
+    let d = entry_at t c.args.row.now.entry in
+    let is : kind_of d.kind ≡ Some c.in-Some.kind = ap (λ (e : Entry). kind_of e.kind) (sym c.entry.ensures.value) ∙ sym c.from_number.ensures ∙ c.in-Some.is in
+    (c.in-Some.kind, is, (None, refl, (λ k lt. c.are_seen_good.ensures.value c.if-are_seen_good.true k (omega (arith, lt, c.right_before-limit.ensures)))))

@@ -18,6 +18,7 @@ loop-i-init c =
     record {
       rise = first_rise t c.args.self.now.fine m c.args.structs.now c.requires.structs;
       wrong = none_read t c.args.self.now.fine m c.args.structs.now c.requires.structs;
+      window = λ k i few lt from to. absurd (omega (arith, few));
       below = omega arith;
       least = none_counted c.args.structs.now.count c.args.structs.now.entry.first c.args.steps.now;
       grows = omega arith;
@@ -50,6 +51,7 @@ loop-i-preserved c =
     record {
       rise = subst (λ d. RowsRise (declarations_of t) (header_of t).entries c.args.structs.now.entry.nest c.args.structs.now.entry.size d (table_rows t (header_of t) (c.loop-i.i + 1) (c.args.structs.now.entry.first + c.args.structs.now.entry.count - (c.loop-i.i + 1)))) next rise;
       wrong = subst (λ d. IsFirstWrong (IsReadTo t m c.args.structs.now (c.loop-i.i + 1) d) (IsBroken t m c.args.structs.now) c.args.structs.now.count c.check_row-wrong.result) next c.check_row-wrong.ensures.value;
+      window = c.check_row-wrong.ensures.window;
       below = omega (arith, c.loop-i-test.true);
       least = counted c.args.structs.now.count c.args.structs.now.entry.first c.loop-i.i c.args.steps.now c.loop-i.steps c.check_row-wrong.new.steps c.loop-i.auto.i c.loop-i.wrong c.check_row-wrong.result c.check_row-wrong.ensures.least c.loop-i.invariant.least;
       grows = omega (arith, c.loop-i.invariant.grows, c.check_row-wrong.ensures.grows);
