@@ -1,6 +1,6 @@
 -- Worked facts of structs without members, and of the enums of the samples.
 use Rattle.std.proofs.Common.{◌≡◌, ℕ, zero, suc, ◌+◌, ◌-◌, ◌<◌, pos, negsuc, [], ◌∷◌, get_or, refl, sym, arith}
-use Rattle.std.specs.Prelude.{Contains, slice_index_or}
+use Rattle.std.specs.Prelude.{Contains, slice_index_or, IsTrue, true, false, replicate}
 use Rattle.fidl_wire.specs.Value.{Values, none, value}
 use Rattle.fidl_wire.specs.Encoding.{zeros}
 use Rattle.fidl_wire.specs.Figure.{Declarations}
@@ -31,17 +31,21 @@ fine_start = record { next = omega arith; handle = omega arith; few = omega arit
 pub not_five : ◌≡◌ {A = ℕ} 5 0 → ⊥
 not_five e = absurd (omega (arith, e))
 
+-- what is false marks nothing
+no_mark : IsTrue false → ⊥
+no_mark e = cc
+
 -- the one number that is noted
-pub only_seven : (n : ℕ) → get_or {A = ℕ} (0 ∷ 0 ∷ 0 ∷ 0 ∷ 0 ∷ 0 ∷ 0 ∷ 1 ∷ []) n 0 ≡ 1 → 7 ≡ n
-only_seven zero e = absurd (omega (arith, e))
-only_seven (suc zero) e = absurd (omega (arith, e))
-only_seven (suc (suc zero)) e = absurd (omega (arith, e))
-only_seven (suc (suc (suc zero))) e = absurd (omega (arith, e))
-only_seven (suc (suc (suc (suc zero)))) e = absurd (omega (arith, e))
-only_seven (suc (suc (suc (suc (suc zero))))) e = absurd (omega (arith, e))
-only_seven (suc (suc (suc (suc (suc (suc zero)))))) e = absurd (omega (arith, e))
+pub only_seven : (n : ℕ) → IsTrue (slice_index_or (false ∷ false ∷ false ∷ false ∷ false ∷ false ∷ false ∷ true ∷ []) n false) → 7 ≡ n
+only_seven zero e = absurd (no_mark e)
+only_seven (suc zero) e = absurd (no_mark e)
+only_seven (suc (suc zero)) e = absurd (no_mark e)
+only_seven (suc (suc (suc zero))) e = absurd (no_mark e)
+only_seven (suc (suc (suc (suc zero)))) e = absurd (no_mark e)
+only_seven (suc (suc (suc (suc (suc zero))))) e = absurd (no_mark e)
+only_seven (suc (suc (suc (suc (suc (suc zero)))))) e = absurd (no_mark e)
 only_seven (suc (suc (suc (suc (suc (suc (suc zero))))))) e = refl
-only_seven (suc (suc (suc (suc (suc (suc (suc (suc n)))))))) e = absurd (omega (arith, e))
+only_seven (suc (suc (suc (suc (suc (suc (suc (suc n)))))))) e = absurd (no_mark e)
 
 -- numbers that are none of the values
 pub zero_is_none : Contains (pos 7 ∷ []) (pos 0) → ⊥
@@ -64,3 +68,8 @@ pub zeros_read : (n i : ℕ) → get_or (zeros n) i 0 ≡ 0
 zeros_read zero i = refl
 zeros_read (suc n) zero = refl
 zeros_read (suc n) (suc i) = zeros_read n i
+
+pub none_marked : (n i : ℕ) → IsTrue (slice_index_or (replicate n false) i false) → ⊥
+none_marked zero i e = no_mark e
+none_marked (suc n) zero e = no_mark e
+none_marked (suc n) (suc i) e = none_marked n i e

@@ -1,6 +1,6 @@
 -- The first thing that is wrong, found part by part.
-use Rattle.std.proofs.Common.{◌≡◌, ℕ, ◌+◌, ◌<◌, ◌≤◌, sym, subst, arith, inl, inr}
-use Rattle.std.proofs.lemmas.Bool.{cases_eq}
+use Rattle.std.proofs.Common.{◌≡◌, ℕ, ◌+◌, ◌-◌, ◌<◌, ◌≤◌, sym, subst, arith, inl, inr}
+use Rattle.std.proofs.lemmas.Bool.{cases_eq, cases_lt}
 use Rattle.std.specs.Prelude.{Option, Some, None}
 use Rattle.fidl_decode_model.specs.declared.fault.DecodeFault.{DecodeFault}
 use Rattle.fidl_decode_columns.specs.declared.column.Wrong.{Wrong}
@@ -59,3 +59,14 @@ always Holds n h = all_hold Holds n n (omega arith) (λ k lt. h k)
 -- the same of what says the same
 pub same_first : (P Q : ℕ → Type 0) (n first : ℕ) → ((k : ℕ) → P k → Q k) → ((k : ℕ) → Q k → P k) → IsFirstNot P n first → IsFirstNot Q n first
 same_first P Q n first f g h = record { few = h.few; before = λ k lt. f k (h.before k lt); not = λ lt q. h.not lt (g first q) }
+
+-- things behind those that hold are looked at by themselves
+module _ (At Part : ℕ → Type 0) (done count : ℕ) (same : (j : ℕ) → Part j → At (done + j)) (before : (k : ℕ) → k < done → At k) where
+  pub behind_too : (n : ℕ) → ((j : ℕ) → j < n → Part j) → (k : ℕ) → k < done + n → At k
+  behind_too n more k lt = elim (cases_lt k done) [
+    | inl early ↦ before k early
+    | inr late ↦ (let there : done + (k - done) ≡ k = omega (arith, late) in subst At there (same (k - done) (more (k - done) (omega (arith, late, lt)))))
+  ]
+
+  pub first_behind : (n first : ℕ) → done + count ≤ n → ((j : ℕ) → At (done + j) → Part j) → first < count → IsFirstNot Part count first → IsFirstNot At n (done + first)
+  first_behind n first le back lt h = record { few = omega (arith, le, lt); before = behind_too first h.before; not = λ less at. h.not lt (back first at) }

@@ -89,3 +89,17 @@ pub fewer_free : (m : Written) (base size limit n : ℕ) → limit ≤ n → Are
 fewer_free m base size limit n le free k from to =
     let up : base + size * limit ≤ base + size * n = fewer_room base size limit n (base + size * n) le (omega arith) in
     free k from (omega (arith, to, up))
+
+-- some of the structs behind some others
+pub part_room : (m : Written) (c : Column) (wide limit done n : ℕ) → done + n ≤ limit → HasRoom m c wide limit → HasRoom m (record { base = c.base + c.size * done; size = c.size; offset = c.offset }) wide n
+part_room m c wide limit done n le room =
+    let up : c.base + c.size * (done + n) ≤ c.base + c.size * limit = fewer_room c.base c.size (done + n) limit (c.base + c.size * limit) le (omega arith) in
+    let parts : c.size * (done + n) ≡ c.size * done + c.size * n = omega arith in
+    record {
+      within = omega (arith, up, parts, room.within);
+      free = λ k from to. room.free k (omega (arith, from)) (omega (arith, to, up, parts));
+      member = room.member;
+    }
+
+pub part_place : (c : Column) (done k : ℕ) → place_of (record { base = c.base + c.size * done; size = c.size; offset = c.offset }) k ≡ place_of c (done + k)
+part_place c done k = let parts : c.size * (done + k) ≡ c.size * done + c.size * k = omega arith in omega (arith, parts)

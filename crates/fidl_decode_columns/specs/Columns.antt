@@ -1,7 +1,7 @@
 -- Structs that stand behind one another, whose members are numbers alone: what a column of their
 -- members is, and what it means that the first of them are read up to a member.
 use Rattle.std.specs.Prelude.{◌≡◌, ℕ, zero, suc, ◌+◌, ◌-◌, ◌*◌, ◌/◌, ◌%◌, ◌^◌, ◌<◌, ◌≤◌, List}
-use Rattle.std.specs.Prelude.{length, slice_index, Bool, bit_or}
+use Rattle.std.specs.Prelude.{length, slice_index, slice_index_or, Bool, false, IsTrue, bit_or}
 use Rattle.std.specs.Prelude.{true, Option, Some, None, IfSome, Contains, pos}
 use Rattle.fidl_wire.specs.Term as ty
 use Rattle.fidl_wire.specs.Typed.{InMask}
@@ -55,11 +55,11 @@ IsGoodAt t m e k place = Unit {0}
 abbrev pub HasNoSign : ty.Kind → Type 0
 HasNoSign kind = (n : ℕ) → value_number kind n ≡ pos n
 
--- the numbers with a one at their place are values of the enum with this index
-abbrev pub AreValues : (t : List ℕ) → (entry : ℕ) → (noted : List ℕ) → Type 0
+-- the numbers with a true at their place are values of the enum with this index
+abbrev pub AreValues : (t : List ℕ) → (entry : ℕ) → (noted : List Bool) → Type 0
 AreValues t i noted =
     let e = entry_at t i in
-    (n : ℕ) → slice_index noted n ≡ 1
+    (n : ℕ) → IsTrue (slice_index_or noted n false)
     → Contains (values_from t (header_of t) (underlying e) e.first e.count)
     (value_number (underlying e) n)
 

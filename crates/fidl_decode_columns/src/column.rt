@@ -92,6 +92,41 @@ impl<'t, 'a, 'm, 's> Columns<'t, 'a, 'm, 's> {
         limit
     }
 
+    /// Whether so many numbers of a kind are all in a range, which its ends show and the lowest and
+    /// highest number among them. A caller names the kind.
+    #[inline(always)]
+    fn are_within_range(
+        &self,
+        column: Column,
+        kind: EntryKind,
+        range: ValueRange,
+        limit: u32,
+    ) -> bool
+        requires room { let size = byte_len (width (as_number kind)) in
+            HasRoom self.now.links.now column size limit }
+        ensures { let value = value_number (as_number kind) in
+            let at = λ (k : ℕ). number_standing (as_number kind) self.now.links.now.came
+            (place_of column k) in
+            IsTrue result → (k : ℕ) → k < limit
+            → (value range.lowest ≤ℤ at k) × (at k ≤ℤ value range.highest) }
+    {
+        let bytes = self.links.raw();
+        let mut start = column.base;
+        let mut low = range.lowest;
+        let mut high = range.highest;
+        for _i in 0..limit {
+            let number = number_bits(kind, bytes, start + column.offset);
+            if !is_at_most(kind, low, number) {
+                low = number;
+            }
+            if !is_at_most(kind, number, high) {
+                high = number;
+            }
+            start += column.size;
+        }
+        low == range.lowest && high == range.highest
+    }
+
     /// The first of so many numbers of a kind that is not in a range. A caller names the kind, so
     /// that it is not looked up for each number.
     #[inline(always)]
@@ -110,6 +145,9 @@ impl<'t, 'a, 'm, 's> Columns<'t, 'a, 'm, 's> {
             IsFirstNot (λ k. (value range.lowest ≤ℤ at k) × (at k ≤ℤ value range.highest))
             limit result }
     {
+        if self.are_within_range(column, kind, range, limit) {
+            return limit;
+        }
         let bytes = self.links.raw();
         let mut start = column.base;
         for i in 0..limit {

@@ -1,6 +1,6 @@
 //! Worked facts: numbers that are values and some that are not, and which struct is the first that
 //! is wrong, computed by the definitions.
-ghost use Rattle.std.specs.Prelude.{◌≡◌, ℕ, ◌<◌, [], ◌∷◌, ◌++◌, true, false};
+ghost use Rattle.std.specs.Prelude.{◌≡◌, ℕ, ◌<◌, [], ◌∷◌, ◌++◌, true, false, replicate};
 ghost use Rattle.fidl_wire.specs.Term.{int8, uint8};
 ghost use Rattle.fidl_wire.specs.Encoding.{zeros};
 ghost use Rattle.fidl_table_format.specs.declared.kind.EntryKind.TheVariants as kinds;
@@ -61,12 +61,12 @@ pub fn types_without_a_sign()
     ensures signed { ¬ (HasNoSign int8) }
 {}
 
-/// Of the enum with the value 7, the number 7 can be noted, and 0 cannot. What is no one notes
+/// Of the enum with the value 7, the number 7 can be noted, and 0 cannot. What is false notes
 /// nothing.
 pub fn numbers_that_are_noted()
-    ensures seven { AreValues (three_enums 2 3) 2 (zeros 7 ++ 1 ∷ []) }
-    ensures zero { ¬ (AreValues (three_enums 2 3) 2 (1 ∷ [])) }
-    ensures nothing { AreValues (three_enums 2 3) 2 (2 ∷ []) }
+    ensures seven { AreValues (three_enums 2 3) 2 (replicate 7 false ++ true ∷ []) }
+    ensures zero { ¬ (AreValues (three_enums 2 3) 2 (true ∷ [])) }
+    ensures nothing { AreValues (three_enums 2 3) 2 (false ∷ []) }
 {}
 
 /// Structs of eight bytes from 3 on, and a member two bytes behind the start of each.

@@ -5,7 +5,6 @@ use Rattle.fidl_table_format.specs.Number.{number_standing}
 use Rattle.fidl_table_format.specs.Section.{header_of, entry_at}
 use Rattle.fidl_table_format.specs.Terms.{underlying, value_number, values_from}
 use Rattle.fidl_decode_columns.specs.Columns.{place_of}
-use Rattle.fidl_decode_columns.proofs.Examples.{zeros_read}
 use Rattle.fidl_decode_columns.proofs.Raw.{Agrees, member_number}
 use Rattle.fidl_decode_columns.proofs.Sizes.{next_start}
 use Rattle.fidl_decode_columns.proofs.Narrowed.{one_more, first_here, all_hold}
@@ -15,7 +14,7 @@ pub loop-i-init : goal.loop-i-init
 loop-i-init c = record {
   start = omega arith;
   before = λ k lt. absurd (omega (arith, lt));
-  noted = λ n one. absurd (omega (arith, one, zeros_read 256 n));
+  noted = c.requires.noted;
   grows = omega arith;
   cost = omega arith;
 }
