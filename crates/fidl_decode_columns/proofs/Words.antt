@@ -111,7 +111,8 @@ bits_within m p s i (suc n) small h =
     let rest = bits_at m (p + 1) n in
     let next : y / 2 ^ 8 ≡ s / 2 ^ (8 * (i + 1)) = shr-shr s (8 * i) 8 ∙ ap (λ e. s / 2 ^ e) (let e : 8 * i + 8 ≡ 8 * (i + 1) = omega arith in e) in
     let whole : y % 2 ^ (8 * suc n) ≡ sr * 2 ^ 8 + sb = ap (λ e. y % 2 ^ e) (let e : 8 * suc n ≡ 8 * n + 8 = omega arith in e) ∙ mod-pow-add y (8 * n) 8 ∙ ap (λ z. z % 2 ^ (8 * n) * 2 ^ 8 + sb) next in
-    let low : bit_or b sb ≡ sb = ap (λ q. bit_or (get_or m q 0) sb) (let e : p ≡ p + 0 = omega arith in e) ∙ ap (λ q. bit_or (get_or m (p + 0) 0) (s / 2 ^ (8 * q) % 2 ^ 8)) (let e : i ≡ i + 0 = omega arith in e) ∙ h 0 (omega arith) ∙ ap (λ q. s / 2 ^ (8 * q) % 2 ^ 8) (let e : i + 0 ≡ i = omega arith in e) in
+    let low : bit_or b sb ≡ sb = ap (λ q. bit_or (get_or m q 0) sb) (let e : p ≡ p + 0 = omega arith in e) ∙ ap (λ q. bit_or (get_or m (p + 0) 0) (s / 2 ^ (8 * q) % 2 ^ 8)) (let e : i ≡ i + 0 = omega arith in e)
+    ∙ h 0 (omega arith) ∙ ap (λ q. s / 2 ^ (8 * q) % 2 ^ 8) (let e : i + 0 ≡ i = omega arith in e) in
     let high : bit_or rest sr ≡ sr = bits_within m (p + 1) s (i + 1) n small (λ j lt.
     let here : p + suc j ≡ p + 1 + j = omega arith in
     let there : i + suc j ≡ i + 1 + j = omega arith in
