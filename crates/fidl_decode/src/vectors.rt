@@ -25,6 +25,7 @@ use fidl_wire::{MAX_DEPTH, Presence};
 impl<'t, 'm, 's> Decoder<'t, 'm, 's> {
     /// Reads the count and the marker of a vector at a place, and links its elements, which are
     /// left to read.
+    #[inline(always)]
     pub(crate) fn read_vector(
         &self,
         entry: u32,
@@ -110,6 +111,7 @@ impl<'t, 'm, 's> Decoder<'t, 'm, 's> {
     }
 
     /// Reads a vector at a place, with its elements, which any bytes are values of.
+    #[inline(never)]
     pub(crate) fn read_numbers(
         &self,
         entry: u32,
