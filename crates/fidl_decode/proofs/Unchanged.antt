@@ -1,7 +1,7 @@
 -- What a return says that changes nothing.
 use Rattle.std.proofs.Common.{◌≡◌, ℕ, ◌-◌, ◌<◌, ◌≤◌, Bool, false, true, subst, arith}
 use Rattle.std.specs.Prelude.{Result, Ok, Err, IfOk, OnOk, Option, Some, None, IfNone}
-use Rattle.std.specs.Result.{IsErrAnd}
+use Rattle.std.specs.Result.{IsErrAnd, is_err}
 
 -- a `false` is no `true`
 pub no_true : false ≡ true → ⊥
@@ -41,3 +41,8 @@ size_fits e k x h = subst (λ n. x ≤ n - k) e h
 
 pub size_room : {n m : ℕ} → n ≡ m → (k : ℕ) → k ≤ m → k ≤ n
 size_room e k h = omega (arith, e, h)
+
+-- what no error is has a value
+pub not_err : {T E P : Type 0} (r : Result T E) → is_err r ≡ false → OnOk r P → P
+not_err (Ok x) e p = p
+not_err (Err x) e p = absurd (no_false e)

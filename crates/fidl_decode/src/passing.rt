@@ -56,7 +56,7 @@ impl<'t, 'm, 's> Decoder<'t, 'm, 's> {
         if self.u32_at(envelope + 4, state) != NO_HANDLES_INSIDE {
             return false;
         }
-        if !self.are_zeros(envelope + size, envelope + 4, state) {
+        if self.zeros_at(envelope + size, envelope + 4, state).is_err() {
             return false;
         }
         state.links.link_inside(envelope, state.handle);
@@ -123,9 +123,10 @@ impl<'t, 'm, 's> Decoder<'t, 'm, 's> {
         ensures grows { state.old.steps ≤ state.new.steps }
         ensures pays { state.new.steps + state.old.next ≤ state.old.steps + state.new.next }
     {
-        let handles = self.handle_count_at(envelope, state);
-        let flags = self.flags_at(envelope, state);
-        if flags != 1 || handles != 0 || self.byte_count_at(envelope, state) > 1 {
+        if self.u32_at(envelope + 4, state) != NO_HANDLES_INSIDE {
+            return false;
+        }
+        if self.byte_count_at(envelope, state) > 1 {
             return false;
         }
         state.links.link_inside(envelope, state.handle);

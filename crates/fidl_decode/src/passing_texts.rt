@@ -4,8 +4,6 @@ ghost use Rattle.std.specs.Prelude.{◌≡◌, ◌+◌, ◌-◌, ◌^◌, ◌%�
 ghost use Rattle.std.specs.Prelude.{ℕ, length, slice_index};
 ghost use Rattle.fidl_limits.specs.declared.limits.TheConstants.{MAX_DEPTH, MAX_MESSAGE_BYTES};
 ghost use Rattle.fidl_wire.specs.Term as ty;
-ghost use Rattle.fidl_wire.specs.Encoding.{zeros};
-ghost use Rattle.fidl_wire.specs.Standing.{Stands};
 ghost use Rattle.fidl_table_format.specs.declared.kind.EntryKind.TheVariants as kinds;
 ghost use Rattle.fidl_table_format.specs.Kind.{kind_of};
 ghost use Rattle.fidl_table_format.specs.Section.{header_of, entry_at};
@@ -35,21 +33,6 @@ pub(crate) fn are_ascii(bytes: &[u8], from: usize, size: usize) -> bool
             return false;
         }
         at += 8;
-    }
-    true
-}
-
-/// Whether the bytes from one place to another are zeros.
-#[inline(always)]
-pub(crate) fn are_zeros(bytes: &[u8], from: usize, to: usize) -> bool
-    requires order { from ≤ to }
-    requires room { to ≤ length bytes.now }
-    ensures { IsTrue result → Stands bytes.now from (zeros (to - from)) }
-{
-    for i in from..to {
-        if bytes[i] != 0 {
-            return false;
-        }
     }
     true
 }
@@ -98,9 +81,10 @@ impl<'t, 'm, 's> Decoder<'t, 'm, 's> {
             return false;
         }
         let from = next + 16;
-        if !self.are_ascii(from, size, state)
-            || !self.are_zeros(from + behind, from + size, state)
-        {
+        if !self.are_ascii(from, size, state) {
+            return false;
+        }
+        if self.zeros_at(from + behind, from + size, state).is_err() {
             return false;
         }
         state.steps += size as u64;

@@ -16,7 +16,7 @@ ghost use Rattle.fidl_decode_model.specs.Frontier.{AreFree};
 ghost use Rattle.fidl_decode_model.specs.Machine.{at_of};
 
 use crate::decoder::Decoder;
-use crate::passing_texts::{are_ascii, are_zeros};
+use crate::passing_texts::are_ascii;
 use fidl_decode_columns::zeros_at;
 use fidl_decode_model::DecodeFault;
 use fidl_decode_model::frame::State;
@@ -142,17 +142,5 @@ impl<'t, 'm, 's> Decoder<'t, 'm, 's> {
         ensures { IsTrue result → (k : ℕ) → k < size → slice_index (came self.now) (from + k) < 128 }
     {
         are_ascii(state.links.raw(), from, size)
-    }
-
-    /// Whether the bytes from one place to another are zeros.
-    #[inline(always)]
-    pub(crate) fn are_zeros(&self, from: usize, to: usize, state: &State<'_, '_>) -> bool
-        requires holds { Holds self.now state.now }
-        requires order { from ≤ to }
-        requires room { to ≤ length (came self.now) }
-        requires free { AreFree (at_of state.now) from to }
-        ensures { IsTrue result → Stands (came self.now) from (zeros (to - from)) }
-    {
-        are_zeros(state.links.raw(), from, to)
     }
 }

@@ -1,10 +1,9 @@
 use Rattle.fidl_decode.specs.Reading.{message}
 use Rattle.fidl_decode.proofs.Fitting.{small, ended, counted_on, some_8, size_in, le_more, pays_whole}
-use Rattle.fidl_decode.proofs.Unchanged.{no_true, same_le, size_fits, size_room}
-use Rattle.std.proofs.Common.{◌≡◌, ◌+◌, ◌-◌, ◌<◌, ◌≤◌, ◌^◌, ℕ, List, get_or, false, true, refl, sym, ap, subst, ◌∙◌, arith, length}
-use Rattle.std.specs.Prelude.{Option, Some, None, Result, Ok, Err, OnOk}
+use Rattle.fidl_decode.proofs.Unchanged.{no_true, no_false, not_err, same_le, size_fits, size_room}
+use Rattle.std.proofs.Common.{◌≡◌, ◌+◌, ◌-◌, ◌<◌, ◌≤◌, ◌^◌, ℕ, List, get_or, false, refl, sym, ap, subst, ◌∙◌, arith, length}
+use Rattle.std.specs.Prelude.{Option, Some, None}
 use Rattle.std.specs.Option.{is_some}
-use Rattle.std.specs.Result.{is_err}
 use Rattle.std.specs.Int.{next_multiple_of, w64}
 use Rattle.fidl_wire.specs.Encoding.{zeros}
 use Rattle.fidl_wire.specs.Standing.{Stands}
@@ -22,16 +21,9 @@ use Rattle.fidl_decode.proofs.ReadyPlaces.{ahead_part}
 use Rattle.fidl_decode.proofs.Linking.{outside_at}
 use Rattle.fidl_decode.proofs.decoder.Decoder.pass_struct.Goals as goal
 
-no_false : true ≡ false → ⊥
-no_false e = cc
-
 no_flag : (o : Option ℕ) → is_some o ≡ false → o ≡ None
 no_flag None e = refl
 no_flag (Some k) e = absurd (no_false e)
-
-not_err : {T E P : Type 0} (r : Result T E) → is_err r ≡ false → OnOk r P → P
-not_err (Ok x) e p = p
-not_err (Err x) e p = absurd (no_false e)
 
 -- all rows of the struct are passed over, and no bool is among them
 plainly : (t : List ℕ) (m : Message) (e d : Entry) (rows first count done : ℕ) (flag : Option ℕ) → e ≡ d → count ≡ 0 → flag ≡ None → Passes t m (Rows e.first e.count) rows first count done flag → Passes t m (Rows d.first d.count) rows first 0 done None

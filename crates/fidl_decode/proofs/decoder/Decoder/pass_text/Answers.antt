@@ -1,5 +1,5 @@
 use Rattle.fidl_decode.proofs.Fitting.{front, apart, small, deeper_64, counted_on, some_8, rounded_left, counted_front, counted_whole, part_room, part_order, size_in, le_more, pays_text}
-use Rattle.fidl_decode.proofs.Unchanged.{no_true, no_false, same_le, size_fits, size_room}
+use Rattle.fidl_decode.proofs.Unchanged.{no_true, no_false, not_err, same_le, size_fits, size_room}
 use Rattle.std.proofs.Common.{◌≡◌, ◌+◌, ◌-◌, ◌/◌, ◌<◌, ◌≤◌, ◌^◌, ℕ, List, length, get_or, slice_set, sym, ap, subst, ◌∙◌, arith, refl}
 use Rattle.std.specs.Int.{next_multiple_of, w64}
 use Rattle.fidl_wire.specs.Encoding.{zeros}
@@ -51,7 +51,7 @@ returns-clause-passed c =
     let led : linked (from + 8) n (linked p (entry_at t e).size (opened p old)) ≡ new = λ i. record { next = from + wide i + sym value i; handle = old.handle; objects = sym objects i; records = sym records i } in
     text_passed t c.args.self.now.fine m (c.args.self.now.short, c.requires.state.few) c.args.depth e p old c.requires.entry c.requires.room small c.requires.state c.requires.depth c.requires.kind
     (omega (arith, c.if-depth-ge-MAX_DEPTH.false)) n room (sym c.u64_at-count.ensures) bound (c.is_present.ensures.0 c.if-not-is_present.false)
-    (λ k lt. c.are_ascii.ensures c.if-not-are_ascii.false k (omega (arith, lt, le, value))) (subst (λ k. Stands bytes (from + 16 + n) (zeros k)) gap (c.are_zeros.ensures c.if-not-are_zeros.false))
+    (λ k lt. c.are_ascii.ensures c.if-not-are_ascii.false k (omega (arith, lt, le, value))) (subst (λ k. Stands bytes (from + 16 + n) (zeros k)) gap (not_err c.zeros_at.result (sym c.is_err.ensures.value ∙ c.if-is_err.false) c.zeros_at.ensures.ok))
     (flags_none bytes p c.requires.room small few) (counted_small bytes p c.requires.room small few ∙ sym c.u64_at-counted.ensures ∙ omega (arith, counted, value)) (handles_none bytes p c.requires.room small few) new led _ (omega (arith, value))
 
 pub entry-bound-requires : goal.entry-bound-requires
@@ -167,8 +167,8 @@ overflow_add-from c = record {
 pub are_ascii-requires-clause-room : goal.are_ascii-requires-clause-room
 are_ascii-requires-clause-room c = (counted_whole c.args.state.now.next c.u64_at-counted.result c.next_multiple_of-size.result (length c.args.self.now.bytes.value.came) (size_fits c.args.self.now.sized _ _ c.if-counted-rest.false) c.if-counted-size.false)
 
-pub overflow_add-from-else-not-are_ascii : goal.overflow_add-from-else-not-are_ascii
-overflow_add-from-else-not-are_ascii c = record {
+pub overflow_add-from-2 : goal.overflow_add-from-2
+overflow_add-from-2 c = record {
   fits = small _ (length c.args.self.now.bytes.value.came)
       (part_room (c.args.state.now.next + 16) c.u64_at-count.result c.next_multiple_of-size.result (length c.args.self.now.bytes.value.came)
       c.next_multiple_of-size.ensures.lower_bound (counted_whole c.args.state.now.next c.u64_at-counted.result c.next_multiple_of-size.result
@@ -176,18 +176,18 @@ overflow_add-from-else-not-are_ascii c = record {
       c.args.self.now.short;
 }
 
-pub overflow_add-from-else-not-are_ascii-2 : goal.overflow_add-from-else-not-are_ascii-2
-overflow_add-from-else-not-are_ascii-2 c = record {
+pub overflow_add-from-3 : goal.overflow_add-from-3
+overflow_add-from-3 c = record {
   fits = small _ (length c.args.self.now.bytes.value.came)
       (counted_whole c.args.state.now.next c.u64_at-counted.result c.next_multiple_of-size.result (length c.args.self.now.bytes.value.came)
       (size_fits c.args.self.now.sized _ _ c.if-counted-rest.false) c.if-counted-size.false) c.args.self.now.short;
 }
 
-pub are_zeros-requires-clause-order : goal.are_zeros-requires-clause-order
-are_zeros-requires-clause-order c = part_order (c.args.state.now.next + 16) c.u64_at-count.result c.next_multiple_of-size.result c.next_multiple_of-size.ensures.lower_bound
+pub zeros_at-requires-clause-order : goal.zeros_at-requires-clause-order
+zeros_at-requires-clause-order c = part_order (c.args.state.now.next + 16) c.u64_at-count.result c.next_multiple_of-size.result c.next_multiple_of-size.ensures.lower_bound
 
-pub are_zeros-requires-clause-room : goal.are_zeros-requires-clause-room
-are_zeros-requires-clause-room c = (counted_whole c.args.state.now.next c.u64_at-counted.result c.next_multiple_of-size.result (length c.args.self.now.bytes.value.came) (size_fits c.args.self.now.sized _ _ c.if-counted-rest.false) c.if-counted-size.false)
+pub zeros_at-requires-clause-room : goal.zeros_at-requires-clause-room
+zeros_at-requires-clause-room c = (counted_whole c.args.state.now.next c.u64_at-counted.result c.next_multiple_of-size.result (length c.args.self.now.bytes.value.came) (size_fits c.args.self.now.sized _ _ c.if-counted-rest.false) c.if-counted-size.false)
 
 pub overflow_add-state : goal.overflow_add-state
 overflow_add-state c = record {
@@ -224,8 +224,8 @@ are_ascii-requires-clause-free c =
     ahead_part m (at_of c.args.state.now) _ _ c.requires.ready.0 (le_more _ _)
     (counted_whole c.args.state.now.next c.u64_at-counted.result c.next_multiple_of-size.result (length m.bytes) (size_fits c.args.self.now.sized _ _ c.if-counted-rest.false) c.if-counted-size.false)
 
-pub are_zeros-requires-clause-free : goal.are_zeros-requires-clause-free
-are_zeros-requires-clause-free c =
+pub zeros_at-requires-clause-free : goal.zeros_at-requires-clause-free
+zeros_at-requires-clause-free c =
     let m = message c.args.self.now in
     ahead_part m (at_of c.args.state.now) _ _ c.requires.ready.0 (le_two _ _ _)
     (counted_whole c.args.state.now.next c.u64_at-counted.result c.next_multiple_of-size.result (length m.bytes) (size_fits c.args.self.now.sized _ _ c.if-counted-rest.false) c.if-counted-size.false)
