@@ -195,104 +195,6 @@ impl<'t, 'm, 's> Decoder<'t, 'm, 's> {
         self.read_structs(frame, entry, size, count, state)
     }
 
-    /// Reads a value at a place, and what it leads to where that is read in place. What is left of
-    /// it, if anything, is to be read next.
-    #[inline(always)]
-    fn read_item(
-        &self,
-        entry: u32,
-        place: usize,
-        depth: u8,
-        in_envelope: u8,
-        state: &mut State<'_, '_>,
-    ) -> Result<Option<Frame>, DecodeFault>
-        requires entry { entry < (header_of self.now.table.now).entries }
-        requires room { place + (entry_at self.now.table.now entry).size ≤ length (came self.now) }
-        requires holds { Holds self.now state.old }
-        requires state { StateFine (message self.now) (at_of state.old) }
-        requires ready { CanReadValue self.now state.old entry place }
-        requires depth { depth ≤ MAX_DEPTH }
-        requires in_envelope { IsInside in_envelope (entry_at self.now.table.now entry).size }
-        requires budget { state.old.steps + value_work (came self.now) state.old.next
-            (entry_at self.now.table.now entry) < 2 ^ 40 }
-        ensures holds { Holds self.now state.new }
-        ensures ok { IfOk result (λ found. Visits self.now.table.now (message self.now) depth entry
-            place (at_of state.old) (at_of state.new) (state.new.steps - state.old.steps) found) }
-        ensures fine { IfOk result (VisitFine self.now.table.now (message self.now) depth
-            in_envelope entry) }
-        ensures grows { OnOk result (state.old.steps ≤ state.new.steps) }
-        ensures cost { state.new.steps ≤ state.old.steps + value_work (came self.now)
-            state.old.next (entry_at self.now.table.now entry) }
-        ensures fault_is_true { IfErr result (Breaks (declarations_of self.now.table.now)
-            (message self.now) depth (resolve (declarations_of self.now.table.now).terms
-            (ty.named entry)) place (at_of state.old)) }
-    {
-        let Some(below) = self.visit(entry, place, depth, in_envelope, state)? else {
-            return Ok(None);
-        };
-        self.read_leaves(below, state)
-    }
-
-    /// Reads elements of an array or vector in place, up to one of which something is left: that is
-    /// to be read next.
-    fn read_items(
-        &self,
-        frame: Frame,
-        entry: u32,
-        size: usize,
-        count: u32,
-        state: &mut State<'_, '_>,
-    ) -> Result<Turn, DecodeFault>
-        requires left { frame.left ≡ left.Elements entry size count }
-        requires frame { FrameFine self.now.table.now (came self.now) frame }
-        requires holds { Holds self.now state.old }
-        requires state { StateFine (message self.now) (at_of state.old) }
-        requires ready { CanReadFrame self.now state.old frame }
-        requires budget { state.old.steps + turn_work (came self.now) state.old.next frame < 2 ^ 40 }
-        ensures holds { Holds self.now state.new }
-        ensures ok { IfOk result (λ turn. Turns self.now.table.now (message self.now) frame
-            (at_of state.old) (at_of state.new) (state.new.steps - state.old.steps) turn) }
-        ensures rises { OnOk result (state.old.steps < state.new.steps) }
-        ensures cost { state.new.steps ≤ state.old.steps + turn_work (came self.now) state.old.next
-            frame }
-        ensures fault_is_true { IfErr result (BreaksFrame self.now.table.now (message self.now)
-            frame (at_of state.old)) }
-    {
-        let mut done = frame.done;
-        for i in 0..count {
-            let place = frame.base + done;
-            state.steps += 1;
-            let found = self.read_item(entry, place, frame.depth, frame.in_envelope, state)?;
-            done += size;
-            if let Some(inner) = found {
-                return Ok(Turn {
-                    below: Some(inner),
-                    rest: Some(Frame {
-                        left: Remaining::Elements {
-                            entry,
-                            size,
-                            count: count - (i + 1),
-                        },
-                        base: frame.base,
-                        done,
-                        size: frame.size,
-                        nest: frame.nest,
-                        depth: frame.depth,
-                        in_envelope: frame.in_envelope,
-                    }),
-                });
-            }
-        }
-        let behind = frame.base + done;
-        let stop = frame.base + frame.size;
-        state.steps += (stop - behind) as u64 + 1;
-        self.zeros_at(behind, stop, state)?;
-        Ok(Turn {
-            below: None,
-            rest: None,
-        })
-    }
-
     /// Reads elements of an array or vector in place, up to one that holds more than is read there.
     #[inline(always)]
     pub(crate) fn take_elements(
@@ -318,13 +220,15 @@ impl<'t, 'm, 's> Decoder<'t, 'm, 's> {
         ensures fault_is_true { IfErr result (BreaksFrame self.now.table.now (message self.now)
             frame (at_of state.old)) }
     {
-        if count != 0 {
-            let e = self.table.entry(entry);
-            if let Some(EntryKind::Struct) = EntryKind::from_number(e.kind) {
-                return self.take_structs(frame, entry, size, count, state);
-            }
+        if count == 0 {
+            return self.read_items(frame, entry, size, count, state);
         }
-        self.read_items(frame, entry, size, count, state)
+        let e = self.table.entry(entry);
+        match EntryKind::from_number(e.kind) {
+            Some(EntryKind::Struct) => self.take_structs(frame, entry, size, count, state),
+            Some(EntryKind::Table) => self.read_tables(frame, entry, size, count, state),
+            _ => self.read_items(frame, entry, size, count, state),
+        }
     }
 
     /// Reads a frame in place, and what it holds, up to a frame that holds another: that one, where

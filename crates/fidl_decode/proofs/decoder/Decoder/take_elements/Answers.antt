@@ -4,8 +4,8 @@ use Rattle.fidl_decode_columns.proofs.Leaves.{element_known}
 use Rattle.fidl_decode.proofs.decoder.Decoder.take_elements.Goals as goal
 
 pub entry-e-requires : goal.entry-e-requires
-entry-e-requires c = element_known c.args.self.now.table.now c.args.self.now.fine (message c.args.self.now) c.args.frame (at_of c.args.state.now) c.requires.frame c.requires.state c.args.entry c.args.size c.args.count c.requires.left c.if-count-ne0.true
+entry-e-requires c = element_known c.args.self.now.table.now c.args.self.now.fine (message c.args.self.now) c.args.frame (at_of c.args.state.now) c.requires.frame c.requires.state c.args.entry c.args.size c.args.count c.requires.left c.if-count-eq0.false
 
 pub take_structs-requires-clause-entry : goal.take_structs-requires-clause-entry
 take_structs-requires-clause-entry c = element_known c.args.self.now.table.now c.args.self.now.fine (message c.args.self.now) c.args.frame (at_of c.args.state.now) c.requires.frame c.requires.state c.args.entry c.args.size c.args.count c.requires.left
-    c.if-count-ne0.true
+    c.if-count-eq0.false

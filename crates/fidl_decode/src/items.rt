@@ -1,0 +1,185 @@
+//! The elements of an array or vector, each read in place with what it leads to.
+ghost use Rattle.std.specs.Prelude.{◌≡◌, ◌+◌, ◌-◌, ◌^◌, ◌<◌, ◌≤◌, OnOk, IfOk, IfErr, Some};
+ghost use Rattle.std.specs.Prelude.{None, length};
+ghost use Rattle.fidl_limits.specs.declared.limits.TheConstants.{MAX_DEPTH};
+ghost use Rattle.fidl_wire.specs.Term as ty;
+ghost use Rattle.fidl_wire.specs.Term.{resolve};
+ghost use Rattle.fidl_table_format.specs.declared.kind.EntryKind.TheVariants as kinds;
+ghost use Rattle.fidl_table_format.specs.Kind.{kind_of};
+ghost use Rattle.fidl_table_format.specs.Section.{header_of, entry_at};
+ghost use Rattle.fidl_table_format.specs.Terms.{declarations_of};
+ghost use Rattle.fidl_decode_model.specs.Breaks.{Breaks};
+ghost use Rattle.fidl_decode_model.specs.declared.frame.Remaining.TheVariants as left;
+ghost use Rattle.fidl_decode_model.specs.Machine.{StateFine, FrameFine, BreaksFrame, Turns};
+ghost use Rattle.fidl_decode_model.specs.Machine.{IsInside, Visits, VisitFine};
+ghost use Rattle.fidl_decode_model.specs.Machine.{turn_work, value_work, at_of};
+ghost use Rattle.fidl_decode.specs.Reading.{came, message, Holds};
+ghost use Rattle.fidl_decode.specs.Ready.{CanReadFrame, CanReadValue};
+
+use crate::decoder::Decoder;
+use fidl_decode_model::DecodeFault;
+use fidl_decode_model::frame::{Frame, Remaining, State, Turn};
+
+impl<'t, 'm, 's> Decoder<'t, 'm, 's> {
+    /// Reads a value at a place, and what it leads to where that is read in place. What is left of
+    /// it, if anything, is to be read next.
+    #[inline(always)]
+    fn read_item(
+        &self,
+        entry: u32,
+        place: usize,
+        depth: u8,
+        in_envelope: u8,
+        state: &mut State<'_, '_>,
+    ) -> Result<Option<Frame>, DecodeFault>
+        requires entry { entry < (header_of self.now.table.now).entries }
+        requires room { place + (entry_at self.now.table.now entry).size ≤ length (came self.now) }
+        requires holds { Holds self.now state.old }
+        requires state { StateFine (message self.now) (at_of state.old) }
+        requires ready { CanReadValue self.now state.old entry place }
+        requires depth { depth ≤ MAX_DEPTH }
+        requires in_envelope { IsInside in_envelope (entry_at self.now.table.now entry).size }
+        requires budget { state.old.steps + value_work (came self.now) state.old.next
+            (entry_at self.now.table.now entry) < 2 ^ 40 }
+        ensures holds { Holds self.now state.new }
+        ensures ok { IfOk result (λ found. Visits self.now.table.now (message self.now) depth entry
+            place (at_of state.old) (at_of state.new) (state.new.steps - state.old.steps) found) }
+        ensures fine { IfOk result (VisitFine self.now.table.now (message self.now) depth
+            in_envelope entry) }
+        ensures grows { OnOk result (state.old.steps ≤ state.new.steps) }
+        ensures cost { state.new.steps ≤ state.old.steps + value_work (came self.now)
+            state.old.next (entry_at self.now.table.now entry) }
+        ensures fault_is_true { IfErr result (Breaks (declarations_of self.now.table.now)
+            (message self.now) depth (resolve (declarations_of self.now.table.now).terms
+            (ty.named entry)) place (at_of state.old)) }
+    {
+        let Some(below) = self.visit(entry, place, depth, in_envelope, state)? else {
+            return Ok(None);
+        };
+        self.read_leaves(below, state)
+    }
+
+    /// Reads elements of an array or vector in place, up to one of which something is left: that is
+    /// to be read next.
+    pub(crate) fn read_items(
+        &self,
+        frame: Frame,
+        entry: u32,
+        size: usize,
+        count: u32,
+        state: &mut State<'_, '_>,
+    ) -> Result<Turn, DecodeFault>
+        requires left { frame.left ≡ left.Elements entry size count }
+        requires frame { FrameFine self.now.table.now (came self.now) frame }
+        requires holds { Holds self.now state.old }
+        requires state { StateFine (message self.now) (at_of state.old) }
+        requires ready { CanReadFrame self.now state.old frame }
+        requires budget { state.old.steps + turn_work (came self.now) state.old.next frame < 2 ^ 40 }
+        ensures holds { Holds self.now state.new }
+        ensures ok { IfOk result (λ turn. Turns self.now.table.now (message self.now) frame
+            (at_of state.old) (at_of state.new) (state.new.steps - state.old.steps) turn) }
+        ensures rises { OnOk result (state.old.steps < state.new.steps) }
+        ensures cost { state.new.steps ≤ state.old.steps + turn_work (came self.now) state.old.next
+            frame }
+        ensures fault_is_true { IfErr result (BreaksFrame self.now.table.now (message self.now)
+            frame (at_of state.old)) }
+    {
+        let mut done = frame.done;
+        for i in 0..count {
+            let place = frame.base + done;
+            state.steps += 1;
+            let found = self.read_item(entry, place, frame.depth, frame.in_envelope, state)?;
+            done += size;
+            if let Some(inner) = found {
+                return Ok(Turn {
+                    below: Some(inner),
+                    rest: Some(Frame {
+                        left: Remaining::Elements {
+                            entry,
+                            size,
+                            count: count - (i + 1),
+                        },
+                        base: frame.base,
+                        done,
+                        size: frame.size,
+                        nest: frame.nest,
+                        depth: frame.depth,
+                        in_envelope: frame.in_envelope,
+                    }),
+                });
+            }
+        }
+        let behind = frame.base + done;
+        let stop = frame.base + frame.size;
+        state.steps += (stop - behind) as u64 + 1;
+        self.zeros_at(behind, stop, state)?;
+        Ok(Turn {
+            below: None,
+            rest: None,
+        })
+    }
+
+    /// Reads tables that are elements of a vector in place, as `read_items` does: a loop of their own,
+    /// in which no other value is thought of.
+    #[inline(never)]
+    pub(crate) fn read_tables(
+        &self,
+        frame: Frame,
+        entry: u32,
+        size: usize,
+        count: u32,
+        state: &mut State<'_, '_>,
+    ) -> Result<Turn, DecodeFault>
+        requires left { frame.left ≡ left.Elements entry size count }
+        requires kind { kind_of (entry_at self.now.table.now entry).kind ≡ Some kinds.Table }
+        requires frame { FrameFine self.now.table.now (came self.now) frame }
+        requires holds { Holds self.now state.old }
+        requires state { StateFine (message self.now) (at_of state.old) }
+        requires ready { CanReadFrame self.now state.old frame }
+        requires budget { state.old.steps + turn_work (came self.now) state.old.next frame < 2 ^ 40 }
+        ensures holds { Holds self.now state.new }
+        ensures ok { IfOk result (λ turn. Turns self.now.table.now (message self.now) frame
+            (at_of state.old) (at_of state.new) (state.new.steps - state.old.steps) turn) }
+        ensures rises { OnOk result (state.old.steps < state.new.steps) }
+        ensures cost { state.new.steps ≤ state.old.steps + turn_work (came self.now) state.old.next
+            frame }
+        ensures fault_is_true { IfErr result (BreaksFrame self.now.table.now (message self.now)
+            frame (at_of state.old)) }
+    {
+        // A copy, so that writing a link is known to leave it.
+        let own = frame;
+        let mut done = own.done;
+        for i in 0..count {
+            let place = own.base + done;
+            state.steps += 1;
+            let found = self.read_table(entry, place, own.depth, state)?;
+            done += size;
+            if let Some(inner) = found {
+                return Ok(Turn {
+                    below: Some(inner),
+                    rest: Some(Frame {
+                        left: Remaining::Elements {
+                            entry,
+                            size,
+                            count: count - (i + 1),
+                        },
+                        base: own.base,
+                        done,
+                        size: own.size,
+                        nest: own.nest,
+                        depth: own.depth,
+                        in_envelope: own.in_envelope,
+                    }),
+                });
+            }
+        }
+        let behind = own.base + done;
+        let stop = own.base + own.size;
+        state.steps += (stop - behind) as u64 + 1;
+        self.zeros_at(behind, stop, state)?;
+        Ok(Turn {
+            below: None,
+            rest: None,
+        })
+    }
+}
