@@ -61,6 +61,7 @@ impl<'t, 'm, 's> Decoder<'t, 'm, 's> {
 
     /// Reads elements of an array or vector in place, up to one of which something is left: that is
     /// to be read next.
+    #[inline(never)]
     pub(crate) fn read_items(
         &self,
         frame: Frame,
@@ -84,11 +85,13 @@ impl<'t, 'm, 's> Decoder<'t, 'm, 's> {
         ensures fault_is_true { IfErr result (BreaksFrame self.now.table.now (message self.now)
             frame (at_of state.old)) }
     {
-        let mut done = frame.done;
+        // A copy, so that writing a link is known to leave it.
+        let own = frame;
+        let mut done = own.done;
         for i in 0..count {
-            let place = frame.base + done;
+            let place = own.base + done;
             state.steps += 1;
-            let found = self.read_item(entry, place, frame.depth, frame.in_envelope, state)?;
+            let found = self.read_item(entry, place, own.depth, own.in_envelope, state)?;
             done += size;
             if let Some(inner) = found {
                 return Ok(Turn {
@@ -99,18 +102,18 @@ impl<'t, 'm, 's> Decoder<'t, 'm, 's> {
                             size,
                             count: count - (i + 1),
                         },
-                        base: frame.base,
+                        base: own.base,
                         done,
-                        size: frame.size,
-                        nest: frame.nest,
-                        depth: frame.depth,
-                        in_envelope: frame.in_envelope,
+                        size: own.size,
+                        nest: own.nest,
+                        depth: own.depth,
+                        in_envelope: own.in_envelope,
                     }),
                 });
             }
         }
-        let behind = frame.base + done;
-        let stop = frame.base + frame.size;
+        let behind = own.base + done;
+        let stop = own.base + own.size;
         state.steps += (stop - behind) as u64 + 1;
         self.zeros_at(behind, stop, state)?;
         Ok(Turn {

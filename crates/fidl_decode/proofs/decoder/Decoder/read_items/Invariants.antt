@@ -10,6 +10,6 @@ use Rattle.fidl_decode.proofs.decoder.Decoder.read_items.Given as goal
 abbrev pub invariant-loop-i : goal.invariant-loop-i
 invariant-loop-i l = record {
   holds : l.state.links.came ≡ l.self.bytes.value.came;
-  turns : Turns l.self.table.now (message l.self) l.frame (at_of l.fn.state) (at_of l.state) (l.state.steps - l.fn.state.steps) (left_over (Some (going_on l.frame (Elements l.entry l.size (l.count - l.i)) l.done)));
+  turns : Turns l.self.table.now (message l.self) l.own (at_of l.fn.state) (at_of l.state) (l.state.steps - l.fn.state.steps) (left_over (Some (going_on l.own (Elements l.entry l.size (l.count - l.i)) l.done)));
   steps : l.fn.state.steps ≤ l.state.steps;
 }
