@@ -22,6 +22,7 @@ use fidl_table_format::EntryKind;
 impl<'t, 'm, 's> Decoder<'t, 'm, 's> {
     /// Reads the last member of a struct, where nothing is left behind it: what it leads to takes
     /// the struct's place. Else the frame is left as it is.
+    #[inline(never)]
     fn read_last(
         &self,
         frame: Frame,
@@ -234,7 +235,7 @@ impl<'t, 'm, 's> Decoder<'t, 'm, 's> {
 
     /// Reads the leaves of a frame in place, up to the first member that is none. Nothing is left
     /// at the frame's end.
-    #[inline(always)]
+    #[inline(never)]
     pub(crate) fn read_leaves(
         &self,
         frame: Frame,

@@ -23,7 +23,7 @@ use fidl_table_format::EntryKind;
 
 impl<'t, 'm, 's> Decoder<'t, 'm, 's> {
     /// Reads an entry at a place, up to what it holds.
-    #[inline(always)]
+    #[inline(never)]
     pub(crate) fn visit(
         &self,
         entry: u32,
