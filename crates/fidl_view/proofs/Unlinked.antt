@@ -82,12 +82,12 @@ module _ (w : Written) (bytes : List ℕ) (l : Linked) (came : w.came ≡ bytes)
         let all = ap length came in
         ap (λ b. from_le_bytes width b) (agreed_part w raw long agree place (place + byte_len width) (omega (arith, room, all)) (free place (place + byte_len width) none)) ∙ ap (λ (b : List ℕ). number_at width b place) came
 
-    byte_same : (place : ℕ) → place + 1 ≤ length bytes → AreUnlinked l place (place + 1) → slice_index raw place ≡ slice_index bytes place
+    pub byte_same : (place : ℕ) → place + 1 ≤ length bytes → AreUnlinked l place (place + 1) → slice_index raw place ≡ slice_index bytes place
     byte_same place room none =
         let all = ap length came in
         agree place (omega (arith, room, all)) (free place (place + 1) none place (omega arith) (omega arith)) ∙ ap (λ (b : List ℕ). slice_index b place) came
 
-    standing_same : (kind : Kind) (place : ℕ) → place + byte_len (width kind) ≤ length bytes → AreUnlinked l place (place + byte_len (width kind)) → number_standing kind raw place ≡ number_standing kind bytes place
+    pub standing_same : (kind : Kind) (place : ℕ) → place + byte_len (width kind) ≤ length bytes → AreUnlinked l place (place + byte_len (width kind)) → number_standing kind raw place ≡ number_standing kind bytes place
     standing_same int8 place room none = ap (λ n. cast_signed w8 n) (byte_same place room none)
     standing_same int16 place room none = ap (λ n. cast_signed w16 n) (number_same w16 place room none)
     standing_same int32 place room none = ap (λ n. cast_signed w32 n) (number_same w32 place room none)

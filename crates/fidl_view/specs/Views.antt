@@ -12,6 +12,9 @@ use Rattle.fidl_wire.specs.Figure.{Declarations}
 use Rattle.fidl_wire.specs.Encoding.{element_of}
 use Rattle.fidl_wire.specs.Message.{Encodes}
 use Rattle.fidl_wire.specs.Field.{number_at}
+use Rattle.fidl_table_format.specs.declared.record.Entry.{Entry}
+use Rattle.fidl_table_format.specs.declared.record.Row.{Row}
+use Rattle.fidl_table_format.specs.Section.{header_of, entry_at, row_at}
 use Rattle.fidl_table_format.specs.Terms.{declarations_of}
 use Rattle.fidl_decode_model.specs.Placed.{content_at, object_at}
 use Rattle.fidl_decode_model.specs.Model.{Shown}
@@ -48,6 +51,10 @@ type_shown view = let p = part_of view in type_of p.message p.index
 
 abbrev pub types_shown : View → Declarations
 types_shown view = declarations_of (part_of view).message.table
+
+-- the entry of the part's type, as the table states it
+abbrev pub entry_shown : View → Entry
+entry_shown view = let p = part_of view in entry_at p.message.table p.index
 
 -- the type of the elements of an array or a vector
 abbrev pub element_type : View → Term
@@ -95,6 +102,13 @@ bytes_shown view = let p = part_of view in bytes_at p.message (type_shown view) 
 abbrev pub message_left : Elements → Shown
 message_left s = s.decoded.now
 
+-- the entry of their type, and how many are still to come
+abbrev pub entry_left : Elements → ℕ
+entry_left s = s.index
+
+abbrev pub count_left : Elements → ℕ
+count_left s = s.left
+
 -- the parts whose views are still to come
 abbrev pub parts_left : Elements → List Part
 parts_left s = parts_from s.decoded.now s.index s.size s.place s.left
@@ -120,6 +134,21 @@ ShowsListOf v elements = (vs : Values) × (v ≡ list vs) × ShowEach (parts_lef
 -- the decoded message of members
 abbrev pub message_held : Members → Shown
 message_held members = members.decoded.now
+
+-- the entry of the struct that they are members of, and where it stands
+abbrev pub entry_held : Members → ℕ
+entry_held members = members.index
+
+abbrev pub place_held : Members → ℕ
+place_held members = members.place
+
+-- that entry as the table states it, and the row of the member at this place in its declaration
+abbrev pub struct_held : Members → Entry
+struct_held members = entry_at (message_held members).table (entry_held members)
+
+abbrev pub row_held : Members → (at : ℕ) → Row
+row_held members at = let t = (message_held members).table in
+    row_at t (header_of t) ((struct_held members).first + at)
 
 -- they are those of a view's struct, or of the struct in its box
 abbrev pub AreFieldsOf : View → Members → Type 0

@@ -68,6 +68,23 @@ impl<'v, 'm> Envelope<'v, 'm> {
         }
     }
 
+    /// The view of the member, which is known and of this entry.
+    #[inline(always)]
+    pub(crate) fn part(self, entry: u32) -> View<'v, 'm>
+        requires below { entry < (header_of self.decoded.now.table).entries }
+        requires known { term_at self.decoded.now self.index self.ordinal ≡ Some (ty.named entry) }
+        ensures message { (part_of result).message ≡ message_in self.entry }
+        ensures entry { (part_of result).index ≡ entry }
+        ensures part { (x : Member) → IsHeldBy self.entry x
+            → (v : Value) × (known_of x ≡ Some v) × IsShownBy result v }
+    {
+        View {
+            decoded: self.decoded,
+            index: entry,
+            place: self.content_place(entry),
+        }
+    }
+
     /// The view of the member, where it is known.
     #[inline(always)]
     pub(crate) fn known(self) -> Option<View<'v, 'm>>
@@ -83,11 +100,7 @@ impl<'v, 'm> Envelope<'v, 'm> {
         else {
             return None;
         };
-        Some(View {
-            decoded: self.decoded,
-            index: row.entry,
-            place: self.content_place(row.entry),
-        })
+        Some(self.part(row.entry))
     }
 
     /// The bytes of an unknown member.

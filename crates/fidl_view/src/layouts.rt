@@ -1,11 +1,14 @@
 //! What a view answers of tables and unions.
-ghost use Rattle.std.specs.Prelude.{◌≡◌, Some, None, IfSome, MatchOption};
+ghost use Rattle.std.specs.Prelude.{◌≡◌, ◌<◌, Some, None, IfSome, MatchOption};
 ghost use Rattle.fidl_wire.specs.Value.{Value, Member, unknown};
 ghost use Rattle.fidl_table_format.specs.declared.kind.EntryKind.TheVariants as EntryKind;
-ghost use Rattle.fidl_table_format.specs.Section.{entry_at};
+ghost use Rattle.fidl_wire.specs.Term as ty;
+ghost use Rattle.fidl_table_format.specs.Section.{header_of, entry_at};
 ghost use Rattle.fidl_table_format.specs.Entry.{IsOf};
 ghost use Rattle.fidl_view.specs.Parts.{member_of, variant_of, held_of, unknown_of};
+ghost use Rattle.fidl_view.specs.Members.{term_at};
 ghost use Rattle.fidl_view.specs.Views.{part_of, message_in, IsHeldBy, IsShownBy, ShowsKnown};
+ghost use Rattle.fidl_view.specs.Views.{entry_shown};
 ghost use Rattle.fidl_view.specs.Views.{type_shown, type_held, member_type};
 
 use crate::envelope::{Envelope, Unknown};
@@ -18,6 +21,8 @@ impl<'v, 'm> View<'v, 'm> {
     fn table_envelope(self, ordinal: u64) -> Option<Envelope<'v, 'm>>
         requires { IsOf EntryKind.Table (entry_at self.decoded.now.table self.index) }
         ensures message { IfSome result (λ e. message_in e ≡ (part_of self.entry).message) }
+        ensures entry { IfSome result (λ e. e.index ≡ self.entry.index) }
+        ensures ordinal { IfSome result (λ e. e.ordinal ≡ ordinal) }
         ensures typed { IfSome result (λ e. type_held e ≡ member_type self.entry ordinal) }
         ensures held { (v : Value) → IsShownBy self.entry v
             → MatchOption result (held_of v ordinal ≡ None)
@@ -93,6 +98,29 @@ impl<'v, 'm> View<'v, 'm> {
             }
             _ => None,
         }
+    }
+
+    /// The member of a table at this ordinal, of which the layout says that it is of this entry;
+    /// none where it is absent.
+    #[inline(always)]
+    pub fn known_member(self, ordinal: u64, entry: u32) -> Option<View<'v, 'm>>
+        requires kind { IsOf EntryKind.Table (entry_shown self) }
+        requires below { entry < (header_of (part_of self).message.table).entries }
+        requires known { let p = part_of self in
+            term_at p.message p.index ordinal ≡ Some (ty.named entry) }
+        ensures message { IfSome result (λ part. (part_of part).message
+            ≡ (part_of self.entry).message) }
+        ensures entry { IfSome result (λ part. (part_of part).index ≡ entry) }
+        ensures part { (v : Value) → IsShownBy self.entry v
+            → MatchOption result (member_of v ordinal ≡ None)
+            (λ part. (x : Value) × (member_of v ordinal ≡ Some x) × IsShownBy part x) }
+    {
+        // Read, so that the table is known to be well-formed.
+        let _rows = self.decoded.table().rows();
+        let Some(envelope) = self.table_envelope(ordinal) else {
+            return None;
+        };
+        Some(envelope.part(entry))
     }
 
     /// The known member of a table at this ordinal; none where it is absent or unknown, and of

@@ -20,5 +20,6 @@ pub mod worked;
 
 pub use elements::Elements;
 pub use envelope::Unknown;
+pub use structs::Members;
 pub use view::View;
 pub use views::Views;

@@ -114,11 +114,7 @@ impl<'v, 'm> View<'v, 'm> {
         if at >= elements.left {
             return None;
         }
-        Some(View {
-            decoded: elements.decoded,
-            index: elements.index,
-            place: elements.place + at * elements.size,
-        })
+        Some(elements.at(at))
     }
 
     /// The elements of an array or a vector in their order; of an absent one and of another kind

@@ -10,12 +10,12 @@ ghost use Rattle.fidl_view.specs.Members.{HaveMembers};
 
 use crate::view::View;
 use fidl_decode::Decoded;
-use fidl_table_format::EntryKind;
+use fidl_table_format::{EntryKind, Row};
 
 /// The members of a struct, or of the struct in a box: the struct's entry, and where it stands in
-/// the message.
+/// the message. It borrows the `Decoded`, as a view does.
 #[derive(Clone, Copy)]
-pub(crate) struct Members<'v, 'm> {
+pub struct Members<'v, 'm> {
     pub(crate) decoded: &'v Decoded<'v, 'm, 'v>,
     pub(crate) index: u32,
     pub(crate) place: usize,
@@ -27,12 +27,54 @@ pub(crate) struct Members<'v, 'm> {
 
 impl<'v, 'm> View<'v, 'm> {
     ghost use Rattle.fidl_view.specs.Views.{part_of, message_held, ShowsMembersOf, IsShownBy};
-    ghost use Rattle.fidl_view.specs.Views.{type_shown, field_type, AreFieldsOf};
+    ghost use Rattle.fidl_view.specs.Views.{type_shown, field_type, AreFieldsOf, entry_held};
+    ghost use Rattle.fidl_view.specs.Views.{entry_shown};
+
+    /// The members of a struct.
+    #[inline(always)]
+    pub fn struct_members(self) -> Members<'v, 'm>
+        requires { IsOf EntryKind.Struct (entry_shown self) }
+        ensures message { message_held result ≡ (part_of self.entry).message }
+        ensures entry { entry_held result ≡ (part_of self.entry).index }
+        ensures of { AreFieldsOf self.entry result }
+        ensures members { (v : Value) → IsShownBy self.entry v → ShowsMembersOf v result }
+    {
+        // Read, so that the table is known to be well-formed.
+        let _rows = self.decoded.table().rows();
+        Members {
+            decoded: self.decoded,
+            index: self.index,
+            place: self.place,
+        }
+    }
+
+    /// The members of the struct in a box; none where the box is absent.
+    #[inline(always)]
+    pub fn box_members(self) -> Option<Members<'v, 'm>>
+        requires { IsOf EntryKind.Box (entry_shown self) }
+        ensures message { IfSome result (λ members. message_held members
+            ≡ (part_of self.entry).message) }
+        ensures entry { IfSome result (λ members. entry_held members
+            ≡ (entry_shown self.entry).first) }
+        ensures of { IfSome result (AreFieldsOf self.entry) }
+        ensures members { (v : Value) → IsShownBy self.entry v
+            → MatchOption result (IsNoStruct v) (ShowsMembersOf v) }
+    {
+        let content = self.decoded.table().entry(self.index).first;
+        if self.decoded.links().is_blank(self.place) {
+            return None;
+        }
+        Some(Members {
+            decoded: self.decoded,
+            index: content,
+            place: self.decoded.links().object_of_marker(self.place),
+        })
+    }
 
     /// The members of a struct, or of the struct in a box; none where the box is absent, and of
     /// another kind.
     #[inline(always)]
-    fn members(self) -> Option<Members<'v, 'm>>
+    pub fn members(self) -> Option<Members<'v, 'm>>
         ensures message { IfSome result (λ members. message_held members
             ≡ (part_of self.entry).message) }
         ensures of { IfSome result (AreFieldsOf self.entry) }
@@ -40,21 +82,8 @@ impl<'v, 'm> View<'v, 'm> {
             → MatchOption result (IsNoStruct v) (ShowsMembersOf v) }
     {
         match self.kind() {
-            EntryKind::Struct => Some(Members {
-                decoded: self.decoded,
-                index: self.index,
-                place: self.place,
-            }),
-            EntryKind::Box => {
-                if self.decoded.links().is_blank(self.place) {
-                    return None;
-                }
-                Some(Members {
-                    decoded: self.decoded,
-                    index: self.decoded.table().entry(self.index).first,
-                    place: self.decoded.links().object_of_marker(self.place),
-                })
-            }
+            EntryKind::Struct => Some(self.struct_members()),
+            EntryKind::Box => self.box_members(),
             _ => None,
         }
     }
@@ -81,10 +110,57 @@ impl<'v, 'm> View<'v, 'm> {
         // Read, so that the number of rows, and with it each row's, is known to have 32 bits.
         let _rows = members.decoded.table().rows();
         let row = members.decoded.table().row(entry.first + at as u32);
-        Some(View {
-            decoded: members.decoded,
+        Some(members.part(at as u32, &row))
+    }
+}
+
+impl<'v, 'm> Members<'v, 'm> {
+    ghost use Rattle.fidl_view.specs.Views.{part_of, message_held, entry_held, place_held};
+    ghost use Rattle.fidl_view.specs.Views.{struct_held, row_held, ShowsMembersOf, IsShownBy};
+
+    /// The decoded message that they are of.
+    #[inline(always)]
+    pub fn decoded(self) -> &'v Decoded<'v, 'm, 'v>
+        ensures { result.now ≡ message_held self.entry }
+    {
+        self.decoded
+    }
+
+    /// The number of the struct's entry, which is below the table's `entries`.
+    #[inline(always)]
+    pub fn entry(self) -> u32
+        ensures value { result ≡ entry_held self.entry }
+        ensures in_range { result < (header_of (message_held self.entry).table).entries }
+        ensures of_struct { IsOf EntryKind.Struct
+            (entry_at (message_held self.entry).table result) }
+    {
+        self.index
+    }
+
+    /// Where the struct stands in the message, in bytes from its start.
+    #[inline(always)]
+    pub fn place(self) -> usize
+        ensures { result ≡ place_held self.entry }
+    {
+        self.place
+    }
+
+    /// The member at this place in the struct's declaration, counted from 0, whose row is this one.
+    #[inline(always)]
+    pub fn part(self, at: u32, row: &Row) -> View<'v, 'm>
+        requires counted { at < (struct_held self).count }
+        requires row { row.now ≡ row_held self at }
+        ensures message { (part_of result).message ≡ message_held self.entry }
+        ensures entry { (part_of result).index ≡ row.now.entry }
+        ensures part { (v : Value) → ShowsMembersOf v self.entry
+            → (x : Value) × (field_of v at ≡ Some x) × IsShownBy result x }
+    {
+        // Read, so that the table is known to be well-formed.
+        let _rows = self.decoded.table().rows();
+        View {
+            decoded: self.decoded,
             index: row.entry,
-            place: members.place + row.key as usize,
-        })
+            place: self.place + row.key as usize,
+        }
     }
 }

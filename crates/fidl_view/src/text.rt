@@ -3,10 +3,9 @@ ghost use Rattle.std.specs.Prelude.{◌≡◌, IfSome, IsUtf8};
 ghost use Rattle.std.specs.Option.{option_copied};
 ghost use Rattle.fidl_wire.specs.Value.{Value};
 ghost use Rattle.fidl_table_format.specs.declared.kind.EntryKind.TheVariants as EntryKind;
-ghost use Rattle.fidl_table_format.specs.Section.{entry_at};
 ghost use Rattle.fidl_table_format.specs.Entry.{IsOf};
 ghost use Rattle.fidl_view.specs.Parts.{string_of};
-ghost use Rattle.fidl_view.specs.Views.{IsShownBy, bytes_shown};
+ghost use Rattle.fidl_view.specs.Views.{IsShownBy, bytes_shown, entry_shown};
 
 use crate::view::View;
 use fidl_table_format::EntryKind;
@@ -16,7 +15,7 @@ impl<'v, 'm> View<'v, 'm> {
     /// The bytes of a string, a slice of the message itself; none where it is absent.
     #[inline(always)]
     pub(crate) fn string_bytes(self) -> Option<&'v [u8]>
-        requires { IsOf EntryKind.String (entry_at self.decoded.now.table self.index) }
+        requires { IsOf EntryKind.String (entry_shown self) }
         ensures value { (v : Value) → IsShownBy self.entry v → option_copied result ≡ string_of v }
         ensures slice { IfSome result (λ bytes. bytes.now ≡ bytes_shown self.entry) }
         ensures utf8 { IfSome result (λ bytes. IsUtf8 bytes.now) }
@@ -36,6 +35,19 @@ impl<'v, 'm> View<'v, 'm> {
         Some(links.part(from, from + count))
     }
 
+    /// The text of a string, a slice of the message itself; none where it is absent. The decoder
+    /// checked it as UTF-8.
+    #[inline(always)]
+    pub fn text(self) -> Option<&'v str>
+        requires { IsOf EntryKind.String (entry_shown self) }
+        ensures { (v : Value) → IsShownBy self.entry v → option_copied result ≡ string_of v }
+    {
+        let Some(bytes) = self.string_bytes() else {
+            return None;
+        };
+        Some(unsafe { from_utf8_unchecked(bytes) })
+    }
+
     /// The text of a string, a slice of the message itself; none where it is absent, and of another
     /// kind. The decoder checked it as UTF-8.
     #[inline(always)]
@@ -43,12 +55,7 @@ impl<'v, 'm> View<'v, 'm> {
         ensures { (v : Value) → IsShownBy self.entry v → option_copied result ≡ string_of v }
     {
         match self.kind() {
-            EntryKind::String => {
-                let Some(bytes) = self.string_bytes() else {
-                    return None;
-                };
-                Some(unsafe { from_utf8_unchecked(bytes) })
-            }
+            EntryKind::String => self.text(),
             _ => None,
         }
     }

@@ -57,6 +57,22 @@ impl<'v, 'm> View<'v, 'm> {
         self.index
     }
 
+    /// The decoded message that it is a part of.
+    #[inline(always)]
+    pub fn decoded(self) -> &'v Decoded<'v, 'm, 'v>
+        ensures { result.now ≡ (part_of self.entry).message }
+    {
+        self.decoded
+    }
+
+    /// Where the part stands in the message, in bytes from its start.
+    #[inline(always)]
+    pub fn place(self) -> usize
+        ensures { result ≡ (part_of self.entry).place }
+    {
+        self.place
+    }
+
     /// The kind of the part's type.
     #[inline(always)]
     pub(crate) fn kind(self) -> EntryKind

@@ -1,4 +1,3 @@
-use Rattle.std.proofs.Common.{Some, ap, ◌∙◌}
 use Rattle.fidl_table_format.specs.Section.{header_of, entry_at}
 use Rattle.fidl_table_format.specs.Terms.{declarations_of}
 use Rattle.fidl_view.proofs.Viewing as viewing
@@ -12,6 +11,3 @@ returns-in_default c v s =
     let p = c.args.self.place in
     content.no_string (declarations_of d.table) d.table (header_of d.table) (entry_at d.table i) c.kind.result c.in_default.not-String v
     (viewing.lies d c.kind.ensures.well_formed i p c.args.self.in_range c.kind.result c.kind.ensures.of v s).0
-
-pub returns-in-Some : goal.returns-in-Some
-returns-in-Some c v s = ap Some c.from_utf8_unchecked.ensures ∙ c.in-Some.ensures.value v s

@@ -6,17 +6,14 @@ use Rattle.fidl_table_format.specs.Terms.{declarations_of}
 use Rattle.fidl_wire.specs.Term.{Fields, fields_of, resolve}
 use Rattle.std.specs.Option.{option_map}
 use Rattle.std.specs.Prelude.{Some}
-use Rattle.std.proofs.Common.{◌≡◌, ℕ, ◌+◌, ◌<◌, ◌≤◌, List, length, ap, sym, subst, ◌∙◌, arith}
-use Rattle.std.proofs.Math.Logic.{∥∥₁_map, ∥∥₁_elim}
-use Rattle.std.proofs.Math.Bridge.{le_prop}
+use Rattle.std.proofs.Common.{◌≡◌, ℕ, ◌+◌, ◌<◌, List, ap, sym, subst, ◌∙◌, arith}
 use Rattle.fidl_wire.specs.Value.{Value}
 use Rattle.fidl_table_format.specs.declared.record.Entry.{Entry}
 use Rattle.fidl_table_format.specs.declared.record.Row.{Row}
 use Rattle.fidl_table_format.specs.Section.{header_of, entry_at, row_at}
 use Rattle.fidl_table_format.specs.WellFormed.{WellFormed}
 use Rattle.fidl_view.specs.Parts.{field_of}
-use Rattle.fidl_view.specs.Shows.{Shows, type_of}
-use Rattle.fidl_view.proofs.Lists as lists
+use Rattle.fidl_view.specs.Shows.{type_of}
 use Rattle.fidl_view.proofs.MemberPlaces as places
 use Rattle.fidl_view.proofs.view.View.field.Goals as goal
 
@@ -60,60 +57,12 @@ row-row-requires c =
     subst (λ (b : List ℕ). c.entry-entry.result.first + c.args.at < (header_of b).rows) (sym c.table-3.ensures)
     (subst (λ k. k + c.args.at < (header_of d.table).rows) (sym begun) inside)
 
-pub overflow_add-result : goal.overflow_add-result
-overflow_add-result c =
-    let m = c.in-Some.members in
-    let d = m.decoded.now in
-    let w : WellFormed d.table = subst (λ (b : List ℕ). WellFormed b) c.table.ensures c.entry-entry.ensures.well_formed in
-    let same : c.entry-entry.result ≡ entry_at d.table m.index = c.entry-entry.ensures.value ∙ ap (λ (b : List ℕ). entry_at b m.index) c.table.ensures in
-    let counted : c.entry-entry.result.count ≡ (entry_at d.table m.index).count = ap (λ (e : Entry). e.count) same in
-    let begun : c.entry-entry.result.first ≡ (entry_at d.table m.index).first = ap (λ (e : Entry). e.first) same in
-    let less : c.args.at < (entry_at d.table m.index).count = omega (arith, c.if-at-entry.false, counted) in
-    let own : c.row-row.result ≡ row_at d.table (header_of d.table) (c.entry-entry.result.first + c.args.at) = c.row-row.ensures.value ∙ ap (λ (b : List ℕ). row_at b (header_of b) (c.entry-entry.result.first + c.args.at)) c.table-3.ensures in
-    let here : c.row-row.result ≡ row_at d.table (header_of d.table) ((entry_at d.table m.index).first + c.args.at) = own ∙ ap (λ k. row_at d.table (header_of d.table) (k + c.args.at)) begun in
-    let range : c.row-row.result.entry < (header_of d.table).entries = subst (λ (b : List ℕ). c.row-row.result.entry < (header_of b).entries) c.table-3.ensures c.row-row.ensures.entry in
-    let room : m.place + c.row-row.result.key + (entry_at d.table c.row-row.result.entry).size ≤ length d.bytes =
-    ∥∥₁_elim m.shown le_prop (λ h. let x = places.member_shown d w m.index m.place m.in_range m.of_struct c.args.at less h.0 h.1 in
-    lists.shows_room d w c.row-row.result.entry (m.place + c.row-row.result.key) x.0 range (subst (λ (r : Row). Shows d r.entry (m.place + r.key) x.0) (sym here) x.2)) in
-    record { fits = omega (arith, room, m.short) }
-
-pub invariant_of-result : goal.invariant_of-result
-invariant_of-result c =
-    let m = c.in-Some.members in
-    let d = m.decoded.now in
-    let w : WellFormed d.table = subst (λ (b : List ℕ). WellFormed b) c.table.ensures c.entry-entry.ensures.well_formed in
-    let same : c.entry-entry.result ≡ entry_at d.table m.index = c.entry-entry.ensures.value ∙ ap (λ (b : List ℕ). entry_at b m.index) c.table.ensures in
-    let counted : c.entry-entry.result.count ≡ (entry_at d.table m.index).count = ap (λ (e : Entry). e.count) same in
-    let begun : c.entry-entry.result.first ≡ (entry_at d.table m.index).first = ap (λ (e : Entry). e.first) same in
-    let less : c.args.at < (entry_at d.table m.index).count = omega (arith, c.if-at-entry.false, counted) in
-    let own : c.row-row.result ≡ row_at d.table (header_of d.table) (c.entry-entry.result.first + c.args.at) = c.row-row.ensures.value ∙ ap (λ (b : List ℕ). row_at b (header_of b) (c.entry-entry.result.first + c.args.at)) c.table-3.ensures in
-    let here : c.row-row.result ≡ row_at d.table (header_of d.table) ((entry_at d.table m.index).first + c.args.at) = own ∙ ap (λ k. row_at d.table (header_of d.table) (k + c.args.at)) begun in
-    let range : c.row-row.result.entry < (header_of d.table).entries = subst (λ (b : List ℕ). c.row-row.result.entry < (header_of b).entries) c.table-3.ensures c.row-row.ensures.entry in
-    let room : m.place + c.row-row.result.key + (entry_at d.table c.row-row.result.entry).size ≤ length d.bytes =
-    ∥∥₁_elim m.shown le_prop (λ h. let x = places.member_shown d w m.index m.place m.in_range m.of_struct c.args.at less h.0 h.1 in
-    lists.shows_room d w c.row-row.result.entry (m.place + c.row-row.result.key) x.0 range (subst (λ (r : Row). Shows d r.entry (m.place + r.key) x.0) (sym here) x.2)) in
-    record {
-      in_range = range;
-      room = room;
-      short = m.short;
-      shown = ∥∥₁_map m.shown (λ h. let x = places.member_shown d w m.index m.place m.in_range m.of_struct c.args.at less h.0 h.1 in (x.0, subst (λ (r : Row). Shows d r.entry (m.place + r.key) x.0) (sym here) x.2));
-    }
-
 pub returns-clause-part : goal.returns-clause-part
 returns-clause-part c v h =
-    let m = c.in-Some.members in
-    let d = m.decoded.now in
-    let w : WellFormed d.table = subst (λ (b : List ℕ). WellFormed b) c.table.ensures c.entry-entry.ensures.well_formed in
-    let same : c.entry-entry.result ≡ entry_at d.table m.index = c.entry-entry.ensures.value ∙ ap (λ (b : List ℕ). entry_at b m.index) c.table.ensures in
-    let counted : c.entry-entry.result.count ≡ (entry_at d.table m.index).count = ap (λ (e : Entry). e.count) same in
-    let begun : c.entry-entry.result.first ≡ (entry_at d.table m.index).first = ap (λ (e : Entry). e.first) same in
-    let less : c.args.at < (entry_at d.table m.index).count = omega (arith, c.if-at-entry.false, counted) in
-    let own : c.row-row.result ≡ row_at d.table (header_of d.table) (c.entry-entry.result.first + c.args.at) = c.row-row.ensures.value ∙ ap (λ (b : List ℕ). row_at b (header_of b) (c.entry-entry.result.first + c.args.at)) c.table-3.ensures in
-    let here : c.row-row.result ≡ row_at d.table (header_of d.table) ((entry_at d.table m.index).first + c.args.at) = own ∙ ap (λ k. row_at d.table (header_of d.table) (k + c.args.at)) begun in
-    let range : c.row-row.result.entry < (header_of d.table).entries = subst (λ (b : List ℕ). c.row-row.result.entry < (header_of b).entries) c.table-3.ensures c.row-row.ensures.entry in
     let y = c.in-Some.ensures.members v h in
-    let x = places.member_shown d w m.index m.place m.in_range m.of_struct c.args.at less y.0 y.2 in
-    (x.0, ap (λ (u : Value). field_of u c.args.at) y.1 ∙ x.1, subst (λ (r : Row). Shows d r.entry (m.place + r.key) x.0) (sym here) x.2)
+    let x = c.part.ensures.part v y in
+    let same : field_of v c.args.at ≡ Some x.0 = x.1 in
+    (x.0, same, x.2)
 
 pub returns-clause-typed : goal.returns-clause-typed
 returns-clause-typed c =
@@ -127,8 +76,10 @@ returns-clause-typed c =
     let own : c.row-row.result ≡ row_at d.table (header_of d.table) (c.entry-entry.result.first + c.args.at) = c.row-row.ensures.value ∙ ap (λ (b : List ℕ). row_at b (header_of b) (c.entry-entry.result.first + c.args.at)) c.table-3.ensures in
     let here : c.row-row.result ≡ row_at d.table (header_of d.table) ((entry_at d.table m.index).first + c.args.at) = own ∙ ap (λ k. row_at d.table (header_of d.table) (k + c.args.at)) begun in
     let found = field_of_row d.table (header_of d.table) (entry_at d.table m.index).first (entry_at d.table m.index).count c.args.at less in
-    let mine : Some (type_of d c.row-row.result.entry) ≡ option_map (resolve terms) (field_at (fields_at d m.index) c.args.at)
+    let held : Some (type_of d c.row-row.result.entry) ≡ option_map (resolve terms) (field_at (fields_at d m.index) c.args.at)
     = ap (λ (r : Row). Some (type_of d r.entry)) here ∙ sym (ap (option_map (resolve terms)) found) in
     let fields : Some (type_of d c.row-row.result.entry) ≡ option_map (resolve terms) (field_at (fields_of (struct_of (declarations_of c.args.self.decoded.now.table) (type_shown c.args.self))) c.args.at)
-    = mine ∙ ap (λ (fs : Fields). option_map (resolve terms) (field_at fs c.args.at)) (sym c.in-Some.ensures.of) in
-    fields ∙ ap (λ (s : Shown). option_map (resolve (declarations_of s.table).terms) (field_at (fields_of (struct_of (types_shown c.args.self) (type_shown c.args.self))) c.args.at)) c.in-Some.ensures.message
+    = held ∙ ap (λ (fs : Fields). option_map (resolve terms) (field_at fs c.args.at)) (sym c.in-Some.ensures.of) in
+    let mine : Some (type_shown c.part.result) ≡ Some (type_of d c.row-row.result.entry)
+    = ap (λ (s : Shown). Some (type_of s c.part.result.index)) c.part.ensures.message ∙ ap (λ k. Some (type_of d k)) c.part.ensures.entry in
+    mine ∙ fields ∙ ap (λ (s : Shown). option_map (resolve (declarations_of s.table).terms) (field_at (fields_of (struct_of (types_shown c.args.self) (type_shown c.args.self))) c.args.at)) c.in-Some.ensures.message

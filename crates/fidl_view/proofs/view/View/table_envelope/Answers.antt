@@ -200,6 +200,8 @@ returns c =
     let other = subst (λ k. IsUnlinkedWord d.links (k + 8 * (c.args.ordinal - 1)) × Stands d.bytes (k + 8 * (c.args.ordinal - 1)) (zeros 8) → ⊥) start (λ e. not_both (sym c.if-is_blank.false ∙ came_blank e)) in
     record {
       message = refl;
+      entry = refl;
+      ordinal = refl;
       typed = refl;
       held = λ v h. let x = keyed.held_there d w i p lt v (keyed.table_shown d w i p lt is v h) c.args.ordinal some le other in
           (x.0, x.1, subst (λ k. ShowMember d i c.args.ordinal (k + 8 * (c.args.ordinal - 1)) x.0) (sym start) x.2);
