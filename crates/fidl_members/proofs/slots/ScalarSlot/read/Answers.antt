@@ -1,0 +1,10 @@
+use Rattle.std.proofs.Common.{ap, ◌∙◌}
+use Rattle.std.specs.Prelude.{Some}
+use Rattle.fidl_wire.specs.Value.{Value}
+use Rattle.fidl_members.proofs.slots.ScalarSlot.read.Goals as goal
+
+pub returns-in_default : goal.returns-in_default
+returns-in_default g c v h = c.in_default.ensures.part v h
+
+pub returns : goal.returns
+returns g c v h = let x = c.in-Some.ensures.part v h in x.1 ∙ ap (λ (y : Value). Some y) (c.scalar_in.ensures x.0 x.2)
