@@ -64,5 +64,5 @@ why_of_root file table root message entry NoRoot t r x = absurd x
 why_of_root file table root message entry NoMemory t r x = (entry, r)
 why_of_root file table root message entry Refused t r x = ((entry, r), no_message_of_root file table root message entry t r x)
 why_of_root file table root message entry OtherShape t r x = message_of_root file table root message entry t r x
-why_of_root file table root message entry OtherSum t r x = absurd x
+why_of_root file table root message entry OtherSum t r x = message_of_root file table root message entry t r x
 why_of_root file table root message entry NoRoom t r x = message_of_root file table root message entry t r x

@@ -64,4 +64,5 @@ IsWhyUnread ds t message NoMemory = Unit {0}
 IsWhyUnread ds t message NoRoom = IsEncoding ds t message []
 IsWhyUnread ds t message Refused = ¬ IsEncoding ds t message []
 IsWhyUnread ds t message OtherShape = IsEncoding ds t message []
+IsWhyUnread ds t message OtherSum = IsEncoding ds t message []
 IsWhyUnread ds t message _ = ⊥

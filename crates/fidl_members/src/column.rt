@@ -32,7 +32,7 @@ impl<'t> Column<'t> {
     ghost use Rattle.fidl_view.specs.Parts.{field_of};
     ghost use Rattle.fidl_view.specs.Views.{part_of, message_held, ShowsMembersOf, IsShownBy};
     ghost use Rattle.fidl_members.specs.Owners.{owner_of, owner_held, place_in, type_of_column};
-    ghost use Rattle.fidl_members.specs.Owners.{owner_shown};
+    ghost use Rattle.fidl_members.specs.Owners.{owner_shown, entry_of};
 
     /// The member at this place in the declaration of the struct of an entry, counted from 0; none
     /// past the last, and of an entry of another kind.
@@ -58,6 +58,29 @@ impl<'t> Column<'t> {
             at: at as u32,
             row: table.row(parts.first + at as u32),
         })
+    }
+
+    /// The entry of the member's type.
+    pub fn entry(&self) -> u32
+        ensures value { owner self.now.table.now result ≡ type_of_column self.now }
+        ensures in_range { result < (header_of self.now.table.now).entries }
+    {
+        self.row.entry
+    }
+
+    /// The entry of the elements of an array or a vector, or of the struct in a box; none of another
+    /// kind.
+    pub fn content(&self) -> Option<u32>
+        ensures value { IfSome result (λ content. content ≡ (entry_of self.now).first) }
+        ensures in_range { IfSome result
+            (λ content. content < (header_of self.now.table.now).entries) }
+    {
+        match entry_kind(self.table, self.row.entry) {
+            EntryKind::Array | EntryKind::Vector | EntryKind::Box => {
+                Some(self.table.entry(self.row.entry).first)
+            }
+            _ => None,
+        }
     }
 
     /// The members of the struct that a view of the column's entry and table shows.

@@ -55,6 +55,14 @@ impl<'t> Slot<'t> {
         })
     }
 
+    /// The entry of the member's type.
+    pub fn entry(&self) -> u32
+        ensures value { owner self.now.table.now result ≡ type_of_slot self.now }
+        ensures in_range { result < (header_of self.now.table.now).entries }
+    {
+        self.entry
+    }
+
     /// The member's view in a table of the slot's entry and coding table; none where it is absent.
     #[inline(always)]
     pub fn part<'v, 'm>(&self, view: View<'v, 'm>) -> Option<View<'v, 'm>>

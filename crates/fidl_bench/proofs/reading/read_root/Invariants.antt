@@ -1,5 +1,0 @@
-use Rattle.std.specs.Prelude.{⊤}
-use Rattle.fidl_bench.proofs.reading.read_root.Given as goal
-
-abbrev pub invariant-loop : goal.invariant-loop
-invariant-loop l = ⊤
