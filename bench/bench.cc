@@ -20,10 +20,11 @@ static uint32_t decode(const std::string& table, const std::string& root, const 
   return fidl_bench_decode(start(table), table.size(), start(root), root.size(), start(message), message.size(), times - 1);
 }
 
-static uint64_t decode_and_read(const std::string& table, const FidlShape& fidl, uint64_t times) {
+// By fidl_bench_read, or by fidl_bench_read_found.
+static uint64_t decode_and_read(decltype(fidl_bench_read)* read, const std::string& table, const FidlShape& fidl, uint64_t times) {
   uint64_t sum = 0;
-  uint32_t failure = fidl_bench_read(start(table), table.size(), start(fidl.root), strlen(fidl.root), start(fidl.message),
-                                     fidl.message.size(), times - 1, &sum);
+  uint32_t failure = read(start(table), table.size(), start(fidl.root), strlen(fidl.root), start(fidl.message),
+                          fidl.message.size(), times - 1, &sum);
   must(failure == 0, "the decoder refuses a message");
   return sum;
 }
@@ -42,13 +43,17 @@ static void fidl_lines(const Printer& printer, const char* shape, const FidlShap
   size_t size = fidl.message.size();
   must(decode(table, fidl.root, fidl.message, 1) == 0, "the decoder refuses a message");
   must(decode(table, fidl.root, fidl.message.substr(0, size - 8), 1) == 4, "the decoder accepts a message that is cut off");
-  must(decode_and_read(table, fidl, 1) == want, "the decoder reads another sum");
+  must(decode_and_read(fidl_bench_read, table, fidl, 1) == want, "the decoder reads another sum");
+  must(decode_and_read(fidl_bench_read_found, table, fidl, 1) == want, "members looked up once read another sum");
   copy_line(printer, shape, "copy", fidl.message);
   printer.line(shape, "rongkhab", "decode", size, [&](uint64_t times) {
     must(decode(table, fidl.root, fidl.message, times) == 0, "the decoder refuses a message");
     return 0;
   });
-  printer.line(shape, "rongkhab", "decode + read", size, [&](uint64_t times) { return decode_and_read(table, fidl, times); });
+  printer.line(shape, "rongkhab", "decode + read", size,
+               [&](uint64_t times) { return decode_and_read(fidl_bench_read, table, fidl, times); });
+  printer.line(shape, "rongkhab", "decode + found", size,
+               [&](uint64_t times) { return decode_and_read(fidl_bench_read_found, table, fidl, times); });
 }
 
 // The text of the message's value, in room for one byte more.

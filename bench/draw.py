@@ -9,7 +9,7 @@ import re
 import sys
 
 LINE = re.compile(r"\s*(\w+)\s+(\w+)\s+(\w[\w +]*?)\s{2,}(\d+)\s+([\d.]+)\s+([\d.]+)\s*$")
-SHOWN = (("rongkhab", "decode"), ("rongkhab", "decode + read"), ("flatbuffers", "verify"), ("flatbuffers", "verify + read"), ("capnproto", "read"), ("protobuf", "parse"))
+SHOWN = (("rongkhab", "decode"), ("rongkhab", "decode + read"), ("rongkhab", "decode + found"), ("flatbuffers", "verify"), ("flatbuffers", "verify + read"), ("capnproto", "read"), ("protobuf", "parse"))
 COLOURS = {"rongkhab": "#2f7d4f", "flatbuffers": "#8aa4bf", "capnproto": "#a9b7c6", "protobuf": "#c4cdd6"}
 FONT = 'font-family="DejaVu Sans, Helvetica, Arial, sans-serif"'
 LEFT, WIDTH, HIGH, GAP = 210, 420, 20, 6

@@ -14,6 +14,9 @@ uint32_t fidl_bench_decode(const uint8_t* table, size_t table_length, const uint
 // read; `sum` gets its sum.
 uint32_t fidl_bench_read(const uint8_t* table, size_t table_length, const uint8_t* root, size_t root_length,
                          const uint8_t* message, size_t message_length, uint64_t again, uint64_t* sum);
+// The same, by members that are looked up once, before the first message (docs/views.md).
+uint32_t fidl_bench_read_found(const uint8_t* table, size_t table_length, const uint8_t* root, size_t root_length,
+                               const uint8_t* message, size_t message_length, uint64_t again, uint64_t* sum);
 // Decodes the message once, and encodes its value `again` times after the first. `copy`, which is as
 // long as the message, gets the bytes of the last.
 uint32_t fidl_bench_encode(const uint8_t* table, size_t table_length, const uint8_t* root, size_t root_length,
